@@ -1,0 +1,43 @@
+//! The instructions of a module.
+
+/// How a handler's call ends.
+#[derive(Clone, Copy)]
+pub enum Status {
+    /// The call succeeded (APR_SUCCESS).
+    Success,
+    /// The call failed.
+    Fail,
+}
+
+/// A pool that a declaration names.
+#[derive(Clone, Copy)]
+pub enum PoolRef {
+    /// The connection's pool.
+    Conn,
+    /// The request's pool.
+    Req,
+    /// The pool of this module's variable `p0` to `p7`.
+    Own(u8),
+}
+
+/// An instruction. A `u8` is the number of a brigade variable, `b0` to `b7` as 0 to 7, and 8 for `in`.
+/// A `u16` is the number of the instruction that is jumped to.
+#[derive(Clone, Copy)]
+pub enum Instr {
+    /// `bcreate O`: an empty brigade on its declared pool (apr_brigade_create).
+    BCreate(u8),
+    /// `bclean B`: destroys the buckets of B, which is usable again (apr_brigade_cleanup).
+    BClean(u8),
+    /// `bconcat B B'`: the buckets of B' go to the tail of B (APR_BRIGADE_CONCAT).
+    BConcat(u8, u8),
+    /// `pass B L`: passes B to the next filter (ap_pass_brigade); to L where the answer is Fail.
+    Pass(u8, u16),
+    /// `jempty B L`: to L where B has no bucket (APR_BRIGADE_EMPTY).
+    JEmpty(u8, u16),
+    /// `jsent L`: to L where this instance passed an EOS in this request.
+    JSent(u16),
+    /// `jump L`.
+    Jump(u16),
+    /// `ret ok` and `ret fail`.
+    Ret(Status),
+}

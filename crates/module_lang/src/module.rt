@@ -1,0 +1,92 @@
+//! A module.
+
+ghost use Rattle.std.specs.Prelude.{◌≡◌, ◌<◌, ◌≤◌, length, slice_get, Some};
+ghost use Rattle.module_lang.specs.Program.{IsPlaced, pool_of_brigade};
+
+use std::marker::Model;
+
+use crate::instr::{Instr, PoolRef};
+use crate::seq::Seq;
+
+/// A filter module: its declared variables, its texts, and the code of its three handlers.
+#[derive(Drop)]
+pub struct Module {
+    pools: Seq<PoolRef>,
+    brigades: Seq<PoolRef>,
+    texts: Seq<Seq<u8>>,
+    code: Seq<Instr>,
+    init: u16,
+    main: u16,
+}
+
+impl Model for Module {
+    ghost use Rattle.module_lang.specs.Program.{Program, IsModule};
+
+    ghost Value = { Program };
+
+    ghost view = {
+        λ m. record {
+            pools = m.pools;
+            brigades = m.brigades;
+            texts = m.texts;
+            code = m.code;
+            init = m.init;
+            main = m.main;
+        }
+    };
+
+    ghost invariant = {
+        λ m. IsModule (record {
+            pools = m.pools;
+            brigades = m.brigades;
+            texts = m.texts;
+            code = m.code;
+            init = m.init;
+            main = m.main;
+        })
+    };
+}
+
+impl Module {
+    /// How many instructions there are, 1024 at most.
+    pub fn len(&self) -> usize
+        ensures count { result ≡ length self.now.code }
+        ensures small { result ≤ 1024 }
+    {
+        self.code.len()
+    }
+
+    /// The instruction of a number.
+    pub fn at(&self, pc: usize) -> Instr
+        requires { pc < length self.now.code }
+        ensures value { slice_get self.now.code pc ≡ Some result }
+        ensures placed { IsPlaced self.now pc result }
+    {
+        *self.code.at(pc)
+    }
+
+    /// The pool that a brigade variable is declared on.
+    #[tactic(auto, unfolding(crate::specs::Program::pool_of_brigade))]
+    pub fn brigade_pool(&self, brigade: u8) -> PoolRef
+        requires { brigade < length self.now.brigades }
+        ensures { result ≡ pool_of_brigade self.now brigade }
+    {
+        *self.brigades.at(usize::from(brigade))
+    }
+
+    /// The first instruction of the handler `init`.
+    pub fn init(&self) -> usize
+        ensures value { result ≡ self.now.init }
+        ensures inside { result < length self.now.code }
+    {
+        usize::from(self.init)
+    }
+
+    /// The first instruction of the handler `main`.
+    pub fn main(&self) -> usize
+        ensures value { result ≡ self.now.main }
+        ensures inside { result < length self.now.code }
+    {
+        usize::from(self.main)
+    }
+}

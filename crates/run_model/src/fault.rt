@@ -1,0 +1,26 @@
+//! The faults that an instruction can have.
+
+/// What an instruction did wrong. The order is that of the list of faults, not the order of the tests.
+#[derive(Clone, Copy)]
+pub enum FaultKind {
+    /// A pool variable is null, or its pool is dead.
+    F1,
+    /// A brigade variable is null, or its brigade is dead.
+    F2,
+    /// A cursor is unset, its bucket is destroyed or another filter's, or it is the end of a dead brigade.
+    F3,
+    /// A cursor is an end where a bucket is wanted.
+    F4,
+    /// A bucket whose home is dead is read, set aside, copied, split or passed.
+    F5,
+    /// A return while an own usable brigade holds a bucket whose home is a call or another filter's pool.
+    F6,
+    /// A passed brigade, or a bucket or end of one, is used otherwise than by a clean.
+    F7,
+    /// A pass of data after an EOS of the brigade or of the request.
+    F8,
+    /// A bucket is in a brigade where a loose one is wanted, or the other way round, or in another brigade.
+    F9,
+    /// A pool or brigade is made over a live variable.
+    F10,
+}

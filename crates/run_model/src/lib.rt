@@ -1,0 +1,12 @@
+//! The definitions that contracts speak of: pools, buckets, brigades, instances, calls, faults, steps and
+//! the events of a connection, with the plain types that stand in them.
+#![tactic(auto)]
+
+mod bucket;
+mod event;
+mod fault;
+
+pub use bucket::{Brigade, Bucket, Content, Cursor, Home, Kind, Mark, Named, PoolVar, Var};
+pub use event::{Cause, Event, Piece, Refusal, Stepped};
+pub use fault::FaultKind;
+pub use module_lang::{Instr, Module, PoolRef, Seq, Status};
