@@ -1,0 +1,51 @@
+-- The pool map: which pools there are, where each stands in the tree, and what each has to hand on when it is
+-- cleared (apr_pools.h: apr_pool_create, apr_pool_cleanup_register, apr_pool_clear, apr_pool_destroy).
+use Rattle.std.specs.Prelude.{ℕ, zero, suc, ◌+◌, Bool, true, false, ◌&&◌, not, ◌==◌, if◌then◌else◌, List, [], ◌∷◌, ◌++◌, map, reverse, length}
+use Rattle.std.specs.List.{list_any, flat_map}
+use Rattle.run_model.specs.Indexed.{upd}
+
+-- A pool has a name. Its path is the pool itself and the pools above it, up to the root; a name with no path
+-- is no pool. Its payloads stand oldest first. Names rise, and next is the first that was never given out.
+pub record Pools (T : Type 0) : Type 0 where
+  pub path : ℕ → List ℕ
+  pub payloads : ℕ → List T
+  pub next : ℕ
+
+abbrev pub is_empty : {X : Type 0} → List X → Bool
+is_empty [] = true
+is_empty (x ∷ xs) = false
+
+abbrev pub is_in : ℕ → List ℕ → Bool
+is_in n names = list_any (λ m. m == n) names
+
+-- whether there is a pool of this name
+unfoldable pub is_live : {T : Type 0} → Pools T → ℕ → Bool
+is_live ps n = not (is_empty (ps.path n))
+
+-- whether the pool n is p or stands under it
+unfoldable pub is_under : {T : Type 0} → Pools T → ℕ → ℕ → Bool
+is_under ps p n = is_in p (ps.path n)
+
+-- a tree of the one pool `first`
+unfoldable pub planted : {T : Type 0} → ℕ → Pools T
+planted first = record { path = upd (λ _. []) first (first ∷ []); payloads = λ _. []; next = first + 1 }
+
+-- apr_pool_create: a new pool under a parent
+unfoldable pub created : {T : Type 0} → ℕ → Pools T → Pools T
+created parent ps = record { path = upd ps.path ps.next (ps.next ∷ ps.path parent); payloads = upd ps.payloads ps.next []; next = ps.next + 1 }
+
+-- apr_pool_cleanup_register: one more payload, the newest
+unfoldable pub registered : {T : Type 0} → ℕ → T → Pools T → Pools T
+registered p x ps = record ps { payloads = upd ps.payloads p (ps.payloads p ++ x ∷ []) }
+
+-- what is left of the paths when the pools that pass the test go
+abbrev pub without_pools : {T : Type 0} → (ℕ → Bool) → Pools T → Pools T
+without_pools goes ps = record ps { path = λ n. if goes n then [] else ps.path n; payloads = λ n. if goes n then [] else ps.payloads n }
+
+-- apr_pool_destroy: the pool and all under it go
+unfoldable pub destroyed : {T : Type 0} → ℕ → Pools T → Pools T
+destroyed p ps = without_pools (is_under ps p) ps
+
+-- apr_pool_clear: all under the pool go, and its own payloads
+unfoldable pub cleared : {T : Type 0} → ℕ → Pools T → Pools T
+cleared p ps = record { path = λ n. if is_under ps p n && not (n == p) then [] else ps.path n; payloads = λ n. if is_under ps p n then [] else ps.payloads n; next = ps.next }
