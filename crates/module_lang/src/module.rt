@@ -3,10 +3,9 @@
 ghost use Rattle.std.specs.Prelude.{◌≡◌, ◌<◌, ◌≤◌, length, slice_get, Some};
 ghost use Rattle.module_lang.specs.Program.{IsPlaced, pool_of_brigade};
 
-use std::marker::Model;
-
 use crate::instr::{Instr, PoolRef};
 use crate::seq::Seq;
+use std::marker::Model;
 
 /// A filter module: its declared variables, its texts, and the code of its three handlers.
 #[derive(Drop)]
@@ -24,27 +23,23 @@ impl Model for Module {
 
     ghost Value = { Program };
 
-    ghost view = {
-        λ m. record {
-            pools = m.pools;
-            brigades = m.brigades;
-            texts = m.texts;
-            code = m.code;
-            init = m.init;
-            main = m.main;
-        }
-    };
+    ghost view = { λ m. record {
+      pools = m.pools;
+      brigades = m.brigades;
+      texts = m.texts;
+      code = m.code;
+      init = m.init;
+      main = m.main;
+    } };
 
-    ghost invariant = {
-        λ m. IsModule (record {
-            pools = m.pools;
-            brigades = m.brigades;
-            texts = m.texts;
-            code = m.code;
-            init = m.init;
-            main = m.main;
-        })
-    };
+    ghost invariant = { λ m. IsModule (record {
+      pools = m.pools;
+      brigades = m.brigades;
+      texts = m.texts;
+      code = m.code;
+      init = m.init;
+      main = m.main;
+    }) };
 }
 
 impl Module {

@@ -2,3 +2,8 @@ pub use Rattle.module_lang.specs.Program
 pub mod Indexed
 pub mod Pools
 pub mod Buckets
+pub mod State
+pub mod Faults
+pub mod Steps
+pub mod Connection
+pub mod Runs

@@ -1,8 +1,7 @@
 //! The events of a connection, and what they answer.
 
-use module_lang::{Seq, Status};
-
 use crate::fault::FaultKind;
+use module_lang::{Seq, Status};
 
 /// A part of a brought brigade.
 #[derive(Drop)]
@@ -29,6 +28,8 @@ pub enum Cause {
 /// Why an event was refused, in the order in which the tests are made.
 #[derive(Clone, Copy)]
 pub enum Refusal {
+    /// There is no such connection.
+    NoSuchConn,
     /// The connection is broken.
     Broken(Cause),
     /// A call is running.
@@ -62,17 +63,37 @@ pub enum Stepped {
     },
 }
 
+/// Where an instruction leads.
+#[derive(Clone, Copy)]
+pub enum Exit {
+    /// To the next instruction.
+    GoOn,
+    /// To the instruction that it names.
+    Jump,
+    /// Out of the handler.
+    Return,
+}
+
+/// Why an instruction that has no fault was not executed.
+#[derive(Clone, Copy)]
+pub enum StepRefusal {
+    /// A name that it would have to give out is the last one.
+    NamesSpent,
+    /// There is no memory.
+    NoMemory,
+}
+
 /// What can happen to a connection.
 #[derive(Drop)]
 pub enum Event {
-    /// One instruction, or a break.
-    Step,
-    /// Instructions until the call ends or breaks.
-    Run,
+    /// The connection is opened.
+    Open,
     /// A request begins.
     Begin,
     /// A brigade of these pieces comes.
     Bring(Seq<Piece>),
+    /// One instruction is executed, or the connection breaks.
+    Step,
     /// The request ends.
     End,
     /// The output is taken.

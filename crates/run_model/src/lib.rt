@@ -7,6 +7,6 @@ mod event;
 mod fault;
 
 pub use bucket::{Brigade, Bucket, Content, Cursor, Home, Kind, Mark, Named, PoolVar, Var};
-pub use event::{Cause, Event, Piece, Refusal, Stepped};
+pub use event::{Cause, Event, Exit, Piece, Refusal, StepRefusal, Stepped};
 pub use fault::FaultKind;
 pub use module_lang::{Instr, Module, PoolRef, Seq, Status};

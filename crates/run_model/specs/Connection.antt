@@ -1,0 +1,187 @@
+-- One connection, and what happens to it: it is opened, requests begin and end, brigades are brought, steps are
+-- made, output is taken, and it breaks.
+use Rattle.std.specs.Prelude.{ℕ, ◌+◌, Bool, true, false, ◌&&◌, ◌||◌, not, nat_le, ◌==◌, if◌then◌else◌, List, [], ◌∷◌, map, length, Option, Some, None, is_some, Result, Ok, Err}
+use Rattle.std.specs.List.{list_any}
+use Rattle.run_model.specs.declared.bucket.Kind.TheVariants as kind
+use Rattle.run_model.specs.declared.bucket.Content.TheVariants as content
+use Rattle.run_model.specs.declared.bucket.Home.TheVariants as home
+use Rattle.run_model.specs.declared.bucket.Bucket.{Bucket}
+use Rattle.run_model.specs.declared.bucket.Named.{Named}
+use Rattle.run_model.specs.declared.bucket.Mark.TheVariants.{Usable}
+use Rattle.run_model.specs.declared.bucket.Brigade.{Brigade}
+use Rattle.run_model.specs.declared.bucket.Var.{Var}
+use Rattle.run_model.specs.declared.bucket.Var.TheVariants as var
+use Rattle.run_model.specs.declared.event.Piece.{Piece}
+use Rattle.run_model.specs.declared.event.Piece.TheVariants as piece
+use Rattle.run_model.specs.declared.event.Cause.{Cause}
+use Rattle.run_model.specs.declared.event.Cause.TheVariants as cause
+use Rattle.run_model.specs.declared.event.Refusal.{Refusal}
+use Rattle.run_model.specs.declared.event.Refusal.TheVariants as refusal
+use Rattle.run_model.specs.declared.event.StepRefusal.{StepRefusal}
+use Rattle.run_model.specs.declared.event.StepRefusal.TheVariants as step_refusal
+use Rattle.run_model.specs.declared.event.Stepped.{Stepped}
+use Rattle.run_model.specs.declared.event.Stepped.TheVariants as stepped
+use Rattle.module_lang.specs.Program.{Program}
+use Rattle.run_model.specs.Pools.{Pools, planted, created, destroyed, is_under}
+use Rattle.run_model.specs.Buckets.{cleared_bucket}
+use Rattle.run_model.specs.State.{Payload, Inst, Call, Shared, Out, Run, fresh_inst, fresh_call, set_brig}
+use Rattle.run_model.specs.Steps.{watched, current, is_spent}
+
+-- busy: a call is running. count: the instructions executed since the last open, begin or bring. broken: why
+-- nothing is served any more but the output.
+pub record Connection : Type 0 where
+  pub run : Run
+  pub busy : Bool
+  pub count : ℕ
+  pub broken : Option Cause
+
+-- The call `name` of the handler that begins at pc begins.
+abbrev pub calling : ℕ → ℕ → Run → Connection
+calling name pc r = record { run = record r { call = fresh_call name; pc = pc }; busy = true; count = 0; broken = None }
+
+-- The first connection of a host is opened: pool 1 is the root, pool 2 the connection's. Its `open` begins.
+unfoldable pub opened : Connection
+opened =
+    calling 1 0 (record {
+      inst = fresh_inst;
+      call = fresh_call 0;
+      shared = record { pools = created 1 (planted 1); conn = 2; req = None; labels = []; next = 2 };
+      pc = 0;
+      out = record { bytes = []; ended = false };
+    })
+
+-- Tests that refuse an event, in their order; the first that holds is told.
+abbrev pub first_refusal : List (Option Refusal) → Option Refusal
+first_refusal [] = None
+first_refusal (None ∷ tests) = first_refusal tests
+first_refusal (Some r ∷ tests) = Some r
+
+abbrev pub refused_if : Bool → Refusal → Option Refusal
+refused_if test r = if test then Some r else None
+
+abbrev pub if_broken : Option Cause → Option Refusal
+if_broken None = None
+if_broken (Some k) = Some (refusal.Broken k)
+
+-- what an event answers, and what it leaves: a refused one changes nothing
+abbrev pub unless_refused : Option Refusal → Connection → Connection → Option Refusal × Connection
+unless_refused None old new = (None, new)
+unless_refused (Some r) old new = (Some r, old)
+
+-- A request begins: it has a pool of its own under the connection's, and `init` begins.
+abbrev pub begun : Program → Connection → Connection
+begun p c =
+    let shared = record c.run.shared { pools = created c.run.shared.conn c.run.shared.pools; req = Some c.run.shared.pools.next; next = c.run.shared.next + 1 } in
+    calling c.run.shared.next p.init (record c.run { shared = shared })
+
+unfoldable pub begins : Bool → Program → Connection → Option Refusal × Connection
+begins memory p c =
+    unless_refused (first_refusal (if_broken c.broken
+    ∷ (refused_if c.busy refusal.Busy
+    ∷ (refused_if (is_some c.run.shared.req) refusal.InRequest
+    ∷ (refused_if (is_spent c.run.shared.pools.next 1 || is_spent c.run.shared.next 1) refusal.NamesSpent
+    ∷ (refused_if (not memory) refusal.NoMemory ∷ [])))))) c (begun p c)
+
+-- the bucket of a brought piece
+abbrev pub bucket_of : Piece → Bucket
+bucket_of (piece.Heap bytes) = record { kind = kind.Heap; content = content.Bytes bytes; home = home.Free }
+bucket_of piece.Eos = record { kind = kind.Eos; content = content.Nothing; home = home.Free }
+
+-- the buckets of the pieces, with names from n on
+abbrev pub named_from : ℕ → List Piece → List Named
+named_from n [] = []
+named_from n (x ∷ xs) = (record { name = n; bucket = bucket_of x }) ∷ named_from (n + 1) xs
+
+abbrev pub is_data_piece : Piece → Bool
+is_data_piece (piece.Heap bytes) = true
+is_data_piece piece.Eos = false
+
+abbrev pub is_eos_piece : Piece → Bool
+is_eos_piece (piece.Heap bytes) = false
+is_eos_piece piece.Eos = true
+
+-- whether a data piece stands behind an EOS
+abbrev pub data_behind_eos : List Piece → Bool
+data_behind_eos [] = false
+data_behind_eos (x ∷ xs) = (is_eos_piece x && list_any is_data_piece xs) || data_behind_eos xs
+
+-- A brigade is brought: it is the `in` of a call of `main`. Names go to the call, the brigade and its buckets.
+abbrev pub brought : Program → List Piece → Connection → Connection
+brought p pieces c =
+    let n = c.run.shared.next in
+    let in_brigade : Brigade = record { name = n + 1; on = None; mark = Usable; items = named_from (n + 2) pieces } in
+    calling n p.main (set_brig 8 (var.Live in_brigade) (record c.run { shared = record c.run.shared { next = n + 2 + length pieces } }))
+
+unfoldable pub brings : Bool → Program → List Piece → Connection → Option Refusal × Connection
+brings memory p pieces c =
+    unless_refused (first_refusal (if_broken c.broken
+    ∷ (refused_if c.busy refusal.Busy
+    ∷ (refused_if (not (is_some c.run.shared.req)) refusal.NotInRequest
+    ∷ (refused_if (data_behind_eos pieces) refusal.DataAfterEos
+    ∷ (refused_if (is_spent c.run.shared.next (2 + length pieces)) refusal.NamesSpent
+    ∷ (refused_if (not memory) refusal.NoMemory ∷ []))))))) c (brought p pieces c)
+
+-- What a clear makes of a brigade variable, where these pools are reached: a brigade on one of them goes with its
+-- buckets, and of the others the homes end and the POOL buckets become HEAP.
+abbrev pub is_reached : (ℕ → Bool) → Option ℕ → Bool
+is_reached reached None = false
+is_reached reached (Some p) = reached p
+
+abbrev pub cleared_var : (ℕ → Bool) → Var → Var
+cleared_var reached var.Null = var.Null
+cleared_var reached var.Gone = var.Gone
+cleared_var reached (var.Live v) =
+    if is_reached reached v.on then var.Gone else var.Live (record v { items = map (cleared_bucket reached) v.items })
+
+-- The request's pool is destroyed, and no EOS was passed in the next request.
+abbrev pub request_ended : ℕ → Run → Run
+request_ended req r =
+    let reached = is_under r.shared.pools req in
+    record r {
+      inst = record r.inst { brigs = λ b. cleared_var reached (r.inst.brigs b); sent = false };
+      shared = record r.shared { pools = destroyed req r.shared.pools; req = None };
+      out = record r.out { ended = false };
+    }
+
+abbrev pub ended : Option ℕ → Connection → Connection
+ended None c = c
+ended (Some req) c = record c { run = request_ended req c.run }
+
+unfoldable pub ends : Connection → Option Refusal × Connection
+ends c =
+    unless_refused (first_refusal (if_broken c.broken
+    ∷ (refused_if c.busy refusal.Busy
+    ∷ (refused_if (not (is_some c.run.shared.req)) refusal.NotInRequest ∷ [])))) c (ended c.run.shared.req c)
+
+-- the output is taken, and what is left
+unfoldable pub takes : Connection → List ℕ × Connection
+takes c = (c.run.out.bytes, record c { run = record c.run { out = record c.run.out { bytes = [] } } })
+
+-- From now on nothing is served but the output.
+abbrev pub breaks : Cause → Connection → Connection
+breaks k c = record c { broken = Some k }
+
+abbrev pub broke : Cause → Connection → Result Stepped Refusal × Connection
+broke k c = (Err (refusal.Broken k), breaks k c)
+
+-- what a step that was executed leaves
+abbrev pub after_step : Stepped → Run → Connection → Connection
+after_step stepped.Went r c = record c { run = r; count = c.count + 1 }
+after_step (stepped.CallEnded s) r c = record c { run = r; busy = false; count = c.count + 1 }
+after_step (stepped.Fault k m pc) r c = breaks cause.Faulted c
+
+abbrev pub step_answer : Result Stepped StepRefusal × Run → Connection → Result Stepped Refusal × Connection
+step_answer (Ok s, r) c = (Ok s, after_step s r c)
+step_answer (Err step_refusal.NamesSpent, r) c = broke cause.NamesSpent c
+step_answer (Err step_refusal.NoMemory, r) c = broke cause.NoMemory c
+
+-- A step is asked for. Where the count has met the budget, the connection breaks and nothing is executed.
+abbrev pub step_if : Option Refusal → Bool → ℕ → Program → Connection → Result Stepped Refusal × Connection
+step_if (Some r) memory budget p c = (Err r, c)
+step_if None memory budget p c =
+    if nat_le budget c.count then broke cause.OutOfSteps c
+    else step_answer (watched memory p (current p c.run.pc) c.run) c
+
+unfoldable pub steps : Bool → ℕ → Program → Connection → Result Stepped Refusal × Connection
+steps memory budget p c =
+    step_if (first_refusal (if_broken c.broken ∷ (refused_if (not c.busy) refusal.Idle ∷ []))) memory budget p c
