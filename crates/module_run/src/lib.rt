@@ -3,7 +3,10 @@
 
 mod buckets;
 mod conn;
+mod effects;
 mod machine;
+mod step;
+mod vars;
 mod wants;
 
 pub use conn::Conn;

@@ -1,7 +1,7 @@
 //! What a step sees and changes of a connection.
 
 ghost use Rattle.std.specs.Prelude.{◌≡◌, ◌+◌, ◌^◌, ◌-◌, ◌<◌, ◌++◌, [], false, slice_index_or, slice_set, OnOk, OnErr};
-ghost use Rattle.run_model.specs.State.{set_brig, pool_named, is_own};
+ghost use Rattle.run_model.specs.State.{set_brig, pool_named, is_own, fresh_call};
 ghost use Rattle.run_model.specs.Faults.{has_pool};
 ghost use Rattle.run_model.specs.Steps.{is_spent};
 
@@ -130,6 +130,20 @@ impl Machine {
         let name = self.next;
         self.next += 1;
         name
+    }
+
+    /// The name of the call that runs.
+    pub fn call(&self) -> u64
+        ensures { result ≡ (seen_run self.now).call.name }
+    {
+        self.call
+    }
+
+    /// The call begins that has this name; 0 is for none.
+    pub fn set_call(&mut self, name: u64)
+        ensures { seen_run self.new ≡ record (seen_run self.old) { call = fresh_call name } }
+    {
+        self.call = name;
     }
 
     /// Whether an EOS of this request reached the output.
