@@ -2,5 +2,5 @@ pub mod LateData
 pub mod Below
 pub mod Refilled
 pub mod Writes
-pub mod Returns
+pub mod Mapping
 pub mod Places

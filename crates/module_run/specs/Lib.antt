@@ -5,4 +5,4 @@ pub use Rattle.run_model.specs.Steps
 pub use Rattle.run_model.specs.Connection
 pub mod Seen
 pub mod Tests
-pub mod Returning
+pub mod Mapped

@@ -1,11 +1,11 @@
 //! What instructions do to a machine.
 
 ghost use Rattle.std.specs.Prelude.{◌≡◌, ◌≢◌, ◌<◌, false, length, OnOk, OnErr};
-ghost use Rattle.run_model.specs.Steps.{do_create, do_clean, do_concat, do_pass, do_return, delivered, is_spent};
+ghost use Rattle.run_model.specs.Steps.{do_create, do_clean, do_concat, do_pass, do_return, delivered, is_spent, returned_var};
 ghost use Rattle.run_model.specs.State.{items_of};
 ghost use Rattle.module_lang.specs.Program.{pool_of_brigade};
 ghost use Rattle.module_run.specs.Seen.{seen_run};
-ghost use Rattle.module_run.specs.Returning.{returned_below};
+ghost use Rattle.module_run.specs.Mapped.{mapped};
 
 use std::alloc::{AllocError, Global};
 
@@ -94,12 +94,11 @@ pub fn pass(alloc: Global, machine: &mut Machine, b: u8) -> Result<(), AllocErro
     Ok(())
 }
 
-/// Ends the homes that are the running call, in each brigade of the instance but `in`.
+/// Ends the homes that are the running call, in each brigade.
 fn end_homes(machine: &mut Machine, call: u64)
-    requires { call ≡ (seen_run machine.old).call.name }
-    ensures { seen_run machine.new ≡ returned_below 8 (seen_run machine.old) }
+    ensures { seen_run machine.new ≡ mapped (returned_var call) (seen_run machine.old) }
 {
-    for b in 0..8u8 {
+    for b in 0..9u8 {
         let mut var = machine.put(b, Var::Null);
         vars::end_homes(&mut var, call);
         machine.put(b, var);
