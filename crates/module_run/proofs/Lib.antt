@@ -4,3 +4,4 @@ pub mod Refilled
 pub mod Writes
 pub mod Mapping
 pub mod Places
+pub mod Requests

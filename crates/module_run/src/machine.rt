@@ -1,9 +1,10 @@
 //! What a step sees and changes of a connection.
 
-ghost use Rattle.std.specs.Prelude.{◌≡◌, ◌+◌, ◌^◌, ◌-◌, ◌<◌, ◌++◌, [], false, slice_index_or, slice_set, OnOk, OnErr};
+ghost use Rattle.std.specs.Prelude.{◌≡◌, is_some, Some, ◌+◌, ◌^◌, ◌-◌, ◌<◌, ◌++◌, [], false, slice_index_or, slice_set, OnOk, OnErr};
 ghost use Rattle.run_model.specs.State.{set_brig, pool_named, is_own, fresh_call};
 ghost use Rattle.run_model.specs.Faults.{has_pool};
 ghost use Rattle.run_model.specs.Steps.{is_spent};
+ghost use Rattle.run_model.specs.Pools.{created};
 
 use std::alloc::AllocError;
 use std::mem;
@@ -144,6 +145,31 @@ impl Machine {
         ensures { seen_run self.new ≡ record (seen_run self.old) { call = fresh_call name } }
     {
         self.call = name;
+    }
+
+    /// Whether a request is open.
+    pub fn in_request(&self) -> bool
+        ensures { result ≡ is_some (seen_run self.now).shared.req }
+    {
+        self.in_request
+    }
+
+    /// Whether no further pool can be named.
+    pub fn pools_spent(&self) -> bool
+        ensures { result ≡ is_spent (seen_run self.now).shared.pools.next 1 }
+    {
+        self.requests > u64::MAX - 4
+    }
+
+    /// A request begins, with a pool of its own.
+    #[tactic(auto, using(crate::proofs::Requests::request_made), unfolding(crate::specs::Seen::seen_run, run_model::specs::Steps::is_spent))]
+    pub fn begin_request(&mut self)
+        requires closed { is_some (seen_run self.old).shared.req ≡ false }
+        requires unspent { is_spent (seen_run self.old).shared.pools.next 1 ≡ false }
+        ensures { let r = seen_run self.old in seen_run self.new ≡ record r { shared = record r.shared { pools = created r.shared.conn r.shared.pools; req = Some r.shared.pools.next } } }
+    {
+        self.requests += 1;
+        self.in_request = true;
     }
 
     /// Whether an EOS of this request reached the output.

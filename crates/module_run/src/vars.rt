@@ -1,12 +1,14 @@
 //! What instructions do to a brigade variable.
 
-ghost use Rattle.std.specs.Prelude.{◌≡◌, ◌++◌, [], OnOk, OnErr};
+ghost use Rattle.std.specs.Prelude.{◌≡◌, ◌==◌, ◌++◌, [], map, OnOk, OnErr};
 ghost use Rattle.run_model.specs.State.{items_of};
+ghost use Rattle.run_model.specs.Buckets.{cleared_bucket};
+ghost use Rattle.run_model.specs.Connection.{is_reached, cleared_var};
 ghost use Rattle.run_model.specs.Steps.{cleaned, with_items, handed_over, returned_var};
 
 use std::alloc::AllocError;
 
-use run_model::{Mark, Named, Seq, Var};
+use run_model::{Brigade, Mark, Named, Seq, Var};
 
 use crate::buckets;
 
@@ -47,6 +49,33 @@ pub fn end_homes(var: &mut Var, call: u64)
 {
     if let Var::Live(brigade) = var {
         buckets::end_homes(brigade.items.as_mut_slice(), call);
+    }
+}
+
+fn lies_on(brigade: &Brigade, pool: u64) -> bool
+    ensures { result ≡ is_reached (λ n. n == pool) brigade.now.on }
+{
+    match brigade.on {
+        Some(name) => name == pool,
+        None => false,
+    }
+}
+
+#[tactic(auto, using(crate::proofs::Refilled::refilled_map))]
+fn clear_items(brigade: &mut Brigade, pool: u64)
+    ensures { brigade.new ≡ record brigade.old { items = map (cleared_bucket (λ n. n == pool)) brigade.old.items } }
+{
+    buckets::clear(brigade.items.as_mut_slice(), pool);
+}
+
+/// What the end of a pool does: a brigade on it goes with its buckets, and the buckets of others lose it.
+pub fn clear(var: &mut Var, pool: u64)
+    ensures { var.new ≡ cleared_var (λ n. n == pool) var.old }
+{
+    match var {
+        Var::Live(brigade) if lies_on(brigade, pool) => *var = Var::Gone,
+        Var::Live(brigade) => clear_items(brigade, pool),
+        Var::Null | Var::Gone => {}
     }
 }
 
