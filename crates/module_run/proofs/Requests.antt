@@ -4,7 +4,10 @@ use Rattle.std.proofs.Math.Path.{fun_ext}
 use Rattle.std.proofs.lemmas.Bool.{cases_eq, ne_eqb}
 use Rattle.run_model.specs.Indexed.{upd}
 use Rattle.run_model.specs.Pools.{Pools, created, destroyed, is_under, is_in}
-use Rattle.run_model.specs.State.{Payload}
+use Rattle.run_model.specs.State.{Payload, Run}
+use Rattle.run_model.specs.Connection.{cleared_var, request_ended}
+use Rattle.module_run.specs.Mapped.{mapped}
+use Rattle.module_run.specs.Closed.{request_closed, StandsAlone}
 use Rattle.module_run.specs.Seen.{path_of, conn_path, request_pool}
 
 -- the pools of a connection on which n requests began
@@ -42,9 +45,9 @@ under_if req m high true = rw (eq-eqb req req refl) refl
 under_if req m high false = not_above req high (eqb m 2) (eqb m 1)
 
 -- what a request's pool reaches is itself
-pub reached_is : (n : ℕ) → is_under (pools_of true n) (3 + (n - 1)) ≡ (λ m. eqb m (3 + (n - 1)))
+pub stands_alone : (n m : ℕ) → is_under (pools_of true n) (3 + (n - 1)) m ≡ eqb m (3 + (n - 1))
 unfolding is_under
-reached_is n = fun_ext (λ m. under_if (3 + (n - 1)) m (omega arith) (eqb m (3 + (n - 1))))
+stands_alone n m = under_if (3 + (n - 1)) m (omega arith) (eqb m (3 + (n - 1)))
 
 off_path : (req m : ℕ) → 3 ≤ req → m ≡ req → conn_path m ≡ []
 off_path req m high same = rw (ne_eqb m 2 (λ e. absurd (omega (arith, e))), ne_eqb m 1 (λ e. absurd (omega (arith, e)))) refl
@@ -64,4 +67,15 @@ request_gone n =
     let payloads : (ℕ → List Payload) → P = λ f. record { path = λ m. cond (eqb m req) [] (path_of (Some req) m); payloads = f; next = 3 + n } in
     ap paths (fun_ext (λ m. sym (path_after req m (omega arith) (eqb m req) refl)))
       ∙ (ap payloads (fun_ext (λ m. sym (same_either (eqb m req) [])))
-      ∙ ap by (sym (reached_is n)))
+      ∙ ap by (sym (fun_ext (stands_alone n))))
+
+-- what is left to do where a request's brigades are cleared
+pub closed_is_ended : (p : ℕ) (r : Run) → StandsAlone p r.shared.pools → request_closed p (mapped (cleared_var (λ n. eqb n p)) r) ≡ request_ended p r
+unfolding mapped
+closed_is_ended p r alone =
+    let by : (ℕ → Bool) → Run = λ reached. record r {
+      inst = record r.inst { brigs = λ b. cleared_var reached (r.inst.brigs b); sent = false };
+      shared = record r.shared { pools = destroyed p r.shared.pools; req = None };
+      out = record r.out { ended = false };
+    } in
+    ap by (sym (fun_ext alone))

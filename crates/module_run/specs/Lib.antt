@@ -6,3 +6,4 @@ pub use Rattle.run_model.specs.Connection
 pub mod Seen
 pub mod Tests
 pub mod Mapped
+pub mod Closed

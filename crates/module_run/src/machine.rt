@@ -1,6 +1,6 @@
 //! What a step sees and changes of a connection.
 
-ghost use Rattle.std.specs.Prelude.{◌≡◌, is_some, Some, ◌+◌, ◌^◌, ◌-◌, ◌<◌, ◌++◌, [], false, slice_index_or, slice_set, OnOk, OnErr};
+ghost use Rattle.std.specs.Prelude.{◌≡◌, true, is_some, Some, ◌+◌, ◌^◌, ◌-◌, ◌<◌, ◌++◌, [], false, slice_index_or, slice_set, OnOk, OnErr};
 ghost use Rattle.run_model.specs.State.{set_brig, pool_named, is_own, fresh_call};
 ghost use Rattle.run_model.specs.Faults.{has_pool};
 ghost use Rattle.run_model.specs.Steps.{is_spent};
@@ -30,6 +30,7 @@ pub struct Machine {
 #[tactic(auto, unfolding(crate::specs::Seen::seen_run, run_model::specs::State::set_brig, run_model::specs::State::pool_named, run_model::specs::Faults::has_pool, run_model::specs::Pools::is_live, run_model::specs::Steps::is_spent))]
 impl Machine {
     ghost use Rattle.module_run.specs.Seen.{seen_run};
+    ghost use Rattle.module_run.specs.Closed.{request_closed, StandsAlone};
 
     /// The brigade variable of a number.
     pub fn brig(&self, b: u8) -> &Var
@@ -170,6 +171,26 @@ impl Machine {
     {
         self.requests += 1;
         self.in_request = true;
+    }
+
+    /// The pool of the request that is open.
+    pub fn request_pool(&self) -> u64
+        requires { is_some (seen_run self.now).shared.req ≡ true }
+        ensures { (seen_run self.now).shared.req ≡ Some result }
+    {
+        3 + self.requests.saturating_sub(1)
+    }
+
+    /// The request's pool is destroyed; what lay on it is left to the caller.
+    #[tactic(auto, using(crate::proofs::Requests::request_gone, crate::proofs::Requests::stands_alone), unfolding(crate::specs::Seen::seen_run))]
+    pub fn close_request(&mut self, pool: u64)
+        requires { (seen_run self.old).shared.req ≡ Some pool }
+        ensures closed { seen_run self.new ≡ request_closed pool (seen_run self.old) }
+        ensures alone { StandsAlone pool (seen_run self.old).shared.pools }
+    {
+        self.in_request = false;
+        self.sent = false;
+        self.ended = false;
     }
 
     /// Whether an EOS of this request reached the output.
