@@ -1,7 +1,7 @@
--- The end of a request, but for what it does to the brigades.
-use Rattle.std.specs.Prelude.{◌≡◌, ℕ, ◌==◌, false, None}
-use Rattle.run_model.specs.Pools.{Pools, destroyed, is_under}
-use Rattle.run_model.specs.State.{Payload, Run}
+-- Where a connection starts, and the end of a request but for what it does to the brigades.
+use Rattle.std.specs.Prelude.{◌≡◌, ℕ, ◌==◌, false, [], None}
+use Rattle.run_model.specs.Pools.{Pools, planted, created, destroyed, is_under}
+use Rattle.run_model.specs.State.{Payload, Run, fresh_inst, fresh_call}
 
 abbrev pub request_closed : ℕ → Run → Run
 request_closed req r = record r {
@@ -13,3 +13,13 @@ request_closed req r = record r {
 -- no other pool stands under this one
 abbrev pub StandsAlone : ℕ → Pools Payload → Type 0
 StandsAlone p pools = (n : ℕ) → is_under pools p n ≡ (n == p)
+
+-- before the first call
+abbrev pub before_open : Run
+before_open = record {
+  inst = fresh_inst;
+  call = fresh_call 0;
+  shared = record { pools = created 1 (planted 1); conn = 2; req = None; labels = []; next = 2 };
+  pc = 0;
+  out = record { bytes = []; ended = false };
+}

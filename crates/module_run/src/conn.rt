@@ -40,12 +40,10 @@ pub fn step_watched(
 
 #[tactic(auto, unfolding(crate::specs::Seen::seen))]
 impl Conn {
-    fn break_by(&mut self, cause: Cause) -> Refusal
-        ensures answer { result ≡ Refusal.Broken cause }
-        ensures broken { seen self.new ≡ breaks cause (seen self.old) }
+    fn break_by(&mut self, cause: Cause)
+        ensures { seen self.new ≡ breaks cause (seen self.old) }
     {
         self.broken = Some(cause);
-        Refusal::Broken(cause)
     }
 
     fn note(&mut self, stepped: Stepped)
@@ -59,6 +57,41 @@ impl Conn {
                 self.count += 1;
             }
             Stepped::Fault { .. } => self.broken = Some(Cause::Faulted),
+        }
+    }
+
+    /// One step: the next instruction is executed, or the connection breaks. `Broken` tells why it broke, now or
+    /// before: `OutOfSteps` where `budget` instructions were executed since the last open, begin or bring, `NamesSpent`
+    /// and `NoMemory` as in `step_watched`. `Idle`: no call is running. After `Fault` it is broken by `Faulted`.
+    #[tactic(auto, unfolding(crate::specs::Seen::seen, run_model::specs::Connection::steps))]
+    pub fn step(&mut self, alloc: Global, code: &Module, budget: u64) -> Result<Stepped, Refusal>
+        requires { (seen self.old).run.pc < length code.now.code }
+        ensures step { steps (lasted result) budget code.now (seen self.old) ≡ (result, seen self.new) }
+        ensures inside { (seen self.new).run.pc < length code.now.code }
+    {
+        if let Some(cause) = self.broken {
+            return Err(Refusal::Broken(cause));
+        }
+        if !self.busy {
+            return Err(Refusal::Idle);
+        }
+        if self.count >= budget {
+            self.break_by(Cause::OutOfSteps);
+            return Err(Refusal::Broken(Cause::OutOfSteps));
+        }
+        match step::step(alloc, code, &mut self.machine) {
+            Ok(stepped) => {
+                self.note(stepped);
+                Ok(stepped)
+            }
+            Err(StepRefusal::NamesSpent) => {
+                self.break_by(Cause::NamesSpent);
+                Err(Refusal::Broken(Cause::NamesSpent))
+            }
+            Err(StepRefusal::NoMemory) => {
+                self.break_by(Cause::NoMemory);
+                Err(Refusal::Broken(Cause::NoMemory))
+            }
         }
     }
 }

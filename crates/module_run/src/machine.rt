@@ -6,7 +6,7 @@ ghost use Rattle.run_model.specs.Faults.{has_pool};
 ghost use Rattle.run_model.specs.Steps.{is_spent};
 ghost use Rattle.run_model.specs.Pools.{created};
 
-use std::alloc::AllocError;
+use std::alloc::{AllocError, Global};
 use std::mem;
 
 use run_model::{PoolRef, Seq, Var};
@@ -30,7 +30,7 @@ pub struct Machine {
 #[tactic(auto, unfolding(crate::specs::Seen::seen_run, run_model::specs::State::set_brig, run_model::specs::State::pool_named, run_model::specs::Faults::has_pool, run_model::specs::Pools::is_live, run_model::specs::Steps::is_spent))]
 impl Machine {
     ghost use Rattle.module_run.specs.Seen.{seen_run};
-    ghost use Rattle.module_run.specs.Closed.{request_closed, StandsAlone};
+    ghost use Rattle.module_run.specs.Closed.{request_closed, StandsAlone, before_open};
 
     /// The brigade variable of a number.
     pub fn brig(&self, b: u8) -> &Var
@@ -191,6 +191,57 @@ impl Machine {
         self.in_request = false;
         self.sent = false;
         self.ended = false;
+    }
+
+    /// The output that was not taken yet.
+    pub fn take_output(&mut self, alloc: Global) -> Seq<u8>
+        ensures bytes { result ≡ (seen_run self.old).out.bytes }
+        ensures rest { let r = seen_run self.old in seen_run self.new ≡ record r { out = record r.out { bytes = [] } } }
+    {
+        mem::replace(&mut self.output, Seq::new(alloc))
+    }
+
+    /// The next name, which is not given out.
+    pub fn next(&self) -> u64
+        ensures { result ≡ (seen_run self.now).shared.next }
+    {
+        self.next
+    }
+
+    /// Gives out names.
+    pub fn take_names(&mut self, names: u64)
+        requires { is_spent (seen_run self.old).shared.next names ≡ false }
+        ensures { let r = seen_run self.old in seen_run self.new ≡ record r { shared = record r.shared { next = r.shared.next + names } } }
+    {
+        self.next += names;
+    }
+
+    /// A machine before its first call.
+    #[tactic(auto, using(crate::proofs::Requests::pools_at_first), unfolding(crate::specs::Seen::seen_run))]
+    pub fn new(alloc: Global) -> Machine
+        ensures { seen_run result ≡ before_open }
+    {
+        Machine {
+            brigs: [
+                Var::Null,
+                Var::Null,
+                Var::Null,
+                Var::Null,
+                Var::Null,
+                Var::Null,
+                Var::Null,
+                Var::Null,
+                Var::Null,
+            ],
+            sent: false,
+            call: 0,
+            in_request: false,
+            requests: 0,
+            next: 2,
+            pc: 0,
+            output: Seq::new(alloc),
+            ended: false,
+        }
     }
 
     /// Whether an EOS of this request reached the output.
