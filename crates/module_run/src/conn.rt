@@ -1,14 +1,15 @@
 //! A connection, and what happens to it.
 
 ghost use Rattle.std.specs.Prelude.{◌≡◌, ◌<◌, ◌-◌, ◌^◌, length, Ok};
-ghost use Rattle.run_model.specs.Connection.{opened, begins, brings, ends, takes, steps, breaks, after_step};
+ghost use Rattle.run_model.specs.Connection.{opened, calling, begins, brings, ends, takes, steps, breaks, after_step};
 ghost use Rattle.run_model.specs.Steps.{watched, current};
 ghost use Rattle.module_run.specs.Seen.{seen, seen_run, step_lasted, lasted, refusal_of};
 
 use std::alloc::Global;
 
-use run_model::{Cause, Module, Refusal, StepRefusal, Stepped};
+use run_model::{Cause, Module, Refusal, Seq, StepRefusal, Stepped};
 
+use crate::effects;
 use crate::machine::Machine;
 use crate::step;
 
@@ -93,5 +94,83 @@ impl Conn {
                 Err(Refusal::Broken(Cause::NoMemory))
             }
         }
+    }
+
+    fn call(&mut self, name: u64, pc: usize)
+        ensures { seen self.new ≡ calling name pc (seen self.old).run }
+    {
+        self.machine.set_call(name);
+        self.machine.go_to(pc);
+        self.busy = true;
+        self.count = 0;
+        self.broken = None;
+    }
+
+    /// A connection is opened: its `open` is to be stepped. It takes no memory.
+    #[tactic(auto, unfolding(crate::specs::Seen::seen, run_model::specs::Connection::opened))]
+    pub fn open(alloc: Global) -> Conn
+        ensures { seen result ≡ opened }
+    {
+        let mut conn = Conn {
+            machine: Machine::new(alloc),
+            busy: false,
+            count: 0,
+            broken: None,
+        };
+        conn.call(1, 0);
+        conn
+    }
+
+    /// A request begins: its pool is made, and `init` is to be stepped. It takes no memory. Refused, nothing is changed:
+    /// `Broken`; `Busy`: a call is running; `InRequest`; `NamesSpent`: a name to be given out would be 2^64 - 1.
+    #[tactic(auto, unfolding(crate::specs::Seen::seen, run_model::specs::Connection::begins))]
+    pub fn begin(&mut self, code: &Module) -> Result<(), Refusal>
+        ensures begins { begins (lasted result) code.now (seen self.old) ≡ (refusal_of result, seen self.new) }
+        ensures inside { (seen self.old).run.pc < length code.now.code → (seen self.new).run.pc < length code.now.code }
+    {
+        if let Some(cause) = self.broken {
+            return Err(Refusal::Broken(cause));
+        }
+        if self.busy {
+            return Err(Refusal::Busy);
+        }
+        if self.machine.in_request() {
+            return Err(Refusal::InRequest);
+        }
+        if self.machine.pools_spent() || self.machine.is_spent(1) {
+            return Err(Refusal::NamesSpent);
+        }
+        self.machine.begin_request();
+        let name = self.machine.take_name();
+        self.call(name, code.init());
+        Ok(())
+    }
+
+    /// The request ends: its pool is destroyed, and what lay on it. It takes no memory. Refused, nothing is changed:
+    /// `Broken`; `Busy`: a call is running; `NotInRequest`.
+    #[tactic(auto, unfolding(crate::specs::Seen::seen, run_model::specs::Connection::ends))]
+    pub fn end_request(&mut self) -> Result<(), Refusal>
+        ensures { ends (seen self.old) ≡ (refusal_of result, seen self.new) }
+    {
+        if let Some(cause) = self.broken {
+            return Err(Refusal::Broken(cause));
+        }
+        if self.busy {
+            return Err(Refusal::Busy);
+        }
+        if !self.machine.in_request() {
+            return Err(Refusal::NotInRequest);
+        }
+        let pool = self.machine.request_pool();
+        effects::end_request(&mut self.machine, pool);
+        Ok(())
+    }
+
+    /// The output since the last take. It takes no memory, and serves in any state.
+    #[tactic(auto, unfolding(crate::specs::Seen::seen, run_model::specs::Connection::takes))]
+    pub fn take_output(&mut self, alloc: Global) -> Seq<u8>
+        ensures { takes (seen self.old) ≡ (result, seen self.new) }
+    {
+        self.machine.take_output(alloc)
     }
 }
