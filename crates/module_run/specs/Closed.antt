@@ -1,7 +1,12 @@
 -- Where a connection starts, and the end of a request but for what it does to the brigades.
-use Rattle.std.specs.Prelude.{◌≡◌, ℕ, ◌==◌, false, [], None}
+use Rattle.std.specs.Prelude.{◌≡◌, ℕ, ◌+◌, ◌==◌, false, List, [], length, None}
+use Rattle.run_model.specs.declared.bucket.Mark.TheVariants.{Usable}
+use Rattle.run_model.specs.declared.bucket.Brigade.{Brigade}
+use Rattle.run_model.specs.declared.bucket.Var.TheVariants as var
+use Rattle.run_model.specs.declared.event.Piece.{Piece}
+use Rattle.run_model.specs.Connection.{named_from}
 use Rattle.run_model.specs.Pools.{Pools, planted, created, destroyed, is_under}
-use Rattle.run_model.specs.State.{Payload, Run, fresh_inst, fresh_call}
+use Rattle.run_model.specs.State.{Payload, Run, fresh_inst, fresh_call, set_brig}
 
 abbrev pub request_closed : ℕ → Run → Run
 request_closed req r = record r {
@@ -23,3 +28,10 @@ before_open = record {
   pc = 0;
   out = record { bytes = []; ended = false };
 }
+
+-- a brought brigade, before its call begins
+abbrev pub with_in : List Piece → Run → Run
+with_in pieces r =
+    let n = r.shared.next in
+    let in_brigade : Brigade = record { name = n + 1; on = None; mark = Usable; items = named_from (n + 2) pieces } in
+    set_brig 8 (var.Live in_brigade) (record r { shared = record r.shared { next = n + 2 + length pieces } })

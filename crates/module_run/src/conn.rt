@@ -7,10 +7,11 @@ ghost use Rattle.module_run.specs.Seen.{seen, seen_run, step_lasted, lasted, ref
 
 use std::alloc::Global;
 
-use run_model::{Cause, Module, Refusal, Seq, StepRefusal, Stepped};
+use run_model::{Cause, Module, Piece, Refusal, Seq, StepRefusal, Stepped};
 
 use crate::effects;
 use crate::machine::Machine;
+use crate::pieces;
 use crate::step;
 
 /// A connection on which one module runs.
@@ -172,5 +173,36 @@ impl Conn {
         ensures { takes (seen self.old) ≡ (result, seen self.new) }
     {
         self.machine.take_output(alloc)
+    }
+
+    /// A brigade of these pieces comes: `main` is to be stepped with it as its `in`. Refused, nothing is changed and the
+    /// pieces are dropped: `Broken`; `Busy`: a call is running; `NotInRequest`; `DataAfterEos`: a data piece stands
+    /// behind an EOS; `NamesSpent`: a name to be given out would be 2^64 - 1; `NoMemory`.
+    #[tactic(auto, unfolding(crate::specs::Seen::seen, run_model::specs::Connection::brings))]
+    pub fn bring(&mut self, alloc: Global, code: &Module, pieces: Seq<Piece>) -> Result<(), Refusal>
+        ensures brings { brings (lasted result) code.now pieces (seen self.old) ≡ (refusal_of result, seen self.new) }
+        ensures inside { (seen self.old).run.pc < length code.now.code → (seen self.new).run.pc < length code.now.code }
+    {
+        if let Some(cause) = self.broken {
+            return Err(Refusal::Broken(cause));
+        }
+        if self.busy {
+            return Err(Refusal::Busy);
+        }
+        if !self.machine.in_request() {
+            return Err(Refusal::NotInRequest);
+        }
+        if pieces::has_data_behind_eos(pieces.as_slice()) {
+            return Err(Refusal::DataAfterEos);
+        }
+        if self.machine.is_spent_by_brigade(pieces.len() as u64) {
+            return Err(Refusal::NamesSpent);
+        }
+        let name = self.machine.next();
+        if effects::bring(alloc, &mut self.machine, pieces).is_err() {
+            return Err(Refusal::NoMemory);
+        }
+        self.call(name, code.main());
+        Ok(())
     }
 }

@@ -123,6 +123,14 @@ impl Machine {
         names > u64::MAX - self.next
     }
 
+    /// Whether there are not so many names left as a brought brigade of so many buckets takes, with its call.
+    pub fn is_spent_by_brigade(&self, buckets: u64) -> bool
+        ensures { result ≡ is_spent (seen_run self.now).shared.next (2 + buckets) }
+    {
+        let left = u64::MAX - self.next;
+        left < 2 || buckets > left - 2
+    }
+
     /// Gives out the next name.
     pub fn take_name(&mut self) -> u64
         requires { is_spent (seen_run self.old).shared.next 1 ≡ false }
