@@ -54,8 +54,8 @@ late_data_is late (b ∷ bs) =
     let behind = late_data_is true bs in
     let along = late_data_is late bs in
     ap (λ x. cond (is_eos b) x (cond (late && is_data b) true (late_data late bs))) behind
-      ∙ (ap (λ x. cond (is_eos b) (data_after_eos bs || (true && has_data bs)) (cond (late && is_data b) true x)) along
-      ∙ one_more (is_eos b) (is_data b) late (data_after_eos bs) (has_data bs) (eos_is_no_data b.bucket.kind))
+    ∙ (ap (λ x. cond (is_eos b) (data_after_eos bs || (true && has_data bs)) (cond (late && is_data b) true x)) along
+    ∙ one_more (is_eos b) (is_data b) late (data_after_eos bs) (has_data bs) (eos_is_no_data b.bucket.kind))
 
 late_piece_is : (late : Bool) (pieces : List Piece) → late_piece late pieces ≡ (data_behind_eos pieces || (late && list_any is_data_piece pieces))
 late_piece_is true [] = refl
@@ -64,8 +64,8 @@ late_piece_is late (x ∷ xs) =
     let behind = late_piece_is true xs in
     let along = late_piece_is late xs in
     ap (λ t. cond (is_eos_piece x) t (cond (late && is_data_piece x) true (late_piece late xs))) behind
-      ∙ (ap (λ t. cond (is_eos_piece x) (data_behind_eos xs || (true && list_any is_data_piece xs)) (cond (late && is_data_piece x) true t)) along
-      ∙ one_more (is_eos_piece x) (is_data_piece x) late (data_behind_eos xs) (list_any is_data_piece xs) (eos_is_no_data (bucket_of x).kind))
+    ∙ (ap (λ t. cond (is_eos_piece x) (data_behind_eos xs || (true && list_any is_data_piece xs)) (cond (late && is_data_piece x) true t)) along
+    ∙ one_more (is_eos_piece x) (is_data_piece x) late (data_behind_eos xs) (list_any is_data_piece xs) (eos_is_no_data (bucket_of x).kind))
 
 or_false : (b : Bool) → (b || false) ≡ b
 or_false true = refl

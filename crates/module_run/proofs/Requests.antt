@@ -66,8 +66,8 @@ request_gone n =
     let paths : (ℕ → List ℕ) → P = λ f. record { path = f; payloads = λ _. []; next = 3 + n } in
     let payloads : (ℕ → List Payload) → P = λ f. record { path = λ m. cond (eqb m req) [] (path_of (Some req) m); payloads = f; next = 3 + n } in
     ap paths (fun_ext (λ m. sym (path_after req m (omega arith) (eqb m req) refl)))
-      ∙ (ap payloads (fun_ext (λ m. sym (same_either (eqb m req) [])))
-      ∙ ap by (sym (fun_ext (stands_alone n))))
+    ∙ (ap payloads (fun_ext (λ m. sym (same_either (eqb m req) [])))
+    ∙ ap by (sym (fun_ext (stands_alone n))))
 
 -- what is left to do where a request's brigades are cleared
 pub closed_is_ended : (p : ℕ) (r : Run) → StandsAlone p r.shared.pools → request_closed p (mapped (cleared_var (λ n. eqb n p)) r) ≡ request_ended p r

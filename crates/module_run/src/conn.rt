@@ -1,18 +1,15 @@
 //! A connection, and what happens to it.
 
-ghost use Rattle.std.specs.Prelude.{◌≡◌, ◌<◌, ◌-◌, ◌^◌, length, Ok};
+ghost use Rattle.std.specs.Prelude.{◌≡◌, ◌↔◌, IsTrue, ◌+◌, ◌<◌, ◌-◌, ◌^◌, length, Ok};
 ghost use Rattle.run_model.specs.Connection.{opened, calling, begins, brings, ends, takes, steps, breaks, after_step};
 ghost use Rattle.run_model.specs.Steps.{watched, current};
+ghost use Rattle.run_model.specs.Runs.{EndsRun};
 ghost use Rattle.module_run.specs.Seen.{seen, seen_run, step_lasted, lasted, refusal_of};
 
-use std::alloc::Global;
-
-use run_model::{Cause, Module, Piece, Refusal, Seq, StepRefusal, Stepped};
-
-use crate::effects;
 use crate::machine::Machine;
-use crate::pieces;
-use crate::step;
+use crate::{effects, pieces, step};
+use run_model::{Cause, Module, Piece, Refusal, Seq, StepRefusal, Stepped};
+use std::alloc::Global;
 
 /// A connection on which one module runs.
 #[derive(Drop)]
@@ -27,11 +24,7 @@ pub struct Conn {
 /// fault, whether or not there is memory; `NamesSpent` where it would have to give out the name 2^64 - 1; `NoMemory`
 /// where a growth was refused. A fault and a refusal change nothing.
 #[tactic(auto, unfolding(crate::specs::Seen::seen))]
-pub fn step_watched(
-    alloc: Global,
-    code: &Module,
-    conn: &mut Conn,
-) -> Result<Stepped, StepRefusal>
+pub fn step_watched(alloc: Global, code: &Module, conn: &mut Conn) -> Result<Stepped, StepRefusal>
     requires { (seen conn.old).run.pc < length code.now.code }
     ensures step { let r = (seen conn.old).run in watched (step_lasted result) code.now (current code.now r.pc) r ≡ (result, (seen conn.new).run) }
     ensures rest { seen conn.new ≡ record (seen conn.old) { run = (seen conn.new).run } }
@@ -70,6 +63,8 @@ impl Conn {
         requires { (seen self.old).run.pc < length code.now.code }
         ensures step { steps (lasted result) budget code.now (seen self.old) ≡ (result, seen self.new) }
         ensures inside { (seen self.new).run.pc < length code.now.code }
+        ensures counts { result ≡ Ok Stepped.Went → (seen self.new).count ≡ (seen self.old).count + 1 }
+        ensures room { result ≡ Ok Stepped.Went → (seen self.old).count < budget }
     {
         if let Some(cause) = self.broken {
             return Err(Refusal::Broken(cause));
@@ -205,4 +200,24 @@ impl Conn {
         self.call(name, code.main());
         Ok(())
     }
+
+    /// Steps until one answers something else than `Went`, and that answer. Each refusal is as in `step`.
+    pub fn run(&mut self, alloc: Global, code: &Module, budget: u64) -> Result<Stepped, Refusal>
+        requires { (seen self.old).run.pc < length code.now.code }
+        ensures run { EndsRun (lasted result) budget code.now (seen self.old) result (seen self.new) }
+        ensures inside { (seen self.new).run.pc < length code.now.code }
+    {
+        'steps: loop {
+            let answer = self.step(alloc, code, budget);
+            if !went(&answer) {
+                return answer;
+            }
+        }
+    }
+}
+
+fn went(answer: &Result<Stepped, Refusal>) -> bool
+    ensures { IsTrue result ↔ (answer.now ≡ Ok Stepped.Went) }
+{
+    matches!(answer, Ok(Stepped::Went))
 }

@@ -9,14 +9,10 @@ ghost use Rattle.module_run.specs.Seen.{seen_run};
 ghost use Rattle.module_run.specs.Mapped.{mapped};
 ghost use Rattle.module_run.specs.Closed.{with_in};
 
-use std::alloc::{AllocError, Global};
-
-use run_model::{Brigade, Mark, Module, Piece, Seq, Var};
-
-use crate::buckets;
 use crate::machine::Machine;
-use crate::pieces;
-use crate::vars;
+use crate::{buckets, pieces, vars};
+use run_model::{Brigade, Mark, Module, Piece, Seq, Var};
+use std::alloc::{AllocError, Global};
 
 /// Makes an empty brigade on its declared pool.
 #[tactic(auto, unfolding(run_model::specs::State::pool_named))]

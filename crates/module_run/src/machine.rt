@@ -6,10 +6,9 @@ ghost use Rattle.run_model.specs.Faults.{has_pool};
 ghost use Rattle.run_model.specs.Steps.{is_spent};
 ghost use Rattle.run_model.specs.Pools.{created};
 
+use run_model::{PoolRef, Seq, Var};
 use std::alloc::{AllocError, Global};
 use std::mem;
-
-use run_model::{PoolRef, Seq, Var};
 
 /// The instance, the call, the pools and the output of a connection. Brigade variables are numbered 0 to 7, and 8
 /// is `in`. Pool 1 is the root, pool 2 the connection's, and the nth request has pool n + 2.

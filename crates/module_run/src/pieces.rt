@@ -4,9 +4,8 @@ ghost use Rattle.std.specs.Prelude.{◌≡◌, false, ◌+◌, ◌^◌, ◌<◌,
 ghost use Rattle.run_model.specs.Connection.{bucket_of, named_from, is_data_piece, is_eos_piece, data_behind_eos};
 ghost use Rattle.module_run.specs.Tests.{late_piece};
 
-use std::alloc::{AllocError, Global};
-
 use run_model::{Bucket, Content, Home, Kind, Named, Piece, Seq};
+use std::alloc::{AllocError, Global};
 
 fn bucket_of(piece: Piece) -> Bucket
     ensures { result ≡ bucket_of piece }
