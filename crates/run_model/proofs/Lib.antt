@@ -1,1 +1,2 @@
 pub mod Updates
+pub mod Examples

@@ -7,3 +7,4 @@ pub mod Faults
 pub mod Steps
 pub mod Connection
 pub mod Runs
+pub mod Examples
