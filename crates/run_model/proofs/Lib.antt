@@ -1,2 +1,6 @@
 pub mod Updates
 pub mod Examples
+pub mod Sums
+pub mod Operands
+pub mod Names
+pub mod StepNames

@@ -1,0 +1,59 @@
+-- The laws of the definitions, as statements.
+use Rattle.std.specs.Prelude.{◌≡◌, ◌≢◌, ℕ, ◌+◌, Bool, true, false, ◌==◌, ◌||◌, List, [], ◌∷◌, ◌++◌, Option, Some, None, Ok, IfSome}
+use Rattle.module_lang.specs.declared.instr.Instr.{Instr}
+use Rattle.module_lang.specs.declared.instr.Instr.TheVariants as instr
+use Rattle.module_lang.specs.Program.{Program, IsModule, fits}
+use Rattle.run_model.specs.declared.event.Piece.{Piece}
+use Rattle.run_model.specs.declared.event.Event.{Event}
+use Rattle.run_model.specs.declared.event.Cause.{Cause}
+use Rattle.run_model.specs.declared.event.Stepped.TheVariants as stepped
+use Rattle.run_model.specs.State.{Run}
+use Rattle.run_model.specs.Faults.{fault}
+use Rattle.run_model.specs.Steps.{Choice, step, step_at_end, is_spent, names_of}
+use Rattle.run_model.specs.Connection.{Connection, steps}
+use Rattle.run_model.specs.Runs.{Answer, World, happens, IsRun, GoesOn}
+use Rattle.run_model.specs.Sound.{SoundNames, SoundBuckets, SoundPools, Sound}
+
+-- An instruction of a module may be executed: it has no fault, and the names that it gives out are there.
+pub record MayExecute (p : Program) (r : Run) (i : Instr) : Type 0 where
+  pub proper : IsModule p
+  pub fit : fits p i ≡ true
+  pub faultless : fault p r i ≡ None
+  pub names_last : is_spent r.shared.next (names_of i) ≡ false
+
+-- A step without a fault keeps each name one bucket's, and new names new.
+abbrev pub StepKeepsNames : Type 0
+StepKeepsNames = (p : Program) (choice : Choice) (i : Instr) (r : Run) → MayExecute p r i → SoundNames r → SoundNames (step p choice i r).run
+
+-- It keeps each bucket's home and content as its kind has them.
+abbrev pub StepKeepsBuckets : Type 0
+StepKeepsBuckets = (p : Program) (choice : Choice) (i : Instr) (r : Run) → MayExecute p r i → SoundBuckets r → SoundBuckets (step p choice i r).run
+
+-- It keeps each brigade on a live pool.
+abbrev pub StepKeepsPools : Type 0
+StepKeepsPools = (p : Program) (choice : Choice) (i : Instr) (r : Run) → MayExecute p r i → SoundPools r → SoundPools (step p choice i r).run
+
+-- The same of the last filter's steps.
+abbrev pub StepAtEndKeeps : Type 0
+StepAtEndKeeps = (p : Program) (i : Instr) (r : Run) → MayExecute p r i → Sound r → Sound (step_at_end p i r).run
+
+-- what is true of a connection, where it is open
+abbrev pub SoundWorld : World → Type 0
+SoundWorld w = IfSome w (λ c. Sound c.run)
+
+-- Each event keeps it, and so it is true of each world that a run reaches.
+abbrev pub EventKeepsSound : Type 0
+EventKeepsSound = (memory : Bool) (budget : ℕ) (p : Program) (e : Event) (w : World) → IsModule p → SoundWorld w → SoundWorld (happens memory budget p e w).1
+
+abbrev pub RunIsSound : Type 0
+RunIsSound = (budget : ℕ) (p : Program) (es : List Event) (answers : List Answer) (w : World) → IsModule p → IsRun budget p None es answers w → SoundWorld w
+
+-- A run goes on by one event.
+abbrev pub RunGoesOn : Type 0
+RunGoesOn = (memory : Bool) (budget : ℕ) (p : Program) (old mid new : World) (es : List Event) (answers : List Answer) (e : Event) (a : Answer)
+  → IsRun budget p old es answers mid → happens memory budget p e mid ≡ (a, new) → IsRun budget p old (es ++ e ∷ []) (answers ++ a ∷ []) new
+
+-- Steps that went go on by one more that went.
+abbrev pub StepsGoOn : Type 0
+StepsGoOn = (n budget : ℕ) (p : Program) (old mid new : Connection)
+  → GoesOn n budget p old mid → steps true budget p mid ≡ (Ok stepped.Went, new) → GoesOn (n + 1) budget p old new
