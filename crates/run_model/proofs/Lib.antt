@@ -4,3 +4,4 @@ pub mod Sums
 pub mod Operands
 pub mod Names
 pub mod StepNames
+pub mod StepBuckets
