@@ -5,3 +5,4 @@ pub mod Operands
 pub mod Names
 pub mod StepNames
 pub mod StepBuckets
+pub mod StepPools
