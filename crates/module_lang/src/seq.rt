@@ -21,6 +21,9 @@ impl<T> Model for Seq<T> {
 }
 
 impl<T> Seq<T> {
+    ghost use Rattle.std.specs.Borrow.{sem};
+    ghost use Rattle.module_lang.specs.SeqLends.{LendsItems};
+
     /// The empty list, which takes no memory.
     pub fn new(alloc: Global) -> Self
         ensures { result ≡ [] }
@@ -57,6 +60,24 @@ impl<T> Seq<T> {
         ensures { result.now ≡ slice_index_or self.now index result.now }
     {
         &self.items[index]
+    }
+
+    /// The items, for writing.
+    pub fn as_mut_slice(&mut self) -> &mut [T]
+        ensures* writes_back { sem 𝓛 (LendsItems T.row self.entry result) }
+        ensures value { result.now ≡ self.old }
+    {
+        self.items.as_mut_slice()
+    }
+
+    /// Adds items at the end. Without memory nothing is changed.
+    pub fn extend_from_slice(&mut self, items: &[T]) -> Result<(), AllocError>
+    where
+        T: Copy,
+        ensures ok { OnOk result (self.new ≡ self.old ++ items.now) }
+        ensures err { OnErr result (self.new ≡ self.old) }
+    {
+        self.items.extend_from_slice(items)
     }
 
     /// Adds an item at the end. Without memory nothing is changed.

@@ -23,7 +23,7 @@ use Rattle.run_model.specs.declared.event.Stepped.{Stepped}
 use Rattle.run_model.specs.declared.event.Stepped.TheVariants as stepped
 use Rattle.module_lang.specs.Program.{Program}
 use Rattle.run_model.specs.Pools.{Pools, planted, created, destroyed, is_under}
-use Rattle.run_model.specs.Buckets.{cleared_bucket}
+use Rattle.run_model.specs.Buckets.{is_data_kind, is_eos_kind, cleared_bucket}
 use Rattle.run_model.specs.State.{Payload, Inst, Call, Shared, Out, Run, fresh_inst, fresh_call, set_brig}
 use Rattle.run_model.specs.Steps.{watched, current, is_spent}
 
@@ -93,12 +93,10 @@ named_from n [] = []
 named_from n (x ∷ xs) = (record { name = n; bucket = bucket_of x }) ∷ named_from (n + 1) xs
 
 abbrev pub is_data_piece : Piece → Bool
-is_data_piece (piece.Heap bytes) = true
-is_data_piece piece.Eos = false
+is_data_piece x = is_data_kind (bucket_of x).kind
 
 abbrev pub is_eos_piece : Piece → Bool
-is_eos_piece (piece.Heap bytes) = false
-is_eos_piece piece.Eos = true
+is_eos_piece x = is_eos_kind (bucket_of x).kind
 
 -- whether a data piece stands behind an EOS
 abbrev pub data_behind_eos : List Piece → Bool

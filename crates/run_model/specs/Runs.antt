@@ -32,7 +32,7 @@ abbrev pub step_of : Result Stepped Refusal × Connection → Answer × World
 step_of (Ok s, c) = (Step s, Some c)
 step_of (Err r, c) = (Refused r, Some c)
 
--- What an event answers and leaves; memory says whether a growth would succeed. A second connection is not opened.
+-- What an event answers and leaves; memory says whether a growth would succeed. (A second opening is in no run.)
 abbrev pub happens : Bool → ℕ → Program → Event → World → Answer × World
 happens memory budget p event.Open None = (Done, Some opened)
 happens memory budget p event.Open (Some c) = (Done, Some c)
@@ -51,6 +51,7 @@ happens memory budget p event.TakeOutput None = (Refused refusal.NoSuchConn, Non
 -- no memory.
 unfoldable pub IsRun : ℕ → Program → World → List Event → List Answer → World → Type 0
 IsRun budget p old [] [] new = new ≡ old
+IsRun budget p (Some c) (event.Open ∷ es) answers new = ⊥
 IsRun budget p old (e ∷ es) (a ∷ answers) new = (memory : Bool) × (mid : World) × (happens memory budget p e old ≡ (a, mid)) × IsRun budget p mid es answers new
 IsRun budget p old [] (a ∷ answers) new = ⊥
 IsRun budget p old (e ∷ es) [] new = ⊥

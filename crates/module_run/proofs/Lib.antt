@@ -1,0 +1,2 @@
+pub mod LateData
+pub mod Below

@@ -1,0 +1,101 @@
+//! Tests and changes on lists of buckets.
+
+ghost use Rattle.std.specs.Prelude.{◌≡◌, ◌||◌, ◌&&◌, map, IfOk, ◌++◌};
+ghost use Rattle.std.specs.List.{list_any};
+ghost use Rattle.run_model.specs.Buckets.{is_data_kind, is_eos_kind, has_data, has_eos, data_after_eos, is_ended, is_dead, end_call, returned_bucket, bytes_of};
+ghost use Rattle.run_model.specs.Steps.{bytes_before_eos};
+ghost use Rattle.module_run.specs.Tests.{late_data};
+
+use std::alloc::{AllocError, Global};
+
+use run_model::{Content, Home, Kind, Named, Seq};
+
+/// Whether buckets of this kind are data.
+pub fn is_data_kind(kind: Kind) -> bool
+    ensures { result ≡ is_data_kind kind }
+{
+    !matches!(kind, Kind::Flush | Kind::Eos)
+}
+
+/// Whether buckets of this kind are an EOS.
+pub fn is_eos_kind(kind: Kind) -> bool
+    ensures { result ≡ is_eos_kind kind }
+{
+    matches!(kind, Kind::Eos)
+}
+
+/// Whether an EOS is among the buckets.
+pub fn has_eos(items: &[Named]) -> bool
+    ensures { result ≡ has_eos items.now }
+{
+    items.iter().any(|b| is_eos_kind(b.bucket.kind))
+}
+
+/// Whether data stands behind an EOS of the list, or anywhere in it where an EOS was sent before it.
+pub fn has_late_data(sent: bool, items: &[Named]) -> bool
+    ensures { result ≡ late_data sent items.now }
+{
+    let mut late = sent;
+    for b in items {
+        if is_eos_kind(b.bucket.kind) {
+            late = true;
+        } else if late && is_data_kind(b.bucket.kind) {
+            return true;
+        }
+    }
+    false
+}
+
+fn is_ended(home: Home) -> bool
+    ensures { result ≡ is_ended home }
+{
+    matches!(home, Home::Ended)
+}
+
+/// Whether the home of some bucket is dead.
+pub fn has_dead(items: &[Named]) -> bool
+    ensures { result ≡ list_any is_dead items.now }
+{
+    items.iter().any(|b| is_ended(b.bucket.home))
+}
+
+fn end_call(call: u64, home: Home) -> Home
+    ensures { result ≡ end_call call home }
+{
+    match home {
+        Home::Call(name) if name == call => Home::Ended,
+        other => other,
+    }
+}
+
+/// Ends the homes that are this call.
+pub fn end_homes(items: &mut [Named], call: u64)
+    ensures { items.new ≡ map (returned_bucket call) items.old }
+{
+    for b in items.iter_mut() {
+        b.bucket.home = end_call(call, b.bucket.home);
+    }
+}
+
+fn append_bytes(out: &mut Seq<u8>, content: &Content) -> Result<(), AllocError>
+    ensures { IfOk result (λ _. out.new ≡ out.old ++ bytes_of content.now) }
+{
+    match content {
+        Content::Bytes(bytes) => out.extend_from_slice(bytes.as_slice()),
+        Content::Range { .. } | Content::Nothing => Ok(()),
+    }
+}
+
+/// The bytes of the buckets before the first EOS.
+pub fn bytes_before_eos(alloc: Global, items: &[Named]) -> Result<Seq<u8>, AllocError>
+    ensures { IfOk result (λ bytes. bytes ≡ bytes_before_eos items.now) }
+{
+    let mut out = Seq::new(alloc);
+    for b in items {
+        if is_eos_kind(b.bucket.kind) {
+            return Ok(out);
+        }
+        append_bytes(&mut out, &b.bucket.content)?;
+    }
+    Ok(out)
+}

@@ -1,0 +1,12 @@
+//! The watched interpreter of a connection: steps that name each fault, and the events of one connection.
+#![tactic(auto)]
+
+mod buckets;
+mod conn;
+mod machine;
+mod wants;
+
+pub use conn::Conn;
+pub use run_model::{
+    Cause, Event, Exit, FaultKind, Instr, Module, Piece, Refusal, Seq, Status, StepRefusal, Stepped,
+};

@@ -1,0 +1,151 @@
+//! What a step sees and changes of a connection.
+
+ghost use Rattle.std.specs.Prelude.{◌≡◌, ◌+◌, ◌^◌, ◌-◌, ◌<◌, ◌++◌, [], false, slice_index_or, slice_set, OnOk, OnErr};
+ghost use Rattle.run_model.specs.State.{set_brig, pool_named, is_own};
+ghost use Rattle.run_model.specs.Faults.{has_pool};
+ghost use Rattle.run_model.specs.Steps.{is_spent};
+
+use std::alloc::AllocError;
+use std::mem;
+
+use run_model::{PoolRef, Seq, Var};
+
+/// The instance, the call, the pools and the output of a connection. Brigade variables are numbered 0 to 7, and 8
+/// is `in`. Pool 1 is the root, pool 2 the connection's, and the nth request has pool n + 2.
+#[derive(Drop)]
+pub struct Machine {
+    pub brigs: [Var; 9],
+    pub sent: bool,
+    pub call: u64,
+    pub in_request: bool,
+    pub requests: u64,
+    pub next: u64,
+    pub pc: usize,
+    pub output: Seq<u8>,
+    pub ended: bool,
+    ghost few_requests: { requests + 3 < 2 ^ 64 },
+}
+
+#[tactic(auto, unfolding(crate::specs::Seen::seen_run, run_model::specs::State::set_brig, run_model::specs::State::pool_named, run_model::specs::Faults::has_pool, run_model::specs::Pools::is_live, run_model::specs::Steps::is_spent))]
+impl Machine {
+    ghost use Rattle.module_run.specs.Seen.{seen_run};
+
+    /// The brigade variable of a number.
+    pub fn brig(&self, b: u8) -> &Var
+        requires { b < 9 }
+        ensures { result.now ≡ (seen_run self.now).inst.brigs b }
+    {
+        &self.brigs[usize::from(b)]
+    }
+
+    fn swap(&mut self, b: usize, var: Var) -> Var
+        requires { b < 9 }
+        ensures old { result ≡ slice_index_or self.old.brigs b Var.Null }
+        ensures new { self.new ≡ record self.old { brigs = slice_set self.old.brigs b var } }
+    {
+        mem::replace(&mut self.brigs[b], var)
+    }
+
+    /// Sets a brigade variable, and gives back what was in it.
+    #[tactic(auto, unfolding(crate::specs::Seen::seen_run, run_model::specs::State::set_brig, run_model::specs::Indexed::upd))]
+    pub fn put(&mut self, b: u8, var: Var) -> Var
+        requires { b < 9 }
+        ensures old { result ≡ (seen_run self.old).inst.brigs b }
+        ensures new { seen_run self.new ≡ set_brig b var (seen_run self.old) }
+    {
+        self.swap(usize::from(b), var)
+    }
+
+    /// The number of the next instruction.
+    pub fn pc(&self) -> usize
+        ensures { result ≡ (seen_run self.now).pc }
+    {
+        self.pc
+    }
+
+    /// Makes an instruction the next one.
+    pub fn go_to(&mut self, pc: usize)
+        ensures { seen_run self.new ≡ record (seen_run self.old) { pc = pc } }
+    {
+        self.pc = pc;
+    }
+
+    /// Whether an EOS of this request was passed.
+    pub fn sent(&self) -> bool
+        ensures { result ≡ (seen_run self.now).inst.sent }
+    {
+        self.sent
+    }
+
+    /// Says whether an EOS of this request was passed.
+    pub fn set_sent(&mut self, sent: bool)
+        ensures { let r = seen_run self.old in seen_run self.new ≡ record r { inst = record r.inst { sent = sent } } }
+    {
+        self.sent = sent;
+    }
+
+    /// The pool that an operand or a declaration names.
+    pub fn pool_named(&self, pool: PoolRef) -> Option<u64>
+        ensures { result ≡ pool_named (seen_run self.now) pool }
+    {
+        match pool {
+            PoolRef::Conn => Some(2),
+            PoolRef::Req if self.in_request => Some(3 + self.requests.saturating_sub(1)),
+            PoolRef::Req | PoolRef::Own(_) => None,
+        }
+    }
+
+    /// Whether an operand names a live pool.
+    pub fn has_pool(&self, pool: PoolRef) -> bool
+        ensures { result ≡ has_pool (seen_run self.now) pool }
+    {
+        match pool {
+            PoolRef::Conn => true,
+            PoolRef::Req => self.in_request,
+            PoolRef::Own(_) => false,
+        }
+    }
+
+    /// Whether a pool is the connection's or the open request's. (No instruction makes pools yet.)
+    #[tactic(auto, unfolding(crate::specs::Seen::seen_run, run_model::specs::State::is_own, run_model::specs::Indexed::any_below))]
+    pub fn is_own(&self, name: u64) -> bool
+        ensures { result ≡ is_own (seen_run self.now) name }
+    {
+        name == 2 || (self.in_request && name == 3 + self.requests.saturating_sub(1))
+    }
+
+    /// Whether there are not so many names left.
+    pub fn is_spent(&self, names: u64) -> bool
+        ensures { result ≡ is_spent (seen_run self.now).shared.next names }
+    {
+        names > u64::MAX - self.next
+    }
+
+    /// Gives out the next name.
+    pub fn take_name(&mut self) -> u64
+        requires { is_spent (seen_run self.old).shared.next 1 ≡ false }
+        ensures name { result ≡ (seen_run self.old).shared.next }
+        ensures new { let r = seen_run self.old in seen_run self.new ≡ record r { shared = record r.shared { next = r.shared.next + 1 } } }
+    {
+        let name = self.next;
+        self.next += 1;
+        name
+    }
+
+    /// Whether an EOS of this request reached the output.
+    pub fn ended(&self) -> bool
+        ensures { result ≡ (seen_run self.now).out.ended }
+    {
+        self.ended
+    }
+
+    /// Moves bytes to the end of the output, and says whether the output has ended. Without memory nothing is changed.
+    pub fn write(&mut self, bytes: &mut Seq<u8>, ended: bool) -> Result<(), AllocError>
+        ensures ok { OnOk result (let r = seen_run self.old in seen_run self.new ≡ record r { out = record { bytes = r.out.bytes ++ bytes.old; ended = ended } }) }
+        ensures err { OnErr result (seen_run self.new ≡ seen_run self.old) }
+    {
+        self.output.append(bytes)?;
+        self.ended = ended;
+        Ok(())
+    }
+}

@@ -1,0 +1,149 @@
+//! The faults of an instruction: one test for each want.
+
+ghost use Rattle.std.specs.Prelude.{◌≡◌, ◌<◌, ◌≤◌, true, length};
+ghost use Rattle.std.specs.List.{list_any};
+ghost use Rattle.run_model.specs.Faults.{WPool, WBrigade, WUsable, WNew, WHomes, WSend, WReturn, fault_want, or_else, fault, is_stray, keeps_stray};
+ghost use Rattle.run_model.specs.State.{is_own};
+ghost use Rattle.module_lang.specs.Program.{fits};
+ghost use Rattle.module_run.specs.Seen.{seen_run};
+
+use run_model::{FaultKind, Home, Instr, Mark, Module, Named, PoolRef, Var};
+
+use crate::buckets;
+use crate::machine::Machine;
+
+fn or_else(first: Option<FaultKind>, second: Option<FaultKind>) -> Option<FaultKind>
+    ensures { result ≡ or_else first second }
+{
+    match first {
+        Some(kind) => Some(kind),
+        None => second,
+    }
+}
+
+fn want_pool(machine: &Machine, pool: PoolRef) -> Option<FaultKind>
+    ensures { result ≡ fault_want (seen_run machine.now) (WPool pool) }
+{
+    if machine.has_pool(pool) {
+        None
+    } else {
+        Some(FaultKind::F1)
+    }
+}
+
+fn want_brigade(machine: &Machine, b: u8) -> Option<FaultKind>
+    requires { b < 9 }
+    ensures { result ≡ fault_want (seen_run machine.now) (WBrigade b) }
+{
+    match machine.brig(b) {
+        Var::Null | Var::Gone => Some(FaultKind::F2),
+        Var::Live(_) => None,
+    }
+}
+
+fn want_usable(machine: &Machine, b: u8) -> Option<FaultKind>
+    requires { b < 9 }
+    ensures { result ≡ fault_want (seen_run machine.now) (WUsable b) }
+{
+    match machine.brig(b) {
+        Var::Null | Var::Gone => Some(FaultKind::F2),
+        Var::Live(brigade) => match brigade.mark {
+            Mark::Usable => None,
+            Mark::Passed => Some(FaultKind::F7),
+        },
+    }
+}
+
+fn want_new(machine: &Machine, b: u8) -> Option<FaultKind>
+    requires { b < 9 }
+    ensures { result ≡ fault_want (seen_run machine.now) (WNew b) }
+{
+    match machine.brig(b) {
+        Var::Null | Var::Gone => None,
+        Var::Live(_) => Some(FaultKind::F10),
+    }
+}
+
+fn want_homes(machine: &Machine, b: u8) -> Option<FaultKind>
+    requires { b < 9 }
+    ensures { result ≡ fault_want (seen_run machine.now) (WHomes b) }
+{
+    match machine.brig(b) {
+        Var::Live(brigade) if buckets::has_dead(brigade.items.as_slice()) => Some(FaultKind::F5),
+        Var::Null | Var::Gone | Var::Live(_) => None,
+    }
+}
+
+#[tactic(auto, using(crate::proofs::LateData::late_data_is))]
+fn want_send(machine: &Machine, b: u8) -> Option<FaultKind>
+    requires { b < 9 }
+    ensures { result ≡ fault_want (seen_run machine.now) (WSend b) }
+{
+    match machine.brig(b) {
+        Var::Live(brigade) if buckets::has_late_data(machine.sent(), brigade.items.as_slice()) => {
+            Some(FaultKind::F8)
+        }
+        Var::Null | Var::Gone | Var::Live(_) => None,
+    }
+}
+
+#[tactic(auto, unfolding(run_model::specs::Faults::is_stray, run_model::specs::State::is_own, crate::specs::Seen::seen_run))]
+fn is_stray(machine: &Machine, home: Home) -> bool
+    ensures { result ≡ is_stray (seen_run machine.now) home }
+{
+    match home {
+        Home::Call(_) => true,
+        Home::Pool(name) => !machine.is_own(name),
+        Home::Free | Home::Ended => false,
+    }
+}
+
+#[tactic(auto, unfolding(run_model::specs::Faults::keeps_stray))]
+fn keeps_stray(machine: &Machine, var: &Var) -> bool
+    ensures { result ≡ keeps_stray (seen_run machine.now) var.now }
+{
+    match var {
+        Var::Null | Var::Gone => false,
+        Var::Live(brigade) => match brigade.mark {
+            Mark::Usable => has_stray(machine, brigade.items.as_slice()),
+            Mark::Passed => false,
+        },
+    }
+}
+
+fn has_stray(machine: &Machine, items: &[Named]) -> bool
+    ensures { result ≡ list_any (λ b. is_stray (seen_run machine.now) b.bucket.home) items.now }
+{
+    items.iter().any(|b| is_stray(machine, b.bucket.home))
+}
+
+fn want_return(machine: &Machine) -> Option<FaultKind>
+    ensures { result ≡ fault_want (seen_run machine.now) WReturn }
+{
+    for b in 0..8u8 {
+        if keeps_stray(machine, machine.brig(b)) {
+            return Some(FaultKind::F6);
+        }
+    }
+    None
+}
+
+/// The fault of an instruction, if it has one.
+pub fn fault(code: &Module, machine: &Machine, instr: Instr) -> Option<FaultKind>
+    requires fit { fits code.now instr ≡ true }
+    requires few { length code.now.brigades ≤ 8 }
+    ensures { result ≡ fault code.now (seen_run machine.now) instr }
+{
+    match instr {
+        Instr::BCreate(o) => or_else(want_pool(machine, code.brigade_pool(o)), want_new(machine, o)),
+        Instr::BClean(b) => want_brigade(machine, b),
+        Instr::BConcat(a, b) => or_else(want_usable(machine, a), want_usable(machine, b)),
+        Instr::Pass(b, _) => or_else(
+            want_usable(machine, b),
+            or_else(want_homes(machine, b), want_send(machine, b)),
+        ),
+        Instr::JEmpty(b, _) => want_usable(machine, b),
+        Instr::JSent(_) | Instr::Jump(_) => None,
+        Instr::Ret(_) => want_return(machine),
+    }
+}
