@@ -19,7 +19,7 @@ fault_runs = record { passed = refl; data_after_eos = refl; made_again = refl; n
 
 pub break_runs : BreakRuns
 unfolding answers_from world_after opened begins brings ends takes steps upd any_below is_live is_under planted created destroyed set_brig pool_named is_own has_pool is_stray keeps_stray delivered is_spent current pool_of_brigade
-break_runs = record { three_are_enough = refl; two_are_not = refl; none = refl; for_ever = refl; no_memory = refl }
+break_runs = record { three_are_enough = refl; two_are_not = refl; none = refl; for_ever = refl; no_memory = refl; no_growth = refl }
 
 pub refused_runs : RefusedRuns
 unfolding answers_from world_after opened begins brings ends takes steps upd any_below is_live is_under planted created destroyed set_brig pool_named is_own has_pool is_stray keeps_stray delivered is_spent current pool_of_brigade

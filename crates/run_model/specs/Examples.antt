@@ -140,7 +140,9 @@ pub record BreakRuns : Type 0 where
       ≡ begun_well ++ Done ∷ went ∷ went ∷ broken_by cause.OutOfSteps ∷ broken_by cause.OutOfSteps ∷ broken_by cause.OutOfSteps ∷ broken_by cause.OutOfSteps ∷ broken_by cause.OutOfSteps ∷ Output (97 ∷ 98 ∷ []) ∷ []
   pub none : answers 0 identity (event.Open ∷ event.Step ∷ []) ≡ Done ∷ broken_by cause.OutOfSteps ∷ []
   pub for_ever : answers 2 loops (beginning ++ event.Bring [] ∷ three_steps) ≡ begun_well ++ Done ∷ went ∷ went ∷ broken_by cause.OutOfSteps ∷ []
-  pub no_memory : (happens false 1000000 identity event.Step (Some opened)).0 ≡ broken_by cause.NoMemory
+  -- a brigade wants memory, a return wants none
+  pub no_memory : (happens false 1000000 gathers event.Step (world_after None 1000000 gathers (event.Open ∷ event.Step ∷ event.Begin ∷ []))).0 ≡ broken_by cause.NoMemory
+  pub no_growth : (happens false 1000000 identity event.Step (Some opened)).0 ≡ step_ok
 
 -- Which events are refused in which states.
 pub record RefusedRuns : Type 0 where
