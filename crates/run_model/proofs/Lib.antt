@@ -2,6 +2,7 @@ pub mod Updates
 pub mod Examples
 pub mod Sums
 pub mod Operands
+pub mod PoolMap
 pub mod Names
 pub mod StepNames
 pub mod StepBuckets
