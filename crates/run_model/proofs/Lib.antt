@@ -7,3 +7,4 @@ pub mod Names
 pub mod StepNames
 pub mod StepBuckets
 pub mod StepPools
+pub mod Events

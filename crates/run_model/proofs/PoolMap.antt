@@ -86,3 +86,22 @@ not_under p ps n older lt = by_test (is_in p (ps.path n)) (older n p) lt where
   by_test : (b : Bool) → (b ≡ true → p ≤ n) → n < p → b ≡ false
   by_test true h lt = absurd (let le : p ≤ n = h refl in omega arith)
   by_test false h lt = refl
+
+-- a tree of one pool
+
+pub planted_fresh : (T : Type 0) (first k : ℕ) → first + 1 ≤ k → (planted {T = T} first).path k ≡ []
+unfolding planted
+planted_fresh T first k le = upd_off (λ _. []) first k (first ∷ []) (λ e. absurd (omega (arith, e)))
+
+pub planted_older : (T : Type 0) (first n m : ℕ) → is_in m ((planted {T = T} first).path n) ≡ true → m ≤ n
+unfolding planted
+planted_older T first n m h = elim (upd_either (λ (k : ℕ). []) first n (first ∷ [])) [
+    inl p ↦ (let found : is_in m (first ∷ []) ≡ true = sym (ap (is_in m) p.1) ∙ h in alone first n m found p.0)
+  | inr p ↦ absurd (let none : is_in m [] ≡ true = sym (ap (is_in m) p.1) ∙ h in cc)
+  ] where
+  alone : (first n m : ℕ) → ((first == m) || false) ≡ true → n ≡ first → m ≤ n
+  alone first n m h e = grind (arith, nat_tests)
+
+pub planted_lives : (T : Type 0) (first : ℕ) → is_live (planted {T = T} first) first ≡ true
+unfolding is_live planted
+planted_lives T first = ap (λ path. not (is_empty path)) (upd_at (λ (k : ℕ). []) first (first ∷ []))

@@ -179,7 +179,7 @@ pub keeps_buckets : (r new : Run) → ((b : ℕ) → KeepsProper (r.inst.brigs b
 keeps_buckets r new slots loose s = record { brigades = λ b. slots b (s.brigades b); loose = loose s.loose }
 
 -- one variable is written
-written_buckets : (r new : Run) (i : ℕ) (w : Var) → new.inst.brigs ≡ upd r.inst.brigs i w → ProperList (items_of w) → (ProperList r.call.loose → ProperList new.call.loose) → SoundBuckets r → SoundBuckets new
+pub written_buckets : (r new : Run) (i : ℕ) (w : Var) → new.inst.brigs ≡ upd r.inst.brigs i w → ProperList (items_of w) → (ProperList r.call.loose → ProperList new.call.loose) → SoundBuckets r → SoundBuckets new
 written_buckets r new i w is proper loose s =
     keeps_buckets r new (λ b. subst (λ (g : ℕ → Var). KeepsProper (r.inst.brigs b) (g b)) (sym is) (at_each KeepsProper r.inst.brigs i w (λ h. proper) same_proper b)) loose s
 

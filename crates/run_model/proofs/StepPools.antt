@@ -47,7 +47,7 @@ returned_pool call var.Gone n h = h
 returned_pool call (var.Live v) n h = h
 
 -- where the pools stay and brigades keep theirs
-keeps_pools : (r new : Run) → new.shared.pools ≡ r.shared.pools → new.shared.conn ≡ r.shared.conn → new.shared.req ≡ r.shared.req
+pub keeps_pools : (r new : Run) → new.shared.pools ≡ r.shared.pools → new.shared.conn ≡ r.shared.conn → new.shared.req ≡ r.shared.req
   → ((b n : ℕ) → brigade_pool (new.inst.brigs b) ≡ Some n → is_live r.shared.pools n ≡ true)
   → SoundPools r → SoundPools new
 keeps_pools r new pools conn req brigades s = record {
