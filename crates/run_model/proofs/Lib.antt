@@ -8,3 +8,6 @@ pub mod StepNames
 pub mod StepBuckets
 pub mod StepPools
 pub mod Events
+pub mod Runs
+pub mod SoundRuns
+pub mod Unchanged

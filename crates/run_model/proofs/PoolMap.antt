@@ -101,7 +101,3 @@ planted_older T first n m h = elim (upd_either (λ (k : ℕ). []) first n (first
   ] where
   alone : (first n m : ℕ) → ((first == m) || false) ≡ true → n ≡ first → m ≤ n
   alone first n m h e = grind (arith, nat_tests)
-
-pub planted_lives : (T : Type 0) (first : ℕ) → is_live (planted {T = T} first) first ≡ true
-unfolding is_live planted
-planted_lives T first = ap (λ path. not (is_empty path)) (upd_at (λ (k : ℕ). []) first (first ∷ []))
