@@ -1,37 +1,34 @@
 -- The events of a connection keep its run sound.
-use Rattle.std.proofs.Common.{◌≡◌, ◌≢◌, ℕ, zero, suc, ◌+◌, ◌^◌, ◌<◌, ◌≤◌, Bool, true, false, ◌||◌, ◌==◌, cond, List, [], ◌∷◌, map, length, Option, Some, None, ◌⊎◌, inl, inr, refl, sym, ◌∙◌, ap, subst, arith}
-use Rattle.std.proofs.lemmas.Bool.Decides.{nat_tests}
+use Rattle.std.proofs.Common.{◌≡◌, ℕ, zero, suc, ◌+◌, ◌^◌, ◌<◌, ◌≤◌, Bool, true, false, ◌||◌, cond, List, [], map, length, Some, None, inl, inr, refl, sym, ◌∙◌, ap, subst, arith}
 use Rattle.module_lang.specs.Program.{Program}
 use Rattle.run_model.specs.declared.bucket.Mark.TheVariants.{Usable}
 use Rattle.run_model.specs.declared.bucket.Brigade.{Brigade}
 use Rattle.run_model.specs.declared.bucket.Var.{Var}
 use Rattle.run_model.specs.declared.bucket.Var.TheVariants as var
 use Rattle.run_model.specs.declared.event.Piece.{Piece}
-use Rattle.run_model.specs.Indexed.{upd}
-use Rattle.run_model.specs.Pools.{Pools, is_in, is_live, is_under, planted, created, destroyed}
+use Rattle.run_model.specs.Pools.{is_live, is_under, planted, created, destroyed}
 use Rattle.run_model.specs.State.{Payload, Shared, Run, items_of, set_brig}
 use Rattle.run_model.specs.Steps.{is_spent}
 use Rattle.run_model.specs.Buckets.{cleared_bucket}
-use Rattle.run_model.specs.Connection.{Connection, opened, begun, brought, request_ended, ended, cleared_var, is_reached, named_from}
-use Rattle.run_model.specs.Sound.{sum_below, count_named, count, brigade_name, brigade_pool, SoundNames, SoundBuckets, SoundPools, Sound}
-use Rattle.run_model.proofs.Updates.{upd_off, upd_either}
-use Rattle.run_model.proofs.Sums.{sum_below_same}
+use Rattle.run_model.specs.Connection.{Connection, opened, begun, brought, request_ended, cleared_var, is_reached, named_from}
+use Rattle.run_model.specs.Sound.{sum_below, count_named, brigade_pool, SoundPools, Sound}
+use Rattle.run_model.proofs.Updates.{upd_either}
 use Rattle.run_model.proofs.PoolMap.{planted_fresh, planted_older, live_given, created_lives, new_lives, created_fresh, created_older, destroyed_fresh, destroyed_older, destroyed_lives, not_under}
 use Rattle.run_model.proofs.Names.{count_none, count_before, count_once, count_behind, Fewer, fewer_same, cleared_fewer, keeps_slots, placed_names}
 use Rattle.run_model.proofs.StepNames.{not_spent}
-use Rattle.run_model.proofs.StepBuckets.{ProperList, KeepsProper, none_proper, named_proper, cleared_list, keeps_buckets, written_buckets}
+use Rattle.run_model.proofs.StepBuckets.{ProperList, none_proper, named_proper, cleared_list, keeps_buckets, written_buckets}
 use Rattle.run_model.proofs.StepPools.{keeps_pools}
 
 -- Brigades and shared things stay, and loose buckets stay or go.
 pub same_sound : (r new : Run) → new.inst.brigs ≡ r.inst.brigs → new.shared ≡ r.shared
-  → ((n : ℕ) → count_named n new.call.loose ≤ count_named n r.call.loose) → (ProperList r.call.loose → ProperList new.call.loose)
-  → Sound r → Sound new
+    → ((n : ℕ) → count_named n new.call.loose ≤ count_named n r.call.loose) → (ProperList r.call.loose → ProperList new.call.loose)
+    → Sound r → Sound new
 same_sound r new brigs shared fewer proper s = record {
   names = keeps_slots r new fewer (λ b. subst (λ (g : ℕ → Var). Fewer (r.inst.brigs b) (g b)) (sym brigs) (fewer_same (r.inst.brigs b)))
-    (subst (λ (x : Shared). r.shared.next ≤ x.next) (sym shared) (omega arith)) (subst (λ (x : Shared). x.next < 2 ^ 64) (sym shared) s.names.limit) s.names;
+      (subst (λ (x : Shared). r.shared.next ≤ x.next) (sym shared) (omega arith)) (subst (λ (x : Shared). x.next < 2 ^ 64) (sym shared) s.names.limit) s.names;
   buckets = keeps_buckets r new (λ b h. subst (λ (g : ℕ → Var). ProperList (items_of (g b))) (sym brigs) h) proper s.buckets;
   pools = keeps_pools r new (ap (λ (x : Shared). x.pools) shared) (ap (λ (x : Shared). x.conn) shared) (ap (λ (x : Shared). x.req) shared)
-    (λ b n e. s.pools.brigades b n (sym (ap (λ (g : ℕ → Var). brigade_pool (g b)) brigs) ∙ e)) s.pools;
+      (λ b n e. s.pools.brigades b n (sym (ap (λ (g : ℕ → Var). brigade_pool (g b)) brigs) ∙ e)) s.pools;
 }
 
 -- where the loose buckets go too
@@ -61,7 +58,7 @@ begun_pools p c limit s =
       older = created_older c.run.shared.conn c.run.shared.pools conn_given s.older;
       conn = created_lives c.run.shared.conn c.run.shared.pools c.run.shared.conn s.conn;
       req = λ n e. (let is : c.run.shared.pools.next ≡ n = cc in
-        (subst (λ k. is_live (created c.run.shared.conn c.run.shared.pools) k ≡ true) is (new_lives c.run.shared.conn c.run.shared.pools), omega (arith, is)));
+          (subst (λ k. is_live (created c.run.shared.conn c.run.shared.pools) k ≡ true) is (new_lives c.run.shared.conn c.run.shared.pools), omega (arith, is)));
       brigades = λ b n e. created_lives c.run.shared.conn c.run.shared.pools n (s.brigades b n e);
     }
 
@@ -86,12 +83,12 @@ brought_sound p pieces c last s =
     let limit : n + (2 + length pieces) < 2 ^ 64 = not_spent n (2 + length pieces) last in
     record {
       names = placed_names c.run (brought p pieces c).run 8 (brought_brigade n pieces) (omega arith) refl (λ k. rw (count_none k) (omega arith)) (omega arith) (omega arith) (omega arith)
-        (λ k lt. count_before k (n + 2) pieces (omega arith)) (λ k. count_once k (n + 2) pieces) (λ k le. count_behind k (n + 2) pieces (omega arith)) s.names;
+          (λ k lt. count_before k (n + 2) pieces (omega arith)) (λ k. count_once k (n + 2) pieces) (λ k le. count_behind k (n + 2) pieces (omega arith)) s.names;
       buckets = written_buckets c.run (brought p pieces c).run 8 (var.Live (brought_brigade n pieces)) refl (named_proper (n + 2) pieces) (λ h. none_proper) s.buckets;
       pools = keeps_pools c.run (brought p pieces c).run refl refl refl (λ b k e. elim (upd_either c.run.inst.brigs 8 b (var.Live (brought_brigade n pieces))) [
-          inl q ↦ absurd (let none : None ≡ Some k = sym (ap brigade_pool q.1) ∙ e in cc)
+        | inl q ↦ absurd (let none : None ≡ Some k = sym (ap brigade_pool q.1) ∙ e in cc)
         | inr q ↦ s.pools.brigades b k (sym (ap brigade_pool q.1) ∙ e)
-        ]) s.pools;
+      ]) s.pools;
     }
 
 -- A request ends.
@@ -113,8 +110,8 @@ ended_pools req r is s = record {
   conn = destroyed_lives req r.shared.pools r.shared.conn (not_under req r.shared.pools r.shared.conn s.older (s.req req is).1) s.conn;
   req = λ n e. absurd (cc);
   brigades = λ b n e.
-    (let kept = cleared_pool (is_under r.shared.pools req) (r.inst.brigs b) n e in
-     destroyed_lives req r.shared.pools n kept.1 (s.brigades b n kept.0));
+      (let kept = cleared_pool (is_under r.shared.pools req) (r.inst.brigs b) n e in
+      destroyed_lives req r.shared.pools n kept.1 (s.brigades b n kept.0));
 }
 
 pub ended_sound : (req : ℕ) (r : Run) → r.shared.req ≡ Some req → Sound r → Sound (request_ended req r)

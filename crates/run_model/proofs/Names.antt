@@ -1,5 +1,5 @@
 -- Steps and events keep each name one bucket's and new names new.
-use Rattle.std.proofs.Common.{◌≡◌, ◌≢◌, ℕ, zero, suc, ◌+◌, ◌^◌, ◌<◌, ◌≤◌, Bool, true, false, ◌==◌, cond, List, [], ◌∷◌, ◌++◌, map, length, Option, Some, None, ◌⊎◌, inl, inr, refl, sym, ◌∙◌, ap, subst, arith, eq-eqb, ne_eqb, eqb-true}
+use Rattle.std.proofs.Common.{◌≡◌, ℕ, ◌+◌, ◌^◌, ◌<◌, ◌≤◌, Bool, true, false, ◌==◌, cond, List, [], ◌∷◌, ◌++◌, map, length, Some, ◌⊎◌, inl, inr, refl, sym, ◌∙◌, ap, subst, arith, ne_eqb}
 use Rattle.std.proofs.lemmas.List.Sums.{sum_by-append, sum_by-cons}
 use Rattle.std.proofs.lemmas.Bool.{cases_lt}
 use Rattle.std.proofs.lemmas.Bool.Decides.{eqb_tells}
@@ -14,8 +14,8 @@ use Rattle.run_model.specs.State.{Run, items_of}
 use Rattle.run_model.specs.Steps.{cleaned, with_items, handed_over, returned_var}
 use Rattle.run_model.specs.Connection.{cleared_var, is_reached, named_from}
 use Rattle.run_model.specs.Sound.{sum_below, count_named, count, brigade_name, SoundNames}
-use Rattle.run_model.proofs.Updates.{upd_at, upd_off, upd_either}
-use Rattle.run_model.proofs.Sums.{sum_below_same, sum_below_le, sum_below_upd}
+use Rattle.run_model.proofs.Updates.{upd_off, upd_either}
+use Rattle.run_model.proofs.Sums.{sum_below_le, sum_below_upd}
 
 -- Counts in lists.
 
@@ -52,15 +52,15 @@ count_before n m (x ∷ xs) lt =
 pub count_once : (n m : ℕ) (xs : List Piece) → count_named n (named_from m xs) ≤ 1
 count_once n m [] = rw (count_none n) (omega arith)
 count_once n m (x ∷ xs) = elim (eqb_tells m n) [
-    inl p ↦
+  | inl p ↦
       (let head : ◌≡◌ {A = ℕ} (cond (m == n) 1 0) 1 = ap (λ b. cond b 1 0) p.0 in
-       let rest : count_named n (named_from (m + 1) xs) ≡ 0 = count_before n (m + 1) xs (omega (arith, p.1)) in
-       omega (arith, head_count n m x xs))
+      let rest : count_named n (named_from (m + 1) xs) ≡ 0 = count_before n (m + 1) xs (omega (arith, p.1)) in
+      omega (arith, head_count n m x xs))
   | inr p ↦
       (let head : ◌≡◌ {A = ℕ} (cond (m == n) 1 0) 0 = ap (λ b. cond b 1 0) p.0 in
-       let rest : count_named n (named_from (m + 1) xs) ≤ 1 = count_once n (m + 1) xs in
-       omega (arith, head_count n m x xs))
-  ]
+      let rest : count_named n (named_from (m + 1) xs) ≤ 1 = count_once n (m + 1) xs in
+      omega (arith, head_count n m x xs))
+]
 
 pub count_behind : (n m : ℕ) (xs : List Piece) → m + length xs ≤ n → count_named n (named_from m xs) ≡ 0
 count_behind n m [] le = count_none n
@@ -130,23 +130,23 @@ filled_items n items (var.Live v) = omega arith
 -- what holds of a change at the index that is written, and of no change, holds everywhere
 pub at_each : (P : Var → Var → Type 0) (g : ℕ → Var) (i : ℕ) (w : Var) → P (g i) w → ((v : Var) → P v v) → (k : ℕ) → P (g k) (upd g i w k)
 at_each P g i w here same k = elim (upd_either g i k w) [
-    inl p ↦ subst (λ x. P (g k) x) (sym p.1) (subst (λ j. P (g j) w) (sym p.0) here)
+  | inl p ↦ subst (λ x. P (g k) x) (sym p.1) (subst (λ j. P (g j) w) (sym p.0) here)
   | inr p ↦ subst (λ x. P (g k) x) (sym p.1) (same (g k))
-  ]
+]
 
 -- the same of two indexes that are written
 pub at_two : (P : Var → Var → Type 0) (g : ℕ → Var) (i j : ℕ) (v w : Var) → P (g i) v → P (g j) w → ((u : Var) → P u u) → (k : ℕ) → P (g k) (upd (upd g i v) j w k)
 at_two P g i j v w here there same k = elim (upd_either (upd g i v) j k w) [
-    inl p ↦ subst (λ x. P (g k) x) (sym p.1) (subst (λ m. P (g m) w) (sym p.0) there)
+  | inl p ↦ subst (λ x. P (g k) x) (sym p.1) (subst (λ m. P (g m) w) (sym p.0) there)
   | inr p ↦ subst (λ x. P (g k) x) (sym p.1) (at_each P g i v here same k)
-  ]
+]
 
 -- Where buckets do not grow in number and brigades keep their names, names stay sound.
 pub keeps_names : (r new : Run)
-  → ((n : ℕ) → count new n ≤ count r n)
-  → ((b : ℕ) → Carried (r.inst.brigs b) (new.inst.brigs b))
-  → r.shared.next ≤ new.shared.next → new.shared.next < 2 ^ 64
-  → SoundNames r → SoundNames new
+    → ((n : ℕ) → count new n ≤ count r n)
+    → ((b : ℕ) → Carried (r.inst.brigs b) (new.inst.brigs b))
+    → r.shared.next ≤ new.shared.next → new.shared.next < 2 ^ 64
+    → SoundNames r → SoundNames new
 keeps_names r new fewer carried rises limit s = record {
   once = λ n. let h : count new n ≤ count r n = fewer n in let o : count r n ≤ 1 = s.once n in omega arith;
   fresh = λ n le. let h : count new n ≤ count r n = fewer n in let o : count r n ≡ 0 = s.fresh n (omega arith) in omega arith;
@@ -158,66 +158,69 @@ keeps_names r new fewer carried rises limit s = record {
 
 -- the same, slot for slot
 pub keeps_slots : (r new : Run)
-  → ((n : ℕ) → count_named n new.call.loose ≤ count_named n r.call.loose)
-  → ((b : ℕ) → Fewer (r.inst.brigs b) (new.inst.brigs b))
-  → r.shared.next ≤ new.shared.next → new.shared.next < 2 ^ 64
-  → SoundNames r → SoundNames new
+    → ((n : ℕ) → count_named n new.call.loose ≤ count_named n r.call.loose)
+    → ((b : ℕ) → Fewer (r.inst.brigs b) (new.inst.brigs b))
+    → r.shared.next ≤ new.shared.next → new.shared.next < 2 ^ 64
+    → SoundNames r → SoundNames new
 keeps_slots r new loose slots rises limit s =
     keeps_names r new (λ n.
-      let l : count_named n new.call.loose ≤ count_named n r.call.loose = loose n in
-      let b : sum_below 9 (λ k. count_named n (items_of (new.inst.brigs k))) ≤ sum_below 9 (λ k. count_named n (items_of (r.inst.brigs k))) = sum_below_le 9 _ _ (λ k. (slots k).items n) in
-      omega arith)
-      (λ k. (slots k).carried) rises limit s
+    let l : count_named n new.call.loose ≤ count_named n r.call.loose = loose n in
+    let b : sum_below 9 (λ k. count_named n (items_of (new.inst.brigs k))) ≤ sum_below 9 (λ k. count_named n (items_of (r.inst.brigs k))) = sum_below_le 9 _ _ (λ k. (slots k).items n) in
+    omega arith)
+    (λ k. (slots k).carried) rises limit s
 
 some_is : (a b : ℕ) → Some a ≡ Some b → a ≡ b
 some_is a b e = cc
 
 -- A new brigade in a variable: its name and its buckets' are among those that were not given out.
 pub placed_names : (r new : Run) (o : ℕ) (v : Brigade)
-  → o < 9
-  → new.inst.brigs ≡ upd r.inst.brigs o (var.Live v)
-  → ((n : ℕ) → count_named n new.call.loose ≤ count_named n r.call.loose)
-  → r.shared.next ≤ v.name → v.name < new.shared.next → new.shared.next < 2 ^ 64
-  → ((n : ℕ) → n < r.shared.next → count_named n v.items ≡ 0)
-  → ((n : ℕ) → count_named n v.items ≤ 1)
-  → ((n : ℕ) → new.shared.next ≤ n → count_named n v.items ≡ 0)
-  → SoundNames r → SoundNames new
+    → o < 9
+    → new.inst.brigs ≡ upd r.inst.brigs o (var.Live v)
+    → ((n : ℕ) → count_named n new.call.loose ≤ count_named n r.call.loose)
+    → r.shared.next ≤ v.name → v.name < new.shared.next → new.shared.next < 2 ^ 64
+    → ((n : ℕ) → n < r.shared.next → count_named n v.items ≡ 0)
+    → ((n : ℕ) → count_named n v.items ≤ 1)
+    → ((n : ℕ) → new.shared.next ≤ n → count_named n v.items ≡ 0)
+    → SoundNames r → SoundNames new
 placed_names r new o v in_range is loose above below limit old_names once behind s = record {
   once = λ n. let h : count new n ≤ count r n + count_named n v.items = counted n in
-    elim (cases_lt n r.shared.next) [
-      inl lt ↦ (let z : count_named n v.items ≡ 0 = old_names n lt in let c : count r n ≤ 1 = s.once n in omega arith)
-    | inr le ↦ (let z : count_named n v.items ≤ 1 = once n in let c : count r n ≡ 0 = s.fresh n le in omega arith)
-    ];
+      elim (cases_lt n r.shared.next) [
+        | inl lt ↦ (let z : count_named n v.items ≡ 0 = old_names n lt in let c : count r n ≤ 1 = s.once n in omega arith)
+        | inr le ↦ (let z : count_named n v.items ≤ 1 = once n in let c : count r n ≡ 0 = s.fresh n le in omega arith)
+      ];
   fresh = λ n le.
-    let h : count new n ≤ count r n + count_named n v.items = counted n in
-    let z : count_named n v.items ≡ 0 = behind n le in
-    let c : count r n ≡ 0 = s.fresh n (omega arith) in
-    omega arith;
+      let h : count new n ≤ count r n + count_named n v.items = counted n in
+      let z : count_named n v.items ≡ 0 = behind n le in
+      let c : count r n ≡ 0 = s.fresh n (omega arith) in
+      omega arith;
   apart = λ b c n hb hc. elim (named b n hb) [
-      inl p ↦ (elim (named c n hc) [
-        inl q ↦ p.0 ∙ sym q.0
-      | inr q ↦ absurd (let lt : n < r.shared.next = s.given c n q in omega (arith, p.1)) ])
+    | inl p ↦ (elim (named c n hc) [
+      | inl q ↦ p.0 ∙ sym q.0
+      | inr q ↦ absurd (let lt : n < r.shared.next = s.given c n q in omega (arith, p.1))
+    ])
     | inr p ↦ (elim (named c n hc) [
-        inl q ↦ absurd (let lt : n < r.shared.next = s.given b n p in omega (arith, q.1))
-      | inr q ↦ s.apart b c n p q ])
-    ];
+      | inl q ↦ absurd (let lt : n < r.shared.next = s.given b n p in omega (arith, q.1))
+      | inr q ↦ s.apart b c n p q
+    ])
+  ];
   given = λ b n h. elim (named b n h) [
-      inl p ↦ omega (arith, p.1)
+    | inl p ↦ omega (arith, p.1)
     | inr p ↦ (let lt : n < r.shared.next = s.given b n p in omega arith)
-    ];
+  ];
   limit = limit;
   slots = λ b le. ap (λ (g : ℕ → Var). g b) is ∙ (upd_off r.inst.brigs o b (var.Live v) (λ e. absurd (omega (arith, e))) ∙ s.slots b le);
 } where
   counted : (n : ℕ) → count new n ≤ count r n + count_named n v.items
   counted n =
-    let l : count_named n new.call.loose ≤ count_named n r.call.loose = loose n in
-    let e : sum_below 9 (λ k. count_named n (items_of (new.inst.brigs k))) ≡ sum_below 9 (λ k. count_named n (items_of (upd r.inst.brigs o (var.Live v) k))) = ap (λ (g : ℕ → Var). sum_below 9 (λ k. count_named n (items_of (g k)))) is in
-    let u : sum_below 9 (λ k. count_named n (items_of (upd r.inst.brigs o (var.Live v) k))) + count_named n (items_of (r.inst.brigs o)) ≡ sum_below 9 (λ k. count_named n (items_of (r.inst.brigs k))) + count_named n v.items = sum_below_upd 9 o r.inst.brigs (var.Live v) (λ x. count_named n (items_of x)) in_range in
-    omega arith
+      let l : count_named n new.call.loose ≤ count_named n r.call.loose = loose n in
+      let e : sum_below 9 (λ k. count_named n (items_of (new.inst.brigs k))) ≡ sum_below 9 (λ k. count_named n (items_of (upd r.inst.brigs o (var.Live v) k))) = ap (λ (g : ℕ → Var). sum_below 9 (λ k. count_named n (items_of (g k)))) is in
+      let u : sum_below 9 (λ k. count_named n (items_of (upd r.inst.brigs o (var.Live v) k))) + count_named n (items_of (r.inst.brigs o)) ≡ sum_below 9 (λ k. count_named n (items_of (r.inst.brigs k))) + count_named n v.items = sum_below_upd 9 o r.inst.brigs (var.Live v) (λ x. count_named n (items_of x)) in_range in
+      omega arith
+
   named : (b n : ℕ) → brigade_name (new.inst.brigs b) ≡ Some n → ((b ≡ o) × (v.name ≡ n)) ⊎ (brigade_name (r.inst.brigs b) ≡ Some n)
   named b n h =
-    let at_b : new.inst.brigs b ≡ upd r.inst.brigs o (var.Live v) b = ap (λ (g : ℕ → Var). g b) is in
-    elim (upd_either r.inst.brigs o b (var.Live v)) [
-      inl p ↦ inl (p.0, some_is v.name n (ap brigade_name (sym (at_b ∙ p.1)) ∙ h))
-    | inr p ↦ inr (ap brigade_name (sym (at_b ∙ p.1)) ∙ h)
-    ]
+      let at_b : new.inst.brigs b ≡ upd r.inst.brigs o (var.Live v) b = ap (λ (g : ℕ → Var). g b) is in
+      elim (upd_either r.inst.brigs o b (var.Live v)) [
+        | inl p ↦ inl (p.0, some_is v.name n (ap brigade_name (sym (at_b ∙ p.1)) ∙ h))
+        | inr p ↦ inr (ap brigade_name (sym (at_b ∙ p.1)) ∙ h)
+      ]

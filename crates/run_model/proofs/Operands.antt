@@ -32,5 +32,6 @@ two_brigades p m a b h = record {
   parts true true false h = absurd (cc)
   parts true false z h = absurd (cc)
   parts false y z h = absurd (cc)
+
   unequal : (a b : ℕ) → not (a == b) ≡ true → a ≡ b → ⊥
   unequal a b h e = grind (arith, nat_tests)

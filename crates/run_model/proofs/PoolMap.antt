@@ -1,8 +1,7 @@
 -- What a new pool and a destroyed one leave of the others.
-use Rattle.std.proofs.Common.{◌≡◌, ◌≢◌, ℕ, ◌+◌, ◌<◌, ◌≤◌, Bool, true, false, ◌&&◌, ◌||◌, not, ◌==◌, cond, List, [], ◌∷◌, Option, Some, None, ◌⊎◌, inl, inr, refl, sym, ◌∙◌, ap, subst, arith}
+use Rattle.std.proofs.Common.{◌≡◌, ℕ, ◌+◌, ◌<◌, ◌≤◌, Bool, true, false, ◌||◌, not, ◌==◌, cond, [], ◌∷◌, ◌⊎◌, inl, inr, refl, sym, ◌∙◌, ap, subst, arith}
 use Rattle.std.proofs.lemmas.Bool.{cases_lt}
 use Rattle.std.proofs.lemmas.Bool.Decides.{nat_tests}
-use Rattle.run_model.specs.Indexed.{upd}
 use Rattle.run_model.specs.Pools.{Pools, is_empty, is_in, is_live, is_under, planted, created, destroyed}
 use Rattle.run_model.proofs.Updates.{upd_at, upd_off, upd_either}
 
@@ -18,9 +17,9 @@ live_given ps n fresh lives = elim (cases_lt n ps.next) [ inl lt ↦ lt | inr le
 pub created_lives : {T : Type 0} (parent : ℕ) (ps : Pools T) (n : ℕ) → is_live ps n ≡ true → is_live (created parent ps) n ≡ true
 unfolding is_live created
 created_lives parent ps n lives = elim (upd_either ps.path ps.next n (ps.next ∷ ps.path parent)) [
-    inl p ↦ ap (λ path. not (is_empty path)) p.1
+  | inl p ↦ ap (λ path. not (is_empty path)) p.1
   | inr p ↦ ap (λ path. not (is_empty path)) p.1 ∙ lives
-  ]
+]
 
 pub new_lives : {T : Type 0} (parent : ℕ) (ps : Pools T) → is_live (created parent ps) ps.next ≡ true
 unfolding is_live created
@@ -31,14 +30,14 @@ unfolding created
 created_fresh parent ps fresh k le = upd_off ps.path ps.next k (ps.next ∷ ps.path parent) (λ e. absurd (omega (arith, e))) ∙ fresh k (omega arith)
 
 pub created_older : {T : Type 0} (parent : ℕ) (ps : Pools T) → parent < ps.next
-  → ((n m : ℕ) → is_in m (ps.path n) ≡ true → m ≤ n) → (n m : ℕ) → is_in m ((created parent ps).path n) ≡ true → m ≤ n
+    → ((n m : ℕ) → is_in m (ps.path n) ≡ true → m ≤ n) → (n m : ℕ) → is_in m ((created parent ps).path n) ≡ true → m ≤ n
 unfolding created
 created_older parent ps lt older n m h = elim (upd_either ps.path ps.next n (ps.next ∷ ps.path parent)) [
-    inl p ↦ (let found : is_in m (ps.next ∷ ps.path parent) ≡ true = sym (ap (is_in m) p.1) ∙ h in
+  | inl p ↦ (let found : is_in m (ps.next ∷ ps.path parent) ≡ true = sym (ap (is_in m) p.1) ∙ h in
       let le : m ≤ ps.next = on_path ps.next m (is_in m (ps.path parent)) found (λ up. let up_le : m ≤ parent = older parent m up in omega arith) in
       omega (arith, p.0))
   | inr p ↦ older n m (sym (ap (is_in m) p.1) ∙ h)
-  ] where
+] where
   on_path : (next m : ℕ) (above : Bool) → ((next == m) || above) ≡ true → (above ≡ true → m ≤ next) → m ≤ next
   on_path next m true h up = up refl
   on_path next m false h up = grind (arith, nat_tests)
@@ -61,23 +60,23 @@ destroyed_path p ps n = by_test (is_under ps p n) where
 
 pub destroyed_fresh : {T : Type 0} (p : ℕ) (ps : Pools T) → ((k : ℕ) → ps.next ≤ k → ps.path k ≡ []) → (k : ℕ) → (destroyed p ps).next ≤ k → (destroyed p ps).path k ≡ []
 destroyed_fresh p ps fresh k le = elim (destroyed_path p ps k) [
-    inl q ↦ q.1
+  | inl q ↦ q.1
   | inr q ↦ q.1 ∙ fresh k (subst (λ n. n ≤ k) (destroyed_next p ps) le)
-  ]
+]
 
 pub destroyed_older : {T : Type 0} (p : ℕ) (ps : Pools T) → ((n m : ℕ) → is_in m (ps.path n) ≡ true → m ≤ n) → (n m : ℕ) → is_in m ((destroyed p ps).path n) ≡ true → m ≤ n
 destroyed_older p ps older n m h = elim (destroyed_path p ps n) [
-    inl q ↦ absurd (let none : is_in m [] ≡ true = sym (ap (is_in m) q.1) ∙ h in cc)
+  | inl q ↦ absurd (let none : is_in m [] ≡ true = sym (ap (is_in m) q.1) ∙ h in cc)
   | inr q ↦ older n m (sym (ap (is_in m) q.1) ∙ h)
-  ]
+]
 
 -- what does not stand under the destroyed pool lives on
 pub destroyed_lives : {T : Type 0} (p : ℕ) (ps : Pools T) (n : ℕ) → is_under ps p n ≡ false → is_live ps n ≡ true → is_live (destroyed p ps) n ≡ true
 unfolding is_live
 destroyed_lives p ps n apart lives = elim (destroyed_path p ps n) [
-    inl q ↦ absurd (cc)
+  | inl q ↦ absurd (cc)
   | inr q ↦ ap (λ path. not (is_empty path)) q.1 ∙ lives
-  ]
+]
 
 -- an older pool does not stand under a newer one
 pub not_under : {T : Type 0} (p : ℕ) (ps : Pools T) (n : ℕ) → ((k m : ℕ) → is_in m (ps.path k) ≡ true → m ≤ k) → n < p → is_under ps p n ≡ false
@@ -96,8 +95,8 @@ planted_fresh T first k le = upd_off (λ _. []) first k (first ∷ []) (λ e. ab
 pub planted_older : (T : Type 0) (first n m : ℕ) → is_in m ((planted {T = T} first).path n) ≡ true → m ≤ n
 unfolding planted
 planted_older T first n m h = elim (upd_either (λ (k : ℕ). []) first n (first ∷ [])) [
-    inl p ↦ (let found : is_in m (first ∷ []) ≡ true = sym (ap (is_in m) p.1) ∙ h in alone first n m found p.0)
+  | inl p ↦ (let found : is_in m (first ∷ []) ≡ true = sym (ap (is_in m) p.1) ∙ h in alone first n m found p.0)
   | inr p ↦ absurd (let none : is_in m [] ≡ true = sym (ap (is_in m) p.1) ∙ h in cc)
-  ] where
+] where
   alone : (first n m : ℕ) → ((first == m) || false) ≡ true → n ≡ first → m ≤ n
   alone first n m h e = grind (arith, nat_tests)

@@ -1,5 +1,5 @@
 -- A run is its first event and a run, and goes on by one event at its end.
-use Rattle.std.proofs.Common.{◌≡◌, ℕ, zero, suc, ◌+◌, Bool, true, List, [], ◌∷◌, ◌++◌, Option, Some, None, Ok, refl, sym, ◌∙◌, ap, subst, add-one}
+use Rattle.std.proofs.Common.{◌≡◌, ℕ, zero, suc, Bool, true, List, [], ◌∷◌, ◌++◌, Some, None, Ok, refl, sym, ◌∙◌, subst, add-one}
 use Rattle.module_lang.specs.Program.{Program}
 use Rattle.run_model.specs.declared.event.Event.{Event}
 use Rattle.run_model.specs.declared.event.Event.TheVariants as event
@@ -13,7 +13,7 @@ abbrev pub FirstEvent : ℕ → Program → World → Event → List Event → A
 FirstEvent budget p old e es a answers new = (memory : Bool) × (mid : World) × (happens memory budget p e old ≡ (a, mid)) × IsRun budget p mid es answers new
 
 pub first_event : (budget : ℕ) (p : Program) (old new : World) (e : Event) (es : List Event) (a : Answer) (answers : List Answer)
-  → IsRun budget p old (e ∷ es) (a ∷ answers) new → FirstEvent budget p old e es a answers new
+    → IsRun budget p old (e ∷ es) (a ∷ answers) new → FirstEvent budget p old e es a answers new
 unfolding IsRun
 first_event budget p None new event.Open es a answers run = run
 first_event budget p None new event.Begin es a answers run = run
@@ -30,7 +30,7 @@ first_event budget p (Some c) new event.TakeOutput es a answers run = run
 
 -- an open connection is opened in no run
 pub not_reopened : (budget : ℕ) (p : Program) (old new : World) (e : Event) (es : List Event) (a : Answer) (answers : List Answer)
-  → IsRun budget p old (e ∷ es) (a ∷ answers) new → e ≡ event.Open → old ≡ None
+    → IsRun budget p old (e ∷ es) (a ∷ answers) new → e ≡ event.Open → old ≡ None
 unfolding IsRun
 not_reopened budget p None new e es a answers run is = refl
 not_reopened budget p (Some c) new event.Open es a answers run is = absurd run
@@ -41,7 +41,7 @@ not_reopened budget p (Some c) new event.End es a answers run is = absurd (cc)
 not_reopened budget p (Some c) new event.TakeOutput es a answers run is = absurd (cc)
 
 pub with_first : (budget : ℕ) (p : Program) (old new : World) (e : Event) (es : List Event) (a : Answer) (answers : List Answer)
-  → (e ≡ event.Open → old ≡ None) → FirstEvent budget p old e es a answers new → IsRun budget p old (e ∷ es) (a ∷ answers) new
+    → (e ≡ event.Open → old ≡ None) → FirstEvent budget p old e es a answers new → IsRun budget p old (e ∷ es) (a ∷ answers) new
 unfolding IsRun
 with_first budget p None new event.Open es a answers allowed run = run
 with_first budget p None new event.Begin es a answers allowed run = run
@@ -93,7 +93,7 @@ run_goes_on memory budget p old mid new (f ∷ es) [] e a run allowed last = abs
 run_goes_on memory budget p old mid new (f ∷ es) (b ∷ answers) e a run allowed last =
     let first = first_event budget p old mid f es b answers run in
     with_first budget p old new f (es ++ e ∷ []) b (answers ++ a ∷ []) (not_reopened budget p old mid f es b answers run)
-      (first.0, first.1, first.2, run_goes_on memory budget p first.1 mid new es answers e a first.3 allowed last)
+    (first.0, first.1, first.2, run_goes_on memory budget p first.1 mid new es answers e a first.3 allowed last)
 
 pub steps_go_on : StepsGoOn
 unfolding GoesOn

@@ -1,5 +1,5 @@
 -- Each event keeps what is sound, and so does each run.
-use Rattle.std.proofs.Common.{◌≡◌, ℕ, ◌+◌, ◌<◌, ◌≤◌, Bool, true, false, ◌&&◌, ◌||◌, not, cond, List, [], ◌∷◌, length, get_or, Option, Some, None, is_some, IfSome, Result, Ok, Err, nat_le, ◌⊎◌, inl, inr, refl, sym, ◌∙◌, ap, subst, arith}
+use Rattle.std.proofs.Common.{◌≡◌, ℕ, ◌+◌, Bool, true, false, ◌||◌, not, cond, List, [], ◌∷◌, length, get_or, Option, Some, None, is_some, Result, Ok, Err, nat_le, inl, inr, refl, sym, ap, subst}
 use Rattle.std.proofs.lemmas.Bool.{cases_lt}
 use Rattle.std.proofs.lemmas.List.{get_or_past}
 use Rattle.std.proofs.lemmas.Option.{slice_get-get_or}
@@ -20,13 +20,13 @@ use Rattle.run_model.specs.declared.event.StepRefusal.TheVariants as step_refusa
 use Rattle.run_model.specs.declared.event.Refusal.{Refusal}
 use Rattle.run_model.specs.declared.event.Refusal.TheVariants as refusal
 use Rattle.run_model.specs.declared.fault.FaultKind.{FaultKind}
-use Rattle.run_model.specs.State.{Run, items_of}
+use Rattle.run_model.specs.State.{Run}
 use Rattle.run_model.specs.Faults.{fault}
 use Rattle.run_model.specs.Steps.{step, step_at_end, settled, names_of, grows, is_spent, current, succeeded, executed, unless_fault, watched}
-use Rattle.run_model.specs.Connection.{Connection, opened, begins, brings, ends, takes, steps, begun, brought, ended, first_refusal, refused_if, if_broken, unless_refused, step_answer, step_if, after_step, broke, data_behind_eos}
+use Rattle.run_model.specs.Connection.{Connection, begins, brings, ends, takes, steps, begun, brought, ended, first_refusal, refused_if, if_broken, unless_refused, step_answer, step_if, after_step, broke, data_behind_eos}
 use Rattle.run_model.specs.Runs.{Answer, World, happens, IsRun, answer_of, step_of}
-use Rattle.run_model.specs.Sound.{SoundNames, SoundBuckets, SoundPools, Sound}
-use Rattle.run_model.specs.Laws.{MayExecute, StepKeepsNames, StepKeepsBuckets, StepKeepsPools, StepAtEndKeeps, SoundWorld, EventKeepsSound, RunIsSound}
+use Rattle.run_model.specs.Sound.{Sound}
+use Rattle.run_model.specs.Laws.{MayExecute, StepAtEndKeeps, SoundWorld, EventKeepsSound, RunIsSound}
 use Rattle.run_model.proofs.Runs.{nothing_changes, no_event, no_answer, first_event}
 use Rattle.run_model.proofs.StepNames.{step_names}
 use Rattle.run_model.proofs.StepBuckets.{step_buckets}
@@ -62,20 +62,22 @@ settled_sound i Return r s = s
 pub current_fits : (p : Program) → IsModule p → (pc : ℕ) → fits p (current p pc) ≡ true
 unfolding current
 current_fits p m pc = elim (cases_lt pc (length p.code)) [
-    inl lt ↦ (m.placed pc (get_or p.code pc (instr.Ret Success)) (slice_get-get_or p.code pc (instr.Ret Success) lt)).fit
+  | inl lt ↦ (m.placed pc (get_or p.code pc (instr.Ret Success)) (slice_get-get_or p.code pc (instr.Ret Success) lt)).fit
   | inr le ↦ ap (fits p) (get_or_past p.code pc (instr.Ret Success) le)
-  ]
+]
 
 watched_sound : (memory : Bool) (p : Program) (i : Instr) (r : Run) → IsModule p → fits p i ≡ true → Sound r → Sound (watched memory p i r).1
 watched_sound memory p i r m fit s = by_fault (fault p r i) refl where
   by_memory : (b : Bool) → MayExecute p r i → Sound (cond b (succeeded (settled i (step_at_end p i r).exit (step_at_end p i r).run)) (Err step_refusal.NoMemory, r)).1
   by_memory true may = settled_sound i (step_at_end p i r).exit (step_at_end p i r).run (at_end_sound p i r may s)
   by_memory false may = s
+
   by_names : (b : Bool) → is_spent r.shared.next (names_of i) ≡ b → fault p r i ≡ None
-    → ((may : MayExecute p r i) → Sound (cond (memory || not (grows i)) (succeeded (settled i (step_at_end p i r).exit (step_at_end p i r).run)) (Err step_refusal.NoMemory, r)).1)
-    → Sound (cond b (Err step_refusal.NamesSpent, r) (cond (memory || not (grows i)) (succeeded (settled i (step_at_end p i r).exit (step_at_end p i r).run)) (Err step_refusal.NoMemory, r))).1
+      → ((may : MayExecute p r i) → Sound (cond (memory || not (grows i)) (succeeded (settled i (step_at_end p i r).exit (step_at_end p i r).run)) (Err step_refusal.NoMemory, r)).1)
+      → Sound (cond b (Err step_refusal.NamesSpent, r) (cond (memory || not (grows i)) (succeeded (settled i (step_at_end p i r).exit (step_at_end p i r).run)) (Err step_refusal.NoMemory, r))).1
   by_names true spent none rest = s
   by_names false spent none rest = rest (record { proper = m; fit = fit; faultless = none; names_last = spent })
+
   by_fault : (f : Option FaultKind) → fault p r i ≡ f → Sound (unless_fault f r (executed memory p i r)).1
   by_fault None none = by_names (is_spent r.shared.next (names_of i)) refl none (by_memory (memory || not (grows i)))
   by_fault (Some k) none = s

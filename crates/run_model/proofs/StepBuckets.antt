@@ -1,5 +1,5 @@
 -- Steps and events keep the home and the content of each bucket as its kind has them.
-use Rattle.std.proofs.Common.{◌≡◌, ℕ, ◌+◌, Bool, true, false, ◌&&◌, ◌||◌, ◌==◌, cond, List, [], ◌∷◌, ◌++◌, map, refl, sym, ap, subst, All}
+use Rattle.std.proofs.Common.{◌≡◌, ℕ, ◌+◌, Bool, true, false, ◌&&◌, ◌||◌, ◌==◌, cond, List, [], ◌∷◌, ◌++◌, map, refl, sym, subst, All}
 use Rattle.std.proofs.lemmas.List.Elements.{All-nil, All-cons, All-append, All-map}
 use Rattle.module_lang.specs.declared.instr.Instr.TheVariants as instr
 use Rattle.module_lang.specs.Program.{Program}
@@ -16,10 +16,10 @@ use Rattle.run_model.specs.declared.event.Piece.TheVariants as piece
 use Rattle.run_model.specs.Indexed.{upd}
 use Rattle.run_model.specs.Buckets.{is_ended, end_call, end_pools, to_heap, returned_bucket, cleared_bucket}
 use Rattle.run_model.specs.State.{Run, items_of, set_brig}
-use Rattle.run_model.specs.Steps.{step, do_create, do_clean, do_concat, do_pass, do_return, cleaned, with_items, handed_over, returned_var}
+use Rattle.run_model.specs.Steps.{do_create, do_clean, do_concat, do_pass, do_return, cleaned, with_items, handed_over, returned_var}
 use Rattle.run_model.specs.Connection.{named_from, cleared_var, is_reached}
 use Rattle.run_model.specs.Sound.{is_free, is_call, is_pool, home_fits, content_fits, is_proper, SoundBuckets}
-use Rattle.run_model.specs.Laws.{MayExecute, StepKeepsBuckets}
+use Rattle.run_model.specs.Laws.{StepKeepsBuckets}
 use Rattle.run_model.proofs.Names.{at_each, at_two}
 
 -- One bucket.
@@ -199,11 +199,11 @@ concat_buckets : (a b : ℕ) (r : Run) → SoundBuckets r → SoundBuckets (do_c
 unfolding set_brig
 concat_buckets a b r s =
     keeps_buckets r (do_concat a b r)
-      (at_two KeepsProper r.inst.brigs b a (with_items [] (r.inst.brigs b)) (with_items (items_of (r.inst.brigs a) ++ items_of (r.inst.brigs b)) (r.inst.brigs a))
-        (λ h. filled_proper [] (r.inst.brigs b) none_proper)
-        (λ h. filled_proper _ (r.inst.brigs a) (All-append (λ x. is_proper x ≡ true) (items_of (r.inst.brigs a)) (items_of (r.inst.brigs b)) h (s.brigades b)))
-        same_proper)
-      (λ h. h) s
+    (at_two KeepsProper r.inst.brigs b a (with_items [] (r.inst.brigs b)) (with_items (items_of (r.inst.brigs a) ++ items_of (r.inst.brigs b)) (r.inst.brigs a))
+    (λ h. filled_proper [] (r.inst.brigs b) none_proper)
+    (λ h. filled_proper _ (r.inst.brigs a) (All-append (λ x. is_proper x ≡ true) (items_of (r.inst.brigs a)) (items_of (r.inst.brigs b)) h (s.brigades b)))
+    same_proper)
+    (λ h. h) s
 
 return_buckets : (r : Run) → SoundBuckets r → SoundBuckets (do_return r)
 return_buckets r s = keeps_buckets r (do_return r) (λ b. left b (b == 8)) (λ h. none_proper) s where

@@ -1,5 +1,5 @@
 -- Steps keep each brigade on a live pool.
-use Rattle.std.proofs.Common.{◌≡◌, ◌≢◌, ℕ, ◌+◌, ◌^◌, ◌<◌, ◌≤◌, ◌⊎◌, inl, inr, Bool, true, false, ◌==◌, cond, List, [], ◌∷◌, ◌++◌, map, Option, Some, None, refl, sym, ◌∙◌, ap, subst}
+use Rattle.std.proofs.Common.{◌≡◌, ℕ, ◌^◌, ◌<◌, ◌≤◌, inl, inr, Bool, true, false, ◌==◌, cond, List, [], ◌++◌, Option, Some, None, refl, sym, ◌∙◌, ap, subst}
 use Rattle.module_lang.specs.declared.instr.PoolRef.{PoolRef}
 use Rattle.module_lang.specs.declared.instr.Instr.TheVariants as instr
 use Rattle.module_lang.specs.Program.{Program, pool_of_brigade}
@@ -13,9 +13,9 @@ use Rattle.run_model.specs.Indexed.{upd}
 use Rattle.run_model.specs.Pools.{Pools, is_live, is_in}
 use Rattle.run_model.specs.State.{Payload, Run, items_of, set_brig, pool_named}
 use Rattle.run_model.specs.Faults.{has_pool, is_live_named, or_else}
-use Rattle.run_model.specs.Steps.{step, do_create, do_clean, do_concat, do_pass, do_return, cleaned, with_items, handed_over, returned_var}
+use Rattle.run_model.specs.Steps.{do_create, do_clean, do_concat, do_pass, do_return, cleaned, with_items, handed_over, returned_var}
 use Rattle.run_model.specs.Sound.{brigade_pool, SoundPools}
-use Rattle.run_model.specs.Laws.{MayExecute, StepKeepsPools}
+use Rattle.run_model.specs.Laws.{StepKeepsPools}
 use Rattle.run_model.proofs.Updates.{upd_either}
 use Rattle.run_model.proofs.Names.{at_each, at_two}
 
@@ -48,23 +48,23 @@ returned_pool call (var.Live v) n h = h
 
 -- where the pools stay and brigades keep theirs
 pub keeps_pools : (r new : Run) → new.shared.pools ≡ r.shared.pools → new.shared.conn ≡ r.shared.conn → new.shared.req ≡ r.shared.req
-  → ((b n : ℕ) → brigade_pool (new.inst.brigs b) ≡ Some n → is_live r.shared.pools n ≡ true)
-  → SoundPools r → SoundPools new
+    → ((b n : ℕ) → brigade_pool (new.inst.brigs b) ≡ Some n → is_live r.shared.pools n ≡ true)
+    → SoundPools r → SoundPools new
 keeps_pools r new pools conn req brigades s = record {
   limit = subst (λ (ps : Pools Payload). ps.next < 2 ^ 64) (sym pools) s.limit;
   fresh = subst (λ (ps : Pools Payload). (n : ℕ) → ps.next ≤ n → ps.path n ≡ []) (sym pools) s.fresh;
   older = subst (λ (ps : Pools Payload). (n m : ℕ) → is_in m (ps.path n) ≡ true → m ≤ n) (sym pools) s.older;
   conn = subst (λ (ps : Pools Payload). is_live ps new.shared.conn ≡ true) (sym pools) (subst (λ c. is_live r.shared.pools c ≡ true) (sym conn) s.conn);
   req = λ n e.
-    let old = s.req n (sym req ∙ e) in
-    (subst (λ (ps : Pools Payload). is_live ps n ≡ true) (sym pools) old.0, subst (λ c. c < n) (sym conn) old.1);
+      let old = s.req n (sym req ∙ e) in
+      (subst (λ (ps : Pools Payload). is_live ps n ≡ true) (sym pools) old.0, subst (λ c. c < n) (sym conn) old.1);
   brigades = λ b n e. subst (λ (ps : Pools Payload). is_live ps n ≡ true) (sym pools) (brigades b n e);
 }
 
 -- each brigade keeps its pool, or goes
 keeps_slots : (r new : Run) → new.shared.pools ≡ r.shared.pools → new.shared.conn ≡ r.shared.conn → new.shared.req ≡ r.shared.req
-  → ((b : ℕ) → KeepsPool (r.inst.brigs b) (new.inst.brigs b))
-  → SoundPools r → SoundPools new
+    → ((b : ℕ) → KeepsPool (r.inst.brigs b) (new.inst.brigs b))
+    → SoundPools r → SoundPools new
 keeps_slots r new pools conn req slots s = keeps_pools r new pools conn req (λ b n e. s.brigades b n (slots b n e)) s
 
 -- a declared pool that has no fault is live
@@ -83,9 +83,9 @@ unfolding set_brig
 create_pools p o r lives s = keeps_pools r (do_create p o r) refl refl refl on_live s where
   on_live : (b n : ℕ) → brigade_pool (upd r.inst.brigs o (var.Live (record { name = r.shared.next; on = pool_named r (pool_of_brigade p o); mark = Usable; items = [] })) b) ≡ Some n → is_live r.shared.pools n ≡ true
   on_live b n e = elim (upd_either r.inst.brigs o b (var.Live (record { name = r.shared.next; on = pool_named r (pool_of_brigade p o); mark = Usable; items = [] }))) [
-      inl q ↦ named_lives r (pool_of_brigade p o) n lives (sym (ap brigade_pool q.1) ∙ e)
+    | inl q ↦ named_lives r (pool_of_brigade p o) n lives (sym (ap brigade_pool q.1) ∙ e)
     | inr q ↦ s.brigades b n (sym (ap brigade_pool q.1) ∙ e)
-    ]
+  ]
 
 clean_pools : (b : ℕ) (r : Run) → SoundPools r → SoundPools (do_clean b r)
 unfolding set_brig
@@ -99,9 +99,9 @@ concat_pools : (a b : ℕ) (r : Run) → SoundPools r → SoundPools (do_concat 
 unfolding set_brig
 concat_pools a b r s =
     keeps_slots r (do_concat a b r) refl refl refl
-      (at_two KeepsPool r.inst.brigs b a (with_items [] (r.inst.brigs b)) (with_items (items_of (r.inst.brigs a) ++ items_of (r.inst.brigs b)) (r.inst.brigs a))
-        (filled_pool [] (r.inst.brigs b)) (filled_pool (items_of (r.inst.brigs a) ++ items_of (r.inst.brigs b)) (r.inst.brigs a)) same_pool)
-      s
+    (at_two KeepsPool r.inst.brigs b a (with_items [] (r.inst.brigs b)) (with_items (items_of (r.inst.brigs a) ++ items_of (r.inst.brigs b)) (r.inst.brigs a))
+    (filled_pool [] (r.inst.brigs b)) (filled_pool (items_of (r.inst.brigs a) ++ items_of (r.inst.brigs b)) (r.inst.brigs a)) same_pool)
+    s
 
 return_pools : (r : Run) → SoundPools r → SoundPools (do_return r)
 return_pools r s = keeps_slots r (do_return r) refl refl refl (λ b. left b (b == 8)) s where

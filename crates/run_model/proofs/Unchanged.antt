@@ -1,11 +1,10 @@
 -- A step changes nothing but what it names.
-use Rattle.std.proofs.Common.{◌≡◌, ◌≢◌, ℕ, ◌+◌, Bool, true, false, ◌||◌, ◌==◌, refl, sym, ◌∙◌, ap, arith, eq-eqb, add-zero}
+use Rattle.std.proofs.Common.{◌≡◌, ◌≢◌, ℕ, ◌+◌, Bool, true, false, ◌||◌, ◌==◌, refl, sym, ◌∙◌, ap, eq-eqb, add-zero}
 use Rattle.module_lang.specs.declared.instr.Instr.TheVariants as instr
 use Rattle.run_model.specs.declared.bucket.Var.{Var}
 use Rattle.run_model.specs.Indexed.{upd}
-use Rattle.run_model.specs.State.{Shared, Run, set_brig}
-use Rattle.run_model.specs.Steps.{step}
-use Rattle.run_model.specs.Laws.{ChangesOnly, StepChangesOnly}
+use Rattle.run_model.specs.State.{Shared, set_brig}
+use Rattle.run_model.specs.Laws.{StepChangesOnly}
 use Rattle.run_model.proofs.Updates.{upd_off}
 
 -- an index of another number
@@ -28,7 +27,12 @@ step_changes_only p choice (instr.BCreate o) r = record { brigades = λ k h. off
 step_changes_only p choice (instr.BClean b) r = record { brigades = λ k h. off r.inst.brigs b k _ h; pools = refl; numbers = refl; sent = λ h. refl; call = λ h. refl; shared = no_name r.shared; output = refl }
 step_changes_only p choice (instr.BConcat a b) r = record {
   brigades = λ k h. (let apart = neither (k == a) (k == b) h in off (upd r.inst.brigs b _) a k _ apart.0 ∙ off r.inst.brigs b k _ apart.1);
-  pools = refl; numbers = refl; sent = λ h. refl; call = λ h. refl; shared = no_name r.shared; output = refl;
+  pools = refl;
+  numbers = refl;
+  sent = λ h. refl;
+  call = λ h. refl;
+  shared = no_name r.shared;
+  output = refl;
 }
 step_changes_only p choice (instr.Pass b l) r = record { brigades = λ k h. off r.inst.brigs b k _ h; pools = refl; numbers = refl; sent = λ h. absurd (cc); call = λ h. refl; shared = no_name r.shared; output = refl }
 step_changes_only p choice (instr.JEmpty b l) r = record { brigades = λ k h. refl; pools = refl; numbers = refl; sent = λ h. refl; call = λ h. refl; shared = no_name r.shared; output = refl }

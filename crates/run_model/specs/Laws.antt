@@ -1,17 +1,15 @@
 -- The laws of the definitions, as statements.
-use Rattle.std.specs.Prelude.{◌≡◌, ◌≢◌, ℕ, ◌+◌, Bool, true, false, ◌==◌, ◌||◌, List, [], ◌∷◌, ◌++◌, Option, Some, None, Ok, IfSome}
+use Rattle.std.specs.Prelude.{◌≡◌, ℕ, ◌+◌, Bool, true, false, ◌==◌, ◌||◌, List, [], ◌∷◌, ◌++◌, None, Ok, IfSome}
 use Rattle.module_lang.specs.declared.instr.Instr.{Instr}
 use Rattle.module_lang.specs.declared.instr.Instr.TheVariants as instr
 use Rattle.module_lang.specs.Program.{Program, IsModule, fits}
-use Rattle.run_model.specs.declared.event.Piece.{Piece}
 use Rattle.run_model.specs.declared.event.Event.{Event}
 use Rattle.run_model.specs.declared.event.Event.TheVariants as event
-use Rattle.run_model.specs.declared.event.Cause.{Cause}
 use Rattle.run_model.specs.declared.event.Stepped.TheVariants as stepped
 use Rattle.run_model.specs.State.{Run}
 use Rattle.run_model.specs.Faults.{fault}
 use Rattle.run_model.specs.Steps.{Choice, step, step_at_end, is_spent, names_of}
-use Rattle.run_model.specs.Connection.{Connection, steps}
+use Rattle.run_model.specs.Connection.{Connection, opened, steps}
 use Rattle.run_model.specs.Runs.{Answer, World, happens, IsRun, GoesOn}
 use Rattle.run_model.specs.Sound.{SoundNames, SoundBuckets, SoundPools, Sound}
 
@@ -38,6 +36,10 @@ StepKeepsPools = (p : Program) (choice : Choice) (i : Instr) (r : Run) → MayEx
 abbrev pub StepAtEndKeeps : Type 0
 StepAtEndKeeps = (p : Program) (i : Instr) (r : Run) → MayExecute p r i → Sound r → Sound (step_at_end p i r).run
 
+-- A connection that has just been opened is sound.
+abbrev pub OpenedIsSound : Type 0
+OpenedIsSound = Sound opened.run
+
 -- what is true of a connection, where it is open
 abbrev pub SoundWorld : World → Type 0
 SoundWorld w = IfSome w (λ c. Sound c.run)
@@ -52,12 +54,12 @@ RunIsSound = (budget : ℕ) (p : Program) (es : List Event) (answers : List Answ
 -- A run goes on by one event, but a connection that is open is not opened again.
 abbrev pub RunGoesOn : Type 0
 RunGoesOn = (memory : Bool) (budget : ℕ) (p : Program) (old mid new : World) (es : List Event) (answers : List Answer) (e : Event) (a : Answer)
-  → IsRun budget p old es answers mid → (e ≡ event.Open → mid ≡ None) → happens memory budget p e mid ≡ (a, new) → IsRun budget p old (es ++ e ∷ []) (answers ++ a ∷ []) new
+    → IsRun budget p old es answers mid → (e ≡ event.Open → mid ≡ None) → happens memory budget p e mid ≡ (a, new) → IsRun budget p old (es ++ e ∷ []) (answers ++ a ∷ []) new
 
 -- Steps that went go on by one more that went.
 abbrev pub StepsGoOn : Type 0
 StepsGoOn = (n budget : ℕ) (p : Program) (old mid new : Connection)
-  → GoesOn n budget p old mid → steps true budget p mid ≡ (Ok stepped.Went, new) → GoesOn (n + 1) budget p old new
+    → GoesOn n budget p old mid → steps true budget p mid ≡ (Ok stepped.Went, new) → GoesOn (n + 1) budget p old new
 
 -- the brigade variables that an instruction may change
 abbrev pub may_change : Instr → ℕ → Bool

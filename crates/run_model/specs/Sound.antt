@@ -7,7 +7,6 @@ use Rattle.run_model.specs.declared.bucket.Content.TheVariants as content
 use Rattle.run_model.specs.declared.bucket.Home.{Home}
 use Rattle.run_model.specs.declared.bucket.Home.TheVariants as home
 use Rattle.run_model.specs.declared.bucket.Named.{Named}
-use Rattle.run_model.specs.declared.bucket.Brigade.{Brigade}
 use Rattle.run_model.specs.declared.bucket.Var.{Var}
 use Rattle.run_model.specs.declared.bucket.Var.TheVariants as var
 use Rattle.run_model.specs.Pools.{is_live, is_in}

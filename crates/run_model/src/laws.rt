@@ -1,6 +1,7 @@
 //! Laws of the definitions. Each function does nothing: what its contract says holds of the definitions alone.
 
 ghost use Rattle.run_model.specs.Examples.{PassRuns, FaultRuns, BreakRuns, RefusedRuns, NameRuns};
+ghost use Rattle.run_model.specs.Laws.{StepKeepsNames, StepKeepsBuckets, StepKeepsPools, StepAtEndKeeps, OpenedIsSound, EventKeepsSound, RunIsSound, RunGoesOn, StepsGoOn, StepChangesOnly};
 
 /// Small runs answer as they are worked out by hand.
 pub fn worked_runs()
@@ -9,4 +10,31 @@ pub fn worked_runs()
     ensures breaks { BreakRuns }
     ensures refusals { RefusedRuns }
     ensures names { NameRuns }
+{}
+
+/// A step without a fault keeps what is sound: each name is one bucket's, new names are new, buckets are as their
+/// kinds have them, and brigades lie on live pools. So does a step of the last filter.
+pub fn steps_stay_sound()
+    ensures names { StepKeepsNames }
+    ensures buckets { StepKeepsBuckets }
+    ensures pools { StepKeepsPools }
+    ensures at_end { StepAtEndKeeps }
+{}
+
+/// Each event of a connection keeps what is sound, so every run from the empty world leads to a sound one.
+pub fn runs_are_sound()
+    ensures opened { OpenedIsSound }
+    ensures event { EventKeepsSound }
+    ensures run { RunIsSound }
+{}
+
+/// A run goes on by one event, and steps that went by one more.
+pub fn runs_go_on()
+    ensures event { RunGoesOn }
+    ensures step { StepsGoOn }
+{}
+
+/// A step changes nothing but what its instruction names.
+pub fn steps_change_only_what_they_name()
+    ensures { StepChangesOnly }
 {}
