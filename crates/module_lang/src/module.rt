@@ -56,6 +56,8 @@ impl Module {
         requires { pc < length self.now.code }
         ensures value { slice_get self.now.code pc ≡ Some result }
         ensures placed { IsPlaced self.now pc result }
+        ensures small { length self.now.code ≤ 1024 }
+        ensures few { length self.now.brigades ≤ 8 }
     {
         *self.code.at(pc)
     }

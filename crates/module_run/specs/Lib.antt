@@ -5,3 +5,5 @@ pub use Rattle.run_model.specs.Steps
 pub use Rattle.run_model.specs.Connection
 pub mod Seen
 pub mod Tests
+pub mod Mapped
+pub mod Closed

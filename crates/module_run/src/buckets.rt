@@ -1,8 +1,8 @@
 //! Tests and changes on lists of buckets.
 
-ghost use Rattle.std.specs.Prelude.{◌≡◌, ◌||◌, ◌&&◌, map, IfOk, ◌++◌};
+ghost use Rattle.std.specs.Prelude.{◌≡◌, ◌==◌, ◌||◌, ◌&&◌, map, IfOk, ◌++◌};
 ghost use Rattle.std.specs.List.{list_any};
-ghost use Rattle.run_model.specs.Buckets.{is_data_kind, is_eos_kind, has_data, has_eos, data_after_eos, is_ended, is_dead, end_call, returned_bucket, bytes_of};
+ghost use Rattle.run_model.specs.Buckets.{is_data_kind, is_eos_kind, has_data, has_eos, data_after_eos, is_ended, is_dead, end_call, returned_bucket, end_pools, to_heap, cleared_bucket, bytes_of};
 ghost use Rattle.run_model.specs.Steps.{bytes_before_eos};
 ghost use Rattle.module_run.specs.Tests.{late_data};
 
@@ -98,4 +98,32 @@ pub fn bytes_before_eos(alloc: Global, items: &[Named]) -> Result<Seq<u8>, Alloc
         append_bytes(&mut out, &b.bucket.content)?;
     }
     Ok(out)
+}
+
+fn end_pool(pool: u64, home: Home) -> Home
+    ensures { result ≡ end_pools (λ n. n == pool) home }
+{
+    match home {
+        Home::Pool(name) if name == pool => Home::Ended,
+        other => other,
+    }
+}
+
+fn to_heap(pool: u64, kind: Kind) -> Kind
+    ensures { result ≡ to_heap (λ n. n == pool) kind }
+{
+    match kind {
+        Kind::Pool(name) if name == pool => Kind::Heap,
+        other => other,
+    }
+}
+
+/// What the end of a pool does to buckets: those whose home it is lose it, and those whose bytes lie in it become HEAP.
+pub fn clear(items: &mut [Named], pool: u64)
+    ensures { items.new ≡ map (cleared_bucket (λ n. n == pool)) items.old }
+{
+    for b in items.iter_mut() {
+        b.bucket.kind = to_heap(pool, b.bucket.kind);
+        b.bucket.home = end_pool(pool, b.bucket.home);
+    }
 }

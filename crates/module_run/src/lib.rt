@@ -3,10 +3,13 @@
 
 mod buckets;
 mod conn;
+mod effects;
 mod machine;
+mod step;
+mod vars;
 mod wants;
 
-pub use conn::Conn;
+pub use conn::{Conn, step_watched};
 pub use run_model::{
     Cause, Event, Exit, FaultKind, Instr, Module, Piece, Refusal, Seq, Status, StepRefusal, Stepped,
 };

@@ -1,9 +1,10 @@
 //! What a step sees and changes of a connection.
 
-ghost use Rattle.std.specs.Prelude.{◌≡◌, ◌+◌, ◌^◌, ◌-◌, ◌<◌, ◌++◌, [], false, slice_index_or, slice_set, OnOk, OnErr};
-ghost use Rattle.run_model.specs.State.{set_brig, pool_named, is_own};
+ghost use Rattle.std.specs.Prelude.{◌≡◌, true, is_some, Some, ◌+◌, ◌^◌, ◌-◌, ◌<◌, ◌++◌, [], false, slice_index_or, slice_set, OnOk, OnErr};
+ghost use Rattle.run_model.specs.State.{set_brig, pool_named, is_own, fresh_call};
 ghost use Rattle.run_model.specs.Faults.{has_pool};
 ghost use Rattle.run_model.specs.Steps.{is_spent};
+ghost use Rattle.run_model.specs.Pools.{created};
 
 use std::alloc::AllocError;
 use std::mem;
@@ -29,6 +30,7 @@ pub struct Machine {
 #[tactic(auto, unfolding(crate::specs::Seen::seen_run, run_model::specs::State::set_brig, run_model::specs::State::pool_named, run_model::specs::Faults::has_pool, run_model::specs::Pools::is_live, run_model::specs::Steps::is_spent))]
 impl Machine {
     ghost use Rattle.module_run.specs.Seen.{seen_run};
+    ghost use Rattle.module_run.specs.Closed.{request_closed, StandsAlone};
 
     /// The brigade variable of a number.
     pub fn brig(&self, b: u8) -> &Var
@@ -130,6 +132,65 @@ impl Machine {
         let name = self.next;
         self.next += 1;
         name
+    }
+
+    /// The name of the call that runs.
+    pub fn call(&self) -> u64
+        ensures { result ≡ (seen_run self.now).call.name }
+    {
+        self.call
+    }
+
+    /// The call begins that has this name; 0 is for none.
+    pub fn set_call(&mut self, name: u64)
+        ensures { seen_run self.new ≡ record (seen_run self.old) { call = fresh_call name } }
+    {
+        self.call = name;
+    }
+
+    /// Whether a request is open.
+    pub fn in_request(&self) -> bool
+        ensures { result ≡ is_some (seen_run self.now).shared.req }
+    {
+        self.in_request
+    }
+
+    /// Whether no further pool can be named.
+    pub fn pools_spent(&self) -> bool
+        ensures { result ≡ is_spent (seen_run self.now).shared.pools.next 1 }
+    {
+        self.requests > u64::MAX - 4
+    }
+
+    /// A request begins, with a pool of its own.
+    #[tactic(auto, using(crate::proofs::Requests::request_made), unfolding(crate::specs::Seen::seen_run, run_model::specs::Steps::is_spent))]
+    pub fn begin_request(&mut self)
+        requires closed { is_some (seen_run self.old).shared.req ≡ false }
+        requires unspent { is_spent (seen_run self.old).shared.pools.next 1 ≡ false }
+        ensures { let r = seen_run self.old in seen_run self.new ≡ record r { shared = record r.shared { pools = created r.shared.conn r.shared.pools; req = Some r.shared.pools.next } } }
+    {
+        self.requests += 1;
+        self.in_request = true;
+    }
+
+    /// The pool of the request that is open.
+    pub fn request_pool(&self) -> u64
+        requires { is_some (seen_run self.now).shared.req ≡ true }
+        ensures { (seen_run self.now).shared.req ≡ Some result }
+    {
+        3 + self.requests.saturating_sub(1)
+    }
+
+    /// The request's pool is destroyed; what lay on it is left to the caller.
+    #[tactic(auto, using(crate::proofs::Requests::request_gone, crate::proofs::Requests::stands_alone), unfolding(crate::specs::Seen::seen_run))]
+    pub fn close_request(&mut self, pool: u64)
+        requires { (seen_run self.old).shared.req ≡ Some pool }
+        ensures closed { seen_run self.new ≡ request_closed pool (seen_run self.old) }
+        ensures alone { StandsAlone pool (seen_run self.old).shared.pools }
+    {
+        self.in_request = false;
+        self.sent = false;
+        self.ended = false;
     }
 
     /// Whether an EOS of this request reached the output.

@@ -162,23 +162,26 @@ breaks k c = record c { broken = Some k }
 abbrev pub broke : Cause → Connection → Result Stepped Refusal × Connection
 broke k c = (Err (refusal.Broken k), breaks k c)
 
--- what a step that was executed leaves
-abbrev pub after_step : Stepped → Run → Connection → Connection
-after_step stepped.Went r c = record c { run = r; count = c.count + 1 }
-after_step (stepped.CallEnded s) r c = record c { run = r; busy = false; count = c.count + 1 }
-after_step (stepped.Fault k m pc) r c = breaks cause.Faulted c
+-- what a step's answer means for the connection (a fault and a refusal left the run as it was)
+abbrev pub after_step : Stepped → Connection → Connection
+after_step stepped.Went c = record c { count = c.count + 1 }
+after_step (stepped.CallEnded s) c = record c { busy = false; count = c.count + 1 }
+after_step (stepped.Fault k m pc) c = breaks cause.Faulted c
 
-abbrev pub step_answer : Result Stepped StepRefusal × Run → Connection → Result Stepped Refusal × Connection
-step_answer (Ok s, r) c = (Ok s, after_step s r c)
-step_answer (Err step_refusal.NamesSpent, r) c = broke cause.NamesSpent c
-step_answer (Err step_refusal.NoMemory, r) c = broke cause.NoMemory c
+abbrev pub step_answer : Result Stepped StepRefusal → Connection → Result Stepped Refusal × Connection
+step_answer (Ok s) c = (Ok s, after_step s c)
+step_answer (Err step_refusal.NamesSpent) c = broke cause.NamesSpent c
+step_answer (Err step_refusal.NoMemory) c = broke cause.NoMemory c
+
+abbrev pub step_from : Result Stepped StepRefusal × Run → Connection → Result Stepped Refusal × Connection
+step_from w c = step_answer w.0 (record c { run = w.1 })
 
 -- A step is asked for. Where the count has met the budget, the connection breaks and nothing is executed.
 abbrev pub step_if : Option Refusal → Bool → ℕ → Program → Connection → Result Stepped Refusal × Connection
 step_if (Some r) memory budget p c = (Err r, c)
 step_if None memory budget p c =
     if nat_le budget c.count then broke cause.OutOfSteps c
-    else step_answer (watched memory p (current p c.run.pc) c.run) c
+    else step_from (watched memory p (current p c.run.pc) c.run) c
 
 unfoldable pub steps : Bool → ℕ → Program → Connection → Result Stepped Refusal × Connection
 steps memory budget p c =

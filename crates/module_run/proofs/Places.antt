@@ -1,0 +1,97 @@
+-- Where a step leads, there is an instruction.
+use Rattle.std.proofs.Common.{◌≡◌, ℕ, ◌+◌, ◌<◌, Bool, true, false, ◌||◌, not, length, Option, Some, None, refl, sym, ap, ◌∙◌, subst, Result, Ok, Err, cond, unwrap_or, slice_get, arith}
+use Rattle.std.proofs.lemmas.Option.{get_or_from_slice_get}
+use Rattle.std.specs.Prelude.{IfSome}
+use Rattle.run_model.specs.declared.event.Exit.{Exit}
+use Rattle.run_model.specs.declared.event.Exit.TheVariants.{GoOn, Jump, Return}
+use Rattle.run_model.specs.declared.event.Stepped.{Stepped}
+use Rattle.run_model.specs.declared.event.Stepped.TheVariants as stepped
+use Rattle.run_model.specs.declared.event.StepRefusal.TheVariants as refusal
+use Rattle.std.specs.Prelude.{IsOk, is_ok}
+use Rattle.std.proofs.lemmas.Bool.{false≢true}
+use Rattle.run_model.specs.declared.event.StepRefusal.{StepRefusal}
+use Rattle.run_model.specs.declared.fault.FaultKind.{FaultKind}
+use Rattle.module_lang.specs.declared.instr.Instr.{Instr}
+use Rattle.module_lang.specs.declared.instr.Instr.TheVariants as instr
+use Rattle.module_lang.specs.declared.instr.Status.TheVariants.{Success}
+use Rattle.module_lang.specs.Program.{Program, IsPlaced, target, goes_on}
+use Rattle.run_model.specs.Pools.{is_empty}
+use Rattle.run_model.specs.State.{Run, set_brig, items_of}
+use Rattle.run_model.specs.Faults.{fault}
+use Rattle.run_model.specs.Steps.{Went, step_at_end, settled, watched, executed, succeeded, unless_fault, current, jumps_if, is_spent, names_of, grows}
+
+-- the instruction that is executed next is the one that stands there
+pub current_is : (p : Program) (pc : ℕ) (i : Instr) → slice_get p.code pc ≡ Some i → current p pc ≡ i
+unfolding current
+current_is p pc i found = get_or_from_slice_get p.code pc i (instr.Ret Success) found
+
+pub current_at : (p : Program) (pc at : ℕ) (i : Instr) → at ≡ pc → slice_get p.code at ≡ Some i → current p pc ≡ i
+current_at p pc at i same found = current_is p pc i (subst (λ (n : ℕ). slice_get p.code n ≡ Some i) same found)
+
+-- an instruction leaves the place to its settling
+pub pc_kept : (p : Program) (i : Instr) (r : Run) → (step_at_end p i r).run.pc ≡ r.pc
+unfolding set_brig
+pc_kept p (instr.BCreate o) r = refl
+pc_kept p (instr.BClean b) r = refl
+pc_kept p (instr.BConcat a b) r = refl
+pc_kept p (instr.Pass b l) r = refl
+pc_kept p (instr.JEmpty b l) r = refl
+pc_kept p (instr.JSent l) r = refl
+pc_kept p (instr.Jump l) r = refl
+pc_kept p (instr.Ret s) r = refl
+
+pub pc_kept_by : (p : Program) (i : Instr) (r new : Run) (e : Exit) → step_at_end p i r ≡ record { exit = e; run = new } → new.pc ≡ r.pc
+pc_kept_by p i r new e went = sym (ap (λ (w : Went). w.run.pc) went) ∙ pc_kept p i r
+
+-- the next place, where an instruction jumps or goes on
+after_jump : (p : Program) (l pc : ℕ) (i : Instr) (r : Run) (test : Bool) → r.pc ≡ pc → target i ≡ Some l → l < length p.code → pc + 1 < length p.code → (settled i (jumps_if test) r).1.pc < length p.code
+after_jump p l pc i r true same names inside next = subst (λ (o : Option ℕ). unwrap_or o 0 < length p.code) (sym names) inside
+after_jump p l pc i r false same names inside next = omega arith
+
+pub stays_inside : (p : Program) (i : Instr) (r : Run) → IsPlaced p r.pc i → r.pc < length p.code → (settled i (step_at_end p i r).exit (step_at_end p i r).run).1.pc < length p.code
+unfolding set_brig
+stays_inside p (instr.BCreate o) r placed inside = placed.next refl
+stays_inside p (instr.BClean b) r placed inside = placed.next refl
+stays_inside p (instr.BConcat a b) r placed inside = placed.next refl
+stays_inside p (instr.Pass b l) r placed inside = placed.next refl
+stays_inside p (instr.JEmpty b l) r placed inside = after_jump p l r.pc (instr.JEmpty b l) r (is_empty (items_of (r.inst.brigs b))) refl refl placed.jump (placed.next refl)
+stays_inside p (instr.JSent l) r placed inside = after_jump p l r.pc (instr.JSent l) r r.inst.sent refl refl placed.jump (placed.next refl)
+stays_inside p (instr.Jump l) r placed inside = placed.jump
+stays_inside p (instr.Ret s) r placed inside = inside
+
+-- whatever a watched step answers
+chosen : (p : Program) (x y : Result Stepped StepRefusal × Run) (b : Bool) → x.1.pc < length p.code → y.1.pc < length p.code → (cond b x y).1.pc < length p.code
+chosen p x y true first second = first
+chosen p x y false first second = second
+
+unless : (p : Program) (f : Option FaultKind) (r : Run) (x : Result Stepped StepRefusal × Run) → r.pc < length p.code → x.1.pc < length p.code → (unless_fault f r x).1.pc < length p.code
+unless p None r x first second = second
+unless p (Some k) r x first second = first
+
+pub watched_inside : (memory : Bool) (p : Program) (i : Instr) (r : Run) → IsPlaced p r.pc i → r.pc < length p.code → (watched memory p i r).1.pc < length p.code
+watched_inside memory p i r placed inside =
+    unless p (fault p r i) r (executed memory p i r) inside
+      (chosen p _ _ (is_spent r.shared.next (names_of i)) inside
+        (chosen p _ _ (memory || not (grows i)) (stays_inside p i r placed inside) inside))
+
+pub inside_by : (memory : Bool) (p : Program) (i : Instr) (r new : Run) (s : Result Stepped StepRefusal) → IsPlaced p r.pc i → r.pc < length p.code → watched memory p i r ≡ (s, new) → new.pc < length p.code
+inside_by memory p i r new s placed inside went = subst (λ (w : Result Stepped StepRefusal × Run). w.1.pc < length p.code) went (watched_inside memory p i r placed inside)
+
+-- what a watched step answers, case by case
+pub told : (memory : Bool) (p : Program) (i : Instr) (r : Run) (k : FaultKind) → fault p r i ≡ Some k → watched memory p i r ≡ (Ok (stepped.Fault k 0 r.pc), r)
+told memory p i r k e = ap (λ f. unless_fault f r (executed memory p i r)) e
+
+pub no_name : (memory : Bool) (p : Program) (i : Instr) (r : Run) → fault p r i ≡ None → is_spent r.shared.next (names_of i) ≡ true → watched memory p i r ≡ (Err refusal.NamesSpent, r)
+no_name memory p i r none spent = rw (none, spent) refl
+
+pub no_memory : (p : Program) (i : Instr) (r : Run) → fault p r i ≡ None → is_spent r.shared.next (names_of i) ≡ false → grows i ≡ true → watched false p i r ≡ (Err refusal.NoMemory, r)
+no_memory p i r none spent grown = rw (none, spent, grown) refl
+
+pub went_on : (p : Program) (i : Instr) (r x new : Run) (e : Exit) (s : Stepped) → fault p r i ≡ None → is_spent r.shared.next (names_of i) ≡ false → step_at_end p i r ≡ record { exit = e; run = x } → settled i e x ≡ (s, new) → watched true p i r ≡ (Ok s, new)
+went_on p i r x new e s none spent step settle =
+    rw (none, spent) (ap (λ (w : Went). succeeded (settled i w.exit w.run)) step ∙ ap succeeded settle)
+
+-- what is not refused for want of memory does not grow
+pub must_grow : (b : Bool) {X E : Type 0} (x : Result X E) (e : E) → (b ≡ false → IsOk x) → x ≡ Err e → b ≡ true
+must_grow true x e sure is = refl
+must_grow false {X = X} {E = E} x e sure is = absurd (false≢true (subst (λ (y : Result X E). is_ok y ≡ true) is (sure refl)))

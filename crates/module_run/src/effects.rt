@@ -1,0 +1,137 @@
+//! What instructions do to a machine.
+
+ghost use Rattle.std.specs.Prelude.{◌≡◌, ◌==◌, Some, ◌≢◌, ◌<◌, false, length, OnOk, OnErr};
+ghost use Rattle.run_model.specs.Steps.{do_create, do_clean, do_concat, do_pass, do_return, delivered, is_spent, returned_var};
+ghost use Rattle.run_model.specs.State.{items_of};
+ghost use Rattle.run_model.specs.Connection.{cleared_var, request_ended};
+ghost use Rattle.module_lang.specs.Program.{pool_of_brigade};
+ghost use Rattle.module_run.specs.Seen.{seen_run};
+ghost use Rattle.module_run.specs.Mapped.{mapped};
+
+use std::alloc::{AllocError, Global};
+
+use run_model::{Brigade, Mark, Module, Seq, Var};
+
+use crate::buckets;
+use crate::machine::Machine;
+use crate::vars;
+
+/// Makes an empty brigade on its declared pool.
+#[tactic(auto, unfolding(run_model::specs::State::pool_named))]
+pub fn create(alloc: Global, code: &Module, machine: &mut Machine, o: u8)
+    requires slot { o < 8 }
+    requires declared { o < length code.now.brigades }
+    requires unspent { is_spent (seen_run machine.old).shared.next 1 ≡ false }
+    ensures { seen_run machine.new ≡ do_create code.now o (seen_run machine.old) }
+{
+    let on = machine.pool_named(code.brigade_pool(o));
+    let name = machine.take_name();
+    let brigade = Brigade {
+        name,
+        on,
+        mark: Mark::Usable,
+        items: Seq::new(alloc),
+    };
+    machine.put(o, Var::Live(brigade));
+}
+
+/// Destroys the buckets of a brigade, which is usable again.
+#[tactic(auto, using(crate::proofs::Writes::set_twice))]
+pub fn clean(machine: &mut Machine, b: u8)
+    requires { b < 9 }
+    ensures { seen_run machine.new ≡ do_clean b (seen_run machine.old) }
+{
+    let mut var = machine.put(b, Var::Null);
+    vars::clean(&mut var);
+    machine.put(b, var);
+}
+
+/// Moves the buckets of a second brigade to the tail of a first. Without memory nothing is changed.
+#[tactic(auto, using(crate::proofs::Writes::put_back, crate::proofs::Writes::put_same, crate::proofs::Writes::read_other))]
+pub fn concat(machine: &mut Machine, a: u8, b: u8) -> Result<(), AllocError>
+    requires first { a < 9 }
+    requires second { b < 9 }
+    requires apart { a ≢ b }
+    ensures ok { OnOk result (seen_run machine.new ≡ do_concat a b (seen_run machine.old)) }
+    ensures err { OnErr result (seen_run machine.new ≡ seen_run machine.old) }
+{
+    let mut from = machine.put(b, Var::Null);
+    let mut to = machine.put(a, Var::Null);
+    let joined = vars::join(&mut to, &mut from);
+    machine.put(b, from);
+    machine.put(a, to);
+    joined
+}
+
+/// What is passed reaches the output, up to the first EOS of the request. Without memory nothing is changed.
+#[tactic(auto, unfolding(run_model::specs::Steps::delivered))]
+fn deliver(alloc: Global, machine: &mut Machine, b: u8) -> Result<(), AllocError>
+    requires { b < 9 }
+    ensures ok { let r = seen_run machine.old in OnOk result (seen_run machine.new ≡ record r { out = delivered r.out (items_of (r.inst.brigs b)) }) }
+    ensures err { OnErr result (seen_run machine.new ≡ seen_run machine.old) }
+{
+    if machine.ended() {
+        return Ok(());
+    }
+    let items = vars::items(machine.brig(b));
+    let ended = buckets::has_eos(items);
+    let mut bytes = buckets::bytes_before_eos(alloc, items)?;
+    machine.write(&mut bytes, ended)
+}
+
+/// Passes a brigade to the end of the chain. Without memory nothing is changed.
+#[tactic(auto, using(crate::proofs::Writes::set_twice), unfolding(run_model::specs::State::set_brig))]
+pub fn pass(alloc: Global, machine: &mut Machine, b: u8) -> Result<(), AllocError>
+    requires { b < 9 }
+    ensures ok { let r = seen_run machine.old in OnOk result (seen_run machine.new ≡ record (do_pass b r) { out = delivered r.out (items_of (r.inst.brigs b)) }) }
+    ensures err { OnErr result (seen_run machine.new ≡ seen_run machine.old) }
+{
+    let ends = buckets::has_eos(vars::items(machine.brig(b)));
+    deliver(alloc, machine, b)?;
+    machine.set_sent(machine.sent() || ends);
+    let mut var = machine.put(b, Var::Null);
+    vars::hand_over(&mut var);
+    machine.put(b, var);
+    Ok(())
+}
+
+/// Ends the homes that are the running call, in each brigade.
+fn end_homes(machine: &mut Machine, call: u64)
+    ensures { seen_run machine.new ≡ mapped (returned_var call) (seen_run machine.old) }
+{
+    for b in 0..9u8 {
+        let mut var = machine.put(b, Var::Null);
+        vars::end_homes(&mut var, call);
+        machine.put(b, var);
+    }
+}
+
+/// Ends the running call: the homes that are this call end, and its `in` goes.
+pub fn end_call(machine: &mut Machine)
+    ensures { seen_run machine.new ≡ do_return (seen_run machine.old) }
+{
+    let call = machine.call();
+    end_homes(machine, call);
+    machine.put(8, Var::Null);
+    machine.set_call(0);
+}
+
+/// Takes what lay on a pool: brigades on it go, and buckets of others lose it.
+fn clear_brigades(machine: &mut Machine, pool: u64)
+    ensures { seen_run machine.new ≡ mapped (cleared_var (λ n. n == pool)) (seen_run machine.old) }
+{
+    for b in 0..9u8 {
+        let mut var = machine.put(b, Var::Null);
+        vars::clear(&mut var, pool);
+        machine.put(b, var);
+    }
+}
+
+/// Ends the open request: its pool is destroyed with what lay on it, and no EOS was passed in the next one.
+pub fn end_request(machine: &mut Machine, pool: u64)
+    requires { (seen_run machine.old).shared.req ≡ Some pool }
+    ensures { seen_run machine.new ≡ request_ended pool (seen_run machine.old) }
+{
+    clear_brigades(machine, pool);
+    machine.close_request(pool);
+}

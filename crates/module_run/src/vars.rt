@@ -1,0 +1,110 @@
+//! What instructions do to a brigade variable.
+
+ghost use Rattle.std.specs.Prelude.{◌≡◌, ◌==◌, ◌++◌, [], map, OnOk, OnErr};
+ghost use Rattle.run_model.specs.State.{items_of};
+ghost use Rattle.run_model.specs.Buckets.{cleared_bucket};
+ghost use Rattle.run_model.specs.Connection.{is_reached, cleared_var};
+ghost use Rattle.run_model.specs.Steps.{cleaned, with_items, handed_over, returned_var};
+
+use std::alloc::AllocError;
+
+use run_model::{Brigade, Mark, Named, Seq, Var};
+
+use crate::buckets;
+
+/// The buckets in a brigade variable.
+pub fn items(var: &Var) -> &[Named]
+    ensures { result.now ≡ items_of var.now }
+{
+    match var {
+        Var::Null | Var::Gone => &[],
+        Var::Live(brigade) => brigade.items.as_slice(),
+    }
+}
+
+/// Destroys the buckets; the brigade is usable again.
+pub fn clean(var: &mut Var)
+    ensures { var.new ≡ cleaned var.old }
+{
+    if let Var::Live(brigade) = var {
+        brigade.items.clear();
+        brigade.mark = Mark::Usable;
+    }
+}
+
+/// The buckets are gone, and the brigade is passed.
+pub fn hand_over(var: &mut Var)
+    ensures { var.new ≡ handed_over var.old }
+{
+    if let Var::Live(brigade) = var {
+        brigade.items.clear();
+        brigade.mark = Mark::Passed;
+    }
+}
+
+/// Ends the homes that are this call.
+#[tactic(auto, using(crate::proofs::Refilled::refilled_map))]
+pub fn end_homes(var: &mut Var, call: u64)
+    ensures { var.new ≡ returned_var call var.old }
+{
+    if let Var::Live(brigade) = var {
+        buckets::end_homes(brigade.items.as_mut_slice(), call);
+    }
+}
+
+fn lies_on(brigade: &Brigade, pool: u64) -> bool
+    ensures { result ≡ is_reached (λ n. n == pool) brigade.now.on }
+{
+    match brigade.on {
+        Some(name) => name == pool,
+        None => false,
+    }
+}
+
+#[tactic(auto, using(crate::proofs::Refilled::refilled_map))]
+fn clear_items(brigade: &mut Brigade, pool: u64)
+    ensures { brigade.new ≡ record brigade.old { items = map (cleared_bucket (λ n. n == pool)) brigade.old.items } }
+{
+    buckets::clear(brigade.items.as_mut_slice(), pool);
+}
+
+/// What the end of a pool does: a brigade on it goes with its buckets, and the buckets of others lose it.
+pub fn clear(var: &mut Var, pool: u64)
+    ensures { var.new ≡ cleared_var (λ n. n == pool) var.old }
+{
+    match var {
+        Var::Live(brigade) if lies_on(brigade, pool) => *var = Var::Gone,
+        Var::Live(brigade) => clear_items(brigade, pool),
+        Var::Null | Var::Gone => {}
+    }
+}
+
+/// Moves buckets to the tail of a brigade; where there is none they are destroyed. Without memory nothing is changed.
+fn take_in(to: &mut Var, items: &mut Seq<Named>) -> Result<(), AllocError>
+    ensures joined { OnOk result (to.new ≡ with_items (items_of to.old ++ items.old) to.old) }
+    ensures emptied { OnOk result (items.new ≡ []) }
+    ensures err { OnErr result (to.new ≡ to.old) }
+    ensures kept { OnErr result (items.new ≡ items.old) }
+{
+    match to {
+        Var::Live(brigade) => brigade.items.append(items),
+        Var::Null | Var::Gone => {
+            items.clear();
+            Ok(())
+        }
+    }
+}
+
+/// Moves the buckets of one brigade to the tail of another. Without memory nothing is changed.
+#[tactic(auto, using(crate::proofs::Refilled::with_same_items))]
+pub fn join(to: &mut Var, from: &mut Var) -> Result<(), AllocError>
+    ensures joined { OnOk result (to.new ≡ with_items (items_of to.old ++ items_of from.old) to.old) }
+    ensures emptied { OnOk result (from.new ≡ with_items [] from.old) }
+    ensures err { OnErr result (to.new ≡ to.old) }
+    ensures kept { OnErr result (from.new ≡ from.old) }
+{
+    match from {
+        Var::Live(brigade) => take_in(to, &mut brigade.items),
+        Var::Null | Var::Gone => Ok(()),
+    }
+}
