@@ -23,7 +23,7 @@ use Rattle.run_model.specs.declared.fault.FaultKind.{FaultKind}
 use Rattle.run_model.specs.State.{Run}
 use Rattle.run_model.specs.Faults.{fault}
 use Rattle.run_model.specs.Steps.{step, step_at_end, settled, names_of, grows, is_spent, current, succeeded, executed, unless_fault, watched}
-use Rattle.run_model.specs.Connection.{Connection, begins, brings, ends, takes, steps, begun, brought, ended, first_refusal, refused_if, if_broken, unless_refused, step_answer, step_if, after_step, broke, data_behind_eos}
+use Rattle.run_model.specs.Connection.{Connection, begins, brings, ends, takes, steps, begun, brought, ended, first_refusal, refused_if, if_broken, unless_refused, step_answer, step_from, step_if, after_step, broke, data_behind_eos}
 use Rattle.run_model.specs.Runs.{Answer, World, happens, IsRun, answer_of, step_of}
 use Rattle.run_model.specs.Sound.{Sound}
 use Rattle.run_model.specs.Laws.{MayExecute, StepAtEndKeeps, SoundWorld, EventKeepsSound, RunIsSound}
@@ -84,22 +84,22 @@ watched_sound memory p i r m fit s = by_fault (fault p r i) refl where
 
 -- A step of a connection.
 
-after_sound : (a : Stepped) (r : Run) (c : Connection) → Sound c.run → Sound r → Sound (after_step a r c).run
-after_sound stepped.Went r c old new = new
-after_sound (stepped.CallEnded status) r c old new = new
-after_sound (stepped.Fault k m pc) r c old new = old
+after_sound : (a : Stepped) (c : Connection) → Sound c.run → Sound (after_step a c).run
+after_sound stepped.Went c s = s
+after_sound (stepped.CallEnded status) c s = s
+after_sound (stepped.Fault k m pc) c s = s
 
-answer_sound : (w : Result Stepped StepRefusal × Run) (c : Connection) → Sound c.run → Sound w.1 → Sound (step_answer w c).1.run
-answer_sound (Ok a, r) c old new = after_sound a r c old new
-answer_sound (Err step_refusal.NamesSpent, r) c old new = old
-answer_sound (Err step_refusal.NoMemory, r) c old new = old
+answer_sound : (a : Result Stepped StepRefusal) (c : Connection) → Sound c.run → Sound (step_answer a c).1.run
+answer_sound (Ok a) c s = after_sound a c s
+answer_sound (Err step_refusal.NamesSpent) c s = s
+answer_sound (Err step_refusal.NoMemory) c s = s
 
 step_if_sound : (o : Option Refusal) (memory : Bool) (budget : ℕ) (p : Program) (c : Connection) → IsModule p → Sound c.run → Sound (step_if o memory budget p c).1.run
 step_if_sound (Some r) memory budget p c m s = s
 step_if_sound None memory budget p c m s = by_budget (nat_le budget c.count) where
-  by_budget : (b : Bool) → Sound (cond b (broke cause.OutOfSteps c) (step_answer (watched memory p (current p c.run.pc) c.run) c)).1.run
+  by_budget : (b : Bool) → Sound (cond b (broke cause.OutOfSteps c) (step_from (watched memory p (current p c.run.pc) c.run) c)).1.run
   by_budget true = s
-  by_budget false = answer_sound (watched memory p (current p c.run.pc) c.run) c s (watched_sound memory p (current p c.run.pc) c.run m (current_fits p m c.run.pc) s)
+  by_budget false = answer_sound (watched memory p (current p c.run.pc) c.run).0 (record c { run = (watched memory p (current p c.run.pc) c.run).1 }) (watched_sound memory p (current p c.run.pc) c.run m (current_fits p m c.run.pc) s)
 
 steps_sound : (memory : Bool) (budget : ℕ) (p : Program) (c : Connection) → IsModule p → Sound c.run → Sound (steps memory budget p c).1.run
 unfolding steps
