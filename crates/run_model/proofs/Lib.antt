@@ -11,3 +11,4 @@ pub mod Events
 pub mod Runs
 pub mod SoundRuns
 pub mod Unchanged
+pub mod Refusals

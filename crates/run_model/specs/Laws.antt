@@ -1,16 +1,24 @@
 -- The laws of the definitions, as statements.
-use Rattle.std.specs.Prelude.{◌≡◌, ℕ, ◌+◌, Bool, true, false, ◌==◌, ◌||◌, List, [], ◌∷◌, ◌++◌, None, Ok, IfSome}
+use Rattle.std.specs.Prelude.{◌≡◌, ◌≢◌, ℕ, ◌+◌, ◌<◌, ◌≤◌, Bool, true, false, ◌==◌, ◌||◌, ◌⊎◌, List, [], ◌∷◌, ◌++◌, length, Some, None, Ok, Err, IfSome}
 use Rattle.module_lang.specs.declared.instr.Instr.{Instr}
 use Rattle.module_lang.specs.declared.instr.Instr.TheVariants as instr
 use Rattle.module_lang.specs.Program.{Program, IsModule, fits}
+use Rattle.run_model.specs.declared.bucket.Var.TheVariants as var
+use Rattle.run_model.specs.declared.fault.FaultKind.{FaultKind}
+use Rattle.run_model.specs.declared.event.Piece.{Piece}
+use Rattle.run_model.specs.declared.event.Cause.{Cause}
+use Rattle.run_model.specs.declared.event.Cause.TheVariants as cause
+use Rattle.run_model.specs.declared.event.Refusal.{Refusal}
+use Rattle.run_model.specs.declared.event.Refusal.TheVariants as refusal
 use Rattle.run_model.specs.declared.event.Event.{Event}
 use Rattle.run_model.specs.declared.event.Event.TheVariants as event
 use Rattle.run_model.specs.declared.event.Stepped.TheVariants as stepped
-use Rattle.run_model.specs.State.{Run}
+use Rattle.run_model.specs.Buckets.{data_after_eos}
+use Rattle.run_model.specs.State.{Run, fresh_call}
 use Rattle.run_model.specs.Faults.{fault}
 use Rattle.run_model.specs.Steps.{Choice, step, step_at_end, is_spent, names_of}
-use Rattle.run_model.specs.Connection.{Connection, opened, steps}
-use Rattle.run_model.specs.Runs.{Answer, World, happens, IsRun, GoesOn}
+use Rattle.run_model.specs.Connection.{Connection, opened, named_from, data_behind_eos, breaks, steps}
+use Rattle.run_model.specs.Runs.{Answer, Refused, World, happens, IsRun, GoesOn}
 use Rattle.run_model.specs.Sound.{SoundNames, SoundBuckets, SoundPools, Sound}
 
 -- An instruction of a module may be executed: it has no fault, and the names that it gives out are there.
@@ -105,3 +113,44 @@ pub record ChangesOnly (i : Instr) (r new : Run) : Type 0 where
 
 abbrev pub StepChangesOnly : Type 0
 StepChangesOnly = (p : Program) (choice : Choice) (i : Instr) (r : Run) → ChangesOnly i r (step p choice i r).run
+
+-- A refused event changes nothing, but that a step that is refused while its call runs leaves the connection broken, by
+-- the cause that it names.
+abbrev pub RefusedChangesNothing : Type 0
+RefusedChangesNothing = (memory : Bool) (budget : ℕ) (p : Program) (e : Event) (w new : World) (r : Refusal)
+  → e ≢ event.Step → happens memory budget p e w ≡ (Refused r, new) → new ≡ w
+
+abbrev pub RefusedStepBreaks : Type 0
+RefusedStepBreaks = (memory : Bool) (budget : ℕ) (p : Program) (c new : Connection) (r : Refusal)
+  → steps memory budget p c ≡ (Err r, new) → ((r ≡ refusal.Idle) × (new ≡ c)) ⊎ ((k : Cause) × ((r ≡ refusal.Broken k) × (new ≡ breaks k c)))
+
+-- A fault breaks the connection and changes nothing else.
+abbrev pub FaultBreaks : Type 0
+FaultBreaks = (memory : Bool) (budget : ℕ) (p : Program) (c new : Connection) (k : FaultKind) (m pc : ℕ)
+  → steps memory budget p c ≡ (Ok (stepped.Fault k m pc), new) → new ≡ breaks cause.Faulted c
+
+-- A broken connection names its cause from then on and stays as it is; only its output can be taken.
+abbrev pub BrokenStaysBroken : Type 0
+BrokenStaysBroken = (memory : Bool) (budget : ℕ) (p : Program) (e : Event) (c : Connection) (k : Cause)
+  → c.broken ≡ Some k → e ≢ event.Open → e ≢ event.TakeOutput → happens memory budget p e (Some c) ≡ (Refused (refusal.Broken k), Some c)
+
+-- A connection is orderly: a call that runs is at an instruction of the module; between calls there is no brought
+-- brigade, no cursor and no loose bucket; no more instructions were executed than the budget gives.
+pub record IsOrderly (budget : ℕ) (p : Program) (c : Connection) : Type 0 where
+  pub placed : c.busy ≡ true → c.run.pc < length p.code
+  pub nothing_brought : c.busy ≡ false → c.run.inst.brigs 8 ≡ var.Null
+  pub no_call : c.busy ≡ false → c.run.call ≡ fresh_call 0
+  pub spent : c.count ≤ budget
+
+abbrev pub OrderlyWorld : ℕ → Program → World → Type 0
+OrderlyWorld budget p w = IfSome w (λ c. IsOrderly budget p c)
+
+abbrev pub EventKeepsOrder : Type 0
+EventKeepsOrder = (memory : Bool) (budget : ℕ) (p : Program) (e : Event) (w : World) → IsModule p → OrderlyWorld budget p w → OrderlyWorld budget p (happens memory budget p e w).1
+
+abbrev pub RunIsOrderly : Type 0
+RunIsOrderly = (budget : ℕ) (p : Program) (es : List Event) (answers : List Answer) (w : World) → IsModule p → IsRun budget p None es answers w → OrderlyWorld budget p w
+
+-- No data stands behind an EOS of a brigade that is brought.
+abbrev pub BroughtEndsOnce : Type 0
+BroughtEndsOnce = (n : ℕ) (pieces : List Piece) → data_after_eos (named_from n pieces) ≡ data_behind_eos pieces
