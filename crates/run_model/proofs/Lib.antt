@@ -12,3 +12,4 @@ pub mod Runs
 pub mod SoundRuns
 pub mod Unchanged
 pub mod Refusals
+pub mod Orderly
