@@ -9,6 +9,8 @@ pub mod StepBuckets
 pub mod StepPools
 pub mod Events
 pub mod Runs
+pub mod Happened
+pub mod Brought
 pub mod SoundRuns
 pub mod Unchanged
 pub mod Refusals

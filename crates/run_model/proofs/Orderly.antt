@@ -28,7 +28,8 @@ use Rattle.run_model.specs.Steps.{step_at_end, settled, jumps_if, names_of, grow
 use Rattle.run_model.specs.Connection.{Connection, opened, begins, brings, ends, takes, steps, begun, brought, ended, request_ended, cleared_var, first_refusal, refused_if, if_broken, unless_refused, breaks, broke, step_answer, step_from, step_if}
 use Rattle.run_model.specs.Runs.{Answer, World, happens, IsRun, answer_of, step_of}
 use Rattle.run_model.specs.Laws.{IsOrderly, OrderlyWorld, EventKeepsOrder, RunIsOrderly}
-use Rattle.run_model.proofs.Runs.{nothing_changes, no_event, no_answer, first_event}
+use Rattle.run_model.proofs.Runs.{run_keeps}
+use Rattle.run_model.proofs.Happened.{none_first, none_if, happened, told, stepped_told}
 
 -- What an answer says of the run that it leaves: a call goes on inside the module, or ends and leaves nothing, or
 -- the run is as before.
@@ -40,7 +41,7 @@ Left p old (Err r) new = new ≡ old
 
 -- a jump that is taken or not
 branched : (p : Program) (i : Instr) (l : ℕ) (old r : Run) (b : Bool) → l < length p.code → r.pc + 1 < length p.code → unwrap_or (target i) 0 ≡ l
-  → Left p old (Ok (settled i (jumps_if b) r).0) (settled i (jumps_if b) r).1
+    → Left p old (Ok (settled i (jumps_if b) r).0) (settled i (jumps_if b) r).1
 branched p i l old r true jump next is = rw is jump
 branched p i l old r false jump next is = next
 
@@ -60,10 +61,12 @@ watched_left memory p i r placed = by_fault (fault p r i) where
   by_memory : (b : Bool) → Left p r (cond b (succeeded (settled i (step_at_end p i r).exit (step_at_end p i r).run)) (Err step_refusal.NoMemory, r)).0 (cond b (succeeded (settled i (step_at_end p i r).exit (step_at_end p i r).run)) (Err step_refusal.NoMemory, r)).1
   by_memory true = settled_left p i r placed
   by_memory false = refl
+
   by_names : (b : Bool) → Left p r (cond b (Err step_refusal.NamesSpent, r) (cond (memory || not (grows i)) (succeeded (settled i (step_at_end p i r).exit (step_at_end p i r).run)) (Err step_refusal.NoMemory, r))).0
-    (cond b (Err step_refusal.NamesSpent, r) (cond (memory || not (grows i)) (succeeded (settled i (step_at_end p i r).exit (step_at_end p i r).run)) (Err step_refusal.NoMemory, r))).1
+      (cond b (Err step_refusal.NamesSpent, r) (cond (memory || not (grows i)) (succeeded (settled i (step_at_end p i r).exit (step_at_end p i r).run)) (Err step_refusal.NoMemory, r))).1
   by_names true = refl
   by_names false = by_memory (memory || not (grows i))
+
   by_fault : (f : Option FaultKind) → Left p r (unless_fault f r (executed memory p i r)).0 (unless_fault f r (executed memory p i r)).1
   by_fault None = by_names (is_spent r.shared.next (names_of i))
   by_fault (Some k) = refl
@@ -83,7 +86,7 @@ unchanged budget p c r b same s = record {
 }
 
 answered_order : (budget : ℕ) (p : Program) (c : Connection) (a : Result Stepped StepRefusal) (r : Run) → c.busy ≡ true → c.count < budget → IsOrderly budget p c → Left p c.run a r
-  → IsOrderly budget p (step_answer a (record c { run = r })).1
+    → IsOrderly budget p (step_answer a (record c { run = r })).1
 answered_order budget p c (Ok stepped.Went) r busy few s left = record { placed = λ h. left; nothing_brought = λ h. absurd (cc); no_call = λ h. absurd (cc); spent = omega arith }
 answered_order budget p c (Ok (stepped.CallEnded st)) r busy few s left = record { placed = λ h. absurd (cc); nothing_brought = λ h. left.0; no_call = λ h. left.1; spent = omega arith }
 answered_order budget p c (Ok (stepped.Fault k m pc)) r busy few s left = unchanged budget p c r (Some cause.Faulted) left s
@@ -105,11 +108,64 @@ steps_order memory budget p c m s = by_broken c.broken where
   by_budget : (b : Bool) → nat_le budget c.count ≡ b → c.busy ≡ true → IsOrderly budget p (cond b (broke cause.OutOfSteps c) (step_from (watched memory p (current p c.run.pc) c.run) c)).1
   by_budget true met busy = unchanged budget p c c.run (Some cause.OutOfSteps) refl s
   by_budget false met busy =
-    answered_order budget p c (watched memory p (current p c.run.pc) c.run).0 (watched memory p (current p c.run.pc) c.run).1 busy (few budget c.count met) s
+      answered_order budget p c (watched memory p (current p c.run.pc) c.run).0 (watched memory p (current p c.run.pc) c.run).1 busy (few budget c.count met) s
       (watched_left memory p (current p c.run.pc) c.run (placed_at p m c.run.pc (s.placed busy)))
+
   by_idle : (b : Bool) → c.busy ≡ b → IsOrderly budget p (step_if (first_refusal (refused_if (not b) refusal.Idle ∷ [])) memory budget p c).1
   by_idle true busy = by_budget (nat_le budget c.count) refl busy
   by_idle false idle = s
+
   by_broken : (b : Option Cause) → IsOrderly budget p (step_if (first_refusal (if_broken b ∷ (refused_if (not c.busy) refusal.Idle ∷ []))) memory budget p c).1
   by_broken None = by_idle c.busy refl
   by_broken (Some k) = s
+
+begins_order : (memory : Bool) (budget : ℕ) (p : Program) (c : Connection) → IsModule p → IsOrderly budget p c → IsOrderly budget p (begins memory p c).1
+unfolding begins
+begins_order memory budget p c m s = happened (λ x. IsOrderly budget p x) _ c (begun p c) s (λ none. calls_order budget p (begun p c) refl refl m.inits)
+
+brings_order : (memory : Bool) (budget : ℕ) (p : Program) (pieces : List Piece) (c : Connection) → IsModule p → IsOrderly budget p c → IsOrderly budget p (brings memory p pieces c).1
+unfolding brings
+brings_order memory budget p pieces c m s = happened (λ x. IsOrderly budget p x) _ c (brought p pieces c) s (λ none. calls_order budget p (brought p pieces c) refl refl m.mains)
+
+-- a clear leaves what is null
+null_cleared : (reached : ℕ → Bool) (v : Var) → v ≡ var.Null → cleared_var reached v ≡ var.Null
+null_cleared reached v is = ap (cleared_var reached) is
+
+ended_order : (budget : ℕ) (p : Program) (o : Option ℕ) (c : Connection) → c.busy ≡ false → IsOrderly budget p c → IsOrderly budget p (ended o c)
+ended_order budget p None c idle s = s
+ended_order budget p (Some req) c idle s = record {
+  placed = λ h. absurd (cc);
+  nothing_brought = λ h. null_cleared (is_under c.run.shared.pools req) (c.run.inst.brigs 8) (s.nothing_brought h);
+  no_call = λ h. s.no_call h;
+  spent = s.spent;
+}
+
+ends_order : (budget : ℕ) (p : Program) (c : Connection) → IsOrderly budget p c → IsOrderly budget p (ends c).1
+unfolding ends
+ends_order budget p c s = happened (λ x. IsOrderly budget p x) _ c (ended c.run.shared.req c) s (λ none.
+    ended_order budget p c.run.shared.req c (none_if c.busy refusal.Busy _ (none_first (if_broken c.broken) _ none)).0 s)
+
+takes_order : (budget : ℕ) (p : Program) (c : Connection) → IsOrderly budget p c → IsOrderly budget p (takes c).1
+unfolding takes
+takes_order budget p c s = record { placed = λ h. s.placed h; nothing_brought = λ h. s.nothing_brought h; no_call = λ h. s.no_call h; spent = s.spent }
+
+opened_order : (budget : ℕ) (p : Program) → IsModule p → IsOrderly budget p opened
+unfolding opened
+opened_order budget p m = record { placed = λ h. m.opens; nothing_brought = λ h. absurd (cc); no_call = λ h. absurd (cc); spent = omega arith }
+
+pub event_order : EventKeepsOrder
+event_order memory budget p event.Open None m s = opened_order budget p m
+event_order memory budget p event.Open (Some c) m s = s
+event_order memory budget p event.Begin None m s = s
+event_order memory budget p event.Begin (Some c) m s = told (λ x. IsOrderly budget p x) (begins memory p c) (begins_order memory budget p c m s)
+event_order memory budget p (event.Bring pieces) None m s = s
+event_order memory budget p (event.Bring pieces) (Some c) m s = told (λ x. IsOrderly budget p x) (brings memory p pieces c) (brings_order memory budget p pieces c m s)
+event_order memory budget p event.Step None m s = s
+event_order memory budget p event.Step (Some c) m s = stepped_told (λ x. IsOrderly budget p x) (steps memory budget p c) (steps_order memory budget p c m s)
+event_order memory budget p event.End None m s = s
+event_order memory budget p event.End (Some c) m s = told (λ x. IsOrderly budget p x) (ends c) (ends_order budget p c s)
+event_order memory budget p event.TakeOutput None m s = s
+event_order memory budget p event.TakeOutput (Some c) m s = takes_order budget p c s
+
+pub run_order : RunIsOrderly
+run_order budget p es answers w m run = run_keeps budget p (OrderlyWorld budget p) (λ memory e v s. event_order memory budget p e v m s) None w es answers tt run

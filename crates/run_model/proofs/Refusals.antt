@@ -58,13 +58,15 @@ settled_executed i Return r = refl
 pub watched_keeps : (memory : Bool) (p : Program) (i : Instr) (r : Run) → was_executed (watched memory p i r).0 ≡ false → (watched memory p i r).1 ≡ r
 watched_keeps memory p i r = by_fault (fault p r i) where
   by_memory : (b : Bool) → was_executed (cond b (succeeded (settled i (step_at_end p i r).exit (step_at_end p i r).run)) (Err step_refusal.NoMemory, r)).0 ≡ false
-    → (cond b (succeeded (settled i (step_at_end p i r).exit (step_at_end p i r).run)) (Err step_refusal.NoMemory, r)).1 ≡ r
+      → (cond b (succeeded (settled i (step_at_end p i r).exit (step_at_end p i r).run)) (Err step_refusal.NoMemory, r)).1 ≡ r
   by_memory true no_step = absurd (let done : was_executed (Ok (settled i (step_at_end p i r).exit (step_at_end p i r).run).0) ≡ true = settled_executed i (step_at_end p i r).exit (step_at_end p i r).run in cc)
   by_memory false no_step = refl
+
   by_names : (b : Bool) → was_executed (cond b (Err step_refusal.NamesSpent, r) (cond (memory || not (grows i)) (succeeded (settled i (step_at_end p i r).exit (step_at_end p i r).run)) (Err step_refusal.NoMemory, r))).0 ≡ false
-    → (cond b (Err step_refusal.NamesSpent, r) (cond (memory || not (grows i)) (succeeded (settled i (step_at_end p i r).exit (step_at_end p i r).run)) (Err step_refusal.NoMemory, r))).1 ≡ r
+      → (cond b (Err step_refusal.NamesSpent, r) (cond (memory || not (grows i)) (succeeded (settled i (step_at_end p i r).exit (step_at_end p i r).run)) (Err step_refusal.NoMemory, r))).1 ≡ r
   by_names true no_step = refl
   by_names false no_step = by_memory (memory || not (grows i)) no_step
+
   by_fault : (f : Option FaultKind) → was_executed (unless_fault f r (executed memory p i r)).0 ≡ false → (unless_fault f r (executed memory p i r)).1 ≡ r
   by_fault None no_step = by_names (is_spent r.shared.next (names_of i)) no_step
   by_fault (Some k) no_step = refl
@@ -99,7 +101,7 @@ same_run : (c : Connection) (r : Run) → r ≡ c.run → record c { run = r } �
 same_run c r is = ap (λ (x : Run). record c { run = x }) is
 
 answered_err : (a : Result Stepped StepRefusal) (r : Run) (c new : Connection) (s : Refusal)
-  → (was_executed a ≡ false → r ≡ c.run) → step_answer a (record c { run = r }) ≡ err s new → RefusedStep c new s
+    → (was_executed a ≡ false → r ≡ c.run) → step_answer a (record c { run = r }) ≡ err s new → RefusedStep c new s
 answered_err (Ok a) r c new s same e = absurd (ok_is_no_err a s (after_step a (record c { run = r })) new e)
 answered_err (Err step_refusal.NamesSpent) r c new s same e =
     let parts = err_parts (refusal.Broken cause.NamesSpent) s (breaks cause.NamesSpent (record c { run = r })) new e in
@@ -118,15 +120,17 @@ refused_step_breaks memory budget p c new r e = by_broken c.broken refl e where
   by_budget : (b : Bool) → cond b (broke cause.OutOfSteps c) (step_from (watched memory p (current p c.run.pc) c.run) c) ≡ err r new → RefusedStep c new r
   by_budget true e = let parts = err_parts (refusal.Broken cause.OutOfSteps) r (breaks cause.OutOfSteps c) new e in inr (cause.OutOfSteps, (parts.0, parts.1))
   by_budget false e = answered_err (watched memory p (current p c.run.pc) c.run).0 (watched memory p (current p c.run.pc) c.run).1 c new r (watched_keeps memory p (current p c.run.pc) c.run) e
+
   by_idle : (b : Bool) → step_if (first_refusal (refused_if b refusal.Idle ∷ [])) memory budget p c ≡ err r new → RefusedStep c new r
   by_idle true e = let parts = err_parts refusal.Idle r c new e in inl (parts.0, parts.1)
   by_idle false e = by_budget (nat_le budget c.count) e
+
   by_broken : (b : Option Cause) → c.broken ≡ b → step_if (first_refusal (if_broken b ∷ (refused_if (not c.busy) refusal.Idle ∷ []))) memory budget p c ≡ err r new → RefusedStep c new r
   by_broken None is e = by_idle (not c.busy) e
   by_broken (Some k) is e = let parts = err_parts (refusal.Broken k) r c new e in inr (k, (parts.0, parts.1 ∙ still_broken c k is))
 
 answered_fault : (a : Result Stepped StepRefusal) (r : Run) (c new : Connection) (k : FaultKind) (m pc : ℕ)
-  → (was_executed a ≡ false → r ≡ c.run) → step_answer a (record c { run = r }) ≡ ok (stepped.Fault k m pc) new → new ≡ breaks cause.Faulted c
+    → (was_executed a ≡ false → r ≡ c.run) → step_answer a (record c { run = r }) ≡ ok (stepped.Fault k m pc) new → new ≡ breaks cause.Faulted c
 answered_fault (Ok stepped.Went) r c new k m pc same e =
     absurd (let parts = ok_parts stepped.Went (stepped.Fault k m pc) (after_step stepped.Went (record c { run = r })) new e in let told : stepped.Went ≡ stepped.Fault k m pc = parts.0 in cc)
 answered_fault (Ok (stepped.CallEnded s)) r c new k m pc same e =
@@ -142,6 +146,7 @@ fault_breaks memory budget p c new k m pc e = by_refusal (first_refusal (if_brok
   by_budget : (b : Bool) → cond b (broke cause.OutOfSteps c) (step_from (watched memory p (current p c.run.pc) c.run) c) ≡ ok (stepped.Fault k m pc) new → new ≡ breaks cause.Faulted c
   by_budget true e = absurd (err_is_no_ok (refusal.Broken cause.OutOfSteps) (stepped.Fault k m pc) (breaks cause.OutOfSteps c) new e)
   by_budget false e = answered_fault (watched memory p (current p c.run.pc) c.run).0 (watched memory p (current p c.run.pc) c.run).1 c new k m pc (watched_keeps memory p (current p c.run.pc) c.run) e
+
   by_refusal : (o : Option Refusal) → step_if o memory budget p c ≡ ok (stepped.Fault k m pc) new → new ≡ breaks cause.Faulted c
   by_refusal None e = by_budget (nat_le budget c.count) e
   by_refusal (Some r) e = absurd (err_is_no_ok r (stepped.Fault k m pc) c new e)

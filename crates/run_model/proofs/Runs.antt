@@ -1,5 +1,5 @@
 -- A run is its first event and a run, and goes on by one event at its end.
-use Rattle.std.proofs.Common.{◌≡◌, ℕ, zero, suc, Bool, true, List, [], ◌∷◌, ◌++◌, Some, None, Ok, refl, sym, ◌∙◌, subst, add-one}
+use Rattle.std.proofs.Common.{◌≡◌, ℕ, zero, suc, Bool, true, List, [], ◌∷◌, ◌++◌, Some, None, Ok, refl, sym, ◌∙◌, subst, add-one, ap}
 use Rattle.module_lang.specs.Program.{Program}
 use Rattle.run_model.specs.declared.event.Event.{Event}
 use Rattle.run_model.specs.declared.event.Event.TheVariants as event
@@ -83,6 +83,18 @@ nothing_changes budget p old new run = run
 pub no_run : (budget : ℕ) (p : Program) (w : World) → IsRun budget p w [] [] w
 unfolding IsRun
 no_run budget p w = refl
+
+-- what each event keeps is kept by a run
+pub run_keeps : (budget : ℕ) (p : Program) (P : World → Type 0) → ((memory : Bool) (e : Event) (w : World) → P w → P (happens memory budget p e w).1)
+    → (old new : World) (es : List Event) (answers : List Answer) → P old → IsRun budget p old es answers new → P new
+run_keeps budget p P event_keeps old new [] [] s run = subst P (sym (nothing_changes budget p old new run)) s
+run_keeps budget p P event_keeps old new [] (a ∷ answers) s run = absurd (no_event budget p old new a answers run)
+run_keeps budget p P event_keeps old new (e ∷ es) [] s run = absurd (no_answer budget p old new e es run)
+run_keeps budget p P event_keeps old new (e ∷ es) (a ∷ answers) s run =
+    let first = first_event budget p old new e es a answers run in
+    let after : P (happens first.0 budget p e old).1 = event_keeps first.0 e old s in
+    let there : P first.1 = subst P (ap (λ (x : Answer × World). x.1) first.2) after in
+    run_keeps budget p P event_keeps first.1 new es answers there first.3
 
 pub run_goes_on : RunGoesOn
 run_goes_on memory budget p old mid new [] [] e a run allowed last =

@@ -27,7 +27,8 @@ use Rattle.run_model.specs.Connection.{Connection, begins, brings, ends, takes, 
 use Rattle.run_model.specs.Runs.{Answer, World, happens, IsRun, answer_of, step_of}
 use Rattle.run_model.specs.Sound.{Sound}
 use Rattle.run_model.specs.Laws.{MayExecute, StepAtEndKeeps, SoundWorld, EventKeepsSound, RunIsSound}
-use Rattle.run_model.proofs.Runs.{nothing_changes, no_event, no_answer, first_event}
+use Rattle.run_model.proofs.Runs.{run_keeps}
+use Rattle.run_model.proofs.Happened.{none_first, none_if, happened, told, stepped_told}
 use Rattle.run_model.proofs.StepNames.{step_names}
 use Rattle.run_model.proofs.StepBuckets.{step_buckets}
 use Rattle.run_model.proofs.StepPools.{step_pools}
@@ -107,21 +108,12 @@ steps_sound memory budget p c m s = step_if_sound _ memory budget p c m s
 
 -- The other events. Where none of the tests holds, the event happens.
 
-none_first : (t : Option Refusal) (ts : List (Option Refusal)) → first_refusal (t ∷ ts) ≡ None → first_refusal ts ≡ None
-none_first None ts h = h
-none_first (Some r) ts h = absurd (cc)
-
-none_if : (b : Bool) (r : Refusal) (ts : List (Option Refusal)) → first_refusal (refused_if b r ∷ ts) ≡ None → (b ≡ false) × (first_refusal ts ≡ None)
-none_if true r ts h = absurd (cc)
-none_if false r ts h = (refl, h)
-
-happened : (o : Option Refusal) (old new : Connection) → Sound old.run → (o ≡ None → Sound new.run) → Sound (unless_refused o old new).1.run
-happened None old new s h = h refl
-happened (Some r) old new s h = s
+abbrev SoundConnection : Connection → Type 0
+SoundConnection c = Sound c.run
 
 begins_sound : (memory : Bool) (p : Program) (c : Connection) → Sound c.run → Sound (begins memory p c).1.run
 unfolding begins
-begins_sound memory p c s = happened _ c (begun p c) s (λ none.
+begins_sound memory p c s = happened SoundConnection _ c (begun p c) s (λ none.
     let a = none_first (if_broken c.broken) _ none in
     let b = none_if c.busy refusal.Busy _ a in
     let d = none_if (is_some c.run.shared.req) refusal.InRequest _ b.1 in
@@ -130,7 +122,7 @@ begins_sound memory p c s = happened _ c (begun p c) s (λ none.
 
 brings_sound : (memory : Bool) (p : Program) (pieces : List Piece) (c : Connection) → Sound c.run → Sound (brings memory p pieces c).1.run
 unfolding brings
-brings_sound memory p pieces c s = happened _ c (brought p pieces c) s (λ none.
+brings_sound memory p pieces c s = happened SoundConnection _ c (brought p pieces c) s (λ none.
     let a = none_first (if_broken c.broken) _ none in
     let b = none_if c.busy refusal.Busy _ a in
     let d = none_if (not (is_some c.run.shared.req)) refusal.NotInRequest _ b.1 in
@@ -144,7 +136,7 @@ ended_request (Some req) c is s = ended_sound req c.run is s
 
 ends_sound : (c : Connection) → Sound c.run → Sound (ends c).1.run
 unfolding ends
-ends_sound c s = happened _ c (ended c.run.shared.req c) s (λ none. ended_request c.run.shared.req c refl s)
+ends_sound c s = happened SoundConnection _ c (ended c.run.shared.req c) s (λ none. ended_request c.run.shared.req c refl s)
 
 takes_sound : (c : Connection) → Sound c.run → Sound (takes c).1.run
 unfolding takes
@@ -152,39 +144,21 @@ takes_sound c s = untouched_sound c.run (takes c).1.run refl refl refl s
 
 -- All events.
 
-told : (a : Option Refusal × Connection) → Sound a.1.run → SoundWorld (answer_of a).1
-told (None, c) s = s
-told (Some r, c) s = s
-
-stepped_told : (a : Result Stepped Refusal × Connection) → Sound a.1.run → SoundWorld (step_of a).1
-stepped_told (Ok x, c) s = s
-stepped_told (Err r, c) s = s
-
 pub event_sound : EventKeepsSound
 event_sound memory budget p event.Open None m s = opened_sound
 event_sound memory budget p event.Open (Some c) m s = s
 event_sound memory budget p event.Begin None m s = s
-event_sound memory budget p event.Begin (Some c) m s = told (begins memory p c) (begins_sound memory p c s)
+event_sound memory budget p event.Begin (Some c) m s = told SoundConnection (begins memory p c) (begins_sound memory p c s)
 event_sound memory budget p (event.Bring pieces) None m s = s
-event_sound memory budget p (event.Bring pieces) (Some c) m s = told (brings memory p pieces c) (brings_sound memory p pieces c s)
+event_sound memory budget p (event.Bring pieces) (Some c) m s = told SoundConnection (brings memory p pieces c) (brings_sound memory p pieces c s)
 event_sound memory budget p event.Step None m s = s
-event_sound memory budget p event.Step (Some c) m s = stepped_told (steps memory budget p c) (steps_sound memory budget p c m s)
+event_sound memory budget p event.Step (Some c) m s = stepped_told SoundConnection (steps memory budget p c) (steps_sound memory budget p c m s)
 event_sound memory budget p event.End None m s = s
-event_sound memory budget p event.End (Some c) m s = told (ends c) (ends_sound c s)
+event_sound memory budget p event.End (Some c) m s = told SoundConnection (ends c) (ends_sound c s)
 event_sound memory budget p event.TakeOutput None m s = s
 event_sound memory budget p event.TakeOutput (Some c) m s = takes_sound c s
 
 -- Runs.
 
-from_sound : (budget : ℕ) (p : Program) → IsModule p → (w new : World) (es : List Event) (answers : List Answer) → SoundWorld w → IsRun budget p w es answers new → SoundWorld new
-from_sound budget p m w new [] [] s run = subst SoundWorld (sym (nothing_changes budget p w new run)) s
-from_sound budget p m w new [] (a ∷ answers) s run = absurd (no_event budget p w new a answers run)
-from_sound budget p m w new (e ∷ es) [] s run = absurd (no_answer budget p w new e es run)
-from_sound budget p m w new (e ∷ es) (a ∷ answers) s run =
-    let first = first_event budget p w new e es a answers run in
-    let after : SoundWorld (happens first.0 budget p e w).1 = event_sound first.0 budget p e w m s in
-    let there : SoundWorld first.1 = subst SoundWorld (ap (λ (x : Answer × World). x.1) first.2) after in
-    from_sound budget p m first.1 new es answers there first.3
-
 pub run_sound : RunIsSound
-run_sound budget p es answers w m run = from_sound budget p m None w es answers tt run
+run_sound budget p es answers w m run = run_keeps budget p SoundWorld (λ memory e v s. event_sound memory budget p e v m s) None w es answers tt run

@@ -118,21 +118,21 @@ StepChangesOnly = (p : Program) (choice : Choice) (i : Instr) (r : Run) → Chan
 -- the cause that it names.
 abbrev pub RefusedChangesNothing : Type 0
 RefusedChangesNothing = (memory : Bool) (budget : ℕ) (p : Program) (e : Event) (w new : World) (r : Refusal)
-  → e ≢ event.Step → happens memory budget p e w ≡ (Refused r, new) → new ≡ w
+    → e ≢ event.Step → happens memory budget p e w ≡ (Refused r, new) → new ≡ w
 
 abbrev pub RefusedStepBreaks : Type 0
 RefusedStepBreaks = (memory : Bool) (budget : ℕ) (p : Program) (c new : Connection) (r : Refusal)
-  → steps memory budget p c ≡ (Err r, new) → ((r ≡ refusal.Idle) × (new ≡ c)) ⊎ ((k : Cause) × ((r ≡ refusal.Broken k) × (new ≡ breaks k c)))
+    → steps memory budget p c ≡ (Err r, new) → ((r ≡ refusal.Idle) × (new ≡ c)) ⊎ ((k : Cause) × ((r ≡ refusal.Broken k) × (new ≡ breaks k c)))
 
 -- A fault breaks the connection and changes nothing else.
 abbrev pub FaultBreaks : Type 0
 FaultBreaks = (memory : Bool) (budget : ℕ) (p : Program) (c new : Connection) (k : FaultKind) (m pc : ℕ)
-  → steps memory budget p c ≡ (Ok (stepped.Fault k m pc), new) → new ≡ breaks cause.Faulted c
+    → steps memory budget p c ≡ (Ok (stepped.Fault k m pc), new) → new ≡ breaks cause.Faulted c
 
 -- A broken connection names its cause from then on and stays as it is; only its output can be taken.
 abbrev pub BrokenStaysBroken : Type 0
 BrokenStaysBroken = (memory : Bool) (budget : ℕ) (p : Program) (e : Event) (c : Connection) (k : Cause)
-  → c.broken ≡ Some k → e ≢ event.Open → e ≢ event.TakeOutput → happens memory budget p e (Some c) ≡ (Refused (refusal.Broken k), Some c)
+    → c.broken ≡ Some k → e ≢ event.Open → e ≢ event.TakeOutput → happens memory budget p e (Some c) ≡ (Refused (refusal.Broken k), Some c)
 
 -- A connection is orderly: a call that runs is at an instruction of the module; between calls there is no brought
 -- brigade, no cursor and no loose bucket; no more instructions were executed than the budget gives.

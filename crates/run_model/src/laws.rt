@@ -1,7 +1,7 @@
 //! Laws of the definitions. Each function does nothing: what its contract says holds of the definitions alone.
 
 ghost use Rattle.run_model.specs.Examples.{PassRuns, FaultRuns, BreakRuns, RefusedRuns, NameRuns};
-ghost use Rattle.run_model.specs.Laws.{StepKeepsNames, StepKeepsBuckets, StepKeepsPools, StepAtEndKeeps, OpenedIsSound, EventKeepsSound, RunIsSound, RunGoesOn, StepsGoOn, StepChangesOnly};
+ghost use Rattle.run_model.specs.Laws.{StepKeepsNames, StepKeepsBuckets, StepKeepsPools, StepAtEndKeeps, OpenedIsSound, EventKeepsSound, RunIsSound, RunGoesOn, StepsGoOn, StepChangesOnly, RefusedChangesNothing, RefusedStepBreaks, FaultBreaks, BrokenStaysBroken, EventKeepsOrder, RunIsOrderly, BroughtEndsOnce};
 
 /// Small runs answer as they are worked out by hand.
 pub fn worked_runs()
@@ -37,4 +37,24 @@ pub fn runs_go_on()
 /// A step changes nothing but what its instruction names.
 pub fn steps_change_only_what_they_name()
     ensures { StepChangesOnly }
+{}
+
+/// A refused event changes nothing, but that a step breaks the connection by the cause that it names, as a fault
+/// does. A broken connection stays as it is and goes on naming its cause.
+pub fn refusals_change_nothing()
+    ensures event { RefusedChangesNothing }
+    ensures step { RefusedStepBreaks }
+    ensures fault { FaultBreaks }
+    ensures broken { BrokenStaysBroken }
+{}
+
+/// In each run calls stay inside their module, nothing is left between calls, and budgets are kept.
+pub fn runs_are_orderly()
+    ensures event { EventKeepsOrder }
+    ensures run { RunIsOrderly }
+{}
+
+/// No data stands behind an EOS of a brigade that is brought.
+pub fn brought_brigades_end_once()
+    ensures { BroughtEndsOnce }
 {}
