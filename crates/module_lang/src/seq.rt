@@ -54,6 +54,13 @@ impl<T> Seq<T> {
         self.items.as_slice()
     }
 
+    /// The items, to be used up.
+    pub fn into_vec(self) -> Vec<T>
+        ensures { result.items ≡ self }
+    {
+        self.items
+    }
+
     /// The item at an index.
     pub fn at(&self, index: usize) -> &T
         requires { index < length self.now }

@@ -4,7 +4,10 @@ use Rattle.std.proofs.lemmas.Bool.{false≢true}
 use Rattle.run_model.specs.declared.bucket.Kind.{Kind}
 use Rattle.run_model.specs.declared.bucket.Kind.TheVariants as kind
 use Rattle.run_model.specs.declared.bucket.Named.{Named}
-use Rattle.module_run.specs.Tests.{late_data}
+use Rattle.module_run.specs.Tests.{late_data, late_piece}
+use Rattle.run_model.specs.declared.event.Piece.{Piece}
+use Rattle.run_model.specs.Connection.{bucket_of, is_data_piece, is_eos_piece, data_behind_eos}
+use Rattle.std.specs.List.{list_any}
 use Rattle.run_model.specs.Buckets.{is_data, is_eos, is_data_kind, is_eos_kind, has_data, data_after_eos}
 
 eos_is_no_data : (k : Kind) → (is_eos_kind k && is_data_kind k) ≡ false
@@ -51,5 +54,23 @@ late_data_is late (b ∷ bs) =
     let behind = late_data_is true bs in
     let along = late_data_is late bs in
     ap (λ x. cond (is_eos b) x (cond (late && is_data b) true (late_data late bs))) behind
-      ∙ (ap (λ x. cond (is_eos b) (data_after_eos bs || (true && has_data bs)) (cond (late && is_data b) true x)) along
-      ∙ one_more (is_eos b) (is_data b) late (data_after_eos bs) (has_data bs) (eos_is_no_data b.bucket.kind))
+    ∙ (ap (λ x. cond (is_eos b) (data_after_eos bs || (true && has_data bs)) (cond (late && is_data b) true x)) along
+    ∙ one_more (is_eos b) (is_data b) late (data_after_eos bs) (has_data bs) (eos_is_no_data b.bucket.kind))
+
+late_piece_is : (late : Bool) (pieces : List Piece) → late_piece late pieces ≡ (data_behind_eos pieces || (late && list_any is_data_piece pieces))
+late_piece_is true [] = refl
+late_piece_is false [] = refl
+late_piece_is late (x ∷ xs) =
+    let behind = late_piece_is true xs in
+    let along = late_piece_is late xs in
+    ap (λ t. cond (is_eos_piece x) t (cond (late && is_data_piece x) true (late_piece late xs))) behind
+    ∙ (ap (λ t. cond (is_eos_piece x) (data_behind_eos xs || (true && list_any is_data_piece xs)) (cond (late && is_data_piece x) true t)) along
+    ∙ one_more (is_eos_piece x) (is_data_piece x) late (data_behind_eos xs) (list_any is_data_piece xs) (eos_is_no_data (bucket_of x).kind))
+
+or_false : (b : Bool) → (b || false) ≡ b
+or_false true = refl
+or_false false = refl
+
+-- where no EOS came before the pieces
+pub late_from_none : (pieces : List Piece) → late_piece false pieces ≡ data_behind_eos pieces
+late_from_none pieces = late_piece_is false pieces ∙ or_false (data_behind_eos pieces)

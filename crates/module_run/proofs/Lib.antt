@@ -5,3 +5,4 @@ pub mod Writes
 pub mod Mapping
 pub mod Places
 pub mod Requests
+pub mod Running

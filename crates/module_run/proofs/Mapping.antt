@@ -36,9 +36,9 @@ module _ (change : Var → Var) where
   one_more : (n : ℕ) (f : ℕ → Var) (b : ℕ) → upd (below n f) n (change (f n)) b ≡ below (n + 1) f b
   one_more n f b =
       ⊎_elim
-        (λ (same : b ≡ n). subst (λ (k : ℕ). upd (below n f) n (change (f n)) k ≡ below (n + 1) f k) (sym same) (upd_at (below n f) n (change (f n)) ∙ sym (below_at (n + 1) f n (omega arith))))
-        (λ (other : b ≡ n → ⊥). upd_off (below n f) n b (change (f n)) other ∙ elsewhere n f b (cases_lt b n) other)
-        (cases_eq b n)
+      (λ (same : b ≡ n). subst (λ (k : ℕ). upd (below n f) n (change (f n)) k ≡ below (n + 1) f k) (sym same) (upd_at (below n f) n (change (f n)) ∙ sym (below_at (n + 1) f n (omega arith))))
+      (λ (other : b ≡ n → ⊥). upd_off (below n f) n b (change (f n)) other ∙ elsewhere n f b (cases_lt b n) other)
+      (cases_eq b n)
 
   -- one more is done
   pub mapped_more : (n : ℕ) (r : Run) → set_brig n (change (r.inst.brigs n)) (mapped_below change n r) ≡ mapped_below change (n + 1) r

@@ -71,8 +71,8 @@ unless p (Some k) r x first second = first
 pub watched_inside : (memory : Bool) (p : Program) (i : Instr) (r : Run) → IsPlaced p r.pc i → r.pc < length p.code → (watched memory p i r).1.pc < length p.code
 watched_inside memory p i r placed inside =
     unless p (fault p r i) r (executed memory p i r) inside
-      (chosen p _ _ (is_spent r.shared.next (names_of i)) inside
-        (chosen p _ _ (memory || not (grows i)) (stays_inside p i r placed inside) inside))
+    (chosen p _ _ (is_spent r.shared.next (names_of i)) inside
+    (chosen p _ _ (memory || not (grows i)) (stays_inside p i r placed inside) inside))
 
 pub inside_by : (memory : Bool) (p : Program) (i : Instr) (r new : Run) (s : Result Stepped StepRefusal) → IsPlaced p r.pc i → r.pc < length p.code → watched memory p i r ≡ (s, new) → new.pc < length p.code
 inside_by memory p i r new s placed inside went = subst (λ (w : Result Stepped StepRefusal × Run). w.1.pc < length p.code) went (watched_inside memory p i r placed inside)

@@ -3,7 +3,7 @@ use Rattle.std.proofs.Common.{◌≡◌, ◌≢◌, ℕ, ◌+◌, ◌-◌, ◌<�
 use Rattle.std.proofs.Math.Path.{fun_ext}
 use Rattle.std.proofs.lemmas.Bool.{cases_eq, ne_eqb}
 use Rattle.run_model.specs.Indexed.{upd}
-use Rattle.run_model.specs.Pools.{Pools, created, destroyed, is_under, is_in}
+use Rattle.run_model.specs.Pools.{Pools, planted, created, destroyed, is_under, is_in}
 use Rattle.run_model.specs.State.{Payload, Run}
 use Rattle.run_model.specs.Connection.{cleared_var, request_ended}
 use Rattle.module_run.specs.Mapped.{mapped}
@@ -66,8 +66,8 @@ request_gone n =
     let paths : (ℕ → List ℕ) → P = λ f. record { path = f; payloads = λ _. []; next = 3 + n } in
     let payloads : (ℕ → List Payload) → P = λ f. record { path = λ m. cond (eqb m req) [] (path_of (Some req) m); payloads = f; next = 3 + n } in
     ap paths (fun_ext (λ m. sym (path_after req m (omega arith) (eqb m req) refl)))
-      ∙ (ap payloads (fun_ext (λ m. sym (same_either (eqb m req) [])))
-      ∙ ap by (sym (fun_ext (stands_alone n))))
+    ∙ (ap payloads (fun_ext (λ m. sym (same_either (eqb m req) [])))
+    ∙ ap by (sym (fun_ext (stands_alone n))))
 
 -- what is left to do where a request's brigades are cleared
 pub closed_is_ended : (p : ℕ) (r : Run) → StandsAlone p r.shared.pools → request_closed p (mapped (cleared_var (λ n. eqb n p)) r) ≡ request_ended p r
@@ -79,3 +79,10 @@ closed_is_ended p r alone =
       out = record r.out { ended = false };
     } in
     ap by (sym (fun_ext alone))
+
+-- the pools of a connection that is opened
+pub pools_at_first : pools_of false 0 ≡ created 1 (planted 1)
+unfolding created planted upd
+pools_at_first =
+    let by : (ℕ → List Payload) → Pools Payload = λ f. record { path = λ n. cond (eqb n 2) (2 ∷ (1 ∷ [])) (cond (eqb n 1) (1 ∷ []) []); payloads = f; next = 3 } in
+    ap by (fun_ext (λ k. sym (same_either (eqb k 2) [])))

@@ -29,4 +29,4 @@ pub put_same : (a b : ℕ) (m n : Var) (r : Run) → a ≢ b → set_brig a (r.i
 unfolding set_brig
 put_same a b m n r ne =
     put_back a b m n (r.inst.brigs a) (r.inst.brigs b) r ne
-      ∙ ap (with_brigs r) (ap (λ f. upd f a (r.inst.brigs a)) (upd_same r.inst.brigs b) ∙ upd_same r.inst.brigs a)
+    ∙ ap (with_brigs r) (ap (λ f. upd f a (r.inst.brigs a)) (upd_same r.inst.brigs b) ∙ upd_same r.inst.brigs a)

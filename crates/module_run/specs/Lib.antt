@@ -3,6 +3,7 @@ pub use Rattle.run_model.specs.State
 pub use Rattle.run_model.specs.Faults
 pub use Rattle.run_model.specs.Steps
 pub use Rattle.run_model.specs.Connection
+pub use Rattle.run_model.specs.Runs
 pub mod Seen
 pub mod Tests
 pub mod Mapped

@@ -6,9 +6,8 @@ ghost use Rattle.run_model.specs.Buckets.{is_data_kind, is_eos_kind, has_data, h
 ghost use Rattle.run_model.specs.Steps.{bytes_before_eos};
 ghost use Rattle.module_run.specs.Tests.{late_data};
 
-use std::alloc::{AllocError, Global};
-
 use run_model::{Content, Home, Kind, Named, Seq};
+use std::alloc::{AllocError, Global};
 
 /// Whether buckets of this kind are data.
 pub fn is_data_kind(kind: Kind) -> bool

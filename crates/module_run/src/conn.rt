@@ -1,16 +1,15 @@
 //! A connection, and what happens to it.
 
-ghost use Rattle.std.specs.Prelude.{◌≡◌, ◌<◌, ◌-◌, ◌^◌, length, Ok};
-ghost use Rattle.run_model.specs.Connection.{opened, begins, brings, ends, takes, steps, breaks, after_step};
+ghost use Rattle.std.specs.Prelude.{◌≡◌, ◌↔◌, IsTrue, ◌+◌, ◌<◌, ◌-◌, ◌^◌, length, Ok};
+ghost use Rattle.run_model.specs.Connection.{opened, calling, begins, brings, ends, takes, steps, breaks, after_step};
 ghost use Rattle.run_model.specs.Steps.{watched, current};
+ghost use Rattle.run_model.specs.Runs.{EndsRun};
 ghost use Rattle.module_run.specs.Seen.{seen, seen_run, step_lasted, lasted, refusal_of};
 
-use std::alloc::Global;
-
-use run_model::{Cause, Module, Refusal, StepRefusal, Stepped};
-
 use crate::machine::Machine;
-use crate::step;
+use crate::{effects, pieces, step};
+use run_model::{Cause, Module, Piece, Refusal, Seq, StepRefusal, Stepped};
+use std::alloc::Global;
 
 /// A connection on which one module runs.
 #[derive(Drop)]
@@ -25,11 +24,7 @@ pub struct Conn {
 /// fault, whether or not there is memory; `NamesSpent` where it would have to give out the name 2^64 - 1; `NoMemory`
 /// where a growth was refused. A fault and a refusal change nothing.
 #[tactic(auto, unfolding(crate::specs::Seen::seen))]
-pub fn step_watched(
-    alloc: Global,
-    code: &Module,
-    conn: &mut Conn,
-) -> Result<Stepped, StepRefusal>
+pub fn step_watched(alloc: Global, code: &Module, conn: &mut Conn) -> Result<Stepped, StepRefusal>
     requires { (seen conn.old).run.pc < length code.now.code }
     ensures step { let r = (seen conn.old).run in watched (step_lasted result) code.now (current code.now r.pc) r ≡ (result, (seen conn.new).run) }
     ensures rest { seen conn.new ≡ record (seen conn.old) { run = (seen conn.new).run } }
@@ -40,12 +35,10 @@ pub fn step_watched(
 
 #[tactic(auto, unfolding(crate::specs::Seen::seen))]
 impl Conn {
-    fn break_by(&mut self, cause: Cause) -> Refusal
-        ensures answer { result ≡ Refusal.Broken cause }
-        ensures broken { seen self.new ≡ breaks cause (seen self.old) }
+    fn break_by(&mut self, cause: Cause)
+        ensures { seen self.new ≡ breaks cause (seen self.old) }
     {
         self.broken = Some(cause);
-        Refusal::Broken(cause)
     }
 
     fn note(&mut self, stepped: Stepped)
@@ -61,4 +54,170 @@ impl Conn {
             Stepped::Fault { .. } => self.broken = Some(Cause::Faulted),
         }
     }
+
+    /// One step: the next instruction is executed, or the connection breaks. `Broken` tells why it broke, now or
+    /// before: `OutOfSteps` where `budget` instructions were executed since the last open, begin or bring, `NamesSpent`
+    /// and `NoMemory` as in `step_watched`. `Idle`: no call is running. After `Fault` it is broken by `Faulted`.
+    #[tactic(auto, unfolding(crate::specs::Seen::seen, run_model::specs::Connection::steps))]
+    pub fn step(&mut self, alloc: Global, code: &Module, budget: u64) -> Result<Stepped, Refusal>
+        requires { (seen self.old).run.pc < length code.now.code }
+        ensures step { steps (lasted result) budget code.now (seen self.old) ≡ (result, seen self.new) }
+        ensures inside { (seen self.new).run.pc < length code.now.code }
+        ensures counts { result ≡ Ok Stepped.Went → (seen self.new).count ≡ (seen self.old).count + 1 }
+        ensures room { result ≡ Ok Stepped.Went → (seen self.old).count < budget }
+    {
+        if let Some(cause) = self.broken {
+            return Err(Refusal::Broken(cause));
+        }
+        if !self.busy {
+            return Err(Refusal::Idle);
+        }
+        if self.count >= budget {
+            self.break_by(Cause::OutOfSteps);
+            return Err(Refusal::Broken(Cause::OutOfSteps));
+        }
+        match step::step(alloc, code, &mut self.machine) {
+            Ok(stepped) => {
+                self.note(stepped);
+                Ok(stepped)
+            }
+            Err(StepRefusal::NamesSpent) => {
+                self.break_by(Cause::NamesSpent);
+                Err(Refusal::Broken(Cause::NamesSpent))
+            }
+            Err(StepRefusal::NoMemory) => {
+                self.break_by(Cause::NoMemory);
+                Err(Refusal::Broken(Cause::NoMemory))
+            }
+        }
+    }
+
+    fn call(&mut self, name: u64, pc: usize)
+        ensures { seen self.new ≡ calling name pc (seen self.old).run }
+    {
+        self.machine.set_call(name);
+        self.machine.go_to(pc);
+        self.busy = true;
+        self.count = 0;
+        self.broken = None;
+    }
+
+    /// A connection is opened: its `open` is to be stepped. It takes no memory.
+    #[tactic(auto, unfolding(crate::specs::Seen::seen, run_model::specs::Connection::opened))]
+    pub fn open(alloc: Global) -> Conn
+        ensures { seen result ≡ opened }
+    {
+        let mut conn = Conn {
+            machine: Machine::new(alloc),
+            busy: false,
+            count: 0,
+            broken: None,
+        };
+        conn.call(1, 0);
+        conn
+    }
+
+    /// A request begins: its pool is made, and `init` is to be stepped. It takes no memory. Refused, nothing is changed:
+    /// `Broken`; `Busy`: a call is running; `InRequest`; `NamesSpent`: a name to be given out would be 2^64 - 1.
+    #[tactic(auto, unfolding(crate::specs::Seen::seen, run_model::specs::Connection::begins))]
+    pub fn begin(&mut self, code: &Module) -> Result<(), Refusal>
+        ensures begins { begins (lasted result) code.now (seen self.old) ≡ (refusal_of result, seen self.new) }
+        ensures inside { (seen self.old).run.pc < length code.now.code → (seen self.new).run.pc < length code.now.code }
+    {
+        if let Some(cause) = self.broken {
+            return Err(Refusal::Broken(cause));
+        }
+        if self.busy {
+            return Err(Refusal::Busy);
+        }
+        if self.machine.in_request() {
+            return Err(Refusal::InRequest);
+        }
+        if self.machine.pools_spent() || self.machine.is_spent(1) {
+            return Err(Refusal::NamesSpent);
+        }
+        self.machine.begin_request();
+        let name = self.machine.take_name();
+        self.call(name, code.init());
+        Ok(())
+    }
+
+    /// The request ends: its pool is destroyed, and what lay on it. It takes no memory. Refused, nothing is changed:
+    /// `Broken`; `Busy`: a call is running; `NotInRequest`.
+    #[tactic(auto, unfolding(crate::specs::Seen::seen, run_model::specs::Connection::ends))]
+    pub fn end_request(&mut self) -> Result<(), Refusal>
+        ensures { ends (seen self.old) ≡ (refusal_of result, seen self.new) }
+    {
+        if let Some(cause) = self.broken {
+            return Err(Refusal::Broken(cause));
+        }
+        if self.busy {
+            return Err(Refusal::Busy);
+        }
+        if !self.machine.in_request() {
+            return Err(Refusal::NotInRequest);
+        }
+        let pool = self.machine.request_pool();
+        effects::end_request(&mut self.machine, pool);
+        Ok(())
+    }
+
+    /// The output since the last take. It takes no memory, and serves in any state.
+    #[tactic(auto, unfolding(crate::specs::Seen::seen, run_model::specs::Connection::takes))]
+    pub fn take_output(&mut self, alloc: Global) -> Seq<u8>
+        ensures { takes (seen self.old) ≡ (result, seen self.new) }
+    {
+        self.machine.take_output(alloc)
+    }
+
+    /// A brigade of these pieces comes: `main` is to be stepped with it as its `in`. Refused, nothing is changed and the
+    /// pieces are dropped: `Broken`; `Busy`: a call is running; `NotInRequest`; `DataAfterEos`: a data piece stands
+    /// behind an EOS; `NamesSpent`: a name to be given out would be 2^64 - 1; `NoMemory`.
+    #[tactic(auto, unfolding(crate::specs::Seen::seen, run_model::specs::Connection::brings))]
+    pub fn bring(&mut self, alloc: Global, code: &Module, pieces: Seq<Piece>) -> Result<(), Refusal>
+        ensures brings { brings (lasted result) code.now pieces (seen self.old) ≡ (refusal_of result, seen self.new) }
+        ensures inside { (seen self.old).run.pc < length code.now.code → (seen self.new).run.pc < length code.now.code }
+    {
+        if let Some(cause) = self.broken {
+            return Err(Refusal::Broken(cause));
+        }
+        if self.busy {
+            return Err(Refusal::Busy);
+        }
+        if !self.machine.in_request() {
+            return Err(Refusal::NotInRequest);
+        }
+        if pieces::has_data_behind_eos(pieces.as_slice()) {
+            return Err(Refusal::DataAfterEos);
+        }
+        if self.machine.is_spent_by_brigade(pieces.len() as u64) {
+            return Err(Refusal::NamesSpent);
+        }
+        let name = self.machine.next();
+        if effects::bring(alloc, &mut self.machine, pieces).is_err() {
+            return Err(Refusal::NoMemory);
+        }
+        self.call(name, code.main());
+        Ok(())
+    }
+
+    /// Steps until one answers something else than `Went`, and that answer. Each refusal is as in `step`.
+    pub fn run(&mut self, alloc: Global, code: &Module, budget: u64) -> Result<Stepped, Refusal>
+        requires { (seen self.old).run.pc < length code.now.code }
+        ensures run { EndsRun (lasted result) budget code.now (seen self.old) result (seen self.new) }
+        ensures inside { (seen self.new).run.pc < length code.now.code }
+    {
+        'steps: loop {
+            let answer = self.step(alloc, code, budget);
+            if !went(&answer) {
+                return answer;
+            }
+        }
+    }
+}
+
+fn went(answer: &Result<Stepped, Refusal>) -> bool
+    ensures { IsTrue result ↔ (answer.now ≡ Ok Stepped.Went) }
+{
+    matches!(answer, Ok(Stepped::Went))
 }

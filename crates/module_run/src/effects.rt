@@ -1,20 +1,18 @@
 //! What instructions do to a machine.
 
-ghost use Rattle.std.specs.Prelude.{◌≡◌, ◌==◌, Some, ◌≢◌, ◌<◌, false, length, OnOk, OnErr};
+ghost use Rattle.std.specs.Prelude.{◌≡◌, ◌+◌, ◌==◌, Some, ◌≢◌, ◌<◌, false, length, OnOk, OnErr};
 ghost use Rattle.run_model.specs.Steps.{do_create, do_clean, do_concat, do_pass, do_return, delivered, is_spent, returned_var};
 ghost use Rattle.run_model.specs.State.{items_of};
 ghost use Rattle.run_model.specs.Connection.{cleared_var, request_ended};
 ghost use Rattle.module_lang.specs.Program.{pool_of_brigade};
 ghost use Rattle.module_run.specs.Seen.{seen_run};
 ghost use Rattle.module_run.specs.Mapped.{mapped};
+ghost use Rattle.module_run.specs.Closed.{with_in};
 
-use std::alloc::{AllocError, Global};
-
-use run_model::{Brigade, Mark, Module, Seq, Var};
-
-use crate::buckets;
 use crate::machine::Machine;
-use crate::vars;
+use crate::{buckets, pieces, vars};
+use run_model::{Brigade, Mark, Module, Piece, Seq, Var};
+use std::alloc::{AllocError, Global};
 
 /// Makes an empty brigade on its declared pool.
 #[tactic(auto, unfolding(run_model::specs::State::pool_named))]
@@ -134,4 +132,26 @@ pub fn end_request(machine: &mut Machine, pool: u64)
 {
     clear_brigades(machine, pool);
     machine.close_request(pool);
+}
+
+/// Makes a brought brigade the `in` of a call; names go to the call, the brigade and its buckets. Without memory nothing
+/// is changed.
+#[tactic(auto, unfolding(run_model::specs::Steps::is_spent))]
+pub fn bring(alloc: Global, machine: &mut Machine, pieces: Seq<Piece>) -> Result<(), AllocError>
+    requires { is_spent (seen_run machine.old).shared.next (2 + length pieces) ≡ false }
+    ensures ok { OnOk result (seen_run machine.new ≡ with_in pieces (seen_run machine.old)) }
+    ensures err { OnErr result (seen_run machine.new ≡ seen_run machine.old) }
+{
+    let name = machine.next();
+    let names = pieces.len() as u64 + 2;
+    let items = pieces::named(alloc, name + 2, pieces)?;
+    machine.take_names(names);
+    let brigade = Brigade {
+        name: name + 1,
+        on: None,
+        mark: Mark::Usable,
+        items,
+    };
+    machine.put(8, Var::Live(brigade));
+    Ok(())
 }

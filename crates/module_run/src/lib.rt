@@ -5,6 +5,7 @@ mod buckets;
 mod conn;
 mod effects;
 mod machine;
+mod pieces;
 mod step;
 mod vars;
 mod wants;

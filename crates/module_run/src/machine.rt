@@ -6,10 +6,9 @@ ghost use Rattle.run_model.specs.Faults.{has_pool};
 ghost use Rattle.run_model.specs.Steps.{is_spent};
 ghost use Rattle.run_model.specs.Pools.{created};
 
-use std::alloc::AllocError;
-use std::mem;
-
 use run_model::{PoolRef, Seq, Var};
+use std::alloc::{AllocError, Global};
+use std::mem;
 
 /// The instance, the call, the pools and the output of a connection. Brigade variables are numbered 0 to 7, and 8
 /// is `in`. Pool 1 is the root, pool 2 the connection's, and the nth request has pool n + 2.
@@ -30,7 +29,7 @@ pub struct Machine {
 #[tactic(auto, unfolding(crate::specs::Seen::seen_run, run_model::specs::State::set_brig, run_model::specs::State::pool_named, run_model::specs::Faults::has_pool, run_model::specs::Pools::is_live, run_model::specs::Steps::is_spent))]
 impl Machine {
     ghost use Rattle.module_run.specs.Seen.{seen_run};
-    ghost use Rattle.module_run.specs.Closed.{request_closed, StandsAlone};
+    ghost use Rattle.module_run.specs.Closed.{request_closed, StandsAlone, before_open};
 
     /// The brigade variable of a number.
     pub fn brig(&self, b: u8) -> &Var
@@ -123,6 +122,14 @@ impl Machine {
         names > u64::MAX - self.next
     }
 
+    /// Whether there are not so many names left as a brought brigade of so many buckets takes, with its call.
+    pub fn is_spent_by_brigade(&self, buckets: u64) -> bool
+        ensures { result ≡ is_spent (seen_run self.now).shared.next (2 + buckets) }
+    {
+        let left = u64::MAX - self.next;
+        left < 2 || buckets > left - 2
+    }
+
     /// Gives out the next name.
     pub fn take_name(&mut self) -> u64
         requires { is_spent (seen_run self.old).shared.next 1 ≡ false }
@@ -191,6 +198,57 @@ impl Machine {
         self.in_request = false;
         self.sent = false;
         self.ended = false;
+    }
+
+    /// The output that was not taken yet.
+    pub fn take_output(&mut self, alloc: Global) -> Seq<u8>
+        ensures bytes { result ≡ (seen_run self.old).out.bytes }
+        ensures rest { let r = seen_run self.old in seen_run self.new ≡ record r { out = record r.out { bytes = [] } } }
+    {
+        mem::replace(&mut self.output, Seq::new(alloc))
+    }
+
+    /// The next name, which is not given out.
+    pub fn next(&self) -> u64
+        ensures { result ≡ (seen_run self.now).shared.next }
+    {
+        self.next
+    }
+
+    /// Gives out names.
+    pub fn take_names(&mut self, names: u64)
+        requires { is_spent (seen_run self.old).shared.next names ≡ false }
+        ensures { let r = seen_run self.old in seen_run self.new ≡ record r { shared = record r.shared { next = r.shared.next + names } } }
+    {
+        self.next += names;
+    }
+
+    /// A machine before its first call.
+    #[tactic(auto, using(crate::proofs::Requests::pools_at_first), unfolding(crate::specs::Seen::seen_run))]
+    pub fn new(alloc: Global) -> Machine
+        ensures { seen_run result ≡ before_open }
+    {
+        Machine {
+            brigs: [
+                Var::Null,
+                Var::Null,
+                Var::Null,
+                Var::Null,
+                Var::Null,
+                Var::Null,
+                Var::Null,
+                Var::Null,
+                Var::Null,
+            ],
+            sent: false,
+            call: 0,
+            in_request: false,
+            requests: 0,
+            next: 2,
+            pc: 0,
+            output: Seq::new(alloc),
+            ended: false,
+        }
     }
 
     /// Whether an EOS of this request reached the output.

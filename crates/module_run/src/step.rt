@@ -5,14 +5,10 @@ ghost use Rattle.module_lang.specs.Program.{fits, target};
 ghost use Rattle.run_model.specs.Steps.{step_at_end, settled, status_of, is_spent, names_of, grows, watched, current, jumps_if};
 ghost use Rattle.module_run.specs.Seen.{seen_run, step_lasted};
 
-use std::alloc::{AllocError, Global};
-
-use run_model::{Exit, Instr, Module, Status, StepRefusal, Stepped};
-
-use crate::effects;
 use crate::machine::Machine;
-use crate::vars;
-use crate::wants;
+use crate::{effects, vars, wants};
+use run_model::{Exit, Instr, Module, Status, StepRefusal, Stepped};
+use std::alloc::{AllocError, Global};
 
 fn jumps_if(test: bool) -> Exit
     ensures { result ≡ jumps_if test }
@@ -107,11 +103,7 @@ fn names(instr: Instr) -> u64
 
 /// One watched step of the instruction that is next. A fault is told whether or not there is memory.
 #[tactic(auto, using(crate::proofs::Places::current_is, crate::proofs::Places::pc_kept_by))]
-pub fn step(
-    alloc: Global,
-    code: &Module,
-    machine: &mut Machine,
-) -> Result<Stepped, StepRefusal>
+pub fn step(alloc: Global, code: &Module, machine: &mut Machine) -> Result<Stepped, StepRefusal>
     requires { (seen_run machine.old).pc < length code.now.code }
     ensures step { let r = seen_run machine.old in watched (step_lasted result) code.now (current code.now r.pc) r ≡ (result, seen_run machine.new) }
     ensures inside { (seen_run machine.new).pc < length code.now.code }

@@ -6,11 +6,9 @@ ghost use Rattle.run_model.specs.Buckets.{cleared_bucket};
 ghost use Rattle.run_model.specs.Connection.{is_reached, cleared_var};
 ghost use Rattle.run_model.specs.Steps.{cleaned, with_items, handed_over, returned_var};
 
-use std::alloc::AllocError;
-
-use run_model::{Brigade, Mark, Named, Seq, Var};
-
 use crate::buckets;
+use run_model::{Brigade, Mark, Named, Seq, Var};
+use std::alloc::AllocError;
 
 /// The buckets in a brigade variable.
 pub fn items(var: &Var) -> &[Named]

@@ -7,10 +7,9 @@ ghost use Rattle.run_model.specs.State.{is_own};
 ghost use Rattle.module_lang.specs.Program.{fits};
 ghost use Rattle.module_run.specs.Seen.{seen_run};
 
-use run_model::{FaultKind, Home, Instr, Mark, Module, Named, PoolRef, Var};
-
 use crate::buckets;
 use crate::machine::Machine;
+use run_model::{FaultKind, Home, Instr, Mark, Module, Named, PoolRef, Var};
 
 fn or_else(first: Option<FaultKind>, second: Option<FaultKind>) -> Option<FaultKind>
     ensures { result ≡ or_else first second }
@@ -135,7 +134,10 @@ pub fn fault(code: &Module, machine: &Machine, instr: Instr) -> Option<FaultKind
     ensures { result ≡ fault code.now (seen_run machine.now) instr }
 {
     match instr {
-        Instr::BCreate(o) => or_else(want_pool(machine, code.brigade_pool(o)), want_new(machine, o)),
+        Instr::BCreate(o) => or_else(
+            want_pool(machine, code.brigade_pool(o)),
+            want_new(machine, o),
+        ),
         Instr::BClean(b) => want_brigade(machine, b),
         Instr::BConcat(a, b) => or_else(want_usable(machine, a), want_usable(machine, b)),
         Instr::Pass(b, _) => or_else(

@@ -1,5 +1,5 @@
 -- Runs: what a list of events answers and leaves, from the empty world on.
-use Rattle.std.specs.Prelude.{◌≡◌, ℕ, zero, suc, Bool, true, List, [], ◌∷◌, Option, Some, None, Result, Ok, Err}
+use Rattle.std.specs.Prelude.{◌≡◌, ◌≢◌, ℕ, zero, suc, Bool, true, List, [], ◌∷◌, Option, Some, None, Result, Ok, Err}
 use Rattle.run_model.specs.declared.event.Event.{Event}
 use Rattle.run_model.specs.declared.event.Event.TheVariants as event
 use Rattle.run_model.specs.declared.event.Refusal.{Refusal}
@@ -60,3 +60,11 @@ IsRun budget p old (e ∷ es) [] new = ⊥
 unfoldable pub GoesOn : ℕ → ℕ → Program → Connection → Connection → Type 0
 GoesOn zero budget p old new = new ≡ old
 GoesOn (suc n) budget p old new = (mid : Connection) × (steps true budget p old ≡ (Ok stepped.Went, mid)) × GoesOn n budget p mid new
+
+-- Steps are made until one answers something else than that it went; only that one may find no memory.
+pub record EndsRun (memory : Bool) (budget : ℕ) (p : Program) (old : Connection) (answer : Result Stepped Refusal) (new : Connection) : Type 0 where
+  pub count : ℕ
+  pub last : Connection
+  pub goes : GoesOn count budget p old last
+  pub ends : steps memory budget p last ≡ (answer, new)
+  pub stops : answer ≢ Ok stepped.Went

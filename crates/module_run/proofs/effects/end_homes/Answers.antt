@@ -33,4 +33,4 @@ returns c =
     let past : (k : ℕ) → 9 ≤ k → (seen_run c.args.machine.now).inst.brigs k ≡ var.Null = λ k beyond. get_or_past c.args.machine.now.brigs k var.Null (omega arith) in
     let last : c.loop-b.b ≡ 9 = omega arith in
     subst (λ (n : ℕ). seen_run c.loop-b.machine ≡ mapped_below change n (seen_run c.args.machine.now)) last c.loop-b.invariant
-      ∙ mapped_all change 9 (seen_run c.args.machine.now) refl past
+    ∙ mapped_all change 9 (seen_run c.args.machine.now) refl past

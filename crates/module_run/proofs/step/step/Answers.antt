@@ -24,8 +24,8 @@ returns-in-Some-clause-step c =
     let r = seen_run c.args.machine.now in
     let found : fault c.args.code.now r c.at-instr.result ≡ Some c.in-Some.kind = sym c.fault.ensures ∙ c.in-Some.is in
     is_of (goal.at.returns-in-Some-clause-step c).After-at-instr true
-      ∙ (told true c.args.code.now c.at-instr.result r c.in-Some.kind found
-      ∙ ap (λ (n : ℕ). (Ok (stepped.Fault c.in-Some.kind 0 n), r)) (sym c.pc-pc.ensures))
+    ∙ (told true c.args.code.now c.at-instr.result r c.in-Some.kind found
+    ∙ ap (λ (n : ℕ). (Ok (stepped.Fault c.in-Some.kind 0 n), r)) (sym c.pc-pc.ensures))
 
 pub returns-then-is_spent-clause-step : goal.returns-then-is_spent-clause-step
 returns-then-is_spent-clause-step c =
@@ -42,7 +42,7 @@ returns-in_default-execute-clause-step c =
     let grown = must_grow (grows c.at-instr.result) c.execute.result c.in_default-execute.field-0 c.execute.ensures.sure c.in_default-execute.is in
     let same : seen_run c.execute.new.machine ≡ r = c.in_default-execute.ensures.err in
     is_of (goal.at.returns-in_default-execute-clause-step c).After-at-instr false
-      ∙ (no_memory c.args.code.now c.at-instr.result r none spent grown ∙ ap (λ (x : Run). (Err refusal.NoMemory, x)) (sym same))
+    ∙ (no_memory c.args.code.now c.at-instr.result r none spent grown ∙ ap (λ (x : Run). (Err refusal.NoMemory, x)) (sym same))
 
 pub settle-requires : goal.settle-requires
 settle-requires c =
@@ -56,7 +56,7 @@ returns-clause-step c =
     let none : fault c.args.code.now r c.at-instr.result ≡ None = sym c.fault.ensures ∙ c.in_default.is in
     let spent : is_spent r.shared.next (names_of c.at-instr.result) ≡ false = search rules in
     is_of (goal.at.returns-clause-step c).After-at-instr true
-      ∙ went_on c.args.code.now c.at-instr.result r (seen_run c.execute.new.machine) (seen_run c.settle.new.machine) c.in-Ok.exit c.settle.result none spent c.in-Ok.ensures.step c.settle.ensures
+    ∙ went_on c.args.code.now c.at-instr.result r (seen_run c.execute.new.machine) (seen_run c.settle.new.machine) c.in-Ok.exit c.settle.result none spent c.in-Ok.ensures.step c.settle.ensures
 
 pub returns-clause-inside : goal.returns-clause-inside
 returns-clause-inside c =
@@ -64,4 +64,4 @@ returns-clause-inside c =
     let none : fault c.args.code.now r c.at-instr.result ≡ None = sym c.fault.ensures ∙ c.in_default.is in
     let spent : is_spent r.shared.next (names_of c.at-instr.result) ≡ false = search rules in
     inside_by true c.args.code.now c.at-instr.result r (seen_run c.settle.new.machine) (Ok c.settle.result) (is_placed (goal.at.returns-clause-inside c).After-at-instr) c.requires
-      (went_on c.args.code.now c.at-instr.result r (seen_run c.execute.new.machine) (seen_run c.settle.new.machine) c.in-Ok.exit c.settle.result none spent c.in-Ok.ensures.step c.settle.ensures)
+    (went_on c.args.code.now c.at-instr.result r (seen_run c.execute.new.machine) (seen_run c.settle.new.machine) c.in-Ok.exit c.settle.result none spent c.in-Ok.ensures.step c.settle.ensures)
