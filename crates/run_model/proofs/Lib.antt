@@ -15,3 +15,4 @@ pub mod SoundRuns
 pub mod Unchanged
 pub mod Refusals
 pub mod Orderly
+pub mod Cuts

@@ -3,6 +3,7 @@ use Rattle.std.specs.Prelude.{◌≡◌, ◌≢◌, ℕ, ◌+◌, ◌<◌, ◌�
 use Rattle.module_lang.specs.declared.instr.Instr.{Instr}
 use Rattle.module_lang.specs.declared.instr.Instr.TheVariants as instr
 use Rattle.module_lang.specs.Program.{Program, IsModule, fits}
+use Rattle.run_model.specs.declared.bucket.Named.{Named}
 use Rattle.run_model.specs.declared.bucket.Var.TheVariants as var
 use Rattle.run_model.specs.declared.fault.FaultKind.{FaultKind}
 use Rattle.run_model.specs.declared.event.Piece.{Piece}
@@ -13,10 +14,10 @@ use Rattle.run_model.specs.declared.event.Refusal.TheVariants as refusal
 use Rattle.run_model.specs.declared.event.Event.{Event}
 use Rattle.run_model.specs.declared.event.Event.TheVariants as event
 use Rattle.run_model.specs.declared.event.Stepped.TheVariants as stepped
-use Rattle.run_model.specs.Buckets.{data_after_eos}
-use Rattle.run_model.specs.State.{Run, fresh_call}
-use Rattle.run_model.specs.Faults.{fault}
-use Rattle.run_model.specs.Steps.{Choice, step, step_at_end, is_spent, names_of}
+use Rattle.run_model.specs.Buckets.{has_eos, data_after_eos}
+use Rattle.run_model.specs.State.{Run, Out, fresh_call, items_of}
+use Rattle.run_model.specs.Faults.{WUsable, fault_want, fault, send_fault, or_else}
+use Rattle.run_model.specs.Steps.{Choice, step, step_at_end, delivered, is_spent, names_of}
 use Rattle.run_model.specs.Connection.{Connection, opened, named_from, data_behind_eos, breaks, steps}
 use Rattle.run_model.specs.Runs.{Answer, Refused, World, happens, IsRun, GoesOn}
 use Rattle.run_model.specs.Sound.{SoundNames, SoundBuckets, SoundPools, Sound}
@@ -154,3 +155,31 @@ RunIsOrderly = (budget : ℕ) (p : Program) (es : List Event) (answers : List An
 -- No data stands behind an EOS of a brigade that is brought.
 abbrev pub BroughtEndsOnce : Type 0
 BroughtEndsOnce = (n : ℕ) (pieces : List Piece) → data_after_eos (named_from n pieces) ≡ data_behind_eos pieces
+
+-- However a body is cut: brigades that are passed one after the other reach the output as they would in one, and have
+-- the fault of data after an EOS where they would have it in one.
+abbrev pub OutputOfCuts : Type 0
+OutputOfCuts = (out : Out) (xs ys : List Named) → delivered (delivered out xs) ys ≡ delivered out (xs ++ ys)
+
+abbrev pub FaultOfCuts : Type 0
+FaultOfCuts = (sent : Bool) (xs ys : List Named) → or_else (send_fault sent xs) (send_fault (sent || has_eos xs) ys) ≡ send_fault sent (xs ++ ys)
+
+-- whether an instruction wants this brigade usable
+abbrev pub uses : Instr → ℕ → Bool
+uses (instr.BCreate o) b = false
+uses (instr.BClean c) b = false
+uses (instr.BConcat a c) b = a == b || c == b
+uses (instr.Pass c l) b = c == b
+uses (instr.JEmpty c l) b = c == b
+uses (instr.JSent l) b = false
+uses (instr.Jump l) b = false
+uses (instr.Ret s) b = false
+
+-- A brigade that was passed is not used again before it is cleaned.
+abbrev pub PassedIsNotUsed : Type 0
+PassedIsNotUsed = (p : Program) (choice : Choice) (b l : ℕ) (r : Run) (i : Instr) → uses i b ≡ true → fault p (step p choice (instr.Pass b l) r).run i ≡ None → ⊥
+
+-- A brigade that was cleaned is usable and empty.
+abbrev pub CleanedIsUsable : Type 0
+CleanedIsUsable = (p : Program) (choice : Choice) (b : ℕ) (r : Run) → fault p r (instr.BClean b) ≡ None
+  → (fault_want (step p choice (instr.BClean b) r).run (WUsable b) ≡ None) × (items_of ((step p choice (instr.BClean b) r).run.inst.brigs b) ≡ [])
