@@ -16,3 +16,4 @@ pub mod Unchanged
 pub mod Refusals
 pub mod Orderly
 pub mod Cuts
+pub mod Marks

@@ -1,5 +1,5 @@
 -- The laws of the definitions, as statements.
-use Rattle.std.specs.Prelude.{◌≡◌, ◌≢◌, ℕ, ◌+◌, ◌<◌, ◌≤◌, Bool, true, false, ◌==◌, ◌||◌, ◌⊎◌, List, [], ◌∷◌, ◌++◌, length, Some, None, Ok, Err, IfSome}
+use Rattle.std.specs.Prelude.{◌≡◌, ◌≢◌, ℕ, ◌+◌, ◌<◌, ◌≤◌, Bool, true, false, ◌==◌, ◌||◌, ◌⊎◌, List, [], ◌∷◌, ◌++◌, length, replicate, Some, None, Result, Ok, Err, IfSome}
 use Rattle.module_lang.specs.declared.instr.Instr.{Instr}
 use Rattle.module_lang.specs.declared.instr.Instr.TheVariants as instr
 use Rattle.module_lang.specs.Program.{Program, IsModule, fits}
@@ -13,13 +13,14 @@ use Rattle.run_model.specs.declared.event.Refusal.{Refusal}
 use Rattle.run_model.specs.declared.event.Refusal.TheVariants as refusal
 use Rattle.run_model.specs.declared.event.Event.{Event}
 use Rattle.run_model.specs.declared.event.Event.TheVariants as event
+use Rattle.run_model.specs.declared.event.Stepped.{Stepped}
 use Rattle.run_model.specs.declared.event.Stepped.TheVariants as stepped
 use Rattle.run_model.specs.Buckets.{has_eos, data_after_eos}
 use Rattle.run_model.specs.State.{Run, Out, fresh_call, items_of}
 use Rattle.run_model.specs.Faults.{WUsable, fault_want, fault, send_fault, or_else}
 use Rattle.run_model.specs.Steps.{Choice, step, step_at_end, delivered, is_spent, names_of}
 use Rattle.run_model.specs.Connection.{Connection, opened, named_from, data_behind_eos, breaks, steps}
-use Rattle.run_model.specs.Runs.{Answer, Refused, World, happens, IsRun, GoesOn}
+use Rattle.run_model.specs.Runs.{Answer, Refused, Step, World, happens, step_of, IsRun, GoesOn, EndsRun}
 use Rattle.run_model.specs.Sound.{SoundNames, SoundBuckets, SoundPools, Sound}
 
 -- An instruction of a module may be executed: it has no fault, and the names that it gives out are there.
@@ -163,6 +164,15 @@ OutputOfCuts = (out : Out) (xs ys : List Named) → delivered (delivered out xs)
 
 abbrev pub FaultOfCuts : Type 0
 FaultOfCuts = (sent : Bool) (xs ys : List Named) → or_else (send_fault sent xs) (send_fault (sent || has_eos xs) ys) ≡ send_fault sent (xs ++ ys)
+
+-- Steps that went are a run, and so are they with the step at which they end.
+abbrev pub StepsAreARun : Type 0
+StepsAreARun = (n budget : ℕ) (p : Program) (old new : Connection)
+  → GoesOn n budget p old new → IsRun budget p (Some old) (replicate n event.Step) (replicate n (Step stepped.Went)) (Some new)
+
+abbrev pub EndedStepsAreARun : Type 0
+EndedStepsAreARun = (memory : Bool) (budget : ℕ) (p : Program) (old new : Connection) (answer : Result Stepped Refusal) → (ended : EndsRun memory budget p old answer new)
+  → IsRun budget p (Some old) (replicate ended.count event.Step ++ event.Step ∷ []) (replicate ended.count (Step stepped.Went) ++ (step_of (answer, new)).0 ∷ []) (Some new)
 
 -- whether an instruction wants this brigade usable
 abbrev pub uses : Instr → ℕ → Bool
