@@ -1,10 +1,9 @@
 -- The buckets of brought pieces stand as the pieces do.
-use Rattle.std.proofs.Common.{◌≡◌, ℕ, ◌+◌, Bool, ◌&&◌, ◌||◌, List, [], ◌∷◌, refl, sym, ◌∙◌, ap}
+use Rattle.std.proofs.Common.{◌≡◌, ℕ, ◌+◌, Bool, ◌&&◌, ◌||◌, List, [], ◌∷◌, refl, ◌∙◌, ap}
 use Rattle.std.specs.List.{list_any}
 use Rattle.run_model.specs.declared.event.Piece.{Piece}
-use Rattle.run_model.specs.declared.event.Piece.TheVariants as piece
-use Rattle.run_model.specs.Buckets.{is_data, has_data, data_after_eos}
-use Rattle.run_model.specs.Connection.{named_from, is_data_piece, is_eos_piece, data_behind_eos}
+use Rattle.run_model.specs.Buckets.{has_data, data_after_eos}
+use Rattle.run_model.specs.Connection.{named_from, is_data_piece, is_eos_piece}
 use Rattle.run_model.specs.Laws.{BroughtEndsOnce}
 
 same_data : (n : ℕ) (xs : List Piece) → has_data (named_from n xs) ≡ list_any is_data_piece xs

@@ -1,14 +1,13 @@
 -- Passed brigades are not used before they are cleaned.
-use Rattle.std.proofs.Common.{◌≡◌, ℕ, Bool, true, false, ◌||◌, ◌==◌, ◌⊎◌, inl, inr, List, [], Option, Some, None, refl, sym, ◌∙◌, ap, eqb-true}
+use Rattle.std.proofs.Common.{◌≡◌, ℕ, Bool, true, false, ◌||◌, ◌==◌, ◌⊎◌, inl, inr, [], Option, Some, None, refl, sym, ◌∙◌, ap, eqb-true}
 use Rattle.module_lang.specs.declared.instr.Instr.TheVariants as instr
-use Rattle.module_lang.specs.Program.{Program}
 use Rattle.run_model.specs.declared.fault.FaultKind.{FaultKind}
 use Rattle.run_model.specs.declared.bucket.Var.{Var}
 use Rattle.run_model.specs.declared.bucket.Var.TheVariants as var
 use Rattle.run_model.specs.Indexed.{upd}
 use Rattle.run_model.specs.State.{Run, items_of, set_brig}
-use Rattle.run_model.specs.Faults.{brigade_fault, usable_fault, or_else, fault}
-use Rattle.run_model.specs.Steps.{Choice, step, do_pass, cleaned, handed_over}
+use Rattle.run_model.specs.Faults.{brigade_fault, usable_fault, or_else}
+use Rattle.run_model.specs.Steps.{do_pass, cleaned, handed_over}
 use Rattle.run_model.specs.Laws.{PassedIsNotUsed, CleanedIsUsable}
 use Rattle.run_model.proofs.Updates.{upd_at}
 
@@ -41,9 +40,9 @@ pub passed_is_not_used : PassedIsNotUsed
 passed_is_not_used p choice b l r (instr.BCreate o) used none = absurd (cc)
 passed_is_not_used p choice b l r (instr.BClean c) used none = absurd (cc)
 passed_is_not_used p choice b l r (instr.BConcat a c) used none = elim (one_of (a == b) (c == b) used) [
-    inl first ↦ not_usable b a r first (first_none (usable_fault ((do_pass b r).inst.brigs a)) _ none)
+  | inl first ↦ not_usable b a r first (first_none (usable_fault ((do_pass b r).inst.brigs a)) _ none)
   | inr second ↦ not_usable b c r second (first_none (usable_fault ((do_pass b r).inst.brigs c)) _ (second_none (usable_fault ((do_pass b r).inst.brigs a)) _ none))
-  ]
+]
 passed_is_not_used p choice b l r (instr.Pass c k) used none = not_usable b c r used (first_none (usable_fault ((do_pass b r).inst.brigs c)) _ none)
 passed_is_not_used p choice b l r (instr.JEmpty c k) used none = not_usable b c r used (first_none (usable_fault ((do_pass b r).inst.brigs c)) _ none)
 passed_is_not_used p choice b l r (instr.JSent k) used none = absurd (cc)

@@ -1,5 +1,5 @@
 -- Connections stay orderly: calls stay inside their module, nothing is left between calls, and budgets are kept.
-use Rattle.std.proofs.Common.{◌≡◌, ℕ, ◌+◌, ◌<◌, ◌≤◌, Bool, true, false, ◌&&◌, ◌||◌, not, ◌==◌, cond, List, [], ◌∷◌, length, get_or, ◌⊎◌, inl, inr, Option, Some, None, is_some, IfSome, unwrap_or, Result, Ok, Err, nat_le, refl, sym, ◌∙◌, ap, subst, arith}
+use Rattle.std.proofs.Common.{◌≡◌, ℕ, ◌+◌, ◌<◌, Bool, true, false, ◌||◌, not, cond, List, [], ◌∷◌, length, get_or, Option, Some, None, unwrap_or, Result, Ok, Err, nat_le, refl, sym, ap, subst, arith}
 use Rattle.std.proofs.lemmas.Bool.Decides.{nat_tests}
 use Rattle.std.proofs.lemmas.Option.{slice_get-get_or}
 use Rattle.module_lang.specs.declared.instr.Status.TheVariants.{Success}
@@ -10,12 +10,9 @@ use Rattle.run_model.specs.declared.bucket.Var.{Var}
 use Rattle.run_model.specs.declared.bucket.Var.TheVariants as var
 use Rattle.run_model.specs.declared.fault.FaultKind.{FaultKind}
 use Rattle.run_model.specs.declared.event.Piece.{Piece}
-use Rattle.run_model.specs.declared.event.Event.{Event}
 use Rattle.run_model.specs.declared.event.Event.TheVariants as event
-use Rattle.run_model.specs.declared.event.Exit.TheVariants.{GoOn, Jump, Return}
 use Rattle.run_model.specs.declared.event.Cause.{Cause}
 use Rattle.run_model.specs.declared.event.Cause.TheVariants as cause
-use Rattle.run_model.specs.declared.event.Refusal.{Refusal}
 use Rattle.run_model.specs.declared.event.Refusal.TheVariants as refusal
 use Rattle.run_model.specs.declared.event.Stepped.{Stepped}
 use Rattle.run_model.specs.declared.event.Stepped.TheVariants as stepped
@@ -25,8 +22,7 @@ use Rattle.run_model.specs.Pools.{is_empty, is_under}
 use Rattle.run_model.specs.State.{Run, fresh_call, items_of, set_brig}
 use Rattle.run_model.specs.Faults.{fault}
 use Rattle.run_model.specs.Steps.{step_at_end, settled, jumps_if, names_of, grows, is_spent, current, succeeded, executed, unless_fault, watched}
-use Rattle.run_model.specs.Connection.{Connection, opened, begins, brings, ends, takes, steps, begun, brought, ended, request_ended, cleared_var, first_refusal, refused_if, if_broken, unless_refused, breaks, broke, step_answer, step_from, step_if}
-use Rattle.run_model.specs.Runs.{Answer, World, happens, IsRun, answer_of, step_of}
+use Rattle.run_model.specs.Connection.{Connection, opened, begins, brings, ends, takes, steps, begun, brought, ended, cleared_var, first_refusal, refused_if, if_broken, broke, step_answer, step_from, step_if}
 use Rattle.run_model.specs.Laws.{IsOrderly, OrderlyWorld, EventKeepsOrder, RunIsOrderly}
 use Rattle.run_model.proofs.Runs.{run_keeps}
 use Rattle.run_model.proofs.Happened.{none_first, none_if, happened, told, stepped_told}

@@ -1,5 +1,5 @@
 -- What a refused event and a fault leave as it was.
-use Rattle.std.proofs.Common.{◌≡◌, ◌≢◌, ℕ, Bool, true, false, ◌||◌, not, cond, List, [], ◌∷◌, ◌⊎◌, inl, inr, Option, Some, None, Result, Ok, Err, nat_le, refl, sym, ◌∙◌, ap, subst}
+use Rattle.std.proofs.Common.{◌≡◌, ℕ, Bool, true, false, ◌||◌, not, cond, List, [], ◌∷◌, ◌⊎◌, inl, inr, Option, Some, None, Result, Ok, Err, nat_le, refl, sym, ◌∙◌, ap}
 use Rattle.module_lang.specs.declared.instr.Instr.{Instr}
 use Rattle.module_lang.specs.Program.{Program}
 use Rattle.run_model.specs.declared.fault.FaultKind.{FaultKind}
@@ -18,7 +18,7 @@ use Rattle.run_model.specs.State.{Run}
 use Rattle.run_model.specs.Faults.{fault}
 use Rattle.run_model.specs.Steps.{step_at_end, settled, names_of, grows, is_spent, current, succeeded, executed, unless_fault, watched}
 use Rattle.run_model.specs.Connection.{Connection, begins, brings, ends, takes, steps, begun, brought, ended, first_refusal, refused_if, if_broken, unless_refused, breaks, broke, step_answer, step_from, step_if, after_step}
-use Rattle.run_model.specs.Runs.{Answer, Done, Refused, Step, Output, World, happens, answer_of, step_of}
+use Rattle.run_model.specs.Runs.{Answer, Done, Refused, Output, World, answer_of, step_of}
 use Rattle.run_model.specs.Laws.{RefusedChangesNothing, RefusedStepBreaks, FaultBreaks, BrokenStaysBroken}
 
 -- Events but steps.

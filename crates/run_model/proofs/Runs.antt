@@ -1,12 +1,14 @@
 -- A run is its first event and a run, and goes on by one event at its end.
-use Rattle.std.proofs.Common.{◌≡◌, ℕ, zero, suc, Bool, true, List, [], ◌∷◌, ◌++◌, Some, None, Ok, refl, sym, ◌∙◌, subst, add-one, ap}
+use Rattle.std.proofs.Common.{◌≡◌, ℕ, zero, suc, Bool, true, List, [], ◌∷◌, ◌++◌, Some, None, Ok, refl, sym, ◌∙◌, subst, add-one, ap, replicate, Result, Err}
 use Rattle.module_lang.specs.Program.{Program}
 use Rattle.run_model.specs.declared.event.Event.{Event}
 use Rattle.run_model.specs.declared.event.Event.TheVariants as event
+use Rattle.run_model.specs.declared.event.Refusal.{Refusal}
+use Rattle.run_model.specs.declared.event.Stepped.{Stepped}
 use Rattle.run_model.specs.declared.event.Stepped.TheVariants as stepped
 use Rattle.run_model.specs.Connection.{Connection, steps}
-use Rattle.run_model.specs.Runs.{Answer, World, happens, IsRun, GoesOn}
-use Rattle.run_model.specs.Laws.{RunGoesOn, StepsGoOn}
+use Rattle.run_model.specs.Runs.{Answer, Step, World, happens, step_of, IsRun, GoesOn}
+use Rattle.run_model.specs.Laws.{RunGoesOn, StepsGoOn, StepsAreARun, EndedStepsAreARun}
 
 -- a run of at least one event
 abbrev pub FirstEvent : ℕ → Program → World → Event → List Event → Answer → List Answer → World → Type 0
@@ -113,3 +115,17 @@ steps_go_on n budget p old mid new went last = rw (add-one n) (one_more n old we
   one_more : (n : ℕ) (old : Connection) → GoesOn n budget p old mid → GoesOn (suc n) budget p old new
   one_more zero old same = (new, subst (λ (c : Connection). steps true budget p c ≡ (Ok stepped.Went, new)) same last, refl)
   one_more (suc n) old first = (first.0, first.1, one_more n first.0 first.2)
+
+pub steps_are_a_run : StepsAreARun
+unfolding GoesOn IsRun
+steps_are_a_run zero budget p old new same = ap (λ (c : Connection). Some c) same
+steps_are_a_run (suc n) budget p old new first = (true, Some first.0, ap step_of first.1, steps_are_a_run n budget p first.0 new first.2)
+
+last_step : (answer : Result Stepped Refusal) (new : Connection) → step_of (answer, new) ≡ ((step_of (answer, new)).0, Some new)
+last_step (Ok a) new = refl
+last_step (Err r) new = refl
+
+pub ended_steps_are_a_run : EndedStepsAreARun
+ended_steps_are_a_run memory budget p old new answer ended =
+    run_goes_on memory budget p (Some old) (Some ended.last) (Some new) (replicate ended.count event.Step) (replicate ended.count (Step stepped.Went)) event.Step (step_of (answer, new)).0
+    (steps_are_a_run ended.count budget p old ended.last ended.goes) (λ is. absurd (cc)) (ap step_of ended.ends ∙ last_step answer new)

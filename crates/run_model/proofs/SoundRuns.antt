@@ -1,5 +1,5 @@
 -- Each event keeps what is sound, and so does each run.
-use Rattle.std.proofs.Common.{◌≡◌, ℕ, ◌+◌, Bool, true, false, ◌||◌, not, cond, List, [], ◌∷◌, length, get_or, Option, Some, None, is_some, Result, Ok, Err, nat_le, inl, inr, refl, sym, ap, subst}
+use Rattle.std.proofs.Common.{◌≡◌, ℕ, ◌+◌, Bool, true, false, ◌||◌, not, cond, List, length, get_or, Option, Some, None, is_some, Result, Ok, Err, nat_le, inl, inr, refl, ap}
 use Rattle.std.proofs.lemmas.Bool.{cases_lt}
 use Rattle.std.proofs.lemmas.List.{get_or_past}
 use Rattle.std.proofs.lemmas.Option.{slice_get-get_or}
@@ -8,7 +8,6 @@ use Rattle.module_lang.specs.declared.instr.Instr.{Instr}
 use Rattle.module_lang.specs.declared.instr.Instr.TheVariants as instr
 use Rattle.module_lang.specs.Program.{Program, IsModule, fits}
 use Rattle.run_model.specs.declared.event.Piece.{Piece}
-use Rattle.run_model.specs.declared.event.Event.{Event}
 use Rattle.run_model.specs.declared.event.Event.TheVariants as event
 use Rattle.run_model.specs.declared.event.Exit.{Exit}
 use Rattle.run_model.specs.declared.event.Exit.TheVariants.{GoOn, Jump, Return}
@@ -23,8 +22,7 @@ use Rattle.run_model.specs.declared.fault.FaultKind.{FaultKind}
 use Rattle.run_model.specs.State.{Run}
 use Rattle.run_model.specs.Faults.{fault}
 use Rattle.run_model.specs.Steps.{step, step_at_end, settled, names_of, grows, is_spent, current, succeeded, executed, unless_fault, watched}
-use Rattle.run_model.specs.Connection.{Connection, begins, brings, ends, takes, steps, begun, brought, ended, first_refusal, refused_if, if_broken, unless_refused, step_answer, step_from, step_if, after_step, broke, data_behind_eos}
-use Rattle.run_model.specs.Runs.{Answer, World, happens, IsRun, answer_of, step_of}
+use Rattle.run_model.specs.Connection.{Connection, begins, brings, ends, takes, steps, begun, brought, ended, if_broken, step_answer, step_from, step_if, after_step, broke, data_behind_eos}
 use Rattle.run_model.specs.Sound.{Sound}
 use Rattle.run_model.specs.Laws.{MayExecute, StepAtEndKeeps, SoundWorld, EventKeepsSound, RunIsSound}
 use Rattle.run_model.proofs.Runs.{run_keeps}

@@ -168,11 +168,11 @@ FaultOfCuts = (sent : Bool) (xs ys : List Named) → or_else (send_fault sent xs
 -- Steps that went are a run, and so are they with the step at which they end.
 abbrev pub StepsAreARun : Type 0
 StepsAreARun = (n budget : ℕ) (p : Program) (old new : Connection)
-  → GoesOn n budget p old new → IsRun budget p (Some old) (replicate n event.Step) (replicate n (Step stepped.Went)) (Some new)
+    → GoesOn n budget p old new → IsRun budget p (Some old) (replicate n event.Step) (replicate n (Step stepped.Went)) (Some new)
 
 abbrev pub EndedStepsAreARun : Type 0
 EndedStepsAreARun = (memory : Bool) (budget : ℕ) (p : Program) (old new : Connection) (answer : Result Stepped Refusal) → (ended : EndsRun memory budget p old answer new)
-  → IsRun budget p (Some old) (replicate ended.count event.Step ++ event.Step ∷ []) (replicate ended.count (Step stepped.Went) ++ (step_of (answer, new)).0 ∷ []) (Some new)
+    → IsRun budget p (Some old) (replicate ended.count event.Step ++ event.Step ∷ []) (replicate ended.count (Step stepped.Went) ++ (step_of (answer, new)).0 ∷ []) (Some new)
 
 -- whether an instruction wants this brigade usable
 abbrev pub uses : Instr → ℕ → Bool
@@ -192,4 +192,4 @@ PassedIsNotUsed = (p : Program) (choice : Choice) (b l : ℕ) (r : Run) (i : Ins
 -- A brigade that was cleaned is usable and empty.
 abbrev pub CleanedIsUsable : Type 0
 CleanedIsUsable = (p : Program) (choice : Choice) (b : ℕ) (r : Run) → fault p r (instr.BClean b) ≡ None
-  → (fault_want (step p choice (instr.BClean b) r).run (WUsable b) ≡ None) × (items_of ((step p choice (instr.BClean b) r).run.inst.brigs b) ≡ [])
+    → (fault_want (step p choice (instr.BClean b) r).run (WUsable b) ≡ None) × (items_of ((step p choice (instr.BClean b) r).run.inst.brigs b) ≡ [])

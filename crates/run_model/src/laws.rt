@@ -1,7 +1,7 @@
 //! Laws of the definitions. Each function does nothing: what its contract says holds of the definitions alone.
 
 ghost use Rattle.run_model.specs.Examples.{PassRuns, FaultRuns, BreakRuns, RefusedRuns, NameRuns};
-ghost use Rattle.run_model.specs.Laws.{StepKeepsNames, StepKeepsBuckets, StepKeepsPools, StepAtEndKeeps, OpenedIsSound, EventKeepsSound, RunIsSound, RunGoesOn, StepsGoOn, StepChangesOnly, RefusedChangesNothing, RefusedStepBreaks, FaultBreaks, BrokenStaysBroken, EventKeepsOrder, RunIsOrderly, BroughtEndsOnce};
+ghost use Rattle.run_model.specs.Laws.{StepKeepsNames, StepKeepsBuckets, StepKeepsPools, StepAtEndKeeps, OpenedIsSound, EventKeepsSound, RunIsSound, RunGoesOn, StepsGoOn, StepsAreARun, EndedStepsAreARun, StepChangesOnly, RefusedChangesNothing, RefusedStepBreaks, FaultBreaks, BrokenStaysBroken, EventKeepsOrder, RunIsOrderly, BroughtEndsOnce, OutputOfCuts, FaultOfCuts, PassedIsNotUsed, CleanedIsUsable};
 
 /// Small runs answer as they are worked out by hand.
 pub fn worked_runs()
@@ -28,10 +28,12 @@ pub fn runs_are_sound()
     ensures run { RunIsSound }
 {}
 
-/// A run goes on by one event, and steps that went by one more.
+/// A run goes on by one event, and steps that went by one more. Steps until the call ends are a run.
 pub fn runs_go_on()
     ensures event { RunGoesOn }
     ensures step { StepsGoOn }
+    ensures steps { StepsAreARun }
+    ensures ended { EndedStepsAreARun }
 {}
 
 /// A step changes nothing but what its instruction names.
@@ -57,4 +59,17 @@ pub fn runs_are_orderly()
 /// No data stands behind an EOS of a brigade that is brought.
 pub fn brought_brigades_end_once()
     ensures { BroughtEndsOnce }
+{}
+
+/// Brigades that are passed one after the other have the output, and the fault of data after an EOS, that they would
+/// have in one.
+pub fn bodies_are_cut_anywhere()
+    ensures output { OutputOfCuts }
+    ensures fault { FaultOfCuts }
+{}
+
+/// A brigade that was passed is not used again before it is cleaned, and one that was cleaned is empty and usable.
+pub fn passed_brigades_are_only_cleaned()
+    ensures passed { PassedIsNotUsed }
+    ensures cleaned { CleanedIsUsable }
 {}
