@@ -1,10 +1,20 @@
 -- Small modules as values, and what whole runs of them answer.
-use Rattle.std.specs.Prelude.{◌≡◌, ℕ, ◌-◌, ◌^◌, true, false, List, [], ◌∷◌, ◌++◌, Some, None}
+use Rattle.std.specs.Prelude.{◌≡◌, ℕ, ◌-◌, ◌^◌, true, false, List, [], ◌∷◌, ◌++◌, Some, None, ◌==◌, if◌then◌else◌}
 use Rattle.module_lang.specs.declared.instr.PoolRef.TheVariants as pool
 use Rattle.module_lang.specs.declared.instr.Status.TheVariants.{Success, Fail}
 use Rattle.module_lang.specs.declared.instr.Instr.{Instr}
 use Rattle.module_lang.specs.declared.instr.Instr.TheVariants as instr
 use Rattle.module_lang.specs.Program.{Program}
+use Rattle.run_model.specs.declared.bucket.Kind.{Kind}
+use Rattle.run_model.specs.declared.bucket.Kind.TheVariants as kind
+use Rattle.run_model.specs.declared.bucket.Content.TheVariants as content
+use Rattle.run_model.specs.declared.bucket.Home.{Home}
+use Rattle.run_model.specs.declared.bucket.Home.TheVariants as home
+use Rattle.run_model.specs.declared.bucket.Named.{Named}
+use Rattle.run_model.specs.declared.bucket.Mark.{Mark}
+use Rattle.run_model.specs.declared.bucket.Mark.TheVariants.{Usable, Passed}
+use Rattle.run_model.specs.declared.bucket.PoolVar.TheVariants as poolvar
+use Rattle.run_model.specs.declared.bucket.Var.TheVariants as var
 use Rattle.run_model.specs.declared.event.Piece.TheVariants as piece
 use Rattle.run_model.specs.declared.event.Event.{Event}
 use Rattle.run_model.specs.declared.event.Event.TheVariants as event
@@ -12,8 +22,12 @@ use Rattle.run_model.specs.declared.event.Stepped.TheVariants as stepped
 use Rattle.run_model.specs.declared.event.Cause.{Cause}
 use Rattle.run_model.specs.declared.event.Cause.TheVariants as cause
 use Rattle.run_model.specs.declared.event.Refusal.TheVariants as refusal
-use Rattle.run_model.specs.declared.fault.FaultKind.TheVariants as fault
-use Rattle.run_model.specs.Connection.{opened}
+use Rattle.run_model.specs.declared.fault.FaultKind.TheVariants as fault_kind
+use Rattle.run_model.specs.Pools.{planted, created}
+use Rattle.run_model.specs.State.{Run, items_of}
+use Rattle.run_model.specs.Faults.{fault}
+use Rattle.run_model.specs.Steps.{do_return}
+use Rattle.run_model.specs.Connection.{opened, request_ended}
 use Rattle.run_model.specs.Runs.{Answer, Done, Refused, Step, Output, World, happens}
 
 -- the answers of these events, where memory is ample
@@ -121,16 +135,16 @@ pub record PassRuns : Type 0 where
 -- How instructions have faults, which are told whether or not there is memory.
 pub record FaultRuns : Type 0 where
   pub passed : answers 1000000 asks_after_pass (beginning ++ event.Bring [] ∷ three_steps ++ event.TakeOutput ∷ [])
-      ≡ begun_well ++ Done ∷ went ∷ Step (stepped.Fault fault.F7 0 3) ∷ Refused (refusal.Broken cause.Faulted) ∷ Output [] ∷ []
+      ≡ begun_well ++ Done ∷ went ∷ Step (stepped.Fault fault_kind.F7 0 3) ∷ Refused (refusal.Broken cause.Faulted) ∷ Output [] ∷ []
   pub data_after_eos : answers 1000000 passes_on (beginning ++ a_last_heap (97 ∷ []) ∷ event.Step ∷ event.Step ∷ a_heap (98 ∷ []) ∷ event.Step ∷ event.TakeOutput ∷ [])
-      ≡ begun_well ++ Done ∷ went ∷ step_ok ∷ Done ∷ Step (stepped.Fault fault.F8 0 2) ∷ Output (97 ∷ []) ∷ []
+      ≡ begun_well ++ Done ∷ went ∷ step_ok ∷ Done ∷ Step (stepped.Fault fault_kind.F8 0 2) ∷ Output (97 ∷ []) ∷ []
   pub made_again : answers 1000000 creates_each_time (event.Open ∷ event.Step ∷ event.Begin ∷ event.Step ∷ event.Step ∷ event.End ∷ event.Begin ∷ event.Step ∷ [])
-      ≡ Done ∷ step_ok ∷ Done ∷ went ∷ step_ok ∷ Done ∷ Done ∷ Step (stepped.Fault fault.F10 0 1) ∷ []
+      ≡ Done ∷ step_ok ∷ Done ∷ went ∷ step_ok ∷ Done ∷ Done ∷ Step (stepped.Fault fault_kind.F10 0 1) ∷ []
   pub no_pool : answers 1000000 lacks_its_pool (event.Open ∷ event.Step ∷ event.Begin ∷ event.Step ∷ [])
-      ≡ Done ∷ step_ok ∷ Done ∷ Step (stepped.Fault fault.F1 0 1) ∷ []
+      ≡ Done ∷ step_ok ∷ Done ∷ Step (stepped.Fault fault_kind.F1 0 1) ∷ []
   pub no_brigade : answers 1000000 never_creates (beginning ++ event.Bring [] ∷ event.Step ∷ [])
-      ≡ begun_well ++ Done ∷ Step (stepped.Fault fault.F2 0 2) ∷ []
-  pub without_memory : (happens false 1000000 never_creates event.Step (world_after None 1000000 never_creates (beginning ++ event.Bring [] ∷ []))).0 ≡ Step (stepped.Fault fault.F2 0 2)
+      ≡ begun_well ++ Done ∷ Step (stepped.Fault fault_kind.F2 0 2) ∷ []
+  pub without_memory : (happens false 1000000 never_creates event.Step (world_after None 1000000 never_creates (beginning ++ event.Bring [] ∷ []))).0 ≡ Step (stepped.Fault fault_kind.F2 0 2)
 
 -- How connections break.
 pub record BreakRuns : Type 0 where
@@ -169,3 +183,50 @@ pub record NameRuns : Type 0 where
   pub last_brigade : answers_with_names 4 (2 ^ 64 - 3) gathers (event.Step ∷ event.End ∷ event.Begin ∷ event.Step ∷ []) ≡ step_ok ∷ Done ∷ Done ∷ went ∷ []
   pub no_brigade : answers_with_names 4 (2 ^ 64 - 2) gathers (event.Step ∷ event.End ∷ event.Begin ∷ event.Step ∷ event.Step ∷ [])
       ≡ step_ok ∷ Done ∷ Done ∷ broken_by cause.NamesSpent ∷ broken_by cause.NamesSpent ∷ []
+
+-- a bucket of a kind and a home, whose content is not looked at
+abbrev pub a_bucket : Kind → Home → Named
+a_bucket k h = record { name = 90; bucket = record { kind = k; content = content.Nothing; home = h } }
+
+-- The call 1 of a connection with the pool 2, the request's pool 3 and the instance's own pool 5, whose brigade of this
+-- number has these buckets.
+abbrev pub holding : ℕ → Mark → List Named → Run
+holding b mark items =
+    record opened.run {
+      inst = record opened.run.inst { pools = λ p. poolvar.Named 5; brigs = λ k. if k == b then var.Live (record { name = 80; on = Some 2; mark = mark; items = items }) else var.Null };
+      shared = record opened.run.shared { req = Some 3 };
+    }
+
+-- the same, where the pool 3 stands under the pool 2
+abbrev pub in_request : List Named → Run
+in_request items = record (holding 0 Usable items) { shared = record (holding 0 Usable items).shared { pools = created 2 (created 1 (planted 1)) } }
+
+-- Faults of what may be held, and their order.
+pub record HeldFaults : Type 0 where
+  pub dead : fault gathers (holding 0 Usable (a_bucket kind.File home.Ended ∷ [])) (instr.Pass 0 5) ≡ Some fault_kind.F5
+  pub dead_before_late : fault gathers (holding 0 Usable (a_bucket kind.Eos home.Free ∷ a_bucket kind.Transient home.Ended ∷ [])) (instr.Pass 0 5) ≡ Some fault_kind.F5
+  pub late : fault gathers (holding 0 Usable (a_bucket kind.Eos home.Free ∷ a_bucket kind.Transient (home.Call 1) ∷ [])) (instr.Pass 0 5) ≡ Some fault_kind.F8
+  pub flush_behind_eos : fault gathers (holding 0 Usable (a_bucket kind.Eos home.Free ∷ a_bucket kind.Flush home.Free ∷ [])) (instr.Pass 0 5) ≡ None
+  pub passed_before_dead : fault gathers (holding 0 Passed (a_bucket kind.File home.Ended ∷ [])) (instr.Pass 0 5) ≡ Some fault_kind.F7
+  pub left_before_right : fault gathers (holding 0 Passed []) (instr.BConcat 0 8) ≡ Some fault_kind.F7
+  pub right : fault gathers (holding 0 Usable []) (instr.BConcat 0 8) ≡ Some fault_kind.F2
+  pub dead_is_asked : fault gathers (holding 0 Usable (a_bucket kind.File home.Ended ∷ [])) (instr.JEmpty 0 5) ≡ None
+  pub call_kept : fault gathers (holding 0 Usable (a_bucket kind.Transient (home.Call 1) ∷ [])) (instr.Ret Success) ≡ Some fault_kind.F6
+  pub call_passed : fault gathers (holding 0 Passed (a_bucket kind.Transient (home.Call 1) ∷ [])) (instr.Ret Success) ≡ None
+  pub call_in_in : fault gathers (holding 8 Usable (a_bucket kind.Transient (home.Call 1) ∷ [])) (instr.Ret Success) ≡ None
+  pub dead_kept : fault gathers (holding 7 Usable (a_bucket kind.Transient home.Ended ∷ [])) (instr.Ret Success) ≡ None
+  pub others_pool_kept : fault gathers (holding 7 Usable (a_bucket kind.File (home.Pool 4) ∷ [])) (instr.Ret Success) ≡ Some fault_kind.F6
+  pub connection_pool_kept : fault gathers (holding 7 Usable (a_bucket kind.File (home.Pool 2) ∷ [])) (instr.Ret Success) ≡ None
+  pub request_pool_kept : fault gathers (holding 7 Usable (a_bucket kind.File (home.Pool 3) ∷ [])) (instr.Ret Success) ≡ None
+  pub own_pool_kept : fault gathers (holding 7 Usable (a_bucket kind.File (home.Pool 5) ∷ [])) (instr.Ret Success) ≡ None
+  pub pool_before_brigade : fault lacks_its_pool (holding 0 Usable []) (instr.BCreate 0) ≡ Some fault_kind.F1
+  pub live_brigade : fault creates_each_time (holding 0 Usable []) (instr.BCreate 0) ≡ Some fault_kind.F10
+  pub passed_brigade : fault creates_each_time (holding 0 Passed []) (instr.BCreate 0) ≡ Some fault_kind.F10
+
+-- What a return and the end of a request make of the buckets that are held.
+pub record HeldChanges : Type 0 where
+  pub returned : items_of ((do_return (holding 0 Usable (a_bucket kind.Transient (home.Call 1) ∷ a_bucket kind.Transient (home.Call 9) ∷ a_bucket kind.File (home.Pool 3) ∷ []))).inst.brigs 0)
+      ≡ a_bucket kind.Transient home.Ended ∷ a_bucket kind.Transient (home.Call 9) ∷ a_bucket kind.File (home.Pool 3) ∷ []
+  pub in_goes : (do_return (holding 8 Usable (a_bucket kind.Heap home.Free ∷ []))).inst.brigs 8 ≡ var.Null
+  pub request_ended : items_of ((request_ended 3 (in_request (a_bucket kind.File (home.Pool 3) ∷ a_bucket kind.File (home.Pool 2) ∷ a_bucket (kind.Pool 3) home.Free ∷ a_bucket (kind.Pool 2) home.Free ∷ []))).inst.brigs 0)
+      ≡ a_bucket kind.File home.Ended ∷ a_bucket kind.File (home.Pool 2) ∷ a_bucket kind.Heap home.Free ∷ a_bucket (kind.Pool 2) home.Free ∷ []

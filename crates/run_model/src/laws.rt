@@ -1,15 +1,17 @@
 //! Laws of the definitions. Each function does nothing: what its contract says holds of the definitions alone.
 
-ghost use Rattle.run_model.specs.Examples.{PassRuns, FaultRuns, BreakRuns, RefusedRuns, NameRuns};
+ghost use Rattle.run_model.specs.Examples.{PassRuns, FaultRuns, BreakRuns, RefusedRuns, NameRuns, HeldFaults, HeldChanges};
 ghost use Rattle.run_model.specs.Laws.{StepKeepsNames, StepKeepsBuckets, StepKeepsPools, StepAtEndKeeps, OpenedIsSound, EventKeepsSound, RunIsSound, RunGoesOn, StepsGoOn, StepsAreARun, EndedStepsAreARun, StepChangesOnly, RefusedChangesNothing, RefusedStepBreaks, FaultBreaks, BrokenStaysBroken, EventKeepsOrder, RunIsOrderly, BroughtEndsOnce, OutputOfCuts, FaultOfCuts, PassedIsNotUsed, CleanedIsUsable};
 
-/// Small runs answer as they are worked out by hand.
+/// Small runs answer as they are worked out by hand, and so do faults and changes of small states.
 pub fn worked_runs()
     ensures passes { PassRuns }
     ensures faults { FaultRuns }
     ensures breaks { BreakRuns }
     ensures refusals { RefusedRuns }
     ensures names { NameRuns }
+    ensures held_faults { HeldFaults }
+    ensures held_changes { HeldChanges }
 {}
 
 /// A step without a fault keeps what is sound: each name is one bucket's, new names are new, buckets are as their

@@ -1,4 +1,4 @@
-use Rattle.run_model.proofs.Examples.{pass_runs, fault_runs, break_runs, refused_runs, name_runs}
+use Rattle.run_model.proofs.Examples.{pass_runs, fault_runs, break_runs, refused_runs, name_runs, held_faults, held_changes}
 use Rattle.run_model.proofs.laws.worked_runs.Goals as goal
 
 pub returns-clause-passes : goal.returns-clause-passes
@@ -15,3 +15,9 @@ returns-clause-refusals c = refused_runs
 
 pub returns-clause-names : goal.returns-clause-names
 returns-clause-names c = name_runs
+
+pub returns-clause-held_faults : goal.returns-clause-held_faults
+returns-clause-held_faults c = held_faults
+
+pub returns-clause-held_changes : goal.returns-clause-held_changes
+returns-clause-held_changes c = held_changes
