@@ -7,3 +7,6 @@ pub mod Faults
 pub mod Steps
 pub mod Connection
 pub mod Runs
+pub mod Sound
+pub mod Examples
+pub mod Laws

@@ -5,6 +5,7 @@
 mod bucket;
 mod event;
 mod fault;
+pub mod laws;
 
 pub use bucket::{Brigade, Bucket, Content, Cursor, Home, Kind, Mark, Named, PoolVar, Var};
 pub use event::{Cause, Event, Exit, Piece, Refusal, StepRefusal, Stepped};

@@ -1,0 +1,66 @@
+-- Passed brigades are not used before they are cleaned.
+use Rattle.std.proofs.Common.{◌≡◌, ℕ, Bool, true, false, ◌||◌, ◌==◌, ◌⊎◌, inl, inr, [], Option, Some, None, refl, sym, ◌∙◌, ap, eqb-true}
+use Rattle.module_lang.specs.declared.instr.Instr.TheVariants as instr
+use Rattle.run_model.specs.declared.fault.FaultKind.{FaultKind}
+use Rattle.run_model.specs.declared.bucket.Var.{Var}
+use Rattle.run_model.specs.declared.bucket.Var.TheVariants as var
+use Rattle.run_model.specs.Indexed.{upd}
+use Rattle.run_model.specs.State.{Run, items_of, set_brig}
+use Rattle.run_model.specs.Faults.{brigade_fault, usable_fault, or_else}
+use Rattle.run_model.specs.Steps.{do_pass, cleaned, handed_over}
+use Rattle.run_model.specs.Laws.{PassedIsNotUsed, CleanedIsUsable}
+use Rattle.run_model.proofs.Updates.{upd_at}
+
+handed_fault : (v : Var) → usable_fault (handed_over v) ≡ None → ⊥
+handed_fault var.Null e = cc
+handed_fault var.Gone e = cc
+handed_fault (var.Live v) e = cc
+
+first_none : (a b : Option FaultKind) → or_else a b ≡ None → a ≡ None
+first_none None b e = refl
+first_none (Some k) b e = e
+
+second_none : (a b : Option FaultKind) → or_else a b ≡ None → b ≡ None
+second_none None b e = e
+second_none (Some k) b e = absurd (cc)
+
+one_of : (x y : Bool) → (x || y) ≡ true → (x ≡ true) ⊎ (y ≡ true)
+one_of true y h = inl refl
+one_of false y h = inr h
+
+-- the variable that was passed, under another number that is the same
+passed_var : (b c : ℕ) (r : Run) → (c == b) ≡ true → (do_pass b r).inst.brigs c ≡ handed_over (r.inst.brigs b)
+unfolding set_brig
+passed_var b c r same = ap (upd r.inst.brigs b (handed_over (r.inst.brigs b))) (eqb-true c b same) ∙ upd_at r.inst.brigs b (handed_over (r.inst.brigs b))
+
+not_usable : (b c : ℕ) (r : Run) → (c == b) ≡ true → usable_fault ((do_pass b r).inst.brigs c) ≡ None → ⊥
+not_usable b c r same e = handed_fault (r.inst.brigs b) (sym (ap usable_fault (passed_var b c r same)) ∙ e)
+
+pub passed_is_not_used : PassedIsNotUsed
+passed_is_not_used p choice b l r (instr.BCreate o) used none = absurd (cc)
+passed_is_not_used p choice b l r (instr.BClean c) used none = absurd (cc)
+passed_is_not_used p choice b l r (instr.BConcat a c) used none = elim (one_of (a == b) (c == b) used) [
+  | inl first ↦ not_usable b a r first (first_none (usable_fault ((do_pass b r).inst.brigs a)) _ none)
+  | inr second ↦ not_usable b c r second (first_none (usable_fault ((do_pass b r).inst.brigs c)) _ (second_none (usable_fault ((do_pass b r).inst.brigs a)) _ none))
+]
+passed_is_not_used p choice b l r (instr.Pass c k) used none = not_usable b c r used (first_none (usable_fault ((do_pass b r).inst.brigs c)) _ none)
+passed_is_not_used p choice b l r (instr.JEmpty c k) used none = not_usable b c r used (first_none (usable_fault ((do_pass b r).inst.brigs c)) _ none)
+passed_is_not_used p choice b l r (instr.JSent k) used none = absurd (cc)
+passed_is_not_used p choice b l r (instr.Jump k) used none = absurd (cc)
+passed_is_not_used p choice b l r (instr.Ret s) used none = absurd (cc)
+
+cleaned_usable : (v : Var) → brigade_fault v ≡ None → usable_fault (cleaned v) ≡ None
+cleaned_usable var.Null e = e
+cleaned_usable var.Gone e = e
+cleaned_usable (var.Live v) e = refl
+
+cleaned_none : (v : Var) → items_of (cleaned v) ≡ []
+cleaned_none var.Null = refl
+cleaned_none var.Gone = refl
+cleaned_none (var.Live v) = refl
+
+pub cleaned_is_usable : CleanedIsUsable
+unfolding set_brig
+cleaned_is_usable p choice b r none =
+    let written : upd r.inst.brigs b (cleaned (r.inst.brigs b)) b ≡ cleaned (r.inst.brigs b) = upd_at r.inst.brigs b (cleaned (r.inst.brigs b)) in
+    (ap usable_fault written ∙ cleaned_usable (r.inst.brigs b) (first_none (brigade_fault (r.inst.brigs b)) None none), ap items_of written ∙ cleaned_none (r.inst.brigs b))

@@ -1,0 +1,226 @@
+-- Steps and events keep each name one bucket's and new names new.
+use Rattle.std.proofs.Common.{◌≡◌, ℕ, ◌+◌, ◌^◌, ◌<◌, ◌≤◌, Bool, true, false, ◌==◌, cond, List, [], ◌∷◌, ◌++◌, map, length, Some, ◌⊎◌, inl, inr, refl, sym, ◌∙◌, ap, subst, arith, ne_eqb}
+use Rattle.std.proofs.lemmas.List.Sums.{sum_by-append, sum_by-cons}
+use Rattle.std.proofs.lemmas.Bool.{cases_lt}
+use Rattle.std.proofs.lemmas.Bool.Decides.{eqb_tells}
+use Rattle.run_model.specs.declared.bucket.Named.{Named}
+use Rattle.run_model.specs.declared.bucket.Brigade.{Brigade}
+use Rattle.run_model.specs.declared.bucket.Var.{Var}
+use Rattle.run_model.specs.declared.bucket.Var.TheVariants as var
+use Rattle.run_model.specs.declared.event.Piece.{Piece}
+use Rattle.run_model.specs.Indexed.{upd}
+use Rattle.run_model.specs.Buckets.{returned_bucket, cleared_bucket}
+use Rattle.run_model.specs.State.{Run, items_of}
+use Rattle.run_model.specs.Steps.{cleaned, with_items, handed_over, returned_var}
+use Rattle.run_model.specs.Connection.{cleared_var, is_reached, named_from}
+use Rattle.run_model.specs.Sound.{sum_below, count_named, count, brigade_name, SoundNames}
+use Rattle.run_model.proofs.Updates.{upd_off, upd_either}
+use Rattle.run_model.proofs.Sums.{sum_below_le, sum_below_upd}
+
+-- Counts in lists.
+
+pub count_none : (n : ℕ) → count_named n [] ≡ 0
+unfolding count_named
+count_none n = refl
+
+pub count_append : (n : ℕ) (xs ys : List Named) → count_named n (xs ++ ys) ≡ count_named n xs + count_named n ys
+unfolding count_named
+count_append n xs ys = sum_by-append (λ b. cond (b.name == n) 1 0) xs ys
+
+pub count_cons : (n : ℕ) (x : Named) (xs : List Named) → count_named n (x ∷ xs) ≡ cond (x.name == n) 1 0 + count_named n xs
+unfolding count_named
+count_cons n x xs = sum_by-cons (λ b. cond (b.name == n) 1 0) x xs
+
+-- a change of buckets that leaves their names
+pub count_map : (n : ℕ) (f : Named → Named) → ((b : Named) → (f b).name ≡ b.name) → (xs : List Named) → count_named n (map f xs) ≡ count_named n xs
+count_map n f same [] = refl
+count_map n f same (x ∷ xs) =
+    count_cons n (f x) (map f xs) ∙ (ap (λ k. cond (k == n) 1 0 + count_named n (map f xs)) (same x) ∙ (ap (λ k. cond (x.name == n) 1 0 + k) (count_map n f same xs) ∙ sym (count_cons n x xs)))
+
+-- the count at the head of named pieces, which is of the name m
+head_count : (n m : ℕ) (x : Piece) (xs : List Piece) → count_named n (named_from m (x ∷ xs)) ≡ cond (m == n) 1 0 + count_named n (named_from (m + 1) xs)
+head_count n m x xs = count_cons n _ (named_from (m + 1) xs)
+
+-- names from m on are given to pieces once each
+pub count_before : (n m : ℕ) (xs : List Piece) → n < m → count_named n (named_from m xs) ≡ 0
+count_before n m [] lt = count_none n
+count_before n m (x ∷ xs) lt =
+    let head : ◌≡◌ {A = ℕ} (cond (m == n) 1 0) 0 = ap (λ b. cond b 1 0) (ne_eqb m n (λ e. absurd (omega (arith, e)))) in
+    let rest : count_named n (named_from (m + 1) xs) ≡ 0 = count_before n (m + 1) xs (omega arith) in
+    omega (arith, head_count n m x xs)
+
+pub count_once : (n m : ℕ) (xs : List Piece) → count_named n (named_from m xs) ≤ 1
+count_once n m [] = rw (count_none n) (omega arith)
+count_once n m (x ∷ xs) = elim (eqb_tells m n) [
+  | inl p ↦
+      (let head : ◌≡◌ {A = ℕ} (cond (m == n) 1 0) 1 = ap (λ b. cond b 1 0) p.0 in
+      let rest : count_named n (named_from (m + 1) xs) ≡ 0 = count_before n (m + 1) xs (omega (arith, p.1)) in
+      omega (arith, head_count n m x xs))
+  | inr p ↦
+      (let head : ◌≡◌ {A = ℕ} (cond (m == n) 1 0) 0 = ap (λ b. cond b 1 0) p.0 in
+      let rest : count_named n (named_from (m + 1) xs) ≤ 1 = count_once n (m + 1) xs in
+      omega (arith, head_count n m x xs))
+]
+
+pub count_behind : (n m : ℕ) (xs : List Piece) → m + length xs ≤ n → count_named n (named_from m xs) ≡ 0
+count_behind n m [] le = count_none n
+count_behind n m (x ∷ xs) le =
+    let head : ◌≡◌ {A = ℕ} (cond (m == n) 1 0) 0 = ap (λ b. cond b 1 0) (ne_eqb m n (λ e. absurd (omega (arith, e)))) in
+    let rest : count_named n (named_from (m + 1) xs) ≡ 0 = count_behind n (m + 1) xs (omega arith) in
+    omega (arith, head_count n m x xs)
+
+-- How a brigade variable may change: it keeps its name or lets go of it, and what is null stays null.
+pub record Carried (v w : Var) : Type 0 where
+  pub name : (n : ℕ) → brigade_name w ≡ Some n → brigade_name v ≡ Some n
+  pub null : v ≡ var.Null → w ≡ var.Null
+
+-- and no bucket comes to it
+pub record Fewer (v w : Var) : Type 0 where
+  pub carried : Carried v w
+  pub items : (n : ℕ) → count_named n (items_of w) ≤ count_named n (items_of v)
+
+pub carried_same : (v : Var) → Carried v v
+carried_same v = record { name = λ n h. h; null = λ h. h }
+
+pub fewer_same : (v : Var) → Fewer v v
+fewer_same v = record { carried = carried_same v; items = λ n. omega arith }
+
+pub fewer_none : (v w : Var) → Carried v w → items_of w ≡ [] → Fewer v w
+fewer_none v w carried none = record { carried = carried; items = λ n. rw (none, count_none n) (omega arith) }
+
+pub cleaned_fewer : (v : Var) → Fewer v (cleaned v)
+cleaned_fewer var.Null = fewer_same var.Null
+cleaned_fewer var.Gone = fewer_same var.Gone
+cleaned_fewer (var.Live v) = fewer_none _ _ (record { name = λ n h. h; null = λ h. absurd (cc) }) refl
+
+pub handed_fewer : (v : Var) → Fewer v (handed_over v)
+handed_fewer var.Null = fewer_same var.Null
+handed_fewer var.Gone = fewer_same var.Gone
+handed_fewer (var.Live v) = fewer_none _ _ (record { name = λ n h. h; null = λ h. absurd (cc) }) refl
+
+pub returned_fewer : (call : ℕ) (v : Var) → Fewer v (returned_var call v)
+returned_fewer call var.Null = fewer_same var.Null
+returned_fewer call var.Gone = fewer_same var.Gone
+returned_fewer call (var.Live v) = record {
+  carried = record { name = λ n h. h; null = λ h. absurd (cc) };
+  items = λ n. rw (count_map n (returned_bucket call) (λ b. refl) v.items) (omega arith);
+}
+
+pub cleared_fewer : (reached : ℕ → Bool) (v : Var) → Fewer v (cleared_var reached v)
+cleared_fewer reached var.Null = fewer_same var.Null
+cleared_fewer reached var.Gone = fewer_same var.Gone
+cleared_fewer reached (var.Live v) = by_test (is_reached reached v.on) where
+  by_test : (b : Bool) → Fewer (var.Live v) (cond b var.Gone (var.Live (record v { items = map (cleared_bucket reached) v.items })))
+  by_test true = fewer_none _ _ (record { name = λ n h. absurd (cc); null = λ h. absurd (cc) }) refl
+  by_test false = record {
+    carried = record { name = λ n h. h; null = λ h. absurd (cc) };
+    items = λ n. rw (count_map n (cleared_bucket reached) (λ b. refl) v.items) (omega arith);
+  }
+
+pub filled_carried : (items : List Named) (v : Var) → Carried v (with_items items v)
+filled_carried items var.Null = carried_same var.Null
+filled_carried items var.Gone = carried_same var.Gone
+filled_carried items (var.Live v) = record { name = λ n h. h; null = λ h. absurd (cc) }
+
+pub filled_items : (n : ℕ) (items : List Named) (v : Var) → count_named n (items_of (with_items items v)) ≤ count_named n items
+filled_items n items var.Null = rw (count_none n) (omega arith)
+filled_items n items var.Gone = rw (count_none n) (omega arith)
+filled_items n items (var.Live v) = omega arith
+
+-- what holds of a change at the index that is written, and of no change, holds everywhere
+pub at_each : (P : Var → Var → Type 0) (g : ℕ → Var) (i : ℕ) (w : Var) → P (g i) w → ((v : Var) → P v v) → (k : ℕ) → P (g k) (upd g i w k)
+at_each P g i w here same k = elim (upd_either g i k w) [
+  | inl p ↦ subst (λ x. P (g k) x) (sym p.1) (subst (λ j. P (g j) w) (sym p.0) here)
+  | inr p ↦ subst (λ x. P (g k) x) (sym p.1) (same (g k))
+]
+
+-- the same of two indexes that are written
+pub at_two : (P : Var → Var → Type 0) (g : ℕ → Var) (i j : ℕ) (v w : Var) → P (g i) v → P (g j) w → ((u : Var) → P u u) → (k : ℕ) → P (g k) (upd (upd g i v) j w k)
+at_two P g i j v w here there same k = elim (upd_either (upd g i v) j k w) [
+  | inl p ↦ subst (λ x. P (g k) x) (sym p.1) (subst (λ m. P (g m) w) (sym p.0) there)
+  | inr p ↦ subst (λ x. P (g k) x) (sym p.1) (at_each P g i v here same k)
+]
+
+-- Where buckets do not grow in number and brigades keep their names, names stay sound.
+pub keeps_names : (r new : Run)
+    → ((n : ℕ) → count new n ≤ count r n)
+    → ((b : ℕ) → Carried (r.inst.brigs b) (new.inst.brigs b))
+    → r.shared.next ≤ new.shared.next → new.shared.next < 2 ^ 64
+    → SoundNames r → SoundNames new
+keeps_names r new fewer carried rises limit s = record {
+  once = λ n. let h : count new n ≤ count r n = fewer n in let o : count r n ≤ 1 = s.once n in omega arith;
+  fresh = λ n le. let h : count new n ≤ count r n = fewer n in let o : count r n ≡ 0 = s.fresh n (omega arith) in omega arith;
+  apart = λ b c n hb hc. s.apart b c n ((carried b).name n hb) ((carried c).name n hc);
+  given = λ b n h. let lt : n < r.shared.next = s.given b n ((carried b).name n h) in omega arith;
+  limit = limit;
+  slots = λ b le. (carried b).null (s.slots b le);
+}
+
+-- the same, slot for slot
+pub keeps_slots : (r new : Run)
+    → ((n : ℕ) → count_named n new.call.loose ≤ count_named n r.call.loose)
+    → ((b : ℕ) → Fewer (r.inst.brigs b) (new.inst.brigs b))
+    → r.shared.next ≤ new.shared.next → new.shared.next < 2 ^ 64
+    → SoundNames r → SoundNames new
+keeps_slots r new loose slots rises limit s =
+    keeps_names r new (λ n.
+    let l : count_named n new.call.loose ≤ count_named n r.call.loose = loose n in
+    let b : sum_below 9 (λ k. count_named n (items_of (new.inst.brigs k))) ≤ sum_below 9 (λ k. count_named n (items_of (r.inst.brigs k))) = sum_below_le 9 _ _ (λ k. (slots k).items n) in
+    omega arith)
+    (λ k. (slots k).carried) rises limit s
+
+some_is : (a b : ℕ) → Some a ≡ Some b → a ≡ b
+some_is a b e = cc
+
+-- A new brigade in a variable: its name and its buckets' are among those that were not given out.
+pub placed_names : (r new : Run) (o : ℕ) (v : Brigade)
+    → o < 9
+    → new.inst.brigs ≡ upd r.inst.brigs o (var.Live v)
+    → ((n : ℕ) → count_named n new.call.loose ≤ count_named n r.call.loose)
+    → r.shared.next ≤ v.name → v.name < new.shared.next → new.shared.next < 2 ^ 64
+    → ((n : ℕ) → n < r.shared.next → count_named n v.items ≡ 0)
+    → ((n : ℕ) → count_named n v.items ≤ 1)
+    → ((n : ℕ) → new.shared.next ≤ n → count_named n v.items ≡ 0)
+    → SoundNames r → SoundNames new
+placed_names r new o v in_range is loose above below limit old_names once behind s = record {
+  once = λ n. let h : count new n ≤ count r n + count_named n v.items = counted n in
+      elim (cases_lt n r.shared.next) [
+        | inl lt ↦ (let z : count_named n v.items ≡ 0 = old_names n lt in let c : count r n ≤ 1 = s.once n in omega arith)
+        | inr le ↦ (let z : count_named n v.items ≤ 1 = once n in let c : count r n ≡ 0 = s.fresh n le in omega arith)
+      ];
+  fresh = λ n le.
+      let h : count new n ≤ count r n + count_named n v.items = counted n in
+      let z : count_named n v.items ≡ 0 = behind n le in
+      let c : count r n ≡ 0 = s.fresh n (omega arith) in
+      omega arith;
+  apart = λ b c n hb hc. elim (named b n hb) [
+    | inl p ↦ (elim (named c n hc) [
+      | inl q ↦ p.0 ∙ sym q.0
+      | inr q ↦ absurd (let lt : n < r.shared.next = s.given c n q in omega (arith, p.1))
+    ])
+    | inr p ↦ (elim (named c n hc) [
+      | inl q ↦ absurd (let lt : n < r.shared.next = s.given b n p in omega (arith, q.1))
+      | inr q ↦ s.apart b c n p q
+    ])
+  ];
+  given = λ b n h. elim (named b n h) [
+    | inl p ↦ omega (arith, p.1)
+    | inr p ↦ (let lt : n < r.shared.next = s.given b n p in omega arith)
+  ];
+  limit = limit;
+  slots = λ b le. ap (λ (g : ℕ → Var). g b) is ∙ (upd_off r.inst.brigs o b (var.Live v) (λ e. absurd (omega (arith, e))) ∙ s.slots b le);
+} where
+  counted : (n : ℕ) → count new n ≤ count r n + count_named n v.items
+  counted n =
+      let l : count_named n new.call.loose ≤ count_named n r.call.loose = loose n in
+      let e : sum_below 9 (λ k. count_named n (items_of (new.inst.brigs k))) ≡ sum_below 9 (λ k. count_named n (items_of (upd r.inst.brigs o (var.Live v) k))) = ap (λ (g : ℕ → Var). sum_below 9 (λ k. count_named n (items_of (g k)))) is in
+      let u : sum_below 9 (λ k. count_named n (items_of (upd r.inst.brigs o (var.Live v) k))) + count_named n (items_of (r.inst.brigs o)) ≡ sum_below 9 (λ k. count_named n (items_of (r.inst.brigs k))) + count_named n v.items = sum_below_upd 9 o r.inst.brigs (var.Live v) (λ x. count_named n (items_of x)) in_range in
+      omega arith
+
+  named : (b n : ℕ) → brigade_name (new.inst.brigs b) ≡ Some n → ((b ≡ o) × (v.name ≡ n)) ⊎ (brigade_name (r.inst.brigs b) ≡ Some n)
+  named b n h =
+      let at_b : new.inst.brigs b ≡ upd r.inst.brigs o (var.Live v) b = ap (λ (g : ℕ → Var). g b) is in
+      elim (upd_either r.inst.brigs o b (var.Live v)) [
+        | inl p ↦ inl (p.0, some_is v.name n (ap brigade_name (sym (at_b ∙ p.1)) ∙ h))
+        | inr p ↦ inr (ap brigade_name (sym (at_b ∙ p.1)) ∙ h)
+      ]

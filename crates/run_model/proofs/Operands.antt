@@ -1,0 +1,37 @@
+-- What an instruction that fits its module says of its operands.
+use Rattle.std.proofs.Common.{◌≡◌, ◌≢◌, ℕ, ◌<◌, ◌≤◌, Bool, true, false, ◌&&◌, ◌||◌, not, ◌==◌, nat_lt, length, arith}
+use Rattle.std.proofs.lemmas.Bool.Decides.{nat_tests}
+use Rattle.module_lang.specs.declared.instr.Instr.TheVariants as instr
+use Rattle.module_lang.specs.Program.{Program, IsModule, fits, is_brigade}
+
+-- a brigade operand is one of nine
+pub brigade_below : (p : Program) → IsModule p → (b : ℕ) → is_brigade p b ≡ true → b < 9
+brigade_below p m b h = small b (length p.brigades) m.brigades h where
+  small : (b n : ℕ) → n ≤ 8 → (nat_lt b n || (b == 8)) ≡ true → b < 9
+  small b n le h = grind (arith, nat_tests)
+
+pub created_below : (p : Program) → IsModule p → (o : ℕ) → fits p (instr.BCreate o) ≡ true → o < 9
+created_below p m o h = small o (length p.brigades) m.brigades h where
+  small : (o n : ℕ) → n ≤ 8 → nat_lt o n ≡ true → o < 9
+  small o n le h = grind (arith, nat_tests)
+
+-- the two brigades of one instruction
+pub record TwoBrigades (a b : ℕ) : Type 0 where
+  pub first : a < 9
+  pub second : b < 9
+  pub differ : a ≢ b
+
+pub two_brigades : (p : Program) → IsModule p → (a b : ℕ) → fits p (instr.BConcat a b) ≡ true → TwoBrigades a b
+two_brigades p m a b h = record {
+  first = brigade_below p m a (parts (is_brigade p a) (is_brigade p b) (not (a == b)) h).0;
+  second = brigade_below p m b (parts (is_brigade p a) (is_brigade p b) (not (a == b)) h).1;
+  differ = λ e. unequal a b (parts (is_brigade p a) (is_brigade p b) (not (a == b)) h).2 e;
+} where
+  parts : (x y z : Bool) → (x && y && z) ≡ true → (x ≡ true) × (y ≡ true) × (z ≡ true)
+  parts true true true h = (h, h, h)
+  parts true true false h = absurd (cc)
+  parts true false z h = absurd (cc)
+  parts false y z h = absurd (cc)
+
+  unequal : (a b : ℕ) → not (a == b) ≡ true → a ≡ b → ⊥
+  unequal a b h e = grind (arith, nat_tests)

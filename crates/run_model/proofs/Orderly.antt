@@ -1,0 +1,167 @@
+-- Connections stay orderly: calls stay inside their module, nothing is left between calls, and budgets are kept.
+use Rattle.std.proofs.Common.{◌≡◌, ℕ, ◌+◌, ◌<◌, Bool, true, false, ◌||◌, not, cond, List, [], ◌∷◌, length, get_or, Option, Some, None, unwrap_or, Result, Ok, Err, nat_le, refl, sym, ap, subst, arith}
+use Rattle.std.proofs.lemmas.Bool.Decides.{nat_tests}
+use Rattle.std.proofs.lemmas.Option.{slice_get-get_or}
+use Rattle.module_lang.specs.declared.instr.Status.TheVariants.{Success}
+use Rattle.module_lang.specs.declared.instr.Instr.{Instr}
+use Rattle.module_lang.specs.declared.instr.Instr.TheVariants as instr
+use Rattle.module_lang.specs.Program.{Program, IsModule, IsPlaced, target}
+use Rattle.run_model.specs.declared.bucket.Var.{Var}
+use Rattle.run_model.specs.declared.bucket.Var.TheVariants as var
+use Rattle.run_model.specs.declared.fault.FaultKind.{FaultKind}
+use Rattle.run_model.specs.declared.event.Piece.{Piece}
+use Rattle.run_model.specs.declared.event.Event.TheVariants as event
+use Rattle.run_model.specs.declared.event.Cause.{Cause}
+use Rattle.run_model.specs.declared.event.Cause.TheVariants as cause
+use Rattle.run_model.specs.declared.event.Refusal.TheVariants as refusal
+use Rattle.run_model.specs.declared.event.Stepped.{Stepped}
+use Rattle.run_model.specs.declared.event.Stepped.TheVariants as stepped
+use Rattle.run_model.specs.declared.event.StepRefusal.{StepRefusal}
+use Rattle.run_model.specs.declared.event.StepRefusal.TheVariants as step_refusal
+use Rattle.run_model.specs.Pools.{is_empty, is_under}
+use Rattle.run_model.specs.State.{Run, fresh_call, items_of, set_brig}
+use Rattle.run_model.specs.Faults.{fault}
+use Rattle.run_model.specs.Steps.{step_at_end, settled, jumps_if, names_of, grows, is_spent, current, succeeded, executed, unless_fault, watched}
+use Rattle.run_model.specs.Connection.{Connection, opened, begins, brings, ends, takes, steps, begun, brought, ended, cleared_var, first_refusal, refused_if, if_broken, broke, step_answer, step_from, step_if}
+use Rattle.run_model.specs.Laws.{IsOrderly, OrderlyWorld, EventKeepsOrder, RunIsOrderly}
+use Rattle.run_model.proofs.Runs.{run_keeps}
+use Rattle.run_model.proofs.Happened.{none_first, none_if, happened, told, stepped_told}
+
+-- What an answer says of the run that it leaves: a call goes on inside the module, or ends and leaves nothing, or
+-- the run is as before.
+abbrev pub Left : Program → Run → Result Stepped StepRefusal → Run → Type 0
+Left p old (Ok stepped.Went) new = new.pc < length p.code
+Left p old (Ok (stepped.CallEnded s)) new = (new.inst.brigs 8 ≡ var.Null) × (new.call ≡ fresh_call 0)
+Left p old (Ok (stepped.Fault k m pc)) new = new ≡ old
+Left p old (Err r) new = new ≡ old
+
+-- a jump that is taken or not
+branched : (p : Program) (i : Instr) (l : ℕ) (old r : Run) (b : Bool) → l < length p.code → r.pc + 1 < length p.code → unwrap_or (target i) 0 ≡ l
+    → Left p old (Ok (settled i (jumps_if b) r).0) (settled i (jumps_if b) r).1
+branched p i l old r true jump next is = rw is jump
+branched p i l old r false jump next is = next
+
+settled_left : (p : Program) (i : Instr) (r : Run) → IsPlaced p r.pc i → Left p r (Ok (settled i (step_at_end p i r).exit (step_at_end p i r).run).0) (settled i (step_at_end p i r).exit (step_at_end p i r).run).1
+unfolding set_brig
+settled_left p (instr.BCreate o) r placed = placed.next refl
+settled_left p (instr.BClean b) r placed = placed.next refl
+settled_left p (instr.BConcat a b) r placed = placed.next refl
+settled_left p (instr.Pass b l) r placed = placed.next refl
+settled_left p (instr.JEmpty b l) r placed = branched p (instr.JEmpty b l) l r r (is_empty (items_of (r.inst.brigs b))) placed.jump (placed.next refl) refl
+settled_left p (instr.JSent l) r placed = branched p (instr.JSent l) l r r r.inst.sent placed.jump (placed.next refl) refl
+settled_left p (instr.Jump l) r placed = placed.jump
+settled_left p (instr.Ret s) r placed = (refl, refl)
+
+watched_left : (memory : Bool) (p : Program) (i : Instr) (r : Run) → IsPlaced p r.pc i → Left p r (watched memory p i r).0 (watched memory p i r).1
+watched_left memory p i r placed = by_fault (fault p r i) where
+  by_memory : (b : Bool) → Left p r (cond b (succeeded (settled i (step_at_end p i r).exit (step_at_end p i r).run)) (Err step_refusal.NoMemory, r)).0 (cond b (succeeded (settled i (step_at_end p i r).exit (step_at_end p i r).run)) (Err step_refusal.NoMemory, r)).1
+  by_memory true = settled_left p i r placed
+  by_memory false = refl
+
+  by_names : (b : Bool) → Left p r (cond b (Err step_refusal.NamesSpent, r) (cond (memory || not (grows i)) (succeeded (settled i (step_at_end p i r).exit (step_at_end p i r).run)) (Err step_refusal.NoMemory, r))).0
+      (cond b (Err step_refusal.NamesSpent, r) (cond (memory || not (grows i)) (succeeded (settled i (step_at_end p i r).exit (step_at_end p i r).run)) (Err step_refusal.NoMemory, r))).1
+  by_names true = refl
+  by_names false = by_memory (memory || not (grows i))
+
+  by_fault : (f : Option FaultKind) → Left p r (unless_fault f r (executed memory p i r)).0 (unless_fault f r (executed memory p i r)).1
+  by_fault None = by_names (is_spent r.shared.next (names_of i))
+  by_fault (Some k) = refl
+
+-- the instruction at a place of the code is one of the code
+placed_at : (p : Program) → IsModule p → (pc : ℕ) → pc < length p.code → IsPlaced p pc (current p pc)
+unfolding current
+placed_at p m pc lt = m.placed pc (get_or p.code pc (instr.Ret Success)) (slice_get-get_or p.code pc (instr.Ret Success) lt)
+
+-- a connection that only broke
+unchanged : (budget : ℕ) (p : Program) (c : Connection) (r : Run) (b : Option Cause) → r ≡ c.run → IsOrderly budget p c → IsOrderly budget p (record c { run = r; broken = b })
+unchanged budget p c r b same s = record {
+  placed = λ h. subst (λ (x : Run). x.pc < length p.code) (sym same) (s.placed h);
+  nothing_brought = λ h. subst (λ (x : Run). x.inst.brigs 8 ≡ var.Null) (sym same) (s.nothing_brought h);
+  no_call = λ h. subst (λ (x : Run). x.call ≡ fresh_call 0) (sym same) (s.no_call h);
+  spent = s.spent;
+}
+
+answered_order : (budget : ℕ) (p : Program) (c : Connection) (a : Result Stepped StepRefusal) (r : Run) → c.busy ≡ true → c.count < budget → IsOrderly budget p c → Left p c.run a r
+    → IsOrderly budget p (step_answer a (record c { run = r })).1
+answered_order budget p c (Ok stepped.Went) r busy few s left = record { placed = λ h. left; nothing_brought = λ h. absurd (cc); no_call = λ h. absurd (cc); spent = omega arith }
+answered_order budget p c (Ok (stepped.CallEnded st)) r busy few s left = record { placed = λ h. absurd (cc); nothing_brought = λ h. left.0; no_call = λ h. left.1; spent = omega arith }
+answered_order budget p c (Ok (stepped.Fault k m pc)) r busy few s left = unchanged budget p c r (Some cause.Faulted) left s
+answered_order budget p c (Err step_refusal.NamesSpent) r busy few s left = unchanged budget p c r (Some cause.NamesSpent) left s
+answered_order budget p c (Err step_refusal.NoMemory) r busy few s left = unchanged budget p c r (Some cause.NoMemory) left s
+
+-- Events.
+
+-- a connection that is busy, and has a place inside the module and a fresh count
+calls_order : (budget : ℕ) (p : Program) (c : Connection) → c.busy ≡ true → c.count ≡ 0 → c.run.pc < length p.code → IsOrderly budget p c
+calls_order budget p c busy none inside = record { placed = λ h. inside; nothing_brought = λ h. absurd (cc); no_call = λ h. absurd (cc); spent = omega (arith, none) }
+
+few : (budget count : ℕ) → nat_le budget count ≡ false → count < budget
+few budget count h = grind (arith, nat_tests)
+
+steps_order : (memory : Bool) (budget : ℕ) (p : Program) (c : Connection) → IsModule p → IsOrderly budget p c → IsOrderly budget p (steps memory budget p c).1
+unfolding steps
+steps_order memory budget p c m s = by_broken c.broken where
+  by_budget : (b : Bool) → nat_le budget c.count ≡ b → c.busy ≡ true → IsOrderly budget p (cond b (broke cause.OutOfSteps c) (step_from (watched memory p (current p c.run.pc) c.run) c)).1
+  by_budget true met busy = unchanged budget p c c.run (Some cause.OutOfSteps) refl s
+  by_budget false met busy =
+      answered_order budget p c (watched memory p (current p c.run.pc) c.run).0 (watched memory p (current p c.run.pc) c.run).1 busy (few budget c.count met) s
+      (watched_left memory p (current p c.run.pc) c.run (placed_at p m c.run.pc (s.placed busy)))
+
+  by_idle : (b : Bool) → c.busy ≡ b → IsOrderly budget p (step_if (first_refusal (refused_if (not b) refusal.Idle ∷ [])) memory budget p c).1
+  by_idle true busy = by_budget (nat_le budget c.count) refl busy
+  by_idle false idle = s
+
+  by_broken : (b : Option Cause) → IsOrderly budget p (step_if (first_refusal (if_broken b ∷ (refused_if (not c.busy) refusal.Idle ∷ []))) memory budget p c).1
+  by_broken None = by_idle c.busy refl
+  by_broken (Some k) = s
+
+begins_order : (memory : Bool) (budget : ℕ) (p : Program) (c : Connection) → IsModule p → IsOrderly budget p c → IsOrderly budget p (begins memory p c).1
+unfolding begins
+begins_order memory budget p c m s = happened (λ x. IsOrderly budget p x) _ c (begun p c) s (λ none. calls_order budget p (begun p c) refl refl m.inits)
+
+brings_order : (memory : Bool) (budget : ℕ) (p : Program) (pieces : List Piece) (c : Connection) → IsModule p → IsOrderly budget p c → IsOrderly budget p (brings memory p pieces c).1
+unfolding brings
+brings_order memory budget p pieces c m s = happened (λ x. IsOrderly budget p x) _ c (brought p pieces c) s (λ none. calls_order budget p (brought p pieces c) refl refl m.mains)
+
+-- a clear leaves what is null
+null_cleared : (reached : ℕ → Bool) (v : Var) → v ≡ var.Null → cleared_var reached v ≡ var.Null
+null_cleared reached v is = ap (cleared_var reached) is
+
+ended_order : (budget : ℕ) (p : Program) (o : Option ℕ) (c : Connection) → c.busy ≡ false → IsOrderly budget p c → IsOrderly budget p (ended o c)
+ended_order budget p None c idle s = s
+ended_order budget p (Some req) c idle s = record {
+  placed = λ h. absurd (cc);
+  nothing_brought = λ h. null_cleared (is_under c.run.shared.pools req) (c.run.inst.brigs 8) (s.nothing_brought h);
+  no_call = λ h. s.no_call h;
+  spent = s.spent;
+}
+
+ends_order : (budget : ℕ) (p : Program) (c : Connection) → IsOrderly budget p c → IsOrderly budget p (ends c).1
+unfolding ends
+ends_order budget p c s = happened (λ x. IsOrderly budget p x) _ c (ended c.run.shared.req c) s (λ none.
+    ended_order budget p c.run.shared.req c (none_if c.busy refusal.Busy _ (none_first (if_broken c.broken) _ none)).0 s)
+
+takes_order : (budget : ℕ) (p : Program) (c : Connection) → IsOrderly budget p c → IsOrderly budget p (takes c).1
+unfolding takes
+takes_order budget p c s = record { placed = λ h. s.placed h; nothing_brought = λ h. s.nothing_brought h; no_call = λ h. s.no_call h; spent = s.spent }
+
+opened_order : (budget : ℕ) (p : Program) → IsModule p → IsOrderly budget p opened
+unfolding opened
+opened_order budget p m = record { placed = λ h. m.opens; nothing_brought = λ h. absurd (cc); no_call = λ h. absurd (cc); spent = omega arith }
+
+pub event_order : EventKeepsOrder
+event_order memory budget p event.Open None m s = opened_order budget p m
+event_order memory budget p event.Open (Some c) m s = s
+event_order memory budget p event.Begin None m s = s
+event_order memory budget p event.Begin (Some c) m s = told (λ x. IsOrderly budget p x) (begins memory p c) (begins_order memory budget p c m s)
+event_order memory budget p (event.Bring pieces) None m s = s
+event_order memory budget p (event.Bring pieces) (Some c) m s = told (λ x. IsOrderly budget p x) (brings memory p pieces c) (brings_order memory budget p pieces c m s)
+event_order memory budget p event.Step None m s = s
+event_order memory budget p event.Step (Some c) m s = stepped_told (λ x. IsOrderly budget p x) (steps memory budget p c) (steps_order memory budget p c m s)
+event_order memory budget p event.End None m s = s
+event_order memory budget p event.End (Some c) m s = told (λ x. IsOrderly budget p x) (ends c) (ends_order budget p c s)
+event_order memory budget p event.TakeOutput None m s = s
+event_order memory budget p event.TakeOutput (Some c) m s = takes_order budget p c s
+
+pub run_order : RunIsOrderly
+run_order budget p es answers w m run = run_keeps budget p (OrderlyWorld budget p) (λ memory e v s. event_order memory budget p e v m s) None w es answers tt run

@@ -1,0 +1,162 @@
+-- Each event keeps what is sound, and so does each run.
+use Rattle.std.proofs.Common.{◌≡◌, ℕ, ◌+◌, Bool, true, false, ◌||◌, not, cond, List, length, get_or, Option, Some, None, is_some, Result, Ok, Err, nat_le, inl, inr, refl, ap}
+use Rattle.std.proofs.lemmas.Bool.{cases_lt}
+use Rattle.std.proofs.lemmas.List.{get_or_past}
+use Rattle.std.proofs.lemmas.Option.{slice_get-get_or}
+use Rattle.module_lang.specs.declared.instr.Status.TheVariants.{Success}
+use Rattle.module_lang.specs.declared.instr.Instr.{Instr}
+use Rattle.module_lang.specs.declared.instr.Instr.TheVariants as instr
+use Rattle.module_lang.specs.Program.{Program, IsModule, fits}
+use Rattle.run_model.specs.declared.event.Piece.{Piece}
+use Rattle.run_model.specs.declared.event.Event.TheVariants as event
+use Rattle.run_model.specs.declared.event.Exit.{Exit}
+use Rattle.run_model.specs.declared.event.Exit.TheVariants.{GoOn, Jump, Return}
+use Rattle.run_model.specs.declared.event.Cause.TheVariants as cause
+use Rattle.run_model.specs.declared.event.Stepped.{Stepped}
+use Rattle.run_model.specs.declared.event.Stepped.TheVariants as stepped
+use Rattle.run_model.specs.declared.event.StepRefusal.{StepRefusal}
+use Rattle.run_model.specs.declared.event.StepRefusal.TheVariants as step_refusal
+use Rattle.run_model.specs.declared.event.Refusal.{Refusal}
+use Rattle.run_model.specs.declared.event.Refusal.TheVariants as refusal
+use Rattle.run_model.specs.declared.fault.FaultKind.{FaultKind}
+use Rattle.run_model.specs.State.{Run}
+use Rattle.run_model.specs.Faults.{fault}
+use Rattle.run_model.specs.Steps.{step, step_at_end, settled, names_of, grows, is_spent, current, succeeded, executed, unless_fault, watched}
+use Rattle.run_model.specs.Connection.{Connection, begins, brings, ends, takes, steps, begun, brought, ended, if_broken, step_answer, step_from, step_if, after_step, broke, data_behind_eos}
+use Rattle.run_model.specs.Sound.{Sound}
+use Rattle.run_model.specs.Laws.{MayExecute, StepAtEndKeeps, SoundWorld, EventKeepsSound, RunIsSound}
+use Rattle.run_model.proofs.Runs.{run_keeps}
+use Rattle.run_model.proofs.Happened.{none_first, none_if, happened, told, stepped_told}
+use Rattle.run_model.proofs.StepNames.{step_names}
+use Rattle.run_model.proofs.StepBuckets.{step_buckets}
+use Rattle.run_model.proofs.StepPools.{step_pools}
+use Rattle.run_model.proofs.Events.{untouched_sound, begun_sound, brought_sound, ended_sound, opened_sound}
+
+-- Steps.
+
+succeeds : (p : Program) (i : Instr) (r : Run) → MayExecute p r i → Sound r → Sound (step p (record { answer = Success }) i r).run
+succeeds p i r may s = record {
+  names = step_names p (record { answer = Success }) i r may s.names;
+  buckets = step_buckets p (record { answer = Success }) i r may s.buckets;
+  pools = step_pools p (record { answer = Success }) i r may s.pools;
+}
+
+pub at_end_sound : StepAtEndKeeps
+at_end_sound p (instr.Pass b l) r may s =
+    untouched_sound (step p (record { answer = Success }) (instr.Pass b l) r).run (step_at_end p (instr.Pass b l) r).run refl refl refl (succeeds p (instr.Pass b l) r may s)
+at_end_sound p (instr.BCreate o) r may s = succeeds p (instr.BCreate o) r may s
+at_end_sound p (instr.BClean b) r may s = succeeds p (instr.BClean b) r may s
+at_end_sound p (instr.BConcat a b) r may s = succeeds p (instr.BConcat a b) r may s
+at_end_sound p (instr.JEmpty b l) r may s = succeeds p (instr.JEmpty b l) r may s
+at_end_sound p (instr.JSent l) r may s = succeeds p (instr.JSent l) r may s
+at_end_sound p (instr.Jump l) r may s = succeeds p (instr.Jump l) r may s
+at_end_sound p (instr.Ret st) r may s = succeeds p (instr.Ret st) r may s
+
+settled_sound : (i : Instr) (exit : Exit) (r : Run) → Sound r → Sound (settled i exit r).1
+settled_sound i GoOn r s = untouched_sound r (settled i GoOn r).1 refl refl refl s
+settled_sound i Jump r s = untouched_sound r (settled i Jump r).1 refl refl refl s
+settled_sound i Return r s = s
+
+-- the instruction at a place fits the module, and so does the return that stands for none
+pub current_fits : (p : Program) → IsModule p → (pc : ℕ) → fits p (current p pc) ≡ true
+unfolding current
+current_fits p m pc = elim (cases_lt pc (length p.code)) [
+  | inl lt ↦ (m.placed pc (get_or p.code pc (instr.Ret Success)) (slice_get-get_or p.code pc (instr.Ret Success) lt)).fit
+  | inr le ↦ ap (fits p) (get_or_past p.code pc (instr.Ret Success) le)
+]
+
+watched_sound : (memory : Bool) (p : Program) (i : Instr) (r : Run) → IsModule p → fits p i ≡ true → Sound r → Sound (watched memory p i r).1
+watched_sound memory p i r m fit s = by_fault (fault p r i) refl where
+  by_memory : (b : Bool) → MayExecute p r i → Sound (cond b (succeeded (settled i (step_at_end p i r).exit (step_at_end p i r).run)) (Err step_refusal.NoMemory, r)).1
+  by_memory true may = settled_sound i (step_at_end p i r).exit (step_at_end p i r).run (at_end_sound p i r may s)
+  by_memory false may = s
+
+  by_names : (b : Bool) → is_spent r.shared.next (names_of i) ≡ b → fault p r i ≡ None
+      → ((may : MayExecute p r i) → Sound (cond (memory || not (grows i)) (succeeded (settled i (step_at_end p i r).exit (step_at_end p i r).run)) (Err step_refusal.NoMemory, r)).1)
+      → Sound (cond b (Err step_refusal.NamesSpent, r) (cond (memory || not (grows i)) (succeeded (settled i (step_at_end p i r).exit (step_at_end p i r).run)) (Err step_refusal.NoMemory, r))).1
+  by_names true spent none rest = s
+  by_names false spent none rest = rest (record { proper = m; fit = fit; faultless = none; names_last = spent })
+
+  by_fault : (f : Option FaultKind) → fault p r i ≡ f → Sound (unless_fault f r (executed memory p i r)).1
+  by_fault None none = by_names (is_spent r.shared.next (names_of i)) refl none (by_memory (memory || not (grows i)))
+  by_fault (Some k) none = s
+
+-- A step of a connection.
+
+after_sound : (a : Stepped) (c : Connection) → Sound c.run → Sound (after_step a c).run
+after_sound stepped.Went c s = s
+after_sound (stepped.CallEnded status) c s = s
+after_sound (stepped.Fault k m pc) c s = s
+
+answer_sound : (a : Result Stepped StepRefusal) (c : Connection) → Sound c.run → Sound (step_answer a c).1.run
+answer_sound (Ok a) c s = after_sound a c s
+answer_sound (Err step_refusal.NamesSpent) c s = s
+answer_sound (Err step_refusal.NoMemory) c s = s
+
+step_if_sound : (o : Option Refusal) (memory : Bool) (budget : ℕ) (p : Program) (c : Connection) → IsModule p → Sound c.run → Sound (step_if o memory budget p c).1.run
+step_if_sound (Some r) memory budget p c m s = s
+step_if_sound None memory budget p c m s = by_budget (nat_le budget c.count) where
+  by_budget : (b : Bool) → Sound (cond b (broke cause.OutOfSteps c) (step_from (watched memory p (current p c.run.pc) c.run) c)).1.run
+  by_budget true = s
+  by_budget false = answer_sound (watched memory p (current p c.run.pc) c.run).0 (record c { run = (watched memory p (current p c.run.pc) c.run).1 }) (watched_sound memory p (current p c.run.pc) c.run m (current_fits p m c.run.pc) s)
+
+steps_sound : (memory : Bool) (budget : ℕ) (p : Program) (c : Connection) → IsModule p → Sound c.run → Sound (steps memory budget p c).1.run
+unfolding steps
+steps_sound memory budget p c m s = step_if_sound _ memory budget p c m s
+
+-- The other events. Where none of the tests holds, the event happens.
+
+abbrev SoundConnection : Connection → Type 0
+SoundConnection c = Sound c.run
+
+begins_sound : (memory : Bool) (p : Program) (c : Connection) → Sound c.run → Sound (begins memory p c).1.run
+unfolding begins
+begins_sound memory p c s = happened SoundConnection _ c (begun p c) s (λ none.
+    let a = none_first (if_broken c.broken) _ none in
+    let b = none_if c.busy refusal.Busy _ a in
+    let d = none_if (is_some c.run.shared.req) refusal.InRequest _ b.1 in
+    let e = none_if (is_spent c.run.shared.pools.next 1 || is_spent c.run.shared.next 1) refusal.NamesSpent _ d.1 in
+    begun_sound p c e.0 s)
+
+brings_sound : (memory : Bool) (p : Program) (pieces : List Piece) (c : Connection) → Sound c.run → Sound (brings memory p pieces c).1.run
+unfolding brings
+brings_sound memory p pieces c s = happened SoundConnection _ c (brought p pieces c) s (λ none.
+    let a = none_first (if_broken c.broken) _ none in
+    let b = none_if c.busy refusal.Busy _ a in
+    let d = none_if (not (is_some c.run.shared.req)) refusal.NotInRequest _ b.1 in
+    let e = none_if (data_behind_eos pieces) refusal.DataAfterEos _ d.1 in
+    let f = none_if (is_spent c.run.shared.next (2 + length pieces)) refusal.NamesSpent _ e.1 in
+    brought_sound p pieces c f.0 s)
+
+ended_request : (o : Option ℕ) (c : Connection) → c.run.shared.req ≡ o → Sound c.run → Sound (ended o c).run
+ended_request None c is s = s
+ended_request (Some req) c is s = ended_sound req c.run is s
+
+ends_sound : (c : Connection) → Sound c.run → Sound (ends c).1.run
+unfolding ends
+ends_sound c s = happened SoundConnection _ c (ended c.run.shared.req c) s (λ none. ended_request c.run.shared.req c refl s)
+
+takes_sound : (c : Connection) → Sound c.run → Sound (takes c).1.run
+unfolding takes
+takes_sound c s = untouched_sound c.run (takes c).1.run refl refl refl s
+
+-- All events.
+
+pub event_sound : EventKeepsSound
+event_sound memory budget p event.Open None m s = opened_sound
+event_sound memory budget p event.Open (Some c) m s = s
+event_sound memory budget p event.Begin None m s = s
+event_sound memory budget p event.Begin (Some c) m s = told SoundConnection (begins memory p c) (begins_sound memory p c s)
+event_sound memory budget p (event.Bring pieces) None m s = s
+event_sound memory budget p (event.Bring pieces) (Some c) m s = told SoundConnection (brings memory p pieces c) (brings_sound memory p pieces c s)
+event_sound memory budget p event.Step None m s = s
+event_sound memory budget p event.Step (Some c) m s = stepped_told SoundConnection (steps memory budget p c) (steps_sound memory budget p c m s)
+event_sound memory budget p event.End None m s = s
+event_sound memory budget p event.End (Some c) m s = told SoundConnection (ends c) (ends_sound c s)
+event_sound memory budget p event.TakeOutput None m s = s
+event_sound memory budget p event.TakeOutput (Some c) m s = takes_sound c s
+
+-- Runs.
+
+pub run_sound : RunIsSound
+run_sound budget p es answers w m run = run_keeps budget p SoundWorld (λ memory e v s. event_sound memory budget p e v m s) None w es answers tt run

@@ -1,0 +1,222 @@
+-- Steps and events keep the home and the content of each bucket as its kind has them.
+use Rattle.std.proofs.Common.{◌≡◌, ℕ, ◌+◌, Bool, true, false, ◌&&◌, ◌||◌, ◌==◌, cond, List, [], ◌∷◌, ◌++◌, map, refl, sym, subst, All}
+use Rattle.std.proofs.lemmas.List.Elements.{All-nil, All-cons, All-append, All-map}
+use Rattle.module_lang.specs.declared.instr.Instr.TheVariants as instr
+use Rattle.module_lang.specs.Program.{Program}
+use Rattle.run_model.specs.declared.bucket.Kind.{Kind}
+use Rattle.run_model.specs.declared.bucket.Kind.TheVariants as kind
+use Rattle.run_model.specs.declared.bucket.Content.{Content}
+use Rattle.run_model.specs.declared.bucket.Home.{Home}
+use Rattle.run_model.specs.declared.bucket.Home.TheVariants as home
+use Rattle.run_model.specs.declared.bucket.Named.{Named}
+use Rattle.run_model.specs.declared.bucket.Var.{Var}
+use Rattle.run_model.specs.declared.bucket.Var.TheVariants as var
+use Rattle.run_model.specs.declared.event.Piece.{Piece}
+use Rattle.run_model.specs.declared.event.Piece.TheVariants as piece
+use Rattle.run_model.specs.Indexed.{upd}
+use Rattle.run_model.specs.Buckets.{is_ended, end_call, end_pools, to_heap, returned_bucket, cleared_bucket}
+use Rattle.run_model.specs.State.{Run, items_of, set_brig}
+use Rattle.run_model.specs.Steps.{do_create, do_clean, do_concat, do_pass, do_return, cleaned, with_items, handed_over, returned_var}
+use Rattle.run_model.specs.Connection.{named_from, cleared_var, is_reached}
+use Rattle.run_model.specs.Sound.{is_free, is_call, is_pool, home_fits, content_fits, is_proper, SoundBuckets}
+use Rattle.run_model.specs.Laws.{StepKeepsBuckets}
+use Rattle.run_model.proofs.Names.{at_each, at_two}
+
+-- One bucket.
+
+both : (x y : Bool) → x ≡ true → y ≡ true → (x && y) ≡ true
+both true true a b = refl
+both true false a b = b
+both false y a b = a
+
+each : (x y : Bool) → (x && y) ≡ true → (x ≡ true) × (y ≡ true)
+each true true h = (refl, refl)
+each true false h = absurd (cc)
+each false y h = absurd (cc)
+
+free_call : (call : ℕ) (h : Home) → is_free h ≡ true → is_free (end_call call h) ≡ true
+free_call call home.Free e = refl
+free_call call (home.Call n) e = absurd (cc)
+free_call call (home.Pool n) e = absurd (cc)
+free_call call home.Ended e = absurd (cc)
+
+call_call : (call : ℕ) (h : Home) → (is_call h || is_ended h) ≡ true → (is_call (end_call call h) || is_ended (end_call call h)) ≡ true
+call_call call home.Free e = e
+call_call call (home.Call n) e = by_test (n == call) where
+  by_test : (b : Bool) → (is_call (cond b home.Ended (home.Call n)) || is_ended (cond b home.Ended (home.Call n))) ≡ true
+  by_test true = refl
+  by_test false = refl
+call_call call (home.Pool n) e = e
+call_call call home.Ended e = refl
+
+pool_call : (call : ℕ) (h : Home) → (is_pool h || is_ended h) ≡ true → (is_pool (end_call call h) || is_ended (end_call call h)) ≡ true
+pool_call call home.Free e = e
+pool_call call (home.Call n) e = absurd (cc)
+pool_call call (home.Pool n) e = e
+pool_call call home.Ended e = refl
+
+home_call : (call : ℕ) (k : Kind) (h : Home) → home_fits k h ≡ true → home_fits k (end_call call h) ≡ true
+home_call call kind.Heap h e = free_call call h e
+home_call call kind.Transient h e = call_call call h e
+home_call call kind.Immortal h e = free_call call h e
+home_call call (kind.Pool p) h e = free_call call h e
+home_call call kind.File h e = pool_call call h e
+home_call call kind.Flush h e = free_call call h e
+home_call call kind.Eos h e = free_call call h e
+
+pub returned_proper : (call : ℕ) (b : Named) → is_proper b ≡ true → is_proper (returned_bucket call b) ≡ true
+unfolding is_proper
+returned_proper call b e =
+    let parts = each (home_fits b.bucket.kind b.bucket.home) (content_fits b.bucket.kind b.bucket.content) e in
+    both _ _ (home_call call b.bucket.kind b.bucket.home parts.0) parts.1
+
+free_pools : (reached : ℕ → Bool) (h : Home) → is_free h ≡ true → is_free (end_pools reached h) ≡ true
+free_pools reached home.Free e = refl
+free_pools reached (home.Call n) e = absurd (cc)
+free_pools reached (home.Pool n) e = absurd (cc)
+free_pools reached home.Ended e = absurd (cc)
+
+call_pools : (reached : ℕ → Bool) (h : Home) → (is_call h || is_ended h) ≡ true → (is_call (end_pools reached h) || is_ended (end_pools reached h)) ≡ true
+call_pools reached home.Free e = e
+call_pools reached (home.Call n) e = e
+call_pools reached (home.Pool n) e = absurd (cc)
+call_pools reached home.Ended e = refl
+
+pool_pools : (reached : ℕ → Bool) (h : Home) → (is_pool h || is_ended h) ≡ true → (is_pool (end_pools reached h) || is_ended (end_pools reached h)) ≡ true
+pool_pools reached home.Free e = e
+pool_pools reached (home.Call n) e = absurd (cc)
+pool_pools reached (home.Pool n) e = by_test (reached n) where
+  by_test : (b : Bool) → (is_pool (cond b home.Ended (home.Pool n)) || is_ended (cond b home.Ended (home.Pool n))) ≡ true
+  by_test true = refl
+  by_test false = refl
+pool_pools reached home.Ended e = refl
+
+home_pools : (reached : ℕ → Bool) (k : Kind) (h : Home) → home_fits k h ≡ true → home_fits (to_heap reached k) (end_pools reached h) ≡ true
+home_pools reached kind.Heap h e = free_pools reached h e
+home_pools reached kind.Transient h e = call_pools reached h e
+home_pools reached kind.Immortal h e = free_pools reached h e
+home_pools reached (kind.Pool p) h e = by_test (reached p) where
+  by_test : (b : Bool) → home_fits (cond b kind.Heap (kind.Pool p)) (end_pools reached h) ≡ true
+  by_test true = free_pools reached h e
+  by_test false = free_pools reached h e
+home_pools reached kind.File h e = pool_pools reached h e
+home_pools reached kind.Flush h e = free_pools reached h e
+home_pools reached kind.Eos h e = free_pools reached h e
+
+content_pools : (reached : ℕ → Bool) (k : Kind) (c : Content) → content_fits k c ≡ true → content_fits (to_heap reached k) c ≡ true
+content_pools reached kind.Heap c e = e
+content_pools reached kind.Transient c e = e
+content_pools reached kind.Immortal c e = e
+content_pools reached (kind.Pool p) c e = by_test (reached p) where
+  by_test : (b : Bool) → content_fits (cond b kind.Heap (kind.Pool p)) c ≡ true
+  by_test true = e
+  by_test false = e
+content_pools reached kind.File c e = e
+content_pools reached kind.Flush c e = e
+content_pools reached kind.Eos c e = e
+
+pub cleared_proper : (reached : ℕ → Bool) (b : Named) → is_proper b ≡ true → is_proper (cleared_bucket reached b) ≡ true
+unfolding is_proper
+cleared_proper reached b e =
+    let parts = each (home_fits b.bucket.kind b.bucket.home) (content_fits b.bucket.kind b.bucket.content) e in
+    both _ _ (home_pools reached b.bucket.kind b.bucket.home parts.0) (content_pools reached b.bucket.kind b.bucket.content parts.1)
+
+-- Lists and variables.
+
+abbrev pub ProperList : List Named → Type 0
+ProperList xs = All (λ x. is_proper x ≡ true) xs
+
+pub mapped_proper : (f : Named → Named) → ((b : Named) → is_proper b ≡ true → is_proper (f b) ≡ true) → (xs : List Named) → ProperList xs → ProperList (map f xs)
+mapped_proper f keeps xs h = All-map (λ x. is_proper x ≡ true) f xs (λ k d lt. keeps _ (h k d lt))
+
+pub none_proper : ProperList []
+none_proper = All-nil (λ x. is_proper x ≡ true)
+
+-- the buckets of brought pieces
+pub named_proper : (n : ℕ) (xs : List Piece) → ProperList (named_from n xs)
+unfolding is_proper
+named_proper n [] = All-nil (λ x. is_proper x ≡ true)
+named_proper n (piece.Heap bytes ∷ xs) = All-cons (λ x. is_proper x ≡ true) _ (named_from (n + 1) xs) refl (named_proper (n + 1) xs)
+named_proper n (piece.Eos ∷ xs) = All-cons (λ x. is_proper x ≡ true) _ (named_from (n + 1) xs) refl (named_proper (n + 1) xs)
+
+-- what a change of a variable does to its buckets
+abbrev pub KeepsProper : Var → Var → Type 0
+KeepsProper v w = ProperList (items_of v) → ProperList (items_of w)
+
+same_proper : (v : Var) → KeepsProper v v
+same_proper v h = h
+
+cleaned_proper : (v : Var) → ProperList (items_of (cleaned v))
+cleaned_proper var.Null = none_proper
+cleaned_proper var.Gone = none_proper
+cleaned_proper (var.Live v) = none_proper
+
+handed_proper : (v : Var) → ProperList (items_of (handed_over v))
+handed_proper var.Null = none_proper
+handed_proper var.Gone = none_proper
+handed_proper (var.Live v) = none_proper
+
+filled_proper : (items : List Named) (v : Var) → ProperList items → ProperList (items_of (with_items items v))
+filled_proper items var.Null h = none_proper
+filled_proper items var.Gone h = none_proper
+filled_proper items (var.Live v) h = h
+
+returned_list : (call : ℕ) (v : Var) → KeepsProper v (returned_var call v)
+returned_list call var.Null h = none_proper
+returned_list call var.Gone h = none_proper
+returned_list call (var.Live v) h = mapped_proper (returned_bucket call) (returned_proper call) v.items h
+
+pub cleared_list : (reached : ℕ → Bool) (v : Var) → KeepsProper v (cleared_var reached v)
+cleared_list reached var.Null h = none_proper
+cleared_list reached var.Gone h = none_proper
+cleared_list reached (var.Live v) h = by_test (is_reached reached v.on) where
+  by_test : (b : Bool) → ProperList (items_of (cond b var.Gone (var.Live (record v { items = map (cleared_bucket reached) v.items }))))
+  by_test true = none_proper
+  by_test false = mapped_proper (cleared_bucket reached) (cleared_proper reached) v.items h
+
+-- where each variable keeps its buckets proper, and the loose ones stay or go
+pub keeps_buckets : (r new : Run) → ((b : ℕ) → KeepsProper (r.inst.brigs b) (new.inst.brigs b)) → (ProperList r.call.loose → ProperList new.call.loose) → SoundBuckets r → SoundBuckets new
+keeps_buckets r new slots loose s = record { brigades = λ b. slots b (s.brigades b); loose = loose s.loose }
+
+-- one variable is written
+pub written_buckets : (r new : Run) (i : ℕ) (w : Var) → new.inst.brigs ≡ upd r.inst.brigs i w → ProperList (items_of w) → (ProperList r.call.loose → ProperList new.call.loose) → SoundBuckets r → SoundBuckets new
+written_buckets r new i w is proper loose s =
+    keeps_buckets r new (λ b. subst (λ (g : ℕ → Var). KeepsProper (r.inst.brigs b) (g b)) (sym is) (at_each KeepsProper r.inst.brigs i w (λ h. proper) same_proper b)) loose s
+
+create_buckets : (p : Program) (o : ℕ) (r : Run) → SoundBuckets r → SoundBuckets (do_create p o r)
+unfolding set_brig
+create_buckets p o r s = written_buckets r (do_create p o r) o _ refl none_proper (λ h. h) s
+
+clean_buckets : (b : ℕ) (r : Run) → SoundBuckets r → SoundBuckets (do_clean b r)
+unfolding set_brig
+clean_buckets b r s = written_buckets r (do_clean b r) b (cleaned (r.inst.brigs b)) refl (cleaned_proper (r.inst.brigs b)) (λ h. h) s
+
+pass_buckets : (b : ℕ) (r : Run) → SoundBuckets r → SoundBuckets (do_pass b r)
+unfolding set_brig
+pass_buckets b r s = written_buckets r (do_pass b r) b (handed_over (r.inst.brigs b)) refl (handed_proper (r.inst.brigs b)) (λ h. h) s
+
+concat_buckets : (a b : ℕ) (r : Run) → SoundBuckets r → SoundBuckets (do_concat a b r)
+unfolding set_brig
+concat_buckets a b r s =
+    keeps_buckets r (do_concat a b r)
+    (at_two KeepsProper r.inst.brigs b a (with_items [] (r.inst.brigs b)) (with_items (items_of (r.inst.brigs a) ++ items_of (r.inst.brigs b)) (r.inst.brigs a))
+    (λ h. filled_proper [] (r.inst.brigs b) none_proper)
+    (λ h. filled_proper _ (r.inst.brigs a) (All-append (λ x. is_proper x ≡ true) (items_of (r.inst.brigs a)) (items_of (r.inst.brigs b)) h (s.brigades b)))
+    same_proper)
+    (λ h. h) s
+
+return_buckets : (r : Run) → SoundBuckets r → SoundBuckets (do_return r)
+return_buckets r s = keeps_buckets r (do_return r) (λ b. left b (b == 8)) (λ h. none_proper) s where
+  left : (b : ℕ) (is_in : Bool) → KeepsProper (r.inst.brigs b) (cond is_in var.Null (returned_var r.call.name (r.inst.brigs b)))
+  left b true h = none_proper
+  left b false h = returned_list r.call.name (r.inst.brigs b) h
+
+pub step_buckets : StepKeepsBuckets
+step_buckets p choice (instr.BCreate o) r may s = create_buckets p o r s
+step_buckets p choice (instr.BClean b) r may s = clean_buckets b r s
+step_buckets p choice (instr.BConcat a b) r may s = concat_buckets a b r s
+step_buckets p choice (instr.Pass b l) r may s = pass_buckets b r s
+step_buckets p choice (instr.JEmpty b l) r may s = s
+step_buckets p choice (instr.JSent l) r may s = s
+step_buckets p choice (instr.Jump l) r may s = s
+step_buckets p choice (instr.Ret st) r may s = return_buckets r s

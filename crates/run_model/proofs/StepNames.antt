@@ -1,0 +1,77 @@
+-- A step without a fault keeps names.
+use Rattle.std.proofs.Common.{◌≡◌, ℕ, ◌+◌, ◌^◌, ◌<◌, ◌≤◌, Bool, true, false, ◌==◌, cond, [], ◌++◌, refl, ap, arith}
+use Rattle.std.proofs.lemmas.Bool.Decides.{nat_tests}
+use Rattle.module_lang.specs.declared.instr.Instr.TheVariants as instr
+use Rattle.module_lang.specs.Program.{Program, pool_of_brigade}
+use Rattle.run_model.specs.declared.bucket.Mark.TheVariants.{Usable}
+use Rattle.run_model.specs.declared.bucket.Var.{Var}
+use Rattle.run_model.specs.declared.bucket.Var.TheVariants as var
+use Rattle.run_model.specs.Indexed.{upd}
+use Rattle.run_model.specs.State.{Run, items_of, set_brig, pool_named}
+use Rattle.run_model.specs.Steps.{do_create, do_clean, do_concat, do_pass, do_return, cleaned, with_items, handed_over, returned_var, is_spent}
+use Rattle.run_model.specs.Sound.{sum_below, count_named, SoundNames}
+use Rattle.run_model.specs.Laws.{StepKeepsNames}
+use Rattle.run_model.proofs.Updates.{upd_off}
+use Rattle.run_model.proofs.Sums.{sum_below_upd}
+use Rattle.run_model.proofs.Operands.{created_below, TwoBrigades, two_brigades}
+use Rattle.run_model.proofs.Names.{count_none, count_append, Carried, Fewer, carried_same, fewer_same, fewer_none, cleaned_fewer, handed_fewer, returned_fewer, filled_carried, filled_items, at_each, at_two, keeps_names, keeps_slots, placed_names}
+
+-- names that are not spent stay below the limit
+pub not_spent : (next names : ℕ) → is_spent next names ≡ false → next + names < 2 ^ 64
+unfolding is_spent
+not_spent next names h = grind (arith, nat_tests)
+
+create_names : (p : Program) (o : ℕ) (r : Run) → o < 9 → r.shared.next + 1 < 2 ^ 64 → SoundNames r → SoundNames (do_create p o r)
+unfolding set_brig
+create_names p o r lt limit s =
+    placed_names r (do_create p o r) o (record { name = r.shared.next; on = pool_named r (pool_of_brigade p o); mark = Usable; items = [] }) lt refl
+    (λ n. omega arith) (omega arith) (omega arith) limit (λ n h. count_none n) (λ n. rw (count_none n) (omega arith)) (λ n h. count_none n) s
+
+clean_names : (b : ℕ) (r : Run) → SoundNames r → SoundNames (do_clean b r)
+unfolding set_brig
+clean_names b r s =
+    keeps_slots r (do_clean b r) (λ n. omega arith) (at_each Fewer r.inst.brigs b (cleaned (r.inst.brigs b)) (cleaned_fewer (r.inst.brigs b)) fewer_same) (omega arith) s.limit s
+
+pass_names : (b : ℕ) (r : Run) → SoundNames r → SoundNames (do_pass b r)
+unfolding set_brig
+pass_names b r s =
+    keeps_slots r (do_pass b r) (λ n. omega arith) (at_each Fewer r.inst.brigs b (handed_over (r.inst.brigs b)) (handed_fewer (r.inst.brigs b)) fewer_same) (omega arith) s.limit s
+
+return_names : (r : Run) → SoundNames r → SoundNames (do_return r)
+return_names r s =
+    keeps_slots r (do_return r) (λ n. rw (count_none n) (omega arith)) (λ b. left b (b == 8)) (omega arith) s.limit s where
+      left : (b : ℕ) (is_in : Bool) → Fewer (r.inst.brigs b) (cond is_in var.Null (returned_var r.call.name (r.inst.brigs b)))
+      left b true = fewer_none _ _ (record { name = λ n h. absurd (cc); null = λ h. refl }) refl
+      left b false = returned_fewer r.call.name (r.inst.brigs b)
+
+-- what one variable loses the other gets
+moved : (g : ℕ → Var) (a b n : ℕ) → TwoBrigades a b
+    → sum_below 9 (λ k. count_named n (items_of (upd (upd g b (with_items [] (g b))) a (with_items (items_of (g a) ++ items_of (g b)) (g a)) k))) ≤ sum_below 9 (λ k. count_named n (items_of (g k)))
+moved g a b n two =
+    let emptied : Var = with_items [] (g b) in
+    let filled : Var = with_items (items_of (g a) ++ items_of (g b)) (g a) in
+    let first : sum_below 9 (λ k. count_named n (items_of (upd (upd g b emptied) a filled k))) + count_named n (items_of (upd g b emptied a)) ≡ sum_below 9 (λ k. count_named n (items_of (upd g b emptied k))) + count_named n (items_of filled) = sum_below_upd 9 a (upd g b emptied) filled (λ x. count_named n (items_of x)) two.first in
+    let second : sum_below 9 (λ k. count_named n (items_of (upd g b emptied k))) + count_named n (items_of (g b)) ≡ sum_below 9 (λ k. count_named n (items_of (g k))) + count_named n (items_of emptied) = sum_below_upd 9 b g emptied (λ x. count_named n (items_of x)) two.second in
+    let there : count_named n (items_of (upd g b emptied a)) ≡ count_named n (items_of (g a)) = ap (λ x. count_named n (items_of x)) (upd_off g b a emptied two.differ) in
+    let none : count_named n (items_of emptied) ≤ count_named n [] = filled_items n [] (g b) in
+    let both : count_named n (items_of filled) ≤ count_named n (items_of (g a) ++ items_of (g b)) = filled_items n (items_of (g a) ++ items_of (g b)) (g a) in
+    omega (arith, count_none n, count_append n (items_of (g a)) (items_of (g b)))
+
+concat_names : (a b : ℕ) (r : Run) → TwoBrigades a b → SoundNames r → SoundNames (do_concat a b r)
+unfolding set_brig
+concat_names a b r two s =
+    keeps_names r (do_concat a b r)
+    (λ n. omega (arith, moved r.inst.brigs a b n two))
+    (at_two Carried r.inst.brigs b a (with_items [] (r.inst.brigs b)) (with_items (items_of (r.inst.brigs a) ++ items_of (r.inst.brigs b)) (r.inst.brigs a))
+    (filled_carried [] (r.inst.brigs b)) (filled_carried (items_of (r.inst.brigs a) ++ items_of (r.inst.brigs b)) (r.inst.brigs a)) carried_same)
+    (omega arith) s.limit s
+
+pub step_names : StepKeepsNames
+step_names p choice (instr.BCreate o) r may s = create_names p o r (created_below p may.proper o may.fit) (not_spent r.shared.next 1 may.names_last) s
+step_names p choice (instr.BClean b) r may s = clean_names b r s
+step_names p choice (instr.BConcat a b) r may s = concat_names a b r (two_brigades p may.proper a b may.fit) s
+step_names p choice (instr.Pass b l) r may s = pass_names b r s
+step_names p choice (instr.JEmpty b l) r may s = s
+step_names p choice (instr.JSent l) r may s = s
+step_names p choice (instr.Jump l) r may s = s
+step_names p choice (instr.Ret st) r may s = return_names r s

@@ -1,0 +1,8 @@
+use Rattle.run_model.proofs.Orderly.{event_order, run_order}
+use Rattle.run_model.proofs.laws.runs_are_orderly.Goals as goal
+
+pub returns-clause-event : goal.returns-clause-event
+returns-clause-event c = event_order
+
+pub returns-clause-run : goal.returns-clause-run
+returns-clause-run c = run_order

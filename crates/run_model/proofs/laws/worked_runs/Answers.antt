@@ -1,0 +1,23 @@
+use Rattle.run_model.proofs.Examples.{pass_runs, fault_runs, break_runs, refused_runs, name_runs, held_faults, held_changes}
+use Rattle.run_model.proofs.laws.worked_runs.Goals as goal
+
+pub returns-clause-passes : goal.returns-clause-passes
+returns-clause-passes c = pass_runs
+
+pub returns-clause-faults : goal.returns-clause-faults
+returns-clause-faults c = fault_runs
+
+pub returns-clause-breaks : goal.returns-clause-breaks
+returns-clause-breaks c = break_runs
+
+pub returns-clause-refusals : goal.returns-clause-refusals
+returns-clause-refusals c = refused_runs
+
+pub returns-clause-names : goal.returns-clause-names
+returns-clause-names c = name_runs
+
+pub returns-clause-held_faults : goal.returns-clause-held_faults
+returns-clause-held_faults c = held_faults
+
+pub returns-clause-held_changes : goal.returns-clause-held_changes
+returns-clause-held_changes c = held_changes

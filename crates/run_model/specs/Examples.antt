@@ -1,0 +1,232 @@
+-- Small modules as values, and what whole runs of them answer.
+use Rattle.std.specs.Prelude.{◌≡◌, ℕ, ◌-◌, ◌^◌, true, false, List, [], ◌∷◌, ◌++◌, Some, None, ◌==◌, if◌then◌else◌}
+use Rattle.module_lang.specs.declared.instr.PoolRef.TheVariants as pool
+use Rattle.module_lang.specs.declared.instr.Status.TheVariants.{Success, Fail}
+use Rattle.module_lang.specs.declared.instr.Instr.{Instr}
+use Rattle.module_lang.specs.declared.instr.Instr.TheVariants as instr
+use Rattle.module_lang.specs.Program.{Program}
+use Rattle.run_model.specs.declared.bucket.Kind.{Kind}
+use Rattle.run_model.specs.declared.bucket.Kind.TheVariants as kind
+use Rattle.run_model.specs.declared.bucket.Content.TheVariants as content
+use Rattle.run_model.specs.declared.bucket.Home.{Home}
+use Rattle.run_model.specs.declared.bucket.Home.TheVariants as home
+use Rattle.run_model.specs.declared.bucket.Named.{Named}
+use Rattle.run_model.specs.declared.bucket.Mark.{Mark}
+use Rattle.run_model.specs.declared.bucket.Mark.TheVariants.{Usable, Passed}
+use Rattle.run_model.specs.declared.bucket.PoolVar.TheVariants as poolvar
+use Rattle.run_model.specs.declared.bucket.Var.TheVariants as var
+use Rattle.run_model.specs.declared.event.Piece.TheVariants as piece
+use Rattle.run_model.specs.declared.event.Event.{Event}
+use Rattle.run_model.specs.declared.event.Event.TheVariants as event
+use Rattle.run_model.specs.declared.event.Stepped.TheVariants as stepped
+use Rattle.run_model.specs.declared.event.Cause.{Cause}
+use Rattle.run_model.specs.declared.event.Cause.TheVariants as cause
+use Rattle.run_model.specs.declared.event.Refusal.TheVariants as refusal
+use Rattle.run_model.specs.declared.fault.FaultKind.TheVariants as fault_kind
+use Rattle.run_model.specs.Pools.{planted, created}
+use Rattle.run_model.specs.State.{Run, items_of}
+use Rattle.run_model.specs.Faults.{fault}
+use Rattle.run_model.specs.Steps.{do_return}
+use Rattle.run_model.specs.Connection.{opened, request_ended}
+use Rattle.run_model.specs.Runs.{Answer, Done, Refused, Step, Output, World, happens}
+
+-- the answers of these events, where memory is ample
+unfoldable pub answers_from : World → ℕ → Program → List Event → List Answer
+answers_from w budget p [] = []
+answers_from w budget p (e ∷ es) = (happens true budget p e w).0 ∷ answers_from (happens true budget p e w).1 budget p es
+
+-- the answers of a host that is not yet open
+abbrev pub answers : ℕ → Program → List Event → List Answer
+answers budget p es = answers_from None budget p es
+
+-- a module with no variables, whose `open` and `init` succeed at once
+abbrev pub with_main : List Instr → Program
+with_main main = record { pools = []; brigades = []; texts = []; code = instr.Ret Success ∷ instr.Ret Success ∷ main; init = 1; main = 2 }
+
+-- `jsent drop`, `pass in bad`, `ret ok`, `:drop` `bclean in`, `ret ok`, `:bad` `ret fail`: passes on what comes, and
+-- drops what comes after an EOS
+abbrev pub identity : Program
+identity = with_main (instr.JSent 5 ∷ instr.Pass 8 7 ∷ instr.Ret Success ∷ instr.BClean 8 ∷ instr.Ret Success ∷ instr.Ret Fail ∷ [])
+
+-- `pass in bad`, `:bad` `jempty in out`, `:out` `ret ok`
+abbrev pub asks_after_pass : Program
+asks_after_pass = with_main (instr.Pass 8 3 ∷ instr.JEmpty 8 4 ∷ instr.Ret Success ∷ [])
+
+-- `pass in bad`, `ret ok`, `:bad` `ret fail`
+abbrev pub passes_on : Program
+passes_on = with_main (instr.Pass 8 4 ∷ instr.Ret Success ∷ instr.Ret Fail ∷ [])
+
+-- `brigade b0 req`; init: `bcreate b0`, `ret ok`; main: `bconcat b0 in`, `pass b0 bad`, `:bad` `bclean b0`, `ret ok`
+abbrev pub gathers : Program
+gathers = record { pools = []; brigades = pool.Req ∷ []; texts = []; code = instr.Ret Success ∷ instr.BCreate 0 ∷ instr.Ret Success ∷ instr.BConcat 0 8 ∷ instr.Pass 0 5 ∷ instr.BClean 0 ∷ instr.Ret Success ∷ []; init = 1; main = 3 }
+
+-- `brigade b0 conn`; init: `bcreate b0`, `ret ok`; main: `ret ok`
+abbrev pub creates_each_time : Program
+creates_each_time = record { pools = []; brigades = pool.Conn ∷ []; texts = []; code = instr.Ret Success ∷ instr.BCreate 0 ∷ instr.Ret Success ∷ instr.Ret Success ∷ []; init = 1; main = 3 }
+
+-- `pool p0 conn`, `brigade b0 p0`; init: `bcreate b0`, `ret ok`; main: `bclean b0`, `ret ok`
+abbrev pub lacks_its_pool : Program
+lacks_its_pool = record { pools = pool.Conn ∷ []; brigades = pool.Own 0 ∷ []; texts = []; code = instr.Ret Success ∷ instr.BCreate 0 ∷ instr.Ret Success ∷ instr.BClean 0 ∷ instr.Ret Success ∷ []; init = 1; main = 3 }
+
+-- `brigade b0 conn`; main: `bclean b0`, `ret ok`
+abbrev pub never_creates : Program
+never_creates = record (with_main (instr.BClean 0 ∷ instr.Ret Success ∷ [])) { brigades = pool.Conn ∷ [] }
+
+-- main: `:a` `jump a`
+abbrev pub loops : Program
+loops = with_main (instr.Jump 2 ∷ [])
+
+abbrev pub step_ok : Answer
+step_ok = Step (stepped.CallEnded Success)
+
+abbrev pub went : Answer
+went = Step stepped.Went
+
+abbrev pub broken_by : Cause → Answer
+broken_by k = Refused (refusal.Broken k)
+
+-- the connection is opened, its `open` of one instruction is run, and so is `init` of a request
+abbrev pub beginning : List Event
+beginning = event.Open ∷ event.Step ∷ event.Begin ∷ event.Step ∷ []
+
+abbrev pub begun_well : List Answer
+begun_well = Done ∷ step_ok ∷ Done ∷ step_ok ∷ []
+
+-- a world with other next names, of pools and of all else
+abbrev pub with_names : ℕ → ℕ → World → World
+with_names pool_name name None = None
+with_names pool_name name (Some c) = Some (record c { run = record c.run { shared = record c.run.shared { pools = record c.run.shared.pools { next = pool_name }; next = name } } })
+
+-- what the events lead to, where memory is ample
+unfoldable pub world_after : World → ℕ → Program → List Event → World
+world_after w budget p [] = w
+world_after w budget p (e ∷ es) = world_after (happens true budget p e w).1 budget p es
+
+-- the answers of these events after `beginning`, with these next names
+abbrev pub answers_with_names : ℕ → ℕ → Program → List Event → List Answer
+answers_with_names pool_name name p es = answers_from (with_names pool_name name (world_after None 1000000 p beginning)) 1000000 p es
+
+-- bodies of these bytes
+abbrev pub a_heap : List ℕ → Event
+a_heap bytes = event.Bring (piece.Heap bytes ∷ [])
+
+abbrev pub a_last_heap : List ℕ → Event
+a_last_heap bytes = event.Bring (piece.Heap bytes ∷ piece.Eos ∷ [])
+
+abbrev pub three_steps : List Event
+three_steps = event.Step ∷ event.Step ∷ event.Step ∷ []
+
+-- How bodies are passed on and dropped.
+pub record PassRuns : Type 0 where
+  pub one_brigade : answers 1000000 identity (beginning ++ a_last_heap (97 ∷ 98 ∷ []) ∷ three_steps ++ event.TakeOutput ∷ event.TakeOutput ∷ [])
+      ≡ begun_well ++ Done ∷ went ∷ went ∷ step_ok ∷ Output (97 ∷ 98 ∷ []) ∷ Output [] ∷ []
+  pub no_pieces : answers 1000000 identity (beginning ++ event.Bring [] ∷ three_steps ++ event.TakeOutput ∷ [])
+      ≡ begun_well ++ Done ∷ went ∷ went ∷ step_ok ∷ Output [] ∷ []
+  -- what comes behind an EOS of the request reaches no output
+  pub dropped : answers 1000000 identity (beginning ++ a_last_heap (97 ∷ []) ∷ three_steps ++ a_heap (98 ∷ []) ∷ three_steps ++ event.TakeOutput ∷ [])
+      ≡ begun_well ++ Done ∷ went ∷ went ∷ step_ok ∷ Done ∷ went ∷ went ∷ step_ok ∷ Output (97 ∷ []) ∷ []
+  -- the next request begins anew
+  pub next_request : answers 1000000 identity (beginning ++ a_last_heap (97 ∷ []) ∷ three_steps ++ event.End ∷ event.Begin ∷ event.Step ∷ a_heap (98 ∷ []) ∷ three_steps ++ event.TakeOutput ∷ [])
+      ≡ begun_well ++ Done ∷ went ∷ went ∷ step_ok ∷ Done ∷ Done ∷ step_ok ∷ Done ∷ went ∷ went ∷ step_ok ∷ Output (97 ∷ 98 ∷ []) ∷ []
+  -- a brigade on the request's pool goes with it, and may be made again
+  pub gathered : answers 1000000 gathers (event.Open ∷ (event.Step ∷ event.Begin ∷ event.Step ∷ event.Step ∷ a_heap (97 ∷ []) ∷ three_steps ++ event.Step ∷ event.End ∷ event.Begin ∷ event.Step ∷ event.Step ∷ event.TakeOutput ∷ []))
+      ≡ Done ∷ step_ok ∷ Done ∷ went ∷ step_ok ∷ Done ∷ went ∷ went ∷ went ∷ step_ok ∷ Done ∷ Done ∷ went ∷ step_ok ∷ Output (97 ∷ []) ∷ []
+
+-- How instructions have faults, which are told whether or not there is memory.
+pub record FaultRuns : Type 0 where
+  pub passed : answers 1000000 asks_after_pass (beginning ++ event.Bring [] ∷ three_steps ++ event.TakeOutput ∷ [])
+      ≡ begun_well ++ Done ∷ went ∷ Step (stepped.Fault fault_kind.F7 0 3) ∷ Refused (refusal.Broken cause.Faulted) ∷ Output [] ∷ []
+  pub data_after_eos : answers 1000000 passes_on (beginning ++ a_last_heap (97 ∷ []) ∷ event.Step ∷ event.Step ∷ a_heap (98 ∷ []) ∷ event.Step ∷ event.TakeOutput ∷ [])
+      ≡ begun_well ++ Done ∷ went ∷ step_ok ∷ Done ∷ Step (stepped.Fault fault_kind.F8 0 2) ∷ Output (97 ∷ []) ∷ []
+  pub made_again : answers 1000000 creates_each_time (event.Open ∷ event.Step ∷ event.Begin ∷ event.Step ∷ event.Step ∷ event.End ∷ event.Begin ∷ event.Step ∷ [])
+      ≡ Done ∷ step_ok ∷ Done ∷ went ∷ step_ok ∷ Done ∷ Done ∷ Step (stepped.Fault fault_kind.F10 0 1) ∷ []
+  pub no_pool : answers 1000000 lacks_its_pool (event.Open ∷ event.Step ∷ event.Begin ∷ event.Step ∷ [])
+      ≡ Done ∷ step_ok ∷ Done ∷ Step (stepped.Fault fault_kind.F1 0 1) ∷ []
+  pub no_brigade : answers 1000000 never_creates (beginning ++ event.Bring [] ∷ event.Step ∷ [])
+      ≡ begun_well ++ Done ∷ Step (stepped.Fault fault_kind.F2 0 2) ∷ []
+  pub without_memory : (happens false 1000000 never_creates event.Step (world_after None 1000000 never_creates (beginning ++ event.Bring [] ∷ []))).0 ≡ Step (stepped.Fault fault_kind.F2 0 2)
+
+-- How connections break.
+pub record BreakRuns : Type 0 where
+  pub three_are_enough : answers 3 identity (beginning ++ event.Bring [] ∷ three_steps)
+      ≡ begun_well ++ Done ∷ went ∷ went ∷ step_ok ∷ []
+  pub two_are_not : answers 2 identity (beginning ++ a_last_heap (97 ∷ 98 ∷ []) ∷ three_steps ++ event.Step ∷ event.End ∷ event.Begin ∷ event.Bring [] ∷ event.TakeOutput ∷ [])
+      ≡ begun_well ++ Done ∷ went ∷ went ∷ broken_by cause.OutOfSteps ∷ broken_by cause.OutOfSteps ∷ broken_by cause.OutOfSteps ∷ broken_by cause.OutOfSteps ∷ broken_by cause.OutOfSteps ∷ Output (97 ∷ 98 ∷ []) ∷ []
+  pub none : answers 0 identity (event.Open ∷ event.Step ∷ []) ≡ Done ∷ broken_by cause.OutOfSteps ∷ []
+  pub for_ever : answers 2 loops (beginning ++ event.Bring [] ∷ three_steps) ≡ begun_well ++ Done ∷ went ∷ went ∷ broken_by cause.OutOfSteps ∷ []
+  -- a brigade wants memory, a return wants none
+  pub no_memory : (happens false 1000000 gathers event.Step (world_after None 1000000 gathers (event.Open ∷ event.Step ∷ event.Begin ∷ []))).0 ≡ broken_by cause.NoMemory
+  pub no_growth : (happens false 1000000 identity event.Step (Some opened)).0 ≡ step_ok
+
+-- Which events are refused in which states.
+pub record RefusedRuns : Type 0 where
+  pub before_open : answers 1000000 identity (event.Begin ∷ event.Bring [] ∷ event.Step ∷ event.End ∷ event.TakeOutput ∷ [])
+      ≡ Refused refusal.NoSuchConn ∷ Refused refusal.NoSuchConn ∷ Refused refusal.NoSuchConn ∷ Refused refusal.NoSuchConn ∷ Refused refusal.NoSuchConn ∷ []
+  pub busy : answers 1000000 identity (event.Open ∷ event.Begin ∷ event.Bring [] ∷ event.End ∷ [])
+      ≡ Done ∷ Refused refusal.Busy ∷ Refused refusal.Busy ∷ Refused refusal.Busy ∷ []
+  pub no_request : answers 1000000 identity (event.Open ∷ event.Step ∷ event.Step ∷ event.Bring (piece.Eos ∷ []) ∷ event.End ∷ [])
+      ≡ Done ∷ step_ok ∷ Refused refusal.Idle ∷ Refused refusal.NotInRequest ∷ Refused refusal.NotInRequest ∷ []
+  pub in_request : answers 1000000 identity (beginning ++ event.Begin ∷ event.Step ∷ []) ≡ begun_well ++ Refused refusal.InRequest ∷ Refused refusal.Idle ∷ []
+  pub data_after_eos : answers 1000000 identity (beginning ++ event.Bring (piece.Heap (97 ∷ []) ∷ piece.Eos ∷ piece.Heap (98 ∷ []) ∷ []) ∷ event.Step ∷ [])
+      ≡ begun_well ++ Refused refusal.DataAfterEos ∷ Refused refusal.Idle ∷ []
+  pub no_memory : (happens false 1000000 identity (event.Bring []) (world_after None 1000000 identity beginning)).0 ≡ Refused refusal.NoMemory
+
+-- How far names last: 2^64 - 2 is the last one, of pools as of all else.
+pub record NameRuns : Type 0 where
+  -- the call, the brigade and one bucket
+  pub last_names : answers_with_names 4 (2 ^ 64 - 4) identity (a_heap [] ∷ event.Step ∷ []) ≡ Done ∷ went ∷ []
+  pub one_short : answers_with_names 4 (2 ^ 64 - 3) identity (a_heap [] ∷ event.Step ∷ []) ≡ Refused refusal.NamesSpent ∷ Refused refusal.Idle ∷ []
+  pub last_begin : answers_with_names (2 ^ 64 - 2) (2 ^ 64 - 2) identity (event.End ∷ event.Begin ∷ []) ≡ Done ∷ Done ∷ []
+  pub no_name : answers_with_names 4 (2 ^ 64 - 1) identity (event.End ∷ event.Begin ∷ []) ≡ Done ∷ Refused refusal.NamesSpent ∷ []
+  pub no_pool_name : answers_with_names (2 ^ 64 - 1) 4 identity (event.End ∷ event.Begin ∷ []) ≡ Done ∷ Refused refusal.NamesSpent ∷ []
+  -- a step that finds no name breaks the connection
+  pub last_brigade : answers_with_names 4 (2 ^ 64 - 3) gathers (event.Step ∷ event.End ∷ event.Begin ∷ event.Step ∷ []) ≡ step_ok ∷ Done ∷ Done ∷ went ∷ []
+  pub no_brigade : answers_with_names 4 (2 ^ 64 - 2) gathers (event.Step ∷ event.End ∷ event.Begin ∷ event.Step ∷ event.Step ∷ [])
+      ≡ step_ok ∷ Done ∷ Done ∷ broken_by cause.NamesSpent ∷ broken_by cause.NamesSpent ∷ []
+
+-- a bucket of a kind and a home, whose content is not looked at
+abbrev pub a_bucket : Kind → Home → Named
+a_bucket k h = record { name = 90; bucket = record { kind = k; content = content.Nothing; home = h } }
+
+-- The call 1 of a connection with the pool 2, the request's pool 3 and the instance's own pool 5, whose brigade of this
+-- number has these buckets.
+abbrev pub holding : ℕ → Mark → List Named → Run
+holding b mark items =
+    record opened.run {
+      inst = record opened.run.inst { pools = λ p. poolvar.Named 5; brigs = λ k. if k == b then var.Live (record { name = 80; on = Some 2; mark = mark; items = items }) else var.Null };
+      shared = record opened.run.shared { req = Some 3 };
+    }
+
+-- the same, where the pool 3 stands under the pool 2
+abbrev pub in_request : List Named → Run
+in_request items = record (holding 0 Usable items) { shared = record (holding 0 Usable items).shared { pools = created 2 (created 1 (planted 1)) } }
+
+-- Faults of what may be held, and their order.
+pub record HeldFaults : Type 0 where
+  pub dead : fault gathers (holding 0 Usable (a_bucket kind.File home.Ended ∷ [])) (instr.Pass 0 5) ≡ Some fault_kind.F5
+  pub dead_before_late : fault gathers (holding 0 Usable (a_bucket kind.Eos home.Free ∷ a_bucket kind.Transient home.Ended ∷ [])) (instr.Pass 0 5) ≡ Some fault_kind.F5
+  pub late : fault gathers (holding 0 Usable (a_bucket kind.Eos home.Free ∷ a_bucket kind.Transient (home.Call 1) ∷ [])) (instr.Pass 0 5) ≡ Some fault_kind.F8
+  pub flush_behind_eos : fault gathers (holding 0 Usable (a_bucket kind.Eos home.Free ∷ a_bucket kind.Flush home.Free ∷ [])) (instr.Pass 0 5) ≡ None
+  pub passed_before_dead : fault gathers (holding 0 Passed (a_bucket kind.File home.Ended ∷ [])) (instr.Pass 0 5) ≡ Some fault_kind.F7
+  pub left_before_right : fault gathers (holding 0 Passed []) (instr.BConcat 0 8) ≡ Some fault_kind.F7
+  pub right : fault gathers (holding 0 Usable []) (instr.BConcat 0 8) ≡ Some fault_kind.F2
+  pub dead_is_asked : fault gathers (holding 0 Usable (a_bucket kind.File home.Ended ∷ [])) (instr.JEmpty 0 5) ≡ None
+  pub call_kept : fault gathers (holding 0 Usable (a_bucket kind.Transient (home.Call 1) ∷ [])) (instr.Ret Success) ≡ Some fault_kind.F6
+  pub call_passed : fault gathers (holding 0 Passed (a_bucket kind.Transient (home.Call 1) ∷ [])) (instr.Ret Success) ≡ None
+  pub call_in_in : fault gathers (holding 8 Usable (a_bucket kind.Transient (home.Call 1) ∷ [])) (instr.Ret Success) ≡ None
+  pub dead_kept : fault gathers (holding 7 Usable (a_bucket kind.Transient home.Ended ∷ [])) (instr.Ret Success) ≡ None
+  pub others_pool_kept : fault gathers (holding 7 Usable (a_bucket kind.File (home.Pool 4) ∷ [])) (instr.Ret Success) ≡ Some fault_kind.F6
+  pub connection_pool_kept : fault gathers (holding 7 Usable (a_bucket kind.File (home.Pool 2) ∷ [])) (instr.Ret Success) ≡ None
+  pub request_pool_kept : fault gathers (holding 7 Usable (a_bucket kind.File (home.Pool 3) ∷ [])) (instr.Ret Success) ≡ None
+  pub own_pool_kept : fault gathers (holding 7 Usable (a_bucket kind.File (home.Pool 5) ∷ [])) (instr.Ret Success) ≡ None
+  pub pool_before_brigade : fault lacks_its_pool (holding 0 Usable []) (instr.BCreate 0) ≡ Some fault_kind.F1
+  pub live_brigade : fault creates_each_time (holding 0 Usable []) (instr.BCreate 0) ≡ Some fault_kind.F10
+  pub passed_brigade : fault creates_each_time (holding 0 Passed []) (instr.BCreate 0) ≡ Some fault_kind.F10
+
+-- What a return and the end of a request make of the buckets that are held.
+pub record HeldChanges : Type 0 where
+  pub returned : items_of ((do_return (holding 0 Usable (a_bucket kind.Transient (home.Call 1) ∷ a_bucket kind.Transient (home.Call 9) ∷ a_bucket kind.File (home.Pool 3) ∷ []))).inst.brigs 0)
+      ≡ a_bucket kind.Transient home.Ended ∷ a_bucket kind.Transient (home.Call 9) ∷ a_bucket kind.File (home.Pool 3) ∷ []
+  pub in_goes : (do_return (holding 8 Usable (a_bucket kind.Heap home.Free ∷ []))).inst.brigs 8 ≡ var.Null
+  pub request_ended : items_of ((request_ended 3 (in_request (a_bucket kind.File (home.Pool 3) ∷ a_bucket kind.File (home.Pool 2) ∷ a_bucket (kind.Pool 3) home.Free ∷ a_bucket (kind.Pool 2) home.Free ∷ []))).inst.brigs 0)
+      ≡ a_bucket kind.File home.Ended ∷ a_bucket kind.File (home.Pool 2) ∷ a_bucket kind.Heap home.Free ∷ a_bucket (kind.Pool 2) home.Free ∷ []

@@ -1,0 +1,77 @@
+//! Laws of the definitions. Each function does nothing: what its contract says holds of the definitions alone.
+
+ghost use Rattle.run_model.specs.Examples.{PassRuns, FaultRuns, BreakRuns, RefusedRuns, NameRuns, HeldFaults, HeldChanges};
+ghost use Rattle.run_model.specs.Laws.{StepKeepsNames, StepKeepsBuckets, StepKeepsPools, StepAtEndKeeps, OpenedIsSound, EventKeepsSound, RunIsSound, RunGoesOn, StepsGoOn, StepsAreARun, EndedStepsAreARun, StepChangesOnly, RefusedChangesNothing, RefusedStepBreaks, FaultBreaks, BrokenStaysBroken, EventKeepsOrder, RunIsOrderly, BroughtEndsOnce, OutputOfCuts, FaultOfCuts, PassedIsNotUsed, CleanedIsUsable};
+
+/// Small runs answer as they are worked out by hand, and so do faults and changes of small states.
+pub fn worked_runs()
+    ensures passes { PassRuns }
+    ensures faults { FaultRuns }
+    ensures breaks { BreakRuns }
+    ensures refusals { RefusedRuns }
+    ensures names { NameRuns }
+    ensures held_faults { HeldFaults }
+    ensures held_changes { HeldChanges }
+{}
+
+/// A step without a fault keeps what is sound: each name is one bucket's, new names are new, buckets are as their
+/// kinds have them, and brigades lie on live pools. So does a step of the last filter.
+pub fn steps_stay_sound()
+    ensures names { StepKeepsNames }
+    ensures buckets { StepKeepsBuckets }
+    ensures pools { StepKeepsPools }
+    ensures at_end { StepAtEndKeeps }
+{}
+
+/// Each event of a connection keeps what is sound, so every run from the empty world leads to a sound one.
+pub fn runs_are_sound()
+    ensures opened { OpenedIsSound }
+    ensures event { EventKeepsSound }
+    ensures run { RunIsSound }
+{}
+
+/// A run goes on by one event, and steps that went by one more. Steps until the call ends are a run.
+pub fn runs_go_on()
+    ensures event { RunGoesOn }
+    ensures step { StepsGoOn }
+    ensures steps { StepsAreARun }
+    ensures ended { EndedStepsAreARun }
+{}
+
+/// A step changes nothing but what its instruction names.
+pub fn steps_change_only_what_they_name()
+    ensures { StepChangesOnly }
+{}
+
+/// A refused event changes nothing, but that a step breaks the connection by the cause that it names, as a fault
+/// does. A broken connection stays as it is and goes on naming its cause.
+pub fn refusals_change_nothing()
+    ensures event { RefusedChangesNothing }
+    ensures step { RefusedStepBreaks }
+    ensures fault { FaultBreaks }
+    ensures broken { BrokenStaysBroken }
+{}
+
+/// In each run calls stay inside their module, nothing is left between calls, and budgets are kept.
+pub fn runs_are_orderly()
+    ensures event { EventKeepsOrder }
+    ensures run { RunIsOrderly }
+{}
+
+/// No data stands behind an EOS of a brigade that is brought.
+pub fn brought_brigades_end_once()
+    ensures { BroughtEndsOnce }
+{}
+
+/// Brigades that are passed one after the other have the output, and the fault of data after an EOS, that they would
+/// have in one.
+pub fn bodies_are_cut_anywhere()
+    ensures output { OutputOfCuts }
+    ensures fault { FaultOfCuts }
+{}
+
+/// A brigade that was passed is not used again before it is cleaned, and one that was cleaned is empty and usable.
+pub fn passed_brigades_are_only_cleaned()
+    ensures passed { PassedIsNotUsed }
+    ensures cleaned { CleanedIsUsable }
+{}
