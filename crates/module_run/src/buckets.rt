@@ -10,28 +10,28 @@ use run_model::{Content, Home, Kind, Named, Seq};
 use std::alloc::{AllocError, Global};
 
 /// Whether buckets of this kind are data.
-pub fn is_data_kind(kind: Kind) -> bool
+pub(crate) fn is_data_kind(kind: Kind) -> bool
     ensures { result ≡ is_data_kind kind }
 {
     !matches!(kind, Kind::Flush | Kind::Eos)
 }
 
 /// Whether buckets of this kind are an EOS.
-pub fn is_eos_kind(kind: Kind) -> bool
+pub(crate) fn is_eos_kind(kind: Kind) -> bool
     ensures { result ≡ is_eos_kind kind }
 {
     matches!(kind, Kind::Eos)
 }
 
 /// Whether an EOS is among the buckets.
-pub fn has_eos(items: &[Named]) -> bool
+pub(crate) fn has_eos(items: &[Named]) -> bool
     ensures { result ≡ has_eos items.now }
 {
     items.iter().any(|b| is_eos_kind(b.bucket.kind))
 }
 
 /// Whether data stands behind an EOS of the list, or anywhere in it where an EOS was sent before it.
-pub fn has_late_data(sent: bool, items: &[Named]) -> bool
+pub(crate) fn has_late_data(sent: bool, items: &[Named]) -> bool
     ensures { result ≡ late_data sent items.now }
 {
     let mut late = sent;
@@ -52,7 +52,7 @@ fn is_ended(home: Home) -> bool
 }
 
 /// Whether the home of some bucket is dead.
-pub fn has_dead(items: &[Named]) -> bool
+pub(crate) fn has_dead(items: &[Named]) -> bool
     ensures { result ≡ list_any is_dead items.now }
 {
     items.iter().any(|b| is_ended(b.bucket.home))
@@ -68,7 +68,7 @@ fn end_call(call: u64, home: Home) -> Home
 }
 
 /// Ends the homes that are this call.
-pub fn end_homes(items: &mut [Named], call: u64)
+pub(crate) fn end_homes(items: &mut [Named], call: u64)
     ensures { items.new ≡ map (returned_bucket call) items.old }
 {
     for b in items.iter_mut() {
@@ -86,7 +86,7 @@ fn append_bytes(out: &mut Seq<u8>, content: &Content) -> Result<(), AllocError>
 }
 
 /// The bytes of the buckets before the first EOS.
-pub fn bytes_before_eos(alloc: Global, items: &[Named]) -> Result<Seq<u8>, AllocError>
+pub(crate) fn bytes_before_eos(alloc: Global, items: &[Named]) -> Result<Seq<u8>, AllocError>
     ensures { IfOk result (λ bytes. bytes ≡ bytes_before_eos items.now) }
 {
     let mut out = Seq::new(alloc);
@@ -118,7 +118,7 @@ fn to_heap(pool: u64, kind: Kind) -> Kind
 }
 
 /// What the end of a pool does to buckets: those whose home it is lose it, and those whose bytes lie in it become HEAP.
-pub fn clear(items: &mut [Named], pool: u64)
+pub(crate) fn clear(items: &mut [Named], pool: u64)
     ensures { items.new ≡ map (cleared_bucket (λ n. n == pool)) items.old }
 {
     for b in items.iter_mut() {

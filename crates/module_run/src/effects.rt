@@ -16,7 +16,7 @@ use std::alloc::{AllocError, Global};
 
 /// Makes an empty brigade on its declared pool.
 #[tactic(auto, unfolding(run_model::specs::State::pool_named))]
-pub fn create(alloc: Global, code: &Module, machine: &mut Machine, o: u8)
+pub(crate) fn create(alloc: Global, code: &Module, machine: &mut Machine, o: u8)
     requires slot { o < 8 }
     requires declared { o < length code.now.brigades }
     requires unspent { is_spent (seen_run machine.old).shared.next 1 ≡ false }
@@ -35,7 +35,7 @@ pub fn create(alloc: Global, code: &Module, machine: &mut Machine, o: u8)
 
 /// Destroys the buckets of a brigade, which is usable again.
 #[tactic(auto, using(crate::proofs::Writes::set_twice))]
-pub fn clean(machine: &mut Machine, b: u8)
+pub(crate) fn clean(machine: &mut Machine, b: u8)
     requires { b < 9 }
     ensures { seen_run machine.new ≡ do_clean b (seen_run machine.old) }
 {
@@ -46,7 +46,7 @@ pub fn clean(machine: &mut Machine, b: u8)
 
 /// Moves the buckets of a second brigade to the tail of a first. Without memory nothing is changed.
 #[tactic(auto, using(crate::proofs::Writes::put_back, crate::proofs::Writes::put_same, crate::proofs::Writes::read_other))]
-pub fn concat(machine: &mut Machine, a: u8, b: u8) -> Result<(), AllocError>
+pub(crate) fn concat(machine: &mut Machine, a: u8, b: u8) -> Result<(), AllocError>
     requires first { a < 9 }
     requires second { b < 9 }
     requires apart { a ≢ b }
@@ -79,7 +79,7 @@ fn deliver(alloc: Global, machine: &mut Machine, b: u8) -> Result<(), AllocError
 
 /// Passes a brigade to the end of the chain. Without memory nothing is changed.
 #[tactic(auto, using(crate::proofs::Writes::set_twice), unfolding(run_model::specs::State::set_brig))]
-pub fn pass(alloc: Global, machine: &mut Machine, b: u8) -> Result<(), AllocError>
+pub(crate) fn pass(alloc: Global, machine: &mut Machine, b: u8) -> Result<(), AllocError>
     requires { b < 9 }
     ensures ok { let r = seen_run machine.old in OnOk result (seen_run machine.new ≡ record (do_pass b r) { out = delivered r.out (items_of (r.inst.brigs b)) }) }
     ensures err { OnErr result (seen_run machine.new ≡ seen_run machine.old) }
@@ -105,7 +105,7 @@ fn end_homes(machine: &mut Machine, call: u64)
 }
 
 /// Ends the running call: the homes that are this call end, and its `in` goes.
-pub fn end_call(machine: &mut Machine)
+pub(crate) fn end_call(machine: &mut Machine)
     ensures { seen_run machine.new ≡ do_return (seen_run machine.old) }
 {
     let call = machine.call();
@@ -126,7 +126,7 @@ fn clear_brigades(machine: &mut Machine, pool: u64)
 }
 
 /// Ends the open request: its pool is destroyed with what lay on it, and no EOS was passed in the next one.
-pub fn end_request(machine: &mut Machine, pool: u64)
+pub(crate) fn end_request(machine: &mut Machine, pool: u64)
     requires { (seen_run machine.old).shared.req ≡ Some pool }
     ensures { seen_run machine.new ≡ request_ended pool (seen_run machine.old) }
 {
@@ -137,7 +137,7 @@ pub fn end_request(machine: &mut Machine, pool: u64)
 /// Makes a brought brigade the `in` of a call; names go to the call, the brigade and its buckets. Without memory nothing
 /// is changed.
 #[tactic(auto, unfolding(run_model::specs::Steps::is_spent))]
-pub fn bring(alloc: Global, machine: &mut Machine, pieces: Seq<Piece>) -> Result<(), AllocError>
+pub(crate) fn bring(alloc: Global, machine: &mut Machine, pieces: Seq<Piece>) -> Result<(), AllocError>
     requires { is_spent (seen_run machine.old).shared.next (2 + length pieces) ≡ false }
     ensures ok { OnOk result (seen_run machine.new ≡ with_in pieces (seen_run machine.old)) }
     ensures err { OnErr result (seen_run machine.new ≡ seen_run machine.old) }

@@ -13,16 +13,16 @@ use std::mem;
 /// The instance, the call, the pools and the output of a connection. Brigade variables are numbered 0 to 7, and 8
 /// is `in`. Pool 1 is the root, pool 2 the connection's, and the nth request has pool n + 2.
 #[derive(Drop)]
-pub struct Machine {
-    pub brigs: [Var; 9],
-    pub sent: bool,
-    pub call: u64,
-    pub in_request: bool,
-    pub requests: u64,
-    pub next: u64,
-    pub pc: usize,
-    pub output: Seq<u8>,
-    pub ended: bool,
+pub(crate) struct Machine {
+    brigs: [Var; 9],
+    sent: bool,
+    call: u64,
+    in_request: bool,
+    requests: u64,
+    next: u64,
+    pc: usize,
+    output: Seq<u8>,
+    ended: bool,
     ghost few_requests: { requests + 3 < 2 ^ 64 },
 }
 
@@ -32,7 +32,7 @@ impl Machine {
     ghost use Rattle.module_run.specs.Closed.{request_closed, StandsAlone, before_open};
 
     /// The brigade variable of a number.
-    pub fn brig(&self, b: u8) -> &Var
+    pub(crate) fn brig(&self, b: u8) -> &Var
         requires { b < 9 }
         ensures { result.now ≡ (seen_run self.now).inst.brigs b }
     {
@@ -49,7 +49,7 @@ impl Machine {
 
     /// Sets a brigade variable, and gives back what was in it.
     #[tactic(auto, unfolding(crate::specs::Seen::seen_run, run_model::specs::State::set_brig, run_model::specs::Indexed::upd))]
-    pub fn put(&mut self, b: u8, var: Var) -> Var
+    pub(crate) fn put(&mut self, b: u8, var: Var) -> Var
         requires { b < 9 }
         ensures old { result ≡ (seen_run self.old).inst.brigs b }
         ensures new { seen_run self.new ≡ set_brig b var (seen_run self.old) }
@@ -58,35 +58,35 @@ impl Machine {
     }
 
     /// The number of the next instruction.
-    pub fn pc(&self) -> usize
+    pub(crate) fn pc(&self) -> usize
         ensures { result ≡ (seen_run self.now).pc }
     {
         self.pc
     }
 
     /// Makes an instruction the next one.
-    pub fn go_to(&mut self, pc: usize)
+    pub(crate) fn go_to(&mut self, pc: usize)
         ensures { seen_run self.new ≡ record (seen_run self.old) { pc = pc } }
     {
         self.pc = pc;
     }
 
     /// Whether an EOS of this request was passed.
-    pub fn sent(&self) -> bool
+    pub(crate) fn sent(&self) -> bool
         ensures { result ≡ (seen_run self.now).inst.sent }
     {
         self.sent
     }
 
     /// Says whether an EOS of this request was passed.
-    pub fn set_sent(&mut self, sent: bool)
+    pub(crate) fn set_sent(&mut self, sent: bool)
         ensures { let r = seen_run self.old in seen_run self.new ≡ record r { inst = record r.inst { sent = sent } } }
     {
         self.sent = sent;
     }
 
     /// The pool that an operand or a declaration names.
-    pub fn pool_named(&self, pool: PoolRef) -> Option<u64>
+    pub(crate) fn pool_named(&self, pool: PoolRef) -> Option<u64>
         ensures { result ≡ pool_named (seen_run self.now) pool }
     {
         match pool {
@@ -97,7 +97,7 @@ impl Machine {
     }
 
     /// Whether an operand names a live pool.
-    pub fn has_pool(&self, pool: PoolRef) -> bool
+    pub(crate) fn has_pool(&self, pool: PoolRef) -> bool
         ensures { result ≡ has_pool (seen_run self.now) pool }
     {
         match pool {
@@ -109,21 +109,21 @@ impl Machine {
 
     /// Whether a pool is the connection's or the open request's. (No instruction makes pools yet.)
     #[tactic(auto, unfolding(crate::specs::Seen::seen_run, run_model::specs::State::is_own, run_model::specs::Indexed::any_below))]
-    pub fn is_own(&self, name: u64) -> bool
+    pub(crate) fn is_own(&self, name: u64) -> bool
         ensures { result ≡ is_own (seen_run self.now) name }
     {
         name == 2 || (self.in_request && name == 3 + self.requests.saturating_sub(1))
     }
 
     /// Whether there are not so many names left.
-    pub fn is_spent(&self, names: u64) -> bool
+    pub(crate) fn is_spent(&self, names: u64) -> bool
         ensures { result ≡ is_spent (seen_run self.now).shared.next names }
     {
         names > u64::MAX - self.next
     }
 
     /// Whether there are not so many names left as a brought brigade of so many buckets takes, with its call.
-    pub fn is_spent_by_brigade(&self, buckets: u64) -> bool
+    pub(crate) fn is_spent_by_brigade(&self, buckets: u64) -> bool
         ensures { result ≡ is_spent (seen_run self.now).shared.next (2 + buckets) }
     {
         let left = u64::MAX - self.next;
@@ -131,7 +131,7 @@ impl Machine {
     }
 
     /// Gives out the next name.
-    pub fn take_name(&mut self) -> u64
+    pub(crate) fn take_name(&mut self) -> u64
         requires { is_spent (seen_run self.old).shared.next 1 ≡ false }
         ensures name { result ≡ (seen_run self.old).shared.next }
         ensures new { let r = seen_run self.old in seen_run self.new ≡ record r { shared = record r.shared { next = r.shared.next + 1 } } }
@@ -142,28 +142,28 @@ impl Machine {
     }
 
     /// The name of the call that runs.
-    pub fn call(&self) -> u64
+    pub(crate) fn call(&self) -> u64
         ensures { result ≡ (seen_run self.now).call.name }
     {
         self.call
     }
 
     /// The call begins that has this name; 0 is for none.
-    pub fn set_call(&mut self, name: u64)
+    pub(crate) fn set_call(&mut self, name: u64)
         ensures { seen_run self.new ≡ record (seen_run self.old) { call = fresh_call name } }
     {
         self.call = name;
     }
 
     /// Whether a request is open.
-    pub fn in_request(&self) -> bool
+    pub(crate) fn in_request(&self) -> bool
         ensures { result ≡ is_some (seen_run self.now).shared.req }
     {
         self.in_request
     }
 
     /// Whether no further pool can be named.
-    pub fn pools_spent(&self) -> bool
+    pub(crate) fn pools_spent(&self) -> bool
         ensures { result ≡ is_spent (seen_run self.now).shared.pools.next 1 }
     {
         self.requests > u64::MAX - 4
@@ -171,7 +171,7 @@ impl Machine {
 
     /// A request begins, with a pool of its own.
     #[tactic(auto, using(crate::proofs::Requests::request_made), unfolding(crate::specs::Seen::seen_run, run_model::specs::Steps::is_spent))]
-    pub fn begin_request(&mut self)
+    pub(crate) fn begin_request(&mut self)
         requires closed { is_some (seen_run self.old).shared.req ≡ false }
         requires unspent { is_spent (seen_run self.old).shared.pools.next 1 ≡ false }
         ensures { let r = seen_run self.old in seen_run self.new ≡ record r { shared = record r.shared { pools = created r.shared.conn r.shared.pools; req = Some r.shared.pools.next } } }
@@ -181,7 +181,7 @@ impl Machine {
     }
 
     /// The pool of the request that is open.
-    pub fn request_pool(&self) -> u64
+    pub(crate) fn request_pool(&self) -> u64
         requires { is_some (seen_run self.now).shared.req ≡ true }
         ensures { (seen_run self.now).shared.req ≡ Some result }
     {
@@ -190,7 +190,7 @@ impl Machine {
 
     /// The request's pool is destroyed; what lay on it is left to the caller.
     #[tactic(auto, using(crate::proofs::Requests::request_gone, crate::proofs::Requests::stands_alone), unfolding(crate::specs::Seen::seen_run))]
-    pub fn close_request(&mut self, pool: u64)
+    pub(crate) fn close_request(&mut self, pool: u64)
         requires { (seen_run self.old).shared.req ≡ Some pool }
         ensures closed { seen_run self.new ≡ request_closed pool (seen_run self.old) }
         ensures alone { StandsAlone pool (seen_run self.old).shared.pools }
@@ -201,7 +201,7 @@ impl Machine {
     }
 
     /// The output that was not taken yet.
-    pub fn take_output(&mut self, alloc: Global) -> Seq<u8>
+    pub(crate) fn take_output(&mut self, alloc: Global) -> Seq<u8>
         ensures bytes { result ≡ (seen_run self.old).out.bytes }
         ensures rest { let r = seen_run self.old in seen_run self.new ≡ record r { out = record r.out { bytes = [] } } }
     {
@@ -209,14 +209,14 @@ impl Machine {
     }
 
     /// The next name, which is not given out.
-    pub fn next(&self) -> u64
+    pub(crate) fn next(&self) -> u64
         ensures { result ≡ (seen_run self.now).shared.next }
     {
         self.next
     }
 
     /// Gives out names.
-    pub fn take_names(&mut self, names: u64)
+    pub(crate) fn take_names(&mut self, names: u64)
         requires { is_spent (seen_run self.old).shared.next names ≡ false }
         ensures { let r = seen_run self.old in seen_run self.new ≡ record r { shared = record r.shared { next = r.shared.next + names } } }
     {
@@ -225,7 +225,7 @@ impl Machine {
 
     /// A machine before its first call.
     #[tactic(auto, using(crate::proofs::Requests::pools_at_first), unfolding(crate::specs::Seen::seen_run))]
-    pub fn new(alloc: Global) -> Machine
+    pub(crate) fn new(alloc: Global) -> Machine
         ensures { seen_run result ≡ before_open }
     {
         Machine {
@@ -252,14 +252,14 @@ impl Machine {
     }
 
     /// Whether an EOS of this request reached the output.
-    pub fn ended(&self) -> bool
+    pub(crate) fn ended(&self) -> bool
         ensures { result ≡ (seen_run self.now).out.ended }
     {
         self.ended
     }
 
     /// Moves bytes to the end of the output, and says whether the output has ended. Without memory nothing is changed.
-    pub fn write(&mut self, bytes: &mut Seq<u8>, ended: bool) -> Result<(), AllocError>
+    pub(crate) fn write(&mut self, bytes: &mut Seq<u8>, ended: bool) -> Result<(), AllocError>
         ensures ok { OnOk result (let r = seen_run self.old in seen_run self.new ≡ record r { out = record { bytes = r.out.bytes ++ bytes.old; ended = ended } }) }
         ensures err { OnErr result (seen_run self.new ≡ seen_run self.old) }
     {

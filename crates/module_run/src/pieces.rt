@@ -58,14 +58,14 @@ fn has_late_data(pieces: &[Piece]) -> bool
 
 /// Whether a data piece stands behind an EOS.
 #[tactic(auto, using(crate::proofs::LateData::late_from_none))]
-pub fn has_data_behind_eos(pieces: &[Piece]) -> bool
+pub(crate) fn has_data_behind_eos(pieces: &[Piece]) -> bool
     ensures { result ≡ data_behind_eos pieces.now }
 {
     has_late_data(pieces)
 }
 
 /// The buckets of the pieces, with names from `first` on.
-pub fn named(alloc: Global, first: u64, pieces: Seq<Piece>) -> Result<Seq<Named>, AllocError>
+pub(crate) fn named(alloc: Global, first: u64, pieces: Seq<Piece>) -> Result<Seq<Named>, AllocError>
     requires { first + length pieces < 2 ^ 64 }
     ensures { IfOk result (λ items. items ≡ named_from first pieces) }
 {

@@ -11,7 +11,7 @@ use run_model::{Brigade, Mark, Named, Seq, Var};
 use std::alloc::AllocError;
 
 /// The buckets in a brigade variable.
-pub fn items(var: &Var) -> &[Named]
+pub(crate) fn items(var: &Var) -> &[Named]
     ensures { result.now ≡ items_of var.now }
 {
     match var {
@@ -21,7 +21,7 @@ pub fn items(var: &Var) -> &[Named]
 }
 
 /// Destroys the buckets; the brigade is usable again.
-pub fn clean(var: &mut Var)
+pub(crate) fn clean(var: &mut Var)
     ensures { var.new ≡ cleaned var.old }
 {
     if let Var::Live(brigade) = var {
@@ -31,7 +31,7 @@ pub fn clean(var: &mut Var)
 }
 
 /// The buckets are gone, and the brigade is passed.
-pub fn hand_over(var: &mut Var)
+pub(crate) fn hand_over(var: &mut Var)
     ensures { var.new ≡ handed_over var.old }
 {
     if let Var::Live(brigade) = var {
@@ -42,7 +42,7 @@ pub fn hand_over(var: &mut Var)
 
 /// Ends the homes that are this call.
 #[tactic(auto, using(crate::proofs::Refilled::refilled_map))]
-pub fn end_homes(var: &mut Var, call: u64)
+pub(crate) fn end_homes(var: &mut Var, call: u64)
     ensures { var.new ≡ returned_var call var.old }
 {
     if let Var::Live(brigade) = var {
@@ -67,7 +67,7 @@ fn clear_items(brigade: &mut Brigade, pool: u64)
 }
 
 /// What the end of a pool does: a brigade on it goes with its buckets, and the buckets of others lose it.
-pub fn clear(var: &mut Var, pool: u64)
+pub(crate) fn clear(var: &mut Var, pool: u64)
     ensures { var.new ≡ cleared_var (λ n. n == pool) var.old }
 {
     match var {
@@ -95,7 +95,7 @@ fn take_in(to: &mut Var, items: &mut Seq<Named>) -> Result<(), AllocError>
 
 /// Moves the buckets of one brigade to the tail of another. Without memory nothing is changed.
 #[tactic(auto, using(crate::proofs::Refilled::with_same_items))]
-pub fn join(to: &mut Var, from: &mut Var) -> Result<(), AllocError>
+pub(crate) fn join(to: &mut Var, from: &mut Var) -> Result<(), AllocError>
     ensures joined { OnOk result (to.new ≡ with_items (items_of to.old ++ items_of from.old) to.old) }
     ensures emptied { OnOk result (from.new ≡ with_items [] from.old) }
     ensures err { OnErr result (to.new ≡ to.old) }

@@ -128,7 +128,7 @@ fn want_return(machine: &Machine) -> Option<FaultKind>
 }
 
 /// The fault of an instruction, if it has one.
-pub fn fault(code: &Module, machine: &Machine, instr: Instr) -> Option<FaultKind>
+pub(crate) fn fault(code: &Module, machine: &Machine, instr: Instr) -> Option<FaultKind>
     requires fit { fits code.now instr ≡ true }
     requires few { length code.now.brigades ≤ 8 }
     ensures { result ≡ fault code.now (seen_run machine.now) instr }
