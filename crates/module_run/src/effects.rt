@@ -9,7 +9,7 @@ ghost use Rattle.module_run.specs.Seen.{seen_run};
 ghost use Rattle.module_run.specs.Mapped.{mapped};
 ghost use Rattle.module_run.specs.Closed.{with_in};
 
-use crate::machine::Machine;
+use crate::machine::{IN, Machine};
 use crate::{buckets, pieces, vars};
 use run_model::{Brigade, Mark, Module, Piece, Seq, Var};
 use std::alloc::{AllocError, Global};
@@ -110,7 +110,7 @@ pub(crate) fn end_call(machine: &mut Machine)
 {
     let call = machine.call();
     end_homes(machine, call);
-    machine.put(8, Var::Null);
+    machine.put(IN, Var::Null);
     machine.set_call(0);
 }
 
@@ -152,6 +152,6 @@ pub(crate) fn bring(alloc: Global, machine: &mut Machine, pieces: Seq<Piece>) ->
         mark: Mark::Usable,
         items,
     };
-    machine.put(8, Var::Live(brigade));
+    machine.put(IN, Var::Live(brigade));
     Ok(())
 }

@@ -10,6 +10,15 @@ use run_model::{PoolRef, Seq, Var};
 use std::alloc::{AllocError, Global};
 use std::mem;
 
+/// The connection's pool; the root is 1.
+const CONN_POOL: u64 = 2;
+
+/// The pool of the first request.
+const FIRST_REQUEST_POOL: u64 = 3;
+
+/// The number of the brigade variable `in`.
+pub(crate) const IN: u8 = 8;
+
 /// The instance, the call, the pools and the output of a connection. Brigade variables are numbered 0 to 7, and 8
 /// is `in`. Pool 1 is the root, pool 2 the connection's, and the nth request has pool n + 2.
 #[derive(Drop)]
@@ -85,13 +94,19 @@ impl Machine {
         self.sent = sent;
     }
 
+    fn newest_pool(&self) -> u64
+        ensures { result ≡ 3 + (self.now.requests - 1) }
+    {
+        FIRST_REQUEST_POOL + self.requests.saturating_sub(1)
+    }
+
     /// The pool that an operand or a declaration names.
     pub(crate) fn pool_named(&self, pool: PoolRef) -> Option<u64>
         ensures { result ≡ pool_named (seen_run self.now) pool }
     {
         match pool {
-            PoolRef::Conn => Some(2),
-            PoolRef::Req if self.in_request => Some(3 + self.requests.saturating_sub(1)),
+            PoolRef::Conn => Some(CONN_POOL),
+            PoolRef::Req if self.in_request => Some(self.newest_pool()),
             PoolRef::Req | PoolRef::Own(_) => None,
         }
     }
@@ -112,7 +127,7 @@ impl Machine {
     pub(crate) fn is_own(&self, name: u64) -> bool
         ensures { result ≡ is_own (seen_run self.now) name }
     {
-        name == 2 || (self.in_request && name == 3 + self.requests.saturating_sub(1))
+        name == CONN_POOL || (self.in_request && name == self.newest_pool())
     }
 
     /// Whether there are not so many names left.
@@ -185,7 +200,7 @@ impl Machine {
         requires { is_some (seen_run self.now).shared.req ≡ true }
         ensures { (seen_run self.now).shared.req ≡ Some result }
     {
-        3 + self.requests.saturating_sub(1)
+        self.newest_pool()
     }
 
     /// The request's pool is destroyed; what lay on it is left to the caller.
