@@ -137,7 +137,11 @@ pub(crate) fn end_request(machine: &mut Machine, pool: u64)
 /// Makes a brought brigade the `in` of a call; names go to the call, the brigade and its buckets. Without memory nothing
 /// is changed.
 #[tactic(auto, unfolding(run_model::specs::Steps::is_spent))]
-pub(crate) fn bring(alloc: Global, machine: &mut Machine, pieces: Seq<Piece>) -> Result<(), AllocError>
+pub(crate) fn bring(
+    alloc: Global,
+    machine: &mut Machine,
+    pieces: Seq<Piece>,
+) -> Result<(), AllocError>
     requires { is_spent (seen_run machine.old).shared.next (2 + length pieces) ≡ false }
     ensures ok { OnOk result (seen_run machine.new ≡ with_in pieces (seen_run machine.old)) }
     ensures err { OnErr result (seen_run machine.new ≡ seen_run machine.old) }

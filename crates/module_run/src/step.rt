@@ -103,7 +103,11 @@ fn names(instr: Instr) -> u64
 
 /// One watched step of the instruction that is next. A fault is told whether or not there is memory.
 #[tactic(auto, using(crate::proofs::Places::current_is, crate::proofs::Places::pc_kept_by))]
-pub(crate) fn step(alloc: Global, code: &Module, machine: &mut Machine) -> Result<Stepped, StepRefusal>
+pub(crate) fn step(
+    alloc: Global,
+    code: &Module,
+    machine: &mut Machine,
+) -> Result<Stepped, StepRefusal>
     requires { (seen_run machine.old).pc < length code.now.code }
     ensures step { let r = seen_run machine.old in watched (step_lasted result) code.now (current code.now r.pc) r ≡ (result, seen_run machine.new) }
     ensures inside { (seen_run machine.new).pc < length code.now.code }

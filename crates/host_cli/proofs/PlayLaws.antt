@@ -1,0 +1,154 @@
+-- Runs of commands: there is one where memory lasts, and where no answer says otherwise it is the only one.
+use Rattle.std.proofs.Common.{◌≡◌, ◌≢◌, ℕ, zero, suc, ◌+◌, ◌-◌, ◌<◌, ◌≤◌, Bool, true, false, ◌||◌, not, cond, eqb, List, [], ◌∷◌, Option, Some, None, Result, Ok, Err, refl, ap, sym, ◌∙◌, subst, arith, is_some, length, MatchBool}
+use Rattle.std.specs.List.{list_any}
+use Rattle.module_lang.specs.Program.{Program}
+use Rattle.run_model.specs.declared.event.Event.{Event}
+use Rattle.run_model.specs.declared.event.Event.TheVariants as event
+use Rattle.run_model.specs.declared.event.Piece.{Piece}
+use Rattle.run_model.specs.declared.event.Refusal.{Refusal}
+use Rattle.run_model.specs.declared.event.Refusal.TheVariants as refusal
+use Rattle.run_model.specs.declared.event.Stepped.{Stepped}
+use Rattle.run_model.specs.declared.event.Stepped.TheVariants as stepped
+use Rattle.run_model.specs.Steps.{is_spent}
+use Rattle.run_model.specs.Connection.{Connection, begins, begun, brings, brought, ends, first_refusal, refused_if, if_broken, unless_refused, data_behind_eos, steps}
+use Rattle.run_model.specs.Runs.{Answer, World, happens, GoesOn, step_of, answer_of}
+use Rattle.host_cli.specs.declared.command.Command.{Command}
+use Rattle.host_cli.specs.declared.command.Command.TheVariants as command
+use Rattle.host_cli.specs.declared.reply.Reply.{Reply}
+use Rattle.host_cli.specs.declared.reply.Reply.TheVariants as reply
+use Rattle.host_cli.specs.Plays.{told, is_for_first, ran, run_of, answered, served, MayRun, MayAnswer, Serves, Plays, replies_of, refusal_names_memory, names_memory}
+use Rattle.host_cli.proofs.StepLaws.{lost, same_step, ran_ends, ran_only, goes_below}
+
+true≢false : true ≡ false → ⊥
+true≢false h = cc
+
+-- Whether an event's refusal says that there was no memory, and the tests of an event, memory's the last.
+abbrev names_it : Option Refusal → Bool
+names_it None = false
+names_it (Some r) = refusal_names_memory r
+
+tests_same : (a b d e f : Option Refusal) (old new : Connection) → names_it (unless_refused (first_refusal (a ∷ b ∷ d ∷ e ∷ f ∷ refused_if true refusal.NoMemory ∷ [])) old new).0 ≡ false → unless_refused (first_refusal (a ∷ b ∷ d ∷ e ∷ f ∷ refused_if true refusal.NoMemory ∷ [])) old new ≡ unless_refused (first_refusal (a ∷ b ∷ d ∷ e ∷ f ∷ refused_if false refusal.NoMemory ∷ [])) old new
+tests_same (Some r) b d e f old new h = refl
+tests_same None (Some r) d e f old new h = refl
+tests_same None None (Some r) e f old new h = refl
+tests_same None None None (Some r) f old new h = refl
+tests_same None None None None (Some r) old new h = refl
+tests_same None None None None None old new h = absurd (true≢false h)
+
+begins_same : (p : Program) (c : Connection) → names_it (begins false p c).0 ≡ false → begins false p c ≡ begins true p c
+unfolding begins
+begins_same p c h = tests_same None (if_broken c.broken) (refused_if c.busy refusal.Busy) (refused_if (is_some c.run.shared.req) refusal.InRequest) (refused_if (is_spent c.run.shared.pools.next 1 || is_spent c.run.shared.next 1) refusal.NamesSpent) c (begun p c) h
+
+brings_same : (p : Program) (ps : List Piece) (c : Connection) → names_it (brings false p ps c).0 ≡ false → brings false p ps c ≡ brings true p ps c
+unfolding brings
+brings_same p ps c h = tests_same (if_broken c.broken) (refused_if c.busy refusal.Busy) (refused_if (not (is_some c.run.shared.req)) refusal.NotInRequest) (refused_if (data_behind_eos ps) refusal.DataAfterEos) (refused_if (is_spent c.run.shared.next (2 + length ps)) refusal.NamesSpent) c (brought p ps c) h
+
+-- what an event answers names memory where its refusal does
+named : (x : Option Refusal × Connection) → names_memory (told (answer_of x)).0 ≡ names_it x.0
+named (None, c) = refl
+named (Some r, c) = refl
+
+named_step : (x : Result Stepped Refusal × Connection) → names_memory (told (step_of x)).0 ≡ lost x.0
+named_step (Ok s, c) = refl
+named_step (Err r, c) = refl
+
+-- An event that does not answer that there was no memory answers as it does with memory.
+happens_same : (budget : ℕ) (p : Program) (e : Event) (w : World) → names_memory (told (happens false budget p e w)).0 ≡ false → happens false budget p e w ≡ happens true budget p e w
+happens_same budget p event.Open None h = refl
+happens_same budget p event.Open (Some c) h = refl
+happens_same budget p event.Begin None h = refl
+happens_same budget p event.Begin (Some c) h = ap answer_of (begins_same p c (sym (named (begins false p c)) ∙ h))
+happens_same budget p (event.Bring ps) None h = refl
+happens_same budget p (event.Bring ps) (Some c) h = ap answer_of (brings_same p ps c (sym (named (brings false p ps c)) ∙ h))
+happens_same budget p event.Step None h = refl
+happens_same budget p event.Step (Some c) h = ap step_of (same_step false budget p c (sym (named_step (steps false budget p c)) ∙ h))
+happens_same budget p event.End None h = refl
+happens_same budget p event.End (Some c) h = refl
+happens_same budget p event.TakeOutput None h = refl
+happens_same budget p event.TakeOutput (Some c) h = refl
+
+open_same : (budget : ℕ) (p : Program) (w : World) → happens false budget p event.Open w ≡ happens true budget p event.Open w
+open_same budget p None = refl
+open_same budget p (Some c) = refl
+
+answered_same : (m : Bool) (budget : ℕ) (p : Program) (c : Command) (w : World) → names_memory (answered m budget p c w).0 ≡ false → answered m budget p c w ≡ answered true budget p c w
+answered_same true budget p c w h = refl
+answered_same false budget p command.Open w h = ap (λ x. (reply.Connected, x.1)) (open_same budget p w)
+answered_same false budget p (command.Begin c) w h = ap told (happens_same budget p event.Begin w h)
+answered_same false budget p (command.End c) w h = ap told (happens_same budget p event.End w h)
+answered_same false budget p (command.Bring c ps) w h = ap told (happens_same budget p (event.Bring ps) w h)
+answered_same false budget p (command.Run c) w h = refl
+answered_same false budget p (command.Output c) w h = ap told (happens_same budget p event.TakeOutput w h)
+
+-- A run of steps that does not answer that there was no memory is the run with memory.
+run_is : (budget : ℕ) (p : Program) (w new : World) (r : Reply) → MayRun budget p w r new → names_memory r ≡ false → (r, new) ≡ run_of budget p w
+run_is budget p None new r m h = let a = m.0 in let b = m.1 in cc
+run_is budget p (Some c) new r (m, answer, d, e, t) h =
+    let lasts : lost answer ≡ false = sym (named_step (answer, d)) ∙ sym (ap (λ x. names_memory x.0) t) ∙ h in
+    let few = goes_below e.count budget p c e.last e.goes in
+    let ran_so = ran_only e.count budget budget p c e.last d m answer (omega arith) e.goes e.ends e.stops lasts in
+    t ∙ ap (λ x. told (step_of x)) (sym ran_so)
+
+answers_is : (budget : ℕ) (p : Program) (c : Command) (w new : World) (r : Reply) → MayAnswer budget p c w r new → names_memory r ≡ false → (r, new) ≡ answered true budget p c w
+unfolding MayAnswer
+answers_is budget p command.Open w new r (m, e) h = sym e ∙ answered_same m budget p command.Open w (ap (λ x. names_memory x.0) e ∙ h)
+answers_is budget p (command.Begin c) w new r (m, e) h = sym e ∙ answered_same m budget p (command.Begin c) w (ap (λ x. names_memory x.0) e ∙ h)
+answers_is budget p (command.End c) w new r (m, e) h = sym e ∙ answered_same m budget p (command.End c) w (ap (λ x. names_memory x.0) e ∙ h)
+answers_is budget p (command.Bring c ps) w new r (m, e) h = sym e ∙ answered_same m budget p (command.Bring c ps) w (ap (λ x. names_memory x.0) e ∙ h)
+answers_is budget p (command.Run c) w new r m h = run_is budget p w new r m h
+answers_is budget p (command.Output c) w new r (m, e) h = sym e ∙ answered_same m budget p (command.Output c) w (ap (λ x. names_memory x.0) e ∙ h)
+
+match_is : (b : Bool) (budget : ℕ) (p : Program) (c : Command) (w new : World) (r : Reply) → MatchBool b (MayAnswer budget p c w r new) ((r ≡ reply.Refused refusal.NoSuchConn) × (new ≡ w)) → names_memory r ≡ false → (r, new) ≡ cond b (answered true budget p c w) (reply.Refused refusal.NoSuchConn, w)
+match_is true budget p c w new r m h = answers_is budget p c w new r m h
+match_is false budget p c w new r m h = let a = m.0 in let b = m.1 in cc
+
+serves_is : (budget : ℕ) (p : Program) (c : Command) (w new : World) (r : Reply) → Serves budget p c w r new → names_memory r ≡ false → (r, new) ≡ served true budget p c w
+unfolding Serves served
+serves_is budget p c w new r s h = match_is (is_for_first c) budget p c w new r s h
+
+or_left : (a b : Bool) → a || b ≡ false → a ≡ false
+or_left false b h = refl
+or_left true b h = h
+
+or_right : (a b : Bool) → a || b ≡ false → b ≡ false
+or_right false b h = h
+or_right true b h = absurd (true≢false h)
+
+-- Where no answer says that there was no memory, the answers are those with memory.
+pub plays_only : (budget : ℕ) (p : Program) (cs : List Command) (w : World) (rs : List Reply) → Plays budget p cs w rs → list_any names_memory rs ≡ false → rs ≡ replies_of budget p cs w
+unfolding Plays replies_of
+plays_only budget p [] w [] plays h = refl
+plays_only budget p [] w (r ∷ rs) plays h = absurd plays
+plays_only budget p (c ∷ cs) w [] plays h = absurd plays
+plays_only budget p (c ∷ cs) w (r ∷ rs) (mid, serves, plays) h =
+    let here = serves_is budget p c w mid r serves (or_left (names_memory r) (list_any names_memory rs) h) in
+    let rest = plays_only budget p cs mid rs plays (or_right (names_memory r) (list_any names_memory rs) h) in
+    ap (λ x. x.0 ∷ rs) here ∙ ap (λ l. (served true budget p c w).0 ∷ l) (rest ∙ ap (λ x. replies_of budget p cs x.1) here)
+
+run_may : (budget : ℕ) (p : Program) (w : World) → MayRun budget p w (run_of budget p w).0 (run_of budget p w).1
+run_may budget p None = (refl, refl)
+run_may budget p (Some c) = (true, (ran budget budget p c).0, (ran budget budget p c).1, ran_ends budget budget p c (omega arith), refl)
+
+answers_so : (budget : ℕ) (p : Program) (c : Command) (w : World) → MayAnswer budget p c w (answered true budget p c w).0 (answered true budget p c w).1
+unfolding MayAnswer
+answers_so budget p command.Open w = (true, refl)
+answers_so budget p (command.Begin c) w = (true, refl)
+answers_so budget p (command.End c) w = (true, refl)
+answers_so budget p (command.Bring c ps) w = (true, refl)
+answers_so budget p (command.Run c) w = run_may budget p w
+answers_so budget p (command.Output c) w = (true, refl)
+
+match_so : (b : Bool) (budget : ℕ) (p : Program) (c : Command) (w : World) → MatchBool b (MayAnswer budget p c w (cond b (answered true budget p c w) (reply.Refused refusal.NoSuchConn, w)).0 (cond b (answered true budget p c w) (reply.Refused refusal.NoSuchConn, w)).1) (((cond b (answered true budget p c w) (reply.Refused refusal.NoSuchConn, w)).0 ≡ reply.Refused refusal.NoSuchConn) × ((cond b (answered true budget p c w) (reply.Refused refusal.NoSuchConn, w)).1 ≡ w))
+match_so true budget p c w = answers_so budget p c w
+match_so false budget p c w = (refl, refl)
+
+serves_so : (budget : ℕ) (p : Program) (c : Command) (w : World) → Serves budget p c w (served true budget p c w).0 (served true budget p c w).1
+unfolding Serves served
+serves_so budget p c w = match_so (is_for_first c) budget p c w
+
+-- The commands can be played, from each world on.
+pub plays_so : (budget : ℕ) (p : Program) (cs : List Command) (w : World) → Plays budget p cs w (replies_of budget p cs w)
+unfolding Plays replies_of
+plays_so budget p [] w = tt
+plays_so budget p (c ∷ cs) w =
+    ((served true budget p c w).1, serves_so budget p c w, plays_so budget p cs (served true budget p c w).1)

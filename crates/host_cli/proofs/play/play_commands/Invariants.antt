@@ -1,0 +1,18 @@
+use Rattle.std.proofs.Common.{length, ◌-◌, ◌+◌, ◌≤◌, false, is_some, drop}
+use Rattle.host_cli.specs.Lines.{lines_of}
+use Rattle.host_cli.specs.Scripts.{commands_of}
+use Rattle.host_cli.specs.Host.{world_of, IsReady}
+use Rattle.host_cli.proofs.PlayTurns.{IsUnder}
+use Rattle.host_cli.proofs.play.play_commands.Given as goal
+
+-- the lines so far are played
+abbrev pub invariant-loop-at : goal.invariant-loop-at
+invariant-loop-at l = record {
+  within : l.at ≤ length l.commands;
+  counted : l.number ≤ l.first + l.at;
+  ready : IsReady l.code (world_of l.conn);
+  played : IsUnder l.budget l.code (commands_of false l.first (lines_of l.commands)) (is_some l.conn) l.number (lines_of (drop l.at l.commands)) (world_of l.conn) l.out.items;
+}
+
+abbrev pub decreases-loop-at : goal.decreases-loop-at
+decreases-loop-at l = length l.commands - l.at

@@ -1,0 +1,51 @@
+-- The commands of a script: their words, and the lines that say them.
+use Rattle.std.specs.Prelude.{ℕ, nat_eq, List, [], ◌∷◌, Option, find, option_map, codes}
+use Rattle.std.specs.Option.{option_and_then}
+use Rattle.std.specs.Cmp.Lexicographic.{pointwise}
+use Rattle.host_cli.specs.declared.command.Word.{Word}
+use Rattle.host_cli.specs.declared.command.Word.TheVariants as word
+use Rattle.host_cli.specs.declared.command.Takes.{Takes}
+use Rattle.host_cli.specs.declared.command.Takes.TheVariants as takes
+use Rattle.host_cli.specs.declared.command.Command.{Command}
+use Rattle.host_cli.specs.declared.command.Command.TheVariants as command
+use Rattle.host_cli.specs.declared.operands.Operands.{Operands}
+use Rattle.host_cli.specs.Operands.{first_word, after_word, operands_at}
+
+-- how a word is written
+unfoldable pub word_text : Word → List ℕ
+word_text word.Open = codes "open"
+word_text word.Begin = codes "begin"
+word_text word.End = codes "end"
+word_text word.Bring = codes "bring"
+word_text word.Run = codes "run"
+word_text word.Output = codes "output"
+
+-- what follows it
+unfoldable pub takes_of : Word → Takes
+takes_of word.Open = takes.Nothing
+takes_of word.Begin = takes.Conn
+takes_of word.End = takes.Conn
+takes_of word.Bring = takes.ConnAndPieces
+takes_of word.Run = takes.Conn
+takes_of word.Output = takes.Conn
+
+-- the command of a word with its operands
+unfoldable pub command_with : Word → Operands → Command
+command_with word.Open o = command.Open
+command_with word.Begin o = command.Begin o.conn
+command_with word.End o = command.End o.conn
+command_with word.Bring o = command.Bring o.conn o.pieces
+command_with word.Run o = command.Run o.conn
+command_with word.Output o = command.Output o.conn
+
+abbrev pub words : List Word
+words = word.Open ∷ word.Begin ∷ word.End ∷ word.Bring ∷ word.Run ∷ word.Output ∷ []
+
+-- the word that is written so
+unfoldable pub word_at : List ℕ → Option Word
+word_at token = find (λ w. pointwise nat_eq (word_text w) token) words
+
+-- the command that a line says
+unfoldable pub command_of : List ℕ → Option Command
+command_of line =
+    option_and_then (λ w. option_map (command_with w) (operands_at (takes_of w) (after_word line))) (word_at (first_word line))

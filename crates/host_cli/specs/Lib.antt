@@ -1,0 +1,9 @@
+pub use Rattle.module_lang.specs.Program
+pub mod Lines
+pub mod Operands
+pub mod Commands
+pub mod Replies
+pub mod Scripts
+pub mod Plays
+pub mod Host
+pub mod Numbers

@@ -1,0 +1,76 @@
+-- The lines that the program prints.
+use Rattle.std.specs.Prelude.{ℕ, List, [], ◌∷◌, ◌++◌, codes, decimal}
+use Rattle.module_lang.specs.declared.instr.Status.{Status}
+use Rattle.module_lang.specs.declared.instr.Status.TheVariants.{Success, Fail}
+use Rattle.run_model.specs.declared.fault.FaultKind.{FaultKind}
+use Rattle.run_model.specs.declared.fault.FaultKind.TheVariants.{F1, F2, F3, F4, F5, F6, F7, F8, F9, F10}
+use Rattle.run_model.specs.declared.event.Cause.TheVariants as cause
+use Rattle.run_model.specs.declared.event.Refusal.{Refusal}
+use Rattle.run_model.specs.declared.event.Refusal.TheVariants as refusal
+use Rattle.run_model.specs.declared.event.Stepped.{Stepped}
+use Rattle.run_model.specs.declared.event.Stepped.TheVariants as stepped
+use Rattle.module_lang.specs.Quoted.{spelling}
+use Rattle.host_cli.specs.declared.reply.Reply.{Reply}
+use Rattle.host_cli.specs.declared.reply.Reply.TheVariants as reply
+
+-- a text and the LF that ends it
+abbrev pub line : List ℕ → List ℕ
+line text = text ++ 10 ∷ []
+
+abbrev pub status_name : Status → List ℕ
+status_name Success = codes "ok"
+status_name Fail = codes "fail"
+
+abbrev pub fault_name : FaultKind → List ℕ
+fault_name F1 = codes "F1"
+fault_name F2 = codes "F2"
+fault_name F3 = codes "F3"
+fault_name F4 = codes "F4"
+fault_name F5 = codes "F5"
+fault_name F6 = codes "F6"
+fault_name F7 = codes "F7"
+fault_name F8 = codes "F8"
+fault_name F9 = codes "F9"
+fault_name F10 = codes "F10"
+
+abbrev pub refusal_name : Refusal → List ℕ
+refusal_name refusal.NoSuchConn = codes "NoSuchConn"
+refusal_name (refusal.Broken cause.Faulted) = codes "Broken(Faulted)"
+refusal_name (refusal.Broken cause.NoMemory) = codes "Broken(NoMemory)"
+refusal_name (refusal.Broken cause.NamesSpent) = codes "Broken(NamesSpent)"
+refusal_name (refusal.Broken cause.OutOfSteps) = codes "Broken(OutOfSteps)"
+refusal_name refusal.Busy = codes "Busy"
+refusal_name refusal.Idle = codes "Idle"
+refusal_name refusal.InRequest = codes "InRequest"
+refusal_name refusal.NotInRequest = codes "NotInRequest"
+refusal_name refusal.DataAfterEos = codes "DataAfterEos"
+refusal_name refusal.NamesSpent = codes "NamesSpent"
+refusal_name refusal.NoMemory = codes "NoMemory"
+
+abbrev pub refused_line : Refusal → List ℕ
+refused_line r = line (codes "refused " ++ refusal_name r)
+
+abbrev pub stepped_line : Stepped → List ℕ
+stepped_line stepped.Went = line (codes "went 1")
+stepped_line (stepped.CallEnded s) = line (codes "ended " ++ status_name s)
+stepped_line (stepped.Fault kind index pc) =
+    line (codes "fault " ++ fault_name kind ++ codes " module " ++ decimal index ++ codes " pc " ++ decimal pc)
+
+abbrev pub output_line : List ℕ → List ℕ
+output_line bytes = line (codes "output " ++ spelling bytes)
+
+-- the line of a reply
+abbrev pub reply_line : Reply → List ℕ
+reply_line reply.Connected = line (codes "conn 1")
+reply_line reply.Done = line (codes "ok")
+reply_line (reply.Refused r) = refused_line r
+reply_line (reply.Stepped s) = stepped_line s
+reply_line (reply.Output bytes) = output_line bytes
+
+-- the first faulty line of a module text, and its code
+abbrev pub asm_line : ℕ → ℕ → List ℕ
+asm_line l code = line (codes "asm line " ++ decimal l ++ codes " code " ++ decimal code)
+
+-- the first line of a script that is none
+abbrev pub script_line : ℕ → List ℕ
+script_line l = line (codes "script line " ++ decimal l)

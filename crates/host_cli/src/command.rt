@@ -1,0 +1,125 @@
+//! The commands of a script.
+
+ghost use Rattle.std.specs.Prelude.{◌≡◌, IfOk, Ok, Some};
+ghost use Rattle.host_cli.specs.Commands.{word_text, takes_of, word_at, command_with, command_of};
+
+use std::alloc::{AllocError, Global};
+
+use run_model::{Piece, Seq};
+
+use crate::operands::{Operands, operands_of};
+use crate::lines::len_before;
+
+/// The first word of a command.
+#[derive(Clone, Copy)]
+pub enum Word {
+    Open,
+    Begin,
+    End,
+    Bring,
+    Run,
+    Output,
+}
+
+/// What follows the first word of a command.
+#[derive(Clone, Copy)]
+pub enum Takes {
+    /// Nothing.
+    Nothing,
+    /// The number of a connection.
+    Conn,
+    /// The number of a connection, and pieces.
+    ConnAndPieces,
+}
+
+/// A command of a script. A number names a connection.
+#[derive(Drop)]
+pub enum Command {
+    /// Opens a connection.
+    Open,
+    /// Begins a request.
+    Begin(u64),
+    /// Ends the request.
+    End(u64),
+    /// Brings a brigade of these pieces.
+    Bring(u64, Seq<Piece>),
+    /// Makes steps until a call has ended, or more is refused.
+    Run(u64),
+    /// Takes the output.
+    Output(u64),
+}
+
+const WORDS: [Word; 6] = [
+    Word::Open,
+    Word::Begin,
+    Word::End,
+    Word::Bring,
+    Word::Run,
+    Word::Output,
+];
+
+impl Word {
+    #[tactic(auto, unfolding(crate::specs::Commands::word_text))]
+    fn text(self) -> &'static [u8]
+        ensures { result.now ≡ word_text self }
+    {
+        match self {
+            Word::Open => b"open",
+            Word::Begin => b"begin",
+            Word::End => b"end",
+            Word::Bring => b"bring",
+            Word::Run => b"run",
+            Word::Output => b"output",
+        }
+    }
+
+    #[tactic(auto, unfolding(crate::specs::Commands::takes_of))]
+    fn takes(self) -> Takes
+        ensures { result ≡ takes_of self }
+    {
+        match self {
+            Word::Open => Takes::Nothing,
+            Word::Begin | Word::End | Word::Run | Word::Output => Takes::Conn,
+            Word::Bring => Takes::ConnAndPieces,
+        }
+    }
+
+    #[tactic(auto, unfolding(crate::specs::Commands::command_with))]
+    fn with(self, operands: Operands) -> Command
+        ensures { result ≡ command_with self operands }
+    {
+        match self {
+            Word::Open => Command::Open,
+            Word::Begin => Command::Begin(operands.conn),
+            Word::End => Command::End(operands.conn),
+            Word::Bring => Command::Bring(operands.conn, operands.pieces),
+            Word::Run => Command::Run(operands.conn),
+            Word::Output => Command::Output(operands.conn),
+        }
+    }
+}
+
+#[tactic(auto, unfolding(crate::specs::Commands::word_at))]
+fn word_at(token: &[u8]) -> Option<Word>
+    ensures { result ≡ word_at token.now }
+{
+    WORDS
+        .iter()
+        .copied()
+        .find(|word| word.text() == token)
+}
+
+/// The command that a line says, without its LF. `None` where it says none.
+#[tactic(auto, unfolding(crate::specs::Commands::command_of))]
+pub fn command_of(alloc: Global, line: &[u8]) -> Result<Option<Command>, AllocError>
+    ensures { IfOk result (λ c. c ≡ command_of line.now) }
+{
+    let len = len_before(line, b' ');
+    let Some(word) = word_at(&line[..len]) else {
+        return Ok(None);
+    };
+    match operands_of(alloc, word.takes(), &line[len..])? {
+        Some(operands) => Ok(Some(word.with(operands))),
+        None => Ok(None),
+    }
+}

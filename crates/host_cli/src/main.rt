@@ -1,0 +1,43 @@
+//! The program: it plays a script from standard input, and writes the answers to standard output.
+#![tactic(auto)]
+
+mod command;
+mod ended;
+mod fault;
+mod host;
+mod lines;
+mod number;
+mod operands;
+mod play;
+mod reply;
+mod run;
+mod script;
+mod streams;
+
+use std::io;
+use std::process::ExitCode;
+
+use ended::Ended;
+use fault::PlayFault;
+use run::run_play;
+
+/// Tells a fault of the program by one line.
+fn tell(rt: &HostRuntime, fault: &PlayFault) {
+    let _ = match fault {
+        PlayFault::Read | PlayFault::NoMemory => rt.println(fault),
+        PlayFault::Write => rt.eprintln(fault),
+    };
+}
+
+fn main(rt: HostRuntime) -> ExitCode {
+    let mut reader = rt.stdin();
+    let mut writer = rt.stdout();
+    match run_play(rt.alloc(), &mut reader, &mut writer) {
+        Ok(Ended::Done) => ExitCode::SUCCESS,
+        Ok(Ended::Refused) => ExitCode::FAILURE,
+        Err(fault) => {
+            tell(&rt, &fault);
+            ExitCode::FAILURE
+        }
+    }
+}

@@ -1,0 +1,117 @@
+//! Playing a script.
+
+ghost use Rattle.std.specs.Prelude.{◌≡◌, ℕ, ◌+◌, ◌<◌, ◌≤◌, ◌^◌, ◌++◌, [], None, length, take, true, false, ◌||◌, is_some, IfOk, OnOk, OnErr, IfSome};
+ghost use Rattle.run_model.specs.Runs.{World};
+ghost use Rattle.host_cli.specs.declared.reply.Reply.{Reply};
+ghost use Rattle.host_cli.specs.Replies.{reply_line};
+ghost use Rattle.host_cli.specs.Lines.{lines_of};
+ghost use Rattle.host_cli.specs.Scripts.{opens, commands_of, header_of, script_of};
+ghost use Rattle.host_cli.specs.Plays.{Serves, IsPlayed, IsPlayedSoFar, IsTextOf, IsFrontOf};
+ghost use Rattle.host_cli.specs.Host.{world_of, IsReady};
+
+use std::alloc::{AllocError, Global};
+
+use module_lang::{AsmRefusal, assemble};
+use module_run::Conn;
+use run_model::Module;
+
+use crate::command::Command;
+use crate::ended::Ended;
+use crate::host::{no_conn, serve};
+use crate::lines::{first_line, module_cut};
+use crate::reply::{put_asm_fault, put_reply, put_script_fault};
+use crate::script::{due_command, header_of};
+
+/// Does a command, and adds the line of its answer to the text. Without memory the text is as it was.
+fn answer(
+    alloc: Global,
+    code: &Module,
+    budget: u64,
+    conn: &mut Option<Conn>,
+    command: Command,
+    out: &mut Vec<u8>,
+) -> Result<(), AllocError>
+    requires ready { IsReady code.now (world_of conn.old) }
+    requires once { opens command ≡ true → world_of conn.old ≡ None }
+    ensures ok { OnOk result ((r : Reply) × Serves budget code.now command (world_of conn.old) r (world_of conn.new) × (out.new.items ≡ out.old.items ++ reply_line r)) }
+    ensures err { OnErr result (out.new.items ≡ out.old.items) }
+    ensures ready { IsReady code.now (world_of conn.new) }
+    ensures opened { is_some conn.new ≡ (is_some conn.old || opens command) }
+{
+    let reply = serve(alloc, code, budget, conn, command);
+    put_reply(alloc, out, &reply)
+}
+
+/// Plays the commands of a text whose first line has this number, up to the first line that is no command, and adds
+/// what it writes to the text. Without memory what was answered so far is written.
+pub fn play_commands(
+    alloc: Global,
+    code: &Module,
+    budget: u64,
+    commands: &[u8],
+    first: usize,
+    out: &mut Vec<u8>,
+) -> Result<Ended, AllocError>
+    requires small { first + length commands.now < 2 ^ 64 }
+    requires fresh { out.old.items ≡ [] }
+    ensures ok { IfOk result (λ e. IsPlayed budget code.now (commands_of false first (lines_of commands.now)) out.new.items e) }
+    ensures err { OnErr result (IsPlayedSoFar budget code.now (commands_of false first (lines_of commands.now)) out.new.items) }
+{
+    let mut conn = no_conn(code);
+    let mut at = 0;
+    let mut number = first;
+    while at < commands.len() {
+        let line = first_line(&commands[at..]);
+        let Some(command) = due_command(alloc, line.text, line.ended, conn.is_some())? else {
+            put_script_fault(alloc, out, number)?;
+            return Ok(Ended::Refused);
+        };
+        answer(alloc, code, budget, &mut conn, command, out)?;
+        at += line.width;
+        number += 1;
+    }
+    Ok(Ended::Done)
+}
+
+/// Plays what stands behind the module text of a script, which had so many lines: the line `budget`, and commands.
+fn play_module(
+    alloc: Global,
+    code: &Module,
+    rest: &[u8],
+    lines: usize,
+    out: &mut Vec<u8>,
+) -> Result<Ended, AllocError>
+    requires small { lines + length rest.now + 2 < 2 ^ 64 }
+    requires fresh { out.old.items ≡ [] }
+    ensures ok { IfOk result (λ e. IsPlayed (header_of (lines_of rest.now)).budget code.now (script_of lines rest.now) out.new.items e) }
+    ensures err { OnErr result (IsPlayedSoFar (header_of (lines_of rest.now)).budget code.now (script_of lines rest.now) out.new.items) }
+{
+    let header = header_of(rest);
+    let first = lines + header.lines + 1;
+    play_commands(
+        alloc,
+        code,
+        header.budget,
+        &rest[header.size..],
+        first,
+        out,
+    )
+}
+
+/// Plays a script, and adds what it writes to the text. Without memory what was answered so far is written.
+pub fn play(alloc: Global, script: &[u8], out: &mut Vec<u8>) -> Result<Ended, AllocError>
+    requires small { length script.now < 2 ^ 63 }
+    requires fresh { out.old.items ≡ [] }
+    ensures ok { IfOk result (λ e. IsTextOf script.now out.new.items e) }
+    ensures err { OnErr result (IsFrontOf script.now out.new.items) }
+{
+    let cut = module_cut(script);
+    match assemble(alloc, &script[..cut.size]) {
+        Ok(code) => play_module(alloc, &code, &script[cut.size..], cut.lines, out),
+        Err(AsmRefusal::Fault { line, code }) => {
+            put_asm_fault(alloc, out, line, code.number())?;
+            Ok(Ended::Refused)
+        }
+        Err(AsmRefusal::NoMemory) => Err(AllocError),
+    }
+}

@@ -1,0 +1,173 @@
+//! What the program answers to a command, and the lines that it prints.
+
+ghost use Rattle.std.specs.Prelude.{◌≡◌, ◌++◌, ◌∷◌, [], IfOk, OnOk, OnErr};
+ghost use Rattle.host_cli.specs.Replies.{status_name, fault_name, refusal_name, stepped_line, refused_line, output_line, reply_line, asm_line, script_line};
+
+use std::alloc::{AllocError, Global};
+
+use module_lang::push_spelling;
+use run_model::{Cause, FaultKind, Refusal, Seq, Status, Stepped};
+
+/// What a command answers.
+#[derive(Drop)]
+pub enum Reply {
+    /// A connection was opened, the first.
+    Connected,
+    /// It was done.
+    Done,
+    /// It was refused.
+    Refused(Refusal),
+    /// How the steps ended.
+    Stepped(Stepped),
+    /// The output.
+    Output(Seq<u8>),
+}
+
+fn status_name(status: Status) -> &'static str
+    ensures { result.now ≡ status_name status }
+{
+    match status {
+        Status::Success => "ok",
+        Status::Fail => "fail",
+    }
+}
+
+fn fault_name(kind: FaultKind) -> &'static str
+    ensures { result.now ≡ fault_name kind }
+{
+    match kind {
+        FaultKind::F1 => "F1",
+        FaultKind::F2 => "F2",
+        FaultKind::F3 => "F3",
+        FaultKind::F4 => "F4",
+        FaultKind::F5 => "F5",
+        FaultKind::F6 => "F6",
+        FaultKind::F7 => "F7",
+        FaultKind::F8 => "F8",
+        FaultKind::F9 => "F9",
+        FaultKind::F10 => "F10",
+    }
+}
+
+fn refusal_name(refusal: Refusal) -> &'static str
+    ensures { result.now ≡ refusal_name refusal }
+{
+    match refusal {
+        Refusal::NoSuchConn => "NoSuchConn",
+        Refusal::Broken(Cause::Faulted) => "Broken(Faulted)",
+        Refusal::Broken(Cause::NoMemory) => "Broken(NoMemory)",
+        Refusal::Broken(Cause::NamesSpent) => "Broken(NamesSpent)",
+        Refusal::Broken(Cause::OutOfSteps) => "Broken(OutOfSteps)",
+        Refusal::Busy => "Busy",
+        Refusal::Idle => "Idle",
+        Refusal::InRequest => "InRequest",
+        Refusal::NotInRequest => "NotInRequest",
+        Refusal::DataAfterEos => "DataAfterEos",
+        Refusal::NamesSpent => "NamesSpent",
+        Refusal::NoMemory => "NoMemory",
+    }
+}
+
+/// Adds a line to the text. Without memory nothing is changed.
+fn put(out: &mut Vec<u8>, line: &str) -> Result<(), AllocError>
+    ensures ok { OnOk result (out.new.items ≡ out.old.items ++ line.now) }
+    ensures err { OnErr result (out.new.items ≡ out.old.items) }
+{
+    out.extend_from_slice(line.as_bytes())
+}
+
+fn put_refused(alloc: Global, out: &mut Vec<u8>, refusal: Refusal) -> Result<(), AllocError>
+    ensures ok { OnOk result (out.new.items ≡ out.old.items ++ refused_line refusal) }
+    ensures err { OnErr result (out.new.items ≡ out.old.items) }
+{
+    let name = refusal_name(refusal);
+    let line = format!(in alloc; "refused {name}\n")?;
+    put(out, line.as_str())
+}
+
+fn put_stepped(alloc: Global, out: &mut Vec<u8>, stepped: Stepped) -> Result<(), AllocError>
+    ensures ok { OnOk result (out.new.items ≡ out.old.items ++ stepped_line stepped) }
+    ensures err { OnErr result (out.new.items ≡ out.old.items) }
+{
+    match stepped {
+        Stepped::Went => put(out, "went 1\n"),
+        Stepped::CallEnded(status) => put_ended(alloc, out, status),
+        Stepped::Fault { kind, module, pc } => put_fault(alloc, out, kind, module, pc),
+    }
+}
+
+fn put_ended(alloc: Global, out: &mut Vec<u8>, status: Status) -> Result<(), AllocError>
+    ensures ok { OnOk result (out.new.items ≡ out.old.items ++ stepped_line (Stepped.CallEnded status)) }
+    ensures err { OnErr result (out.new.items ≡ out.old.items) }
+{
+    let name = status_name(status);
+    let line = format!(in alloc; "ended {name}\n")?;
+    put(out, line.as_str())
+}
+
+fn put_fault(
+    alloc: Global,
+    out: &mut Vec<u8>,
+    kind: FaultKind,
+    index: u64,
+    pc: u64,
+) -> Result<(), AllocError>
+    ensures ok { OnOk result (out.new.items ≡ out.old.items ++ stepped_line (Stepped.Fault kind index pc)) }
+    ensures err { OnErr result (out.new.items ≡ out.old.items) }
+{
+    let name = fault_name(kind);
+    let line = format!(in alloc; "fault {name} module {index} pc {pc}\n")?;
+    put(out, line.as_str())
+}
+
+fn output_line(alloc: Global, bytes: &Seq<u8>) -> Result<Vec<u8>, AllocError>
+    ensures { IfOk result (λ line. line.items ≡ output_line bytes.now) }
+{
+    let mut spelling = Seq::new(alloc);
+    push_spelling(alloc, &mut spelling, bytes.as_slice())?;
+    let mut line = Vec::new(alloc);
+    line.extend_from_slice(b"output ")?;
+    line.extend_from_slice(spelling.as_slice())?;
+    line.push(b'\n')?;
+    Ok(line)
+}
+
+fn put_output(alloc: Global, out: &mut Vec<u8>, bytes: &Seq<u8>) -> Result<(), AllocError>
+    ensures ok { OnOk result (out.new.items ≡ out.old.items ++ output_line bytes.now) }
+    ensures err { OnErr result (out.new.items ≡ out.old.items) }
+{
+    let line = output_line(alloc, bytes)?;
+    out.extend_from_slice(line.as_slice())
+}
+
+/// Adds the line of a reply to the text. Without memory nothing is changed.
+pub fn put_reply(alloc: Global, out: &mut Vec<u8>, reply: &Reply) -> Result<(), AllocError>
+    ensures ok { OnOk result (out.new.items ≡ out.old.items ++ reply_line reply.now) }
+    ensures err { OnErr result (out.new.items ≡ out.old.items) }
+{
+    match reply {
+        Reply::Connected => put(out, "conn 1\n"),
+        Reply::Done => put(out, "ok\n"),
+        Reply::Refused(refusal) => put_refused(alloc, out, *refusal),
+        Reply::Stepped(stepped) => put_stepped(alloc, out, *stepped),
+        Reply::Output(bytes) => put_output(alloc, out, bytes),
+    }
+}
+
+/// Adds the line that tells a fault of the module text. Without memory nothing is changed.
+pub fn put_asm_fault(alloc: Global, out: &mut Vec<u8>, line: usize, code: u8) -> Result<(), AllocError>
+    ensures ok { OnOk result (out.new.items ≡ out.old.items ++ asm_line line code) }
+    ensures err { OnErr result (out.new.items ≡ out.old.items) }
+{
+    let line = format!(in alloc; "asm line {line} code {code}\n")?;
+    put(out, line.as_str())
+}
+
+/// Adds the line that tells which line of the script is none. Without memory nothing is changed.
+pub fn put_script_fault(alloc: Global, out: &mut Vec<u8>, line: usize) -> Result<(), AllocError>
+    ensures ok { OnOk result (out.new.items ≡ out.old.items ++ script_line line) }
+    ensures err { OnErr result (out.new.items ≡ out.old.items) }
+{
+    let line = format!(in alloc; "script line {line}\n")?;
+    put(out, line.as_str())
+}

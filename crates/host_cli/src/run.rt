@@ -1,0 +1,44 @@
+//! A script, from a reader to a writer.
+
+ghost use Rattle.std.specs.Prelude.{◌≡◌, ℕ, List, ◌<◌, ◌^◌, length, IfOk, OnErr};
+ghost use Rattle.std.specs.Io.KnownBytes.{Appends};
+ghost use Rattle.host_cli.specs.Plays.{IsTextOf, IsFrontOf, Writes};
+
+use std::alloc::{AllocError, Global};
+use std::io::{Read, Write};
+
+use crate::ended::Ended;
+use crate::fault::PlayFault;
+use crate::play::play;
+use crate::streams::{put_all, read_all};
+
+/// Plays a script, and writes the answers.
+fn write_play<W: Write>(alloc: Global, script: &[u8], writer: &mut W) -> Result<Ended, PlayFault>
+    requires { length script.now < 2 ^ 63 }
+    ensures ok { IfOk result (λ e. (text : List ℕ) × IsTextOf script.now text e × Appends (W.contents writer.old) (W.contents writer.new) text) }
+    ensures err { OnErr result ((text : List ℕ) × IsFrontOf script.now text × Appends (W.contents writer.old) (W.contents writer.new) text) }
+{
+    let mut text = Vec::new(alloc);
+    let played = play(alloc, script, &mut text);
+    put_all(writer, text.as_slice())?;
+    match played {
+        Ok(ended) => Ok(ended),
+        Err(AllocError) => Err(PlayFault::NoMemory),
+    }
+}
+
+/// Plays the script that a reader gives up to its end, and writes the answers.
+///
+/// `Read`: the reader failed, or gave no end within 1,000,000 reads of at most 8192 bytes; nothing is written.
+/// `NoMemory`: what was answered so far is written. `Write`: the writer failed or took nothing.
+pub fn run_play<R: Read, W: Write>(
+    alloc: Global,
+    reader: &mut R,
+    writer: &mut W,
+) -> Result<Ended, PlayFault>
+    ensures ok { IfOk result (λ e. Writes (R.remaining reader.old) (W.contents writer.old) (W.contents writer.new) (λ script text. IsTextOf script text e)) }
+    ensures err { OnErr result (Writes (R.remaining reader.old) (W.contents writer.old) (W.contents writer.new) IsFrontOf) }
+{
+    let script = read_all(alloc, reader)?;
+    write_play(alloc, script.as_slice(), writer)
+}
