@@ -1,0 +1,9 @@
+pub mod AssemblingLaws
+pub mod DraftLaws
+pub mod HandlerLaws
+pub mod LineLaws
+pub mod ModuleLaws
+pub mod OperandLaws
+pub mod QuotedLaws
+pub mod SliceLaws
+pub mod TextLaws

@@ -1,2 +1,14 @@
+pub mod Assembling
+pub mod Bytes
+pub mod Codes
+pub mod Drafts
+pub mod Entries
+pub mod Handlers
+pub mod Lines
+pub mod Names
+pub mod Operands
 pub mod Program
+pub mod Quoted
+pub mod Spelling
+pub mod Words
 pub mod SeqLends

@@ -1,7 +1,7 @@
 //! A module.
 
 ghost use Rattle.std.specs.Prelude.{◌≡◌, ◌<◌, ◌≤◌, length, slice_get, Some};
-ghost use Rattle.module_lang.specs.Program.{IsPlaced, pool_of_brigade};
+ghost use Rattle.module_lang.specs.Program.{IsModule, IsPlaced, pool_of_brigade, program};
 
 use crate::instr::{Instr, PoolRef};
 use crate::seq::Seq;
@@ -43,6 +43,28 @@ impl Model for Module {
 }
 
 impl Module {
+    /// The module of these parts.
+    pub(crate) fn new(
+        declared: (Seq<PoolRef>, Seq<PoolRef>),
+        texts: Seq<Seq<u8>>,
+        code: Seq<Instr>,
+        init: u16,
+        main: u16,
+    ) -> Self
+        requires { IsModule (program declared.0 declared.1 texts code init main) }
+        ensures { result ≡ program declared.0 declared.1 texts code init main }
+    {
+        let (pools, brigades) = declared;
+        Module {
+            pools,
+            brigades,
+            texts,
+            code,
+            init,
+            main,
+        }
+    }
+
     /// How many instructions there are, 1024 at most.
     pub fn len(&self) -> usize
         ensures count { result ≡ length self.now.code }

@@ -54,13 +54,6 @@ impl<T> Seq<T> {
         self.items.as_slice()
     }
 
-    /// The items, to be used up.
-    pub fn into_vec(self) -> Vec<T>
-        ensures { result.items ≡ self }
-    {
-        self.items
-    }
-
     /// The item at an index.
     pub fn at(&self, index: usize) -> &T
         requires { index < length self.now }
@@ -69,22 +62,19 @@ impl<T> Seq<T> {
         &self.items[index]
     }
 
+    /// The items, to be used up.
+    pub fn into_vec(self) -> Vec<T>
+        ensures { result.items ≡ self }
+    {
+        self.items
+    }
+
     /// The items, for writing.
     pub fn as_mut_slice(&mut self) -> &mut [T]
         ensures* writes_back { sem 𝓛 (LendsItems T.row self.entry result) }
         ensures value { result.now ≡ self.old }
     {
         self.items.as_mut_slice()
-    }
-
-    /// Adds items at the end. Without memory nothing is changed.
-    pub fn extend_from_slice(&mut self, items: &[T]) -> Result<(), AllocError>
-    where
-        T: Copy,
-        ensures ok { OnOk result (self.new ≡ self.old ++ items.now) }
-        ensures err { OnErr result (self.new ≡ self.old) }
-    {
-        self.items.extend_from_slice(items)
     }
 
     /// Adds an item at the end. Without memory nothing is changed.
@@ -96,6 +86,16 @@ impl<T> Seq<T> {
     {
         self.items.push(item)?;
         Ok(())
+    }
+
+    /// Adds copies of items at the end. Without memory nothing is changed.
+    pub fn extend(&mut self, items: &[T]) -> Result<(), AllocError>
+    where
+        T: Copy,
+        ensures ok { OnOk result (self.new ≡ self.old ++ items.now) }
+        ensures err { OnErr result (self.new ≡ self.old) }
+    {
+        self.items.extend_from_slice(items)
     }
 
     /// Puts an item in the place of another, which is given back.

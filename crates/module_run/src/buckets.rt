@@ -80,7 +80,7 @@ fn append_bytes(out: &mut Seq<u8>, content: &Content) -> Result<(), AllocError>
     ensures { IfOk result (λ _. out.new ≡ out.old ++ bytes_of content.now) }
 {
     match content {
-        Content::Bytes(bytes) => out.extend_from_slice(bytes.as_slice()),
+        Content::Bytes(bytes) => out.extend(bytes.as_slice()),
         Content::Range { .. } | Content::Nothing => Ok(()),
     }
 }

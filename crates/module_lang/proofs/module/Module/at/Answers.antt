@@ -1,5 +1,5 @@
 -- The instruction is one of the code, and each of these is placed.
-use Rattle.std.proofs.Common.{◌≡◌, ◌<◌, length, slice_get, Some, subst, ap, refl, arith}
+use Rattle.std.proofs.Common.{◌≡◌, ◌<◌, length, subst, ap, refl, arith}
 use Rattle.std.proofs.lemmas.Option.{slice_get_read}
 use Rattle.module_lang.specs.Program.{IsPlaced, Program}
 use Rattle.module_lang.proofs.module.Module.at.Goals as goal

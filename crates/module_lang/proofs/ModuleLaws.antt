@@ -1,0 +1,352 @@
+-- A draft whose handlers have no fault gives a module.
+use Rattle.std.proofs.Common.{◌≡◌, ℕ, zero, suc, ◌+◌, ◌-◌, ◌<◌, ◌≤◌, Bool, true, false, ◌&&◌, ◌||◌, not, cond, eqb, leb, nat_lt, List, [], ◌∷◌, ◌++◌, length, map, length-append, append_assoc, append-nil, inl, inr, ◌⊎◌, Ok, Option, Some, None, refl, sym, ◌∙◌, ap, subst, arith}
+use Rattle.std.specs.Prelude.{All, slice_get, IfSome, is_some, unwrap_or, option_map, filter_map}
+use Rattle.std.proofs.lemmas.Bool.{and_parts, or_parts, ltb-true, leb-false, ne_eqb, cases_lt}
+use Rattle.std.proofs.lemmas.List.{length-map}
+use Rattle.std.proofs.lemmas.Option.{slice_get-map, slice_get_within}
+use Rattle.module_lang.specs.Entries.{IsDraft, IsStep}
+use Rattle.module_lang.specs.Handlers.{handler_fault, handler_resolved, code_or_fault, ends_open, last_goes_on, op_goes_on, sooner, fault, label_fault, jump_fault, is_lost, is_missing, label_of, place_of, place_from, target_place, step_code, op_instr, operand_index, is_named}
+use Rattle.module_lang.specs.Lines.{are_declared, has_equal_brigades, is_declared, misplaced, same_brigade, place_is_declared}
+use Rattle.module_lang.specs.Operands.{IsOfKinds, of_kind}
+use Rattle.module_lang.specs.Program.{Program, program, IsHandler, IsInside, IsModule, IsPlaced, fits, goes_on, target, text_of_instr}
+use Rattle.module_lang.specs.Spelling.{op_of, operands_of}
+use Rattle.module_lang.specs.Words.{op_kinds}
+use Rattle.module_lang.specs.declared.draft.Draft.{Draft}
+use Rattle.module_lang.specs.declared.draft.Handler.{Handler}
+use Rattle.module_lang.specs.declared.draft.Label.{Label}
+use Rattle.module_lang.specs.declared.draft.Part.{Part}
+use Rattle.module_lang.specs.declared.draft.Part.TheVariants as part
+use Rattle.module_lang.specs.declared.draft.Step.{Step}
+use Rattle.module_lang.specs.declared.handler.LineFault.{LineFault}
+use Rattle.module_lang.specs.declared.instr.Instr.{Instr}
+use Rattle.module_lang.specs.declared.instr.Instr.TheVariants as instr
+use Rattle.module_lang.specs.declared.instr.PoolRef.{PoolRef}
+use Rattle.module_lang.specs.declared.operand.Operand.{Operand}
+use Rattle.module_lang.specs.declared.operand.Operand.TheVariants as operand
+use Rattle.module_lang.specs.declared.operand.Operands.{Operands}
+use Rattle.module_lang.specs.declared.refusal.Code.TheVariants as codes
+use Rattle.module_lang.specs.declared.word.Kind.TheVariants as kind
+use Rattle.module_lang.specs.declared.word.Op.{Op}
+use Rattle.module_lang.specs.declared.word.Op.TheVariants as op
+use Rattle.module_lang.proofs.HandlerLaws.{place_from-below}
+use Rattle.module_lang.proofs.OperandLaws.{shape, brigade_is, source_is}
+use Rattle.module_lang.proofs.SliceLaws.{front_item, back_item, item_of}
+
+-- what is known of a handler that was resolved
+pub record IsResolved (before : List Label) (h : Handler) (code after : List Instr) : Type 0 where
+  pub whole : after ≡ code ++ map (step_code (length code) h.labels) h.steps
+  pub closed : ends_open h.steps ≡ false
+  pub labels : label_fault before (length h.steps) h.labels ≡ None
+  pub jumps : jump_fault h.labels h.steps ≡ None
+
+sooner_none : (a b : Option LineFault) → sooner a b ≡ None → (a ≡ None) × (b ≡ None)
+sooner_none None None h = (refl, refl)
+sooner_none None (Some y) h = absurd (cc h)
+sooner_none (Some x) None h = absurd (cc h)
+sooner_none (Some x) (Some y) h = absurd (never (leb x.line y.line) h)
+  where
+    never : (b : Bool) → cond b (Some x) (Some y) ≡ None → ⊥
+    never true h = cc h
+    never false h = cc h
+
+pub resolved : (before : List Label) (h : Handler) (code after : List Instr) → handler_resolved before h code ≡ Ok after → IsResolved before h code after
+unfolding handler_resolved handler_fault
+resolved before h code after e = open_end (ends_open h.steps) refl e
+  where
+    whole : List Instr
+    whole = code ++ map (step_code (length code) h.labels) h.steps
+
+    other : (f : Option LineFault) → f ≡ sooner (label_fault before (length h.steps) h.labels) (jump_fault h.labels h.steps) → ends_open h.steps ≡ false → code_or_fault f (code ++ map (step_code (length code) h.labels) h.steps) ≡ Ok after → IsResolved before h code after
+    other (Some f) q c e = absurd (cc e)
+    other None q c e =
+        let n = sooner_none (label_fault before (length h.steps) h.labels) (jump_fault h.labels h.steps) (sym q) in
+        record { whole = cc e; closed = c; labels = n.0; jumps = n.1 }
+
+    open_end : (b : Bool) → ends_open h.steps ≡ b → code_or_fault (cond b (fault h.line codes.OpenEnd) (sooner (label_fault before (length h.steps) h.labels) (jump_fault h.labels h.steps))) (code ++ map (step_code (length code) h.labels) h.steps) ≡ Ok after → IsResolved before h code after
+    open_end true q e = absurd (cc e)
+    open_end false q e = other (sooner (label_fault before (length h.steps) h.labels) (jump_fault h.labels h.steps)) refl q e
+
+all_cons : {X : Type 0} (P : X → Type 0) (x : X) (xs : List X) → P x → All P xs → All P (x ∷ xs)
+all_cons P x xs p h zero d lt = p
+all_cons P x xs p h (suc k) d lt = h k d (omega arith)
+
+-- no label stands behind the last instruction
+labels_below : (before : List Label) (n : ℕ) (ls : List Label) → label_fault before n ls ≡ None → All (λ l. l.place < n) ls
+labels_below before n [] h = λ k d lt. absurd (omega arith)
+labels_below before n (l ∷ ls) h = named (is_named l.name before) (labels_below (before ++ l ∷ []) n ls) h
+  where
+    lost : (label_fault (before ++ l ∷ []) n ls ≡ None → All (λ x. x.place < n) ls) → (b : Bool) → leb n l.place ≡ b → cond b (fault l.line codes.LostLabel) (label_fault (before ++ l ∷ []) n ls) ≡ None → All (λ x. x.place < n) (l ∷ ls)
+    lost rest true q h = absurd (cc h)
+    lost rest false q h = all_cons (λ x. x.place < n) l ls (leb-false n l.place q) (rest h)
+
+    named : (b : Bool) → (label_fault (before ++ l ∷ []) n ls ≡ None → All (λ x. x.place < n) ls) → cond b (fault l.line codes.DoubledLabel) (cond (leb n l.place) (fault l.line codes.LostLabel) (label_fault (before ++ l ∷ []) n ls)) ≡ None → All (λ x. x.place < n) (l ∷ ls)
+    named true rest h = absurd (cc h)
+    named false rest h = lost rest (leb n l.place) refl h
+
+-- each label that is named is there
+jumps_found : (ls : List Label) (ss : List Step) → jump_fault ls ss ≡ None → All (λ s. is_lost ls s.operands ≡ false) ss
+jumps_found ls [] h = λ k d lt. absurd (omega arith)
+jumps_found ls (s ∷ ss) h = lost (is_lost ls s.operands) (jumps_found ls ss) refl h
+  where
+    lost : (b : Bool) → (jump_fault ls ss ≡ None → All (λ x. is_lost ls x.operands ≡ false) ss) → is_lost ls s.operands ≡ b → cond b (fault s.line codes.LostLabel) (jump_fault ls ss) ≡ None → All (λ x. is_lost ls x.operands ≡ false) (s ∷ ss)
+    lost true rest q h = absurd (cc h)
+    lost false rest q h = all_cons (λ x. is_lost ls x.operands ≡ false) s ss q (rest h)
+
+found_below : (ls : List Label) (n : ℕ) (name : Option (List ℕ)) → All (λ l. l.place < n) ls → 0 < n → is_missing ls name ≡ false → target_place ls name < n
+unfolding place_of
+found_below ls n None all some h = some
+found_below ls n (Some name) all some h = found (place_from None name ls) refl h
+  where
+    found : (o : Option ℕ) → place_from None name ls ≡ o → not (is_some o) ≡ false → unwrap_or o 0 < n
+    found None q h = absurd (cc h)
+    found (Some p) q h = place_from-below n None name ls (λ x e. absurd (cc e)) all p q
+
+in_range : (i : Op) (o : Operands) (t from to : ℕ) → from ≤ t → t < to → IfSome (target (op_instr i o t)) (λ x. (from ≤ x) × (x < to))
+in_range op.BCreate o t from to low high = tt
+in_range op.BClean o t from to low high = tt
+in_range op.BConcat o t from to low high = tt
+in_range op.Pass o t from to low high = (low, high)
+in_range op.JEmpty o t from to low high = (low, high)
+in_range op.JSent o t from to low high = (low, high)
+in_range op.Jump o t from to low high = (low, high)
+in_range op.Ret o t from to low high = tt
+
+same_op : (i : Op) (o : Operands) (t : ℕ) → i ≡ op_of (op_instr i o t)
+same_op op.BCreate o t = refl
+same_op op.BClean o t = refl
+same_op op.BConcat o t = refl
+same_op op.Pass o t = refl
+same_op op.JEmpty o t = refl
+same_op op.JSent o t = refl
+same_op op.Jump o t = refl
+same_op op.Ret o t = refl
+
+same_end : (i : Op) (o : Operands) (t : ℕ) → goes_on (op_instr i o t) ≡ op_goes_on i
+same_end op.BCreate o t = refl
+same_end op.BClean o t = refl
+same_end op.BConcat o t = refl
+same_end op.Pass o t = refl
+same_end op.JEmpty o t = refl
+same_end op.JSent o t = refl
+same_end op.Jump o t = refl
+same_end op.Ret o t = refl
+
+-- the name of a label matters to no handler
+unnamed : (q : Part) (ps bs : List PoolRef) (i : Instr) (n : List ℕ) → misplaced q ps bs (op_of i) (operands_of i n) ≡ misplaced q ps bs (op_of i) (operands_of i [])
+unnamed q ps bs (instr.BCreate o) n = refl
+unnamed q ps bs (instr.BClean b) n = refl
+unnamed q ps bs (instr.BConcat a b) n = refl
+unnamed q ps bs (instr.Pass b l) n = refl
+unnamed q ps bs (instr.JEmpty b l) n = refl
+unnamed q ps bs (instr.JSent l) n = refl
+unnamed q ps bs (instr.Jump l) n = refl
+unnamed q ps bs (instr.Ret s) n = refl
+
+is_allowed : (q : Part) (ps bs : List PoolRef) (i : Op) (o : Operands) (t : ℕ) → IsOfKinds (op_kinds i) o → misplaced q ps bs i o ≡ false → misplaced q ps bs (op_of (op_instr i o t)) (operands_of (op_instr i o t) []) ≡ false
+is_allowed q ps bs i o t k h =
+    let form = shape i o t k in
+    sym (unnamed q ps bs (op_instr i o t) form.0) ∙ sym (ap (λ x. misplaced q ps bs x (operands_of (op_instr i o t) form.0)) (same_op i o t)) ∙ sym (ap (misplaced q ps bs i) form.1) ∙ h
+
+own_brigade : (n b : ℕ) → b < 8 → (nat_lt b n || (eqb b 8)) ≡ true → nat_lt b n ≡ true
+own_brigade n b low h = declared (nat_lt b n) (eqb b 8) (ne_eqb b 8 (λ e. omega arith)) h
+  where
+    declared : (x y : Bool) → y ≡ false → (x || y) ≡ true → x ≡ true
+    declared true y e h = refl
+    declared false true e h = absurd (cc e)
+    declared false false e h = absurd (cc h)
+
+same_brigades : (a b : Operand) → a ≡ operand.Brigade (operand_index a) → b ≡ operand.Brigade (operand_index b) → same_brigade a b ≡ false → eqb (operand_index a) (operand_index b) ≡ false
+same_brigades (operand.Brigade x) (operand.Brigade y) p q h = h
+same_brigades operand.Nothing b p q h = absurd (cc p)
+same_brigades operand.One b p q h = absurd (cc p)
+same_brigades (operand.Place x) b p q h = absurd (cc p)
+same_brigades (operand.Ending x) b p q h = absurd (cc p)
+same_brigades (operand.Label x) b p q h = absurd (cc p)
+same_brigades (operand.Text x) b p q h = absurd (cc p)
+same_brigades (operand.Brigade x) operand.Nothing p q h = absurd (cc q)
+same_brigades (operand.Brigade x) operand.One p q h = absurd (cc q)
+same_brigades (operand.Brigade x) (operand.Place y) p q h = absurd (cc q)
+same_brigades (operand.Brigade x) (operand.Ending y) p q h = absurd (cc q)
+same_brigades (operand.Brigade x) (operand.Label y) p q h = absurd (cc q)
+same_brigades (operand.Brigade x) (operand.Text y) p q h = absurd (cc q)
+
+-- a brigade operand that is declared
+declared_as : (m n : ℕ) (x : Operand) → x ≡ operand.Brigade (operand_index x) → is_declared m n x ≡ true → (nat_lt (operand_index x) n || (eqb (operand_index x) 8)) ≡ true
+declared_as m n x e h = subst (λ y. is_declared m n y ≡ true) e h
+
+brigade_below : (x : Operand) → of_kind kind.Brigade x ≡ true → operand_index x < 8
+brigade_below (operand.Brigade b) h = ltb-true b 8 h
+brigade_below operand.Nothing h = absurd (cc h)
+brigade_below operand.One h = absurd (cc h)
+brigade_below (operand.Place x) h = absurd (cc h)
+brigade_below (operand.Ending x) h = absurd (cc h)
+brigade_below (operand.Label x) h = absurd (cc h)
+brigade_below (operand.Text x) h = absurd (cc h)
+
+first_declared : (m n : ℕ) (o : Operands) → are_declared m n o ≡ true → is_declared m n o.first ≡ true
+first_declared m n o h =
+    let a = and_parts (is_declared m n o.first && is_declared m n o.second && is_declared m n o.third) (is_declared m n o.fourth) h in
+    let b = and_parts (is_declared m n o.first && is_declared m n o.second) (is_declared m n o.third) a.0 in
+    (and_parts (is_declared m n o.first) (is_declared m n o.second) b.0).0
+
+second_declared : (m n : ℕ) (o : Operands) → are_declared m n o ≡ true → is_declared m n o.second ≡ true
+second_declared m n o h =
+    let a = and_parts (is_declared m n o.first && is_declared m n o.second && is_declared m n o.third) (is_declared m n o.fourth) h in
+    let b = and_parts (is_declared m n o.first && is_declared m n o.second) (is_declared m n o.third) a.0 in
+    (and_parts (is_declared m n o.first) (is_declared m n o.second) b.0).1
+
+first_apart : (o : Operands) → has_equal_brigades o ≡ false → same_brigade o.first o.second ≡ false
+first_apart o h =
+    let a = or_parts (same_brigade o.first o.second || same_brigade o.first o.third) (same_brigade o.second o.third) h in
+    (or_parts (same_brigade o.first o.second) (same_brigade o.first o.third) a.0).0
+
+-- the operands of an instruction that was read are declared, and its brigades differ
+fit : (p : Program) (i : Op) (o : Operands) (t m : ℕ) → IsOfKinds (op_kinds i) o → are_declared m (length p.brigades) o ≡ true → has_equal_brigades o ≡ false → fits p (op_instr i o t) ≡ true
+unfolding op_kinds
+fit p op.BCreate o t m k h a = own_brigade (length p.brigades) (operand_index o.first) (brigade_below o.first k.first) (declared_as m (length p.brigades) o.first (brigade_is o.first k.first) (first_declared m (length p.brigades) o h))
+fit p op.BClean o t m k h a = declared_as m (length p.brigades) o.first (source_is o.first k.first) (first_declared m (length p.brigades) o h)
+fit p op.BConcat o t m k h a =
+    let first = declared_as m (length p.brigades) o.first (source_is o.first k.first) (first_declared m (length p.brigades) o h) in
+    let second = declared_as m (length p.brigades) o.second (source_is o.second k.second) (second_declared m (length p.brigades) o h) in
+    let apart = same_brigades o.first o.second (source_is o.first k.first) (source_is o.second k.second) (first_apart o a) in
+    rw (first, second, apart) refl
+fit p op.Pass o t m k h a = declared_as m (length p.brigades) o.first (source_is o.first k.first) (first_declared m (length p.brigades) o h)
+fit p op.JEmpty o t m k h a = declared_as m (length p.brigades) o.first (source_is o.first k.first) (first_declared m (length p.brigades) o h)
+fit p op.JSent o t m k h a = refl
+fit p op.Jump o t m k h a = refl
+fit p op.Ret o t m k h a = refl
+
+-- the code of a handler, item by item
+step_at : (g : Step → Instr) (h : Handler) (code after rest : List Instr) (pc : ℕ) (i : Instr) → after ≡ code ++ map g h.steps → length code ≤ pc → pc < length after → slice_get (after ++ rest) pc ≡ Some i → (s : Step) × (slice_get h.steps (pc - length code) ≡ Some s) × (g s ≡ i)
+step_at g h code after rest pc i whole low high e =
+    let front = front_item after rest pc high in
+    let back = back_item code (map g h.steps) pc low in
+    let mapped = slice_get-map g h.steps (pc - length code) in
+    mapped_some (slice_get h.steps (pc - length code)) refl (sym mapped ∙ sym back ∙ ap (λ x. slice_get x pc) (sym whole) ∙ sym front ∙ e)
+  where
+    mapped_some : (o : Option Step) → slice_get h.steps (pc - length code) ≡ o → option_map g o ≡ Some i → (s : Step) × (slice_get h.steps (pc - length code) ≡ Some s) × (g s ≡ i)
+    mapped_some None q h = absurd (cc h)
+    mapped_some (Some s) q h = (s, q, cc h)
+
+-- a handler of the program, and that its instructions fit
+record IsPart (p : Program) (q : Part) (from to : ℕ) : Type 0 where
+  handler : IsHandler p q from to
+  fitting : (pc : ℕ) (i : Instr) → from ≤ pc → pc < to → slice_get p.code pc ≡ Some i → fits p i ≡ true
+
+-- the last instruction of a handler that does not end open
+closed_last : (steps : List Step) → ends_open steps ≡ false → (s : Step) × (slice_get steps (length steps - 1) ≡ Some s) × (op_goes_on s.op ≡ false)
+closed_last steps h = last (slice_get steps (length steps - 1)) refl h
+  where
+    last : (o : Option Step) → slice_get steps (length steps - 1) ≡ o → last_goes_on o ≡ false → (s : Step) × (slice_get steps (length steps - 1) ≡ Some s) × (op_goes_on s.op ≡ false)
+    last None q h = absurd (cc h)
+    last (Some s) q h = (s, q, h)
+
+part_of : (p : Program) (q : Part) (h : Handler) (before : List Label) (code after rest : List Instr) → p.code ≡ after ++ rest → IsResolved before h code after → All (IsStep p.pools p.brigades q) h.steps → IsPart p q (length code) (length after)
+unfolding step_code
+part_of p q h before code after rest whole r all =
+    let g = step_code (length code) h.labels in
+    let n = length h.steps in
+    let size : length after ≡ length code + n = ap length r.whole ∙ length-append code (map g h.steps) ∙ ap (λ x. length code + x) (length-map h.steps g) in
+    let last = closed_last h.steps r.closed in
+    let some = slice_get_within h.steps (n - 1) last.0 last.1 in
+    let below = labels_below before n h.labels r.labels in
+    let found = jumps_found h.labels h.steps r.jumps in
+    let at = λ (pc : ℕ) (i : Instr) (low : length code ≤ pc) (high : pc < length after) (e : slice_get p.code pc ≡ Some i). step_at g h code after rest pc i r.whole low high (ap (λ x. slice_get x pc) (sym whole) ∙ e) in
+    record {
+      handler = record {
+        some = omega arith;
+        ends = λ i e.
+            let low : length code ≤ length after - 1 = omega arith in
+            let high : length after - 1 < length after = omega arith in
+            let s = at (length after - 1) i low high e in
+            let k : length after - 1 - length code ≡ n - 1 = omega arith in
+            let same : last.0 ≡ s.0 = let a : Some last.0 ≡ Some s.0 = sym last.1 ∙ ap (slice_get h.steps) (sym k) ∙ s.1 in cc a in
+            ap goes_on (sym s.2) ∙ same_end s.0.op s.0.operands (length code + target_place h.labels (label_of s.0.operands)) ∙ ap (λ (x : Step). op_goes_on x.op) (sym same) ∙ last.2;
+        inside = λ pc i low high e.
+            let s = at pc i low high e in
+            let fine = item_of (IsStep p.pools p.brigades q) h.steps (pc - length code) s.0 all s.1 in
+            let there = item_of (λ x. is_lost h.labels x.operands ≡ false) h.steps (pc - length code) s.0 found s.1 in
+            let t = length code + target_place h.labels (label_of s.0.operands) in
+            let near = found_below h.labels n (label_of s.0.operands) below (omega arith) there in
+            subst (λ x. IsInside p q (length code) (length after) x) s.2 (record {
+              target = in_range s.0.op s.0.operands t (length code) (length after) (omega arith) (omega arith);
+              allowed = is_allowed q p.pools p.brigades s.0.op s.0.operands t fine.kinds fine.allowed;
+            });
+      };
+      fitting = λ pc i low high e.
+          let s = at pc i low high e in
+          let fine = item_of (IsStep p.pools p.brigades q) h.steps (pc - length code) s.0 all s.1 in
+          subst (λ x. fits p x ≡ true) s.2 (fit p s.0.op s.0.operands (length code + target_place h.labels (label_of s.0.operands)) (length p.pools) fine.kinds fine.declared fine.apart);
+    }
+
+-- within a handler, an instruction leads to instructions
+placed_in : (p : Program) (q : Part) (from to pc : ℕ) (i : Instr) → IsPart p q from to → to ≤ length p.code → from ≤ pc → pc < to → slice_get p.code pc ≡ Some i → IsPlaced p pc i
+placed_in p q from to pc i part size low high e = record {
+  fit = part.fitting pc i low high e;
+  jump = weaker (target i) (part.handler.inside pc i low high e).target;
+  next = λ on. later (cases_lt (pc + 1) to) on;
+}
+  where
+    weaker : (o : Option ℕ) → IfSome o (λ t. (from ≤ t) × (t < to)) → IfSome o (λ t. t < length p.code)
+    weaker None h = tt
+    weaker (Some t) h = let lt = h.1 in omega arith
+
+    later : (pc + 1 < to) ⊎ (to ≤ pc + 1) → goes_on i ≡ true → pc + 1 < length p.code
+    later (inl lt) on = omega arith
+    later (inr ge) on =
+        let last : to - 1 ≡ pc = omega arith in
+        absurd (cc (sym on ∙ part.handler.ends i (ap (slice_get p.code) last ∙ e)))
+
+none_named : (is : List Instr) → filter_map text_of_instr is ≡ []
+none_named [] = refl
+none_named (i ∷ is) = none_named is
+
+-- the parts of a program that is made of three handlers
+module_of_parts : (p : Program) → IsPart p part.Open 0 p.init → IsPart p part.Init p.init p.main → IsPart p part.Main p.main (length p.code) → length p.code ≤ 1024 → length p.brigades ≤ 8 → length p.pools ≤ 8 → ((k : ℕ) (q : PoolRef) → slice_get p.pools k ≡ Some q → place_is_declared k q ≡ true) → ((k : ℕ) (q : PoolRef) → slice_get p.brigades k ≡ Some q → place_is_declared (length p.pools) q ≡ true) → p.texts ≡ [] → IsModule p
+module_of_parts p a b c size brigades pools parents homes none =
+    let one = a.handler.some in
+    let two = b.handler.some in
+    let three = c.handler.some in
+    let texts : length p.texts ≡ 0 = ap length none in
+    record {
+      placed = λ pc i e. in_part pc i e (slice_get_within p.code pc i e) (cases_lt pc p.init) (cases_lt pc p.main) (omega arith) (omega arith);
+      size = size;
+      brigades = brigades;
+      opens = omega arith;
+      inits = omega arith;
+      mains = three;
+      pools = pools;
+      parents = parents;
+      homes = homes;
+      texts = none_named p.code ∙ rw texts refl;
+      few = omega arith;
+      short = λ k d lt. absurd (omega arith);
+      opening = a.handler;
+      initial = b.handler;
+      serving = c.handler;
+    }
+  where
+    in_part : (pc : ℕ) (i : Instr) → slice_get p.code pc ≡ Some i → pc < length p.code → (pc < p.init) ⊎ (p.init ≤ pc) → (pc < p.main) ⊎ (p.main ≤ pc) → p.init ≤ length p.code → p.main ≤ length p.code → IsPlaced p pc i
+    in_part pc i e lt (inl x) y low high = placed_in p part.Open 0 p.init pc i a low (omega arith) x e
+    in_part pc i e lt (inr x) (inl y) low high = placed_in p part.Init p.init p.main pc i b high x y e
+    in_part pc i e lt (inr x) (inr y) low high = placed_in p part.Main p.main (length p.code) pc i c (omega arith) y lt e
+
+-- a draft whose handlers are resolved gives a module
+pub module_of : (d : Draft) (start a b c : List Instr) → start ≡ [] → IsDraft d → handler_resolved [] d.open start ≡ Ok a → handler_resolved d.open.labels d.init a ≡ Ok b → handler_resolved (d.open.labels ++ d.init.labels) d.main b ≡ Ok c → IsModule (program d.pools d.brigades d.texts c (length a) (length b))
+module_of d start a b c none s p q r =
+    let first = resolved [] d.open start a p in
+    let second = resolved d.open.labels d.init a b q in
+    let third = resolved (d.open.labels ++ d.init.labels) d.main b c r in
+    let m = program d.pools d.brigades d.texts c (length a) (length b) in
+    let tail_b = map (step_code (length a) d.init.labels) d.init.steps in
+    let tail_c = map (step_code (length b) d.main.labels) d.main.steps in
+    let whole_a : c ≡ a ++ (tail_b ++ tail_c) = third.whole ∙ ap (λ x. x ++ tail_c) second.whole ∙ append_assoc a tail_b tail_c in
+    let whole_c : c ≡ c ++ [] = sym (append-nil c) in
+    let size_a : length a ≡ length d.open.steps = ap length first.whole ∙ ap (λ x. length (x ++ map (step_code (length x) d.open.labels) d.open.steps)) none ∙ length-map d.open.steps (step_code 0 d.open.labels) in
+    let size_b : length b ≡ length a + length d.init.steps = ap length second.whole ∙ length-append a tail_b ∙ ap (λ x. length a + x) (length-map d.init.steps (step_code (length a) d.init.labels)) in
+    let size_c : length c ≡ length b + length d.main.steps = ap length third.whole ∙ length-append b tail_c ∙ ap (λ x. length b + x) (length-map d.main.steps (step_code (length b) d.main.labels)) in
+    let part_a = part_of m part.Open d.open [] start a (tail_b ++ tail_c) whole_a first s.opening in
+    let part_b = part_of m part.Init d.init d.open.labels a b tail_c third.whole second s.init in
+    let part_c = part_of m part.Main d.main (d.open.labels ++ d.init.labels) b c [] whole_c third s.main in
+    let zero : length start ≡ 0 = ap length none in
+    module_of_parts m (rw zero at part_a) part_b part_c (omega (arith, s.count)) s.brigades s.pools s.parents s.homes s.texts

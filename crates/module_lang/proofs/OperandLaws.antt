@@ -1,0 +1,225 @@
+-- Operands that were read are of their kinds, and an instruction has them again.
+use Rattle.std.proofs.Common.{◌≡◌, ℕ, ◌-◌, ◌<◌, Bool, true, false, ◌&&◌, not, cond, eqb, leb, nat_eq, List, [], length, Option, Some, None, Result, Ok, Err, refl, ◌∙◌, ap, subst, arith}
+use Rattle.std.specs.Prelude.{option_map, slice_index, codes}
+use Rattle.std.specs.Cmp.Lexicographic.{pointwise}
+use Rattle.std.proofs.lemmas.Bool.{and_parts, leb-true, lt-ltb}
+use Rattle.module_lang.specs.Bytes.{begins, tail, token}
+use Rattle.module_lang.specs.Codes.{◌>>=◌, unless}
+use Rattle.module_lang.specs.Handlers.{op_instr, operand_index, operand_status}
+use Rattle.module_lang.specs.Names.{name_of}
+use Rattle.module_lang.specs.Operands.{IsOfKinds, numbered, of_kind, operand_in, operand_at, or_wrong, text_operand, text_measured, operands_at, after_operand}
+use Rattle.module_lang.specs.Quoted.{quoted, measure_of}
+use Rattle.module_lang.specs.Spelling.{operands_of}
+use Rattle.module_lang.specs.Words.{op_kinds}
+use Rattle.module_lang.specs.declared.instr.PoolRef.{PoolRef}
+use Rattle.module_lang.specs.declared.instr.PoolRef.TheVariants as pool
+use Rattle.module_lang.specs.declared.instr.Status.TheVariants as status
+use Rattle.module_lang.specs.declared.operand.Operand.{Operand}
+use Rattle.module_lang.specs.declared.operand.Operand.TheVariants as operand
+use Rattle.module_lang.specs.declared.operand.Operands.{Operands}
+use Rattle.module_lang.specs.declared.quoted.Measured.{Measured}
+use Rattle.module_lang.specs.declared.refusal.Code.{Code}
+use Rattle.module_lang.specs.declared.refusal.Code.TheVariants as code
+use Rattle.module_lang.specs.declared.word.Kind.{Kind}
+use Rattle.module_lang.specs.declared.word.Kind.TheVariants as kind
+use Rattle.module_lang.specs.declared.word.Kinds.{Kinds}
+use Rattle.module_lang.specs.declared.word.Op.{Op}
+use Rattle.module_lang.specs.declared.word.Op.TheVariants as op
+use Rattle.module_lang.proofs.LineLaws.{bind_ok}
+
+abbrev pub made : Operand → Operand → Operand → Operand → Operands
+made a b c d = record { first = a; second = b; third = c; fourth = d }
+
+abbrev done : Operands → Result Operands Code
+done o = Ok o
+
+pub cond_some : {A : Type 0} (b : Bool) (x y : A) → cond b (Some x) None ≡ Some y → (b ≡ true) × (x ≡ y)
+cond_some true x y h = (refl, cc h)
+cond_some false x y h = absurd (cc h)
+
+pub numbered_below : (letter : ℕ) (t : List ℕ) (i : ℕ) → numbered letter t ≡ Some i → i < 8
+numbered_below letter t i h =
+    let a = cond_some ((eqb (length t) 2) && (eqb (slice_index t 0) letter) && leb 48 (slice_index t 1) && leb (slice_index t 1) 55) (slice_index t 1 - 48) i h in
+    let b = and_parts ((eqb (length t) 2) && (eqb (slice_index t 0) letter) && leb 48 (slice_index t 1)) (leb (slice_index t 1) 55) a.0 in
+    let low = leb-true (slice_index t 1) 55 b.1 in
+    omega (arith, a.1)
+
+is_kind : (k : Kind) (x o : Operand) → of_kind k x ≡ true → Some x ≡ Some o → of_kind k o ≡ true
+is_kind k x o h e = let s : x ≡ o = cc e in subst (λ y. of_kind k y ≡ true) s h
+
+numbered_pool : (n : Option ℕ) (o : Operand) → ((i : ℕ) → n ≡ Some i → i < 8) → option_map (λ i. operand.Place (pool.Own i)) n ≡ Some o → of_kind kind.Pool o ≡ true
+numbered_pool None o h e = absurd (cc e)
+numbered_pool (Some i) o h e = is_kind kind.Pool (operand.Place (pool.Own i)) o (lt-ltb i 8 (h i refl)) e
+
+numbered_place : (n : Option ℕ) (o : Operand) → option_map (λ i. operand.Place (pool.Own i)) n ≡ Some o → of_kind kind.Place o ≡ true
+numbered_place None o e = absurd (cc e)
+numbered_place (Some i) o e = is_kind kind.Place (operand.Place (pool.Own i)) o refl e
+
+place_kind : (a b : Bool) (n : Option ℕ) (o : Operand) → cond a (Some (operand.Place pool.Conn)) (cond b (Some (operand.Place pool.Req)) (option_map (λ i. operand.Place (pool.Own i)) n)) ≡ Some o → of_kind kind.Place o ≡ true
+place_kind true b n o e = is_kind kind.Place (operand.Place pool.Conn) o refl e
+place_kind false true n o e = is_kind kind.Place (operand.Place pool.Req) o refl e
+place_kind false false n o e = numbered_place n o e
+
+numbered_brigade : (n : Option ℕ) (o : Operand) → ((i : ℕ) → n ≡ Some i → i < 8) → option_map (λ i. operand.Brigade i) n ≡ Some o → of_kind kind.Brigade o ≡ true
+numbered_brigade None o h e = absurd (cc e)
+numbered_brigade (Some i) o h e = is_kind kind.Brigade (operand.Brigade i) o (lt-ltb i 8 (h i refl)) e
+
+numbered_source : (n : Option ℕ) (o : Operand) → option_map (λ i. operand.Brigade i) n ≡ Some o → of_kind kind.Source o ≡ true
+numbered_source None o e = absurd (cc e)
+numbered_source (Some i) o e = is_kind kind.Source (operand.Brigade i) o refl e
+
+source_kind : (a : Bool) (n : Option ℕ) (o : Operand) → cond a (Some (operand.Brigade 8)) (option_map (λ i. operand.Brigade i) n) ≡ Some o → of_kind kind.Source o ≡ true
+source_kind true n o e = is_kind kind.Source (operand.Brigade 8) o refl e
+source_kind false n o e = numbered_source n o e
+
+ending_kind : (a b : Bool) (o : Operand) → cond a (Some (operand.Ending status.Success)) (cond b (Some (operand.Ending status.Fail)) None) ≡ Some o → of_kind kind.Ending o ≡ true
+ending_kind true b o e = is_kind kind.Ending (operand.Ending status.Success) o refl e
+ending_kind false true o e = is_kind kind.Ending (operand.Ending status.Fail) o refl e
+ending_kind false false o e = absurd (cc e)
+
+label_kind : (n : Option (List ℕ)) (o : Operand) → option_map (λ n. operand.Label n) n ≡ Some o → of_kind kind.Label o ≡ true
+label_kind None o e = absurd (cc e)
+label_kind (Some n) o e = is_kind kind.Label (operand.Label n) o refl e
+
+one_kind : (a : Bool) (o : Operand) → cond a (Some operand.One) None ≡ Some o → of_kind kind.One o ≡ true
+one_kind true o e = is_kind kind.One operand.One o refl e
+one_kind false o e = absurd (cc e)
+
+pub token_kind : (k : Kind) (t : List ℕ) (o : Operand) → operand_in k t ≡ Some o → of_kind k o ≡ true
+unfolding operand_in
+token_kind kind.Nothing t o e = absurd (cc e)
+token_kind kind.One t o e = one_kind (pointwise nat_eq t (codes "1")) o e
+token_kind kind.Place t o e = place_kind (pointwise nat_eq t (codes "conn")) (pointwise nat_eq t (codes "req")) (numbered 112 t) o e
+token_kind kind.Pool t o e = numbered_pool (numbered 112 t) o (numbered_below 112 t) e
+token_kind kind.Brigade t o e = numbered_brigade (numbered 98 t) o (numbered_below 98 t) e
+token_kind kind.Source t o e = source_kind (pointwise nat_eq t (codes "in")) (numbered 98 t) o e
+token_kind kind.Ending t o e = ending_kind (pointwise nat_eq t (codes "ok")) (pointwise nat_eq t (codes "fail")) o e
+token_kind kind.Label t o e = label_kind (name_of t) o e
+token_kind kind.Text t o e = absurd (cc e)
+
+wrong_or : (k : Kind) (t : List ℕ) (r : Option Operand) (o : Operand) → operand_in k t ≡ r → or_wrong r ≡ Ok o → of_kind k o ≡ true
+wrong_or k t None o q e = absurd (cc e)
+wrong_or k t (Some x) o q e = let s : x ≡ o = cc e in token_kind k t o (q ∙ ap Some s)
+
+word_kind : (k : Kind) (b : Bool) (t : List ℕ) (o : Operand) → cond b (Err code.WrongOperands) (or_wrong (operand_in k t)) ≡ Ok o → of_kind k o ≡ true
+word_kind k true t o e = absurd (cc e)
+word_kind k false t o e = wrong_or k t (operand_in k t) o refl e
+
+measured_kind : (m : Option Measured) (o : Operand) → text_measured m ≡ Ok o → of_kind kind.Text o ≡ true
+measured_kind None o e = absurd (cc e)
+measured_kind (Some m) o e = let s : operand.Text m.len ≡ o = cc e in subst (λ y. of_kind kind.Text y ≡ true) s refl
+
+quoted_kind : (b : Bool) (m : Option Measured) (o : Operand) → cond b (Err code.WrongOperands) (text_measured m) ≡ Ok o → of_kind kind.Text o ≡ true
+quoted_kind true m o e = absurd (cc e)
+quoted_kind false m o e = measured_kind m o e
+
+text_kind : (b : Bool) (t : List ℕ) (o : Operand) → cond b (Err code.WrongOperands) (text_operand t) ≡ Ok o → of_kind kind.Text o ≡ true
+text_kind true t o e = absurd (cc e)
+text_kind false t o e = quoted_kind (not (begins 34 t)) (measure_of (quoted t)) o e
+
+pub read_kind : (k : Kind) (rest : List ℕ) (o : Operand) → operand_at k rest ≡ Ok o → of_kind k o ≡ true
+unfolding operand_at
+read_kind kind.Nothing rest o e = let s : operand.Nothing ≡ o = cc e in subst (λ y. of_kind kind.Nothing y ≡ true) s refl
+read_kind kind.One rest o e = word_kind kind.One (not (begins 32 rest)) (token (tail rest)) o e
+read_kind kind.Place rest o e = word_kind kind.Place (not (begins 32 rest)) (token (tail rest)) o e
+read_kind kind.Pool rest o e = word_kind kind.Pool (not (begins 32 rest)) (token (tail rest)) o e
+read_kind kind.Brigade rest o e = word_kind kind.Brigade (not (begins 32 rest)) (token (tail rest)) o e
+read_kind kind.Source rest o e = word_kind kind.Source (not (begins 32 rest)) (token (tail rest)) o e
+read_kind kind.Ending rest o e = word_kind kind.Ending (not (begins 32 rest)) (token (tail rest)) o e
+read_kind kind.Label rest o e = word_kind kind.Label (not (begins 32 rest)) (token (tail rest)) o e
+read_kind kind.Text rest o e = text_kind (not (begins 32 rest)) (tail rest) o e
+
+-- the steps by which operands are read
+pub kinds_read : (k : Kinds) (rest : List ℕ) (o : Operands) → operands_at k rest ≡ Ok o → IsOfKinds k o
+unfolding operands_at
+kinds_read k rest o h =
+    let r1 = after_operand k.first rest in
+    let r2 = after_operand k.second r1 in
+    let r3 = after_operand k.third r2 in
+    let r4 = after_operand k.fourth r3 in
+    let last = λ (a b c d : Operand) (u : Unit {0}). done (made a b c d) in
+    let p4 = λ (a b c d : Operand). unless (not (eqb (length r4) 0)) code.WrongOperands >>= last a b c d in
+    let p3 = λ (a b c : Operand). operand_at k.fourth r3 >>= p4 a b c in
+    let p2 = λ (a b : Operand). operand_at k.third r2 >>= p3 a b in
+    let p1 = λ (a : Operand). operand_at k.second r1 >>= p2 a in
+    let a = bind_ok (operand_at k.first rest) p1 o h in
+    let b = bind_ok (operand_at k.second r1) (p2 a.0) o a.2 in
+    let c = bind_ok (operand_at k.third r2) (p3 a.0 b.0) o b.2 in
+    let d = bind_ok (operand_at k.fourth r3) (p4 a.0 b.0 c.0) o c.2 in
+    let u = bind_ok (unless (not (eqb (length r4) 0)) code.WrongOperands) (last a.0 b.0 c.0 d.0) o d.2 in
+    let s : made a.0 b.0 c.0 d.0 ≡ o = cc u.2 in
+    subst (λ x. IsOfKinds k x) s (record {
+      first = read_kind k.first rest a.0 a.1;
+      second = read_kind k.second r1 b.0 b.1;
+      third = read_kind k.third r2 c.0 c.1;
+      fourth = read_kind k.fourth r3 d.0 d.1;
+    })
+
+nothing_is : (x : Operand) → of_kind kind.Nothing x ≡ true → x ≡ operand.Nothing
+nothing_is operand.Nothing h = refl
+nothing_is operand.One h = absurd (cc h)
+nothing_is (operand.Place p) h = absurd (cc h)
+nothing_is (operand.Brigade b) h = absurd (cc h)
+nothing_is (operand.Ending s) h = absurd (cc h)
+nothing_is (operand.Label n) h = absurd (cc h)
+nothing_is (operand.Text n) h = absurd (cc h)
+
+pub brigade_is : (x : Operand) → of_kind kind.Brigade x ≡ true → x ≡ operand.Brigade (operand_index x)
+brigade_is operand.Nothing h = absurd (cc h)
+brigade_is operand.One h = absurd (cc h)
+brigade_is (operand.Place p) h = absurd (cc h)
+brigade_is (operand.Brigade b) h = refl
+brigade_is (operand.Ending s) h = absurd (cc h)
+brigade_is (operand.Label n) h = absurd (cc h)
+brigade_is (operand.Text n) h = absurd (cc h)
+
+pub source_is : (x : Operand) → of_kind kind.Source x ≡ true → x ≡ operand.Brigade (operand_index x)
+source_is operand.Nothing h = absurd (cc h)
+source_is operand.One h = absurd (cc h)
+source_is (operand.Place p) h = absurd (cc h)
+source_is (operand.Brigade b) h = refl
+source_is (operand.Ending s) h = absurd (cc h)
+source_is (operand.Label n) h = absurd (cc h)
+source_is (operand.Text n) h = absurd (cc h)
+
+ending_is : (x : Operand) → of_kind kind.Ending x ≡ true → x ≡ operand.Ending (operand_status x)
+ending_is operand.Nothing h = absurd (cc h)
+ending_is operand.One h = absurd (cc h)
+ending_is (operand.Place p) h = absurd (cc h)
+ending_is (operand.Brigade b) h = absurd (cc h)
+ending_is (operand.Ending s) h = refl
+ending_is (operand.Label n) h = absurd (cc h)
+ending_is (operand.Text n) h = absurd (cc h)
+
+label_is : (x : Operand) → of_kind kind.Label x ≡ true → (n : List ℕ) × (x ≡ operand.Label n)
+label_is operand.Nothing h = absurd (cc h)
+label_is operand.One h = absurd (cc h)
+label_is (operand.Place p) h = absurd (cc h)
+label_is (operand.Brigade b) h = absurd (cc h)
+label_is (operand.Ending s) h = absurd (cc h)
+label_is (operand.Label n) h = (n, refl)
+label_is (operand.Text n) h = absurd (cc h)
+
+pub place_is : (x : Operand) → of_kind kind.Place x ≡ true → (p : PoolRef) × (x ≡ operand.Place p)
+place_is operand.Nothing h = absurd (cc h)
+place_is operand.One h = absurd (cc h)
+place_is (operand.Place p) h = (p, refl)
+place_is (operand.Brigade b) h = absurd (cc h)
+place_is (operand.Ending s) h = absurd (cc h)
+place_is (operand.Label n) h = absurd (cc h)
+place_is (operand.Text n) h = absurd (cc h)
+
+four : (o : Operands) (a b c d : Operand) → o.first ≡ a → o.second ≡ b → o.third ≡ c → o.fourth ≡ d → o ≡ made a b c d
+four o a b c d p q r s = λ i. made (p i) (q i) (r i) (s i)
+
+-- the operands that were read are those of the instruction, with the name of its label
+pub shape : (i : Op) (o : Operands) (t : ℕ) → IsOfKinds (op_kinds i) o → (n : List ℕ) × (o ≡ operands_of (op_instr i o t) n)
+unfolding op_kinds
+shape op.BCreate o t h = ([], four o _ _ _ _ (brigade_is o.first h.first) (nothing_is o.second h.second) (nothing_is o.third h.third) (nothing_is o.fourth h.fourth))
+shape op.BClean o t h = ([], four o _ _ _ _ (source_is o.first h.first) (nothing_is o.second h.second) (nothing_is o.third h.third) (nothing_is o.fourth h.fourth))
+shape op.BConcat o t h = ([], four o _ _ _ _ (source_is o.first h.first) (source_is o.second h.second) (nothing_is o.third h.third) (nothing_is o.fourth h.fourth))
+shape op.Pass o t h = let l = label_is o.second h.second in (l.0, four o _ _ _ _ (source_is o.first h.first) l.1 (nothing_is o.third h.third) (nothing_is o.fourth h.fourth))
+shape op.JEmpty o t h = let l = label_is o.second h.second in (l.0, four o _ _ _ _ (source_is o.first h.first) l.1 (nothing_is o.third h.third) (nothing_is o.fourth h.fourth))
+shape op.JSent o t h = let l = label_is o.first h.first in (l.0, four o _ _ _ _ l.1 (nothing_is o.second h.second) (nothing_is o.third h.third) (nothing_is o.fourth h.fourth))
+shape op.Jump o t h = let l = label_is o.first h.first in (l.0, four o _ _ _ _ l.1 (nothing_is o.second h.second) (nothing_is o.third h.third) (nothing_is o.fourth h.fourth))
+shape op.Ret o t h = ([], four o _ _ _ _ (ending_is o.first h.first) (nothing_is o.second h.second) (nothing_is o.third h.third) (nothing_is o.fourth h.fourth))

@@ -1,0 +1,94 @@
+-- Lines that are taken into a draft.
+use Rattle.std.specs.Prelude.{◌≡◌, All, Bool, true, false, slice_get, Some, ℕ, ◌≤◌, ◌==◌, if◌then◌else◌, List, [], ◌∷◌, ◌++◌, length, option_to_list, Result, Ok, Err}
+use Rattle.module_lang.specs.Drafts.{with_label, with_part, with_step}
+use Rattle.module_lang.specs.Lines.{are_declared, has_equal_brigades, has_text, instruction_count, line_read, misplaced, place_is_declared}
+use Rattle.module_lang.specs.Operands.{IsOfKinds}
+use Rattle.module_lang.specs.Quoted.{quoted, text_of}
+use Rattle.module_lang.specs.Words.{op_kinds}
+use Rattle.module_lang.specs.declared.draft.Draft.{Draft}
+use Rattle.module_lang.specs.declared.draft.Part.{Part}
+use Rattle.module_lang.specs.declared.draft.Step.{Step}
+use Rattle.module_lang.specs.declared.draft.Part.TheVariants as part
+use Rattle.module_lang.specs.declared.instr.PoolRef.{PoolRef}
+use Rattle.module_lang.specs.declared.instr.PoolRef.TheVariants as pool
+use Rattle.module_lang.specs.declared.lines.Line.{Line}
+use Rattle.module_lang.specs.declared.lines.Line.TheVariants as line
+use Rattle.module_lang.specs.declared.operand.Operand.{Operand}
+use Rattle.module_lang.specs.declared.operand.Operand.TheVariants as operand
+use Rattle.module_lang.specs.declared.operand.Operands.{Operands}
+use Rattle.module_lang.specs.declared.refusal.AsmRefusal.{AsmRefusal}
+use Rattle.module_lang.specs.declared.refusal.AsmRefusal.TheVariants.{Fault}
+use Rattle.module_lang.specs.declared.refusal.Code.{Code}
+use Rattle.module_lang.specs.declared.word.Op.{Op}
+use Rattle.module_lang.specs.declared.word.Word.{Word}
+use Rattle.module_lang.specs.declared.word.Word.TheVariants as word
+
+-- the pool that an operand names
+abbrev pub place_of : Operand → PoolRef
+place_of (operand.Place p) = p
+place_of _ = pool.Conn
+
+-- the bytes from the first quote on
+abbrev pub from_quote : List ℕ → List ℕ
+from_quote [] = []
+from_quote (b ∷ bs) = if b == 34 then b ∷ bs else from_quote bs
+
+-- the text of a line, if its operands have one: it begins at the first quote
+abbrev pub step_texts : Operands → List ℕ → List (List ℕ)
+step_texts o bytes = if has_text o then option_to_list (text_of (quoted (from_quote bytes))) else []
+
+abbrev pub step_entered : Draft → ℕ → List ℕ → Op → Operands → Draft
+step_entered d n bytes i o =
+    with_step (record d { texts = d.texts ++ step_texts o bytes }) (record { line = n; op = i; operands = o; text = length d.texts })
+
+-- a line that begins with a word
+abbrev pub item_entered : Draft → ℕ → List ℕ → Word → Operands → Draft
+item_entered d n bytes word.Module o = with_part d part.Pools n
+item_entered d n bytes word.Pool o = record d { pools = d.pools ++ place_of o.second ∷ [] }
+item_entered d n bytes word.Brigade o =
+    record d { part = part.Brigades; brigades = d.brigades ++ place_of o.second ∷ [] }
+item_entered d n bytes word.Open o = with_part d part.Open n
+item_entered d n bytes word.Init o = with_part d part.Init n
+item_entered d n bytes word.Main o = with_part d part.Main n
+item_entered d n bytes word.End o = with_part d part.End n
+item_entered d n bytes (word.Op i) o = step_entered d n bytes i o
+
+abbrev pub entered : Draft → ℕ → List ℕ → Line → Draft
+entered d n bytes line.Skipped = d
+entered d n bytes (line.Label name) = with_label d n name
+entered d n bytes (line.Item w o) = item_entered d n bytes w o
+
+abbrev pub taken : Draft → ℕ → List ℕ → Result Line Code → Result Draft AsmRefusal
+taken d n bytes (Ok l) = Ok (entered d n bytes l)
+taken d n bytes (Err c) = Err (Fault n c)
+
+-- the next line, which has this number
+unfoldable pub line_taken : Draft → ℕ → List ℕ → Result Draft AsmRefusal
+line_taken d n bytes = taken d n bytes (line_read d bytes)
+
+-- what is true of an instruction that was taken in a handler
+pub record IsStep (pools brigades : List PoolRef) (p : Part) (s : Step) : Type 0 where
+  pub kinds : IsOfKinds (op_kinds s.op) s.operands
+  pub declared : are_declared (length pools) (length brigades) s.operands ≡ true
+  pub apart : has_equal_brigades s.operands ≡ false
+  pub allowed : misplaced p pools brigades s.op s.operands ≡ false
+
+-- no code has been read
+abbrev pub is_declaring : Part → Bool
+is_declaring part.Start = true
+is_declaring part.Pools = true
+is_declaring part.Brigades = true
+is_declaring _ = false
+
+-- what is true of each draft
+pub record IsDraft (d : Draft) : Type 0 where
+  pub count : instruction_count d ≤ 1024
+  pub pools : length d.pools ≤ 8
+  pub brigades : length d.brigades ≤ 8
+  pub parents : (k : ℕ) (q : PoolRef) → slice_get d.pools k ≡ Some q → place_is_declared k q ≡ true
+  pub homes : (k : ℕ) (q : PoolRef) → slice_get d.brigades k ≡ Some q → place_is_declared (length d.pools) q ≡ true
+  pub texts : d.texts ≡ []
+  pub none : is_declaring d.part ≡ true → instruction_count d ≡ 0
+  pub opening : All (IsStep d.pools d.brigades part.Open) d.open.steps
+  pub init : All (IsStep d.pools d.brigades part.Init) d.init.steps
+  pub main : All (IsStep d.pools d.brigades part.Main) d.main.steps

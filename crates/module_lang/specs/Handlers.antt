@@ -1,0 +1,151 @@
+-- The handlers of a draft: their labels, and where they end.
+use Rattle.std.specs.Prelude.{◌≡◌, ℕ, ◌<◌, ◌+◌, ◌-◌, Bool, true, false, not, nat_le, nat_eq, if◌then◌else◌, List, [], ◌∷◌, ◌++◌, length, map, slice_get, Option, Some, None, is_some, unwrap_or, Result, Ok, Err}
+use Rattle.std.specs.Cmp.Lexicographic.{pointwise, slice_cmp}
+use Rattle.std.specs.List.{list_any}
+use Rattle.std.specs.Ordering.{nat_cmp}
+use Rattle.std.specs.BTreeMap.{BTreeMap, get}
+use Rattle.std.specs.BTreeSet.{BTreeSet, contains}
+use Rattle.module_lang.specs.declared.draft.Handler.{Handler}
+use Rattle.module_lang.specs.declared.draft.Label.{Label}
+use Rattle.module_lang.specs.declared.draft.Step.{Step}
+use Rattle.module_lang.specs.declared.handler.LineFault.{LineFault}
+use Rattle.module_lang.specs.declared.instr.Instr.{Instr}
+use Rattle.module_lang.specs.declared.instr.Instr.TheVariants as instr
+use Rattle.module_lang.specs.declared.instr.Status.{Status}
+use Rattle.module_lang.specs.declared.instr.Status.TheVariants as status
+use Rattle.module_lang.specs.declared.operand.Operand.{Operand}
+use Rattle.module_lang.specs.declared.operand.Operand.TheVariants as operand
+use Rattle.module_lang.specs.declared.operand.Operands.{Operands}
+use Rattle.module_lang.specs.declared.refusal.AsmRefusal.{AsmRefusal}
+use Rattle.module_lang.specs.declared.refusal.AsmRefusal.TheVariants.{Fault}
+use Rattle.module_lang.specs.declared.refusal.Code.{Code}
+use Rattle.module_lang.specs.declared.refusal.Code.TheVariants as code
+use Rattle.module_lang.specs.declared.word.Op.{Op}
+use Rattle.module_lang.specs.declared.word.Op.TheVariants as op
+
+abbrev pub has_name : List ℕ → Label → Bool
+has_name name l = pointwise nat_eq l.name name
+
+-- where the last label of this name stands
+abbrev pub place_from : Option ℕ → List ℕ → List Label → Option ℕ
+place_from found name [] = found
+place_from found name (l ∷ ls) = place_from (if has_name name l then Some l.place else found) name ls
+
+unfoldable pub place_of : List ℕ → List Label → Option ℕ
+place_of name labels = place_from None name labels
+
+-- the map has the places of the labels
+unfoldable pub IsPlaces : BTreeMap (List ℕ) ℕ → List Label → Type 0
+IsPlaces m labels = (q : List ℕ) → get (slice_cmp nat_cmp) m q ≡ place_of q labels
+
+-- each place in the map is below this number
+unfoldable pub HasPlacesBelow : BTreeMap (List ℕ) ℕ → ℕ → Type 0
+HasPlacesBelow m n = (q : List ℕ) (p : ℕ) → get (slice_cmp nat_cmp) m q ≡ Some p → p < n
+
+abbrev pub is_named : List ℕ → List Label → Bool
+is_named name labels = list_any (has_name name) labels
+
+-- the set has the names of the labels
+unfoldable pub IsSeen : BTreeSet (List ℕ) → List Label → Type 0
+IsSeen s labels = (q : List ℕ) → contains (slice_cmp nat_cmp) s q ≡ is_named q labels
+
+abbrev pub fault : ℕ → Code → Option LineFault
+fault n c = Some (record { line = n; code = c })
+
+-- the first label that stands before in the module, or that none of so many instructions follows
+abbrev pub label_fault : List Label → ℕ → List Label → Option LineFault
+label_fault before count [] = None
+label_fault before count (l ∷ ls) =
+    if is_named l.name before then fault l.line code.DoubledLabel
+    else (if nat_le count l.place then fault l.line code.LostLabel else label_fault (before ++ l ∷ []) count ls)
+
+abbrev pub operand_label : Operand → Option (List ℕ)
+operand_label (operand.Label name) = Some name
+operand_label _ = None
+
+abbrev pub or_else : {X : Type 0} → Option X → Option X → Option X
+or_else None b = b
+or_else (Some x) b = Some x
+
+-- the label that an instruction names
+abbrev pub label_of : Operands → Option (List ℕ)
+label_of o =
+    or_else (or_else (or_else (operand_label o.first) (operand_label o.second)) (operand_label o.third)) (operand_label o.fourth)
+
+abbrev pub is_missing : List Label → Option (List ℕ) → Bool
+is_missing labels None = false
+is_missing labels (Some name) = not (is_some (place_of name labels))
+
+-- the instruction names a label, and none of these has its name
+abbrev pub is_lost : List Label → Operands → Bool
+is_lost labels o = is_missing labels (label_of o)
+
+abbrev pub jump_fault : List Label → List Step → Option LineFault
+jump_fault labels [] = None
+jump_fault labels (s ∷ ss) = if is_lost labels s.operands then fault s.line code.LostLabel else jump_fault labels ss
+
+-- the next instruction can follow
+abbrev pub op_goes_on : Op → Bool
+op_goes_on op.Jump = false
+op_goes_on op.Ret = false
+op_goes_on _ = true
+
+abbrev pub last_goes_on : Option Step → Bool
+last_goes_on None = true
+last_goes_on (Some s) = op_goes_on s.op
+
+-- there is no instruction, or the last goes on
+abbrev pub ends_open : List Step → Bool
+ends_open steps = last_goes_on (slice_get steps (length steps - 1))
+
+-- the fault of the lower line, and the first of two at one line
+abbrev pub sooner : Option LineFault → Option LineFault → Option LineFault
+sooner None b = b
+sooner (Some x) None = Some x
+sooner (Some x) (Some y) = if nat_le x.line y.line then Some x else Some y
+
+-- the first fault of a handler, whose own line comes first; some labels stand before it in the module
+unfoldable pub handler_fault : List Label → Handler → Option LineFault
+handler_fault before h =
+    if ends_open h.steps then fault h.line code.OpenEnd
+    else sooner (label_fault before (length h.steps) h.labels) (jump_fault h.labels h.steps)
+
+-- the number of a brigade operand
+abbrev pub operand_index : Operand → ℕ
+operand_index (operand.Brigade b) = b
+operand_index _ = 0
+
+abbrev pub operand_status : Operand → Status
+operand_status (operand.Ending s) = s
+operand_status _ = status.Success
+
+-- the instruction that is written so, with the number of its target
+abbrev pub op_instr : Op → Operands → ℕ → Instr
+op_instr op.BCreate o t = instr.BCreate (operand_index o.first)
+op_instr op.BClean o t = instr.BClean (operand_index o.first)
+op_instr op.BConcat o t = instr.BConcat (operand_index o.first) (operand_index o.second)
+op_instr op.Pass o t = instr.Pass (operand_index o.first) t
+op_instr op.JEmpty o t = instr.JEmpty (operand_index o.first) t
+op_instr op.JSent o t = instr.JSent t
+op_instr op.Jump o t = instr.Jump t
+op_instr op.Ret o t = instr.Ret (operand_status o.first)
+
+abbrev pub instr_of : Step → ℕ → Instr
+instr_of s t = op_instr s.op s.operands t
+
+-- the place of the label that an instruction names, where one names none, 0
+abbrev pub target_place : List Label → Option (List ℕ) → ℕ
+target_place labels None = 0
+target_place labels (Some name) = unwrap_or (place_of name labels) 0
+
+unfoldable pub step_code : ℕ → List Label → Step → Instr
+step_code base labels s = instr_of s (base + target_place labels (label_of s.operands))
+
+abbrev pub code_or_fault : Option LineFault → List Instr → Result (List Instr) AsmRefusal
+code_or_fault None code = Ok code
+code_or_fault (Some f) code = Err (Fault f.line f.code)
+
+-- the code with the instructions of a handler behind it, unless the handler has a fault
+unfoldable pub handler_resolved : List Label → Handler → List Instr → Result (List Instr) AsmRefusal
+handler_resolved before h code =
+    code_or_fault (handler_fault before h) (code ++ map (step_code (length code) h.labels) h.steps)

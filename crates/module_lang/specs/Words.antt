@@ -1,0 +1,74 @@
+-- The words of module texts.
+use Rattle.std.specs.Prelude.{ℕ, List, [], ◌∷◌, Option, find, codes}
+use Rattle.std.specs.Cmp.Lexicographic.{pointwise}
+use Rattle.std.specs.Prelude.{nat_eq}
+use Rattle.module_lang.specs.declared.word.Op.{Op}
+use Rattle.module_lang.specs.declared.word.Op.TheVariants as op
+use Rattle.module_lang.specs.declared.word.Word.{Word}
+use Rattle.module_lang.specs.declared.word.Word.TheVariants as word
+use Rattle.module_lang.specs.declared.word.Kind.{Kind}
+use Rattle.module_lang.specs.declared.word.Kind.TheVariants as kind
+use Rattle.module_lang.specs.declared.word.Kinds.{Kinds}
+
+abbrev pub two_operands : Kind → Kind → Kinds
+two_operands a b = record { first = a; second = b; third = kind.Nothing; fourth = kind.Nothing }
+
+abbrev pub one_operand : Kind → Kinds
+one_operand a = two_operands a kind.Nothing
+
+abbrev pub no_operand : Kinds
+no_operand = one_operand kind.Nothing
+
+-- how the word of an instruction is written
+unfoldable pub op_text : Op → List ℕ
+op_text op.BCreate = codes "bcreate"
+op_text op.BClean = codes "bclean"
+op_text op.BConcat = codes "bconcat"
+op_text op.Pass = codes "pass"
+op_text op.JEmpty = codes "jempty"
+op_text op.JSent = codes "jsent"
+op_text op.Jump = codes "jump"
+op_text op.Ret = codes "ret"
+
+-- its operands
+unfoldable pub op_kinds : Op → Kinds
+op_kinds op.BCreate = one_operand kind.Brigade
+op_kinds op.BClean = one_operand kind.Source
+op_kinds op.BConcat = two_operands kind.Source kind.Source
+op_kinds op.Pass = two_operands kind.Source kind.Label
+op_kinds op.JEmpty = two_operands kind.Source kind.Label
+op_kinds op.JSent = one_operand kind.Label
+op_kinds op.Jump = one_operand kind.Label
+op_kinds op.Ret = one_operand kind.Ending
+
+-- how a first word is written
+unfoldable pub word_text : Word → List ℕ
+word_text word.Module = codes "module"
+word_text word.Pool = codes "pool"
+word_text word.Brigade = codes "brigade"
+word_text word.Open = codes "open"
+word_text word.Init = codes "init"
+word_text word.Main = codes "main"
+word_text word.End = codes "end"
+word_text (word.Op o) = op_text o
+
+-- its operands
+unfoldable pub word_kinds : Word → Kinds
+word_kinds word.Module = one_operand kind.One
+word_kinds word.Pool = two_operands kind.Pool kind.Place
+word_kinds word.Brigade = two_operands kind.Brigade kind.Place
+word_kinds word.Open = no_operand
+word_kinds word.Init = no_operand
+word_kinds word.Main = no_operand
+word_kinds word.End = no_operand
+word_kinds (word.Op o) = op_kinds o
+
+abbrev pub all_words : List Word
+all_words =
+    word.Module ∷ word.Pool ∷ word.Brigade ∷ word.Open ∷ word.Init ∷ word.Main ∷ word.End
+    ∷ word.Op op.BCreate ∷ word.Op op.BClean ∷ word.Op op.BConcat ∷ word.Op op.Pass ∷ word.Op op.JEmpty
+    ∷ word.Op op.JSent ∷ word.Op op.Jump ∷ word.Op op.Ret ∷ []
+
+-- the word that is written so
+unfoldable pub word_at : List ℕ → Option Word
+word_at token = find (λ w. pointwise nat_eq (word_text w) token) all_words

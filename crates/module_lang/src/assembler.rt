@@ -1,0 +1,111 @@
+//! Modules from their texts.
+
+ghost use Rattle.std.specs.Prelude.{◌≡◌, ◌≤◌, [], IfOk, length};
+ghost use Rattle.module_lang.specs.Assembling.{is_end, lines_read, lines_ended, draft_read, program_of, assembling};
+ghost use Rattle.module_lang.specs.Codes.{Gives};
+ghost use Rattle.module_lang.specs.Drafts.{empty_draft};
+ghost use Rattle.module_lang.specs.Entries.{IsDraft};
+
+use crate::draft::{Draft, Part};
+use crate::handler::resolve_handler;
+use crate::module::Module;
+use crate::refusal::{AsmRefusal, Code};
+use crate::seq::Seq;
+use std::alloc::Global;
+use std::collections::BTreeSet;
+
+/// How many bytes a module text has at most.
+const MAX_LEN: usize = 1_048_576;
+
+fn is_end(part: Part) -> bool
+    ensures { result ≡ is_end part }
+{
+    matches!(part, Part::End)
+}
+
+/// Judges what follows the last LF: nothing may, and the last line must have been `end`.
+#[tactic(auto, unfolding(crate::specs::Assembling::lines_ended))]
+fn end_lines(part: Part, number: usize, rest: &[u8], long: bool) -> Result<(), AsmRefusal>
+    ensures { Gives (λ u. u) result (lines_ended long part number rest.now) }
+{
+    if long || !rest.is_empty() {
+        return Err(AsmRefusal::Fault {
+            line: number,
+            code: Code::BadByte,
+        });
+    }
+    if !is_end(part) {
+        return Err(AsmRefusal::Fault {
+            line: number,
+            code: Code::NotDue,
+        });
+    }
+    Ok(())
+}
+
+/// What the lines of a text say, of which more follows where it is `long`.
+fn read_lines(alloc: Global, text: &[u8], long: bool) -> Result<Draft, AsmRefusal>
+    requires { length text.now ≤ 1048576 }
+    ensures draft { Gives (λ d. d) result (lines_read long empty_draft 1 [] text.now) }
+    ensures sound { IfOk result (λ d. IsDraft d) }
+{
+    let mut draft = Draft::new(alloc);
+    let mut number = 1;
+    let mut start = 0;
+    for (i, byte) in text.iter().enumerate() {
+        if *byte == b'\n' {
+            draft.take_line(alloc, number, &text[start..i])?;
+            number += 1;
+            start = i + 1;
+        }
+    }
+    end_lines(draft.part, number, &text[start..], long)?;
+    Ok(draft)
+}
+
+#[tactic(auto, unfolding(crate::specs::Assembling::draft_read))]
+fn read_draft(alloc: Global, text: &[u8]) -> Result<Draft, AsmRefusal>
+    ensures draft { Gives (λ d. d) result (draft_read text.now) }
+    ensures sound { IfOk result (λ d. IsDraft d) }
+{
+    if MAX_LEN < text.len() {
+        read_lines(alloc, &text[..MAX_LEN], true)
+    } else {
+        read_lines(alloc, text, false)
+    }
+}
+
+/// The module of a draft, unless a handler has a fault.
+#[tactic(auto, unfolding(crate::specs::Assembling::program_of))]
+fn resolve(alloc: Global, draft: Draft) -> Result<Module, AsmRefusal>
+    requires { IsDraft draft }
+    ensures { Gives (λ m. m) result (program_of draft) }
+{
+    let mut seen = BTreeSet::new(alloc);
+    let mut code = Seq::new(alloc);
+    resolve_handler(alloc, &mut seen, &draft.open, &mut code)?;
+    let init = code.len();
+    resolve_handler(alloc, &mut seen, &draft.init, &mut code)?;
+    let main = code.len();
+    resolve_handler(alloc, &mut seen, &draft.main, &mut code)?;
+    let Draft {
+        part: _,
+        pools,
+        brigades,
+        texts,
+        open: _,
+        init: _,
+        main: _,
+    } = draft;
+    let declared = (pools, brigades);
+    Ok(Module::new(declared, texts, code, init as u16, main as u16))
+}
+
+/// The module that a text spells, or its first faulty line, from 1, with the lowest code that fits it.
+#[tactic(auto, unfolding(crate::specs::Assembling::assembling))]
+pub fn assemble(alloc: Global, text: &[u8]) -> Result<Module, AsmRefusal>
+    ensures { Gives (λ m. m) result (assembling text.now) }
+{
+    let draft = read_draft(alloc, text)?;
+    resolve(alloc, draft)
+}

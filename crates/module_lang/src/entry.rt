@@ -1,0 +1,146 @@
+//! Lines that are taken into a draft.
+
+ghost use Rattle.std.specs.Prelude.{◌≡◌, ◌++◌, [], OnOk, option_to_list};
+ghost use Rattle.module_lang.specs.Entries.{place_of, from_quote, step_texts};
+
+use crate::draft::{Draft, Part, Step};
+use crate::instr::PoolRef;
+use crate::lines::{Line, has_text, read_line};
+use crate::operand::{Operand, Operands};
+use crate::quoted::unquote;
+use crate::refusal::AsmRefusal;
+use crate::seq::Seq;
+use crate::word::{Op, Word};
+use std::alloc::{AllocError, Global};
+
+fn place_of(operand: Operand) -> PoolRef
+    ensures { result ≡ place_of operand }
+{
+    match operand {
+        Operand::Place(place) => place,
+        _ => PoolRef::Conn,
+    }
+}
+
+/// The bytes from the first quote on.
+fn from_quote(line: &[u8]) -> &[u8]
+    ensures { result.now ≡ from_quote line.now }
+{
+    for (i, byte) in line.iter().enumerate() {
+        if *byte == b'"' {
+            return &line[i..];
+        }
+    }
+    &line[line.len()..]
+}
+
+fn push_text(texts: &mut Seq<Seq<u8>>, text: Option<Seq<u8>>) -> Result<(), AllocError>
+    ensures { OnOk result (texts.new ≡ texts.old ++ option_to_list text) }
+{
+    match text {
+        Some(text) => texts.push(text),
+        None => Ok(()),
+    }
+}
+
+/// Adds the text of a line, if its operands have one.
+fn add_texts(
+    alloc: Global,
+    texts: &mut Seq<Seq<u8>>,
+    line: &[u8],
+    operands: Operands,
+) -> Result<(), AllocError>
+    ensures { OnOk result (texts.new ≡ texts.old ++ step_texts operands line.now) }
+{
+    if !has_text(operands) {
+        return Ok(());
+    }
+    let text = unquote(alloc, from_quote(line))?;
+    push_text(texts, text)
+}
+
+impl Draft {
+    ghost use Rattle.std.specs.Prelude.{◌≡◌, OnOk};
+    ghost use Rattle.module_lang.specs.Codes.{Gives};
+    ghost use Rattle.module_lang.specs.Entries.{step_entered, item_entered, entered, line_taken, IsDraft};
+
+    fn enter_step(
+        &mut self,
+        alloc: Global,
+        number: usize,
+        line: &[u8],
+        op: Op,
+        operands: Operands,
+    ) -> Result<(), AllocError>
+        ensures { OnOk result (self.new ≡ step_entered self.old number line.now op operands) }
+    {
+        let text = self.texts.len();
+        add_texts(alloc, &mut self.texts, line, operands)?;
+        self.add_step(Step {
+            line: number,
+            op,
+            operands,
+            text,
+        })
+    }
+
+    fn enter_brigade(&mut self, operands: Operands) -> Result<(), AllocError>
+        ensures { OnOk result (self.new ≡ item_entered self.old 0 [] Word.Brigade operands) }
+    {
+        self.brigades.push(place_of(operands.second))?;
+        self.part = Part::Brigades;
+        Ok(())
+    }
+
+    fn enter_item(
+        &mut self,
+        alloc: Global,
+        number: usize,
+        line: &[u8],
+        word: Word,
+        operands: Operands,
+    ) -> Result<(), AllocError>
+        ensures { OnOk result (self.new ≡ item_entered self.old number line.now word operands) }
+    {
+        match word {
+            Word::Module => self.begin(Part::Pools, number),
+            Word::Pool => return self.pools.push(place_of(operands.second)),
+            Word::Brigade => return self.enter_brigade(operands),
+            Word::Open => self.begin(Part::Open, number),
+            Word::Init => self.begin(Part::Init, number),
+            Word::Main => self.begin(Part::Main, number),
+            Word::End => self.begin(Part::End, number),
+            Word::Op(op) => return self.enter_step(alloc, number, line, op, operands),
+        }
+        Ok(())
+    }
+
+    fn enter(
+        &mut self,
+        alloc: Global,
+        number: usize,
+        bytes: &[u8],
+        line: Line,
+    ) -> Result<(), AllocError>
+        ensures { OnOk result (self.new ≡ entered self.old number bytes.now line) }
+    {
+        match line {
+            Line::Skipped => Ok(()),
+            Line::Label(name) => self.add_label(number, name),
+            Line::Item(word, operands) => self.enter_item(alloc, number, bytes, word, operands),
+        }
+    }
+
+    /// Takes the next line, without its LF.
+    #[tactic(auto, unfolding(crate::specs::Entries::line_taken))]
+    pub fn take_line(&mut self, alloc: Global, number: usize, line: &[u8]) -> Result<(), AsmRefusal>
+        requires { IsDraft self.old }
+        ensures taken { Gives (λ _. self.new) result (line_taken self.old number line.now) }
+        ensures sound { OnOk result (IsDraft self.new) }
+    {
+        match read_line(self, line) {
+            Ok(said) => Ok(self.enter(alloc, number, line, said)?),
+            Err(code) => Err(AsmRefusal::Fault { line: number, code }),
+        }
+    }
+}

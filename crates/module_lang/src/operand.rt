@@ -1,0 +1,222 @@
+//! The operands of a line.
+
+ghost use Rattle.std.specs.Prelude.{◌≡◌, ◌<◌, ◌≤◌, length, IsTrue};
+ghost use Rattle.module_lang.specs.Bytes.{begins, tail};
+ghost use Rattle.module_lang.specs.Operands.{numbered, is_one, place_in, pool_in, brigade_in, source_in, ending_in, label_in, operand_in, text_operand, operand_at, after_text, after_operand, operands_at, operand_kind_is_nothing, operand_kind_is_text};
+
+use crate::bytes::{after_token, begins, is_text, tail, token};
+use crate::instr::{PoolRef, Status};
+use crate::name::{Name, name_of};
+use crate::quoted::measure;
+use crate::refusal::Code;
+use crate::word::{Kind, Kinds};
+
+/// An operand of a line.
+#[derive(Clone, Copy)]
+pub enum Operand {
+    /// None.
+    Nothing,
+    /// The version.
+    One,
+    /// A pool.
+    Place(PoolRef),
+    /// A brigade variable, or 8 for `in`.
+    Brigade(u8),
+    /// How a call ends.
+    Ending(Status),
+    /// A label.
+    Label(Name),
+    /// A text of so many bytes.
+    Text(usize),
+}
+
+/// The operands of a line, `Nothing` behind the last.
+#[derive(Clone, Copy)]
+pub struct Operands {
+    pub first: Operand,
+    pub second: Operand,
+    pub third: Operand,
+    pub fourth: Operand,
+}
+
+/// The number of the variable that is written by this letter and a digit from 0 to 7.
+fn numbered(letter: u8, token: &[u8]) -> Option<u8>
+    ensures { result ≡ numbered letter token.now }
+{
+    if token.len() == 2 && token[0] == letter && b'0' <= token[1] && token[1] <= b'7' {
+        Some(token[1] - b'0')
+    } else {
+        None
+    }
+}
+
+fn one_in(token: &[u8]) -> Option<Operand>
+    ensures { result ≡ is_one token.now }
+{
+    if is_text(token, b"1") {
+        Some(Operand::One)
+    } else {
+        None
+    }
+}
+
+fn pool_in(token: &[u8]) -> Option<Operand>
+    ensures { result ≡ pool_in token.now }
+{
+    Some(Operand::Place(PoolRef::Own(numbered(b'p', token)?)))
+}
+
+fn place_in(token: &[u8]) -> Option<Operand>
+    ensures { result ≡ place_in token.now }
+{
+    if is_text(token, b"conn") {
+        return Some(Operand::Place(PoolRef::Conn));
+    }
+    if is_text(token, b"req") {
+        return Some(Operand::Place(PoolRef::Req));
+    }
+    pool_in(token)
+}
+
+fn brigade_in(token: &[u8]) -> Option<Operand>
+    ensures { result ≡ brigade_in token.now }
+{
+    Some(Operand::Brigade(numbered(b'b', token)?))
+}
+
+fn source_in(token: &[u8]) -> Option<Operand>
+    ensures { result ≡ source_in token.now }
+{
+    if is_text(token, b"in") {
+        return Some(Operand::Brigade(8));
+    }
+    brigade_in(token)
+}
+
+fn ending_in(token: &[u8]) -> Option<Operand>
+    ensures { result ≡ ending_in token.now }
+{
+    if is_text(token, b"ok") {
+        return Some(Operand::Ending(Status::Success));
+    }
+    if is_text(token, b"fail") {
+        return Some(Operand::Ending(Status::Fail));
+    }
+    None
+}
+
+fn label_in(token: &[u8]) -> Option<Operand>
+    ensures { result ≡ label_in token.now }
+{
+    Some(Operand::Label(name_of(token)?))
+}
+
+/// The operand of a kind that a token without spaces spells.
+#[tactic(auto, unfolding(crate::specs::Operands::operand_in))]
+fn operand_in(kind: Kind, token: &[u8]) -> Option<Operand>
+    ensures { result ≡ operand_in kind token.now }
+{
+    match kind {
+        Kind::Nothing => None,
+        Kind::One => one_in(token),
+        Kind::Place => place_in(token),
+        Kind::Pool => pool_in(token),
+        Kind::Brigade => brigade_in(token),
+        Kind::Source => source_in(token),
+        Kind::Ending => ending_in(token),
+        Kind::Label => label_in(token),
+        Kind::Text => None,
+    }
+}
+
+fn is_nothing(kind: Kind) -> bool
+    ensures { result ≡ operand_kind_is_nothing kind }
+{
+    matches!(kind, Kind::Nothing)
+}
+
+fn is_quoted(kind: Kind) -> bool
+    ensures { result ≡ operand_kind_is_text kind }
+{
+    matches!(kind, Kind::Text)
+}
+
+fn text_operand(bytes: &[u8]) -> Result<Operand, Code>
+    ensures { result ≡ text_operand bytes.now }
+{
+    if !begins(bytes, b'"') {
+        return Err(Code::WrongOperands);
+    }
+    match measure(bytes) {
+        Some(measured) => Ok(Operand::Text(measured.len)),
+        None => Err(Code::FaultyText),
+    }
+}
+
+/// The operand of a kind that these bytes begin with, after one space.
+#[tactic(auto, unfolding(crate::specs::Operands::operand_at))]
+fn operand_at(kind: Kind, rest: &[u8]) -> Result<Operand, Code>
+    ensures { result ≡ operand_at kind rest.now }
+{
+    if is_nothing(kind) {
+        return Ok(Operand::Nothing);
+    }
+    if !begins(rest, b' ') {
+        return Err(Code::WrongOperands);
+    }
+    if is_quoted(kind) {
+        return text_operand(tail(rest));
+    }
+    match operand_in(kind, token(tail(rest))) {
+        Some(operand) => Ok(operand),
+        None => Err(Code::WrongOperands),
+    }
+}
+
+fn after_text(bytes: &[u8]) -> &[u8]
+    ensures { result.now ≡ after_text bytes.now }
+{
+    match measure(bytes) {
+        Some(measured) => &bytes[measured.used..],
+        None => bytes,
+    }
+}
+
+/// What follows the operand of a kind.
+#[tactic(auto, unfolding(crate::specs::Operands::after_operand))]
+fn after_operand(kind: Kind, rest: &[u8]) -> &[u8]
+    ensures { result.now ≡ after_operand kind rest.now }
+{
+    if is_nothing(kind) {
+        return rest;
+    }
+    if is_quoted(kind) {
+        return after_text(tail(rest));
+    }
+    after_token(tail(rest))
+}
+
+/// The operands that follow a word. They are wrong where one is not of its kind, where no single space stands before
+/// one, and where more follows the last; a text in quotes may be faulty.
+#[tactic(auto, unfolding(crate::specs::Operands::operands_at))]
+pub fn operands_at(kinds: Kinds, rest: &[u8]) -> Result<Operands, Code>
+    ensures { result ≡ operands_at kinds rest.now }
+{
+    let first = operand_at(kinds.first, rest)?;
+    let rest = after_operand(kinds.first, rest);
+    let second = operand_at(kinds.second, rest)?;
+    let rest = after_operand(kinds.second, rest);
+    let third = operand_at(kinds.third, rest)?;
+    let rest = after_operand(kinds.third, rest);
+    let fourth = operand_at(kinds.fourth, rest)?;
+    let rest = after_operand(kinds.fourth, rest);
+    if !rest.is_empty() {
+        return Err(Code::WrongOperands);
+    }
+    Ok(Operands {
+        first,
+        second,
+        third,
+        fourth,
+    })
+}
