@@ -79,9 +79,9 @@ turn_goes budget p total is_open number l ls w new text c r u h s =
     record {
       fault = sym (ap (λ cs. cs.fault) e) ∙ u.fault;
       goes = λ rs plays.
-        let P : Commands → Type 0 = λ cs. Plays budget p cs.commands w (r ∷ rs) in
-        let whole = u.goes (r ∷ rs) (subst P (sym e) (new, s, plays)) in
-        (whole.0, whole.1, whole.2 ∙ sym (append_assoc text (reply_line r) (lines_of_replies rs)));
+          let P : Commands → Type 0 = λ cs. Plays budget p cs.commands w (r ∷ rs) in
+          let whole = u.goes (r ∷ rs) (subst P (sym e) (new, s, plays)) in
+          (whole.0, whole.1, whole.2 ∙ sym (append_assoc text (reply_line r) (lines_of_replies rs)));
     }
 
 -- the line at a place of the script, as code reads it

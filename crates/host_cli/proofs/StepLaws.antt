@@ -99,13 +99,12 @@ ran_ends zero budget p c h =
     record {
       count = 0;
       last = c;
-     
       goes = refl;
       ends = refl;
       stops = λ e.
-        let went : steps true budget p c ≡ (Ok stepped.Went, (steps true budget p c).1) = ap (λ a. (a, (steps true budget p c).1)) e in
-        let counts = went_counts true budget p c _ went in
-        omega arith;
+          let went : steps true budget p c ≡ (Ok stepped.Went, (steps true budget p c).1) = ap (λ a. (a, (steps true budget p c).1)) e in
+          let counts = went_counts true budget p c _ went in
+          omega arith;
     }
 ran_ends (suc n) budget p c h = ends_from n budget p c (steps true budget p c) refl (λ d e.
     let counts = went_counts true budget p c d e in ran_ends n budget p d (omega arith))

@@ -3,12 +3,10 @@
 ghost use Rattle.std.specs.Prelude.{◌≡◌, IfOk, Ok, Some};
 ghost use Rattle.host_cli.specs.Commands.{word_text, takes_of, word_at, command_with, command_of};
 
-use std::alloc::{AllocError, Global};
-
-use run_model::{Piece, Seq};
-
-use crate::operands::{Operands, operands_of};
 use crate::lines::len_before;
+use crate::operands::{Operands, operands_of};
+use run_model::{Piece, Seq};
+use std::alloc::{AllocError, Global};
 
 /// The first word of a command.
 #[derive(Clone, Copy)]
@@ -103,10 +101,7 @@ impl Word {
 fn word_at(token: &[u8]) -> Option<Word>
     ensures { result ≡ word_at token.now }
 {
-    WORDS
-        .iter()
-        .copied()
-        .find(|word| word.text() == token)
+    WORDS.iter().copied().find(|word| word.text() == token)
 }
 
 /// The command that a line says, without its LF. `None` where it says none.

@@ -11,13 +11,11 @@ ghost use Rattle.host_cli.specs.Scripts.{opens};
 ghost use Rattle.host_cli.specs.Plays.{told, is_for_first, MayRun, MayAnswer, Serves};
 ghost use Rattle.host_cli.specs.Host.{world_of, IsReady, lasted_by, done};
 
-use std::alloc::{AllocError, Global};
-
-use module_run::Conn;
-use run_model::{Event, Module, Piece, Refusal, Seq};
-
 use crate::command::Command;
 use crate::reply::{Reply, put_reply};
+use module_run::Conn;
+use run_model::{Event, Module, Piece, Refusal, Seq};
+use std::alloc::{AllocError, Global};
 
 /// What a command answers by its refusal, if there is one.
 fn done(outcome: Result<(), Refusal>) -> Reply

@@ -49,9 +49,17 @@ pub fn first_line(bytes: &[u8]) -> Line<'_>
     let len = len_before(bytes, b'\n');
     let text = &bytes[..len];
     if len < bytes.len() {
-        Line { text, ended: true, width: len + 1 }
+        Line {
+            text,
+            ended: true,
+            width: len + 1,
+        }
     } else {
-        Line { text, ended: false, width: len }
+        Line {
+            text,
+            ended: false,
+            width: len,
+        }
     }
 }
 

@@ -14,12 +14,11 @@ mod run;
 mod script;
 mod streams;
 
-use std::io;
-use std::process::ExitCode;
-
 use ended::Ended;
 use fault::PlayFault;
 use run::run_play;
+use std::io;
+use std::process::ExitCode;
 
 /// Tells a fault of the program by one line.
 fn tell(rt: &HostRuntime, fault: &PlayFault) {

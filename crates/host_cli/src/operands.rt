@@ -3,14 +3,12 @@
 ghost use Rattle.std.specs.Prelude.{◌≡◌, ◌<◌, ◌≤◌, [], length, IfOk, IfSome};
 ghost use Rattle.host_cli.specs.Operands.{number_at, after_number, is_parted, eos_at, heap_at, piece_at, pieces_of, no_operands, conn_alone, conn_and_pieces, operands_at, IsWithin};
 
-use std::alloc::{AllocError, Global};
-
-use module_lang::{measure, unquote};
-use run_model::{Piece, Seq};
-
 use crate::command::Takes;
 use crate::lines::len_before;
 use crate::number::number_of;
+use module_lang::{measure, unquote};
+use run_model::{Piece, Seq};
+use std::alloc::{AllocError, Global};
 
 /// The operands of a command. Where it takes none the number is 0, and where it takes no pieces there are none.
 #[derive(Drop)]

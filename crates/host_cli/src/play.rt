@@ -9,18 +9,16 @@ ghost use Rattle.host_cli.specs.Scripts.{opens, commands_of, header_of, script_o
 ghost use Rattle.host_cli.specs.Plays.{Serves, IsPlayed, IsPlayedSoFar, IsTextOf, IsFrontOf};
 ghost use Rattle.host_cli.specs.Host.{world_of, IsReady};
 
-use std::alloc::{AllocError, Global};
-
-use module_lang::{AsmRefusal, assemble};
-use module_run::Conn;
-use run_model::Module;
-
 use crate::command::Command;
 use crate::ended::Ended;
 use crate::host::{no_conn, serve};
 use crate::lines::{first_line, module_cut};
 use crate::reply::{put_asm_fault, put_reply, put_script_fault};
 use crate::script::{due_command, header_of};
+use module_lang::{AsmRefusal, assemble};
+use module_run::Conn;
+use run_model::Module;
+use std::alloc::{AllocError, Global};
 
 /// Does a command, and adds the line of its answer to the text. Without memory the text is as it was.
 fn answer(
@@ -88,14 +86,7 @@ fn play_module(
 {
     let header = header_of(rest);
     let first = lines + header.lines + 1;
-    play_commands(
-        alloc,
-        code,
-        header.budget,
-        &rest[header.size..],
-        first,
-        out,
-    )
+    play_commands(alloc, code, header.budget, &rest[header.size..], first, out)
 }
 
 /// Plays a script, and adds what it writes to the text. Without memory what was answered so far is written.

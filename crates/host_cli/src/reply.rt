@@ -3,10 +3,9 @@
 ghost use Rattle.std.specs.Prelude.{◌≡◌, ◌++◌, ◌∷◌, [], IfOk, OnOk, OnErr};
 ghost use Rattle.host_cli.specs.Replies.{status_name, fault_name, refusal_name, stepped_line, refused_line, output_line, reply_line, asm_line, script_line};
 
-use std::alloc::{AllocError, Global};
-
 use module_lang::push_spelling;
 use run_model::{Cause, FaultKind, Refusal, Seq, Status, Stepped};
+use std::alloc::{AllocError, Global};
 
 /// What a command answers.
 #[derive(Drop)]
@@ -155,7 +154,12 @@ pub fn put_reply(alloc: Global, out: &mut Vec<u8>, reply: &Reply) -> Result<(), 
 }
 
 /// Adds the line that tells a fault of the module text. Without memory nothing is changed.
-pub fn put_asm_fault(alloc: Global, out: &mut Vec<u8>, line: usize, code: u8) -> Result<(), AllocError>
+pub fn put_asm_fault(
+    alloc: Global,
+    out: &mut Vec<u8>,
+    line: usize,
+    code: u8,
+) -> Result<(), AllocError>
     ensures ok { OnOk result (out.new.items ≡ out.old.items ++ asm_line line code) }
     ensures err { OnErr result (out.new.items ≡ out.old.items) }
 {

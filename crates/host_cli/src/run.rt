@@ -4,13 +4,12 @@ ghost use Rattle.std.specs.Prelude.{◌≡◌, ℕ, List, ◌<◌, ◌^◌, leng
 ghost use Rattle.std.specs.Io.KnownBytes.{Appends};
 ghost use Rattle.host_cli.specs.Plays.{IsTextOf, IsFrontOf, Writes};
 
-use std::alloc::{AllocError, Global};
-use std::io::{Read, Write};
-
 use crate::ended::Ended;
 use crate::fault::PlayFault;
 use crate::play::play;
 use crate::streams::{put_all, read_all};
+use std::alloc::{AllocError, Global};
+use std::io::{Read, Write};
 
 /// Plays a script, and writes the answers.
 fn write_play<W: Write>(alloc: Global, script: &[u8], writer: &mut W) -> Result<Ended, PlayFault>

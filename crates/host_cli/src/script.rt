@@ -4,11 +4,10 @@ ghost use Rattle.std.specs.Prelude.{◌≡◌, ◌≤◌, length, IfOk, Some};
 ghost use Rattle.host_cli.specs.Lines.{first_line, lines_of};
 ghost use Rattle.host_cli.specs.Scripts.{budget_at, header_of, command_at, opens, due};
 
-use std::alloc::{AllocError, Global};
-
 use crate::command::{Command, command_of};
 use crate::lines::first_line;
 use crate::number::number_of;
+use std::alloc::{AllocError, Global};
 
 /// How many bytes a command line has at most, without its LF.
 const LINE_BYTES: usize = 65_536;

@@ -1,6 +1,6 @@
 -- One connection, and what happens to it: it is opened, requests begin and end, brigades are brought, steps are
 -- made, output is taken, and it breaks.
-use Rattle.std.specs.Prelude.{ℕ, ◌+◌, Bool, true, false, ◌&&◌, ◌||◌, not, nat_le, ◌==◌, if◌then◌else◌, List, [], ◌∷◌, map, length, Option, Some, None, is_some, Result, Ok, Err}
+use Rattle.std.specs.Prelude.{ℕ, ◌+◌, Bool, true, false, ◌&&◌, ◌||◌, not, nat_le, if◌then◌else◌, List, [], ◌∷◌, map, length, Option, Some, None, is_some, Result, Ok, Err}
 use Rattle.std.specs.List.{list_any}
 use Rattle.run_model.specs.declared.bucket.Kind.TheVariants as kind
 use Rattle.run_model.specs.declared.bucket.Content.TheVariants as content
@@ -22,9 +22,9 @@ use Rattle.run_model.specs.declared.event.StepRefusal.TheVariants as step_refusa
 use Rattle.run_model.specs.declared.event.Stepped.{Stepped}
 use Rattle.run_model.specs.declared.event.Stepped.TheVariants as stepped
 use Rattle.module_lang.specs.Program.{Program}
-use Rattle.run_model.specs.Pools.{Pools, planted, created, destroyed, is_under}
+use Rattle.run_model.specs.Pools.{planted, created, destroyed, is_under}
 use Rattle.run_model.specs.Buckets.{is_data_kind, is_eos_kind, cleared_bucket}
-use Rattle.run_model.specs.State.{Payload, Inst, Call, Shared, Out, Run, fresh_inst, fresh_call, set_brig}
+use Rattle.run_model.specs.State.{Run, fresh_inst, fresh_call, set_brig}
 use Rattle.run_model.specs.Steps.{watched, current, is_spent}
 
 -- busy: a call is running. count: the instructions executed since the last open, begin or bring. broken: why

@@ -1,7 +1,7 @@
 -- The pool map: which pools there are, where each stands in the tree, and what each has to hand on when it is
 -- cleared (apr_pools.h: apr_pool_create, apr_pool_cleanup_register, apr_pool_clear, apr_pool_destroy).
-use Rattle.std.specs.Prelude.{ℕ, zero, suc, ◌+◌, Bool, true, false, ◌&&◌, not, ◌==◌, if◌then◌else◌, List, [], ◌∷◌, ◌++◌, map, reverse, length}
-use Rattle.std.specs.List.{list_any, flat_map}
+use Rattle.std.specs.Prelude.{ℕ, ◌+◌, Bool, true, false, ◌&&◌, not, ◌==◌, if◌then◌else◌, List, [], ◌∷◌, ◌++◌}
+use Rattle.std.specs.List.{list_any}
 use Rattle.run_model.specs.Indexed.{upd}
 
 -- A pool has a name. Its path is the pool itself and the pools above it, up to the root; a name with no path

@@ -12,5 +12,5 @@ returns-in_err-put_all-clause-err g c =
     let whole = front_of_played c.play-played.result script _ c.play-played.ensures.ok c.play-played.ensures.err in
     let P : List ℕ → Type 0 = λ t. IsFrontOf script t in
     let told : (t : List ℕ) × IsFrontOf script t × Appends (g.W.Write.contents c.args.writer.now) (g.W.Write.contents c.put_all.new.writer) t =
-        (take front.0 c.as_slice.result.now, front_take script _ front.0 (subst P (sym c.as_slice.ensures.value) whole), front.1) in
+    (take front.0 c.as_slice.result.now, front_take script _ front.0 (subst P (sym c.as_slice.ensures.value) whole), front.1) in
     on_err _ _ told
