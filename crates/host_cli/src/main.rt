@@ -13,11 +13,12 @@ mod reply;
 mod run;
 mod script;
 mod streams;
+#[cfg(test)]
+mod tests;
 
 use ended::Ended;
 use fault::PlayFault;
 use run::run_play;
-use std::io;
 use std::process::ExitCode;
 
 /// Tells a fault of the program by one line.

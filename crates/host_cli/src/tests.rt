@@ -1,0 +1,459 @@
+//! Scripts and what is written for them, over memory, and readers and writers that fail.
+
+use super::*;
+use std::alloc::{AllocError, Global};
+use std::io::{self, Error, ErrorKind, Read, Write};
+use std::test::Fail;
+
+const IDENTITY: &str =
+    "module 1\nopen\nret ok\ninit\nret ok\nmain\njsent drop\npass in bad\nret ok\n:drop\nbclean in\nret ok\n:bad\nret fail\nend\n";
+
+const TESTS_AFTER_PASS: &str =
+    "module 1\nopen\nret ok\ninit\nret ok\nmain\npass in bad\n:bad\njempty in out\n:out\nret ok\nend\n";
+
+const PASSES_ALL: &str =
+    "module 1\nopen\nret ok\ninit\nret ok\nmain\npass in bad\nret ok\n:bad\nret fail\nend\n";
+
+/// A module text, what stands behind it in a script, what is written, and whether the play is done.
+#[derive(Clone, Copy)]
+struct Row {
+    name: &'static str,
+    module_text: &'static str,
+    commands: &'static str,
+    answers: &'static str,
+    is_done: bool,
+}
+
+const ROWS: [Row; 22] = [
+    Row {
+        name: "identity",
+        module_text: IDENTITY,
+        commands: "open\nrun 1\nbegin 1\nrun 1\nbring 1 heap \"ab\" eos\nrun 1\noutput 1\n",
+        answers: "conn 1\nended ok\nok\nended ok\nok\nended ok\noutput \"ab\"\n",
+        is_done: true,
+    },
+    Row {
+        name: "identity_no_pieces",
+        module_text: IDENTITY,
+        commands: "open\nrun 1\nbegin 1\nrun 1\nbring 1\nrun 1\noutput 1\n",
+        answers: "conn 1\nended ok\nok\nended ok\nok\nended ok\noutput \"\"\n",
+        is_done: true,
+    },
+    Row {
+        name: "data_after_eos",
+        module_text: IDENTITY,
+        commands: "open\nrun 1\nbegin 1\nrun 1\nbring 1 heap \"a\" eos heap \"b\"\nbring 1 heap \"a\" eos\nrun 1\noutput 1\nbring 1 heap \"b\"\nrun 1\noutput 1\n",
+        answers: "conn 1\nended ok\nok\nended ok\nrefused DataAfterEos\nok\nended ok\noutput \"a\"\nok\nended ok\noutput \"\"\n",
+        is_done: true,
+    },
+    Row {
+        name: "small_budgets, 2",
+        module_text: IDENTITY,
+        commands: "budget 2\nopen\nrun 1\nbegin 1\nrun 1\nbring 1 heap \"ab\" eos\nrun 1\noutput 1\n",
+        answers: "conn 1\nended ok\nok\nended ok\nok\nrefused Broken(OutOfSteps)\noutput \"ab\"\n",
+        is_done: true,
+    },
+    Row {
+        name: "small_budgets, 3",
+        module_text: IDENTITY,
+        commands: "budget 3\nopen\nrun 1\nbegin 1\nrun 1\nbring 1 heap \"ab\" eos\nrun 1\noutput 1\n",
+        answers: "conn 1\nended ok\nok\nended ok\nok\nended ok\noutput \"ab\"\n",
+        is_done: true,
+    },
+    Row {
+        name: "small_budgets, 0",
+        module_text: IDENTITY,
+        commands: "budget 0\nopen\nrun 1\n",
+        answers: "conn 1\nrefused Broken(OutOfSteps)\n",
+        is_done: true,
+    },
+    Row {
+        name: "emptiness_test_after_pass",
+        module_text: TESTS_AFTER_PASS,
+        commands: "open\nrun 1\nbegin 1\nrun 1\nbring 1 heap \"a\"\nrun 1\nrun 1\n",
+        answers: "conn 1\nended ok\nok\nended ok\nok\nfault F7 module 0 pc 3\nrefused Broken(Faulted)\n",
+        is_done: true,
+    },
+    Row {
+        name: "data_after_sent_eos",
+        module_text: PASSES_ALL,
+        commands: "open\nrun 1\nbegin 1\nrun 1\nbring 1 heap \"a\" eos\nrun 1\nbring 1 heap \"b\"\nrun 1\n",
+        answers: "conn 1\nended ok\nok\nended ok\nok\nended ok\nok\nfault F8 module 0 pc 2\n",
+        is_done: true,
+    },
+    Row {
+        name: "refusals_by_state",
+        module_text: IDENTITY,
+        commands: "open\nbegin 1\nrun 1\nrun 1\nbring 1 eos\nbegin 1\nrun 1\nbegin 1\nrun 9\n",
+        answers: "conn 1\nrefused Busy\nended ok\nrefused Idle\nrefused NotInRequest\nok\nended ok\nrefused InRequest\nrefused NoSuchConn\n",
+        is_done: true,
+    },
+    Row {
+        name: "assemble_faults, an unknown word",
+        module_text: "module 1\nopen\nret ok\ninit\nret ok\nmain\njsent drop\npas in bad\nret ok\n:drop\nbclean in\nret ok\n:bad\nret fail\nend\n",
+        commands: "",
+        answers: "asm line 8 code 3\n",
+        is_done: false,
+    },
+    Row {
+        name: "assemble_faults, a fail outside main",
+        module_text: "module 1\nopen\nret fail\ninit\nret ok\nmain\njsent drop\npass in bad\nret ok\n:drop\nbclean in\nret ok\n:bad\nret fail\nend\n",
+        commands: "",
+        answers: "asm line 3 code 9\n",
+        is_done: false,
+    },
+    Row {
+        name: "assemble_faults, no last line",
+        module_text: "module 1\nopen\nret ok\ninit\nret ok\nmain\njsent drop\npass in bad\nret ok\n:drop\nbclean in\nret ok\n:bad\nret fail\n",
+        commands: "",
+        answers: "asm line 15 code 2\n",
+        is_done: false,
+    },
+    Row {
+        name: "assemble_faults, a label that is not there",
+        module_text: "module 1\nopen\nret ok\ninit\nret ok\nmain\njsent drop\npass in baf\nret ok\n:drop\nbclean in\nret ok\n:bad\nret fail\nend\n",
+        commands: "",
+        answers: "asm line 8 code 8\n",
+        is_done: false,
+    },
+    Row {
+        name: "an empty script",
+        module_text: "",
+        commands: "",
+        answers: "asm line 1 code 2\n",
+        is_done: false,
+    },
+    Row {
+        name: "a module alone",
+        module_text: IDENTITY,
+        commands: "",
+        answers: "",
+        is_done: true,
+    },
+    Row {
+        name: "a second open",
+        module_text: IDENTITY,
+        commands: "open\nopen\nrun 1\n",
+        answers: "conn 1\nscript line 17\n",
+        is_done: false,
+    },
+    Row {
+        name: "a second module",
+        module_text: IDENTITY,
+        commands: "module 1\n",
+        answers: "script line 16\n",
+        is_done: false,
+    },
+    Row {
+        name: "an empty line",
+        module_text: IDENTITY,
+        commands: "run 1\n\n",
+        answers: "refused NoSuchConn\nscript line 17\n",
+        is_done: false,
+    },
+    Row {
+        name: "a last line without LF",
+        module_text: IDENTITY,
+        commands: "open\nrun 1",
+        answers: "conn 1\nscript line 17\n",
+        is_done: false,
+    },
+    Row {
+        name: "a budget behind a command",
+        module_text: IDENTITY,
+        commands: "open\nbudget 5\n",
+        answers: "conn 1\nscript line 17\n",
+        is_done: false,
+    },
+    Row {
+        name: "numbers",
+        module_text: IDENTITY,
+        commands: "budget 18446744073709551615\nrun 18446744073709551615\nrun 0\nrun 01\n",
+        answers: "refused NoSuchConn\nrefused NoSuchConn\nscript line 19\n",
+        is_done: false,
+    },
+    Row {
+        name: "bytes of a text",
+        module_text: PASSES_ALL,
+        commands: "open\nrun 1\nbegin 1\nrun 1\nbring 1 heap \"\\x00\\n\\\\\\\" \\x7f\" heap \"\" eos eos\nrun 1\noutput 1\noutput 1\nend 1\nend 1\n",
+        answers: "conn 1\nended ok\nok\nended ok\nok\nended ok\noutput \"\\x00\\x0a\\\\\\\" \\x7f\"\noutput \"\"\nok\nrefused NotInRequest\n",
+        is_done: true,
+    },
+];
+
+/// A faulty module text, and the line that tells it: the examples of the manual.
+#[derive(Clone, Copy)]
+struct FaultyText {
+    module_text: &'static str,
+    answer: &'static str,
+}
+
+const FAULTY_TEXTS: [FaultyText; 16] = [
+    FaultyText {
+        module_text: "module 1\nopen\n\tret ok\ninit\nret ok\nmain\nret ok\nend\n",
+        answer: "asm line 3 code 1\n",
+    },
+    FaultyText {
+        module_text: "module 1\nopen\nret ok\ninit\nret ok\nmain\nret ok\nend",
+        answer: "asm line 8 code 1\n",
+    },
+    FaultyText {
+        module_text: "module 1\nopen\nret ok\ninit\nret ok\nend\n",
+        answer: "asm line 6 code 2\n",
+    },
+    FaultyText {
+        module_text: "module 1\nopen\nret ok\ninit\nret ok\nmain\nret ok\n",
+        answer: "asm line 8 code 2\n",
+    },
+    FaultyText {
+        module_text: "module 1\nopen\nret ok\ninit\nret ok\nmain\npas in bad\nret ok\nend\n",
+        answer: "asm line 7 code 3\n",
+    },
+    FaultyText {
+        module_text: "module 1\nbrigade b0 conn\nopen\nbconcat b0 b0\nret ok\ninit\nret ok\nmain\nret ok\nend\n",
+        answer: "asm line 4 code 4\n",
+    },
+    FaultyText {
+        module_text: "module 1\nopen\nret  ok\ninit\nret ok\nmain\nret ok\nend\n",
+        answer: "asm line 3 code 4\n",
+    },
+    FaultyText {
+        module_text: "module 1\nbrigade b0 p3\nopen\nret ok\ninit\nret ok\nmain\nret ok\nend\n",
+        answer: "asm line 2 code 6\n",
+    },
+    FaultyText {
+        module_text: "module 1\nopen\n:a\nret ok\ninit\n:a\nret ok\nmain\nret ok\nend\n",
+        answer: "asm line 6 code 7\n",
+    },
+    FaultyText {
+        module_text: "module 1\nopen\nret ok\ninit\nret ok\nmain\njump nowhere\nend\n",
+        answer: "asm line 7 code 8\n",
+    },
+    FaultyText {
+        module_text: "module 1\nopen\nret ok\n:behind\ninit\nret ok\nmain\nret ok\nend\n",
+        answer: "asm line 4 code 8\n",
+    },
+    FaultyText {
+        module_text: "module 1\nopen\nret ok\ninit\nret fail\nmain\nret ok\nend\n",
+        answer: "asm line 5 code 9\n",
+    },
+    FaultyText {
+        module_text: "module 1\nbrigade b0 req\nopen\nbcreate b0\nret ok\ninit\nret ok\nmain\nret ok\nend\n",
+        answer: "asm line 4 code 9\n",
+    },
+    FaultyText {
+        module_text: "module 1\nopen\nret ok\ninit\nmain\nret ok\nend\n",
+        answer: "asm line 4 code 10\n",
+    },
+    FaultyText {
+        module_text: "module 1\nopen\nret ok\ninit\nret ok\nmain\nret ok\nbclean in\nend\n",
+        answer: "asm line 6 code 10\n",
+    },
+    FaultyText {
+        module_text: "module 1\nopen\nret ok\ninit\nret ok\nmain\njump nowhere\nbconcat in in\nend\n",
+        answer: "asm line 8 code 4\n",
+    },
+];
+
+#[test]
+fn tells_faulty_texts(rt: HostRuntime) -> Result<(), Fail> {
+    let rows = FAULTY_TEXTS;
+    for row in rows.iter() {
+        let mut reader = row.module_text.as_bytes();
+        let mut written = Vec::new(rt.alloc());
+        let ended = run_play(rt.alloc(), &mut reader, &mut written)?;
+        let answer = row.answer;
+        assert!(rt; written.as_slice() == answer.as_bytes(), "{answer}");
+        assert!(rt; matches!(ended, Ended::Refused), "{answer}");
+    }
+    Ok(())
+}
+
+#[test]
+fn tells_one_instruction_too_many(rt: HostRuntime) -> Result<(), Fail> {
+    for (jumps, answer) in [(1020, ""), (1021, "asm line 1030 code 11\n")] {
+        let mut script = Vec::new(rt.alloc());
+        script.extend_from_slice(b"module 1\nopen\nret ok\ninit\nret ok\nmain\n:a\n")?;
+        for _ in 0..jumps {
+            script.extend_from_slice(b"jsent a\n")?;
+        }
+        script.extend_from_slice(b"jump a\nret ok\nend\n")?;
+        let mut reader = script.as_slice();
+        let mut written = Vec::new(rt.alloc());
+        let _ended = run_play(rt.alloc(), &mut reader, &mut written)?;
+        assert!(rt; written.as_slice() == answer.as_bytes(), "{jumps}");
+    }
+    Ok(())
+}
+
+fn script_of(alloc: Global, row: &Row) -> Result<Vec<u8>, AllocError> {
+    let mut script = Vec::new(alloc);
+    script.extend_from_slice(row.module_text.as_bytes())?;
+    script.extend_from_slice(row.commands.as_bytes())?;
+    Ok(script)
+}
+
+#[test]
+fn plays_scripts(rt: HostRuntime) -> Result<(), Fail> {
+    let rows = ROWS;
+    for row in rows.iter() {
+        let script = script_of(rt.alloc(), row)?;
+        let mut reader = script.as_slice();
+        let mut written = Vec::new(rt.alloc());
+        let ended = run_play(rt.alloc(), &mut reader, &mut written)?;
+        let name = row.name;
+        assert!(rt; written.as_slice() == row.answers.as_bytes(), "{name}");
+        assert_eq!(rt; matches!(ended, Ended::Done), row.is_done, "{name}");
+    }
+    Ok(())
+}
+
+/// A reader over memory that gives at most so many bytes a read, and fails at one of its reads.
+#[derive(Drop)]
+struct FailingReader<'a> {
+    left: &'a [u8],
+    width: usize,
+    reads: u32,
+    fails_at: u32,
+}
+
+impl Read for FailingReader<'_> {
+    fn read(&mut self, buf: &mut [u8]) -> io::Result<usize> {
+        self.reads = self.reads.wrapping_add(1);
+        if self.reads == self.fails_at {
+            return Err(Error::from(ErrorKind::Interrupted));
+        }
+        let count = buf.len().min(self.width).min(self.left.len());
+        buf[..count].copy_from_slice(&self.left[..count]);
+        let left = self.left;
+        self.left = &left[count..];
+        Ok(count)
+    }
+}
+
+/// A writer that takes at most so many bytes a write and so many in all, and then fails or takes nothing.
+#[derive(Drop)]
+struct FailingWriter {
+    taken: Vec<u8>,
+    width: usize,
+    room: usize,
+    is_silent: bool,
+}
+
+impl Write for FailingWriter {
+    fn write(&mut self, buf: &[u8]) -> io::Result<usize> {
+        let count = buf.len().min(self.width).min(self.room);
+        if count == 0 && !self.is_silent {
+            return Err(Error::from(ErrorKind::Interrupted));
+        }
+        self.taken.extend_from_slice(&buf[..count])?;
+        self.room -= count;
+        Ok(count)
+    }
+
+    fn flush(&mut self) -> io::Result<()> {
+        Ok(())
+    }
+}
+
+#[test]
+fn fails_at_each_read(rt: HostRuntime) -> Result<(), Fail> {
+    let row = ROWS[0];
+    let script = script_of(rt.alloc(), &row)?;
+    for fails_at in 1..40 {
+        let mut reader = FailingReader {
+            left: script.as_slice(),
+            width: 5,
+            reads: 0,
+            fails_at,
+        };
+        let mut written = Vec::new(rt.alloc());
+        let played = run_play(rt.alloc(), &mut reader, &mut written);
+        // So many reads give the whole script, and one more gives nothing.
+        let needed = script.len().div_ceil(5) + 1;
+        if fails_at as usize <= needed {
+            assert!(rt; matches!(played, Err(PlayFault::Read)), "at {fails_at}");
+            assert!(rt; written.is_empty(), "at {fails_at}");
+        } else {
+            assert!(rt; matches!(played, Ok(Ended::Done)), "at {fails_at}");
+            assert!(rt;
+                written.as_slice() == row.answers.as_bytes(),
+                "at {fails_at}"
+            );
+        }
+    }
+    Ok(())
+}
+
+#[test]
+fn fails_after_each_byte(rt: HostRuntime) -> Result<(), Fail> {
+    let row = ROWS[0];
+    let script = script_of(rt.alloc(), &row)?;
+    let answers = row.answers.as_bytes();
+    for room in 0..answers.len() + 1 {
+        for is_silent in [false, true] {
+            let mut reader = script.as_slice();
+            let mut writer = FailingWriter {
+                taken: Vec::new(rt.alloc()),
+                width: 3,
+                room,
+                is_silent,
+            };
+            let played = run_play(rt.alloc(), &mut reader, &mut writer);
+            let is_whole = room == answers.len();
+            assert_eq!(rt; matches!(played, Ok(Ended::Done)), is_whole, "at {room}");
+            assert_eq!(rt;
+                matches!(played, Err(PlayFault::Write)),
+                !is_whole,
+                "at {room}"
+            );
+            assert!(rt; writer.taken.as_slice() == &answers[..room], "at {room}");
+        }
+    }
+    Ok(())
+}
+
+/// A reader that gives one space a read, so many times, and counts its reads.
+#[derive(Drop)]
+struct SlowReader {
+    left: u32,
+    reads: u32,
+    widest: usize,
+}
+
+impl Read for SlowReader {
+    fn read(&mut self, buf: &mut [u8]) -> io::Result<usize> {
+        self.reads = self.reads.wrapping_add(1);
+        self.widest = self.widest.max(buf.len());
+        if self.left == 0 || buf.is_empty() {
+            return Ok(0);
+        }
+        self.left -= 1;
+        buf[0] = b' ';
+        Ok(1)
+    }
+}
+
+#[test]
+fn bounds_its_reads(rt: HostRuntime) -> Result<(), Fail> {
+    // The read that gives nothing is one of the million.
+    for (left, is_read) in [(999_999, true), (1_000_000, false)] {
+        let mut reader = SlowReader {
+            left,
+            reads: 0,
+            widest: 0,
+        };
+        let mut written = Vec::new(rt.alloc());
+        let played = run_play(rt.alloc(), &mut reader, &mut written);
+        assert_eq!(rt; matches!(played, Ok(Ended::Refused)), is_read, "of {left}");
+        assert_eq!(rt;
+            matches!(played, Err(PlayFault::Read)),
+            !is_read,
+            "of {left}"
+        );
+        assert_eq!(rt; written.is_empty(), !is_read, "of {left}");
+        assert_eq!(rt; reader.reads, 1_000_000, "of {left}");
+        assert_eq!(rt; reader.widest, 8192, "of {left}");
+    }
+    Ok(())
+}
