@@ -1,6 +1,8 @@
 pub use Rattle.module_lang.specs.Program
 pub mod Indexed
 pub mod Pools
+pub mod RunOrder
+pub mod RunOrderLaws
 pub mod Buckets
 pub mod State
 pub mod Faults

@@ -1,0 +1,256 @@
+-- What changes of single records do to the links.
+use Rattle.std.specs.Prelude.{◌≡◌, ℕ, Bool, true, false, ◌==◌, ◌&&◌, not, is_some, if◌then◌else◌, Option, None, Some, [], refl}
+use Rattle.std.specs.Option.{option_map, option_map_or, option_and_then}
+use Rattle.std.proofs.Common.{sym, ◌∙◌, ap, inl, inr}
+use Rattle.std.proofs.lemmas.Bool.{eq-eqb, ne_eqb, cases_Bool, both_ways, cases_eq, and_parts}
+use Rattle.run_model.specs.Indexed.{upd}
+use Rattle.pool_tree.specs.declared.records.Pool.{Pool}
+use Rattle.pool_tree.specs.Records.{names, changed, parent_of, newest_of, older_of, younger_of, payloads_of}
+use Rattle.pool_tree.specs.Links.{IsAdded, HasNeighbours, IsRemoved}
+use Rattle.pool_tree.proofs.Newest.{named_is}
+
+keep_link : {T : Type 0} (g : Pool T → Option ℕ) (f : Pool T → Pool T) → ((q : Pool T) → g (f q) ≡ g q) → (b : Bool) (o : Option (Pool T)) → option_and_then g (if b then option_map f o else o) ≡ option_and_then g o
+keep_link g f same false o = refl
+keep_link g f same true None = refl
+keep_link g f same true (Some q) = same q
+
+set_link : {T : Type 0} (g : Pool T → Option ℕ) (f : Pool T → Pool T) (v : Option ℕ) → ((q : Pool T) → g (f q) ≡ v) → (b : Bool) (o : Option (Pool T))
+    → option_and_then g (if b then option_map f o else o) ≡ (if b then (if is_some o then v else None) else option_and_then g o)
+set_link g f v is false o = refl
+set_link g f v is true None = refl
+set_link g f v is true (Some q) = is q
+
+keep_live : {T : Type 0} (f : Pool T → Pool T) (b : Bool) (o : Option (Pool T)) → is_some (if b then option_map f o else o) ≡ is_some o
+keep_live f false o = refl
+keep_live f true None = refl
+keep_live f true (Some q) = refl
+
+keep_payloads : {T : Type 0} (f : Pool T → Pool T) → ((q : Pool T) → (f q).payloads ≡ q.payloads) → (b : Bool) (o : Option (Pool T))
+    → option_map_or (λ q. q.payloads.items) (if b then option_map f o else o) [] ≡ option_map_or (λ q. q.payloads.items) o []
+keep_payloads f same false o = refl
+keep_payloads f same true None = refl
+keep_payloads f same true (Some q) = ap (λ v. v.items) (same q)
+
+put_link : {T : Type 0} (g : Pool T → Option ℕ) (pool : Pool T) (b : Bool) (o : Option (Pool T)) → option_and_then g (if b then Some pool else o) ≡ (if b then g pool else option_and_then g o)
+put_link g pool true o = refl
+put_link g pool false o = refl
+
+put_live : {T : Type 0} (pool : Pool T) (b : Bool) (o : Option (Pool T)) → is_some (if b then Some pool else o) ≡ (if b then true else is_some o)
+put_live pool true o = refl
+put_live pool false o = refl
+
+put_payloads : {T : Type 0} (pool : Pool T) (b : Bool) (o : Option (Pool T))
+    → option_map_or (λ q. q.payloads.items) (if b then Some pool else o) [] ≡ (if b then pool.payloads.items else option_map_or (λ q. q.payloads.items) o [])
+put_payloads pool true o = refl
+put_payloads pool false o = refl
+
+module _ {T : Type 0} (old r1 r2 new : ℕ → Option (Pool T)) (name parent : ℕ) (older : Option ℕ) (pool : Pool T)
+    (free : old name ≡ None) (live : is_some (old parent) ≡ true) (last : (n : ℕ) → newest_of old parent ≡ Some n → is_some (old n) ≡ true)
+    (is_older : older ≡ newest_of old parent)
+    (has_parent : pool.parent ≡ Some parent) (has_newest : pool.newest ≡ None) (has_older : pool.older ≡ older) (has_younger : pool.younger ≡ None) (has_payloads : pool.payloads.items ≡ [])
+    (puts : (n : ℕ) → r1 n ≡ upd old name (Some pool) n)
+    (sets : (n : ℕ) → r2 n ≡ changed (Some parent) (λ q. record q { newest = Some name }) r1 n)
+    (links : (n : ℕ) → new n ≡ changed older (λ q. record q { younger = Some name }) r2 n) where
+  live_1 : (n : ℕ) → is_some (r1 n) ≡ (if n == name then true else is_some (old n))
+  unfolding upd
+  live_1 n = ap is_some (puts n) ∙ put_live pool (n == name) (old n)
+
+  link_1 : (g : Pool T → Option ℕ) (n : ℕ) → option_and_then g (r1 n) ≡ (if n == name then g pool else option_and_then g (old n))
+  unfolding upd
+  link_1 g n = ap (option_and_then g) (puts n) ∙ put_link g pool (n == name) (old n)
+
+  live_2 : (n : ℕ) → is_some (r2 n) ≡ is_some (r1 n)
+  unfolding changed
+  live_2 n = ap is_some (sets n) ∙ keep_live (λ q. record q { newest = Some name }) (parent == n) (r1 n)
+
+  link_2 : (g : Pool T → Option ℕ) → ((q : Pool T) → g (record q { newest = Some name }) ≡ g q) → (n : ℕ) → option_and_then g (r2 n) ≡ option_and_then g (r1 n)
+  unfolding changed
+  link_2 g same n = ap (option_and_then g) (sets n) ∙ keep_link g (λ q. record q { newest = Some name }) same (parent == n) (r1 n)
+
+  live_3 : (n : ℕ) → is_some (new n) ≡ is_some (r2 n)
+  unfolding changed
+  live_3 n = ap is_some (links n) ∙ keep_live (λ q. record q { younger = Some name }) (names older n) (r2 n)
+
+  link_3 : (g : Pool T → Option ℕ) → ((q : Pool T) → g (record q { younger = Some name }) ≡ g q) → (n : ℕ) → option_and_then g (new n) ≡ option_and_then g (r2 n)
+  unfolding changed
+  link_3 g same n = ap (option_and_then g) (links n) ∙ keep_link g (λ q. record q { younger = Some name }) same (names older n) (r2 n)
+
+  newest_2 : (n : ℕ) → newest_of r2 n ≡ (if parent == n then (if is_some (r1 n) then Some name else None) else newest_of r1 n)
+  unfolding changed
+  newest_2 n = ap (option_and_then (λ q. q.newest)) (sets n) ∙ set_link (λ q. q.newest) (λ q. record q { newest = Some name }) (Some name) (λ _. refl) (parent == n) (r1 n)
+
+  younger_3 : (n : ℕ) → younger_of new n ≡ (if names older n then (if is_some (r2 n) then Some name else None) else younger_of r2 n)
+  unfolding changed
+  younger_3 n = ap (option_and_then (λ q. q.younger)) (links n) ∙ set_link (λ q. q.younger) (λ q. record q { younger = Some name }) (Some name) (λ _. refl) (names older n) (r2 n)
+
+  free_live : is_some (old name) ≡ false
+  free_live = ap is_some free
+
+  added_newest : (n : ℕ) → newest_of new n ≡ (if n == parent then Some name else if n == name then None else newest_of old n)
+  added_newest n =
+      link_3 (λ q. q.newest) (λ _. refl) n ∙ newest_2 n
+      ∙ elim (cases_eq n parent) [
+        | inl here ↦
+            let apart : n ≡ name → ⊥ = λ e. both_ways (is_some (old n)) (ap (λ k. is_some (old k)) e ∙ free_live) (ap (λ k. is_some (old k)) here ∙ live) in
+            rw (eq-eqb n parent here, eq-eqb parent n (sym here), live_1 n, ne_eqb n name apart, ap (λ k. is_some (old k)) here, live)
+        | inr there ↦ rw (ne_eqb n parent there, ne_eqb parent n (λ e. there (sym e)), link_1 (λ q. q.newest) n, has_newest)
+      ]
+
+  added_younger : (n : ℕ) → younger_of new n ≡ (if names (newest_of old parent) n then Some name else if n == name then None else younger_of old n)
+  added_younger n =
+      younger_3 n ∙ rw is_older
+      (elim (cases_Bool (names (newest_of old parent) n)) [
+        | inl e ↦
+            let was = last n (named_is (newest_of old parent) n e) in
+            let apart : n ≡ name → ⊥ = λ here. both_ways (is_some (old n)) (ap (λ k. is_some (old k)) here ∙ free_live) was in
+            rw (e, live_2 n, live_1 n, ne_eqb n name apart, was)
+        | inr e ↦ rw (e, link_2 (λ q. q.younger) (λ _. refl) n, link_1 (λ q. q.younger) n, has_younger)
+      ])
+
+  payloads_3 : (n : ℕ) → payloads_of new n ≡ (if n == name then [] else payloads_of old n)
+  unfolding changed upd
+  payloads_3 n =
+      ap (λ o. option_map_or (λ q. q.payloads.items) o []) (links n) ∙ keep_payloads (λ q. record q { younger = Some name }) (λ _. refl) (names older n) (r2 n)
+      ∙ ap (λ o. option_map_or (λ q. q.payloads.items) o []) (sets n) ∙ keep_payloads (λ q. record q { newest = Some name }) (λ _. refl) (parent == n) (r1 n)
+      ∙ ap (λ o. option_map_or (λ q. q.payloads.items) o []) (puts n) ∙ put_payloads pool (n == name) (old n)
+      ∙ ap (λ xs. if n == name then xs else payloads_of old n) has_payloads
+
+  pub added_by : IsAdded name parent old new
+  added_by = record {
+    live = λ n. live_3 n ∙ live_2 n ∙ live_1 n;
+    parents = λ n. link_3 (λ q. q.parent) (λ _. refl) n ∙ link_2 (λ q. q.parent) (λ _. refl) n ∙ link_1 (λ q. q.parent) n ∙ ap (λ o. if n == name then o else parent_of old n) has_parent;
+    newest = added_newest;
+    older = λ n. link_3 (λ q. q.older) (λ _. refl) n ∙ link_2 (λ q. q.older) (λ _. refl) n ∙ link_1 (λ q. q.older) n ∙ ap (λ o. if n == name then o else older_of old n) (has_older ∙ is_older);
+    younger = added_younger;
+    payloads = payloads_3;
+  }
+
+gone_link : {T : Type 0} (g : Pool T → Option ℕ) (b : Bool) (o : Option (Pool T)) → option_and_then g (if b then None else o) ≡ (if b then None else option_and_then g o)
+gone_link g true o = refl
+gone_link g false o = refl
+
+gone_live : {T : Type 0} (b : Bool) (o : Option (Pool T)) → is_some (if b then None else o) ≡ (if b then false else is_some o)
+gone_live true o = refl
+gone_live false o = refl
+
+gone_payloads : {T : Type 0} (b : Bool) (o : Option (Pool T)) → option_map_or (λ q. q.payloads.items) (if b then None else o) [] ≡ (if b then [] else option_map_or (λ q. q.payloads.items) o [])
+gone_payloads true o = refl
+gone_payloads false o = refl
+
+-- a link that is set where the pool is there, and taken from one that went
+set_there : (test test' gone : Bool) (live : Bool) (v was : Option ℕ) → (gone ≡ false → test ≡ test') → (gone ≡ false → test ≡ true → live ≡ true)
+    → (if test then (if (if gone then false else live) then v else None) else (if gone then None else was)) ≡ (if gone then None else if test' then v else was)
+set_there true test' true live v was same there = refl
+set_there false test' true live v was same there = refl
+set_there true test' false live v was same there = rw (← same refl, there refl refl)
+set_there false test' false live v was same there = rw (← same refl)
+
+and_only : (b : Bool) → (b && not false) ≡ b
+and_only true = refl
+and_only false = refl
+
+and_none : (b : Bool) → (b && not true) ≡ false
+and_none true = refl
+and_none false = refl
+
+above_is : (younger parent : Option ℕ) (n : ℕ) → names (if is_some younger then None else parent) n ≡ (names parent n && not (is_some younger))
+above_is None None n = refl
+above_is None (Some m) n = sym (and_only (m == n))
+above_is (Some k) None n = refl
+above_is (Some k) (Some m) n = sym (and_none (m == n))
+
+module _ {T : Type 0} (old r1 r2 r3 new : ℕ → Option (Pool T)) (p : ℕ) (pool : Pool T) (above : Option ℕ)
+    (was : old p ≡ Some pool) (is_above : above ≡ (if is_some pool.younger then None else pool.parent)) (beside : HasNeighbours p old)
+    (takes : (n : ℕ) → r1 n ≡ upd old p None n)
+    (elder : (n : ℕ) → r2 n ≡ changed pool.older (λ q. record q { younger = pool.younger }) r1 n)
+    (younger : (n : ℕ) → r3 n ≡ changed pool.younger (λ q. record q { older = pool.older }) r2 n)
+    (newest : (n : ℕ) → new n ≡ changed above (λ q. record q { newest = pool.older }) r3 n) where
+  taken_live : (n : ℕ) → is_some (r1 n) ≡ (if n == p then false else is_some (old n))
+  unfolding upd
+  taken_live n = ap is_some (takes n) ∙ gone_live (n == p) (old n)
+
+  taken_link : (g : Pool T → Option ℕ) (n : ℕ) → option_and_then g (r1 n) ≡ (if n == p then None else option_and_then g (old n))
+  unfolding upd
+  taken_link g n = ap (option_and_then g) (takes n) ∙ gone_link g (n == p) (old n)
+
+  elder_live : (n : ℕ) → is_some (r2 n) ≡ is_some (r1 n)
+  unfolding changed
+  elder_live n = ap is_some (elder n) ∙ keep_live (λ q. record q { younger = pool.younger }) (names pool.older n) (r1 n)
+
+  elder_link : (g : Pool T → Option ℕ) → ((q : Pool T) → g (record q { younger = pool.younger }) ≡ g q) → (n : ℕ) → option_and_then g (r2 n) ≡ option_and_then g (r1 n)
+  unfolding changed
+  elder_link g same n = ap (option_and_then g) (elder n) ∙ keep_link g (λ q. record q { younger = pool.younger }) same (names pool.older n) (r1 n)
+
+  elder_set : (n : ℕ) → younger_of r2 n ≡ (if names pool.older n then (if is_some (r1 n) then pool.younger else None) else younger_of r1 n)
+  unfolding changed
+  elder_set n = ap (option_and_then (λ q. q.younger)) (elder n) ∙ set_link (λ q. q.younger) (λ q. record q { younger = pool.younger }) pool.younger (λ _. refl) (names pool.older n) (r1 n)
+
+  younger_live : (n : ℕ) → is_some (r3 n) ≡ is_some (r2 n)
+  unfolding changed
+  younger_live n = ap is_some (younger n) ∙ keep_live (λ q. record q { older = pool.older }) (names pool.younger n) (r2 n)
+
+  younger_link : (g : Pool T → Option ℕ) → ((q : Pool T) → g (record q { older = pool.older }) ≡ g q) → (n : ℕ) → option_and_then g (r3 n) ≡ option_and_then g (r2 n)
+  unfolding changed
+  younger_link g same n = ap (option_and_then g) (younger n) ∙ keep_link g (λ q. record q { older = pool.older }) same (names pool.younger n) (r2 n)
+
+  younger_set : (n : ℕ) → older_of r3 n ≡ (if names pool.younger n then (if is_some (r2 n) then pool.older else None) else older_of r2 n)
+  unfolding changed
+  younger_set n = ap (option_and_then (λ q. q.older)) (younger n) ∙ set_link (λ q. q.older) (λ q. record q { older = pool.older }) pool.older (λ _. refl) (names pool.younger n) (r2 n)
+
+  newest_live : (n : ℕ) → is_some (new n) ≡ is_some (r3 n)
+  unfolding changed
+  newest_live n = ap is_some (newest n) ∙ keep_live (λ q. record q { newest = pool.older }) (names above n) (r3 n)
+
+  newest_link : (g : Pool T → Option ℕ) → ((q : Pool T) → g (record q { newest = pool.older }) ≡ g q) → (n : ℕ) → option_and_then g (new n) ≡ option_and_then g (r3 n)
+  unfolding changed
+  newest_link g same n = ap (option_and_then g) (newest n) ∙ keep_link g (λ q. record q { newest = pool.older }) same (names above n) (r3 n)
+
+  newest_set : (n : ℕ) → newest_of new n ≡ (if names above n then (if is_some (r3 n) then pool.older else None) else newest_of r3 n)
+  unfolding changed
+  newest_set n = ap (option_and_then (λ q. q.newest)) (newest n) ∙ set_link (λ q. q.newest) (λ q. record q { newest = pool.older }) pool.older (λ _. refl) (names above n) (r3 n)
+
+  is_older : older_of old p ≡ pool.older
+  is_older = ap (option_and_then (λ q. q.older)) was
+
+  is_younger : younger_of old p ≡ pool.younger
+  is_younger = ap (option_and_then (λ q. q.younger)) was
+
+  is_parent : parent_of old p ≡ pool.parent
+  is_parent = ap (option_and_then (λ q. q.parent)) was
+
+  removed_newest : (n : ℕ) → newest_of new n ≡ (if n == p then None else if names (parent_of old p) n && not (is_some (younger_of old p)) then older_of old p else newest_of old n)
+  removed_newest n =
+      newest_set n ∙ rw (younger_live n, elder_live n, taken_live n, younger_link (λ q. q.newest) (λ _. refl) n, elder_link (λ q. q.newest) (λ _. refl) n, taken_link (λ q. q.newest) n, is_older, is_younger, is_parent, is_above)
+      (set_there (names (if is_some pool.younger then None else pool.parent) n) (names pool.parent n && not (is_some pool.younger)) (n == p) (is_some (old n)) pool.older (newest_of old n)
+      (λ _. above_is pool.younger pool.parent n)
+      (λ _ at. beside.above n (is_parent ∙ named_is pool.parent n (and_parts (names pool.parent n) (not (is_some pool.younger)) (sym (above_is pool.younger pool.parent n) ∙ at)).0)))
+
+  removed_older : (n : ℕ) → older_of new n ≡ (if n == p then None else if names (younger_of old p) n then older_of old p else older_of old n)
+  removed_older n =
+      newest_link (λ q. q.older) (λ _. refl) n ∙ younger_set n ∙ rw (elder_live n, taken_live n, elder_link (λ q. q.older) (λ _. refl) n, taken_link (λ q. q.older) n, is_older, is_younger)
+      (set_there (names pool.younger n) (names pool.younger n) (n == p) (is_some (old n)) pool.older (older_of old n)
+      (λ _. refl) (λ _ at. beside.younger n (is_younger ∙ named_is pool.younger n at)))
+
+  removed_younger : (n : ℕ) → younger_of new n ≡ (if n == p then None else if names (older_of old p) n then younger_of old p else younger_of old n)
+  removed_younger n =
+      newest_link (λ q. q.younger) (λ _. refl) n ∙ younger_link (λ q. q.younger) (λ _. refl) n ∙ elder_set n ∙ rw (taken_live n, taken_link (λ q. q.younger) n, is_older, is_younger)
+      (set_there (names pool.older n) (names pool.older n) (n == p) (is_some (old n)) pool.younger (younger_of old n)
+      (λ _. refl) (λ _ at. beside.older n (is_older ∙ named_is pool.older n at)))
+
+  removed_payloads : (n : ℕ) → payloads_of new n ≡ (if n == p then [] else payloads_of old n)
+  unfolding changed upd
+  removed_payloads n =
+      ap (λ o. option_map_or (λ q. q.payloads.items) o []) (newest n) ∙ keep_payloads (λ q. record q { newest = pool.older }) (λ _. refl) (names above n) (r3 n)
+      ∙ ap (λ o. option_map_or (λ q. q.payloads.items) o []) (younger n) ∙ keep_payloads (λ q. record q { older = pool.older }) (λ _. refl) (names pool.younger n) (r2 n)
+      ∙ ap (λ o. option_map_or (λ q. q.payloads.items) o []) (elder n) ∙ keep_payloads (λ q. record q { younger = pool.younger }) (λ _. refl) (names pool.older n) (r1 n)
+      ∙ ap (λ o. option_map_or (λ q. q.payloads.items) o []) (takes n) ∙ gone_payloads (n == p) (old n)
+
+  pub removed_by : IsRemoved p old new
+  removed_by = record {
+    live = λ n. newest_live n ∙ younger_live n ∙ elder_live n ∙ taken_live n;
+    parents = λ n. newest_link (λ q. q.parent) (λ _. refl) n ∙ younger_link (λ q. q.parent) (λ _. refl) n ∙ elder_link (λ q. q.parent) (λ _. refl) n ∙ taken_link (λ q. q.parent) n;
+    newest = removed_newest;
+    older = removed_older;
+    younger = removed_younger;
+    payloads = removed_payloads;
+  }

@@ -1,0 +1,15 @@
+pub mod Paths
+pub mod Newest
+pub mod Added
+pub mod Changes
+pub mod Planted
+pub mod Trees
+pub mod Refilled
+pub mod Cleared
+pub mod Handing
+pub mod Walks
+pub mod Rooms
+pub mod Emptied
+pub mod Removed
+pub mod Writing
+pub mod Printing

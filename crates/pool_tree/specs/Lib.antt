@@ -1,0 +1,6 @@
+pub mod Records
+pub mod Links
+pub mod Payloads
+pub mod Handed
+pub mod Printed
+pub mod Tree

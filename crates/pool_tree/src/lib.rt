@@ -1,0 +1,17 @@
+//! The pool tree: pools, each a child of a pool, with the payloads that a clear hands on.
+#![tactic(auto)]
+
+mod handed;
+mod links;
+mod payloads;
+mod records;
+mod refusal;
+mod text;
+mod tree;
+
+pub use refusal::PoolRefusal;
+pub use text::{PoolText, WriteFault};
+pub use tree::{PoolId, PoolTree};
+
+#[cfg(test)]
+mod tests;

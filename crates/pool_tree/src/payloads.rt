@@ -1,0 +1,68 @@
+//! Changes of the payloads of one pool.
+
+ghost use Rattle.std.specs.Prelude.{◌≡◌, ℕ, is_some, true, [], ◌∷◌, ◌++◌, is_ok, if◌then◌else◌, IfErr, MatchOption, false};
+ghost use Rattle.std.specs.List.{list_any};
+ghost use Rattle.run_model.specs.RunOrder.{last_that, without_last};
+ghost use Rattle.pool_tree.specs.Payloads.{IsLastAt};
+ghost use Rattle.pool_tree.specs.Records.{record_of, payloads_of};
+ghost use Rattle.pool_tree.specs.Links.{IsRefilled};
+
+use crate::records::Records;
+use std::alloc::AllocFailed;
+
+/// Adds a payload to those of a pool, as the newest. Without memory it is given back and nothing is changed.
+#[tactic(auto, unfolding(crate::specs::Records::record_of))]
+pub(crate) fn push<T: Drop>(
+    records: &mut Records<T>,
+    name: u64,
+    item: T,
+) -> Result<(), AllocFailed<T>>
+    requires { is_some (record_of records.old name) ≡ true }
+    ensures items { IsRefilled name (if is_ok result then payloads_of (record_of records.old) name ++ item ∷ [] else payloads_of (record_of records.old) name) (record_of records.old) (record_of records.new) }
+    ensures back { IfErr result (λ failed. failed.value ≡ item) }
+{
+    match records.by_name.get_mut(&name) {
+        Some(pool) => pool.payloads.push(item),
+        None => unreachable!(),
+    }
+}
+
+/// The index of the last item that equals this one.
+fn newest_equal<T: PartialEq>(items: &[T], item: &T) -> Option<usize>
+    ensures { MatchOption result (list_any (λ other. T.eq other item.now) items.now ≡ false) (IsLastAt (λ other. T.eq other item.now) items.now) }
+{
+    for index in (0..items.len()).rev() {
+        if items[index] == *item {
+            return Some(index);
+        }
+    }
+    None
+}
+
+/// Takes out the last item that equals this one.
+fn take_last_equal<T: PartialEq>(items: &mut Vec<T>, item: &T) -> Option<T>
+    ensures taken { result ≡ last_that (λ other. T.eq other item.now) items.old.items }
+    ensures rest { items.new.items ≡ without_last (λ other. T.eq other item.now) items.old.items }
+{
+    match newest_equal(items.as_slice(), item) {
+        Some(index) => Some(items.remove(index)),
+        None => None,
+    }
+}
+
+/// Takes out the newest payload of a pool that equals this one.
+#[tactic(auto, unfolding(crate::specs::Records::record_of))]
+pub(crate) fn take_newest_equal<T: Drop + PartialEq>(
+    records: &mut Records<T>,
+    name: u64,
+    item: &T,
+) -> Option<T>
+    requires { is_some (record_of records.old name) ≡ true }
+    ensures taken { result ≡ last_that (λ other. T.eq other item.now) (payloads_of (record_of records.old) name) }
+    ensures rest { IsRefilled name (without_last (λ other. T.eq other item.now) (payloads_of (record_of records.old) name)) (record_of records.old) (record_of records.new) }
+{
+    match records.by_name.get_mut(&name) {
+        Some(pool) => take_last_equal(&mut pool.payloads, item),
+        None => unreachable!(),
+    }
+}

@@ -1,0 +1,139 @@
+//! The tree of pools.
+
+ghost use Rattle.std.specs.Prelude.{◌≡◌, ℕ, ◌<◌, is_some, IsTrue, ◌↔◌, [], ◌∷◌, IfOk, OnOk, OnErr, IfErr, IsErrOf};
+ghost use Rattle.pool_tree.specs.Links.{IsLinked};
+ghost use Rattle.pool_tree.specs.Records.{record_of};
+
+mod clear;
+mod print;
+mod walk;
+
+use crate::links::add_child;
+use crate::payloads::{push, take_newest_equal};
+use crate::records::{Pool, Records};
+use crate::refusal::PoolRefusal;
+use std::alloc::{AllocError, Global};
+
+/// The name of a pool.
+pub type PoolId = u64;
+
+/// Pools, each but the root a child of a pool.
+#[derive(Drop)]
+pub struct PoolTree<T> {
+    alloc: Global,
+    root: u64,
+    next: u64,
+    records: Records<T>,
+    ghost linked: { IsLinked root next (record_of records) },
+}
+
+#[tactic(auto, using(crate::proofs::Trees::tree_formed, crate::proofs::Trees::tree_next))]
+impl<T: Drop> PoolTree<T> {
+    ghost use Rattle.run_model.specs.Pools.{planted, created, registered, is_live, is_under};
+    ghost use Rattle.run_model.specs.RunOrder.{last_that, killed, IsPoolMap};
+    ghost use Rattle.pool_tree.specs.Tree.{map_of};
+
+    /// A tree of the root pool `first`, which must not be `u64::MAX`: `NamesSpent`.
+    pub fn new(alloc: Global, first: PoolId) -> Result<Self, PoolRefusal>
+        ensures ok { IfOk result (λ tree. map_of tree ≡ planted first) }
+        ensures formed { IfOk result (λ tree. IsPoolMap (map_of tree)) }
+        ensures spent { IsErrOf result PoolRefusal.NamesSpent ↔ (first ≡ u64.MAX) }
+    {
+        if first == u64::MAX {
+            return Err(PoolRefusal::NamesSpent);
+        }
+        let mut records = Records::new(alloc);
+        let pool = Pool {
+            parent: None,
+            newest: None,
+            older: None,
+            younger: None,
+            payloads: Vec::new(alloc),
+        };
+        records.put(first, pool)?;
+        Ok(PoolTree {
+            alloc,
+            root: first,
+            next: first + 1,
+            records,
+        })
+    }
+
+    /// The root pool.
+    pub fn root(&self) -> PoolId
+        ensures top { (map_of self.now).path result ≡ result ∷ [] }
+        ensures alone { (n : ℕ) → (map_of self.now).path n ≡ n ∷ [] → n ≡ result }
+        ensures live { IsTrue (is_live (map_of self.now) result) }
+    {
+        self.root
+    }
+
+    /// Makes a pool under another. Its name is the next, which must not be `u64::MAX`: `NamesSpent`.
+    /// Refused, nothing is changed.
+    pub fn create(&mut self, parent: PoolId) -> Result<PoolId, PoolRefusal>
+        requires { IsTrue (is_live (map_of self.old) parent) }
+        ensures ok { OnOk result (map_of self.new ≡ created parent (map_of self.old)) }
+        ensures name { IfOk result (λ name. name ≡ (map_of self.old).next) }
+        ensures formed { IsPoolMap (map_of self.new) }
+        ensures spent { IsErrOf result PoolRefusal.NamesSpent ↔ ((map_of self.old).next ≡ u64.MAX) }
+        ensures err { OnErr result (map_of self.new ≡ map_of self.old) }
+    {
+        let name = self.next;
+        if name == u64::MAX {
+            return Err(PoolRefusal::NamesSpent);
+        }
+        add_child(&mut self.records, self.alloc, name, parent)?;
+        self.next = name + 1;
+        Ok(name)
+    }
+
+    /// Registers a payload with a pool, as its newest. Without memory nothing is changed, and the payload comes back.
+    pub fn register(&mut self, pool: PoolId, payload: T) -> Result<(), (AllocError, T)>
+        requires { IsTrue (is_live (map_of self.old) pool) }
+        ensures ok { OnOk result (map_of self.new ≡ registered pool payload (map_of self.old)) }
+        ensures formed { IsPoolMap (map_of self.new) }
+        ensures err { OnErr result (map_of self.new ≡ map_of self.old) }
+        ensures back { IfErr result (λ refused. refused.1 ≡ payload) }
+    {
+        match push(&mut self.records, pool, payload) {
+            Ok(()) => Ok(()),
+            Err(failed) => Err((AllocError, failed.value)),
+        }
+    }
+
+    /// Takes out the newest payload of a pool that equals this one; `None` where none does, and nothing is changed.
+    pub fn kill(&mut self, pool: PoolId, payload: &T) -> Option<T>
+    where
+        T: PartialEq,
+        requires { IsTrue (is_live (map_of self.old) pool) }
+        ensures taken { result ≡ last_that (λ other. T.eq other payload.now) ((map_of self.old).payloads pool) }
+        ensures rest { map_of self.new ≡ killed pool (λ other. T.eq other payload.now) (map_of self.old) }
+        ensures formed { IsPoolMap (map_of self.new) }
+    {
+        take_newest_equal(&mut self.records, pool, payload)
+    }
+
+    /// Whether there is a pool of this name.
+    #[tactic(auto, unfolding(crate::specs::Tree::map_of, crate::specs::Links::map_at, crate::specs::Links::path_within, run_model::specs::Pools::is_live))]
+    pub fn is_live(&self, pool: PoolId) -> bool
+        ensures { result ≡ is_live (map_of self.now) pool }
+    {
+        self.records.get(pool).is_some()
+    }
+
+    /// Whether a pool is another or one of those above it.
+    pub fn is_ancestor(&self, ancestor: PoolId, pool: PoolId) -> bool
+        requires above { IsTrue (is_live (map_of self.now) ancestor) }
+        requires below { IsTrue (is_live (map_of self.now) pool) }
+        ensures { result ≡ is_under (map_of self.now) ancestor pool }
+    {
+        let mut current = pool;
+        while current > ancestor {
+            match self.records.parent(current) {
+                Some(parent) => current = parent,
+                None => return false,
+            }
+        }
+        current == ancestor
+    }
+}

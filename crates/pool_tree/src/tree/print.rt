@@ -1,0 +1,98 @@
+//! The text of the tree.
+
+ghost use Rattle.std.specs.Prelude.{◌≡◌, ℕ, ◌≤◌, IsTrue, OnOk, MatchOption, None, Some, [], ◌∷◌};
+ghost use Rattle.std.specs.Io.KnownBytes.{Appends};
+ghost use Rattle.run_model.specs.Pools.{is_live};
+ghost use Rattle.pool_tree.specs.Records.{record_of, parent_of, newest_of, older_of};
+ghost use Rattle.pool_tree.specs.Printed.{margin, spaced, spaced_all, line, printed};
+ghost use Rattle.pool_tree.specs.Tree.{map_of};
+
+use super::{PoolId, PoolTree};
+use crate::text::{PoolText, WriteFault, put_all};
+use itoa::Buffer;
+use std::io::Write;
+
+/// Writes two spaces for each pool above.
+fn put_margin<W: Write>(out: &mut W, depth: u64) -> Result<(), WriteFault>
+    ensures { OnOk result (Appends (W.contents out.old) (W.contents out.new) (margin depth)) }
+{
+    for _level in 0..depth {
+        put_all(out, b"  ")?;
+    }
+    Ok(())
+}
+
+/// Writes a space and the text, where that is not empty.
+fn put_spaced<W: Write>(out: &mut W, text: &[u8]) -> Result<(), WriteFault>
+    ensures { OnOk result (Appends (W.contents out.old) (W.contents out.new) (spaced text.now)) }
+{
+    if text.is_empty() {
+        return Ok(());
+    }
+    put_all(out, b" ")?;
+    put_all(out, text)
+}
+
+/// Writes the texts of payloads, the oldest first.
+fn put_payloads<T: PoolText, W: Write>(out: &mut W, payloads: &[T]) -> Result<(), WriteFault>
+    ensures { OnOk result (Appends (W.contents out.old) (W.contents out.new) (spaced_all T.shown payloads.now)) }
+{
+    for payload in payloads {
+        put_spaced(out, payload.text())?;
+    }
+    Ok(())
+}
+
+impl<T: Drop + PoolText> PoolTree<T> {
+    /// Writes the line of a pool.
+    fn put_line<W: Write>(&self, out: &mut W, pool: PoolId, depth: u64) -> Result<(), WriteFault>
+        ensures { OnOk result (Appends (W.contents out.old) (W.contents out.new) (line T.shown (map_of self.now) depth pool)) }
+    {
+        let mut digits = Buffer::new();
+        put_margin(out, depth)?;
+        put_all(out, b"pool ")?;
+        put_all(out, digits.format(pool).as_bytes())?;
+        put_payloads(out, self.records.payloads(pool))?;
+        put_all(out, b"\n")
+    }
+
+    /// The child of a pool that was made first.
+    fn oldest_child(&self, pool: PoolId) -> Option<PoolId>
+        ensures { MatchOption result (newest_of (record_of self.now.records) pool ≡ None) (λ c. (parent_of (record_of self.now.records) c ≡ Some pool) × (older_of (record_of self.now.records) c ≡ None)) }
+    {
+        let mut oldest = match self.records.newest(pool) {
+            Some(newest) => newest,
+            None => return None,
+        };
+        while let Some(older) = self.records.older(oldest) {
+            oldest = older;
+        }
+        Some(oldest)
+    }
+
+    /// Writes the lines of a pool and of those under it.
+    fn put_pool<W: Write>(&self, out: &mut W, pool: PoolId, depth: u64) -> Result<(), WriteFault>
+        requires live { IsTrue (is_live (map_of self.now) pool) }
+        requires small { depth ≤ pool }
+        ensures { OnOk result (Appends (W.contents out.old) (W.contents out.new) (printed T.shown (map_of self.now) depth pool)) }
+    {
+        prove!(depth < self.next);
+        let below = depth + 1;
+        self.put_line(out, pool, depth)?;
+        let mut child = self.oldest_child(pool);
+        while let Some(name) = child {
+            self.put_pool(out, name, below)?;
+            child = self.records.younger(name);
+        }
+        Ok(())
+    }
+
+    /// Writes a line for each pool, its children below it, the oldest first: two spaces for each pool above,
+    /// `pool` and its name, then a space and the text of each payload whose text is not empty, the oldest first.
+    /// Takes stack in proportion to the depth of the tree.
+    pub fn print<W: Write>(&self, out: &mut W) -> Result<(), WriteFault>
+        ensures { (root : ℕ) → (map_of self.now).path root ≡ root ∷ [] → OnOk result (Appends (W.contents out.old) (W.contents out.new) (printed T.shown (map_of self.now) 0 root)) }
+    {
+        self.put_pool(out, self.root, 0)
+    }
+}
