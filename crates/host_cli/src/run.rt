@@ -1,6 +1,6 @@
 //! A script, from a reader to a writer.
 
-ghost use Rattle.std.specs.Prelude.{◌≡◌, ℕ, List, ◌<◌, ◌^◌, length, IfOk, OnErr};
+ghost use Rattle.std.specs.Prelude.{◌≡◌, ◌≢◌, ℕ, List, ◌<◌, ◌^◌, length, IfOk, IfErr, OnErr};
 ghost use Rattle.std.specs.Io.KnownBytes.{Appends};
 ghost use Rattle.host_cli.specs.Plays.{IsTextOf, IsFrontOf, Writes};
 
@@ -16,6 +16,7 @@ fn write_play<W: Write>(alloc: Global, script: &[u8], writer: &mut W) -> Result<
     requires { length script.now < 2 ^ 63 }
     ensures ok { IfOk result (λ e. (text : List ℕ) × IsTextOf script.now text e × Appends (W.contents writer.old) (W.contents writer.new) text) }
     ensures err { OnErr result ((text : List ℕ) × IsFrontOf script.now text × Appends (W.contents writer.old) (W.contents writer.new) text) }
+    ensures fault { IfErr result (λ e. e ≢ PlayFault.Read) }
 {
     let mut text = Vec::new(alloc);
     let played = play(alloc, script, &mut text);
@@ -37,6 +38,7 @@ pub fn run_play<R: Read, W: Write>(
 ) -> Result<Ended, PlayFault>
     ensures ok { IfOk result (λ e. Writes (R.remaining reader.old) (W.contents writer.old) (W.contents writer.new) (λ script text. IsTextOf script text e)) }
     ensures err { OnErr result (Writes (R.remaining reader.old) (W.contents writer.old) (W.contents writer.new) IsFrontOf) }
+    ensures silent { result ≡ Err PlayFault.Read → writer.new ≡ writer.old }
 {
     let script = read_all(alloc, reader)?;
     write_play(alloc, script.as_slice(), writer)

@@ -4,6 +4,7 @@ pub mod Pools
 pub mod RunOrder
 pub mod RunOrderLaws
 pub mod Buckets
+pub mod Cutting
 pub mod State
 pub mod Faults
 pub mod Steps

@@ -1,0 +1,2 @@
+pub mod InMemoryLemmas
+pub mod OpenNumbers

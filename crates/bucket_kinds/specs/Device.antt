@@ -1,0 +1,48 @@
+-- What a device of files is: which names have a file, which numbers are open, and how often it failed.
+use Rattle.std.specs.Prelude.{ℕ, ◌≡◌, ◌+◌, Bool, true, false, ◌==◌, if◌then◌else◌, List, length}
+use Rattle.std.specs.Str.{bytes_eq}
+use Rattle.run_model.specs.Indexed.{upd}
+
+-- what stands under a name or a number: no file, a file of which nothing is told, or a file of these bytes
+pub data Held : Type 0 where
+  Missing : Held
+  Untold : Held
+  Holds : List ℕ → Held
+
+-- `named` goes by a file's name, `numbered` by the number of an open file. `next` is the number that is given next.
+pub record Device : Type 0 where
+  pub named : List ℕ → Held
+  pub numbered : ℕ → Held
+  pub next : ℕ
+  pub failures : ℕ
+
+-- no file, and none that was opened
+abbrev pub no_files : Device
+no_files = record { named = λ name. Missing; numbered = λ n. Missing; next = 1; failures = 0 }
+
+abbrev pub last_number : ℕ
+last_number = 18446744073709551615
+
+abbrev pub is_there : Held → Bool
+is_there Missing = false
+is_there Untold = true
+is_there (Holds bytes) = true
+
+-- A count of failures stays where it is the greatest.
+abbrev pub one_more : ℕ → ℕ
+one_more n = if n == last_number then n else n + 1
+
+-- The device failed once more, and nothing else changed.
+abbrev pub failed : Device → Device
+failed d = record d { failures = one_more d.failures }
+
+-- The file of this name is open under the next number.
+abbrev pub opened : List ℕ → Device → Device
+opened name d = record d { numbered = upd d.numbered d.next (d.named name); next = d.next + 1 }
+
+abbrev pub closed : ℕ → Device → Device
+closed file d = record d { numbered = upd d.numbered file Missing }
+
+-- There is a file of this name and these bytes.
+abbrev pub added : List ℕ → List ℕ → Device → Device
+added name bytes d = record d { named = λ q. if bytes_eq q name then Holds bytes else d.named q }

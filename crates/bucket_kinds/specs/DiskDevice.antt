@@ -1,0 +1,21 @@
+-- Files of a disk as a device: nothing is told of what they hold.
+use Rattle.std.specs.Prelude.{ℕ, Option, Some, None}
+use Rattle.std.specs.BTreeMap.{BTreeMap, get}
+use Rattle.std.specs.Ordering.{nat_cmp}
+use Rattle.bucket_kinds.specs.Device.{Held, Missing, Untold, Device}
+
+abbrev pub untold : {F : Type 0} → Option F → Held
+untold None = Missing
+untold (Some file) = Untold
+
+-- the open file of a number
+abbrev pub disk_number : {F : Type 0} → BTreeMap ℕ F → ℕ → Held
+disk_number opened n = untold (get nat_cmp opened n)
+
+abbrev pub disk_device : {F : Type 0} → BTreeMap ℕ F → ℕ → ℕ → Device
+disk_device opened next failures =
+    record { named = λ name. Untold; numbered = disk_number opened; next = next; failures = failures }
+
+-- no file was opened, and none failed
+abbrev pub fresh_disk : Device
+fresh_disk = record { named = λ name. Untold; numbered = λ n. Missing; next = 1; failures = 0 }

@@ -1,0 +1,26 @@
+-- Files in memory: their bytes by name, and the names of the open ones by number.
+use Rattle.std.specs.Prelude.{ℕ, List, Option, Some, None, Vec}
+use Rattle.std.specs.declared.alloc.Global.{Global}
+use Rattle.std.specs.BTreeMap.{BTreeMap, get, get_by}
+use Rattle.std.specs.Ordering.{nat_cmp}
+use Rattle.std.specs.Cmp.Lexicographic.{slice_cmp}
+use Rattle.bucket_kinds.specs.Device.{Held, Missing, Holds}
+
+abbrev pub Bytes : Type 0
+Bytes = Vec ℕ Global
+
+abbrev pub held_as : Option Bytes → Held
+held_as None = Missing
+held_as (Some bytes) = Holds bytes.items
+
+-- the file of a name
+abbrev pub under : BTreeMap Bytes Bytes → List ℕ → Held
+under files name = held_as (get_by (λ k. slice_cmp nat_cmp name k.items) files)
+
+abbrev pub under_one : BTreeMap Bytes Bytes → Option Bytes → Held
+under_one files None = Missing
+under_one files (Some name) = under files name.items
+
+-- the open file of a number
+abbrev pub at_number : BTreeMap Bytes Bytes → BTreeMap ℕ Bytes → ℕ → Held
+at_number files opened n = under_one files (get nat_cmp opened n)

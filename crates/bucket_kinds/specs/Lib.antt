@@ -1,0 +1,9 @@
+pub use Rattle.run_model.specs.Indexed
+pub use Rattle.run_model.specs.Buckets
+pub use Rattle.run_model.specs.Cutting
+pub mod Device
+pub mod Answers
+pub mod Reading
+pub mod InMemory
+pub mod MemDevice
+pub mod DiskDevice

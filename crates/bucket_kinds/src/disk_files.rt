@@ -1,0 +1,130 @@
+//! Files of a disk.
+
+ghost use Rattle.std.specs.Prelude.{◌≡◌, ◌<◌, ◌≤◌, ℕ, IsSome, IfOk, length, true};
+ghost use Rattle.std.specs.Ordering.{nat_cmp};
+ghost use Rattle.std.specs.BTreeMap.{get};
+ghost use Rattle.bucket_kinds.specs.Device.{failed};
+ghost use Rattle.bucket_kinds.specs.DiskDevice.{disk_device, fresh_disk};
+ghost use Rattle.bucket_kinds.specs.declared.refusal.FileFault.TheVariants as fault;
+
+use crate::files::{FileNo, Files};
+use crate::numbers::{drop_number, put_number};
+use crate::refusal::FileFault;
+use std::collections::BTreeMap;
+use std::fs::OpenFile;
+use std::os::unix::fs::FileExt;
+use std::rt::Files as FileSystem;
+use std::{fs, io, str};
+
+/// Files of a disk, reached by a runtime. What they hold is not told. A name is a path.
+#[derive(Drop)]
+pub struct DiskFiles<R: FileSystem + AllocGlobal> {
+    runtime: R,
+    opened: BTreeMap<FileNo, R::File>,
+    next: FileNo,
+    failures: u64,
+
+    // The number of an open file was given.
+    ghost given: { (n : ℕ) → IsSome (get nat_cmp opened n) → n < next },
+}
+
+// The path that a name is, if it may be one.
+fn path_of(name: &[u8]) -> Option<&str> {
+    if name.contains(&0) {
+        return None;
+    }
+    str::from_utf8(name).ok()
+}
+
+// Fills the buffer from a place of a file on, as far as the file reaches.
+fn fill<F: FileExt>(file: &F, at: u64, buffer: &mut [u8]) -> io::Result<usize>
+    ensures { IfOk result (λ n. n ≤ length buffer.old) }
+{
+    let mut filled = 0;
+    while filled < buffer.len() {
+        let count = file.read_at(&mut buffer[filled..], at.saturating_add(filled as u64))?;
+        if count == 0 {
+            break;
+        }
+        filled += count;
+    }
+    Ok(filled)
+}
+
+impl<R: FileSystem + AllocGlobal + Drop> DiskFiles<R>
+where
+    R::File: FileExt,
+{
+    /// The files that a runtime reaches. It takes no memory.
+    pub fn new(runtime: R) -> Self
+        ensures { ⟦<DiskFiles<R> as Files>⟧.device result ≡ fresh_disk }
+    {
+        let alloc = runtime.alloc();
+        DiskFiles {
+            runtime,
+            opened: BTreeMap::new(alloc),
+            next: 1,
+            failures: 0,
+        }
+    }
+
+    fn fail(&mut self) -> FileFault
+        ensures result { result ≡ fault.Failed }
+        ensures device { disk_device self.new.opened self.new.next self.new.failures
+            ≡ failed (disk_device self.old.opened self.old.next self.old.failures) }
+    {
+        self.failures = self.failures.saturating_add(1);
+        FileFault::Failed
+    }
+}
+
+impl<R: FileSystem + AllocGlobal + Drop> Files for DiskFiles<R>
+where
+    R::File: FileExt,
+{
+    ghost device = { λ d. disk_device d.opened d.next d.failures };
+
+    fn open_file(&mut self, name: &[u8]) -> Result<(FileNo, u64), FileFault> {
+        let Some(path) = path_of(name) else {
+            return Err(FileFault::NotThere);
+        };
+        let file = match fs::File::open(&self.runtime, path) {
+            Ok(file) => file,
+            Err(error) if error.kind() == io::ErrorKind::NotFound => {
+                return Err(FileFault::NotThere);
+            }
+            Err(_) => return Err(self.fail()),
+        };
+        let Ok(metadata) = file.metadata() else {
+            return Err(self.fail());
+        };
+        if !metadata.is_file() {
+            return Err(FileFault::NotThere);
+        }
+        let number = self.next;
+        if number == u64::MAX {
+            return Err(FileFault::NamesSpent);
+        }
+        put_number(&mut self.opened, number, file)?;
+        self.next += 1;
+        Ok((number, metadata.len()))
+    }
+
+    fn read_at(&mut self, file: FileNo, at: u64, buffer: &mut [u8]) -> Result<usize, FileFault> {
+        let Some(file) = self.opened.get(&file) else {
+            unreachable!()
+        };
+        match fill(file, at, buffer) {
+            Ok(count) => Ok(count),
+            Err(_) => Err(self.fail()),
+        }
+    }
+
+    fn close_file(&mut self, file: FileNo) {
+        drop_number(&mut self.opened, file);
+    }
+
+    fn failures(&self) -> u64 {
+        self.failures
+    }
+}

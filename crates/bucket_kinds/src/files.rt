@@ -1,0 +1,36 @@
+//! A device that has files, which are read at any place.
+
+ghost use Rattle.std.specs.Prelude.{◌≡◌, true};
+ghost use Rattle.bucket_kinds.specs.Device.{Device, is_there, closed};
+ghost use Rattle.bucket_kinds.specs.Answers.{IsOpening, IsReading};
+
+use crate::refusal::FileFault;
+
+/// The number of an open file. A device gives none twice.
+pub type FileNo = u64;
+
+/// A device that has files. Contracts see it as its files by name, its open files by number, the next number and
+/// how often it failed; a device need not tell what its files hold.
+pub trait Files {
+    ghost device: { Self → Device };
+
+    /// Opens the file of a name, and gives its new number and its length in bytes. `NotThere` is told of a name
+    /// without a file, `NamesSpent` where the number would be `u64::MAX`. Refused, no file more is open.
+    fn open_file(&mut self, name: &[u8]) -> Result<(FileNo, u64), FileFault>
+        ensures { IsOpening (device self.old) name.now result (device self.new) };
+
+    /// Fills the buffer from a place of an open file on, as far as the file reaches, and gives how many bytes that
+    /// are. It has no fault but `Failed`; then nothing is said of the buffer.
+    fn read_at(&mut self, file: FileNo, at: u64, buffer: &mut [u8]) -> Result<usize, FileFault>
+        requires { is_there ((device self.old).numbered file) ≡ true }
+        ensures { IsReading (device self.old) file at buffer.old result buffer.new (device self.new) };
+
+    /// Closes an open file. It takes no memory.
+    fn close_file(&mut self, file: FileNo)
+        requires { is_there ((device self.old).numbered file) ≡ true }
+        ensures { device self.new ≡ closed file (device self.old) };
+
+    /// How often the device failed. At `u64::MAX` the count stays.
+    fn failures(&self) -> u64
+        ensures { result ≡ (device self.now).failures };
+}

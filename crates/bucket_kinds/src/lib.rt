@@ -1,0 +1,21 @@
+//! One bucket at a time (apr_buckets.h): splitting, copying, setting aside and reading, with the files that
+//! FILE buckets are read from.
+#![tactic(auto)]
+
+mod cutting;
+mod disk_files;
+mod files;
+mod mem_files;
+mod numbers;
+mod reading;
+mod refusal;
+#[cfg(test)]
+mod tests;
+
+pub use cutting::{aside_bucket, copy_bucket, split_bucket};
+pub use disk_files::DiskFiles;
+pub use files::{FileNo, Files};
+pub use mem_files::MemFiles;
+pub use reading::read_bucket;
+pub use refusal::{AddRefusal, FileFault, ReadRefusal, SplitRefusal};
+pub use run_model::{Bucket, Content, Home, Kind, Seq};
