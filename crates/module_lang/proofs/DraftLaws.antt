@@ -208,7 +208,7 @@ sound_op d i o h =
       room = not-false (has_room d o) (unless_ok (not (has_room d o)) code.TooMany tt e.2);
     }
 
-no_text : (i : Instr) (n : List ℕ) → has_text (operands_of i n) ≡ false
+pub no_text : (i : Instr) (n : List ℕ) → has_text (operands_of i n) ≡ false
 no_text (instr.BCreate o) n = refl
 no_text (instr.BClean b) n = refl
 no_text (instr.BConcat a b) n = refl

@@ -1,9 +1,17 @@
 pub mod AssemblingLaws
+pub mod BodyLaws
 pub mod DraftLaws
+pub mod FoundLaws
 pub mod HandlerLaws
+pub mod InverseLaws
+pub mod LabelLaws
 pub mod LineLaws
 pub mod ModuleLaws
 pub mod OperandLaws
 pub mod QuotedLaws
+pub mod RunLaws
 pub mod SliceLaws
+pub mod SourceLaws
+pub mod SpellingLaws
+pub mod TextAgain
 pub mod TextLaws

@@ -132,7 +132,7 @@ same_end op.Jump o t = refl
 same_end op.Ret o t = refl
 
 -- the name of a label matters to no handler
-unnamed : (q : Part) (ps bs : List PoolRef) (i : Instr) (n : List ℕ) → misplaced q ps bs (op_of i) (operands_of i n) ≡ misplaced q ps bs (op_of i) (operands_of i [])
+pub unnamed : (q : Part) (ps bs : List PoolRef) (i : Instr) (n : List ℕ) → misplaced q ps bs (op_of i) (operands_of i n) ≡ misplaced q ps bs (op_of i) (operands_of i [])
 unnamed q ps bs (instr.BCreate o) n = refl
 unnamed q ps bs (instr.BClean b) n = refl
 unnamed q ps bs (instr.BConcat a b) n = refl
@@ -174,7 +174,7 @@ same_brigades (operand.Brigade x) (operand.Text y) p q h = absurd (cc q)
 declared_as : (m n : ℕ) (x : Operand) → x ≡ operand.Brigade (operand_index x) → is_declared m n x ≡ true → (nat_lt (operand_index x) n || (eqb (operand_index x) 8)) ≡ true
 declared_as m n x e h = subst (λ y. is_declared m n y ≡ true) e h
 
-brigade_below : (x : Operand) → of_kind kind.Brigade x ≡ true → operand_index x < 8
+pub brigade_below : (x : Operand) → of_kind kind.Brigade x ≡ true → operand_index x < 8
 brigade_below (operand.Brigade b) h = ltb-true b 8 h
 brigade_below operand.Nothing h = absurd (cc h)
 brigade_below operand.One h = absurd (cc h)

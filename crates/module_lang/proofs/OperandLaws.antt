@@ -182,7 +182,7 @@ source_is (operand.Ending s) h = absurd (cc h)
 source_is (operand.Label n) h = absurd (cc h)
 source_is (operand.Text n) h = absurd (cc h)
 
-ending_is : (x : Operand) → of_kind kind.Ending x ≡ true → x ≡ operand.Ending (operand_status x)
+pub ending_is : (x : Operand) → of_kind kind.Ending x ≡ true → x ≡ operand.Ending (operand_status x)
 ending_is operand.Nothing h = absurd (cc h)
 ending_is operand.One h = absurd (cc h)
 ending_is (operand.Place p) h = absurd (cc h)
@@ -191,7 +191,7 @@ ending_is (operand.Ending s) h = refl
 ending_is (operand.Label n) h = absurd (cc h)
 ending_is (operand.Text n) h = absurd (cc h)
 
-label_is : (x : Operand) → of_kind kind.Label x ≡ true → (n : List ℕ) × (x ≡ operand.Label n)
+pub label_is : (x : Operand) → of_kind kind.Label x ≡ true → (n : List ℕ) × (x ≡ operand.Label n)
 label_is operand.Nothing h = absurd (cc h)
 label_is operand.One h = absurd (cc h)
 label_is (operand.Place p) h = absurd (cc h)

@@ -10,5 +10,6 @@ pub mod Operands
 pub mod Program
 pub mod Quoted
 pub mod Spelling
+pub mod Texts
 pub mod Words
 pub mod SeqLends

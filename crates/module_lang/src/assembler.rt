@@ -5,6 +5,8 @@ ghost use Rattle.module_lang.specs.Assembling.{is_end, lines_read, lines_ended, 
 ghost use Rattle.module_lang.specs.Codes.{Gives};
 ghost use Rattle.module_lang.specs.Drafts.{empty_draft};
 ghost use Rattle.module_lang.specs.Entries.{IsDraft};
+ghost use Rattle.module_lang.specs.Program.{Program};
+ghost use Rattle.module_lang.specs.Texts.{IsTextOf};
 
 use crate::draft::{Draft, Part};
 use crate::handler::resolve_handler;
@@ -101,11 +103,22 @@ fn resolve(alloc: Global, draft: Draft) -> Result<Module, AsmRefusal>
     Ok(Module::new(declared, texts, code, init as u16, main as u16))
 }
 
-/// The module that a text spells, or its first faulty line, from 1, with the lowest code that fits it.
 #[tactic(auto, unfolding(crate::specs::Assembling::assembling))]
-pub fn assemble(alloc: Global, text: &[u8]) -> Result<Module, AsmRefusal>
+fn read_module(alloc: Global, text: &[u8]) -> Result<Module, AsmRefusal>
     ensures { Gives (λ m. m) result (assembling text.now) }
 {
     let draft = read_draft(alloc, text)?;
     resolve(alloc, draft)
+}
+
+/// The module that a text spells, or its first faulty line, from 1, with the lowest code that fits it. A text has at
+/// most 1,048,576 bytes; `NoMemory` is the answer where memory was wanting.
+pub fn assemble(alloc: Global, text: &[u8]) -> Result<Module, AsmRefusal>
+    ensures exact { Gives (λ m. m) result (assembling text.now) }
+
+    // A text that is written by the grammar is taken as the module that it spells, memory apart.
+    ensures only { (p : Program) → IsTextOf text.now p → Gives (λ m. m) result (Ok p) }
+    ensures one { (p q : Program) → IsTextOf text.now p → IsTextOf text.now q → p ≡ q }
+{
+    read_module(alloc, text)
 }

@@ -1,0 +1,276 @@
+-- What is read was spelled so: words, operands and lines.
+use Rattle.std.proofs.Common.{◌≡◌, ℕ, zero, suc, ◌+◌, ◌-◌, ◌<◌, Bool, true, false, ◌&&◌, not, cond, eqb, leb, nat_eq, List, [], ◌∷◌, ◌++◌, length, take, drop, Option, Some, None, Result, Ok, Err, refl, sym, ◌∙◌, ap, subst, arith}
+use Rattle.std.specs.Prelude.{slice_index, codes, option_map, find}
+use Rattle.std.specs.Cmp.Lexicographic.{pointwise, same_text}
+use Rattle.std.proofs.lemmas.Bool.{and_parts, leb-true, eqb-true, ne_eqb}
+use Rattle.module_lang.specs.Bytes.{token, token_len, after_token}
+use Rattle.module_lang.specs.Codes.{◌>>=◌, unless}
+use Rattle.module_lang.specs.Lines.{is_due, judged, known_word, or_unknown, label_read, item_read, or_no_label, is_handler}
+use Rattle.module_lang.specs.Names.{is_name, name_of}
+use Rattle.module_lang.specs.Operands.{numbered, operand_in, operand_at, after_operand, operands_at, operand_kind_is_nothing, operand_kind_is_text, or_wrong}
+use Rattle.module_lang.specs.Texts.{place_text, own_text, brigade_text, status_text, operands_text}
+use Rattle.module_lang.specs.Words.{all_words, word_at, word_text, word_kinds, two_operands, one_operand, no_operand}
+use Rattle.module_lang.specs.declared.draft.Draft.{Draft}
+use Rattle.module_lang.specs.declared.instr.PoolRef.TheVariants as pool
+use Rattle.module_lang.specs.declared.instr.Status.TheVariants as status
+use Rattle.module_lang.specs.declared.lines.Line.{Line}
+use Rattle.module_lang.specs.declared.lines.Line.TheVariants as line
+use Rattle.module_lang.specs.declared.operand.Operand.{Operand}
+use Rattle.module_lang.specs.declared.operand.Operand.TheVariants as operand
+use Rattle.module_lang.specs.declared.operand.Operands.{Operands}
+use Rattle.module_lang.specs.declared.refusal.Code.{Code}
+use Rattle.module_lang.specs.declared.refusal.Code.TheVariants as code
+use Rattle.module_lang.specs.declared.word.Kind.{Kind}
+use Rattle.module_lang.specs.declared.word.Kind.TheVariants as kind
+use Rattle.module_lang.specs.declared.word.Kinds.{Kinds}
+use Rattle.module_lang.specs.declared.word.Word.{Word}
+use Rattle.module_lang.proofs.LineLaws.{bind_ok, unless_ok, not_false}
+use Rattle.module_lang.proofs.OperandLaws.{cond_some, made, numbered_below}
+use Rattle.module_lang.proofs.SpellingLaws.{padded}
+
+cut : (n : ℕ) (xs : List ℕ) → take n xs ++ drop n xs ≡ xs
+cut zero xs = refl
+cut (suc n) [] = refl
+cut (suc n) (x ∷ xs) = ap (λ ys. x ∷ ys) (cut n xs)
+
+tokens : (bytes : List ℕ) → bytes ≡ token bytes ++ after_token bytes
+unfolding token after_token
+tokens bytes = sym (cut (token_len bytes) bytes)
+
+found_passes : {X : Type 0} (p : X → Bool) (xs : List X) (x : X) → find p xs ≡ Some x → p x ≡ true
+found_passes p [] x h = absurd (cc h)
+found_passes p (y ∷ ys) x h = first (p y) refl h (found_passes p ys x)
+  where
+    first : (b : Bool) → p y ≡ b → cond b (Some y) (find p ys) ≡ Some x → (find p ys ≡ Some x → p x ≡ true) → p x ≡ true
+    first true q h more = let s : y ≡ x = cc h in subst (λ z. p z ≡ true) s q
+    first false q h more = more h
+
+pub word_spelled : (t : List ℕ) (w : Word) → word_at t ≡ Some w → t ≡ word_text w
+unfolding word_at
+word_spelled t w h = sym (same_text (word_text w) t (sym (found_passes (λ x. pointwise nat_eq (word_text x) t) all_words w h)))
+
+-- a token was read as an operand
+pub record Reads (k : Kind) (rest : List ℕ) (o : Operand) : Type 0 where
+  pub token : List ℕ
+  pub read : operand_in k token ≡ Some o
+  pub spelled : rest ≡ 32 ∷ (token ++ after_operand k rest)
+
+read_token : (k : Kind) (rest : List ℕ) (o : Operand) → operand_kind_is_nothing k ≡ false → operand_kind_is_text k ≡ false → operand_at k rest ≡ Ok o → Reads k rest o
+unfolding operand_at after_operand
+read_token k [] o n q h = let z = rw n at h in absurd (cc z)
+read_token k (b ∷ bs) o n q h = space (eqb b 32) refl (rw (n, q) at h)
+  where
+    some : (r : Option Operand) → operand_in k (token bs) ≡ r → b ≡ 32 → or_wrong r ≡ Ok o → Reads k (b ∷ bs) o
+    some None e s h = absurd (cc h)
+    some (Some x) e s h = record { token = token bs; read = e ∙ (let z : x ≡ o = cc h in ap Some z); spelled = rw (n, q, s) (ap (λ ys. 32 ∷ ys) (tokens bs)) }
+
+    space : (x : Bool) → eqb b 32 ≡ x → cond (not x) (Err code.WrongOperands) (or_wrong (operand_in k (token bs))) ≡ Ok o → Reads k (b ∷ bs) o
+    space false e h = absurd (cc h)
+    space true e h = some (operand_in k (token bs)) refl (eqb-true b 32 e) h
+
+numbered_spelled : (letter : ℕ) (t : List ℕ) (i : ℕ) → numbered letter t ≡ Some i → t ≡ letter ∷ (48 + i) ∷ []
+numbered_spelled letter t i h =
+    let x = slice_index t 1 in
+    let a = cond_some ((eqb (length t) 2) && (eqb (slice_index t 0) letter) && leb 48 x && leb x 55) (x - 48) i h in
+    let b = and_parts ((eqb (length t) 2) && (eqb (slice_index t 0) letter) && leb 48 x) (leb x 55) a.0 in
+    let c = and_parts ((eqb (length t) 2) && (eqb (slice_index t 0) letter)) (leb 48 x) b.0 in
+    let d = and_parts (eqb (length t) 2) (eqb (slice_index t 0) letter) c.0 in
+    let low = leb-true 48 x c.1 in
+    let digit : x ≡ 48 + i = omega (arith, a.1) in
+    two t (eqb-true (length t) 2 d.0) (eqb-true (slice_index t 0) letter d.1) digit
+  where
+    two : (t : List ℕ) → length t ≡ 2 → slice_index t 0 ≡ letter → slice_index t 1 ≡ 48 + i → t ≡ letter ∷ (48 + i) ∷ []
+    two [] n p q = absurd (omega (arith, n))
+    two (x ∷ []) n p q = absurd (omega (arith, n))
+    two (x ∷ y ∷ []) n p q = cc
+    two (x ∷ y ∷ z ∷ zs) n p q = absurd (omega (arith, n))
+
+-- an operand and the tokens that spell it
+abbrev pub Spells : Operand → List ℕ → Type 0
+Spells operand.Nothing t = ⊥
+Spells operand.One t = t ≡ codes "1"
+Spells (operand.Place p) t = t ≡ place_text p
+Spells (operand.Brigade b) t = t ≡ brigade_text b
+Spells (operand.Ending s) t = t ≡ status_text s
+Spells (operand.Label n) t = (is_name t ≡ true) × (n ≡ padded t)
+Spells (operand.Text n) t = ⊥
+
+to : (o x : Operand) (t : List ℕ) → Some x ≡ Some o → Spells x t → Spells o t
+to o x t e h = let s : x ≡ o = cc e in subst (λ y. Spells y t) s h
+
+pub own_is : (b : ℕ) → b < 8 → own_text b ≡ brigade_text b
+own_is b h = let e : eqb b 8 ≡ false = ne_eqb b 8 (λ e. omega arith) in rw e refl
+
+number_place : (n : Option ℕ) (t : List ℕ) (o : Operand) → numbered 112 t ≡ n → option_map (λ i. operand.Place (pool.Own i)) n ≡ Some o → Spells o t
+number_place None t o q e = absurd (cc e)
+number_place (Some i) t o q e = to o (operand.Place (pool.Own i)) t e (numbered_spelled 112 t i q)
+
+number_brigade : (n : Option ℕ) (t : List ℕ) (o : Operand) → numbered 98 t ≡ n → option_map (λ i. operand.Brigade i) n ≡ Some o → Spells o t
+number_brigade None t o q e = absurd (cc e)
+number_brigade (Some i) t o q e = to o (operand.Brigade i) t e (numbered_spelled 98 t i q ∙ own_is i (numbered_below 98 t i q))
+
+place_spelled : (a b : Bool) (t : List ℕ) (o : Operand) → pointwise nat_eq t (codes "conn") ≡ a → pointwise nat_eq t (codes "req") ≡ b → cond a (Some (operand.Place pool.Conn)) (cond b (Some (operand.Place pool.Req)) (option_map (λ i. operand.Place (pool.Own i)) (numbered 112 t))) ≡ Some o → Spells o t
+place_spelled true b t o p q e = to o (operand.Place pool.Conn) t e (same_text t (codes "conn") (sym p))
+place_spelled false true t o p q e = to o (operand.Place pool.Req) t e (same_text t (codes "req") (sym q))
+place_spelled false false t o p q e = number_place (numbered 112 t) t o refl e
+
+source_spelled : (a : Bool) (t : List ℕ) (o : Operand) → pointwise nat_eq t (codes "in") ≡ a → cond a (Some (operand.Brigade 8)) (option_map (λ i. operand.Brigade i) (numbered 98 t)) ≡ Some o → Spells o t
+source_spelled true t o p e = to o (operand.Brigade 8) t e (same_text t (codes "in") (sym p))
+source_spelled false t o p e = number_brigade (numbered 98 t) t o refl e
+
+ending_spelled : (a b : Bool) (t : List ℕ) (o : Operand) → pointwise nat_eq t (codes "ok") ≡ a → pointwise nat_eq t (codes "fail") ≡ b → cond a (Some (operand.Ending status.Success)) (cond b (Some (operand.Ending status.Fail)) None) ≡ Some o → Spells o t
+ending_spelled true b t o p q e = to o (operand.Ending status.Success) t e (same_text t (codes "ok") (sym p))
+ending_spelled false true t o p q e = to o (operand.Ending status.Fail) t e (same_text t (codes "fail") (sym q))
+ending_spelled false false t o p q e = absurd (cc e)
+
+one_spelled : (a : Bool) (t : List ℕ) (o : Operand) → pointwise nat_eq t (codes "1") ≡ a → cond a (Some operand.One) None ≡ Some o → Spells o t
+one_spelled true t o p e = to o operand.One t e (same_text t (codes "1") (sym p))
+one_spelled false t o p e = absurd (cc e)
+
+pub name_spelled : (t n : List ℕ) → name_of t ≡ Some n → (is_name t ≡ true) × (n ≡ padded t)
+unfolding name_of
+name_spelled t n h = let a = cond_some (is_name t) (padded t) n h in (a.0, sym a.1)
+
+label_spelled : (r : Option (List ℕ)) (t : List ℕ) (o : Operand) → name_of t ≡ r → option_map (λ n. operand.Label n) r ≡ Some o → Spells o t
+label_spelled None t o q e = absurd (cc e)
+label_spelled (Some n) t o q e = to o (operand.Label n) t e (name_spelled t n q)
+
+pub token_spelled : (k : Kind) (t : List ℕ) (o : Operand) → operand_in k t ≡ Some o → Spells o t
+unfolding operand_in
+token_spelled kind.Nothing t o e = absurd (cc e)
+token_spelled kind.One t o e = one_spelled (pointwise nat_eq t (codes "1")) t o refl e
+token_spelled kind.Place t o e = place_spelled (pointwise nat_eq t (codes "conn")) (pointwise nat_eq t (codes "req")) t o refl refl e
+token_spelled kind.Pool t o e = number_place (numbered 112 t) t o refl e
+token_spelled kind.Brigade t o e = number_brigade (numbered 98 t) t o refl e
+token_spelled kind.Source t o e = source_spelled (pointwise nat_eq t (codes "in")) t o refl e
+token_spelled kind.Ending t o e = ending_spelled (pointwise nat_eq t (codes "ok")) (pointwise nat_eq t (codes "fail")) t o refl refl e
+token_spelled kind.Label t o e = label_spelled (name_of t) t o refl e
+token_spelled kind.Text t o e = absurd (cc e)
+
+-- the operands of a line, one behind another
+pub record IsChain (k : Kinds) (rest : List ℕ) (o : Operands) : Type 0 where
+  pub first : operand_at k.first rest ≡ Ok o.first
+  pub second : operand_at k.second (after_operand k.first rest) ≡ Ok o.second
+  pub third : operand_at k.third (after_operand k.second (after_operand k.first rest)) ≡ Ok o.third
+  pub fourth : operand_at k.fourth (after_operand k.third (after_operand k.second (after_operand k.first rest))) ≡ Ok o.fourth
+  pub last : after_operand k.fourth (after_operand k.third (after_operand k.second (after_operand k.first rest))) ≡ []
+
+abbrev ready : Operands → Result Operands Code
+ready o = Ok o
+
+empty_is : (xs : List ℕ) → eqb (length xs) 0 ≡ true → xs ≡ []
+empty_is [] h = refl
+empty_is (x ∷ xs) h = let e = eqb-true (length (x ∷ xs)) 0 h in absurd (omega (arith, e))
+
+pub chain : (k : Kinds) (rest : List ℕ) (o : Operands) → operands_at k rest ≡ Ok o → IsChain k rest o
+unfolding operands_at
+chain k rest o h =
+    let r1 = after_operand k.first rest in
+    let r2 = after_operand k.second r1 in
+    let r3 = after_operand k.third r2 in
+    let r4 = after_operand k.fourth r3 in
+    let last = λ (a b c d : Operand) (u : Unit {0}). ready (made a b c d) in
+    let p4 = λ (a b c d : Operand). unless (not (eqb (length r4) 0)) code.WrongOperands >>= last a b c d in
+    let p3 = λ (a b c : Operand). operand_at k.fourth r3 >>= p4 a b c in
+    let p2 = λ (a b : Operand). operand_at k.third r2 >>= p3 a b in
+    let p1 = λ (a : Operand). operand_at k.second r1 >>= p2 a in
+    let a = bind_ok (operand_at k.first rest) p1 o h in
+    let b = bind_ok (operand_at k.second r1) (p2 a.0) o a.2 in
+    let c = bind_ok (operand_at k.third r2) (p3 a.0 b.0) o b.2 in
+    let d = bind_ok (operand_at k.fourth r3) (p4 a.0 b.0 c.0) o c.2 in
+    let u = bind_ok (unless (not (eqb (length r4) 0)) code.WrongOperands) (last a.0 b.0 c.0 d.0) o d.2 in
+    let s : made a.0 b.0 c.0 d.0 ≡ o = cc u.2 in
+    let none = empty_is r4 (not_false (eqb (length r4) 0) (unless_ok (not (eqb (length r4) 0)) code.WrongOperands u.0 u.1)) in
+    subst (λ x. IsChain k rest x) s (record { first = a.1; second = b.1; third = c.1; fourth = d.1; last = none })
+
+nothing_behind : (rest : List ℕ) → after_operand kind.Nothing rest ≡ rest
+unfolding after_operand
+nothing_behind rest = refl
+
+-- a line with no operand, one operand and two
+pub none_spelled : (rest : List ℕ) (o : Operands) → operands_at no_operand rest ≡ Ok o → rest ≡ []
+none_spelled rest o h =
+    let c = chain no_operand rest o h in
+    rw (nothing_behind rest, nothing_behind rest, nothing_behind rest, nothing_behind rest) at c.last
+
+pub record OneSpelled (k : Kind) (rest : List ℕ) (o : Operands) : Type 0 where
+  pub token : List ℕ
+  pub whole : rest ≡ operands_text (token ∷ [])
+  pub first : Spells o.first token
+
+pub one_taken : (k : Kind) (rest : List ℕ) (o : Operands) → operand_kind_is_nothing k ≡ false → operand_kind_is_text k ≡ false → operands_at (one_operand k) rest ≡ Ok o → OneSpelled k rest o
+one_taken k rest o n q h =
+    let c = chain (one_operand k) rest o h in
+    let r = after_operand k rest in
+    let x = read_token k rest o.first n q c.first in
+    let none : r ≡ [] = rw (nothing_behind r, nothing_behind r, nothing_behind r) at c.last in
+    record { token = x.token; whole = x.spelled ∙ ap (λ ys. 32 ∷ (x.token ++ ys)) none; first = token_spelled k x.token o.first x.read }
+
+pub record TwoSpelled (k l : Kind) (rest : List ℕ) (o : Operands) : Type 0 where
+  pub one : List ℕ
+  pub two : List ℕ
+  pub whole : rest ≡ operands_text (one ∷ two ∷ [])
+  pub first : Spells o.first one
+  pub second : Spells o.second two
+
+pub two_taken : (k l : Kind) (rest : List ℕ) (o : Operands) → operand_kind_is_nothing k ≡ false → operand_kind_is_text k ≡ false → operand_kind_is_nothing l ≡ false → operand_kind_is_text l ≡ false → operands_at (two_operands k l) rest ≡ Ok o → TwoSpelled k l rest o
+two_taken k l rest o n q m r h =
+    let c = chain (two_operands k l) rest o h in
+    let r1 = after_operand k rest in
+    let r2 = after_operand l r1 in
+    let x = read_token k rest o.first n q c.first in
+    let y = read_token l r1 o.second m r c.second in
+    let none : r2 ≡ [] = rw (nothing_behind r2, nothing_behind r2) at c.last in
+    record {
+      one = x.token;
+      two = y.token;
+      whole = x.spelled ∙ ap (λ ys. 32 ∷ (x.token ++ ys)) (y.spelled ∙ ap (λ ys. 32 ∷ (y.token ++ ys)) none);
+      first = token_spelled k x.token o.first x.read;
+      second = token_spelled l y.token o.second y.read;
+    }
+
+-- a line with a word, and what follows the word
+pub record Item (d : Draft) (s : List ℕ) (w : Word) (o : Operands) : Type 0 where
+  pub rest : List ℕ
+  pub spelled : s ≡ word_text w ++ rest
+  pub read : operands_at (word_kinds w) rest ≡ Ok o
+  pub due : is_due d.part w ≡ true
+  pub sound : judged d w o ≡ Ok tt
+
+-- what is known of the spelling of what a statement says
+abbrev pub Spelled : Draft → List ℕ → Line → Type 0
+Spelled d s line.Skipped = ⊥
+Spelled d s (line.Label n) = (name : List ℕ) × (s ≡ 58 ∷ name) × (is_name name ≡ true) × (n ≡ padded name) × (is_handler d.part ≡ true)
+Spelled d s (line.Item w o) = Item d s w o
+
+known : (t : List ℕ) (r : Option Word) (w : Word) → word_at t ≡ r → or_unknown r ≡ Ok w → t ≡ word_text w
+known t None w q h = absurd (cc h)
+known t (Some x) w q h = let z : x ≡ w = cc h in word_spelled t w (q ∙ ap Some z)
+
+pub item_spelled : (d : Draft) (s : List ℕ) (x : Line) → item_read d s ≡ Ok x → Spelled d s x
+unfolding item_read
+item_spelled d s x h =
+    let a = bind_ok (known_word (token s)) (λ w. unless (not (is_due d.part w)) code.NotDue >>= λ _. operands_at (word_kinds w) (after_token s) >>= λ o. judged d w o >>= λ _. Ok (line.Item w o)) x h in
+    let b = bind_ok (unless (not (is_due d.part a.0)) code.NotDue) (λ _. operands_at (word_kinds a.0) (after_token s) >>= λ o. judged d a.0 o >>= λ _. Ok (line.Item a.0 o)) x a.2 in
+    let e = bind_ok (operands_at (word_kinds a.0) (after_token s)) (λ o. judged d a.0 o >>= λ _. Ok (line.Item a.0 o)) x b.2 in
+    let f = bind_ok (judged d a.0 e.0) (λ _. Ok (line.Item a.0 e.0)) x e.2 in
+    let z : line.Item a.0 e.0 ≡ x = cc f.2 in
+    subst (λ y. Spelled d s y) z (record {
+      rest = after_token s;
+      spelled = tokens s ∙ ap (λ t. t ++ after_token s) (known (token s) (word_at (token s)) a.0 refl a.1);
+      read = e.1;
+      due = not_false (is_due d.part a.0) (unless_ok (not (is_due d.part a.0)) code.NotDue b.0 b.1);
+      sound = f.1;
+    })
+
+pub label_said : (d : Draft) (name : List ℕ) (x : Line) → label_read d name ≡ Ok x → Spelled d (58 ∷ name) x
+label_said d name x h =
+    let a = bind_ok (unless (not (is_handler d.part)) code.NotDue) (λ _. or_no_label (name_of name)) x h in
+    named (name_of name) refl a.2 (not_false (is_handler d.part) (unless_ok (not (is_handler d.part)) code.NotDue a.0 a.1))
+  where
+    named : (r : Option (List ℕ)) → name_of name ≡ r → or_no_label r ≡ Ok x → is_handler d.part ≡ true → Spelled d (58 ∷ name) x
+    named None q e due = absurd (cc e)
+    named (Some n) q e due =
+        let z : line.Label n ≡ x = cc e in
+        let y = name_spelled name n q in
+        subst (λ l. Spelled d (58 ∷ name) l) z (name, refl, y.0, y.1, due)

@@ -1,0 +1,157 @@
+-- A text whose lines are spelled is read line by line.
+use Rattle.std.proofs.Common.{◌≡◌, ℕ, ◌+◌, ◌<◌, Bool, true, false, ◌&&◌, not, cond, eqb, List, [], ◌∷◌, ◌++◌, length, get_or, Ok, refl, sym, ◌∙◌, ap, subst, arith, add-one, append_assoc, append-nil}
+use Rattle.std.specs.Prelude.{All}
+use Rattle.std.specs.List.{list_all}
+use Rattle.std.proofs.lemmas.Bool.{and_parts, ne_eqb, lt-ltb}
+use Rattle.module_lang.specs.Assembling.{lines_read, lines_ended, is_end}
+use Rattle.module_lang.specs.Bytes.{all_printable, is_printable, unindented}
+use Rattle.module_lang.specs.Codes.{◌>>=◌}
+use Rattle.module_lang.specs.Drafts.{label_added}
+use Rattle.module_lang.specs.Entries.{line_taken, taken, item_entered}
+use Rattle.module_lang.specs.Lines.{line_read, unindented_read, is_due, is_handler, judged, has_equal_brigades, has_long_text, are_declared, misplaced, has_room, instruction_count}
+use Rattle.module_lang.specs.Names.{is_name}
+use Rattle.module_lang.specs.Operands.{operands_at}
+use Rattle.module_lang.specs.Program.{Program, fits, is_brigade}
+use Rattle.module_lang.specs.Spelling.{op_of, operands_of}
+use Rattle.module_lang.specs.Texts.{is_skipped, statements, joined, line_text, operands_text}
+use Rattle.module_lang.specs.Words.{word_text, word_kinds}
+use Rattle.module_lang.specs.declared.draft.Draft.{Draft}
+use Rattle.module_lang.specs.declared.draft.Part.{Part}
+use Rattle.module_lang.specs.declared.instr.Instr.{Instr}
+use Rattle.module_lang.specs.declared.instr.Instr.TheVariants as instr
+use Rattle.module_lang.specs.declared.operand.Operands.{Operands}
+use Rattle.module_lang.specs.declared.word.Word.{Word}
+use Rattle.module_lang.specs.declared.word.Word.TheVariants as word
+use Rattle.module_lang.proofs.DraftLaws.{no_text}
+use Rattle.module_lang.proofs.ModuleLaws.{unnamed}
+use Rattle.module_lang.proofs.SpellingLaws.{item_again, statement_plain, name_again, padded}
+
+-- lines that are taken one after another
+abbrev pub Fold : Draft → ℕ → List (List ℕ) → Draft → Type 0
+Fold d n [] e = d ≡ e
+Fold d n (l ∷ ls) e = (x : Draft) × (line_taken d n l ≡ Ok x) × Fold x (n + 1) ls e
+
+one_line : (d : Draft) (n : ℕ) (cur l rest : List ℕ) → list_all is_printable l ≡ true → lines_read false d n cur (l ++ 10 ∷ rest) ≡ (line_taken d n (cur ++ l) >>= λ x. lines_read false x (n + 1) [] rest)
+one_line d n cur [] rest h = rw (append-nil cur) refl
+one_line d n cur (b ∷ bs) rest h =
+    let a = and_parts (is_printable b) (list_all is_printable bs) h in
+    let apart : eqb b 10 ≡ false = ne_eqb b 10 (λ e. absurd (cc (sym a.0 ∙ ap is_printable e))) in
+    rw apart (one_line d n (cur ++ b ∷ []) bs rest a.1 ∙ rw (append_assoc cur (b ∷ []) bs) refl)
+
+pub all_head : {X : Type 0} (P : X → Type 0) (x : X) (xs : List X) → All P (x ∷ xs) → P x
+all_head P x xs h = h 0 x (omega arith)
+
+pub all_tail : {X : Type 0} (P : X → Type 0) (x : X) (xs : List X) → All P (x ∷ xs) → All P xs
+all_tail P x xs h = λ k d lt. let e : get_or (x ∷ xs) (k + 1) d ≡ get_or xs k d = rw add-one refl in subst P e (h (k + 1) d (omega arith))
+
+pub fold_read : (lines : List (List ℕ)) (d e : Draft) (n : ℕ) → All (λ l. all_printable l ≡ true) lines → Fold d n lines e → is_end e.part ≡ true → lines_read false d n [] (joined lines) ≡ Ok e
+unfolding lines_ended all_printable
+fold_read [] d e n clean f end = let p : is_end d.part ≡ true = ap (λ (x : Draft). is_end x.part) f ∙ end in rw p (ap Ok f)
+fold_read (l ∷ ls) d e n clean f end =
+    let first = all_head (λ l. all_printable l ≡ true) l ls clean in
+    let one = one_line d n [] l (joined ls) first in
+    rw (one, f.1) (fold_read ls f.0 e (n + 1) (all_tail (λ l. all_printable l ≡ true) l ls clean) f.2 end)
+
+-- a statement is taken, whatever spaces stand before it
+abbrev pub Takes : Draft → List ℕ → ℕ → Draft → Type 0
+Takes d s n e = (bytes : List ℕ) → taken d n bytes (unindented_read d s) ≡ Ok e
+
+-- statements lead from a draft to one of which P holds, whatever lines they stand in
+abbrev pub Goes : Draft → List (List ℕ) → (Draft → Type 0) → Type 0
+Goes d [] P = P d
+Goes d (s ∷ ss) P = (is_skipped s ≡ false) × ((n : ℕ) → (e : Draft) × Takes d s n e × Goes e ss P)
+
+pub run : (lines : List (List ℕ)) (d : Draft) (n : ℕ) (P : Draft → Type 0) → All (λ l. all_printable l ≡ true) lines → Goes d (statements lines) P → (e : Draft) × Fold d n lines e × P e
+unfolding line_taken line_read
+run [] d n P clean g = (d, refl, g)
+run (l ∷ ls) d n P clean g = cases (is_skipped (unindented l)) refl (λ e m. run ls e m P rest) g
+  where
+    rest : All (λ l. all_printable l ≡ true) ls
+    rest = all_tail (λ l. all_printable l ≡ true) l ls clean
+
+    cases : (b : Bool) → is_skipped (unindented l) ≡ b → ((e : Draft) (m : ℕ) → Goes e (statements ls) P → (x : Draft) × Fold e m ls x × P x) → Goes d (cond b (statements ls) (unindented l ∷ statements ls)) P → (e : Draft) × Fold d n (l ∷ ls) e × P e
+    cases true q more g =
+        let first = all_head (λ l. all_printable l ≡ true) l ls clean in
+        let z = more d (n + 1) g in
+        (z.0, (d, rw (first, q) refl, z.1), z.2)
+    cases false q more g =
+        let first = all_head (λ l. all_printable l ≡ true) l ls clean in
+        let s = g.1 n in
+        let z = more s.0 (n + 1) s.2 in
+        (z.0, (s.0, rw first (s.1 l), z.1), z.2)
+
+pub goes_append : (xs ys : List (List ℕ)) (d : Draft) (P : Draft → Type 0) → Goes d xs (λ e. Goes e ys P) → Goes d (xs ++ ys) P
+goes_append [] ys d P g = g
+goes_append (x ∷ xs) ys d P g = (g.0, λ n. let s = g.1 n in (s.0, s.1, goes_append xs ys s.0 P s.2))
+
+-- a line with a word
+pub goes_item : (d : Draft) (w : Word) (os : List (List ℕ)) (o : Operands) (next : ℕ → Draft) (ss : List (List ℕ)) (P : Draft → Type 0) → is_due d.part w ≡ true → operands_at (word_kinds w) (operands_text os) ≡ Ok o → judged d w o ≡ Ok tt → ((n : ℕ) (bytes : List ℕ) → item_entered d n bytes w o ≡ next n) → ((n : ℕ) → Goes (next n) ss P) → Goes d (line_text (word_text w) os ∷ ss) P
+goes_item d w os o next ss P due read sound same more =
+    (statement_plain w os, λ n. (next n, λ bytes. rw (item_again d w os o due read sound) (ap Ok (same n bytes)), more n))
+
+-- a label line
+pub goes_label : (d : Draft) (name : List ℕ) (ss : List (List ℕ)) (P : Draft → Type 0) → is_handler d.part ≡ true → is_name name ≡ true → ((n : ℕ) → Goes (label_added d.part d n (padded name)) ss P) → Goes d ((58 ∷ name) ∷ ss) P
+goes_label d name ss P due named more =
+    (skip, λ n. (label_added d.part d n (padded name), λ bytes. rw (skip, due, name_again name named) refl, more n))
+  where
+    skip : is_skipped (58 ∷ name) ≡ false
+    skip = rw (ne_eqb (length (58 ∷ name)) 0 (λ e. omega arith)) refl
+
+apart_of : (x y : Bool) → (x && not y) ≡ true → y ≡ false
+apart_of x true h = absurd (cc (sym h ∙ and_none x))
+  where
+    and_none : (x : Bool) → (x && false) ≡ false
+    and_none true = refl
+    and_none false = refl
+apart_of x false h = refl
+
+equal_none : (p : Program) (i : Instr) (n : List ℕ) → fits p i ≡ true → has_equal_brigades (operands_of i n) ≡ false
+equal_none p (instr.BCreate o) n h = refl
+equal_none p (instr.BClean b) n h = refl
+equal_none p (instr.BConcat a b) n h = rw (apart_of (is_brigade p a && is_brigade p b) (eqb a b) h) refl
+equal_none p (instr.Pass b l) n h = refl
+equal_none p (instr.JEmpty b l) n h = refl
+equal_none p (instr.JSent l) n h = refl
+equal_none p (instr.Jump l) n h = refl
+equal_none p (instr.Ret s) n h = refl
+
+declared_all : (p : Program) (m : ℕ) (i : Instr) (n : List ℕ) → fits p i ≡ true → are_declared m (length p.brigades) (operands_of i n) ≡ true
+declared_all p m (instr.BCreate o) n h = rw h refl
+declared_all p m (instr.BClean b) n h = rw h refl
+declared_all p m (instr.BConcat a b) n h =
+    let x = and_parts (is_brigade p a && is_brigade p b) (not (eqb a b)) h in
+    let y = and_parts (is_brigade p a) (is_brigade p b) x.0 in
+    rw (y.0, y.1) refl
+declared_all p m (instr.Pass b l) n h = rw h refl
+declared_all p m (instr.JEmpty b l) n h = rw h refl
+declared_all p m (instr.JSent l) n h = refl
+declared_all p m (instr.Jump l) n h = refl
+declared_all p m (instr.Ret s) n h = refl
+
+short_all : (i : Instr) (n : List ℕ) → has_long_text (operands_of i n) ≡ false
+short_all (instr.BCreate o) n = refl
+short_all (instr.BClean b) n = refl
+short_all (instr.BConcat a b) n = refl
+short_all (instr.Pass b l) n = refl
+short_all (instr.JEmpty b l) n = refl
+short_all (instr.JSent l) n = refl
+short_all (instr.Jump l) n = refl
+short_all (instr.Ret s) n = refl
+
+-- the part, the pools and the brigades of a draft in a handler of a program
+pub record IsAt (p : Program) (q : Part) (d : Draft) : Type 0 where
+  pub part : d.part ≡ q
+  pub pools : d.pools ≡ p.pools
+  pub brigades : d.brigades ≡ p.brigades
+  pub texts : d.texts ≡ []
+
+-- an instruction of a program is judged right
+pub instr_judged : (p : Program) (q : Part) (d : Draft) (i : Instr) (n : List ℕ) → IsAt p q d → instruction_count d < 1024 → fits p i ≡ true → misplaced q p.pools p.brigades (op_of i) (operands_of i []) ≡ false → judged d (word.Op (op_of i)) (operands_of i n) ≡ Ok tt
+unfolding judged
+instr_judged p q d i n at low fit allowed =
+    let equal = equal_none p i n fit in
+    let long = short_all i n in
+    let declared : are_declared (length d.pools) (length d.brigades) (operands_of i n) ≡ true = rw at.brigades (declared_all p (length d.pools) i n fit) in
+    let placed : misplaced d.part d.pools d.brigades (op_of i) (operands_of i n) ≡ false = rw (at.part, at.pools, at.brigades) (unnamed q p.pools p.brigades i n ∙ allowed) in
+    let room : has_room d (operands_of i n) ≡ true = rw (lt-ltb (instruction_count d) 1024 low, no_text i n) refl in
+    rw (equal, long, declared, placed, room) refl

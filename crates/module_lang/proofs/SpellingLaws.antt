@@ -1,0 +1,232 @@
+-- What is spelled is read again: words, operands and lines.
+use Rattle.std.proofs.Common.{◌≡◌, ℕ, ◌+◌, ◌-◌, ◌<◌, ◌≤◌, Bool, true, false, ◌&&◌, ◌||◌, not, cond, eqb, ltb, leb, List, [], ◌∷◌, ◌++◌, length, Some, Ok, refl, sym, ◌∙◌, ap, arith}
+use Rattle.std.specs.Prelude.{slice_index, codes, replicate, IfSome}
+use Rattle.std.specs.List.{list_all}
+use Rattle.std.proofs.lemmas.Bool.{and_parts, le-leb, eq-eqb, ne_eqb, eqb-true, ltb-true}
+use Rattle.std.proofs.lemmas.List.{take_at, drop_at}
+use Rattle.module_lang.specs.Bytes.{token, token_len, after_token, begins}
+use Rattle.module_lang.specs.Lines.{item_read, unindented_read, is_due, judged, place_is_declared}
+use Rattle.module_lang.specs.Program.{Program, fits, is_brigade, target}
+use Rattle.module_lang.specs.Names.{is_letter, is_name, is_name_byte, all_name_bytes, name_of}
+use Rattle.module_lang.specs.Operands.{numbered, operand_in, operand_at, after_operand, operands_at, operand_kind_is_nothing, operand_kind_is_text}
+use Rattle.module_lang.specs.Spelling.{op_of, operands_of}
+use Rattle.module_lang.specs.Texts.{place_text, own_text, brigade_text, status_text, operands_text, line_text, operand_texts, instr_word, is_skipped}
+use Rattle.module_lang.specs.Words.{op_text, word_text, word_at, word_kinds, op_kinds, two_operands, one_operand, no_operand}
+use Rattle.module_lang.specs.declared.draft.Draft.{Draft}
+use Rattle.module_lang.specs.declared.instr.Instr.{Instr}
+use Rattle.module_lang.specs.declared.instr.Instr.TheVariants as instr
+use Rattle.module_lang.specs.declared.instr.PoolRef.{PoolRef}
+use Rattle.module_lang.specs.declared.instr.PoolRef.TheVariants as pool
+use Rattle.module_lang.specs.declared.instr.Status.{Status}
+use Rattle.module_lang.specs.declared.instr.Status.TheVariants as status
+use Rattle.module_lang.specs.declared.lines.Line.TheVariants as line
+use Rattle.module_lang.specs.declared.operand.Operand.{Operand}
+use Rattle.module_lang.specs.declared.operand.Operand.TheVariants as operand
+use Rattle.module_lang.specs.declared.operand.Operands.{Operands}
+use Rattle.module_lang.specs.declared.word.Kind.{Kind}
+use Rattle.module_lang.specs.declared.word.Kind.TheVariants as kind
+use Rattle.module_lang.specs.declared.word.Op.TheVariants as op
+use Rattle.module_lang.specs.declared.word.Word.{Word}
+use Rattle.module_lang.specs.declared.word.Word.TheVariants as word
+
+-- no space among these bytes
+abbrev pub unspaced : List ℕ → Bool
+unspaced bytes = list_all (λ b. not (eqb b 32)) bytes
+
+-- the end, or a space
+abbrev pub Stops : List ℕ → Type 0
+Stops [] = Unit {0}
+Stops (b ∷ bs) = b ≡ 32
+
+len_again : (t rest : List ℕ) → unspaced t ≡ true → Stops rest → token_len (t ++ rest) ≡ length t
+len_again [] [] h s = refl
+len_again [] (b ∷ bs) h s = rw (eq-eqb b 32 s) refl
+len_again (b ∷ bs) rest h s = first (eqb b 32) (len_again bs rest) h
+  where
+    first : (x : Bool) → (unspaced bs ≡ true → Stops rest → token_len (bs ++ rest) ≡ length bs) → (not x && unspaced bs) ≡ true → cond x 0 (1 + token_len (bs ++ rest)) ≡ length (b ∷ bs)
+    first true more h = absurd (cc h)
+    first false more h = rw (more h s) (omega arith)
+
+pub token_again : (t rest : List ℕ) → unspaced t ≡ true → Stops rest → token (t ++ rest) ≡ t
+unfolding token
+token_again t rest h s = rw (len_again t rest h s) (take_at t rest (length t) refl)
+
+pub after_again : (t rest : List ℕ) → unspaced t ≡ true → Stops rest → after_token (t ++ rest) ≡ rest
+unfolding after_token
+after_again t rest h s = rw (len_again t rest h s) (drop_at t rest (length t) refl)
+
+-- a token that spells an operand of a kind
+pub record IsOperand (k : Kind) (o : Operand) (t : List ℕ) : Type 0 where
+  pub some : operand_kind_is_nothing k ≡ false
+  pub bare : operand_kind_is_text k ≡ false
+  pub read : operand_in k t ≡ Some o
+  pub plain : unspaced t ≡ true
+
+operand_again : (k : Kind) (o : Operand) (t rest : List ℕ) → IsOperand k o t → Stops rest → operand_at k (32 ∷ (t ++ rest)) ≡ Ok o
+unfolding operand_at
+operand_again k o t rest h s = rw (h.some, h.bare, token_again t rest h.plain s, h.read) refl
+
+behind_again : (k : Kind) (o : Operand) (t rest : List ℕ) → IsOperand k o t → Stops rest → after_operand k (32 ∷ (t ++ rest)) ≡ rest
+unfolding after_operand
+behind_again k o t rest h s = rw (h.some, h.bare) (after_again t rest h.plain s)
+
+none_again : (rest : List ℕ) → operand_at kind.Nothing rest ≡ Ok operand.Nothing
+unfolding operand_at
+none_again rest = refl
+
+none_behind : (rest : List ℕ) → after_operand kind.Nothing rest ≡ rest
+unfolding after_operand
+none_behind rest = refl
+
+abbrev pub operands : Operand → Operand → Operands
+operands a b = record { first = a; second = b; third = operand.Nothing; fourth = operand.Nothing }
+
+pub no_operands : operands_at no_operand (operands_text []) ≡ Ok (operands operand.Nothing operand.Nothing)
+unfolding operands_at
+no_operands = rw (none_again [], none_behind [], none_again [], none_behind [], none_again [], none_behind [], none_again [], none_behind []) refl
+
+pub one_again : (k : Kind) (o : Operand) (t : List ℕ) → IsOperand k o t → operands_at (one_operand k) (operands_text (t ∷ [])) ≡ Ok (operands o operand.Nothing)
+unfolding operands_at
+one_again k o t h = rw (operand_again k o t [] h tt, behind_again k o t [] h tt, none_again [], none_behind [], none_again [], none_behind [], none_again [], none_behind []) refl
+
+pub two_again : (k l : Kind) (o q : Operand) (t u : List ℕ) → IsOperand k o t → IsOperand l q u → operands_at (two_operands k l) (operands_text (t ∷ u ∷ [])) ≡ Ok (operands o q)
+unfolding operands_at
+two_again k l o q t u h j = rw (operand_again k o t (operands_text (u ∷ [])) h refl, behind_again k o t (operands_text (u ∷ [])) h refl, operand_again l q u [] j tt, behind_again l q u [] j tt, none_again [], none_behind [], none_again [], none_behind []) refl
+
+numbered_again : (letter i : ℕ) → i < 8 → numbered letter (letter ∷ (48 + i) ∷ []) ≡ Some i
+numbered_again letter i h =
+    let low : leb 48 (48 + i) ≡ true = le-leb 48 (48 + i) (omega arith) in
+    let high : leb (48 + i) 55 ≡ true = le-leb (48 + i) 55 (omega arith) in
+    let same : eqb letter letter ≡ true = eq-eqb letter letter refl in
+    let value : 48 + i - 48 ≡ i = omega arith in
+    rw (same, low, high, value) refl
+
+digit_plain : (letter i : ℕ) → eqb letter 32 ≡ false → unspaced (letter ∷ (48 + i) ∷ []) ≡ true
+digit_plain letter i h = let apart : eqb (48 + i) 32 ≡ false = ne_eqb (48 + i) 32 (λ e. omega arith) in rw (h, apart) refl
+
+pub pool_operand : (i : ℕ) → i < 8 → IsOperand kind.Pool (operand.Place (pool.Own i)) (place_text (pool.Own i))
+unfolding operand_in
+pool_operand i h = record { some = refl; bare = refl; read = rw (numbered_again 112 i h) refl; plain = digit_plain 112 i refl }
+
+pub place_operand : (q : PoolRef) → place_is_declared 8 q ≡ true → IsOperand kind.Place (operand.Place q) (place_text q)
+unfolding operand_in
+place_operand pool.Conn h = record { some = refl; bare = refl; read = refl; plain = refl }
+place_operand pool.Req h = record { some = refl; bare = refl; read = refl; plain = refl }
+place_operand (pool.Own i) h = record { some = refl; bare = refl; read = rw (numbered_again 112 i (ltb-true i 8 h)) refl; plain = digit_plain 112 i refl }
+
+pub own_operand : (b : ℕ) → b < 8 → IsOperand kind.Brigade (operand.Brigade b) (own_text b)
+unfolding operand_in
+own_operand b h = record { some = refl; bare = refl; read = rw (numbered_again 98 b h) refl; plain = digit_plain 98 b refl }
+
+own_below : (n b : ℕ) → n ≤ 8 → ltb b n ≡ true → b < 8
+own_below n b small h = let low = ltb-true b n h in omega arith
+
+pub source_operand : (n b : ℕ) → n ≤ 8 → (ltb b n || eqb b 8) ≡ true → IsOperand kind.Source (operand.Brigade b) (brigade_text b)
+unfolding operand_in
+source_operand n b small h = either (eqb b 8) refl h
+  where
+    below : (y : Bool) → ltb b n ≡ y → (y || false) ≡ true → IsOperand kind.Source (operand.Brigade b) (own_text b)
+    below true r h = record { some = refl; bare = refl; read = rw (numbered_again 98 b (own_below n b small r)) refl; plain = digit_plain 98 b refl }
+    below false r h = absurd (cc h)
+
+    either : (x : Bool) → eqb b 8 ≡ x → (ltb b n || x) ≡ true → IsOperand kind.Source (operand.Brigade b) (cond x (codes "in") (own_text b))
+    either true q h = record { some = refl; bare = refl; read = rw (eqb-true b 8 q) refl; plain = refl }
+    either false q h = below (ltb b n) refl h
+
+pub ending_operand : (e : Status) → IsOperand kind.Ending (operand.Ending e) (status_text e)
+unfolding operand_in
+ending_operand status.Success = record { some = refl; bare = refl; read = refl; plain = refl }
+ending_operand status.Fail = record { some = refl; bare = refl; read = refl; plain = refl }
+
+-- a name with zeros behind it
+abbrev pub padded : List ℕ → List ℕ
+padded n = n ++ replicate (16 - length n) 0
+
+letter_plain : (b : ℕ) → is_name_byte b ≡ true → eqb b 32 ≡ false
+letter_plain b h = ne_eqb b 32 (λ e. absurd (cc (sym h ∙ ap is_name_byte e)))
+
+names_plain : (n : List ℕ) → list_all is_name_byte n ≡ true → unspaced n ≡ true
+names_plain [] h = refl
+names_plain (b ∷ bs) h =
+    let a = and_parts (is_name_byte b) (list_all is_name_byte bs) h in
+    rw (letter_plain b a.0, names_plain bs a.1) refl
+
+pub name_plain : (n : List ℕ) → is_name n ≡ true → unspaced n ≡ true
+unfolding is_name all_name_bytes
+name_plain n h = names_plain n (and_parts (leb 1 (length n) && leb (length n) 16 && is_letter (slice_index n 0)) (list_all is_name_byte n) h).1
+
+pub name_again : (n : List ℕ) → is_name n ≡ true → name_of n ≡ Some (padded n)
+unfolding name_of
+name_again n h = rw h refl
+
+pub label_operand : (n : List ℕ) → is_name n ≡ true → IsOperand kind.Label (operand.Label (padded n)) n
+unfolding operand_in
+label_operand n h = record { some = refl; bare = refl; read = rw (name_again n h) refl; plain = name_plain n h }
+
+-- the operands of an instruction are read again
+pub instr_again : (p : Program) (i : Instr) (n : List ℕ) → length p.brigades ≤ 8 → fits p i ≡ true → IfSome (target i) (λ _. is_name n ≡ true) → operands_at (op_kinds (op_of i)) (operands_text (operand_texts i n)) ≡ Ok (operands_of i (padded n))
+unfolding op_kinds
+instr_again p (instr.BCreate o) n small h name = one_again kind.Brigade (operand.Brigade o) (own_text o) (own_operand o (own_below (length p.brigades) o small h))
+instr_again p (instr.BClean b) n small h name = one_again kind.Source (operand.Brigade b) (brigade_text b) (source_operand (length p.brigades) b small h)
+instr_again p (instr.BConcat a b) n small h name =
+    let x = and_parts (is_brigade p a && is_brigade p b) (not (eqb a b)) h in
+    let y = and_parts (is_brigade p a) (is_brigade p b) x.0 in
+    two_again kind.Source kind.Source (operand.Brigade a) (operand.Brigade b) (brigade_text a) (brigade_text b) (source_operand (length p.brigades) a small y.0) (source_operand (length p.brigades) b small y.1)
+instr_again p (instr.Pass b l) n small h name = two_again kind.Source kind.Label (operand.Brigade b) (operand.Label (padded n)) (brigade_text b) n (source_operand (length p.brigades) b small h) (label_operand n name)
+instr_again p (instr.JEmpty b l) n small h name = two_again kind.Source kind.Label (operand.Brigade b) (operand.Label (padded n)) (brigade_text b) n (source_operand (length p.brigades) b small h) (label_operand n name)
+instr_again p (instr.JSent l) n small h name = one_again kind.Label (operand.Label (padded n)) n (label_operand n name)
+instr_again p (instr.Jump l) n small h name = one_again kind.Label (operand.Label (padded n)) n (label_operand n name)
+instr_again p (instr.Ret s) n small h name = one_again kind.Ending (operand.Ending s) (status_text s) (ending_operand s)
+
+pub word_of_instr : (i : Instr) → instr_word i ≡ word_text (word.Op (op_of i))
+unfolding word_text op_text
+word_of_instr (instr.BCreate o) = refl
+word_of_instr (instr.BClean b) = refl
+word_of_instr (instr.BConcat a b) = refl
+word_of_instr (instr.Pass b l) = refl
+word_of_instr (instr.JEmpty b l) = refl
+word_of_instr (instr.JSent l) = refl
+word_of_instr (instr.Jump l) = refl
+word_of_instr (instr.Ret s) = refl
+
+-- a word is found again, has no space, and begins neither a label nor a comment
+record IsWord (w : Word) : Type 0 where
+  found : word_at (word_text w) ≡ Some w
+  plain : unspaced (word_text w) ≡ true
+  starts : (rest : List ℕ) → is_skipped (word_text w ++ rest) ≡ false
+  worded : (rest : List ℕ) → begins 58 (word_text w ++ rest) ≡ false
+
+word_again : (w : Word) → IsWord w
+unfolding word_at word_text op_text
+word_again word.Module = record { found = refl; plain = refl; starts = λ r. rw (ne_eqb (length (codes "module" ++ r)) 0 (λ e. omega arith)) refl; worded = λ r. refl }
+word_again word.Pool = record { found = refl; plain = refl; starts = λ r. rw (ne_eqb (length (codes "pool" ++ r)) 0 (λ e. omega arith)) refl; worded = λ r. refl }
+word_again word.Brigade = record { found = refl; plain = refl; starts = λ r. rw (ne_eqb (length (codes "brigade" ++ r)) 0 (λ e. omega arith)) refl; worded = λ r. refl }
+word_again word.Open = record { found = refl; plain = refl; starts = λ r. rw (ne_eqb (length (codes "open" ++ r)) 0 (λ e. omega arith)) refl; worded = λ r. refl }
+word_again word.Init = record { found = refl; plain = refl; starts = λ r. rw (ne_eqb (length (codes "init" ++ r)) 0 (λ e. omega arith)) refl; worded = λ r. refl }
+word_again word.Main = record { found = refl; plain = refl; starts = λ r. rw (ne_eqb (length (codes "main" ++ r)) 0 (λ e. omega arith)) refl; worded = λ r. refl }
+word_again word.End = record { found = refl; plain = refl; starts = λ r. rw (ne_eqb (length (codes "end" ++ r)) 0 (λ e. omega arith)) refl; worded = λ r. refl }
+word_again (word.Op op.BCreate) = record { found = refl; plain = refl; starts = λ r. rw (ne_eqb (length (codes "bcreate" ++ r)) 0 (λ e. omega arith)) refl; worded = λ r. refl }
+word_again (word.Op op.BClean) = record { found = refl; plain = refl; starts = λ r. rw (ne_eqb (length (codes "bclean" ++ r)) 0 (λ e. omega arith)) refl; worded = λ r. refl }
+word_again (word.Op op.BConcat) = record { found = refl; plain = refl; starts = λ r. rw (ne_eqb (length (codes "bconcat" ++ r)) 0 (λ e. omega arith)) refl; worded = λ r. refl }
+word_again (word.Op op.Pass) = record { found = refl; plain = refl; starts = λ r. rw (ne_eqb (length (codes "pass" ++ r)) 0 (λ e. omega arith)) refl; worded = λ r. refl }
+word_again (word.Op op.JEmpty) = record { found = refl; plain = refl; starts = λ r. rw (ne_eqb (length (codes "jempty" ++ r)) 0 (λ e. omega arith)) refl; worded = λ r. refl }
+word_again (word.Op op.JSent) = record { found = refl; plain = refl; starts = λ r. rw (ne_eqb (length (codes "jsent" ++ r)) 0 (λ e. omega arith)) refl; worded = λ r. refl }
+word_again (word.Op op.Jump) = record { found = refl; plain = refl; starts = λ r. rw (ne_eqb (length (codes "jump" ++ r)) 0 (λ e. omega arith)) refl; worded = λ r. refl }
+word_again (word.Op op.Ret) = record { found = refl; plain = refl; starts = λ r. rw (ne_eqb (length (codes "ret" ++ r)) 0 (λ e. omega arith)) refl; worded = λ r. refl }
+
+operands_stop : (os : List (List ℕ)) → Stops (operands_text os)
+operands_stop [] = tt
+operands_stop (o ∷ os) = refl
+
+-- a line with a word is read again
+pub item_again : (d : Draft) (w : Word) (os : List (List ℕ)) (o : Operands) → is_due d.part w ≡ true → operands_at (word_kinds w) (operands_text os) ≡ Ok o → judged d w o ≡ Ok tt → unindented_read d (line_text (word_text w) os) ≡ Ok (line.Item w o)
+unfolding item_read
+item_again d w os o due read sound =
+    let here = word_again w in
+    let rest = operands_text os in
+    let t = token_again (word_text w) rest here.plain (operands_stop os) in
+    let a = after_again (word_text w) rest here.plain (operands_stop os) in
+    rw (here.starts rest, here.worded rest, t, here.found, due, a, read, sound) refl
+
+pub statement_plain : (w : Word) (os : List (List ℕ)) → is_skipped (line_text (word_text w) os) ≡ false
+statement_plain w os = (word_again w).starts (operands_text os)

@@ -1,0 +1,158 @@
+-- Module texts as they are written: the grammar.
+use Rattle.std.specs.Prelude.{◌≡◌, ◌≢◌, ℕ, ◌+◌, ◌<◌, ◌≤◌, Bool, true, ◌||◌, ◌==◌, if◌then◌else◌, List, [], ◌∷◌, ◌++◌, length, map, codes, All, IfSome, ◌⊎◌}
+use Rattle.module_lang.specs.Bytes.{all_printable, begins, unindented}
+use Rattle.module_lang.specs.Names.{is_name}
+use Rattle.module_lang.specs.Program.{IsModule, Program, target}
+use Rattle.module_lang.specs.declared.instr.Instr.{Instr}
+use Rattle.module_lang.specs.declared.instr.Instr.TheVariants as instr
+use Rattle.module_lang.specs.declared.instr.PoolRef.{PoolRef}
+use Rattle.module_lang.specs.declared.instr.PoolRef.TheVariants as pool
+use Rattle.module_lang.specs.declared.instr.Status.{Status}
+use Rattle.module_lang.specs.declared.instr.Status.TheVariants as status
+
+-- `conn`, `req`, and `p0` to `p7`
+abbrev pub place_text : PoolRef → List ℕ
+place_text pool.Conn = codes "conn"
+place_text pool.Req = codes "req"
+place_text (pool.Own i) = 112 ∷ (48 + i) ∷ []
+
+-- `b0` to `b7`, and `in` for 8
+abbrev pub own_text : ℕ → List ℕ
+own_text b = 98 ∷ (48 + b) ∷ []
+
+abbrev pub brigade_text : ℕ → List ℕ
+brigade_text b = if b == 8 then codes "in" else own_text b
+
+abbrev pub status_text : Status → List ℕ
+status_text status.Success = codes "ok"
+status_text status.Fail = codes "fail"
+
+-- one space before each operand
+abbrev pub operands_text : List (List ℕ) → List ℕ
+operands_text [] = []
+operands_text (o ∷ os) = 32 ∷ (o ++ operands_text os)
+
+abbrev pub line_text : List ℕ → List (List ℕ) → List ℕ
+line_text word os = word ++ operands_text os
+
+-- the operands of an instruction, where its target has this name
+abbrev pub operand_texts : Instr → List ℕ → List (List ℕ)
+operand_texts (instr.BCreate o) n = own_text o ∷ []
+operand_texts (instr.BClean b) n = brigade_text b ∷ []
+operand_texts (instr.BConcat a b) n = brigade_text a ∷ brigade_text b ∷ []
+operand_texts (instr.Pass b l) n = brigade_text b ∷ n ∷ []
+operand_texts (instr.JEmpty b l) n = brigade_text b ∷ n ∷ []
+operand_texts (instr.JSent l) n = n ∷ []
+operand_texts (instr.Jump l) n = n ∷ []
+operand_texts (instr.Ret s) n = status_text s ∷ []
+
+-- the word of an instruction
+abbrev pub instr_word : Instr → List ℕ
+instr_word (instr.BCreate o) = codes "bcreate"
+instr_word (instr.BClean b) = codes "bclean"
+instr_word (instr.BConcat a b) = codes "bconcat"
+instr_word (instr.Pass b l) = codes "pass"
+instr_word (instr.JEmpty b l) = codes "jempty"
+instr_word (instr.JSent l) = codes "jsent"
+instr_word (instr.Jump l) = codes "jump"
+instr_word (instr.Ret s) = codes "ret"
+
+-- a line of code: a label, or an instruction and the name of its target
+pub data CodeLine : Type 0 where
+  label : List ℕ → CodeLine
+  step : Instr → List ℕ → CodeLine
+
+abbrev pub code_text : CodeLine → List ℕ
+code_text (label name) = 58 ∷ name
+code_text (step i name) = line_text (instr_word i) (operand_texts i name)
+
+-- the instructions of lines of code
+abbrev pub instrs : List CodeLine → List Instr
+instrs [] = []
+instrs (label name ∷ ls) = instrs ls
+instrs (step i name ∷ ls) = i ∷ instrs ls
+
+-- the labels of lines of code, each with the number of the instruction that follows, where the first has number n
+abbrev pub labels_from : ℕ → List CodeLine → List (List ℕ × ℕ)
+labels_from n [] = []
+labels_from n (label name ∷ ls) = (name, n) ∷ labels_from n ls
+labels_from n (step i name ∷ ls) = labels_from (n + 1) ls
+
+-- a label of this name stands before the instruction of this number
+abbrev pub IsLabel : List ℕ → ℕ → List (List ℕ × ℕ) → Type 0
+IsLabel name t [] = ⊥
+IsLabel name t (l ∷ ls) = ((l.0 ≡ name) × (l.1 ≡ t)) ⊎ IsLabel name t ls
+
+-- each instruction's target has a label of the name that the instruction names
+abbrev pub IsAimed : List (List ℕ × ℕ) → List CodeLine → Type 0
+IsAimed labels [] = Unit {0}
+IsAimed labels (label name ∷ ls) = IsAimed labels ls
+IsAimed labels (step i name ∷ ls) = IfSome (target i) (λ t. IsLabel name t labels) × IsAimed labels ls
+
+-- the labels have names, and an instruction below this number follows each
+abbrev pub AreLabels : ℕ → List (List ℕ × ℕ) → Type 0
+AreLabels to [] = Unit {0}
+AreLabels to (l ∷ ls) = (is_name l.0 ≡ true) × (l.1 < to) × AreLabels to ls
+
+-- no label has this name
+abbrev pub IsApart : List ℕ → List (List ℕ × ℕ) → Type 0
+IsApart name [] = Unit {0}
+IsApart name (l ∷ ls) = (name ≢ l.0) × IsApart name ls
+
+-- no two labels have one name
+abbrev pub AreDistinct : List (List ℕ × ℕ) → Type 0
+AreDistinct [] = Unit {0}
+AreDistinct (l ∷ ls) = IsApart l.0 ls × AreDistinct ls
+
+-- the lines of a handler whose first instruction has number n
+pub record IsCode (n : ℕ) (code : List CodeLine) : Type 0 where
+  pub labels : AreLabels (n + length (instrs code)) (labels_from n code)
+  pub aimed : IsAimed (labels_from n code) code
+
+abbrev pub pool_texts : ℕ → List PoolRef → List (List ℕ)
+pool_texts k [] = []
+pool_texts k (p ∷ ps) = line_text (codes "pool") (place_text (pool.Own k) ∷ place_text p ∷ []) ∷ pool_texts (k + 1) ps
+
+abbrev pub brigade_texts : ℕ → List PoolRef → List (List ℕ)
+brigade_texts k [] = []
+brigade_texts k (p ∷ ps) = line_text (codes "brigade") (own_text k ∷ place_text p ∷ []) ∷ brigade_texts (k + 1) ps
+
+-- the declarations in order, then the three handlers
+abbrev pub module_texts : Program → List CodeLine → List CodeLine → List CodeLine → List (List ℕ)
+module_texts m first second third =
+    codes "module 1" ∷ (pool_texts 0 m.pools ++ (brigade_texts 0 m.brigades
+    ++ (codes "open" ∷ (map code_text first
+    ++ (codes "init" ∷ (map code_text second
+    ++ (codes "main" ∷ (map code_text third ++ codes "end" ∷ []))))))))
+
+abbrev pub is_skipped : List ℕ → Bool
+is_skipped l = (length l == 0) || begins 35 l
+
+-- the lines that say something, without the spaces before them
+abbrev pub statements : List (List ℕ) → List (List ℕ)
+statements [] = []
+statements (l ∷ ls) = if is_skipped (unindented l) then statements ls else unindented l ∷ statements ls
+
+-- lines end with LF
+abbrev pub joined : List (List ℕ) → List ℕ
+joined [] = []
+joined (l ∷ ls) = l ++ 10 ∷ joined ls
+
+-- a text of a module
+pub record IsTextOf (text : List ℕ) (m : Program) : Type 0 where
+  pub sound : IsModule m
+  pub lines : List (List ℕ)
+  pub whole : text ≡ joined lines
+  pub small : length text ≤ 1048576
+  pub clean : All (λ l. all_printable l ≡ true) lines
+  pub first : List CodeLine
+  pub second : List CodeLine
+  pub third : List CodeLine
+  pub spelled : statements lines ≡ module_texts m first second third
+  pub code : m.code ≡ instrs first ++ instrs second ++ instrs third
+  pub inits : m.init ≡ length (instrs first)
+  pub mains : m.main ≡ m.init + length (instrs second)
+  pub opening : IsCode 0 first
+  pub initial : IsCode m.init second
+  pub serving : IsCode m.main third
+  pub distinct : AreDistinct (labels_from 0 first ++ labels_from m.init second ++ labels_from m.main third)
