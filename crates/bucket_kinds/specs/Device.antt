@@ -1,5 +1,5 @@
 -- What a device of files is: which names have a file, which numbers are open, and how often it failed.
-use Rattle.std.specs.Prelude.{ℕ, ◌≡◌, ◌+◌, Bool, true, false, ◌==◌, if◌then◌else◌, List, length}
+use Rattle.std.specs.Prelude.{ℕ, ◌+◌, Bool, true, false, ◌==◌, if◌then◌else◌, List}
 use Rattle.std.specs.Str.{bytes_eq}
 use Rattle.run_model.specs.Indexed.{upd}
 

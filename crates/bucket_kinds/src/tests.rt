@@ -1,13 +1,13 @@
 //! Values from the descriptions of the calls, and files of a real disk.
 
-ghost use Rattle.std.specs.Prelude.{◌≡◌, ◌+◌, ◌<◌, ◌^◌, IfOk};
+ghost use Rattle.std.specs.Prelude.{◌≡◌, IfOk};
 
 use crate::{
     AddRefusal, Bucket, Content, DiskFiles, FileFault, Files, Home, Kind, MemFiles, ReadRefusal,
     Seq, SplitRefusal, aside_bucket, copy_bucket, read_bucket, split_bucket,
 };
 use std::alloc::{AllocError, Global};
-use std::path::PathBuf;
+use std::path::{Path, PathBuf};
 use std::test::Fail;
 use std::{env, fs, io, process};
 
@@ -118,59 +118,93 @@ fn copies_and_sets_aside(rt: HostRuntime) -> Result<(), Fail> {
     Ok(())
 }
 
-// Many bytes, of which no contract says anything.
-fn filled(alloc: Global, byte: u8, n: usize) -> Result<Vec<u8>, AllocError> {
-    vec![in alloc; byte; n]
+// A file of equal bytes is added.
+fn add(alloc: Global, files: &mut MemFiles, name: &[u8], n: usize) -> Result<bool, AllocError> {
+    let text = vec![in alloc; b'x'; n]?;
+    Ok(files.add(name, text).is_ok())
 }
 
+fn is_missing<F: Files>(files: &mut F, name: &[u8]) -> bool {
+    matches!(files.open_file(name), Err(FileFault::NotThere))
+}
+
+fn opened<F: Files>(files: &mut F, name: &[u8]) -> Option<(u64, u64)> {
+    files.open_file(name).ok()
+}
+
+fn failures<F: Files>(files: &F) -> u64 {
+    files.failures()
+}
+
+type Read = (Result<Option<Bucket>, ReadRefusal>, Bucket);
+
 // What a read of a range of a file, which is opened for it, answers and leaves.
-fn read_range<F: Files>(
-    alloc: Global,
-    files: &mut F,
-    name: &[u8],
-    start: u64,
-    len: u64,
-) -> Option<(Result<Option<Bucket>, ReadRefusal>, Bucket)>
-    requires { start + len < 2 ^ 64 }
-{
+fn read<F: Files>(alloc: Global, files: &mut F, name: &[u8], start: u32, len: u32) -> Option<Read> {
     let (file, _) = files.open_file(name).ok()?;
-    let mut bucket = of_file(file, start, len);
+    let mut bucket = of_file(file, u64::from(start), u64::from(len));
     let read = read_bucket(alloc, &mut bucket, files);
     files.close_file(file);
     Some((read, bucket))
 }
 
+// The same of the first ten bytes of a file that is cut short after it was opened.
+fn read_cut(
+    rt: &HostRuntime,
+    files: &mut DiskFiles<HostRuntime>,
+    path: Path<'_>,
+) -> io::Result<Option<Read>> {
+    let Ok((file, _)) = files.open_file(path.as_str().as_bytes()) else {
+        return Ok(None);
+    };
+    fs::write(rt, path, b"abc")?;
+    let mut bucket = of_file(file, 0, 10);
+    let read = read_bucket(rt.alloc(), &mut bucket, files);
+    Ok(Some((read, bucket)))
+}
+
 #[test]
-fn reads_from_memory(rt: HostRuntime) -> Result<(), Fail> {
+fn adds_and_opens(rt: HostRuntime) -> Result<(), Fail> {
     let mut files = MemFiles::new(rt.alloc());
-    assert!(rt; files.add(b"long", filled(rt.alloc(), b'x', 8001)?).is_ok());
-    assert!(rt; files.add(b"short", filled(rt.alloc(), b'x', 7999)?).is_ok());
+    assert!(rt; add(rt.alloc(), &mut files, b"long", 8001)?);
     assert!(rt;
         matches!(
             files.add(b"long", Vec::new(rt.alloc())),
             Err(AddRefusal::Taken)
         )
     );
-    assert!(rt; matches!(files.open_file(b"no"), Err(FileFault::NotThere)));
-    assert!(rt; matches!(files.open_file(b"long"), Ok((1, 8001))));
+    assert!(rt; is_missing(&mut files, b"no"));
+    assert_eq!(rt; opened(&mut files, b"long"), Some((1, 8001)));
+    assert_eq!(rt; opened(&mut files, b"long"), Some((2, 8001)));
+    Ok(())
+}
 
-    let (read, bucket) = read_range(rt.alloc(), &mut files, b"long", 0, 8001).ok_or("open")?;
+#[test]
+fn reads_from_memory(rt: HostRuntime) -> Result<(), Fail> {
+    let mut files = MemFiles::new(rt.alloc());
+    assert!(rt; add(rt.alloc(), &mut files, b"long", 8001)?);
+    assert!(rt; add(rt.alloc(), &mut files, b"short", 7999)?);
+    let (rest, bucket) = read(rt.alloc(), &mut files, b"long", 0, 8001).ok_or("open")?;
     assert_eq!(rt; bytes(&bucket).map(<[u8]>::len), Some(8000));
     assert!(rt; matches!((bucket.kind, bucket.home), (Kind::Heap, Home::Free)));
-    let rest = read.ok().flatten().ok_or("rest")?;
+    let rest = rest.ok().flatten().ok_or("rest")?;
     assert_eq!(rt; range(&rest), Some((8000, 1)));
     assert!(rt; matches!((rest.kind, rest.home), (Kind::File, Home::Pool(4))));
 
-    let (read, bucket) = read_range(rt.alloc(), &mut files, b"long", 0, 8000).ok_or("open")?;
-    assert!(rt; matches!(read, Ok(None)));
-    assert_eq!(rt; bytes(&bucket).map(<[u8]>::len), Some(8000));
-    let (read, bucket) = read_range(rt.alloc(), &mut files, b"short", 0, 8000).ok_or("open")?;
-    assert!(rt; matches!(read, Err(ReadRefusal::ReadFault)));
+    for (name, start, len, want) in [
+        ("long", 0, 8000, 8000),
+        ("short", 7990, 9, 9),
+        ("short", 9000, 0, 0),
+    ] {
+        let (rest, bucket) = read(rt.alloc(), &mut files, name.as_bytes(), start, len).ok_or(
+            "open",
+        )?;
+        assert!(rt; matches!(rest, Ok(None)));
+        assert_eq!(rt; bytes(&bucket).map(<[u8]>::len), Some(want));
+    }
+    let (rest, bucket) = read(rt.alloc(), &mut files, b"short", 0, 8000).ok_or("open")?;
+    assert!(rt; matches!(rest, Err(ReadRefusal::ReadFault)));
     assert_eq!(rt; range(&bucket), Some((0, 8000)));
-    assert_eq!(rt; files.failures(), 0);
-    let (read, bucket) = read_range(rt.alloc(), &mut files, b"short", 9000, 0).ok_or("open")?;
-    assert!(rt; matches!(read, Ok(None)));
-    assert_eq!(rt; bytes(&bucket), Some(b"".as_slice()));
+    assert_eq!(rt; failures(&files), 0);
     Ok(())
 }
 
@@ -199,35 +233,19 @@ fn reads_from_a_disk(rt: HostRuntime) -> Result<(), Fail> {
     fs::write(&rt, path.as_path(), b"abcdefghij")?;
     let mut files = DiskFiles::new(rt.clone()?);
     let missing = folder.join(rt.alloc(), "missing")?;
-    assert!(rt;
-        matches!(
-            files.open_file(missing.as_str().as_bytes()),
-            Err(FileFault::NotThere)
-        )
-    );
-    assert!(rt;
-        matches!(
-            files.open_file(folder.as_str().as_bytes()),
-            Err(FileFault::NotThere)
-        )
-    );
+    assert!(rt; is_missing(&mut files, missing.as_str().as_bytes()));
+    assert!(rt; is_missing(&mut files, folder.as_str().as_bytes()));
     let name = path.as_str().as_bytes();
-    assert!(rt; matches!(files.open_file(name), Ok((1, 10))));
+    assert_eq!(rt; opened(&mut files, name), Some((1, 10)));
     for (start, len, text) in [(0, 10, "abcdefghij"), (0, 3, "abc"), (7, 3, "hij")] {
-        let (read, bucket) = read_range(rt.alloc(), &mut files, name, start, len).ok_or("open")?;
-        assert!(rt; matches!(read, Ok(None)), "from {start}");
+        let (rest, bucket) = read(rt.alloc(), &mut files, name, start, len).ok_or("open")?;
+        assert!(rt; matches!(rest, Ok(None)), "from {start}");
         assert_eq!(rt; bytes(&bucket), Some(text.as_bytes()));
     }
-
-    let Ok((file, 10)) = files.open_file(name) else {
-        return Err(Fail::from("letters"));
-    };
-    fs::write(&rt, path.as_path(), b"abc")?;
-    let mut bucket = of_file(file, 0, 10);
-    let read = read_bucket(rt.alloc(), &mut bucket, &mut files);
-    assert!(rt; matches!(read, Err(ReadRefusal::ReadFault)), "cut short");
+    let (rest, bucket) = read_cut(&rt, &mut files, path.as_path())?.ok_or("open")?;
+    assert!(rt; matches!(rest, Err(ReadRefusal::ReadFault)), "cut short");
     assert_eq!(rt; range(&bucket), Some((0, 10)));
-    assert_eq!(rt; files.failures(), 0);
+    assert_eq!(rt; failures(&files), 0);
     fs::remove_dir_all(&rt, folder.as_path())?;
     Ok(())
 }
@@ -236,11 +254,9 @@ fn reads_from_a_disk(rt: HostRuntime) -> Result<(), Fail> {
 #[test]
 fn tells_that_a_disk_failed(rt: HostRuntime) -> Result<(), Fail> {
     let mut files = DiskFiles::new(rt.clone()?);
-    let (read, bucket) = read_range(rt.alloc(), &mut files, b"/proc/self/mem", 0, 10).ok_or(
-        "open",
-    )?;
-    assert!(rt; matches!(read, Err(ReadRefusal::ReadFault)));
+    let (rest, bucket) = read(rt.alloc(), &mut files, b"/proc/self/mem", 0, 10).ok_or("open")?;
+    assert!(rt; matches!(rest, Err(ReadRefusal::ReadFault)));
     assert_eq!(rt; range(&bucket), Some((0, 10)));
-    assert_eq!(rt; files.failures(), 1);
+    assert_eq!(rt; failures(&files), 1);
     Ok(())
 }

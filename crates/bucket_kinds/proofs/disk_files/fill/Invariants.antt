@@ -1,4 +1,4 @@
-use Rattle.std.proofs.Common.{ℕ, ◌≤◌, ◌-◌, length}
+use Rattle.std.proofs.Common.{◌≤◌, ◌-◌, length}
 use Rattle.bucket_kinds.proofs.disk_files.fill.Given as goal
 
 abbrev pub invariant-loop-filled : goal.invariant-loop-filled

@@ -1,4 +1,4 @@
-use Rattle.std.proofs.Common.{◌≡◌, ◌+◌, Some, ap, ◌∙◌, refl, rules}
+use Rattle.std.proofs.Common.{◌≡◌, Some, ap, ◌∙◌, refl, rules}
 use Rattle.bucket_kinds.specs.Device.{opened}
 use Rattle.bucket_kinds.specs.Answers.{MayHave}
 use Rattle.bucket_kinds.specs.InMemory.{under, under_one, at_number}
