@@ -129,11 +129,11 @@ home_declared n (operand.Ending e) h = refl
 home_declared n (operand.Label l) h = refl
 home_declared n (operand.Text t) h = refl
 
-record IsDeclaration (count pools : ℕ) (o : Operands) : Type 0 where
-  next : is_next count o.first ≡ true
-  home : place_is_declared pools (place_of o.second) ≡ true
+pub record IsDeclaration (count pools : ℕ) (o : Operands) : Type 0 where
+  pub next : is_next count o.first ≡ true
+  pub home : place_is_declared pools (place_of o.second) ≡ true
 
-declaration : (count pools : ℕ) (o : Operands) → declaration_judged count pools o ≡ Ok tt → IsDeclaration count pools o
+pub declaration : (count pools : ℕ) (o : Operands) → declaration_judged count pools o ≡ Ok tt → IsDeclaration count pools o
 declaration count pools o h =
     let a = bind_ok (unless (not (is_next count o.first)) code.WrongOperands) (λ _. unless (not (is_declared pools 0 o.second)) code.Undeclared) tt h in
     record {

@@ -1,6 +1,22 @@
 -- A text that is read as a module is a text of it: the lines so far and the draft.
-use Rattle.std.proofs.Common.{◌≡◌, ℕ, ◌+◌, true, List, [], ◌∷◌, ◌++◌, length, refl, sym, ◌∙◌, ap, subst, arith}
+use Rattle.std.proofs.Common.{◌≡◌, ℕ, ◌+◌, true, List, [], ◌∷◌, ◌++◌, length, refl, sym, ◌∙◌, ap, subst, arith, suc, map, append_assoc, append-nil}
 use Rattle.std.specs.Prelude.{codes, IfSome}
+use Rattle.std.proofs.lemmas.Bool.{eqb-true, ltb-true}
+use Rattle.std.proofs.lemmas.List.{map-append}
+use Rattle.module_lang.specs.Entries.{entered}
+use Rattle.module_lang.specs.Entries.{step_entered, step_texts}
+use Rattle.module_lang.specs.Drafts.{with_part}
+use Rattle.module_lang.specs.Drafts.{label_added, step_added}
+use Rattle.module_lang.specs.Entries.{item_entered, place_of}
+use Rattle.module_lang.specs.Lines.{is_due, is_handler, is_next, judged}
+use Rattle.module_lang.specs.Operands.{of_kind}
+use Rattle.module_lang.specs.Texts.{line_text, place_text, own_text, pool_texts, brigade_texts}
+use Rattle.module_lang.specs.declared.draft.Part.{Part}
+use Rattle.module_lang.specs.declared.draft.Part.TheVariants as part
+use Rattle.module_lang.specs.declared.instr.PoolRef.{PoolRef}
+use Rattle.module_lang.specs.declared.instr.PoolRef.TheVariants as pool
+use Rattle.module_lang.proofs.DraftLaws.{declaration}
+use Rattle.module_lang.proofs.InverseLaws.{none_spelled}
 use Rattle.module_lang.specs.Drafts.{with_line, with_more}
 use Rattle.module_lang.specs.Handlers.{op_instr, operand_index, operand_status}
 use Rattle.module_lang.specs.Names.{is_name}
@@ -18,8 +34,12 @@ use Rattle.module_lang.specs.declared.operand.Operands.{Operands}
 use Rattle.module_lang.specs.declared.word.Kind.TheVariants as kind
 use Rattle.module_lang.specs.declared.word.Op.{Op}
 use Rattle.module_lang.specs.declared.word.Op.TheVariants as op
+use Rattle.module_lang.specs.declared.word.Word.{Word}
+use Rattle.module_lang.specs.declared.lines.Line.{Line}
+use Rattle.module_lang.specs.declared.lines.Line.TheVariants as line
 use Rattle.module_lang.specs.declared.word.Word.TheVariants as word
 use Rattle.module_lang.proofs.InverseLaws.{Item, Spells, one_taken, two_taken, own_is}
+use Rattle.module_lang.proofs.InverseLaws.{Spelled}
 use Rattle.module_lang.proofs.ModuleLaws.{brigade_below}
 use Rattle.module_lang.proofs.OperandLaws.{brigade_is, source_is, ending_is, kinds_read, shape}
 use Rattle.module_lang.proofs.SpellingLaws.{padded}
@@ -170,3 +190,457 @@ step_built rs h s name b e v = record {
   steps = ap (λ ss. ss ++ s ∷ []) b.steps ∙ sym (steps-did rs s name);
   lines = built-did 0 rs s name b.lines e v;
 }
+
+abbrev pub head_of : Draft → List (List ℕ)
+head_of d = codes "module 1" ∷ pool_texts 0 d.pools
+
+abbrev pub declared_of : Draft → List (List ℕ)
+declared_of d = head_of d ++ brigade_texts 0 d.brigades
+
+abbrev pub opened : Draft → List Raw → List (List ℕ)
+opened d a = declared_of d ++ (codes "open" ∷ map raw_text a)
+
+abbrev pub begun : Draft → List Raw → List Raw → List (List ℕ)
+begun d a b = opened d a ++ (codes "init" ∷ map raw_text b)
+
+abbrev pub served : Draft → List Raw → List Raw → List Raw → List (List ℕ)
+served d a b c = begun d a b ++ (codes "main" ∷ map raw_text c)
+
+-- the statements that a draft has been read from
+abbrev pub told : Part → Draft → List Raw → List Raw → List Raw → List (List ℕ)
+told part.Start d a b c = []
+told part.Pools d a b c = head_of d
+told part.Brigades d a b c = declared_of d
+told part.Open d a b c = opened d a
+told part.Init d a b c = begun d a b
+told part.Main d a b c = served d a b c
+told part.End d a b c = served d a b c ++ codes "end" ∷ []
+
+-- what has not been read yet
+abbrev pub Clear : Part → Draft → List Raw → List Raw → List Raw → Type 0
+Clear part.Start d a b c = (d.pools ≡ []) × (d.brigades ≡ []) × (a ≡ []) × (b ≡ []) × (c ≡ [])
+Clear part.Pools d a b c = (d.brigades ≡ []) × (a ≡ []) × (b ≡ []) × (c ≡ [])
+Clear part.Brigades d a b c = (a ≡ []) × (b ≡ []) × (c ≡ [])
+Clear part.Open d a b c = (b ≡ []) × (c ≡ [])
+Clear part.Init d a b c = c ≡ []
+Clear part.Main d a b c = Unit {0}
+Clear part.End d a b c = Unit {0}
+
+pub record Told (q : Part) (d : Draft) (ss : List (List ℕ)) : Type 0 where
+  pub a : List Raw
+  pub b : List Raw
+  pub c : List Raw
+  pub first : Built a d.open
+  pub second : Built b d.init
+  pub third : Built c d.main
+  pub text : ss ≡ told q d a b c
+  pub clear : Clear q d a b c
+
+pool_texts-push : (k : ℕ) (qs : List PoolRef) (q : PoolRef) → pool_texts k (qs ++ q ∷ []) ≡ pool_texts k qs ++ line_text (codes "pool") (place_text (pool.Own (k + length qs)) ∷ place_text q ∷ []) ∷ []
+pool_texts-push k [] q = let e : k ≡ k + 0 = omega arith in ap (λ j. line_text (codes "pool") (place_text (pool.Own j) ∷ place_text q ∷ []) ∷ []) e
+pool_texts-push k (x ∷ xs) q =
+    let e : k + 1 + length xs ≡ k + suc (length xs) = omega arith in
+    ap (λ ls. line_text (codes "pool") (place_text (pool.Own k) ∷ place_text x ∷ []) ∷ ls) (pool_texts-push (k + 1) xs q ∙ ap (λ j. pool_texts (k + 1) xs ++ line_text (codes "pool") (place_text (pool.Own j) ∷ place_text q ∷ []) ∷ []) e)
+
+brigade_texts-push : (k : ℕ) (qs : List PoolRef) (q : PoolRef) → brigade_texts k (qs ++ q ∷ []) ≡ brigade_texts k qs ++ line_text (codes "brigade") (own_text (k + length qs) ∷ place_text q ∷ []) ∷ []
+brigade_texts-push k [] q = let e : k ≡ k + 0 = omega arith in ap (λ j. line_text (codes "brigade") (own_text j ∷ place_text q ∷ []) ∷ []) e
+brigade_texts-push k (x ∷ xs) q =
+    let e : k + 1 + length xs ≡ k + suc (length xs) = omega arith in
+    ap (λ ls. line_text (codes "brigade") (own_text k ∷ place_text x ∷ []) ∷ ls) (brigade_texts-push (k + 1) xs q ∙ ap (λ j. brigade_texts (k + 1) xs ++ line_text (codes "brigade") (own_text j ∷ place_text q ∷ []) ∷ []) e)
+
+-- one more line of a handler
+snoc : (front : List (List ℕ)) (word s : List ℕ) (rs : List Raw) (r : Raw) → s ≡ raw_text r → (front ++ (word ∷ map raw_text rs)) ++ s ∷ [] ≡ front ++ (word ∷ map raw_text (rs ++ r ∷ []))
+snoc front word s rs r e =
+    append_assoc front (word ∷ map raw_text rs) (s ∷ []) ∙ ap (λ x. front ++ (word ∷ (map raw_text rs ++ x ∷ []))) e ∙ ap (λ xs. front ++ (word ∷ xs)) (sym (map-append raw_text rs (r ∷ [])))
+
+one_is : (x : Operand) → of_kind kind.One x ≡ true → x ≡ operand.One
+one_is operand.Nothing h = absurd (cc h)
+one_is operand.One h = refl
+one_is (operand.Place p) h = absurd (cc h)
+one_is (operand.Brigade b) h = absurd (cc h)
+one_is (operand.Ending s) h = absurd (cc h)
+one_is (operand.Label n) h = absurd (cc h)
+one_is (operand.Text n) h = absurd (cc h)
+
+-- the lines of the words that stand alone
+module_line : (d : Draft) (s : List ℕ) (o : Operands) → Item d s word.Module o → s ≡ codes "module 1"
+unfolding word_kinds word_text
+module_line d s o h =
+    let k = kinds_read (word_kinds word.Module) h.rest o h.read in
+    let x = one_taken kind.One h.rest o refl refl h.read in
+    let t : x.token ≡ codes "1" = subst (λ y. Spells y x.token) (one_is o.first k.first) x.first in
+    h.spelled ∙ ap (λ r. codes "module" ++ r) (x.whole ∙ ap (λ y. operands_text (y ∷ [])) t)
+
+open_line : (d : Draft) (s : List ℕ) (o : Operands) → Item d s word.Open o → s ≡ codes "open"
+unfolding word_kinds word_text
+open_line d s o h = h.spelled ∙ ap (λ r. codes "open" ++ r) (none_spelled h.rest o h.read)
+
+init_line : (d : Draft) (s : List ℕ) (o : Operands) → Item d s word.Init o → s ≡ codes "init"
+unfolding word_kinds word_text
+init_line d s o h = h.spelled ∙ ap (λ r. codes "init" ++ r) (none_spelled h.rest o h.read)
+
+main_line : (d : Draft) (s : List ℕ) (o : Operands) → Item d s word.Main o → s ≡ codes "main"
+unfolding word_kinds word_text
+main_line d s o h = h.spelled ∙ ap (λ r. codes "main" ++ r) (none_spelled h.rest o h.read)
+
+end_line : (d : Draft) (s : List ℕ) (o : Operands) → Item d s word.End o → s ≡ codes "end"
+unfolding word_kinds word_text
+end_line d s o h = h.spelled ∙ ap (λ r. codes "end" ++ r) (none_spelled h.rest o h.read)
+
+-- a declaration, which is the next one
+next_place : (n : ℕ) (x : Operand) (t : List ℕ) → of_kind kind.Pool x ≡ true → is_next n x ≡ true → Spells x t → t ≡ place_text (pool.Own n)
+next_place n operand.Nothing t k h s = absurd (cc k)
+next_place n operand.One t k h s = absurd (cc k)
+next_place n (operand.Place pool.Conn) t k h s = absurd (cc k)
+next_place n (operand.Place pool.Req) t k h s = absurd (cc k)
+next_place n (operand.Place (pool.Own i)) t k h s = s ∙ ap (λ j. place_text (pool.Own j)) (eqb-true i n h)
+next_place n (operand.Brigade b) t k h s = absurd (cc k)
+next_place n (operand.Ending e) t k h s = absurd (cc k)
+next_place n (operand.Label l) t k h s = absurd (cc k)
+next_place n (operand.Text l) t k h s = absurd (cc k)
+
+next_own : (n : ℕ) (x : Operand) (t : List ℕ) → of_kind kind.Brigade x ≡ true → is_next n x ≡ true → Spells x t → t ≡ own_text n
+next_own n operand.Nothing t k h s = absurd (cc k)
+next_own n operand.One t k h s = absurd (cc k)
+next_own n (operand.Place p) t k h s = absurd (cc k)
+next_own n (operand.Brigade i) t k h s = s ∙ sym (own_is i (ltb-true i 8 k)) ∙ ap own_text (eqb-true i n h)
+next_own n (operand.Ending e) t k h s = absurd (cc k)
+next_own n (operand.Label l) t k h s = absurd (cc k)
+next_own n (operand.Text l) t k h s = absurd (cc k)
+
+home_text : (x : Operand) (t : List ℕ) → of_kind kind.Place x ≡ true → Spells x t → t ≡ place_text (place_of x)
+home_text operand.Nothing t k s = absurd (cc k)
+home_text operand.One t k s = absurd (cc k)
+home_text (operand.Place p) t k s = s
+home_text (operand.Brigade b) t k s = absurd (cc k)
+home_text (operand.Ending e) t k s = absurd (cc k)
+home_text (operand.Label l) t k s = absurd (cc k)
+home_text (operand.Text l) t k s = absurd (cc k)
+
+pool_line : (d : Draft) (s : List ℕ) (o : Operands) → Item d s word.Pool o → s ≡ line_text (codes "pool") (place_text (pool.Own (length d.pools)) ∷ place_text (place_of o.second) ∷ [])
+unfolding word_kinds word_text judged
+pool_line d s o h =
+    let k = kinds_read (word_kinds word.Pool) h.rest o h.read in
+    let x = two_taken kind.Pool kind.Place h.rest o refl refl refl refl h.read in
+    let say = declaration (length d.pools) (length d.pools) o h.sound in
+    let t = next_place (length d.pools) o.first x.one k.first say.next x.first in
+    let u = home_text o.second x.two k.second x.second in
+    h.spelled ∙ ap (λ r. codes "pool" ++ r) (x.whole ∙ ap (λ y. operands_text (y ∷ x.two ∷ [])) t ∙ ap (λ y. operands_text (place_text (pool.Own (length d.pools)) ∷ y ∷ [])) u)
+
+brigade_line : (d : Draft) (s : List ℕ) (o : Operands) → Item d s word.Brigade o → s ≡ line_text (codes "brigade") (own_text (length d.brigades) ∷ place_text (place_of o.second) ∷ [])
+unfolding word_kinds word_text judged
+brigade_line d s o h =
+    let k = kinds_read (word_kinds word.Brigade) h.rest o h.read in
+    let x = two_taken kind.Brigade kind.Place h.rest o refl refl refl refl h.read in
+    let say = declaration (length d.brigades) (length d.pools) o h.sound in
+    let t = next_own (length d.brigades) o.first x.one k.first say.next x.first in
+    let u = home_text o.second x.two k.second x.second in
+    h.spelled ∙ ap (λ r. codes "brigade" ++ r) (x.whole ∙ ap (λ y. operands_text (y ∷ x.two ∷ [])) t ∙ ap (λ y. operands_text (own_text (length d.brigades) ∷ y ∷ [])) u)
+
+tell_module : (d : Draft) (n : ℕ) (ss : List (List ℕ)) (s : List ℕ) (o : Operands) → Item d s word.Module o → Told part.Start d ss → Told part.Pools (with_part d part.Pools n) (ss ++ s ∷ [])
+tell_module d n ss s o h t = record {
+  a = t.a;
+  b = t.b;
+  c = t.c;
+  first = t.first;
+  second = t.second;
+  third = t.third;
+  text = ap (λ x. x ++ s ∷ []) t.text ∙ ap (λ x. x ∷ []) (module_line d s o h) ∙ ap (λ ps. codes "module 1" ∷ pool_texts 0 ps) (sym t.clear.0);
+  clear = (t.clear.1, t.clear.2, t.clear.3, t.clear.4);
+}
+
+tell_pool : (d : Draft) (ss : List (List ℕ)) (s : List ℕ) (o : Operands) → Item d s word.Pool o → Told part.Pools d ss → Told part.Pools (record d { pools = d.pools ++ place_of o.second ∷ [] }) (ss ++ s ∷ [])
+tell_pool d ss s o h t =
+    let q = place_of o.second in
+    let z : 0 + length d.pools ≡ length d.pools = omega arith in
+    record {
+      a = t.a;
+      b = t.b;
+      c = t.c;
+      first = t.first;
+      second = t.second;
+      third = t.third;
+      text = ap (λ x. x ++ s ∷ []) t.text ∙ ap (λ x. codes "module 1" ∷ (pool_texts 0 d.pools ++ x ∷ [])) (pool_line d s o h ∙ ap (λ k. line_text (codes "pool") (place_text (pool.Own k) ∷ place_text q ∷ [])) (sym z)) ∙ ap (λ x. codes "module 1" ∷ x) (sym (pool_texts-push 0 d.pools q));
+      clear = t.clear;
+    }
+
+all_pools : (d : Draft) (ss : List (List ℕ)) → Told part.Pools d ss → Told part.Brigades d ss
+all_pools d ss t = record {
+  a = t.a;
+  b = t.b;
+  c = t.c;
+  first = t.first;
+  second = t.second;
+  third = t.third;
+  text = t.text ∙ sym (append-nil (head_of d)) ∙ ap (λ bs. head_of d ++ brigade_texts 0 bs) (sym t.clear.0);
+  clear = (t.clear.1, t.clear.2, t.clear.3);
+}
+
+tell_brigade : (d : Draft) (ss : List (List ℕ)) (s : List ℕ) (o : Operands) → Item d s word.Brigade o → Told part.Brigades d ss → Told part.Brigades (record d { part = part.Brigades; brigades = d.brigades ++ place_of o.second ∷ [] }) (ss ++ s ∷ [])
+tell_brigade d ss s o h t =
+    let q = place_of o.second in
+    let z : 0 + length d.brigades ≡ length d.brigades = omega arith in
+    record {
+      a = t.a;
+      b = t.b;
+      c = t.c;
+      first = t.first;
+      second = t.second;
+      third = t.third;
+      text = ap (λ x. x ++ s ∷ []) t.text ∙ append_assoc (head_of d) (brigade_texts 0 d.brigades) (s ∷ []) ∙ ap (λ x. head_of d ++ (brigade_texts 0 d.brigades ++ x ∷ [])) (brigade_line d s o h ∙ ap (λ k. line_text (codes "brigade") (own_text k ∷ place_text q ∷ [])) (sym z)) ∙ ap (λ x. head_of d ++ x) (sym (brigade_texts-push 0 d.brigades q));
+      clear = t.clear;
+    }
+
+tell_open : (d : Draft) (n : ℕ) (ss : List (List ℕ)) (s : List ℕ) (o : Operands) → Item d s word.Open o → Told part.Brigades d ss → Told part.Open (with_part d part.Open n) (ss ++ s ∷ [])
+tell_open d n ss s o h t = record {
+  a = t.a;
+  b = t.b;
+  c = t.c;
+  first = record { labels = t.first.labels; steps = t.first.steps; lines = t.first.lines };
+  second = t.second;
+  third = t.third;
+  text = ap (λ x. x ++ s ∷ []) t.text ∙ ap (λ x. declared_of d ++ x ∷ []) (open_line d s o h) ∙ ap (λ r. declared_of d ++ (codes "open" ∷ map raw_text r)) (sym t.clear.0);
+  clear = (t.clear.1, t.clear.2);
+}
+
+tell_init : (d : Draft) (n : ℕ) (ss : List (List ℕ)) (s : List ℕ) (o : Operands) → Item d s word.Init o → Told part.Open d ss → Told part.Init (with_part d part.Init n) (ss ++ s ∷ [])
+tell_init d n ss s o h t = record {
+  a = t.a;
+  b = t.b;
+  c = t.c;
+  first = t.first;
+  second = record { labels = t.second.labels; steps = t.second.steps; lines = t.second.lines };
+  third = t.third;
+  text = ap (λ x. x ++ s ∷ []) t.text ∙ ap (λ x. opened d t.a ++ x ∷ []) (init_line d s o h) ∙ ap (λ r. opened d t.a ++ (codes "init" ∷ map raw_text r)) (sym t.clear.0);
+  clear = t.clear.1;
+}
+
+tell_main : (d : Draft) (n : ℕ) (ss : List (List ℕ)) (s : List ℕ) (o : Operands) → Item d s word.Main o → Told part.Init d ss → Told part.Main (with_part d part.Main n) (ss ++ s ∷ [])
+tell_main d n ss s o h t = record {
+  a = t.a;
+  b = t.b;
+  c = t.c;
+  first = t.first;
+  second = t.second;
+  third = record { labels = t.third.labels; steps = t.third.steps; lines = t.third.lines };
+  text = ap (λ x. x ++ s ∷ []) t.text ∙ ap (λ x. begun d t.a t.b ++ x ∷ []) (main_line d s o h) ∙ ap (λ r. begun d t.a t.b ++ (codes "main" ∷ map raw_text r)) (sym t.clear);
+  clear = tt;
+}
+
+tell_end : (d : Draft) (n : ℕ) (ss : List (List ℕ)) (s : List ℕ) (o : Operands) → Item d s word.End o → Told part.Main d ss → Told part.End (with_part d part.End n) (ss ++ s ∷ [])
+tell_end d n ss s o h t = record {
+  a = t.a;
+  b = t.b;
+  c = t.c;
+  first = t.first;
+  second = t.second;
+  third = t.third;
+  text = ap (λ x. x ++ s ∷ []) t.text ∙ ap (λ x. served d t.a t.b t.c ++ x ∷ []) (end_line d s o h);
+  clear = tt;
+}
+
+did_open : (d : Draft) (texts : List (List ℕ)) (ss : List (List ℕ)) (s : List ℕ) (st : Step) (name : List ℕ) → Told part.Open d ss → s ≡ raw_text (did st name) → st.operands ≡ operands_of (op_instr st.op st.operands 0) (padded name) → IfSome (target (op_instr st.op st.operands 0)) (λ _. is_name name ≡ true) → Told part.Open (step_added part.Open (record d { texts = texts }) st) (ss ++ s ∷ [])
+did_open d texts ss s st name t e same named =
+    record {
+      a = t.a ++ did st name ∷ [];
+      b = t.b;
+      c = t.c;
+      first = step_built t.a d.open st name t.first same named;
+      second = t.second;
+      third = t.third;
+      text = ap (λ x. x ++ s ∷ []) t.text ∙ snoc (declared_of d) (codes "open") s t.a (did st name) e;
+      clear = t.clear;
+    }
+
+marked_open : (d : Draft) (n : ℕ) (ss : List (List ℕ)) (s name : List ℕ) → Told part.Open d ss → s ≡ 58 ∷ name → is_name name ≡ true → Told part.Open (label_added part.Open d n (padded name)) (ss ++ s ∷ [])
+marked_open d n ss s name t e named =
+    let l : Label = record { line = n; name = padded name; place = length d.open.steps } in
+    record {
+      a = t.a ++ marked l name ∷ [];
+      b = t.b;
+      c = t.c;
+      first = label_built t.a d.open n name t.first named;
+      second = t.second;
+      third = t.third;
+      text = ap (λ x. x ++ s ∷ []) t.text ∙ snoc (declared_of d) (codes "open") s t.a (marked l name) e;
+      clear = t.clear;
+    }
+
+did_init : (d : Draft) (texts : List (List ℕ)) (ss : List (List ℕ)) (s : List ℕ) (st : Step) (name : List ℕ) → Told part.Init d ss → s ≡ raw_text (did st name) → st.operands ≡ operands_of (op_instr st.op st.operands 0) (padded name) → IfSome (target (op_instr st.op st.operands 0)) (λ _. is_name name ≡ true) → Told part.Init (step_added part.Init (record d { texts = texts }) st) (ss ++ s ∷ [])
+did_init d texts ss s st name t e same named =
+    record {
+      a = t.a;
+      b = t.b ++ did st name ∷ [];
+      c = t.c;
+      first = t.first;
+      second = step_built t.b d.init st name t.second same named;
+      third = t.third;
+      text = ap (λ x. x ++ s ∷ []) t.text ∙ snoc (opened d t.a) (codes "init") s t.b (did st name) e;
+      clear = t.clear;
+    }
+
+marked_init : (d : Draft) (n : ℕ) (ss : List (List ℕ)) (s name : List ℕ) → Told part.Init d ss → s ≡ 58 ∷ name → is_name name ≡ true → Told part.Init (label_added part.Init d n (padded name)) (ss ++ s ∷ [])
+marked_init d n ss s name t e named =
+    let l : Label = record { line = n; name = padded name; place = length d.init.steps } in
+    record {
+      a = t.a;
+      b = t.b ++ marked l name ∷ [];
+      c = t.c;
+      first = t.first;
+      second = label_built t.b d.init n name t.second named;
+      third = t.third;
+      text = ap (λ x. x ++ s ∷ []) t.text ∙ snoc (opened d t.a) (codes "init") s t.b (marked l name) e;
+      clear = t.clear;
+    }
+
+did_main : (d : Draft) (texts : List (List ℕ)) (ss : List (List ℕ)) (s : List ℕ) (st : Step) (name : List ℕ) → Told part.Main d ss → s ≡ raw_text (did st name) → st.operands ≡ operands_of (op_instr st.op st.operands 0) (padded name) → IfSome (target (op_instr st.op st.operands 0)) (λ _. is_name name ≡ true) → Told part.Main (step_added part.Main (record d { texts = texts }) st) (ss ++ s ∷ [])
+did_main d texts ss s st name t e same named =
+    record {
+      a = t.a;
+      b = t.b;
+      c = t.c ++ did st name ∷ [];
+      first = t.first;
+      second = t.second;
+      third = step_built t.c d.main st name t.third same named;
+      text = ap (λ x. x ++ s ∷ []) t.text ∙ snoc (begun d t.a t.b) (codes "main") s t.c (did st name) e;
+      clear = tt;
+    }
+
+marked_main : (d : Draft) (n : ℕ) (ss : List (List ℕ)) (s name : List ℕ) → Told part.Main d ss → s ≡ 58 ∷ name → is_name name ≡ true → Told part.Main (label_added part.Main d n (padded name)) (ss ++ s ∷ [])
+marked_main d n ss s name t e named =
+    let l : Label = record { line = n; name = padded name; place = length d.main.steps } in
+    record {
+      a = t.a;
+      b = t.b;
+      c = t.c ++ marked l name ∷ [];
+      first = t.first;
+      second = t.second;
+      third = label_built t.c d.main n name t.third named;
+      text = ap (λ x. x ++ s ∷ []) t.text ∙ snoc (begun d t.a t.b) (codes "main") s t.c (marked l name) e;
+      clear = tt;
+    }
+
+on_module : (q : Part) (d : Draft) (n : ℕ) (bytes : List ℕ) (ss : List (List ℕ)) (s : List ℕ) (o : Operands) → d.part ≡ q → is_due q (word.Module) ≡ true → Item d s (word.Module) o → Told q d ss → Told (item_entered d n bytes (word.Module) o).part (item_entered d n bytes (word.Module) o) (ss ++ s ∷ [])
+on_module part.Start d n bytes ss s o e due h t = tell_module d n ss s o h t
+on_module part.Pools d n bytes ss s o e due h t = absurd (cc due)
+on_module part.Brigades d n bytes ss s o e due h t = absurd (cc due)
+on_module part.Open d n bytes ss s o e due h t = absurd (cc due)
+on_module part.Init d n bytes ss s o e due h t = absurd (cc due)
+on_module part.Main d n bytes ss s o e due h t = absurd (cc due)
+on_module part.End d n bytes ss s o e due h t = absurd (cc due)
+
+on_pool : (q : Part) (d : Draft) (n : ℕ) (bytes : List ℕ) (ss : List (List ℕ)) (s : List ℕ) (o : Operands) → d.part ≡ q → is_due q (word.Pool) ≡ true → Item d s (word.Pool) o → Told q d ss → Told (item_entered d n bytes (word.Pool) o).part (item_entered d n bytes (word.Pool) o) (ss ++ s ∷ [])
+on_pool part.Start d n bytes ss s o e due h t = absurd (cc due)
+on_pool part.Pools d n bytes ss s o e due h t = subst (λ x. Told x (record d { pools = d.pools ++ place_of o.second ∷ [] }) (ss ++ s ∷ [])) (sym e) (tell_pool d ss s o h t)
+on_pool part.Brigades d n bytes ss s o e due h t = absurd (cc due)
+on_pool part.Open d n bytes ss s o e due h t = absurd (cc due)
+on_pool part.Init d n bytes ss s o e due h t = absurd (cc due)
+on_pool part.Main d n bytes ss s o e due h t = absurd (cc due)
+on_pool part.End d n bytes ss s o e due h t = absurd (cc due)
+
+on_brigade : (q : Part) (d : Draft) (n : ℕ) (bytes : List ℕ) (ss : List (List ℕ)) (s : List ℕ) (o : Operands) → d.part ≡ q → is_due q (word.Brigade) ≡ true → Item d s (word.Brigade) o → Told q d ss → Told (item_entered d n bytes (word.Brigade) o).part (item_entered d n bytes (word.Brigade) o) (ss ++ s ∷ [])
+on_brigade part.Start d n bytes ss s o e due h t = absurd (cc due)
+on_brigade part.Pools d n bytes ss s o e due h t = tell_brigade d ss s o h (all_pools d ss t)
+on_brigade part.Brigades d n bytes ss s o e due h t = tell_brigade d ss s o h t
+on_brigade part.Open d n bytes ss s o e due h t = absurd (cc due)
+on_brigade part.Init d n bytes ss s o e due h t = absurd (cc due)
+on_brigade part.Main d n bytes ss s o e due h t = absurd (cc due)
+on_brigade part.End d n bytes ss s o e due h t = absurd (cc due)
+
+on_open : (q : Part) (d : Draft) (n : ℕ) (bytes : List ℕ) (ss : List (List ℕ)) (s : List ℕ) (o : Operands) → d.part ≡ q → is_due q (word.Open) ≡ true → Item d s (word.Open) o → Told q d ss → Told (item_entered d n bytes (word.Open) o).part (item_entered d n bytes (word.Open) o) (ss ++ s ∷ [])
+on_open part.Start d n bytes ss s o e due h t = absurd (cc due)
+on_open part.Pools d n bytes ss s o e due h t = tell_open d n ss s o h (all_pools d ss t)
+on_open part.Brigades d n bytes ss s o e due h t = tell_open d n ss s o h t
+on_open part.Open d n bytes ss s o e due h t = absurd (cc due)
+on_open part.Init d n bytes ss s o e due h t = absurd (cc due)
+on_open part.Main d n bytes ss s o e due h t = absurd (cc due)
+on_open part.End d n bytes ss s o e due h t = absurd (cc due)
+
+on_init : (q : Part) (d : Draft) (n : ℕ) (bytes : List ℕ) (ss : List (List ℕ)) (s : List ℕ) (o : Operands) → d.part ≡ q → is_due q (word.Init) ≡ true → Item d s (word.Init) o → Told q d ss → Told (item_entered d n bytes (word.Init) o).part (item_entered d n bytes (word.Init) o) (ss ++ s ∷ [])
+on_init part.Start d n bytes ss s o e due h t = absurd (cc due)
+on_init part.Pools d n bytes ss s o e due h t = absurd (cc due)
+on_init part.Brigades d n bytes ss s o e due h t = absurd (cc due)
+on_init part.Open d n bytes ss s o e due h t = tell_init d n ss s o h t
+on_init part.Init d n bytes ss s o e due h t = absurd (cc due)
+on_init part.Main d n bytes ss s o e due h t = absurd (cc due)
+on_init part.End d n bytes ss s o e due h t = absurd (cc due)
+
+on_main : (q : Part) (d : Draft) (n : ℕ) (bytes : List ℕ) (ss : List (List ℕ)) (s : List ℕ) (o : Operands) → d.part ≡ q → is_due q (word.Main) ≡ true → Item d s (word.Main) o → Told q d ss → Told (item_entered d n bytes (word.Main) o).part (item_entered d n bytes (word.Main) o) (ss ++ s ∷ [])
+on_main part.Start d n bytes ss s o e due h t = absurd (cc due)
+on_main part.Pools d n bytes ss s o e due h t = absurd (cc due)
+on_main part.Brigades d n bytes ss s o e due h t = absurd (cc due)
+on_main part.Open d n bytes ss s o e due h t = absurd (cc due)
+on_main part.Init d n bytes ss s o e due h t = tell_main d n ss s o h t
+on_main part.Main d n bytes ss s o e due h t = absurd (cc due)
+on_main part.End d n bytes ss s o e due h t = absurd (cc due)
+
+on_end : (q : Part) (d : Draft) (n : ℕ) (bytes : List ℕ) (ss : List (List ℕ)) (s : List ℕ) (o : Operands) → d.part ≡ q → is_due q (word.End) ≡ true → Item d s (word.End) o → Told q d ss → Told (item_entered d n bytes (word.End) o).part (item_entered d n bytes (word.End) o) (ss ++ s ∷ [])
+on_end part.Start d n bytes ss s o e due h t = absurd (cc due)
+on_end part.Pools d n bytes ss s o e due h t = absurd (cc due)
+on_end part.Brigades d n bytes ss s o e due h t = absurd (cc due)
+on_end part.Open d n bytes ss s o e due h t = absurd (cc due)
+on_end part.Init d n bytes ss s o e due h t = absurd (cc due)
+on_end part.Main d n bytes ss s o e due h t = tell_end d n ss s o h t
+on_end part.End d n bytes ss s o e due h t = absurd (cc due)
+
+on_op : (q : Part) (i : Op) (d : Draft) (n : ℕ) (bytes : List ℕ) (ss : List (List ℕ)) (s : List ℕ) (o : Operands) → d.part ≡ q → is_due q (word.Op i) ≡ true → Item d s (word.Op i) o → Told q d ss → Told (step_entered d n bytes i o).part (step_entered d n bytes i o) (ss ++ s ∷ [])
+on_op part.Start i d n bytes ss s o e due h t = absurd (cc due)
+on_op part.Pools i d n bytes ss s o e due h t = absurd (cc due)
+on_op part.Brigades i d n bytes ss s o e due h t = absurd (cc due)
+on_op part.Open i d n bytes ss s o e due h t =
+    let x = op_spelled d s i o h in
+    let texts = d.texts ++ step_texts o bytes in
+    let st : Step = record { line = n; op = i; operands = o; text = length d.texts } in
+    let z : Step → Draft = step_added part.Open (record d { texts = texts }) in
+    subst (λ y. Told (step_added y (record d { texts = texts }) st).part (step_added y (record d { texts = texts }) st) (ss ++ s ∷ [])) (sym e) (subst (λ y. Told y (z st) (ss ++ s ∷ [])) (sym e) (did_open d texts ss s st x.name t x.spelled x.same x.named))
+on_op part.Init i d n bytes ss s o e due h t =
+    let x = op_spelled d s i o h in
+    let texts = d.texts ++ step_texts o bytes in
+    let st : Step = record { line = n; op = i; operands = o; text = length d.texts } in
+    let z : Step → Draft = step_added part.Init (record d { texts = texts }) in
+    subst (λ y. Told (step_added y (record d { texts = texts }) st).part (step_added y (record d { texts = texts }) st) (ss ++ s ∷ [])) (sym e) (subst (λ y. Told y (z st) (ss ++ s ∷ [])) (sym e) (did_init d texts ss s st x.name t x.spelled x.same x.named))
+on_op part.Main i d n bytes ss s o e due h t =
+    let x = op_spelled d s i o h in
+    let texts = d.texts ++ step_texts o bytes in
+    let st : Step = record { line = n; op = i; operands = o; text = length d.texts } in
+    let z : Step → Draft = step_added part.Main (record d { texts = texts }) in
+    subst (λ y. Told (step_added y (record d { texts = texts }) st).part (step_added y (record d { texts = texts }) st) (ss ++ s ∷ [])) (sym e) (subst (λ y. Told y (z st) (ss ++ s ∷ [])) (sym e) (did_main d texts ss s st x.name t x.spelled x.same x.named))
+on_op part.End i d n bytes ss s o e due h t = absurd (cc due)
+
+on_item : (d : Draft) (n : ℕ) (bytes : List ℕ) (ss : List (List ℕ)) (s : List ℕ) (w : Word) (o : Operands) → Item d s w o → Told d.part d ss → Told (item_entered d n bytes w o).part (item_entered d n bytes w o) (ss ++ s ∷ [])
+on_item d n bytes ss s word.Module o h t = on_module d.part d n bytes ss s o refl h.due h t
+on_item d n bytes ss s word.Pool o h t = on_pool d.part d n bytes ss s o refl h.due h t
+on_item d n bytes ss s word.Brigade o h t = on_brigade d.part d n bytes ss s o refl h.due h t
+on_item d n bytes ss s word.Open o h t = on_open d.part d n bytes ss s o refl h.due h t
+on_item d n bytes ss s word.Init o h t = on_init d.part d n bytes ss s o refl h.due h t
+on_item d n bytes ss s word.Main o h t = on_main d.part d n bytes ss s o refl h.due h t
+on_item d n bytes ss s word.End o h t = on_end d.part d n bytes ss s o refl h.due h t
+on_item d n bytes ss s (word.Op i) o h t = on_op d.part i d n bytes ss s o refl h.due h t
+
+on_label : (q : Part) (d : Draft) (n : ℕ) (ss : List (List ℕ)) (s name : List ℕ) → d.part ≡ q → is_handler q ≡ true → s ≡ 58 ∷ name → is_name name ≡ true → Told q d ss → Told d.part (label_added q d n (padded name)) (ss ++ s ∷ [])
+on_label part.Start d n ss s name e due p v t = absurd (cc due)
+on_label part.Pools d n ss s name e due p v t = absurd (cc due)
+on_label part.Brigades d n ss s name e due p v t = absurd (cc due)
+on_label part.Open d n ss s name e due p v t = subst (λ y. Told y (label_added part.Open d n (padded name)) (ss ++ s ∷ [])) (sym e) (marked_open d n ss s name t p v)
+on_label part.Init d n ss s name e due p v t = subst (λ y. Told y (label_added part.Init d n (padded name)) (ss ++ s ∷ [])) (sym e) (marked_init d n ss s name t p v)
+on_label part.Main d n ss s name e due p v t = subst (λ y. Told y (label_added part.Main d n (padded name)) (ss ++ s ∷ [])) (sym e) (marked_main d n ss s name t p v)
+on_label part.End d n ss s name e due p v t = absurd (cc due)
+
+-- a statement that says something
+pub on_line : (d : Draft) (n : ℕ) (bytes : List ℕ) (ss : List (List ℕ)) (s : List ℕ) (x : Line) → Spelled d s x → Told d.part d ss → Told (entered d n bytes x).part (entered d n bytes x) (ss ++ s ∷ [])
+on_line d n bytes ss s line.Skipped h t = absurd h
+on_line d n bytes ss s (line.Label m) h t =
+    subst (λ y. Told (label_added d.part d n y).part (label_added d.part d n y) (ss ++ s ∷ [])) (sym h.3) (labelled d.part refl (on_label d.part d n ss s h.0 refl h.4 h.1 h.2 t))
+  where
+    labelled : (q : Part) → d.part ≡ q → Told d.part (label_added d.part d n (padded h.0)) (ss ++ s ∷ []) → Told (label_added d.part d n (padded h.0)).part (label_added d.part d n (padded h.0)) (ss ++ s ∷ [])
+    labelled q e t = subst (λ y. Told y (label_added d.part d n (padded h.0)) (ss ++ s ∷ [])) (sym (same d.part d)) t
+      where
+        same : (q : Part) (x : Draft) → (label_added q x n (padded h.0)).part ≡ x.part
+        same part.Start x = refl
+        same part.Pools x = refl
+        same part.Brigades x = refl
+        same part.Open x = refl
+        same part.Init x = refl
+        same part.Main x = refl
+        same part.End x = refl
+on_line d n bytes ss s (line.Item w o) h t = on_item d n bytes ss s w o h t

@@ -13,7 +13,7 @@ use Rattle.module_lang.proofs.BodyLaws.{mark, marks_from}
 use Rattle.module_lang.proofs.SpellingLaws.{padded}
 
 -- a name without the zeros behind it
-abbrev stripped : List ℕ → List ℕ
+abbrev pub stripped : List ℕ → List ℕ
 stripped [] = []
 stripped (b ∷ bs) = cond (eqb b 0) [] (b ∷ stripped bs)
 
@@ -28,7 +28,7 @@ strip_bytes (b ∷ bs) k h =
     let some : eqb b 0 ≡ false = ne_eqb b 0 (λ e. absurd (cc (sym a.0 ∙ ap is_name_byte e))) in
     rw some (ap (λ x. b ∷ x) (strip_bytes bs k a.1))
 
-name_stripped : (n : List ℕ) → is_name n ≡ true → stripped (padded n) ≡ n
+pub name_stripped : (n : List ℕ) → is_name n ≡ true → stripped (padded n) ≡ n
 unfolding is_name all_name_bytes
 name_stripped n h = strip_bytes n (16 - length n) (and_parts (leb 1 (length n) && leb (length n) 16 && is_letter (slice_index n 0)) (list_all is_name_byte n) h).1
 

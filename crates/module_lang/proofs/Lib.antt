@@ -2,6 +2,8 @@ pub mod AssemblingLaws
 pub mod BodyLaws
 pub mod DraftLaws
 pub mod FoundLaws
+pub mod FoundModule
+pub mod FoundText
 pub mod HandlerLaws
 pub mod InverseLaws
 pub mod LabelLaws

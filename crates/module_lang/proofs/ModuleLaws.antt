@@ -66,7 +66,7 @@ resolved before h code after e = open_end (ends_open h.steps) refl e
     open_end true q e = absurd (cc e)
     open_end false q e = other (sooner (label_fault before (length h.steps) h.labels) (jump_fault h.labels h.steps)) refl q e
 
-all_cons : {X : Type 0} (P : X → Type 0) (x : X) (xs : List X) → P x → All P xs → All P (x ∷ xs)
+pub all_cons : {X : Type 0} (P : X → Type 0) (x : X) (xs : List X) → P x → All P xs → All P (x ∷ xs)
 all_cons P x xs p h zero d lt = p
 all_cons P x xs p h (suc k) d lt = h k d (omega arith)
 
