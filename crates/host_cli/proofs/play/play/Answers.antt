@@ -17,7 +17,7 @@ returns-in_err-put_asm_fault-in-Err-Fault-clause-err c =
 pub returns-in-Ok-clause-err : goal.returns-in-Ok-clause-err
 returns-in-Ok-clause-err c =
     let cut = c.module_cut-cut.result in
-    on_err_weaker c.play_module.result (λ front. front_at_cut c.args.script.now _ _ _ cut c.in-Ok.code c.module_cut-cut.ensures.value refl (rest_is c.args.script.now cut.size) c.in-Ok.ensures front) c.play_module.ensures.err
+    on_err_weaker c.play_module.result (λ front. front_at_cut c.args.script.now _ _ _ cut c.in-Ok.code c.module_cut-cut.ensures.value refl (rest_is c.args.script.now cut.size) c.in-Ok.ensures.exact front) c.play_module.ensures.err
 
 pub returns-in-Err-NoMemory-clause-err : goal.returns-in-Err-NoMemory-clause-err
 returns-in-Err-NoMemory-clause-err c = front_empty _ _ c.requires.fresh
