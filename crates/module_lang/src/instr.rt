@@ -20,10 +20,29 @@ pub enum PoolRef {
     Own(u8),
 }
 
-/// An instruction. A `u8` is the number of a brigade variable, `b0` to `b7` as 0 to 7, and 8 for `in`.
+/// A declared variable.
+#[derive(Clone, Copy)]
+pub enum VarRef {
+    /// A pool variable, `p0` to `p7` as 0 to 7.
+    Pool(u8),
+    /// A brigade variable, `b0` to `b7` as 0 to 7.
+    Brigade(u8),
+}
+
+/// An instruction. A `u8` is the number of a variable (a brigade's is 8 for `in`), or behind a pool that of a text.
 /// A `u16` is the number of the instruction that is jumped to.
 #[derive(Clone, Copy)]
 pub enum Instr {
+    /// `pcreate Q`: makes the pool Q under its declared parent (apr_pool_create).
+    PCreate(u8),
+    /// `pclear Q`: clears Q, which stays (apr_pool_clear).
+    PClear(u8),
+    /// `pdestroy Q`: destroys Q (apr_pool_destroy).
+    PDestroy(u8),
+    /// `label P T`: registers a cleanup of this text on P (apr_pool_cleanup_register).
+    Label(PoolRef, u8),
+    /// `unlabel P T`: kills a cleanup of this text on P (apr_pool_cleanup_kill).
+    Unlabel(PoolRef, u8),
     /// `bcreate O`: an empty brigade on its declared pool (apr_brigade_create).
     BCreate(u8),
     /// `bclean B`: destroys the buckets of B, which is usable again (apr_brigade_cleanup).
@@ -34,6 +53,8 @@ pub enum Instr {
     Pass(u8, u16),
     /// `jempty B L`: to L where B has no bucket (APR_BRIGADE_EMPTY).
     JEmpty(u8, u16),
+    /// `jnull V L`: to L where the variable V is null.
+    JNull(VarRef, u16),
     /// `jsent L`: to L where this instance passed an EOS in this request.
     JSent(u16),
     /// `jump L`.
