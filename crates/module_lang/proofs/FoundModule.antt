@@ -54,7 +54,7 @@ labels_good base n k to count ls all [] q r h a = tt
 labels_good base n k to count ls all (marked l name ∷ rs) q r h a = (h.0, (let low = a 0 l (omega arith) in omega (arith, h.2)), labels_good base n k to count ls all rs q r h.3 (all_tail (λ l. l.place < count) l (raw_labels rs) a))
 labels_good base n k to count ls all (did s name ∷ rs) q r h a = labels_good base (n + 1) (k + 1) to count ls all rs (omega arith) r h.2 a
 
-unnamed_apart : (q : List ℕ) (ls : List Label) (xs : List (List ℕ × ℕ)) → Named ls xs → is_named (padded q) ls ≡ false → IsApart q xs
+pub unnamed_apart : (q : List ℕ) (ls : List Label) (xs : List (List ℕ × ℕ)) → Named ls xs → is_named (padded q) ls ≡ false → IsApart q xs
 unnamed_apart q [] [] n h = tt
 unnamed_apart q [] (x ∷ xs) n h = absurd n
 unnamed_apart q (l ∷ ls) [] n h = absurd n

@@ -71,7 +71,7 @@ all_cons P x xs p h zero d lt = p
 all_cons P x xs p h (suc k) d lt = h k d (omega arith)
 
 -- no label stands behind the last instruction
-labels_below : (before : List Label) (n : ℕ) (ls : List Label) → label_fault before n ls ≡ None → All (λ l. l.place < n) ls
+pub labels_below : (before : List Label) (n : ℕ) (ls : List Label) → label_fault before n ls ≡ None → All (λ l. l.place < n) ls
 labels_below before n [] h = λ k d lt. absurd (omega arith)
 labels_below before n (l ∷ ls) h = named (is_named l.name before) (labels_below (before ++ l ∷ []) n ls) h
   where
