@@ -1,6 +1,11 @@
 pub mod AssemblingLaws
 pub mod BodyLaws
 pub mod DraftLaws
+pub mod FoundLabels
+pub mod FoundLaws
+pub mod FoundModule
+pub mod FoundText
+pub mod FoundWhole
 pub mod HandlerLaws
 pub mod InverseLaws
 pub mod LabelLaws

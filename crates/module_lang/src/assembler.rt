@@ -116,6 +116,9 @@ fn read_module(alloc: Global, text: &[u8]) -> Result<Module, AsmRefusal>
 pub fn assemble(alloc: Global, text: &[u8]) -> Result<Module, AsmRefusal>
     ensures exact { Gives (λ m. m) result (assembling text.now) }
 
+    // What is taken is a text that the grammar writes for the module.
+    ensures found { IfOk result (λ m. IsTextOf text.now m) }
+
     // A text that is written by the grammar is taken as the module that it spells, memory apart.
     ensures only { (p : Program) → IsTextOf text.now p → Gives (λ m. m) result (Ok p) }
     ensures one { (p q : Program) → IsTextOf text.now p → IsTextOf text.now q → p ≡ q }
