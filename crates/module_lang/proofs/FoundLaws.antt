@@ -236,13 +236,13 @@ pub record Told (q : Part) (d : Draft) (ss : List (List ℕ)) : Type 0 where
   pub text : ss ≡ told q d a b c
   pub clear : Clear q d a b c
 
-pool_texts-push : (k : ℕ) (qs : List PoolRef) (q : PoolRef) → pool_texts k (qs ++ q ∷ []) ≡ pool_texts k qs ++ line_text (codes "pool") (place_text (pool.Own (k + length qs)) ∷ place_text q ∷ []) ∷ []
+pub pool_texts-push : (k : ℕ) (qs : List PoolRef) (q : PoolRef) → pool_texts k (qs ++ q ∷ []) ≡ pool_texts k qs ++ line_text (codes "pool") (place_text (pool.Own (k + length qs)) ∷ place_text q ∷ []) ∷ []
 pool_texts-push k [] q = let e : k ≡ k + 0 = omega arith in ap (λ j. line_text (codes "pool") (place_text (pool.Own j) ∷ place_text q ∷ []) ∷ []) e
 pool_texts-push k (x ∷ xs) q =
     let e : k + 1 + length xs ≡ k + suc (length xs) = omega arith in
     ap (λ ls. line_text (codes "pool") (place_text (pool.Own k) ∷ place_text x ∷ []) ∷ ls) (pool_texts-push (k + 1) xs q ∙ ap (λ j. pool_texts (k + 1) xs ++ line_text (codes "pool") (place_text (pool.Own j) ∷ place_text q ∷ []) ∷ []) e)
 
-brigade_texts-push : (k : ℕ) (qs : List PoolRef) (q : PoolRef) → brigade_texts k (qs ++ q ∷ []) ≡ brigade_texts k qs ++ line_text (codes "brigade") (own_text (k + length qs) ∷ place_text q ∷ []) ∷ []
+pub brigade_texts-push : (k : ℕ) (qs : List PoolRef) (q : PoolRef) → brigade_texts k (qs ++ q ∷ []) ≡ brigade_texts k qs ++ line_text (codes "brigade") (own_text (k + length qs) ∷ place_text q ∷ []) ∷ []
 brigade_texts-push k [] q = let e : k ≡ k + 0 = omega arith in ap (λ j. line_text (codes "brigade") (own_text j ∷ place_text q ∷ []) ∷ []) e
 brigade_texts-push k (x ∷ xs) q =
     let e : k + 1 + length xs ≡ k + suc (length xs) = omega arith in
@@ -317,7 +317,7 @@ home_text (operand.Ending e) t k s = absurd (cc k)
 home_text (operand.Label l) t k s = absurd (cc k)
 home_text (operand.Text l) t k s = absurd (cc k)
 
-pool_line : (d : Draft) (s : List ℕ) (o : Operands) → Item d s word.Pool o → s ≡ line_text (codes "pool") (place_text (pool.Own (length d.pools)) ∷ place_text (place_of o.second) ∷ [])
+pub pool_line : (d : Draft) (s : List ℕ) (o : Operands) → Item d s word.Pool o → s ≡ line_text (codes "pool") (place_text (pool.Own (length d.pools)) ∷ place_text (place_of o.second) ∷ [])
 unfolding word_kinds word_text judged
 pool_line d s o h =
     let k = kinds_read (word_kinds word.Pool) h.rest o h.read in
@@ -327,7 +327,7 @@ pool_line d s o h =
     let u = home_text o.second x.two k.second x.second in
     h.spelled ∙ ap (λ r. codes "pool" ++ r) (x.whole ∙ ap (λ y. operands_text (y ∷ x.two ∷ [])) t ∙ ap (λ y. operands_text (place_text (pool.Own (length d.pools)) ∷ y ∷ [])) u)
 
-brigade_line : (d : Draft) (s : List ℕ) (o : Operands) → Item d s word.Brigade o → s ≡ line_text (codes "brigade") (own_text (length d.brigades) ∷ place_text (place_of o.second) ∷ [])
+pub brigade_line : (d : Draft) (s : List ℕ) (o : Operands) → Item d s word.Brigade o → s ≡ line_text (codes "brigade") (own_text (length d.brigades) ∷ place_text (place_of o.second) ∷ [])
 unfolding word_kinds word_text judged
 brigade_line d s o h =
     let k = kinds_read (word_kinds word.Brigade) h.rest o h.read in

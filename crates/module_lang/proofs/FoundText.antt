@@ -29,7 +29,7 @@ pub record IsCut (long : Bool) (d : Draft) (n : ℕ) (cur bs : List ℕ) (e : Dr
   pub short : long ≡ false
   pub ended : is_end e.part ≡ true
 
-no_bytes : (xs : List ℕ) → not (eqb (length xs) 0) ≡ false → xs ≡ []
+pub no_bytes : (xs : List ℕ) → not (eqb (length xs) 0) ≡ false → xs ≡ []
 no_bytes [] h = refl
 no_bytes (x ∷ xs) h = absurd (none (eqb (length (x ∷ xs)) 0) refl h)
   where
@@ -73,11 +73,11 @@ pub record IsRead (d : Draft) (n : ℕ) (l : List ℕ) (x : Draft) : Type 0 wher
   pub clean : all_printable l ≡ true
   pub told : (ss : List (List ℕ)) → Told d.part d ss → Told x.part x (ss ++ cond (is_skipped (unindented l)) [] (unindented l ∷ []))
 
-begun_with : (s : List ℕ) → begins 58 s ≡ true → s ≡ 58 ∷ tail s
+pub begun_with : (s : List ℕ) → begins 58 s ≡ true → s ≡ 58 ∷ tail s
 begun_with [] h = absurd (cc h)
 begun_with (b ∷ bs) h = ap (λ x. x ∷ bs) (eqb-true b 58 h)
 
-spelled_of : (d : Draft) (s : List ℕ) (y : Line) → cond (begins 58 s) (label_read d (tail s)) (item_read d s) ≡ Ok y → Spelled d s y
+pub spelled_of : (d : Draft) (s : List ℕ) (y : Line) → cond (begins 58 s) (label_read d (tail s)) (item_read d s) ≡ Ok y → Spelled d s y
 spelled_of d s y h = colon (begins 58 s) refl h
   where
     colon : (b : Bool) → begins 58 s ≡ b → cond b (label_read d (tail s)) (item_read d s) ≡ Ok y → Spelled d s y

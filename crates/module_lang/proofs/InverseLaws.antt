@@ -33,7 +33,7 @@ cut zero xs = refl
 cut (suc n) [] = refl
 cut (suc n) (x ∷ xs) = ap (λ ys. x ∷ ys) (cut n xs)
 
-tokens : (bytes : List ℕ) → bytes ≡ token bytes ++ after_token bytes
+pub tokens : (bytes : List ℕ) → bytes ≡ token bytes ++ after_token bytes
 unfolding token after_token
 tokens bytes = sym (cut (token_len bytes) bytes)
 
@@ -55,7 +55,7 @@ pub record Reads (k : Kind) (rest : List ℕ) (o : Operand) : Type 0 where
   pub read : operand_in k token ≡ Some o
   pub spelled : rest ≡ 32 ∷ (token ++ after_operand k rest)
 
-read_token : (k : Kind) (rest : List ℕ) (o : Operand) → operand_kind_is_nothing k ≡ false → operand_kind_is_text k ≡ false → operand_at k rest ≡ Ok o → Reads k rest o
+pub read_token : (k : Kind) (rest : List ℕ) (o : Operand) → operand_kind_is_nothing k ≡ false → operand_kind_is_text k ≡ false → operand_at k rest ≡ Ok o → Reads k rest o
 unfolding operand_at after_operand
 read_token k [] o n q h = let z = rw n at h in absurd (cc z)
 read_token k (b ∷ bs) o n q h = space (eqb b 32) refl (rw (n, q) at h)
@@ -243,7 +243,7 @@ Spelled d s line.Skipped = ⊥
 Spelled d s (line.Label n) = (name : List ℕ) × (s ≡ 58 ∷ name) × (is_name name ≡ true) × (n ≡ padded name) × (is_handler d.part ≡ true)
 Spelled d s (line.Item w o) = Item d s w o
 
-known : (t : List ℕ) (r : Option Word) (w : Word) → word_at t ≡ r → or_unknown r ≡ Ok w → t ≡ word_text w
+pub known : (t : List ℕ) (r : Option Word) (w : Word) → word_at t ≡ r → or_unknown r ≡ Ok w → t ≡ word_text w
 known t None w q h = absurd (cc h)
 known t (Some x) w q h = let z : x ≡ w = cc h in word_spelled t w (q ∙ ap Some z)
 

@@ -9,13 +9,17 @@ pub mod FoundWhole
 pub mod HandlerLaws
 pub mod InverseLaws
 pub mod LabelLaws
+pub mod LineFaults
 pub mod LineLaws
 pub mod ModuleLaws
+pub mod OperandFaults
 pub mod OperandLaws
 pub mod QuotedLaws
 pub mod RunLaws
+pub mod SaidLaws
 pub mod SliceLaws
 pub mod SourceLaws
 pub mod SpellingLaws
 pub mod TextAgain
+pub mod TextFaults
 pub mod TextLaws

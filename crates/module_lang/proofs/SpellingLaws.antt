@@ -62,11 +62,11 @@ pub record IsOperand (k : Kind) (o : Operand) (t : List ℕ) : Type 0 where
   pub read : operand_in k t ≡ Some o
   pub plain : unspaced t ≡ true
 
-operand_again : (k : Kind) (o : Operand) (t rest : List ℕ) → IsOperand k o t → Stops rest → operand_at k (32 ∷ (t ++ rest)) ≡ Ok o
+pub operand_again : (k : Kind) (o : Operand) (t rest : List ℕ) → IsOperand k o t → Stops rest → operand_at k (32 ∷ (t ++ rest)) ≡ Ok o
 unfolding operand_at
 operand_again k o t rest h s = rw (h.some, h.bare, token_again t rest h.plain s, h.read) refl
 
-behind_again : (k : Kind) (o : Operand) (t rest : List ℕ) → IsOperand k o t → Stops rest → after_operand k (32 ∷ (t ++ rest)) ≡ rest
+pub behind_again : (k : Kind) (o : Operand) (t rest : List ℕ) → IsOperand k o t → Stops rest → after_operand k (32 ∷ (t ++ rest)) ≡ rest
 unfolding after_operand
 behind_again k o t rest h s = rw (h.some, h.bare) (after_again t rest h.plain s)
 
@@ -190,13 +190,13 @@ word_of_instr (instr.Jump l) = refl
 word_of_instr (instr.Ret s) = refl
 
 -- a word is found again, has no space, and begins neither a label nor a comment
-record IsWord (w : Word) : Type 0 where
-  found : word_at (word_text w) ≡ Some w
-  plain : unspaced (word_text w) ≡ true
-  starts : (rest : List ℕ) → is_skipped (word_text w ++ rest) ≡ false
-  worded : (rest : List ℕ) → begins 58 (word_text w ++ rest) ≡ false
+pub record IsWord (w : Word) : Type 0 where
+  pub found : word_at (word_text w) ≡ Some w
+  pub plain : unspaced (word_text w) ≡ true
+  pub starts : (rest : List ℕ) → is_skipped (word_text w ++ rest) ≡ false
+  pub worded : (rest : List ℕ) → begins 58 (word_text w ++ rest) ≡ false
 
-word_again : (w : Word) → IsWord w
+pub word_again : (w : Word) → IsWord w
 unfolding word_at word_text op_text
 word_again word.Module = record { found = refl; plain = refl; starts = λ r. rw (ne_eqb (length (codes "module" ++ r)) 0 (λ e. omega arith)) refl; worded = λ r. refl }
 word_again word.Pool = record { found = refl; plain = refl; starts = λ r. rw (ne_eqb (length (codes "pool" ++ r)) 0 (λ e. omega arith)) refl; worded = λ r. refl }
