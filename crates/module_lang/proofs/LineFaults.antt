@@ -55,7 +55,7 @@ number_of code.Misplaced = refl
 number_of code.OpenEnd = refl
 number_of code.TooMany = refl
 
-same_code : (c e : Code) → code_number c ≡ code_number e → c ≡ e
+pub same_code : (c e : Code) → code_number c ≡ code_number e → c ≡ e
 same_code c e h = sym (number_of c) ∙ ap numbered h ∙ number_of e
 
 above_more : (P : Code → Type 0) (c : Code) → IsAbove (code_number c) P → (P c → ⊥) → IsAbove (code_number c + 1) P

@@ -90,7 +90,7 @@ stands_break kind.Ending bytes o rest h b = rw h.1 refl
 stands_break kind.Label bytes o rest h b = rw h.1 refl
 stands_break kind.Text bytes o rest h b = rw h.2 refl
 
-written_break : (k : Kinds) (bytes : List ℕ) (o : Operands) → AreWritten k bytes o → IsBreak bytes
+pub written_break : (k : Kinds) (bytes : List ℕ) (o : Operands) → AreWritten k bytes o → IsBreak bytes
 written_break k bytes o w = stands_break k.first bytes o.first w.behind_first w.first (stands_break k.second w.behind_first o.second w.behind_second w.second (stands_break k.third w.behind_second o.third w.behind_third w.third (stands_break k.fourth w.behind_third o.fourth [] w.fourth tt)))
 
 pub item_word : (d : Draft) (s : List ℕ) (w : Word) (o : Operands) → Item d s w o → word_of s ≡ Some w

@@ -1,20 +1,18 @@
 -- The first line of a text that has a code, and that none has one where all are taken.
 use Rattle.std.proofs.Common.{◌≡◌, ◌≢◌, ℕ, ◌+◌, ◌<◌, ◌≤◌, Bool, true, false, not, cond, eqb, nat_lt, List, [], ◌∷◌, ◌++◌, length, take, Result, Ok, Err, inl, inr, ◌⊎◌, refl, sym, ◌∙◌, ap, subst, arith, append-nil, length-append}
 use Rattle.std.proofs.lemmas.Bool.{cases_lt, lt-ltb, ltb-true}
-use Rattle.module_lang.specs.Assembling.{assembling, draft_read, is_end, program_of, lines_ended, lines_read}
-use Rattle.module_lang.specs.Codes.{Gives, ◌>>=◌, code_number}
+use Rattle.module_lang.specs.Assembling.{draft_read, is_end, lines_ended, lines_read}
+use Rattle.module_lang.specs.Codes.{◌>>=◌, code_number}
 use Rattle.module_lang.specs.Drafts.{empty_draft}
 use Rattle.module_lang.specs.Entries.{line_taken, taken}
-use Rattle.module_lang.specs.FirstFault.{EndHasCode, HasCode, HasLineCode, IsFaultyLine, IsFirst, IsFirstFault, IsSaid, TellsFirst, lines_from, lines_of, rest_from, rest_of}
-use Rattle.std.specs.Prelude.{IfErr}
-use Rattle.module_lang.specs.Program.{Program}
+use Rattle.module_lang.specs.FirstFault.{EndHasCode, HasCode, HasLineCode, IsFaultyLine, IsFirst, IsSaid, lines_from, lines_of, rest_from, rest_of}
 use Rattle.module_lang.specs.Lines.{line_read}
 use Rattle.module_lang.specs.Texts.{statements}
 use Rattle.module_lang.specs.declared.draft.Draft.{Draft}
 use Rattle.module_lang.specs.declared.draft.Part.{Part}
 use Rattle.module_lang.specs.declared.lines.Line.{Line}
 use Rattle.module_lang.specs.declared.refusal.AsmRefusal.{AsmRefusal}
-use Rattle.module_lang.specs.declared.refusal.AsmRefusal.TheVariants.{Fault, NoMemory}
+use Rattle.module_lang.specs.declared.refusal.AsmRefusal.TheVariants.{Fault}
 use Rattle.module_lang.specs.declared.refusal.Code.{Code}
 use Rattle.module_lang.specs.declared.refusal.Code.TheVariants as code
 use Rattle.module_lang.proofs.FoundText.{no_bytes}
@@ -315,13 +313,9 @@ read_none text e h n c = either
     either (inl f) = lines_none text e n c x.fold f
     either (inr f) = none c f.1
 
--- a fault that is told is the first one
-pub answer_first : (text : List ℕ) (r : Result Program AsmRefusal) → Gives (λ m. m) r (assembling text) → IfErr r (λ e. TellsFirst text e)
-unfolding assembling
-answer_first text (Ok m) h = tt
-answer_first text (Err NoMemory) h = tt
-answer_first text (Err (Fault n c)) h = read (draft_read text) refl h
-  where
-    read : (r : Result Draft AsmRefusal) → draft_read text ≡ r → (r >>= λ d. program_of d) ≡ Err (Fault n c) → IsFirstFault text n c
-    read (Err f) q e = let s : f ≡ Fault n c = cc e in inl (read_first text n c (q ∙ ap Err s))
-    read (Ok d) q e = inr (read_none text d q)
+-- a text that is read as a draft is cut into lines that were taken, up to `end`
+pub read_lines : (text : List ℕ) (e : Draft) → draft_read text ≡ Ok e → Fold empty_draft 1 (lines_of text) e × (is_end e.part ≡ true)
+unfolding draft_read
+read_lines text e h =
+    let x = read_ends (take 1048576 text) (nat_lt 1048576 (length text)) empty_draft 1 [] e h in
+    (x.fold, (right_end (nat_lt 1048576 (length text)) e.part x.number (rest_of text) x.ends).2)

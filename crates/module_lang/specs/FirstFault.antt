@@ -4,6 +4,7 @@ use Rattle.std.specs.List.{filter}
 use Rattle.module_lang.specs.Assembling.{is_end}
 use Rattle.module_lang.specs.Bytes.{all_printable, begins, token, unindented}
 use Rattle.module_lang.specs.Codes.{code_number}
+use Rattle.module_lang.specs.Handlers.{label_of, op_goes_on}
 use Rattle.module_lang.specs.Lines.{are_declared, has_equal_brigades, has_long_text, is_declared, is_due, is_handler, is_next, misplaced, place_is_declared}
 use Rattle.module_lang.specs.Names.{is_name, name_of}
 use Rattle.module_lang.specs.Quoted.{Quoted, quoted}
@@ -24,6 +25,7 @@ use Rattle.module_lang.specs.declared.refusal.Code.TheVariants as code
 use Rattle.module_lang.specs.declared.word.Kind.{Kind}
 use Rattle.module_lang.specs.declared.word.Kind.TheVariants as kind
 use Rattle.module_lang.specs.declared.word.Kinds.{Kinds}
+use Rattle.module_lang.specs.declared.word.Op.{Op}
 use Rattle.module_lang.specs.declared.word.Word.{Word}
 use Rattle.module_lang.specs.declared.word.Word.TheVariants as word
 
@@ -239,15 +241,91 @@ EndHasCode text _ = ⊥
 abbrev pub HasLineCode : List ℕ → ℕ → Code → Type 0
 HasLineCode text n c = IsFaultyLine (lines_of text) n c ⊎ ((n ≡ length (lines_of text) + 1) × EndHasCode text c)
 
+-- a word that ends the handler before it
+abbrev pub is_header : Option Word → Bool
+is_header (Some word.Open) = true
+is_header (Some word.Init) = true
+is_header (Some word.Main) = true
+is_header (Some word.End) = true
+is_header _ = false
+
+-- statements up to the next handler
+abbrev pub up_to_header : List (List ℕ) → List (List ℕ)
+up_to_header [] = []
+up_to_header (s ∷ ss) = if is_header (word_of s) then [] else s ∷ up_to_header ss
+
+-- statements behind the last header of a handler; these stood before
+abbrev pub since_header : List (List ℕ) → List (List ℕ) → List (List ℕ)
+since_header so_far [] = so_far
+since_header so_far (s ∷ ss) = if is_header (word_of s) then since_header [] ss else since_header (so_far ++ s ∷ []) ss
+
+abbrev pub IsAmong : List ℕ → List (List ℕ) → Type 0
+IsAmong s [] = ⊥
+IsAmong s (x ∷ xs) = (x ≡ s) ⊎ IsAmong s xs
+
+-- one of these statements is an instruction
+abbrev pub have_instruction : List (List ℕ) → Bool
+have_instruction [] = false
+have_instruction (s ∷ ss) = is_instruction (word_of s) || have_instruction ss
+
+-- the code may go on behind the last instruction, where it may before these statements
+abbrev pub open_after : Bool → Option Word → Bool
+open_after b (Some (word.Op i)) = op_goes_on i
+open_after b _ = b
+
+abbrev pub stays_open : Bool → List (List ℕ) → Bool
+stays_open b [] = b
+stays_open b (s ∷ ss) = stays_open (open_after b (word_of s)) ss
+
+abbrev pub begins_handler : Option Word → Bool
+begins_handler (Some word.Open) = true
+begins_handler (Some word.Init) = true
+begins_handler (Some word.Main) = true
+begins_handler _ = false
+
+-- an instruction that names a label which none of these statements is
+pub record NamesLost (s : List ℕ) (ss : List (List ℕ)) : Type 0 where
+  pub op : Op
+  pub bytes : List ℕ
+  pub operands : Operands
+  pub name : List ℕ
+  pub spelled : s ≡ word_text (word.Op op) ++ bytes
+  pub written : AreWritten (op_kinds op) bytes operands
+  pub named : label_of operands ≡ Some name
+  pub lost : (t : List ℕ) → name_of t ≡ Some name → IsAmong (58 ∷ t) ss → ⊥
+
+-- what is wrong with a statement between others: a label that stands before in the module; a label that is not in the
+-- handler, or that no instruction follows; a handler that is empty or whose last instruction goes on
+abbrev pub StatementHasCode : List (List ℕ) → List ℕ → List (List ℕ) → Code → Type 0
+StatementHasCode before s after code.DoubledLabel = (begins 58 s ≡ true) × IsAmong s before
+StatementHasCode before s after code.LostLabel =
+    NamesLost s (since_header [] before ++ up_to_header after)
+    ⊎ ((begins 58 s ≡ true) × (have_instruction (up_to_header after) ≡ false))
+StatementHasCode before s after code.OpenEnd =
+    (begins_handler (word_of s) ≡ true) × (stays_open true (up_to_header after) ≡ true)
+StatementHasCode before s after _ = ⊥
+
+-- line n of a text has this code, of those that the whole module shows
+pub record HasModuleCode (text : List ℕ) (n : ℕ) (c : Code) : Type 0 where
+  pub before : List (List ℕ)
+  pub line : List ℕ
+  pub after : List (List ℕ)
+  pub whole : lines_of text ≡ before ++ line ∷ after
+  pub number : n ≡ length before + 1
+  pub fits : StatementHasCode (statements before) (unindented line) (statements after) c
+
 -- the first line with a code, and the lowest code on it
 pub record IsFirst (P : ℕ → Code → Type 0) (n : ℕ) (c : Code) : Type 0 where
   pub holds : P n c
   pub line : (m : ℕ) (d : Code) → P m d → n ≤ m
   pub lowest : (d : Code) → P n d → code_number c ≤ code_number d
 
--- the first line with such a code is told, by its lowest; where none has one, labels and handlers are judged
+-- The first line with a code of its own, and its lowest; where no line has one, the same with the codes that the whole
+-- module shows.
 abbrev pub IsFirstFault : List ℕ → ℕ → Code → Type 0
-IsFirstFault text n c = IsFirst (HasLineCode text) n c ⊎ ((m : ℕ) (d : Code) → HasLineCode text m d → ⊥)
+IsFirstFault text n c =
+    IsFirst (HasLineCode text) n c
+    ⊎ (((m : ℕ) (d : Code) → HasLineCode text m d → ⊥) × IsFirst (HasModuleCode text) n c)
 
 -- an answer tells the first fault, or there was no memory
 abbrev pub TellsFirst : List ℕ → AsmRefusal → Type 0
