@@ -166,13 +166,13 @@ unfolding operand_in
 label_operand n h = record { some = refl; bare = refl; read = rw (name_again n h) refl; plain = name_plain n h }
 
 -- a text in quotes is read again
-text_at_again : (s bytes rest : List ℕ) → Spells s bytes → operand_at kind.Text (32 ∷ (s ++ rest)) ≡ Ok (operand.Text (length bytes))
+pub text_at_again : (s bytes rest : List ℕ) → Spells s bytes → operand_at kind.Text (32 ∷ (s ++ rest)) ≡ Ok (operand.Text (length bytes))
 unfolding operand_at
 text_at_again s bytes rest h =
     let begun : begins 34 (s ++ rest) ≡ true = rw h.whole refl in
     rw (begun, quoted_again s bytes rest h) refl
 
-text_behind : (s bytes rest : List ℕ) → Spells s bytes → after_operand kind.Text (32 ∷ (s ++ rest)) ≡ rest
+pub text_behind : (s bytes rest : List ℕ) → Spells s bytes → after_operand kind.Text (32 ∷ (s ++ rest)) ≡ rest
 unfolding after_operand
 text_behind s bytes rest h = rw (quoted_again s bytes rest h) (drop_at s rest (length s) refl)
 
@@ -180,11 +180,11 @@ pub two_text_again : (k : Kind) (o : Operand) (t s bytes : List ℕ) → IsOpera
 unfolding operands_at
 two_text_again k o t s bytes h j = rw (operand_again k o t (operands_text (s ∷ [])) h refl, behind_again k o t (operands_text (s ∷ [])) h refl, text_at_again s bytes [] j, text_behind s bytes [] j, none_again [], none_behind [], none_again [], none_behind []) refl
 
-own_variable : (i : ℕ) → i < 8 → IsOperand kind.Variable (operand.Place (pool.Own i)) (place_text (pool.Own i))
+pub own_variable : (i : ℕ) → i < 8 → IsOperand kind.Variable (operand.Place (pool.Own i)) (place_text (pool.Own i))
 unfolding operand_in
 own_variable i h = record { some = refl; bare = refl; read = rw (numbered_again 112 i h) refl; plain = digit_plain 112 i refl }
 
-brigade_variable : (b : ℕ) → b < 8 → IsOperand kind.Variable (operand.Brigade b) (own_text b)
+pub brigade_variable : (b : ℕ) → b < 8 → IsOperand kind.Variable (operand.Brigade b) (own_text b)
 unfolding operand_in
 brigade_variable b h = record { some = refl; bare = refl; read = rw (numbered_again 98 b h) refl; plain = digit_plain 98 b refl }
 
