@@ -1,11 +1,12 @@
 //! Laws of the definitions. Each function does nothing: what its contract says holds of the definitions alone.
 
-ghost use Rattle.run_model.specs.Examples.{PassRuns, FaultRuns, BreakRuns, RefusedRuns, NameRuns, HeldFaults, HeldChanges};
-ghost use Rattle.run_model.specs.Laws.{StepKeepsNames, StepKeepsBuckets, StepKeepsPools, StepAtEndKeeps, OpenedIsSound, EventKeepsSound, RunIsSound, RunGoesOn, StepsGoOn, StepsAreARun, EndedStepsAreARun, StepChangesOnly, RefusedChangesNothing, RefusedStepBreaks, FaultBreaks, BrokenStaysBroken, EventKeepsOrder, RunIsOrderly, BroughtEndsOnce, OutputOfCuts, FaultOfCuts, PassedIsNotUsed, CleanedIsUsable};
+ghost use Rattle.run_model.specs.Examples.{PassRuns, PoolRuns, FaultRuns, BreakRuns, RefusedRuns, NameRuns, HeldFaults, HeldChanges};
+ghost use Rattle.run_model.specs.Laws.{StepKeepsNames, StepKeepsBuckets, StepKeepsPools, StepAtEndKeeps, OpenedIsSound, EventKeepsSound, RunIsSound, RunGoesOn, StepsGoOn, StepsAreARun, EndedStepsAreARun, StepChangesOnly, RefusedChangesNothing, RefusedStepBreaks, FaultBreaks, BrokenStaysBroken, EventKeepsOrder, RunIsOrderly, BroughtEndsOnce, OutputOfCuts, FaultOfCuts, PassedIsNotUsed, CleanedIsUsable, ClearsKeepOthers, ClearsTakeAlong};
 
 /// Small runs answer as they are worked out by hand, and so do faults and changes of small states.
 pub fn worked_runs()
     ensures passes { PassRuns }
+    ensures pools { PoolRuns }
     ensures faults { FaultRuns }
     ensures breaks { BreakRuns }
     ensures refusals { RefusedRuns }
@@ -74,4 +75,11 @@ pub fn bodies_are_cut_anywhere()
 pub fn passed_brigades_are_only_cleaned()
     ensures passed { PassedIsNotUsed }
     ensures cleaned { CleanedIsUsable }
+{}
+
+/// A clear of a pool leaves what does not stand under it as it was; what lies on it and under it goes, and its labels are
+/// run in their order.
+pub fn clears_take_what_lies_under()
+    ensures pools { ClearsKeepOthers }
+    ensures brigades { ClearsTakeAlong }
 {}
