@@ -6,6 +6,7 @@ pub mod PoolMap
 pub mod Names
 pub mod StepNames
 pub mod StepBuckets
+pub mod Formed
 pub mod NamedPools
 pub mod Thinned
 pub mod StepPools

@@ -117,15 +117,16 @@ changes_pools (instr.Label q t) = true
 changes_pools (instr.Unlabel q t) = true
 changes_pools i = is_clear i
 
--- What an instruction does not name is as before: other brigades and pool variables, numbers, and but for a pass or a
--- return also whether an EOS was passed, and the call. Pools change by their own instructions, and labels are run by
--- clears alone; else only names are given out.
+-- What an instruction does not name is as before: other brigades and pool variables, numbers, and but for a pass whether an
+-- EOS was passed, and but for a return the call, whose loose buckets a clear may change. Pools change by their own
+-- instructions, and labels are run by clears alone; else only names are given out.
 pub record ChangesOnly (i : Instr) (r new : Run) : Type 0 where
   pub brigades : (k : ℕ) → may_change i k ≡ false → new.inst.brigs k ≡ r.inst.brigs k
   pub pools : (k : ℕ) → may_change_pool i k ≡ false → new.inst.pools k ≡ r.inst.pools k
   pub numbers : new.inst.numbers ≡ r.inst.numbers
   pub sent : is_pass i ≡ false → new.inst.sent ≡ r.inst.sent
-  pub call : is_return i ≡ false → is_clear i ≡ false → new.call ≡ r.call
+  pub call : is_return i ≡ false → new.call ≡ record r.call { loose = new.call.loose }
+  pub loose : is_return i ≡ false → is_clear i ≡ false → new.call.loose ≡ r.call.loose
   pub tree : changes_pools i ≡ false → new.shared.pools ≡ r.shared.pools
   pub conn : new.shared.conn ≡ r.shared.conn
   pub req : new.shared.req ≡ r.shared.req

@@ -1,12 +1,13 @@
 //! Laws of the definitions. Each function does nothing: what its contract says holds of the definitions alone.
 
-ghost use Rattle.run_model.specs.Examples.{PassRuns, PoolRuns, FaultRuns, BreakRuns, RefusedRuns, NameRuns, HeldFaults, HeldChanges};
+ghost use Rattle.run_model.specs.Examples.{PassRuns, PoolRuns, PoolEnds, FaultRuns, BreakRuns, RefusedRuns, NameRuns, HeldFaults, HeldChanges};
 ghost use Rattle.run_model.specs.Laws.{StepKeepsNames, StepKeepsBuckets, StepKeepsPools, StepAtEndKeeps, OpenedIsSound, EventKeepsSound, RunIsSound, RunGoesOn, StepsGoOn, StepsAreARun, EndedStepsAreARun, StepChangesOnly, RefusedChangesNothing, RefusedStepBreaks, FaultBreaks, BrokenStaysBroken, EventKeepsOrder, RunIsOrderly, BroughtEndsOnce, OutputOfCuts, FaultOfCuts, PassedIsNotUsed, CleanedIsUsable, ClearsKeepOthers, ClearsTakeAlong};
 
 /// Small runs answer as they are worked out by hand, and so do faults and changes of small states.
 pub fn worked_runs()
     ensures passes { PassRuns }
     ensures pools { PoolRuns }
+    ensures pool_ends { PoolEnds }
     ensures faults { FaultRuns }
     ensures breaks { BreakRuns }
     ensures refusals { RefusedRuns }
