@@ -19,5 +19,6 @@ pub mod Unchanged
 pub mod Refusals
 pub mod Orderly
 pub mod Cuts
+pub mod Filled
 pub mod Marks
 pub mod Clears

@@ -30,7 +30,7 @@ no_name r = sym (add-zero r.shared.next)
 
 -- where only numbers and tests are read
 nothing : (i : Instr) (r : Run) → names_of i ≡ 0 → ChangesOnly i r r
-nothing i r none = record { brigades = λ k h. refl; pools = λ k h. refl; numbers = refl; sent = λ h. refl; call = λ h. refl; loose = λ h k. refl; tree = λ h. refl; conn = refl; req = refl; labels = λ h. refl; names = no_name r ∙ ap (λ n. r.shared.next + n) (sym none); output = refl }
+nothing i r none = record { brigades = λ k h. refl; pools = λ k h. refl; numbers = refl; sent = λ h. refl; call = λ h k. refl; tree = λ h. refl; conn = refl; req = refl; labels = λ h. refl; names = no_name r ∙ ap (λ n. r.shared.next + n) (sym none); output = refl }
 
 made_changes : (p : Program) (q : ℕ) (r : Run) → ChangesOnly (instr.PCreate q) r (do_pcreate p q r)
 unfolding set_pool with_pools
@@ -39,8 +39,7 @@ made_changes p q r = made_under_named (ChangesOnly (instr.PCreate q) r) p q r (n
   pools = λ k h. upd_off r.inst.pools q k _ (other k q h);
   numbers = refl;
   sent = λ h. refl;
-  call = λ h. refl;
-  loose = λ h g. refl;
+  call = λ h g. refl;
   tree = λ h. absurd (cc);
   conn = refl;
   req = refl;
@@ -51,19 +50,19 @@ made_changes p q r = made_under_named (ChangesOnly (instr.PCreate q) r) p q r (n
 
 cleared_changes : (q n : ℕ) (r : Run) → ChangesOnly (instr.PClear q) r (pool_cleared n r)
 unfolding with_pools run_down
-cleared_changes q n r = record { brigades = λ k h. absurd (cc); pools = λ k h. refl; numbers = refl; sent = λ h. refl; call = λ h. refl; loose = λ h g. absurd (cc); tree = λ h. absurd (cc); conn = refl; req = refl; labels = λ h. absurd (cc); names = no_name r; output = refl }
+cleared_changes q n r = record { brigades = λ k h. absurd (cc); pools = λ k h. refl; numbers = refl; sent = λ h. refl; call = λ h g. absurd (cc); tree = λ h. absurd (cc); conn = refl; req = refl; labels = λ h. absurd (cc); names = no_name r; output = refl }
 
 destroyed_changes : (q n : ℕ) (r : Run) → ChangesOnly (instr.PDestroy q) r (pool_destroyed n r)
 unfolding with_pools run_down
-destroyed_changes q n r = record { brigades = λ k h. absurd (cc); pools = λ k h. refl; numbers = refl; sent = λ h. refl; call = λ h. refl; loose = λ h g. absurd (cc); tree = λ h. absurd (cc); conn = refl; req = refl; labels = λ h. absurd (cc); names = no_name r; output = refl }
+destroyed_changes q n r = record { brigades = λ k h. absurd (cc); pools = λ k h. refl; numbers = refl; sent = λ h. refl; call = λ h g. absurd (cc); tree = λ h. absurd (cc); conn = refl; req = refl; labels = λ h. absurd (cc); names = no_name r; output = refl }
 
 labelled_changes : (q : PoolRef) (t n : ℕ) (text : List ℕ) (r : Run) → ChangesOnly (instr.Label q t) r (label_registered text n r)
 unfolding with_pools
-labelled_changes q t n text r = record { brigades = λ k h. refl; pools = λ k h. refl; numbers = refl; sent = λ h. refl; call = λ h. refl; loose = λ h g. refl; tree = λ h. absurd (cc); conn = refl; req = refl; labels = λ h. refl; names = no_name r; output = refl }
+labelled_changes q t n text r = record { brigades = λ k h. refl; pools = λ k h. refl; numbers = refl; sent = λ h. refl; call = λ h g. refl; tree = λ h. absurd (cc); conn = refl; req = refl; labels = λ h. refl; names = no_name r; output = refl }
 
 unlabelled_changes : (q : PoolRef) (t n : ℕ) (text : List ℕ) (r : Run) → ChangesOnly (instr.Unlabel q t) r (label_killed text n r)
 unfolding with_pools
-unlabelled_changes q t n text r = record { brigades = λ k h. refl; pools = λ k h. refl; numbers = refl; sent = λ h. refl; call = λ h. refl; loose = λ h g. refl; tree = λ h. absurd (cc); conn = refl; req = refl; labels = λ h. refl; names = no_name r; output = refl }
+unlabelled_changes q t n text r = record { brigades = λ k h. refl; pools = λ k h. refl; numbers = refl; sent = λ h. refl; call = λ h g. refl; tree = λ h. absurd (cc); conn = refl; req = refl; labels = λ h. refl; names = no_name r; output = refl }
 
 pub step_changes_only : StepChangesOnly
 unfolding set_brig
@@ -73,11 +72,11 @@ step_changes_only p choice (instr.PDestroy q) r = on_named (ChangesOnly (instr.P
 step_changes_only p choice (instr.Label q t) r = on_named (ChangesOnly (instr.Label q t) r) (label_registered (text_of p t)) (pool_named r q) r (nothing (instr.Label q t) r refl) (λ n e. labelled_changes q t n (text_of p t) r)
 step_changes_only p choice (instr.Unlabel q t) r = on_named (ChangesOnly (instr.Unlabel q t) r) (label_killed (text_of p t)) (pool_named r q) r (nothing (instr.Unlabel q t) r refl) (λ n e. unlabelled_changes q t n (text_of p t) r)
 step_changes_only p choice (instr.JNull v l) r = nothing (instr.JNull v l) r refl
-step_changes_only p choice (instr.BCreate o) r = record { brigades = λ k h. off r.inst.brigs o k _ h; pools = λ k h. refl; numbers = refl; sent = λ h. refl; call = λ h. refl; loose = λ h k. refl; tree = λ h. refl; conn = refl; req = refl; labels = λ h. refl; names = refl; output = refl }
-step_changes_only p choice (instr.BClean b) r = record { brigades = λ k h. off r.inst.brigs b k _ h; pools = λ k h. refl; numbers = refl; sent = λ h. refl; call = λ h. refl; loose = λ h k. refl; tree = λ h. refl; conn = refl; req = refl; labels = λ h. refl; names = no_name r; output = refl }
-step_changes_only p choice (instr.BConcat a b) r = record { brigades = λ k h. (let apart = neither (k == a) (k == b) h in off (upd r.inst.brigs b _) a k _ apart.0 ∙ off r.inst.brigs b k _ apart.1); pools = λ k h. refl; numbers = refl; sent = λ h. refl; call = λ h. refl; loose = λ h k. refl; tree = λ h. refl; conn = refl; req = refl; labels = λ h. refl; names = no_name r; output = refl }
-step_changes_only p choice (instr.Pass b l) r = record { brigades = λ k h. off r.inst.brigs b k _ h; pools = λ k h. refl; numbers = refl; sent = λ h. absurd (cc); call = λ h. refl; loose = λ h k. refl; tree = λ h. refl; conn = refl; req = refl; labels = λ h. refl; names = no_name r; output = refl }
+step_changes_only p choice (instr.BCreate o) r = record { brigades = λ k h. off r.inst.brigs o k _ h; pools = λ k h. refl; numbers = refl; sent = λ h. refl; call = λ h k. refl; tree = λ h. refl; conn = refl; req = refl; labels = λ h. refl; names = refl; output = refl }
+step_changes_only p choice (instr.BClean b) r = record { brigades = λ k h. off r.inst.brigs b k _ h; pools = λ k h. refl; numbers = refl; sent = λ h. refl; call = λ h k. refl; tree = λ h. refl; conn = refl; req = refl; labels = λ h. refl; names = no_name r; output = refl }
+step_changes_only p choice (instr.BConcat a b) r = record { brigades = λ k h. (let apart = neither (k == a) (k == b) h in off (upd r.inst.brigs b _) a k _ apart.0 ∙ off r.inst.brigs b k _ apart.1); pools = λ k h. refl; numbers = refl; sent = λ h. refl; call = λ h k. refl; tree = λ h. refl; conn = refl; req = refl; labels = λ h. refl; names = no_name r; output = refl }
+step_changes_only p choice (instr.Pass b l) r = record { brigades = λ k h. off r.inst.brigs b k _ h; pools = λ k h. refl; numbers = refl; sent = λ h. absurd (cc); call = λ h k. refl; tree = λ h. refl; conn = refl; req = refl; labels = λ h. refl; names = no_name r; output = refl }
 step_changes_only p choice (instr.JEmpty b l) r = nothing (instr.JEmpty b l) r refl
 step_changes_only p choice (instr.JSent l) r = nothing (instr.JSent l) r refl
 step_changes_only p choice (instr.Jump l) r = nothing (instr.Jump l) r refl
-step_changes_only p choice (instr.Ret st) r = record { brigades = λ k h. absurd (cc); pools = λ k h. refl; numbers = refl; sent = λ h. refl; call = λ h. absurd (cc); loose = λ h g. absurd (cc); tree = λ h. refl; conn = refl; req = refl; labels = λ h. refl; names = no_name r; output = refl }
+step_changes_only p choice (instr.Ret st) r = record { brigades = λ k h. absurd (cc); pools = λ k h. refl; numbers = refl; sent = λ h. refl; call = λ h g. absurd (cc); tree = λ h. refl; conn = refl; req = refl; labels = λ h. refl; names = no_name r; output = refl }

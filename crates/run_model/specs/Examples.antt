@@ -26,10 +26,11 @@ use Rattle.run_model.specs.declared.event.Cause.TheVariants as cause
 use Rattle.run_model.specs.declared.event.Refusal.TheVariants as refusal
 use Rattle.run_model.specs.declared.fault.FaultKind.TheVariants as fault_kind
 use Rattle.run_model.specs.Pools.{planted, created}
+use Rattle.run_model.specs.Connection.{closing_pools}
 use Rattle.run_model.specs.State.{Run, items_of}
 use Rattle.run_model.specs.Faults.{fault}
 use Rattle.run_model.specs.Steps.{do_return}
-use Rattle.run_model.specs.Connection.{opened, request_ended, closing_pools}
+use Rattle.run_model.specs.Connection.{opened, request_ended}
 use Rattle.run_model.specs.Runs.{Answer, Done, Refused, Step, Output, Labels, World, Before, There, Closed, happens}
 
 -- the answers of these events, where memory is ample
