@@ -6,6 +6,9 @@ pub mod PoolMap
 pub mod Names
 pub mod StepNames
 pub mod StepBuckets
+pub mod Formed
+pub mod NamedPools
+pub mod Thinned
 pub mod StepPools
 pub mod Events
 pub mod Runs
@@ -16,4 +19,6 @@ pub mod Unchanged
 pub mod Refusals
 pub mod Orderly
 pub mod Cuts
+pub mod Filled
 pub mod Marks
+pub mod Clears

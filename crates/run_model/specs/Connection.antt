@@ -1,6 +1,6 @@
 -- One connection, and what happens to it: it is opened, requests begin and end, brigades are brought, steps are
--- made, output is taken, and it breaks.
-use Rattle.std.specs.Prelude.{ℕ, ◌+◌, Bool, true, false, ◌&&◌, ◌||◌, not, nat_le, if◌then◌else◌, List, [], ◌∷◌, map, length, Option, Some, None, is_some, Result, Ok, Err}
+-- made, output is taken, it breaks, and it is closed.
+use Rattle.std.specs.Prelude.{ℕ, ◌+◌, Bool, true, false, ◌&&◌, ◌||◌, not, nat_le, if◌then◌else◌, List, [], ◌∷◌, length, Option, Some, None, is_some, Result, Ok, Err}
 use Rattle.std.specs.List.{list_any}
 use Rattle.run_model.specs.declared.bucket.Kind.TheVariants as kind
 use Rattle.run_model.specs.declared.bucket.Content.TheVariants as content
@@ -9,7 +9,6 @@ use Rattle.run_model.specs.declared.bucket.Bucket.{Bucket}
 use Rattle.run_model.specs.declared.bucket.Named.{Named}
 use Rattle.run_model.specs.declared.bucket.Mark.TheVariants.{Usable}
 use Rattle.run_model.specs.declared.bucket.Brigade.{Brigade}
-use Rattle.run_model.specs.declared.bucket.Var.{Var}
 use Rattle.run_model.specs.declared.bucket.Var.TheVariants as var
 use Rattle.run_model.specs.declared.event.Piece.{Piece}
 use Rattle.run_model.specs.declared.event.Piece.TheVariants as piece
@@ -22,10 +21,11 @@ use Rattle.run_model.specs.declared.event.StepRefusal.TheVariants as step_refusa
 use Rattle.run_model.specs.declared.event.Stepped.{Stepped}
 use Rattle.run_model.specs.declared.event.Stepped.TheVariants as stepped
 use Rattle.module_lang.specs.Program.{Program}
-use Rattle.run_model.specs.Pools.{planted, created, destroyed, is_under}
-use Rattle.run_model.specs.Buckets.{is_data_kind, is_eos_kind, cleared_bucket}
+use Rattle.run_model.specs.declared.payload.Payload.{Payload}
+use Rattle.run_model.specs.Pools.{Pools, planted, created}
+use Rattle.run_model.specs.Buckets.{is_data_kind, is_eos_kind}
 use Rattle.run_model.specs.State.{Run, fresh_inst, fresh_call, set_brig}
-use Rattle.run_model.specs.Steps.{watched, current, is_spent}
+use Rattle.run_model.specs.Steps.{watched, current, is_spent, pool_destroyed}
 
 -- busy: a call is running. count: the instructions executed since the last open, begin or bring. broken: why
 -- nothing is served any more but the output.
@@ -119,37 +119,30 @@ brings memory p pieces c =
     ∷ (refused_if (is_spent c.run.shared.next (2 + length pieces)) refusal.NamesSpent
     ∷ (refused_if (not memory) refusal.NoMemory ∷ []))))))) c (brought p pieces c)
 
--- What a clear makes of a brigade variable, where these pools are reached: a brigade on one of them goes with its
--- buckets, and of the others the homes end and the POOL buckets become HEAP.
-abbrev pub is_reached : (ℕ → Bool) → Option ℕ → Bool
-is_reached reached None = false
-is_reached reached (Some p) = reached p
-
-abbrev pub cleared_var : (ℕ → Bool) → Var → Var
-cleared_var reached var.Null = var.Null
-cleared_var reached var.Gone = var.Gone
-cleared_var reached (var.Live v) =
-    if is_reached reached v.on then var.Gone else var.Live (record v { items = map (cleared_bucket reached) v.items })
-
 -- The request's pool is destroyed, and no EOS was passed in the next request.
 abbrev pub request_ended : ℕ → Run → Run
 request_ended req r =
-    let reached = is_under r.shared.pools req in
-    record r {
-      inst = record r.inst { brigs = λ b. cleared_var reached (r.inst.brigs b); sent = false };
-      shared = record r.shared { pools = destroyed req r.shared.pools; req = None };
-      out = record r.out { ended = false };
-    }
+    let gone = pool_destroyed req r in
+    record gone { inst = record gone.inst { sent = false }; shared = record gone.shared { req = None }; out = record gone.out { ended = false } }
 
 abbrev pub ended : Option ℕ → Connection → Connection
 ended None c = c
 ended (Some req) c = record c { run = request_ended req c.run }
 
-unfoldable pub ends : Connection → Option Refusal × Connection
-ends c =
+unfoldable pub ends : Bool → Connection → Option Refusal × Connection
+ends memory c =
     unless_refused (first_refusal (if_broken c.broken
     ∷ (refused_if c.busy refusal.Busy
-    ∷ (refused_if (not (is_some c.run.shared.req)) refusal.NotInRequest ∷ [])))) c (ended c.run.shared.req c)
+    ∷ (refused_if (not (is_some c.run.shared.req)) refusal.NotInRequest
+    ∷ (refused_if (not memory) refusal.NoMemory ∷ []))))) c (ended c.run.shared.req c)
+
+-- The connection is closed: its pool is destroyed with all under it. These are the labels run, its own last, and the
+-- pools that are left.
+abbrev pub closing_labels : Connection → List (List ℕ)
+closing_labels c = (pool_destroyed c.run.shared.conn c.run).shared.labels
+
+abbrev pub closing_pools : Connection → Pools Payload
+closing_pools c = (pool_destroyed c.run.shared.conn c.run).shared.pools
 
 -- the output is taken, and what is left
 unfoldable pub takes : Connection → List ℕ × Connection

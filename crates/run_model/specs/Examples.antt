@@ -1,6 +1,8 @@
 -- Small modules as values, and what whole runs of them answer.
-use Rattle.std.specs.Prelude.{◌≡◌, ℕ, ◌-◌, ◌^◌, true, false, List, [], ◌∷◌, ◌++◌, Some, None, ◌==◌, if◌then◌else◌}
+use Rattle.std.specs.Prelude.{◌≡◌, ℕ, ◌-◌, ◌^◌, true, false, ◌+◌, List, [], ◌∷◌, ◌++◌, length, replicate, Some, None, ◌==◌, if◌then◌else◌}
+use Rattle.module_lang.specs.declared.instr.PoolRef.{PoolRef}
 use Rattle.module_lang.specs.declared.instr.PoolRef.TheVariants as pool
+use Rattle.module_lang.specs.declared.instr.VarRef.TheVariants as varref
 use Rattle.module_lang.specs.declared.instr.Status.TheVariants.{Success, Fail}
 use Rattle.module_lang.specs.declared.instr.Instr.{Instr}
 use Rattle.module_lang.specs.declared.instr.Instr.TheVariants as instr
@@ -24,11 +26,12 @@ use Rattle.run_model.specs.declared.event.Cause.TheVariants as cause
 use Rattle.run_model.specs.declared.event.Refusal.TheVariants as refusal
 use Rattle.run_model.specs.declared.fault.FaultKind.TheVariants as fault_kind
 use Rattle.run_model.specs.Pools.{planted, created}
+use Rattle.run_model.specs.Connection.{closing_pools}
 use Rattle.run_model.specs.State.{Run, items_of}
 use Rattle.run_model.specs.Faults.{fault}
 use Rattle.run_model.specs.Steps.{do_return}
 use Rattle.run_model.specs.Connection.{opened, request_ended}
-use Rattle.run_model.specs.Runs.{Answer, Done, Refused, Step, Output, World, happens}
+use Rattle.run_model.specs.Runs.{Answer, Done, Refused, Step, Output, Labels, World, Before, There, Closed, happens}
 
 -- the answers of these events, where memory is ample
 unfoldable pub answers_from : World → ℕ → Program → List Event → List Answer
@@ -37,7 +40,7 @@ answers_from w budget p (e ∷ es) = (happens true budget p e w).0 ∷ answers_f
 
 -- the answers of a host that is not yet open
 abbrev pub answers : ℕ → Program → List Event → List Answer
-answers budget p es = answers_from None budget p es
+answers budget p es = answers_from Before budget p es
 
 -- a module with no variables, whose `open` and `init` succeed at once
 abbrev pub with_main : List Instr → Program
@@ -94,8 +97,9 @@ begun_well = Done ∷ step_ok ∷ Done ∷ step_ok ∷ []
 
 -- a world with other next names, of pools and of all else
 abbrev pub with_names : ℕ → ℕ → World → World
-with_names pool_name name None = None
-with_names pool_name name (Some c) = Some (record c { run = record c.run { shared = record c.run.shared { pools = record c.run.shared.pools { next = pool_name }; next = name } } })
+with_names pool_name name Before = Before
+with_names pool_name name (Closed pools) = Closed pools
+with_names pool_name name (There c) = There (record c { run = record c.run { shared = record c.run.shared { pools = record c.run.shared.pools { next = pool_name }; next = name } } })
 
 -- what the events lead to, where memory is ample
 unfoldable pub world_after : World → ℕ → Program → List Event → World
@@ -104,7 +108,35 @@ world_after w budget p (e ∷ es) = world_after (happens true budget p e w).1 bu
 
 -- the answers of these events after `beginning`, with these next names
 abbrev pub answers_with_names : ℕ → ℕ → Program → List Event → List Answer
-answers_with_names pool_name name p es = answers_from (with_names pool_name name (world_after None 1000000 p beginning)) 1000000 p es
+answers_with_names pool_name name p es = answers_from (with_names pool_name name (world_after Before 1000000 p beginning)) 1000000 p es
+
+-- a module with these variables and texts whose `open` is this, and whose `init` and `main` succeed at once
+abbrev pub with_open : List PoolRef → List PoolRef → List (List ℕ) → List Instr → Program
+with_open pools brigades texts first = record { pools = pools; brigades = brigades; texts = texts; code = first ++ instr.Ret Success ∷ instr.Ret Success ∷ []; init = length first; main = length first + 1 }
+
+-- `pool p0 conn`, `pool p1 p0`; open: `pcreate p0`, `label p0 "1"`, `label p0 "2"`, `pcreate p1`, `label p1 "3"`,
+-- `pclear p0`, `ret ok`
+abbrev pub cleans_up : Program
+cleans_up = with_open (pool.Conn ∷ pool.Own 0 ∷ []) [] ((49 ∷ []) ∷ (50 ∷ []) ∷ (51 ∷ []) ∷ [])
+    (instr.PCreate 0 ∷ instr.Label (pool.Own 0) 0 ∷ instr.Label (pool.Own 0) 1 ∷ instr.PCreate 1 ∷ instr.Label (pool.Own 1) 2 ∷ instr.PClear 0 ∷ instr.Ret Success ∷ [])
+
+-- `pool p0 conn`, `brigade b0 p0`, with this `open`
+abbrev pub one_pool : List Instr → Program
+one_pool first = with_open (pool.Conn ∷ []) (pool.Own 0 ∷ []) ((97 ∷ []) ∷ (98 ∷ []) ∷ []) (first ++ instr.Ret Success ∷ [])
+
+-- `pool p0 conn`, `pool p1 p0`, `brigade b0 p1`, with this `open`
+abbrev pub two_pools : List Instr → Program
+two_pools first = with_open (pool.Conn ∷ pool.Own 0 ∷ []) (pool.Own 1 ∷ []) [] (first ++ instr.Ret Success ∷ [])
+
+-- `pool p0 req`, `pool p1 p0`, `brigade b0 p1`, with this `init`, which begins at 1
+abbrev pub request_pools : List Instr → Program
+request_pools first =
+    let init : List Instr = first ++ instr.Ret Success ∷ [] in
+    record { pools = pool.Req ∷ pool.Own 0 ∷ []; brigades = pool.Own 1 ∷ []; texts = (97 ∷ []) ∷ []; code = instr.Ret Success ∷ (init ++ instr.Ret Success ∷ []); init = 1; main = length init + 1 }
+
+-- what so many steps of `open` answer, and what is told then
+abbrev pub opening : ℕ → List Event → List Event
+opening n es = event.Open ∷ (replicate n event.Step ++ es)
 
 -- bodies of these bytes
 abbrev pub a_heap : List ℕ → Event
@@ -132,6 +164,61 @@ pub record PassRuns : Type 0 where
   pub gathered : answers 1000000 gathers (event.Open ∷ (event.Step ∷ event.Begin ∷ event.Step ∷ event.Step ∷ a_heap (97 ∷ []) ∷ three_steps ++ event.Step ∷ event.End ∷ event.Begin ∷ event.Step ∷ event.Step ∷ event.TakeOutput ∷ []))
       ≡ Done ∷ step_ok ∷ Done ∷ went ∷ step_ok ∷ Done ∷ went ∷ went ∷ went ∷ step_ok ∷ Done ∷ Done ∷ went ∷ step_ok ∷ Output (97 ∷ []) ∷ []
 
+-- How pools are made, cleared and destroyed, and their labels run.
+pub record PoolRuns : Type 0 where
+  -- subpools first, last in first out
+  pub order : answers 1000000 cleans_up (opening 7 (event.TellLabels ∷ event.Close ∷ event.TellLabels ∷ []))
+      ≡ Done ∷ went ∷ went ∷ went ∷ went ∷ went ∷ went ∷ step_ok ∷ Labels ((51 ∷ []) ∷ (50 ∷ []) ∷ (49 ∷ []) ∷ []) ∷ Labels ((51 ∷ []) ∷ (50 ∷ []) ∷ (49 ∷ []) ∷ []) ∷ Refused refusal.NoSuchConn ∷ []
+  -- of two equal labels the newer one is killed; what is left runs at the close
+  pub killed : answers 1000000 (one_pool (instr.PCreate 0 ∷ instr.Label (pool.Own 0) 0 ∷ instr.Label pool.Conn 1 ∷ instr.Label (pool.Own 0) 1 ∷ instr.Label (pool.Own 0) 0 ∷ instr.Unlabel (pool.Own 0) 0 ∷ []))
+      (opening 7 (event.TellLabels ∷ event.Close ∷ [])) ≡ Done ∷ went ∷ went ∷ went ∷ went ∷ went ∷ went ∷ step_ok ∷ Labels [] ∷ Labels ((98 ∷ []) ∷ (97 ∷ []) ∷ (98 ∷ []) ∷ []) ∷ []
+  -- a brigade goes with its pool, and may be made again; a cleared pool is usable
+  pub again : answers 1000000 (one_pool (instr.PCreate 0 ∷ instr.BCreate 0 ∷ instr.PClear 0 ∷ instr.BCreate 0 ∷ instr.BClean 0 ∷ [])) (opening 6 [])
+      ≡ Done ∷ went ∷ went ∷ went ∷ went ∷ went ∷ step_ok ∷ []
+  pub gone : answers 1000000 (one_pool (instr.PCreate 0 ∷ instr.BCreate 0 ∷ instr.PClear 0 ∷ instr.BClean 0 ∷ [])) (opening 4 [])
+      ≡ Done ∷ went ∷ went ∷ went ∷ Step (stepped.Fault fault_kind.F2 0 3) ∷ []
+  pub dead : answers 1000000 (one_pool (instr.PCreate 0 ∷ instr.PDestroy 0 ∷ instr.PCreate 0 ∷ instr.PDestroy 0 ∷ instr.PClear 0 ∷ [])) (opening 5 [])
+      ≡ Done ∷ went ∷ went ∷ went ∷ went ∷ Step (stepped.Fault fault_kind.F1 0 4) ∷ []
+  pub null : answers 1000000 (one_pool (instr.Label (pool.Own 0) 0 ∷ [])) (opening 1 []) ≡ Done ∷ Step (stepped.Fault fault_kind.F1 0 0) ∷ []
+  pub over_live : answers 1000000 (one_pool (instr.PCreate 0 ∷ instr.PCreate 0 ∷ [])) (opening 2 (event.TellLabels ∷ event.Begin ∷ event.Close ∷ []))
+      ≡ Done ∷ went ∷ Step (stepped.Fault fault_kind.F10 0 1) ∷ Labels [] ∷ broken_by cause.Faulted ∷ Labels [] ∷ []
+  -- a dead variable is not null
+  pub nulls : answers 1000000 (one_pool (instr.JNull (varref.Pool 0) 2 ∷ instr.PClear 0 ∷ instr.PCreate 0 ∷ instr.PDestroy 0 ∷ instr.JNull (varref.Pool 0) 1 ∷ instr.JNull (varref.Brigade 0) 7 ∷ instr.PClear 0 ∷ []))
+      (opening 6 []) ≡ Done ∷ went ∷ went ∷ went ∷ went ∷ went ∷ step_ok ∷ []
+  pub pool_names : (happens true 1000000 (one_pool (instr.PCreate 0 ∷ [])) event.Step (with_names (2 ^ 64 - 1) 4 (There opened))).0 ≡ broken_by cause.NamesSpent
+  pub last_pool_name : (happens true 1000000 (one_pool (instr.PCreate 0 ∷ [])) event.Step (with_names (2 ^ 64 - 2) 4 (There opened))).0 ≡ went
+  pub no_memory : (happens false 1000000 (one_pool (instr.PCreate 0 ∷ [])) event.Step (There opened)).0 ≡ broken_by cause.NoMemory
+
+-- How pools end with those above them, with their request and with their connection.
+pub record PoolEnds : Type 0 where
+  pub subpool_brigade : answers 1000000 (two_pools (instr.PCreate 0 ∷ instr.PCreate 1 ∷ instr.BCreate 0 ∷ instr.PClear 0 ∷ instr.BClean 0 ∷ [])) (opening 5 [])
+      ≡ Done ∷ went ∷ went ∷ went ∷ went ∷ Step (stepped.Fault fault_kind.F2 0 4) ∷ []
+  pub subpool : answers 1000000 (two_pools (instr.PCreate 0 ∷ instr.PCreate 1 ∷ instr.PDestroy 0 ∷ instr.PClear 1 ∷ [])) (opening 4 [])
+      ≡ Done ∷ went ∷ went ∷ went ∷ Step (stepped.Fault fault_kind.F1 0 3) ∷ []
+  -- a pool above a cleared one is left as it is
+  pub above : answers 1000000 (two_pools (instr.PCreate 0 ∷ instr.PCreate 1 ∷ instr.PDestroy 1 ∷ instr.PClear 0 ∷ [])) (opening 5 []) ≡ Done ∷ went ∷ went ∷ went ∷ went ∷ step_ok ∷ []
+  -- no label of another pool is killed, and where there is none nothing happens
+  pub other_pool : answers 1000000 (one_pool (instr.PCreate 0 ∷ instr.Label pool.Conn 0 ∷ instr.Unlabel (pool.Own 0) 0 ∷ instr.Unlabel pool.Conn 1 ∷ [])) (opening 5 (event.Close ∷ []))
+      ≡ Done ∷ went ∷ went ∷ went ∷ went ∷ step_ok ∷ Labels ((97 ∷ []) ∷ []) ∷ []
+  -- the labels of a request's pools run where it ends
+  pub request_labels : answers 1000000 (request_pools (instr.Label pool.Req 0 ∷ [])) (event.Open ∷ event.Step ∷ event.Begin ∷ event.Step ∷ event.Step ∷ event.TellLabels ∷ event.End ∷ event.TellLabels ∷ event.Close ∷ [])
+      ≡ Done ∷ step_ok ∷ Done ∷ went ∷ step_ok ∷ Labels [] ∷ Done ∷ Labels ((97 ∷ []) ∷ []) ∷ Labels ((97 ∷ []) ∷ []) ∷ []
+  -- they and their brigades may be made again in the next request
+  pub next_request : answers 1000000 (request_pools (instr.PCreate 0 ∷ instr.PCreate 1 ∷ instr.BCreate 0 ∷ []))
+      (event.Open ∷ (event.Step ∷ event.Begin ∷ three_steps ++ event.Step ∷ event.End ∷ event.Begin ∷ three_steps ++ event.Step ∷ []))
+      ≡ Done ∷ step_ok ∷ Done ∷ went ∷ went ∷ went ∷ step_ok ∷ Done ∷ Done ∷ went ∷ went ∷ went ∷ step_ok ∷ []
+  -- until then they are dead, and not null
+  pub after_request : answers 1000000 (request_pools (instr.JNull (varref.Pool 0) 3 ∷ instr.PClear 0 ∷ instr.PCreate 0 ∷ []))
+      (event.Open ∷ (event.Step ∷ event.Begin ∷ three_steps ++ event.End ∷ event.Begin ∷ event.Step ∷ event.Step ∷ []))
+      ≡ Done ∷ step_ok ∷ Done ∷ went ∷ went ∷ step_ok ∷ Done ∷ Done ∷ went ∷ Step (stepped.Fault fault_kind.F1 0 2) ∷ []
+  pub while_busy : answers 1000000 identity (event.Open ∷ event.Close ∷ event.Step ∷ event.TakeOutput ∷ event.Close ∷ [])
+      ≡ Done ∷ Labels [] ∷ Refused refusal.NoSuchConn ∷ Refused refusal.NoSuchConn ∷ Refused refusal.NoSuchConn ∷ []
+  -- the root is left, alone
+  pub root_left : (closing_pools opened).path 1 ≡ 1 ∷ []
+  pub none_left : (closing_pools opened).path 2 ≡ []
+  pub no_memory_to_end : (happens false 1000000 identity event.End (world_after Before 1000000 identity beginning)).0 ≡ Refused refusal.NoMemory
+  pub no_memory_to_close : happens false 1000000 identity event.Close (There opened) ≡ (Refused refusal.NoMemory, There opened)
+
 -- How instructions have faults, which are told whether or not there is memory.
 pub record FaultRuns : Type 0 where
   pub passed : answers 1000000 asks_after_pass (beginning ++ event.Bring [] ∷ three_steps ++ event.TakeOutput ∷ [])
@@ -144,7 +231,7 @@ pub record FaultRuns : Type 0 where
       ≡ Done ∷ step_ok ∷ Done ∷ Step (stepped.Fault fault_kind.F1 0 1) ∷ []
   pub no_brigade : answers 1000000 never_creates (beginning ++ event.Bring [] ∷ event.Step ∷ [])
       ≡ begun_well ++ Done ∷ Step (stepped.Fault fault_kind.F2 0 2) ∷ []
-  pub without_memory : (happens false 1000000 never_creates event.Step (world_after None 1000000 never_creates (beginning ++ event.Bring [] ∷ []))).0 ≡ Step (stepped.Fault fault_kind.F2 0 2)
+  pub without_memory : (happens false 1000000 never_creates event.Step (world_after Before 1000000 never_creates (beginning ++ event.Bring [] ∷ []))).0 ≡ Step (stepped.Fault fault_kind.F2 0 2)
 
 -- How connections break.
 pub record BreakRuns : Type 0 where
@@ -155,8 +242,8 @@ pub record BreakRuns : Type 0 where
   pub none : answers 0 identity (event.Open ∷ event.Step ∷ []) ≡ Done ∷ broken_by cause.OutOfSteps ∷ []
   pub for_ever : answers 2 loops (beginning ++ event.Bring [] ∷ three_steps) ≡ begun_well ++ Done ∷ went ∷ went ∷ broken_by cause.OutOfSteps ∷ []
   -- a brigade wants memory, a return wants none
-  pub no_memory : (happens false 1000000 gathers event.Step (world_after None 1000000 gathers (event.Open ∷ event.Step ∷ event.Begin ∷ []))).0 ≡ broken_by cause.NoMemory
-  pub no_growth : (happens false 1000000 identity event.Step (Some opened)).0 ≡ step_ok
+  pub no_memory : (happens false 1000000 gathers event.Step (world_after Before 1000000 gathers (event.Open ∷ event.Step ∷ event.Begin ∷ []))).0 ≡ broken_by cause.NoMemory
+  pub no_growth : (happens false 1000000 identity event.Step (There opened)).0 ≡ step_ok
 
 -- Which events are refused in which states.
 pub record RefusedRuns : Type 0 where
@@ -169,7 +256,7 @@ pub record RefusedRuns : Type 0 where
   pub in_request : answers 1000000 identity (beginning ++ event.Begin ∷ event.Step ∷ []) ≡ begun_well ++ Refused refusal.InRequest ∷ Refused refusal.Idle ∷ []
   pub data_after_eos : answers 1000000 identity (beginning ++ event.Bring (piece.Heap (97 ∷ []) ∷ piece.Eos ∷ piece.Heap (98 ∷ []) ∷ []) ∷ event.Step ∷ [])
       ≡ begun_well ++ Refused refusal.DataAfterEos ∷ Refused refusal.Idle ∷ []
-  pub no_memory : (happens false 1000000 identity (event.Bring []) (world_after None 1000000 identity beginning)).0 ≡ Refused refusal.NoMemory
+  pub no_memory : (happens false 1000000 identity (event.Bring []) (world_after Before 1000000 identity beginning)).0 ≡ Refused refusal.NoMemory
 
 -- How far names last: 2^64 - 2 is the last one, of pools as of all else.
 pub record NameRuns : Type 0 where
@@ -201,6 +288,10 @@ holding b mark items =
 abbrev pub in_request : List Named → Run
 in_request items = record (holding 0 Usable items) { shared = record (holding 0 Usable items).shared { pools = created 2 (created 1 (planted 1)) } }
 
+-- a run whose pool variable 0 names a dead pool, and the others a live one
+abbrev pub dead_and_live : Run
+dead_and_live = record opened.run { inst = record opened.run.inst { pools = λ p. if p == 0 then poolvar.Named 9 else poolvar.Named 2 } }
+
 -- Faults of what may be held, and their order.
 pub record HeldFaults : Type 0 where
   pub dead : fault gathers (holding 0 Usable (a_bucket kind.File home.Ended ∷ [])) (instr.Pass 0 5) ≡ Some fault_kind.F5
@@ -222,6 +313,9 @@ pub record HeldFaults : Type 0 where
   pub pool_before_brigade : fault lacks_its_pool (holding 0 Usable []) (instr.BCreate 0) ≡ Some fault_kind.F1
   pub live_brigade : fault creates_each_time (holding 0 Usable []) (instr.BCreate 0) ≡ Some fault_kind.F10
   pub passed_brigade : fault creates_each_time (holding 0 Passed []) (instr.BCreate 0) ≡ Some fault_kind.F10
+  pub parent_before_new : fault cleans_up dead_and_live (instr.PCreate 1) ≡ Some fault_kind.F1
+  pub dead_made_again : fault cleans_up dead_and_live (instr.PCreate 0) ≡ None
+  pub live_pool : fault (two_pools []) (record dead_and_live { inst = record dead_and_live.inst { pools = λ p. poolvar.Named 2 } }) (instr.PCreate 1) ≡ Some fault_kind.F10
 
 -- What a return and the end of a request make of the buckets that are held.
 pub record HeldChanges : Type 0 where

@@ -1,9 +1,10 @@
 -- The laws of the definitions, as statements.
-use Rattle.std.specs.Prelude.{◌≡◌, ◌≢◌, ℕ, ◌+◌, ◌<◌, ◌≤◌, Bool, true, false, ◌==◌, ◌||◌, ◌⊎◌, List, [], ◌∷◌, ◌++◌, length, replicate, Some, None, Result, Ok, Err, IfSome}
+use Rattle.std.specs.Prelude.{◌≡◌, ◌≢◌, ℕ, ◌+◌, ◌<◌, ◌≤◌, Bool, true, false, ◌==◌, ◌||◌, ◌⊎◌, List, [], ◌∷◌, ◌++◌, map, length, replicate, Some, None, Result, Ok, Err, All}
 use Rattle.module_lang.specs.declared.instr.Instr.{Instr}
 use Rattle.module_lang.specs.declared.instr.Instr.TheVariants as instr
 use Rattle.module_lang.specs.Program.{Program, IsModule, fits}
 use Rattle.run_model.specs.declared.bucket.Named.{Named}
+use Rattle.run_model.specs.declared.bucket.Var.{Var}
 use Rattle.run_model.specs.declared.bucket.Var.TheVariants as var
 use Rattle.run_model.specs.declared.fault.FaultKind.{FaultKind}
 use Rattle.run_model.specs.declared.event.Piece.{Piece}
@@ -18,17 +19,26 @@ use Rattle.run_model.specs.declared.event.Stepped.TheVariants as stepped
 use Rattle.run_model.specs.Buckets.{has_eos, data_after_eos}
 use Rattle.run_model.specs.State.{Run, Out, fresh_call, items_of}
 use Rattle.run_model.specs.Faults.{WUsable, fault_want, fault, send_fault, or_else}
-use Rattle.run_model.specs.Steps.{Choice, step, step_at_end, delivered, is_spent, names_of}
+use Rattle.run_model.specs.Steps.{Choice, step, step_at_end, delivered, lacks_names, names_of, pool_cleared, pool_destroyed}
 use Rattle.run_model.specs.Connection.{Connection, opened, named_from, data_behind_eos, breaks, steps}
-use Rattle.run_model.specs.Runs.{Answer, Refused, Step, World, happens, step_of, IsRun, GoesOn, EndsRun}
-use Rattle.run_model.specs.Sound.{SoundNames, SoundBuckets, SoundPools, Sound}
+use Rattle.run_model.specs.Runs.{Answer, Refused, Step, World, Before, There, Closed, happens, IsDue, step_of, IsRun, GoesOn, EndsRun}
+use Rattle.run_model.specs.Sound.{SoundNames, SoundBuckets, SoundPools, Sound, brigade_pool}
+use Rattle.run_model.specs.declared.bucket.Kind.TheVariants as kind
+use Rattle.run_model.specs.declared.bucket.Home.TheVariants as home
+use Rattle.run_model.specs.declared.payload.Payload.{Payload}
+use Rattle.run_model.specs.Pools.{Pools, is_live, is_under, created, cleared, destroyed}
+use Rattle.run_model.specs.RunOrder.{IsPoolMap, run_order}
+use Rattle.std.specs.List.{list_any}
+use Rattle.run_model.specs.Payloads.{is_label, labels_in}
+use Rattle.run_model.specs.Clearing.{is_reached}
+use Rattle.run_model.specs.Steps.{label_registered, label_killed}
 
 -- An instruction of a module may be executed: it has no fault, and the names that it gives out are there.
 pub record MayExecute (p : Program) (r : Run) (i : Instr) : Type 0 where
   pub proper : IsModule p
   pub fit : fits p i ≡ true
   pub faultless : fault p r i ≡ None
-  pub names_last : is_spent r.shared.next (names_of i) ≡ false
+  pub names_last : lacks_names r i ≡ false
 
 -- A step without a fault keeps each name one bucket's, and new names new.
 abbrev pub StepKeepsNames : Type 0
@@ -50,21 +60,23 @@ StepAtEndKeeps = (p : Program) (i : Instr) (r : Run) → MayExecute p r i → So
 abbrev pub OpenedIsSound : Type 0
 OpenedIsSound = Sound opened.run
 
--- what is true of a connection, where it is open
+-- what is true of a connection, where it is there
 abbrev pub SoundWorld : World → Type 0
-SoundWorld w = IfSome w (λ c. Sound c.run)
+SoundWorld Before = Unit {0}
+SoundWorld (There c) = Sound c.run
+SoundWorld (Closed pools) = Unit {0}
 
 -- Each event keeps it, and so it is true of each world that a run reaches.
 abbrev pub EventKeepsSound : Type 0
 EventKeepsSound = (memory : Bool) (budget : ℕ) (p : Program) (e : Event) (w : World) → IsModule p → SoundWorld w → SoundWorld (happens memory budget p e w).1
 
 abbrev pub RunIsSound : Type 0
-RunIsSound = (budget : ℕ) (p : Program) (es : List Event) (answers : List Answer) (w : World) → IsModule p → IsRun budget p None es answers w → SoundWorld w
+RunIsSound = (budget : ℕ) (p : Program) (es : List Event) (answers : List Answer) (w : World) → IsModule p → IsRun budget p Before es answers w → SoundWorld w
 
--- A run goes on by one event, but a connection that is open is not opened again.
+-- A run goes on by one event, but a connection is opened once.
 abbrev pub RunGoesOn : Type 0
 RunGoesOn = (memory : Bool) (budget : ℕ) (p : Program) (old mid new : World) (es : List Event) (answers : List Answer) (e : Event) (a : Answer)
-    → IsRun budget p old es answers mid → (e ≡ event.Open → mid ≡ None) → happens memory budget p e mid ≡ (a, new) → IsRun budget p old (es ++ e ∷ []) (answers ++ a ∷ []) new
+    → IsRun budget p old es answers mid → IsDue e mid → happens memory budget p e mid ≡ (a, new) → IsRun budget p old (es ++ e ∷ []) (answers ++ a ∷ []) new
 
 -- Steps that went go on by one more that went.
 abbrev pub StepsGoOn : Type 0
@@ -73,44 +85,54 @@ StepsGoOn = (n budget : ℕ) (p : Program) (old mid new : Connection)
 
 -- the brigade variables that an instruction may change
 abbrev pub may_change : Instr → ℕ → Bool
+may_change (instr.PClear q) k = true
+may_change (instr.PDestroy q) k = true
 may_change (instr.BCreate o) k = k == o
 may_change (instr.BClean b) k = k == b
 may_change (instr.BConcat a b) k = k == a || k == b
 may_change (instr.Pass b l) k = k == b
-may_change (instr.JEmpty b l) k = false
-may_change (instr.JSent l) k = false
-may_change (instr.Jump l) k = false
 may_change (instr.Ret s) k = true
+may_change i k = false
+
+-- the pool variables that it may change
+abbrev pub may_change_pool : Instr → ℕ → Bool
+may_change_pool (instr.PCreate q) k = k == q
+may_change_pool i k = false
 
 abbrev pub is_pass : Instr → Bool
-is_pass (instr.BCreate o) = false
-is_pass (instr.BClean b) = false
-is_pass (instr.BConcat a b) = false
 is_pass (instr.Pass b l) = true
-is_pass (instr.JEmpty b l) = false
-is_pass (instr.JSent l) = false
-is_pass (instr.Jump l) = false
-is_pass (instr.Ret s) = false
+is_pass i = false
 
 abbrev pub is_return : Instr → Bool
-is_return (instr.BCreate o) = false
-is_return (instr.BClean b) = false
-is_return (instr.BConcat a b) = false
-is_return (instr.Pass b l) = false
-is_return (instr.JEmpty b l) = false
-is_return (instr.JSent l) = false
-is_return (instr.Jump l) = false
 is_return (instr.Ret s) = true
+is_return i = false
 
--- What an instruction does not name is as before: other brigades, pools, numbers, and but for a pass or a return
--- also whether an EOS was passed, and the call. Of what is shared only names are given out.
+abbrev pub is_clear : Instr → Bool
+is_clear (instr.PClear q) = true
+is_clear (instr.PDestroy q) = true
+is_clear i = false
+
+-- whether an instruction may change the pool map
+abbrev pub changes_pools : Instr → Bool
+changes_pools (instr.PCreate q) = true
+changes_pools (instr.Label q t) = true
+changes_pools (instr.Unlabel q t) = true
+changes_pools i = is_clear i
+
+-- What an instruction does not name is as before: other brigades and pool variables, numbers, and but for a pass or a
+-- return also whether an EOS was passed, and the call. Pools change by their own instructions, and labels are run by
+-- clears alone; else only names are given out.
 pub record ChangesOnly (i : Instr) (r new : Run) : Type 0 where
   pub brigades : (k : ℕ) → may_change i k ≡ false → new.inst.brigs k ≡ r.inst.brigs k
-  pub pools : new.inst.pools ≡ r.inst.pools
+  pub pools : (k : ℕ) → may_change_pool i k ≡ false → new.inst.pools k ≡ r.inst.pools k
   pub numbers : new.inst.numbers ≡ r.inst.numbers
   pub sent : is_pass i ≡ false → new.inst.sent ≡ r.inst.sent
-  pub call : is_return i ≡ false → new.call ≡ r.call
-  pub shared : new.shared ≡ record r.shared { next = r.shared.next + names_of i }
+  pub call : is_return i ≡ false → is_clear i ≡ false → new.call ≡ r.call
+  pub tree : changes_pools i ≡ false → new.shared.pools ≡ r.shared.pools
+  pub conn : new.shared.conn ≡ r.shared.conn
+  pub req : new.shared.req ≡ r.shared.req
+  pub labels : is_clear i ≡ false → new.shared.labels ≡ r.shared.labels
+  pub names : new.shared.next ≡ r.shared.next + names_of i
   pub output : new.out ≡ r.out
 
 abbrev pub StepChangesOnly : Type 0
@@ -131,10 +153,19 @@ abbrev pub FaultBreaks : Type 0
 FaultBreaks = (memory : Bool) (budget : ℕ) (p : Program) (c new : Connection) (k : FaultKind) (m pc : ℕ)
     → steps memory budget p c ≡ (Ok (stepped.Fault k m pc), new) → new ≡ breaks cause.Faulted c
 
--- A broken connection names its cause from then on and stays as it is; only its output can be taken.
+-- the events that a broken connection does not serve
+abbrev pub is_work : Event → Bool
+is_work event.Begin = true
+is_work (event.Bring pieces) = true
+is_work event.Step = true
+is_work event.End = true
+is_work e = false
+
+-- A broken connection names its cause from then on and stays as it is; only its output can be taken, its labels told, and
+-- it can be closed.
 abbrev pub BrokenStaysBroken : Type 0
 BrokenStaysBroken = (memory : Bool) (budget : ℕ) (p : Program) (e : Event) (c : Connection) (k : Cause)
-    → c.broken ≡ Some k → e ≢ event.Open → e ≢ event.TakeOutput → happens memory budget p e (Some c) ≡ (Refused (refusal.Broken k), Some c)
+    → c.broken ≡ Some k → is_work e ≡ true → happens memory budget p e (There c) ≡ (Refused (refusal.Broken k), There c)
 
 -- A connection is orderly: a call that runs is at an instruction of the module; between calls there is no brought
 -- brigade, no cursor and no loose bucket; no more instructions were executed than the budget gives.
@@ -145,13 +176,15 @@ pub record IsOrderly (budget : ℕ) (p : Program) (c : Connection) : Type 0 wher
   pub spent : c.count ≤ budget
 
 abbrev pub OrderlyWorld : ℕ → Program → World → Type 0
-OrderlyWorld budget p w = IfSome w (λ c. IsOrderly budget p c)
+OrderlyWorld budget p Before = Unit {0}
+OrderlyWorld budget p (There c) = IsOrderly budget p c
+OrderlyWorld budget p (Closed pools) = Unit {0}
 
 abbrev pub EventKeepsOrder : Type 0
 EventKeepsOrder = (memory : Bool) (budget : ℕ) (p : Program) (e : Event) (w : World) → IsModule p → OrderlyWorld budget p w → OrderlyWorld budget p (happens memory budget p e w).1
 
 abbrev pub RunIsOrderly : Type 0
-RunIsOrderly = (budget : ℕ) (p : Program) (es : List Event) (answers : List Answer) (w : World) → IsModule p → IsRun budget p None es answers w → OrderlyWorld budget p w
+RunIsOrderly = (budget : ℕ) (p : Program) (es : List Event) (answers : List Answer) (w : World) → IsModule p → IsRun budget p Before es answers w → OrderlyWorld budget p w
 
 -- No data stands behind an EOS of a brigade that is brought.
 abbrev pub BroughtEndsOnce : Type 0
@@ -168,22 +201,18 @@ FaultOfCuts = (sent : Bool) (xs ys : List Named) → or_else (send_fault sent xs
 -- Steps that went are a run, and so are they with the step at which they end.
 abbrev pub StepsAreARun : Type 0
 StepsAreARun = (n budget : ℕ) (p : Program) (old new : Connection)
-    → GoesOn n budget p old new → IsRun budget p (Some old) (replicate n event.Step) (replicate n (Step stepped.Went)) (Some new)
+    → GoesOn n budget p old new → IsRun budget p (There old) (replicate n event.Step) (replicate n (Step stepped.Went)) (There new)
 
 abbrev pub EndedStepsAreARun : Type 0
 EndedStepsAreARun = (memory : Bool) (budget : ℕ) (p : Program) (old new : Connection) (answer : Result Stepped Refusal) → (ended : EndsRun memory budget p old answer new)
-    → IsRun budget p (Some old) (replicate ended.count event.Step ++ event.Step ∷ []) (replicate ended.count (Step stepped.Went) ++ (step_of (answer, new)).0 ∷ []) (Some new)
+    → IsRun budget p (There old) (replicate ended.count event.Step ++ event.Step ∷ []) (replicate ended.count (Step stepped.Went) ++ (step_of (answer, new)).0 ∷ []) (There new)
 
 -- whether an instruction wants this brigade usable
 abbrev pub uses : Instr → ℕ → Bool
-uses (instr.BCreate o) b = false
-uses (instr.BClean c) b = false
 uses (instr.BConcat a c) b = a == b || c == b
 uses (instr.Pass c l) b = c == b
 uses (instr.JEmpty c l) b = c == b
-uses (instr.JSent l) b = false
-uses (instr.Jump l) b = false
-uses (instr.Ret s) b = false
+uses i b = false
 
 -- A brigade that was passed is not used again before it is cleaned.
 abbrev pub PassedIsNotUsed : Type 0
@@ -193,3 +222,74 @@ PassedIsNotUsed = (p : Program) (choice : Choice) (b l : ℕ) (r : Run) (i : Ins
 abbrev pub CleanedIsUsable : Type 0
 CleanedIsUsable = (p : Program) (choice : Choice) (b : ℕ) (r : Run) → fault p r (instr.BClean b) ≡ None
     → (fault_want (step p choice (instr.BClean b) r).run (WUsable b) ≡ None) × (items_of ((step p choice (instr.BClean b) r).run.inst.brigs b) ≡ [])
+
+-- Where a pool is made under a parent: its name was no pool's, it has nothing to hand on, and the others are as they were.
+pub record CreateKeeps {T : Type 0} (parent : ℕ) (ps new : Pools T) : Type 0 where
+  pub fresh : is_live ps ps.next ≡ false
+  pub child : new.path ps.next ≡ ps.next ∷ ps.path parent
+  pub bare : new.payloads ps.next ≡ []
+  pub path : (m : ℕ) → is_live ps m ≡ true → new.path m ≡ ps.path m
+  pub payloads : (m : ℕ) → is_live ps m ≡ true → new.payloads m ≡ ps.payloads m
+  pub names : new.next ≡ ps.next + 1
+
+abbrev pub CreatesKeepOthers : Type 0
+CreatesKeepOthers = (parent : ℕ) (ps : Pools Payload) → IsPoolMap ps → CreateKeeps parent ps (created parent ps)
+
+-- A label that is registered and then killed leaves all payloads as they were, also where the same label was there before.
+abbrev pub KillsTheNewest : Type 0
+KillsTheNewest = (n m : ℕ) (text : List ℕ) (r : Run) → (label_killed text n (label_registered text n r)).shared.pools.payloads m ≡ r.shared.pools.payloads m
+
+-- Where no payload is that label, nothing is killed.
+abbrev pub KillsNoOther : Type 0
+KillsNoOther = (n m : ℕ) (text : List ℕ) (r : Run) → list_any (is_label text) (r.shared.pools.payloads n) ≡ false
+    → (label_killed text n r).shared.pools.payloads m ≡ r.shared.pools.payloads m
+
+-- Where the pool n is cleared: what does not stand under it is as it was, it stays itself and has nothing to hand on, no
+-- other pool under it is left, and no name comes back.
+pub record ClearKeeps {T : Type 0} (n : ℕ) (ps new : Pools T) : Type 0 where
+  pub path : (m : ℕ) → is_under ps n m ≡ false → new.path m ≡ ps.path m
+  pub payloads : (m : ℕ) → is_under ps n m ≡ false → new.payloads m ≡ ps.payloads m
+  pub itself : new.path n ≡ ps.path n
+  pub empty : is_live ps n ≡ true → new.payloads n ≡ []
+  pub under : (m : ℕ) → is_under ps n m ≡ true → m ≢ n → (new.path m ≡ []) × (new.payloads m ≡ [])
+  pub names : new.next ≡ ps.next
+
+-- Where it is destroyed, it goes too.
+pub record DestroyKeeps {T : Type 0} (n : ℕ) (ps new : Pools T) : Type 0 where
+  pub path : (m : ℕ) → is_under ps n m ≡ false → new.path m ≡ ps.path m
+  pub payloads : (m : ℕ) → is_under ps n m ≡ false → new.payloads m ≡ ps.payloads m
+  pub itself : is_live ps n ≡ true → is_live new n ≡ false
+  pub under : (m : ℕ) → is_under ps n m ≡ true → (new.path m ≡ []) × (new.payloads m ≡ [])
+  pub names : new.next ≡ ps.next
+
+abbrev pub ClearsKeepOthers : Type 0
+ClearsKeepOthers = (n : ℕ) (ps : Pools Payload) → IsPoolMap ps → ClearKeeps n ps (cleared n ps) × DestroyKeeps n ps (destroyed n ps)
+
+-- whether a variable holds a brigade on the pool n or on one under it
+abbrev pub lies_under : Run → ℕ → Var → Bool
+lies_under r n v = is_reached (is_under r.shared.pools n) (brigade_pool v)
+
+-- A bucket has neither its home nor its bytes in the pool n or in one under it.
+abbrev pub StandsApart : Run → ℕ → Named → Type 0
+StandsApart r n x = (m : ℕ) → is_under r.shared.pools n m ≡ true → (x.bucket.home ≢ home.Pool m) × (x.bucket.kind ≢ kind.Pool m)
+
+-- The same buckets with the same content, in the same order; only kinds and homes may be others.
+pub record SameContents (old new : List Named) : Type 0 where
+  pub names : map (λ x. x.name) new ≡ map (λ x. x.name) old
+  pub contents : map (λ x. x.bucket.content) new ≡ map (λ x. x.bucket.content) old
+
+-- What goes with the pool n. gone, kept: a brigade goes exactly where it lies there, and else keeps its buckets. apart,
+-- loose: no bucket that is left depends on what went. others: a brigade that did not depend on it is as it was.
+-- call: a call keeps all but its loose buckets. labels: they are run in the run order, behind those that were run before.
+pub record TakesAlong (n : ℕ) (r new : Run) : Type 0 where
+  pub gone : (b : ℕ) → lies_under r n (r.inst.brigs b) ≡ true → new.inst.brigs b ≡ var.Gone
+  pub kept : (b : ℕ) → lies_under r n (r.inst.brigs b) ≡ false
+      → (brigade_pool (new.inst.brigs b) ≡ brigade_pool (r.inst.brigs b)) × SameContents (items_of (r.inst.brigs b)) (items_of (new.inst.brigs b))
+  pub apart : (b : ℕ) → All (StandsApart r n) (items_of (new.inst.brigs b))
+  pub others : (b : ℕ) → lies_under r n (r.inst.brigs b) ≡ false → All (StandsApart r n) (items_of (r.inst.brigs b)) → new.inst.brigs b ≡ r.inst.brigs b
+  pub loose : All (StandsApart r n) new.call.loose × SameContents r.call.loose new.call.loose
+  pub call : new.call ≡ record r.call { loose = new.call.loose }
+  pub labels : new.shared.labels ≡ r.shared.labels ++ labels_in (run_order r.shared.pools n)
+
+abbrev pub ClearsTakeAlong : Type 0
+ClearsTakeAlong = (n : ℕ) (r : Run) → TakesAlong n r (pool_cleared n r) × TakesAlong n r (pool_destroyed n r)

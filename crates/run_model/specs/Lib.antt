@@ -3,9 +3,12 @@ pub mod Indexed
 pub mod Pools
 pub mod RunOrder
 pub mod RunOrderLaws
+pub mod Payloads
+pub mod SamePayload
 pub mod Buckets
 pub mod Cutting
 pub mod State
+pub mod Clearing
 pub mod Faults
 pub mod Steps
 pub mod Connection

@@ -1,5 +1,5 @@
 -- Runs: what a list of events answers and leaves, from the empty world on.
-use Rattle.std.specs.Prelude.{◌≡◌, ◌≢◌, ℕ, zero, suc, Bool, true, List, [], ◌∷◌, Option, Some, None, Result, Ok, Err}
+use Rattle.std.specs.Prelude.{◌≡◌, ◌≢◌, ℕ, zero, suc, Bool, true, if◌then◌else◌, List, [], ◌∷◌, Option, Some, None, Result, Ok, Err}
 use Rattle.run_model.specs.declared.event.Event.{Event}
 use Rattle.run_model.specs.declared.event.Event.TheVariants as event
 use Rattle.run_model.specs.declared.event.Refusal.{Refusal}
@@ -7,7 +7,9 @@ use Rattle.run_model.specs.declared.event.Refusal.TheVariants as refusal
 use Rattle.run_model.specs.declared.event.Stepped.{Stepped}
 use Rattle.run_model.specs.declared.event.Stepped.TheVariants as stepped
 use Rattle.module_lang.specs.Program.{Program}
-use Rattle.run_model.specs.Connection.{Connection, opened, begins, brings, ends, takes, steps}
+use Rattle.run_model.specs.declared.payload.Payload.{Payload}
+use Rattle.run_model.specs.Pools.{Pools, planted}
+use Rattle.run_model.specs.Connection.{Connection, opened, begins, brings, ends, takes, steps, closing_labels, closing_pools}
 
 -- what an event answers
 pub data Answer : Type 0 where
@@ -19,40 +21,74 @@ pub data Answer : Type 0 where
   Step : Stepped → Answer
   -- the output
   Output : List ℕ → Answer
+  -- the labels run
+  Labels : List (List ℕ) → Answer
+  -- the pools
+  Tree : Pools Payload → Answer
 
--- A host of one connection, which may not be open yet.
-abbrev pub World : Type 0
-World = Option Connection
+-- A host of one connection: it was not opened yet, it is there, or it was closed, and these pools are left.
+pub data World : Type 0 where
+  Before : World
+  There : Connection → World
+  Closed : Pools Payload → World
 
 abbrev pub answer_of : Option Refusal × Connection → Answer × World
-answer_of (None, c) = (Done, Some c)
-answer_of (Some r, c) = (Refused r, Some c)
+answer_of (None, c) = (Done, There c)
+answer_of (Some r, c) = (Refused r, There c)
 
 abbrev pub step_of : Result Stepped Refusal × Connection → Answer × World
-step_of (Ok s, c) = (Step s, Some c)
-step_of (Err r, c) = (Refused r, Some c)
+step_of (Ok s, c) = (Step s, There c)
+step_of (Err r, c) = (Refused r, There c)
 
--- What an event answers and leaves; memory says whether a growth would succeed. (A second opening is in no run.)
+-- the pools of a world; before the connection is opened the root 1 is there alone
+abbrev pub pools_of : World → Pools Payload
+pools_of Before = planted 1
+pools_of (There c) = c.run.shared.pools
+pools_of (Closed pools) = pools
+
+abbrev pub opens : Bool → Answer × World
+opens memory = if memory then (Done, There opened) else (Refused refusal.NoMemory, Before)
+
+abbrev pub closes : Bool → Connection → Answer × World
+closes memory c = if memory then (Labels (closing_labels c), Closed (closing_pools c)) else (Refused refusal.NoMemory, There c)
+
+-- What an event answers and leaves where the connection is there; memory says whether a growth would succeed. (It is
+-- not opened again.)
+abbrev pub happens_to : Bool → ℕ → Program → Event → Connection → Answer × World
+happens_to memory budget p event.Open c = (Done, There c)
+happens_to memory budget p event.Begin c = answer_of (begins memory p c)
+happens_to memory budget p (event.Bring pieces) c = answer_of (brings memory p pieces c)
+happens_to memory budget p event.Step c = step_of (steps memory budget p c)
+happens_to memory budget p event.End c = answer_of (ends memory c)
+happens_to memory budget p event.TakeOutput c = (Output (takes c).0, There (takes c).1)
+happens_to memory budget p event.TellLabels c = (Labels c.run.shared.labels, There c)
+happens_to memory budget p event.Close c = closes memory c
+happens_to memory budget p event.TellPools c = (Tree c.run.shared.pools, There c)
+
+-- Where it is not there, the pools can be told, and at first it can be opened.
+abbrev pub happens_without : Event → World → Answer × World
+happens_without event.TellPools w = (Tree (pools_of w), w)
+happens_without e w = (Refused refusal.NoSuchConn, w)
+
+-- what an event answers and leaves
 abbrev pub happens : Bool → ℕ → Program → Event → World → Answer × World
-happens memory budget p event.Open None = (Done, Some opened)
-happens memory budget p event.Open (Some c) = (Done, Some c)
-happens memory budget p event.Begin (Some c) = answer_of (begins memory p c)
-happens memory budget p (event.Bring pieces) (Some c) = answer_of (brings memory p pieces c)
-happens memory budget p event.Step (Some c) = step_of (steps memory budget p c)
-happens memory budget p event.End (Some c) = answer_of (ends c)
-happens memory budget p event.TakeOutput (Some c) = (Output (takes c).0, Some (takes c).1)
-happens memory budget p event.Begin None = (Refused refusal.NoSuchConn, None)
-happens memory budget p (event.Bring pieces) None = (Refused refusal.NoSuchConn, None)
-happens memory budget p event.Step None = (Refused refusal.NoSuchConn, None)
-happens memory budget p event.End None = (Refused refusal.NoSuchConn, None)
-happens memory budget p event.TakeOutput None = (Refused refusal.NoSuchConn, None)
+happens memory budget p event.Open Before = opens memory
+happens memory budget p e Before = happens_without e Before
+happens memory budget p e (There c) = happens_to memory budget p e c
+happens memory budget p e (Closed pools) = happens_without e (Closed pools)
+
+-- A connection is opened once.
+abbrev pub IsDue : Event → World → Type 0
+IsDue event.Open Before = Unit {0}
+IsDue event.Open (There c) = ⊥
+IsDue event.Open (Closed pools) = ⊥
+IsDue e w = Unit {0}
 
 -- These events may give these answers, one after another, and lead from one world to another. Each growth may find
 -- no memory.
 unfoldable pub IsRun : ℕ → Program → World → List Event → List Answer → World → Type 0
 IsRun budget p old [] [] new = new ≡ old
-IsRun budget p (Some c) (event.Open ∷ es) answers new = ⊥
-IsRun budget p old (e ∷ es) (a ∷ answers) new = (memory : Bool) × (mid : World) × (happens memory budget p e old ≡ (a, mid)) × IsRun budget p mid es answers new
+IsRun budget p old (e ∷ es) (a ∷ answers) new = IsDue e old × (memory : Bool) × (mid : World) × (happens memory budget p e old ≡ (a, mid)) × IsRun budget p mid es answers new
 IsRun budget p old [] (a ∷ answers) new = ⊥
 IsRun budget p old (e ∷ es) [] new = ⊥
 

@@ -98,4 +98,10 @@ pub enum Event {
     End,
     /// The output is taken.
     TakeOutput,
+    /// The labels run are told.
+    TellLabels,
+    /// The connection is closed.
+    Close,
+    /// The pools are told.
+    TellPools,
 }

@@ -6,8 +6,10 @@ mod bucket;
 mod event;
 mod fault;
 pub mod laws;
+mod payload;
 
 pub use bucket::{Brigade, Bucket, Content, Cursor, Home, Kind, Mark, Named, PoolVar, Var};
 pub use event::{Cause, Event, Exit, Piece, Refusal, StepRefusal, Stepped};
 pub use fault::FaultKind;
-pub use module_lang::{Instr, Module, PoolRef, Seq, Status};
+pub use module_lang::{Instr, Module, PoolRef, Seq, Status, VarRef};
+pub use payload::Payload;
