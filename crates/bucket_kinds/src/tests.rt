@@ -1,10 +1,12 @@
 //! Values from the descriptions of the calls, and files of a real disk.
 
-ghost use Rattle.std.specs.Prelude.{◌≡◌, IfOk};
+ghost use Rattle.std.specs.Prelude.{◌≡◌, IfOk, true};
+ghost use Rattle.run_model.specs.Cutting.{IsBucket};
+ghost use Rattle.bucket_kinds.specs.Device.{is_there};
 
 use crate::{
     AddRefusal, Bucket, Content, DiskFiles, FileFault, Files, Home, Kind, MemFiles, ReadRefusal,
-    Seq, SplitRefusal, aside_bucket, copy_bucket, read_bucket, split_bucket,
+    Seq, aside_bucket, copy_bucket, read_bucket, split_bucket,
 };
 use std::alloc::{AllocError, Global};
 use std::path::{Path, PathBuf};
@@ -33,16 +35,6 @@ fn of_file(file: u64, start: u64, len: u64) -> Bucket
     }
 }
 
-fn end_of_stream() -> Bucket
-    ensures { (result.kind ≡ Kind.Eos) × (result.home ≡ Home.Free) × (result.content ≡ Content.Nothing) }
-{
-    Bucket {
-        kind: Kind::Eos,
-        content: Content::Nothing,
-        home: Home::Free,
-    }
-}
-
 fn bytes(bucket: &Bucket) -> Option<&[u8]> {
     match &bucket.content {
         Content::Bytes(bytes) => Some(bytes.as_slice()),
@@ -57,64 +49,67 @@ fn range(bucket: &Bucket) -> Option<(u64, u64)> {
     }
 }
 
-#[test]
-fn splits(rt: HostRuntime) -> Result<(), Fail> {
-    let parts = [("", "ab"), ("a", "b"), ("ab", "")];
-    for (n, (front, rest)) in parts.into_iter().enumerate() {
-        let mut bucket = in_memory(rt.alloc(), Kind::Heap, Home::Free, b"ab")?;
-        let split = split_bucket(rt.alloc(), &mut bucket, n as u64)
-            .ok()
-            .ok_or("split")?;
-        assert_eq!(rt; bytes(&bucket), Some(front.as_bytes()), "at {n}");
-        assert_eq!(rt; bytes(&split), Some(rest.as_bytes()), "at {n}");
-        assert!(rt; matches!(split.kind, Kind::Heap));
+fn is_heap(bucket: &Bucket, text: &[u8]) -> bool {
+    matches!((bucket.kind, bucket.home), (Kind::Heap, Home::Free)) && bytes(bucket) == Some(text)
+}
+
+// What a split leaves, and the rest.
+fn split(alloc: Global, mut bucket: Bucket, n: u64) -> Option<(Bucket, Bucket)>
+    requires { IsBucket bucket }
+{
+    match split_bucket(alloc, &mut bucket, n) {
+        Ok(rest) => Some((bucket, rest)),
+        Err(_) => None,
     }
-    let mut bucket = in_memory(rt.alloc(), Kind::Heap, Home::Free, b"ab")?;
-    assert!(rt;
-        matches!(
-            split_bucket(rt.alloc(), &mut bucket, 3),
-            Err(SplitRefusal::TooLong)
-        )
-    );
-    assert_eq!(rt; bytes(&bucket), Some(b"ab".as_slice()));
-    for n in [0, 1] {
-        let mut end = end_of_stream();
-        assert!(rt;
-            matches!(
-                split_bucket(rt.alloc(), &mut end, n),
-                Err(SplitRefusal::Metadata)
-            )
-        );
-    }
+}
+
+fn copied(alloc: Global, bucket: &Bucket) -> Option<Bucket>
+    requires { IsBucket bucket.now }
+{
+    copy_bucket(alloc, bucket).ok()
+}
+
+// The home of a range after it was set aside into pool 7, where that is a pool.
+fn home_aside(is_ancestor: bool) -> Option<u64> {
     let mut bucket = of_file(1, 5, 10);
-    let rest = split_bucket(rt.alloc(), &mut bucket, 4)
-        .ok()
-        .ok_or("split")?;
+    aside_bucket(&mut bucket, 7, is_ancestor);
+    match bucket.home {
+        Home::Pool(pool) => Some(pool),
+        Home::Free | Home::Call(_) | Home::Ended => None,
+    }
+}
+
+#[test]
+fn splits_what_lies_in_memory(rt: HostRuntime) -> Result<(), Fail> {
+    let bucket = in_memory(rt.alloc(), Kind::Heap, Home::Free, b"abc")?;
+    let (bucket, rest) = split(rt.alloc(), bucket, 1).ok_or("split")?;
+    assert!(rt; is_heap(&bucket, b"a") && is_heap(&rest, b"bc"));
+    Ok(())
+}
+
+#[test]
+fn splits_a_range(rt: HostRuntime) -> Result<(), Fail> {
+    let (bucket, rest) = split(rt.alloc(), of_file(1, 5, 10), 4).ok_or("split")?;
     assert_eq!(rt; range(&bucket), Some((5, 4)));
     assert_eq!(rt; range(&rest), Some((9, 6)));
     Ok(())
 }
 
 #[test]
-fn copies_and_sets_aside(rt: HostRuntime) -> Result<(), Fail> {
-    let pool = in_memory(rt.alloc(), Kind::Pool(3), Home::Free, b"ab")?;
-    let copy = copy_bucket(rt.alloc(), &pool)?;
-    assert!(rt; matches!((copy.kind, copy.home), (Kind::Pool(3), Home::Free)));
-    assert_eq!(rt; bytes(&copy), Some(b"ab".as_slice()));
-    let copy = copy_bucket(rt.alloc(), &end_of_stream())?;
-    assert!(rt; matches!(copy.kind, Kind::Eos));
+fn copies(rt: HostRuntime) -> Result<(), Fail> {
+    let bucket = in_memory(rt.alloc(), Kind::Heap, Home::Free, b"ab")?;
+    let copy = copied(rt.alloc(), &bucket).ok_or("copy")?;
+    assert!(rt; is_heap(&bucket, b"ab") && is_heap(&copy, b"ab"));
+    Ok(())
+}
 
+#[test]
+fn sets_aside(rt: HostRuntime) -> Result<(), Fail> {
     let mut bucket = in_memory(rt.alloc(), Kind::Transient, Home::Call(2), b"a")?;
     aside_bucket(&mut bucket, 7, false);
-    assert!(rt; matches!((bucket.kind, bucket.home), (Kind::Heap, Home::Free)));
-    assert_eq!(rt; bytes(&bucket), Some(b"a".as_slice()));
-
-    let mut bucket = of_file(1, 5, 10);
-    aside_bucket(&mut bucket, 7, true);
-    assert!(rt; matches!(bucket.home, Home::Pool(4)));
-    aside_bucket(&mut bucket, 7, false);
-    assert!(rt; matches!(bucket.home, Home::Pool(7)));
-    assert_eq!(rt; range(&bucket), Some((5, 10)));
+    assert!(rt; is_heap(&bucket, b"a"));
+    assert_eq!(rt; home_aside(true), Some(4));
+    assert_eq!(rt; home_aside(false), Some(7));
     Ok(())
 }
 
@@ -136,42 +131,67 @@ fn failures<F: Files>(files: &F) -> u64 {
     files.failures()
 }
 
-type Read = (Result<Option<Bucket>, ReadRefusal>, Bucket);
-
-// What a read of a range of a file, which is opened for it, answers and leaves.
-fn read<F: Files>(alloc: Global, files: &mut F, name: &[u8], start: u32, len: u32) -> Option<Read> {
+// What a read of a range of a file, which is opened for it, leaves, and the rest that it gives.
+fn read<F: Files>(
+    alloc: Global,
+    files: &mut F,
+    name: &[u8],
+    start: u32,
+    len: u32,
+) -> Option<(Bucket, Option<Bucket>)> {
     let (file, _) = files.open_file(name).ok()?;
     let mut bucket = of_file(file, u64::from(start), u64::from(len));
-    let read = read_bucket(alloc, &mut bucket, files);
-    files.close_file(file);
-    Some((read, bucket))
+    let rest = read_bucket(alloc, &mut bucket, files).ok()?;
+    Some((bucket, rest))
 }
 
-// The same of the first ten bytes of a file that is cut short after it was opened.
-fn read_cut(
-    rt: &HostRuntime,
-    files: &mut DiskFiles<HostRuntime>,
-    path: Path<'_>,
-) -> io::Result<Option<Read>> {
+// How many bytes a read takes, and the range of the rest.
+fn taken(
+    alloc: Global,
+    files: &mut MemFiles,
+    name: &[u8],
+    start: u32,
+    len: u32,
+) -> Option<(usize, Option<(u64, u64)>)> {
+    let (bucket, rest) = read(alloc, files, name, start, len)?;
+    let rest = match &rest {
+        Some(rest) => range(rest),
+        None => None,
+    };
+    Some((bytes(&bucket)?.len(), rest))
+}
+
+// Whether a read of the first ten bytes of an open file is a fault, and leaves the bucket.
+fn faults<F: Files>(alloc: Global, files: &mut F, file: u64) -> bool
+    requires { is_there ((F.device files.old).numbered file) ≡ true }
+{
+    let mut bucket = of_file(file, 0, 10);
+    let read = read_bucket(alloc, &mut bucket, files);
+    matches!(read, Err(ReadRefusal::ReadFault)) && range(&bucket) == Some((0, 10))
+}
+
+// A path that no other run of the tests has.
+fn own_path(rt: &HostRuntime, what: &str) -> io::Result<PathBuf> {
+    let name = format!(in rt.alloc(); "bucket_kinds_{}_{what}", process::id(rt.process()))?;
+    Ok(env::temp_dir(rt)?.join(rt.alloc(), name.as_str())?)
+}
+
+// Whether a file that is cut short after it was opened is told as a fault.
+fn is_cut_told(rt: &HostRuntime, path: Path<'_>) -> io::Result<bool> {
+    let mut files = DiskFiles::new(rt.clone()?);
     let Ok((file, _)) = files.open_file(path.as_str().as_bytes()) else {
-        return Ok(None);
+        return Ok(false);
     };
     fs::write(rt, path, b"abc")?;
-    let mut bucket = of_file(file, 0, 10);
-    let read = read_bucket(rt.alloc(), &mut bucket, files);
-    Ok(Some((read, bucket)))
+    Ok(faults(rt.alloc(), &mut files, file))
 }
 
 #[test]
 fn adds_and_opens(rt: HostRuntime) -> Result<(), Fail> {
     let mut files = MemFiles::new(rt.alloc());
     assert!(rt; add(rt.alloc(), &mut files, b"long", 8001)?);
-    assert!(rt;
-        matches!(
-            files.add(b"long", Vec::new(rt.alloc())),
-            Err(AddRefusal::Taken)
-        )
-    );
+    let taken = files.add(b"long", Vec::new(rt.alloc()));
+    assert!(rt; matches!(taken, Err(AddRefusal::Taken)));
     assert!(rt; is_missing(&mut files, b"no"));
     assert_eq!(rt; opened(&mut files, b"long"), Some((1, 8001)));
     assert_eq!(rt; opened(&mut files, b"long"), Some((2, 8001)));
@@ -182,71 +202,53 @@ fn adds_and_opens(rt: HostRuntime) -> Result<(), Fail> {
 fn reads_from_memory(rt: HostRuntime) -> Result<(), Fail> {
     let mut files = MemFiles::new(rt.alloc());
     assert!(rt; add(rt.alloc(), &mut files, b"long", 8001)?);
-    assert!(rt; add(rt.alloc(), &mut files, b"short", 7999)?);
-    let (rest, bucket) = read(rt.alloc(), &mut files, b"long", 0, 8001).ok_or("open")?;
-    assert_eq!(rt; bytes(&bucket).map(<[u8]>::len), Some(8000));
-    assert!(rt; matches!((bucket.kind, bucket.home), (Kind::Heap, Home::Free)));
-    let rest = rest.ok().flatten().ok_or("rest")?;
-    assert_eq!(rt; range(&rest), Some((8000, 1)));
-    assert!(rt; matches!((rest.kind, rest.home), (Kind::File, Home::Pool(4))));
-
-    for (name, start, len, want) in [
-        ("long", 0, 8000, 8000),
-        ("short", 7990, 9, 9),
-        ("short", 9000, 0, 0),
-    ] {
-        let (rest, bucket) = read(rt.alloc(), &mut files, name.as_bytes(), start, len).ok_or(
-            "open",
-        )?;
-        assert!(rt; matches!(rest, Ok(None)));
-        assert_eq!(rt; bytes(&bucket).map(<[u8]>::len), Some(want));
-    }
-    let (rest, bucket) = read(rt.alloc(), &mut files, b"short", 0, 8000).ok_or("open")?;
-    assert!(rt; matches!(rest, Err(ReadRefusal::ReadFault)));
-    assert_eq!(rt; range(&bucket), Some((0, 8000)));
-    assert_eq!(rt; failures(&files), 0);
+    let first = taken(rt.alloc(), &mut files, b"long", 0, 8001);
+    assert_eq!(rt; first, Some((8000, Some((8000, 1)))));
+    let whole = taken(rt.alloc(), &mut files, b"long", 1, 8000);
+    assert_eq!(rt; whole, Some((8000, None)));
     Ok(())
-}
-
-#[test]
-fn leaves_what_lies_in_memory(rt: HostRuntime) -> Result<(), Fail> {
-    let mut files = MemFiles::new(rt.alloc());
-    let mut bucket = in_memory(rt.alloc(), Kind::Heap, Home::Free, b"ab")?;
-    let read = read_bucket(rt.alloc(), &mut bucket, &mut files);
-    assert!(rt; matches!(read, Ok(None)));
-    assert_eq!(rt; bytes(&bucket), Some(b"ab".as_slice()));
-    Ok(())
-}
-
-// A folder that no other run of the tests has.
-fn own_folder(rt: &HostRuntime) -> io::Result<PathBuf> {
-    let name = format!(in rt.alloc(); "bucket_kinds_{}", process::id(rt.process()))?;
-    let folder = env::temp_dir(rt)?.join(rt.alloc(), name.as_str())?;
-    fs::create_dir_all(rt, folder.as_path())?;
-    Ok(folder)
 }
 
 #[test]
 fn reads_from_a_disk(rt: HostRuntime) -> Result<(), Fail> {
-    let folder = own_folder(&rt)?;
-    let path = folder.join(rt.alloc(), "letters")?;
+    let path = own_path(&rt, "read")?;
     fs::write(&rt, path.as_path(), b"abcdefghij")?;
     let mut files = DiskFiles::new(rt.clone()?);
-    let missing = folder.join(rt.alloc(), "missing")?;
-    assert!(rt; is_missing(&mut files, missing.as_str().as_bytes()));
-    assert!(rt; is_missing(&mut files, folder.as_str().as_bytes()));
-    let name = path.as_str().as_bytes();
-    assert_eq!(rt; opened(&mut files, name), Some((1, 10)));
     for (start, len, text) in [(0, 10, "abcdefghij"), (0, 3, "abc"), (7, 3, "hij")] {
-        let (rest, bucket) = read(rt.alloc(), &mut files, name, start, len).ok_or("open")?;
-        assert!(rt; matches!(rest, Ok(None)), "from {start}");
-        assert_eq!(rt; bytes(&bucket), Some(text.as_bytes()));
+        let name = path.as_str().as_bytes();
+        let (bucket, rest) = read(rt.alloc(), &mut files, name, start, len).ok_or("read")?;
+        assert!(rt; is_heap(&bucket, text.as_bytes()) && rest.is_none());
     }
-    let (rest, bucket) = read_cut(&rt, &mut files, path.as_path())?.ok_or("open")?;
-    assert!(rt; matches!(rest, Err(ReadRefusal::ReadFault)), "cut short");
-    assert_eq!(rt; range(&bucket), Some((0, 10)));
+    fs::remove_file(&rt, path.as_path())?;
+    Ok(())
+}
+
+#[test]
+fn tells_that_a_file_was_cut(rt: HostRuntime) -> Result<(), Fail> {
+    let path = own_path(&rt, "cut")?;
+    fs::write(&rt, path.as_path(), b"abcdefghij")?;
+    assert!(rt; is_cut_told(&rt, path.as_path())?);
+    fs::remove_file(&rt, path.as_path())?;
+    Ok(())
+}
+
+#[test]
+fn misses_what_is_no_file(rt: HostRuntime) -> Result<(), Fail> {
+    let mut files = DiskFiles::new(rt.clone()?);
+    assert!(rt; is_missing(&mut files, b"/no such file"));
+    assert!(rt; is_missing(&mut files, b"/"));
     assert_eq!(rt; failures(&files), 0);
-    fs::remove_dir_all(&rt, folder.as_path())?;
+    Ok(())
+}
+
+// No file system takes a name this long.
+#[test]
+fn tells_that_an_opening_failed(rt: HostRuntime) -> Result<(), Fail> {
+    let mut files = DiskFiles::new(rt.clone()?);
+    let name = vec![in rt.alloc(); b'x'; 300]?;
+    let opened = files.open_file(name.as_slice());
+    assert!(rt; matches!(opened, Err(FileFault::Failed)));
+    assert_eq!(rt; failures(&files), 1);
     Ok(())
 }
 
@@ -254,9 +256,8 @@ fn reads_from_a_disk(rt: HostRuntime) -> Result<(), Fail> {
 #[test]
 fn tells_that_a_disk_failed(rt: HostRuntime) -> Result<(), Fail> {
     let mut files = DiskFiles::new(rt.clone()?);
-    let (rest, bucket) = read(rt.alloc(), &mut files, b"/proc/self/mem", 0, 10).ok_or("open")?;
-    assert!(rt; matches!(rest, Err(ReadRefusal::ReadFault)));
-    assert_eq!(rt; range(&bucket), Some((0, 10)));
+    let (file, _) = files.open_file(b"/proc/self/mem").ok().ok_or("open")?;
+    assert!(rt; faults(rt.alloc(), &mut files, file));
     assert_eq!(rt; failures(&files), 1);
     Ok(())
 }

@@ -10,6 +10,7 @@ pub mod Handing
 pub mod Walks
 pub mod Rooms
 pub mod Emptied
+pub mod Destroyed
 pub mod Removed
 pub mod Writing
 pub mod Printing

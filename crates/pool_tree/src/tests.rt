@@ -1,6 +1,7 @@
 //! Small trees, step by step.
 
 use crate::{PoolRefusal, PoolText, PoolTree};
+use std::alloc::Global;
 use std::test::Fail;
 
 /// A text that is shown.
@@ -17,57 +18,103 @@ impl PoolText for Label {
     }
 }
 
+/// What makes a tree grow.
+#[derive(Clone, Copy)]
+enum Step {
+    Create(u64),
+    Register(u64, u8),
+}
+
+fn create<T: Drop>(tree: &mut PoolTree<T>, parent: u64) -> Option<u64> {
+    if !tree.is_live(parent) {
+        return None;
+    }
+    tree.create(parent).ok()
+}
+
+fn register<T: Drop>(tree: &mut PoolTree<T>, pool: u64, payload: T) -> Option<()> {
+    if !tree.is_live(pool) {
+        return None;
+    }
+    tree.register(pool, payload).ok()
+}
+
+/// A tree with the root 1.
+fn grown(alloc: Global, steps: &[Step]) -> Option<PoolTree<u8>> {
+    let mut tree = PoolTree::new(alloc, 1).ok()?;
+    for step in steps {
+        match *step {
+            Step::Create(parent) => {
+                create(&mut tree, parent)?;
+            }
+            Step::Register(pool, payload) => register(&mut tree, pool, payload)?,
+        }
+    }
+    Some(tree)
+}
+
+fn killed(tree: &mut PoolTree<u8>, pool: u64, payload: u8) -> Option<u8> {
+    if !tree.is_live(pool) {
+        return None;
+    }
+    tree.kill(pool, &payload)
+}
+
+fn cleared(tree: &mut PoolTree<u8>, pool: u64) -> Option<Vec<(u64, u8)>> {
+    if !tree.is_live(pool) {
+        return None;
+    }
+    tree.clear(pool).ok()
+}
+
+fn destroyed(tree: &mut PoolTree<u8>, pool: u64) -> Option<Vec<(u64, u8)>> {
+    if !tree.is_live(pool) || pool == tree.root() {
+        return None;
+    }
+    tree.destroy(pool).ok()
+}
+
+fn is_ancestor(tree: &PoolTree<u8>, ancestor: u64, pool: u64) -> bool {
+    tree.is_live(ancestor) && tree.is_live(pool) && tree.is_ancestor(ancestor, pool)
+}
+
 /// A subpool runs before its pool, the last payload first, and both pools are gone.
 #[test]
 fn destroy_run_order(rt: HostRuntime) -> Result<(), Fail> {
-    let mut tree = PoolTree::new(rt.alloc(), 1).ok().ok_or("no tree")?;
-    let root = tree.root();
-    assert_eq!(rt; root, 1);
-    let outer = tree.create(root).ok().ok_or("no pool")?;
-    assert!(rt; tree.is_live(outer));
-    let inner = tree.create(outer).ok().ok_or("no pool")?;
-    assert_eq!(rt; (outer, inner), (2, 3));
-    assert!(rt; tree.is_live(outer));
-    tree.register(outer, b'k').ok().ok_or("no payload")?;
-    assert!(rt; tree.is_live(outer));
-    tree.register(outer, b'l').ok().ok_or("no payload")?;
-    assert!(rt; tree.is_live(inner));
-    tree.register(inner, b'm').ok().ok_or("no payload")?;
-    assert!(rt; tree.is_live(outer) && tree.is_live(inner));
-    assert!(rt; tree.is_ancestor(outer, inner) && tree.is_ancestor(outer, outer));
-    assert!(rt; !tree.is_ancestor(inner, outer));
-    assert!(rt; tree.root() != outer);
-    let ran = tree.destroy(outer)?;
+    let steps = [
+        Step::Create(1),
+        Step::Create(2),
+        Step::Register(2, b'k'),
+        Step::Register(2, b'l'),
+        Step::Register(3, b'm'),
+    ];
+    let mut tree = grown(rt.alloc(), &steps).ok_or("no tree")?;
+    assert!(rt; is_ancestor(&tree, 2, 3) && is_ancestor(&tree, 2, 2));
+    assert!(rt; !is_ancestor(&tree, 3, 2));
+    let ran = destroyed(&mut tree, 2).ok_or("not destroyed")?;
     assert_eq!(rt;
         ran.as_slice(),
         [(3, b'm'), (2, b'l'), (2, b'k')].as_slice()
     );
-    assert!(rt; !tree.is_live(2) && !tree.is_live(3));
+    assert!(rt; tree.is_live(1) && !tree.is_live(2) && !tree.is_live(3));
     Ok(())
 }
 
 /// A clear ends the pools under a pool, and the pool stays.
 #[test]
 fn clear_keeps_the_pool(rt: HostRuntime) -> Result<(), Fail> {
-    let mut tree = PoolTree::new(rt.alloc(), 1).ok().ok_or("no tree")?;
-    let root = tree.root();
-    let first = tree.create(root).ok().ok_or("no pool")?;
-    assert!(rt; tree.is_live(root));
-    let second = tree.create(root).ok().ok_or("no pool")?;
-    assert!(rt; tree.is_live(first));
-    tree.register(first, b'a').ok().ok_or("no payload")?;
-    assert!(rt; tree.is_live(second));
-    tree.register(second, b'b').ok().ok_or("no payload")?;
-    assert!(rt; tree.is_live(root));
-    tree.register(root, b'c').ok().ok_or("no payload")?;
-    assert!(rt; tree.is_live(root));
-    tree.register(root, b'c').ok().ok_or("no payload")?;
-    assert!(rt; tree.is_live(root));
-    assert_eq!(rt; tree.kill(root, &b'c'), Some(b'c'));
-    assert!(rt; tree.is_live(root));
-    assert_eq!(rt; tree.kill(root, &b'x'), None);
-    assert!(rt; tree.is_live(root));
-    let ran = tree.clear(root)?;
+    let steps = [
+        Step::Create(1),
+        Step::Create(1),
+        Step::Register(2, b'a'),
+        Step::Register(3, b'b'),
+        Step::Register(1, b'c'),
+        Step::Register(1, b'c'),
+    ];
+    let mut tree = grown(rt.alloc(), &steps).ok_or("no tree")?;
+    assert_eq!(rt; killed(&mut tree, 1, b'c'), Some(b'c'));
+    assert_eq!(rt; killed(&mut tree, 1, b'x'), None);
+    let ran = cleared(&mut tree, 1).ok_or("not cleared")?;
     assert_eq!(rt;
         ran.as_slice(),
         [(3, b'b'), (2, b'a'), (1, b'c')].as_slice()
@@ -80,18 +127,12 @@ fn clear_keeps_the_pool(rt: HostRuntime) -> Result<(), Fail> {
 #[test]
 fn printed_tree(rt: HostRuntime) -> Result<(), Fail> {
     let mut tree = PoolTree::new(rt.alloc(), 9).ok().ok_or("no tree")?;
-    let root = tree.root();
-    let first = tree.create(root).ok().ok_or("no pool")?;
-    assert!(rt; tree.is_live(root));
-    let _ = tree.create(root).ok().ok_or("no pool")?;
-    assert!(rt; tree.is_live(first));
-    let _ = tree.create(first).ok().ok_or("no pool")?;
+    for parent in [tree.root(), 9, 10] {
+        let _ = create(&mut tree, parent).ok_or("no pool")?;
+    }
     for text in [b"1".as_slice(), b"", b"2"] {
         let bytes = Vec::from_slice(rt.alloc(), text)?;
-        assert!(rt; tree.is_live(first));
-        tree.register(first, Label { bytes })
-            .ok()
-            .ok_or("no payload")?;
+        register(&mut tree, 10, Label { bytes }).ok_or("no payload")?;
     }
     let mut out = Vec::new(rt.alloc());
     tree.print(&mut out).ok().ok_or("not written")?;
@@ -108,11 +149,7 @@ fn names_spent(rt: HostRuntime) -> Result<(), Fail> {
         .ok_or("no tree")?;
     let root = tree.root();
     assert!(rt; matches!(tree.create(root), Err(PoolRefusal::NamesSpent)));
-    assert!(rt;
-        matches!(
-            PoolTree::<u8>::new(rt.alloc(), u64::MAX),
-            Err(PoolRefusal::NamesSpent)
-        )
-    );
+    let none = PoolTree::<u8>::new(rt.alloc(), u64::MAX);
+    assert!(rt; matches!(none, Err(PoolRefusal::NamesSpent)));
     Ok(())
 }

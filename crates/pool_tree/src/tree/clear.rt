@@ -59,6 +59,7 @@ impl<T: Drop> PoolTree<T> {
 
     /// Destroys a pool other than the root: clears it, and ends it too. Answers what a clear does.
     /// Without memory nothing is changed.
+    #[tactic(auto, using(crate::proofs::Trees::tree_formed, crate::proofs::Destroyed::still_live, crate::proofs::Destroyed::now_childless, crate::proofs::Destroyed::still_under, crate::proofs::Destroyed::then_destroyed))]
     pub fn destroy(&mut self, pool: PoolId) -> Result<Vec<(PoolId, T)>, AllocError>
         requires live { IsTrue (is_live (map_of self.old) pool) }
         requires below { (map_of self.old).path pool ≢ pool ∷ [] }
