@@ -1,6 +1,6 @@
 -- What each line keeps true of a draft.
 use Rattle.std.proofs.Common.{◌≡◌, ℕ, ◌+◌, ◌<◌, true, false, ◌||◌, ◌≤◌, not, ltb, List, [], ◌∷◌, ◌++◌, length, length-append, append-nil, append_assoc, inl, inr, ◌⊎◌, Some, Ok, refl, sym, ◌∙◌, ap, subst, arith}
-use Rattle.std.specs.Prelude.{All, codes, is_some, filter_map}
+use Rattle.std.specs.Prelude.{All, codes, is_some}
 use Rattle.std.specs.List.{range_with_len}
 use Rattle.std.proofs.lemmas.Bool.{and_parts, or_parts, eqb-true, ltb-true, ltb-false, lt-ltb, not-false}
 use Rattle.std.proofs.lemmas.List.Elements.{All-push, filter_map-append}
@@ -8,9 +8,9 @@ use Rattle.module_lang.specs.Codes.{◌>>=◌, unless}
 use Rattle.module_lang.specs.Drafts.{with_step, step_added, label_added, with_line}
 use Rattle.module_lang.specs.Entries.{IsDraft, IsStep, early_steps, entered, from_quote, item_entered, step_numbers, step_text, step_texts, step_entered}
 use Rattle.module_lang.specs.Bytes.{unindented}
-use Rattle.module_lang.specs.Handlers.{op_instr, operand_variable}
+use Rattle.module_lang.specs.Handlers.{operand_variable}
 use Rattle.module_lang.specs.Lines.{instruction_count, is_due, judged, op_judged, declaration_judged, is_next, is_declared, place_is_declared, has_equal_brigades, has_long_text, is_long_text, is_text_operand, are_declared, is_misplaced, has_room, has_text}
-use Rattle.module_lang.specs.Operands.{IsOfKinds, of_kind, operand_place}
+use Rattle.module_lang.specs.Operands.{of_kind, operand_place}
 use Rattle.module_lang.specs.Program.{text_of_instr}
 use Rattle.module_lang.specs.Quoted.{quoted, text_of}
 use Rattle.module_lang.specs.Spelling.{operands_of, variable_operand}

@@ -8,6 +8,7 @@ pub mod LineLaws
 pub mod ListLaws
 pub mod ModuleLaws
 pub mod OperandLaws
+pub mod QuoteFound
 pub mod QuoteLaws
 pub mod QuotedLaws
 pub mod RunLaws

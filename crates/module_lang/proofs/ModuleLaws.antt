@@ -1,5 +1,5 @@
 -- A draft whose handlers have no fault gives a module.
-use Rattle.std.proofs.Common.{◌≡◌, ℕ, zero, suc, ◌+◌, ◌-◌, ◌<◌, ◌≤◌, Bool, true, false, ◌&&◌, ◌||◌, not, cond, eqb, leb, nat_lt, List, [], ◌∷◌, ◌++◌, length, map, length-append, append_assoc, append-nil, inl, inr, ◌⊎◌, Ok, Option, Some, None, refl, sym, ◌∙◌, ap, subst, arith}
+use Rattle.std.proofs.Common.{◌≡◌, ℕ, ◌+◌, ◌-◌, ◌<◌, ◌≤◌, Bool, true, false, ◌&&◌, ◌||◌, not, cond, eqb, leb, nat_lt, List, [], ◌∷◌, ◌++◌, length, map, length-append, append_assoc, append-nil, inl, inr, ◌⊎◌, Ok, Option, Some, None, refl, sym, ◌∙◌, ap, subst, arith}
 use Rattle.std.specs.Prelude.{All, slice_get, IfSome, is_some, unwrap_or, option_map, filter_map}
 use Rattle.std.proofs.lemmas.Bool.{and_parts, or_parts, ltb-true, lt-ltb, leb-false, ne_eqb, cases_lt}
 use Rattle.std.specs.List.{range_with_len}

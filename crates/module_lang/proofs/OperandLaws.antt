@@ -11,7 +11,6 @@ use Rattle.module_lang.specs.Operands.{IsOfKinds, numbered, of_kind, operand_in,
 use Rattle.module_lang.specs.Quoted.{quoted, measure_of}
 use Rattle.module_lang.specs.Spelling.{operands_of, one, two, own_pool, variable_operand}
 use Rattle.module_lang.specs.Words.{op_kinds}
-use Rattle.module_lang.specs.declared.instr.PoolRef.{PoolRef}
 use Rattle.module_lang.specs.declared.instr.PoolRef.TheVariants as pool
 use Rattle.module_lang.specs.declared.instr.Status.TheVariants as status
 use Rattle.module_lang.specs.declared.operand.Operand.{Operand}

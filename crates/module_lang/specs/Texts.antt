@@ -85,6 +85,13 @@ pub record Spells (spelled bytes : List ℕ) : Type 0 where
   pub whole : spelled ≡ 34 ∷ (pieces_text pieces ++ 34 ∷ [])
   pub same : bytes ≡ map piece_byte pieces
 
+-- some bytes begin with a text in quotes
+pub record StandsIn (text bytes : List ℕ) : Type 0 where
+  pub spelled : List ℕ
+  pub rest : List ℕ
+  pub right : Spells spelled text
+  pub whole : bytes ≡ spelled ++ rest
+
 -- the operands of an instruction, where its target has this name and its text is spelled so
 abbrev pub operand_texts : Instr → List ℕ → List ℕ → List (List ℕ)
 operand_texts (instr.PCreate q) n s = place_text (pool.Own q) ∷ []

@@ -14,6 +14,8 @@ mod operand;
 mod quoted;
 mod refusal;
 mod seq;
+#[cfg(test)]
+mod tests;
 mod word;
 
 pub use assembler::assemble;
