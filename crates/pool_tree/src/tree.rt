@@ -12,6 +12,7 @@ use crate::links::add_child;
 use crate::payloads::{push, take_newest_equal};
 use crate::records::{Pool, Records};
 use crate::refusal::PoolRefusal;
+pub use clear::Room;
 use std::alloc::{AllocError, Global};
 
 /// The name of a pool.
@@ -85,6 +86,13 @@ impl<T: Drop> PoolTree<T> {
         add_child(&mut self.records, self.alloc, name, parent)?;
         self.next = name + 1;
         Ok(name)
+    }
+
+    /// The name that the next pool would get.
+    pub fn next_name(&self) -> PoolId
+        ensures { result ≡ (map_of self.now).next }
+    {
+        self.next
     }
 
     /// Registers a payload with a pool, as its newest. Without memory nothing is changed, and the payload comes back.
