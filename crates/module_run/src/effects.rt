@@ -3,11 +3,10 @@
 ghost use Rattle.std.specs.Prelude.{◌≡◌, ◌+◌, ◌==◌, Some, ◌≢◌, ◌<◌, false, length, OnOk, OnErr};
 ghost use Rattle.run_model.specs.Steps.{do_create, do_clean, do_concat, do_pass, do_return, delivered, is_spent, returned_var};
 ghost use Rattle.run_model.specs.State.{items_of};
-ghost use Rattle.run_model.specs.Connection.{cleared_var, request_ended};
 ghost use Rattle.module_lang.specs.Program.{pool_of_brigade};
 ghost use Rattle.module_run.specs.Seen.{seen_run};
 ghost use Rattle.module_run.specs.Mapped.{mapped};
-ghost use Rattle.module_run.specs.Closed.{with_in};
+ghost use Rattle.module_run.specs.Starts.{with_in};
 
 use crate::machine::{IN, Machine};
 use crate::{buckets, pieces, vars};
@@ -112,26 +111,6 @@ pub(crate) fn end_call(machine: &mut Machine)
     end_homes(machine, call);
     machine.put(IN, Var::Null);
     machine.set_call(0);
-}
-
-/// Takes what lay on a pool: brigades on it go, and buckets of others lose it.
-fn clear_brigades(machine: &mut Machine, pool: u64)
-    ensures { seen_run machine.new ≡ mapped (cleared_var (λ n. n == pool)) (seen_run machine.old) }
-{
-    for b in 0..9u8 {
-        let mut var = machine.put(b, Var::Null);
-        vars::clear(&mut var, pool);
-        machine.put(b, var);
-    }
-}
-
-/// Ends the open request: its pool is destroyed with what lay on it, and no EOS was passed in the next one.
-pub(crate) fn end_request(machine: &mut Machine, pool: u64)
-    requires { (seen_run machine.old).shared.req ≡ Some pool }
-    ensures { seen_run machine.new ≡ request_ended pool (seen_run machine.old) }
-{
-    clear_brigades(machine, pool);
-    machine.close_request(pool);
 }
 
 /// Makes a brought brigade the `in` of a call; names go to the call, the brigade and its buckets. Without memory nothing

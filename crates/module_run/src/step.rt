@@ -2,7 +2,7 @@
 
 ghost use Rattle.std.specs.Prelude.{◌≡◌, ◌<◌, ◌≤◌, true, false, length, Ok, IfOk, IsOk, OnErr, unwrap_or};
 ghost use Rattle.module_lang.specs.Program.{fits, target};
-ghost use Rattle.run_model.specs.Steps.{step_at_end, settled, status_of, is_spent, names_of, grows, watched, current, jumps_if};
+ghost use Rattle.run_model.specs.Steps.{step_at_end, settled, status_of, names_of, lacks_names, grows, watched, current, jumps_if};
 ghost use Rattle.module_run.specs.Seen.{seen_run, step_lasted};
 
 use crate::machine::Machine;
@@ -25,7 +25,7 @@ fn execute(
 ) -> Result<Exit, AllocError>
     requires fit { fits code.now instr ≡ true }
     requires few { length code.now.brigades ≤ 8 }
-    requires unspent { is_spent (seen_run machine.old).shared.next (names_of instr) ≡ false }
+    requires unspent { lacks_names (seen_run machine.old) instr ≡ false }
     ensures step { IfOk result (λ e. step_at_end code.now instr (seen_run machine.old) ≡ record { exit = e; run = seen_run machine.new }) }
     ensures err { OnErr result (seen_run machine.new ≡ seen_run machine.old) }
     ensures sure { grows instr ≡ false → IsOk result }
@@ -95,10 +95,19 @@ fn settle(machine: &mut Machine, instr: Instr, exit: Exit) -> Stepped
     }
 }
 
+/// How many names of buckets, brigades and calls an instruction gives out.
 fn names(instr: Instr) -> u64
     ensures { result ≡ names_of instr }
 {
     if let Instr::BCreate(_) = instr { 1 } else { 0 }
+}
+
+/// Whether a name that an instruction would have to give out is not there.
+#[tactic(auto, unfolding(run_model::specs::Steps::lacks_names))]
+fn lacks_names(machine: &Machine, instr: Instr) -> bool
+    ensures { result ≡ lacks_names (seen_run machine.now) instr }
+{
+    machine.is_spent(names(instr)) || machine.lacks_pools(0)
 }
 
 /// One watched step of the instruction that is next. A fault is told whether or not there is memory.
@@ -121,7 +130,7 @@ pub(crate) fn step(
             pc: pc as u64,
         });
     }
-    if machine.is_spent(names(instr)) {
+    if lacks_names(machine, instr) {
         return Err(StepRefusal::NamesSpent);
     }
     let Ok(exit) = execute(alloc, code, machine, instr) else {
