@@ -103,3 +103,11 @@ standing_ended ps req vars p formed stands at = record {
 -- neither the connection's pool nor the request's is at the top
 pub below_top : (ps : Pools Payload) (n m : ℕ) (above : List ℕ) → ps.path n ≡ n ∷ m ∷ above → ps.path n ≢ n ∷ []
 below_top ps n m above path = λ top. cc
+
+pub root_path : (ps : Pools Payload) (req : Option ℕ) (vars : List PoolVar) → IsPoolMap ps → IsStanding ps req vars → ps.path 1 ≡ 1 ∷ []
+root_path ps req vars formed stands = formed.closed 2 2 1 [] stands.conn
+
+-- a connection is closed
+pub root_left : (ps : Pools Payload) → ps.path 1 ≡ 1 ∷ [] → (destroyed 2 ps).path 1 ≡ 1 ∷ []
+unfolding destroyed is_under
+root_left ps root = ap (λ xs. cond (is_in 2 xs) [] (ps.path 1)) root ∙ root

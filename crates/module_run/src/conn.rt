@@ -1,6 +1,6 @@
 //! A connection, and what happens to it.
 
-ghost use Rattle.std.specs.Prelude.{◌≡◌, ◌↔◌, IsTrue, ◌+◌, ◌<◌, ◌-◌, ◌^◌, length, Ok, IfOk, IfErr};
+ghost use Rattle.std.specs.Prelude.{◌≡◌, ◌↔◌, IsTrue, ◌+◌, ◌<◌, ◌-◌, ◌^◌, [], ◌∷◌, length, Ok, IfOk, IfErr};
 ghost use Rattle.run_model.specs.Connection.{opened, calling, begins, brings, ends, takes, steps, breaks, after_step, closing_labels, closing_pools};
 ghost use Rattle.run_model.specs.Steps.{watched, current};
 ghost use Rattle.run_model.specs.Runs.{EndsRun};
@@ -180,9 +180,10 @@ impl Conn {
         self.machine.labels_run()
     }
 
-    /// The pools. It takes no memory, and serves in any state.
+    /// The pools, with the root 1. It takes no memory, and serves in any state.
     pub fn pools(&self) -> &PoolTree<Payload>
-        ensures { map_of result.now ≡ (seen self.now).run.shared.pools }
+        ensures map { map_of result.now ≡ (seen self.now).run.shared.pools }
+        ensures root { (map_of result.now).path 1 ≡ 1 ∷ [] }
     {
         self.machine.pools()
     }

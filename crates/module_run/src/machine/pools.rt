@@ -1,6 +1,6 @@
 //! The pools of a machine.
 
-ghost use Rattle.std.specs.Prelude.{◌≡◌, ◌<◌, true, false, is_some, Some, IsTrue, IfOk, IfErr, OnOk, OnErr, ◌++◌, vec_len, vec_capacity};
+ghost use Rattle.std.specs.Prelude.{◌≡◌, ◌<◌, [], ◌∷◌, true, false, is_some, Some, IsTrue, IfOk, IfErr, OnOk, OnErr, ◌++◌, vec_len, vec_capacity};
 ghost use Rattle.run_model.specs.Payloads.{labels_in};
 ghost use Rattle.run_model.specs.Pools.{planted, created, destroyed, is_live, is_under};
 ghost use Rattle.run_model.specs.State.{pool_named, is_own};
@@ -85,7 +85,8 @@ impl Machine {
 
     /// The pools.
     pub(crate) fn pools(&self) -> &PoolTree<Payload>
-        ensures { map_of result.now ≡ (seen_run self.now).shared.pools }
+        ensures map { map_of result.now ≡ (seen_run self.now).shared.pools }
+        ensures root { (map_of result.now).path 1 ≡ 1 ∷ [] }
     {
         &self.pools
     }

@@ -2,7 +2,7 @@
 use Rattle.std.proofs.Common.{ℕ, List, ◌++◌, ap, ◌∙◌}
 use Rattle.run_model.specs.declared.payload.Payload.{Payload}
 use Rattle.run_model.specs.Payloads.{labels_in}
-use Rattle.run_model.specs.Pools.{destroyed}
+use Rattle.run_model.specs.Pools.{Pools, destroyed}
 use Rattle.run_model.specs.RunOrder.{run_order}
 use Rattle.run_model.specs.Clearing.{run_down}
 use Rattle.run_model.specs.State.{Run, with_pools}
@@ -10,7 +10,8 @@ use Rattle.pool_tree.specs.declared.tree.PoolTree.{PoolTree}
 use Rattle.pool_tree.specs.Tree.{map_of}
 use Rattle.module_run.specs.Seen.{seen_run, labels_handed, labels_of, pools_left}
 use Rattle.module_run.specs.Mapped.{mapped}
-use Rattle.module_run.proofs.Standing.{conn_live}
+use Rattle.pool_tree.proofs.Trees.{tree_formed}
+use Rattle.module_run.proofs.Standing.{conn_live, root_path, root_left}
 use Rattle.module_run.proofs.machine.Machine.close.Goals as goal
 
 pub run_down-requires : goal.run_down-requires
@@ -34,3 +35,11 @@ returns-clause-labels c =
 pub returns-clause-pools : goal.returns-clause-pools
 unfolding pools_left seen_run with_pools run_down
 returns-clause-pools c = c.destroy_in-ran.ensures.ok ∙ ap (λ (t : PoolTree Payload). destroyed 2 (map_of t)) c.in-Ok.ensures.same
+
+pub invariant_of-result : goal.invariant_of-result
+invariant_of-result c =
+    let m = c.run_down.new.self in
+    record {
+      rooted = ap (λ (ps : Pools Payload). ps.path 1) c.destroy_in-ran.ensures.ok
+          ∙ root_left (map_of m.pools) (root_path (map_of m.pools) m.req m.pool_vars (tree_formed m.pools) m.standing);
+    }
