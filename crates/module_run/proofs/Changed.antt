@@ -1,5 +1,5 @@
 -- Machines whose brigades or labels were changed, as runs of the model.
-use Rattle.std.proofs.Common.{◌≡◌, ℕ, Bool, List, [], ◌∷◌, ◌++◌, map, get_or, sym, ap, ◌∙◌, append_assoc}
+use Rattle.std.proofs.Common.{◌≡◌, ◌<◌, ℕ, length, set, Bool, List, [], ◌∷◌, ◌++◌, map, get_or, sym, ap, ◌∙◌, append_assoc}
 use Rattle.std.proofs.Math.Path.{fun_ext}
 use Rattle.std.proofs.Math.ListN.{get_or-map}
 use Rattle.std.specs.Global.{Vec}
@@ -10,12 +10,18 @@ use Rattle.run_model.specs.declared.payload.Payload.{Payload}
 use Rattle.run_model.specs.declared.bucket.Named.{Named}
 use Rattle.run_model.specs.Buckets.{cleared_bucket}
 use Rattle.run_model.specs.Payloads.{labels_in}
-use Rattle.run_model.specs.Pools.{Pools, is_under}
+use Rattle.run_model.specs.Pools.{Pools, created, is_under}
 use Rattle.run_model.specs.RunOrder.{run_order}
 use Rattle.run_model.specs.Clearing.{cleared_var, run_down}
-use Rattle.run_model.specs.State.{Run, with_pools}
+use Rattle.run_model.specs.State.{Run, with_pools, set_pool}
 use Rattle.module_run.specs.Seen.{labels_handed}
 use Rattle.module_run.specs.Mapped.{mapped}
+use Rattle.module_run.specs.Made.{pool_made}
+use Rattle.module_run.specs.Standing.{variables}
+use Rattle.module_run.proofs.Standing.{set_variables}
+use Rattle.run_model.specs.Indexed.{upd}
+use Rattle.run_model.specs.declared.bucket.PoolVar.{PoolVar}
+use Rattle.run_model.specs.declared.bucket.PoolVar.TheVariants as poolvar
 
 abbrev with_parts : Run → (ℕ → Var) → List (List ℕ) → Run
 with_parts r brigs labels = record r { inst = record r.inst { brigs = brigs }; shared = record r.shared { labels = labels } }
@@ -54,3 +60,19 @@ ran_down r mid p after pools labels none changed became ran =
     ∙ (ap (λ (ps : Pools Payload). with_ran ps labels base) became
     ∙ (ap (λ (ls : List (List ℕ)). with_ran after ls base) ran
     ∙ ap (λ (loose : List Named). record (with_ran after (r.shared.labels ++ labels_in (run_order r.shared.pools p)) base) { call = record r.call { loose = loose } }) kept))
+
+-- a run with other pool variables and pools
+abbrev pub with_made : (ℕ → PoolVar) → Pools Payload → Run → Run
+with_made vars pools r = record r { inst = record r.inst { pools = vars }; shared = record r.shared { pools = pools } }
+
+-- a pool was made in a pool variable
+pub made_by : (r : Run) (q parent k name : ℕ) (vars : List PoolVar) (pools : Pools Payload) → r.inst.pools ≡ variables vars → k < length vars → k ≡ q
+    → name ≡ r.shared.pools.next → pools ≡ created parent r.shared.pools → with_made (variables (set vars k (poolvar.Named name))) pools r ≡ pool_made q parent r
+unfolding pool_made set_pool with_pools
+made_by r q parent k name vars pools seen within place next made =
+    let set_so : variables (set vars k (poolvar.Named name)) ≡ upd r.inst.pools q (poolvar.Named r.shared.pools.next)
+    = set_variables vars k (poolvar.Named name) within
+    ∙ (ap (λ (f : ℕ → PoolVar). upd f k (poolvar.Named name)) (sym seen)
+    ∙ (ap (λ (j : ℕ). upd r.inst.pools j (poolvar.Named name)) place
+    ∙ ap (λ (n : ℕ). upd r.inst.pools q (poolvar.Named n)) next)) in
+    ap (λ (f : ℕ → PoolVar). with_made f pools r) set_so ∙ ap (λ (ps : Pools Payload). with_made (upd r.inst.pools q (poolvar.Named r.shared.pools.next)) ps r) made

@@ -6,4 +6,6 @@ pub mod Mapping
 pub mod Places
 pub mod Standing
 pub mod Changed
+pub mod Named
+pub mod Killed
 pub mod Running

@@ -14,9 +14,12 @@ use Rattle.module_lang.specs.declared.instr.Instr.TheVariants as instr
 use Rattle.module_lang.specs.declared.instr.Status.TheVariants.{Success}
 use Rattle.module_lang.specs.Program.{Program, IsPlaced, target}
 use Rattle.run_model.specs.Pools.{is_empty}
-use Rattle.run_model.specs.State.{Run, set_brig, items_of}
+use Rattle.module_lang.specs.declared.instr.PoolRef.TheVariants as pool
+use Rattle.run_model.specs.Clearing.{run_down}
+use Rattle.run_model.specs.State.{Run, set_brig, set_pool, with_pools, pool_named, items_of}
+use Rattle.run_model.proofs.NamedPools.{on_named, made_under_named}
 use Rattle.run_model.specs.Faults.{fault}
-use Rattle.run_model.specs.Steps.{Went, step_at_end, settled, watched, executed, succeeded, unless_fault, current, jumps_if, lacks_names, is_spent, names_of, pool_names_of, grows}
+use Rattle.run_model.specs.Steps.{pool_cleared, pool_destroyed, label_registered, label_killed, text_of, is_null, Went, step_at_end, settled, watched, executed, succeeded, unless_fault, current, jumps_if, lacks_names, is_spent, names_of, pool_names_of, grows}
 
 -- the instruction that is executed next is the one that stands there
 pub current_is : (p : Program) (pc : ℕ) (i : Instr) → slice_get p.code pc ≡ Some i → current p pc ≡ i
@@ -28,7 +31,13 @@ current_at p pc at i same found = current_is p pc i (subst (λ (n : ℕ). slice_
 
 -- an instruction leaves the place to its settling
 pub pc_kept : (p : Program) (i : Instr) (r : Run) → (step_at_end p i r).run.pc ≡ r.pc
-unfolding set_brig
+unfolding set_brig set_pool with_pools run_down
+pc_kept p (instr.PCreate q) r = made_under_named (λ (x : Run). x.pc ≡ r.pc) p q r refl (λ parent e. refl)
+pc_kept p (instr.PClear q) r = on_named (λ (x : Run). x.pc ≡ r.pc) pool_cleared (pool_named r (pool.Own q)) r refl (λ n e. refl)
+pc_kept p (instr.PDestroy q) r = on_named (λ (x : Run). x.pc ≡ r.pc) pool_destroyed (pool_named r (pool.Own q)) r refl (λ n e. refl)
+pc_kept p (instr.Label q t) r = on_named (λ (x : Run). x.pc ≡ r.pc) (label_registered (text_of p t)) (pool_named r q) r refl (λ n e. refl)
+pc_kept p (instr.Unlabel q t) r = on_named (λ (x : Run). x.pc ≡ r.pc) (label_killed (text_of p t)) (pool_named r q) r refl (λ n e. refl)
+pc_kept p (instr.JNull v l) r = refl
 pc_kept p (instr.BCreate o) r = refl
 pc_kept p (instr.BClean b) r = refl
 pc_kept p (instr.BConcat a b) r = refl
@@ -47,7 +56,13 @@ after_jump p l pc i r true same names inside next = subst (λ (o : Option ℕ). 
 after_jump p l pc i r false same names inside next = omega arith
 
 pub stays_inside : (p : Program) (i : Instr) (r : Run) → IsPlaced p r.pc i → r.pc < length p.code → (settled i (step_at_end p i r).exit (step_at_end p i r).run).1.pc < length p.code
-unfolding set_brig
+unfolding set_brig set_pool with_pools run_down
+stays_inside p (instr.PCreate q) r placed inside = made_under_named (λ (x : Run). x.pc + 1 < length p.code) p q r (placed.next refl) (λ parent e. placed.next refl)
+stays_inside p (instr.PClear q) r placed inside = on_named (λ (x : Run). x.pc + 1 < length p.code) pool_cleared (pool_named r (pool.Own q)) r (placed.next refl) (λ n e. placed.next refl)
+stays_inside p (instr.PDestroy q) r placed inside = on_named (λ (x : Run). x.pc + 1 < length p.code) pool_destroyed (pool_named r (pool.Own q)) r (placed.next refl) (λ n e. placed.next refl)
+stays_inside p (instr.Label q t) r placed inside = on_named (λ (x : Run). x.pc + 1 < length p.code) (label_registered (text_of p t)) (pool_named r q) r (placed.next refl) (λ n e. placed.next refl)
+stays_inside p (instr.Unlabel q t) r placed inside = on_named (λ (x : Run). x.pc + 1 < length p.code) (label_killed (text_of p t)) (pool_named r q) r (placed.next refl) (λ n e. placed.next refl)
+stays_inside p (instr.JNull v l) r placed inside = after_jump p l r.pc (instr.JNull v l) r (is_null r v) refl refl placed.jump (placed.next refl)
 stays_inside p (instr.BCreate o) r placed inside = placed.next refl
 stays_inside p (instr.BClean b) r placed inside = placed.next refl
 stays_inside p (instr.BConcat a b) r placed inside = placed.next refl

@@ -9,4 +9,5 @@ pub mod Standing
 pub mod Seen
 pub mod Tests
 pub mod Mapped
+pub mod Made
 pub mod Starts

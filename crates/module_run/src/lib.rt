@@ -5,6 +5,7 @@ mod buckets;
 mod closed;
 mod conn;
 mod effects;
+mod labels;
 mod machine;
 mod pieces;
 mod pool_vars;

@@ -6,6 +6,7 @@ ghost use Rattle.run_model.specs.Steps.{is_spent};
 ghost use Rattle.pool_tree.specs.Tree.{map_of};
 ghost use Rattle.module_run.specs.Standing.{IsStanding};
 
+mod pool_steps;
 mod pools;
 
 use pool_tree::{PoolId, PoolTree};

@@ -43,7 +43,7 @@ fn first_pools(alloc: Global) -> Result<PoolTree<Payload>, AllocError>
 
 /// Adds what a clear handed on.
 #[tactic(auto, using(crate::proofs::Changed::labels_more))]
-fn add(runs: &mut Vec<Vec<(PoolId, Payload)>>, ran: Vec<(PoolId, Payload)>)
+pub(super) fn add(runs: &mut Vec<Vec<(PoolId, Payload)>>, ran: Vec<(PoolId, Payload)>)
     requires { vec_len runs.old < vec_capacity runs.old }
     ensures { labels_handed runs.new.items ≡ labels_handed runs.old.items ++ labels_in ran.items }
 {
@@ -98,6 +98,13 @@ impl Machine {
         self.runs.as_slice()
     }
 
+    /// The pool variable of a number.
+    pub(crate) fn pool_var(&self, q: u8) -> PoolVar
+        ensures { result ≡ (seen_run self.now).inst.pools q }
+    {
+        pool_vars::at(&self.pool_vars, q)
+    }
+
     /// The pool that an operand or a declaration names.
     #[tactic(auto, unfolding(crate::specs::Seen::seen_run, run_model::specs::State::pool_named))]
     pub(crate) fn pool_named(&self, pool: PoolRef) -> Option<u64>
@@ -106,7 +113,7 @@ impl Machine {
         match pool {
             PoolRef::Conn => Some(CONN_POOL),
             PoolRef::Req => self.req,
-            PoolRef::Own(q) => pool_vars::name_in(pool_vars::at(&self.pool_vars, q)),
+            PoolRef::Own(q) => pool_vars::name_in(self.pool_var(q)),
         }
     }
 
@@ -162,7 +169,7 @@ impl Machine {
 
     /// Finds the memory that a clear of a pool takes, and clears the brigades that it reaches. Without memory nothing is
     /// changed.
-    fn run_down(&mut self, pool: u64) -> Result<Room<Payload>, AllocError>
+    pub(super) fn run_down(&mut self, pool: u64) -> Result<Room<Payload>, AllocError>
         requires { IsTrue (is_live (map_of self.old.pools) pool) }
         ensures room { IfOk result (IsRoomFor (map_of self.old.pools) pool) }
         ensures place { OnOk result (vec_len self.new.runs < vec_capacity self.new.runs) }
