@@ -4,5 +4,8 @@ pub mod Refilled
 pub mod Writes
 pub mod Mapping
 pub mod Places
-pub mod Requests
+pub mod Standing
+pub mod Changed
+pub mod Named
+pub mod Killed
 pub mod Running

@@ -1,5 +1,5 @@
 -- A list whose items were changed in place.
-use Rattle.std.proofs.Common.{◌≡◌, ℕ, ◌≤◌, List, [], ◌++◌, take, drop, map, length, refl, ap, ◌∙◌, arith}
+use Rattle.std.proofs.Common.{◌≡◌, List, [], ◌++◌, drop, map, length, refl, ap, arith}
 use Rattle.std.proofs.lemmas.List.{append-nil, take_all, drop_all, length-map}
 use Rattle.module_lang.specs.SeqLends.{refilled}
 use Rattle.run_model.specs.declared.bucket.Var.{Var}

@@ -1,5 +1,5 @@
 -- Steps that go on, one after another.
-use Rattle.std.proofs.Common.{◌≡◌, ℕ, zero, suc, true, Ok, refl, sym, subst}
+use Rattle.std.proofs.Common.{◌≡◌, ℕ, zero, suc, true, Ok, refl, subst}
 use Rattle.run_model.specs.declared.event.Stepped.TheVariants as stepped
 use Rattle.module_lang.specs.Program.{Program}
 use Rattle.run_model.specs.Connection.{Connection, steps}

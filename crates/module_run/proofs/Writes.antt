@@ -1,5 +1,5 @@
 -- Laws of writing brigade variables.
-use Rattle.std.proofs.Common.{◌≡◌, ◌≢◌, ℕ, refl, sym, ap, ◌∙◌}
+use Rattle.std.proofs.Common.{◌≡◌, ◌≢◌, ℕ, ap, ◌∙◌}
 use Rattle.run_model.specs.declared.bucket.Var.{Var}
 use Rattle.run_model.specs.Indexed.{upd}
 use Rattle.run_model.specs.State.{Run, set_brig}

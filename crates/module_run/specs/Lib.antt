@@ -4,7 +4,10 @@ pub use Rattle.run_model.specs.Faults
 pub use Rattle.run_model.specs.Steps
 pub use Rattle.run_model.specs.Connection
 pub use Rattle.run_model.specs.Runs
+pub use Rattle.pool_tree.specs.Tree
+pub mod Standing
 pub mod Seen
 pub mod Tests
 pub mod Mapped
-pub mod Closed
+pub mod Made
+pub mod Starts

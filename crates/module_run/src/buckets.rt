@@ -1,12 +1,15 @@
 //! Tests and changes on lists of buckets.
 
-ghost use Rattle.std.specs.Prelude.{◌≡◌, ◌==◌, ◌||◌, ◌&&◌, map, IfOk, ◌++◌};
+ghost use Rattle.std.specs.Prelude.{◌≡◌, ◌||◌, ◌&&◌, map, IfOk, IsTrue, ◌++◌};
 ghost use Rattle.std.specs.List.{list_any};
 ghost use Rattle.run_model.specs.Buckets.{is_data_kind, is_eos_kind, has_data, has_eos, data_after_eos, is_ended, is_dead, end_call, returned_bucket, end_pools, to_heap, cleared_bucket, bytes_of};
+ghost use Rattle.run_model.specs.Pools.{is_live, is_under};
 ghost use Rattle.run_model.specs.Steps.{bytes_before_eos};
+ghost use Rattle.pool_tree.specs.Tree.{map_of};
 ghost use Rattle.module_run.specs.Tests.{late_data};
 
-use run_model::{Content, Home, Kind, Named, Seq};
+use pool_tree::PoolTree;
+use run_model::{Content, Home, Kind, Named, Payload, Seq};
 use std::alloc::{AllocError, Global};
 
 /// Whether buckets of this kind are data.
@@ -99,30 +102,43 @@ pub(crate) fn bytes_before_eos(alloc: Global, items: &[Named]) -> Result<Seq<u8>
     Ok(out)
 }
 
-fn end_pool(pool: u64, home: Home) -> Home
-    ensures { result ≡ end_pools (λ n. n == pool) home }
+/// Whether a clear of a pool reaches the pool of a name.
+#[tactic(auto, using(crate::proofs::Standing::under_none))]
+pub(crate) fn reaches(pools: &PoolTree<Payload>, cleared: u64, name: u64) -> bool
+    requires { IsTrue (is_live (map_of pools.now) cleared) }
+    ensures { result ≡ is_under (map_of pools.now) cleared name }
+{
+    pools.is_live(name) && pools.is_ancestor(cleared, name)
+}
+
+fn end_pools(pools: &PoolTree<Payload>, cleared: u64, home: Home) -> Home
+    requires { IsTrue (is_live (map_of pools.now) cleared) }
+    ensures { result ≡ end_pools (is_under (map_of pools.now) cleared) home }
 {
     match home {
-        Home::Pool(name) if name == pool => Home::Ended,
+        Home::Pool(name) if reaches(pools, cleared, name) => Home::Ended,
         other => other,
     }
 }
 
-fn to_heap(pool: u64, kind: Kind) -> Kind
-    ensures { result ≡ to_heap (λ n. n == pool) kind }
+fn to_heap(pools: &PoolTree<Payload>, cleared: u64, kind: Kind) -> Kind
+    requires { IsTrue (is_live (map_of pools.now) cleared) }
+    ensures { result ≡ to_heap (is_under (map_of pools.now) cleared) kind }
 {
     match kind {
-        Kind::Pool(name) if name == pool => Kind::Heap,
+        Kind::Pool(name) if reaches(pools, cleared, name) => Kind::Heap,
         other => other,
     }
 }
 
-/// What the end of a pool does to buckets: those whose home it is lose it, and those whose bytes lie in it become HEAP.
-pub(crate) fn clear(items: &mut [Named], pool: u64)
-    ensures { items.new ≡ map (cleared_bucket (λ n. n == pool)) items.old }
+/// What a clear of a pool does to buckets: those whose home it reaches lose it, and those whose bytes lie in a pool that it
+/// reaches become HEAP.
+pub(crate) fn clear(items: &mut [Named], pools: &PoolTree<Payload>, cleared: u64)
+    requires { IsTrue (is_live (map_of pools.now) cleared) }
+    ensures { items.new ≡ map (cleared_bucket (is_under (map_of pools.now) cleared)) items.old }
 {
     for b in items.iter_mut() {
-        b.bucket.kind = to_heap(pool, b.bucket.kind);
-        b.bucket.home = end_pool(pool, b.bucket.home);
+        b.bucket.kind = to_heap(pools, cleared, b.bucket.kind);
+        b.bucket.home = end_pools(pools, cleared, b.bucket.home);
     }
 }

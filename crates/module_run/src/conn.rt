@@ -1,14 +1,17 @@
 //! A connection, and what happens to it.
 
-ghost use Rattle.std.specs.Prelude.{◌≡◌, ◌↔◌, IsTrue, ◌+◌, ◌<◌, ◌-◌, ◌^◌, length, Ok};
-ghost use Rattle.run_model.specs.Connection.{opened, calling, begins, brings, ends, takes, steps, breaks, after_step};
+ghost use Rattle.std.specs.Prelude.{◌≡◌, ◌↔◌, IsTrue, ◌+◌, ◌<◌, ◌-◌, ◌^◌, [], ◌∷◌, length, Ok, IfOk, IfErr};
+ghost use Rattle.run_model.specs.Connection.{opened, calling, begins, brings, ends, takes, steps, breaks, after_step, closing_labels, closing_pools};
 ghost use Rattle.run_model.specs.Steps.{watched, current};
 ghost use Rattle.run_model.specs.Runs.{EndsRun};
-ghost use Rattle.module_run.specs.Seen.{seen, seen_run, step_lasted, lasted, refusal_of};
+ghost use Rattle.pool_tree.specs.Tree.{map_of};
+ghost use Rattle.module_run.specs.Seen.{seen, seen_run, step_lasted, lasted, refusal_of, labels_handed, labels_of, pools_left};
 
+use crate::closed::Closed;
 use crate::machine::Machine;
 use crate::{effects, pieces, step};
-use run_model::{Cause, Module, Piece, Refusal, Seq, StepRefusal, Stepped};
+use pool_tree::{PoolId, PoolTree};
+use run_model::{Cause, Module, Payload, Piece, Refusal, Seq, StepRefusal, Stepped};
 use std::alloc::Global;
 
 /// A connection on which one module runs.
@@ -102,23 +105,27 @@ impl Conn {
         self.broken = None;
     }
 
-    /// A connection is opened: its `open` is to be stepped. It takes no memory.
+    /// A connection is opened: its `open` is to be stepped. `NoMemory`: there is none for its pools.
     #[tactic(auto, unfolding(crate::specs::Seen::seen, run_model::specs::Connection::opened))]
-    pub fn open(alloc: Global) -> Conn
-        ensures { seen result ≡ opened }
+    pub fn open(alloc: Global) -> Result<Conn, Refusal>
+        ensures ok { IfOk result (λ conn. seen conn ≡ opened) }
+        ensures err { IfErr result (λ e. e ≡ Refusal.NoMemory) }
     {
+        let Ok(machine) = Machine::new(alloc) else {
+            return Err(Refusal::NoMemory);
+        };
         let mut conn = Conn {
-            machine: Machine::new(alloc),
+            machine,
             busy: false,
             count: 0,
             broken: None,
         };
         conn.call(1, 0);
-        conn
+        Ok(conn)
     }
 
-    /// A request begins: its pool is made, and `init` is to be stepped. It takes no memory. Refused, nothing is changed:
-    /// `Broken`; `Busy`: a call is running; `InRequest`; `NamesSpent`: a name to be given out would be 2^64 - 1.
+    /// A request begins: its pool is made, and `init` is to be stepped. Refused, nothing is changed: `Broken`; `Busy`: a
+    /// call is running; `InRequest`; `NamesSpent`: a name to be given out would be 2^64 - 1; `NoMemory`.
     #[tactic(auto, unfolding(crate::specs::Seen::seen, run_model::specs::Connection::begins))]
     pub fn begin(&mut self, code: &Module) -> Result<(), Refusal>
         ensures begins { begins (lasted result) code.now (seen self.old) ≡ (refusal_of result, seen self.new) }
@@ -130,23 +137,25 @@ impl Conn {
         if self.busy {
             return Err(Refusal::Busy);
         }
-        if self.machine.in_request() {
+        if self.machine.request().is_some() {
             return Err(Refusal::InRequest);
         }
-        if self.machine.pools_spent() || self.machine.is_spent(1) {
+        if self.machine.lacks_pools(1) || self.machine.is_spent(1) {
             return Err(Refusal::NamesSpent);
         }
-        self.machine.begin_request();
+        if self.machine.begin_request().is_err() {
+            return Err(Refusal::NoMemory);
+        }
         let name = self.machine.take_name();
         self.call(name, code.init());
         Ok(())
     }
 
-    /// The request ends: its pool is destroyed, and what lay on it. It takes no memory. Refused, nothing is changed:
-    /// `Broken`; `Busy`: a call is running; `NotInRequest`.
+    /// The request ends: its pool is destroyed with what lay on it and under it, and labels run. Refused, nothing is
+    /// changed: `Broken`; `Busy`: a call is running; `NotInRequest`; `NoMemory`.
     #[tactic(auto, unfolding(crate::specs::Seen::seen, run_model::specs::Connection::ends))]
     pub fn end_request(&mut self) -> Result<(), Refusal>
-        ensures { ends (seen self.old) ≡ (refusal_of result, seen self.new) }
+        ensures { ends (lasted result) (seen self.old) ≡ (refusal_of result, seen self.new) }
     {
         if let Some(cause) = self.broken {
             return Err(Refusal::Broken(cause));
@@ -154,12 +163,53 @@ impl Conn {
         if self.busy {
             return Err(Refusal::Busy);
         }
-        if !self.machine.in_request() {
+        let Some(pool) = self.machine.request() else {
             return Err(Refusal::NotInRequest);
+        };
+        if self.machine.end_request(pool).is_err() {
+            return Err(Refusal::NoMemory);
         }
-        let pool = self.machine.request_pool();
-        effects::end_request(&mut self.machine, pool);
         Ok(())
+    }
+
+    /// What each clear and each end of a pool handed on, the oldest first. Labels are what ran. It takes no memory, and
+    /// serves in any state.
+    pub fn labels_run(&self) -> &[Vec<(PoolId, Payload)>]
+        ensures { labels_handed result.now ≡ (seen self.now).run.shared.labels }
+    {
+        self.machine.labels_run()
+    }
+
+    /// The pools, with the root 1. It takes no memory, and serves in any state.
+    pub fn pools(&self) -> &PoolTree<Payload>
+        ensures map { map_of result.now ≡ (seen self.now).run.shared.pools }
+        ensures root { (map_of result.now).path 1 ≡ 1 ∷ [] }
+    {
+        self.machine.pools()
+    }
+
+    /// The connection is closed: its pool is destroyed with all under it, and labels run. It serves in any state. Without
+    /// memory the connection comes back as it was.
+    pub fn close(self) -> Result<Closed, Conn>
+        ensures labels { IfOk result (λ closed. labels_of closed ≡ closing_labels (seen self)) }
+        ensures pools { IfOk result (λ closed. pools_left closed ≡ closing_pools (seen self)) }
+        ensures back { IfErr result (λ conn. seen conn ≡ seen self) }
+    {
+        let Conn {
+            machine,
+            busy,
+            count,
+            broken,
+        } = self;
+        match machine.close() {
+            Ok(closed) => Ok(closed),
+            Err(machine) => Err(Conn {
+                machine,
+                busy,
+                count,
+                broken,
+            }),
+        }
     }
 
     /// The output since the last take. It takes no memory, and serves in any state.
@@ -184,7 +234,7 @@ impl Conn {
         if self.busy {
             return Err(Refusal::Busy);
         }
-        if !self.machine.in_request() {
+        if self.machine.request().is_none() {
             return Err(Refusal::NotInRequest);
         }
         if pieces::has_data_behind_eos(pieces.as_slice()) {

@@ -1,18 +1,59 @@
 //! What instructions do to a machine.
 
-ghost use Rattle.std.specs.Prelude.{◌≡◌, ◌+◌, ◌==◌, Some, ◌≢◌, ◌<◌, false, length, OnOk, OnErr};
-ghost use Rattle.run_model.specs.Steps.{do_create, do_clean, do_concat, do_pass, do_return, delivered, is_spent, returned_var};
-ghost use Rattle.run_model.specs.State.{items_of};
-ghost use Rattle.run_model.specs.Connection.{cleared_var, request_ended};
-ghost use Rattle.module_lang.specs.Program.{pool_of_brigade};
+ghost use Rattle.std.specs.Prelude.{◌≡◌, ◌+◌, ◌≢◌, ◌<◌, true, false, length, OnOk, OnErr};
+ghost use Rattle.run_model.specs.Steps.{do_pcreate, on_pool, label_registered, label_killed, text_of, do_create, do_clean, do_concat, do_pass, do_return, delivered, is_spent, returned_var};
+ghost use Rattle.run_model.specs.State.{items_of, pool_named};
+ghost use Rattle.module_lang.specs.Program.{pool_of_brigade, pool_of_pool};
+ghost use Rattle.run_model.specs.Faults.{has_pool};
 ghost use Rattle.module_run.specs.Seen.{seen_run};
 ghost use Rattle.module_run.specs.Mapped.{mapped};
-ghost use Rattle.module_run.specs.Closed.{with_in};
+ghost use Rattle.module_run.specs.Starts.{with_in};
 
 use crate::machine::{IN, Machine};
 use crate::{buckets, pieces, vars};
-use run_model::{Brigade, Mark, Module, Piece, Seq, Var};
+use run_model::{Brigade, Mark, Module, Piece, PoolRef, Seq, Var};
 use std::alloc::{AllocError, Global};
+
+/// Makes a pool under its declared parent. Without memory nothing is changed.
+#[tactic(auto, using(crate::proofs::Named::made_there))]
+pub(crate) fn create_pool(code: &Module, machine: &mut Machine, q: u8) -> Result<(), AllocError>
+    requires slot { q < 8 }
+    requires declared { q < length code.now.pools }
+    requires live { has_pool (seen_run machine.old) (pool_of_pool code.now q) ≡ true }
+    ensures ok { OnOk result (seen_run machine.new ≡ do_pcreate code.now q (seen_run machine.old)) }
+    ensures err { OnErr result (seen_run machine.new ≡ seen_run machine.old) }
+{
+    machine.create_pool(q, code.pool_parent(q))
+}
+
+/// Registers a label with a pool. Without memory nothing is changed.
+#[tactic(auto, unfolding(run_model::specs::Steps::text_of, module_lang::specs::Program::text_at))]
+pub(crate) fn label(
+    alloc: Global,
+    code: &Module,
+    machine: &mut Machine,
+    pool: PoolRef,
+    text: u8,
+) -> Result<(), AllocError>
+    requires declared { text < length code.now.texts }
+    requires live { has_pool (seen_run machine.old) pool ≡ true }
+    ensures ok { let r = seen_run machine.old in OnOk result (seen_run machine.new ≡ on_pool (label_registered (text_of code.now text)) (pool_named r pool) r) }
+    ensures err { OnErr result (seen_run machine.new ≡ seen_run machine.old) }
+{
+    let mut label = Seq::new(alloc);
+    label.extend(code.text(text))?;
+    machine.add_label(pool, label)
+}
+
+/// Takes out the label of this text that was registered last with a pool, if there is one.
+#[tactic(auto, unfolding(run_model::specs::Steps::text_of, module_lang::specs::Program::text_at))]
+pub(crate) fn unlabel(code: &Module, machine: &mut Machine, pool: PoolRef, text: u8)
+    requires declared { text < length code.now.texts }
+    requires live { has_pool (seen_run machine.old) pool ≡ true }
+    ensures { let r = seen_run machine.old in seen_run machine.new ≡ on_pool (label_killed (text_of code.now text)) (pool_named r pool) r }
+{
+    machine.remove_label(pool, code.text(text));
+}
 
 /// Makes an empty brigade on its declared pool.
 #[tactic(auto, unfolding(run_model::specs::State::pool_named))]
@@ -112,26 +153,6 @@ pub(crate) fn end_call(machine: &mut Machine)
     end_homes(machine, call);
     machine.put(IN, Var::Null);
     machine.set_call(0);
-}
-
-/// Takes what lay on a pool: brigades on it go, and buckets of others lose it.
-fn clear_brigades(machine: &mut Machine, pool: u64)
-    ensures { seen_run machine.new ≡ mapped (cleared_var (λ n. n == pool)) (seen_run machine.old) }
-{
-    for b in 0..9u8 {
-        let mut var = machine.put(b, Var::Null);
-        vars::clear(&mut var, pool);
-        machine.put(b, var);
-    }
-}
-
-/// Ends the open request: its pool is destroyed with what lay on it, and no EOS was passed in the next one.
-pub(crate) fn end_request(machine: &mut Machine, pool: u64)
-    requires { (seen_run machine.old).shared.req ≡ Some pool }
-    ensures { seen_run machine.new ≡ request_ended pool (seen_run machine.old) }
-{
-    clear_brigades(machine, pool);
-    machine.close_request(pool);
 }
 
 /// Makes a brought brigade the `in` of a call; names go to the call, the brigade and its buckets. Without memory nothing

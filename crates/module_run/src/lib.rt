@@ -2,15 +2,21 @@
 #![tactic(auto)]
 
 mod buckets;
+mod closed;
 mod conn;
 mod effects;
+mod labels;
 mod machine;
 mod pieces;
+mod pool_vars;
 mod step;
 mod vars;
 mod wants;
 
+pub use closed::Closed;
 pub use conn::{Conn, step_watched};
+pub use pool_tree::{PoolId, PoolTree};
 pub use run_model::{
-    Cause, Event, Exit, FaultKind, Instr, Module, Piece, Refusal, Seq, Status, StepRefusal, Stepped,
+    Cause, Event, Exit, FaultKind, Instr, Module, Payload, Piece, Refusal, Seq, Status,
+    StepRefusal, Stepped,
 };

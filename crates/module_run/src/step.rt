@@ -1,19 +1,91 @@
 //! One watched step.
 
-ghost use Rattle.std.specs.Prelude.{◌≡◌, ◌<◌, ◌≤◌, true, false, length, Ok, IfOk, IsOk, OnErr, unwrap_or};
-ghost use Rattle.module_lang.specs.Program.{fits, target};
-ghost use Rattle.run_model.specs.Steps.{step_at_end, settled, status_of, is_spent, names_of, grows, watched, current, jumps_if};
+ghost use Rattle.std.specs.Prelude.{◌≡◌, ◌<◌, ◌≤◌, true, false, length, Ok, None, IfOk, IsOk, OnOk, OnErr, unwrap_or};
+ghost use Rattle.module_lang.specs.Program.{fits, is_variable, target};
+ghost use Rattle.run_model.specs.Steps.{step_at_end, settled, status_of, is_null, names_of, pool_names_of, lacks_names, grows, watched, current, jumps_if};
+ghost use Rattle.run_model.specs.Faults.{fault};
 ghost use Rattle.module_run.specs.Seen.{seen_run, step_lasted};
 
 use crate::machine::Machine;
 use crate::{effects, vars, wants};
-use run_model::{Exit, Instr, Module, Status, StepRefusal, Stepped};
+use run_model::{Exit, Instr, Module, PoolVar, Status, StepRefusal, Stepped, Var, VarRef};
 use std::alloc::{AllocError, Global};
 
 fn jumps_if(test: bool) -> Exit
     ensures { result ≡ jumps_if test }
 {
     if test { Exit::Jump } else { Exit::GoOn }
+}
+
+/// Whether nothing was made in a variable.
+fn is_null(code: &Module, machine: &Machine, var: VarRef) -> bool
+    requires fit { is_variable code.now var ≡ true }
+    requires few { length code.now.brigades ≤ 8 }
+    ensures { result ≡ is_null (seen_run machine.now) var }
+{
+    match var {
+        VarRef::Pool(q) => matches!(machine.pool_var(q), PoolVar::Null),
+        VarRef::Brigade(b) => matches!(machine.brig(b), Var::Null),
+    }
+}
+
+/// Where an instruction leads.
+fn exit(code: &Module, machine: &Machine, instr: Instr) -> Exit
+    requires fit { fits code.now instr ≡ true }
+    requires few { length code.now.brigades ≤ 8 }
+    ensures { result ≡ (step_at_end code.now instr (seen_run machine.now)).exit }
+{
+    match instr {
+        Instr::JEmpty(b, _) => jumps_if(vars::items(machine.brig(b)).is_empty()),
+        Instr::JNull(var, _) => jumps_if(is_null(code, machine, var)),
+        Instr::JSent(_) => jumps_if(machine.sent()),
+        Instr::Jump(_) => Exit::Jump,
+        Instr::Ret(_) => Exit::Return,
+        _ => Exit::GoOn,
+    }
+}
+
+/// What an instruction does that has no fault and whose names are there. Without memory nothing is changed.
+fn change(
+    alloc: Global,
+    code: &Module,
+    machine: &mut Machine,
+    instr: Instr,
+) -> Result<(), AllocError>
+    requires fit { fits code.now instr ≡ true }
+    requires few { length code.now.brigades ≤ 8 }
+    requires pools { length code.now.pools ≤ 8 }
+    requires faultless { fault code.now (seen_run machine.old) instr ≡ None }
+    requires unspent { lacks_names (seen_run machine.old) instr ≡ false }
+    ensures ok { OnOk result (seen_run machine.new ≡ (step_at_end code.now instr (seen_run machine.old)).run) }
+    ensures err { OnErr result (seen_run machine.new ≡ seen_run machine.old) }
+    ensures sure { grows instr ≡ false → IsOk result }
+{
+    match instr {
+        Instr::PCreate(q) => effects::create_pool(code, machine, q),
+        Instr::PClear(q) => machine.clear_pool(q),
+        Instr::PDestroy(q) => machine.destroy_pool(q),
+        Instr::Label(pool, text) => effects::label(alloc, code, machine, pool, text),
+        Instr::Unlabel(pool, text) => {
+            effects::unlabel(code, machine, pool, text);
+            Ok(())
+        }
+        Instr::BCreate(o) => {
+            effects::create(alloc, code, machine, o);
+            Ok(())
+        }
+        Instr::BClean(b) => {
+            effects::clean(machine, b);
+            Ok(())
+        }
+        Instr::BConcat(a, b) => effects::concat(machine, a, b),
+        Instr::Pass(b, _) => effects::pass(alloc, machine, b),
+        Instr::JEmpty(_, _) | Instr::JNull(_, _) | Instr::JSent(_) | Instr::Jump(_) => Ok(()),
+        Instr::Ret(_) => {
+            effects::end_call(machine);
+            Ok(())
+        }
+    }
 }
 
 /// Executes an instruction that has no fault and whose names are there. Without memory nothing is changed.
@@ -25,36 +97,16 @@ fn execute(
 ) -> Result<Exit, AllocError>
     requires fit { fits code.now instr ≡ true }
     requires few { length code.now.brigades ≤ 8 }
-    requires unspent { is_spent (seen_run machine.old).shared.next (names_of instr) ≡ false }
+    requires pools { length code.now.pools ≤ 8 }
+    requires faultless { fault code.now (seen_run machine.old) instr ≡ None }
+    requires unspent { lacks_names (seen_run machine.old) instr ≡ false }
     ensures step { IfOk result (λ e. step_at_end code.now instr (seen_run machine.old) ≡ record { exit = e; run = seen_run machine.new }) }
     ensures err { OnErr result (seen_run machine.new ≡ seen_run machine.old) }
     ensures sure { grows instr ≡ false → IsOk result }
 {
-    match instr {
-        Instr::BCreate(o) => {
-            effects::create(alloc, code, machine, o);
-            Ok(Exit::GoOn)
-        }
-        Instr::BClean(b) => {
-            effects::clean(machine, b);
-            Ok(Exit::GoOn)
-        }
-        Instr::BConcat(a, b) => {
-            effects::concat(machine, a, b)?;
-            Ok(Exit::GoOn)
-        }
-        Instr::Pass(b, _) => {
-            effects::pass(alloc, machine, b)?;
-            Ok(Exit::GoOn)
-        }
-        Instr::JEmpty(b, _) => Ok(jumps_if(vars::items(machine.brig(b)).is_empty())),
-        Instr::JSent(_) => Ok(jumps_if(machine.sent())),
-        Instr::Jump(_) => Ok(Exit::Jump),
-        Instr::Ret(_) => {
-            effects::end_call(machine);
-            Ok(Exit::Return)
-        }
-    }
+    let exit = exit(code, machine, instr);
+    change(alloc, code, machine, instr)?;
+    Ok(exit)
 }
 
 fn target(instr: Instr) -> usize
@@ -63,9 +115,10 @@ fn target(instr: Instr) -> usize
     match instr {
         Instr::Pass(_, target)
         | Instr::JEmpty(_, target)
+        | Instr::JNull(_, target)
         | Instr::JSent(target)
         | Instr::Jump(target) => usize::from(target),
-        Instr::BCreate(_) | Instr::BClean(_) | Instr::BConcat(_, _) | Instr::Ret(_) => 0,
+        _ => 0,
     }
 }
 
@@ -95,10 +148,26 @@ fn settle(machine: &mut Machine, instr: Instr, exit: Exit) -> Stepped
     }
 }
 
+/// How many names of buckets, brigades and calls an instruction gives out.
 fn names(instr: Instr) -> u64
     ensures { result ≡ names_of instr }
 {
     if let Instr::BCreate(_) = instr { 1 } else { 0 }
+}
+
+/// How many names of pools an instruction gives out.
+fn pool_names(instr: Instr) -> u64
+    ensures { result ≡ pool_names_of instr }
+{
+    if let Instr::PCreate(_) = instr { 1 } else { 0 }
+}
+
+/// Whether a name that an instruction would have to give out is not there.
+#[tactic(auto, unfolding(run_model::specs::Steps::lacks_names))]
+fn lacks_names(machine: &Machine, instr: Instr) -> bool
+    ensures { result ≡ lacks_names (seen_run machine.now) instr }
+{
+    machine.is_spent(names(instr)) || machine.lacks_pools(pool_names(instr))
 }
 
 /// One watched step of the instruction that is next. A fault is told whether or not there is memory.
@@ -121,7 +190,7 @@ pub(crate) fn step(
             pc: pc as u64,
         });
     }
-    if machine.is_spent(names(instr)) {
+    if lacks_names(machine, instr) {
         return Err(StepRefusal::NamesSpent);
     }
     let Ok(exit) = execute(alloc, code, machine, instr) else {

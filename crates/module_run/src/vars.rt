@@ -1,13 +1,16 @@
 //! What instructions do to a brigade variable.
 
-ghost use Rattle.std.specs.Prelude.{◌≡◌, ◌==◌, ◌++◌, [], map, OnOk, OnErr};
+ghost use Rattle.std.specs.Prelude.{◌≡◌, ◌++◌, [], map, IsTrue, OnOk, OnErr};
 ghost use Rattle.run_model.specs.State.{items_of};
 ghost use Rattle.run_model.specs.Buckets.{cleared_bucket};
-ghost use Rattle.run_model.specs.Connection.{is_reached, cleared_var};
+ghost use Rattle.run_model.specs.Pools.{is_live, is_under};
+ghost use Rattle.run_model.specs.Clearing.{is_reached, cleared_var};
+ghost use Rattle.pool_tree.specs.Tree.{map_of};
 ghost use Rattle.run_model.specs.Steps.{cleaned, with_items, handed_over, returned_var};
 
 use crate::buckets;
-use run_model::{Brigade, Mark, Named, Seq, Var};
+use pool_tree::PoolTree;
+use run_model::{Brigade, Mark, Named, Payload, Seq, Var};
 use std::alloc::AllocError;
 
 /// The buckets in a brigade variable.
@@ -50,30 +53,43 @@ pub(crate) fn end_homes(var: &mut Var, call: u64)
     }
 }
 
-fn lies_on(brigade: &Brigade, pool: u64) -> bool
-    ensures { result ≡ is_reached (λ n. n == pool) brigade.now.on }
+fn lies_on(brigade: &Brigade, pools: &PoolTree<Payload>, cleared: u64) -> bool
+    requires { IsTrue (is_live (map_of pools.now) cleared) }
+    ensures { result ≡ is_reached (is_under (map_of pools.now) cleared) brigade.now.on }
 {
     match brigade.on {
-        Some(name) => name == pool,
+        Some(name) => buckets::reaches(pools, cleared, name),
         None => false,
     }
 }
 
 #[tactic(auto, using(crate::proofs::Refilled::refilled_map))]
-fn clear_items(brigade: &mut Brigade, pool: u64)
-    ensures { brigade.new ≡ record brigade.old { items = map (cleared_bucket (λ n. n == pool)) brigade.old.items } }
+fn clear_items(brigade: &mut Brigade, pools: &PoolTree<Payload>, cleared: u64)
+    requires { IsTrue (is_live (map_of pools.now) cleared) }
+    ensures { brigade.new ≡ record brigade.old { items = map (cleared_bucket (is_under (map_of pools.now) cleared)) brigade.old.items } }
 {
-    buckets::clear(brigade.items.as_mut_slice(), pool);
+    buckets::clear(brigade.items.as_mut_slice(), pools, cleared);
 }
 
-/// What the end of a pool does: a brigade on it goes with its buckets, and the buckets of others lose it.
-pub(crate) fn clear(var: &mut Var, pool: u64)
-    ensures { var.new ≡ cleared_var (λ n. n == pool) var.old }
+/// What a clear of a pool does: a brigade on a pool that it reaches goes with its buckets, and those of others lose it.
+fn clear(var: &mut Var, pools: &PoolTree<Payload>, cleared: u64)
+    requires { IsTrue (is_live (map_of pools.now) cleared) }
+    ensures { var.new ≡ cleared_var (is_under (map_of pools.now) cleared) var.old }
 {
     match var {
-        Var::Live(brigade) if lies_on(brigade, pool) => *var = Var::Gone,
-        Var::Live(brigade) => clear_items(brigade, pool),
+        Var::Live(brigade) if lies_on(brigade, pools, cleared) => *var = Var::Gone,
+        Var::Live(brigade) => clear_items(brigade, pools, cleared),
         Var::Null | Var::Gone => {}
+    }
+}
+
+/// What a clear of a pool does to brigade variables.
+pub(crate) fn clear_all(vars: &mut [Var], pools: &PoolTree<Payload>, cleared: u64)
+    requires { IsTrue (is_live (map_of pools.now) cleared) }
+    ensures { vars.new ≡ map (cleared_var (is_under (map_of pools.now) cleared)) vars.old }
+{
+    for var in vars.iter_mut() {
+        clear(var, pools, cleared);
     }
 }
 

@@ -2,7 +2,7 @@
 
 ghost use Rattle.std.specs.Prelude.{◌≡◌, ◌<◌, ◌≤◌, true, length};
 ghost use Rattle.std.specs.List.{list_any};
-ghost use Rattle.run_model.specs.Faults.{WPool, WBrigade, WUsable, WNew, WHomes, WSend, WReturn, fault_want, or_else, fault, is_stray, keeps_stray};
+ghost use Rattle.run_model.specs.Faults.{WPool, WBrigade, WUsable, WNew, WNewPool, WHomes, WSend, WReturn, fault_want, or_else, fault, is_stray, keeps_stray};
 ghost use Rattle.run_model.specs.State.{is_own};
 ghost use Rattle.module_lang.specs.Program.{fits};
 ghost use Rattle.module_run.specs.Seen.{seen_run};
@@ -60,6 +60,16 @@ fn want_new(machine: &Machine, b: u8) -> Option<FaultKind>
     match machine.brig(b) {
         Var::Null | Var::Gone => None,
         Var::Live(_) => Some(FaultKind::F10),
+    }
+}
+
+fn want_new_pool(machine: &Machine, q: u8) -> Option<FaultKind>
+    ensures { result ≡ fault_want (seen_run machine.now) (WNewPool q) }
+{
+    if machine.has_pool(PoolRef::Own(q)) {
+        Some(FaultKind::F10)
+    } else {
+        None
     }
 }
 
@@ -134,6 +144,12 @@ pub(crate) fn fault(code: &Module, machine: &Machine, instr: Instr) -> Option<Fa
     ensures { result ≡ fault code.now (seen_run machine.now) instr }
 {
     match instr {
+        Instr::PCreate(q) => or_else(
+            want_pool(machine, code.pool_parent(q)),
+            want_new_pool(machine, q),
+        ),
+        Instr::PClear(q) | Instr::PDestroy(q) => want_pool(machine, PoolRef::Own(q)),
+        Instr::Label(pool, _) | Instr::Unlabel(pool, _) => want_pool(machine, pool),
         Instr::BCreate(o) => or_else(
             want_pool(machine, code.brigade_pool(o)),
             want_new(machine, o),
@@ -145,7 +161,7 @@ pub(crate) fn fault(code: &Module, machine: &Machine, instr: Instr) -> Option<Fa
             or_else(want_homes(machine, b), want_send(machine, b)),
         ),
         Instr::JEmpty(b, _) => want_usable(machine, b),
-        Instr::JSent(_) | Instr::Jump(_) => None,
+        Instr::JNull(_, _) | Instr::JSent(_) | Instr::Jump(_) => None,
         Instr::Ret(_) => want_return(machine),
     }
 }

@@ -3,4 +3,5 @@ pub mod Links
 pub mod Payloads
 pub mod Handed
 pub mod Printed
+pub mod Room
 pub mod Tree

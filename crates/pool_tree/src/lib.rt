@@ -11,7 +11,7 @@ mod tree;
 
 pub use refusal::PoolRefusal;
 pub use text::{PoolText, WriteFault};
-pub use tree::{PoolId, PoolTree};
+pub use tree::{PoolId, PoolTree, Room};
 
 #[cfg(test)]
 mod tests;

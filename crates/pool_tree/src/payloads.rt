@@ -1,6 +1,6 @@
 //! Changes of the payloads of one pool.
 
-ghost use Rattle.std.specs.Prelude.{◌≡◌, ℕ, is_some, true, [], ◌∷◌, ◌++◌, is_ok, if◌then◌else◌, IfErr, MatchOption, false};
+ghost use Rattle.std.specs.Prelude.{◌≡◌, ◌<◌, ℕ, length, slice_index_or, remove, is_some, true, [], ◌∷◌, ◌++◌, is_ok, if◌then◌else◌, IfErr, MatchOption, false};
 ghost use Rattle.std.specs.List.{list_any};
 ghost use Rattle.run_model.specs.RunOrder.{last_that, without_last};
 ghost use Rattle.pool_tree.specs.Payloads.{IsLastAt};
@@ -23,6 +23,20 @@ pub(crate) fn push<T: Drop>(
 {
     match records.by_name.get_mut(&name) {
         Some(pool) => pool.payloads.push(item),
+        None => unreachable!(),
+    }
+}
+
+/// Takes out the payload of a pool at an index.
+#[tactic(auto, unfolding(crate::specs::Records::record_of))]
+pub(crate) fn take_at<T: Drop>(records: &mut Records<T>, name: u64, index: usize) -> T
+    requires live { is_some (record_of records.old name) ≡ true }
+    requires within { index < length (payloads_of (record_of records.old) name) }
+    ensures taken { result ≡ slice_index_or (payloads_of (record_of records.old) name) index result }
+    ensures rest { IsRefilled name (remove (payloads_of (record_of records.old) name) index) (record_of records.old) (record_of records.new) }
+{
+    match records.by_name.get_mut(&name) {
+        Some(pool) => pool.payloads.remove(index),
         None => unreachable!(),
     }
 }

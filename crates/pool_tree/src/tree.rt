@@ -1,6 +1,6 @@
 //! The tree of pools.
 
-ghost use Rattle.std.specs.Prelude.{◌≡◌, ℕ, ◌<◌, is_some, IsTrue, ◌↔◌, [], ◌∷◌, IfOk, OnOk, OnErr, IfErr, IsErrOf};
+ghost use Rattle.std.specs.Prelude.{◌≡◌, ℕ, ◌<◌, length, slice_index_or, remove, is_some, IsTrue, ◌↔◌, [], ◌∷◌, IfOk, OnOk, OnErr, IfErr, IsErrOf};
 ghost use Rattle.pool_tree.specs.Links.{IsLinked};
 ghost use Rattle.pool_tree.specs.Records.{record_of};
 
@@ -9,9 +9,10 @@ mod print;
 mod walk;
 
 use crate::links::add_child;
-use crate::payloads::{push, take_newest_equal};
+use crate::payloads::{push, take_at, take_newest_equal};
 use crate::records::{Pool, Records};
 use crate::refusal::PoolRefusal;
+pub use clear::Room;
 use std::alloc::{AllocError, Global};
 
 /// The name of a pool.
@@ -30,6 +31,7 @@ pub struct PoolTree<T> {
 #[tactic(auto, using(crate::proofs::Trees::tree_formed, crate::proofs::Trees::tree_next))]
 impl<T: Drop> PoolTree<T> {
     ghost use Rattle.run_model.specs.Pools.{planted, created, registered, is_live, is_under};
+    ghost use Rattle.run_model.specs.Indexed.{upd};
     ghost use Rattle.run_model.specs.RunOrder.{last_that, killed, IsPoolMap};
     ghost use Rattle.pool_tree.specs.Tree.{map_of};
 
@@ -87,6 +89,13 @@ impl<T: Drop> PoolTree<T> {
         Ok(name)
     }
 
+    /// The name that the next pool would get.
+    pub fn next_name(&self) -> PoolId
+        ensures { result ≡ (map_of self.now).next }
+    {
+        self.next
+    }
+
     /// Registers a payload with a pool, as its newest. Without memory nothing is changed, and the payload comes back.
     pub fn register(&mut self, pool: PoolId, payload: T) -> Result<(), (AllocError, T)>
         requires { IsTrue (is_live (map_of self.old) pool) }
@@ -111,6 +120,25 @@ impl<T: Drop> PoolTree<T> {
         ensures formed { IsPoolMap (map_of self.new) }
     {
         take_newest_equal(&mut self.records, pool, payload)
+    }
+
+    /// The payloads of a pool, the oldest first.
+    #[tactic(auto, using(crate::proofs::Trees::tree_payloads))]
+    pub fn payloads(&self, pool: PoolId) -> &[T]
+        ensures { result.now ≡ (map_of self.now).payloads pool }
+    {
+        self.records.payloads(pool)
+    }
+
+    /// Takes out the payload of a pool that has an index among its payloads.
+    pub fn take_out(&mut self, pool: PoolId, index: usize) -> T
+        requires live { IsTrue (is_live (map_of self.old) pool) }
+        requires within { index < length ((map_of self.old).payloads pool) }
+        ensures taken { result ≡ slice_index_or ((map_of self.old).payloads pool) index result }
+        ensures rest { map_of self.new ≡ record (map_of self.old) { payloads = upd (map_of self.old).payloads pool (remove ((map_of self.old).payloads pool) index) } }
+        ensures formed { IsPoolMap (map_of self.new) }
+    {
+        take_at(&mut self.records, pool, index)
     }
 
     /// Whether there is a pool of this name.

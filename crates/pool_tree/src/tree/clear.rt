@@ -4,12 +4,20 @@ ghost use Rattle.std.specs.Prelude.{◌≡◌, ◌≢◌, ◌≤◌, IsTrue, IfO
 ghost use Rattle.run_model.specs.Pools.{is_live, cleared, destroyed};
 ghost use Rattle.run_model.specs.RunOrder.{children, run_order, IsPoolMap};
 ghost use Rattle.run_model.specs.RunOrderLaws.{order_under};
+ghost use Rattle.pool_tree.specs.Room.{IsRoomFor};
 ghost use Rattle.pool_tree.specs.Tree.{map_of};
 
 use super::{PoolId, PoolTree};
 use crate::handed::{empty_pool, take_pools};
 use crate::links::remove_leaf;
 use std::alloc::AllocError;
+
+/// The memory that a clear of one pool takes.
+#[derive(Drop)]
+pub struct Room<T> {
+    pub(crate) found: Vec<PoolId>,
+    pub(crate) ran: Vec<(PoolId, T)>,
+}
 
 #[tactic(auto, using(crate::proofs::Trees::tree_formed))]
 impl<T: Drop> PoolTree<T> {
@@ -30,6 +38,30 @@ impl<T: Drop> PoolTree<T> {
         Vec::with_capacity(self.alloc, count)
     }
 
+    /// The memory that a clear of a pool takes, as the tree stands.
+    pub fn room_to_clear(&self, pool: PoolId) -> Result<Room<T>, AllocError>
+        requires { IsTrue (is_live (map_of self.now) pool) }
+        ensures { IfOk result (IsRoomFor (map_of self.now) pool) }
+    {
+        let found = self.pools_under(pool)?;
+        let ran = self.room_for(found.as_slice(), pool)?;
+        Ok(Room { found, ran })
+    }
+
+    /// Clears a pool in memory that was made ready for it. Answers what `clear` does.
+    pub fn clear_in(&mut self, pool: PoolId, room: Room<T>) -> Vec<(PoolId, T)>
+        requires live { IsTrue (is_live (map_of self.old) pool) }
+        requires room { IsRoomFor (map_of self.old) pool room }
+        ensures ran { result.items ≡ run_order (map_of self.old) pool }
+        ensures ok { map_of self.new ≡ cleared pool (map_of self.old) }
+        ensures formed { IsPoolMap (map_of self.new) }
+    {
+        let mut ran = room.ran;
+        take_pools(&mut self.records, room.found, &mut ran);
+        empty_pool(&mut self.records, pool, &mut ran);
+        ran
+    }
+
     /// Clears a pool: all pools under it go, and its own payloads. Answers what they hand on, in the run order: each
     /// subpool, newest first, by the same order, then the pool's own payloads, last first; each with its pool.
     /// Without memory nothing is changed.
@@ -40,11 +72,8 @@ impl<T: Drop> PoolTree<T> {
         ensures formed { IsPoolMap (map_of self.new) }
         ensures err { OnErr result (map_of self.new ≡ map_of self.old) }
     {
-        let found = self.pools_under(pool)?;
-        let mut ran = self.room_for(found.as_slice(), pool)?;
-        take_pools(&mut self.records, found, &mut ran);
-        empty_pool(&mut self.records, pool, &mut ran);
-        Ok(ran)
+        let room = self.room_to_clear(pool)?;
+        Ok(self.clear_in(pool, room))
     }
 
     /// Ends a pool that has no children.
@@ -57,9 +86,23 @@ impl<T: Drop> PoolTree<T> {
         remove_leaf(&mut self.records, pool);
     }
 
+    /// Destroys a pool other than the root, in memory that was made ready for a clear of it. Answers what `clear` does.
+    #[tactic(auto, using(crate::proofs::Trees::tree_formed, crate::proofs::Destroyed::still_live, crate::proofs::Destroyed::now_childless, crate::proofs::Destroyed::still_under, crate::proofs::Destroyed::then_destroyed))]
+    pub fn destroy_in(&mut self, pool: PoolId, room: Room<T>) -> Vec<(PoolId, T)>
+        requires live { IsTrue (is_live (map_of self.old) pool) }
+        requires below { (map_of self.old).path pool ≢ pool ∷ [] }
+        requires room { IsRoomFor (map_of self.old) pool room }
+        ensures ran { result.items ≡ run_order (map_of self.old) pool }
+        ensures ok { map_of self.new ≡ destroyed pool (map_of self.old) }
+        ensures formed { IsPoolMap (map_of self.new) }
+    {
+        let ran = self.clear_in(pool, room);
+        self.remove(pool);
+        ran
+    }
+
     /// Destroys a pool other than the root: clears it, and ends it too. Answers what a clear does.
     /// Without memory nothing is changed.
-    #[tactic(auto, using(crate::proofs::Trees::tree_formed, crate::proofs::Destroyed::still_live, crate::proofs::Destroyed::now_childless, crate::proofs::Destroyed::still_under, crate::proofs::Destroyed::then_destroyed))]
     pub fn destroy(&mut self, pool: PoolId) -> Result<Vec<(PoolId, T)>, AllocError>
         requires live { IsTrue (is_live (map_of self.old) pool) }
         requires below { (map_of self.old).path pool ≢ pool ∷ [] }
@@ -68,8 +111,7 @@ impl<T: Drop> PoolTree<T> {
         ensures formed { IsPoolMap (map_of self.new) }
         ensures err { OnErr result (map_of self.new ≡ map_of self.old) }
     {
-        let ran = self.clear(pool)?;
-        self.remove(pool);
-        Ok(ran)
+        let room = self.room_to_clear(pool)?;
+        Ok(self.destroy_in(pool, room))
     }
 }

@@ -1,5 +1,5 @@
 -- One more bucket is changed.
-use Rattle.std.proofs.Common.{◌≡◌, ◌<◌, length, get_or, arith}
+use Rattle.std.proofs.Common.{◌<◌, length, arith}
 use Rattle.std.proofs.lemmas.List.Edits.{map_over_more}
 use Rattle.run_model.specs.Buckets.{returned_bucket}
 use Rattle.module_run.proofs.buckets.end_homes.Goals as goal

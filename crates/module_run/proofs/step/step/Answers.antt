@@ -1,12 +1,12 @@
 -- Each way out of a step is a case of the watched step.
-use Rattle.std.proofs.Common.{◌≡◌, ℕ, ◌<◌, Bool, true, false, length, Some, None, Ok, Err, sym, ap, ◌∙◌, subst, refl, arith, rules}
+use Rattle.std.proofs.Common.{◌≡◌, ℕ, Bool, true, false, Some, None, Ok, Err, sym, ap, ◌∙◌, subst, arith, rules}
 use Rattle.module_lang.specs.declared.instr.Instr.{Instr}
-use Rattle.module_lang.specs.Program.{Program, IsPlaced}
+use Rattle.module_lang.specs.Program.{IsPlaced}
 use Rattle.run_model.specs.declared.event.Stepped.TheVariants as stepped
 use Rattle.run_model.specs.declared.event.StepRefusal.TheVariants as refusal
 use Rattle.run_model.specs.State.{Run}
 use Rattle.run_model.specs.Faults.{fault}
-use Rattle.run_model.specs.Steps.{watched, current, is_spent, names_of, grows, step_at_end, settled}
+use Rattle.run_model.specs.Steps.{watched, current, lacks_names, grows}
 use Rattle.module_run.specs.Seen.{seen_run}
 use Rattle.module_run.proofs.Places.{current_at, pc_kept_by, told, no_name, no_memory, went_on, must_grow, inside_by}
 use Rattle.module_run.proofs.step.step.Goals as goal
@@ -27,18 +27,18 @@ returns-in-Some-clause-step c =
     ∙ (told true c.args.code.now c.at-instr.result r c.in-Some.kind found
     ∙ ap (λ (n : ℕ). (Ok (stepped.Fault c.in-Some.kind 0 n), r)) (sym c.pc-pc.ensures))
 
-pub returns-then-is_spent-clause-step : goal.returns-then-is_spent-clause-step
-returns-then-is_spent-clause-step c =
+pub returns-then-lacks_names-clause-step : goal.returns-then-lacks_names-clause-step
+returns-then-lacks_names-clause-step c =
     let r = seen_run c.args.machine.now in
     let none : fault c.args.code.now r c.at-instr.result ≡ None = sym c.fault.ensures ∙ c.in_default.is in
-    let spent : is_spent r.shared.next (names_of c.at-instr.result) ≡ true = search rules in
-    is_of (goal.at.returns-then-is_spent-clause-step c).After-at-instr true ∙ no_name true c.args.code.now c.at-instr.result r none spent
+    let spent : lacks_names r c.at-instr.result ≡ true = search rules in
+    is_of (goal.at.returns-then-lacks_names-clause-step c).After-at-instr true ∙ no_name true c.args.code.now c.at-instr.result r none spent
 
 pub returns-in_default-execute-clause-step : goal.returns-in_default-execute-clause-step
 returns-in_default-execute-clause-step c =
     let r = seen_run c.args.machine.now in
     let none : fault c.args.code.now r c.at-instr.result ≡ None = sym c.fault.ensures ∙ c.in_default.is in
-    let spent : is_spent r.shared.next (names_of c.at-instr.result) ≡ false = search rules in
+    let spent : lacks_names r c.at-instr.result ≡ false = search rules in
     let grown = must_grow (grows c.at-instr.result) c.execute.result c.in_default-execute.field-0 c.execute.ensures.sure c.in_default-execute.is in
     let same : seen_run c.execute.new.machine ≡ r = c.in_default-execute.ensures.err in
     is_of (goal.at.returns-in_default-execute-clause-step c).After-at-instr false
@@ -54,7 +54,7 @@ pub returns-clause-step : goal.returns-clause-step
 returns-clause-step c =
     let r = seen_run c.args.machine.now in
     let none : fault c.args.code.now r c.at-instr.result ≡ None = sym c.fault.ensures ∙ c.in_default.is in
-    let spent : is_spent r.shared.next (names_of c.at-instr.result) ≡ false = search rules in
+    let spent : lacks_names r c.at-instr.result ≡ false = search rules in
     is_of (goal.at.returns-clause-step c).After-at-instr true
     ∙ went_on c.args.code.now c.at-instr.result r (seen_run c.execute.new.machine) (seen_run c.settle.new.machine) c.in-Ok.exit c.settle.result none spent c.in-Ok.ensures.step c.settle.ensures
 
@@ -62,6 +62,6 @@ pub returns-clause-inside : goal.returns-clause-inside
 returns-clause-inside c =
     let r = seen_run c.args.machine.now in
     let none : fault c.args.code.now r c.at-instr.result ≡ None = sym c.fault.ensures ∙ c.in_default.is in
-    let spent : is_spent r.shared.next (names_of c.at-instr.result) ≡ false = search rules in
+    let spent : lacks_names r c.at-instr.result ≡ false = search rules in
     inside_by true c.args.code.now c.at-instr.result r (seen_run c.settle.new.machine) (Ok c.settle.result) (is_placed (goal.at.returns-clause-inside c).After-at-instr) c.requires
     (went_on c.args.code.now c.at-instr.result r (seen_run c.execute.new.machine) (seen_run c.settle.new.machine) c.in-Ok.exit c.settle.result none spent c.in-Ok.ensures.step c.settle.ensures)

@@ -1,5 +1,5 @@
 -- A slot that keeps a stray bucket decides, and none does where the loop ends.
-use Rattle.std.proofs.Common.{◌≡◌, ℕ, ◌<◌, Bool, true, false, refl, arith, rules}
+use Rattle.std.proofs.Common.{◌≡◌, ℕ, Bool, true, refl, arith, rules}
 use Rattle.run_model.specs.Faults.{keeps_stray}
 use Rattle.module_run.specs.Seen.{seen_run}
 use Rattle.module_run.proofs.Below.{any_below_some, any_below_none}

@@ -1,5 +1,5 @@
 -- One more step went, or the last one did not.
-use Rattle.std.proofs.Common.{◌≡◌, ℕ, suc, Ok, Result, subst}
+use Rattle.std.proofs.Common.{◌≡◌, suc, Ok, Result, subst}
 use Rattle.run_model.specs.declared.event.Stepped.{Stepped}
 use Rattle.run_model.specs.declared.event.Stepped.TheVariants as stepped
 use Rattle.run_model.specs.declared.event.Refusal.{Refusal}

@@ -1,5 +1,5 @@
 -- So far each step went.
-use Rattle.std.proofs.Common.{◌≡◌, ℕ, ◌-◌, ◌<◌, length}
+use Rattle.std.proofs.Common.{ℕ, ◌-◌, ◌<◌, length}
 use Rattle.run_model.specs.Runs.{GoesOn}
 use Rattle.module_run.specs.Seen.{seen}
 use Rattle.module_run.proofs.conn.Conn.run.Given as goal

@@ -1,23 +1,12 @@
--- Where a connection starts, and the end of a request but for what it does to the brigades.
-use Rattle.std.specs.Prelude.{◌≡◌, ℕ, ◌+◌, ◌==◌, false, List, [], length, None}
+-- Where a connection and a call start.
+use Rattle.std.specs.Prelude.{◌+◌, false, List, [], length, None}
 use Rattle.run_model.specs.declared.bucket.Mark.TheVariants.{Usable}
 use Rattle.run_model.specs.declared.bucket.Brigade.{Brigade}
 use Rattle.run_model.specs.declared.bucket.Var.TheVariants as var
 use Rattle.run_model.specs.declared.event.Piece.{Piece}
 use Rattle.run_model.specs.Connection.{named_from}
-use Rattle.run_model.specs.Pools.{Pools, planted, created, destroyed, is_under}
-use Rattle.run_model.specs.State.{Payload, Run, fresh_inst, fresh_call, set_brig}
-
-abbrev pub request_closed : ℕ → Run → Run
-request_closed req r = record r {
-  inst = record r.inst { sent = false };
-  shared = record r.shared { pools = destroyed req r.shared.pools; req = None };
-  out = record r.out { ended = false };
-}
-
--- no other pool stands under this one
-abbrev pub StandsAlone : ℕ → Pools Payload → Type 0
-StandsAlone p pools = (n : ℕ) → is_under pools p n ≡ (n == p)
+use Rattle.run_model.specs.Pools.{planted, created}
+use Rattle.run_model.specs.State.{Run, fresh_inst, fresh_call, set_brig}
 
 -- before the first call
 abbrev pub before_open : Run

@@ -1,0 +1,30 @@
+-- A payload more changes no path.
+use Rattle.std.proofs.Common.{◌≡◌, refl, ap, ◌∙◌}
+use Rattle.run_model.specs.declared.payload.Payload.{Payload}
+use Rattle.run_model.specs.declared.payload.Payload.TheVariants.{Label}
+use Rattle.run_model.specs.Pools.{Pools, registered}
+use Rattle.run_model.specs.State.{with_pools, pool_named}
+use Rattle.run_model.specs.Steps.{label_registered}
+use Rattle.pool_tree.specs.Tree.{map_of}
+use Rattle.module_run.specs.Seen.{seen_run}
+use Rattle.module_run.specs.Standing.{IsStanding}
+use Rattle.module_run.proofs.Standing.{standing_same, either_way}
+use Rattle.module_run.proofs.Named.{done_to}
+use Rattle.module_run.proofs.machine.Machine.add_label.Goals as goal
+
+pub invariant_of-self : goal.invariant_of-self
+unfolding registered
+invariant_of-self c =
+    let m = c.args.self.now in
+    let new = map_of c.register.new.self in
+    let added = registered c.live_pool-name.result (Label c.args.text) (map_of m.pools) in
+    let by : (ps : Pools Payload) → ps.path ≡ (map_of m.pools).path → ps.next ≡ (map_of m.pools).next → new ≡ ps → IsStanding new m.req m.pool_vars
+    = λ ps path next is. standing_same (map_of m.pools) new m.req m.pool_vars (ap (λ (x : Pools Payload). x.path) is ∙ path) (ap (λ (x : Pools Payload). x.next) is ∙ next) m.standing in
+    record { standing = either_way c.register.result (new ≡ added) (new ≡ map_of m.pools) (IsStanding new m.req m.pool_vars) (by added refl refl) (by (map_of m.pools) refl refl) c.register.ensures.ok c.register.ensures.err }
+
+pub returns-clause-ok : goal.returns-clause-ok
+unfolding seen_run with_pools
+returns-clause-ok c =
+    let r = seen_run c.args.self.now in
+    done_to (label_registered c.args.text) (pool_named r c.args.pool) c.live_pool-name.result r (with_pools (map_of c.register.new.self) r)
+    c.live_pool-name.ensures.named (ap (λ (ps : Pools Payload). with_pools ps r) c.in-Ok.ensures.ok)

@@ -1,0 +1,45 @@
+-- The connection's pool goes with all under it.
+use Rattle.std.proofs.Common.{ℕ, List, ◌++◌, ap, ◌∙◌}
+use Rattle.run_model.specs.declared.payload.Payload.{Payload}
+use Rattle.run_model.specs.Payloads.{labels_in}
+use Rattle.run_model.specs.Pools.{Pools, destroyed}
+use Rattle.run_model.specs.RunOrder.{run_order}
+use Rattle.run_model.specs.Clearing.{run_down}
+use Rattle.run_model.specs.State.{Run, with_pools}
+use Rattle.pool_tree.specs.declared.tree.PoolTree.{PoolTree}
+use Rattle.pool_tree.specs.Tree.{map_of}
+use Rattle.module_run.specs.Seen.{seen_run, labels_handed, labels_of, pools_left}
+use Rattle.module_run.specs.Mapped.{mapped}
+use Rattle.pool_tree.proofs.Trees.{tree_formed}
+use Rattle.module_run.proofs.Standing.{conn_live, root_path, root_left}
+use Rattle.module_run.proofs.machine.Machine.close.Goals as goal
+
+pub run_down-requires : goal.run_down-requires
+run_down-requires c = conn_live (map_of c.args.self.pools) c.args.self.req c.args.self.pool_vars c.args.self.standing
+
+pub destroy_in-ran-requires-clause-live : goal.destroy_in-ran-requires-clause-live
+destroy_in-ran-requires-clause-live c =
+    let m = c.run_down.new.self in
+    conn_live (map_of m.pools) m.req m.pool_vars m.standing
+
+pub returns-clause-labels : goal.returns-clause-labels
+unfolding labels_of seen_run mapped with_pools run_down
+returns-clause-labels c =
+    let old = labels_handed c.args.self.runs.items in
+    let kept = ap (λ (r : Run). r.shared.labels) c.in-Ok.ensures.ok in
+    let same = ap (λ (t : PoolTree Payload). run_order (map_of t) 2) c.in-Ok.ensures.same in
+    c.add.ensures
+    ∙ (ap (λ (xs : List (List ℕ)). xs ++ labels_in c.destroy_in-ran.result.items) kept
+    ∙ ap (λ (ys : List (ℕ × Payload)). old ++ labels_in ys) (c.destroy_in-ran.ensures.ran ∙ same))
+
+pub returns-clause-pools : goal.returns-clause-pools
+unfolding pools_left seen_run with_pools run_down
+returns-clause-pools c = c.destroy_in-ran.ensures.ok ∙ ap (λ (t : PoolTree Payload). destroyed 2 (map_of t)) c.in-Ok.ensures.same
+
+pub invariant_of-result : goal.invariant_of-result
+invariant_of-result c =
+    let m = c.run_down.new.self in
+    record {
+      rooted = ap (λ (ps : Pools Payload). ps.path 1) c.destroy_in-ran.ensures.ok
+          ∙ root_left (map_of m.pools) (root_path (map_of m.pools) m.req m.pool_vars (tree_formed m.pools) m.standing);
+    }

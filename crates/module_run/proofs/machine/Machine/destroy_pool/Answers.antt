@@ -1,0 +1,55 @@
+-- The pool goes, with what lay on it and under it.
+use Rattle.std.proofs.Common.{◌≡◌, ℕ, List, ◌++◌, refl, sym, ap, ◌∙◌, subst}
+use Rattle.module_lang.specs.declared.instr.PoolRef.TheVariants as pool
+use Rattle.run_model.specs.declared.payload.Payload.{Payload}
+use Rattle.run_model.specs.Payloads.{labels_in}
+use Rattle.run_model.specs.Pools.{Pools, destroyed}
+use Rattle.run_model.specs.RunOrder.{run_order}
+use Rattle.run_model.specs.State.{Run, pool_named}
+use Rattle.run_model.specs.Steps.{pool_destroyed}
+use Rattle.pool_tree.specs.declared.tree.PoolTree.{PoolTree}
+use Rattle.pool_tree.specs.Tree.{map_of}
+use Rattle.pool_tree.proofs.Trees.{tree_formed}
+use Rattle.module_run.specs.Seen.{seen_run, labels_handed}
+use Rattle.module_run.specs.Mapped.{mapped}
+use Rattle.module_run.specs.Standing.{IsStanding}
+use Rattle.module_run.proofs.Standing.{owned, standing_destroyed, not_top}
+use Rattle.module_run.proofs.Changed.{with_ran, ran_down}
+use Rattle.module_run.proofs.Named.{done_to}
+use Rattle.module_run.proofs.machine.Machine.destroy_pool.Goals as goal
+
+pub destroy_in-ran-requires-clause-below : goal.destroy_in-ran-requires-clause-below
+unfolding seen_run mapped pool_named
+destroy_in-ran-requires-clause-below c =
+    let m = c.args.self.now in
+    let mid = c.run_down.new.self in
+    let own = owned (map_of m.pools) m.req m.pool_vars c.args.q c.live_pool-pool.result m.standing c.live_pool-pool.ensures.named in
+    not_top (map_of mid.pools) mid.req mid.pool_vars c.live_pool-pool.result (tree_formed mid.pools) mid.standing own.0
+
+pub invariant_of-self : goal.invariant_of-self
+unfolding seen_run mapped pool_named
+invariant_of-self c =
+    let m = c.args.self.now in
+    let mid = c.run_down.new.self in
+    let own = owned (map_of m.pools) m.req m.pool_vars c.args.q c.live_pool-pool.result m.standing c.live_pool-pool.ensures.named in
+    let same : mid.req ≡ m.req = ap (λ (r : Run). r.shared.req) c.in_ok-room.ensures.ok in
+    record {
+      standing = subst (λ (ps : Pools Payload). IsStanding ps mid.req mid.pool_vars) (sym c.destroy_in-ran.ensures.ok)
+          (standing_destroyed (map_of mid.pools) mid.req mid.pool_vars c.live_pool-pool.result mid.standing own.0 (λ at. own.2 (sym same ∙ at)));
+    }
+
+pub returns-clause-ok : goal.returns-clause-ok
+unfolding seen_run mapped
+returns-clause-ok c =
+    let r = seen_run c.args.self.now in
+    let n = c.live_pool-pool.result in
+    let old = labels_handed c.args.self.now.runs.items in
+    let after = destroyed n (map_of c.args.self.now.pools) in
+    let kept = ap (λ (x : Run). x.shared.labels) c.in_ok-room.ensures.ok in
+    let same = ap (λ (t : PoolTree Payload). run_order (map_of t) n) c.in_ok-room.ensures.same in
+    let labels : labels_handed c.add.new.runs.items ≡ old ++ labels_in (run_order (map_of c.args.self.now.pools) n)
+    = c.add.ensures ∙ (ap (λ (xs : List (List ℕ)). xs ++ labels_in c.destroy_in-ran.result.items) kept ∙ ap (λ (ys : List (ℕ × Payload)). old ++ labels_in ys) (c.destroy_in-ran.ensures.ran ∙ same)) in
+    let pools : map_of c.destroy_in-ran.new.self ≡ after = c.destroy_in-ran.ensures.ok ∙ ap (λ (t : PoolTree Payload). destroyed n (map_of t)) c.in_ok-room.ensures.same in
+    let new = with_ran (map_of c.destroy_in-ran.new.self) (labels_handed c.add.new.runs.items) (seen_run c.run_down.new.self) in
+    done_to pool_destroyed (pool_named r (pool.Own c.args.q)) n r new c.live_pool-pool.ensures.named
+    (ran_down r (seen_run c.run_down.new.self) n after (map_of c.destroy_in-ran.new.self) (labels_handed c.add.new.runs.items) refl c.in_ok-room.ensures.ok pools labels)

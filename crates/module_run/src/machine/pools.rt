@@ -1,0 +1,217 @@
+//! The pools of a machine.
+
+ghost use Rattle.std.specs.Prelude.{◌≡◌, ◌<◌, [], ◌∷◌, true, false, is_some, Some, IsTrue, IfOk, IfErr, OnOk, OnErr, ◌++◌, vec_len, vec_capacity};
+ghost use Rattle.run_model.specs.Payloads.{labels_in};
+ghost use Rattle.run_model.specs.Pools.{planted, created, destroyed, is_live, is_under};
+ghost use Rattle.run_model.specs.State.{pool_named, is_own};
+ghost use Rattle.run_model.specs.Faults.{has_pool};
+ghost use Rattle.run_model.specs.Clearing.{cleared_var};
+ghost use Rattle.run_model.specs.Steps.{is_spent, pool_destroyed};
+ghost use Rattle.run_model.specs.Connection.{request_ended};
+ghost use Rattle.pool_tree.specs.Tree.{map_of};
+ghost use Rattle.pool_tree.specs.Room.{IsRoomFor};
+ghost use Rattle.module_run.specs.Seen.{seen_run, labels_handed, labels_of, pools_left};
+ghost use Rattle.module_run.specs.Mapped.{mapped};
+ghost use Rattle.module_run.specs.Starts.{before_open};
+
+use super::Machine;
+use crate::closed::Closed;
+use crate::{pool_vars, vars};
+use pool_tree::{PoolId, PoolTree, Room};
+use run_model::{Payload, PoolRef, PoolVar, Seq, Var};
+use std::alloc::{AllocError, Global};
+
+/// The root of the pools.
+const ROOT: u64 = 1;
+
+/// The connection's pool.
+const CONN_POOL: u64 = 2;
+
+/// The root, and under it the connection's pool.
+#[tactic(auto, using(crate::proofs::Standing::root_live), unfolding(run_model::specs::Pools::planted))]
+fn first_pools(alloc: Global) -> Result<PoolTree<Payload>, AllocError>
+    ensures { IfOk result (λ pools. map_of pools ≡ created 1 (planted 1)) }
+{
+    let Ok(mut pools) = PoolTree::new(alloc, ROOT) else {
+        return Err(AllocError);
+    };
+    match pools.create(ROOT) {
+        Ok(_) => Ok(pools),
+        Err(_) => Err(AllocError),
+    }
+}
+
+/// Adds what a clear handed on.
+#[tactic(auto, using(crate::proofs::Changed::labels_more))]
+pub(super) fn add(runs: &mut Vec<Vec<(PoolId, Payload)>>, ran: Vec<(PoolId, Payload)>)
+    requires { vec_len runs.old < vec_capacity runs.old }
+    ensures { labels_handed runs.new.items ≡ labels_handed runs.old.items ++ labels_in ran.items }
+{
+    runs.push(ran).unwrap();
+}
+
+#[tactic(auto, unfolding(crate::specs::Seen::seen_run))]
+impl Machine {
+    /// A machine before its first call.
+    #[tactic(auto, using(crate::proofs::Standing::standing_first), unfolding(crate::specs::Seen::seen_run))]
+    pub(crate) fn new(alloc: Global) -> Result<Machine, AllocError>
+        ensures { IfOk result (λ machine. seen_run machine ≡ before_open) }
+    {
+        let pools = first_pools(alloc)?;
+        Ok(Machine {
+            brigs: [
+                Var::Null,
+                Var::Null,
+                Var::Null,
+                Var::Null,
+                Var::Null,
+                Var::Null,
+                Var::Null,
+                Var::Null,
+                Var::Null,
+            ],
+            pool_vars: [PoolVar::Null; 8],
+            sent: false,
+            call: 0,
+            pools,
+            req: None,
+            runs: Vec::new(alloc),
+            next: 2,
+            pc: 0,
+            output: Seq::new(alloc),
+            ended: false,
+        })
+    }
+
+    /// The pools.
+    pub(crate) fn pools(&self) -> &PoolTree<Payload>
+        ensures map { map_of result.now ≡ (seen_run self.now).shared.pools }
+        ensures root { (map_of result.now).path 1 ≡ 1 ∷ [] }
+    {
+        &self.pools
+    }
+
+    /// What each clear handed on.
+    pub(crate) fn labels_run(&self) -> &[Vec<(PoolId, Payload)>]
+        ensures { labels_handed result.now ≡ (seen_run self.now).shared.labels }
+    {
+        self.runs.as_slice()
+    }
+
+    /// The pool variable of a number.
+    pub(crate) fn pool_var(&self, q: u8) -> PoolVar
+        ensures { result ≡ (seen_run self.now).inst.pools q }
+    {
+        pool_vars::at(&self.pool_vars, q)
+    }
+
+    /// The pool that an operand or a declaration names.
+    #[tactic(auto, unfolding(crate::specs::Seen::seen_run, run_model::specs::State::pool_named))]
+    pub(crate) fn pool_named(&self, pool: PoolRef) -> Option<u64>
+        ensures { result ≡ pool_named (seen_run self.now) pool }
+    {
+        match pool {
+            PoolRef::Conn => Some(CONN_POOL),
+            PoolRef::Req => self.req,
+            PoolRef::Own(q) => pool_vars::name_in(self.pool_var(q)),
+        }
+    }
+
+    /// Whether an operand names a live pool.
+    #[tactic(auto, unfolding(crate::specs::Seen::seen_run, run_model::specs::Faults::has_pool))]
+    pub(crate) fn has_pool(&self, pool: PoolRef) -> bool
+        ensures { result ≡ has_pool (seen_run self.now) pool }
+    {
+        match self.pool_named(pool) {
+            Some(name) => self.pools.is_live(name),
+            None => false,
+        }
+    }
+
+    /// Whether a pool is one that a pool variable names, the connection's or the open request's.
+    #[tactic(auto, unfolding(crate::specs::Seen::seen_run, run_model::specs::State::is_own))]
+    pub(crate) fn is_own(&self, name: u64) -> bool
+        ensures { result ≡ is_own (seen_run self.now) name }
+    {
+        pool_vars::any_names(&self.pool_vars, name)
+            || name == CONN_POOL
+            || pool_vars::is_named(self.req, name)
+    }
+
+    /// The pool of the request that is open.
+    pub(crate) fn request(&self) -> Option<u64>
+        ensures { result ≡ (seen_run self.now).shared.req }
+    {
+        self.req
+    }
+
+    /// Whether there are not so many names of pools left.
+    #[tactic(auto, unfolding(crate::specs::Seen::seen_run, run_model::specs::Steps::is_spent))]
+    pub(crate) fn lacks_pools(&self, names: u64) -> bool
+        ensures { result ≡ is_spent (seen_run self.now).shared.pools.next names }
+    {
+        names > u64::MAX - self.pools.next_name()
+    }
+
+    /// A request begins, with a pool of its own. Without memory nothing is changed.
+    pub(crate) fn begin_request(&mut self) -> Result<(), AllocError>
+        ensures ok { OnOk result (let r = seen_run self.old in seen_run self.new ≡ record r { shared = record r.shared { pools = created r.shared.conn r.shared.pools; req = Some r.shared.pools.next } }) }
+        ensures err { OnErr result (seen_run self.new ≡ seen_run self.old) }
+    {
+        match self.pools.create(CONN_POOL) {
+            Ok(name) => {
+                self.req = Some(name);
+                Ok(())
+            }
+            Err(_) => Err(AllocError),
+        }
+    }
+
+    /// Finds the memory that a clear of a pool takes, and clears the brigades that it reaches. Without memory nothing is
+    /// changed.
+    pub(super) fn run_down(&mut self, pool: u64) -> Result<Room<Payload>, AllocError>
+        requires { IsTrue (is_live (map_of self.old.pools) pool) }
+        ensures room { IfOk result (IsRoomFor (map_of self.old.pools) pool) }
+        ensures place { OnOk result (vec_len self.new.runs < vec_capacity self.new.runs) }
+        ensures ok { OnOk result (seen_run self.new ≡ mapped (cleared_var (is_under (map_of self.old.pools) pool)) (seen_run self.old)) }
+        ensures same { self.new.pools ≡ self.old.pools }
+        ensures err { OnErr result (seen_run self.new ≡ seen_run self.old) }
+    {
+        self.runs.reserve(1)?;
+        let room = self.pools.room_to_clear(pool)?;
+        vars::clear_all(&mut self.brigs, &self.pools, pool);
+        Ok(room)
+    }
+
+    /// The request ends: its pool is destroyed with what lay on it and under it, and no EOS was passed in the next one.
+    /// Without memory nothing is changed.
+    pub(crate) fn end_request(&mut self, pool: u64) -> Result<(), AllocError>
+        requires { (seen_run self.old).shared.req ≡ Some pool }
+        ensures ok { OnOk result (seen_run self.new ≡ request_ended pool (seen_run self.old)) }
+        ensures err { OnErr result (seen_run self.new ≡ seen_run self.old) }
+    {
+        let room = self.run_down(pool)?;
+        let ran = self.pools.destroy_in(pool, room);
+        add(&mut self.runs, ran);
+        self.req = None;
+        self.sent = false;
+        self.ended = false;
+        Ok(())
+    }
+
+    /// Destroys the connection's pool. Without memory the machine comes back.
+    pub(crate) fn close(mut self) -> Result<Closed, Machine>
+        ensures labels { IfOk result (λ d. labels_of d ≡ (pool_destroyed (seen_run self).shared.conn (seen_run self)).shared.labels) }
+        ensures pools { IfOk result (λ d. pools_left d ≡ (pool_destroyed (seen_run self).shared.conn (seen_run self)).shared.pools) }
+        ensures back { IfErr result (λ e. seen_run e ≡ seen_run self) }
+    {
+        let Ok(room) = self.run_down(CONN_POOL) else {
+            return Err(self);
+        };
+        let mut pools = self.pools;
+        let mut runs = self.runs;
+        let ran = pools.destroy_in(CONN_POOL, room);
+        add(&mut runs, ran);
+        Ok(Closed { pools, runs })
+    }
+}
