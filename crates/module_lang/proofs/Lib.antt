@@ -18,3 +18,4 @@ pub mod SourceLaws
 pub mod SpellingLaws
 pub mod TextAgain
 pub mod TextLaws
+pub mod WritingLaws

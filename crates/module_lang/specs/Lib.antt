@@ -12,4 +12,5 @@ pub mod Quoted
 pub mod Spelling
 pub mod Texts
 pub mod Words
+pub mod Writes
 pub mod SeqLends
