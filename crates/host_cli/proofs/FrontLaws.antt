@@ -4,6 +4,7 @@ use Rattle.std.proofs.lemmas.List.{take-append-drop, append-nil}
 use Rattle.std.specs.Io.KnownBytes.{Appends, Consumes, IsAtEnd}
 use Rattle.module_lang.specs.Program.{Program}
 use Rattle.module_lang.specs.Assembling.{assembling}
+use Rattle.run_model.specs.Runs.{Before}
 use Rattle.module_lang.specs.declared.refusal.AsmRefusal.{AsmRefusal}
 use Rattle.host_cli.specs.declared.ended.Ended.{Ended}
 use Rattle.host_cli.specs.declared.ended.Ended.TheVariants as ended
@@ -19,7 +20,7 @@ front_of_play script text p e front =
     record { more = front.more; end = front.end; whole = record { play = subst P (sym e) front.whole } }
 
 starts : (r : Result Program AsmRefusal) (script : List ℕ) → assembling (module_text script) ≡ r → IsFrontOf script []
-starts (Ok p) script e = front_of_play script [] p e (turn_front _ p _ false _ _ None [] (under_first _ p _ _))
+starts (Ok p) script e = front_of_play script [] p e (turn_front _ p _ false _ _ Before [] (under_first _ p _ _))
 starts (Err fault) script e =
     let P : Result Program AsmRefusal → Type 0 = λ r. IsPlayOf r (module_cut (lines_of script)).lines (after_module script) (refusal_line fault) ended.Refused in
     record { more = refusal_line fault; end = ended.Refused; whole = record { play = subst P (sym e) (refl, refl) } }

@@ -1,4 +1,3 @@
-pub mod Written
 pub mod LineLaws
 pub mod PieceLaws
 pub mod StepLaws
@@ -6,3 +5,5 @@ pub mod PlayLaws
 pub mod ReadyLaws
 pub mod PlayTurns
 pub mod FrontLaws
+pub mod LabelLaws
+pub mod PoolLaws

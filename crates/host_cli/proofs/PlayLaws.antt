@@ -10,13 +10,13 @@ use Rattle.run_model.specs.declared.event.Refusal.TheVariants as refusal
 use Rattle.run_model.specs.declared.event.Stepped.{Stepped}
 use Rattle.run_model.specs.declared.event.Stepped.TheVariants as stepped
 use Rattle.run_model.specs.Steps.{is_spent}
-use Rattle.run_model.specs.Connection.{Connection, begins, begun, brings, brought, ends, first_refusal, refused_if, if_broken, unless_refused, data_behind_eos, steps}
-use Rattle.run_model.specs.Runs.{Answer, World, happens, GoesOn, step_of, answer_of}
+use Rattle.run_model.specs.Connection.{Connection, begins, begun, brings, brought, ends, ended, first_refusal, refused_if, if_broken, unless_refused, data_behind_eos, steps}
+use Rattle.run_model.specs.Runs.{Answer, World, Before, There, Closed, happens, GoesOn, step_of, answer_of}
 use Rattle.host_cli.specs.declared.command.Command.{Command}
 use Rattle.host_cli.specs.declared.command.Command.TheVariants as command
 use Rattle.host_cli.specs.declared.reply.Reply.{Reply}
 use Rattle.host_cli.specs.declared.reply.Reply.TheVariants as reply
-use Rattle.host_cli.specs.Plays.{told, is_for_first, ran, run_of, answered, served, MayRun, MayAnswer, Serves, Plays, replies_of, refusal_names_memory, names_memory}
+use Rattle.host_cli.specs.Plays.{told, told_open, is_for_first, ran, run_of, answered, served, MayRun, MayAnswer, Serves, Plays, replies_of, refusal_names_memory, names_memory}
 use Rattle.host_cli.proofs.StepLaws.{lost, same_step, ran_ends, ran_only, goes_below}
 
 true≢false : true ≡ false → ⊥
@@ -43,6 +43,10 @@ brings_same : (p : Program) (ps : List Piece) (c : Connection) → names_it (bri
 unfolding brings
 brings_same p ps c h = tests_same (if_broken c.broken) (refused_if c.busy refusal.Busy) (refused_if (not (is_some c.run.shared.req)) refusal.NotInRequest) (refused_if (data_behind_eos ps) refusal.DataAfterEos) (refused_if (is_spent c.run.shared.next (2 + length ps)) refusal.NamesSpent) c (brought p ps c) h
 
+ends_same : (c : Connection) → names_it (ends false c).0 ≡ false → ends false c ≡ ends true c
+unfolding ends
+ends_same c h = tests_same None None (if_broken c.broken) (refused_if c.busy refusal.Busy) (refused_if (not (is_some c.run.shared.req)) refusal.NotInRequest) c (ended c.run.shared.req c) h
+
 -- what an event answers names memory where its refusal does
 named : (x : Option Refusal × Connection) → names_memory (told (answer_of x)).0 ≡ names_it x.0
 named (None, c) = refl
@@ -53,37 +57,60 @@ named_step (Ok s, c) = refl
 named_step (Err r, c) = refl
 
 -- An event that does not answer that there was no memory answers as it does with memory.
-happens_same : (budget : ℕ) (p : Program) (e : Event) (w : World) → names_memory (told (happens false budget p e w)).0 ≡ false → happens false budget p e w ≡ happens true budget p e w
-happens_same budget p event.Open None h = refl
-happens_same budget p event.Open (Some c) h = refl
-happens_same budget p event.Begin None h = refl
-happens_same budget p event.Begin (Some c) h = ap answer_of (begins_same p c (sym (named (begins false p c)) ∙ h))
-happens_same budget p (event.Bring ps) None h = refl
-happens_same budget p (event.Bring ps) (Some c) h = ap answer_of (brings_same p ps c (sym (named (brings false p ps c)) ∙ h))
-happens_same budget p event.Step None h = refl
-happens_same budget p event.Step (Some c) h = ap step_of (same_step false budget p c (sym (named_step (steps false budget p c)) ∙ h))
-happens_same budget p event.End None h = refl
-happens_same budget p event.End (Some c) h = refl
-happens_same budget p event.TakeOutput None h = refl
-happens_same budget p event.TakeOutput (Some c) h = refl
+there_same : (budget : ℕ) (p : Program) (e : Event) (c : Connection) → names_memory (told (happens false budget p e (There c))).0 ≡ false → happens false budget p e (There c) ≡ happens true budget p e (There c)
+there_same budget p event.Open c h = refl
+there_same budget p event.Begin c h = ap answer_of (begins_same p c (sym (named (begins false p c)) ∙ h))
+there_same budget p (event.Bring ps) c h = ap answer_of (brings_same p ps c (sym (named (brings false p ps c)) ∙ h))
+there_same budget p event.Step c h = ap step_of (same_step false budget p c (sym (named_step (steps false budget p c)) ∙ h))
+there_same budget p event.End c h = ap answer_of (ends_same c (sym (named (ends false c)) ∙ h))
+there_same budget p event.TakeOutput c h = refl
+there_same budget p event.TellLabels c h = refl
+there_same budget p event.Close c h = absurd (true≢false h)
+there_same budget p event.TellPools c h = refl
 
-open_same : (budget : ℕ) (p : Program) (w : World) → happens false budget p event.Open w ≡ happens true budget p event.Open w
-open_same budget p None = refl
-open_same budget p (Some c) = refl
+happens_same : (budget : ℕ) (p : Program) (e : Event) (w : World) → names_memory (told (happens false budget p e w)).0 ≡ false → happens false budget p e w ≡ happens true budget p e w
+happens_same budget p e (There c) h = there_same budget p e c h
+happens_same budget p event.Open Before h = absurd (true≢false h)
+happens_same budget p event.Begin Before h = refl
+happens_same budget p (event.Bring ps) Before h = refl
+happens_same budget p event.Step Before h = refl
+happens_same budget p event.End Before h = refl
+happens_same budget p event.TakeOutput Before h = refl
+happens_same budget p event.TellLabels Before h = refl
+happens_same budget p event.Close Before h = refl
+happens_same budget p event.TellPools Before h = refl
+happens_same budget p event.Open (Closed ps) h = refl
+happens_same budget p event.Begin (Closed ps) h = refl
+happens_same budget p (event.Bring pieces) (Closed ps) h = refl
+happens_same budget p event.Step (Closed ps) h = refl
+happens_same budget p event.End (Closed ps) h = refl
+happens_same budget p event.TakeOutput (Closed ps) h = refl
+happens_same budget p event.TellLabels (Closed ps) h = refl
+happens_same budget p event.Close (Closed ps) h = refl
+happens_same budget p event.TellPools (Closed ps) h = refl
+
+open_same : (budget : ℕ) (p : Program) (w : World) → names_memory (told_open (happens false budget p event.Open w)).0 ≡ false → happens false budget p event.Open w ≡ happens true budget p event.Open w
+open_same budget p Before h = absurd (true≢false h)
+open_same budget p (There c) h = refl
+open_same budget p (Closed ps) h = refl
 
 answered_same : (m : Bool) (budget : ℕ) (p : Program) (c : Command) (w : World) → names_memory (answered m budget p c w).0 ≡ false → answered m budget p c w ≡ answered true budget p c w
 answered_same true budget p c w h = refl
-answered_same false budget p command.Open w h = ap (λ x. (reply.Connected, x.1)) (open_same budget p w)
+answered_same false budget p command.Open w h = ap told_open (open_same budget p w h)
 answered_same false budget p (command.Begin c) w h = ap told (happens_same budget p event.Begin w h)
 answered_same false budget p (command.End c) w h = ap told (happens_same budget p event.End w h)
 answered_same false budget p (command.Bring c ps) w h = ap told (happens_same budget p (event.Bring ps) w h)
 answered_same false budget p (command.Run c) w h = refl
 answered_same false budget p (command.Output c) w h = ap told (happens_same budget p event.TakeOutput w h)
+answered_same false budget p (command.Labels c) w h = ap told (happens_same budget p event.TellLabels w h)
+answered_same false budget p (command.Close c) w h = ap told (happens_same budget p event.Close w h)
+answered_same false budget p command.Pools w h = ap told (happens_same budget p event.TellPools w h)
 
 -- A run of steps that does not answer that there was no memory is the run with memory.
 run_is : (budget : ℕ) (p : Program) (w new : World) (r : Reply) → MayRun budget p w r new → names_memory r ≡ false → (r, new) ≡ run_of budget p w
-run_is budget p None new r m h = let a = m.0 in let b = m.1 in cc
-run_is budget p (Some c) new r (m, answer, d, e, t) h =
+run_is budget p Before new r m h = let a = m.0 in let b = m.1 in cc
+run_is budget p (Closed ps) new r m h = let a = m.0 in let b = m.1 in cc
+run_is budget p (There c) new r (m, answer, d, e, t) h =
     let lasts : lost answer ≡ false = sym (named_step (answer, d)) ∙ sym (ap (λ x. names_memory x.0) t) ∙ h in
     let few = goes_below e.count budget p c e.last e.goes in
     let ran_so = ran_only e.count budget budget p c e.last d m answer (omega arith) e.goes e.ends e.stops lasts in
@@ -97,6 +124,9 @@ answers_is budget p (command.End c) w new r (m, e) h = sym e ∙ answered_same m
 answers_is budget p (command.Bring c ps) w new r (m, e) h = sym e ∙ answered_same m budget p (command.Bring c ps) w (ap (λ x. names_memory x.0) e ∙ h)
 answers_is budget p (command.Run c) w new r m h = run_is budget p w new r m h
 answers_is budget p (command.Output c) w new r (m, e) h = sym e ∙ answered_same m budget p (command.Output c) w (ap (λ x. names_memory x.0) e ∙ h)
+answers_is budget p (command.Labels c) w new r (m, e) h = sym e ∙ answered_same m budget p (command.Labels c) w (ap (λ x. names_memory x.0) e ∙ h)
+answers_is budget p (command.Close c) w new r (m, e) h = sym e ∙ answered_same m budget p (command.Close c) w (ap (λ x. names_memory x.0) e ∙ h)
+answers_is budget p command.Pools w new r (m, e) h = sym e ∙ answered_same m budget p command.Pools w (ap (λ x. names_memory x.0) e ∙ h)
 
 match_is : (b : Bool) (budget : ℕ) (p : Program) (c : Command) (w new : World) (r : Reply) → MatchBool b (MayAnswer budget p c w r new) ((r ≡ reply.Refused refusal.NoSuchConn) × (new ≡ w)) → names_memory r ≡ false → (r, new) ≡ cond b (answered true budget p c w) (reply.Refused refusal.NoSuchConn, w)
 match_is true budget p c w new r m h = answers_is budget p c w new r m h
@@ -126,8 +156,9 @@ plays_only budget p (c ∷ cs) w (r ∷ rs) (mid, serves, plays) h =
     ap (λ x. x.0 ∷ rs) here ∙ ap (λ l. (served true budget p c w).0 ∷ l) (rest ∙ ap (λ x. replies_of budget p cs x.1) here)
 
 run_may : (budget : ℕ) (p : Program) (w : World) → MayRun budget p w (run_of budget p w).0 (run_of budget p w).1
-run_may budget p None = (refl, refl)
-run_may budget p (Some c) = (true, (ran budget budget p c).0, (ran budget budget p c).1, ran_ends budget budget p c (omega arith), refl)
+run_may budget p Before = (refl, refl)
+run_may budget p (Closed ps) = (refl, refl)
+run_may budget p (There c) = (true, (ran budget budget p c).0, (ran budget budget p c).1, ran_ends budget budget p c (omega arith), refl)
 
 answers_so : (budget : ℕ) (p : Program) (c : Command) (w : World) → MayAnswer budget p c w (answered true budget p c w).0 (answered true budget p c w).1
 unfolding MayAnswer
@@ -137,6 +168,9 @@ answers_so budget p (command.End c) w = (true, refl)
 answers_so budget p (command.Bring c ps) w = (true, refl)
 answers_so budget p (command.Run c) w = run_may budget p w
 answers_so budget p (command.Output c) w = (true, refl)
+answers_so budget p (command.Labels c) w = (true, refl)
+answers_so budget p (command.Close c) w = (true, refl)
+answers_so budget p command.Pools w = (true, refl)
 
 match_so : (b : Bool) (budget : ℕ) (p : Program) (c : Command) (w : World) → MatchBool b (MayAnswer budget p c w (cond b (answered true budget p c w) (reply.Refused refusal.NoSuchConn, w)).0 (cond b (answered true budget p c w) (reply.Refused refusal.NoSuchConn, w)).1) (((cond b (answered true budget p c w) (reply.Refused refusal.NoSuchConn, w)).0 ≡ reply.Refused refusal.NoSuchConn) × ((cond b (answered true budget p c w) (reply.Refused refusal.NoSuchConn, w)).1 ≡ w))
 match_so true budget p c w = answers_so budget p c w

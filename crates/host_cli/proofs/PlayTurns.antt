@@ -2,7 +2,7 @@
 use Rattle.std.proofs.Common.{◌≡◌, ℕ, ◌+◌, ◌-◌, ◌<◌, ◌≤◌, Bool, true, false, ◌||◌, List, [], ◌∷◌, ◌++◌, length, take, drop, Option, Some, None, Result, Ok, Err, OnErr, refl, ap, sym, ◌∙◌, subst, arith, append_assoc}
 use Rattle.std.proofs.lemmas.List.{append-nil}
 use Rattle.module_lang.specs.Program.{Program}
-use Rattle.run_model.specs.Runs.{World}
+use Rattle.run_model.specs.Runs.{World, Before}
 use Rattle.host_cli.specs.declared.command.Command.{Command}
 use Rattle.host_cli.specs.declared.reply.Reply.{Reply}
 use Rattle.host_cli.specs.declared.ended.Ended.{Ended}
@@ -17,22 +17,22 @@ use Rattle.host_cli.proofs.LineLaws.{rest_at, rest_is, lines_at, lines_end, same
 -- The text so far is that of a run of the commands before these lines, which leads to this world.
 pub record IsUnder (budget : ℕ) (p : Program) (total : Commands) (is_open : Bool) (number : ℕ) (rest : List Line) (w : World) (text : List ℕ) : Type 0 where
   pub fault : (commands_of is_open number rest).fault ≡ total.fault
-  pub goes : (rs : List Reply) → Plays budget p (commands_of is_open number rest).commands w rs → (all : List Reply) × Plays budget p total.commands None all × (lines_of_replies all ≡ text ++ lines_of_replies rs)
+  pub goes : (rs : List Reply) → Plays budget p (commands_of is_open number rest).commands w rs → (all : List Reply) × Plays budget p total.commands Before all × (lines_of_replies all ≡ text ++ lines_of_replies rs)
 
-pub under_first : (budget : ℕ) (p : Program) (number : ℕ) (rest : List Line) → IsUnder budget p (commands_of false number rest) false number rest None []
+pub under_first : (budget : ℕ) (p : Program) (number : ℕ) (rest : List Line) → IsUnder budget p (commands_of false number rest) false number rest Before []
 under_first budget p number rest = record { fault = refl; goes = λ rs plays. (rs, plays, refl) }
 
-played : (budget : ℕ) (p : Program) (total : Commands) (text : List ℕ) (rs : List Reply) → Plays budget p total.commands None rs → lines_of_replies rs ≡ text → IsPlayed budget p total (text ++ last_line total.fault) (ended_at total.fault)
+played : (budget : ℕ) (p : Program) (total : Commands) (text : List ℕ) (rs : List Reply) → Plays budget p total.commands Before rs → lines_of_replies rs ≡ text → IsPlayed budget p total (text ++ last_line total.fault) (ended_at total.fault)
 played budget p total text rs plays e =
     record {
       replies = rs;
       run = plays;
       lines = ap (λ t. t ++ last_line total.fault) (sym e);
       ended = refl;
-      only = λ h. plays_only budget p total.commands None rs plays h;
+      only = λ h. plays_only budget p total.commands Before rs plays h;
     }
 
-played_at : (budget : ℕ) (p : Program) (total : Commands) (text : List ℕ) (rs : List Reply) (f : Option ℕ) → Plays budget p total.commands None rs → lines_of_replies rs ≡ text → total.fault ≡ f → IsPlayed budget p total (text ++ last_line f) (ended_at f)
+played_at : (budget : ℕ) (p : Program) (total : Commands) (text : List ℕ) (rs : List Reply) (f : Option ℕ) → Plays budget p total.commands Before rs → lines_of_replies rs ≡ text → total.fault ≡ f → IsPlayed budget p total (text ++ last_line f) (ended_at f)
 played_at budget p total text rs f plays e h =
     let P : Option ℕ → Type 0 = λ g. IsPlayed budget p total (text ++ last_line g) (ended_at g) in
     subst P h (played budget p total text rs plays e)
@@ -125,3 +125,14 @@ front_at budget p total is_open number rest w text out u e =
 pub on_err : {T E : Type 0} (r : Result T E) (Q : Type 0) → Q → OnErr r Q
 on_err (Ok x) Q q = tt
 on_err (Err e) Q q = q
+
+true≢false : true ≡ false → ⊥
+true≢false h = cc
+
+pub or_left : (a b : Bool) → a || b ≡ false → a ≡ false
+or_left false b h = refl
+or_left true b h = h
+
+pub or_right : (a b : Bool) → a || b ≡ false → b ≡ false
+or_right false b h = h
+or_right true b h = absurd (true≢false h)

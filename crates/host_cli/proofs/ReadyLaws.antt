@@ -1,14 +1,18 @@
 -- The end of a request and the taking of the output leave the next instruction as it is.
-use Rattle.std.proofs.Common.{◌≡◌, ℕ, Bool, List, [], ◌∷◌, Option, Some, None, refl, ap, sym, ◌∙◌, not, is_some}
+use Rattle.std.proofs.Common.{◌≡◌, ℕ, ◌<◌, length, Bool, List, [], ◌∷◌, Option, Some, None, refl, ap, sym, ◌∙◌, not, is_some}
 use Rattle.run_model.specs.declared.event.Refusal.{Refusal}
 use Rattle.run_model.specs.declared.event.Refusal.TheVariants as refusal
-use Rattle.run_model.specs.Connection.{Connection, ends, ended, takes, first_refusal, refused_if, if_broken, unless_refused}
+use Rattle.run_model.specs.State.{with_pools}
+use Rattle.run_model.specs.Clearing.{run_down}
+use Rattle.module_lang.specs.Program.{Program}
+use Rattle.run_model.specs.Connection.{Connection, opened, ends, ended, takes, first_refusal, refused_if, if_broken, unless_refused}
 
 pub pc_takes : (c d : Connection) (bytes : List ℕ) → takes c ≡ (bytes, d) → d.run.pc ≡ c.run.pc
 unfolding takes
 pc_takes c d bytes h = ap (λ z. z.1.run.pc) (sym h)
 
 pc_ended : (req : Option ℕ) (c : Connection) → (ended req c).run.pc ≡ c.run.pc
+unfolding with_pools run_down
 pc_ended None c = refl
 pc_ended (Some n) c = refl
 
@@ -16,6 +20,11 @@ pc_unless : (r : Option Refusal) (c : Connection) → (unless_refused r c (ended
 pc_unless None c = pc_ended c.run.shared.req c
 pc_unless (Some r) c = refl
 
-pub pc_ends : (c d : Connection) (r : Option Refusal) → ends c ≡ (r, d) → d.run.pc ≡ c.run.pc
+pub pc_ends : (memory : Bool) (c d : Connection) (r : Option Refusal) → ends memory c ≡ (r, d) → d.run.pc ≡ c.run.pc
 unfolding ends
-pc_ends c d r h = ap (λ z. z.1.run.pc) (sym h) ∙ pc_unless (first_refusal (if_broken c.broken ∷ (refused_if c.busy refusal.Busy ∷ (refused_if (not (is_some c.run.shared.req)) refusal.NotInRequest ∷ [])))) c
+pc_ends memory c d r h = ap (λ z. z.1.run.pc) (sym h) ∙ pc_unless (first_refusal (if_broken c.broken ∷ (refused_if c.busy refusal.Busy ∷ (refused_if (not (is_some c.run.shared.req)) refusal.NotInRequest ∷ (refused_if (not memory) refusal.NoMemory ∷ []))))) c
+
+-- A connection that was just opened is at the first instruction.
+pub ready_opened : (p : Program) → 0 < length p.code → opened.run.pc < length p.code
+unfolding opened
+ready_opened p some = some

@@ -12,7 +12,7 @@ use Rattle.run_model.specs.declared.event.StepRefusal.TheVariants as step_refusa
 use Rattle.run_model.specs.declared.event.Stepped.{Stepped}
 use Rattle.run_model.specs.declared.event.Stepped.TheVariants as stepped
 use Rattle.run_model.specs.State.{Run}
-use Rattle.run_model.specs.Steps.{watched, current, unless_fault, executed, succeeded, settled, step_at_end, is_spent, names_of, grows}
+use Rattle.run_model.specs.Steps.{watched, current, unless_fault, executed, succeeded, settled, step_at_end, lacks_names, grows}
 use Rattle.run_model.specs.Faults.{fault}
 use Rattle.run_model.specs.Connection.{Connection, steps, step_if, step_answer, step_from, first_refusal, refused_if, if_broken}
 use Rattle.run_model.specs.Runs.{GoesOn, EndsRun}
@@ -61,7 +61,7 @@ exec_same false false w r c h = refl
 fault_same : (f : Option FaultKind) (p : Program) (i : Instr) (r : Run) (c : Connection) → lost (step_from (unless_fault f r (executed false p i r)) c).0 ≡ false → step_from (unless_fault f r (executed false p i r)) c ≡ step_from (unless_fault f r (executed true p i r)) c
 unfolding executes
 fault_same (Some k) p i r c h = refl
-fault_same None p i r c h = exec_same (is_spent r.shared.next (names_of i)) (grows i) (settled i (step_at_end p i r).exit (step_at_end p i r).run) r c h
+fault_same None p i r c h = exec_same (lacks_names r i) (grows i) (settled i (step_at_end p i r).exit (step_at_end p i r).run) r c h
 
 below_same : (b : Bool) (budget : ℕ) (p : Program) (c : Connection) → leb budget c.count ≡ b → lost (step_if None false budget p c).0 ≡ false → step_if None false budget p c ≡ step_if None true budget p c
 below_same true budget p c t h = rw t refl

@@ -19,6 +19,9 @@ word_text word.End = codes "end"
 word_text word.Bring = codes "bring"
 word_text word.Run = codes "run"
 word_text word.Output = codes "output"
+word_text word.Labels = codes "labels"
+word_text word.Close = codes "close"
+word_text word.Pools = codes "pools"
 
 -- what follows it
 unfoldable pub takes_of : Word → Takes
@@ -28,6 +31,9 @@ takes_of word.End = takes.Conn
 takes_of word.Bring = takes.ConnAndPieces
 takes_of word.Run = takes.Conn
 takes_of word.Output = takes.Conn
+takes_of word.Labels = takes.Conn
+takes_of word.Close = takes.Conn
+takes_of word.Pools = takes.Nothing
 
 -- the command of a word with its operands
 unfoldable pub command_with : Word → Operands → Command
@@ -37,9 +43,12 @@ command_with word.End o = command.End o.conn
 command_with word.Bring o = command.Bring o.conn o.pieces
 command_with word.Run o = command.Run o.conn
 command_with word.Output o = command.Output o.conn
+command_with word.Labels o = command.Labels o.conn
+command_with word.Close o = command.Close o.conn
+command_with word.Pools o = command.Pools
 
 abbrev pub words : List Word
-words = word.Open ∷ word.Begin ∷ word.End ∷ word.Bring ∷ word.Run ∷ word.Output ∷ []
+words = word.Open ∷ word.Begin ∷ word.End ∷ word.Bring ∷ word.Run ∷ word.Output ∷ word.Labels ∷ word.Close ∷ word.Pools ∷ []
 
 -- the word that is written so
 unfoldable pub word_at : List ℕ → Option Word

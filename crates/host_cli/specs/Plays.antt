@@ -15,7 +15,8 @@ use Rattle.run_model.specs.declared.event.Refusal.TheVariants as refusal
 use Rattle.run_model.specs.declared.event.Stepped.{Stepped}
 use Rattle.run_model.specs.declared.event.Stepped.TheVariants as stepped
 use Rattle.run_model.specs.Connection.{Connection, steps}
-use Rattle.run_model.specs.Runs.{Answer, Done, Refused, Step, Output, World, happens, EndsRun, step_of}
+use Rattle.run_model.specs.Runs.{Answer, Done, Refused, Step, Output, Labels, Tree, World, Before, There, Closed, happens, EndsRun, step_of}
+use Rattle.pool_tree.specs.Printed.{payload_text, printed}
 use Rattle.host_cli.specs.declared.command.Command.{Command}
 use Rattle.host_cli.specs.declared.command.Command.TheVariants as command
 use Rattle.host_cli.specs.declared.reply.Reply.{Reply}
@@ -26,17 +27,27 @@ use Rattle.host_cli.specs.Replies.{reply_line, asm_line, script_line}
 use Rattle.host_cli.specs.Lines.{lines_of, module_cut}
 use Rattle.host_cli.specs.Scripts.{Commands, header_of, script_of}
 
--- how an answer of the connection is told
+-- how an answer of the connection is told; the root of its pools is 1
 abbrev pub reply_of : Answer → Reply
 reply_of Done = reply.Done
 reply_of (Refused r) = reply.Refused r
 reply_of (Step s) = reply.Stepped s
 reply_of (Output bytes) = reply.Output bytes
+reply_of (Labels labels) = reply.Labels labels
+reply_of (Tree pools) = reply.Pools (printed payload_text pools 0 1)
 
 abbrev pub told : Answer × World → Reply × World
 told (a, w) = (reply_of a, w)
 
--- Connection 1 is the only one that there can be. (A command `open` names none.)
+-- how the answer to `open` is told: done, it is the first connection
+abbrev pub opened_reply : Answer → Reply
+opened_reply Done = reply.Connected
+opened_reply a = reply_of a
+
+abbrev pub told_open : Answer × World → Reply × World
+told_open (a, w) = (opened_reply a, w)
+
+-- Connection 1 is the only one that there can be. (The commands `open` and `pools` name none.)
 abbrev pub is_for_first : Command → Bool
 is_for_first command.Open = true
 is_for_first (command.Begin c) = c == 1
@@ -44,6 +55,9 @@ is_for_first (command.End c) = c == 1
 is_for_first (command.Bring c pieces) = c == 1
 is_for_first (command.Run c) = c == 1
 is_for_first (command.Output c) = c == 1
+is_for_first (command.Labels c) = c == 1
+is_for_first (command.Close c) = c == 1
+is_for_first command.Pools = true
 
 -- the steps of a call, where memory lasts: at most n go on, and one more is made
 abbrev pub unless_went : Result Stepped Refusal × Connection → (Connection → Result Stepped Refusal × Connection) → Result Stepped Refusal × Connection
@@ -57,18 +71,21 @@ ran zero budget p c = steps true budget p c
 ran (suc n) budget p c = unless_went (steps true budget p c) (λ d. ran n budget p d)
 
 abbrev pub run_of : ℕ → Program → World → Reply × World
-run_of budget p None = (reply.Refused refusal.NoSuchConn, None)
-run_of budget p (Some c) = told (step_of (ran budget budget p c))
+run_of budget p (There c) = told (step_of (ran budget budget p c))
+run_of budget p w = (reply.Refused refusal.NoSuchConn, w)
 
 -- What a command for connection 1 answers and leaves; memory says whether a growth would succeed. (It always does in
 -- a run of steps.)
 abbrev pub answered : Bool → ℕ → Program → Command → World → Reply × World
-answered memory budget p command.Open w = (reply.Connected, (happens memory budget p event.Open w).1)
+answered memory budget p command.Open w = told_open (happens memory budget p event.Open w)
 answered memory budget p (command.Begin c) w = told (happens memory budget p event.Begin w)
 answered memory budget p (command.End c) w = told (happens memory budget p event.End w)
 answered memory budget p (command.Bring c pieces) w = told (happens memory budget p (event.Bring pieces) w)
 answered memory budget p (command.Run c) w = run_of budget p w
 answered memory budget p (command.Output c) w = told (happens memory budget p event.TakeOutput w)
+answered memory budget p (command.Labels c) w = told (happens memory budget p event.TellLabels w)
+answered memory budget p (command.Close c) w = told (happens memory budget p event.Close w)
+answered memory budget p command.Pools w = told (happens memory budget p event.TellPools w)
 
 unfoldable pub served : Bool → ℕ → Program → Command → World → Reply × World
 served memory budget p c w =
@@ -76,8 +93,8 @@ served memory budget p c w =
 
 -- How the steps of a call may end.
 abbrev pub MayRun : ℕ → Program → World → Reply → World → Type 0
-MayRun budget p None r new = (r ≡ reply.Refused refusal.NoSuchConn) × (new ≡ None)
-MayRun budget p (Some c) r new = (memory : Bool) × (answer : Result Stepped Refusal) × (d : Connection) × EndsRun memory budget p c answer d × ((r, new) ≡ told (step_of (answer, d)))
+MayRun budget p (There c) r new = (memory : Bool) × (answer : Result Stepped Refusal) × (d : Connection) × EndsRun memory budget p c answer d × ((r, new) ≡ told (step_of (answer, d)))
+MayRun budget p w r new = (r ≡ reply.Refused refusal.NoSuchConn) × (new ≡ w)
 
 -- What a command for connection 1 may answer and leave. Each growth may find no memory.
 unfoldable pub MayAnswer : ℕ → Program → Command → World → Reply → World → Type 0
@@ -87,6 +104,9 @@ MayAnswer budget p (command.End c) old r new = (memory : Bool) × (answered memo
 MayAnswer budget p (command.Bring c pieces) old r new = (memory : Bool) × (answered memory budget p (command.Bring c pieces) old ≡ (r, new))
 MayAnswer budget p (command.Run c) old r new = MayRun budget p old r new
 MayAnswer budget p (command.Output c) old r new = (memory : Bool) × (answered memory budget p (command.Output c) old ≡ (r, new))
+MayAnswer budget p (command.Labels c) old r new = (memory : Bool) × (answered memory budget p (command.Labels c) old ≡ (r, new))
+MayAnswer budget p (command.Close c) old r new = (memory : Bool) × (answered memory budget p (command.Close c) old ≡ (r, new))
+MayAnswer budget p command.Pools old r new = (memory : Bool) × (answered memory budget p command.Pools old ≡ (r, new))
 
 -- From one world to another a command may answer so.
 unfoldable pub Serves : ℕ → Program → Command → World → Reply → World → Type 0
@@ -116,6 +136,8 @@ names_memory reply.Done = false
 names_memory (reply.Refused r) = refusal_names_memory r
 names_memory (reply.Stepped s) = false
 names_memory (reply.Output bytes) = false
+names_memory (reply.Labels labels) = false
+names_memory (reply.Pools text) = false
 
 -- the line that ends the play at a line that is no command
 abbrev pub last_line : Option ℕ → List ℕ
@@ -135,10 +157,10 @@ lines_of_replies rs = flat_map reply_line rs
 -- answers are those of the run in which memory lasts.
 pub record IsPlayed (budget : ℕ) (p : Program) (script : Commands) (text : List ℕ) (e : Ended) : Type 0 where
   pub replies : List Reply
-  pub run : Plays budget p script.commands None replies
+  pub run : Plays budget p script.commands Before replies
   pub lines : text ≡ lines_of_replies replies ++ last_line script.fault
   pub ended : e ≡ ended_at script.fault
-  pub only : list_any names_memory replies ≡ false → replies ≡ replies_of budget p script.commands None
+  pub only : list_any names_memory replies ≡ false → replies ≡ replies_of budget p script.commands Before
 
 -- The text is the front of one that a play writes.
 pub record IsPlayedSoFar (budget : ℕ) (p : Program) (script : Commands) (text : List ℕ) : Type 0 where

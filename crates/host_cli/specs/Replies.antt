@@ -1,5 +1,5 @@
 -- The lines that the program prints.
-use Rattle.std.specs.Prelude.{ℕ, List, [], ◌∷◌, ◌++◌, codes, decimal}
+use Rattle.std.specs.Prelude.{ℕ, List, [], ◌∷◌, ◌++◌, flat_map, codes, decimal}
 use Rattle.module_lang.specs.declared.instr.Status.{Status}
 use Rattle.module_lang.specs.declared.instr.Status.TheVariants.{Success, Fail}
 use Rattle.run_model.specs.declared.fault.FaultKind.{FaultKind}
@@ -59,13 +59,19 @@ stepped_line (stepped.Fault kind index pc) =
 abbrev pub output_line : List ℕ → List ℕ
 output_line bytes = line (codes "output " ++ spelling bytes)
 
--- the line of a reply
+-- labels, each as a space and its text in quotes
+abbrev pub labels_line : List (List ℕ) → List ℕ
+labels_line labels = line (codes "labels" ++ flat_map (λ label. 32 ∷ spelling label) labels)
+
+-- the line of a reply; of the pools, their lines and then one more
 abbrev pub reply_line : Reply → List ℕ
 reply_line reply.Connected = line (codes "conn 1")
 reply_line reply.Done = line (codes "ok")
 reply_line (reply.Refused r) = refused_line r
 reply_line (reply.Stepped s) = stepped_line s
 reply_line (reply.Output bytes) = output_line bytes
+reply_line (reply.Labels labels) = labels_line labels
+reply_line (reply.Pools text) = text ++ line (codes "ok")
 
 -- the first faulty line of a module text, and its code
 abbrev pub asm_line : ℕ → ℕ → List ℕ

@@ -32,6 +32,9 @@ opens (command.End c) = false
 opens (command.Bring c ps) = false
 opens (command.Run c) = false
 opens (command.Output c) = false
+opens (command.Labels c) = false
+opens (command.Close c) = false
+opens command.Pools = false
 
 -- A second connection is not opened.
 abbrev pub due : Bool → Option Command → Option Command

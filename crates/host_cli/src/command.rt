@@ -17,6 +17,9 @@ pub enum Word {
     Bring,
     Run,
     Output,
+    Labels,
+    Close,
+    Pools,
 }
 
 /// What follows the first word of a command.
@@ -45,15 +48,24 @@ pub enum Command {
     Run(u64),
     /// Takes the output.
     Output(u64),
+    /// Tells the labels run so far.
+    Labels(u64),
+    /// Closes the connection, and tells all labels run.
+    Close(u64),
+    /// Tells the pools.
+    Pools,
 }
 
-const WORDS: [Word; 6] = [
+const WORDS: [Word; 9] = [
     Word::Open,
     Word::Begin,
     Word::End,
     Word::Bring,
     Word::Run,
     Word::Output,
+    Word::Labels,
+    Word::Close,
+    Word::Pools,
 ];
 
 impl Word {
@@ -68,6 +80,9 @@ impl Word {
             Word::Bring => b"bring",
             Word::Run => b"run",
             Word::Output => b"output",
+            Word::Labels => b"labels",
+            Word::Close => b"close",
+            Word::Pools => b"pools",
         }
     }
 
@@ -76,8 +91,9 @@ impl Word {
         ensures { result ≡ takes_of self }
     {
         match self {
-            Word::Open => Takes::Nothing,
-            Word::Begin | Word::End | Word::Run | Word::Output => Takes::Conn,
+            Word::Open | Word::Pools => Takes::Nothing,
+            Word::Begin | Word::End | Word::Run => Takes::Conn,
+            Word::Output | Word::Labels | Word::Close => Takes::Conn,
             Word::Bring => Takes::ConnAndPieces,
         }
     }
@@ -93,6 +109,9 @@ impl Word {
             Word::Bring => Command::Bring(operands.conn, operands.pieces),
             Word::Run => Command::Run(operands.conn),
             Word::Output => Command::Output(operands.conn),
+            Word::Labels => Command::Labels(operands.conn),
+            Word::Close => Command::Close(operands.conn),
+            Word::Pools => Command::Pools,
         }
     }
 }

@@ -1,7 +1,7 @@
 //! Playing a script.
 
-ghost use Rattle.std.specs.Prelude.{◌≡◌, ℕ, ◌+◌, ◌<◌, ◌≤◌, ◌^◌, ◌++◌, [], None, length, take, true, false, ◌||◌, is_some, IfOk, OnOk, OnErr, IfSome};
-ghost use Rattle.run_model.specs.Runs.{World};
+ghost use Rattle.std.specs.Prelude.{◌≡◌, ℕ, ◌+◌, ◌<◌, ◌≤◌, ◌^◌, ◌++◌, [], length, true, false, IfOk, OnOk, OnErr};
+ghost use Rattle.run_model.specs.Runs.{Before};
 ghost use Rattle.host_cli.specs.declared.reply.Reply.{Reply};
 ghost use Rattle.host_cli.specs.Replies.{reply_line};
 ghost use Rattle.host_cli.specs.Lines.{lines_of};
@@ -11,12 +11,11 @@ ghost use Rattle.host_cli.specs.Host.{world_of, IsReady};
 
 use crate::command::Command;
 use crate::ended::Ended;
-use crate::host::{no_conn, serve};
+use crate::host::{Host, no_conn, serve};
 use crate::lines::{first_line, module_cut};
 use crate::reply::{put_asm_fault, put_reply, put_script_fault};
-use crate::script::{due_command, header_of};
+use crate::script::{due_command, header_of, opens};
 use module_lang::{AsmRefusal, assemble};
-use module_run::Conn;
 use run_model::Module;
 use std::alloc::{AllocError, Global};
 
@@ -25,18 +24,18 @@ fn answer(
     alloc: Global,
     code: &Module,
     budget: u64,
-    conn: &mut Option<Conn>,
+    host: &mut Host,
     command: Command,
     out: &mut Vec<u8>,
 ) -> Result<(), AllocError>
-    requires ready { IsReady code.now (world_of conn.old) }
-    requires once { opens command ≡ true → world_of conn.old ≡ None }
-    ensures ok { OnOk result ((r : Reply) × Serves budget code.now command (world_of conn.old) r (world_of conn.new) × (out.new.items ≡ out.old.items ++ reply_line r)) }
+    requires ready { IsReady code.now (world_of host.old) }
+    requires once { opens command ≡ true → world_of host.old ≡ Before }
+    ensures ok { OnOk result ((r : Reply) × Serves budget code.now command (world_of host.old) r (world_of host.new) × (out.new.items ≡ out.old.items ++ reply_line r)) }
     ensures err { OnErr result (out.new.items ≡ out.old.items) }
-    ensures ready { IsReady code.now (world_of conn.new) }
-    ensures opened { is_some conn.new ≡ (is_some conn.old || opens command) }
+    ensures ready { IsReady code.now (world_of host.new) }
+    ensures before { opens command ≡ false → world_of host.old ≡ Before → world_of host.new ≡ Before }
 {
-    let reply = serve(alloc, code, budget, conn, command);
+    let reply = serve(alloc, code, budget, host, command)?;
     put_reply(alloc, out, &reply)
 }
 
@@ -55,16 +54,19 @@ pub fn play_commands(
     ensures ok { IfOk result (λ e. IsPlayed budget code.now (commands_of false first (lines_of commands.now)) out.new.items e) }
     ensures err { OnErr result (IsPlayedSoFar budget code.now (commands_of false first (lines_of commands.now)) out.new.items) }
 {
-    let mut conn = no_conn(code);
+    let mut host = no_conn(code);
+    let mut is_open = false;
     let mut at = 0;
     let mut number = first;
     while at < commands.len() {
         let line = first_line(&commands[at..]);
-        let Some(command) = due_command(alloc, line.text, line.ended, conn.is_some())? else {
+        let Some(command) = due_command(alloc, line.text, line.ended, is_open)? else {
             put_script_fault(alloc, out, number)?;
             return Ok(Ended::Refused);
         };
-        answer(alloc, code, budget, &mut conn, command, out)?;
+        let opening = opens(&command);
+        answer(alloc, code, budget, &mut host, command, out)?;
+        is_open |= opening;
         at += line.width;
         number += 1;
     }

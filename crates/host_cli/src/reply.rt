@@ -1,7 +1,8 @@
 //! What the program answers to a command, and the lines that it prints.
 
 ghost use Rattle.std.specs.Prelude.{◌≡◌, ◌++◌, ◌∷◌, [], IfOk, OnOk, OnErr};
-ghost use Rattle.host_cli.specs.Replies.{status_name, fault_name, refusal_name, stepped_line, refused_line, output_line, reply_line, asm_line, script_line};
+ghost use Rattle.module_lang.specs.Quoted.{spelling};
+ghost use Rattle.host_cli.specs.Replies.{status_name, fault_name, refusal_name, stepped_line, refused_line, output_line, labels_line, reply_line, asm_line, script_line};
 
 use module_lang::push_spelling;
 use run_model::{Cause, FaultKind, Refusal, Seq, Status, Stepped};
@@ -20,6 +21,10 @@ pub enum Reply {
     Stepped(Stepped),
     /// The output.
     Output(Seq<u8>),
+    /// Labels that ran, the first first.
+    Labels(Seq<Seq<u8>>),
+    /// The pools, as they are printed.
+    Pools(Seq<u8>),
 }
 
 fn status_name(status: Status) -> &'static str
@@ -139,7 +144,52 @@ fn put_output(alloc: Global, out: &mut Vec<u8>, bytes: &Seq<u8>) -> Result<(), A
     out.extend_from_slice(line.as_slice())
 }
 
-/// Adds the line of a reply to the text. Without memory nothing is changed.
+/// Adds a space and the text of a label in quotes.
+fn push_label(alloc: Global, line: &mut Seq<u8>, label: &[u8]) -> Result<(), AllocError>
+    ensures { OnOk result (line.new ≡ line.old ++ 32 ∷ spelling label.now) }
+{
+    line.push(b' ')?;
+    push_spelling(alloc, line, label)
+}
+
+fn labels_line(alloc: Global, labels: &[Seq<u8>]) -> Result<Seq<u8>, AllocError>
+    ensures { IfOk result (λ line. line ≡ labels_line labels.now) }
+{
+    let mut line = Seq::new(alloc);
+    line.extend(b"labels")?;
+    for label in labels {
+        push_label(alloc, &mut line, label.as_slice())?;
+    }
+    line.push(b'\n')?;
+    Ok(line)
+}
+
+fn put_labels(alloc: Global, out: &mut Vec<u8>, labels: &Seq<Seq<u8>>) -> Result<(), AllocError>
+    ensures ok { OnOk result (out.new.items ≡ out.old.items ++ labels_line labels.now) }
+    ensures err { OnErr result (out.new.items ≡ out.old.items) }
+{
+    let line = labels_line(alloc, labels.as_slice())?;
+    out.extend_from_slice(line.as_slice())
+}
+
+fn pools_text(alloc: Global, text: &Seq<u8>) -> Result<Seq<u8>, AllocError>
+    ensures { IfOk result (λ lines. lines ≡ reply_line (Reply.Pools text.now)) }
+{
+    let mut lines = Seq::new(alloc);
+    lines.extend(text.as_slice())?;
+    lines.extend(b"ok\n")?;
+    Ok(lines)
+}
+
+fn put_pools(alloc: Global, out: &mut Vec<u8>, text: &Seq<u8>) -> Result<(), AllocError>
+    ensures ok { OnOk result (out.new.items ≡ out.old.items ++ reply_line (Reply.Pools text.now)) }
+    ensures err { OnErr result (out.new.items ≡ out.old.items) }
+{
+    let lines = pools_text(alloc, text)?;
+    out.extend_from_slice(lines.as_slice())
+}
+
+/// Adds the line of a reply to the text, and of the pools their lines before it. Without memory nothing is changed.
 pub fn put_reply(alloc: Global, out: &mut Vec<u8>, reply: &Reply) -> Result<(), AllocError>
     ensures ok { OnOk result (out.new.items ≡ out.old.items ++ reply_line reply.now) }
     ensures err { OnErr result (out.new.items ≡ out.old.items) }
@@ -150,6 +200,8 @@ pub fn put_reply(alloc: Global, out: &mut Vec<u8>, reply: &Reply) -> Result<(), 
         Reply::Refused(refusal) => put_refused(alloc, out, *refusal),
         Reply::Stepped(stepped) => put_stepped(alloc, out, *stepped),
         Reply::Output(bytes) => put_output(alloc, out, bytes),
+        Reply::Labels(labels) => put_labels(alloc, out, labels),
+        Reply::Pools(text) => put_pools(alloc, out, text),
     }
 }
 

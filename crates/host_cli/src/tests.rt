@@ -14,6 +14,15 @@ const TESTS_AFTER_PASS: &str =
 const PASSES_ALL: &str =
     "module 1\nopen\nret ok\ninit\nret ok\nmain\npass in bad\nret ok\n:bad\nret fail\nend\n";
 
+const CLEANS_UP: &str =
+    "module 1\npool p0 conn\npool p1 p0\nopen\npcreate p0\nlabel p0 \"1\"\nlabel p0 \"2\"\npcreate p1\nlabel p1 \"3\"\npclear p0\nret ok\ninit\nret ok\nmain\nret ok\nend\n";
+
+const LABELS_AGAIN: &str =
+    "module 1\npool p0 conn\npool p1 p0\nopen\npcreate p0\nlabel p0 \"1\"\nlabel p0 \"2\"\npcreate p1\nlabel p1 \"3\"\npclear p0\nlabel p0 \"4\"\nret ok\ninit\nret ok\nmain\nret ok\nend\n";
+
+const KILLS_A_LABEL: &str =
+    "module 1\npool p0 conn\nopen\npcreate p0\nlabel p0 \"a\\x00\\\"\"\nlabel conn \"b\"\nlabel p0 \"b\"\nlabel p0 \"b\"\nunlabel p0 \"b\"\nret ok\ninit\npdestroy p0\npclear p0\nret ok\nmain\nret ok\nend\n";
+
 /// A module text, what stands behind it in a script, what is written, and whether the play is done.
 #[derive(Clone, Copy)]
 struct Row {
@@ -24,7 +33,7 @@ struct Row {
     is_done: bool,
 }
 
-const ROWS: [Row; 22] = [
+const ROWS: [Row; 30] = [
     Row {
         name: "identity",
         module_text: IDENTITY,
@@ -178,6 +187,62 @@ const ROWS: [Row; 22] = [
         commands: "open\nrun 1\nbegin 1\nrun 1\nbring 1 heap \"\\x00\\n\\\\\\\" \\x7f\" heap \"\" eos eos\nrun 1\noutput 1\noutput 1\nend 1\nend 1\n",
         answers: "conn 1\nended ok\nok\nended ok\nok\nended ok\noutput \"\\x00\\x0a\\\\\\\" \\x7f\"\noutput \"\"\nok\nrefused NotInRequest\n",
         is_done: true,
+    },
+    Row {
+        name: "cleanup_order, labels",
+        module_text: CLEANS_UP,
+        commands: "open\nrun 1\nlabels 1\npools\n",
+        answers: "conn 1\nended ok\nlabels \"3\" \"2\" \"1\"\npool 1\n  pool 2\n    pool 3\nok\n",
+        is_done: true,
+    },
+    Row {
+        name: "cleanup_order, a label after the clear",
+        module_text: LABELS_AGAIN,
+        commands: "open\nrun 1\npools\n",
+        answers: "conn 1\nended ok\npool 1\n  pool 2\n    pool 3 \"4\"\nok\n",
+        is_done: true,
+    },
+    Row {
+        name: "labels at a close",
+        module_text: KILLS_A_LABEL,
+        commands: "open\nrun 1\npools\nlabels 1\nbegin 1\nrun 1\nlabels 1\nclose 1\n",
+        answers: "conn 1\nended ok\npool 1\n  pool 2 \"b\"\n    pool 3 \"a\\x00\\\"\" \"b\"\nok\nlabels\nok\nfault F1 module 0 pc 8\nlabels \"b\" \"a\\x00\\\"\"\nlabels \"b\" \"a\\x00\\\"\" \"b\"\n",
+        is_done: true,
+    },
+    Row {
+        name: "pools and labels in each state",
+        module_text: IDENTITY,
+        commands: "pools\nlabels 1\nclose 1\nopen\npools\nlabels 1\nrun 1\nbegin 1\nrun 1\npools\nend 1\nclose 1\nlabels 1\nrun 1\npools\nclose 1\n",
+        answers: "pool 1\nok\nrefused NoSuchConn\nrefused NoSuchConn\nconn 1\npool 1\n  pool 2\nok\nlabels\nended ok\nok\nended ok\npool 1\n  pool 2\n    pool 3\nok\nok\nlabels\nrefused NoSuchConn\nrefused NoSuchConn\npool 1\nok\nrefused NoSuchConn\n",
+        is_done: true,
+    },
+    Row {
+        name: "labels and close of a broken connection",
+        module_text: IDENTITY,
+        commands: "budget 0\nopen\nrun 1\nbegin 1\nlabels 1\npools\nclose 1\n",
+        answers: "conn 1\nrefused Broken(OutOfSteps)\nrefused Broken(OutOfSteps)\nlabels\npool 1\n  pool 2\nok\nlabels\n",
+        is_done: true,
+    },
+    Row {
+        name: "an open behind a close",
+        module_text: IDENTITY,
+        commands: "open\nclose 1\nopen\n",
+        answers: "conn 1\nlabels\nscript line 18\n",
+        is_done: false,
+    },
+    Row {
+        name: "pools of a connection",
+        module_text: IDENTITY,
+        commands: "pools 1\n",
+        answers: "script line 16\n",
+        is_done: false,
+    },
+    Row {
+        name: "labels of none",
+        module_text: IDENTITY,
+        commands: "labels 2\nlabels\n",
+        answers: "refused NoSuchConn\nscript line 17\n",
+        is_done: false,
     },
 ];
 

@@ -34,3 +34,4 @@ pub mod SpellingLaws
 pub mod TextAgain
 pub mod TextFaults
 pub mod TextLaws
+pub mod WritingLaws

@@ -13,4 +13,5 @@ pub mod Quoted
 pub mod Spelling
 pub mod Texts
 pub mod Words
+pub mod Writes
 pub mod SeqLends

@@ -1,10 +1,15 @@
 -- One text written after another.
-use Rattle.std.specs.Prelude.{◌≡◌, ℕ, zero, suc, ◌+◌, ◌<◌, Option, None, Some, Result, Ok, Err, OnOk, List, [], ◌∷◌, ◌++◌, length, take, refl}
+use Rattle.std.specs.Prelude.{◌≡◌, ℕ, zero, suc, ◌+◌, ◌<◌, Option, None, Some, Result, Ok, Err, OnOk, List, [], ◌∷◌, ◌++◌, length, take, refl, true, false, not}
 use Rattle.std.specs.Io.KnownBytes.{Appends}
-use Rattle.std.proofs.Common.{sym, ◌∙◌, ap, subst, arith, get_or, add-one}
+use Rattle.module_lang.specs.Writes.{Wrote}
+use Rattle.run_model.specs.Pools.{is_empty}
+use Rattle.std.proofs.Common.{sym, ◌∙◌, ap, subst, get_or, add-one}
 use Rattle.std.proofs.lemmas.List.{append_assoc, append-nil, take_more}
 use Rattle.std.proofs.lemmas.List.Concat.{flat_map-append}
 use Rattle.pool_tree.specs.Printed.{margin, spaced, spaced_all}
+
+true≢false : true ≡ false → ⊥
+true≢false h = cc
 
 pub appends_then : (a b c : Option (List ℕ)) (xs ys : List ℕ) → Appends a b xs → Appends b c ys → Appends a c (xs ++ ys)
 appends_then None b c xs ys h k = tt
@@ -46,12 +51,17 @@ then_ok a b c xs ys (Err e) h k = tt
 pub on_ok_same : (a b : Option (List ℕ)) (xs ys : List ℕ) {A E : Type 0} (r : Result A E) → xs ≡ ys → OnOk r (Appends a b xs) → OnOk r (Appends a b ys)
 on_ok_same a b xs ys r same h = subst (λ bs. OnOk r (Appends a b bs)) same h
 
-pub spaced_empty : (xs : List ℕ) → length xs ≡ 0 → [] ≡ spaced xs
+pub spaced_none : (xs : List ℕ) → not (is_empty xs) ≡ false → [] ≡ spaced xs
 unfolding spaced
-spaced_empty [] none = refl
-spaced_empty (x ∷ xs) none = absurd (omega (arith, none))
+spaced_none [] none = refl
+spaced_none (x ∷ xs) none = absurd (true≢false none)
 
-pub spaced_some : (xs : List ℕ) → (length xs ≡ 0 → ⊥) → 32 ∷ xs ≡ spaced xs
+pub spaced_some : (xs : List ℕ) → not (is_empty xs) ≡ true → 32 ∷ xs ≡ spaced xs
 unfolding spaced
-spaced_some [] some = absurd (some refl)
+spaced_some [] some = absurd (true≢false (sym some))
 spaced_some (x ∷ xs) some = refl
+
+-- a text that is written whole where nothing fails
+pub wrote_ok : {E : Type 0} (a b : Option (List ℕ)) (xs : List ℕ) (r : Result (Unit {0}) E) → Wrote r a b xs → OnOk r (Appends a b xs)
+wrote_ok a b xs (Ok u) h = h
+wrote_ok a b xs (Err e) h = tt

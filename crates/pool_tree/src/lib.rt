@@ -9,8 +9,9 @@ mod refusal;
 mod text;
 mod tree;
 
+pub use module_lang::WriteFault;
 pub use refusal::PoolRefusal;
-pub use text::{PoolText, WriteFault};
+pub use text::PoolText;
 pub use tree::{PoolId, PoolTree, Room};
 
 #[cfg(test)]

@@ -1,7 +1,9 @@
 //! Small trees, step by step.
 
-use crate::{PoolRefusal, PoolText, PoolTree};
+use crate::{PoolRefusal, PoolText, PoolTree, WriteFault};
+use module_lang::put_all;
 use std::alloc::Global;
+use std::io::Write;
 use std::test::Fail;
 
 /// A text that is shown.
@@ -13,8 +15,12 @@ struct Label {
 impl PoolText for Label {
     ghost shown = { λ l. l.bytes.items };
 
-    fn text(&self) -> &[u8] {
-        self.bytes.as_slice()
+    fn is_shown(&self) -> bool {
+        !self.bytes.is_empty()
+    }
+
+    fn put<W: Write>(&self, out: &mut W) -> Result<(), WriteFault> {
+        put_all(out, self.bytes.as_slice())
     }
 }
 

@@ -1,8 +1,12 @@
-//! Texts of payloads, and how they are written.
+//! Texts of payloads.
 
-ghost use Rattle.std.specs.Prelude.{◌≡◌, OnOk};
-ghost use Rattle.std.specs.Io.KnownBytes.{Appends};
+ghost use Rattle.std.specs.Prelude.{◌≡◌, not};
+ghost use Rattle.module_lang.specs.Writes.{Wrote};
+ghost use Rattle.run_model.specs.Pools.{is_empty};
+ghost use Rattle.pool_tree.specs.Printed.{payload_text};
 
+use module_lang::{WriteFault, print_text};
+use run_model::Payload;
 use std::io::Write;
 
 /// A payload that `print` can show.
@@ -12,25 +16,26 @@ pub trait PoolText {
     /// The bytes of the text.
     ghost shown: { Self → List ℕ };
 
-    /// The text, which is empty where the payload is not shown.
-    fn text(&self) -> &[u8]
-        ensures { result.now ≡ shown self.now };
+    /// Whether it is shown: its text is not empty.
+    fn is_shown(&self) -> bool
+        ensures { result ≡ not (is_empty (shown self.now)) };
+
+    /// Writes the text. Where that fails, a front of it is written.
+    fn put<W: Write>(&self, out: &mut W) -> Result<(), WriteFault>
+        ensures { Wrote result (W.contents out.old) (W.contents out.new) (shown self.now) };
 }
 
-/// The writer failed: it answered a fault, or took no byte.
-#[derive(Clone, Copy)]
-pub struct WriteFault;
+impl PoolText for Payload {
+    ghost shown = { payload_text };
 
-/// Writes all bytes. A write that takes none is a fault.
-pub(crate) fn put_all<W: Write>(out: &mut W, bytes: &[u8]) -> Result<(), WriteFault>
-    ensures { OnOk result (Appends (W.contents out.old) (W.contents out.new) bytes.now) }
-{
-    let mut at = 0;
-    while at < bytes.len() {
-        match out.write(&bytes[at..]) {
-            Ok(0) | Err(_) => return Err(WriteFault),
-            Ok(count) => at += count,
+    fn is_shown(&self) -> bool {
+        matches!(self, Payload::Label(_))
+    }
+
+    fn put<W: Write>(&self, out: &mut W) -> Result<(), WriteFault> {
+        match self {
+            Payload::Label(text) => print_text(out, text.as_slice()),
+            Payload::FileRef(_) => Ok(()),
         }
     }
-    Ok(())
 }

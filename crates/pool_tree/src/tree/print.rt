@@ -8,8 +8,9 @@ ghost use Rattle.pool_tree.specs.Printed.{margin, spaced, spaced_all, line, prin
 ghost use Rattle.pool_tree.specs.Tree.{map_of};
 
 use super::{PoolId, PoolTree};
-use crate::text::{PoolText, WriteFault, put_all};
+use crate::text::PoolText;
 use itoa::Buffer;
+use module_lang::{WriteFault, put_all};
 use std::io::Write;
 
 /// Writes two spaces for each pool above.
@@ -22,15 +23,15 @@ fn put_margin<W: Write>(out: &mut W, depth: u64) -> Result<(), WriteFault>
     Ok(())
 }
 
-/// Writes a space and the text, where that is not empty.
-fn put_spaced<W: Write>(out: &mut W, text: &[u8]) -> Result<(), WriteFault>
-    ensures { OnOk result (Appends (W.contents out.old) (W.contents out.new) (spaced text.now)) }
+/// Writes a space and the text of a payload, where that is shown.
+fn put_shown<T: PoolText, W: Write>(out: &mut W, payload: &T) -> Result<(), WriteFault>
+    ensures { OnOk result (Appends (W.contents out.old) (W.contents out.new) (spaced (T.shown payload.now))) }
 {
-    if text.is_empty() {
+    if !payload.is_shown() {
         return Ok(());
     }
     put_all(out, b" ")?;
-    put_all(out, text)
+    payload.put(out)
 }
 
 /// Writes the texts of payloads, the oldest first.
@@ -38,7 +39,7 @@ fn put_payloads<T: PoolText, W: Write>(out: &mut W, payloads: &[T]) -> Result<()
     ensures { OnOk result (Appends (W.contents out.old) (W.contents out.new) (spaced_all T.shown payloads.now)) }
 {
     for payload in payloads {
-        put_spaced(out, payload.text())?;
+        put_shown(out, payload)?;
     }
     Ok(())
 }

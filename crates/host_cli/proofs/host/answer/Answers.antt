@@ -1,16 +1,15 @@
-use Rattle.std.proofs.Common.{ap}
-use Rattle.run_model.specs.Connection.{opened}
+use Rattle.std.proofs.Common.{true}
+use Rattle.std.proofs.lemmas.Result.{IfOk-weaker}
 use Rattle.host_cli.specs.Host.{lasted_by}
-use Rattle.host_cli.specs.Scripts.{opens}
 use Rattle.host_cli.specs.Plays.{MayAnswer}
 use Rattle.host_cli.proofs.host.answer.Goals as goal
 
+pub returns-in-Open-clause-answers : goal.returns-in-Open-clause-answers
+unfolding MayAnswer
+returns-in-Open-clause-answers c = rw c.in-Open.is (lasted_by c.open.result, c.open.ensures.event c.args.budget c.args.code.now)
+
 pub returns-in-Open-clause-ready : goal.returns-in-Open-clause-ready
-unfolding opened
-returns-in-Open-clause-ready c =
-    let empty = c.requires.once (ap opens c.in-Open.is) in
-    let some = rw empty at c.requires.ready in
-    rw c.open.ensures.world some
+returns-in-Open-clause-ready c = c.open.ensures.ready c.args.code.now c.requires.ready
 
 pub returns-in-Begin-clause-answers : goal.returns-in-Begin-clause-answers
 unfolding MayAnswer
@@ -33,3 +32,21 @@ returns-in-Output-clause-answers c = rw c.in-Output.is (lasted_by c.output.resul
 
 pub returns-in-Output-clause-ready : goal.returns-in-Output-clause-ready
 returns-in-Output-clause-ready c = c.output.ensures.ready c.args.code.now c.requires.ready
+
+pub returns-in-Labels-clause-answers : goal.returns-in-Labels-clause-answers
+unfolding MayAnswer
+returns-in-Labels-clause-answers c =
+    rw c.in-Labels.is (IfOk-weaker c.labels.result _ _ (λ r event. (true, event c.args.budget c.args.code.now)) c.labels.ensures)
+
+pub returns-in-Close-clause-answers : goal.returns-in-Close-clause-answers
+unfolding MayAnswer
+returns-in-Close-clause-answers c =
+    rw c.in-Close.is (IfOk-weaker c.close.result _ _ (λ r event. (lasted_by r, event c.args.budget c.args.code.now)) c.close.ensures.event)
+
+pub returns-in-Close-clause-ready : goal.returns-in-Close-clause-ready
+returns-in-Close-clause-ready c = c.close.ensures.ready c.args.code.now c.requires.ready
+
+pub returns-in-Pools-clause-answers : goal.returns-in-Pools-clause-answers
+unfolding MayAnswer
+returns-in-Pools-clause-answers c =
+    rw c.in-Pools.is (IfOk-weaker c.pools.result _ _ (λ r event. (true, event c.args.budget c.args.code.now)) c.pools.ensures)

@@ -1,7 +1,7 @@
-use Rattle.std.proofs.Common.{◌≡◌, sym, refl, ap, ◌∙◌, arith}
+use Rattle.std.proofs.Common.{◌≡◌, ◌||◌, sym, refl, ap, ◌∙◌, arith}
 use Rattle.host_cli.specs.Scripts.{due, command_at}
 use Rattle.host_cli.proofs.LineLaws.{length_rest}
-use Rattle.host_cli.proofs.PlayTurns.{front_at, fault_at, goes_at, end_at, on_err}
+use Rattle.host_cli.proofs.PlayTurns.{front_at, fault_at, goes_at, end_at, on_err, or_left, or_right}
 use Rattle.host_cli.proofs.play.play_commands.Goals as goal
 
 pub returns-in_err-command-clause-err : goal.returns-in_err-command-clause-err
@@ -21,7 +21,7 @@ returns-clause-ok c = end_at _ _ _ _ _ c.loop-at.at c.args.commands.now _ _ c.lo
 pub returns-in_default-clause-ok : goal.returns-in_default-clause-ok
 returns-in_default-clause-ok c =
     let line = c.first_line-line in
-    let due_here = c.in_ok-command.ensures ∙ ap (λ b. due b (command_at (record { text = line.result.text.now; ended = line.result.ended }))) c.is_some.ensures in
+    let due_here = c.in_ok-command.ensures in
     fault_at _ _ _ _ _ c.loop-at.at c.args.commands.now _ _ _ line.result.text.now line.result.ended _ c.loop-at.invariant.played c.loop-at-test.true (line.ensures.text, line.ensures.ended) due_here c.in_default.is c.in_ok-put_script_fault.ensures.ok
 
 pub loop-at-preserved : goal.loop-at-preserved
@@ -30,10 +30,11 @@ loop-at-preserved c =
     let rest = length_rest c.args.commands.now c.loop-at.at in
     let moves = line.ensures.moves (omega arith) in
     let within = line.ensures.within in
-    let due_here = c.in_ok-command.ensures ∙ ap (λ b. due b (command_at (record { text = line.result.text.now; ended = line.result.ended }))) c.is_some.ensures in
+    let due_here = c.in_ok-command.ensures in
     record {
       within = omega arith;
       counted = omega arith;
       ready = c.in_ok-answer.ensures.ready;
-      played = goes_at _ _ _ _ _ _ c.loop-at.at line.result.width c.args.commands.now _ _ _ _ line.result.text.now line.result.ended _ c.in-Some.command c.loop-at.invariant.played c.loop-at-test.true (line.ensures.text, line.ensures.ended) line.ensures.width due_here c.in-Some.is c.in_ok-answer.ensures.opened c.in_ok-answer.ensures.ok;
+      before = λ h. c.in_ok-answer.ensures.before (sym c.opens-opening.ensures ∙ or_right _ _ h) (c.loop-at.invariant.before (or_left _ _ h));
+      played = goes_at _ _ _ _ _ _ c.loop-at.at line.result.width c.args.commands.now _ _ _ _ line.result.text.now line.result.ended _ c.in-Some.command c.loop-at.invariant.played c.loop-at-test.true (line.ensures.text, line.ensures.ended) line.ensures.width due_here c.in-Some.is (ap (λ b. c.loop-at.is_open || b) c.opens-opening.ensures) c.in_ok-answer.ensures.ok;
     }

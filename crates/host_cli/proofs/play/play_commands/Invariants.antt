@@ -1,4 +1,5 @@
-use Rattle.std.proofs.Common.{length, ◌-◌, ◌+◌, ◌≤◌, false, is_some, drop}
+use Rattle.std.proofs.Common.{◌≡◌, length, ◌-◌, ◌+◌, ◌≤◌, false, drop}
+use Rattle.run_model.specs.Runs.{Before}
 use Rattle.host_cli.specs.Lines.{lines_of}
 use Rattle.host_cli.specs.Scripts.{commands_of}
 use Rattle.host_cli.specs.Host.{world_of, IsReady}
@@ -10,8 +11,9 @@ abbrev pub invariant-loop-at : goal.invariant-loop-at
 invariant-loop-at l = record {
   within : l.at ≤ length l.commands;
   counted : l.number ≤ l.first + l.at;
-  ready : IsReady l.code (world_of l.conn);
-  played : IsUnder l.budget l.code (commands_of false l.first (lines_of l.commands)) (is_some l.conn) l.number (lines_of (drop l.at l.commands)) (world_of l.conn) l.out.items;
+  ready : IsReady l.code (world_of l.host);
+  before : l.is_open ≡ false → world_of l.host ≡ Before;
+  played : IsUnder l.budget l.code (commands_of false l.first (lines_of l.commands)) l.is_open l.number (lines_of (drop l.at l.commands)) (world_of l.host) l.out.items;
 }
 
 abbrev pub decreases-loop-at : goal.decreases-loop-at

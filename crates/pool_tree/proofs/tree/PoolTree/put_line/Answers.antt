@@ -2,7 +2,7 @@ use Rattle.std.proofs.Common.{◌≡◌, ◌∙◌, ◌++◌, ◌∷◌, [], sym
 use Rattle.pool_tree.specs.Printed.{margin, spaced_all, line}
 use Rattle.pool_tree.specs.Tree.{map_of}
 use Rattle.pool_tree.proofs.Trees.{tree_payloads}
-use Rattle.pool_tree.proofs.Writing.{appends_then, then_ok}
+use Rattle.pool_tree.proofs.Writing.{appends_then, then_ok, wrote_ok}
 use Rattle.pool_tree.proofs.tree.PoolTree.put_line.Goals as goal
 
 pub returns : goal.returns
@@ -17,4 +17,4 @@ returns g c =
     let word = appends_then start (w c.put_margin.new.out) (w c.put_all.new.out) front (codes "pool ") c.in_ok-put_margin.ensures c.in_ok-put_all.ensures in
     let number = appends_then start (w c.put_all.new.out) (w c.put_all-2.new.out) (front ++ codes "pool ") (decimal c.args.pool) word (rw digits at c.in_ok-put_all-2.ensures) in
     let all = appends_then start (w c.put_all-2.new.out) (w c.put_payloads.new.out) (front ++ codes "pool " ++ decimal c.args.pool) texts number (rw payloads at c.in_ok-put_payloads.ensures) in
-    then_ok start (w c.put_payloads.new.out) (w c.put_all-3.new.out) (front ++ codes "pool " ++ decimal c.args.pool ++ texts) (10 ∷ []) c.put_all-3.result all c.put_all-3.ensures
+    then_ok start (w c.put_payloads.new.out) (w c.put_all-3.new.out) (front ++ codes "pool " ++ decimal c.args.pool ++ texts) (10 ∷ []) c.put_all-3.result all (wrote_ok (w c.put_payloads.new.out) (w c.put_all-3.new.out) (10 ∷ []) c.put_all-3.result c.put_all-3.ensures)

@@ -1,4 +1,4 @@
-use Rattle.std.proofs.Common.{◌∙◌, ◌++◌, sym, ap, take}
+use Rattle.std.proofs.Common.{sym, take}
 use Rattle.pool_tree.specs.Printed.{spaced, spaced_all}
 use Rattle.pool_tree.proofs.Writing.{appends_then, appends_none, appends_same, spaced_more}
 use Rattle.pool_tree.proofs.tree.print.put_payloads.Goals as goal
@@ -10,7 +10,7 @@ loop-payload-init g c = appends_none (g.W.Write.contents c.args.out.now)
 pub loop-payload-preserved : goal.loop-payload-preserved
 loop-payload-preserved g c =
     let front = spaced_all g.T.PoolText.shown (take c.loop-payload.payload-index c.args.payloads.now) in
-    appends_same (g.W.Write.contents c.args.out.now) (g.W.Write.contents c.put_spaced.new.out) _ _
-    (ap (λ bs. front ++ spaced bs) c.text.ensures ∙ sym (spaced_more g.T.PoolText.shown c.args.payloads.now c.loop-payload.payload-index c.payload-item.result c.loop-payload-test.true c.payload-item.is))
-    (appends_then (g.W.Write.contents c.args.out.now) (g.W.Write.contents c.loop-payload.out) (g.W.Write.contents c.put_spaced.new.out) front (spaced c.text.result.now)
-    c.loop-payload.invariant c.in_ok-put_spaced.ensures)
+    appends_same (g.W.Write.contents c.args.out.now) (g.W.Write.contents c.put_shown.new.out) _ _
+    (sym (spaced_more g.T.PoolText.shown c.args.payloads.now c.loop-payload.payload-index c.payload-item.result c.loop-payload-test.true c.payload-item.is))
+    (appends_then (g.W.Write.contents c.args.out.now) (g.W.Write.contents c.loop-payload.out) (g.W.Write.contents c.put_shown.new.out) front (spaced (g.T.PoolText.shown c.payload-item.result))
+    c.loop-payload.invariant c.in_ok-put_shown.ensures)
