@@ -226,9 +226,6 @@ module _ (front : List (List ℕ)) (header : List ℕ) (heads : is_header (word_
       let r = rest_pieces before done (mark l name ∷ rest) a in
       named (is_named l.name ls) refl (leb (length (acts whole)) l.place) refl (scan rest (done ++ mark l name ∷ []) (before ++ (58 ∷ name) ∷ []) (ls ++ l ∷ []) (l.line + 1) (next_at before done (mark l name) rest a) (knows_append ls (l ∷ []) before ((58 ∷ name) ∷ []) w (label_knows l name r.0 r.1)) asc.1)
     where
-      J : Option LineFault
-      J = jump_fault (marks whole) (acts rest)
-
       behind : (y : LineFault) → jump_fault (marks whole) (acts rest) ≡ Some y → l.line ≤ y.line
       behind y e = jump_low (l.line + 1) l.line (marks whole) rest y asc.1 (omega arith) e
 

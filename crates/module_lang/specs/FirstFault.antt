@@ -1,4 +1,5 @@
--- Which line of a module text is faulty, and by which code: each code by itself, whatever other codes fit the line.
+-- Which line of a module text is the first faulty one, and by which code: `IsFirstFault`, at the end. Each code fits a line
+-- by itself, whatever other codes fit it.
 use Rattle.std.specs.Prelude.{◌≡◌, ◌≢◌, ℕ, ◌+◌, ◌<◌, ◌≤◌, Bool, true, false, ◌||◌, not, ◌==◌, if◌then◌else◌, List, [], ◌∷◌, ◌++◌, length, take, codes, Option, Some, ◌⊎◌}
 use Rattle.std.specs.List.{filter}
 use Rattle.module_lang.specs.Assembling.{is_end}
