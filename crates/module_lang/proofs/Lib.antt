@@ -19,10 +19,12 @@ pub mod ModuleFaults
 pub mod ModuleLaws
 pub mod OperandFaults
 pub mod OperandLaws
+pub mod OpsFound
 pub mod Pieces
 pub mod QuoteFound
 pub mod QuoteLaws
 pub mod QuotedLaws
+pub mod RawLines
 pub mod RunLaws
 pub mod SaidLaws
 pub mod SaysLaws
