@@ -10,6 +10,9 @@ pub mod LabelLaws
 pub mod LineLaws
 pub mod ModuleLaws
 pub mod OperandLaws
+pub mod PrintedLabels
+pub mod PrintedLines
+pub mod PrintedText
 pub mod QuotedLaws
 pub mod RunLaws
 pub mod SliceLaws
@@ -17,3 +20,4 @@ pub mod SourceLaws
 pub mod SpellingLaws
 pub mod TextAgain
 pub mod TextLaws
+pub mod WritingLaws

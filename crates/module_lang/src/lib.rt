@@ -15,6 +15,7 @@ mod quoted;
 mod refusal;
 mod seq;
 mod word;
+mod writer;
 
 pub use assembler::assemble;
 pub use instr::{Instr, PoolRef, Status};
@@ -22,3 +23,4 @@ pub use module::Module;
 pub use quoted::{Measured, measure, push_spelling, unquote};
 pub use refusal::{AsmRefusal, Code};
 pub use seq::Seq;
+pub use writer::{WriteFault, put_all};
