@@ -15,6 +15,7 @@ pub mod PrintedLines
 pub mod PrintedText
 pub mod QuotedLaws
 pub mod RunLaws
+pub mod ShownLaws
 pub mod SliceLaws
 pub mod SourceLaws
 pub mod SpellingLaws

@@ -104,6 +104,14 @@ declared_below n k pool.Conn low high h = refl
 declared_below n k pool.Req low high h = refl
 declared_below n k (pool.Own i) low high h = let b = ltb-true i n h in lt-ltb i 8 (omega arith)
 
+pub pools_declared : (m : Program) → IsModule m → All (λ q. place_is_declared 8 q ≡ true) m.pools
+pools_declared m s =
+    all_of (λ q. place_is_declared 8 q ≡ true) m.pools (λ k q e. declared_below k (length m.pools) q (let l = slice_get_within m.pools k q e in omega arith) s.pools (s.parents k q e))
+
+pub homes_declared : (m : Program) → IsModule m → All (λ q. place_is_declared 8 q ≡ true) m.brigades
+homes_declared m s =
+    all_of (λ q. place_is_declared 8 q ≡ true) m.brigades (λ k q e. declared_below (length m.pools) (length m.pools) q (omega arith) s.pools (s.homes k q e))
+
 below_1024 : (n : ℕ) (o : Option ℕ) → n ≤ 1024 → IfSome o (λ t. t < n) → IfSome o (λ t. t < 1024)
 below_1024 n None few h = tt
 below_1024 n (Some t) few h = omega arith
@@ -144,8 +152,8 @@ printed_is_text m s =
     let first = printed_handler code 0 m.init in
     let second = printed_handler code m.init m.main in
     let third = printed_handler code m.main (length code) in
-    let pools = all_of (λ q. place_is_declared 8 q ≡ true) m.pools (λ k q e. declared_below k (length m.pools) q (let l = slice_get_within m.pools k q e in omega arith) s.pools (s.parents k q e)) in
-    let homes = all_of (λ q. place_is_declared 8 q ≡ true) m.brigades (λ k q e. declared_below (length m.pools) (length m.pools) q (omega arith) s.pools (s.homes k q e)) in
+    let pools = pools_declared m s in
+    let homes = homes_declared m s in
     let few_pools : IsFew 8 (pool_texts 0 m.pools) = record { plain = pools_plain 0 m.pools (omega (arith, s.pools)) pools; count = omega (arith, pool_lines 0 m.pools, s.pools) } in
     let few_brigades : IsFew 8 (brigade_texts 0 m.brigades) = record { plain = brigades_plain 0 m.brigades (omega (arith, s.brigades)) homes; count = omega (arith, brigade_lines 0 m.brigades, s.brigades) } in
     let plain = module_few m first second third 2048 few_pools few_brigades plain_a plain_b plain_c in

@@ -1,6 +1,6 @@
 -- Texts that are written one after another.
-use Rattle.std.proofs.Common.{◌≡◌, ℕ, ◌+◌, List, [], ◌++◌, length, take, drop, Option, Some, None, Ok, Err, refl, sym, ◌∙◌, ap, subst, append_assoc, append-nil, arith, length-append}
-use Rattle.std.specs.Prelude.{Result}
+use Rattle.std.proofs.Common.{◌≡◌, ℕ, ◌+◌, ◌<◌, List, [], ◌++◌, length, take, drop, Option, Some, None, true, Ok, Err, refl, sym, ◌∙◌, ap, subst, append_assoc, append-nil, arith, length-append}
+use Rattle.std.specs.Prelude.{Result, is_err}
 use Rattle.std.proofs.Math.Seq.{take-add, take-append-add}
 use Rattle.std.proofs.lemmas.List.{take-append-le}
 use Rattle.std.specs.Io.KnownBytes.{Appends}
@@ -29,6 +29,9 @@ pub record Leaves (before now : Option (List ℕ)) (whole rest : List ℕ) : Typ
 pub leaves_all : (a : Option (List ℕ)) (whole : List ℕ) → Leaves a a whole whole
 leaves_all a whole = record { done = []; wrote = appends_none a; both = refl }
 
+pub leaves_whole : (a : Option (List ℕ)) (whole parts : List ℕ) → whole ≡ parts → Leaves a a whole parts
+leaves_whole a whole parts same = record { done = []; wrote = appends_none a; both = sym same }
+
 -- the next part is written
 pub leaves_less : (a b c : Option (List ℕ)) (whole x rest : List ℕ) → Leaves a b whole (x ++ rest) → Appends b c x → Leaves a c whole rest
 leaves_less a b c whole x rest l h = record {
@@ -41,17 +44,27 @@ pub leaves_none : (a b : Option (List ℕ)) (whole : List ℕ) → Leaves a b wh
 leaves_none a b whole l = subst (Appends a b) (sym (append-nil l.done) ∙ l.both) l.wrote
 
 -- the writer fails in the next part
-pub leaves_fault : {E F : Type 0} (a b c : Option (List ℕ)) (whole x rest : List ℕ) (e : E) (f : F) → Leaves a b whole (x ++ rest) → Wrote (Err e) b c x → Wrote (Err f) a c whole
-leaves_fault a b c whole x rest e f l h =
-    let n = h.0 in
-    let front : take n (x ++ rest) ≡ take n x = take-append-le n x rest (omega (arith, h.1)) in
+front_fault : (a b c : Option (List ℕ)) (whole x rest : List ℕ) → Leaves a b whole (x ++ rest) → (n : ℕ) → n < length x → Appends b c (take n x) → (m : ℕ) × (m < length whole) × Appends a c (take m whole)
+front_fault a b c whole x rest l n low h =
+    let front : take n (x ++ rest) ≡ take n x = take-append-le n x rest (omega arith) in
     let all : l.done ++ take n x ≡ take (length l.done + n) whole = sym (ap (λ z. take (length l.done + n) z) (sym l.both) ∙ take-append-add l.done (x ++ rest) n ∙ ap (λ z. l.done ++ z) front) in
     let long : length whole ≡ length l.done + length (x ++ rest) = ap length (sym l.both) ∙ length-append l.done (x ++ rest) in
-    (length l.done + n, omega (arith, h.1, long, length-append x rest), subst (Appends a c) all (appends_then a b c l.done (take n x) l.wrote h.2))
+    (length l.done + n, omega (arith, long, length-append x rest), subst (Appends a c) all (appends_then a b c l.done (take n x) l.wrote h))
+
+pub leaves_fault : {E F : Type 0} (a b c : Option (List ℕ)) (whole x rest : List ℕ) (e : E) (r : Result (Unit {0}) F) → is_err r ≡ true → Leaves a b whole (x ++ rest) → Wrote (Err e) b c x → Wrote r a c whole
+leaves_fault a b c whole x rest e (Ok u) fault l h = absurd (cc fault)
+leaves_fault a b c whole x rest e (Err f) fault l h = front_fault a b c whole x rest l h.0 h.1 h.2
 
 -- the last part
 pub leaves_last : {E : Type 0} (a b c : Option (List ℕ)) (whole x : List ℕ) (r : Result (Unit {0}) E) → Leaves a b whole x → Wrote r b c x → Wrote r a c whole
 leaves_last a b c whole x (Ok u) l h = subst (Appends a c) l.both (appends_then a b c l.done x l.wrote h)
 leaves_last a b c whole x (Err e) l h =
-    let same : x ++ [] ≡ x = append-nil x in
-    leaves_fault a b c whole x [] e e (subst (Leaves a b whole) (sym same) l) h
+    let same : x ≡ x ++ [] = sym (append-nil x) in
+    front_fault a b c whole x [] (subst (Leaves a b whole) same l) h.0 h.1 h.2
+
+-- one text and then another
+pub wrote_then : {E : Type 0} (a b c : Option (List ℕ)) (x y : List ℕ) (r : Result (Unit {0}) E) → Appends a b x → Wrote r b c y → Wrote r a c (x ++ y)
+wrote_then a b c x y r h k = leaves_last a b c (x ++ y) y r (leaves_less a a b (x ++ y) x y (leaves_all a (x ++ y)) h) k
+
+pub wrote_same : {E : Type 0} (a b : Option (List ℕ)) (x y : List ℕ) (r : Result (Unit {0}) E) → x ≡ y → Wrote r a b x → Wrote r a b y
+wrote_same a b x y r same h = subst (Wrote r a b) same h

@@ -11,6 +11,7 @@ pub mod Printing
 pub mod Program
 pub mod Quoted
 pub mod Spelling
+pub mod Shown
 pub mod Texts
 pub mod Words
 pub mod Writes
