@@ -22,7 +22,7 @@ pub use assembler::assemble;
 pub use instr::{Instr, PoolRef, Status};
 pub use module::Module;
 pub use print::print_module;
-pub use quoted::{Measured, measure, push_spelling, unquote};
+pub use quoted::{Measured, measure, print_text, push_spelling, unquote};
 pub use refusal::{AsmRefusal, Code};
 pub use seq::Seq;
 pub use writer::{WriteFault, put_all};
