@@ -3,8 +3,9 @@ use Rattle.std.proofs.Common.{◌≡◌, ◌≢◌, ℕ, zero, suc, ◌+◌, ◌
 use Rattle.std.specs.Prelude.{IfSome, slice_get, decimal}
 use Rattle.std.specs.List.{list_all}
 use Rattle.std.proofs.Math.Nat.{eq-or-lt_of_le}
-use Rattle.std.proofs.lemmas.Bool.{and_parts, le-leb, eq-eqb, or_right}
+use Rattle.std.proofs.lemmas.Bool.{le-leb, eq-eqb, or_right}
 use Rattle.std.proofs.lemmas.Fmt.{decimal_injective, decimal_by_steps, length-decimal-le}
+use Rattle.std.proofs.lemmas.List.Folds.{list_all-append}
 use Rattle.module_lang.specs.Names.{is_name, is_name_byte, all_name_bytes}
 use Rattle.module_lang.specs.Printing.{target_name, aim, is_number, is_target, printed_code}
 use Rattle.module_lang.specs.Program.{target}
@@ -45,10 +46,8 @@ marks-append code n (x ∷ xs) ys =
 
 -- names
 
-all_joined : (p : ℕ → Bool) (xs ys : List ℕ) → list_all p xs ≡ true → list_all p ys ≡ true → list_all p (xs ++ ys) ≡ true
-all_joined p [] ys h j = j
-all_joined p (x ∷ xs) ys h j =
-    let a = and_parts (p x) (list_all p xs) h in rw (a.0, all_joined p xs ys a.1 j) refl
+pub all_joined : (p : ℕ → Bool) (xs ys : List ℕ) → list_all p xs ≡ true → list_all p ys ≡ true → list_all p (xs ++ ys) ≡ true
+all_joined p xs ys h j = list_all-append p xs ys ∙ rw (h, j) refl
 
 digit_named : (d : ℕ) → d < 10 → list_all is_name_byte ((48 + d) ∷ []) ≡ true
 digit_named d low = grind arith

@@ -17,6 +17,7 @@ use Rattle.module_lang.specs.declared.instr.PoolRef.TheVariants as pool
 use Rattle.module_lang.specs.declared.instr.Status.{Status}
 use Rattle.module_lang.specs.declared.instr.Status.TheVariants as status
 use Rattle.module_lang.proofs.ModuleLaws.{all_cons}
+use Rattle.module_lang.proofs.PrintedLabels.{all_joined}
 use Rattle.module_lang.proofs.RunLaws.{all_head, all_tail}
 
 -- printable bytes, of which the first is neither a space nor `#`
@@ -76,9 +77,6 @@ line_short : (w : List ℕ) (os : List (List ℕ)) → length w ≤ 10 → lengt
 line_short w os low few s = omega (arith, operands_short os s, length-append w (operands_text os))
 
 -- operands
-
-all_joined : (p : ℕ → Bool) (xs ys : List ℕ) → list_all p xs ≡ true → list_all p ys ≡ true → list_all p (xs ++ ys) ≡ true
-all_joined p xs ys h j = list_all-append p xs ys ∙ rw (h, j) refl
 
 digit_printable : (d : ℕ) → d < 10 → list_all is_printable ((48 + d) ∷ []) ≡ true
 digit_printable d low = grind arith

@@ -119,6 +119,8 @@ pub fn assemble(alloc: Global, text: &[u8]) -> Result<Module, AsmRefusal>
 
     // A text that is written by the grammar is taken as the module that it spells, memory apart.
     ensures only { (p : Program) → IsTextOf text.now p → Gives (λ m. m) result (Ok p) }
+
+    // The text that a module is printed as is taken as that module, memory apart.
     ensures again { (p : Program) → IsModule p → text.now ≡ printed p → Gives (λ m. m) result (Ok p) }
     ensures one { (p q : Program) → IsTextOf text.now p → IsTextOf text.now q → p ≡ q }
 {

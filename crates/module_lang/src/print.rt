@@ -11,7 +11,7 @@ ghost use Rattle.module_lang.specs.Writes.{Wrote};
 
 use crate::instr::{Instr, PoolRef, Status};
 use crate::module::Module;
-use crate::word::{Op, Word};
+use crate::word::Op;
 use crate::writer::{WriteFault, put_all};
 use itoa::Buffer;
 use std::io::Write;
@@ -64,6 +64,7 @@ fn operands(instr: Instr) -> (Shown, Shown)
     }
 }
 
+/// The number of the instruction that an instruction names as its target.
 fn target(instr: Instr) -> Option<u16>
     ensures { result ≡ target instr }
 {
