@@ -51,6 +51,7 @@ empty_sound = record {
   texts = refl;
   few = omega arith;
   short = λ k d lt. absurd (omega arith);
+  bytes = λ k d lt. absurd (omega arith);
   none = refl;
   opening = λ k d lt. absurd (omega arith);
   init = λ k d lt. absurd (omega arith);

@@ -21,6 +21,9 @@ pub mod OperandFaults
 pub mod OperandLaws
 pub mod OpsFound
 pub mod Pieces
+pub mod PrintedLabels
+pub mod PrintedLines
+pub mod PrintedText
 pub mod QuoteFound
 pub mod QuoteLaws
 pub mod QuotedLaws
@@ -30,9 +33,12 @@ pub mod SaidLaws
 pub mod SaysLaws
 pub mod ScanLaws
 pub mod Sections
+pub mod ShownLaws
 pub mod SliceLaws
 pub mod SourceLaws
+pub mod SpelledLaws
 pub mod SpellingLaws
 pub mod TextAgain
 pub mod TextFaults
 pub mod TextLaws
+pub mod WritingLaws
