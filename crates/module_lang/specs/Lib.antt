@@ -8,9 +8,11 @@ pub mod Handlers
 pub mod Lines
 pub mod Names
 pub mod Operands
+pub mod Printing
 pub mod Program
 pub mod Quoted
 pub mod Spelling
+pub mod Shown
 pub mod Texts
 pub mod Words
 pub mod Writes
