@@ -1,5 +1,5 @@
 #!/usr/bin/env python3
-"""Measures a clear of a pool with 1,000 subpools, alone and beside 100,000 other pools, in one run.
+"""Measures a clear of a pool with 1,000 subpools, alone and beside other pools, up to 1,000,000 of them, in one run.
 
     python3 bench/clear_pool.py
 
@@ -14,7 +14,7 @@ TOP = os.path.dirname(os.path.dirname(os.path.abspath(__file__)))
 BELOW = ('module_lang', 'run_model', 'pool_tree')
 
 PROGRAM = '''\
-//! The time of a clear of a pool with 1,000 subpools, alone and beside 100,000 other pools.
+//! The time of a clear of a pool with 1,000 subpools, alone and beside other pools.
 #![tactic(auto)]
 
 use pool_tree::{PoolId, PoolTree};
@@ -22,8 +22,8 @@ use std::process::ExitCode;
 use std::time::Instant;
 
 const SUBPOOLS: u32 = 1_000;
-const OTHERS: u32 = 100_000;
-const ROUNDS: u32 = 7;
+const OTHERS: [u32; 4] = [0, 10_000, 100_000, 1_000_000];
+const ROUNDS: u32 = 9;
 
 /// Makes pools under a pool, each with a payload.
 fn fill(tree: &mut PoolTree<u64>, parent: PoolId, count: u32) -> Option<()> {
@@ -64,9 +64,10 @@ fn clear_time(rt: &HostRuntime, others: u32) -> Option<u128> {
 
 fn measure(rt: &HostRuntime) -> Option<()> {
     for _ in 0..ROUNDS {
-        let alone = clear_time(rt, 0)?;
-        let beside = clear_time(rt, OTHERS)?;
-        println!(rt; "{alone} {beside}").ok()?;
+        for others in OTHERS {
+            let took = clear_time(rt, others)?;
+            println!(rt; "{others} {took}").ok()?;
+        }
     }
     Some(())
 }
@@ -106,10 +107,9 @@ def main():
         rounds = [line.split() for line in done.stdout.split('\n') if line.replace(' ', '').isdigit()]
         if done.returncode != 0 or not rounds:
             raise SystemExit('not built or not run:\n' + done.stdout + done.stderr)
-        alone = sorted(int(a) for a, b in rounds)
-        beside = sorted(int(b) for a, b in rounds)
-        print('clear of 1,000 subpools, alone: %d to %d us' % (alone[0], alone[-1]))
-        print('clear of 1,000 subpools, beside 100,000 pools: %d to %d us' % (beside[0], beside[-1]))
+        for others in sorted({int(others) for others, _ in rounds}):
+            took = sorted(int(took) for count, took in rounds if int(count) == others)
+            print('clear of 1,000 subpools beside %d pools: %d us at best, %d in the middle' % (others, took[0], took[len(took) // 2]))
 
 
 if __name__ == '__main__':

@@ -1,11 +1,10 @@
 -- The play of commands, line by line.
-use Rattle.std.proofs.Common.{◌≡◌, ℕ, ◌+◌, ◌-◌, ◌<◌, ◌≤◌, Bool, true, false, ◌||◌, List, [], ◌∷◌, ◌++◌, length, take, drop, Option, Some, None, Result, Ok, Err, OnErr, refl, ap, sym, ◌∙◌, subst, arith, append_assoc}
+use Rattle.std.proofs.Common.{◌≡◌, ℕ, ◌+◌, ◌<◌, ◌≤◌, Bool, true, false, ◌||◌, List, [], ◌∷◌, ◌++◌, length, drop, Option, Some, None, Result, Ok, Err, OnErr, refl, ap, sym, ◌∙◌, subst, append_assoc}
 use Rattle.std.proofs.lemmas.List.{append-nil}
 use Rattle.module_lang.specs.Program.{Program}
 use Rattle.run_model.specs.Runs.{World, Before}
 use Rattle.host_cli.specs.declared.command.Command.{Command}
 use Rattle.host_cli.specs.declared.reply.Reply.{Reply}
-use Rattle.host_cli.specs.declared.ended.Ended.{Ended}
 use Rattle.host_cli.specs.declared.ended.Ended.TheVariants as ended
 use Rattle.host_cli.specs.Replies.{reply_line, script_line}
 use Rattle.host_cli.specs.Lines.{Line, lines_of, first_line, width}

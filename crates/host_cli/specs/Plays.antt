@@ -1,5 +1,5 @@
 -- The play of a script: what its commands may answer, and what is written of that.
-use Rattle.std.specs.Prelude.{◌≡◌, ℕ, zero, suc, ◌+◌, Bool, true, false, ◌||◌, ◌==◌, if◌then◌else◌, List, [], ◌∷◌, ◌++◌, take, drop, Option, Some, None, Result, Ok, Err, flat_map, MatchBool, IfSome}
+use Rattle.std.specs.Prelude.{◌≡◌, ℕ, zero, suc, Bool, true, false, ◌==◌, if◌then◌else◌, List, [], ◌∷◌, ◌++◌, take, drop, Option, Some, None, Result, Ok, Err, flat_map, MatchBool, IfSome}
 use Rattle.std.specs.List.{list_any}
 use Rattle.std.specs.Io.KnownBytes.{Appends}
 use Rattle.module_lang.specs.Program.{Program}
@@ -8,14 +8,13 @@ use Rattle.module_lang.specs.Assembling.{assembling}
 use Rattle.module_lang.specs.declared.refusal.AsmRefusal.{AsmRefusal}
 use Rattle.module_lang.specs.declared.refusal.AsmRefusal.TheVariants as asm
 use Rattle.run_model.specs.declared.event.Cause.TheVariants as cause
-use Rattle.run_model.specs.declared.event.Event.{Event}
 use Rattle.run_model.specs.declared.event.Event.TheVariants as event
 use Rattle.run_model.specs.declared.event.Refusal.{Refusal}
 use Rattle.run_model.specs.declared.event.Refusal.TheVariants as refusal
 use Rattle.run_model.specs.declared.event.Stepped.{Stepped}
 use Rattle.run_model.specs.declared.event.Stepped.TheVariants as stepped
 use Rattle.run_model.specs.Connection.{Connection, steps}
-use Rattle.run_model.specs.Runs.{Answer, Done, Refused, Step, Output, Labels, Tree, World, Before, There, Closed, happens, EndsRun, step_of}
+use Rattle.run_model.specs.Runs.{Answer, Done, Refused, Step, Output, Labels, Tree, World, Before, There, happens, EndsRun, step_of}
 use Rattle.pool_tree.specs.Printed.{payload_text, printed}
 use Rattle.host_cli.specs.declared.command.Command.{Command}
 use Rattle.host_cli.specs.declared.command.Command.TheVariants as command
