@@ -1,6 +1,6 @@
 //! Whole module texts with the instructions of pools.
 
-use crate::{AsmRefusal, Instr, Module, PoolRef, VarRef, assemble};
+use crate::{AsmRefusal, Instr, Module, PoolRef, VarRef, assemble, print_module};
 use std::test::Fail;
 
 const POOLS: &[u8] =
@@ -173,5 +173,16 @@ fn reads_parents(rt: HostRuntime) -> Result<(), Fail> {
     let module = assemble(rt.alloc(), POOLS).ok().ok_or("no module")?;
     assert!(rt; matches!(parent(&module, 0), Some(PoolRef::Conn)));
     assert!(rt; matches!(parent(&module, 3), Some(PoolRef::Own(0))));
+    Ok(())
+}
+
+#[test]
+fn prints_texts(rt: HostRuntime) -> Result<(), Fail> {
+    let module = assemble(rt.alloc(), POOLS).ok().ok_or("no module")?;
+    let mut out = Vec::new(rt.alloc());
+    print_module(&module, &mut out).ok().ok_or("not written")?;
+    let want =
+        b"module 1\npool p0 conn\npool p1 p0\nbrigade b0 p1\nopen\npcreate p0\nlabel p0 \"a \\\"b\\\"\\x0a\\x00\"\nunlabel conn \"\"\npclear p1\npdestroy p0\njnull p1 i7\njnull b0 i7\n:i7\nret ok\ninit\nlabel req \"q\"\nret ok\nmain\nret ok\nend\n";
+    assert!(rt; out.as_slice() == want.as_slice());
     Ok(())
 }
