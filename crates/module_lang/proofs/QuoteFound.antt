@@ -3,7 +3,7 @@ use Rattle.std.proofs.Common.{◌≡◌, ℕ, ◌+◌, ◌-◌, ◌*◌, ◌<◌
 use Rattle.std.specs.Prelude.{All, IfOk, IfSome}
 use Rattle.std.proofs.lemmas.Bool.{and_parts, eqb-true, leb-true, le-ltb, lt-ltb}
 use Rattle.module_lang.specs.Bytes.{is_printable}
-use Rattle.module_lang.specs.Quoted.{Quoted, IsBelow16, escaped, hex_digit, hex_value, high_digit, low_digit, made, moved, quoted, text_from, text_of, text_step}
+use Rattle.module_lang.specs.Quoted.{Quoted, IsBelow16, hex_digit, hex_value, high_digit, low_digit, made, moved, quoted, text_from, text_of, text_step}
 use Rattle.module_lang.specs.Texts.{Piece, Spells, StandsIn, plain, quote, backslash, line_feed, carriage_return, hex, is_piece, piece_byte, piece_text, pieces_text}
 use Rattle.module_lang.specs.declared.quoted.ByteRead.{ByteRead}
 use Rattle.module_lang.specs.declared.quoted.Scan.{Scan}

@@ -10,6 +10,7 @@ mod instr;
 mod lines;
 mod module;
 mod name;
+mod number;
 mod operand;
 mod quoted;
 mod refusal;
@@ -19,7 +20,7 @@ mod tests;
 mod word;
 
 pub use assembler::assemble;
-pub use instr::{Instr, PoolRef, Status, VarRef};
+pub use instr::{Instr, PoolRef, Status, Value, VarRef};
 pub use module::Module;
 pub use quoted::{Measured, measure, push_spelling, unquote};
 pub use refusal::{AsmRefusal, Code};
