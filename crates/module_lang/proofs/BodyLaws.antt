@@ -31,7 +31,7 @@ use Rattle.module_lang.specs.declared.word.Op.{Op}
 use Rattle.module_lang.specs.declared.word.Kind.TheVariants as kind
 use Rattle.module_lang.specs.declared.word.Word.TheVariants as word
 use Rattle.module_lang.proofs.DraftLaws.{has_text_of}
-use Rattle.module_lang.proofs.ListLaws.{number_at}
+use Rattle.module_lang.proofs.ListLaws.{number_at, some_both}
 use Rattle.module_lang.proofs.QuoteLaws.{quote_at, quote_unindented, quoted_again}
 use Rattle.module_lang.proofs.RunLaws.{Goes, IsAt, goes_item, goes_label, instr_judged}
 use Rattle.module_lang.proofs.SpellingLaws.{instr_again, word_of_instr, padded, operands, pool_operand, place_operand, own_operand, two_again, declared_up, text_len}
@@ -218,10 +218,6 @@ text_short : (p : Program) (o : Option ℕ) → IsModule p → IfSome o (λ t. t
 unfolding text_at
 text_short p None s h = omega arith
 text_short p (Some t) s h = s.short t [] h
-
-some_both : (o : Option ℕ) (P Q : ℕ → Type 0) → ((t : ℕ) → P t → Q t) → IfSome o P → IfSome o Q
-some_both None P Q f h = tt
-some_both (Some t) P Q f h = f t h
 
 -- the lines of a handler are taken one after another
 pub body_goes : (p : Program) (q : Part) (front back : List Instr) (H : List CodeLine → Draft → Type 0) → IsStage p q front H → IsModule p → (rest done : List CodeLine) (d : Draft) (ss : List (List ℕ)) (P : Draft → Type 0) → H done d → AreRight p q rest → p.code ≡ front ++ (instrs (done ++ rest) ++ back) → ((e : Draft) → H (done ++ rest) e → Goes e ss P) → Goes d (map code_text rest ++ ss) P

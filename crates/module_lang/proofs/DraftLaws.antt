@@ -384,7 +384,7 @@ has_text_of (instr.Jump l) n k = refl
 has_text_of (instr.Ret s) n k = refl
 
 -- an instruction has a text in its line, or none
-text_has : (i : Op) (d : Draft) (s : List ℕ) (o : Operands) → Item d s (word.Op i) o → (has_text o ≡ false) ⊎ ((has_text o ≡ true) × TextFound s o.second)
+pub text_has : (i : Op) (d : Draft) (s : List ℕ) (o : Operands) → Item d s (word.Op i) o → (has_text o ≡ false) ⊎ ((has_text o ≡ true) × TextFound s o.second)
 unfolding word_kinds op_kinds word_text op_text
 text_has op.PCreate d s o h = inl (ap has_text (shape op.PCreate o 0 0 (kinds_read (op_kinds op.PCreate) h.rest o h.read)).same)
 text_has op.PClear d s o h = inl (ap has_text (shape op.PClear o 0 0 (kinds_read (op_kinds op.PClear) h.rest o h.read)).same)

@@ -3,6 +3,7 @@ use Rattle.std.proofs.Common.{◌≡◌, ℕ, zero, suc, ◌+◌, ◌-◌, ◌^�
 use Rattle.std.specs.Prelude.{slice_index, codes, option_map, find}
 use Rattle.std.specs.Cmp.Lexicographic.{pointwise, same_text}
 use Rattle.std.proofs.lemmas.Bool.{and_parts, leb-true, eqb-true, lt-ltb, ltb-true, ne_eqb}
+use Rattle.std.proofs.lemmas.List.{drop_at}
 use Rattle.std.specs.List.{list_all}
 use Rattle.module_lang.specs.Bytes.{begins, tail, token, token_len, after_token}
 use Rattle.module_lang.specs.Codes.{◌>>=◌, unless}
@@ -13,6 +14,7 @@ use Rattle.module_lang.specs.Numbers.{constant_of, is_value}
 use Rattle.module_lang.specs.Operands.{numbered, operand_in, operand_at, after_operand, operands_at, operand_kind_is_nothing, operand_kind_is_text, or_wrong, text_measured, text_operand}
 use Rattle.module_lang.specs.Quoted.{Quoted, quoted, measure_of, text_of}
 use Rattle.module_lang.specs.Texts.{place_text, own_text, brigade_text, status_text, value_text, operands_text}
+use Rattle.module_lang.specs.Texts as grammar
 use Rattle.module_lang.specs.Words.{all_words, word_at, word_text, word_kinds, three_operands, two_operands, one_operand, no_operand}
 use Rattle.module_lang.specs.declared.draft.Draft.{Draft}
 use Rattle.module_lang.specs.declared.instr.PoolRef.TheVariants as pool
@@ -32,7 +34,8 @@ use Rattle.module_lang.specs.declared.word.Word.{Word}
 use Rattle.module_lang.proofs.LineLaws.{bind_ok, unless_ok, not_false}
 use Rattle.module_lang.proofs.NumberLaws.{constant_found, decimal_without}
 use Rattle.module_lang.proofs.OperandLaws.{cond_some, made, numbered_below}
-use Rattle.module_lang.proofs.QuoteLaws.{unquoted, place_unquoted, quote_behind}
+use Rattle.module_lang.proofs.QuoteFound.{quoted_found}
+use Rattle.module_lang.proofs.QuoteLaws.{unquoted, place_unquoted, quote_behind, quoted_again}
 use Rattle.module_lang.proofs.SpellingLaws.{padded}
 
 cut : (n : ℕ) (xs : List ℕ) → take n xs ++ drop n xs ≡ xs
@@ -40,7 +43,7 @@ cut zero xs = refl
 cut (suc n) [] = refl
 cut (suc n) (x ∷ xs) = ap (λ ys. x ∷ ys) (cut n xs)
 
-tokens : (bytes : List ℕ) → bytes ≡ token bytes ++ after_token bytes
+pub tokens : (bytes : List ℕ) → bytes ≡ token bytes ++ after_token bytes
 unfolding token after_token
 tokens bytes = sym (cut (token_len bytes) bytes)
 
@@ -62,7 +65,7 @@ pub record Reads (k : Kind) (rest : List ℕ) (o : Operand) : Type 0 where
   pub read : operand_in k token ≡ Some o
   pub spelled : rest ≡ 32 ∷ (token ++ after_operand k rest)
 
-read_token : (k : Kind) (rest : List ℕ) (o : Operand) → operand_kind_is_nothing k ≡ false → operand_kind_is_text k ≡ false → operand_at k rest ≡ Ok o → Reads k rest o
+pub read_token : (k : Kind) (rest : List ℕ) (o : Operand) → operand_kind_is_nothing k ≡ false → operand_kind_is_text k ≡ false → operand_at k rest ≡ Ok o → Reads k rest o
 unfolding operand_at after_operand
 read_token k [] o n q h = let z = rw n at h in absurd (cc z)
 read_token k (b ∷ bs) o n q h = space (eqb b 32) refl (rw (n, q) at h)
@@ -349,15 +352,54 @@ pub record TextFound (line : List ℕ) (o : Operand) : Type 0 where
   pub found : text_of (quoted (from_quote line)) ≡ Some text
   pub len : o ≡ operand.Text (length text)
 
-pub text_found : (k : Kind) (front rest : List ℕ) (o : Operands) → unquoted front ≡ true → operand_kind_is_nothing k ≡ false → operand_kind_is_text k ≡ false → operands_at (two_operands k kind.Text) rest ≡ Ok o → TextFound (front ++ rest) o.second
-text_found k front rest o u n q h =
+-- an operand and a text in quotes, as they are spelled
+pub record TextSpelled (rest : List ℕ) (o : Operands) : Type 0 where
+  pub token : List ℕ
+  pub spelled : List ℕ
+  pub text : List ℕ
+  pub whole : rest ≡ operands_text (token ∷ spelled ∷ [])
+  pub first : Spells o.first token
+  pub right : grammar.Spells spelled text
+  pub len : o.second ≡ operand.Text (length text)
+
+text_behind : (r : List ℕ) (q : Quoted) → quoted (tail r) ≡ Some q → after_operand kind.Text r ≡ drop q.used (tail r)
+unfolding after_operand
+text_behind r q h = rw h refl
+
+pub text_spelled : (k : Kind) (rest : List ℕ) (o : Operands) → operand_kind_is_nothing k ≡ false → operand_kind_is_text k ≡ false → operands_at (two_operands k kind.Text) rest ≡ Ok o → TextSpelled rest o
+text_spelled k rest o n q h =
     let c = chain (two_operands k kind.Text) rest o h in
     let x = read_token k rest o.first n q c.first in
     let r = after_operand k rest in
     let t = text_taken r o.second c.second in
-    let free = token_unquoted o.first x.token (token_spelled k x.token o.first x.read) in
-    let at : from_quote (front ++ rest) ≡ tail r = quote_behind front rest u ∙ ap from_quote x.spelled ∙ quote_behind x.token r free ∙ ap from_quote t.spaced ∙ ap from_quote t.begun ∙ sym t.begun in
-    record { text = t.quote.text; found = ap (λ b. text_of (quoted b)) at ∙ ap text_of t.read; len = t.len }
+    let z = quoted_found (tail r) t.quote t.read in
+    let w = z.0.spelled in
+    let left = after_operand kind.Text r in
+    let none : left ≡ [] = rw (nothing_behind left, nothing_behind left) at c.last in
+    let behind : left ≡ z.0.rest = text_behind r t.quote t.read ∙ ap (λ m. drop m (tail r)) z.1 ∙ ap (drop (length w)) z.0.whole ∙ drop_at w z.0.rest (length w) refl in
+    let last : tail r ≡ w ++ [] = z.0.whole ∙ ap (λ y. w ++ y) (sym behind ∙ none) in
+    record {
+      token = x.token;
+      spelled = w;
+      text = t.quote.text;
+      whole = x.spelled ∙ ap (λ y. 32 ∷ (x.token ++ y)) (t.spaced ∙ ap (λ y. 32 ∷ y) last);
+      first = token_spelled k x.token o.first x.read;
+      right = z.0.right;
+      len = t.len;
+    }
+
+-- the text of a line is the one behind its first quote
+pub quote_found : (front rest bytes : List ℕ) (o : Operands) (x : TextSpelled rest o) → unquoted front ≡ true → from_quote bytes ≡ from_quote (front ++ rest) → text_of (quoted (from_quote bytes)) ≡ Some x.text
+quote_found front rest bytes o x u e =
+    let free = token_unquoted o.first x.token x.first in
+    let last : from_quote (x.spelled ++ []) ≡ x.spelled ++ [] = rw x.right.whole refl in
+    let at : from_quote (front ++ rest) ≡ x.spelled ++ [] = quote_behind front rest u ∙ ap from_quote x.whole ∙ quote_behind x.token (32 ∷ (x.spelled ++ [])) free ∙ last in
+    ap (λ b. text_of (quoted b)) (e ∙ at) ∙ ap text_of (quoted_again x.spelled x.text [] x.right)
+
+pub text_found : (k : Kind) (front rest : List ℕ) (o : Operands) → unquoted front ≡ true → operand_kind_is_nothing k ≡ false → operand_kind_is_text k ≡ false → operands_at (two_operands k kind.Text) rest ≡ Ok o → TextFound (front ++ rest) o.second
+text_found k front rest o u n q h =
+    let x = text_spelled k rest o n q h in
+    record { text = x.text; found = quote_found front rest (front ++ rest) o x u refl; len = x.len }
 
 -- a line with a word, and what follows the word
 pub record Item (d : Draft) (s : List ℕ) (w : Word) (o : Operands) : Type 0 where
@@ -373,7 +415,7 @@ Spelled d s line.Skipped = ⊥
 Spelled d s (line.Label n) = (name : List ℕ) × (s ≡ 58 ∷ name) × (is_name name ≡ true) × (n ≡ padded name) × (is_handler d.part ≡ true)
 Spelled d s (line.Item w o) = Item d s w o
 
-known : (t : List ℕ) (r : Option Word) (w : Word) → word_at t ≡ r → or_unknown r ≡ Ok w → t ≡ word_text w
+pub known : (t : List ℕ) (r : Option Word) (w : Word) → word_at t ≡ r → or_unknown r ≡ Ok w → t ≡ word_text w
 known t None w q h = absurd (cc h)
 known t (Some x) w q h = let z : x ≡ w = cc h in word_spelled t w (q ∙ ap Some z)
 

@@ -64,3 +64,7 @@ items_of f d (x ∷ xs) a h =
     let first : f a ≡ x = ap f (sym zero_on) ∙ h 0 (omega arith) in
     let rest = items_of f d xs (a + 1) (λ k lt. let e : a + 1 + k ≡ a + suc k = omega arith in ap f e ∙ h (suc k) (omega arith)) in
     ap (λ y. y ∷ map f (range_with_len (a + 1) (length xs))) first ∙ ap (λ ys. x ∷ ys) rest
+
+pub some_both : (o : Option ℕ) (P Q : ℕ → Type 0) → ((t : ℕ) → P t → Q t) → IfSome o P → IfSome o Q
+some_both None P Q f h = tt
+some_both (Some t) P Q f h = f t h

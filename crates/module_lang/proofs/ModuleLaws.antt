@@ -74,7 +74,7 @@ resolved before h code after e = open_end (ends_open h.steps) refl e
     open_end false q e = other (sooner (label_fault before (length h.steps) h.labels) (jump_fault h.labels h.steps)) refl q e
 
 -- no label stands behind the last instruction
-labels_below : (before : List Label) (n : ℕ) (ls : List Label) → label_fault before n ls ≡ None → All (λ l. l.place < n) ls
+pub labels_below : (before : List Label) (n : ℕ) (ls : List Label) → label_fault before n ls ≡ None → All (λ l. l.place < n) ls
 labels_below before n [] h = λ k d lt. absurd (omega arith)
 labels_below before n (l ∷ ls) h = named (is_named l.name before) (labels_below (before ++ l ∷ []) n ls) h
   where
@@ -176,7 +176,7 @@ same_end op.JSent o x t = refl
 same_end op.Jump o x t = refl
 same_end op.Ret o x t = refl
 
-own_text : (i : Op) (o : Operands) (x t : ℕ) → text_of_instr (op_instr i o x t) ≡ cond (is_some (text_of_instr (op_instr i o x t))) (Some x) None
+pub own_text : (i : Op) (o : Operands) (x t : ℕ) → text_of_instr (op_instr i o x t) ≡ cond (is_some (text_of_instr (op_instr i o x t))) (Some x) None
 own_text op.PCreate o x t = refl
 own_text op.PClear o x t = refl
 own_text op.PDestroy o x t = refl

@@ -68,11 +68,11 @@ pub record IsOperand (k : Kind) (o : Operand) (t : List ℕ) : Type 0 where
   pub read : operand_in k t ≡ Some o
   pub plain : unspaced t ≡ true
 
-operand_again : (k : Kind) (o : Operand) (t rest : List ℕ) → IsOperand k o t → Stops rest → operand_at k (32 ∷ (t ++ rest)) ≡ Ok o
+pub operand_again : (k : Kind) (o : Operand) (t rest : List ℕ) → IsOperand k o t → Stops rest → operand_at k (32 ∷ (t ++ rest)) ≡ Ok o
 unfolding operand_at
 operand_again k o t rest h s = rw (h.some, h.bare, token_again t rest h.plain s, h.read) refl
 
-behind_again : (k : Kind) (o : Operand) (t rest : List ℕ) → IsOperand k o t → Stops rest → after_operand k (32 ∷ (t ++ rest)) ≡ rest
+pub behind_again : (k : Kind) (o : Operand) (t rest : List ℕ) → IsOperand k o t → Stops rest → after_operand k (32 ∷ (t ++ rest)) ≡ rest
 unfolding after_operand
 behind_again k o t rest h s = rw (h.some, h.bare) (after_again t rest h.plain s)
 
@@ -174,13 +174,13 @@ unfolding operand_in
 label_operand n h = record { some = refl; bare = refl; read = rw (name_again n h) refl; plain = name_plain n h }
 
 -- a text in quotes is read again
-text_at_again : (s bytes rest : List ℕ) → Spells s bytes → operand_at kind.Text (32 ∷ (s ++ rest)) ≡ Ok (operand.Text (length bytes))
+pub text_at_again : (s bytes rest : List ℕ) → Spells s bytes → operand_at kind.Text (32 ∷ (s ++ rest)) ≡ Ok (operand.Text (length bytes))
 unfolding operand_at
 text_at_again s bytes rest h =
     let begun : begins 34 (s ++ rest) ≡ true = rw h.whole refl in
     rw (begun, quoted_again s bytes rest h) refl
 
-text_behind : (s bytes rest : List ℕ) → Spells s bytes → after_operand kind.Text (32 ∷ (s ++ rest)) ≡ rest
+pub text_behind : (s bytes rest : List ℕ) → Spells s bytes → after_operand kind.Text (32 ∷ (s ++ rest)) ≡ rest
 unfolding after_operand
 text_behind s bytes rest h = rw (quoted_again s bytes rest h) (drop_at s rest (length s) refl)
 
@@ -188,19 +188,19 @@ pub two_text_again : (k : Kind) (o : Operand) (t s bytes : List ℕ) → IsOpera
 unfolding operands_at
 two_text_again k o t s bytes h j = rw (operand_again k o t (operands_text (s ∷ [])) h refl, behind_again k o t (operands_text (s ∷ [])) h refl, text_at_again s bytes [] j, text_behind s bytes [] j, none_again [], none_behind [], none_again [], none_behind []) refl
 
-own_variable : (i : ℕ) → i < 8 → IsOperand kind.Variable (operand.Place (pool.Own i)) (place_text (pool.Own i))
+pub own_variable : (i : ℕ) → i < 8 → IsOperand kind.Variable (operand.Place (pool.Own i)) (place_text (pool.Own i))
 unfolding operand_in
 own_variable i h = record { some = refl; bare = refl; read = rw (numbered_again 112 i h) refl; plain = digit_plain 112 i refl }
 
-brigade_variable : (b : ℕ) → b < 8 → IsOperand kind.Variable (operand.Brigade b) (own_text b)
+pub brigade_variable : (b : ℕ) → b < 8 → IsOperand kind.Variable (operand.Brigade b) (own_text b)
 unfolding operand_in
 brigade_variable b h = record { some = refl; bare = refl; read = rw (numbered_again 98 b h) refl; plain = digit_plain 98 b refl }
 
-number_again : (i : ℕ) → i < 8 → IsOperand kind.Number (number_operand i) (number_text i)
+pub number_again : (i : ℕ) → i < 8 → IsOperand kind.Number (number_operand i) (number_text i)
 unfolding operand_in
 number_again i h = record { some = refl; bare = refl; read = rw (numbered_again 110 i h) refl; plain = digit_plain 110 i refl }
 
-value_again : (v : Value) → is_value v ≡ true → IsOperand kind.Value (operand.Value v) (value_text v)
+pub value_again : (v : Value) → is_value v ≡ true → IsOperand kind.Value (operand.Value v) (value_text v)
 unfolding operand_in
 value_again (value.Number i) h = record { some = refl; bare = refl; read = rw (numbered_again 110 i (ltb-true i 8 h)) refl; plain = digit_plain 110 i refl }
 value_again (value.Constant k) h =
@@ -280,13 +280,13 @@ word_of_instr (instr.Jump l) = refl
 word_of_instr (instr.Ret s) = refl
 
 -- a word is found again, has no space, and begins neither a label nor a comment
-record IsWord (w : Word) : Type 0 where
-  found : word_at (word_text w) ≡ Some w
-  plain : unspaced (word_text w) ≡ true
-  starts : (rest : List ℕ) → is_skipped (word_text w ++ rest) ≡ false
-  worded : (rest : List ℕ) → begins 58 (word_text w ++ rest) ≡ false
+pub record IsWord (w : Word) : Type 0 where
+  pub found : word_at (word_text w) ≡ Some w
+  pub plain : unspaced (word_text w) ≡ true
+  pub starts : (rest : List ℕ) → is_skipped (word_text w ++ rest) ≡ false
+  pub worded : (rest : List ℕ) → begins 58 (word_text w ++ rest) ≡ false
 
-word_again : (w : Word) → IsWord w
+pub word_again : (w : Word) → IsWord w
 unfolding word_at word_text op_text
 word_again word.Module = record { found = refl; plain = refl; starts = λ r. rw (ne_eqb (length (codes "module" ++ r)) 0 (λ e. omega arith)) refl; worded = λ r. refl }
 word_again word.Pool = record { found = refl; plain = refl; starts = λ r. rw (ne_eqb (length (codes "pool" ++ r)) 0 (λ e. omega arith)) refl; worded = λ r. refl }

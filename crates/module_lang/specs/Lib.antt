@@ -3,6 +3,7 @@ pub mod Bytes
 pub mod Codes
 pub mod Drafts
 pub mod Entries
+pub mod FirstFault
 pub mod Handlers
 pub mod Lines
 pub mod Names

@@ -1,10 +1,11 @@
 //! Modules from their texts.
 
-ghost use Rattle.std.specs.Prelude.{◌≡◌, ◌≤◌, [], IfOk, length};
+ghost use Rattle.std.specs.Prelude.{◌≡◌, ◌≤◌, ℕ, [], Err, IfOk, IfErr, length};
 ghost use Rattle.module_lang.specs.Assembling.{is_end, lines_read, lines_ended, draft_read, program_of, assembling};
 ghost use Rattle.module_lang.specs.Codes.{Gives};
 ghost use Rattle.module_lang.specs.Drafts.{empty_draft};
 ghost use Rattle.module_lang.specs.Entries.{IsDraft};
+ghost use Rattle.module_lang.specs.FirstFault.{IsFirstFault, TellsFirst};
 ghost use Rattle.module_lang.specs.Program.{Program};
 ghost use Rattle.module_lang.specs.Texts.{IsTextOf};
 
@@ -115,6 +116,13 @@ fn read_module(alloc: Global, text: &[u8]) -> Result<Module, AsmRefusal>
 /// most 1,048,576 bytes; `NoMemory` is the answer where memory was wanting.
 pub fn assemble(alloc: Global, text: &[u8]) -> Result<Module, AsmRefusal>
     ensures exact { Gives (λ m. m) result (assembling text.now) }
+
+    // A fault that is told is the first one, in words of lines and codes, and the first one is told, memory apart.
+    ensures first { IfErr result (λ e. TellsFirst text.now e) }
+    ensures told { (n : ℕ) (c : Code) → IsFirstFault text.now n c → Gives (λ m. m) result (Err (AsmRefusal.Fault n c)) }
+
+    // What is taken is a text that the grammar writes for the module.
+    ensures found { IfOk result (λ m. IsTextOf text.now m) }
 
     // A text that is written by the grammar is taken as the module that it spells, memory apart.
     ensures only { (p : Program) → IsTextOf text.now p → Gives (λ m. m) result (Ok p) }

@@ -1,0 +1,124 @@
+-- Labels without a fault are distinct, and each target that is not lost has its label.
+use Rattle.std.proofs.Common.{◌≡◌, ◌≢◌, ℕ, ◌+◌, Bool, true, false, not, cond, leb, nat_eq, List, [], ◌∷◌, ◌++◌, Option, Some, None, inl, inr, ◌⊎◌, refl, sym, ◌∙◌, ap, subst, append_assoc, append-nil}
+use Rattle.std.specs.Prelude.{IfSome, is_some, map, unwrap_or}
+use Rattle.std.specs.Cmp.Lexicographic.{pointwise, same_text}
+use Rattle.module_lang.specs.Handlers.{is_named, is_lost, is_missing, jump_fault, label_fault, label_of, op_instr, operand_variable, fault, place_from, place_of, step_code, target_place}
+use Rattle.module_lang.specs.Names.{is_name}
+use Rattle.module_lang.specs.Program.{target}
+use Rattle.module_lang.specs.Spelling.{operands_of, two, variable_operand}
+use Rattle.module_lang.specs.Texts.{AreDistinct, IsAimed, IsApart, IsLabel}
+use Rattle.module_lang.specs.declared.draft.Label.{Label}
+use Rattle.module_lang.specs.declared.instr.VarRef.{VarRef}
+use Rattle.module_lang.specs.declared.instr.VarRef.TheVariants as variable
+use Rattle.module_lang.specs.declared.operand.Operand.TheVariants as operand
+use Rattle.module_lang.specs.declared.operand.Operands.{Operands}
+use Rattle.module_lang.specs.declared.refusal.Code.TheVariants as code
+use Rattle.module_lang.specs.declared.word.Op.{Op}
+use Rattle.module_lang.specs.declared.word.Op.TheVariants as op
+use Rattle.module_lang.proofs.FoundLaws.{AreBuilt, Raw, marked, did, raw_steps}
+use Rattle.module_lang.proofs.FoundModule.{line_of, unnamed_apart}
+use Rattle.module_lang.proofs.LabelLaws.{AreNamed, Marked, Named, name_stripped, named-append, stripped}
+use Rattle.module_lang.proofs.SpellingLaws.{padded}
+
+apart_push : (n : List ℕ) (bs : List (List ℕ × ℕ)) (x : List ℕ × ℕ) → IsApart n bs → n ≢ x.0 → IsApart n (bs ++ x ∷ [])
+apart_push n [] x a h = (h, tt)
+apart_push n (b ∷ bs) x a h = (a.0, apart_push n bs x a.1 h)
+
+distinct_push : (bs : List (List ℕ × ℕ)) (x : List ℕ × ℕ) → AreDistinct bs → IsApart x.0 bs → AreDistinct (bs ++ x ∷ [])
+distinct_push [] x d a = (tt, tt)
+distinct_push (b ∷ bs) x d a = (apart_push b.0 bs x d.0 (λ e. a.0 (sym e)), distinct_push bs x d.1 a.1)
+
+-- labels without a fault differ from those before them, and from one another
+pub labels_distinct : (before ls : List Label) (bs xs : List (List ℕ × ℕ)) (count : ℕ) → Named before bs → Named ls xs → AreDistinct bs → label_fault before count ls ≡ None → AreDistinct (bs ++ xs)
+labels_distinct before [] bs [] count b n d h = rw (append-nil bs) d
+labels_distinct before [] bs (x ∷ xs) count b n d h = absurd n
+labels_distinct before (l ∷ ls) bs [] count b n d h = absurd n
+labels_distinct before (l ∷ ls) bs (x ∷ xs) count b n d h =
+    named (is_named l.name before) refl (λ a e. subst AreDistinct (append_assoc bs (x ∷ []) xs) (labels_distinct (before ++ l ∷ []) ls (bs ++ x ∷ []) xs count (named-append before (l ∷ []) bs (x ∷ []) b (n.0, tt)) n.1 (distinct_push bs x d a) e)) h
+  where
+    new : is_named l.name before ≡ false → IsApart x.0 bs
+    new q = unnamed_apart x.0 before bs b (ap (λ y. is_named y before) (sym n.0) ∙ q)
+
+    lost : (y : Bool) → (label_fault (before ++ l ∷ []) count ls ≡ None → AreDistinct (bs ++ x ∷ xs)) → cond y (fault l.line code.LostLabel) (label_fault (before ++ l ∷ []) count ls) ≡ None → AreDistinct (bs ++ x ∷ xs)
+    lost true more e = absurd (cc e)
+    lost false more e = more e
+
+    named : (y : Bool) → is_named l.name before ≡ y → (IsApart x.0 bs → label_fault (before ++ l ∷ []) count ls ≡ None → AreDistinct (bs ++ x ∷ xs)) → cond y (fault l.line code.DoubledLabel) (cond (leb count l.place) (fault l.line code.LostLabel) (label_fault (before ++ l ∷ []) count ls)) ≡ None → AreDistinct (bs ++ x ∷ xs)
+    named true q more e = absurd (cc e)
+    named false q more e = lost (leb count l.place) (more (new q)) e
+
+-- where a name is found, there is a label of that name
+found_label : (base : ℕ) (name : List ℕ) (k : ℕ) (f : Option ℕ) (ls : List Label) (xs : List (List ℕ × ℕ)) → is_name name ≡ true → Marked base ls xs → AreNamed xs → place_from f (padded name) ls ≡ Some k → (f ≡ Some k) ⊎ IsLabel name (base + k) xs
+found_label base name k f [] [] v m r h = inl h
+found_label base name k f [] (x ∷ xs) v m r h = absurd m
+found_label base name k f (l ∷ ls) [] v m r h = absurd m
+found_label base name k f (l ∷ ls) (x ∷ xs) v m r h = here (pointwise nat_eq l.name (padded name)) refl (λ g e. found_label base name k g ls xs v m.2 r.1 e) h
+  where
+    same : pointwise nat_eq l.name (padded name) ≡ true → x.0 ≡ name
+    same q = sym (name_stripped x.0 r.0) ∙ ap stripped (sym m.0 ∙ same_text l.name (padded name) (sym q)) ∙ name_stripped name v
+
+    first : pointwise nat_eq l.name (padded name) ≡ true → (Some l.place ≡ Some k) ⊎ IsLabel name (base + k) xs → (f ≡ Some k) ⊎ IsLabel name (base + k) (x ∷ xs)
+    first q (inl e) = let p : l.place ≡ k = cc e in inr (inl (same q, sym m.1 ∙ ap (λ j. base + j) p))
+    first q (inr e) = inr (inr e)
+
+    later : (f ≡ Some k) ⊎ IsLabel name (base + k) xs → (f ≡ Some k) ⊎ IsLabel name (base + k) (x ∷ xs)
+    later (inl e) = inl e
+    later (inr e) = inr (inr e)
+
+    here : (b : Bool) → pointwise nat_eq l.name (padded name) ≡ b → ((g : Option ℕ) → place_from g (padded name) ls ≡ Some k → (g ≡ Some k) ⊎ IsLabel name (base + k) xs) → place_from (cond b (Some l.place) f) (padded name) ls ≡ Some k → (f ≡ Some k) ⊎ IsLabel name (base + k) (x ∷ xs)
+    here true q more e = first q (more (Some l.place) e)
+    here false q more e = later (more f e)
+
+-- a name that is not lost has a label at its target
+label_there : (base : ℕ) (name : List ℕ) (r : Option (List ℕ)) (ls : List Label) (xs : List (List ℕ × ℕ)) → r ≡ Some (padded name) → is_name name ≡ true → Marked base ls xs → AreNamed xs → is_missing ls r ≡ false → IsLabel name (base + target_place ls r) xs
+unfolding place_of
+label_there base name None ls xs e v m n h = absurd (cc e)
+label_there base name (Some y) ls xs e v m n h = at (place_from None y ls) refl h
+  where
+    only : (k : ℕ) → (None ≡ Some k) ⊎ IsLabel name (base + k) xs → IsLabel name (base + k) xs
+    only k (inl e) = absurd (cc e)
+    only k (inr e) = e
+
+    at : (o : Option ℕ) → place_from None y ls ≡ o → not (is_some o) ≡ false → IsLabel name (base + unwrap_or o 0) xs
+    at None q h = absurd (cc h)
+    at (Some k) q h = let s : y ≡ padded name = cc e in only k (found_label base name k None ls xs v m n (ap (λ z. place_from None z ls) (sym s) ∙ q))
+
+variable_label : (v : VarRef) (n : List ℕ) → label_of (two (variable_operand v) (operand.Label n)) ≡ Some n
+variable_label (variable.Pool q) n = refl
+variable_label (variable.Brigade b) n = refl
+
+-- an instruction that names no lost label is aimed at a label of that name
+op_aimed : (base : ℕ) (i : Op) (o : Operands) (x k : ℕ) (name : List ℕ) (ls : List Label) (xs : List (List ℕ × ℕ)) → o ≡ operands_of (op_instr i o x 0) (padded name) k → IfSome (target (op_instr i o x 0)) (λ _. is_name name ≡ true) → Marked base ls xs → AreNamed xs → is_lost ls o ≡ false → IfSome (target (op_instr i o x (base + target_place ls (label_of o)))) (λ t. IsLabel name t xs)
+op_aimed base op.PCreate o x k name ls xs e v m n h = tt
+op_aimed base op.PClear o x k name ls xs e v m n h = tt
+op_aimed base op.PDestroy o x k name ls xs e v m n h = tt
+op_aimed base op.Label o x k name ls xs e v m n h = tt
+op_aimed base op.Unlabel o x k name ls xs e v m n h = tt
+op_aimed base op.BCreate o x k name ls xs e v m n h = tt
+op_aimed base op.BClean o x k name ls xs e v m n h = tt
+op_aimed base op.BConcat o x k name ls xs e v m n h = tt
+op_aimed base op.BSave o x k name ls xs e v m n h = tt
+op_aimed base op.Pass o x k name ls xs e v m n h = label_there base name (label_of o) ls xs (ap label_of e) v m n h
+op_aimed base op.JEmpty o x k name ls xs e v m n h = label_there base name (label_of o) ls xs (ap label_of e) v m n h
+op_aimed base op.Put o x k name ls xs e v m n h = label_there base name (label_of o) ls xs (ap label_of e) v m n h
+op_aimed base op.ClearBuf o x k name ls xs e v m n h = tt
+op_aimed base op.Set o x k name ls xs e v m n h = tt
+op_aimed base op.Add o x k name ls xs e v m n h = tt
+op_aimed base op.Sub o x k name ls xs e v m n h = tt
+op_aimed base op.JLt o x k name ls xs e v m n h = label_there base name (label_of o) ls xs (ap label_of e) v m n h
+op_aimed base op.JEq o x k name ls xs e v m n h = label_there base name (label_of o) ls xs (ap label_of e) v m n h
+op_aimed base op.JNull o x k name ls xs e v m n h = label_there base name (label_of o) ls xs (ap label_of e ∙ variable_label (operand_variable o.first) (padded name)) v m n h
+op_aimed base op.JSent o x k name ls xs e v m n h = label_there base name (label_of o) ls xs (ap label_of e) v m n h
+op_aimed base op.Jump o x k name ls xs e v m n h = label_there base name (label_of o) ls xs (ap label_of e) v m n h
+op_aimed base op.Ret o x k name ls xs e v m n h = tt
+
+-- instructions without a lost label are aimed
+pub lines_aimed : (base n : ℕ) (ls : List Label) (xs : List (List ℕ × ℕ)) (rs : List Raw) → Marked base ls xs → AreNamed xs → AreBuilt n rs → jump_fault ls (raw_steps rs) ≡ None → IsAimed xs (map (line_of base ls) rs)
+unfolding step_code
+lines_aimed base n ls xs [] m v b h = tt
+lines_aimed base n ls xs (marked l name ∷ rs) m v b h = lines_aimed base n ls xs rs m v b.3 h
+lines_aimed base n ls xs (did s name w ∷ rs) m v b h = here (is_lost ls s.operands) refl (lines_aimed base (n + 1) ls xs rs m v b.2) h
+  where
+    here : (y : Bool) → is_lost ls s.operands ≡ y → (jump_fault ls (raw_steps rs) ≡ None → IsAimed xs (map (line_of base ls) rs)) → cond y (fault s.line code.LostLabel) (jump_fault ls (raw_steps rs)) ≡ None → IsAimed xs (map (line_of base ls) (did s name w ∷ rs))
+    here true q more e = absurd (cc e)
+    here false q more e = (op_aimed base s.op s.operands s.text b.0.0 name ls xs b.0.1 b.1 m v q, more e)
