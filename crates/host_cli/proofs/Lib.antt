@@ -1,4 +1,3 @@
-pub mod Written
 pub mod LineLaws
 pub mod PieceLaws
 pub mod StepLaws

@@ -7,7 +7,8 @@ ghost use Rattle.host_cli.specs.Plays.{IsTextOf, IsFrontOf, Writes};
 use crate::ended::Ended;
 use crate::fault::PlayFault;
 use crate::play::play;
-use crate::streams::{put_all, read_all};
+use crate::streams::read_all;
+use module_lang::{WriteFault, put_all};
 use std::alloc::{AllocError, Global};
 use std::io::{Read, Write};
 
@@ -20,7 +21,9 @@ fn write_play<W: Write>(alloc: Global, script: &[u8], writer: &mut W) -> Result<
 {
     let mut text = Vec::new(alloc);
     let played = play(alloc, script, &mut text);
-    put_all(writer, text.as_slice())?;
+    if let Err(WriteFault) = put_all(writer, text.as_slice()) {
+        return Err(PlayFault::Write);
+    }
     match played {
         Ok(ended) => Ok(ended),
         Err(AllocError) => Err(PlayFault::NoMemory),

@@ -1,11 +1,11 @@
-//! The whole of what a reader gives, and the whole of a text into a writer.
+//! The whole of what a reader gives.
 
-ghost use Rattle.std.specs.Prelude.{◌≡◌, ◌≢◌, ℕ, take, IfOk, IfErr, OnOk, IfSome};
-ghost use Rattle.std.specs.Io.KnownBytes.{Appends, Consumes, IsAtEnd};
+ghost use Rattle.std.specs.Prelude.{◌≢◌, IfOk, IfErr, OnOk};
+ghost use Rattle.std.specs.Io.KnownBytes.{Consumes, IsAtEnd};
 
 use crate::fault::PlayFault;
 use std::alloc::Global;
-use std::io::{Read, Write};
+use std::io::Read;
 
 /// How many times a reader is read at most, the read that gives nothing included.
 const READS: u32 = 1_000_000;
@@ -31,21 +31,4 @@ pub fn read_all<R: Read>(alloc: Global, reader: &mut R) -> Result<Vec<u8>, PlayF
         }
     }
     Err(PlayFault::Read)
-}
-
-/// Writes all of a text. Where that fails, a front of it is written.
-pub fn put_all<W: Write>(writer: &mut W, text: &[u8]) -> Result<(), PlayFault>
-    ensures ok { OnOk result (Appends (W.contents writer.old) (W.contents writer.new) text.now) }
-    ensures front { (n : ℕ) × Appends (W.contents writer.old) (W.contents writer.new) (take n text.now) }
-    ensures fault { IfErr result (λ e. e ≡ PlayFault.Write) }
-{
-    let mut at = 0;
-    while at < text.len() {
-        match writer.write(&text[at..]) {
-            Ok(0) => return Err(PlayFault::Write),
-            Ok(count) => at += count,
-            Err(_) => return Err(PlayFault::Write),
-        }
-    }
-    Ok(())
 }

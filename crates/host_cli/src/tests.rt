@@ -1,6 +1,7 @@
 //! Scripts and what is written for them, over memory, and readers and writers that fail.
 
 use super::*;
+use module_lang::{assemble, print_module, print_text};
 use std::alloc::{AllocError, Global};
 use std::io::{self, Error, ErrorKind, Read, Write};
 use std::test::Fail;
@@ -410,6 +411,71 @@ fn fails_after_each_byte(rt: HostRuntime) -> Result<(), Fail> {
             assert!(rt; writer.taken.as_slice() == &answers[..room], "at {room}");
         }
     }
+    Ok(())
+}
+
+/// Texts of modules, and what these are printed as.
+const PRINTED: [(&str, &str); 3] = [
+    (
+        IDENTITY,
+        "module 1\nopen\nret ok\ninit\nret ok\nmain\njsent i5\npass in i7\nret ok\n:i5\nbclean in\nret ok\n:i7\nret fail\nend\n",
+    ),
+    (
+        "# two brigades\n\nmodule 1\npool p0 conn\npool p1 p0\nbrigade b0 req\nbrigade b1 p1\nopen\n  ret ok\n:unused\n ret ok\ninit\nbcreate b0\nbconcat b0 b1\nret ok\nmain\n:a\n:b\n  jempty in c\n  jump a\n:c\nbconcat b1 in\njump b\nend\n",
+        "module 1\npool p0 conn\npool p1 p0\nbrigade b0 req\nbrigade b1 p1\nopen\nret ok\nret ok\ninit\nbcreate b0\nbconcat b0 b1\nret ok\nmain\n:i5\njempty in i7\njump i5\n:i7\nbconcat b1 in\njump i5\nend\n",
+    ),
+    (
+        "module 1\nopen\nret ok\ninit\njump l\nret ok\n:l\njump l\nmain\nret fail\nend\n",
+        "module 1\nopen\nret ok\ninit\njump i3\nret ok\n:i3\njump i3\nmain\nret fail\nend\n",
+    ),
+];
+
+#[test]
+fn prints_modules(rt: HostRuntime) -> Result<(), Fail> {
+    for (text, printed) in PRINTED {
+        // The printed text is printed as it is.
+        for source in [text, printed] {
+            let Ok(module) = assemble(rt.alloc(), source.as_bytes()) else {
+                return Err(Fail::from("no module"));
+            };
+            let mut written = Vec::new(rt.alloc());
+            let outcome = print_module(&module, &mut written);
+            assert!(rt; outcome.is_ok(), "{source}");
+            assert!(rt; written.as_slice() == printed.as_bytes(), "{source}");
+        }
+    }
+    Ok(())
+}
+
+#[test]
+fn prints_up_to_a_fault(rt: HostRuntime) -> Result<(), Fail> {
+    let (text, printed) = PRINTED[1];
+    let Ok(module) = assemble(rt.alloc(), text.as_bytes()) else {
+        return Err(Fail::from("no module"));
+    };
+    for room in 0..printed.len() + 1 {
+        for is_silent in [false, true] {
+            let mut writer = FailingWriter {
+                taken: Vec::new(rt.alloc()),
+                width: 3,
+                room,
+                is_silent,
+            };
+            let outcome = print_module(&module, &mut writer);
+            assert_eq!(rt; outcome.is_ok(), room == printed.len(), "at {room}");
+            let front = &printed.as_bytes()[..room];
+            assert!(rt; writer.taken.as_slice() == front, "at {room}");
+        }
+    }
+    Ok(())
+}
+
+#[test]
+fn prints_texts(rt: HostRuntime) -> Result<(), Fail> {
+    let mut written = Vec::new(rt.alloc());
+    let outcome = print_text(&mut written, b"a \"\\\n~\x7f\x80\xff");
+    assert!(rt; outcome.is_ok());
+    assert!(rt; written.as_slice() == br#""a \"\\\x0a~\x7f\x80\xff""#.as_slice());
     Ok(())
 }
 

@@ -82,6 +82,7 @@ turned_keeps d p a b c x y z none s = record {
   texts = s.texts;
   few = s.few;
   short = s.short;
+  bytes = s.bytes;
   none = early_turned p d p a b c x y z ∙ none;
   opening = s.opening;
   init = s.init;
@@ -213,6 +214,7 @@ pool_keeps d b o s h =
       texts = s.texts;
       few = s.few;
       short = s.short;
+      bytes = s.bytes;
       none = early_pools d.part d (d.pools ++ q ∷ []) ∙ s.none;
       opening = none_of (IsStep (d.pools ++ q ∷ []) d.brigades part.Open) d.open.steps (omega arith);
       init = none_of (IsStep (d.pools ++ q ∷ []) d.brigades part.Init) d.init.steps (omega arith);
@@ -237,6 +239,7 @@ brigade_keeps d b o s h =
       texts = s.texts;
       few = s.few;
       short = s.short;
+      bytes = s.bytes;
       none = zero;
       opening = none_of (IsStep d.pools (d.brigades ++ q ∷ []) part.Open) d.open.steps (omega arith);
       init = none_of (IsStep d.pools (d.brigades ++ q ∷ []) part.Init) d.init.steps (omega arith);
@@ -272,6 +275,7 @@ sound_op d i o h =
 record IsText (d : Draft) (ts : List (List ℕ)) (s : Step) : Type 0 where
   few : length (d.texts ++ ts) ≤ 64
   short : All (λ t. length t ≤ 255) (d.texts ++ ts)
+  bytes : All (λ t. All (λ b. b < 256) t) (d.texts ++ ts)
   numbers : range_with_len 0 (length d.texts) ++ step_numbers (s ∷ []) ≡ range_with_len 0 (length (d.texts ++ ts))
 
 pushed : (a : List Step) (t : Step) → step_numbers (a ++ t ∷ []) ≡ step_numbers a ++ step_numbers (t ∷ [])
@@ -313,6 +317,7 @@ added_keeps part.Open i d ts t due low s e h x =
       texts = open_numbers d.open.steps d.init.steps d.main.steps t (length d.texts) (length (d.texts ++ ts)) early s.texts x.numbers;
       few = x.few;
       short = x.short;
+      bytes = x.bytes;
       none = ap (λ q. early_steps q (step_added part.Open (record d { texts = d.texts ++ ts }) t)) e ∙ early;
       opening = All-push (IsStep d.pools d.brigades part.Open) d.open.steps t s.opening h;
       init = s.init;
@@ -330,6 +335,7 @@ added_keeps part.Init i d ts t due low s e h x =
       texts = init_numbers d.open.steps d.init.steps d.main.steps t (length d.texts) (length (d.texts ++ ts)) early s.texts x.numbers;
       few = x.few;
       short = x.short;
+      bytes = x.bytes;
       none = ap (λ q. early_steps q (step_added part.Init (record d { texts = d.texts ++ ts }) t)) e ∙ early;
       opening = s.opening;
       init = All-push (IsStep d.pools d.brigades part.Init) d.init.steps t s.init h;
@@ -347,6 +353,7 @@ added_keeps part.Main i d ts t due low s e h x =
       texts = main_numbers d.open.steps d.init.steps d.main.steps t (length d.texts) (length (d.texts ++ ts)) s.texts x.numbers;
       few = x.few;
       short = x.short;
+      bytes = x.bytes;
       none = ap (λ q. early_steps q (step_added part.Main (record d { texts = d.texts ++ ts }) t)) e ∙ refl;
       opening = s.opening;
       init = s.init;
@@ -413,15 +420,17 @@ without_text : (d : Draft) (n : ℕ) (i : Op) (o : Operands) → IsDraft d → h
 without_text d n i o s e = record {
   few = rw (append-nil d.texts) s.few;
   short = rw (append-nil d.texts) s.short;
+  bytes = rw (append-nil d.texts) s.bytes;
   numbers = rw (e, append-nil d.texts) (append-nil (range_with_len 0 (length d.texts)));
 }
 
-with_text : (d : Draft) (n : ℕ) (i : Op) (o : Operands) (x : List ℕ) → IsDraft d → has_text o ≡ true → length x ≤ 255 → length d.texts < 64 → IsText d (x ∷ []) (record { line = n; op = i; operands = o; text = length d.texts })
-with_text d n i o x s e low room =
+with_text : (d : Draft) (n : ℕ) (i : Op) (o : Operands) (x : List ℕ) → IsDraft d → has_text o ≡ true → length x ≤ 255 → All (λ b. b < 256) x → length d.texts < 64 → IsText d (x ∷ []) (record { line = n; op = i; operands = o; text = length d.texts })
+with_text d n i o x s e low bytes room =
     let one : length (d.texts ++ x ∷ []) ≡ length d.texts + 1 = length-append d.texts (x ∷ []) in
     record {
       few = omega arith;
       short = All-push (λ t. length t ≤ 255) d.texts x s.short low;
+      bytes = All-push (λ t. All (λ b. b < 256) t) d.texts x s.bytes bytes;
       numbers = let z : length d.texts ≡ 0 + length d.texts = omega arith in rw (e, one) (ap (λ x. range_with_len 0 (length d.texts) ++ x ∷ []) z ∙ range_more 0 (length d.texts));
     }
 
@@ -454,7 +463,7 @@ op_keeps d n bytes i o s h = texts (text_has i d (unindented bytes) o h)
         let long_1 = or_parts (is_long_text o.first) (is_long_text o.second) long_2.0 in
         let low : ltb 255 (length e.1.text) ≡ false = ap is_long_text (sym e.1.len) ∙ long_1.1 in
         let space : ltb (length d.texts) 64 ≡ true = rw e.0 at room.1 in
-        added (e.1.text ∷ []) (rw (e.0, at) refl) (with_text d n i o e.1.text s e.0 (ltb-false 255 (length e.1.text) low) (ltb-true (length d.texts) 64 space))
+        added (e.1.text ∷ []) (rw (e.0, at) refl) (with_text d n i o e.1.text s e.0 (ltb-false 255 (length e.1.text) low) e.1.bytes (ltb-true (length d.texts) 64 space))
 
 item_keeps : (d : Draft) (n : ℕ) (bytes : List ℕ) (w : Word) (o : Operands) → IsDraft d → Item d (unindented bytes) w o → IsDraft (item_entered d n bytes w o)
 item_keeps d n bytes word.Module o s h = turned_keeps d part.Pools d.open.labels d.init.labels d.main.labels d.open.line d.init.line d.main.line (sym (early_module d.part d h.due) ∙ s.none) s

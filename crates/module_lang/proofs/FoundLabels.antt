@@ -15,7 +15,7 @@ use Rattle.module_lang.specs.declared.operand.Operands.{Operands}
 use Rattle.module_lang.specs.declared.refusal.Code.TheVariants as code
 use Rattle.module_lang.specs.declared.word.Op.{Op}
 use Rattle.module_lang.specs.declared.word.Op.TheVariants as op
-use Rattle.module_lang.proofs.FoundLaws.{AreBuilt, Raw, marked, did, raw_steps}
+use Rattle.module_lang.proofs.RawLines.{AreBuilt, Raw, marked, did, raw_steps}
 use Rattle.module_lang.proofs.FoundModule.{line_of, unnamed_apart}
 use Rattle.module_lang.proofs.LabelLaws.{AreNamed, Marked, Named, name_stripped, named-append, stripped}
 use Rattle.module_lang.proofs.SpellingLaws.{padded}

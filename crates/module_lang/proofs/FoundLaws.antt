@@ -1,8 +1,6 @@
 -- A text that is read as a module is a text of it: the lines so far and the draft.
-use Rattle.std.proofs.Common.{◌≡◌, ℕ, ◌+◌, ◌<◌, true, cond, List, [], ◌∷◌, ◌++◌, length, length-append, Option, Some, None, refl, sym, ◌∙◌, ap, subst, arith, suc, map, append_assoc, append-nil}
-use Rattle.std.specs.Prelude.{codes, IfSome, is_some, slice_index_or}
-use Rattle.std.proofs.Math.ListN.{get_or-append}
-use Rattle.std.proofs.Math.Seq.{get_or-append_seam}
+use Rattle.std.proofs.Common.{◌≡◌, ℕ, ◌+◌, true, List, [], ◌∷◌, ◌++◌, length, refl, sym, ◌∙◌, ap, subst, arith, suc, map, append_assoc, append-nil}
+use Rattle.std.specs.Prelude.{codes, IfSome}
 use Rattle.std.proofs.lemmas.Bool.{eqb-true, ltb-true}
 use Rattle.std.proofs.lemmas.List.{map-append}
 use Rattle.module_lang.specs.Entries.{entered}
@@ -10,24 +8,20 @@ use Rattle.module_lang.specs.Entries.{step_entered, step_texts}
 use Rattle.module_lang.specs.Drafts.{with_part}
 use Rattle.module_lang.specs.Drafts.{label_added, step_added}
 use Rattle.module_lang.specs.Entries.{from_quote, item_entered}
-use Rattle.module_lang.specs.Lines.{has_text, is_due, is_handler, is_next, judged}
+use Rattle.module_lang.specs.Lines.{is_due, is_handler, is_next, judged}
 use Rattle.module_lang.specs.Operands.{of_kind, operand_place}
-use Rattle.module_lang.specs.Texts as grammar
-use Rattle.module_lang.specs.Texts.{line_text, place_text, number_text, own_text, pool_texts, brigade_texts, value_text, variable_text}
+use Rattle.module_lang.specs.Texts.{line_text, place_text, own_text, pool_texts, brigade_texts}
 use Rattle.module_lang.specs.declared.draft.Part.{Part}
 use Rattle.module_lang.specs.declared.draft.Part.TheVariants as part
 use Rattle.module_lang.specs.declared.instr.PoolRef.{PoolRef}
 use Rattle.module_lang.specs.declared.instr.PoolRef.TheVariants as pool
 use Rattle.module_lang.proofs.DraftLaws.{declaration}
-use Rattle.module_lang.specs.Drafts.{with_line, with_more}
-use Rattle.module_lang.specs.Handlers.{op_instr, operand_index, operand_status, operand_value, operand_variable}
+use Rattle.module_lang.specs.Handlers.{op_instr}
 use Rattle.module_lang.specs.Names.{is_name}
 use Rattle.module_lang.specs.Program.{target, text_of_instr}
-use Rattle.module_lang.specs.Spelling.{number_operand, operands_of, own_pool}
-use Rattle.module_lang.specs.Texts.{step, code_text, operands_text, brigade_text}
-use Rattle.module_lang.specs.Words.{word_text, word_kinds, op_kinds, op_text}
+use Rattle.module_lang.specs.Texts.{operands_text}
+use Rattle.module_lang.specs.Words.{word_text, word_kinds}
 use Rattle.module_lang.specs.declared.draft.Draft.{Draft}
-use Rattle.module_lang.specs.declared.draft.Handler.{Handler}
 use Rattle.module_lang.specs.declared.draft.Label.{Label}
 use Rattle.module_lang.specs.declared.draft.Step.{Step}
 use Rattle.module_lang.specs.declared.operand.Operand.{Operand}
@@ -35,332 +29,17 @@ use Rattle.module_lang.specs.declared.operand.Operand.TheVariants as operand
 use Rattle.module_lang.specs.declared.operand.Operands.{Operands}
 use Rattle.module_lang.specs.declared.word.Kind.TheVariants as kind
 use Rattle.module_lang.specs.declared.word.Op.{Op}
-use Rattle.module_lang.specs.declared.word.Op.TheVariants as op
 use Rattle.module_lang.specs.declared.word.Word.{Word}
 use Rattle.module_lang.specs.declared.lines.Line.{Line}
 use Rattle.module_lang.specs.declared.lines.Line.TheVariants as line
 use Rattle.module_lang.specs.declared.word.Word.TheVariants as word
-use Rattle.module_lang.proofs.InverseLaws.{Item, Spells, TextSpelled, none_spelled, one_taken, two_taken, three_taken, own_is, quote_found, text_spelled}
+use Rattle.module_lang.proofs.InverseLaws.{Item, Spells, none_spelled, one_taken, two_taken, own_is}
 use Rattle.module_lang.proofs.InverseLaws.{Spelled}
-use Rattle.module_lang.proofs.ModuleLaws.{brigade_below}
 use Rattle.module_lang.proofs.ModuleLaws as modules
-use Rattle.module_lang.proofs.OperandLaws.{brigade_is, source_is, ending_is, number_is, place_is, pool_is, value_is, kinds_read, shape}
-use Rattle.module_lang.proofs.QuoteLaws.{unquoted}
+use Rattle.module_lang.proofs.OperandLaws.{kinds_read}
 use Rattle.module_lang.proofs.SpellingLaws.{padded}
-
--- an instruction that was read, as it was spelled, where so many texts stand before it
-pub record OpSpelled (i : Op) (o : Operands) (x : ℕ) (s : List ℕ) : Type 0 where
-  pub name : List ℕ
-  pub text : List ℕ
-  pub len : ℕ
-  pub spelled : s ≡ code_text (step (op_instr i o x 0) name text)
-  pub same : o ≡ operands_of (op_instr i o x 0) (padded name) len
-  pub named : IfSome (target (op_instr i o x 0)) (λ _. is_name name ≡ true)
-  pub texted : (bytes : List ℕ) → from_quote bytes ≡ from_quote s → IfSome (text_of_instr (op_instr i o x 0)) (λ _. (w : List ℕ) × (step_texts o bytes ≡ w ∷ []) × grammar.Spells text w)
-
-brigade_at : (x : Operand) (t : List ℕ) → x ≡ operand.Brigade (operand_index x) → Spells x t → t ≡ brigade_text (operand_index x)
-brigade_at x t e h = subst (λ y. Spells y t) e h
-
-pool_at : (x : Operand) (t : List ℕ) → x ≡ own_pool (operand_index x) → Spells x t → t ≡ place_text (pool.Own (operand_index x))
-pool_at x t e h = subst (λ y. Spells y t) e h
-
-place_at : (x : Operand) (t : List ℕ) → x ≡ operand.Place (operand_place x) → Spells x t → t ≡ place_text (operand_place x)
-place_at x t e h = subst (λ y. Spells y t) e h
-
-variable_at : (x : Operand) (t : List ℕ) → of_kind kind.Variable x ≡ true → Spells x t → t ≡ variable_text (operand_variable x)
-variable_at (operand.Place (pool.Own i)) t k h = h
-variable_at (operand.Brigade b) t k h = h ∙ sym (own_is b (ltb-true b 8 k))
-variable_at (operand.Place pool.Conn) t k h = absurd (cc k)
-variable_at (operand.Place pool.Req) t k h = absurd (cc k)
-variable_at operand.Nothing t k h = absurd h
-variable_at operand.One t k h = absurd (cc k)
-variable_at (operand.Ending e) t k h = absurd (cc k)
-variable_at (operand.Label n) t k h = absurd (cc k)
-variable_at (operand.Text n) t k h = absurd h
-variable_at (operand.Value v) t k h = absurd (cc k)
-
-number_at : (x : Operand) (t : List ℕ) → x ≡ number_operand (operand_index x) → Spells x t → t ≡ number_text (operand_index x)
-number_at x t e h = (subst (λ y. Spells y t) e h).0
-
-value_at : (x : Operand) (t : List ℕ) → x ≡ operand.Value (operand_value x) → Spells x t → t ≡ value_text (operand_value x)
-value_at x t e h = (subst (λ y. Spells y t) e h).0
-
-ending_at : (x : Operand) (t : List ℕ) → x ≡ operand.Ending (operand_status x) → Spells x t → Spells (operand.Ending (operand_status x)) t
-ending_at x t e h = subst (λ y. Spells y t) e h
-
-label_at : (x : Operand) (n t : List ℕ) → x ≡ operand.Label n → Spells x t → (is_name t ≡ true) × (n ≡ padded t)
-label_at x n t e h = subst (λ y. Spells y t) e h
-
--- the text of an instruction is the one in its line
-texted_by : (word : List ℕ) (rest s : List ℕ) (o : Operands) (x : TextSpelled rest o) → unquoted word ≡ true → s ≡ word ++ rest → has_text o ≡ true → (bytes : List ℕ) → from_quote bytes ≡ from_quote s → (w : List ℕ) × (step_texts o bytes ≡ w ∷ []) × grammar.Spells x.spelled w
-texted_by word rest s o x u e b bytes q = (x.text, rw (b, quote_found word rest bytes o x u (q ∙ ap from_quote e)) refl, x.right)
-
-pub op_spelled : (d : Draft) (s : List ℕ) (i : Op) (o : Operands) (x : ℕ) → Item d s (word.Op i) o → OpSpelled i o x s
-unfolding word_kinds op_kinds word_text op_text
-op_spelled d s op.PCreate o x h =
-    let k = kinds_read (op_kinds op.PCreate) h.rest o h.read in
-    let y = one_taken kind.Pool h.rest o refl refl h.read in
-    let f = shape op.PCreate o x 0 k in
-    let t = pool_at o.first y.token (pool_is o.first k.first) y.first in
-    record { name = []; text = []; len = 0; spelled = h.spelled ∙ ap (λ r. codes "pcreate" ++ r) (y.whole ∙ ap (λ z. operands_text (z ∷ [])) t); same = f.same; named = tt; texted = λ bytes e. tt }
-op_spelled d s op.PClear o x h =
-    let k = kinds_read (op_kinds op.PClear) h.rest o h.read in
-    let y = one_taken kind.Pool h.rest o refl refl h.read in
-    let f = shape op.PClear o x 0 k in
-    let t = pool_at o.first y.token (pool_is o.first k.first) y.first in
-    record { name = []; text = []; len = 0; spelled = h.spelled ∙ ap (λ r. codes "pclear" ++ r) (y.whole ∙ ap (λ z. operands_text (z ∷ [])) t); same = f.same; named = tt; texted = λ bytes e. tt }
-op_spelled d s op.PDestroy o x h =
-    let k = kinds_read (op_kinds op.PDestroy) h.rest o h.read in
-    let y = one_taken kind.Pool h.rest o refl refl h.read in
-    let f = shape op.PDestroy o x 0 k in
-    let t = pool_at o.first y.token (pool_is o.first k.first) y.first in
-    record { name = []; text = []; len = 0; spelled = h.spelled ∙ ap (λ r. codes "pdestroy" ++ r) (y.whole ∙ ap (λ z. operands_text (z ∷ [])) t); same = f.same; named = tt; texted = λ bytes e. tt }
-op_spelled d s op.Label o x h =
-    let k = kinds_read (op_kinds op.Label) h.rest o h.read in
-    let y = text_spelled kind.Place h.rest o refl refl h.read in
-    let f = shape op.Label o x 0 k in
-    let t = place_at o.first y.token (place_is o.first k.first) y.first in
-    record { name = []; text = y.spelled; len = f.len; spelled = h.spelled ∙ ap (λ r. codes "label" ++ r) (y.whole ∙ ap (λ z. operands_text (z ∷ y.spelled ∷ [])) t); same = f.same; named = tt; texted = texted_by (codes "label") h.rest s o y refl h.spelled (ap has_text f.same) }
-op_spelled d s op.Unlabel o x h =
-    let k = kinds_read (op_kinds op.Unlabel) h.rest o h.read in
-    let y = text_spelled kind.Place h.rest o refl refl h.read in
-    let f = shape op.Unlabel o x 0 k in
-    let t = place_at o.first y.token (place_is o.first k.first) y.first in
-    record { name = []; text = y.spelled; len = f.len; spelled = h.spelled ∙ ap (λ r. codes "unlabel" ++ r) (y.whole ∙ ap (λ z. operands_text (z ∷ y.spelled ∷ [])) t); same = f.same; named = tt; texted = texted_by (codes "unlabel") h.rest s o y refl h.spelled (ap has_text f.same) }
-op_spelled d s op.BCreate o x h =
-    let k = kinds_read (op_kinds op.BCreate) h.rest o h.read in
-    let y = one_taken kind.Brigade h.rest o refl refl h.read in
-    let f = shape op.BCreate o x 0 k in
-    let t = brigade_at o.first y.token (brigade_is o.first k.first) y.first ∙ sym (own_is (operand_index o.first) (brigade_below o.first k.first)) in
-    record { name = []; text = []; len = 0; spelled = h.spelled ∙ ap (λ r. codes "bcreate" ++ r) (y.whole ∙ ap (λ z. operands_text (z ∷ [])) t); same = f.same; named = tt; texted = λ bytes e. tt }
-op_spelled d s op.BClean o x h =
-    let k = kinds_read (op_kinds op.BClean) h.rest o h.read in
-    let y = one_taken kind.Source h.rest o refl refl h.read in
-    let f = shape op.BClean o x 0 k in
-    let t = brigade_at o.first y.token (source_is o.first k.first) y.first in
-    record { name = []; text = []; len = 0; spelled = h.spelled ∙ ap (λ r. codes "bclean" ++ r) (y.whole ∙ ap (λ z. operands_text (z ∷ [])) t); same = f.same; named = tt; texted = λ bytes e. tt }
-op_spelled d s op.BConcat o x h =
-    let k = kinds_read (op_kinds op.BConcat) h.rest o h.read in
-    let y = two_taken kind.Source kind.Source h.rest o refl refl refl refl h.read in
-    let f = shape op.BConcat o x 0 k in
-    let t = brigade_at o.first y.one (source_is o.first k.first) y.first in
-    let u = brigade_at o.second y.two (source_is o.second k.second) y.second in
-    record { name = []; text = []; len = 0; spelled = h.spelled ∙ ap (λ r. codes "bconcat" ++ r) (y.whole ∙ ap (λ z. operands_text (z ∷ y.two ∷ [])) t ∙ ap (λ z. operands_text (brigade_text (operand_index o.first) ∷ z ∷ [])) u); same = f.same; named = tt; texted = λ bytes e. tt }
-op_spelled d s op.BSave o x h =
-    let k = kinds_read (op_kinds op.BSave) h.rest o h.read in
-    let y = two_taken kind.Brigade kind.Source h.rest o refl refl refl refl h.read in
-    let f = shape op.BSave o x 0 k in
-    let t = brigade_at o.first y.one (brigade_is o.first k.first) y.first ∙ sym (own_is (operand_index o.first) (brigade_below o.first k.first)) in
-    let u = brigade_at o.second y.two (source_is o.second k.second) y.second in
-    record { name = []; text = []; len = 0; spelled = h.spelled ∙ ap (λ r. codes "bsave" ++ r) (y.whole ∙ ap (λ z. operands_text (z ∷ y.two ∷ [])) t ∙ ap (λ z. operands_text (own_text (operand_index o.first) ∷ z ∷ [])) u); same = f.same; named = tt; texted = λ bytes e. tt }
-op_spelled d s op.Pass o x h =
-    let k = kinds_read (op_kinds op.Pass) h.rest o h.read in
-    let y = two_taken kind.Source kind.Label h.rest o refl refl refl refl h.read in
-    let f = shape op.Pass o x 0 k in
-    let t = brigade_at o.first y.one (source_is o.first k.first) y.first in
-    let n = label_at o.second f.name y.two (ap (λ (z : Operands). z.second) f.same) y.second in
-    record { name = y.two; text = []; len = 0; spelled = h.spelled ∙ ap (λ r. codes "pass" ++ r) (y.whole ∙ ap (λ z. operands_text (z ∷ y.two ∷ [])) t); same = f.same ∙ ap (λ z. operands_of (op_instr op.Pass o x 0) z 0) n.1; named = n.0; texted = λ bytes e. tt }
-op_spelled d s op.JEmpty o x h =
-    let k = kinds_read (op_kinds op.JEmpty) h.rest o h.read in
-    let y = two_taken kind.Source kind.Label h.rest o refl refl refl refl h.read in
-    let f = shape op.JEmpty o x 0 k in
-    let t = brigade_at o.first y.one (source_is o.first k.first) y.first in
-    let n = label_at o.second f.name y.two (ap (λ (z : Operands). z.second) f.same) y.second in
-    record { name = y.two; text = []; len = 0; spelled = h.spelled ∙ ap (λ r. codes "jempty" ++ r) (y.whole ∙ ap (λ z. operands_text (z ∷ y.two ∷ [])) t); same = f.same ∙ ap (λ z. operands_of (op_instr op.JEmpty o x 0) z 0) n.1; named = n.0; texted = λ bytes e. tt }
-op_spelled d s op.Put o x h =
-    let k = kinds_read (op_kinds op.Put) h.rest o h.read in
-    let y = two_taken kind.Value kind.Label h.rest o refl refl refl refl h.read in
-    let f = shape op.Put o x 0 k in
-    let t = value_at o.first y.one (value_is o.first k.first) y.first in
-    let n = label_at o.second f.name y.two (ap (λ (z : Operands). z.second) f.same) y.second in
-    record { name = y.two; text = []; len = 0; spelled = h.spelled ∙ ap (λ r. codes "put" ++ r) (y.whole ∙ ap (λ z. operands_text (z ∷ y.two ∷ [])) t); same = f.same ∙ ap (λ z. operands_of (op_instr op.Put o x 0) z 0) n.1; named = n.0; texted = λ bytes e. tt }
-op_spelled d s op.ClearBuf o x h =
-    let k = kinds_read (op_kinds op.ClearBuf) h.rest o h.read in
-    let f = shape op.ClearBuf o x 0 k in
-    record { name = []; text = []; len = 0; spelled = h.spelled ∙ ap (λ r. codes "clearbuf" ++ r) (none_spelled h.rest o h.read); same = f.same; named = tt; texted = λ bytes e. tt }
-op_spelled d s op.Set o x h =
-    let k = kinds_read (op_kinds op.Set) h.rest o h.read in
-    let y = two_taken kind.Number kind.Value h.rest o refl refl refl refl h.read in
-    let f = shape op.Set o x 0 k in
-    let t = number_at o.first y.one (number_is o.first k.first) y.first in
-    let u = value_at o.second y.two (value_is o.second k.second) y.second in
-    record { name = []; text = []; len = 0; spelled = h.spelled ∙ ap (λ r. codes "set" ++ r) (y.whole ∙ ap (λ z. operands_text (z ∷ y.two ∷ [])) t ∙ ap (λ z. operands_text (number_text (operand_index o.first) ∷ z ∷ [])) u); same = f.same; named = tt; texted = λ bytes e. tt }
-op_spelled d s op.Add o x h =
-    let k = kinds_read (op_kinds op.Add) h.rest o h.read in
-    let y = two_taken kind.Number kind.Value h.rest o refl refl refl refl h.read in
-    let f = shape op.Add o x 0 k in
-    let t = number_at o.first y.one (number_is o.first k.first) y.first in
-    let u = value_at o.second y.two (value_is o.second k.second) y.second in
-    record { name = []; text = []; len = 0; spelled = h.spelled ∙ ap (λ r. codes "add" ++ r) (y.whole ∙ ap (λ z. operands_text (z ∷ y.two ∷ [])) t ∙ ap (λ z. operands_text (number_text (operand_index o.first) ∷ z ∷ [])) u); same = f.same; named = tt; texted = λ bytes e. tt }
-op_spelled d s op.Sub o x h =
-    let k = kinds_read (op_kinds op.Sub) h.rest o h.read in
-    let y = two_taken kind.Number kind.Value h.rest o refl refl refl refl h.read in
-    let f = shape op.Sub o x 0 k in
-    let t = number_at o.first y.one (number_is o.first k.first) y.first in
-    let u = value_at o.second y.two (value_is o.second k.second) y.second in
-    record { name = []; text = []; len = 0; spelled = h.spelled ∙ ap (λ r. codes "sub" ++ r) (y.whole ∙ ap (λ z. operands_text (z ∷ y.two ∷ [])) t ∙ ap (λ z. operands_text (number_text (operand_index o.first) ∷ z ∷ [])) u); same = f.same; named = tt; texted = λ bytes e. tt }
-op_spelled d s op.JLt o x h =
-    let k = kinds_read (op_kinds op.JLt) h.rest o h.read in
-    let y = three_taken kind.Number kind.Value kind.Label h.rest o (refl, refl) (refl, refl) (refl, refl) h.read in
-    let f = shape op.JLt o x 0 k in
-    let t = number_at o.first y.one (number_is o.first k.first) y.first in
-    let u = value_at o.second y.two (value_is o.second k.second) y.second in
-    let n = label_at o.third f.name y.three (ap (λ (z : Operands). z.third) f.same) y.third in
-    record { name = y.three; text = []; len = 0; spelled = h.spelled ∙ ap (λ r. codes "jlt" ++ r) (y.whole ∙ ap (λ z. operands_text (z ∷ y.two ∷ y.three ∷ [])) t ∙ ap (λ z. operands_text (number_text (operand_index o.first) ∷ z ∷ y.three ∷ [])) u); same = f.same ∙ ap (λ z. operands_of (op_instr op.JLt o x 0) z 0) n.1; named = n.0; texted = λ bytes e. tt }
-op_spelled d s op.JEq o x h =
-    let k = kinds_read (op_kinds op.JEq) h.rest o h.read in
-    let y = three_taken kind.Number kind.Value kind.Label h.rest o (refl, refl) (refl, refl) (refl, refl) h.read in
-    let f = shape op.JEq o x 0 k in
-    let t = number_at o.first y.one (number_is o.first k.first) y.first in
-    let u = value_at o.second y.two (value_is o.second k.second) y.second in
-    let n = label_at o.third f.name y.three (ap (λ (z : Operands). z.third) f.same) y.third in
-    record { name = y.three; text = []; len = 0; spelled = h.spelled ∙ ap (λ r. codes "jeq" ++ r) (y.whole ∙ ap (λ z. operands_text (z ∷ y.two ∷ y.three ∷ [])) t ∙ ap (λ z. operands_text (number_text (operand_index o.first) ∷ z ∷ y.three ∷ [])) u); same = f.same ∙ ap (λ z. operands_of (op_instr op.JEq o x 0) z 0) n.1; named = n.0; texted = λ bytes e. tt }
-op_spelled d s op.JNull o x h =
-    let k = kinds_read (op_kinds op.JNull) h.rest o h.read in
-    let y = two_taken kind.Variable kind.Label h.rest o refl refl refl refl h.read in
-    let f = shape op.JNull o x 0 k in
-    let t = variable_at o.first y.one k.first y.first in
-    let n = label_at o.second f.name y.two (ap (λ (z : Operands). z.second) f.same) y.second in
-    record { name = y.two; text = []; len = 0; spelled = h.spelled ∙ ap (λ r. codes "jnull" ++ r) (y.whole ∙ ap (λ z. operands_text (z ∷ y.two ∷ [])) t); same = f.same ∙ ap (λ z. operands_of (op_instr op.JNull o x 0) z 0) n.1; named = n.0; texted = λ bytes e. tt }
-op_spelled d s op.JSent o x h =
-    let k = kinds_read (op_kinds op.JSent) h.rest o h.read in
-    let y = one_taken kind.Label h.rest o refl refl h.read in
-    let f = shape op.JSent o x 0 k in
-    let n = label_at o.first f.name y.token (ap (λ (z : Operands). z.first) f.same) y.first in
-    record { name = y.token; text = []; len = 0; spelled = h.spelled ∙ ap (λ r. codes "jsent" ++ r) y.whole; same = f.same ∙ ap (λ z. operands_of (op_instr op.JSent o x 0) z 0) n.1; named = n.0; texted = λ bytes e. tt }
-op_spelled d s op.Jump o x h =
-    let k = kinds_read (op_kinds op.Jump) h.rest o h.read in
-    let y = one_taken kind.Label h.rest o refl refl h.read in
-    let f = shape op.Jump o x 0 k in
-    let n = label_at o.first f.name y.token (ap (λ (z : Operands). z.first) f.same) y.first in
-    record { name = y.token; text = []; len = 0; spelled = h.spelled ∙ ap (λ r. codes "jump" ++ r) y.whole; same = f.same ∙ ap (λ z. operands_of (op_instr op.Jump o x 0) z 0) n.1; named = n.0; texted = λ bytes e. tt }
-op_spelled d s op.Ret o x h =
-    let k = kinds_read (op_kinds op.Ret) h.rest o h.read in
-    let y = one_taken kind.Ending h.rest o refl refl h.read in
-    let f = shape op.Ret o x 0 k in
-    let t = ending_at o.first y.token (ending_is o.first k.first) y.first in
-    record { name = []; text = []; len = 0; spelled = h.spelled ∙ ap (λ r. codes "ret" ++ r) (y.whole ∙ ap (λ z. operands_text (z ∷ [])) t); same = f.same; named = tt; texted = λ bytes e. tt }
-
--- a line of code that was read: a label and its name, or an instruction, the name of its target, and its text as it is
--- spelled
-pub data Raw : Type 0 where
-  marked : Label → List ℕ → Raw
-  did : Step → List ℕ → List ℕ → Raw
-
-abbrev pub raw_text : Raw → List ℕ
-raw_text (marked l name) = 58 ∷ name
-raw_text (did s name w) = code_text (step (op_instr s.op s.operands s.text 0) name w)
-
-abbrev pub raw_labels : List Raw → List Label
-raw_labels [] = []
-raw_labels (marked l name ∷ rs) = l ∷ raw_labels rs
-raw_labels (did s name w ∷ rs) = raw_labels rs
-
-abbrev pub raw_steps : List Raw → List Step
-raw_steps [] = []
-raw_steps (marked l name ∷ rs) = raw_steps rs
-raw_steps (did s name w ∷ rs) = s ∷ raw_steps rs
-
--- the operands of an instruction, where its target has this name
-abbrev pub IsWritten : Step → List ℕ → Type 0
-IsWritten s name = (k : ℕ) × (s.operands ≡ operands_of (op_instr s.op s.operands s.text 0) (padded name) k)
-
--- what is known of each line, where n instructions stand before
-abbrev pub AreBuilt : ℕ → List Raw → Type 0
-AreBuilt n [] = Unit {0}
-AreBuilt n (marked l name ∷ rs) = (is_name name ≡ true) × (l.name ≡ padded name) × (l.place ≡ n) × AreBuilt n rs
-AreBuilt n (did s name w ∷ rs) = IsWritten s name × IfSome (target (op_instr s.op s.operands s.text 0)) (λ _. is_name name ≡ true) × AreBuilt (n + 1) rs
-
--- a handler has these lines
-pub record Built (rs : List Raw) (h : Handler) : Type 0 where
-  pub labels : h.labels ≡ raw_labels rs
-  pub steps : h.steps ≡ raw_steps rs
-  pub lines : AreBuilt 0 rs
-
-labels-marked : (rs : List Raw) (l : Label) (name : List ℕ) → raw_labels (rs ++ marked l name ∷ []) ≡ raw_labels rs ++ l ∷ []
-labels-marked [] l name = refl
-labels-marked (marked x n ∷ rs) l name = ap (λ ys. x ∷ ys) (labels-marked rs l name)
-labels-marked (did s n w ∷ rs) l name = labels-marked rs l name
-
-steps-marked : (rs : List Raw) (l : Label) (name : List ℕ) → raw_steps (rs ++ marked l name ∷ []) ≡ raw_steps rs
-steps-marked [] l name = refl
-steps-marked (marked x n ∷ rs) l name = steps-marked rs l name
-steps-marked (did s n w ∷ rs) l name = ap (λ ys. s ∷ ys) (steps-marked rs l name)
-
-labels-did : (rs : List Raw) (s : Step) (name w : List ℕ) → raw_labels (rs ++ did s name w ∷ []) ≡ raw_labels rs
-labels-did [] s name w = refl
-labels-did (marked x n ∷ rs) s name w = ap (λ ys. x ∷ ys) (labels-did rs s name w)
-labels-did (did t n v ∷ rs) s name w = labels-did rs s name w
-
-steps-did : (rs : List Raw) (s : Step) (name w : List ℕ) → raw_steps (rs ++ did s name w ∷ []) ≡ raw_steps rs ++ s ∷ []
-steps-did [] s name w = refl
-steps-did (marked x n ∷ rs) s name w = steps-did rs s name w
-steps-did (did t n v ∷ rs) s name w = ap (λ ys. t ∷ ys) (steps-did rs s name w)
-
-built-marked : (n : ℕ) (rs : List Raw) (l : Label) (name : List ℕ) → AreBuilt n rs → is_name name ≡ true → l.name ≡ padded name → l.place ≡ n + length (raw_steps rs) → AreBuilt n (rs ++ marked l name ∷ [])
-built-marked n [] l name h v p q = (v, p, omega (arith, q), tt)
-built-marked n (marked x m ∷ rs) l name h v p q = (h.0, h.1, h.2, built-marked n rs l name h.3 v p q)
-built-marked n (did s m w ∷ rs) l name h v p q = (h.0, h.1, built-marked (n + 1) rs l name h.2 v p (omega (arith, q)))
-
-built-did : (n : ℕ) (rs : List Raw) (s : Step) (name w : List ℕ) → AreBuilt n rs → IsWritten s name → IfSome (target (op_instr s.op s.operands s.text 0)) (λ _. is_name name ≡ true) → AreBuilt n (rs ++ did s name w ∷ [])
-built-did n [] s name w h e v = (e, v, tt)
-built-did n (marked x m ∷ rs) s name w h e v = (h.0, h.1, h.2, built-did n rs s name w h.3 e v)
-built-did n (did t m u ∷ rs) s name w h e v = (h.0, h.1, built-did (n + 1) rs s name w h.2 e v)
-
--- the text of an instruction is one of these, and is spelled so
-abbrev pub IsTexted : List (List ℕ) → Step → List ℕ → Type 0
-IsTexted ts s w = IfSome (text_of_instr (op_instr s.op s.operands s.text 0)) (λ t. (t < length ts) × grammar.Spells w (slice_index_or ts t []))
-
-abbrev pub AreTexted : List (List ℕ) → List Raw → Type 0
-AreTexted ts [] = Unit {0}
-AreTexted ts (marked l name ∷ rs) = AreTexted ts rs
-AreTexted ts (did s name w ∷ rs) = IsTexted ts s w × AreTexted ts rs
-
-texted-more : (ts us : List (List ℕ)) (rs : List Raw) → AreTexted ts rs → AreTexted (ts ++ us) rs
-texted-more ts us [] h = tt
-texted-more ts us (marked l name ∷ rs) h = texted-more ts us rs h
-texted-more ts us (did s name w ∷ rs) h = (one (text_of_instr (op_instr s.op s.operands s.text 0)) h.0, texted-more ts us rs h.1)
-  where
-    one : (o : Option ℕ) → IfSome o (λ t. (t < length ts) × grammar.Spells w (slice_index_or ts t [])) → IfSome o (λ t. (t < length (ts ++ us)) × grammar.Spells w (slice_index_or (ts ++ us) t []))
-    one None x = tt
-    one (Some t) x =
-        let size = length-append ts us in
-        (omega (arith, size, x.0), subst (λ y. grammar.Spells w y) (sym (get_or-append ts us [] t x.0)) x.1)
-
-texted-marked : (ts : List (List ℕ)) (rs : List Raw) (l : Label) (name : List ℕ) → AreTexted ts rs → AreTexted ts (rs ++ marked l name ∷ [])
-texted-marked ts [] l name h = tt
-texted-marked ts (marked x n ∷ rs) l name h = texted-marked ts rs l name h
-texted-marked ts (did s n w ∷ rs) l name h = (h.0, texted-marked ts rs l name h.1)
-
-texted-did : (ts : List (List ℕ)) (rs : List Raw) (s : Step) (name w : List ℕ) → AreTexted ts rs → IsTexted ts s w → AreTexted ts (rs ++ did s name w ∷ [])
-texted-did ts [] s name w h x = (x, tt)
-texted-did ts (marked l n ∷ rs) s name w h x = texted-did ts rs s name w h x
-texted-did ts (did t n v ∷ rs) s name w h x = (h.0, texted-did ts rs s name w h.1 x)
-
--- the text that a line adds
-text_last : (o : Option ℕ) (n : ℕ) (ts us : List (List ℕ)) (spelled : List ℕ) → o ≡ cond (is_some o) (Some n) None → n ≡ length ts → IfSome o (λ _. (w : List ℕ) × (us ≡ w ∷ []) × grammar.Spells spelled w) → IfSome o (λ t. (t < length (ts ++ us)) × grammar.Spells spelled (slice_index_or (ts ++ us) t []))
-text_last None n ts us spelled e q h = tt
-text_last (Some t) n ts us spelled e q h =
-    let same : t ≡ n = cc e in
-    let size : length (ts ++ us) ≡ length ts + 1 = ap (λ y. length (ts ++ y)) h.1 ∙ length-append ts (h.0 ∷ []) in
-    let at : slice_index_or (ts ++ us) t [] ≡ h.0 = ap (λ y. slice_index_or (ts ++ y) t []) h.1 ∙ ap (λ k. slice_index_or (ts ++ h.0 ∷ []) k []) (same ∙ q) ∙ get_or-append_seam ts h.0 [] [] in
-    (omega (arith, same, q, size), subst (λ y. grammar.Spells spelled y) (sym at) h.2)
-
-pub label_built : (rs : List Raw) (h : Handler) (n : ℕ) (name : List ℕ) → Built rs h → is_name name ≡ true → Built (rs ++ marked (record { line = n; name = padded name; place = length h.steps }) name ∷ []) (with_line h n (padded name))
-label_built rs h n name b v =
-    let l : Label = record { line = n; name = padded name; place = length h.steps } in
-    record {
-      labels = ap (λ ls. ls ++ l ∷ []) b.labels ∙ sym (labels-marked rs l name);
-      steps = b.steps ∙ sym (steps-marked rs l name);
-      lines = built-marked 0 rs l name b.lines v refl (let e = ap length b.steps in omega (arith, e));
-    }
-
-pub step_built : (rs : List Raw) (h : Handler) (s : Step) (name w : List ℕ) → Built rs h → IsWritten s name → IfSome (target (op_instr s.op s.operands s.text 0)) (λ _. is_name name ≡ true) → Built (rs ++ did s name w ∷ []) (with_more h s)
-step_built rs h s name w b e v = record {
-  labels = b.labels ∙ sym (labels-did rs s name w);
-  steps = ap (λ ss. ss ++ s ∷ []) b.steps ∙ sym (steps-did rs s name w);
-  lines = built-did 0 rs s name w b.lines e v;
-}
+use Rattle.module_lang.proofs.OpsFound.{op_spelled}
+use Rattle.module_lang.proofs.RawLines.{AreTexted, Built, IsTexted, IsWritten, Raw, did, label_built, marked, raw_text, step_built, text_last, texted-did, texted-marked, texted-more}
 
 abbrev pub head_of : Draft → List (List ℕ)
 head_of d = codes "module 1" ∷ pool_texts 0 d.pools

@@ -10,7 +10,7 @@ use Rattle.module_lang.specs.declared.draft.Label.{Label}
 use Rattle.module_lang.specs.declared.operand.Operands.{Operands}
 use Rattle.module_lang.specs.declared.word.Op.{Op}
 use Rattle.module_lang.specs.declared.word.Op.TheVariants as op
-use Rattle.module_lang.proofs.FoundLaws.{AreBuilt, AreTexted, Raw, marked, did, raw_labels, raw_steps, raw_text}
+use Rattle.module_lang.proofs.RawLines.{AreBuilt, AreTexted, Raw, marked, did, raw_labels, raw_steps, raw_text}
 use Rattle.module_lang.proofs.LabelLaws.{Marked, Named, same_name}
 use Rattle.module_lang.proofs.ListLaws.{all_tail, some_both}
 use Rattle.module_lang.proofs.SpellingLaws.{padded}

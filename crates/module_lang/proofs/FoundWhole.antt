@@ -24,7 +24,9 @@ use Rattle.module_lang.specs.declared.refusal.Code.{Code}
 use Rattle.module_lang.specs.declared.refusal.AsmRefusal.{AsmRefusal}
 use Rattle.module_lang.proofs.DraftLaws.{entered_keeps}
 use Rattle.module_lang.proofs.FoundLabels.{labels_distinct, lines_aimed}
-use Rattle.module_lang.proofs.FoundLaws.{AreTexted, Built, Raw, Told, raw_labels, raw_steps, raw_text, served}
+use Rattle.module_lang.proofs.FoundLaws.{Told, served}
+use Rattle.module_lang.proofs.RawLines.{}
+use Rattle.module_lang.proofs.RawLines.{AreTexted, Built, Raw, raw_labels, raw_steps, raw_text}
 use Rattle.module_lang.proofs.FoundModule.{instrs_same, labels_good, labels_marked, line_of, lines_spelled, texts_same}
 use Rattle.module_lang.proofs.FoundText.{cut_lines, fold_told}
 use Rattle.module_lang.proofs.LabelLaws.{Marked, Named, named-append, named_of, names_of}
@@ -50,6 +52,7 @@ empty_sound = record {
   texts = refl;
   few = omega arith;
   short = λ k d lt. absurd (omega arith);
+  bytes = λ k d lt. absurd (omega arith);
   none = refl;
   opening = λ k d lt. absurd (omega arith);
   init = λ k d lt. absurd (omega arith);

@@ -1,6 +1,6 @@
 -- What is read was spelled so: words, operands and lines.
 use Rattle.std.proofs.Common.{◌≡◌, ℕ, zero, suc, ◌+◌, ◌-◌, ◌^◌, ◌<◌, Bool, true, false, ◌&&◌, not, cond, eqb, leb, nat_eq, List, [], ◌∷◌, ◌++◌, length, take, drop, Option, Some, None, Result, Ok, Err, refl, sym, ◌∙◌, ap, subst, arith}
-use Rattle.std.specs.Prelude.{slice_index, codes, option_map, find}
+use Rattle.std.specs.Prelude.{All, slice_index, codes, option_map, find}
 use Rattle.std.specs.Cmp.Lexicographic.{pointwise, same_text}
 use Rattle.std.proofs.lemmas.Bool.{and_parts, leb-true, eqb-true, lt-ltb, ltb-true, ne_eqb}
 use Rattle.std.proofs.lemmas.List.{drop_at}
@@ -35,7 +35,7 @@ use Rattle.module_lang.proofs.LineLaws.{bind_ok, unless_ok, not_false}
 use Rattle.module_lang.proofs.NumberLaws.{constant_found, decimal_without}
 use Rattle.module_lang.proofs.OperandLaws.{cond_some, made, numbered_below}
 use Rattle.module_lang.proofs.QuoteFound.{quoted_found}
-use Rattle.module_lang.proofs.QuoteLaws.{unquoted, place_unquoted, quote_behind, quoted_again}
+use Rattle.module_lang.proofs.QuoteLaws.{spelled_bytes, unquoted, place_unquoted, quote_behind, quoted_again}
 use Rattle.module_lang.proofs.SpellingLaws.{padded}
 
 cut : (n : ℕ) (xs : List ℕ) → take n xs ++ drop n xs ≡ xs
@@ -351,6 +351,7 @@ pub record TextFound (line : List ℕ) (o : Operand) : Type 0 where
   pub text : List ℕ
   pub found : text_of (quoted (from_quote line)) ≡ Some text
   pub len : o ≡ operand.Text (length text)
+  pub bytes : All (λ b. b < 256) text
 
 -- an operand and a text in quotes, as they are spelled
 pub record TextSpelled (rest : List ℕ) (o : Operands) : Type 0 where
@@ -399,7 +400,7 @@ quote_found front rest bytes o x u e =
 pub text_found : (k : Kind) (front rest : List ℕ) (o : Operands) → unquoted front ≡ true → operand_kind_is_nothing k ≡ false → operand_kind_is_text k ≡ false → operands_at (two_operands k kind.Text) rest ≡ Ok o → TextFound (front ++ rest) o.second
 text_found k front rest o u n q h =
     let x = text_spelled k rest o n q h in
-    record { text = x.text; found = quote_found front rest (front ++ rest) o x u refl; len = x.len }
+    record { text = x.text; found = quote_found front rest (front ++ rest) o x u refl; len = x.len; bytes = spelled_bytes x.spelled x.text x.right }
 
 -- a line with a word, and what follows the word
 pub record Item (d : Draft) (s : List ℕ) (w : Word) (o : Operands) : Type 0 where

@@ -482,8 +482,8 @@ placed_in p q from to pc i part size low high e = record {
         absurd (cc (sym on ∙ part.handler.ends i (ap (slice_get p.code) last ∙ e)))
 
 -- the parts of a program that is made of three handlers
-module_of_parts : (p : Program) → IsPart p part.Open 0 p.init → IsPart p part.Init p.init p.main → IsPart p part.Main p.main (length p.code) → length p.code ≤ 1024 → length p.brigades ≤ 8 → length p.pools ≤ 8 → ((k : ℕ) (q : PoolRef) → slice_get p.pools k ≡ Some q → place_is_declared k q ≡ true) → ((k : ℕ) (q : PoolRef) → slice_get p.brigades k ≡ Some q → place_is_declared (length p.pools) q ≡ true) → filter_map text_of_instr p.code ≡ range_with_len 0 (length p.texts) → length p.texts ≤ 64 → All (λ t. length t ≤ 255) p.texts → IsModule p
-module_of_parts p a b c size brigades pools parents homes texts few short =
+module_of_parts : (p : Program) → IsPart p part.Open 0 p.init → IsPart p part.Init p.init p.main → IsPart p part.Main p.main (length p.code) → length p.code ≤ 1024 → length p.brigades ≤ 8 → length p.pools ≤ 8 → ((k : ℕ) (q : PoolRef) → slice_get p.pools k ≡ Some q → place_is_declared k q ≡ true) → ((k : ℕ) (q : PoolRef) → slice_get p.brigades k ≡ Some q → place_is_declared (length p.pools) q ≡ true) → filter_map text_of_instr p.code ≡ range_with_len 0 (length p.texts) → length p.texts ≤ 64 → All (λ t. length t ≤ 255) p.texts → All (λ t. All (λ b. b < 256) t) p.texts → IsModule p
+module_of_parts p a b c size brigades pools parents homes texts few short bytes =
     let one = a.handler.some in
     let two = b.handler.some in
     let three = c.handler.some in
@@ -500,6 +500,7 @@ module_of_parts p a b c size brigades pools parents homes texts few short =
       texts = texts;
       few = few;
       short = short;
+      bytes = bytes;
       opening = a.handler;
       initial = b.handler;
       serving = c.handler;
@@ -541,4 +542,4 @@ module_of d start a b c none s p q r =
     let part_b = part_of m part.Init d.init d.open.labels a b tail_c third.whole second s.init low_b in
     let part_c = part_of m part.Main d.main (d.open.labels ++ d.init.labels) b c [] whole_c third s.main low_c in
     let zero : length start ≡ 0 = ap length none in
-    module_of_parts m (rw zero at part_a) part_b part_c (omega (arith, s.count)) s.brigades s.pools s.parents s.homes texts s.few s.short
+    module_of_parts m (rw zero at part_a) part_b part_c (omega (arith, s.count)) s.brigades s.pools s.parents s.homes texts s.few s.short s.bytes

@@ -1,8 +1,8 @@
 -- A text that is spelled by the grammar is read as its bytes, and stands behind the first quote of its line.
-use Rattle.std.proofs.Common.{◌≡◌, ℕ, ◌+◌, ◌-◌, ◌*◌, ◌<◌, Bool, true, false, ◌&&◌, not, cond, eqb, ltb, leb, List, [], ◌∷◌, ◌++◌, length, map, Option, Some, refl, sym, ◌∙◌, ap, arith, append_assoc, append-nil, length-append}
+use Rattle.std.proofs.Common.{◌≡◌, ℕ, ◌+◌, ◌-◌, ◌*◌, ◌<◌, Bool, true, false, ◌&&◌, not, cond, eqb, ltb, leb, List, [], ◌∷◌, ◌++◌, length, map, Option, Some, refl, sym, ◌∙◌, ap, subst, arith, append_assoc, append-nil, length-append}
 use Rattle.std.specs.Prelude.{All}
 use Rattle.std.specs.List.{list_all}
-use Rattle.std.proofs.lemmas.Bool.{and_parts, ltb-true, ltb-false, le-leb, lt-leb, ne_eqb, not-true}
+use Rattle.std.proofs.lemmas.Bool.{and_parts, ltb-true, ltb-false, le-leb, lt-leb, ne_eqb, not-true, leb-true}
 use Rattle.module_lang.specs.Bytes.{is_printable, unindented}
 use Rattle.module_lang.specs.Entries.{from_quote}
 use Rattle.module_lang.specs.Quoted.{Quoted, hex_digit, hex_value, quoted, text_from}
@@ -10,7 +10,7 @@ use Rattle.module_lang.specs.Texts.{Piece, plain, quote, backslash, line_feed, c
 use Rattle.module_lang.specs.declared.instr.PoolRef.{PoolRef}
 use Rattle.module_lang.specs.declared.instr.PoolRef.TheVariants as pool
 use Rattle.module_lang.specs.declared.quoted.Scan.TheVariants as scan
-use Rattle.module_lang.proofs.ListLaws.{all_head, all_tail}
+use Rattle.module_lang.proofs.ListLaws.{all_cons, all_head, all_tail}
 
 -- a digit is read as its value
 digit_again : (d : ℕ) → d < 16 → hex_value (hex_digit d) ≡ Some d
@@ -99,3 +99,28 @@ place_unquoted (pool.Own i) = let apart : eqb (48 + i) 34 ≡ false = ne_eqb (48
 pub quote_at : (word : List ℕ) (q : PoolRef) (s bytes : List ℕ) → unquoted word ≡ true → Spells s bytes → from_quote (word ++ 32 ∷ (place_text q ++ 32 ∷ (s ++ []))) ≡ s ++ []
 quote_at word q s bytes h t =
     quote_behind word (32 ∷ (place_text q ++ 32 ∷ (s ++ []))) h ∙ quote_behind (place_text q) (32 ∷ (s ++ [])) (place_unquoted q) ∙ (rw t.whole refl)
+
+-- the bytes of a text are bytes
+pieces_bytes : (cs : List Piece) → All (λ c. is_piece c ≡ true) cs → All (λ b. b < 256) (map piece_byte cs)
+pieces_bytes [] h = λ k d lt. absurd (omega arith)
+pieces_bytes (c ∷ cs) h = all_cons (λ b. b < 256) (piece_byte c) (map piece_byte cs) (byte c (all_head (λ c. is_piece c ≡ true) c cs h)) (pieces_bytes cs (all_tail (λ c. is_piece c ≡ true) c cs h))
+  where
+    byte : (c : Piece) → is_piece c ≡ true → piece_byte c < 256
+    byte (plain b) e =
+        let x = and_parts (is_printable b && not (eqb b 34)) (not (eqb b 92)) e in
+        let y = and_parts (is_printable b) (not (eqb b 34)) x.0 in
+        let z = and_parts (leb 32 b) (leb b 126) y.0 in
+        let high = leb-true b 126 z.1 in
+        omega arith
+    byte quote e = omega arith
+    byte backslash e = omega arith
+    byte line_feed e = omega arith
+    byte carriage_return e = omega arith
+    byte (hex u v) e =
+        let x = and_parts (ltb u 16) (ltb v 16) e in
+        let p = ltb-true u 16 x.0 in
+        let q = ltb-true v 16 x.1 in
+        omega arith
+
+pub spelled_bytes : (s text : List ℕ) → Spells s text → All (λ b. b < 256) text
+spelled_bytes s text h = subst (λ t. All (λ b. b < 256) t) (sym h.same) (pieces_bytes h.pieces h.right)

@@ -1,5 +1,5 @@
 -- Lines that are taken into a draft.
-use Rattle.std.specs.Prelude.{◌≡◌, All, true, false, slice_get, Option, Some, None, filter_map, ℕ, ◌+◌, ◌≤◌, ◌==◌, if◌then◌else◌, List, [], ◌∷◌, ◌++◌, length, option_to_list, Result, Ok, Err}
+use Rattle.std.specs.Prelude.{◌≡◌, All, true, false, slice_get, Option, Some, None, filter_map, ℕ, ◌+◌, ◌<◌, ◌≤◌, ◌==◌, if◌then◌else◌, List, [], ◌∷◌, ◌++◌, length, option_to_list, Result, Ok, Err}
 use Rattle.std.specs.List.{range_with_len}
 use Rattle.module_lang.specs.Drafts.{with_label, with_part, with_step}
 use Rattle.module_lang.specs.Lines.{are_declared, has_equal_brigades, has_text, instruction_count, line_read, misplaced, place_is_declared}
@@ -92,6 +92,7 @@ pub record IsDraft (d : Draft) : Type 0 where
   pub texts : step_numbers d.open.steps ++ (step_numbers d.init.steps ++ step_numbers d.main.steps) ≡ range_with_len 0 (length d.texts)
   pub few : length d.texts ≤ 64
   pub short : All (λ t. length t ≤ 255) d.texts
+  pub bytes : All (λ t. All (λ b. b < 256) t) d.texts
   pub none : early_steps d.part d ≡ 0
   pub opening : All (IsStep d.pools d.brigades part.Open) d.open.steps
   pub init : All (IsStep d.pools d.brigades part.Init) d.init.steps

@@ -9,9 +9,12 @@ pub mod Lines
 pub mod Names
 pub mod Numbers
 pub mod Operands
+pub mod Printing
 pub mod Program
 pub mod Quoted
 pub mod Spelling
+pub mod Shown
 pub mod Texts
 pub mod Words
+pub mod Writes
 pub mod SeqLends

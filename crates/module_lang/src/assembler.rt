@@ -6,7 +6,8 @@ ghost use Rattle.module_lang.specs.Codes.{Gives};
 ghost use Rattle.module_lang.specs.Drafts.{empty_draft};
 ghost use Rattle.module_lang.specs.Entries.{IsDraft};
 ghost use Rattle.module_lang.specs.FirstFault.{IsFirstFault, TellsFirst};
-ghost use Rattle.module_lang.specs.Program.{Program};
+ghost use Rattle.module_lang.specs.Printing.{printed};
+ghost use Rattle.module_lang.specs.Program.{IsModule, Program};
 ghost use Rattle.module_lang.specs.Texts.{IsTextOf};
 
 use crate::draft::{Draft, Part};
@@ -126,6 +127,9 @@ pub fn assemble(alloc: Global, text: &[u8]) -> Result<Module, AsmRefusal>
 
     // A text that is written by the grammar is taken as the module that it spells, memory apart.
     ensures only { (p : Program) → IsTextOf text.now p → Gives (λ m. m) result (Ok p) }
+
+    // The text that a module is printed as is taken as that module, memory apart.
+    ensures again { (p : Program) → IsModule p → text.now ≡ printed p → Gives (λ m. m) result (Ok p) }
     ensures one { (p q : Program) → IsTextOf text.now p → IsTextOf text.now q → p ≡ q }
 {
     read_module(alloc, text)

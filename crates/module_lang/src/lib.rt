@@ -12,16 +12,20 @@ mod module;
 mod name;
 mod number;
 mod operand;
+mod print;
 mod quoted;
 mod refusal;
 mod seq;
 #[cfg(test)]
 mod tests;
 mod word;
+mod writer;
 
 pub use assembler::assemble;
 pub use instr::{Instr, PoolRef, Status, Value, VarRef};
 pub use module::Module;
-pub use quoted::{Measured, measure, push_spelling, unquote};
+pub use print::print_module;
+pub use quoted::{Measured, measure, print_text, push_spelling, unquote};
 pub use refusal::{AsmRefusal, Code};
 pub use seq::Seq;
+pub use writer::{WriteFault, put_all};

@@ -73,6 +73,28 @@ impl Module {
         self.code.len()
     }
 
+    /// The instructions.
+    pub(crate) fn code(&self) -> &[Instr]
+        ensures value { result.now ≡ self.now.code }
+        ensures sound { IsModule self.now }
+    {
+        self.code.as_slice()
+    }
+
+    /// The parent of each declared pool.
+    pub(crate) fn pools(&self) -> &[PoolRef]
+        ensures { result.now ≡ self.now.pools }
+    {
+        self.pools.as_slice()
+    }
+
+    /// The pool of each declared brigade.
+    pub(crate) fn brigades(&self) -> &[PoolRef]
+        ensures { result.now ≡ self.now.brigades }
+    {
+        self.brigades.as_slice()
+    }
+
     /// The instruction of a number.
     pub fn at(&self, pc: usize) -> Instr
         requires { pc < length self.now.code }

@@ -3,10 +3,13 @@
 ghost use Rattle.std.specs.Prelude.{◌≡◌, ℕ, ◌+◌, ◌<◌, ◌≤◌, ◌++◌, ◌∷◌, [], List, length, take, option_map, option_to_list, IfSome, IfOk, OnOk, OnErr, Some};
 ghost use Rattle.module_lang.specs.Texts.{Spells, StandsIn};
 ghost use Rattle.module_lang.specs.Quoted.{hex_value, hex_digit, plain, escaped, scanned, IsBelow16, is_done, measured_from, text_from, quoted, measure_of, text_of, spelled, spelled_all, spelling};
+ghost use Rattle.module_lang.specs.Writes.{Wrote};
 
 use crate::bytes::is_printable;
 use crate::seq::Seq;
+use crate::writer::{WriteFault, put_all};
 use std::alloc::{AllocError, Global};
+use std::io::Write;
 
 /// Where the reader of a text stands.
 #[derive(Clone, Copy)]
@@ -280,4 +283,23 @@ pub fn push_spelling(alloc: Global, out: &mut Seq<u8>, text: &[u8]) -> Result<()
 {
     let mut spelling = spelled_text(alloc, text)?;
     out.append(&mut spelling)
+}
+
+fn put_spelled<W: Write>(out: &mut W, text: &[u8]) -> Result<(), WriteFault>
+    ensures { Wrote result (W.contents out.old) (W.contents out.new) (spelled_all text.now) }
+{
+    for byte in text {
+        put_all(out, spelled_byte(*byte).as_slice())?;
+    }
+    Ok(())
+}
+
+/// Writes a text in quotes into a writer, as `push_spelling` does into a list. Takes no memory. Where the writer
+/// fails, a front of it is written.
+pub fn print_text<W: Write>(out: &mut W, text: &[u8]) -> Result<(), WriteFault>
+    ensures { Wrote result (W.contents out.old) (W.contents out.new) (spelling text.now) }
+{
+    put_all(out, b"\"")?;
+    put_spelled(out, text)?;
+    put_all(out, b"\"")
 }

@@ -1,6 +1,6 @@
 //! Whole module texts.
 
-use crate::{AsmRefusal, Instr, Module, PoolRef, Value, VarRef, assemble};
+use crate::{AsmRefusal, Instr, Module, PoolRef, Value, VarRef, assemble, print_module};
 use std::test::Fail;
 
 const POOLS: &[u8] =
@@ -233,5 +233,27 @@ fn reads_numbers(rt: HostRuntime) -> Result<(), Fail> {
         assert!(rt; matches!(module.at(6), Instr::JEq(6, Value::Constant(7), 3)));
         assert!(rt; matches!(module.at(9), Instr::BSave(0, 8)));
     }
+    Ok(())
+}
+
+#[test]
+fn prints_texts(rt: HostRuntime) -> Result<(), Fail> {
+    let module = assemble(rt.alloc(), POOLS).ok().ok_or("no module")?;
+    let mut out = Vec::new(rt.alloc());
+    print_module(&module, &mut out).ok().ok_or("not written")?;
+    let want =
+        b"module 1\npool p0 conn\npool p1 p0\nbrigade b0 p1\nopen\npcreate p0\nlabel p0 \"a \\\"b\\\"\\x0a\\x00\"\nunlabel conn \"\"\npclear p1\npdestroy p0\njnull p1 i7\njnull b0 i7\n:i7\nret ok\ninit\nlabel req \"q\"\nret ok\nmain\nret ok\nend\n";
+    assert!(rt; out.as_slice() == want.as_slice());
+    Ok(())
+}
+
+#[test]
+fn prints_numbers(rt: HostRuntime) -> Result<(), Fail> {
+    let module = assemble(rt.alloc(), NUMBERS).ok().ok_or("no module")?;
+    let mut out = Vec::new(rt.alloc());
+    print_module(&module, &mut out).ok().ok_or("not written")?;
+    let want =
+        b"module 1\nbrigade b0 conn\nopen\nset n0 4294967295\nadd n1 n2\nsub n3 0\n:i3\nclearbuf\nput 10 i3\njlt n4 n5 i3\njeq n6 7 i3\nret ok\ninit\nret ok\nmain\nbsave b0 in\nret ok\nend\n";
+    assert!(rt; out.as_slice() == want.as_slice());
     Ok(())
 }

@@ -1,8 +1,7 @@
 use Rattle.std.proofs.Common.{◌≡◌, ◌-◌, length, take, drop, arith}
 use Rattle.std.proofs.lemmas.Grind.{common_steps}
-use Rattle.std.specs.Io.KnownBytes.{Appends}
-use Rattle.host_cli.proofs.Written.{Appends-take}
-use Rattle.host_cli.proofs.streams.put_all.Goals as goal
+use Rattle.module_lang.proofs.WritingLaws.{appends_take}
+use Rattle.module_lang.proofs.writer.put_all.Goals as goal
 
 pub loop-at-preserved : goal.loop-at-preserved
 loop-at-preserved g c =
@@ -10,4 +9,4 @@ loop-at-preserved g c =
     let at = c.loop-at.at in
     let rest : take (length text - at) (drop at text) ≡ drop at text = grind (arith, common_steps) in
     let wrote = rw rest at c.in-Ok.ensures.bytes in
-    (grind arith, Appends-take _ _ _ text at c.in-Ok.count c.loop-at.invariant.1 wrote)
+    (grind arith, appends_take _ _ _ text at c.in-Ok.count c.loop-at.invariant.1 wrote)
