@@ -12,4 +12,4 @@ pub use bucket::{Brigade, Bucket, Content, Cursor, Home, Kind, Mark, Named, Pool
 pub use event::{Cause, Event, Exit, Piece, Refusal, StepRefusal, Stepped};
 pub use fault::FaultKind;
 pub use payload::Payload;
-pub use module_lang::{Instr, Module, PoolRef, Seq, Status, VarRef};
+pub use module_lang::{Instr, Module, PoolRef, Seq, Status, Value, VarRef};
