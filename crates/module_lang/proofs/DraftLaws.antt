@@ -1,15 +1,20 @@
 -- What each line keeps true of a draft.
-use Rattle.std.proofs.Common.{◌≡◌, ℕ, ◌+◌, ◌<◌, true, false, ◌||◌, not, ltb, List, [], ◌∷◌, ◌++◌, length, length-append, append-nil, Ok, refl, sym, ◌∙◌, ap, subst, arith}
-use Rattle.std.proofs.lemmas.Bool.{and_parts, eqb-true, ltb-true, lt-ltb, not-false}
-use Rattle.std.proofs.lemmas.List.Elements.{All-push}
+use Rattle.std.proofs.Common.{◌≡◌, ℕ, ◌+◌, ◌<◌, true, false, ◌||◌, ◌≤◌, not, ltb, List, [], ◌∷◌, ◌++◌, length, length-append, append-nil, append_assoc, inl, inr, ◌⊎◌, Some, Ok, refl, sym, ◌∙◌, ap, subst, arith}
+use Rattle.std.specs.Prelude.{All, codes, is_some, filter_map}
+use Rattle.std.specs.List.{range_with_len}
+use Rattle.std.proofs.lemmas.Bool.{and_parts, or_parts, eqb-true, ltb-true, ltb-false, lt-ltb, not-false}
+use Rattle.std.proofs.lemmas.List.Elements.{All-push, filter_map-append}
 use Rattle.module_lang.specs.Codes.{◌>>=◌, unless}
 use Rattle.module_lang.specs.Drafts.{with_step, step_added, label_added, with_line}
-use Rattle.module_lang.specs.Entries.{IsDraft, IsStep, is_declaring, entered, item_entered, place_of, step_texts, step_entered}
-use Rattle.module_lang.specs.Handlers.{op_instr}
-use Rattle.module_lang.specs.Lines.{instruction_count, is_due, judged, op_judged, declaration_judged, is_next, is_declared, place_is_declared, has_equal_brigades, has_long_text, are_declared, is_misplaced, has_room, has_text}
-use Rattle.module_lang.specs.Operands.{IsOfKinds, of_kind}
-use Rattle.module_lang.specs.Spelling.{operands_of}
-use Rattle.module_lang.specs.Words.{word_kinds, op_kinds}
+use Rattle.module_lang.specs.Entries.{IsDraft, IsStep, early_steps, entered, from_quote, item_entered, step_numbers, step_text, step_texts, step_entered}
+use Rattle.module_lang.specs.Bytes.{unindented}
+use Rattle.module_lang.specs.Handlers.{op_instr, operand_variable}
+use Rattle.module_lang.specs.Lines.{instruction_count, is_due, judged, op_judged, declaration_judged, is_next, is_declared, place_is_declared, has_equal_brigades, has_long_text, is_long_text, is_text_operand, are_declared, is_misplaced, has_room, has_text}
+use Rattle.module_lang.specs.Operands.{IsOfKinds, of_kind, operand_place}
+use Rattle.module_lang.specs.Program.{text_of_instr}
+use Rattle.module_lang.specs.Quoted.{quoted, text_of}
+use Rattle.module_lang.specs.Spelling.{operands_of, variable_operand}
+use Rattle.module_lang.specs.Words.{word_kinds, word_text, op_kinds, op_text}
 use Rattle.module_lang.specs.declared.draft.Draft.{Draft}
 use Rattle.module_lang.specs.declared.draft.Label.{Label}
 use Rattle.module_lang.specs.declared.draft.Part.{Part}
@@ -19,6 +24,8 @@ use Rattle.module_lang.specs.declared.instr.Instr.{Instr}
 use Rattle.module_lang.specs.declared.instr.Instr.TheVariants as instr
 use Rattle.module_lang.specs.declared.instr.PoolRef.{PoolRef}
 use Rattle.module_lang.specs.declared.instr.PoolRef.TheVariants as pool
+use Rattle.module_lang.specs.declared.instr.VarRef.{VarRef}
+use Rattle.module_lang.specs.declared.instr.VarRef.TheVariants as variable
 use Rattle.module_lang.specs.declared.lines.Line.{Line}
 use Rattle.module_lang.specs.declared.lines.Line.TheVariants as line
 use Rattle.module_lang.specs.declared.operand.Operand.{Operand}
@@ -27,10 +34,15 @@ use Rattle.module_lang.specs.declared.operand.Operands.{Operands}
 use Rattle.module_lang.specs.declared.refusal.Code.TheVariants as code
 use Rattle.module_lang.specs.declared.word.Kind.TheVariants as kind
 use Rattle.module_lang.specs.declared.word.Op.{Op}
+use Rattle.module_lang.specs.declared.word.Op.TheVariants as op
 use Rattle.module_lang.specs.declared.word.Word.{Word}
 use Rattle.module_lang.specs.declared.word.Word.TheVariants as word
-use Rattle.module_lang.proofs.LineLaws.{Says, IsItem, bind_ok, unless_ok}
+use Rattle.module_lang.proofs.InverseLaws.{Item, TextFound, text_found}
+use Rattle.module_lang.proofs.LineLaws.{bind_ok, unless_ok}
+use Rattle.module_lang.proofs.ListLaws.{empty_list, range_more}
 use Rattle.module_lang.proofs.OperandLaws.{shape, kinds_read}
+use Rattle.module_lang.proofs.QuoteLaws.{quote_unindented}
+use Rattle.module_lang.proofs.SaysLaws.{Says}
 use Rattle.module_lang.proofs.SliceLaws.{none_of, pushed_item}
 
 -- a draft with another part, other labels and lines
@@ -42,7 +54,25 @@ turned d p a b c x y z = record d {
   main = record d.main { labels = c; line = z };
 }
 
-turned_keeps : (d : Draft) (p : Part) (a b c : List Label) (x y z : ℕ) → (is_declaring p ≡ true → instruction_count d ≡ 0) → IsDraft d → IsDraft (turned d p a b c x y z)
+early_turned : (q : Part) (d : Draft) (p : Part) (a b c : List Label) (x y z : ℕ) → early_steps q (turned d p a b c x y z) ≡ early_steps q d
+early_turned part.Start d p a b c x y z = refl
+early_turned part.Pools d p a b c x y z = refl
+early_turned part.Brigades d p a b c x y z = refl
+early_turned part.Open d p a b c x y z = refl
+early_turned part.Init d p a b c x y z = refl
+early_turned part.Main d p a b c x y z = refl
+early_turned part.End d p a b c x y z = refl
+
+early_pools : (q : Part) (d : Draft) (pools : List PoolRef) → early_steps q (record d { pools = pools }) ≡ early_steps q d
+early_pools part.Start d ps = refl
+early_pools part.Pools d ps = refl
+early_pools part.Brigades d ps = refl
+early_pools part.Open d ps = refl
+early_pools part.Init d ps = refl
+early_pools part.Main d ps = refl
+early_pools part.End d ps = refl
+
+turned_keeps : (d : Draft) (p : Part) (a b c : List Label) (x y z : ℕ) → early_steps p d ≡ 0 → IsDraft d → IsDraft (turned d p a b c x y z)
 turned_keeps d p a b c x y z none s = record {
   count = s.count;
   pools = s.pools;
@@ -50,7 +80,9 @@ turned_keeps d p a b c x y z none s = record {
   parents = s.parents;
   homes = s.homes;
   texts = s.texts;
-  none = none;
+  few = s.few;
+  short = s.short;
+  none = early_turned p d p a b c x y z ∙ none;
   opening = s.opening;
   init = s.init;
   main = s.main;
@@ -65,32 +97,51 @@ label_keeps part.Init d n name s = turned_keeps d d.part d.open.labels (with_lin
 label_keeps part.Main d n name s = turned_keeps d d.part d.open.labels d.init.labels (with_line d.main n name).labels d.open.line d.init.line d.main.line s.none s
 label_keeps part.End d n name s = turned_keeps d d.part d.open.labels d.init.labels (with_line d.main n name).labels d.open.line d.init.line d.main.line s.none s
 
-declaring_module : (p : Part) → is_due p word.Module ≡ true → is_declaring p ≡ true
-declaring_module part.Start h = refl
-declaring_module part.Pools h = refl
-declaring_module part.Brigades h = refl
-declaring_module part.Open h = absurd (cc h)
-declaring_module part.Init h = absurd (cc h)
-declaring_module part.Main h = absurd (cc h)
-declaring_module part.End h = absurd (cc h)
+-- the instructions that stand in handlers that have not begun, where a word is due
+early_module : (p : Part) (d : Draft) → is_due p word.Module ≡ true → early_steps p d ≡ instruction_count d
+early_module part.Start d h = refl
+early_module part.Pools d h = refl
+early_module part.Brigades d h = refl
+early_module part.Open d h = absurd (cc h)
+early_module part.Init d h = absurd (cc h)
+early_module part.Main d h = absurd (cc h)
+early_module part.End d h = absurd (cc h)
 
-declaring_pool : (p : Part) → is_due p word.Pool ≡ true → is_declaring p ≡ true
-declaring_pool part.Start h = refl
-declaring_pool part.Pools h = refl
-declaring_pool part.Brigades h = refl
-declaring_pool part.Open h = absurd (cc h)
-declaring_pool part.Init h = absurd (cc h)
-declaring_pool part.Main h = absurd (cc h)
-declaring_pool part.End h = absurd (cc h)
+early_pool : (p : Part) (d : Draft) → is_due p word.Pool ≡ true → early_steps p d ≡ instruction_count d
+early_pool part.Start d h = refl
+early_pool part.Pools d h = refl
+early_pool part.Brigades d h = refl
+early_pool part.Open d h = absurd (cc h)
+early_pool part.Init d h = absurd (cc h)
+early_pool part.Main d h = absurd (cc h)
+early_pool part.End d h = absurd (cc h)
 
-declaring_brigade : (p : Part) → is_due p word.Brigade ≡ true → is_declaring p ≡ true
-declaring_brigade part.Start h = refl
-declaring_brigade part.Pools h = refl
-declaring_brigade part.Brigades h = refl
-declaring_brigade part.Open h = absurd (cc h)
-declaring_brigade part.Init h = absurd (cc h)
-declaring_brigade part.Main h = absurd (cc h)
-declaring_brigade part.End h = absurd (cc h)
+early_brigade : (p : Part) (d : Draft) → is_due p word.Brigade ≡ true → early_steps p d ≡ instruction_count d
+early_brigade part.Start d h = refl
+early_brigade part.Pools d h = refl
+early_brigade part.Brigades d h = refl
+early_brigade part.Open d h = absurd (cc h)
+early_brigade part.Init d h = absurd (cc h)
+early_brigade part.Main d h = absurd (cc h)
+early_brigade part.End d h = absurd (cc h)
+
+early_open : (p : Part) (d : Draft) → is_due p word.Open ≡ true → early_steps p d ≡ instruction_count d
+early_open part.Start d h = refl
+early_open part.Pools d h = refl
+early_open part.Brigades d h = refl
+early_open part.Open d h = absurd (cc h)
+early_open part.Init d h = absurd (cc h)
+early_open part.Main d h = absurd (cc h)
+early_open part.End d h = absurd (cc h)
+
+early_init : (p : Part) (d : Draft) → is_due p word.Init ≡ true → early_steps p d ≡ length d.init.steps + length d.main.steps
+early_init part.Start d h = absurd (cc h)
+early_init part.Pools d h = absurd (cc h)
+early_init part.Brigades d h = absurd (cc h)
+early_init part.Open d h = refl
+early_init part.Init d h = absurd (cc h)
+early_init part.Main d h = absurd (cc h)
+early_init part.End d h = absurd (cc h)
 
 -- more pools declare what was declared
 more_declared : (n : ℕ) (q : PoolRef) → place_is_declared n q ≡ true → place_is_declared (n + 1) q ≡ true
@@ -120,7 +171,7 @@ next_brigade n (operand.Label l) k h = absurd (cc k)
 next_brigade n (operand.Text t) k h = absurd (cc k)
 
 -- the second operand of a declaration is a declared pool
-home_declared : (n : ℕ) (x : Operand) → is_declared n 0 x ≡ true → place_is_declared n (place_of x) ≡ true
+home_declared : (n : ℕ) (x : Operand) → is_declared n 0 x ≡ true → place_is_declared n (operand_place x) ≡ true
 home_declared n operand.Nothing h = refl
 home_declared n operand.One h = refl
 home_declared n (operand.Place p) h = h
@@ -131,7 +182,7 @@ home_declared n (operand.Text t) h = refl
 
 pub record IsDeclaration (count pools : ℕ) (o : Operands) : Type 0 where
   pub next : is_next count o.first ≡ true
-  pub home : place_is_declared pools (place_of o.second) ≡ true
+  pub home : place_is_declared pools (operand_place o.second) ≡ true
 
 pub declaration : (count pools : ℕ) (o : Operands) → declaration_judged count pools o ≡ Ok tt → IsDeclaration count pools o
 declaration count pools o h =
@@ -141,11 +192,11 @@ declaration count pools o h =
       home = home_declared pools o.second (not-false (is_declared pools 0 o.second) (unless_ok (not (is_declared pools 0 o.second)) code.Undeclared tt a.2));
     }
 
-pool_keeps : (d : Draft) (o : Operands) → IsDraft d → IsItem d word.Pool o → IsDraft (record d { pools = d.pools ++ place_of o.second ∷ [] })
+pool_keeps : (d : Draft) (b : List ℕ) (o : Operands) → IsDraft d → Item d b word.Pool o → IsDraft (record d { pools = d.pools ++ operand_place o.second ∷ [] })
 unfolding judged word_kinds
-pool_keeps d o s h =
-    let q = place_of o.second in
-    let zero = s.none (declaring_pool d.part h.due) in
+pool_keeps d b o s h =
+    let q = operand_place o.second in
+    let zero : instruction_count d ≡ 0 = sym (early_pool d.part d h.due) ∙ s.none in
     let kinds = kinds_read (word_kinds word.Pool) h.rest o h.read in
     let say = declaration (length d.pools) (length d.pools) o h.sound in
     let low = next_pool (length d.pools) o.first kinds.first say.next in
@@ -157,17 +208,19 @@ pool_keeps d o s h =
       parents = pushed_item (λ k x. place_is_declared k x ≡ true) d.pools q s.parents say.home;
       homes = λ k x e. subst (λ n. place_is_declared n x ≡ true) (sym one) (more_declared (length d.pools) x (s.homes k x e));
       texts = s.texts;
-      none = λ _. zero;
+      few = s.few;
+      short = s.short;
+      none = early_pools d.part d (d.pools ++ q ∷ []) ∙ s.none;
       opening = none_of (IsStep (d.pools ++ q ∷ []) d.brigades part.Open) d.open.steps (omega arith);
       init = none_of (IsStep (d.pools ++ q ∷ []) d.brigades part.Init) d.init.steps (omega arith);
       main = none_of (IsStep (d.pools ++ q ∷ []) d.brigades part.Main) d.main.steps (omega arith);
     }
 
-brigade_keeps : (d : Draft) (o : Operands) → IsDraft d → IsItem d word.Brigade o → IsDraft (record d { part = part.Brigades; brigades = d.brigades ++ place_of o.second ∷ [] })
+brigade_keeps : (d : Draft) (b : List ℕ) (o : Operands) → IsDraft d → Item d b word.Brigade o → IsDraft (record d { part = part.Brigades; brigades = d.brigades ++ operand_place o.second ∷ [] })
 unfolding judged word_kinds
-brigade_keeps d o s h =
-    let q = place_of o.second in
-    let zero = s.none (declaring_brigade d.part h.due) in
+brigade_keeps d b o s h =
+    let q = operand_place o.second in
+    let zero : instruction_count d ≡ 0 = sym (early_brigade d.part d h.due) ∙ s.none in
     let kinds = kinds_read (word_kinds word.Brigade) h.rest o h.read in
     let say = declaration (length d.brigades) (length d.pools) o h.sound in
     let low = next_brigade (length d.brigades) o.first kinds.first say.next in
@@ -179,7 +232,9 @@ brigade_keeps d o s h =
       parents = s.parents;
       homes = pushed_item (λ k x. place_is_declared (length d.pools) x ≡ true) d.brigades q s.homes say.home;
       texts = s.texts;
-      none = λ _. zero;
+      few = s.few;
+      short = s.short;
+      none = zero;
       opening = none_of (IsStep d.pools (d.brigades ++ q ∷ []) part.Open) d.open.steps (omega arith);
       init = none_of (IsStep d.pools (d.brigades ++ q ∷ []) part.Init) d.init.steps (omega arith);
       main = none_of (IsStep d.pools (d.brigades ++ q ∷ []) part.Main) d.main.steps (omega arith);
@@ -187,6 +242,7 @@ brigade_keeps d o s h =
 
 record IsSound (d : Draft) (i : Op) (o : Operands) : Type 0 where
   apart : has_equal_brigades o ≡ false
+  short : has_long_text o ≡ false
   declared : are_declared (length d.pools) (length d.brigades) o ≡ true
   allowed : is_misplaced d i o ≡ false
   room : has_room d o ≡ true
@@ -203,100 +259,200 @@ sound_op d i o h =
     let e = bind_ok (unless (is_misplaced d i o) code.Misplaced) f4 tt c.2 in
     record {
       apart = unless_ok (has_equal_brigades o) code.WrongOperands a.0 a.1;
+      short = unless_ok (has_long_text o) code.FaultyText b.0 b.1;
       declared = not-false (are_declared (length d.pools) (length d.brigades) o) (unless_ok (not (are_declared (length d.pools) (length d.brigades) o)) code.Undeclared c.0 c.1);
       allowed = unless_ok (is_misplaced d i o) code.Misplaced e.0 e.1;
       room = not-false (has_room d o) (unless_ok (not (has_room d o)) code.TooMany tt e.2);
     }
 
-pub no_text : (i : Instr) (n : List ℕ) → has_text (operands_of i n) ≡ false
-no_text (instr.BCreate o) n = refl
-no_text (instr.BClean b) n = refl
-no_text (instr.BConcat a b) n = refl
-no_text (instr.Pass b l) n = refl
-no_text (instr.JEmpty b l) n = refl
-no_text (instr.JSent l) n = refl
-no_text (instr.Jump l) n = refl
-no_text (instr.Ret s) n = refl
+-- a text that an instruction adds to a draft
+record IsText (d : Draft) (ts : List (List ℕ)) (s : Step) : Type 0 where
+  few : length (d.texts ++ ts) ≤ 64
+  short : All (λ t. length t ≤ 255) (d.texts ++ ts)
+  numbers : range_with_len 0 (length d.texts) ++ step_numbers (s ∷ []) ≡ range_with_len 0 (length (d.texts ++ ts))
 
--- an instruction in the handler that is being read
-added_keeps : (p : Part) (i : Op) (d : Draft) (s : Step) → is_due p (word.Op i) ≡ true → instruction_count d < 1024 → IsDraft d → d.part ≡ p → IsStep d.pools d.brigades p s → IsDraft (step_added p d s)
-added_keeps part.Start i d t due low s e h = absurd (cc due)
-added_keeps part.Pools i d t due low s e h = absurd (cc due)
-added_keeps part.Brigades i d t due low s e h = absurd (cc due)
-added_keeps part.Open i d t due low s e h =
+pushed : (a : List Step) (t : Step) → step_numbers (a ++ t ∷ []) ≡ step_numbers a ++ step_numbers (t ∷ [])
+pushed a t = filter_map-append step_text a (t ∷ [])
+
+open_numbers : (a b c : List Step) (t : Step) (n m : ℕ) → length b + length c ≡ 0 → step_numbers a ++ (step_numbers b ++ step_numbers c) ≡ range_with_len 0 n → range_with_len 0 n ++ step_numbers (t ∷ []) ≡ range_with_len 0 m → step_numbers (a ++ t ∷ []) ++ (step_numbers b ++ step_numbers c) ≡ range_with_len 0 m
+open_numbers a b c t n m z e f =
+    let none_b = empty_list b (omega arith) in
+    let none_c = empty_list c (omega arith) in
+    let before : step_numbers a ++ [] ≡ range_with_len 0 n = rw (none_b, none_c) at e in
+    rw (none_b, none_c) (append-nil (step_numbers (a ++ t ∷ [])) ∙ pushed a t ∙ ap (λ x. x ++ step_numbers (t ∷ [])) (sym (append-nil (step_numbers a)) ∙ before) ∙ f)
+
+init_numbers : (a b c : List Step) (t : Step) (n m : ℕ) → length c ≡ 0 → step_numbers a ++ (step_numbers b ++ step_numbers c) ≡ range_with_len 0 n → range_with_len 0 n ++ step_numbers (t ∷ []) ≡ range_with_len 0 m → step_numbers a ++ (step_numbers (b ++ t ∷ []) ++ step_numbers c) ≡ range_with_len 0 m
+init_numbers a b c t n m z e f =
+    let none_c = empty_list c z in
+    let before : step_numbers a ++ (step_numbers b ++ []) ≡ range_with_len 0 n = rw none_c at e in
+    let join : step_numbers a ++ step_numbers b ≡ range_with_len 0 n = ap (λ x. step_numbers a ++ x) (sym (append-nil (step_numbers b))) ∙ before in
+    rw none_c (ap (λ x. step_numbers a ++ x) (append-nil (step_numbers (b ++ t ∷ [])) ∙ pushed b t) ∙ sym (append_assoc (step_numbers a) (step_numbers b) (step_numbers (t ∷ []))) ∙ ap (λ x. x ++ step_numbers (t ∷ [])) join ∙ f)
+
+main_numbers : (a b c : List Step) (t : Step) (n m : ℕ) → step_numbers a ++ (step_numbers b ++ step_numbers c) ≡ range_with_len 0 n → range_with_len 0 n ++ step_numbers (t ∷ []) ≡ range_with_len 0 m → step_numbers a ++ (step_numbers b ++ step_numbers (c ++ t ∷ [])) ≡ range_with_len 0 m
+main_numbers a b c t n m e f =
+    let one = step_numbers (t ∷ []) in
+    ap (λ x. step_numbers a ++ (step_numbers b ++ x)) (pushed c t) ∙ ap (λ x. step_numbers a ++ x) (sym (append_assoc (step_numbers b) (step_numbers c) one)) ∙ sym (append_assoc (step_numbers a) (step_numbers b ++ step_numbers c) one) ∙ ap (λ x. x ++ one) e ∙ f
+
+-- an instruction in the handler that is being read, with its text
+added_keeps : (p : Part) (i : Op) (d : Draft) (ts : List (List ℕ)) (s : Step) → is_due p (word.Op i) ≡ true → instruction_count d < 1024 → IsDraft d → d.part ≡ p → IsStep d.pools d.brigades p s → IsText d ts s → IsDraft (step_added p (record d { texts = d.texts ++ ts }) s)
+added_keeps part.Start i d ts t due low s e h x = absurd (cc due)
+added_keeps part.Pools i d ts t due low s e h x = absurd (cc due)
+added_keeps part.Brigades i d ts t due low s e h x = absurd (cc due)
+added_keeps part.Open i d ts t due low s e h x =
     let one : length (d.open.steps ++ t ∷ []) ≡ length d.open.steps + 1 = length-append d.open.steps (t ∷ []) in
+    let early : early_steps part.Open d ≡ 0 = ap (λ q. early_steps q d) (sym e) ∙ s.none in
     record {
       count = omega arith;
       pools = s.pools;
       brigades = s.brigades;
       parents = s.parents;
       homes = s.homes;
-      texts = s.texts;
-      none = λ n. absurd (cc (n, e));
+      texts = open_numbers d.open.steps d.init.steps d.main.steps t (length d.texts) (length (d.texts ++ ts)) early s.texts x.numbers;
+      few = x.few;
+      short = x.short;
+      none = ap (λ q. early_steps q (step_added part.Open (record d { texts = d.texts ++ ts }) t)) e ∙ early;
       opening = All-push (IsStep d.pools d.brigades part.Open) d.open.steps t s.opening h;
       init = s.init;
       main = s.main;
     }
-added_keeps part.Init i d t due low s e h =
+added_keeps part.Init i d ts t due low s e h x =
     let one : length (d.init.steps ++ t ∷ []) ≡ length d.init.steps + 1 = length-append d.init.steps (t ∷ []) in
+    let early : early_steps part.Init d ≡ 0 = ap (λ q. early_steps q d) (sym e) ∙ s.none in
     record {
       count = omega arith;
       pools = s.pools;
       brigades = s.brigades;
       parents = s.parents;
       homes = s.homes;
-      texts = s.texts;
-      none = λ n. absurd (cc (n, e));
+      texts = init_numbers d.open.steps d.init.steps d.main.steps t (length d.texts) (length (d.texts ++ ts)) early s.texts x.numbers;
+      few = x.few;
+      short = x.short;
+      none = ap (λ q. early_steps q (step_added part.Init (record d { texts = d.texts ++ ts }) t)) e ∙ early;
       opening = s.opening;
       init = All-push (IsStep d.pools d.brigades part.Init) d.init.steps t s.init h;
       main = s.main;
     }
-added_keeps part.Main i d t due low s e h =
+added_keeps part.Main i d ts t due low s e h x =
     let one : length (d.main.steps ++ t ∷ []) ≡ length d.main.steps + 1 = length-append d.main.steps (t ∷ []) in
+    let early : early_steps part.Main d ≡ 0 = ap (λ q. early_steps q d) (sym e) ∙ s.none in
     record {
       count = omega arith;
       pools = s.pools;
       brigades = s.brigades;
       parents = s.parents;
       homes = s.homes;
-      texts = s.texts;
-      none = λ n. absurd (cc (n, e));
+      texts = main_numbers d.open.steps d.init.steps d.main.steps t (length d.texts) (length (d.texts ++ ts)) s.texts x.numbers;
+      few = x.few;
+      short = x.short;
+      none = ap (λ q. early_steps q (step_added part.Main (record d { texts = d.texts ++ ts }) t)) e ∙ refl;
       opening = s.opening;
       init = s.init;
       main = All-push (IsStep d.pools d.brigades part.Main) d.main.steps t s.main h;
     }
-added_keeps part.End i d t due low s e h = absurd (cc due)
+added_keeps part.End i d ts t due low s e h x = absurd (cc due)
 
-op_keeps : (d : Draft) (n : ℕ) (bytes : List ℕ) (i : Op) (o : Operands) → IsDraft d → IsItem d (word.Op i) o → IsDraft (step_entered d n bytes i o)
+variable_bare : (v : VarRef) → is_text_operand (variable_operand v) ≡ false
+variable_bare (variable.Pool q) = refl
+variable_bare (variable.Brigade b) = refl
+
+-- the operands of an instruction have a text where the instruction has
+pub has_text_of : (i : Instr) (n : List ℕ) (k : ℕ) → has_text (operands_of i n k) ≡ is_some (text_of_instr i)
+has_text_of (instr.PCreate q) n k = refl
+has_text_of (instr.PClear q) n k = refl
+has_text_of (instr.PDestroy q) n k = refl
+has_text_of (instr.Label q t) n k = refl
+has_text_of (instr.Unlabel q t) n k = refl
+has_text_of (instr.BCreate o) n k = refl
+has_text_of (instr.BClean b) n k = refl
+has_text_of (instr.BConcat a b) n k = refl
+has_text_of (instr.Pass b l) n k = refl
+has_text_of (instr.JEmpty b l) n k = refl
+has_text_of (instr.JNull v l) n k = rw (variable_bare v) refl
+has_text_of (instr.JSent l) n k = refl
+has_text_of (instr.Jump l) n k = refl
+has_text_of (instr.Ret s) n k = refl
+
+-- an instruction has a text in its line, or none
+text_has : (i : Op) (d : Draft) (s : List ℕ) (o : Operands) → Item d s (word.Op i) o → (has_text o ≡ false) ⊎ ((has_text o ≡ true) × TextFound s o.second)
+unfolding word_kinds op_kinds word_text op_text
+text_has op.PCreate d s o h = inl (ap has_text (shape op.PCreate o 0 0 (kinds_read (op_kinds op.PCreate) h.rest o h.read)).same)
+text_has op.PClear d s o h = inl (ap has_text (shape op.PClear o 0 0 (kinds_read (op_kinds op.PClear) h.rest o h.read)).same)
+text_has op.PDestroy d s o h = inl (ap has_text (shape op.PDestroy o 0 0 (kinds_read (op_kinds op.PDestroy) h.rest o h.read)).same)
+text_has op.Label d s o h = inr (ap has_text (shape op.Label o 0 0 (kinds_read (op_kinds op.Label) h.rest o h.read)).same, subst (λ l. TextFound l o.second) (sym h.spelled) (text_found kind.Place (codes "label") h.rest o refl refl refl h.read))
+text_has op.Unlabel d s o h = inr (ap has_text (shape op.Unlabel o 0 0 (kinds_read (op_kinds op.Unlabel) h.rest o h.read)).same, subst (λ l. TextFound l o.second) (sym h.spelled) (text_found kind.Place (codes "unlabel") h.rest o refl refl refl h.read))
+text_has op.BCreate d s o h = inl (ap has_text (shape op.BCreate o 0 0 (kinds_read (op_kinds op.BCreate) h.rest o h.read)).same)
+text_has op.BClean d s o h = inl (ap has_text (shape op.BClean o 0 0 (kinds_read (op_kinds op.BClean) h.rest o h.read)).same)
+text_has op.BConcat d s o h = inl (ap has_text (shape op.BConcat o 0 0 (kinds_read (op_kinds op.BConcat) h.rest o h.read)).same)
+text_has op.Pass d s o h = inl (ap has_text (shape op.Pass o 0 0 (kinds_read (op_kinds op.Pass) h.rest o h.read)).same)
+text_has op.JEmpty d s o h = inl (ap has_text (shape op.JEmpty o 0 0 (kinds_read (op_kinds op.JEmpty) h.rest o h.read)).same)
+text_has op.JNull d s o h = inl (ap has_text (shape op.JNull o 0 0 (kinds_read (op_kinds op.JNull) h.rest o h.read)).same ∙ rw (variable_bare (operand_variable o.first)) refl)
+text_has op.JSent d s o h = inl (ap has_text (shape op.JSent o 0 0 (kinds_read (op_kinds op.JSent) h.rest o h.read)).same)
+text_has op.Jump d s o h = inl (ap has_text (shape op.Jump o 0 0 (kinds_read (op_kinds op.Jump) h.rest o h.read)).same)
+text_has op.Ret d s o h = inl (ap has_text (shape op.Ret o 0 0 (kinds_read (op_kinds op.Ret) h.rest o h.read)).same)
+
+without_text : (d : Draft) (n : ℕ) (i : Op) (o : Operands) → IsDraft d → has_text o ≡ false → IsText d [] (record { line = n; op = i; operands = o; text = length d.texts })
+without_text d n i o s e = record {
+  few = rw (append-nil d.texts) s.few;
+  short = rw (append-nil d.texts) s.short;
+  numbers = rw (e, append-nil d.texts) (append-nil (range_with_len 0 (length d.texts)));
+}
+
+with_text : (d : Draft) (n : ℕ) (i : Op) (o : Operands) (x : List ℕ) → IsDraft d → has_text o ≡ true → length x ≤ 255 → length d.texts < 64 → IsText d (x ∷ []) (record { line = n; op = i; operands = o; text = length d.texts })
+with_text d n i o x s e low room =
+    let one : length (d.texts ++ x ∷ []) ≡ length d.texts + 1 = length-append d.texts (x ∷ []) in
+    record {
+      few = omega arith;
+      short = All-push (λ t. length t ≤ 255) d.texts x s.short low;
+      numbers = let z : length d.texts ≡ 0 + length d.texts = omega arith in rw (e, one) (ap (λ x. range_with_len 0 (length d.texts) ++ x ∷ []) z ∙ range_more 0 (length d.texts));
+    }
+
+op_keeps : (d : Draft) (n : ℕ) (bytes : List ℕ) (i : Op) (o : Operands) → IsDraft d → Item d (unindented bytes) (word.Op i) o → IsDraft (step_entered d n bytes i o)
 unfolding judged word_kinds
-op_keeps d n bytes i o s h =
-    let sound = sound_op d i o h.sound in
-    let kinds : IsOfKinds (op_kinds i) o = kinds_read (word_kinds (word.Op i)) h.rest o h.read in
-    let form = shape i o 0 kinds in
-    let none : has_text o ≡ false = ap has_text form.1 ∙ no_text (op_instr i o 0) form.0 in
-    let texts : d.texts ++ step_texts o bytes ≡ d.texts = rw none (append-nil d.texts) in
-    let room = and_parts (ltb (instruction_count d) 1024) (not (has_text o) || ltb (length d.texts) 64) sound.room in
-    let t : Step = record { line = n; op = i; operands = o; text = length d.texts } in
-    subst (λ x. IsDraft (with_step (record d { texts = x }) t)) (sym texts)
-    (added_keeps d.part i d t h.due (ltb-true (instruction_count d) 1024 room.0) s refl (record {
-      kinds = kinds;
-      declared = sound.declared;
-      apart = sound.apart;
-      allowed = sound.allowed;
-    }))
+op_keeps d n bytes i o s h = texts (text_has i d (unindented bytes) o h)
+  where
+    sound : IsSound d i o
+    sound = sound_op d i o h.sound
 
-item_keeps : (d : Draft) (n : ℕ) (bytes : List ℕ) (w : Word) (o : Operands) → IsDraft d → IsItem d w o → IsDraft (item_entered d n bytes w o)
-item_keeps d n bytes word.Module o s h = turned_keeps d part.Pools d.open.labels d.init.labels d.main.labels d.open.line d.init.line d.main.line (λ _. s.none (declaring_module d.part h.due)) s
-item_keeps d n bytes word.Pool o s h = pool_keeps d o s h
-item_keeps d n bytes word.Brigade o s h = brigade_keeps d o s h
-item_keeps d n bytes word.Open o s h = turned_keeps d part.Open d.open.labels d.init.labels d.main.labels n d.init.line d.main.line (λ e. absurd (cc e)) s
-item_keeps d n bytes word.Init o s h = turned_keeps d part.Init d.open.labels d.init.labels d.main.labels d.open.line n d.main.line (λ e. absurd (cc e)) s
-item_keeps d n bytes word.Main o s h = turned_keeps d part.Main d.open.labels d.init.labels d.main.labels d.open.line d.init.line n (λ e. absurd (cc e)) s
-item_keeps d n bytes word.End o s h = turned_keeps d part.End d.open.labels d.init.labels d.main.labels d.open.line d.init.line d.main.line (λ e. absurd (cc e)) s
+    room : (ltb (instruction_count d) 1024 ≡ true) × ((not (has_text o) || ltb (length d.texts) 64) ≡ true)
+    room = and_parts (ltb (instruction_count d) 1024) (not (has_text o) || ltb (length d.texts) 64) sound.room
+
+    added : (ts : List (List ℕ)) → step_texts o bytes ≡ ts → IsText d ts (record { line = n; op = i; operands = o; text = length d.texts }) → IsDraft (step_entered d n bytes i o)
+    added ts e x =
+        let t : Step = record { line = n; op = i; operands = o; text = length d.texts } in
+        subst (λ xs. IsDraft (with_step (record d { texts = d.texts ++ xs }) t)) (sym e) (added_keeps d.part i d ts t h.due (ltb-true (instruction_count d) 1024 room.0) s refl (record {
+          kinds = kinds_read (word_kinds (word.Op i)) h.rest o h.read;
+          declared = sound.declared;
+          apart = sound.apart;
+          allowed = sound.allowed;
+        }) x)
+
+    texts : (has_text o ≡ false) ⊎ ((has_text o ≡ true) × TextFound (unindented bytes) o.second) → IsDraft (step_entered d n bytes i o)
+    texts (inl e) = added [] (rw e refl) (without_text d n i o s e)
+    texts (inr e) =
+        let at : text_of (quoted (from_quote bytes)) ≡ Some e.1.text = ap (λ x. text_of (quoted x)) (quote_unindented bytes) ∙ e.1.found in
+        let long = or_parts (is_long_text o.first || is_long_text o.second || is_long_text o.third) (is_long_text o.fourth) sound.short in
+        let long_2 = or_parts (is_long_text o.first || is_long_text o.second) (is_long_text o.third) long.0 in
+        let long_1 = or_parts (is_long_text o.first) (is_long_text o.second) long_2.0 in
+        let low : ltb 255 (length e.1.text) ≡ false = ap is_long_text (sym e.1.len) ∙ long_1.1 in
+        let space : ltb (length d.texts) 64 ≡ true = rw e.0 at room.1 in
+        added (e.1.text ∷ []) (rw (e.0, at) refl) (with_text d n i o e.1.text s e.0 (ltb-false 255 (length e.1.text) low) (ltb-true (length d.texts) 64 space))
+
+item_keeps : (d : Draft) (n : ℕ) (bytes : List ℕ) (w : Word) (o : Operands) → IsDraft d → Item d (unindented bytes) w o → IsDraft (item_entered d n bytes w o)
+item_keeps d n bytes word.Module o s h = turned_keeps d part.Pools d.open.labels d.init.labels d.main.labels d.open.line d.init.line d.main.line (sym (early_module d.part d h.due) ∙ s.none) s
+item_keeps d n bytes word.Pool o s h = pool_keeps d (unindented bytes) o s h
+item_keeps d n bytes word.Brigade o s h = brigade_keeps d (unindented bytes) o s h
+item_keeps d n bytes word.Open o s h =
+    let zero : instruction_count d ≡ 0 = sym (early_open d.part d h.due) ∙ s.none in
+    turned_keeps d part.Open d.open.labels d.init.labels d.main.labels n d.init.line d.main.line (omega arith) s
+item_keeps d n bytes word.Init o s h =
+    let zero : length d.init.steps + length d.main.steps ≡ 0 = sym (early_init d.part d h.due) ∙ s.none in
+    turned_keeps d part.Init d.open.labels d.init.labels d.main.labels d.open.line n d.main.line (omega arith) s
+item_keeps d n bytes word.Main o s h = turned_keeps d part.Main d.open.labels d.init.labels d.main.labels d.open.line d.init.line n refl s
+item_keeps d n bytes word.End o s h = turned_keeps d part.End d.open.labels d.init.labels d.main.labels d.open.line d.init.line d.main.line refl s
 item_keeps d n bytes (word.Op i) o s h = op_keeps d n bytes i o s h
 
 -- what a line says is kept sound
-pub entered_keeps : (d : Draft) (n : ℕ) (bytes : List ℕ) (x : Line) → IsDraft d → Says d x → IsDraft (entered d n bytes x)
+pub entered_keeps : (d : Draft) (n : ℕ) (bytes : List ℕ) (x : Line) → IsDraft d → Says d (unindented bytes) x → IsDraft (entered d n bytes x)
 entered_keeps d n bytes line.Skipped s h = s
 entered_keeps d n bytes (line.Label name) s h = label_keeps d.part d n name s
 entered_keeps d n bytes (line.Item w o) s h = item_keeps d n bytes w o s h

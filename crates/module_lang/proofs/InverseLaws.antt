@@ -3,11 +3,14 @@ use Rattle.std.proofs.Common.{◌≡◌, ℕ, zero, suc, ◌+◌, ◌-◌, ◌<�
 use Rattle.std.specs.Prelude.{slice_index, codes, option_map, find}
 use Rattle.std.specs.Cmp.Lexicographic.{pointwise, same_text}
 use Rattle.std.proofs.lemmas.Bool.{and_parts, leb-true, eqb-true, ne_eqb}
-use Rattle.module_lang.specs.Bytes.{token, token_len, after_token}
+use Rattle.std.specs.List.{list_all}
+use Rattle.module_lang.specs.Bytes.{begins, tail, token, token_len, after_token}
 use Rattle.module_lang.specs.Codes.{◌>>=◌, unless}
 use Rattle.module_lang.specs.Lines.{is_due, judged, known_word, or_unknown, label_read, item_read, or_no_label, is_handler}
-use Rattle.module_lang.specs.Names.{is_name, name_of}
-use Rattle.module_lang.specs.Operands.{numbered, operand_in, operand_at, after_operand, operands_at, operand_kind_is_nothing, operand_kind_is_text, or_wrong}
+use Rattle.module_lang.specs.Entries.{from_quote}
+use Rattle.module_lang.specs.Names.{all_name_bytes, is_letter, is_name, is_name_byte, name_of}
+use Rattle.module_lang.specs.Operands.{numbered, operand_in, operand_at, after_operand, operands_at, operand_kind_is_nothing, operand_kind_is_text, or_wrong, text_measured, text_operand}
+use Rattle.module_lang.specs.Quoted.{Quoted, quoted, measure_of, text_of}
 use Rattle.module_lang.specs.Texts.{place_text, own_text, brigade_text, status_text, operands_text}
 use Rattle.module_lang.specs.Words.{all_words, word_at, word_text, word_kinds, two_operands, one_operand, no_operand}
 use Rattle.module_lang.specs.declared.draft.Draft.{Draft}
@@ -26,6 +29,7 @@ use Rattle.module_lang.specs.declared.word.Kinds.{Kinds}
 use Rattle.module_lang.specs.declared.word.Word.{Word}
 use Rattle.module_lang.proofs.LineLaws.{bind_ok, unless_ok, not_false}
 use Rattle.module_lang.proofs.OperandLaws.{cond_some, made, numbered_below}
+use Rattle.module_lang.proofs.QuoteLaws.{unquoted, place_unquoted, quote_behind}
 use Rattle.module_lang.proofs.SpellingLaws.{padded}
 
 cut : (n : ℕ) (xs : List ℕ) → take n xs ++ drop n xs ≡ xs
@@ -135,6 +139,10 @@ label_spelled : (r : Option (List ℕ)) (t : List ℕ) (o : Operand) → name_of
 label_spelled None t o q e = absurd (cc e)
 label_spelled (Some n) t o q e = to o (operand.Label n) t e (name_spelled t n q)
 
+variable_spelled : (a : Bool) (t : List ℕ) (o : Operand) → cond a (option_map (λ i. operand.Place (pool.Own i)) (numbered 112 t)) (option_map (λ i. operand.Brigade i) (numbered 98 t)) ≡ Some o → Spells o t
+variable_spelled true t o e = number_place (numbered 112 t) t o refl e
+variable_spelled false t o e = number_brigade (numbered 98 t) t o refl e
+
 pub token_spelled : (k : Kind) (t : List ℕ) (o : Operand) → operand_in k t ≡ Some o → Spells o t
 unfolding operand_in
 token_spelled kind.Nothing t o e = absurd (cc e)
@@ -146,6 +154,7 @@ token_spelled kind.Source t o e = source_spelled (pointwise nat_eq t (codes "in"
 token_spelled kind.Ending t o e = ending_spelled (pointwise nat_eq t (codes "ok")) (pointwise nat_eq t (codes "fail")) t o refl refl e
 token_spelled kind.Label t o e = label_spelled (name_of t) t o refl e
 token_spelled kind.Text t o e = absurd (cc e)
+token_spelled kind.Variable t o e = variable_spelled (begins 112 t) t o e
 
 -- the operands of a line, one behind another
 pub record IsChain (k : Kinds) (rest : List ℕ) (o : Operands) : Type 0 where
@@ -228,6 +237,78 @@ two_taken k l rest o n q m r h =
       first = token_spelled k x.token o.first x.read;
       second = token_spelled l y.token o.second y.read;
     }
+
+one_unquoted : (b : ℕ) → is_name_byte b ≡ true → eqb b 34 ≡ false
+one_unquoted b h = ne_eqb b 34 (λ e. absurd (cc (sym h ∙ ap is_name_byte e)))
+
+name_unquoted : (n : List ℕ) → list_all is_name_byte n ≡ true → unquoted n ≡ true
+name_unquoted [] h = refl
+name_unquoted (b ∷ bs) h =
+    let a = and_parts (is_name_byte b) (list_all is_name_byte bs) h in
+    rw (one_unquoted b a.0, name_unquoted bs a.1) refl
+
+all_named : (n : List ℕ) → is_name n ≡ true → list_all is_name_byte n ≡ true
+unfolding is_name all_name_bytes
+all_named n h = (and_parts (leb 1 (length n) && leb (length n) 16 && is_letter (slice_index n 0)) (list_all is_name_byte n) h).1
+
+-- no operand but a text has a quote
+token_unquoted : (o : Operand) (t : List ℕ) → Spells o t → unquoted t ≡ true
+token_unquoted operand.Nothing t h = absurd h
+token_unquoted operand.One t h = rw h refl
+token_unquoted (operand.Place p) t h = rw h (place_unquoted p)
+token_unquoted (operand.Brigade b) t h = rw h (source (eqb b 8))
+  where
+    source : (x : Bool) → unquoted (cond x (codes "in") (own_text b)) ≡ true
+    source true = refl
+    source false = let apart : eqb (48 + b) 34 ≡ false = ne_eqb (48 + b) 34 (λ e. omega arith) in rw apart refl
+token_unquoted (operand.Ending status.Success) t h = rw h refl
+token_unquoted (operand.Ending status.Fail) t h = rw h refl
+token_unquoted (operand.Label n) t h = name_unquoted t (all_named t h.0)
+token_unquoted (operand.Text n) t h = absurd h
+
+-- a text that was read
+pub record TextRead (rest : List ℕ) (o : Operand) : Type 0 where
+  pub quote : Quoted
+  pub spaced : rest ≡ 32 ∷ tail rest
+  pub begun : tail rest ≡ 34 ∷ tail (tail rest)
+  pub read : quoted (tail rest) ≡ Some quote
+  pub len : o ≡ operand.Text (length quote.text)
+
+begun_by : (c : ℕ) (bs : List ℕ) → begins c bs ≡ true → bs ≡ c ∷ tail bs
+begun_by c [] h = absurd (cc h)
+begun_by c (b ∷ bs) h = ap (λ x. x ∷ bs) (eqb-true b c h)
+
+pub text_taken : (rest : List ℕ) (o : Operand) → operand_at kind.Text rest ≡ Ok o → TextRead rest o
+unfolding operand_at
+text_taken rest o h = space (begins 32 rest) refl h
+  where
+    measured : (q : Option Quoted) → quoted (tail rest) ≡ q → begins 32 rest ≡ true → begins 34 (tail rest) ≡ true → text_measured (measure_of q) ≡ Ok o → TextRead rest o
+    measured None e s t h = absurd (cc h)
+    measured (Some q) e s t h = record { quote = q; spaced = begun_by 32 rest s; begun = begun_by 34 (tail rest) t; read = e; len = let z : operand.Text (length q.text) ≡ o = cc h in sym z }
+
+    mark : (b : Bool) → begins 34 (tail rest) ≡ b → begins 32 rest ≡ true → cond (not b) (Err code.WrongOperands) (text_measured (measure_of (quoted (tail rest)))) ≡ Ok o → TextRead rest o
+    mark false e s h = absurd (cc h)
+    mark true e s h = measured (quoted (tail rest)) refl s e h
+
+    space : (b : Bool) → begins 32 rest ≡ b → cond (not b) (Err code.WrongOperands) (text_operand (tail rest)) ≡ Ok o → TextRead rest o
+    space false e h = absurd (cc h)
+    space true e h = mark (begins 34 (tail rest)) refl e h
+
+-- the text of a line whose second operand is one
+pub record TextFound (line : List ℕ) (o : Operand) : Type 0 where
+  pub text : List ℕ
+  pub found : text_of (quoted (from_quote line)) ≡ Some text
+  pub len : o ≡ operand.Text (length text)
+
+pub text_found : (k : Kind) (front rest : List ℕ) (o : Operands) → unquoted front ≡ true → operand_kind_is_nothing k ≡ false → operand_kind_is_text k ≡ false → operands_at (two_operands k kind.Text) rest ≡ Ok o → TextFound (front ++ rest) o.second
+text_found k front rest o u n q h =
+    let c = chain (two_operands k kind.Text) rest o h in
+    let x = read_token k rest o.first n q c.first in
+    let r = after_operand k rest in
+    let t = text_taken r o.second c.second in
+    let free = token_unquoted o.first x.token (token_spelled k x.token o.first x.read) in
+    let at : from_quote (front ++ rest) ≡ tail r = quote_behind front rest u ∙ ap from_quote x.spelled ∙ quote_behind x.token r free ∙ ap from_quote t.spaced ∙ ap from_quote t.begun ∙ sym t.begun in
+    record { text = t.quote.text; found = ap (λ b. text_of (quoted b)) at ∙ ap text_of t.read; len = t.len }
 
 -- a line with a word, and what follows the word
 pub record Item (d : Draft) (s : List ℕ) (w : Word) (o : Operands) : Type 0 where

@@ -56,7 +56,7 @@ marked_from n m k (label x ∷ code) (l ∷ ls) q h =
     let rest : map mark ls ≡ marks_from m code = cc h in
     let place : l.place ≡ m = ap (λ (z : List ℕ × ℕ). z.1) first in
     (ap (λ (z : List ℕ × ℕ). z.0) first, omega (arith, place), marked_from n m k code ls q rest)
-marked_from n m k (step i x ∷ code) labels q h = marked_from n (m + 1) (k + 1) code labels (omega arith) h
+marked_from n m k (step i x s ∷ code) labels q h = marked_from n (m + 1) (k + 1) code labels (omega arith) h
 
 -- names of labels, wherever they stand
 abbrev pub Named : List Label → List (List ℕ × ℕ) → Type 0

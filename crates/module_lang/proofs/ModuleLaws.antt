@@ -1,14 +1,16 @@
 -- A draft whose handlers have no fault gives a module.
 use Rattle.std.proofs.Common.{◌≡◌, ℕ, zero, suc, ◌+◌, ◌-◌, ◌<◌, ◌≤◌, Bool, true, false, ◌&&◌, ◌||◌, not, cond, eqb, leb, nat_lt, List, [], ◌∷◌, ◌++◌, length, map, length-append, append_assoc, append-nil, inl, inr, ◌⊎◌, Ok, Option, Some, None, refl, sym, ◌∙◌, ap, subst, arith}
 use Rattle.std.specs.Prelude.{All, slice_get, IfSome, is_some, unwrap_or, option_map, filter_map}
-use Rattle.std.proofs.lemmas.Bool.{and_parts, or_parts, ltb-true, leb-false, ne_eqb, cases_lt}
+use Rattle.std.proofs.lemmas.Bool.{and_parts, or_parts, ltb-true, lt-ltb, leb-false, ne_eqb, cases_lt}
+use Rattle.std.specs.List.{range_with_len}
 use Rattle.std.proofs.lemmas.List.{length-map}
+use Rattle.std.proofs.lemmas.List.Elements.{filter_map-append}
 use Rattle.std.proofs.lemmas.Option.{slice_get-map, slice_get_within}
-use Rattle.module_lang.specs.Entries.{IsDraft, IsStep}
-use Rattle.module_lang.specs.Handlers.{handler_fault, handler_resolved, code_or_fault, ends_open, last_goes_on, op_goes_on, sooner, fault, label_fault, jump_fault, is_lost, is_missing, label_of, place_of, place_from, target_place, step_code, op_instr, operand_index, is_named}
-use Rattle.module_lang.specs.Lines.{are_declared, has_equal_brigades, is_declared, misplaced, same_brigade, place_is_declared}
-use Rattle.module_lang.specs.Operands.{IsOfKinds, of_kind}
-use Rattle.module_lang.specs.Program.{Program, program, IsHandler, IsInside, IsModule, IsPlaced, fits, goes_on, target, text_of_instr}
+use Rattle.module_lang.specs.Entries.{IsDraft, IsStep, step_numbers, step_text}
+use Rattle.module_lang.specs.Handlers.{handler_fault, handler_resolved, code_or_fault, ends_open, last_goes_on, op_goes_on, sooner, fault, label_fault, jump_fault, is_lost, is_missing, label_of, place_of, place_from, target_place, step_code, op_instr, operand_index, operand_variable, is_named}
+use Rattle.module_lang.specs.Lines.{are_declared, has_equal_brigades, is_declared, misplaced, same_brigade, has_text, place_is_declared}
+use Rattle.module_lang.specs.Operands.{IsOfKinds, of_kind, operand_place}
+use Rattle.module_lang.specs.Program.{Program, program, IsHandler, IsInside, IsModule, IsPlaced, fits, goes_on, is_variable, target, text_of_instr}
 use Rattle.module_lang.specs.Spelling.{op_of, operands_of}
 use Rattle.module_lang.specs.Words.{op_kinds}
 use Rattle.module_lang.specs.declared.draft.Draft.{Draft}
@@ -21,6 +23,7 @@ use Rattle.module_lang.specs.declared.handler.LineFault.{LineFault}
 use Rattle.module_lang.specs.declared.instr.Instr.{Instr}
 use Rattle.module_lang.specs.declared.instr.Instr.TheVariants as instr
 use Rattle.module_lang.specs.declared.instr.PoolRef.{PoolRef}
+use Rattle.module_lang.specs.declared.instr.PoolRef.TheVariants as pool
 use Rattle.module_lang.specs.declared.operand.Operand.{Operand}
 use Rattle.module_lang.specs.declared.operand.Operand.TheVariants as operand
 use Rattle.module_lang.specs.declared.operand.Operands.{Operands}
@@ -28,7 +31,9 @@ use Rattle.module_lang.specs.declared.refusal.Code.TheVariants as codes
 use Rattle.module_lang.specs.declared.word.Kind.TheVariants as kind
 use Rattle.module_lang.specs.declared.word.Op.{Op}
 use Rattle.module_lang.specs.declared.word.Op.TheVariants as op
+use Rattle.module_lang.proofs.DraftLaws.{has_text_of}
 use Rattle.module_lang.proofs.HandlerLaws.{place_from-below}
+use Rattle.module_lang.proofs.ListLaws.{AllBelow, all_cons, all_head, all_tail, below_back, below_front, numbers_below, range_below}
 use Rattle.module_lang.proofs.OperandLaws.{shape, brigade_is, source_is}
 use Rattle.module_lang.proofs.SliceLaws.{front_item, back_item, item_of}
 
@@ -66,10 +71,6 @@ resolved before h code after e = open_end (ends_open h.steps) refl e
     open_end true q e = absurd (cc e)
     open_end false q e = other (sooner (label_fault before (length h.steps) h.labels) (jump_fault h.labels h.steps)) refl q e
 
-pub all_cons : {X : Type 0} (P : X → Type 0) (x : X) (xs : List X) → P x → All P xs → All P (x ∷ xs)
-all_cons P x xs p h zero d lt = p
-all_cons P x xs p h (suc k) d lt = h k d (omega arith)
-
 -- no label stands behind the last instruction
 labels_below : (before : List Label) (n : ℕ) (ls : List Label) → label_fault before n ls ≡ None → All (λ l. l.place < n) ls
 labels_below before n [] h = λ k d lt. absurd (omega arith)
@@ -101,51 +102,97 @@ found_below ls n (Some name) all some h = found (place_from None name ls) refl h
     found None q h = absurd (cc h)
     found (Some p) q h = place_from-below n None name ls (λ x e. absurd (cc e)) all p q
 
-in_range : (i : Op) (o : Operands) (t from to : ℕ) → from ≤ t → t < to → IfSome (target (op_instr i o t)) (λ x. (from ≤ x) × (x < to))
-in_range op.BCreate o t from to low high = tt
-in_range op.BClean o t from to low high = tt
-in_range op.BConcat o t from to low high = tt
-in_range op.Pass o t from to low high = (low, high)
-in_range op.JEmpty o t from to low high = (low, high)
-in_range op.JSent o t from to low high = (low, high)
-in_range op.Jump o t from to low high = (low, high)
-in_range op.Ret o t from to low high = tt
+in_range : (i : Op) (o : Operands) (x t from to : ℕ) → from ≤ t → t < to → IfSome (target (op_instr i o x t)) (λ y. (from ≤ y) × (y < to))
+in_range op.PCreate o x t from to low high = tt
+in_range op.PClear o x t from to low high = tt
+in_range op.PDestroy o x t from to low high = tt
+in_range op.Label o x t from to low high = tt
+in_range op.Unlabel o x t from to low high = tt
+in_range op.BCreate o x t from to low high = tt
+in_range op.BClean o x t from to low high = tt
+in_range op.BConcat o x t from to low high = tt
+in_range op.Pass o x t from to low high = (low, high)
+in_range op.JEmpty o x t from to low high = (low, high)
+in_range op.JNull o x t from to low high = (low, high)
+in_range op.JSent o x t from to low high = (low, high)
+in_range op.Jump o x t from to low high = (low, high)
+in_range op.Ret o x t from to low high = tt
 
-same_op : (i : Op) (o : Operands) (t : ℕ) → i ≡ op_of (op_instr i o t)
-same_op op.BCreate o t = refl
-same_op op.BClean o t = refl
-same_op op.BConcat o t = refl
-same_op op.Pass o t = refl
-same_op op.JEmpty o t = refl
-same_op op.JSent o t = refl
-same_op op.Jump o t = refl
-same_op op.Ret o t = refl
+same_op : (i : Op) (o : Operands) (x t : ℕ) → i ≡ op_of (op_instr i o x t)
+same_op op.PCreate o x t = refl
+same_op op.PClear o x t = refl
+same_op op.PDestroy o x t = refl
+same_op op.Label o x t = refl
+same_op op.Unlabel o x t = refl
+same_op op.BCreate o x t = refl
+same_op op.BClean o x t = refl
+same_op op.BConcat o x t = refl
+same_op op.Pass o x t = refl
+same_op op.JEmpty o x t = refl
+same_op op.JNull o x t = refl
+same_op op.JSent o x t = refl
+same_op op.Jump o x t = refl
+same_op op.Ret o x t = refl
 
-same_end : (i : Op) (o : Operands) (t : ℕ) → goes_on (op_instr i o t) ≡ op_goes_on i
-same_end op.BCreate o t = refl
-same_end op.BClean o t = refl
-same_end op.BConcat o t = refl
-same_end op.Pass o t = refl
-same_end op.JEmpty o t = refl
-same_end op.JSent o t = refl
-same_end op.Jump o t = refl
-same_end op.Ret o t = refl
+same_end : (i : Op) (o : Operands) (x t : ℕ) → goes_on (op_instr i o x t) ≡ op_goes_on i
+same_end op.PCreate o x t = refl
+same_end op.PClear o x t = refl
+same_end op.PDestroy o x t = refl
+same_end op.Label o x t = refl
+same_end op.Unlabel o x t = refl
+same_end op.BCreate o x t = refl
+same_end op.BClean o x t = refl
+same_end op.BConcat o x t = refl
+same_end op.Pass o x t = refl
+same_end op.JEmpty o x t = refl
+same_end op.JNull o x t = refl
+same_end op.JSent o x t = refl
+same_end op.Jump o x t = refl
+same_end op.Ret o x t = refl
 
--- the name of a label matters to no handler
-pub unnamed : (q : Part) (ps bs : List PoolRef) (i : Instr) (n : List ℕ) → misplaced q ps bs (op_of i) (operands_of i n) ≡ misplaced q ps bs (op_of i) (operands_of i [])
-unnamed q ps bs (instr.BCreate o) n = refl
-unnamed q ps bs (instr.BClean b) n = refl
-unnamed q ps bs (instr.BConcat a b) n = refl
-unnamed q ps bs (instr.Pass b l) n = refl
-unnamed q ps bs (instr.JEmpty b l) n = refl
-unnamed q ps bs (instr.JSent l) n = refl
-unnamed q ps bs (instr.Jump l) n = refl
-unnamed q ps bs (instr.Ret s) n = refl
+own_text : (i : Op) (o : Operands) (x t : ℕ) → text_of_instr (op_instr i o x t) ≡ cond (is_some (text_of_instr (op_instr i o x t))) (Some x) None
+own_text op.PCreate o x t = refl
+own_text op.PClear o x t = refl
+own_text op.PDestroy o x t = refl
+own_text op.Label o x t = refl
+own_text op.Unlabel o x t = refl
+own_text op.BCreate o x t = refl
+own_text op.BClean o x t = refl
+own_text op.BConcat o x t = refl
+own_text op.Pass o x t = refl
+own_text op.JEmpty o x t = refl
+own_text op.JNull o x t = refl
+own_text op.JSent o x t = refl
+own_text op.Jump o x t = refl
+own_text op.Ret o x t = refl
 
-is_allowed : (q : Part) (ps bs : List PoolRef) (i : Op) (o : Operands) (t : ℕ) → IsOfKinds (op_kinds i) o → misplaced q ps bs i o ≡ false → misplaced q ps bs (op_of (op_instr i o t)) (operands_of (op_instr i o t) []) ≡ false
-is_allowed q ps bs i o t k h =
-    let form = shape i o t k in
-    sym (unnamed q ps bs (op_instr i o t) form.0) ∙ sym (ap (λ x. misplaced q ps bs x (operands_of (op_instr i o t) form.0)) (same_op i o t)) ∙ sym (ap (misplaced q ps bs i) form.1) ∙ h
+text_same : (i : Op) (o : Operands) (x t : ℕ) → IsOfKinds (op_kinds i) o → text_of_instr (op_instr i o x t) ≡ cond (has_text o) (Some x) None
+text_same i o x t k =
+    let f = shape i o x t k in
+    own_text i o x t ∙ ap (λ b. cond b (Some x) None) (sym (ap has_text f.same ∙ has_text_of (op_instr i o x t) f.name f.len))
+
+-- the name of a label and the length of a text matter to no handler
+pub unnamed : (q : Part) (ps bs : List PoolRef) (i : Instr) (n : List ℕ) (k : ℕ) → misplaced q ps bs (op_of i) (operands_of i n k) ≡ misplaced q ps bs (op_of i) (operands_of i [] 0)
+unnamed q ps bs (instr.PCreate x) n k = refl
+unnamed q ps bs (instr.PClear x) n k = refl
+unnamed q ps bs (instr.PDestroy x) n k = refl
+unnamed q ps bs (instr.Label x t) n k = refl
+unnamed q ps bs (instr.Unlabel x t) n k = refl
+unnamed q ps bs (instr.BCreate o) n k = refl
+unnamed q ps bs (instr.BClean b) n k = refl
+unnamed q ps bs (instr.BConcat a b) n k = refl
+unnamed q ps bs (instr.Pass b l) n k = refl
+unnamed q ps bs (instr.JEmpty b l) n k = refl
+unnamed q ps bs (instr.JNull v l) n k = refl
+unnamed q ps bs (instr.JSent l) n k = refl
+unnamed q ps bs (instr.Jump l) n k = refl
+unnamed q ps bs (instr.Ret s) n k = refl
+
+is_allowed : (q : Part) (ps bs : List PoolRef) (i : Op) (o : Operands) (x t : ℕ) → IsOfKinds (op_kinds i) o → misplaced q ps bs i o ≡ false → misplaced q ps bs (op_of (op_instr i o x t)) (operands_of (op_instr i o x t) [] 0) ≡ false
+is_allowed q ps bs i o x t k h =
+    let form = shape i o x t k in
+    let made = op_instr i o x t in
+    sym (unnamed q ps bs made form.name form.len) ∙ sym (ap (λ y. misplaced q ps bs y (operands_of made form.name form.len)) (same_op i o x t)) ∙ sym (ap (misplaced q ps bs i) form.same) ∙ h
 
 own_brigade : (n b : ℕ) → b < 8 → (nat_lt b n || (eqb b 8)) ≡ true → nat_lt b n ≡ true
 own_brigade n b low h = declared (nat_lt b n) (eqb b 8) (ne_eqb b 8 (λ e. omega arith)) h
@@ -200,21 +247,76 @@ first_apart o h =
     let a = or_parts (same_brigade o.first o.second || same_brigade o.first o.third) (same_brigade o.second o.third) h in
     (or_parts (same_brigade o.first o.second) (same_brigade o.first o.third) a.0).0
 
--- the operands of an instruction that was read are declared, and its brigades differ
-fit : (p : Program) (i : Op) (o : Operands) (t m : ℕ) → IsOfKinds (op_kinds i) o → are_declared m (length p.brigades) o ≡ true → has_equal_brigades o ≡ false → fits p (op_instr i o t) ≡ true
+pool_declared : (m n : ℕ) (x : Operand) → of_kind kind.Pool x ≡ true → is_declared m n x ≡ true → nat_lt (operand_index x) m ≡ true
+pool_declared m n (operand.Place (pool.Own i)) k h = h
+pool_declared m n (operand.Place pool.Conn) k h = absurd (cc k)
+pool_declared m n (operand.Place pool.Req) k h = absurd (cc k)
+pool_declared m n operand.Nothing k h = absurd (cc k)
+pool_declared m n operand.One k h = absurd (cc k)
+pool_declared m n (operand.Brigade b) k h = absurd (cc k)
+pool_declared m n (operand.Ending e) k h = absurd (cc k)
+pool_declared m n (operand.Label l) k h = absurd (cc k)
+pool_declared m n (operand.Text t) k h = absurd (cc k)
+
+place_declared : (m n : ℕ) (x : Operand) → is_declared m n x ≡ true → place_is_declared m (operand_place x) ≡ true
+place_declared m n (operand.Place p) h = h
+place_declared m n operand.Nothing h = refl
+place_declared m n operand.One h = refl
+place_declared m n (operand.Brigade b) h = refl
+place_declared m n (operand.Ending e) h = refl
+place_declared m n (operand.Label l) h = refl
+place_declared m n (operand.Text t) h = refl
+
+variable_declared : (p : Program) (x : Operand) → of_kind kind.Variable x ≡ true → is_declared (length p.pools) (length p.brigades) x ≡ true → is_variable p (operand_variable x) ≡ true
+variable_declared p (operand.Place (pool.Own i)) k h = h
+variable_declared p (operand.Brigade b) k h = own_brigade (length p.brigades) b (ltb-true b 8 k) h
+variable_declared p (operand.Place pool.Conn) k h = absurd (cc k)
+variable_declared p (operand.Place pool.Req) k h = absurd (cc k)
+variable_declared p operand.Nothing k h = absurd (cc k)
+variable_declared p operand.One k h = absurd (cc k)
+variable_declared p (operand.Ending e) k h = absurd (cc k)
+variable_declared p (operand.Label l) k h = absurd (cc k)
+variable_declared p (operand.Text t) k h = absurd (cc k)
+
+-- the operands of an instruction that was read are declared, its brigades differ, and its text is one of the module
+fit : (p : Program) (i : Op) (o : Operands) (x t : ℕ) → IsOfKinds (op_kinds i) o → are_declared (length p.pools) (length p.brigades) o ≡ true → has_equal_brigades o ≡ false → (has_text o ≡ true → x < length p.texts) → fits p (op_instr i o x t) ≡ true
 unfolding op_kinds
-fit p op.BCreate o t m k h a = own_brigade (length p.brigades) (operand_index o.first) (brigade_below o.first k.first) (declared_as m (length p.brigades) o.first (brigade_is o.first k.first) (first_declared m (length p.brigades) o h))
-fit p op.BClean o t m k h a = declared_as m (length p.brigades) o.first (source_is o.first k.first) (first_declared m (length p.brigades) o h)
-fit p op.BConcat o t m k h a =
-    let first = declared_as m (length p.brigades) o.first (source_is o.first k.first) (first_declared m (length p.brigades) o h) in
-    let second = declared_as m (length p.brigades) o.second (source_is o.second k.second) (second_declared m (length p.brigades) o h) in
+fit p op.PCreate o x t k h a w = pool_declared (length p.pools) (length p.brigades) o.first k.first (first_declared (length p.pools) (length p.brigades) o h)
+fit p op.PClear o x t k h a w = pool_declared (length p.pools) (length p.brigades) o.first k.first (first_declared (length p.pools) (length p.brigades) o h)
+fit p op.PDestroy o x t k h a w = pool_declared (length p.pools) (length p.brigades) o.first k.first (first_declared (length p.pools) (length p.brigades) o h)
+fit p op.Label o x t k h a w =
+    let first = place_declared (length p.pools) (length p.brigades) o.first (first_declared (length p.pools) (length p.brigades) o h) in
+    let number = lt-ltb x (length p.texts) (w (ap has_text (shape op.Label o x t k).same)) in
+    rw (first, number) refl
+fit p op.Unlabel o x t k h a w =
+    let first = place_declared (length p.pools) (length p.brigades) o.first (first_declared (length p.pools) (length p.brigades) o h) in
+    let number = lt-ltb x (length p.texts) (w (ap has_text (shape op.Unlabel o x t k).same)) in
+    rw (first, number) refl
+fit p op.BCreate o x t k h a w = own_brigade (length p.brigades) (operand_index o.first) (brigade_below o.first k.first) (declared_as (length p.pools) (length p.brigades) o.first (brigade_is o.first k.first) (first_declared (length p.pools) (length p.brigades) o h))
+fit p op.BClean o x t k h a w = declared_as (length p.pools) (length p.brigades) o.first (source_is o.first k.first) (first_declared (length p.pools) (length p.brigades) o h)
+fit p op.BConcat o x t k h a w =
+    let first = declared_as (length p.pools) (length p.brigades) o.first (source_is o.first k.first) (first_declared (length p.pools) (length p.brigades) o h) in
+    let second = declared_as (length p.pools) (length p.brigades) o.second (source_is o.second k.second) (second_declared (length p.pools) (length p.brigades) o h) in
     let apart = same_brigades o.first o.second (source_is o.first k.first) (source_is o.second k.second) (first_apart o a) in
     rw (first, second, apart) refl
-fit p op.Pass o t m k h a = declared_as m (length p.brigades) o.first (source_is o.first k.first) (first_declared m (length p.brigades) o h)
-fit p op.JEmpty o t m k h a = declared_as m (length p.brigades) o.first (source_is o.first k.first) (first_declared m (length p.brigades) o h)
-fit p op.JSent o t m k h a = refl
-fit p op.Jump o t m k h a = refl
-fit p op.Ret o t m k h a = refl
+fit p op.Pass o x t k h a w = declared_as (length p.pools) (length p.brigades) o.first (source_is o.first k.first) (first_declared (length p.pools) (length p.brigades) o h)
+fit p op.JEmpty o x t k h a w = declared_as (length p.pools) (length p.brigades) o.first (source_is o.first k.first) (first_declared (length p.pools) (length p.brigades) o h)
+fit p op.JNull o x t k h a w = variable_declared p o.first k.first (first_declared (length p.pools) (length p.brigades) o h)
+fit p op.JSent o x t k h a w = refl
+fit p op.Jump o x t k h a w = refl
+fit p op.Ret o x t k h a w = refl
+
+number_low : (b : Bool) (x n : ℕ) → IfSome (cond b (Some x) None) (λ t. t < n) → b ≡ true → x < n
+number_low true x n h e = h
+number_low false x n h e = absurd (cc e)
+
+-- the texts of the code of a handler are those of its lines
+code_numbers : (base : ℕ) (ls : List Label) (ps bs : List PoolRef) (q : Part) (steps : List Step) → All (IsStep ps bs q) steps → filter_map text_of_instr (map (step_code base ls) steps) ≡ step_numbers steps
+unfolding step_code
+code_numbers base ls ps bs q [] h = refl
+code_numbers base ls ps bs q (s ∷ ss) h =
+    let first = all_head (IsStep ps bs q) s ss h in
+    rw (text_same s.op s.operands s.text (base + target_place ls (label_of s.operands)) first.kinds, code_numbers base ls ps bs q ss (all_tail (IsStep ps bs q) s ss h)) refl
 
 -- the code of a handler, item by item
 step_at : (g : Step → Instr) (h : Handler) (code after rest : List Instr) (pc : ℕ) (i : Instr) → after ≡ code ++ map g h.steps → length code ≤ pc → pc < length after → slice_get (after ++ rest) pc ≡ Some i → (s : Step) × (slice_get h.steps (pc - length code) ≡ Some s) × (g s ≡ i)
@@ -241,9 +343,9 @@ closed_last steps h = last (slice_get steps (length steps - 1)) refl h
     last None q h = absurd (cc h)
     last (Some s) q h = (s, q, h)
 
-part_of : (p : Program) (q : Part) (h : Handler) (before : List Label) (code after rest : List Instr) → p.code ≡ after ++ rest → IsResolved before h code after → All (IsStep p.pools p.brigades q) h.steps → IsPart p q (length code) (length after)
+part_of : (p : Program) (q : Part) (h : Handler) (before : List Label) (code after rest : List Instr) → p.code ≡ after ++ rest → IsResolved before h code after → All (IsStep p.pools p.brigades q) h.steps → All (λ s. IfSome (step_text s) (λ t. t < length p.texts)) h.steps → IsPart p q (length code) (length after)
 unfolding step_code
-part_of p q h before code after rest whole r all =
+part_of p q h before code after rest whole r all numbers =
     let g = step_code (length code) h.labels in
     let n = length h.steps in
     let size : length after ≡ length code + n = ap length r.whole ∙ length-append code (map g h.steps) ∙ ap (λ x. length code + x) (length-map h.steps g) in
@@ -261,7 +363,7 @@ part_of p q h before code after rest whole r all =
             let s = at (length after - 1) i low high e in
             let k : length after - 1 - length code ≡ n - 1 = omega arith in
             let same : last.0 ≡ s.0 = let a : Some last.0 ≡ Some s.0 = sym last.1 ∙ ap (slice_get h.steps) (sym k) ∙ s.1 in cc a in
-            ap goes_on (sym s.2) ∙ same_end s.0.op s.0.operands (length code + target_place h.labels (label_of s.0.operands)) ∙ ap (λ (x : Step). op_goes_on x.op) (sym same) ∙ last.2;
+            ap goes_on (sym s.2) ∙ same_end s.0.op s.0.operands s.0.text (length code + target_place h.labels (label_of s.0.operands)) ∙ ap (λ (x : Step). op_goes_on x.op) (sym same) ∙ last.2;
         inside = λ pc i low high e.
             let s = at pc i low high e in
             let fine = item_of (IsStep p.pools p.brigades q) h.steps (pc - length code) s.0 all s.1 in
@@ -269,14 +371,15 @@ part_of p q h before code after rest whole r all =
             let t = length code + target_place h.labels (label_of s.0.operands) in
             let near = found_below h.labels n (label_of s.0.operands) below (omega arith) there in
             subst (λ x. IsInside p q (length code) (length after) x) s.2 (record {
-              target = in_range s.0.op s.0.operands t (length code) (length after) (omega arith) (omega arith);
-              allowed = is_allowed q p.pools p.brigades s.0.op s.0.operands t fine.kinds fine.allowed;
+              target = in_range s.0.op s.0.operands s.0.text t (length code) (length after) (omega arith) (omega arith);
+              allowed = is_allowed q p.pools p.brigades s.0.op s.0.operands s.0.text t fine.kinds fine.allowed;
             });
       };
       fitting = λ pc i low high e.
           let s = at pc i low high e in
           let fine = item_of (IsStep p.pools p.brigades q) h.steps (pc - length code) s.0 all s.1 in
-          subst (λ x. fits p x ≡ true) s.2 (fit p s.0.op s.0.operands (length code + target_place h.labels (label_of s.0.operands)) (length p.pools) fine.kinds fine.declared fine.apart);
+          let low = item_of (λ x. IfSome (step_text x) (λ t. t < length p.texts)) h.steps (pc - length code) s.0 numbers s.1 in
+          subst (λ x. fits p x ≡ true) s.2 (fit p s.0.op s.0.operands s.0.text (length code + target_place h.labels (label_of s.0.operands)) fine.kinds fine.declared fine.apart (number_low (has_text s.0.operands) s.0.text (length p.texts) low));
     }
 
 -- within a handler, an instruction leads to instructions
@@ -297,17 +400,12 @@ placed_in p q from to pc i part size low high e = record {
         let last : to - 1 ≡ pc = omega arith in
         absurd (cc (sym on ∙ part.handler.ends i (ap (slice_get p.code) last ∙ e)))
 
-none_named : (is : List Instr) → filter_map text_of_instr is ≡ []
-none_named [] = refl
-none_named (i ∷ is) = none_named is
-
 -- the parts of a program that is made of three handlers
-module_of_parts : (p : Program) → IsPart p part.Open 0 p.init → IsPart p part.Init p.init p.main → IsPart p part.Main p.main (length p.code) → length p.code ≤ 1024 → length p.brigades ≤ 8 → length p.pools ≤ 8 → ((k : ℕ) (q : PoolRef) → slice_get p.pools k ≡ Some q → place_is_declared k q ≡ true) → ((k : ℕ) (q : PoolRef) → slice_get p.brigades k ≡ Some q → place_is_declared (length p.pools) q ≡ true) → p.texts ≡ [] → IsModule p
-module_of_parts p a b c size brigades pools parents homes none =
+module_of_parts : (p : Program) → IsPart p part.Open 0 p.init → IsPart p part.Init p.init p.main → IsPart p part.Main p.main (length p.code) → length p.code ≤ 1024 → length p.brigades ≤ 8 → length p.pools ≤ 8 → ((k : ℕ) (q : PoolRef) → slice_get p.pools k ≡ Some q → place_is_declared k q ≡ true) → ((k : ℕ) (q : PoolRef) → slice_get p.brigades k ≡ Some q → place_is_declared (length p.pools) q ≡ true) → filter_map text_of_instr p.code ≡ range_with_len 0 (length p.texts) → length p.texts ≤ 64 → All (λ t. length t ≤ 255) p.texts → IsModule p
+module_of_parts p a b c size brigades pools parents homes texts few short =
     let one = a.handler.some in
     let two = b.handler.some in
     let three = c.handler.some in
-    let texts : length p.texts ≡ 0 = ap length none in
     record {
       placed = λ pc i e. in_part pc i e (slice_get_within p.code pc i e) (cases_lt pc p.init) (cases_lt pc p.main) (omega arith) (omega arith);
       size = size;
@@ -318,9 +416,9 @@ module_of_parts p a b c size brigades pools parents homes none =
       pools = pools;
       parents = parents;
       homes = homes;
-      texts = none_named p.code ∙ rw texts refl;
-      few = omega arith;
-      short = λ k d lt. absurd (omega arith);
+      texts = texts;
+      few = few;
+      short = short;
       opening = a.handler;
       initial = b.handler;
       serving = c.handler;
@@ -345,8 +443,21 @@ module_of d start a b c none s p q r =
     let size_a : length a ≡ length d.open.steps = ap length first.whole ∙ ap (λ x. length (x ++ map (step_code (length x) d.open.labels) d.open.steps)) none ∙ length-map d.open.steps (step_code 0 d.open.labels) in
     let size_b : length b ≡ length a + length d.init.steps = ap length second.whole ∙ length-append a tail_b ∙ ap (λ x. length a + x) (length-map d.init.steps (step_code (length a) d.init.labels)) in
     let size_c : length c ≡ length b + length d.main.steps = ap length third.whole ∙ length-append b tail_c ∙ ap (λ x. length b + x) (length-map d.main.steps (step_code (length b) d.main.labels)) in
-    let part_a = part_of m part.Open d.open [] start a (tail_b ++ tail_c) whole_a first s.opening in
-    let part_b = part_of m part.Init d.init d.open.labels a b tail_c third.whole second s.init in
-    let part_c = part_of m part.Main d.main (d.open.labels ++ d.init.labels) b c [] whole_c third s.main in
+    let n = length d.texts in
+    let na = step_numbers d.open.steps in
+    let nb = step_numbers d.init.steps in
+    let nc = step_numbers d.main.steps in
+    let all : AllBelow n (na ++ (nb ++ nc)) = subst (λ x. AllBelow n x) (sym s.texts) (range_below 0 n n (omega arith)) in
+    let low_a = numbers_below step_text n d.open.steps (below_front n na (nb ++ nc) all) in
+    let low_bc = below_back n na (nb ++ nc) all in
+    let low_b = numbers_below step_text n d.init.steps (below_front n nb nc low_bc) in
+    let low_c = numbers_below step_text n d.main.steps (below_back n nb nc low_bc) in
+    let is_a : filter_map text_of_instr a ≡ na = ap (λ x. filter_map text_of_instr x) (first.whole ∙ ap (λ x. x ++ map (step_code (length x) d.open.labels) d.open.steps) none) ∙ code_numbers 0 d.open.labels d.pools d.brigades part.Open d.open.steps s.opening in
+    let is_b = code_numbers (length a) d.init.labels d.pools d.brigades part.Init d.init.steps s.init in
+    let is_c = code_numbers (length b) d.main.labels d.pools d.brigades part.Main d.main.steps s.main in
+    let texts : filter_map text_of_instr c ≡ range_with_len 0 n = ap (λ x. filter_map text_of_instr x) whole_a ∙ filter_map-append text_of_instr a (tail_b ++ tail_c) ∙ ap (λ x. filter_map text_of_instr a ++ x) (filter_map-append text_of_instr tail_b tail_c) ∙ rw (is_a, is_b, is_c) s.texts in
+    let part_a = part_of m part.Open d.open [] start a (tail_b ++ tail_c) whole_a first s.opening low_a in
+    let part_b = part_of m part.Init d.init d.open.labels a b tail_c third.whole second s.init low_b in
+    let part_c = part_of m part.Main d.main (d.open.labels ++ d.init.labels) b c [] whole_c third s.main low_c in
     let zero : length start ≡ 0 = ap length none in
-    module_of_parts m (rw zero at part_a) part_b part_c (omega (arith, s.count)) s.brigades s.pools s.parents s.homes s.texts
+    module_of_parts m (rw zero at part_a) part_b part_c (omega (arith, s.count)) s.brigades s.pools s.parents s.homes texts s.few s.short

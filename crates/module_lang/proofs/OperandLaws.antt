@@ -5,11 +5,11 @@ use Rattle.std.specs.Cmp.Lexicographic.{pointwise}
 use Rattle.std.proofs.lemmas.Bool.{and_parts, leb-true, lt-ltb}
 use Rattle.module_lang.specs.Bytes.{begins, tail, token}
 use Rattle.module_lang.specs.Codes.{◌>>=◌, unless}
-use Rattle.module_lang.specs.Handlers.{op_instr, operand_index, operand_status}
+use Rattle.module_lang.specs.Handlers.{op_instr, operand_index, operand_status, operand_variable}
 use Rattle.module_lang.specs.Names.{name_of}
-use Rattle.module_lang.specs.Operands.{IsOfKinds, numbered, of_kind, operand_in, operand_at, or_wrong, text_operand, text_measured, operands_at, after_operand}
+use Rattle.module_lang.specs.Operands.{IsOfKinds, numbered, of_kind, operand_in, operand_at, operand_place, or_wrong, text_operand, text_measured, operands_at, after_operand}
 use Rattle.module_lang.specs.Quoted.{quoted, measure_of}
-use Rattle.module_lang.specs.Spelling.{operands_of}
+use Rattle.module_lang.specs.Spelling.{operands_of, one, two, own_pool, variable_operand}
 use Rattle.module_lang.specs.Words.{op_kinds}
 use Rattle.module_lang.specs.declared.instr.PoolRef.{PoolRef}
 use Rattle.module_lang.specs.declared.instr.PoolRef.TheVariants as pool
@@ -85,6 +85,18 @@ one_kind : (a : Bool) (o : Operand) → cond a (Some operand.One) None ≡ Some 
 one_kind true o e = is_kind kind.One operand.One o refl e
 one_kind false o e = absurd (cc e)
 
+number_variable : (n : Option ℕ) (o : Operand) → ((i : ℕ) → n ≡ Some i → i < 8) → option_map (λ i. operand.Place (pool.Own i)) n ≡ Some o → of_kind kind.Variable o ≡ true
+number_variable None o h e = absurd (cc e)
+number_variable (Some i) o h e = is_kind kind.Variable (operand.Place (pool.Own i)) o (lt-ltb i 8 (h i refl)) e
+
+brigade_variable : (n : Option ℕ) (o : Operand) → ((i : ℕ) → n ≡ Some i → i < 8) → option_map (λ i. operand.Brigade i) n ≡ Some o → of_kind kind.Variable o ≡ true
+brigade_variable None o h e = absurd (cc e)
+brigade_variable (Some i) o h e = is_kind kind.Variable (operand.Brigade i) o (lt-ltb i 8 (h i refl)) e
+
+variable_kind : (a : Bool) (t : List ℕ) (o : Operand) → cond a (option_map (λ i. operand.Place (pool.Own i)) (numbered 112 t)) (option_map (λ i. operand.Brigade i) (numbered 98 t)) ≡ Some o → of_kind kind.Variable o ≡ true
+variable_kind true t o e = number_variable (numbered 112 t) o (numbered_below 112 t) e
+variable_kind false t o e = brigade_variable (numbered 98 t) o (numbered_below 98 t) e
+
 pub token_kind : (k : Kind) (t : List ℕ) (o : Operand) → operand_in k t ≡ Some o → of_kind k o ≡ true
 unfolding operand_in
 token_kind kind.Nothing t o e = absurd (cc e)
@@ -96,6 +108,7 @@ token_kind kind.Source t o e = source_kind (pointwise nat_eq t (codes "in")) (nu
 token_kind kind.Ending t o e = ending_kind (pointwise nat_eq t (codes "ok")) (pointwise nat_eq t (codes "fail")) o e
 token_kind kind.Label t o e = label_kind (name_of t) o e
 token_kind kind.Text t o e = absurd (cc e)
+token_kind kind.Variable t o e = variable_kind (begins 112 t) t o e
 
 wrong_or : (k : Kind) (t : List ℕ) (r : Option Operand) (o : Operand) → operand_in k t ≡ r → or_wrong r ≡ Ok o → of_kind k o ≡ true
 wrong_or k t None o q e = absurd (cc e)
@@ -128,6 +141,7 @@ read_kind kind.Source rest o e = word_kind kind.Source (not (begins 32 rest)) (t
 read_kind kind.Ending rest o e = word_kind kind.Ending (not (begins 32 rest)) (token (tail rest)) o e
 read_kind kind.Label rest o e = word_kind kind.Label (not (begins 32 rest)) (token (tail rest)) o e
 read_kind kind.Text rest o e = text_kind (not (begins 32 rest)) (tail rest) o e
+read_kind kind.Variable rest o e = word_kind kind.Variable (not (begins 32 rest)) (token (tail rest)) o e
 
 -- the steps by which operands are read
 pub kinds_read : (k : Kinds) (rest : List ℕ) (o : Operands) → operands_at k rest ≡ Ok o → IsOfKinds k o
@@ -200,26 +214,74 @@ label_is (operand.Ending s) h = absurd (cc h)
 label_is (operand.Label n) h = (n, refl)
 label_is (operand.Text n) h = absurd (cc h)
 
-pub place_is : (x : Operand) → of_kind kind.Place x ≡ true → (p : PoolRef) × (x ≡ operand.Place p)
+pub place_is : (x : Operand) → of_kind kind.Place x ≡ true → x ≡ operand.Place (operand_place x)
 place_is operand.Nothing h = absurd (cc h)
 place_is operand.One h = absurd (cc h)
-place_is (operand.Place p) h = (p, refl)
+place_is (operand.Place p) h = refl
 place_is (operand.Brigade b) h = absurd (cc h)
 place_is (operand.Ending s) h = absurd (cc h)
 place_is (operand.Label n) h = absurd (cc h)
 place_is (operand.Text n) h = absurd (cc h)
 
+pub pool_is : (x : Operand) → of_kind kind.Pool x ≡ true → x ≡ own_pool (operand_index x)
+pool_is operand.Nothing h = absurd (cc h)
+pool_is operand.One h = absurd (cc h)
+pool_is (operand.Place pool.Conn) h = absurd (cc h)
+pool_is (operand.Place pool.Req) h = absurd (cc h)
+pool_is (operand.Place (pool.Own i)) h = refl
+pool_is (operand.Brigade b) h = absurd (cc h)
+pool_is (operand.Ending s) h = absurd (cc h)
+pool_is (operand.Label n) h = absurd (cc h)
+pool_is (operand.Text n) h = absurd (cc h)
+
+pub variable_is : (x : Operand) → of_kind kind.Variable x ≡ true → x ≡ variable_operand (operand_variable x)
+variable_is operand.Nothing h = absurd (cc h)
+variable_is operand.One h = absurd (cc h)
+variable_is (operand.Place pool.Conn) h = absurd (cc h)
+variable_is (operand.Place pool.Req) h = absurd (cc h)
+variable_is (operand.Place (pool.Own i)) h = refl
+variable_is (operand.Brigade b) h = refl
+variable_is (operand.Ending s) h = absurd (cc h)
+variable_is (operand.Label n) h = absurd (cc h)
+variable_is (operand.Text n) h = absurd (cc h)
+
+pub text_is : (x : Operand) → of_kind kind.Text x ≡ true → (k : ℕ) × (x ≡ operand.Text k)
+text_is operand.Nothing h = absurd (cc h)
+text_is operand.One h = absurd (cc h)
+text_is (operand.Place p) h = absurd (cc h)
+text_is (operand.Brigade b) h = absurd (cc h)
+text_is (operand.Ending s) h = absurd (cc h)
+text_is (operand.Label n) h = absurd (cc h)
+text_is (operand.Text k) h = (k, refl)
+
 four : (o : Operands) (a b c d : Operand) → o.first ≡ a → o.second ≡ b → o.third ≡ c → o.fourth ≡ d → o ≡ made a b c d
 four o a b c d p q r s = λ i. made (p i) (q i) (r i) (s i)
 
--- the operands that were read are those of the instruction, with the name of its label
-pub shape : (i : Op) (o : Operands) (t : ℕ) → IsOfKinds (op_kinds i) o → (n : List ℕ) × (o ≡ operands_of (op_instr i o t) n)
+one_shape : (o : Operands) (a : Operand) → o.first ≡ a → of_kind kind.Nothing o.second ≡ true → of_kind kind.Nothing o.third ≡ true → of_kind kind.Nothing o.fourth ≡ true → o ≡ one a
+one_shape o a p q r s = four o a operand.Nothing operand.Nothing operand.Nothing p (nothing_is o.second q) (nothing_is o.third r) (nothing_is o.fourth s)
+
+two_shape : (o : Operands) (a b : Operand) → o.first ≡ a → o.second ≡ b → of_kind kind.Nothing o.third ≡ true → of_kind kind.Nothing o.fourth ≡ true → o ≡ two a b
+two_shape o a b p q r s = four o a b operand.Nothing operand.Nothing p q (nothing_is o.third r) (nothing_is o.fourth s)
+
+-- the operands that were read are those of the instruction, with the name of its label and the length of its text
+pub record IsShaped (i : Op) (o : Operands) (x t : ℕ) : Type 0 where
+  pub name : List ℕ
+  pub len : ℕ
+  pub same : o ≡ operands_of (op_instr i o x t) name len
+
+pub shape : (i : Op) (o : Operands) (x t : ℕ) → IsOfKinds (op_kinds i) o → IsShaped i o x t
 unfolding op_kinds
-shape op.BCreate o t h = ([], four o _ _ _ _ (brigade_is o.first h.first) (nothing_is o.second h.second) (nothing_is o.third h.third) (nothing_is o.fourth h.fourth))
-shape op.BClean o t h = ([], four o _ _ _ _ (source_is o.first h.first) (nothing_is o.second h.second) (nothing_is o.third h.third) (nothing_is o.fourth h.fourth))
-shape op.BConcat o t h = ([], four o _ _ _ _ (source_is o.first h.first) (source_is o.second h.second) (nothing_is o.third h.third) (nothing_is o.fourth h.fourth))
-shape op.Pass o t h = let l = label_is o.second h.second in (l.0, four o _ _ _ _ (source_is o.first h.first) l.1 (nothing_is o.third h.third) (nothing_is o.fourth h.fourth))
-shape op.JEmpty o t h = let l = label_is o.second h.second in (l.0, four o _ _ _ _ (source_is o.first h.first) l.1 (nothing_is o.third h.third) (nothing_is o.fourth h.fourth))
-shape op.JSent o t h = let l = label_is o.first h.first in (l.0, four o _ _ _ _ l.1 (nothing_is o.second h.second) (nothing_is o.third h.third) (nothing_is o.fourth h.fourth))
-shape op.Jump o t h = let l = label_is o.first h.first in (l.0, four o _ _ _ _ l.1 (nothing_is o.second h.second) (nothing_is o.third h.third) (nothing_is o.fourth h.fourth))
-shape op.Ret o t h = ([], four o _ _ _ _ (ending_is o.first h.first) (nothing_is o.second h.second) (nothing_is o.third h.third) (nothing_is o.fourth h.fourth))
+shape op.PCreate o x t h = record { name = []; len = 0; same = one_shape o _ (pool_is o.first h.first) h.second h.third h.fourth }
+shape op.PClear o x t h = record { name = []; len = 0; same = one_shape o _ (pool_is o.first h.first) h.second h.third h.fourth }
+shape op.PDestroy o x t h = record { name = []; len = 0; same = one_shape o _ (pool_is o.first h.first) h.second h.third h.fourth }
+shape op.Label o x t h = let k = text_is o.second h.second in record { name = []; len = k.0; same = two_shape o _ _ (place_is o.first h.first) k.1 h.third h.fourth }
+shape op.Unlabel o x t h = let k = text_is o.second h.second in record { name = []; len = k.0; same = two_shape o _ _ (place_is o.first h.first) k.1 h.third h.fourth }
+shape op.BCreate o x t h = record { name = []; len = 0; same = one_shape o _ (brigade_is o.first h.first) h.second h.third h.fourth }
+shape op.BClean o x t h = record { name = []; len = 0; same = one_shape o _ (source_is o.first h.first) h.second h.third h.fourth }
+shape op.BConcat o x t h = record { name = []; len = 0; same = two_shape o _ _ (source_is o.first h.first) (source_is o.second h.second) h.third h.fourth }
+shape op.Pass o x t h = let l = label_is o.second h.second in record { name = l.0; len = 0; same = two_shape o _ _ (source_is o.first h.first) l.1 h.third h.fourth }
+shape op.JEmpty o x t h = let l = label_is o.second h.second in record { name = l.0; len = 0; same = two_shape o _ _ (source_is o.first h.first) l.1 h.third h.fourth }
+shape op.JNull o x t h = let l = label_is o.second h.second in record { name = l.0; len = 0; same = two_shape o _ _ (variable_is o.first h.first) l.1 h.third h.fourth }
+shape op.JSent o x t h = let l = label_is o.first h.first in record { name = l.0; len = 0; same = one_shape o _ l.1 h.second h.third h.fourth }
+shape op.Jump o x t h = let l = label_is o.first h.first in record { name = l.0; len = 0; same = one_shape o _ l.1 h.second h.third h.fourth }
+shape op.Ret o x t h = record { name = []; len = 0; same = one_shape o _ (ending_is o.first h.first) h.second h.third h.fourth }

@@ -1,17 +1,17 @@
 -- A text whose lines are spelled is read line by line.
-use Rattle.std.proofs.Common.{◌≡◌, ℕ, ◌+◌, ◌<◌, Bool, true, false, ◌&&◌, not, cond, eqb, List, [], ◌∷◌, ◌++◌, length, get_or, Ok, refl, sym, ◌∙◌, ap, subst, arith, add-one, append_assoc, append-nil}
-use Rattle.std.specs.Prelude.{All}
+use Rattle.std.proofs.Common.{◌≡◌, ℕ, ◌+◌, ◌<◌, Bool, true, false, ◌&&◌, not, cond, eqb, List, [], ◌∷◌, ◌++◌, length, ltb, ◌||◌, ◌≤◌, Option, Some, None, Ok, refl, sym, ◌∙◌, ap, arith, append_assoc, append-nil}
+use Rattle.std.specs.Prelude.{All, IfSome, is_some}
 use Rattle.std.specs.List.{list_all}
-use Rattle.std.proofs.lemmas.Bool.{and_parts, ne_eqb, lt-ltb}
+use Rattle.std.proofs.lemmas.Bool.{and_parts, ne_eqb, lt-ltb, le-ltb}
 use Rattle.module_lang.specs.Assembling.{lines_read, lines_ended, is_end}
 use Rattle.module_lang.specs.Bytes.{all_printable, is_printable, unindented}
 use Rattle.module_lang.specs.Codes.{◌>>=◌}
 use Rattle.module_lang.specs.Drafts.{label_added}
 use Rattle.module_lang.specs.Entries.{line_taken, taken, item_entered}
-use Rattle.module_lang.specs.Lines.{line_read, unindented_read, is_due, is_handler, judged, has_equal_brigades, has_long_text, are_declared, misplaced, has_room, instruction_count}
+use Rattle.module_lang.specs.Lines.{line_read, unindented_read, is_due, is_handler, judged, has_equal_brigades, has_long_text, are_declared, misplaced, has_room, instruction_count, place_is_declared}
 use Rattle.module_lang.specs.Names.{is_name}
 use Rattle.module_lang.specs.Operands.{operands_at}
-use Rattle.module_lang.specs.Program.{Program, fits, is_brigade}
+use Rattle.module_lang.specs.Program.{Program, fits, is_brigade, text_of_instr}
 use Rattle.module_lang.specs.Spelling.{op_of, operands_of}
 use Rattle.module_lang.specs.Texts.{is_skipped, statements, joined, line_text, operands_text}
 use Rattle.module_lang.specs.Words.{word_text, word_kinds}
@@ -19,10 +19,12 @@ use Rattle.module_lang.specs.declared.draft.Draft.{Draft}
 use Rattle.module_lang.specs.declared.draft.Part.{Part}
 use Rattle.module_lang.specs.declared.instr.Instr.{Instr}
 use Rattle.module_lang.specs.declared.instr.Instr.TheVariants as instr
+use Rattle.module_lang.specs.declared.instr.VarRef.TheVariants as variable
 use Rattle.module_lang.specs.declared.operand.Operands.{Operands}
 use Rattle.module_lang.specs.declared.word.Word.{Word}
 use Rattle.module_lang.specs.declared.word.Word.TheVariants as word
-use Rattle.module_lang.proofs.DraftLaws.{no_text}
+use Rattle.module_lang.proofs.DraftLaws.{has_text_of}
+use Rattle.module_lang.proofs.ListLaws.{all_head, all_tail}
 use Rattle.module_lang.proofs.ModuleLaws.{unnamed}
 use Rattle.module_lang.proofs.SpellingLaws.{item_again, statement_plain, name_again, padded}
 
@@ -38,12 +40,6 @@ one_line d n cur (b ∷ bs) rest h =
     let apart : eqb b 10 ≡ false = ne_eqb b 10 (λ e. absurd (cc (sym a.0 ∙ ap is_printable e))) in
     rw apart (one_line d n (cur ++ b ∷ []) bs rest a.1 ∙ rw (append_assoc cur (b ∷ []) bs) refl)
 
-pub all_head : {X : Type 0} (P : X → Type 0) (x : X) (xs : List X) → All P (x ∷ xs) → P x
-all_head P x xs h = h 0 x (omega arith)
-
-pub all_tail : {X : Type 0} (P : X → Type 0) (x : X) (xs : List X) → All P (x ∷ xs) → All P xs
-all_tail P x xs h = λ k d lt. let e : get_or (x ∷ xs) (k + 1) d ≡ get_or xs k d = rw add-one refl in subst P e (h (k + 1) d (omega arith))
-
 pub fold_read : (lines : List (List ℕ)) (d e : Draft) (n : ℕ) → All (λ l. all_printable l ≡ true) lines → Fold d n lines e → is_end e.part ≡ true → lines_read false d n [] (joined lines) ≡ Ok e
 unfolding lines_ended all_printable
 fold_read [] d e n clean f end = let p : is_end d.part ≡ true = ap (λ (x : Draft). is_end x.part) f ∙ end in rw p (ap Ok f)
@@ -54,7 +50,7 @@ fold_read (l ∷ ls) d e n clean f end =
 
 -- a statement is taken, whatever spaces stand before it
 abbrev pub Takes : Draft → List ℕ → ℕ → Draft → Type 0
-Takes d s n e = (bytes : List ℕ) → taken d n bytes (unindented_read d s) ≡ Ok e
+Takes d s n e = (bytes : List ℕ) → unindented bytes ≡ s → taken d n bytes (unindented_read d s) ≡ Ok e
 
 -- statements lead from a draft to one of which P holds, whatever lines they stand in
 abbrev pub Goes : Draft → List (List ℕ) → (Draft → Type 0) → Type 0
@@ -78,21 +74,21 @@ run (l ∷ ls) d n P clean g = cases (is_skipped (unindented l)) refl (λ e m. r
         let first = all_head (λ l. all_printable l ≡ true) l ls clean in
         let s = g.1 n in
         let z = more s.0 (n + 1) s.2 in
-        (z.0, (s.0, rw first (s.1 l), z.1), z.2)
+        (z.0, (s.0, rw first (s.1 l refl), z.1), z.2)
 
 pub goes_append : (xs ys : List (List ℕ)) (d : Draft) (P : Draft → Type 0) → Goes d xs (λ e. Goes e ys P) → Goes d (xs ++ ys) P
 goes_append [] ys d P g = g
 goes_append (x ∷ xs) ys d P g = (g.0, λ n. let s = g.1 n in (s.0, s.1, goes_append xs ys s.0 P s.2))
 
 -- a line with a word
-pub goes_item : (d : Draft) (w : Word) (os : List (List ℕ)) (o : Operands) (next : ℕ → Draft) (ss : List (List ℕ)) (P : Draft → Type 0) → is_due d.part w ≡ true → operands_at (word_kinds w) (operands_text os) ≡ Ok o → judged d w o ≡ Ok tt → ((n : ℕ) (bytes : List ℕ) → item_entered d n bytes w o ≡ next n) → ((n : ℕ) → Goes (next n) ss P) → Goes d (line_text (word_text w) os ∷ ss) P
+pub goes_item : (d : Draft) (w : Word) (os : List (List ℕ)) (o : Operands) (next : ℕ → Draft) (ss : List (List ℕ)) (P : Draft → Type 0) → is_due d.part w ≡ true → operands_at (word_kinds w) (operands_text os) ≡ Ok o → judged d w o ≡ Ok tt → ((n : ℕ) (bytes : List ℕ) → unindented bytes ≡ line_text (word_text w) os → item_entered d n bytes w o ≡ next n) → ((n : ℕ) → Goes (next n) ss P) → Goes d (line_text (word_text w) os ∷ ss) P
 goes_item d w os o next ss P due read sound same more =
-    (statement_plain w os, λ n. (next n, λ bytes. rw (item_again d w os o due read sound) (ap Ok (same n bytes)), more n))
+    (statement_plain w os, λ n. (next n, λ bytes e. rw (item_again d w os o due read sound) (ap Ok (same n bytes e)), more n))
 
 -- a label line
 pub goes_label : (d : Draft) (name : List ℕ) (ss : List (List ℕ)) (P : Draft → Type 0) → is_handler d.part ≡ true → is_name name ≡ true → ((n : ℕ) → Goes (label_added d.part d n (padded name)) ss P) → Goes d ((58 ∷ name) ∷ ss) P
 goes_label d name ss P due named more =
-    (skip, λ n. (label_added d.part d n (padded name), λ bytes. rw (skip, due, name_again name named) refl, more n))
+    (skip, λ n. (label_added d.part d n (padded name), λ bytes e. rw (skip, due, name_again name named) refl, more n))
   where
     skip : is_skipped (58 ∷ name) ≡ false
     skip = rw (ne_eqb (length (58 ∷ name)) 0 (λ e. omega arith)) refl
@@ -105,53 +101,77 @@ apart_of x true h = absurd (cc (sym h ∙ and_none x))
     and_none false = refl
 apart_of x false h = refl
 
-equal_none : (p : Program) (i : Instr) (n : List ℕ) → fits p i ≡ true → has_equal_brigades (operands_of i n) ≡ false
-equal_none p (instr.BCreate o) n h = refl
-equal_none p (instr.BClean b) n h = refl
-equal_none p (instr.BConcat a b) n h = rw (apart_of (is_brigade p a && is_brigade p b) (eqb a b) h) refl
-equal_none p (instr.Pass b l) n h = refl
-equal_none p (instr.JEmpty b l) n h = refl
-equal_none p (instr.JSent l) n h = refl
-equal_none p (instr.Jump l) n h = refl
-equal_none p (instr.Ret s) n h = refl
+equal_none : (p : Program) (i : Instr) (n : List ℕ) (k : ℕ) → fits p i ≡ true → has_equal_brigades (operands_of i n k) ≡ false
+equal_none p (instr.PCreate q) n k h = refl
+equal_none p (instr.PClear q) n k h = refl
+equal_none p (instr.PDestroy q) n k h = refl
+equal_none p (instr.Label q t) n k h = refl
+equal_none p (instr.Unlabel q t) n k h = refl
+equal_none p (instr.BCreate o) n k h = refl
+equal_none p (instr.BClean b) n k h = refl
+equal_none p (instr.BConcat a b) n k h = rw (apart_of (is_brigade p a && is_brigade p b) (eqb a b) h) refl
+equal_none p (instr.Pass b l) n k h = refl
+equal_none p (instr.JEmpty b l) n k h = refl
+equal_none p (instr.JNull (variable.Pool q) l) n k h = refl
+equal_none p (instr.JNull (variable.Brigade b) l) n k h = refl
+equal_none p (instr.JSent l) n k h = refl
+equal_none p (instr.Jump l) n k h = refl
+equal_none p (instr.Ret s) n k h = refl
 
-declared_all : (p : Program) (m : ℕ) (i : Instr) (n : List ℕ) → fits p i ≡ true → are_declared m (length p.brigades) (operands_of i n) ≡ true
-declared_all p m (instr.BCreate o) n h = rw h refl
-declared_all p m (instr.BClean b) n h = rw h refl
-declared_all p m (instr.BConcat a b) n h =
+declared_all : (p : Program) (i : Instr) (n : List ℕ) (k : ℕ) → fits p i ≡ true → are_declared (length p.pools) (length p.brigades) (operands_of i n k) ≡ true
+declared_all p (instr.PCreate q) n k h = rw h refl
+declared_all p (instr.PClear q) n k h = rw h refl
+declared_all p (instr.PDestroy q) n k h = rw h refl
+declared_all p (instr.Label q t) n k h = let x = and_parts (place_is_declared (length p.pools) q) (ltb t (length p.texts)) h in rw x.0 refl
+declared_all p (instr.Unlabel q t) n k h = let x = and_parts (place_is_declared (length p.pools) q) (ltb t (length p.texts)) h in rw x.0 refl
+declared_all p (instr.BCreate o) n k h = rw h refl
+declared_all p (instr.BClean b) n k h = rw h refl
+declared_all p (instr.BConcat a b) n k h =
     let x = and_parts (is_brigade p a && is_brigade p b) (not (eqb a b)) h in
     let y = and_parts (is_brigade p a) (is_brigade p b) x.0 in
     rw (y.0, y.1) refl
-declared_all p m (instr.Pass b l) n h = rw h refl
-declared_all p m (instr.JEmpty b l) n h = rw h refl
-declared_all p m (instr.JSent l) n h = refl
-declared_all p m (instr.Jump l) n h = refl
-declared_all p m (instr.Ret s) n h = refl
+declared_all p (instr.Pass b l) n k h = rw h refl
+declared_all p (instr.JEmpty b l) n k h = rw h refl
+declared_all p (instr.JNull (variable.Pool q) l) n k h = rw h refl
+declared_all p (instr.JNull (variable.Brigade b) l) n k h = rw h refl
+declared_all p (instr.JSent l) n k h = refl
+declared_all p (instr.Jump l) n k h = refl
+declared_all p (instr.Ret s) n k h = refl
 
-short_all : (i : Instr) (n : List ℕ) → has_long_text (operands_of i n) ≡ false
-short_all (instr.BCreate o) n = refl
-short_all (instr.BClean b) n = refl
-short_all (instr.BConcat a b) n = refl
-short_all (instr.Pass b l) n = refl
-short_all (instr.JEmpty b l) n = refl
-short_all (instr.JSent l) n = refl
-short_all (instr.Jump l) n = refl
-short_all (instr.Ret s) n = refl
+short_all : (i : Instr) (n : List ℕ) (k : ℕ) → k ≤ 255 → has_long_text (operands_of i n k) ≡ false
+short_all (instr.PCreate q) n k h = refl
+short_all (instr.PClear q) n k h = refl
+short_all (instr.PDestroy q) n k h = refl
+short_all (instr.Label q t) n k h = rw (le-ltb 255 k h) refl
+short_all (instr.Unlabel q t) n k h = rw (le-ltb 255 k h) refl
+short_all (instr.BCreate o) n k h = refl
+short_all (instr.BClean b) n k h = refl
+short_all (instr.BConcat a b) n k h = refl
+short_all (instr.Pass b l) n k h = refl
+short_all (instr.JEmpty b l) n k h = refl
+short_all (instr.JNull (variable.Pool q) l) n k h = refl
+short_all (instr.JNull (variable.Brigade b) l) n k h = refl
+short_all (instr.JSent l) n k h = refl
+short_all (instr.Jump l) n k h = refl
+short_all (instr.Ret s) n k h = refl
 
 -- the part, the pools and the brigades of a draft in a handler of a program
 pub record IsAt (p : Program) (q : Part) (d : Draft) : Type 0 where
   pub part : d.part ≡ q
   pub pools : d.pools ≡ p.pools
   pub brigades : d.brigades ≡ p.brigades
-  pub texts : d.texts ≡ []
+
+room_for : (o : Option ℕ) (m : ℕ) → IfSome o (λ _. m < 64) → (not (is_some o) || ltb m 64) ≡ true
+room_for None m h = refl
+room_for (Some t) m h = lt-ltb m 64 h
 
 -- an instruction of a program is judged right
-pub instr_judged : (p : Program) (q : Part) (d : Draft) (i : Instr) (n : List ℕ) → IsAt p q d → instruction_count d < 1024 → fits p i ≡ true → misplaced q p.pools p.brigades (op_of i) (operands_of i []) ≡ false → judged d (word.Op (op_of i)) (operands_of i n) ≡ Ok tt
+pub instr_judged : (p : Program) (q : Part) (d : Draft) (i : Instr) (n : List ℕ) (k : ℕ) → IsAt p q d → instruction_count d < 1024 → fits p i ≡ true → misplaced q p.pools p.brigades (op_of i) (operands_of i [] 0) ≡ false → k ≤ 255 → IfSome (text_of_instr i) (λ _. length d.texts < 64) → judged d (word.Op (op_of i)) (operands_of i n k) ≡ Ok tt
 unfolding judged
-instr_judged p q d i n at low fit allowed =
-    let equal = equal_none p i n fit in
-    let long = short_all i n in
-    let declared : are_declared (length d.pools) (length d.brigades) (operands_of i n) ≡ true = rw at.brigades (declared_all p (length d.pools) i n fit) in
-    let placed : misplaced d.part d.pools d.brigades (op_of i) (operands_of i n) ≡ false = rw (at.part, at.pools, at.brigades) (unnamed q p.pools p.brigades i n ∙ allowed) in
-    let room : has_room d (operands_of i n) ≡ true = rw (lt-ltb (instruction_count d) 1024 low, no_text i n) refl in
+instr_judged p q d i n k at low fit allowed short few =
+    let equal = equal_none p i n k fit in
+    let long = short_all i n k short in
+    let declared : are_declared (length d.pools) (length d.brigades) (operands_of i n k) ≡ true = rw (at.pools, at.brigades) (declared_all p i n k fit) in
+    let placed : misplaced d.part d.pools d.brigades (op_of i) (operands_of i n k) ≡ false = rw (at.part, at.pools, at.brigades) (unnamed q p.pools p.brigades i n k ∙ allowed) in
+    let room : has_room d (operands_of i n k) ≡ true = rw (lt-ltb (instruction_count d) 1024 low, has_text_of i n k) (room_for (text_of_instr i) (length d.texts) few) in
     rw (equal, long, declared, placed, room) refl

@@ -1,25 +1,26 @@
 -- A text of a module is read as it.
-use Rattle.std.proofs.Common.{◌≡◌, ℕ, zero, suc, ◌+◌, ◌-◌, ◌<◌, ◌≤◌, true, false, List, [], ◌∷◌, ◌++◌, length, map, Option, Some, None, inl, inr, Ok, refl, sym, ◌∙◌, ap, arith}
+use Rattle.std.proofs.Common.{◌≡◌, ℕ, zero, suc, ◌+◌, ◌-◌, ◌<◌, ◌≤◌, Bool, true, false, cond, List, [], ◌∷◌, ◌++◌, length, map, Option, Some, None, inl, inr, Ok, refl, sym, ◌∙◌, ap, arith}
 use Rattle.std.specs.Prelude.{IfSome, slice_get, option_map}
 use Rattle.std.proofs.lemmas.Option.{slice_get-map, slice_get_within}
 use Rattle.module_lang.specs.Handlers.{handler_fault, handler_resolved, ends_open, last_goes_on, op_goes_on, jump_fault, is_lost, is_missing, label_of, place_of, target_place, step_code, op_instr}
-use Rattle.module_lang.specs.Lines.{misplaced}
+use Rattle.module_lang.specs.Lines.{has_text, misplaced}
 use Rattle.module_lang.specs.Names.{is_name}
-use Rattle.module_lang.specs.Program.{Program, IsHandler, IsModule, fits, goes_on, target}
+use Rattle.module_lang.specs.Program.{Program, IsHandler, IsModule, fits, goes_on, target, text_of_instr}
 use Rattle.module_lang.specs.Spelling.{op_of, operands_of}
-use Rattle.module_lang.specs.Texts.{CodeLine, label, step, instrs, labels_from, AreDistinct, IsAimed, IsCode, IsLabel}
+use Rattle.module_lang.specs.Texts.{CodeLine, label, step, instrs, labels_from, AreDistinct, AreSpelled, IsAimed, IsCode, IsLabel}
 use Rattle.module_lang.specs.declared.draft.Handler.{Handler}
 use Rattle.module_lang.specs.declared.draft.Label.{Label}
 use Rattle.module_lang.specs.declared.draft.Part.{Part}
 use Rattle.module_lang.specs.declared.draft.Step.{Step}
 use Rattle.module_lang.specs.declared.instr.Instr.{Instr}
 use Rattle.module_lang.specs.declared.instr.Instr.TheVariants as instr
+use Rattle.module_lang.specs.declared.instr.VarRef.TheVariants as variable
 use Rattle.module_lang.specs.declared.operand.Operands.{Operands}
 use Rattle.module_lang.specs.declared.word.Op.{Op}
-use Rattle.module_lang.proofs.BodyLaws.{AreRight, Matches, bare, bares, steps-length}
+use Rattle.module_lang.proofs.BodyLaws.{AreRight, Matches, bare, bares, steps-length, written}
 use Rattle.module_lang.proofs.LabelLaws.{AreNamed, Marked, Named, labels_right, marked_from, names_of, place_again}
 use Rattle.module_lang.proofs.SliceLaws.{front_item, back_item}
-use Rattle.module_lang.proofs.SpellingLaws.{padded}
+use Rattle.module_lang.proofs.SpellingLaws.{padded, text_len}
 
 distinct_back : (bs xs : List (List ℕ × ℕ)) → AreDistinct (bs ++ xs) → AreDistinct xs
 distinct_back [] xs d = d
@@ -39,80 +40,109 @@ found_again : (n : ℕ) (labels : List Label) (xs : List (List ℕ × ℕ)) (nam
 unfolding place_of
 found_again n labels xs name t h l = let z = place_again None name t n labels xs h.marked h.named h.distinct l in rw z.2 (sym z.1)
 
-step_kept : (n : ℕ) (labels : List Label) (xs : List (List ℕ × ℕ)) (i : Instr) (name : List ℕ) → AreHandled n labels xs → IfSome (target i) (λ t. IsLabel name t xs) → is_lost labels (operands_of i (padded name)) ≡ false
-step_kept n labels xs (instr.BCreate o) name h a = refl
-step_kept n labels xs (instr.BClean b) name h a = refl
-step_kept n labels xs (instr.BConcat b c) name h a = refl
-step_kept n labels xs (instr.Pass b l) name h a = lost_none n labels xs name l h a
-step_kept n labels xs (instr.JEmpty b l) name h a = lost_none n labels xs name l h a
-step_kept n labels xs (instr.JSent l) name h a = lost_none n labels xs name l h a
-step_kept n labels xs (instr.Jump l) name h a = lost_none n labels xs name l h a
-step_kept n labels xs (instr.Ret s) name h a = refl
+step_kept : (n : ℕ) (labels : List Label) (xs : List (List ℕ × ℕ)) (i : Instr) (name : List ℕ) (k : ℕ) → AreHandled n labels xs → IfSome (target i) (λ t. IsLabel name t xs) → is_lost labels (operands_of i (padded name) k) ≡ false
+step_kept n labels xs (instr.PCreate q) name k h a = refl
+step_kept n labels xs (instr.PClear q) name k h a = refl
+step_kept n labels xs (instr.PDestroy q) name k h a = refl
+step_kept n labels xs (instr.Label q t) name k h a = refl
+step_kept n labels xs (instr.Unlabel q t) name k h a = refl
+step_kept n labels xs (instr.BCreate o) name k h a = refl
+step_kept n labels xs (instr.BClean b) name k h a = refl
+step_kept n labels xs (instr.BConcat b c) name k h a = refl
+step_kept n labels xs (instr.Pass b l) name k h a = lost_none n labels xs name l h a
+step_kept n labels xs (instr.JEmpty b l) name k h a = lost_none n labels xs name l h a
+step_kept n labels xs (instr.JNull (variable.Pool q) l) name k h a = lost_none n labels xs name l h a
+step_kept n labels xs (instr.JNull (variable.Brigade b) l) name k h a = lost_none n labels xs name l h a
+step_kept n labels xs (instr.JSent l) name k h a = lost_none n labels xs name l h a
+step_kept n labels xs (instr.Jump l) name k h a = lost_none n labels xs name l h a
+step_kept n labels xs (instr.Ret s) name k h a = refl
 
-instr_made : (n : ℕ) (labels : List Label) (xs : List (List ℕ × ℕ)) (i : Instr) (name : List ℕ) → AreHandled n labels xs → IfSome (target i) (λ t. IsLabel name t xs) → op_instr (op_of i) (operands_of i (padded name)) (n + target_place labels (label_of (operands_of i (padded name)))) ≡ i
-instr_made n labels xs (instr.BCreate o) name h a = refl
-instr_made n labels xs (instr.BClean b) name h a = refl
-instr_made n labels xs (instr.BConcat b c) name h a = refl
-instr_made n labels xs (instr.Pass b l) name h a = ap (instr.Pass b) (found_again n labels xs name l h a)
-instr_made n labels xs (instr.JEmpty b l) name h a = ap (instr.JEmpty b) (found_again n labels xs name l h a)
-instr_made n labels xs (instr.JSent l) name h a = ap instr.JSent (found_again n labels xs name l h a)
-instr_made n labels xs (instr.Jump l) name h a = ap instr.Jump (found_again n labels xs name l h a)
-instr_made n labels xs (instr.Ret s) name h a = refl
+instr_made : (n : ℕ) (labels : List Label) (xs : List (List ℕ × ℕ)) (i : Instr) (name : List ℕ) (k x : ℕ) → AreHandled n labels xs → IfSome (target i) (λ t. IsLabel name t xs) → IfSome (text_of_instr i) (λ t. x ≡ t) → op_instr (op_of i) (operands_of i (padded name) k) x (n + target_place labels (label_of (operands_of i (padded name) k))) ≡ i
+instr_made n labels xs (instr.PCreate q) name k x h a w = refl
+instr_made n labels xs (instr.PClear q) name k x h a w = refl
+instr_made n labels xs (instr.PDestroy q) name k x h a w = refl
+instr_made n labels xs (instr.Label q t) name k x h a w = ap (instr.Label q) w
+instr_made n labels xs (instr.Unlabel q t) name k x h a w = ap (instr.Unlabel q) w
+instr_made n labels xs (instr.BCreate o) name k x h a w = refl
+instr_made n labels xs (instr.BClean b) name k x h a w = refl
+instr_made n labels xs (instr.BConcat b c) name k x h a w = refl
+instr_made n labels xs (instr.Pass b l) name k x h a w = ap (instr.Pass b) (found_again n labels xs name l h a)
+instr_made n labels xs (instr.JEmpty b l) name k x h a w = ap (instr.JEmpty b) (found_again n labels xs name l h a)
+instr_made n labels xs (instr.JNull (variable.Pool q) l) name k x h a w = ap (instr.JNull (variable.Pool q)) (found_again n labels xs name l h a)
+instr_made n labels xs (instr.JNull (variable.Brigade b) l) name k x h a w = ap (instr.JNull (variable.Brigade b)) (found_again n labels xs name l h a)
+instr_made n labels xs (instr.JSent l) name k x h a w = ap instr.JSent (found_again n labels xs name l h a)
+instr_made n labels xs (instr.Jump l) name k x h a w = ap instr.Jump (found_again n labels xs name l h a)
+instr_made n labels xs (instr.Ret s) name k x h a w = refl
 
-steps_right : (n : ℕ) (labels : List Label) (xs : List (List ℕ × ℕ)) → AreHandled n labels xs → (body : List CodeLine) (steps : List Step) → map bare steps ≡ bares body → IsAimed xs body → (jump_fault labels steps ≡ None) × (map (step_code n labels) steps ≡ instrs body)
+number_of : (b : Bool) (x : ℕ) (o : Option ℕ) → cond b (Some x) None ≡ o → IfSome o (λ t. x ≡ t)
+number_of b x None e = tt
+number_of true x (Some t) e = cc e
+number_of false x (Some t) e = absurd (cc e)
+
+steps_right : (p : Program) (n : ℕ) (labels : List Label) (xs : List (List ℕ × ℕ)) → AreHandled n labels xs → (body : List CodeLine) (steps : List Step) → map bare steps ≡ bares p body → IsAimed xs body → (jump_fault labels steps ≡ None) × (map (step_code n labels) steps ≡ instrs body)
 unfolding step_code
-steps_right n labels xs h [] [] e a = (refl, refl)
-steps_right n labels xs h [] (s ∷ ss) e a = absurd (cc e)
-steps_right n labels xs h (label x ∷ body) steps e a = steps_right n labels xs h body steps e a
-steps_right n labels xs h (step i x ∷ body) [] e a = absurd (cc e)
-steps_right n labels xs h (step i x ∷ body) (s ∷ ss) e a =
-    let first : bare s ≡ (op_of i, operands_of i (padded x)) = cc e in
-    let rest : map bare ss ≡ bares body = cc e in
-    let o : s.op ≡ op_of i = ap (λ (z : Op × Operands). z.0) first in
-    let os : s.operands ≡ operands_of i (padded x) = ap (λ (z : Op × Operands). z.1) first in
-    let more = steps_right n labels xs h body ss rest a.1 in
-    let lost : is_lost labels s.operands ≡ false = ap (is_lost labels) os ∙ step_kept n labels xs i x h a.0 in
-    let made : op_instr s.op s.operands (n + target_place labels (label_of s.operands)) ≡ i = ap (λ (z : Op × Operands). op_instr z.0 z.1 (n + target_place labels (label_of z.1))) first ∙ instr_made n labels xs i x h a.0 in
+steps_right p n labels xs h [] [] e a = (refl, refl)
+steps_right p n labels xs h [] (s ∷ ss) e a = absurd (cc e)
+steps_right p n labels xs h (label x ∷ body) steps e a = steps_right p n labels xs h body steps e a
+steps_right p n labels xs h (step i x w ∷ body) [] e a = absurd (cc e)
+steps_right p n labels xs h (step i x w ∷ body) (s ∷ ss) e a =
+    let k = text_len p (text_of_instr i) in
+    let first : bare s ≡ written p i x = cc e in
+    let rest : map bare ss ≡ bares p body = cc e in
+    let os : s.operands ≡ operands_of i (padded x) k = ap (λ (z : Op × Operands × Option ℕ). z.1) first in
+    let number = number_of (has_text s.operands) s.text (text_of_instr i) (ap (λ (z : Op × Operands × Option ℕ). z.2) first) in
+    let more = steps_right p n labels xs h body ss rest a.1 in
+    let lost : is_lost labels s.operands ≡ false = ap (is_lost labels) os ∙ step_kept n labels xs i x k h a.0 in
+    let made : op_instr s.op s.operands s.text (n + target_place labels (label_of s.operands)) ≡ i = ap (λ (z : Op × Operands × Option ℕ). op_instr z.0 z.1 s.text (n + target_place labels (label_of z.1))) first ∙ instr_made n labels xs i x k s.text h a.0 number in
     (rw lost more.0, ap (λ y. y ∷ map (step_code n labels) ss) made ∙ ap (λ ys. i ∷ ys) more.1)
 
-bares-get : (body : List CodeLine) (k : ℕ) (i : Instr) → slice_get (instrs body) k ≡ Some i → (o : Operands) × (slice_get (bares body) k ≡ Some (op_of i, o))
-bares-get [] k i e = absurd (cc e)
-bares-get (label x ∷ body) k i e = bares-get body k i e
-bares-get (step j x ∷ body) zero i e = let s : j ≡ i = cc e in (operands_of j (padded x), ap (λ y. Some (op_of y, operands_of j (padded x))) s)
-bares-get (step j x ∷ body) (suc k) i e = bares-get body k i e
+bares-get : (p : Program) (body : List CodeLine) (k : ℕ) (i : Instr) → slice_get (instrs body) k ≡ Some i → (o : Operands × Option ℕ) × (slice_get (bares p body) k ≡ Some (op_of i, o.0, o.1))
+bares-get p [] k i e = absurd (cc e)
+bares-get p (label x ∷ body) k i e = bares-get p body k i e
+bares-get p (step j x w ∷ body) zero i e =
+    let s : j ≡ i = cc e in
+    let o = operands_of j (padded x) (text_len p (text_of_instr j)) in
+    ((o, text_of_instr j), ap (λ y. Some (op_of y, o, text_of_instr j)) s)
+bares-get p (step j x w ∷ body) (suc k) i e = bares-get p body k i e
 
 same_goes : (i : Instr) → op_goes_on (op_of i) ≡ goes_on i
+same_goes (instr.PCreate q) = refl
+same_goes (instr.PClear q) = refl
+same_goes (instr.PDestroy q) = refl
+same_goes (instr.Label q t) = refl
+same_goes (instr.Unlabel q t) = refl
 same_goes (instr.BCreate o) = refl
 same_goes (instr.BClean b) = refl
 same_goes (instr.BConcat b c) = refl
 same_goes (instr.Pass b l) = refl
 same_goes (instr.JEmpty b l) = refl
+same_goes (instr.JNull v l) = refl
 same_goes (instr.JSent l) = refl
 same_goes (instr.Jump l) = refl
 same_goes (instr.Ret s) = refl
 
-bare_op : (o : Option Step) (i : Op) (os : Operands) → option_map bare o ≡ Some (i, os) → last_goes_on o ≡ op_goes_on i
-bare_op None i os e = absurd (cc e)
-bare_op (Some s) i os e = let first : bare s ≡ (i, os) = cc e in ap (λ (z : Op × Operands). op_goes_on z.0) first
+bare_op : (o : Option Step) (i : Op) (os : Operands) (t : Option ℕ) → option_map bare o ≡ Some (i, os, t) → last_goes_on o ≡ op_goes_on i
+bare_op None i os t e = absurd (cc e)
+bare_op (Some s) i os t e = let first : bare s ≡ (i, os, t) = cc e in ap (λ (z : Op × Operands × Option ℕ). op_goes_on z.0) first
 
-ends_again : (body : List CodeLine) (h : Handler) (i : Instr) → Matches body h → slice_get (instrs body) (length (instrs body) - 1) ≡ Some i → goes_on i ≡ false → ends_open h.steps ≡ false
-ends_again body h i m e g =
-    let size = steps-length body h m in
-    let b = bares-get body (length (instrs body) - 1) i e in
-    let at : option_map bare (slice_get h.steps (length h.steps - 1)) ≡ Some (op_of i, b.0) = sym (slice_get-map bare h.steps (length h.steps - 1)) ∙ ap (λ x. slice_get x (length h.steps - 1)) m.steps ∙ ap (λ n. slice_get (bares body) (n - 1)) size ∙ b.1 in
-    bare_op (slice_get h.steps (length h.steps - 1)) (op_of i) b.0 at ∙ same_goes i ∙ g
+ends_again : (p : Program) (body : List CodeLine) (h : Handler) (i : Instr) → Matches p body h → slice_get (instrs body) (length (instrs body) - 1) ≡ Some i → goes_on i ≡ false → ends_open h.steps ≡ false
+ends_again p body h i m e g =
+    let size = steps-length p body h m in
+    let b = bares-get p body (length (instrs body) - 1) i e in
+    let at : option_map bare (slice_get h.steps (length h.steps - 1)) ≡ Some (op_of i, b.0.0, b.0.1) = sym (slice_get-map bare h.steps (length h.steps - 1)) ∙ ap (λ x. slice_get x (length h.steps - 1)) m.steps ∙ ap (λ n. slice_get (bares p body) (n - 1)) size ∙ b.1 in
+    bare_op (slice_get h.steps (length h.steps - 1)) (op_of i) b.0.0 b.0.1 at ∙ same_goes i ∙ g
 
 -- a handler that is spelled is resolved as its instructions
-pub resolve_again : (before : List Label) (bs : List (List ℕ × ℕ)) (h : Handler) (code : List Instr) (body : List CodeLine) → Named before bs → AreNamed bs → Matches body h → IsCode (length code) body → AreDistinct (bs ++ labels_from (length code) body) → ends_open h.steps ≡ false → handler_resolved before h code ≡ Ok (code ++ instrs body)
+pub resolve_again : (p : Program) (before : List Label) (bs : List (List ℕ × ℕ)) (h : Handler) (code : List Instr) (body : List CodeLine) → Named before bs → AreNamed bs → Matches p body h → IsCode p (length code) body → AreDistinct (bs ++ labels_from (length code) body) → ends_open h.steps ≡ false → handler_resolved before h code ≡ Ok (code ++ instrs body)
 unfolding handler_resolved handler_fault
-resolve_again before bs h code body b v m r d e =
+resolve_again p before bs h code body b v m r d e =
     let n = length code in
     let xs = labels_from n body in
     let marked = marked_from n 0 n body h.labels (omega arith) m.labels in
     let handled : AreHandled n h.labels xs = record { marked = marked; named = names_of (n + length (instrs body)) xs r.labels; distinct = distinct_back bs xs d } in
-    let size = steps-length body h m in
+    let size = steps-length p body h m in
     let labels = labels_right before h.labels bs xs n (length h.steps) b v marked (rw size r.labels) d in
-    let steps = steps_right n h.labels xs handled body h.steps m.steps r.aimed in
+    let steps = steps_right p n h.labels xs handled body h.steps m.steps r.aimed in
     rw (e, labels, steps.0) (ap (λ x. Ok (code ++ x)) steps.1)
 
 named_label : (name : List ℕ) (t : ℕ) (xs : List (List ℕ × ℕ)) → AreNamed xs → IsLabel name t xs → is_name name ≡ true
@@ -124,15 +154,15 @@ named_target : (o : Option ℕ) (name : List ℕ) (xs : List (List ℕ × ℕ)) 
 named_target None name xs v h = tt
 named_target (Some t) name xs v h = named_label name t xs v h
 
-pub right_from : (p : Program) (q : Part) (all : List (List ℕ × ℕ)) → AreNamed all → (n : ℕ) (body : List CodeLine) → ((j : ℕ) (i : Instr) → slice_get (instrs body) j ≡ Some i → (fits p i ≡ true) × (misplaced q p.pools p.brigades (op_of i) (operands_of i []) ≡ false)) → AreNamed (labels_from n body) → IsAimed all body → AreRight p q body
-right_from p q all v n [] f names a = tt
-right_from p q all v n (label x ∷ body) f names a = (names.0, right_from p q all v n body f names.1 a)
-right_from p q all v n (step i x ∷ body) f names a =
+pub right_from : (p : Program) (q : Part) (all : List (List ℕ × ℕ)) → AreNamed all → (n : ℕ) (body : List CodeLine) → ((j : ℕ) (i : Instr) → slice_get (instrs body) j ≡ Some i → (fits p i ≡ true) × (misplaced q p.pools p.brigades (op_of i) (operands_of i [] 0) ≡ false)) → AreNamed (labels_from n body) → IsAimed all body → AreSpelled p body → AreRight p q body
+right_from p q all v n [] f names a w = tt
+right_from p q all v n (label x ∷ body) f names a w = (names.0, right_from p q all v n body f names.1 a w)
+right_from p q all v n (step i x s ∷ body) f names a w =
     let z = f 0 i refl in
-    ((z.0, z.1, named_target (target i) x all v a.0), right_from p q all v (n + 1) body (λ j y e. f (suc j) y e) names a.1)
+    ((z.0, z.1, named_target (target i) x all v a.0, w.0), right_from p q all v (n + 1) body (λ j y e. f (suc j) y e) names a.1 w.1)
 
 -- the instructions of a handler of a module
-pub part_right : (p : Program) (q : Part) (from to : ℕ) (front mid back : List Instr) → IsModule p → IsHandler p q from to → p.code ≡ front ++ (mid ++ back) → length front ≡ from → from + length mid ≡ to → (j : ℕ) (i : Instr) → slice_get mid j ≡ Some i → (fits p i ≡ true) × (misplaced q p.pools p.brigades (op_of i) (operands_of i []) ≡ false)
+pub part_right : (p : Program) (q : Part) (from to : ℕ) (front mid back : List Instr) → IsModule p → IsHandler p q from to → p.code ≡ front ++ (mid ++ back) → length front ≡ from → from + length mid ≡ to → (j : ℕ) (i : Instr) → slice_get mid j ≡ Some i → (fits p i ≡ true) × (misplaced q p.pools p.brigades (op_of i) (operands_of i [] 0) ≡ false)
 part_right p q from to front mid back s h whole low high j i e =
     let lt = slice_get_within mid j i e in
     let near : length front ≤ from + j = omega arith in
@@ -141,7 +171,7 @@ part_right p q from to front mid back s h whole low high j i e =
     ((s.placed (from + j) i at).fit, (h.inside (from + j) i (omega arith) (omega arith) at).allowed)
 
 -- the last instruction of a handler of a module
-pub part_ends : (p : Program) (q : Part) (from to : ℕ) (front : List Instr) (body : List CodeLine) (back : List Instr) (x : Handler) → IsHandler p q from to → p.code ≡ front ++ (instrs body ++ back) → length front ≡ from → from + length (instrs body) ≡ to → Matches body x → ends_open x.steps ≡ false
+pub part_ends : (p : Program) (q : Part) (from to : ℕ) (front : List Instr) (body : List CodeLine) (back : List Instr) (x : Handler) → IsHandler p q from to → p.code ≡ front ++ (instrs body ++ back) → length front ≡ from → from + length (instrs body) ≡ to → Matches p body x → ends_open x.steps ≡ false
 part_ends p q from to front body back x h whole low high m =
     let mid = instrs body in
     let some = h.some in
@@ -159,4 +189,4 @@ part_ends p q from to front body back x h whole low high m =
         none_at [] k lt e = absurd (omega arith)
         none_at (i ∷ is) zero lt e = cc e
         none_at (i ∷ is) (suc k) lt e = none_at is k (omega arith) e
-    last (Some i) e at = ends_again body x i m e (h.ends i at)
+    last (Some i) e at = ends_again p body x i m e (h.ends i at)

@@ -1,16 +1,16 @@
 -- What is spelled is read again: words, operands and lines.
-use Rattle.std.proofs.Common.{◌≡◌, ℕ, ◌+◌, ◌-◌, ◌<◌, ◌≤◌, Bool, true, false, ◌&&◌, ◌||◌, not, cond, eqb, ltb, leb, List, [], ◌∷◌, ◌++◌, length, Some, Ok, refl, sym, ◌∙◌, ap, arith}
+use Rattle.std.proofs.Common.{◌≡◌, ℕ, ◌+◌, ◌-◌, ◌<◌, ◌≤◌, Bool, true, false, ◌&&◌, ◌||◌, not, cond, eqb, ltb, leb, List, [], ◌∷◌, ◌++◌, length, Option, Some, None, Ok, refl, sym, ◌∙◌, ap, arith}
 use Rattle.std.specs.Prelude.{slice_index, codes, replicate, IfSome}
 use Rattle.std.specs.List.{list_all}
-use Rattle.std.proofs.lemmas.Bool.{and_parts, le-leb, eq-eqb, ne_eqb, eqb-true, ltb-true}
+use Rattle.std.proofs.lemmas.Bool.{and_parts, le-leb, eq-eqb, ne_eqb, eqb-true, ltb-true, lt-ltb}
 use Rattle.std.proofs.lemmas.List.{take_at, drop_at}
 use Rattle.module_lang.specs.Bytes.{token, token_len, after_token, begins}
 use Rattle.module_lang.specs.Lines.{item_read, unindented_read, is_due, judged, place_is_declared}
-use Rattle.module_lang.specs.Program.{Program, fits, is_brigade, target}
+use Rattle.module_lang.specs.Program.{Program, fits, is_brigade, target, text_at, text_of_instr}
 use Rattle.module_lang.specs.Names.{is_letter, is_name, is_name_byte, all_name_bytes, name_of}
 use Rattle.module_lang.specs.Operands.{numbered, operand_in, operand_at, after_operand, operands_at, operand_kind_is_nothing, operand_kind_is_text}
 use Rattle.module_lang.specs.Spelling.{op_of, operands_of}
-use Rattle.module_lang.specs.Texts.{place_text, own_text, brigade_text, status_text, operands_text, line_text, operand_texts, instr_word, is_skipped}
+use Rattle.module_lang.specs.Texts.{Spells, place_text, own_text, brigade_text, status_text, operands_text, line_text, operand_texts, instr_word, is_skipped}
 use Rattle.module_lang.specs.Words.{op_text, word_text, word_at, word_kinds, op_kinds, two_operands, one_operand, no_operand}
 use Rattle.module_lang.specs.declared.draft.Draft.{Draft}
 use Rattle.module_lang.specs.declared.instr.Instr.{Instr}
@@ -20,6 +20,7 @@ use Rattle.module_lang.specs.declared.instr.PoolRef.TheVariants as pool
 use Rattle.module_lang.specs.declared.instr.Status.{Status}
 use Rattle.module_lang.specs.declared.instr.Status.TheVariants as status
 use Rattle.module_lang.specs.declared.lines.Line.TheVariants as line
+use Rattle.module_lang.specs.declared.instr.VarRef.TheVariants as variable
 use Rattle.module_lang.specs.declared.operand.Operand.{Operand}
 use Rattle.module_lang.specs.declared.operand.Operand.TheVariants as operand
 use Rattle.module_lang.specs.declared.operand.Operands.{Operands}
@@ -28,6 +29,7 @@ use Rattle.module_lang.specs.declared.word.Kind.TheVariants as kind
 use Rattle.module_lang.specs.declared.word.Op.TheVariants as op
 use Rattle.module_lang.specs.declared.word.Word.{Word}
 use Rattle.module_lang.specs.declared.word.Word.TheVariants as word
+use Rattle.module_lang.proofs.QuoteLaws.{quoted_again}
 
 -- no space among these bytes
 abbrev pub unspaced : List ℕ → Bool
@@ -163,28 +165,78 @@ pub label_operand : (n : List ℕ) → is_name n ≡ true → IsOperand kind.Lab
 unfolding operand_in
 label_operand n h = record { some = refl; bare = refl; read = rw (name_again n h) refl; plain = name_plain n h }
 
+-- a text in quotes is read again
+text_at_again : (s bytes rest : List ℕ) → Spells s bytes → operand_at kind.Text (32 ∷ (s ++ rest)) ≡ Ok (operand.Text (length bytes))
+unfolding operand_at
+text_at_again s bytes rest h =
+    let begun : begins 34 (s ++ rest) ≡ true = rw h.whole refl in
+    rw (begun, quoted_again s bytes rest h) refl
+
+text_behind : (s bytes rest : List ℕ) → Spells s bytes → after_operand kind.Text (32 ∷ (s ++ rest)) ≡ rest
+unfolding after_operand
+text_behind s bytes rest h = rw (quoted_again s bytes rest h) (drop_at s rest (length s) refl)
+
+pub two_text_again : (k : Kind) (o : Operand) (t s bytes : List ℕ) → IsOperand k o t → Spells s bytes → operands_at (two_operands k kind.Text) (operands_text (t ∷ s ∷ [])) ≡ Ok (operands o (operand.Text (length bytes)))
+unfolding operands_at
+two_text_again k o t s bytes h j = rw (operand_again k o t (operands_text (s ∷ [])) h refl, behind_again k o t (operands_text (s ∷ [])) h refl, text_at_again s bytes [] j, text_behind s bytes [] j, none_again [], none_behind [], none_again [], none_behind []) refl
+
+own_variable : (i : ℕ) → i < 8 → IsOperand kind.Variable (operand.Place (pool.Own i)) (place_text (pool.Own i))
+unfolding operand_in
+own_variable i h = record { some = refl; bare = refl; read = rw (numbered_again 112 i h) refl; plain = digit_plain 112 i refl }
+
+brigade_variable : (b : ℕ) → b < 8 → IsOperand kind.Variable (operand.Brigade b) (own_text b)
+unfolding operand_in
+brigade_variable b h = record { some = refl; bare = refl; read = rw (numbered_again 98 b h) refl; plain = digit_plain 98 b refl }
+
+pub declared_up : (k n : ℕ) (q : PoolRef) → k ≤ n → place_is_declared k q ≡ true → place_is_declared n q ≡ true
+declared_up k n pool.Conn le h = refl
+declared_up k n pool.Req le h = refl
+declared_up k n (pool.Own i) le h = let low = ltb-true i k h in lt-ltb i n (omega arith)
+
+-- the length of the text of a number
+abbrev pub text_len : Program → Option ℕ → ℕ
+text_len p None = 0
+text_len p (Some t) = length (text_at p t)
+
 -- the operands of an instruction are read again
-pub instr_again : (p : Program) (i : Instr) (n : List ℕ) → length p.brigades ≤ 8 → fits p i ≡ true → IfSome (target i) (λ _. is_name n ≡ true) → operands_at (op_kinds (op_of i)) (operands_text (operand_texts i n)) ≡ Ok (operands_of i (padded n))
+pub instr_again : (p : Program) (i : Instr) (n s : List ℕ) → length p.pools ≤ 8 → length p.brigades ≤ 8 → fits p i ≡ true → IfSome (target i) (λ _. is_name n ≡ true) → IfSome (text_of_instr i) (λ t. Spells s (text_at p t)) → operands_at (op_kinds (op_of i)) (operands_text (operand_texts i n s)) ≡ Ok (operands_of i (padded n) (text_len p (text_of_instr i)))
 unfolding op_kinds
-instr_again p (instr.BCreate o) n small h name = one_again kind.Brigade (operand.Brigade o) (own_text o) (own_operand o (own_below (length p.brigades) o small h))
-instr_again p (instr.BClean b) n small h name = one_again kind.Source (operand.Brigade b) (brigade_text b) (source_operand (length p.brigades) b small h)
-instr_again p (instr.BConcat a b) n small h name =
+instr_again p (instr.PCreate q) n s few small h name text = one_again kind.Pool (operand.Place (pool.Own q)) (place_text (pool.Own q)) (pool_operand q (own_below (length p.pools) q few h))
+instr_again p (instr.PClear q) n s few small h name text = one_again kind.Pool (operand.Place (pool.Own q)) (place_text (pool.Own q)) (pool_operand q (own_below (length p.pools) q few h))
+instr_again p (instr.PDestroy q) n s few small h name text = one_again kind.Pool (operand.Place (pool.Own q)) (place_text (pool.Own q)) (pool_operand q (own_below (length p.pools) q few h))
+instr_again p (instr.Label q t) n s few small h name text =
+    let x = and_parts (place_is_declared (length p.pools) q) (ltb t (length p.texts)) h in
+    two_text_again kind.Place (operand.Place q) (place_text q) s (text_at p t) (place_operand q (declared_up (length p.pools) 8 q few x.0)) text
+instr_again p (instr.Unlabel q t) n s few small h name text =
+    let x = and_parts (place_is_declared (length p.pools) q) (ltb t (length p.texts)) h in
+    two_text_again kind.Place (operand.Place q) (place_text q) s (text_at p t) (place_operand q (declared_up (length p.pools) 8 q few x.0)) text
+instr_again p (instr.BCreate o) n s few small h name text = one_again kind.Brigade (operand.Brigade o) (own_text o) (own_operand o (own_below (length p.brigades) o small h))
+instr_again p (instr.BClean b) n s few small h name text = one_again kind.Source (operand.Brigade b) (brigade_text b) (source_operand (length p.brigades) b small h)
+instr_again p (instr.BConcat a b) n s few small h name text =
     let x = and_parts (is_brigade p a && is_brigade p b) (not (eqb a b)) h in
     let y = and_parts (is_brigade p a) (is_brigade p b) x.0 in
     two_again kind.Source kind.Source (operand.Brigade a) (operand.Brigade b) (brigade_text a) (brigade_text b) (source_operand (length p.brigades) a small y.0) (source_operand (length p.brigades) b small y.1)
-instr_again p (instr.Pass b l) n small h name = two_again kind.Source kind.Label (operand.Brigade b) (operand.Label (padded n)) (brigade_text b) n (source_operand (length p.brigades) b small h) (label_operand n name)
-instr_again p (instr.JEmpty b l) n small h name = two_again kind.Source kind.Label (operand.Brigade b) (operand.Label (padded n)) (brigade_text b) n (source_operand (length p.brigades) b small h) (label_operand n name)
-instr_again p (instr.JSent l) n small h name = one_again kind.Label (operand.Label (padded n)) n (label_operand n name)
-instr_again p (instr.Jump l) n small h name = one_again kind.Label (operand.Label (padded n)) n (label_operand n name)
-instr_again p (instr.Ret s) n small h name = one_again kind.Ending (operand.Ending s) (status_text s) (ending_operand s)
+instr_again p (instr.Pass b l) n s few small h name text = two_again kind.Source kind.Label (operand.Brigade b) (operand.Label (padded n)) (brigade_text b) n (source_operand (length p.brigades) b small h) (label_operand n name)
+instr_again p (instr.JEmpty b l) n s few small h name text = two_again kind.Source kind.Label (operand.Brigade b) (operand.Label (padded n)) (brigade_text b) n (source_operand (length p.brigades) b small h) (label_operand n name)
+instr_again p (instr.JNull (variable.Pool q) l) n s few small h name text = two_again kind.Variable kind.Label (operand.Place (pool.Own q)) (operand.Label (padded n)) (place_text (pool.Own q)) n (own_variable q (own_below (length p.pools) q few h)) (label_operand n name)
+instr_again p (instr.JNull (variable.Brigade b) l) n s few small h name text = two_again kind.Variable kind.Label (operand.Brigade b) (operand.Label (padded n)) (own_text b) n (brigade_variable b (own_below (length p.brigades) b small h)) (label_operand n name)
+instr_again p (instr.JSent l) n s few small h name text = one_again kind.Label (operand.Label (padded n)) n (label_operand n name)
+instr_again p (instr.Jump l) n s few small h name text = one_again kind.Label (operand.Label (padded n)) n (label_operand n name)
+instr_again p (instr.Ret e) n s few small h name text = one_again kind.Ending (operand.Ending e) (status_text e) (ending_operand e)
 
 pub word_of_instr : (i : Instr) → instr_word i ≡ word_text (word.Op (op_of i))
 unfolding word_text op_text
+word_of_instr (instr.PCreate q) = refl
+word_of_instr (instr.PClear q) = refl
+word_of_instr (instr.PDestroy q) = refl
+word_of_instr (instr.Label q t) = refl
+word_of_instr (instr.Unlabel q t) = refl
 word_of_instr (instr.BCreate o) = refl
 word_of_instr (instr.BClean b) = refl
 word_of_instr (instr.BConcat a b) = refl
 word_of_instr (instr.Pass b l) = refl
 word_of_instr (instr.JEmpty b l) = refl
+word_of_instr (instr.JNull v l) = refl
 word_of_instr (instr.JSent l) = refl
 word_of_instr (instr.Jump l) = refl
 word_of_instr (instr.Ret s) = refl
@@ -205,11 +257,17 @@ word_again word.Open = record { found = refl; plain = refl; starts = λ r. rw (n
 word_again word.Init = record { found = refl; plain = refl; starts = λ r. rw (ne_eqb (length (codes "init" ++ r)) 0 (λ e. omega arith)) refl; worded = λ r. refl }
 word_again word.Main = record { found = refl; plain = refl; starts = λ r. rw (ne_eqb (length (codes "main" ++ r)) 0 (λ e. omega arith)) refl; worded = λ r. refl }
 word_again word.End = record { found = refl; plain = refl; starts = λ r. rw (ne_eqb (length (codes "end" ++ r)) 0 (λ e. omega arith)) refl; worded = λ r. refl }
+word_again (word.Op op.PCreate) = record { found = refl; plain = refl; starts = λ r. rw (ne_eqb (length (codes "pcreate" ++ r)) 0 (λ e. omega arith)) refl; worded = λ r. refl }
+word_again (word.Op op.PClear) = record { found = refl; plain = refl; starts = λ r. rw (ne_eqb (length (codes "pclear" ++ r)) 0 (λ e. omega arith)) refl; worded = λ r. refl }
+word_again (word.Op op.PDestroy) = record { found = refl; plain = refl; starts = λ r. rw (ne_eqb (length (codes "pdestroy" ++ r)) 0 (λ e. omega arith)) refl; worded = λ r. refl }
+word_again (word.Op op.Label) = record { found = refl; plain = refl; starts = λ r. rw (ne_eqb (length (codes "label" ++ r)) 0 (λ e. omega arith)) refl; worded = λ r. refl }
+word_again (word.Op op.Unlabel) = record { found = refl; plain = refl; starts = λ r. rw (ne_eqb (length (codes "unlabel" ++ r)) 0 (λ e. omega arith)) refl; worded = λ r. refl }
 word_again (word.Op op.BCreate) = record { found = refl; plain = refl; starts = λ r. rw (ne_eqb (length (codes "bcreate" ++ r)) 0 (λ e. omega arith)) refl; worded = λ r. refl }
 word_again (word.Op op.BClean) = record { found = refl; plain = refl; starts = λ r. rw (ne_eqb (length (codes "bclean" ++ r)) 0 (λ e. omega arith)) refl; worded = λ r. refl }
 word_again (word.Op op.BConcat) = record { found = refl; plain = refl; starts = λ r. rw (ne_eqb (length (codes "bconcat" ++ r)) 0 (λ e. omega arith)) refl; worded = λ r. refl }
 word_again (word.Op op.Pass) = record { found = refl; plain = refl; starts = λ r. rw (ne_eqb (length (codes "pass" ++ r)) 0 (λ e. omega arith)) refl; worded = λ r. refl }
 word_again (word.Op op.JEmpty) = record { found = refl; plain = refl; starts = λ r. rw (ne_eqb (length (codes "jempty" ++ r)) 0 (λ e. omega arith)) refl; worded = λ r. refl }
+word_again (word.Op op.JNull) = record { found = refl; plain = refl; starts = λ r. rw (ne_eqb (length (codes "jnull" ++ r)) 0 (λ e. omega arith)) refl; worded = λ r. refl }
 word_again (word.Op op.JSent) = record { found = refl; plain = refl; starts = λ r. rw (ne_eqb (length (codes "jsent" ++ r)) 0 (λ e. omega arith)) refl; worded = λ r. refl }
 word_again (word.Op op.Jump) = record { found = refl; plain = refl; starts = λ r. rw (ne_eqb (length (codes "jump" ++ r)) 0 (λ e. omega arith)) refl; worded = λ r. refl }
 word_again (word.Op op.Ret) = record { found = refl; plain = refl; starts = λ r. rw (ne_eqb (length (codes "ret" ++ r)) 0 (λ e. omega arith)) refl; worded = λ r. refl }

@@ -1,12 +1,11 @@
 -- A text of a module is read as it.
 use Rattle.std.proofs.Common.{◌≡◌, ℕ, ◌+◌, ◌≤◌, false, List, [], ◌∷◌, ◌++◌, length, map, Ok, refl, sym, ◌∙◌, ap, arith, append_assoc, append-nil, length-append}
-use Rattle.std.specs.Prelude.{codes, filter_map}
-use Rattle.std.specs.List.{range_with_len}
+use Rattle.std.specs.Prelude.{codes}
 use Rattle.module_lang.specs.Assembling.{assembling, draft_read, lines_read, is_end}
 use Rattle.module_lang.specs.Drafts.{empty_draft, with_part}
 use Rattle.module_lang.specs.Lines.{is_due, judged}
 use Rattle.module_lang.specs.Operands.{operand_in}
-use Rattle.module_lang.specs.Program.{Program, program, IsModule, text_of_instr}
+use Rattle.module_lang.specs.Program.{Program, program, IsModule, text_at}
 use Rattle.module_lang.specs.Texts.{CodeLine, code_text, instrs, labels_from, AreDistinct, IsApart, IsTextOf, module_texts, pool_texts, brigade_texts}
 use Rattle.module_lang.specs.Words.{word_text, word_kinds}
 use Rattle.module_lang.specs.declared.draft.Draft.{Draft}
@@ -16,8 +15,9 @@ use Rattle.module_lang.specs.declared.operand.Operand.TheVariants as operand
 use Rattle.module_lang.specs.declared.word.Kind.TheVariants as kind
 use Rattle.module_lang.specs.declared.word.Word.TheVariants as word
 use Rattle.module_lang.proofs.AssemblingLaws.{done, read_short}
-use Rattle.module_lang.proofs.BodyLaws.{AreRight, Declares, Holds, Matches, body_goes, brigades_go, homes_from, init_stage, lower_from, main_stage, open_stage, pools_go}
+use Rattle.module_lang.proofs.BodyLaws.{AreRight, Declares, Holds, Matches, body_goes, brigades_go, homes_from, init_stage, lower_from, main_stage, open_stage, pools_go, texts_of}
 use Rattle.module_lang.proofs.LabelLaws.{AreNamed-append, marked_from, named-append, named_of, names_of}
+use Rattle.module_lang.proofs.ListLaws.{items_of}
 use Rattle.module_lang.proofs.RunLaws.{Goes, fold_read, goes_item, run}
 use Rattle.module_lang.proofs.SourceLaws.{part_ends, part_right, resolve_again, right_from}
 use Rattle.module_lang.proofs.SpellingLaws.{IsOperand, no_operands, one_again, operands}
@@ -26,58 +26,62 @@ one_is : IsOperand kind.One operand.One (codes "1")
 unfolding operand_in
 one_is = record { some = refl; bare = refl; read = refl; plain = refl }
 
-module _ (p : Program) (a b c : List CodeLine) (few : length p.brigades ≤ 8) (size : length (instrs a) + length (instrs b) + length (instrs c) ≤ 1024) (first : AreRight p part.Open a) (second : AreRight p part.Init b) (third : AreRight p part.Main c) where
+module _ (p : Program) (a b c : List CodeLine) (s : IsModule p) (whole : p.code ≡ instrs a ++ (instrs b ++ instrs c)) (first : AreRight p part.Open a) (second : AreRight p part.Init b) (third : AreRight p part.Main c) where
   end_goes : (d : Draft) → Holds p part.Main a b c d → Goes d (codes "end" ∷ []) (Holds p part.End a b c)
   unfolding word_kinds word_text judged
   end_goes d h =
-      goes_item d word.End [] (operands operand.Nothing operand.Nothing) (λ n. record d { part = part.End }) [] (Holds p part.End a b c) (ap (λ x. is_due x word.End) h.at.part) no_operands refl (λ n bytes. refl) (λ n. record {
-        at = record { part = refl; pools = h.at.pools; brigades = h.at.brigades; texts = h.at.texts };
+      goes_item d word.End [] (operands operand.Nothing operand.Nothing) (λ n. record d { part = part.End }) [] (Holds p part.End a b c) (ap (λ x. is_due x word.End) h.at.part) no_operands refl (λ n bytes _. refl) (λ n. record {
+        at = record { part = refl; pools = h.at.pools; brigades = h.at.brigades };
         first = h.first;
         second = h.second;
         third = h.third;
+        texts = h.texts;
       })
 
   main_goes : (d : Draft) → Holds p part.Init a b [] d → Goes d (codes "main" ∷ (map code_text c ++ codes "end" ∷ [])) (Holds p part.End a b c)
   unfolding word_kinds word_text judged
   main_goes d h =
-      goes_item d word.Main [] (operands operand.Nothing operand.Nothing) (λ n. with_part d part.Main n) (map code_text c ++ codes "end" ∷ []) (Holds p part.End a b c) (ap (λ x. is_due x word.Main) h.at.part) no_operands refl (λ n bytes. refl) (λ n.
-      body_goes p part.Main (length (instrs a) + length (instrs b)) (λ x d. Holds p part.Main a b x d) (main_stage p a b) few c [] (with_part d part.Main n) (codes "end" ∷ []) (Holds p part.End a b c) (record {
-        at = record { part = refl; pools = h.at.pools; brigades = h.at.brigades; texts = h.at.texts };
+      goes_item d word.Main [] (operands operand.Nothing operand.Nothing) (λ n. with_part d part.Main n) (map code_text c ++ codes "end" ∷ []) (Holds p part.End a b c) (ap (λ x. is_due x word.Main) h.at.part) no_operands refl (λ n bytes _. refl) (λ n.
+      body_goes p part.Main (instrs a ++ instrs b) [] (λ x d. Holds p part.Main a b x d) (main_stage p a b) s c [] (with_part d part.Main n) (codes "end" ∷ []) (Holds p part.End a b c) (record {
+        at = record { part = refl; pools = h.at.pools; brigades = h.at.brigades };
         first = h.first;
         second = h.second;
         third = record { labels = h.third.labels; steps = h.third.steps };
-      }) third size end_goes)
+        texts = h.texts;
+      }) third (whole ∙ sym (append_assoc (instrs a) (instrs b) (instrs c)) ∙ ap (λ x. (instrs a ++ instrs b) ++ x) (sym (append-nil (instrs c)))) end_goes)
 
   init_goes : (d : Draft) → Holds p part.Open a [] [] d → Goes d (codes "init" ∷ (map code_text b ++ (codes "main" ∷ (map code_text c ++ codes "end" ∷ [])))) (Holds p part.End a b c)
   unfolding word_kinds word_text judged
   init_goes d h =
-      goes_item d word.Init [] (operands operand.Nothing operand.Nothing) (λ n. with_part d part.Init n) (map code_text b ++ (codes "main" ∷ (map code_text c ++ codes "end" ∷ []))) (Holds p part.End a b c) (ap (λ x. is_due x word.Init) h.at.part) no_operands refl (λ n bytes. refl) (λ n.
-      body_goes p part.Init (length (instrs a)) (λ x d. Holds p part.Init a x [] d) (init_stage p a) few b [] (with_part d part.Init n) (codes "main" ∷ (map code_text c ++ codes "end" ∷ [])) (Holds p part.End a b c) (record {
-        at = record { part = refl; pools = h.at.pools; brigades = h.at.brigades; texts = h.at.texts };
+      goes_item d word.Init [] (operands operand.Nothing operand.Nothing) (λ n. with_part d part.Init n) (map code_text b ++ (codes "main" ∷ (map code_text c ++ codes "end" ∷ []))) (Holds p part.End a b c) (ap (λ x. is_due x word.Init) h.at.part) no_operands refl (λ n bytes _. refl) (λ n.
+      body_goes p part.Init (instrs a) (instrs c) (λ x d. Holds p part.Init a x [] d) (init_stage p a) s b [] (with_part d part.Init n) (codes "main" ∷ (map code_text c ++ codes "end" ∷ [])) (Holds p part.End a b c) (record {
+        at = record { part = refl; pools = h.at.pools; brigades = h.at.brigades };
         first = h.first;
         second = record { labels = h.second.labels; steps = h.second.steps };
         third = h.third;
-      }) second (omega arith) main_goes)
+        texts = h.texts;
+      }) second whole main_goes)
 
-  open_goes : (d : Draft) → Declares p.pools p.brigades d → Goes d (codes "open" ∷ (map code_text a ++ (codes "init" ∷ (map code_text b ++ (codes "main" ∷ (map code_text c ++ codes "end" ∷ [])))))) (Holds p part.End a b c)
+  open_goes : (d : Draft) → Declares p p.pools p.brigades d → Goes d (codes "open" ∷ (map code_text a ++ (codes "init" ∷ (map code_text b ++ (codes "main" ∷ (map code_text c ++ codes "end" ∷ [])))))) (Holds p part.End a b c)
   unfolding word_kinds word_text judged
   open_goes d h =
       let ss = codes "init" ∷ (map code_text b ++ (codes "main" ∷ (map code_text c ++ codes "end" ∷ []))) in
-      goes_item d word.Open [] (operands operand.Nothing operand.Nothing) (λ n. with_part d part.Open n) (map code_text a ++ ss) (Holds p part.End a b c) h.opening no_operands refl (λ n bytes. refl) (λ n.
-      body_goes p part.Open 0 (λ x d. Holds p part.Open x [] [] d) (open_stage p) few a [] (with_part d part.Open n) ss (Holds p part.End a b c) (record {
-        at = record { part = refl; pools = h.pools; brigades = h.brigades; texts = h.texts };
+      goes_item d word.Open [] (operands operand.Nothing operand.Nothing) (λ n. with_part d part.Open n) (map code_text a ++ ss) (Holds p part.End a b c) h.opening no_operands refl (λ n bytes _. refl) (λ n.
+      body_goes p part.Open [] (instrs b ++ instrs c) (λ x d. Holds p part.Open x [] [] d) (open_stage p) s a [] (with_part d part.Open n) ss (Holds p part.End a b c) (record {
+        at = record { part = refl; pools = h.pools; brigades = h.brigades };
         first = record { labels = h.first.labels; steps = h.first.steps };
         second = h.second;
         third = h.third;
-      }) first (omega arith) init_goes)
+        texts = h.texts;
+      }) first whole init_goes)
 
-  module_goes : IsModule p → Goes empty_draft (module_texts p a b c) (Holds p part.End a b c)
+  module_goes : Goes empty_draft (module_texts p a b c) (Holds p part.End a b c)
   unfolding word_kinds word_text judged
-  module_goes s =
+  module_goes =
       let code = codes "open" ∷ (map code_text a ++ (codes "init" ∷ (map code_text b ++ (codes "main" ∷ (map code_text c ++ codes "end" ∷ []))))) in
-      let none : Matches [] empty_draft.open = record { labels = refl; steps = refl } in
-      goes_item empty_draft word.Module (codes "1" ∷ []) (operands operand.One operand.Nothing) (λ n. record empty_draft { part = part.Pools }) (pool_texts 0 p.pools ++ (brigade_texts 0 p.brigades ++ code)) (Holds p part.End a b c) refl (one_again kind.One operand.One (codes "1") one_is) refl (λ n bytes. refl) (λ n.
-      pools_go p.pools [] 0 (record empty_draft { part = part.Pools }) (brigade_texts 0 p.brigades ++ code) (Holds p part.End a b c) refl (record {
+      let none : Matches p [] empty_draft.open = record { labels = refl; steps = refl } in
+      goes_item empty_draft word.Module (codes "1" ∷ []) (operands operand.One operand.Nothing) (λ n. record empty_draft { part = part.Pools }) (pool_texts 0 p.pools ++ (brigade_texts 0 p.brigades ++ code)) (Holds p part.End a b c) refl (one_again kind.One operand.One (codes "1") one_is) refl (λ n bytes _. refl) (λ n.
+      pools_go p p.pools [] 0 (record empty_draft { part = part.Pools }) (brigade_texts 0 p.brigades ++ code) (Holds p part.End a b c) refl (record {
         brigade = refl;
         opening = refl;
         pools = refl;
@@ -87,18 +91,12 @@ module _ (p : Program) (a b c : List CodeLine) (few : length p.brigades ≤ 8) (
         second = none;
         third = none;
       }) refl s.pools (lower_from 0 p.pools (λ j q e. let z : 0 + j ≡ j = omega arith in rw z (s.parents j q e))) (λ e h.
-      brigades_go p.pools p.brigades [] 0 e code (Holds p part.End a b c) h refl few s.pools (homes_from (length p.pools) p.brigades s.homes) open_goes))
+      brigades_go p p.pools p.brigades [] 0 e code (Holds p part.End a b c) h refl s.brigades s.pools (homes_from (length p.pools) p.brigades s.homes) open_goes))
 
-no_texts : (p : Program) → IsModule p → p.texts ≡ []
-no_texts p s = empty p.texts (sym (none_named p.code) ∙ s.texts)
-  where
-    none_named : (is : List Instr) → filter_map text_of_instr is ≡ []
-    none_named [] = refl
-    none_named (i ∷ is) = none_named is
-
-    empty : (ts : List (List ℕ)) → [] ≡ range_with_len 0 (length ts) → ts ≡ []
-    empty [] e = refl
-    empty (t ∷ ts) e = absurd (cc e)
+-- the texts of all instructions are those of the module
+all_texts : (p : Program) → IsModule p → texts_of p p.code ≡ p.texts
+unfolding text_at
+all_texts p s = ap (map (text_at p)) s.texts ∙ items_of (text_at p) [] p.texts 0 (λ k lt. let e : 0 + k ≡ k = omega arith in ap (text_at p) e)
 
 apart_front : (name : List ℕ) (xs ys : List (List ℕ × ℕ)) → IsApart name (xs ++ ys) → IsApart name xs
 apart_front name [] ys d = tt
@@ -131,10 +129,10 @@ text_again text m t =
     let names_a = names_of (0 + length A) xs t.opening.labels in
     let names_b = names_of (m.init + length B) ys t.initial.labels in
     let names_c = names_of (m.main + length C) zs t.serving.labels in
-    let right_a = right_from m part.Open xs names_a 0 t.first (part_right m part.Open 0 m.init [] A (B ++ C) s s.opening whole refl low) names_a t.opening.aimed in
-    let right_b = right_from m part.Init ys names_b m.init t.second (part_right m part.Init m.init m.main A B C s s.initial whole (sym t.inits) end_b) names_b t.initial.aimed in
-    let right_c = right_from m part.Main zs names_c m.main t.third (part_right m part.Main m.main (length m.code) (A ++ B) C [] s s.serving whole_c front end_c) names_c t.serving.aimed in
-    let goes = module_goes m t.first t.second t.third s.brigades (omega (arith, total, s.size)) right_a right_b right_c s in
+    let right_a = right_from m part.Open xs names_a 0 t.first (part_right m part.Open 0 m.init [] A (B ++ C) s s.opening whole refl low) names_a t.opening.aimed t.opening.texts in
+    let right_b = right_from m part.Init ys names_b m.init t.second (part_right m part.Init m.init m.main A B C s s.initial whole (sym t.inits) end_b) names_b t.initial.aimed t.initial.texts in
+    let right_c = right_from m part.Main zs names_c m.main t.third (part_right m part.Main m.main (length m.code) (A ++ B) C [] s s.serving whole_c front end_c) names_c t.serving.aimed t.serving.texts in
+    let goes = module_goes m t.first t.second t.third s whole right_a right_b right_c in
     let ran = run t.lines empty_draft 1 (Holds m part.End t.first t.second t.third) t.clean (rw t.spelled goes) in
     let d = ran.0 in
     let h = ran.2 in
@@ -144,9 +142,9 @@ text_again text m t =
     let ends_a = part_ends m part.Open 0 m.init [] t.first (B ++ C) d.open s.opening whole refl low h.first in
     let ends_b = part_ends m part.Init m.init m.main A t.second C d.init s.initial whole (sym t.inits) end_b h.second in
     let ends_c = part_ends m part.Main m.main (length m.code) (A ++ B) t.third [] d.main s.serving whole_c front end_c h.third in
-    let one = resolve_again [] [] d.open [] t.first tt tt h.first t.opening (distinct_front xs ys (distinct_front (xs ++ ys) zs t.distinct)) ends_a in
+    let one = resolve_again m [] [] d.open [] t.first tt tt h.first t.opening (distinct_front xs ys (distinct_front (xs ++ ys) zs t.distinct)) ends_a in
     let init_is : length A ≡ m.init = sym t.inits in
-    let two = resolve_again d.open.labels xs d.init A t.second named_a names_a h.second (rw init_is t.initial) (rw init_is (distinct_front (xs ++ ys) zs t.distinct)) ends_b in
-    let three = resolve_again (d.open.labels ++ d.init.labels) (xs ++ ys) d.main (A ++ B) t.third (named-append d.open.labels d.init.labels xs ys named_a named_b) (AreNamed-append xs ys names_a names_b) h.third (rw front t.serving) (rw front t.distinct) ends_c in
+    let two = resolve_again m d.open.labels xs d.init A t.second named_a names_a h.second (rw init_is t.initial) (rw init_is (distinct_front (xs ++ ys) zs t.distinct)) ends_b in
+    let three = resolve_again m (d.open.labels ++ d.init.labels) (xs ++ ys) d.main (A ++ B) t.third (named-append d.open.labels d.init.labels xs ys named_a named_b) (AreNamed-append xs ys names_a names_b) h.third (rw front t.serving) (rw front t.distinct) ends_c in
     let made = done d [] A (A ++ B) ((A ++ B) ++ C) refl one two three in
-    rw read (made ∙ ap Ok (same_program (program d.pools d.brigades d.texts ((A ++ B) ++ C) (length A) (length (A ++ B))) m h.at.pools h.at.brigades (h.at.texts ∙ sym (no_texts m s)) (sym t.code) init_is front))
+    rw read (made ∙ ap Ok (same_program (program d.pools d.brigades d.texts ((A ++ B) ++ C) (length A) (length (A ++ B))) m h.at.pools h.at.brigades (h.texts ∙ ap (texts_of m) (sym t.code) ∙ all_texts m s) (sym t.code) init_is front))

@@ -1,8 +1,9 @@
 -- Lines that are taken into a draft.
-use Rattle.std.specs.Prelude.{◌≡◌, All, Bool, true, false, slice_get, Some, ℕ, ◌≤◌, ◌==◌, if◌then◌else◌, List, [], ◌∷◌, ◌++◌, length, option_to_list, Result, Ok, Err}
+use Rattle.std.specs.Prelude.{◌≡◌, All, true, false, slice_get, Option, Some, None, filter_map, ℕ, ◌+◌, ◌≤◌, ◌==◌, if◌then◌else◌, List, [], ◌∷◌, ◌++◌, length, option_to_list, Result, Ok, Err}
+use Rattle.std.specs.List.{range_with_len}
 use Rattle.module_lang.specs.Drafts.{with_label, with_part, with_step}
 use Rattle.module_lang.specs.Lines.{are_declared, has_equal_brigades, has_text, instruction_count, line_read, misplaced, place_is_declared}
-use Rattle.module_lang.specs.Operands.{IsOfKinds}
+use Rattle.module_lang.specs.Operands.{IsOfKinds, operand_place}
 use Rattle.module_lang.specs.Quoted.{quoted, text_of}
 use Rattle.module_lang.specs.Words.{op_kinds}
 use Rattle.module_lang.specs.declared.draft.Draft.{Draft}
@@ -10,11 +11,8 @@ use Rattle.module_lang.specs.declared.draft.Part.{Part}
 use Rattle.module_lang.specs.declared.draft.Step.{Step}
 use Rattle.module_lang.specs.declared.draft.Part.TheVariants as part
 use Rattle.module_lang.specs.declared.instr.PoolRef.{PoolRef}
-use Rattle.module_lang.specs.declared.instr.PoolRef.TheVariants as pool
 use Rattle.module_lang.specs.declared.lines.Line.{Line}
 use Rattle.module_lang.specs.declared.lines.Line.TheVariants as line
-use Rattle.module_lang.specs.declared.operand.Operand.{Operand}
-use Rattle.module_lang.specs.declared.operand.Operand.TheVariants as operand
 use Rattle.module_lang.specs.declared.operand.Operands.{Operands}
 use Rattle.module_lang.specs.declared.refusal.AsmRefusal.{AsmRefusal}
 use Rattle.module_lang.specs.declared.refusal.AsmRefusal.TheVariants.{Fault}
@@ -22,11 +20,6 @@ use Rattle.module_lang.specs.declared.refusal.Code.{Code}
 use Rattle.module_lang.specs.declared.word.Op.{Op}
 use Rattle.module_lang.specs.declared.word.Word.{Word}
 use Rattle.module_lang.specs.declared.word.Word.TheVariants as word
-
--- the pool that an operand names
-abbrev pub place_of : Operand → PoolRef
-place_of (operand.Place p) = p
-place_of _ = pool.Conn
 
 -- the bytes from the first quote on
 abbrev pub from_quote : List ℕ → List ℕ
@@ -44,9 +37,9 @@ step_entered d n bytes i o =
 -- a line that begins with a word
 abbrev pub item_entered : Draft → ℕ → List ℕ → Word → Operands → Draft
 item_entered d n bytes word.Module o = with_part d part.Pools n
-item_entered d n bytes word.Pool o = record d { pools = d.pools ++ place_of o.second ∷ [] }
+item_entered d n bytes word.Pool o = record d { pools = d.pools ++ operand_place o.second ∷ [] }
 item_entered d n bytes word.Brigade o =
-    record d { part = part.Brigades; brigades = d.brigades ++ place_of o.second ∷ [] }
+    record d { part = part.Brigades; brigades = d.brigades ++ operand_place o.second ∷ [] }
 item_entered d n bytes word.Open o = with_part d part.Open n
 item_entered d n bytes word.Init o = with_part d part.Init n
 item_entered d n bytes word.Main o = with_part d part.Main n
@@ -73,12 +66,21 @@ pub record IsStep (pools brigades : List PoolRef) (p : Part) (s : Step) : Type 0
   pub apart : has_equal_brigades s.operands ≡ false
   pub allowed : misplaced p pools brigades s.op s.operands ≡ false
 
--- no code has been read
-abbrev pub is_declaring : Part → Bool
-is_declaring part.Start = true
-is_declaring part.Pools = true
-is_declaring part.Brigades = true
-is_declaring _ = false
+-- how many instructions stand in handlers that have not begun
+abbrev pub early_steps : Part → Draft → ℕ
+early_steps part.Open d = length d.init.steps + length d.main.steps
+early_steps part.Init d = length d.main.steps
+early_steps part.Main d = 0
+early_steps part.End d = 0
+early_steps _ d = instruction_count d
+
+-- the number of an instruction's text, if it has one
+abbrev pub step_text : Step → Option ℕ
+step_text s = if has_text s.operands then Some s.text else None
+
+-- the numbers of the texts of instructions
+abbrev pub step_numbers : List Step → List ℕ
+step_numbers steps = filter_map step_text steps
 
 -- what is true of each draft
 pub record IsDraft (d : Draft) : Type 0 where
@@ -87,8 +89,10 @@ pub record IsDraft (d : Draft) : Type 0 where
   pub brigades : length d.brigades ≤ 8
   pub parents : (k : ℕ) (q : PoolRef) → slice_get d.pools k ≡ Some q → place_is_declared k q ≡ true
   pub homes : (k : ℕ) (q : PoolRef) → slice_get d.brigades k ≡ Some q → place_is_declared (length d.pools) q ≡ true
-  pub texts : d.texts ≡ []
-  pub none : is_declaring d.part ≡ true → instruction_count d ≡ 0
+  pub texts : step_numbers d.open.steps ++ (step_numbers d.init.steps ++ step_numbers d.main.steps) ≡ range_with_len 0 (length d.texts)
+  pub few : length d.texts ≤ 64
+  pub short : All (λ t. length t ≤ 255) d.texts
+  pub none : early_steps d.part d ≡ 0
   pub opening : All (IsStep d.pools d.brigades part.Open) d.open.steps
   pub init : All (IsStep d.pools d.brigades part.Init) d.init.steps
   pub main : All (IsStep d.pools d.brigades part.Main) d.main.steps

@@ -5,14 +5,18 @@ use Rattle.std.specs.List.{list_any}
 use Rattle.std.specs.Ordering.{nat_cmp}
 use Rattle.std.specs.BTreeMap.{BTreeMap, get}
 use Rattle.std.specs.BTreeSet.{BTreeSet, contains}
+use Rattle.module_lang.specs.Operands.{operand_place}
 use Rattle.module_lang.specs.declared.draft.Handler.{Handler}
 use Rattle.module_lang.specs.declared.draft.Label.{Label}
 use Rattle.module_lang.specs.declared.draft.Step.{Step}
 use Rattle.module_lang.specs.declared.handler.LineFault.{LineFault}
 use Rattle.module_lang.specs.declared.instr.Instr.{Instr}
 use Rattle.module_lang.specs.declared.instr.Instr.TheVariants as instr
+use Rattle.module_lang.specs.declared.instr.PoolRef.TheVariants as pool
 use Rattle.module_lang.specs.declared.instr.Status.{Status}
 use Rattle.module_lang.specs.declared.instr.Status.TheVariants as status
+use Rattle.module_lang.specs.declared.instr.VarRef.{VarRef}
+use Rattle.module_lang.specs.declared.instr.VarRef.TheVariants as variable
 use Rattle.module_lang.specs.declared.operand.Operand.{Operand}
 use Rattle.module_lang.specs.declared.operand.Operand.TheVariants as operand
 use Rattle.module_lang.specs.declared.operand.Operands.{Operands}
@@ -110,8 +114,9 @@ handler_fault before h =
     if ends_open h.steps then fault h.line code.OpenEnd
     else sooner (label_fault before (length h.steps) h.labels) (jump_fault h.labels h.steps)
 
--- the number of a brigade operand
+-- the number of the variable that an operand names
 abbrev pub operand_index : Operand → ℕ
+operand_index (operand.Place (pool.Own i)) = i
 operand_index (operand.Brigade b) = b
 operand_index _ = 0
 
@@ -119,19 +124,30 @@ abbrev pub operand_status : Operand → Status
 operand_status (operand.Ending s) = s
 operand_status _ = status.Success
 
--- the instruction that is written so, with the number of its target
-abbrev pub op_instr : Op → Operands → ℕ → Instr
-op_instr op.BCreate o t = instr.BCreate (operand_index o.first)
-op_instr op.BClean o t = instr.BClean (operand_index o.first)
-op_instr op.BConcat o t = instr.BConcat (operand_index o.first) (operand_index o.second)
-op_instr op.Pass o t = instr.Pass (operand_index o.first) t
-op_instr op.JEmpty o t = instr.JEmpty (operand_index o.first) t
-op_instr op.JSent o t = instr.JSent t
-op_instr op.Jump o t = instr.Jump t
-op_instr op.Ret o t = instr.Ret (operand_status o.first)
+-- the variable that an operand names
+abbrev pub operand_variable : Operand → VarRef
+operand_variable (operand.Brigade b) = variable.Brigade b
+operand_variable o = variable.Pool (operand_index o)
+
+-- the instruction that is written so, with the numbers of its text and of its target
+abbrev pub op_instr : Op → Operands → ℕ → ℕ → Instr
+op_instr op.PCreate o x t = instr.PCreate (operand_index o.first)
+op_instr op.PClear o x t = instr.PClear (operand_index o.first)
+op_instr op.PDestroy o x t = instr.PDestroy (operand_index o.first)
+op_instr op.Label o x t = instr.Label (operand_place o.first) x
+op_instr op.Unlabel o x t = instr.Unlabel (operand_place o.first) x
+op_instr op.BCreate o x t = instr.BCreate (operand_index o.first)
+op_instr op.BClean o x t = instr.BClean (operand_index o.first)
+op_instr op.BConcat o x t = instr.BConcat (operand_index o.first) (operand_index o.second)
+op_instr op.Pass o x t = instr.Pass (operand_index o.first) t
+op_instr op.JEmpty o x t = instr.JEmpty (operand_index o.first) t
+op_instr op.JNull o x t = instr.JNull (operand_variable o.first) t
+op_instr op.JSent o x t = instr.JSent t
+op_instr op.Jump o x t = instr.Jump t
+op_instr op.Ret o x t = instr.Ret (operand_status o.first)
 
 abbrev pub instr_of : Step → ℕ → Instr
-instr_of s t = op_instr s.op s.operands t
+instr_of s t = op_instr s.op s.operands s.text t
 
 -- the place of the label that an instruction names, where one names none, 0
 abbrev pub target_place : List Label → Option (List ℕ) → ℕ

@@ -5,6 +5,7 @@ use Rattle.module_lang.specs.Bytes.{begins, tail, token, after_token}
 use Rattle.module_lang.specs.Codes.{◌>>=◌, unless}
 use Rattle.module_lang.specs.Names.{name_of}
 use Rattle.module_lang.specs.Quoted.{quoted, measure_of}
+use Rattle.module_lang.specs.declared.instr.PoolRef.{PoolRef}
 use Rattle.module_lang.specs.declared.instr.PoolRef.TheVariants as pool
 use Rattle.module_lang.specs.declared.instr.Status.TheVariants as status
 use Rattle.module_lang.specs.declared.operand.Operand.{Operand}
@@ -48,6 +49,9 @@ ending_in t =
 abbrev pub label_in : List ℕ → Option Operand
 label_in t = option_map (λ n. operand.Label n) (name_of t)
 
+abbrev pub variable_in : List ℕ → Option Operand
+variable_in t = if begins 112 t then pool_in t else brigade_in t
+
 -- the operand of a kind that a token without spaces spells
 unfoldable pub operand_in : Kind → List ℕ → Option Operand
 operand_in kind.Nothing t = None
@@ -59,6 +63,7 @@ operand_in kind.Source t = source_in t
 operand_in kind.Ending t = ending_in t
 operand_in kind.Label t = label_in t
 operand_in kind.Text t = None
+operand_in kind.Variable t = variable_in t
 
 -- whether an operand is of a kind
 abbrev pub of_kind : Kind → Operand → Bool
@@ -71,6 +76,8 @@ of_kind kind.Source (operand.Brigade b) = true
 of_kind kind.Ending (operand.Ending s) = true
 of_kind kind.Label (operand.Label n) = true
 of_kind kind.Text (operand.Text len) = true
+of_kind kind.Variable (operand.Place (pool.Own i)) = nat_lt i 8
+of_kind kind.Variable (operand.Brigade b) = nat_lt b 8
 of_kind _ _ = false
 
 pub record IsOfKinds (k : Kinds) (o : Operands) : Type 0 where
@@ -78,6 +85,11 @@ pub record IsOfKinds (k : Kinds) (o : Operands) : Type 0 where
   pub second : of_kind k.second o.second ≡ true
   pub third : of_kind k.third o.third ≡ true
   pub fourth : of_kind k.fourth o.fourth ≡ true
+
+-- the pool that an operand names
+abbrev pub operand_place : Operand → PoolRef
+operand_place (operand.Place p) = p
+operand_place _ = pool.Conn
 
 abbrev pub operand_kind_is_nothing : Kind → Bool
 operand_kind_is_nothing kind.Nothing = true

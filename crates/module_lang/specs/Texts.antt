@@ -1,12 +1,15 @@
 -- Module texts as they are written: the grammar.
-use Rattle.std.specs.Prelude.{◌≡◌, ◌≢◌, ℕ, ◌+◌, ◌<◌, ◌≤◌, Bool, true, ◌||◌, ◌==◌, if◌then◌else◌, List, [], ◌∷◌, ◌++◌, length, map, codes, All, IfSome, ◌⊎◌}
-use Rattle.module_lang.specs.Bytes.{all_printable, begins, unindented}
+use Rattle.std.specs.Prelude.{◌≡◌, ◌≢◌, ℕ, ◌+◌, ◌*◌, ◌<◌, ◌≤◌, Bool, true, ◌&&◌, ◌||◌, not, nat_lt, ◌==◌, if◌then◌else◌, List, [], ◌∷◌, ◌++◌, length, map, codes, All, IfSome, ◌⊎◌}
+use Rattle.module_lang.specs.Bytes.{all_printable, begins, is_printable, unindented}
 use Rattle.module_lang.specs.Names.{is_name}
-use Rattle.module_lang.specs.Program.{IsModule, Program, target}
+use Rattle.module_lang.specs.Program.{IsModule, Program, target, text_at, text_of_instr}
+use Rattle.module_lang.specs.Quoted.{hex_digit}
 use Rattle.module_lang.specs.declared.instr.Instr.{Instr}
 use Rattle.module_lang.specs.declared.instr.Instr.TheVariants as instr
 use Rattle.module_lang.specs.declared.instr.PoolRef.{PoolRef}
 use Rattle.module_lang.specs.declared.instr.PoolRef.TheVariants as pool
+use Rattle.module_lang.specs.declared.instr.VarRef.{VarRef}
+use Rattle.module_lang.specs.declared.instr.VarRef.TheVariants as variable
 use Rattle.module_lang.specs.declared.instr.Status.{Status}
 use Rattle.module_lang.specs.declared.instr.Status.TheVariants as status
 
@@ -23,6 +26,11 @@ own_text b = 98 ∷ (48 + b) ∷ []
 abbrev pub brigade_text : ℕ → List ℕ
 brigade_text b = if b == 8 then codes "in" else own_text b
 
+-- `p0` to `p7` or `b0` to `b7`
+abbrev pub variable_text : VarRef → List ℕ
+variable_text (variable.Pool q) = place_text (pool.Own q)
+variable_text (variable.Brigade b) = own_text b
+
 abbrev pub status_text : Status → List ℕ
 status_text status.Success = codes "ok"
 status_text status.Fail = codes "fail"
@@ -35,48 +43,102 @@ operands_text (o ∷ os) = 32 ∷ (o ++ operands_text os)
 abbrev pub line_text : List ℕ → List (List ℕ) → List ℕ
 line_text word os = word ++ operands_text os
 
--- the operands of an instruction, where its target has this name
-abbrev pub operand_texts : Instr → List ℕ → List (List ℕ)
-operand_texts (instr.BCreate o) n = own_text o ∷ []
-operand_texts (instr.BClean b) n = brigade_text b ∷ []
-operand_texts (instr.BConcat a b) n = brigade_text a ∷ brigade_text b ∷ []
-operand_texts (instr.Pass b l) n = brigade_text b ∷ n ∷ []
-operand_texts (instr.JEmpty b l) n = brigade_text b ∷ n ∷ []
-operand_texts (instr.JSent l) n = n ∷ []
-operand_texts (instr.Jump l) n = n ∷ []
-operand_texts (instr.Ret s) n = status_text s ∷ []
+-- how one byte of a text is written: as it is, or by `\"`, `\\`, `\n`, `\r` or `\xHH`
+pub data Piece : Type 0 where
+  plain : ℕ → Piece
+  quote : Piece
+  backslash : Piece
+  line_feed : Piece
+  carriage_return : Piece
+  hex : ℕ → ℕ → Piece
+
+abbrev pub piece_text : Piece → List ℕ
+piece_text (plain b) = b ∷ []
+piece_text quote = 92 ∷ 34 ∷ []
+piece_text backslash = 92 ∷ 92 ∷ []
+piece_text line_feed = 92 ∷ 110 ∷ []
+piece_text carriage_return = 92 ∷ 114 ∷ []
+piece_text (hex high low) = 92 ∷ 120 ∷ hex_digit high ∷ hex_digit low ∷ []
+
+abbrev pub piece_byte : Piece → ℕ
+piece_byte (plain b) = b
+piece_byte quote = 34
+piece_byte backslash = 92
+piece_byte line_feed = 10
+piece_byte carriage_return = 13
+piece_byte (hex high low) = 16 * high + low
+
+-- a printable byte but `"` and `\`, or two digits in lower case
+abbrev pub is_piece : Piece → Bool
+is_piece (plain b) = is_printable b && not (b == 34) && not (b == 92)
+is_piece (hex high low) = nat_lt high 16 && nat_lt low 16
+is_piece _ = true
+
+abbrev pub pieces_text : List Piece → List ℕ
+pieces_text [] = []
+pieces_text (c ∷ cs) = piece_text c ++ pieces_text cs
+
+-- a text in quotes, and the bytes that it spells
+pub record Spells (spelled bytes : List ℕ) : Type 0 where
+  pub pieces : List Piece
+  pub right : All (λ c. is_piece c ≡ true) pieces
+  pub whole : spelled ≡ 34 ∷ (pieces_text pieces ++ 34 ∷ [])
+  pub same : bytes ≡ map piece_byte pieces
+
+-- the operands of an instruction, where its target has this name and its text is spelled so
+abbrev pub operand_texts : Instr → List ℕ → List ℕ → List (List ℕ)
+operand_texts (instr.PCreate q) n s = place_text (pool.Own q) ∷ []
+operand_texts (instr.PClear q) n s = place_text (pool.Own q) ∷ []
+operand_texts (instr.PDestroy q) n s = place_text (pool.Own q) ∷ []
+operand_texts (instr.Label q t) n s = place_text q ∷ s ∷ []
+operand_texts (instr.Unlabel q t) n s = place_text q ∷ s ∷ []
+operand_texts (instr.BCreate o) n s = own_text o ∷ []
+operand_texts (instr.BClean b) n s = brigade_text b ∷ []
+operand_texts (instr.BConcat a b) n s = brigade_text a ∷ brigade_text b ∷ []
+operand_texts (instr.Pass b l) n s = brigade_text b ∷ n ∷ []
+operand_texts (instr.JEmpty b l) n s = brigade_text b ∷ n ∷ []
+operand_texts (instr.JNull v l) n s = variable_text v ∷ n ∷ []
+operand_texts (instr.JSent l) n s = n ∷ []
+operand_texts (instr.Jump l) n s = n ∷ []
+operand_texts (instr.Ret e) n s = status_text e ∷ []
 
 -- the word of an instruction
 abbrev pub instr_word : Instr → List ℕ
+instr_word (instr.PCreate q) = codes "pcreate"
+instr_word (instr.PClear q) = codes "pclear"
+instr_word (instr.PDestroy q) = codes "pdestroy"
+instr_word (instr.Label q t) = codes "label"
+instr_word (instr.Unlabel q t) = codes "unlabel"
 instr_word (instr.BCreate o) = codes "bcreate"
 instr_word (instr.BClean b) = codes "bclean"
 instr_word (instr.BConcat a b) = codes "bconcat"
 instr_word (instr.Pass b l) = codes "pass"
 instr_word (instr.JEmpty b l) = codes "jempty"
+instr_word (instr.JNull v l) = codes "jnull"
 instr_word (instr.JSent l) = codes "jsent"
 instr_word (instr.Jump l) = codes "jump"
 instr_word (instr.Ret s) = codes "ret"
 
--- a line of code: a label, or an instruction and the name of its target
+-- a line of code: a label, or an instruction, the name of its target, and its text as it is spelled
 pub data CodeLine : Type 0 where
   label : List ℕ → CodeLine
-  step : Instr → List ℕ → CodeLine
+  step : Instr → List ℕ → List ℕ → CodeLine
 
 abbrev pub code_text : CodeLine → List ℕ
 code_text (label name) = 58 ∷ name
-code_text (step i name) = line_text (instr_word i) (operand_texts i name)
+code_text (step i name s) = line_text (instr_word i) (operand_texts i name s)
 
 -- the instructions of lines of code
 abbrev pub instrs : List CodeLine → List Instr
 instrs [] = []
 instrs (label name ∷ ls) = instrs ls
-instrs (step i name ∷ ls) = i ∷ instrs ls
+instrs (step i name s ∷ ls) = i ∷ instrs ls
 
 -- the labels of lines of code, each with the number of the instruction that follows, where the first has number n
 abbrev pub labels_from : ℕ → List CodeLine → List (List ℕ × ℕ)
 labels_from n [] = []
 labels_from n (label name ∷ ls) = (name, n) ∷ labels_from n ls
-labels_from n (step i name ∷ ls) = labels_from (n + 1) ls
+labels_from n (step i name s ∷ ls) = labels_from (n + 1) ls
 
 -- a label of this name stands before the instruction of this number
 abbrev pub IsLabel : List ℕ → ℕ → List (List ℕ × ℕ) → Type 0
@@ -87,7 +149,13 @@ IsLabel name t (l ∷ ls) = ((l.0 ≡ name) × (l.1 ≡ t)) ⊎ IsLabel name t l
 abbrev pub IsAimed : List (List ℕ × ℕ) → List CodeLine → Type 0
 IsAimed labels [] = Unit {0}
 IsAimed labels (label name ∷ ls) = IsAimed labels ls
-IsAimed labels (step i name ∷ ls) = IfSome (target i) (λ t. IsLabel name t labels) × IsAimed labels ls
+IsAimed labels (step i name s ∷ ls) = IfSome (target i) (λ t. IsLabel name t labels) × IsAimed labels ls
+
+-- each instruction's text is spelled where the instruction stands
+abbrev pub AreSpelled : Program → List CodeLine → Type 0
+AreSpelled p [] = Unit {0}
+AreSpelled p (label name ∷ ls) = AreSpelled p ls
+AreSpelled p (step i name s ∷ ls) = IfSome (text_of_instr i) (λ t. Spells s (text_at p t)) × AreSpelled p ls
 
 -- the labels have names, and an instruction below this number follows each
 abbrev pub AreLabels : ℕ → List (List ℕ × ℕ) → Type 0
@@ -104,10 +172,11 @@ abbrev pub AreDistinct : List (List ℕ × ℕ) → Type 0
 AreDistinct [] = Unit {0}
 AreDistinct (l ∷ ls) = IsApart l.0 ls × AreDistinct ls
 
--- the lines of a handler whose first instruction has number n
-pub record IsCode (n : ℕ) (code : List CodeLine) : Type 0 where
+-- the lines of a handler of a module, whose first instruction has number n
+pub record IsCode (p : Program) (n : ℕ) (code : List CodeLine) : Type 0 where
   pub labels : AreLabels (n + length (instrs code)) (labels_from n code)
   pub aimed : IsAimed (labels_from n code) code
+  pub texts : AreSpelled p code
 
 abbrev pub pool_texts : ℕ → List PoolRef → List (List ℕ)
 pool_texts k [] = []
@@ -152,7 +221,7 @@ pub record IsTextOf (text : List ℕ) (m : Program) : Type 0 where
   pub code : m.code ≡ instrs first ++ instrs second ++ instrs third
   pub inits : m.init ≡ length (instrs first)
   pub mains : m.main ≡ m.init + length (instrs second)
-  pub opening : IsCode 0 first
-  pub initial : IsCode m.init second
-  pub serving : IsCode m.main third
+  pub opening : IsCode m 0 first
+  pub initial : IsCode m m.init second
+  pub serving : IsCode m m.main third
   pub distinct : AreDistinct (labels_from 0 first ++ labels_from m.init second ++ labels_from m.main third)

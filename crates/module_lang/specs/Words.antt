@@ -21,22 +21,34 @@ no_operand = one_operand kind.Nothing
 
 -- how the word of an instruction is written
 unfoldable pub op_text : Op → List ℕ
+op_text op.PCreate = codes "pcreate"
+op_text op.PClear = codes "pclear"
+op_text op.PDestroy = codes "pdestroy"
+op_text op.Label = codes "label"
+op_text op.Unlabel = codes "unlabel"
 op_text op.BCreate = codes "bcreate"
 op_text op.BClean = codes "bclean"
 op_text op.BConcat = codes "bconcat"
 op_text op.Pass = codes "pass"
 op_text op.JEmpty = codes "jempty"
+op_text op.JNull = codes "jnull"
 op_text op.JSent = codes "jsent"
 op_text op.Jump = codes "jump"
 op_text op.Ret = codes "ret"
 
 -- its operands
 unfoldable pub op_kinds : Op → Kinds
+op_kinds op.PCreate = one_operand kind.Pool
+op_kinds op.PClear = one_operand kind.Pool
+op_kinds op.PDestroy = one_operand kind.Pool
+op_kinds op.Label = two_operands kind.Place kind.Text
+op_kinds op.Unlabel = two_operands kind.Place kind.Text
 op_kinds op.BCreate = one_operand kind.Brigade
 op_kinds op.BClean = one_operand kind.Source
 op_kinds op.BConcat = two_operands kind.Source kind.Source
 op_kinds op.Pass = two_operands kind.Source kind.Label
 op_kinds op.JEmpty = two_operands kind.Source kind.Label
+op_kinds op.JNull = two_operands kind.Variable kind.Label
 op_kinds op.JSent = one_operand kind.Label
 op_kinds op.Jump = one_operand kind.Label
 op_kinds op.Ret = one_operand kind.Ending
@@ -66,8 +78,9 @@ word_kinds (word.Op o) = op_kinds o
 abbrev pub all_words : List Word
 all_words =
     word.Module ∷ word.Pool ∷ word.Brigade ∷ word.Open ∷ word.Init ∷ word.Main ∷ word.End
+    ∷ word.Op op.PCreate ∷ word.Op op.PClear ∷ word.Op op.PDestroy ∷ word.Op op.Label ∷ word.Op op.Unlabel
     ∷ word.Op op.BCreate ∷ word.Op op.BClean ∷ word.Op op.BConcat ∷ word.Op op.Pass ∷ word.Op op.JEmpty
-    ∷ word.Op op.JSent ∷ word.Op op.Jump ∷ word.Op op.Ret ∷ []
+    ∷ word.Op op.JNull ∷ word.Op op.JSent ∷ word.Op op.Jump ∷ word.Op op.Ret ∷ []
 
 -- the word that is written so
 unfoldable pub word_at : List ℕ → Option Word

@@ -47,7 +47,7 @@ pub struct Step {
     pub op: Op,
     pub operands: Operands,
     /// How many texts stand before it in the module.
-    pub text: usize,
+    pub text: u8,
 }
 
 /// The lines of a handler.

@@ -1,26 +1,16 @@
 //! Lines that are taken into a draft.
 
 ghost use Rattle.std.specs.Prelude.{◌≡◌, ◌++◌, [], OnOk, option_to_list};
-ghost use Rattle.module_lang.specs.Entries.{place_of, from_quote, step_texts};
+ghost use Rattle.module_lang.specs.Entries.{from_quote, step_texts};
 
 use crate::draft::{Draft, Part, Step};
-use crate::instr::PoolRef;
 use crate::lines::{Line, has_text, read_line};
-use crate::operand::{Operand, Operands};
+use crate::operand::{Operands, operand_place};
 use crate::quoted::unquote;
 use crate::refusal::AsmRefusal;
 use crate::seq::Seq;
 use crate::word::{Op, Word};
 use std::alloc::{AllocError, Global};
-
-fn place_of(operand: Operand) -> PoolRef
-    ensures { result ≡ place_of operand }
-{
-    match operand {
-        Operand::Place(place) => place,
-        _ => PoolRef::Conn,
-    }
-}
 
 /// The bytes from the first quote on.
 fn from_quote(line: &[u8]) -> &[u8]
@@ -60,7 +50,7 @@ fn add_texts(
 }
 
 impl Draft {
-    ghost use Rattle.std.specs.Prelude.{◌≡◌, OnOk};
+    ghost use Rattle.std.specs.Prelude.{◌≡◌, ◌≤◌, OnOk, length};
     ghost use Rattle.module_lang.specs.Codes.{Gives};
     ghost use Rattle.module_lang.specs.Entries.{step_entered, item_entered, entered, line_taken, IsDraft};
 
@@ -72,9 +62,10 @@ impl Draft {
         op: Op,
         operands: Operands,
     ) -> Result<(), AllocError>
+        requires { length self.old.texts ≤ 64 }
         ensures { OnOk result (self.new ≡ step_entered self.old number line.now op operands) }
     {
-        let text = self.texts.len();
+        let text = self.texts.len() as u8;
         add_texts(alloc, &mut self.texts, line, operands)?;
         self.add_step(Step {
             line: number,
@@ -87,7 +78,7 @@ impl Draft {
     fn enter_brigade(&mut self, operands: Operands) -> Result<(), AllocError>
         ensures { OnOk result (self.new ≡ item_entered self.old 0 [] Word.Brigade operands) }
     {
-        self.brigades.push(place_of(operands.second))?;
+        self.brigades.push(operand_place(operands.second))?;
         self.part = Part::Brigades;
         Ok(())
     }
@@ -100,11 +91,12 @@ impl Draft {
         word: Word,
         operands: Operands,
     ) -> Result<(), AllocError>
+        requires { length self.old.texts ≤ 64 }
         ensures { OnOk result (self.new ≡ item_entered self.old number line.now word operands) }
     {
         match word {
             Word::Module => self.begin(Part::Pools, number),
-            Word::Pool => return self.pools.push(place_of(operands.second)),
+            Word::Pool => return self.pools.push(operand_place(operands.second)),
             Word::Brigade => return self.enter_brigade(operands),
             Word::Open => self.begin(Part::Open, number),
             Word::Init => self.begin(Part::Init, number),
@@ -122,6 +114,7 @@ impl Draft {
         bytes: &[u8],
         line: Line,
     ) -> Result<(), AllocError>
+        requires { length self.old.texts ≤ 64 }
         ensures { OnOk result (self.new ≡ entered self.old number bytes.now line) }
     {
         match line {

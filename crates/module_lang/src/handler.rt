@@ -6,12 +6,12 @@ ghost use Rattle.std.specs.Cmp.Lexicographic.{slice_cmp};
 ghost use Rattle.std.specs.Ordering.{nat_cmp};
 ghost use Rattle.module_lang.specs.declared.draft.Label.{Label};
 ghost use Rattle.module_lang.specs.Codes.{Tells};
-ghost use Rattle.module_lang.specs.Handlers.{IsPlaces, IsSeen, label_fault, operand_label, label_of, is_lost, jump_fault, op_goes_on, ends_open, sooner, place_of, handler_fault, operand_index, operand_status, instr_of, target_place, step_code, handler_resolved, HasPlacesBelow};
+ghost use Rattle.module_lang.specs.Handlers.{IsPlaces, IsSeen, label_fault, operand_label, label_of, is_lost, jump_fault, op_goes_on, ends_open, sooner, place_of, handler_fault, operand_index, operand_status, operand_variable, instr_of, target_place, step_code, handler_resolved, HasPlacesBelow};
 
 use crate::draft::{Handler, Label, Step};
-use crate::instr::{Instr, Status};
+use crate::instr::{Instr, PoolRef, Status, VarRef};
 use crate::name::Name;
-use crate::operand::{Operand, Operands};
+use crate::operand::{Operand, Operands, operand_place};
 use crate::refusal::{AsmRefusal, Code};
 use crate::seq::Seq;
 use crate::word::Op;
@@ -173,8 +173,18 @@ fn operand_index(operand: Operand) -> u8
     ensures { result ≡ operand_index operand }
 {
     match operand {
+        Operand::Place(PoolRef::Own(i)) => i,
         Operand::Brigade(b) => b,
         _ => 0,
+    }
+}
+
+fn operand_variable(operand: Operand) -> VarRef
+    ensures { result ≡ operand_variable operand }
+{
+    match operand {
+        Operand::Brigade(b) => VarRef::Brigade(b),
+        _ => VarRef::Pool(operand_index(operand)),
     }
 }
 
@@ -193,11 +203,17 @@ fn instr_of(step: &Step, target: u16) -> Instr
 {
     let first = step.operands.first;
     match step.op {
+        Op::PCreate => Instr::PCreate(operand_index(first)),
+        Op::PClear => Instr::PClear(operand_index(first)),
+        Op::PDestroy => Instr::PDestroy(operand_index(first)),
+        Op::Label => Instr::Label(operand_place(first), step.text),
+        Op::Unlabel => Instr::Unlabel(operand_place(first), step.text),
         Op::BCreate => Instr::BCreate(operand_index(first)),
         Op::BClean => Instr::BClean(operand_index(first)),
         Op::BConcat => Instr::BConcat(operand_index(first), operand_index(step.operands.second)),
         Op::Pass => Instr::Pass(operand_index(first), target),
         Op::JEmpty => Instr::JEmpty(operand_index(first), target),
+        Op::JNull => Instr::JNull(operand_variable(first), target),
         Op::JSent => Instr::JSent(target),
         Op::Jump => Instr::Jump(target),
         Op::Ret => Instr::Ret(operand_status(first)),

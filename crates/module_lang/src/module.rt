@@ -1,7 +1,7 @@
 //! A module.
 
 ghost use Rattle.std.specs.Prelude.{◌≡◌, ◌<◌, ◌≤◌, length, slice_get, Some};
-ghost use Rattle.module_lang.specs.Program.{IsModule, IsPlaced, pool_of_brigade, program};
+ghost use Rattle.module_lang.specs.Program.{IsModule, IsPlaced, pool_of_brigade, pool_of_pool, text_at, program};
 
 use crate::instr::{Instr, PoolRef};
 use crate::seq::Seq;
@@ -80,6 +80,7 @@ impl Module {
         ensures placed { IsPlaced self.now pc result }
         ensures small { length self.now.code ≤ 1024 }
         ensures few { length self.now.brigades ≤ 8 }
+        ensures pools { length self.now.pools ≤ 8 }
     {
         *self.code.at(pc)
     }
@@ -91,6 +92,24 @@ impl Module {
         ensures { result ≡ pool_of_brigade self.now brigade }
     {
         *self.brigades.at(usize::from(brigade))
+    }
+
+    /// The parent that a pool variable is declared with.
+    #[tactic(auto, unfolding(crate::specs::Program::pool_of_pool))]
+    pub fn pool_parent(&self, pool: u8) -> PoolRef
+        requires { pool < length self.now.pools }
+        ensures { result ≡ pool_of_pool self.now pool }
+    {
+        *self.pools.at(usize::from(pool))
+    }
+
+    /// The text of a number: at most 255 bytes.
+    #[tactic(auto, unfolding(crate::specs::Program::text_at))]
+    pub fn text(&self, number: u8) -> &[u8]
+        requires { number < length self.now.texts }
+        ensures { result.now ≡ text_at self.now number }
+    {
+        self.texts.at(usize::from(number)).as_slice()
     }
 
     /// The first instruction of the handler `init`.

@@ -2,7 +2,7 @@
 
 ghost use Rattle.std.specs.Prelude.{◌≡◌, ◌<◌, ◌≤◌, length, IsTrue};
 ghost use Rattle.module_lang.specs.Bytes.{begins, tail};
-ghost use Rattle.module_lang.specs.Operands.{numbered, is_one, place_in, pool_in, brigade_in, source_in, ending_in, label_in, operand_in, text_operand, operand_at, after_text, after_operand, operands_at, operand_kind_is_nothing, operand_kind_is_text};
+ghost use Rattle.module_lang.specs.Operands.{numbered, is_one, place_in, pool_in, brigade_in, source_in, ending_in, label_in, variable_in, operand_place, operand_in, text_operand, operand_at, after_text, after_operand, operands_at, operand_kind_is_nothing, operand_kind_is_text};
 
 use crate::bytes::{after_token, begins, is_text, tail, token};
 use crate::instr::{PoolRef, Status};
@@ -111,6 +111,15 @@ fn label_in(token: &[u8]) -> Option<Operand>
     Some(Operand::Label(name_of(token)?))
 }
 
+fn variable_in(token: &[u8]) -> Option<Operand>
+    ensures { result ≡ variable_in token.now }
+{
+    if begins(token, b'p') {
+        return pool_in(token);
+    }
+    brigade_in(token)
+}
+
 /// The operand of a kind that a token without spaces spells.
 #[tactic(auto, unfolding(crate::specs::Operands::operand_in))]
 fn operand_in(kind: Kind, token: &[u8]) -> Option<Operand>
@@ -126,6 +135,17 @@ fn operand_in(kind: Kind, token: &[u8]) -> Option<Operand>
         Kind::Ending => ending_in(token),
         Kind::Label => label_in(token),
         Kind::Text => None,
+        Kind::Variable => variable_in(token),
+    }
+}
+
+/// The pool that an operand names, of one that names none the connection's.
+pub fn operand_place(operand: Operand) -> PoolRef
+    ensures { result ≡ operand_place operand }
+{
+    match operand {
+        Operand::Place(place) => place,
+        _ => PoolRef::Conn,
     }
 }
 

@@ -24,6 +24,8 @@ pub enum Kind {
     Label,
     /// A text in quotes.
     Text,
+    /// A pool variable or a brigade variable.
+    Variable,
 }
 
 /// The kinds of the operands that follow a word, `Nothing` behind the last.
@@ -63,11 +65,17 @@ impl Kinds {
 /// The word of an instruction.
 #[derive(Clone, Copy)]
 pub enum Op {
+    PCreate,
+    PClear,
+    PDestroy,
+    Label,
+    Unlabel,
     BCreate,
     BClean,
     BConcat,
     Pass,
     JEmpty,
+    JNull,
     JSent,
     Jump,
     Ret,
@@ -80,11 +88,17 @@ impl Op {
         ensures { result.now ≡ op_text self }
     {
         match self {
+            Op::PCreate => b"pcreate",
+            Op::PClear => b"pclear",
+            Op::PDestroy => b"pdestroy",
+            Op::Label => b"label",
+            Op::Unlabel => b"unlabel",
             Op::BCreate => b"bcreate",
             Op::BClean => b"bclean",
             Op::BConcat => b"bconcat",
             Op::Pass => b"pass",
             Op::JEmpty => b"jempty",
+            Op::JNull => b"jnull",
             Op::JSent => b"jsent",
             Op::Jump => b"jump",
             Op::Ret => b"ret",
@@ -97,11 +111,17 @@ impl Op {
         ensures { result ≡ op_kinds self }
     {
         match self {
+            Op::PCreate => Kinds::one(Kind::Pool),
+            Op::PClear => Kinds::one(Kind::Pool),
+            Op::PDestroy => Kinds::one(Kind::Pool),
+            Op::Label => Kinds::two(Kind::Place, Kind::Text),
+            Op::Unlabel => Kinds::two(Kind::Place, Kind::Text),
             Op::BCreate => Kinds::one(Kind::Brigade),
             Op::BClean => Kinds::one(Kind::Source),
             Op::BConcat => Kinds::two(Kind::Source, Kind::Source),
             Op::Pass => Kinds::two(Kind::Source, Kind::Label),
             Op::JEmpty => Kinds::two(Kind::Source, Kind::Label),
+            Op::JNull => Kinds::two(Kind::Variable, Kind::Label),
             Op::JSent => Kinds::one(Kind::Label),
             Op::Jump => Kinds::one(Kind::Label),
             Op::Ret => Kinds::one(Kind::Ending),
@@ -158,7 +178,7 @@ impl Word {
     }
 }
 
-const WORDS: [Word; 15] = [
+const WORDS: [Word; 21] = [
     Word::Module,
     Word::Pool,
     Word::Brigade,
@@ -166,11 +186,17 @@ const WORDS: [Word; 15] = [
     Word::Init,
     Word::Main,
     Word::End,
+    Word::Op(Op::PCreate),
+    Word::Op(Op::PClear),
+    Word::Op(Op::PDestroy),
+    Word::Op(Op::Label),
+    Word::Op(Op::Unlabel),
     Word::Op(Op::BCreate),
     Word::Op(Op::BClean),
     Word::Op(Op::BConcat),
     Word::Op(Op::Pass),
     Word::Op(Op::JEmpty),
+    Word::Op(Op::JNull),
     Word::Op(Op::JSent),
     Word::Op(Op::Jump),
     Word::Op(Op::Ret),

@@ -1,45 +1,42 @@
 -- The events of a connection keep its run sound.
-use Rattle.std.proofs.Common.{◌≡◌, ℕ, zero, suc, ◌+◌, ◌^◌, ◌<◌, ◌≤◌, Bool, true, false, ◌||◌, cond, List, [], map, length, Some, None, inl, inr, refl, sym, ◌∙◌, ap, subst, arith}
+use Rattle.std.proofs.Common.{◌≡◌, ℕ, zero, suc, ◌+◌, ◌^◌, ◌<◌, ◌≤◌, Bool, true, false, ◌||◌, List, [], ◌∷◌, length, Some, None, inl, inr, refl, sym, ◌∙◌, ap, subst, arith}
 use Rattle.module_lang.specs.Program.{Program}
 use Rattle.run_model.specs.declared.bucket.Mark.TheVariants.{Usable}
 use Rattle.run_model.specs.declared.bucket.Brigade.{Brigade}
 use Rattle.run_model.specs.declared.bucket.Var.{Var}
 use Rattle.run_model.specs.declared.bucket.Var.TheVariants as var
 use Rattle.run_model.specs.declared.event.Piece.{Piece}
-use Rattle.run_model.specs.Pools.{is_live, is_under, planted, created, destroyed}
-use Rattle.run_model.specs.State.{Payload, Shared, Run, items_of, set_brig}
+use Rattle.run_model.specs.declared.payload.Payload.{Payload}
+use Rattle.run_model.specs.Pools.{is_under, planted, created}
+use Rattle.run_model.specs.State.{Shared, Run, items_of, with_pools, set_brig}
 use Rattle.run_model.specs.Steps.{is_spent}
-use Rattle.run_model.specs.Buckets.{cleared_bucket}
-use Rattle.run_model.specs.Connection.{Connection, opened, begun, brought, request_ended, cleared_var, is_reached, named_from}
+use Rattle.run_model.specs.Clearing.{run_down}
+use Rattle.run_model.specs.Connection.{Connection, opened, begun, brought, request_ended, named_from}
 use Rattle.run_model.specs.Sound.{sum_below, count_named, brigade_pool, SoundPools, Sound}
 use Rattle.run_model.proofs.Updates.{upd_either}
-use Rattle.run_model.proofs.PoolMap.{planted_fresh, planted_older, live_given, created_lives, new_lives, created_fresh, created_older, destroyed_fresh, destroyed_older, destroyed_lives, not_under}
-use Rattle.run_model.proofs.Names.{count_none, count_before, count_once, count_behind, Fewer, fewer_same, cleared_fewer, keeps_slots, placed_names}
+use Rattle.run_model.proofs.PoolMap.{planted_fresh, planted_older, created_lives, created_kept, created_at, new_lives, created_fresh, created_older, destroyed_path, destroyed_apart, destroyed_next}
+use Rattle.run_model.proofs.Names.{count_none, count_before, count_once, count_behind, Fewer, fewer_same, keeps_slots, went_names, placed_names}
 use Rattle.run_model.proofs.StepNames.{not_spent}
-use Rattle.run_model.proofs.StepBuckets.{ProperList, none_proper, named_proper, cleared_list, keeps_buckets, written_buckets}
-use Rattle.run_model.proofs.StepPools.{keeps_pools}
+use Rattle.run_model.proofs.StepBuckets.{ProperList, none_proper, named_proper, keeps_buckets, went_buckets, written_buckets}
+use Rattle.run_model.proofs.NamedPools.{conn_given}
+use Rattle.run_model.proofs.Thinned.{keeps_pools, went_pools}
 
 -- Brigades and shared things stay, and loose buckets stay or go.
-pub same_sound : (r new : Run) → new.inst.brigs ≡ r.inst.brigs → new.shared ≡ r.shared
+pub same_sound : (r new : Run) → new.inst.brigs ≡ r.inst.brigs → new.inst.pools ≡ r.inst.pools → new.shared ≡ r.shared
     → ((n : ℕ) → count_named n new.call.loose ≤ count_named n r.call.loose) → (ProperList r.call.loose → ProperList new.call.loose)
     → Sound r → Sound new
-same_sound r new brigs shared fewer proper s = record {
+same_sound r new brigs own shared fewer proper s = record {
   names = keeps_slots r new fewer (λ b. subst (λ (g : ℕ → Var). Fewer (r.inst.brigs b) (g b)) (sym brigs) (fewer_same (r.inst.brigs b)))
       (subst (λ (x : Shared). r.shared.next ≤ x.next) (sym shared) (omega arith)) (subst (λ (x : Shared). x.next < 2 ^ 64) (sym shared) s.names.limit) s.names;
   buckets = keeps_buckets r new (λ b h. subst (λ (g : ℕ → Var). ProperList (items_of (g b))) (sym brigs) h) proper s.buckets;
-  pools = keeps_pools r new (ap (λ (x : Shared). x.pools) shared) (ap (λ (x : Shared). x.conn) shared) (ap (λ (x : Shared). x.req) shared)
+  pools = keeps_pools r new (ap (λ (x : Shared). x.pools) shared) (ap (λ (x : Shared). x.conn) shared) (ap (λ (x : Shared). x.req) shared) own
       (λ b n e. s.pools.brigades b n (sym (ap (λ (g : ℕ → Var). brigade_pool (g b)) brigs) ∙ e)) s.pools;
 }
 
--- where the loose buckets go too
-pub called_sound : (r new : Run) → new.inst.brigs ≡ r.inst.brigs → new.shared ≡ r.shared → new.call.loose ≡ [] → Sound r → Sound new
-called_sound r new brigs shared none s =
-    same_sound r new brigs shared (λ n. rw (none, count_none n) (omega arith)) (λ h. subst ProperList (sym none) none_proper) s
-
--- or nothing of all this changes
-pub untouched_sound : (r new : Run) → new.inst.brigs ≡ r.inst.brigs → new.shared ≡ r.shared → new.call.loose ≡ r.call.loose → Sound r → Sound new
-untouched_sound r new brigs shared same s =
-    same_sound r new brigs shared (λ n. rw same (omega arith)) (λ h. subst ProperList (sym same) h) s
+-- where nothing of all this changes
+pub untouched_sound : (r new : Run) → new.inst.brigs ≡ r.inst.brigs → new.inst.pools ≡ r.inst.pools → new.shared ≡ r.shared → new.call.loose ≡ r.call.loose → Sound r → Sound new
+untouched_sound r new brigs own shared same s =
+    same_sound r new brigs own shared (λ n. rw same (omega arith)) (λ h. subst ProperList (sym same) h) s
 
 -- A request begins.
 
@@ -51,14 +48,19 @@ neither false false h = (refl, refl)
 begun_pools : (p : Program) (c : Connection) → c.run.shared.pools.next + 1 < 2 ^ 64 → SoundPools c.run → SoundPools (begun p c).run
 unfolding created
 begun_pools p c limit s =
-    let conn_given : c.run.shared.conn < c.run.shared.pools.next = live_given c.run.shared.pools c.run.shared.conn s.fresh s.conn in
+    let given : c.run.shared.conn < c.run.shared.pools.next = conn_given c.run s in
     record {
       limit = limit;
       fresh = created_fresh c.run.shared.conn c.run.shared.pools s.fresh;
-      older = created_older c.run.shared.conn c.run.shared.pools conn_given s.older;
+      older = created_older c.run.shared.conn c.run.shared.pools given s.older;
       conn = created_lives c.run.shared.conn c.run.shared.pools c.run.shared.conn s.conn;
-      req = λ n e. (let is : c.run.shared.pools.next ≡ n = cc in
-          (subst (λ k. is_live (created c.run.shared.conn c.run.shared.pools) k ≡ true) is (new_lives c.run.shared.conn c.run.shared.pools), omega (arith, is)));
+      req = λ n e.
+          (let is : c.run.shared.pools.next ≡ n = cc in (
+            subst (λ (k : ℕ). (created c.run.shared.conn c.run.shared.pools).path k ≡ k ∷ (created c.run.shared.conn c.run.shared.pools).path c.run.shared.conn) is
+                (created_at c.run.shared.conn c.run.shared.pools ∙ ap (λ (path : List ℕ). c.run.shared.pools.next ∷ path) (sym (created_kept c.run.shared.conn c.run.shared.pools c.run.shared.conn given))),
+            omega (arith, is),
+          ));
+      own = λ q n e. (let old = s.own q n e in (old.0, omega (arith, old.1), λ again. absurd (let is : c.run.shared.pools.next ≡ n = cc in omega (arith, is, old.1))));
       brigades = λ b n e. created_lives c.run.shared.conn c.run.shared.pools n (s.brigades b n e);
     }
 
@@ -85,7 +87,7 @@ brought_sound p pieces c last s =
       names = placed_names c.run (brought p pieces c).run 8 (brought_brigade n pieces) (omega arith) refl (λ k. rw (count_none k) (omega arith)) (omega arith) (omega arith) (omega arith)
           (λ k lt. count_before k (n + 2) pieces (omega arith)) (λ k. count_once k (n + 2) pieces) (λ k le. count_behind k (n + 2) pieces (omega arith)) s.names;
       buckets = written_buckets c.run (brought p pieces c).run 8 (var.Live (brought_brigade n pieces)) refl (named_proper (n + 2) pieces) (λ h. none_proper) s.buckets;
-      pools = keeps_pools c.run (brought p pieces c).run refl refl refl (λ b k e. elim (upd_either c.run.inst.brigs 8 b (var.Live (brought_brigade n pieces))) [
+      pools = keeps_pools c.run (brought p pieces c).run refl refl refl refl (λ b k e. elim (upd_either c.run.inst.brigs 8 b (var.Live (brought_brigade n pieces))) [
         | inl q ↦ absurd (let none : None ≡ Some k = sym (ap brigade_pool q.1) ∙ e in cc)
         | inr q ↦ s.pools.brigades b k (sym (ap brigade_pool q.1) ∙ e)
       ]) s.pools;
@@ -93,31 +95,17 @@ brought_sound p pieces c last s =
 
 -- A request ends.
 
-cleared_pool : (reached : ℕ → Bool) (v : Var) (n : ℕ) → brigade_pool (cleared_var reached v) ≡ Some n → (brigade_pool v ≡ Some n) × (reached n ≡ false)
-cleared_pool reached var.Null n e = absurd (cc)
-cleared_pool reached var.Gone n e = absurd (cc)
-cleared_pool reached (var.Live v) n e = by_test (is_reached reached v.on) refl e where
-  by_test : (b : Bool) → is_reached reached v.on ≡ b → brigade_pool (cond b var.Gone (var.Live (record v { items = map (cleared_bucket reached) v.items }))) ≡ Some n → (v.on ≡ Some n) × (reached n ≡ false)
-  by_test true is e = absurd (cc)
-  by_test false is e = (e, sym (ap (is_reached reached) e) ∙ is)
-
-pub ended_pools : (req : ℕ) (r : Run) → r.shared.req ≡ Some req → SoundPools r → SoundPools (request_ended req r)
-unfolding destroyed
-ended_pools req r is s = record {
-  limit = s.limit;
-  fresh = destroyed_fresh req r.shared.pools s.fresh;
-  older = destroyed_older req r.shared.pools s.older;
-  conn = destroyed_lives req r.shared.pools r.shared.conn (not_under req r.shared.pools r.shared.conn s.older (s.req req is).1) s.conn;
-  req = λ n e. absurd (cc);
-  brigades = λ b n e.
-      (let kept = cleared_pool (is_under r.shared.pools req) (r.inst.brigs b) n e in
-      destroyed_lives req r.shared.pools n kept.1 (s.brigades b n kept.0));
-}
+ended_pools : (req : ℕ) (r : Run) → r.shared.req ≡ Some req → SoundPools r → SoundPools (request_ended req r)
+unfolding run_down with_pools
+ended_pools req r is s =
+    went_pools req r (request_ended req r) (destroyed_next req r.shared.pools) (destroyed_path req r.shared.pools) (λ k apart. (destroyed_apart req r.shared.pools k apart).0)
+    refl (λ m e. absurd (cc)) refl (λ b. refl) (s.req req is).1 s
 
 pub ended_sound : (req : ℕ) (r : Run) → r.shared.req ≡ Some req → Sound r → Sound (request_ended req r)
+unfolding run_down with_pools
 ended_sound req r is s = record {
-  names = keeps_slots r (request_ended req r) (λ n. omega arith) (λ b. cleared_fewer (is_under r.shared.pools req) (r.inst.brigs b)) (omega arith) s.names.limit s.names;
-  buckets = keeps_buckets r (request_ended req r) (λ b. cleared_list (is_under r.shared.pools req) (r.inst.brigs b)) (λ h. h) s.buckets;
+  names = went_names (is_under r.shared.pools req) r (request_ended req r) (λ b. refl) refl refl s.names;
+  buckets = went_buckets (is_under r.shared.pools req) r (request_ended req r) (λ b. refl) refl s.buckets;
   pools = ended_pools req r is s.pools;
 }
 
@@ -137,6 +125,7 @@ opened_pools = record {
   older = created_older 1 (planted {T = Payload} 1) (omega arith) (planted_older Payload 1);
   conn = new_lives 1 (planted {T = Payload} 1);
   req = λ n e. absurd (cc);
+  own = λ q n e. absurd (cc);
   brigades = λ b n e. absurd (cc);
 }
 

@@ -6,6 +6,8 @@ pub mod PoolMap
 pub mod Names
 pub mod StepNames
 pub mod StepBuckets
+pub mod NamedPools
+pub mod Thinned
 pub mod StepPools
 pub mod Events
 pub mod Runs
@@ -17,3 +19,4 @@ pub mod Refusals
 pub mod Orderly
 pub mod Cuts
 pub mod Marks
+pub mod Clears

@@ -37,6 +37,12 @@ not_usable : (b c : ℕ) (r : Run) → (c == b) ≡ true → usable_fault ((do_p
 not_usable b c r same e = handed_fault (r.inst.brigs b) (sym (ap usable_fault (passed_var b c r same)) ∙ e)
 
 pub passed_is_not_used : PassedIsNotUsed
+passed_is_not_used p choice b l r (instr.PCreate q) used none = absurd (cc)
+passed_is_not_used p choice b l r (instr.PClear q) used none = absurd (cc)
+passed_is_not_used p choice b l r (instr.PDestroy q) used none = absurd (cc)
+passed_is_not_used p choice b l r (instr.Label q t) used none = absurd (cc)
+passed_is_not_used p choice b l r (instr.Unlabel q t) used none = absurd (cc)
+passed_is_not_used p choice b l r (instr.JNull v k) used none = absurd (cc)
 passed_is_not_used p choice b l r (instr.BCreate o) used none = absurd (cc)
 passed_is_not_used p choice b l r (instr.BClean c) used none = absurd (cc)
 passed_is_not_used p choice b l r (instr.BConcat a c) used none = elim (one_of (a == b) (c == b) used) [

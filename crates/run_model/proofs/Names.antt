@@ -12,7 +12,8 @@ use Rattle.run_model.specs.Indexed.{upd}
 use Rattle.run_model.specs.Buckets.{returned_bucket, cleared_bucket}
 use Rattle.run_model.specs.State.{Run, items_of}
 use Rattle.run_model.specs.Steps.{cleaned, with_items, handed_over, returned_var}
-use Rattle.run_model.specs.Connection.{cleared_var, is_reached, named_from}
+use Rattle.run_model.specs.Clearing.{cleared_var, is_reached}
+use Rattle.run_model.specs.Connection.{named_from}
 use Rattle.run_model.specs.Sound.{sum_below, count_named, count, brigade_name, SoundNames}
 use Rattle.run_model.proofs.Updates.{upd_off, upd_either}
 use Rattle.run_model.proofs.Sums.{sum_below_le, sum_below_upd}
@@ -168,6 +169,17 @@ keeps_slots r new loose slots rises limit s =
     let b : sum_below 9 (λ k. count_named n (items_of (new.inst.brigs k))) ≤ sum_below 9 (λ k. count_named n (items_of (r.inst.brigs k))) = sum_below_le 9 _ _ (λ k. (slots k).items n) in
     omega arith)
     (λ k. (slots k).carried) rises limit s
+
+-- What a clear leaves of the brigades and of the loose buckets.
+pub went_names : (reached : ℕ → Bool) (r new : Run)
+    → ((b : ℕ) → new.inst.brigs b ≡ cleared_var reached (r.inst.brigs b))
+    → new.call.loose ≡ map (cleared_bucket reached) r.call.loose → new.shared.next ≡ r.shared.next
+    → SoundNames r → SoundNames new
+went_names reached r new brigs loose next s =
+    keeps_slots r new
+    (λ n. let same : count_named n new.call.loose ≡ count_named n r.call.loose = ap (count_named n) loose ∙ count_map n (cleared_bucket reached) (λ b. refl) r.call.loose in omega arith)
+    (λ b. subst (λ v. Fewer (r.inst.brigs b) v) (sym (brigs b)) (cleared_fewer reached (r.inst.brigs b)))
+    (omega arith) (subst (λ (k : ℕ). k < 2 ^ 64) (sym next) s.limit) s
 
 some_is : (a b : ℕ) → Some a ≡ Some b → a ≡ b
 some_is a b e = cc

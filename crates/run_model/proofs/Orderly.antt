@@ -1,8 +1,9 @@
 -- Connections stay orderly: calls stay inside their module, nothing is left between calls, and budgets are kept.
-use Rattle.std.proofs.Common.{◌≡◌, ℕ, ◌+◌, ◌<◌, Bool, true, false, ◌||◌, not, cond, List, [], ◌∷◌, length, get_or, Option, Some, None, unwrap_or, Result, Ok, Err, nat_le, refl, sym, ap, subst, arith}
+use Rattle.std.proofs.Common.{◌≡◌, ℕ, ◌+◌, ◌<◌, Bool, true, false, ◌||◌, not, cond, List, [], ◌∷◌, map, length, get_or, Option, Some, None, unwrap_or, Result, Ok, Err, nat_le, refl, sym, ap, subst, arith}
 use Rattle.std.proofs.lemmas.Bool.Decides.{nat_tests}
 use Rattle.std.proofs.lemmas.Option.{slice_get-get_or}
 use Rattle.module_lang.specs.declared.instr.Status.TheVariants.{Success}
+use Rattle.module_lang.specs.declared.instr.PoolRef.TheVariants as pool
 use Rattle.module_lang.specs.declared.instr.Instr.{Instr}
 use Rattle.module_lang.specs.declared.instr.Instr.TheVariants as instr
 use Rattle.module_lang.specs.Program.{Program, IsModule, IsPlaced, target}
@@ -19,13 +20,17 @@ use Rattle.run_model.specs.declared.event.Stepped.TheVariants as stepped
 use Rattle.run_model.specs.declared.event.StepRefusal.{StepRefusal}
 use Rattle.run_model.specs.declared.event.StepRefusal.TheVariants as step_refusal
 use Rattle.run_model.specs.Pools.{is_empty, is_under}
-use Rattle.run_model.specs.State.{Run, fresh_call, items_of, set_brig}
+use Rattle.run_model.specs.Buckets.{cleared_bucket}
+use Rattle.run_model.specs.Clearing.{cleared_var, run_down}
+use Rattle.run_model.specs.State.{Call, Run, fresh_call, items_of, set_pool, with_pools, set_brig, pool_named}
 use Rattle.run_model.specs.Faults.{fault}
-use Rattle.run_model.specs.Steps.{step_at_end, settled, jumps_if, names_of, grows, is_spent, current, succeeded, executed, unless_fault, watched}
-use Rattle.run_model.specs.Connection.{Connection, opened, begins, brings, ends, takes, steps, begun, brought, ended, cleared_var, first_refusal, refused_if, if_broken, broke, step_answer, step_from, step_if}
+use Rattle.run_model.specs.Steps.{step_at_end, settled, jumps_if, is_null, on_pool, pool_cleared, pool_destroyed, label_registered, label_killed, text_of, grows, lacks_names, current, succeeded, executed, unless_fault, watched}
+use Rattle.run_model.specs.Connection.{Connection, opened, begins, brings, ends, takes, steps, begun, brought, ended, first_refusal, refused_if, if_broken, broke, step_answer, step_from, step_if}
+use Rattle.run_model.specs.Runs.{World, Before, There, Closed, opens, closes}
 use Rattle.run_model.specs.Laws.{IsOrderly, OrderlyWorld, EventKeepsOrder, RunIsOrderly}
 use Rattle.run_model.proofs.Runs.{run_keeps}
-use Rattle.run_model.proofs.Happened.{none_first, none_if, happened, told, stepped_told}
+use Rattle.run_model.proofs.Happened.{IfThere, none_first, none_if, happened, told, stepped_told, closed_stays}
+use Rattle.run_model.proofs.NamedPools.{on_named, made_under_named}
 
 -- What an answer says of the run that it leaves: a call goes on inside the module, or ends and leaves nothing, or
 -- the run is as before.
@@ -41,8 +46,18 @@ branched : (p : Program) (i : Instr) (l : ℕ) (old r : Run) (b : Bool) → l < 
 branched p i l old r true jump next is = rw is jump
 branched p i l old r false jump next is = next
 
+-- a step on a pool leaves the number of the next instruction
+pool_left : (p : Program) (r : Run) (change : ℕ → Run → Run) (o : Option ℕ) → ((n : ℕ) → (change n r).pc ≡ r.pc) → r.pc + 1 < length p.code → (on_pool change o r).pc + 1 < length p.code
+pool_left p r change o same next = on_named (λ (x : Run). x.pc + 1 < length p.code) change o r next (λ n e. rw (same n) next)
+
 settled_left : (p : Program) (i : Instr) (r : Run) → IsPlaced p r.pc i → Left p r (Ok (settled i (step_at_end p i r).exit (step_at_end p i r).run).0) (settled i (step_at_end p i r).exit (step_at_end p i r).run).1
-unfolding set_brig
+unfolding set_pool with_pools run_down set_brig
+settled_left p (instr.PCreate q) r placed = made_under_named (λ (x : Run). x.pc + 1 < length p.code) p q r (placed.next refl) (λ parent e. placed.next refl)
+settled_left p (instr.PClear q) r placed = pool_left p r pool_cleared (pool_named r (pool.Own q)) (λ n. refl) (placed.next refl)
+settled_left p (instr.PDestroy q) r placed = pool_left p r pool_destroyed (pool_named r (pool.Own q)) (λ n. refl) (placed.next refl)
+settled_left p (instr.Label q t) r placed = pool_left p r (label_registered (text_of p t)) (pool_named r q) (λ n. refl) (placed.next refl)
+settled_left p (instr.Unlabel q t) r placed = pool_left p r (label_killed (text_of p t)) (pool_named r q) (λ n. refl) (placed.next refl)
+settled_left p (instr.JNull v l) r placed = branched p (instr.JNull v l) l r r (is_null r v) placed.jump (placed.next refl) refl
 settled_left p (instr.BCreate o) r placed = placed.next refl
 settled_left p (instr.BClean b) r placed = placed.next refl
 settled_left p (instr.BConcat a b) r placed = placed.next refl
@@ -64,7 +79,7 @@ watched_left memory p i r placed = by_fault (fault p r i) where
   by_names false = by_memory (memory || not (grows i))
 
   by_fault : (f : Option FaultKind) → Left p r (unless_fault f r (executed memory p i r)).0 (unless_fault f r (executed memory p i r)).1
-  by_fault None = by_names (is_spent r.shared.next (names_of i))
+  by_fault None = by_names (lacks_names r i)
   by_fault (Some k) = refl
 
 -- the instruction at a place of the code is one of the code
@@ -128,17 +143,18 @@ null_cleared : (reached : ℕ → Bool) (v : Var) → v ≡ var.Null → cleared
 null_cleared reached v is = ap (cleared_var reached) is
 
 ended_order : (budget : ℕ) (p : Program) (o : Option ℕ) (c : Connection) → c.busy ≡ false → IsOrderly budget p c → IsOrderly budget p (ended o c)
+unfolding with_pools run_down
 ended_order budget p None c idle s = s
 ended_order budget p (Some req) c idle s = record {
   placed = λ h. absurd (cc);
   nothing_brought = λ h. null_cleared (is_under c.run.shared.pools req) (c.run.inst.brigs 8) (s.nothing_brought h);
-  no_call = λ h. s.no_call h;
+  no_call = λ h. ap (λ (x : Call). record x { loose = map (cleared_bucket (is_under c.run.shared.pools req)) x.loose }) (s.no_call h);
   spent = s.spent;
 }
 
-ends_order : (budget : ℕ) (p : Program) (c : Connection) → IsOrderly budget p c → IsOrderly budget p (ends c).1
+ends_order : (memory : Bool) (budget : ℕ) (p : Program) (c : Connection) → IsOrderly budget p c → IsOrderly budget p (ends memory c).1
 unfolding ends
-ends_order budget p c s = happened (λ x. IsOrderly budget p x) _ c (ended c.run.shared.req c) s (λ none.
+ends_order memory budget p c s = happened (λ x. IsOrderly budget p x) _ c (ended c.run.shared.req c) s (λ none.
     ended_order budget p c.run.shared.req c (none_if c.busy refusal.Busy _ (none_first (if_broken c.broken) _ none)).0 s)
 
 takes_order : (budget : ℕ) (p : Program) (c : Connection) → IsOrderly budget p c → IsOrderly budget p (takes c).1
@@ -149,19 +165,32 @@ opened_order : (budget : ℕ) (p : Program) → IsModule p → IsOrderly budget 
 unfolding opened
 opened_order budget p m = record { placed = λ h. m.opens; nothing_brought = λ h. absurd (cc); no_call = λ h. absurd (cc); spent = omega arith }
 
+opens_order : (memory : Bool) (budget : ℕ) (p : Program) → IsModule p → OrderlyWorld budget p (opens memory).1
+opens_order true budget p m = opened_order budget p m
+opens_order false budget p m = tt
+
+closes_order : (memory : Bool) (budget : ℕ) (p : Program) (c : Connection) → IsOrderly budget p c → OrderlyWorld budget p (closes memory c).1
+closes_order true budget p c s = tt
+closes_order false budget p c s = s
+
+orderly_world : (budget : ℕ) (p : Program) (w : World) → IfThere w (λ x. IsOrderly budget p x) → OrderlyWorld budget p w
+orderly_world budget p Before s = s
+orderly_world budget p (There c) s = s
+orderly_world budget p (Closed pools) s = s
+
 pub event_order : EventKeepsOrder
-event_order memory budget p event.Open None m s = opened_order budget p m
-event_order memory budget p event.Open (Some c) m s = s
-event_order memory budget p event.Begin None m s = s
-event_order memory budget p event.Begin (Some c) m s = told (λ x. IsOrderly budget p x) (begins memory p c) (begins_order memory budget p c m s)
-event_order memory budget p (event.Bring pieces) None m s = s
-event_order memory budget p (event.Bring pieces) (Some c) m s = told (λ x. IsOrderly budget p x) (brings memory p pieces c) (brings_order memory budget p pieces c m s)
-event_order memory budget p event.Step None m s = s
-event_order memory budget p event.Step (Some c) m s = stepped_told (λ x. IsOrderly budget p x) (steps memory budget p c) (steps_order memory budget p c m s)
-event_order memory budget p event.End None m s = s
-event_order memory budget p event.End (Some c) m s = told (λ x. IsOrderly budget p x) (ends c) (ends_order budget p c s)
-event_order memory budget p event.TakeOutput None m s = s
-event_order memory budget p event.TakeOutput (Some c) m s = takes_order budget p c s
+event_order memory budget p event.Open Before m s = opens_order memory budget p m
+event_order memory budget p event.Open (There c) m s = s
+event_order memory budget p event.Begin (There c) m s = orderly_world budget p _ (told (λ x. IsOrderly budget p x) (begins memory p c) (begins_order memory budget p c m s))
+event_order memory budget p (event.Bring pieces) (There c) m s = orderly_world budget p _ (told (λ x. IsOrderly budget p x) (brings memory p pieces c) (brings_order memory budget p pieces c m s))
+event_order memory budget p event.Step (There c) m s = orderly_world budget p _ (stepped_told (λ x. IsOrderly budget p x) (steps memory budget p c) (steps_order memory budget p c m s))
+event_order memory budget p event.End (There c) m s = orderly_world budget p _ (told (λ x. IsOrderly budget p x) (ends memory c) (ends_order memory budget p c s))
+event_order memory budget p event.TakeOutput (There c) m s = takes_order budget p c s
+event_order memory budget p event.TellLabels (There c) m s = s
+event_order memory budget p event.Close (There c) m s = closes_order memory budget p c s
+event_order memory budget p event.TellPools (There c) m s = s
+event_order memory budget p e Before m s = s
+event_order memory budget p e (Closed pools) m s = subst (OrderlyWorld budget p) (sym (closed_stays memory budget p e pools)) tt
 
 pub run_order : RunIsOrderly
-run_order budget p es answers w m run = run_keeps budget p (OrderlyWorld budget p) (λ memory e v s. event_order memory budget p e v m s) None w es answers tt run
+run_order budget p es answers w m run = run_keeps budget p (OrderlyWorld budget p) (λ memory e v s. event_order memory budget p e v m s) Before w es answers tt run

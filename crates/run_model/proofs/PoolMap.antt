@@ -1,8 +1,8 @@
 -- What a new pool and a destroyed one leave of the others.
-use Rattle.std.proofs.Common.{◌≡◌, ℕ, ◌+◌, ◌<◌, ◌≤◌, Bool, true, false, ◌||◌, not, ◌==◌, cond, [], ◌∷◌, ◌⊎◌, inl, inr, refl, sym, ◌∙◌, ap, subst, arith}
+use Rattle.std.proofs.Common.{◌≡◌, ◌≢◌, ℕ, ◌+◌, ◌<◌, ◌≤◌, Bool, true, false, ◌&&◌, ◌||◌, not, ◌==◌, cond, [], ◌∷◌, ◌⊎◌, inl, inr, refl, sym, ◌∙◌, ap, arith, eq-eqb, ne_eqb}
 use Rattle.std.proofs.lemmas.Bool.{cases_lt}
 use Rattle.std.proofs.lemmas.Bool.Decides.{nat_tests}
-use Rattle.run_model.specs.Pools.{Pools, is_empty, is_in, is_live, is_under, planted, created, destroyed}
+use Rattle.run_model.specs.Pools.{Pools, is_empty, is_in, is_live, is_under, planted, created, cleared, destroyed}
 use Rattle.run_model.proofs.Updates.{upd_at, upd_off, upd_either}
 
 -- a pool that is live has a path
@@ -24,6 +24,15 @@ created_lives parent ps n lives = elim (upd_either ps.path ps.next n (ps.next �
 pub new_lives : {T : Type 0} (parent : ℕ) (ps : Pools T) → is_live (created parent ps) ps.next ≡ true
 unfolding is_live created
 new_lives parent ps = ap (λ path. not (is_empty path)) (upd_at ps.path ps.next (ps.next ∷ ps.path parent))
+
+-- a pool that is there keeps its path, and the new one stands under its parent
+pub created_kept : {T : Type 0} (parent : ℕ) (ps : Pools T) (n : ℕ) → n < ps.next → (created parent ps).path n ≡ ps.path n
+unfolding created
+created_kept parent ps n lt = upd_off ps.path ps.next n (ps.next ∷ ps.path parent) (λ e. absurd (omega (arith, e)))
+
+pub created_at : {T : Type 0} (parent : ℕ) (ps : Pools T) → (created parent ps).path ps.next ≡ ps.next ∷ ps.path parent
+unfolding created
+created_at parent ps = upd_at ps.path ps.next (ps.next ∷ ps.path parent)
 
 pub created_fresh : {T : Type 0} (parent : ℕ) (ps : Pools T) → ((k : ℕ) → ps.next ≤ k → ps.path k ≡ []) → (k : ℕ) → (created parent ps).next ≤ k → (created parent ps).path k ≡ []
 unfolding created
@@ -51,32 +60,54 @@ unfolding destroyed
 destroyed_next p ps = refl
 
 -- a path of a destroyed map is empty or as before
-destroyed_path : {T : Type 0} (p : ℕ) (ps : Pools T) (n : ℕ) → ((is_under ps p n ≡ true) × ((destroyed p ps).path n ≡ [])) ⊎ ((is_under ps p n ≡ false) × ((destroyed p ps).path n ≡ ps.path n))
+pub destroyed_path : {T : Type 0} (p : ℕ) (ps : Pools T) (n : ℕ) → ((destroyed p ps).path n ≡ []) ⊎ ((destroyed p ps).path n ≡ ps.path n)
 unfolding destroyed
 destroyed_path p ps n = by_test (is_under ps p n) where
-  by_test : (b : Bool) → ((b ≡ true) × (cond b [] (ps.path n) ≡ [])) ⊎ ((b ≡ false) × (cond b [] (ps.path n) ≡ ps.path n))
-  by_test true = inl (refl, refl)
-  by_test false = inr (refl, refl)
+  by_test : (b : Bool) → (cond b [] (ps.path n) ≡ []) ⊎ (cond b [] (ps.path n) ≡ ps.path n)
+  by_test true = inl refl
+  by_test false = inr refl
 
-pub destroyed_fresh : {T : Type 0} (p : ℕ) (ps : Pools T) → ((k : ℕ) → ps.next ≤ k → ps.path k ≡ []) → (k : ℕ) → (destroyed p ps).next ≤ k → (destroyed p ps).path k ≡ []
-destroyed_fresh p ps fresh k le = elim (destroyed_path p ps k) [
-  | inl q ↦ q.1
-  | inr q ↦ q.1 ∙ fresh k (subst (λ n. n ≤ k) (destroyed_next p ps) le)
-]
+pub destroyed_apart : {T : Type 0} (p : ℕ) (ps : Pools T) (n : ℕ) → is_under ps p n ≡ false → ((destroyed p ps).path n ≡ ps.path n) × ((destroyed p ps).payloads n ≡ ps.payloads n)
+unfolding destroyed
+destroyed_apart p ps n apart = (ap (λ b. cond b [] (ps.path n)) apart, ap (λ b. cond b [] (ps.payloads n)) apart)
 
-pub destroyed_older : {T : Type 0} (p : ℕ) (ps : Pools T) → ((n m : ℕ) → is_in m (ps.path n) ≡ true → m ≤ n) → (n m : ℕ) → is_in m ((destroyed p ps).path n) ≡ true → m ≤ n
-destroyed_older p ps older n m h = elim (destroyed_path p ps n) [
-  | inl q ↦ absurd (let none : is_in m [] ≡ true = sym (ap (is_in m) q.1) ∙ h in cc)
-  | inr q ↦ older n m (sym (ap (is_in m) q.1) ∙ h)
-]
+pub destroyed_under : {T : Type 0} (p : ℕ) (ps : Pools T) (n : ℕ) → is_under ps p n ≡ true → ((destroyed p ps).path n ≡ []) × ((destroyed p ps).payloads n ≡ [])
+unfolding destroyed
+destroyed_under p ps n under = (ap (λ b. cond b [] (ps.path n)) under, ap (λ b. cond b [] (ps.payloads n)) under)
 
--- what does not stand under the destroyed pool lives on
-pub destroyed_lives : {T : Type 0} (p : ℕ) (ps : Pools T) (n : ℕ) → is_under ps p n ≡ false → is_live ps n ≡ true → is_live (destroyed p ps) n ≡ true
-unfolding is_live
-destroyed_lives p ps n apart lives = elim (destroyed_path p ps n) [
-  | inl q ↦ absurd (cc)
-  | inr q ↦ ap (λ path. not (is_empty path)) q.1 ∙ lives
-]
+-- a path of a cleared map is empty or as before
+pub cleared_path : {T : Type 0} (p : ℕ) (ps : Pools T) (n : ℕ) → ((cleared p ps).path n ≡ []) ⊎ ((cleared p ps).path n ≡ ps.path n)
+unfolding cleared
+cleared_path p ps n = by_test (is_under ps p n && not (n == p)) where
+  by_test : (b : Bool) → (cond b [] (ps.path n) ≡ []) ⊎ (cond b [] (ps.path n) ≡ ps.path n)
+  by_test true = inl refl
+  by_test false = inr refl
+
+-- what does not stand under the cleared pool is as it was
+pub cleared_apart : {T : Type 0} (p : ℕ) (ps : Pools T) (n : ℕ) → is_under ps p n ≡ false → ((cleared p ps).path n ≡ ps.path n) × ((cleared p ps).payloads n ≡ ps.payloads n)
+unfolding cleared
+cleared_apart p ps n apart = (ap (λ b. cond (b && not (n == p)) [] (ps.path n)) apart, ap (λ b. cond b [] (ps.payloads n)) apart)
+
+-- the cleared pool stays
+pub cleared_itself : {T : Type 0} (p : ℕ) (ps : Pools T) → (cleared p ps).path p ≡ ps.path p
+unfolding cleared
+cleared_itself p ps = ap (λ b. cond (is_under ps p p && not b) [] (ps.path p)) (eq-eqb p p refl) ∙ never (is_under ps p p) where
+  never : (b : Bool) → cond (b && false) [] (ps.path p) ≡ ps.path p
+  never true = refl
+  never false = refl
+
+-- and all under it go
+pub cleared_under : {T : Type 0} (p : ℕ) (ps : Pools T) (n : ℕ) → is_under ps p n ≡ true → n ≢ p → (cleared p ps).path n ≡ []
+unfolding cleared
+cleared_under p ps n under ne = ap (λ b. cond (b && not (n == p)) [] (ps.path n)) under ∙ ap (λ b. cond (not b) [] (ps.path n)) (ne_eqb n p ne)
+
+pub cleared_payloads : {T : Type 0} (p : ℕ) (ps : Pools T) (n : ℕ) → is_under ps p n ≡ true → (cleared p ps).payloads n ≡ []
+unfolding cleared
+cleared_payloads p ps n under = ap (λ b. cond b [] (ps.payloads n)) under
+
+pub cleared_next : {T : Type 0} (p : ℕ) (ps : Pools T) → (cleared p ps).next ≡ ps.next
+unfolding cleared
+cleared_next p ps = refl
 
 -- an older pool does not stand under a newer one
 pub not_under : {T : Type 0} (p : ℕ) (ps : Pools T) (n : ℕ) → ((k m : ℕ) → is_in m (ps.path k) ≡ true → m ≤ k) → n < p → is_under ps p n ≡ false

@@ -16,30 +16,40 @@ use Rattle.run_model.specs.declared.event.StepRefusal.{StepRefusal}
 use Rattle.run_model.specs.declared.event.StepRefusal.TheVariants as step_refusal
 use Rattle.run_model.specs.State.{Run}
 use Rattle.run_model.specs.Faults.{fault}
-use Rattle.run_model.specs.Steps.{step_at_end, settled, names_of, grows, is_spent, current, succeeded, executed, unless_fault, watched}
-use Rattle.run_model.specs.Connection.{Connection, begins, brings, ends, takes, steps, begun, brought, ended, first_refusal, refused_if, if_broken, unless_refused, breaks, broke, step_answer, step_from, step_if, after_step}
-use Rattle.run_model.specs.Runs.{Answer, Done, Refused, Output, World, answer_of, step_of}
+use Rattle.run_model.specs.Steps.{step_at_end, settled, grows, lacks_names, current, succeeded, executed, unless_fault, watched}
+use Rattle.run_model.specs.Connection.{Connection, begins, brings, ends, takes, steps, begun, brought, ended, closing_labels, first_refusal, refused_if, if_broken, unless_refused, breaks, broke, step_answer, step_from, step_if, after_step}
+use Rattle.run_model.specs.Runs.{Answer, Done, Refused, Output, Labels, World, Before, There, Closed, answer_of, step_of, opens, closes}
+use Rattle.run_model.proofs.Happened.{closed_stays}
 use Rattle.run_model.specs.Laws.{RefusedChangesNothing, RefusedStepBreaks, FaultBreaks, BrokenStaysBroken}
 
 -- Events but steps.
 
-refused_same : (o : Option Refusal) (old new : Connection) (r : Refusal) (w : World) → answer_of (unless_refused o old new) ≡ (Refused r, w) → w ≡ Some old
+refused_same : (o : Option Refusal) (old new : Connection) (r : Refusal) (w : World) → answer_of (unless_refused o old new) ≡ (Refused r, w) → w ≡ There old
 refused_same None old new r w e = absurd (let told : Done ≡ Refused r = ap (λ (x : Answer × World). x.0) e in cc)
 refused_same (Some q) old new r w e = sym (ap (λ (x : Answer × World). x.1) e)
 
+opens_refused : (memory : Bool) (r : Refusal) (new : World) → opens memory ≡ (Refused r, new) → new ≡ Before
+opens_refused true r new e = absurd (let told : Done ≡ Refused r = ap (λ (x : Answer × World). x.0) e in cc)
+opens_refused false r new e = sym (ap (λ (x : Answer × World). x.1) e)
+
+closes_refused : (memory : Bool) (c : Connection) (r : Refusal) (new : World) → closes memory c ≡ (Refused r, new) → new ≡ There c
+closes_refused true c r new e = absurd (let told : Labels (closing_labels c) ≡ Refused r = ap (λ (x : Answer × World). x.0) e in cc)
+closes_refused false c r new e = sym (ap (λ (x : Answer × World). x.1) e)
+
 pub refused_changes_nothing : RefusedChangesNothing
 unfolding begins brings ends
-refused_changes_nothing memory budget p event.Open None new r ne e = absurd (let told : Done ≡ Refused r = ap (λ (x : Answer × World). x.0) e in cc)
-refused_changes_nothing memory budget p event.Open (Some c) new r ne e = absurd (let told : Done ≡ Refused r = ap (λ (x : Answer × World). x.0) e in cc)
-refused_changes_nothing memory budget p event.Begin None new r ne e = sym (ap (λ (x : Answer × World). x.1) e)
-refused_changes_nothing memory budget p event.Begin (Some c) new r ne e = refused_same _ c (begun p c) r new e
-refused_changes_nothing memory budget p (event.Bring pieces) None new r ne e = sym (ap (λ (x : Answer × World). x.1) e)
-refused_changes_nothing memory budget p (event.Bring pieces) (Some c) new r ne e = refused_same _ c (brought p pieces c) r new e
-refused_changes_nothing memory budget p event.Step w new r ne e = absurd (ne refl)
-refused_changes_nothing memory budget p event.End None new r ne e = sym (ap (λ (x : Answer × World). x.1) e)
-refused_changes_nothing memory budget p event.End (Some c) new r ne e = refused_same _ c (ended c.run.shared.req c) r new e
-refused_changes_nothing memory budget p event.TakeOutput None new r ne e = sym (ap (λ (x : Answer × World). x.1) e)
-refused_changes_nothing memory budget p event.TakeOutput (Some c) new r ne e = absurd (let told : Output (takes c).0 ≡ Refused r = ap (λ (x : Answer × World). x.0) e in cc)
+refused_changes_nothing memory budget p event.Open Before new r ne e = opens_refused memory r new e
+refused_changes_nothing memory budget p event.Open (There c) new r ne e = absurd (let told : Done ≡ Refused r = ap (λ (x : Answer × World). x.0) e in cc)
+refused_changes_nothing memory budget p event.Begin (There c) new r ne e = refused_same _ c (begun p c) r new e
+refused_changes_nothing memory budget p (event.Bring pieces) (There c) new r ne e = refused_same _ c (brought p pieces c) r new e
+refused_changes_nothing memory budget p event.Step (There c) new r ne e = absurd (ne refl)
+refused_changes_nothing memory budget p event.End (There c) new r ne e = refused_same _ c (ended c.run.shared.req c) r new e
+refused_changes_nothing memory budget p event.TakeOutput (There c) new r ne e = absurd (let told : Output (takes c).0 ≡ Refused r = ap (λ (x : Answer × World). x.0) e in cc)
+refused_changes_nothing memory budget p event.TellLabels (There c) new r ne e = absurd (let told : Labels c.run.shared.labels ≡ Refused r = ap (λ (x : Answer × World). x.0) e in cc)
+refused_changes_nothing memory budget p event.Close (There c) new r ne e = closes_refused memory c r new e
+refused_changes_nothing memory budget p event.TellPools (There c) new r ne e = sym (ap (λ (x : Answer × World). x.1) e)
+refused_changes_nothing memory budget p e Before new r ne h = sym (ap (λ (x : Answer × World). x.1) h)
+refused_changes_nothing memory budget p e (Closed pools) new r ne h = sym (ap (λ (x : Answer × World). x.1) h) ∙ closed_stays memory budget p e pools
 
 -- Steps.
 
@@ -68,7 +78,7 @@ watched_keeps memory p i r = by_fault (fault p r i) where
   by_names false no_step = by_memory (memory || not (grows i)) no_step
 
   by_fault : (f : Option FaultKind) → was_executed (unless_fault f r (executed memory p i r)).0 ≡ false → (unless_fault f r (executed memory p i r)).1 ≡ r
-  by_fault None no_step = by_names (is_spent r.shared.next (names_of i)) no_step
+  by_fault None no_step = by_names (lacks_names r i) no_step
   by_fault (Some k) no_step = refl
 
 -- what a refused step may be: nothing, or a break
@@ -159,9 +169,8 @@ first_broken (Some j) k tests is = let same : j ≡ k = cc in ap (λ (x : Cause)
 
 pub broken_stays_broken : BrokenStaysBroken
 unfolding begins brings ends steps
-broken_stays_broken memory budget p event.Open c k is no_open no_output = absurd (no_open refl)
-broken_stays_broken memory budget p event.Begin c k is no_open no_output = ap (λ (o : Option Refusal). answer_of (unless_refused o c (begun p c))) (first_broken c.broken k _ is)
-broken_stays_broken memory budget p (event.Bring pieces) c k is no_open no_output = ap (λ (o : Option Refusal). answer_of (unless_refused o c (brought p pieces c))) (first_broken c.broken k _ is)
-broken_stays_broken memory budget p event.Step c k is no_open no_output = ap (λ (o : Option Refusal). step_of (step_if o memory budget p c)) (first_broken c.broken k _ is)
-broken_stays_broken memory budget p event.End c k is no_open no_output = ap (λ (o : Option Refusal). answer_of (unless_refused o c (ended c.run.shared.req c))) (first_broken c.broken k _ is)
-broken_stays_broken memory budget p event.TakeOutput c k is no_open no_output = absurd (no_output refl)
+broken_stays_broken memory budget p event.Begin c k is work = ap (λ (o : Option Refusal). answer_of (unless_refused o c (begun p c))) (first_broken c.broken k _ is)
+broken_stays_broken memory budget p (event.Bring pieces) c k is work = ap (λ (o : Option Refusal). answer_of (unless_refused o c (brought p pieces c))) (first_broken c.broken k _ is)
+broken_stays_broken memory budget p event.Step c k is work = ap (λ (o : Option Refusal). step_of (step_if o memory budget p c)) (first_broken c.broken k _ is)
+broken_stays_broken memory budget p event.End c k is work = ap (λ (o : Option Refusal). answer_of (unless_refused o c (ended c.run.shared.req c))) (first_broken c.broken k _ is)
+broken_stays_broken memory budget p e c k is work = absurd (cc)

@@ -1,5 +1,5 @@
 -- Each event keeps what is sound, and so does each run.
-use Rattle.std.proofs.Common.{◌≡◌, ℕ, ◌+◌, Bool, true, false, ◌||◌, not, cond, List, length, get_or, Option, Some, None, is_some, Result, Ok, Err, nat_le, inl, inr, refl, ap}
+use Rattle.std.proofs.Common.{◌≡◌, ℕ, ◌+◌, Bool, true, false, ◌||◌, not, cond, List, length, get_or, Option, Some, None, is_some, Result, Ok, Err, nat_le, inl, inr, refl, sym, ap, subst}
 use Rattle.std.proofs.lemmas.Bool.{cases_lt}
 use Rattle.std.proofs.lemmas.List.{get_or_past}
 use Rattle.std.proofs.lemmas.Option.{slice_get-get_or}
@@ -21,12 +21,13 @@ use Rattle.run_model.specs.declared.event.Refusal.TheVariants as refusal
 use Rattle.run_model.specs.declared.fault.FaultKind.{FaultKind}
 use Rattle.run_model.specs.State.{Run}
 use Rattle.run_model.specs.Faults.{fault}
-use Rattle.run_model.specs.Steps.{step, step_at_end, settled, names_of, grows, is_spent, current, succeeded, executed, unless_fault, watched}
+use Rattle.run_model.specs.Steps.{step, step_at_end, settled, grows, is_spent, lacks_names, current, succeeded, executed, unless_fault, watched}
 use Rattle.run_model.specs.Connection.{Connection, begins, brings, ends, takes, steps, begun, brought, ended, if_broken, step_answer, step_from, step_if, after_step, broke, data_behind_eos}
+use Rattle.run_model.specs.Runs.{World, Before, There, Closed, opens, closes}
 use Rattle.run_model.specs.Sound.{Sound}
 use Rattle.run_model.specs.Laws.{MayExecute, StepAtEndKeeps, SoundWorld, EventKeepsSound, RunIsSound}
 use Rattle.run_model.proofs.Runs.{run_keeps}
-use Rattle.run_model.proofs.Happened.{none_first, none_if, happened, told, stepped_told}
+use Rattle.run_model.proofs.Happened.{IfThere, none_first, none_if, happened, told, stepped_told, closed_stays}
 use Rattle.run_model.proofs.StepNames.{step_names}
 use Rattle.run_model.proofs.StepBuckets.{step_buckets}
 use Rattle.run_model.proofs.StepPools.{step_pools}
@@ -43,7 +44,13 @@ succeeds p i r may s = record {
 
 pub at_end_sound : StepAtEndKeeps
 at_end_sound p (instr.Pass b l) r may s =
-    untouched_sound (step p (record { answer = Success }) (instr.Pass b l) r).run (step_at_end p (instr.Pass b l) r).run refl refl refl (succeeds p (instr.Pass b l) r may s)
+    untouched_sound (step p (record { answer = Success }) (instr.Pass b l) r).run (step_at_end p (instr.Pass b l) r).run refl refl refl refl (succeeds p (instr.Pass b l) r may s)
+at_end_sound p (instr.PCreate q) r may s = succeeds p (instr.PCreate q) r may s
+at_end_sound p (instr.PClear q) r may s = succeeds p (instr.PClear q) r may s
+at_end_sound p (instr.PDestroy q) r may s = succeeds p (instr.PDestroy q) r may s
+at_end_sound p (instr.Label q t) r may s = succeeds p (instr.Label q t) r may s
+at_end_sound p (instr.Unlabel q t) r may s = succeeds p (instr.Unlabel q t) r may s
+at_end_sound p (instr.JNull v l) r may s = succeeds p (instr.JNull v l) r may s
 at_end_sound p (instr.BCreate o) r may s = succeeds p (instr.BCreate o) r may s
 at_end_sound p (instr.BClean b) r may s = succeeds p (instr.BClean b) r may s
 at_end_sound p (instr.BConcat a b) r may s = succeeds p (instr.BConcat a b) r may s
@@ -53,8 +60,8 @@ at_end_sound p (instr.Jump l) r may s = succeeds p (instr.Jump l) r may s
 at_end_sound p (instr.Ret st) r may s = succeeds p (instr.Ret st) r may s
 
 settled_sound : (i : Instr) (exit : Exit) (r : Run) → Sound r → Sound (settled i exit r).1
-settled_sound i GoOn r s = untouched_sound r (settled i GoOn r).1 refl refl refl s
-settled_sound i Jump r s = untouched_sound r (settled i Jump r).1 refl refl refl s
+settled_sound i GoOn r s = untouched_sound r (settled i GoOn r).1 refl refl refl refl s
+settled_sound i Jump r s = untouched_sound r (settled i Jump r).1 refl refl refl refl s
 settled_sound i Return r s = s
 
 -- the instruction at a place fits the module, and so does the return that stands for none
@@ -71,14 +78,14 @@ watched_sound memory p i r m fit s = by_fault (fault p r i) refl where
   by_memory true may = settled_sound i (step_at_end p i r).exit (step_at_end p i r).run (at_end_sound p i r may s)
   by_memory false may = s
 
-  by_names : (b : Bool) → is_spent r.shared.next (names_of i) ≡ b → fault p r i ≡ None
+  by_names : (b : Bool) → lacks_names r i ≡ b → fault p r i ≡ None
       → ((may : MayExecute p r i) → Sound (cond (memory || not (grows i)) (succeeded (settled i (step_at_end p i r).exit (step_at_end p i r).run)) (Err step_refusal.NoMemory, r)).1)
       → Sound (cond b (Err step_refusal.NamesSpent, r) (cond (memory || not (grows i)) (succeeded (settled i (step_at_end p i r).exit (step_at_end p i r).run)) (Err step_refusal.NoMemory, r))).1
   by_names true spent none rest = s
   by_names false spent none rest = rest (record { proper = m; fit = fit; faultless = none; names_last = spent })
 
   by_fault : (f : Option FaultKind) → fault p r i ≡ f → Sound (unless_fault f r (executed memory p i r)).1
-  by_fault None none = by_names (is_spent r.shared.next (names_of i)) refl none (by_memory (memory || not (grows i)))
+  by_fault None none = by_names (lacks_names r i) refl none (by_memory (memory || not (grows i)))
   by_fault (Some k) none = s
 
 -- A step of a connection.
@@ -132,31 +139,44 @@ ended_request : (o : Option ℕ) (c : Connection) → c.run.shared.req ≡ o →
 ended_request None c is s = s
 ended_request (Some req) c is s = ended_sound req c.run is s
 
-ends_sound : (c : Connection) → Sound c.run → Sound (ends c).1.run
+ends_sound : (memory : Bool) (c : Connection) → Sound c.run → Sound (ends memory c).1.run
 unfolding ends
-ends_sound c s = happened SoundConnection _ c (ended c.run.shared.req c) s (λ none. ended_request c.run.shared.req c refl s)
+ends_sound memory c s = happened SoundConnection _ c (ended c.run.shared.req c) s (λ none. ended_request c.run.shared.req c refl s)
 
 takes_sound : (c : Connection) → Sound c.run → Sound (takes c).1.run
 unfolding takes
-takes_sound c s = untouched_sound c.run (takes c).1.run refl refl refl s
+takes_sound c s = untouched_sound c.run (takes c).1.run refl refl refl refl s
+
+opens_sound : (memory : Bool) → SoundWorld (opens memory).1
+opens_sound true = opened_sound
+opens_sound false = tt
+
+closes_sound : (memory : Bool) (c : Connection) → Sound c.run → SoundWorld (closes memory c).1
+closes_sound true c s = tt
+closes_sound false c s = s
 
 -- All events.
 
+sound_world : (w : World) → IfThere w SoundConnection → SoundWorld w
+sound_world Before s = s
+sound_world (There c) s = s
+sound_world (Closed pools) s = s
+
 pub event_sound : EventKeepsSound
-event_sound memory budget p event.Open None m s = opened_sound
-event_sound memory budget p event.Open (Some c) m s = s
-event_sound memory budget p event.Begin None m s = s
-event_sound memory budget p event.Begin (Some c) m s = told SoundConnection (begins memory p c) (begins_sound memory p c s)
-event_sound memory budget p (event.Bring pieces) None m s = s
-event_sound memory budget p (event.Bring pieces) (Some c) m s = told SoundConnection (brings memory p pieces c) (brings_sound memory p pieces c s)
-event_sound memory budget p event.Step None m s = s
-event_sound memory budget p event.Step (Some c) m s = stepped_told SoundConnection (steps memory budget p c) (steps_sound memory budget p c m s)
-event_sound memory budget p event.End None m s = s
-event_sound memory budget p event.End (Some c) m s = told SoundConnection (ends c) (ends_sound c s)
-event_sound memory budget p event.TakeOutput None m s = s
-event_sound memory budget p event.TakeOutput (Some c) m s = takes_sound c s
+event_sound memory budget p event.Open Before m s = opens_sound memory
+event_sound memory budget p event.Open (There c) m s = s
+event_sound memory budget p event.Begin (There c) m s = sound_world _ (told SoundConnection (begins memory p c) (begins_sound memory p c s))
+event_sound memory budget p (event.Bring pieces) (There c) m s = sound_world _ (told SoundConnection (brings memory p pieces c) (brings_sound memory p pieces c s))
+event_sound memory budget p event.Step (There c) m s = sound_world _ (stepped_told SoundConnection (steps memory budget p c) (steps_sound memory budget p c m s))
+event_sound memory budget p event.End (There c) m s = sound_world _ (told SoundConnection (ends memory c) (ends_sound memory c s))
+event_sound memory budget p event.TakeOutput (There c) m s = takes_sound c s
+event_sound memory budget p event.TellLabels (There c) m s = s
+event_sound memory budget p event.Close (There c) m s = closes_sound memory c s
+event_sound memory budget p event.TellPools (There c) m s = s
+event_sound memory budget p e Before m s = s
+event_sound memory budget p e (Closed pools) m s = subst SoundWorld (sym (closed_stays memory budget p e pools)) tt
 
 -- Runs.
 
 pub run_sound : RunIsSound
-run_sound budget p es answers w m run = run_keeps budget p SoundWorld (λ memory e v s. event_sound memory budget p e v m s) None w es answers tt run
+run_sound budget p es answers w m run = run_keeps budget p SoundWorld (λ memory e v s. event_sound memory budget p e v m s) Before w es answers tt run

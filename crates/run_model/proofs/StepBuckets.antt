@@ -1,6 +1,7 @@
 -- Steps and events keep the home and the content of each bucket as its kind has them.
 use Rattle.std.proofs.Common.{◌≡◌, ℕ, ◌+◌, Bool, true, false, ◌&&◌, ◌||◌, ◌==◌, cond, List, [], ◌∷◌, ◌++◌, map, refl, sym, subst, All}
 use Rattle.std.proofs.lemmas.List.Elements.{All-nil, All-cons, All-append, All-map}
+use Rattle.module_lang.specs.declared.instr.PoolRef.TheVariants as pool
 use Rattle.module_lang.specs.declared.instr.Instr.TheVariants as instr
 use Rattle.module_lang.specs.Program.{Program}
 use Rattle.run_model.specs.declared.bucket.Kind.{Kind}
@@ -9,18 +10,22 @@ use Rattle.run_model.specs.declared.bucket.Content.{Content}
 use Rattle.run_model.specs.declared.bucket.Home.{Home}
 use Rattle.run_model.specs.declared.bucket.Home.TheVariants as home
 use Rattle.run_model.specs.declared.bucket.Named.{Named}
+use Rattle.run_model.specs.declared.bucket.PoolVar.TheVariants as poolvar
 use Rattle.run_model.specs.declared.bucket.Var.{Var}
 use Rattle.run_model.specs.declared.bucket.Var.TheVariants as var
 use Rattle.run_model.specs.declared.event.Piece.{Piece}
 use Rattle.run_model.specs.declared.event.Piece.TheVariants as piece
 use Rattle.run_model.specs.Indexed.{upd}
 use Rattle.run_model.specs.Buckets.{is_ended, end_call, end_pools, to_heap, returned_bucket, cleared_bucket}
-use Rattle.run_model.specs.State.{Run, items_of, set_brig}
-use Rattle.run_model.specs.Steps.{do_create, do_clean, do_concat, do_pass, do_return, cleaned, with_items, handed_over, returned_var}
-use Rattle.run_model.specs.Connection.{named_from, cleared_var, is_reached}
+use Rattle.run_model.specs.Pools.{is_under, created}
+use Rattle.run_model.specs.State.{Call, Run, items_of, set_pool, with_pools, set_brig, pool_named}
+use Rattle.run_model.specs.Steps.{do_create, do_clean, do_concat, do_pass, do_return, cleaned, with_items, handed_over, returned_var, do_pcreate, pool_cleared, pool_destroyed, label_registered, label_killed, text_of}
+use Rattle.run_model.specs.Clearing.{cleared_var, is_reached, run_down}
+use Rattle.run_model.specs.Connection.{named_from}
 use Rattle.run_model.specs.Sound.{is_free, is_call, is_pool, home_fits, content_fits, is_proper, SoundBuckets}
 use Rattle.run_model.specs.Laws.{StepKeepsBuckets}
 use Rattle.run_model.proofs.Names.{at_each, at_two}
+use Rattle.run_model.proofs.NamedPools.{on_named, made_under_named}
 
 -- One bucket.
 
@@ -183,6 +188,14 @@ pub written_buckets : (r new : Run) (i : ℕ) (w : Var) → new.inst.brigs ≡ u
 written_buckets r new i w is proper loose s =
     keeps_buckets r new (λ b. subst (λ (g : ℕ → Var). KeepsProper (r.inst.brigs b) (g b)) (sym is) (at_each KeepsProper r.inst.brigs i w (λ h. proper) same_proper b)) loose s
 
+-- What a clear leaves of the brigades and of the loose buckets.
+pub went_buckets : (reached : ℕ → Bool) (r new : Run)
+    → ((b : ℕ) → new.inst.brigs b ≡ cleared_var reached (r.inst.brigs b)) → new.call.loose ≡ map (cleared_bucket reached) r.call.loose
+    → SoundBuckets r → SoundBuckets new
+went_buckets reached r new brigs loose s =
+    keeps_buckets r new (λ b. subst (λ v. KeepsProper (r.inst.brigs b) v) (sym (brigs b)) (cleared_list reached (r.inst.brigs b)))
+    (λ h. subst ProperList (sym loose) (mapped_proper (cleared_bucket reached) (cleared_proper reached) r.call.loose h)) s
+
 create_buckets : (p : Program) (o : ℕ) (r : Run) → SoundBuckets r → SoundBuckets (do_create p o r)
 unfolding set_brig
 create_buckets p o r s = written_buckets r (do_create p o r) o _ refl none_proper (λ h. h) s
@@ -211,7 +224,37 @@ return_buckets r s = keeps_buckets r (do_return r) (λ b. left b (b == 8)) (λ h
   left b true h = none_proper
   left b false h = returned_list r.call.name (r.inst.brigs b) h
 
+same_buckets : (r new : Run) → new.inst.brigs ≡ r.inst.brigs → new.call ≡ r.call → SoundBuckets r → SoundBuckets new
+same_buckets r new brigs call s =
+    keeps_buckets r new (λ b. subst (λ (g : ℕ → Var). KeepsProper (r.inst.brigs b) (g b)) (sym brigs) (same_proper (r.inst.brigs b))) (λ h. subst (λ (c : Call). ProperList c.loose) (sym call) h) s
+
+pcreate_buckets : (p : Program) (q : ℕ) (r : Run) → SoundBuckets r → SoundBuckets (do_pcreate p q r)
+unfolding set_pool with_pools
+pcreate_buckets p q r s = made_under_named SoundBuckets p q r s (λ parent e. same_buckets r (set_pool q (poolvar.Named r.shared.pools.next) (with_pools (created parent r.shared.pools) r)) refl refl s)
+
+cleared_buckets : (n : ℕ) (r : Run) → SoundBuckets r → SoundBuckets (pool_cleared n r)
+unfolding run_down with_pools
+cleared_buckets n r s = went_buckets (is_under r.shared.pools n) r (pool_cleared n r) (λ b. refl) refl s
+
+destroyed_buckets : (n : ℕ) (r : Run) → SoundBuckets r → SoundBuckets (pool_destroyed n r)
+unfolding run_down with_pools
+destroyed_buckets n r s = went_buckets (is_under r.shared.pools n) r (pool_destroyed n r) (λ b. refl) refl s
+
+labelled_buckets : (text : List ℕ) (n : ℕ) (r : Run) → SoundBuckets r → SoundBuckets (label_registered text n r)
+unfolding with_pools
+labelled_buckets text n r s = same_buckets r (label_registered text n r) refl refl s
+
+unlabelled_buckets : (text : List ℕ) (n : ℕ) (r : Run) → SoundBuckets r → SoundBuckets (label_killed text n r)
+unfolding with_pools
+unlabelled_buckets text n r s = same_buckets r (label_killed text n r) refl refl s
+
 pub step_buckets : StepKeepsBuckets
+step_buckets p choice (instr.PCreate q) r may s = pcreate_buckets p q r s
+step_buckets p choice (instr.PClear q) r may s = on_named SoundBuckets pool_cleared (pool_named r (pool.Own q)) r s (λ n e. cleared_buckets n r s)
+step_buckets p choice (instr.PDestroy q) r may s = on_named SoundBuckets pool_destroyed (pool_named r (pool.Own q)) r s (λ n e. destroyed_buckets n r s)
+step_buckets p choice (instr.Label q t) r may s = on_named SoundBuckets (label_registered (text_of p t)) (pool_named r q) r s (λ n e. labelled_buckets (text_of p t) n r s)
+step_buckets p choice (instr.Unlabel q t) r may s = on_named SoundBuckets (label_killed (text_of p t)) (pool_named r q) r s (λ n e. unlabelled_buckets (text_of p t) n r s)
+step_buckets p choice (instr.JNull v l) r may s = s
 step_buckets p choice (instr.BCreate o) r may s = create_buckets p o r s
 step_buckets p choice (instr.BClean b) r may s = clean_buckets b r s
 step_buckets p choice (instr.BConcat a b) r may s = concat_buckets a b r s

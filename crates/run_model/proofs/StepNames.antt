@@ -1,25 +1,39 @@
 -- A step without a fault keeps names.
-use Rattle.std.proofs.Common.{◌≡◌, ℕ, ◌+◌, ◌^◌, ◌<◌, ◌≤◌, Bool, true, false, ◌==◌, cond, [], ◌++◌, refl, ap, arith}
+use Rattle.std.proofs.Common.{◌≡◌, ℕ, ◌+◌, ◌^◌, ◌<◌, ◌≤◌, Bool, true, false, ◌||◌, ◌==◌, cond, List, [], ◌++◌, refl, sym, ap, subst, arith}
 use Rattle.std.proofs.lemmas.Bool.Decides.{nat_tests}
+use Rattle.module_lang.specs.declared.instr.PoolRef.TheVariants as pool
+use Rattle.module_lang.specs.declared.instr.Instr.{Instr}
 use Rattle.module_lang.specs.declared.instr.Instr.TheVariants as instr
 use Rattle.module_lang.specs.Program.{Program, pool_of_brigade}
 use Rattle.run_model.specs.declared.bucket.Mark.TheVariants.{Usable}
+use Rattle.run_model.specs.declared.bucket.PoolVar.TheVariants as poolvar
 use Rattle.run_model.specs.declared.bucket.Var.{Var}
 use Rattle.run_model.specs.declared.bucket.Var.TheVariants as var
 use Rattle.run_model.specs.Indexed.{upd}
-use Rattle.run_model.specs.State.{Run, items_of, set_brig, pool_named}
-use Rattle.run_model.specs.Steps.{do_create, do_clean, do_concat, do_pass, do_return, cleaned, with_items, handed_over, returned_var, is_spent}
+use Rattle.run_model.specs.Pools.{is_under, created}
+use Rattle.run_model.specs.State.{Run, items_of, set_pool, with_pools, set_brig, pool_named}
+use Rattle.run_model.specs.Clearing.{run_down}
+use Rattle.run_model.specs.Steps.{do_create, do_clean, do_concat, do_pass, do_return, cleaned, with_items, handed_over, returned_var, do_pcreate, pool_cleared, pool_destroyed, label_registered, label_killed, text_of, names_of, pool_names_of, is_spent, lacks_names}
 use Rattle.run_model.specs.Sound.{sum_below, count_named, SoundNames}
 use Rattle.run_model.specs.Laws.{StepKeepsNames}
 use Rattle.run_model.proofs.Updates.{upd_off}
 use Rattle.run_model.proofs.Sums.{sum_below_upd}
 use Rattle.run_model.proofs.Operands.{created_below, TwoBrigades, two_brigades}
-use Rattle.run_model.proofs.Names.{count_none, count_append, Carried, Fewer, carried_same, fewer_same, fewer_none, cleaned_fewer, handed_fewer, returned_fewer, filled_carried, filled_items, at_each, at_two, keeps_names, keeps_slots, placed_names}
+use Rattle.run_model.proofs.Names.{count_none, count_append, Carried, Fewer, carried_same, fewer_same, fewer_none, cleaned_fewer, handed_fewer, returned_fewer, filled_carried, filled_items, at_each, at_two, keeps_names, keeps_slots, went_names, placed_names}
+use Rattle.run_model.proofs.NamedPools.{on_named, made_under_named}
 
 -- names that are not spent stay below the limit
 pub not_spent : (next names : ℕ) → is_spent next names ≡ false → next + names < 2 ^ 64
 unfolding is_spent
 not_spent next names h = grind (arith, nat_tests)
+
+-- the names that an instruction gives out are there
+lasting : (r : Run) (i : Instr) → lacks_names r i ≡ false → r.shared.next + names_of i < 2 ^ 64
+unfolding lacks_names
+lasting r i h = not_spent r.shared.next (names_of i) (first (is_spent r.shared.next (names_of i)) (is_spent r.shared.pools.next (pool_names_of i)) h) where
+  first : (a b : Bool) → (a || b) ≡ false → a ≡ false
+  first true b h = absurd (cc)
+  first false b h = refl
 
 create_names : (p : Program) (o : ℕ) (r : Run) → o < 9 → r.shared.next + 1 < 2 ^ 64 → SoundNames r → SoundNames (do_create p o r)
 unfolding set_brig
@@ -66,8 +80,39 @@ concat_names a b r two s =
     (filled_carried [] (r.inst.brigs b)) (filled_carried (items_of (r.inst.brigs a) ++ items_of (r.inst.brigs b)) (r.inst.brigs a)) carried_same)
     (omega arith) s.limit s
 
+-- where no brigade and no bucket changes, and no name is given out
+same_names : (r new : Run) → new.inst.brigs ≡ r.inst.brigs → new.call ≡ r.call → new.shared.next ≡ r.shared.next → SoundNames r → SoundNames new
+same_names r new brigs call next s =
+    keeps_slots r new (λ n. rw call (omega arith)) (λ b. subst (λ (g : ℕ → Var). Fewer (r.inst.brigs b) (g b)) (sym brigs) (fewer_same (r.inst.brigs b))) (omega arith) (subst (λ (k : ℕ). k < 2 ^ 64) (sym next) s.limit) s
+
+pcreate_names : (p : Program) (q : ℕ) (r : Run) → SoundNames r → SoundNames (do_pcreate p q r)
+unfolding set_pool with_pools
+pcreate_names p q r s = made_under_named SoundNames p q r s (λ parent e. same_names r (set_pool q (poolvar.Named r.shared.pools.next) (with_pools (created parent r.shared.pools) r)) refl refl refl s)
+
+cleared_names : (n : ℕ) (r : Run) → SoundNames r → SoundNames (pool_cleared n r)
+unfolding run_down with_pools
+cleared_names n r s = went_names (is_under r.shared.pools n) r (pool_cleared n r) (λ b. refl) refl refl s
+
+destroyed_names : (n : ℕ) (r : Run) → SoundNames r → SoundNames (pool_destroyed n r)
+unfolding run_down with_pools
+destroyed_names n r s = went_names (is_under r.shared.pools n) r (pool_destroyed n r) (λ b. refl) refl refl s
+
+labelled_names : (text : List ℕ) (n : ℕ) (r : Run) → SoundNames r → SoundNames (label_registered text n r)
+unfolding with_pools
+labelled_names text n r s = same_names r (label_registered text n r) refl refl refl s
+
+unlabelled_names : (text : List ℕ) (n : ℕ) (r : Run) → SoundNames r → SoundNames (label_killed text n r)
+unfolding with_pools
+unlabelled_names text n r s = same_names r (label_killed text n r) refl refl refl s
+
 pub step_names : StepKeepsNames
-step_names p choice (instr.BCreate o) r may s = create_names p o r (created_below p may.proper o may.fit) (not_spent r.shared.next 1 may.names_last) s
+step_names p choice (instr.PCreate q) r may s = pcreate_names p q r s
+step_names p choice (instr.PClear q) r may s = on_named SoundNames pool_cleared (pool_named r (pool.Own q)) r s (λ n e. cleared_names n r s)
+step_names p choice (instr.PDestroy q) r may s = on_named SoundNames pool_destroyed (pool_named r (pool.Own q)) r s (λ n e. destroyed_names n r s)
+step_names p choice (instr.Label q t) r may s = on_named SoundNames (label_registered (text_of p t)) (pool_named r q) r s (λ n e. labelled_names (text_of p t) n r s)
+step_names p choice (instr.Unlabel q t) r may s = on_named SoundNames (label_killed (text_of p t)) (pool_named r q) r s (λ n e. unlabelled_names (text_of p t) n r s)
+step_names p choice (instr.JNull v l) r may s = s
+step_names p choice (instr.BCreate o) r may s = create_names p o r (created_below p may.proper o may.fit) (lasting r (instr.BCreate o) may.names_last) s
 step_names p choice (instr.BClean b) r may s = clean_names b r s
 step_names p choice (instr.BConcat a b) r may s = concat_names a b r (two_brigades p may.proper a b may.fit) s
 step_names p choice (instr.Pass b l) r may s = pass_names b r s

@@ -1,23 +1,32 @@
 -- Steps keep each brigade on a live pool.
-use Rattle.std.proofs.Common.{◌≡◌, ℕ, ◌^◌, ◌<◌, ◌≤◌, inl, inr, Bool, true, false, ◌==◌, cond, List, [], ◌++◌, Option, Some, None, refl, sym, ◌∙◌, ap, subst}
+use Rattle.std.proofs.Common.{◌≡◌, ℕ, ◌+◌, ◌^◌, ◌<◌, inl, inr, Bool, true, false, ◌||◌, ◌==◌, cond, List, [], ◌∷◌, ◌++◌, Option, Some, None, refl, sym, ◌∙◌, ap, subst, arith}
 use Rattle.module_lang.specs.declared.instr.PoolRef.{PoolRef}
+use Rattle.module_lang.specs.declared.instr.PoolRef.TheVariants as pool
+use Rattle.module_lang.specs.declared.instr.Instr.{Instr}
 use Rattle.module_lang.specs.declared.instr.Instr.TheVariants as instr
-use Rattle.module_lang.specs.Program.{Program, pool_of_brigade}
+use Rattle.module_lang.specs.Program.{Program, pool_of_brigade, pool_of_pool}
 use Rattle.run_model.specs.declared.fault.FaultKind.{FaultKind}
 use Rattle.run_model.specs.declared.fault.FaultKind.TheVariants.{F1}
 use Rattle.run_model.specs.declared.bucket.Named.{Named}
 use Rattle.run_model.specs.declared.bucket.Mark.TheVariants.{Usable}
+use Rattle.run_model.specs.declared.bucket.PoolVar.TheVariants as poolvar
 use Rattle.run_model.specs.declared.bucket.Var.{Var}
 use Rattle.run_model.specs.declared.bucket.Var.TheVariants as var
 use Rattle.run_model.specs.Indexed.{upd}
-use Rattle.run_model.specs.Pools.{Pools, is_live, is_in}
-use Rattle.run_model.specs.State.{Payload, Run, items_of, set_brig, pool_named}
+use Rattle.run_model.specs.Pools.{is_live, created, registered}
+use Rattle.run_model.specs.RunOrder.{killed}
+use Rattle.run_model.specs.State.{Run, items_of, set_pool, with_pools, set_brig, pool_named}
+use Rattle.run_model.specs.Clearing.{run_down}
 use Rattle.run_model.specs.Faults.{has_pool, is_live_named, or_else}
-use Rattle.run_model.specs.Steps.{do_create, do_clean, do_concat, do_pass, do_return, cleaned, with_items, handed_over, returned_var}
+use Rattle.run_model.specs.Steps.{do_create, do_clean, do_concat, do_pass, do_return, cleaned, with_items, handed_over, returned_var, do_pcreate, pool_cleared, pool_destroyed, label_registered, label_killed, text_of, names_of, pool_names_of, is_spent, lacks_names}
 use Rattle.run_model.specs.Sound.{brigade_pool, SoundPools}
 use Rattle.run_model.specs.Laws.{StepKeepsPools}
 use Rattle.run_model.proofs.Updates.{upd_either}
+use Rattle.run_model.proofs.PoolMap.{live_given, created_lives, created_fresh, created_older, created_next, created_kept, cleared_path, cleared_apart, cleared_next, destroyed_path, destroyed_apart, destroyed_next}
 use Rattle.run_model.proofs.Names.{at_each, at_two}
+use Rattle.run_model.proofs.StepNames.{not_spent}
+use Rattle.run_model.proofs.NamedPools.{on_named, made_under_named, own_named, conn_given, req_given}
+use Rattle.run_model.proofs.Thinned.{keeps_paths, keeps_pools, went_pools}
 
 -- What a change of a variable does to the pool of its brigade: it stays, or the brigade goes.
 abbrev pub KeepsPool : Var → Var → Type 0
@@ -46,26 +55,11 @@ returned_pool call var.Null n h = h
 returned_pool call var.Gone n h = h
 returned_pool call (var.Live v) n h = h
 
--- where the pools stay and brigades keep theirs
-pub keeps_pools : (r new : Run) → new.shared.pools ≡ r.shared.pools → new.shared.conn ≡ r.shared.conn → new.shared.req ≡ r.shared.req
-    → ((b n : ℕ) → brigade_pool (new.inst.brigs b) ≡ Some n → is_live r.shared.pools n ≡ true)
-    → SoundPools r → SoundPools new
-keeps_pools r new pools conn req brigades s = record {
-  limit = subst (λ (ps : Pools Payload). ps.next < 2 ^ 64) (sym pools) s.limit;
-  fresh = subst (λ (ps : Pools Payload). (n : ℕ) → ps.next ≤ n → ps.path n ≡ []) (sym pools) s.fresh;
-  older = subst (λ (ps : Pools Payload). (n m : ℕ) → is_in m (ps.path n) ≡ true → m ≤ n) (sym pools) s.older;
-  conn = subst (λ (ps : Pools Payload). is_live ps new.shared.conn ≡ true) (sym pools) (subst (λ c. is_live r.shared.pools c ≡ true) (sym conn) s.conn);
-  req = λ n e.
-      let old = s.req n (sym req ∙ e) in
-      (subst (λ (ps : Pools Payload). is_live ps n ≡ true) (sym pools) old.0, subst (λ c. c < n) (sym conn) old.1);
-  brigades = λ b n e. subst (λ (ps : Pools Payload). is_live ps n ≡ true) (sym pools) (brigades b n e);
-}
-
 -- each brigade keeps its pool, or goes
-keeps_slots : (r new : Run) → new.shared.pools ≡ r.shared.pools → new.shared.conn ≡ r.shared.conn → new.shared.req ≡ r.shared.req
+keeps_slots : (r new : Run) → new.shared.pools ≡ r.shared.pools → new.shared.conn ≡ r.shared.conn → new.shared.req ≡ r.shared.req → new.inst.pools ≡ r.inst.pools
     → ((b : ℕ) → KeepsPool (r.inst.brigs b) (new.inst.brigs b))
     → SoundPools r → SoundPools new
-keeps_slots r new pools conn req slots s = keeps_pools r new pools conn req (λ b n e. s.brigades b n (slots b n e)) s
+keeps_slots r new pools conn req own slots s = keeps_pools r new pools conn req own (λ b n e. s.brigades b n (slots b n e)) s
 
 -- a declared pool that has no fault is live
 wanted_pool : (r : Run) (d : PoolRef) (rest : Option FaultKind) → or_else (cond (has_pool r d) None (Some F1)) rest ≡ None → has_pool r d ≡ true
@@ -80,7 +74,7 @@ named_lives r d n h e = let named : is_live_named r.shared.pools (pool_named r d
 
 create_pools : (p : Program) (o : ℕ) (r : Run) → has_pool r (pool_of_brigade p o) ≡ true → SoundPools r → SoundPools (do_create p o r)
 unfolding set_brig
-create_pools p o r lives s = keeps_pools r (do_create p o r) refl refl refl on_live s where
+create_pools p o r lives s = keeps_pools r (do_create p o r) refl refl refl refl on_live s where
   on_live : (b n : ℕ) → brigade_pool (upd r.inst.brigs o (var.Live (record { name = r.shared.next; on = pool_named r (pool_of_brigade p o); mark = Usable; items = [] })) b) ≡ Some n → is_live r.shared.pools n ≡ true
   on_live b n e = elim (upd_either r.inst.brigs o b (var.Live (record { name = r.shared.next; on = pool_named r (pool_of_brigade p o); mark = Usable; items = [] }))) [
     | inl q ↦ named_lives r (pool_of_brigade p o) n lives (sym (ap brigade_pool q.1) ∙ e)
@@ -89,32 +83,93 @@ create_pools p o r lives s = keeps_pools r (do_create p o r) refl refl refl on_l
 
 clean_pools : (b : ℕ) (r : Run) → SoundPools r → SoundPools (do_clean b r)
 unfolding set_brig
-clean_pools b r s = keeps_slots r (do_clean b r) refl refl refl (at_each KeepsPool r.inst.brigs b (cleaned (r.inst.brigs b)) (cleaned_pool (r.inst.brigs b)) same_pool) s
+clean_pools b r s = keeps_slots r (do_clean b r) refl refl refl refl (at_each KeepsPool r.inst.brigs b (cleaned (r.inst.brigs b)) (cleaned_pool (r.inst.brigs b)) same_pool) s
 
 pass_pools : (b : ℕ) (r : Run) → SoundPools r → SoundPools (do_pass b r)
 unfolding set_brig
-pass_pools b r s = keeps_slots r (do_pass b r) refl refl refl (at_each KeepsPool r.inst.brigs b (handed_over (r.inst.brigs b)) (handed_pool (r.inst.brigs b)) same_pool) s
+pass_pools b r s = keeps_slots r (do_pass b r) refl refl refl refl (at_each KeepsPool r.inst.brigs b (handed_over (r.inst.brigs b)) (handed_pool (r.inst.brigs b)) same_pool) s
 
 concat_pools : (a b : ℕ) (r : Run) → SoundPools r → SoundPools (do_concat a b r)
 unfolding set_brig
 concat_pools a b r s =
-    keeps_slots r (do_concat a b r) refl refl refl
+    keeps_slots r (do_concat a b r) refl refl refl refl
     (at_two KeepsPool r.inst.brigs b a (with_items [] (r.inst.brigs b)) (with_items (items_of (r.inst.brigs a) ++ items_of (r.inst.brigs b)) (r.inst.brigs a))
     (filled_pool [] (r.inst.brigs b)) (filled_pool (items_of (r.inst.brigs a) ++ items_of (r.inst.brigs b)) (r.inst.brigs a)) same_pool)
     s
 
 return_pools : (r : Run) → SoundPools r → SoundPools (do_return r)
-return_pools r s = keeps_slots r (do_return r) refl refl refl (λ b. left b (b == 8)) s where
+return_pools r s = keeps_slots r (do_return r) refl refl refl refl (λ b. left b (b == 8)) s where
   left : (b : ℕ) (is_in : Bool) → KeepsPool (r.inst.brigs b) (cond is_in var.Null (returned_var r.call.name (r.inst.brigs b)))
   left b true n h = absurd (cc)
   left b false n h = returned_pool r.call.name (r.inst.brigs b) n h
 
+-- A pool is made, cleared or destroyed, or its labels change.
+
+lasting_pool : (r : Run) (i : Instr) → lacks_names r i ≡ false → r.shared.pools.next + pool_names_of i < 2 ^ 64
+unfolding lacks_names
+lasting_pool r i h = not_spent r.shared.pools.next (pool_names_of i) (second (is_spent r.shared.next (names_of i)) (is_spent r.shared.pools.next (pool_names_of i)) h) where
+  second : (a b : Bool) → (a || b) ≡ false → b ≡ false
+  second true b h = absurd (cc)
+  second false b h = h
+
+made_pools : (parent q : ℕ) (r : Run) → r.shared.pools.next + 1 < 2 ^ 64 → is_live r.shared.pools parent ≡ true → SoundPools r
+    → SoundPools (set_pool q (poolvar.Named r.shared.pools.next) (with_pools (created parent r.shared.pools) r))
+unfolding set_pool with_pools
+made_pools parent q r limit lives s = record {
+  limit = subst (λ (k : ℕ). k < 2 ^ 64) (sym (created_next parent r.shared.pools)) limit;
+  fresh = created_fresh parent r.shared.pools s.fresh;
+  older = created_older parent r.shared.pools (live_given r.shared.pools parent s.fresh lives) s.older;
+  conn = created_lives parent r.shared.pools r.shared.conn s.conn;
+  req = λ m e.
+      let old = s.req m e in
+      (created_kept parent r.shared.pools m (req_given r m e s) ∙ (old.0 ∙ ap (λ (path : List ℕ). m ∷ path) (sym (created_kept parent r.shared.pools r.shared.conn (conn_given r s)))), old.1);
+  own = λ k n e. elim (upd_either r.inst.pools q k (poolvar.Named r.shared.pools.next)) [
+    | inl at ↦ (let is : r.shared.pools.next ≡ n = next_is n (sym at.1 ∙ e) in
+        (omega (arith, is, conn_given r s), omega (arith, is, created_next parent r.shared.pools), λ begun. absurd (omega (arith, is, req_given r n begun s))))
+    | inr off ↦ (let old = s.own k n (sym off.1 ∙ e) in (old.0, omega (arith, old.1, created_next parent r.shared.pools), old.2))
+  ];
+  brigades = λ b n e. created_lives parent r.shared.pools n (s.brigades b n e);
+} where
+  next_is : (n : ℕ) → poolvar.Named r.shared.pools.next ≡ poolvar.Named n → r.shared.pools.next ≡ n
+  next_is n e = cc
+
+pcreate_pools : (p : Program) (q : ℕ) (r : Run) → r.shared.pools.next + 1 < 2 ^ 64 → has_pool r (pool_of_pool p q) ≡ true → SoundPools r → SoundPools (do_pcreate p q r)
+pcreate_pools p q r limit lives s = made_under_named SoundPools p q r s (λ parent e. made_pools parent q r limit (named_lives r (pool_of_pool p q) parent lives e) s)
+
+cleared_pools : (q n : ℕ) (r : Run) → r.inst.pools q ≡ poolvar.Named n → SoundPools r → SoundPools (pool_cleared n r)
+unfolding run_down with_pools
+cleared_pools q n r is s =
+    let own = s.own q n is in
+    went_pools n r (pool_cleared n r) (cleared_next n r.shared.pools) (cleared_path n r.shared.pools) (λ k apart. (cleared_apart n r.shared.pools k apart).0)
+    refl (λ m e. (e, λ same. own.2 (e ∙ ap (λ (k : ℕ). Some k) same))) refl (λ b. refl) own.0 s
+
+destroyed_pools : (q n : ℕ) (r : Run) → r.inst.pools q ≡ poolvar.Named n → SoundPools r → SoundPools (pool_destroyed n r)
+unfolding run_down with_pools
+destroyed_pools q n r is s =
+    let own = s.own q n is in
+    went_pools n r (pool_destroyed n r) (destroyed_next n r.shared.pools) (destroyed_path n r.shared.pools) (λ k apart. (destroyed_apart n r.shared.pools k apart).0)
+    refl (λ m e. (e, λ same. own.2 (e ∙ ap (λ (k : ℕ). Some k) same))) refl (λ b. refl) own.0 s
+
+labelled_pools : (text : List ℕ) (n : ℕ) (r : Run) → SoundPools r → SoundPools (label_registered text n r)
+unfolding registered with_pools
+labelled_pools text n r s = keeps_paths r (label_registered text n r) refl refl refl refl refl s.brigades s
+
+unlabelled_pools : (text : List ℕ) (n : ℕ) (r : Run) → SoundPools r → SoundPools (label_killed text n r)
+unfolding killed with_pools
+unlabelled_pools text n r s = keeps_paths r (label_killed text n r) refl refl refl refl refl s.brigades s
+
 pub step_pools : StepKeepsPools
+step_pools p choice (instr.PCreate q) r may s = pcreate_pools p q r (lasting_pool r (instr.PCreate q) may.names_last) (wanted_pool r (pool_of_pool p q) _ may.faultless) s
+step_pools p choice (instr.PClear q) r may s = on_named SoundPools pool_cleared (pool_named r (pool.Own q)) r s (λ n e. cleared_pools q n r (own_named q n r e) s)
+step_pools p choice (instr.PDestroy q) r may s = on_named SoundPools pool_destroyed (pool_named r (pool.Own q)) r s (λ n e. destroyed_pools q n r (own_named q n r e) s)
+step_pools p choice (instr.Label q t) r may s = on_named SoundPools (label_registered (text_of p t)) (pool_named r q) r s (λ n e. labelled_pools (text_of p t) n r s)
+step_pools p choice (instr.Unlabel q t) r may s = on_named SoundPools (label_killed (text_of p t)) (pool_named r q) r s (λ n e. unlabelled_pools (text_of p t) n r s)
 step_pools p choice (instr.BCreate o) r may s = create_pools p o r (wanted_pool r (pool_of_brigade p o) _ may.faultless) s
 step_pools p choice (instr.BClean b) r may s = clean_pools b r s
 step_pools p choice (instr.BConcat a b) r may s = concat_pools a b r s
 step_pools p choice (instr.Pass b l) r may s = pass_pools b r s
 step_pools p choice (instr.JEmpty b l) r may s = s
+step_pools p choice (instr.JNull v l) r may s = s
 step_pools p choice (instr.JSent l) r may s = s
 step_pools p choice (instr.Jump l) r may s = s
 step_pools p choice (instr.Ret st) r may s = return_pools r s

@@ -1,11 +1,18 @@
 -- A step changes nothing but what it names.
-use Rattle.std.proofs.Common.{◌≡◌, ◌≢◌, ℕ, ◌+◌, Bool, true, false, ◌||◌, ◌==◌, refl, sym, ◌∙◌, ap, eq-eqb, add-zero}
+use Rattle.std.proofs.Common.{◌≡◌, ◌≢◌, ℕ, ◌+◌, Bool, true, false, ◌||◌, ◌==◌, List, refl, sym, ◌∙◌, ap, eq-eqb, add-zero}
+use Rattle.module_lang.specs.declared.instr.PoolRef.{PoolRef}
+use Rattle.module_lang.specs.declared.instr.PoolRef.TheVariants as pool
+use Rattle.module_lang.specs.declared.instr.Instr.{Instr}
 use Rattle.module_lang.specs.declared.instr.Instr.TheVariants as instr
+use Rattle.module_lang.specs.Program.{Program}
 use Rattle.run_model.specs.declared.bucket.Var.{Var}
 use Rattle.run_model.specs.Indexed.{upd}
-use Rattle.run_model.specs.State.{Shared, set_brig}
-use Rattle.run_model.specs.Laws.{StepChangesOnly}
+use Rattle.run_model.specs.State.{Run, set_pool, with_pools, set_brig, pool_named}
+use Rattle.run_model.specs.Clearing.{run_down}
+use Rattle.run_model.specs.Steps.{do_pcreate, pool_cleared, pool_destroyed, label_registered, label_killed, text_of, names_of}
+use Rattle.run_model.specs.Laws.{ChangesOnly, StepChangesOnly}
 use Rattle.run_model.proofs.Updates.{upd_off}
+use Rattle.run_model.proofs.NamedPools.{on_named, made_under_named}
 
 -- an index of another number
 other : (k i : ℕ) → (k == i) ≡ false → k ≢ i
@@ -18,24 +25,58 @@ neither : (x y : Bool) → (x || y) ≡ false → (x ≡ false) × (y ≡ false)
 neither true y h = absurd (cc)
 neither false y h = (refl, h)
 
-no_name : (shared : Shared) → shared ≡ record shared { next = shared.next + 0 }
-no_name shared = ap (λ n. record shared { next = n }) (sym (add-zero shared.next))
+no_name : (r : Run) → r.shared.next ≡ r.shared.next + 0
+no_name r = sym (add-zero r.shared.next)
+
+-- where only numbers and tests are read
+nothing : (i : Instr) (r : Run) → names_of i ≡ 0 → ChangesOnly i r r
+nothing i r none = record { brigades = λ k h. refl; pools = λ k h. refl; numbers = refl; sent = λ h. refl; call = λ h k. refl; tree = λ h. refl; conn = refl; req = refl; labels = λ h. refl; names = no_name r ∙ ap (λ n. r.shared.next + n) (sym none); output = refl }
+
+made_changes : (p : Program) (q : ℕ) (r : Run) → ChangesOnly (instr.PCreate q) r (do_pcreate p q r)
+unfolding set_pool with_pools
+made_changes p q r = made_under_named (ChangesOnly (instr.PCreate q) r) p q r (nothing (instr.PCreate q) r refl) (λ parent e. record {
+  brigades = λ k h. refl;
+  pools = λ k h. upd_off r.inst.pools q k _ (other k q h);
+  numbers = refl;
+  sent = λ h. refl;
+  call = λ h g. refl;
+  tree = λ h. absurd (cc);
+  conn = refl;
+  req = refl;
+  labels = λ h. refl;
+  names = no_name r;
+  output = refl;
+})
+
+cleared_changes : (q n : ℕ) (r : Run) → ChangesOnly (instr.PClear q) r (pool_cleared n r)
+unfolding with_pools run_down
+cleared_changes q n r = record { brigades = λ k h. absurd (cc); pools = λ k h. refl; numbers = refl; sent = λ h. refl; call = λ h g. absurd (cc); tree = λ h. absurd (cc); conn = refl; req = refl; labels = λ h. absurd (cc); names = no_name r; output = refl }
+
+destroyed_changes : (q n : ℕ) (r : Run) → ChangesOnly (instr.PDestroy q) r (pool_destroyed n r)
+unfolding with_pools run_down
+destroyed_changes q n r = record { brigades = λ k h. absurd (cc); pools = λ k h. refl; numbers = refl; sent = λ h. refl; call = λ h g. absurd (cc); tree = λ h. absurd (cc); conn = refl; req = refl; labels = λ h. absurd (cc); names = no_name r; output = refl }
+
+labelled_changes : (q : PoolRef) (t n : ℕ) (text : List ℕ) (r : Run) → ChangesOnly (instr.Label q t) r (label_registered text n r)
+unfolding with_pools
+labelled_changes q t n text r = record { brigades = λ k h. refl; pools = λ k h. refl; numbers = refl; sent = λ h. refl; call = λ h g. refl; tree = λ h. absurd (cc); conn = refl; req = refl; labels = λ h. refl; names = no_name r; output = refl }
+
+unlabelled_changes : (q : PoolRef) (t n : ℕ) (text : List ℕ) (r : Run) → ChangesOnly (instr.Unlabel q t) r (label_killed text n r)
+unfolding with_pools
+unlabelled_changes q t n text r = record { brigades = λ k h. refl; pools = λ k h. refl; numbers = refl; sent = λ h. refl; call = λ h g. refl; tree = λ h. absurd (cc); conn = refl; req = refl; labels = λ h. refl; names = no_name r; output = refl }
 
 pub step_changes_only : StepChangesOnly
 unfolding set_brig
-step_changes_only p choice (instr.BCreate o) r = record { brigades = λ k h. off r.inst.brigs o k _ h; pools = refl; numbers = refl; sent = λ h. refl; call = λ h. refl; shared = refl; output = refl }
-step_changes_only p choice (instr.BClean b) r = record { brigades = λ k h. off r.inst.brigs b k _ h; pools = refl; numbers = refl; sent = λ h. refl; call = λ h. refl; shared = no_name r.shared; output = refl }
-step_changes_only p choice (instr.BConcat a b) r = record {
-  brigades = λ k h. (let apart = neither (k == a) (k == b) h in off (upd r.inst.brigs b _) a k _ apart.0 ∙ off r.inst.brigs b k _ apart.1);
-  pools = refl;
-  numbers = refl;
-  sent = λ h. refl;
-  call = λ h. refl;
-  shared = no_name r.shared;
-  output = refl;
-}
-step_changes_only p choice (instr.Pass b l) r = record { brigades = λ k h. off r.inst.brigs b k _ h; pools = refl; numbers = refl; sent = λ h. absurd (cc); call = λ h. refl; shared = no_name r.shared; output = refl }
-step_changes_only p choice (instr.JEmpty b l) r = record { brigades = λ k h. refl; pools = refl; numbers = refl; sent = λ h. refl; call = λ h. refl; shared = no_name r.shared; output = refl }
-step_changes_only p choice (instr.JSent l) r = record { brigades = λ k h. refl; pools = refl; numbers = refl; sent = λ h. refl; call = λ h. refl; shared = no_name r.shared; output = refl }
-step_changes_only p choice (instr.Jump l) r = record { brigades = λ k h. refl; pools = refl; numbers = refl; sent = λ h. refl; call = λ h. refl; shared = no_name r.shared; output = refl }
-step_changes_only p choice (instr.Ret st) r = record { brigades = λ k h. absurd (cc); pools = refl; numbers = refl; sent = λ h. refl; call = λ h. absurd (cc); shared = no_name r.shared; output = refl }
+step_changes_only p choice (instr.PCreate q) r = made_changes p q r
+step_changes_only p choice (instr.PClear q) r = on_named (ChangesOnly (instr.PClear q) r) pool_cleared (pool_named r (pool.Own q)) r (nothing (instr.PClear q) r refl) (λ n e. cleared_changes q n r)
+step_changes_only p choice (instr.PDestroy q) r = on_named (ChangesOnly (instr.PDestroy q) r) pool_destroyed (pool_named r (pool.Own q)) r (nothing (instr.PDestroy q) r refl) (λ n e. destroyed_changes q n r)
+step_changes_only p choice (instr.Label q t) r = on_named (ChangesOnly (instr.Label q t) r) (label_registered (text_of p t)) (pool_named r q) r (nothing (instr.Label q t) r refl) (λ n e. labelled_changes q t n (text_of p t) r)
+step_changes_only p choice (instr.Unlabel q t) r = on_named (ChangesOnly (instr.Unlabel q t) r) (label_killed (text_of p t)) (pool_named r q) r (nothing (instr.Unlabel q t) r refl) (λ n e. unlabelled_changes q t n (text_of p t) r)
+step_changes_only p choice (instr.JNull v l) r = nothing (instr.JNull v l) r refl
+step_changes_only p choice (instr.BCreate o) r = record { brigades = λ k h. off r.inst.brigs o k _ h; pools = λ k h. refl; numbers = refl; sent = λ h. refl; call = λ h k. refl; tree = λ h. refl; conn = refl; req = refl; labels = λ h. refl; names = refl; output = refl }
+step_changes_only p choice (instr.BClean b) r = record { brigades = λ k h. off r.inst.brigs b k _ h; pools = λ k h. refl; numbers = refl; sent = λ h. refl; call = λ h k. refl; tree = λ h. refl; conn = refl; req = refl; labels = λ h. refl; names = no_name r; output = refl }
+step_changes_only p choice (instr.BConcat a b) r = record { brigades = λ k h. (let apart = neither (k == a) (k == b) h in off (upd r.inst.brigs b _) a k _ apart.0 ∙ off r.inst.brigs b k _ apart.1); pools = λ k h. refl; numbers = refl; sent = λ h. refl; call = λ h k. refl; tree = λ h. refl; conn = refl; req = refl; labels = λ h. refl; names = no_name r; output = refl }
+step_changes_only p choice (instr.Pass b l) r = record { brigades = λ k h. off r.inst.brigs b k _ h; pools = λ k h. refl; numbers = refl; sent = λ h. absurd (cc); call = λ h k. refl; tree = λ h. refl; conn = refl; req = refl; labels = λ h. refl; names = no_name r; output = refl }
+step_changes_only p choice (instr.JEmpty b l) r = nothing (instr.JEmpty b l) r refl
+step_changes_only p choice (instr.JSent l) r = nothing (instr.JSent l) r refl
+step_changes_only p choice (instr.Jump l) r = nothing (instr.Jump l) r refl
+step_changes_only p choice (instr.Ret st) r = record { brigades = λ k h. absurd (cc); pools = λ k h. refl; numbers = refl; sent = λ h. refl; call = λ h g. absurd (cc); tree = λ h. refl; conn = refl; req = refl; labels = λ h. refl; names = no_name r; output = refl }

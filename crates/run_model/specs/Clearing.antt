@@ -1,7 +1,6 @@
 -- What a clear of a pool makes of what lies on it and under it (apr_pool_clear, apr_pool_destroy; apr_buckets.h:
 -- apr_bucket_pool_make).
-use Rattle.std.specs.Prelude.{ℕ, Bool, false, if◌then◌else◌, List, ◌++◌, map, Option, Some, None}
-use Rattle.run_model.specs.declared.bucket.Named.{Named}
+use Rattle.std.specs.Prelude.{ℕ, Bool, false, if◌then◌else◌, ◌++◌, map, Option, Some, None}
 use Rattle.run_model.specs.declared.bucket.Var.{Var}
 use Rattle.run_model.specs.declared.bucket.Var.TheVariants as var
 use Rattle.run_model.specs.Pools.{is_under}

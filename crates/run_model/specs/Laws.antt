@@ -1,9 +1,10 @@
 -- The laws of the definitions, as statements.
-use Rattle.std.specs.Prelude.{◌≡◌, ◌≢◌, ℕ, ◌+◌, ◌<◌, ◌≤◌, Bool, true, false, ◌==◌, ◌||◌, ◌⊎◌, List, [], ◌∷◌, ◌++◌, length, replicate, Some, None, Result, Ok, Err, All}
+use Rattle.std.specs.Prelude.{◌≡◌, ◌≢◌, ℕ, ◌+◌, ◌<◌, ◌≤◌, Bool, true, false, ◌==◌, ◌||◌, ◌⊎◌, List, [], ◌∷◌, ◌++◌, map, length, replicate, Some, None, Result, Ok, Err, All}
 use Rattle.module_lang.specs.declared.instr.Instr.{Instr}
 use Rattle.module_lang.specs.declared.instr.Instr.TheVariants as instr
 use Rattle.module_lang.specs.Program.{Program, IsModule, fits}
 use Rattle.run_model.specs.declared.bucket.Named.{Named}
+use Rattle.run_model.specs.declared.bucket.Var.{Var}
 use Rattle.run_model.specs.declared.bucket.Var.TheVariants as var
 use Rattle.run_model.specs.declared.fault.FaultKind.{FaultKind}
 use Rattle.run_model.specs.declared.event.Piece.{Piece}
@@ -28,6 +29,7 @@ use Rattle.run_model.specs.declared.payload.Payload.{Payload}
 use Rattle.run_model.specs.Pools.{Pools, is_live, is_under, cleared, destroyed}
 use Rattle.run_model.specs.RunOrder.{IsPoolMap, run_order}
 use Rattle.run_model.specs.Payloads.{labels_in}
+use Rattle.run_model.specs.Clearing.{is_reached}
 
 -- An instruction of a module may be executed: it has no fault, and the names that it gives out are there.
 pub record MayExecute (p : Program) (r : Run) (i : Instr) : Type 0 where
@@ -219,30 +221,50 @@ abbrev pub CleanedIsUsable : Type 0
 CleanedIsUsable = (p : Program) (choice : Choice) (b : ℕ) (r : Run) → fault p r (instr.BClean b) ≡ None
     → (fault_want (step p choice (instr.BClean b) r).run (WUsable b) ≡ None) × (items_of ((step p choice (instr.BClean b) r).run.inst.brigs b) ≡ [])
 
--- Where the pool n is cleared: what does not stand under it is as it was, it stays itself, and it has nothing to hand on.
+-- Where the pool n is cleared: what does not stand under it is as it was, it stays itself and has nothing to hand on, no
+-- other pool under it is left, and no name comes back.
 pub record ClearKeeps {T : Type 0} (n : ℕ) (ps new : Pools T) : Type 0 where
   pub path : (m : ℕ) → is_under ps n m ≡ false → new.path m ≡ ps.path m
   pub payloads : (m : ℕ) → is_under ps n m ≡ false → new.payloads m ≡ ps.payloads m
   pub itself : new.path n ≡ ps.path n
   pub empty : is_live ps n ≡ true → new.payloads n ≡ []
-  pub under : (m : ℕ) → is_under ps n m ≡ true → m ≢ n → new.path m ≡ []
+  pub under : (m : ℕ) → is_under ps n m ≡ true → m ≢ n → (new.path m ≡ []) × (new.payloads m ≡ [])
+  pub names : new.next ≡ ps.next
 
 -- Where it is destroyed, it goes too.
 pub record DestroyKeeps {T : Type 0} (n : ℕ) (ps new : Pools T) : Type 0 where
   pub path : (m : ℕ) → is_under ps n m ≡ false → new.path m ≡ ps.path m
   pub payloads : (m : ℕ) → is_under ps n m ≡ false → new.payloads m ≡ ps.payloads m
-  pub under : (m : ℕ) → is_under ps n m ≡ true → new.path m ≡ []
+  pub itself : is_live ps n ≡ true → is_live new n ≡ false
+  pub under : (m : ℕ) → is_under ps n m ≡ true → (new.path m ≡ []) × (new.payloads m ≡ [])
+  pub names : new.next ≡ ps.next
 
 abbrev pub ClearsKeepOthers : Type 0
 ClearsKeepOthers = (n : ℕ) (ps : Pools Payload) → IsPoolMap ps → ClearKeeps n ps (cleared n ps) × DestroyKeeps n ps (destroyed n ps)
 
--- A brigade goes exactly where its pool is cleared or destroyed; no bucket that is left has a home or bytes there.
+-- whether a variable holds a brigade on the pool n or on one under it
+abbrev pub lies_under : Run → ℕ → Var → Bool
+lies_under r n v = is_reached (is_under r.shared.pools n) (brigade_pool v)
+
+-- A bucket has neither its home nor its bytes in the pool n or in one under it.
+abbrev pub StandsApart : Run → ℕ → Named → Type 0
+StandsApart r n x = (m : ℕ) → is_under r.shared.pools n m ≡ true → (x.bucket.home ≢ home.Pool m) × (x.bucket.kind ≢ kind.Pool m)
+
+-- The same buckets with the same content, in the same order; only kinds and homes may be others.
+pub record SameContents (old new : List Named) : Type 0 where
+  pub names : map (λ x. x.name) new ≡ map (λ x. x.name) old
+  pub contents : map (λ x. x.bucket.content) new ≡ map (λ x. x.bucket.content) old
+
+-- What goes with the pool n. gone, kept: a brigade goes exactly where it lies there, and else keeps its buckets. apart,
+-- loose: no bucket that is left depends on what went. others: a brigade that did not depend on it is as it was.
+-- labels: they are run in the run order, behind those that were run before.
 pub record TakesAlong (n : ℕ) (r new : Run) : Type 0 where
-  pub gone : (b m : ℕ) → brigade_pool (r.inst.brigs b) ≡ Some m → is_under r.shared.pools n m ≡ true → new.inst.brigs b ≡ var.Gone
-  pub stays : (b m : ℕ) → brigade_pool (r.inst.brigs b) ≡ Some m → is_under r.shared.pools n m ≡ false
-      → (brigade_pool (new.inst.brigs b) ≡ Some m) × (length (items_of (new.inst.brigs b)) ≡ length (items_of (r.inst.brigs b)))
-  pub homes : (b m : ℕ) → is_under r.shared.pools n m ≡ true → All (λ x. x.bucket.home ≢ home.Pool m) (items_of (new.inst.brigs b))
-  pub bytes : (b m : ℕ) → is_under r.shared.pools n m ≡ true → All (λ x. x.bucket.kind ≢ kind.Pool m) (items_of (new.inst.brigs b))
+  pub gone : (b : ℕ) → lies_under r n (r.inst.brigs b) ≡ true → new.inst.brigs b ≡ var.Gone
+  pub kept : (b : ℕ) → lies_under r n (r.inst.brigs b) ≡ false
+      → (brigade_pool (new.inst.brigs b) ≡ brigade_pool (r.inst.brigs b)) × SameContents (items_of (r.inst.brigs b)) (items_of (new.inst.brigs b))
+  pub apart : (b : ℕ) → All (StandsApart r n) (items_of (new.inst.brigs b))
+  pub others : (b : ℕ) → lies_under r n (r.inst.brigs b) ≡ false → All (StandsApart r n) (items_of (r.inst.brigs b)) → new.inst.brigs b ≡ r.inst.brigs b
+  pub loose : All (StandsApart r n) new.call.loose × SameContents r.call.loose new.call.loose
   pub labels : new.shared.labels ≡ r.shared.labels ++ labels_in (run_order r.shared.pools n)
 
 abbrev pub ClearsTakeAlong : Type 0

@@ -1,5 +1,5 @@
 -- Equality of payloads.
-use Rattle.std.proofs.Common.{◌≡◌, ℕ, true, nat_eq, refl}
+use Rattle.std.proofs.Common.{◌≡◌, true, nat_eq, refl}
 use Rattle.std.specs.Cmp.{IsPartialEquivalence, partial_equiv_from_equiv, nat_eq_equiv}
 use Rattle.std.specs.Cmp.Lexicographic.{pointwise, lists_per}
 use Rattle.run_model.specs.Payloads.{payload_eq}

@@ -18,6 +18,7 @@ pub enum Payload {
 
 impl PartialEq for Payload {
     ghost eq = { payload_eq };
+
     ghost laws = { payload_per };
 
     fn eq(&self, other: &Self) -> bool {

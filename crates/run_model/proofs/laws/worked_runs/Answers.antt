@@ -1,8 +1,11 @@
-use Rattle.run_model.proofs.Examples.{pass_runs, fault_runs, break_runs, refused_runs, name_runs, held_faults, held_changes}
+use Rattle.run_model.proofs.Examples.{pass_runs, pool_runs, fault_runs, break_runs, refused_runs, name_runs, held_faults, held_changes}
 use Rattle.run_model.proofs.laws.worked_runs.Goals as goal
 
 pub returns-clause-passes : goal.returns-clause-passes
 returns-clause-passes c = pass_runs
+
+pub returns-clause-pools : goal.returns-clause-pools
+returns-clause-pools c = pool_runs
 
 pub returns-clause-faults : goal.returns-clause-faults
 returns-clause-faults c = fault_runs

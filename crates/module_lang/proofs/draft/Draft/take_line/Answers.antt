@@ -2,7 +2,7 @@
 use Rattle.std.proofs.Common.{sym, subst}
 use Rattle.module_lang.specs.Entries.{IsDraft}
 use Rattle.module_lang.proofs.DraftLaws.{entered_keeps}
-use Rattle.module_lang.proofs.LineLaws.{line_says}
+use Rattle.module_lang.proofs.SaysLaws.{line_says}
 use Rattle.module_lang.proofs.draft.Draft.take_line.Goals as goal
 
 pub returns-in_ok-enter-in-Ok-clause-sound : goal.returns-in_ok-enter-in-Ok-clause-sound

@@ -1,0 +1,47 @@
+-- A step on a pool that may be named, case by case, and what a sound state says of the pools that are named.
+use Rattle.std.proofs.Common.{◌≡◌, ℕ, ◌<◌, [], ◌∷◌, Option, Some, None, inl, inr, refl, sym, ◌∙◌}
+use Rattle.std.proofs.lemmas.Bool.{cases_lt}
+use Rattle.module_lang.specs.declared.instr.PoolRef.TheVariants as pool
+use Rattle.module_lang.specs.Program.{Program, pool_of_pool}
+use Rattle.run_model.specs.declared.bucket.PoolVar.{PoolVar}
+use Rattle.run_model.specs.declared.bucket.PoolVar.TheVariants as poolvar
+use Rattle.run_model.specs.Pools.{created}
+use Rattle.run_model.specs.State.{Run, set_pool, with_pools, name_in, pool_named}
+use Rattle.run_model.specs.Steps.{on_pool, do_pcreate}
+use Rattle.run_model.specs.Sound.{SoundPools}
+use Rattle.run_model.proofs.PoolMap.{live_given}
+
+-- what holds where no pool is named, and where one is, of what is done to it
+pub on_named : (P : Run → Type 0) (change : ℕ → Run → Run) (o : Option ℕ) (r : Run) → P r → ((n : ℕ) → o ≡ Some n → P (change n r)) → P (on_pool change o r)
+on_named P change None r none some = none
+on_named P change (Some n) r none some = some n refl
+
+abbrev made : ℕ → Run → Option ℕ → Run
+made q r None = r
+made q r (Some parent) = set_pool q (poolvar.Named r.shared.pools.next) (with_pools (created parent r.shared.pools) r)
+
+-- the same of a new pool
+pub made_under_named : (P : Run → Type 0) (p : Program) (q : ℕ) (r : Run) → P r
+    → ((parent : ℕ) → pool_named r (pool_of_pool p q) ≡ Some parent → P (set_pool q (poolvar.Named r.shared.pools.next) (with_pools (created parent r.shared.pools) r)))
+    → P (do_pcreate p q r)
+made_under_named P p q r none some = by_parent (pool_named r (pool_of_pool p q)) refl where
+  by_parent : (o : Option ℕ) → pool_named r (pool_of_pool p q) ≡ o → P (made q r o)
+  by_parent None is = none
+  by_parent (Some parent) is = some parent is
+
+-- the variable of a pool that is named
+pub own_named : (q n : ℕ) (r : Run) → pool_named r (pool.Own q) ≡ Some n → r.inst.pools q ≡ poolvar.Named n
+unfolding pool_named
+own_named q n r e = in_var (r.inst.pools q) e where
+  in_var : (v : PoolVar) → name_in v ≡ Some n → v ≡ poolvar.Named n
+  in_var poolvar.Null e = absurd (cc)
+  in_var (poolvar.Named m) e = cc
+
+pub conn_given : (r : Run) → SoundPools r → r.shared.conn < r.shared.pools.next
+conn_given r s = live_given r.shared.pools r.shared.conn s.fresh s.conn
+
+pub req_given : (r : Run) (m : ℕ) → r.shared.req ≡ Some m → SoundPools r → m < r.shared.pools.next
+req_given r m is s = elim (cases_lt m r.shared.pools.next) [
+  | inl lt ↦ lt
+  | inr le ↦ absurd (let both : (m ∷ r.shared.pools.path r.shared.conn) ≡ [] = sym (s.req m is).0 ∙ s.fresh m le in cc)
+]
