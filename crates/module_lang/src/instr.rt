@@ -29,6 +29,15 @@ pub enum VarRef {
     Brigade(u8),
 }
 
+/// An operand that is a number: a number variable, or a constant.
+#[derive(Clone, Copy)]
+pub enum Value {
+    /// The number variable `n0` to `n7`.
+    Number(u8),
+    /// A constant.
+    Constant(u32),
+}
+
 /// An instruction. A `u8` is the number of a variable (a brigade's is 8 for `in`), or behind a pool that of a text.
 /// A `u16` is the number of the instruction that is jumped to.
 #[derive(Clone, Copy)]

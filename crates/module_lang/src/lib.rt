@@ -17,7 +17,7 @@ mod seq;
 mod word;
 
 pub use assembler::assemble;
-pub use instr::{Instr, PoolRef, Status, VarRef};
+pub use instr::{Instr, PoolRef, Status, Value, VarRef};
 pub use module::Module;
 pub use quoted::{Measured, measure, push_spelling, unquote};
 pub use refusal::{AsmRefusal, Code};
