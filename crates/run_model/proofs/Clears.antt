@@ -159,6 +159,7 @@ run_down_takes n r ps = record {
   apart = λ b. var_apart n r (r.inst.brigs b);
   others = λ b off apart. var_same n r (r.inst.brigs b) off apart;
   loose = (all_apart n r r.call.loose, same_contents (is_under r.shared.pools n) r.call.loose);
+  call = refl;
   labels = refl;
 }
 

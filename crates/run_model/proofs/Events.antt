@@ -14,10 +14,11 @@ use Rattle.run_model.specs.Clearing.{run_down}
 use Rattle.run_model.specs.Connection.{Connection, opened, begun, brought, request_ended, named_from}
 use Rattle.run_model.specs.Sound.{sum_below, count_named, brigade_pool, SoundPools, Sound}
 use Rattle.run_model.proofs.Updates.{upd_either}
-use Rattle.run_model.proofs.PoolMap.{planted_fresh, planted_older, created_lives, created_kept, created_at, new_lives, created_fresh, created_older, destroyed_path, destroyed_apart, destroyed_next}
+use Rattle.run_model.proofs.PoolMap.{created_lives, created_kept, created_at, new_lives, destroyed_apart, destroyed_next}
 use Rattle.run_model.proofs.Names.{count_none, count_before, count_once, count_behind, Fewer, fewer_same, keeps_slots, went_names, placed_names}
 use Rattle.run_model.proofs.StepNames.{not_spent}
 use Rattle.run_model.proofs.StepBuckets.{ProperList, none_proper, named_proper, keeps_buckets, went_buckets, written_buckets}
+use Rattle.run_model.proofs.Formed.{planted_live, planted_formed, created_formed, destroyed_formed}
 use Rattle.run_model.proofs.NamedPools.{conn_given}
 use Rattle.run_model.proofs.Thinned.{keeps_pools, went_pools}
 
@@ -51,8 +52,7 @@ begun_pools p c limit s =
     let given : c.run.shared.conn < c.run.shared.pools.next = conn_given c.run s in
     record {
       limit = limit;
-      fresh = created_fresh c.run.shared.conn c.run.shared.pools s.fresh;
-      older = created_older c.run.shared.conn c.run.shared.pools given s.older;
+      formed = created_formed c.run.shared.conn c.run.shared.pools s.conn s.formed;
       conn = created_lives c.run.shared.conn c.run.shared.pools c.run.shared.conn s.conn;
       req = λ n e.
           (let is : c.run.shared.pools.next ≡ n = cc in (
@@ -98,7 +98,7 @@ brought_sound p pieces c last s =
 ended_pools : (req : ℕ) (r : Run) → r.shared.req ≡ Some req → SoundPools r → SoundPools (request_ended req r)
 unfolding run_down with_pools
 ended_pools req r is s =
-    went_pools req r (request_ended req r) (destroyed_next req r.shared.pools) (destroyed_path req r.shared.pools) (λ k apart. (destroyed_apart req r.shared.pools k apart).0)
+    went_pools req r (request_ended req r) (destroyed_next req r.shared.pools) (destroyed_formed req r.shared.pools s.formed) (λ k apart. (destroyed_apart req r.shared.pools k apart).0)
     refl (λ m e. absurd (cc)) refl (λ b. refl) (s.req req is).1 s
 
 pub ended_sound : (req : ℕ) (r : Run) → r.shared.req ≡ Some req → Sound r → Sound (request_ended req r)
@@ -121,8 +121,7 @@ opened_pools : SoundPools opened.run
 unfolding opened created planted
 opened_pools = record {
   limit = omega arith;
-  fresh = created_fresh 1 (planted {T = Payload} 1) (planted_fresh Payload 1);
-  older = created_older 1 (planted {T = Payload} 1) (omega arith) (planted_older Payload 1);
+  formed = created_formed 1 (planted {T = Payload} 1) (planted_live Payload 1) (planted_formed Payload 1);
   conn = new_lives 1 (planted {T = Payload} 1);
   req = λ n e. absurd (cc);
   own = λ q n e. absurd (cc);

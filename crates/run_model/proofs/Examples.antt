@@ -9,7 +9,7 @@ use Rattle.run_model.specs.Clearing.{run_down}
 use Rattle.run_model.specs.Faults.{has_pool, is_stray, keeps_stray}
 use Rattle.run_model.specs.Steps.{delivered, text_of, is_spent, lacks_names, current}
 use Rattle.run_model.specs.Connection.{opened, begins, brings, ends, takes, steps}
-use Rattle.run_model.specs.Examples.{answers_from, world_after, PassRuns, PoolRuns, FaultRuns, BreakRuns, RefusedRuns, NameRuns, HeldFaults, HeldChanges}
+use Rattle.run_model.specs.Examples.{answers_from, world_after, PassRuns, PoolRuns, PoolEnds, FaultRuns, BreakRuns, RefusedRuns, NameRuns, HeldFaults, HeldChanges}
 
 pub pass_runs : PassRuns
 unfolding answers_from world_after opened begins brings ends takes steps upd any_below is_live is_under planted created destroyed set_brig pool_named is_own has_pool is_stray keeps_stray delivered is_spent lacks_names current pool_of_brigade pool_of_pool registered cleared killed is_child children_below own_run runs_within run_order last_that without_last set_pool with_pools run_down text_of
@@ -18,6 +18,10 @@ pass_runs = record { one_brigade = refl; no_pieces = refl; dropped = refl; next_
 pub pool_runs : PoolRuns
 unfolding answers_from world_after opened begins brings ends takes steps upd any_below is_live is_under planted created destroyed set_brig pool_named is_own has_pool is_stray keeps_stray delivered is_spent lacks_names current pool_of_brigade pool_of_pool registered cleared killed is_child children_below own_run runs_within run_order last_that without_last set_pool with_pools run_down text_of
 pool_runs = record { order = refl; killed = refl; again = refl; gone = refl; dead = refl; null = refl; over_live = refl; nulls = refl; pool_names = refl; last_pool_name = refl; no_memory = refl }
+
+pub pool_ends : PoolEnds
+unfolding answers_from world_after opened begins brings ends takes steps upd any_below is_live is_under planted created destroyed set_brig pool_named is_own has_pool is_stray keeps_stray delivered is_spent lacks_names current pool_of_brigade pool_of_pool registered cleared killed is_child children_below own_run runs_within run_order last_that without_last set_pool with_pools run_down text_of
+pool_ends = record { subpool_brigade = refl; subpool = refl; above = refl; other_pool = refl; request_labels = refl; next_request = refl; after_request = refl; while_busy = refl; root_left = refl; none_left = refl; no_memory_to_end = refl; no_memory_to_close = refl }
 
 pub fault_runs : FaultRuns
 unfolding answers_from world_after opened begins brings ends takes steps upd any_below is_live is_under planted created destroyed set_brig pool_named is_own has_pool is_stray keeps_stray delivered is_spent lacks_names current pool_of_brigade pool_of_pool registered cleared killed is_child children_below own_run runs_within run_order last_that without_last set_pool with_pools run_down text_of
@@ -37,7 +41,7 @@ name_runs = record { last_names = refl; one_short = refl; last_begin = refl; no_
 
 pub held_faults : HeldFaults
 unfolding answers_from world_after opened begins brings ends takes steps upd any_below is_live is_under planted created destroyed set_brig pool_named is_own has_pool is_stray keeps_stray delivered is_spent lacks_names current pool_of_brigade pool_of_pool registered cleared killed is_child children_below own_run runs_within run_order last_that without_last set_pool with_pools run_down text_of
-held_faults = record { dead = refl; dead_before_late = refl; late = refl; flush_behind_eos = refl; passed_before_dead = refl; left_before_right = refl; right = refl; dead_is_asked = refl; call_kept = refl; call_passed = refl; call_in_in = refl; dead_kept = refl; others_pool_kept = refl; connection_pool_kept = refl; request_pool_kept = refl; own_pool_kept = refl; pool_before_brigade = refl; live_brigade = refl; passed_brigade = refl }
+held_faults = record { dead = refl; dead_before_late = refl; late = refl; flush_behind_eos = refl; passed_before_dead = refl; left_before_right = refl; right = refl; dead_is_asked = refl; call_kept = refl; call_passed = refl; call_in_in = refl; dead_kept = refl; others_pool_kept = refl; connection_pool_kept = refl; request_pool_kept = refl; own_pool_kept = refl; pool_before_brigade = refl; live_brigade = refl; passed_brigade = refl; parent_before_new = refl; dead_made_again = refl; live_pool = refl }
 
 pub held_changes : HeldChanges
 unfolding answers_from world_after opened begins brings ends takes steps upd any_below is_live is_under planted created destroyed set_brig pool_named is_own has_pool is_stray keeps_stray delivered is_spent lacks_names current pool_of_brigade pool_of_pool registered cleared killed is_child children_below own_run runs_within run_order last_that without_last set_pool with_pools run_down text_of

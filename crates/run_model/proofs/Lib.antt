@@ -6,6 +6,7 @@ pub mod PoolMap
 pub mod Names
 pub mod StepNames
 pub mod StepBuckets
+pub mod Formed
 pub mod NamedPools
 pub mod Thinned
 pub mod StepPools
@@ -18,5 +19,6 @@ pub mod Unchanged
 pub mod Refusals
 pub mod Orderly
 pub mod Cuts
+pub mod Filled
 pub mod Marks
 pub mod Clears

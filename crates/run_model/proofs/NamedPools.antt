@@ -1,6 +1,5 @@
 -- A step on a pool that may be named, case by case, and what a sound state says of the pools that are named.
-use Rattle.std.proofs.Common.{◌≡◌, ℕ, ◌<◌, [], ◌∷◌, Option, Some, None, inl, inr, refl, sym, ◌∙◌}
-use Rattle.std.proofs.lemmas.Bool.{cases_lt}
+use Rattle.std.proofs.Common.{◌≡◌, ℕ, ◌<◌, Option, Some, None, refl}
 use Rattle.module_lang.specs.declared.instr.PoolRef.TheVariants as pool
 use Rattle.module_lang.specs.Program.{Program, pool_of_pool}
 use Rattle.run_model.specs.declared.bucket.PoolVar.{PoolVar}
@@ -9,7 +8,7 @@ use Rattle.run_model.specs.Pools.{created}
 use Rattle.run_model.specs.State.{Run, set_pool, with_pools, name_in, pool_named}
 use Rattle.run_model.specs.Steps.{on_pool, do_pcreate}
 use Rattle.run_model.specs.Sound.{SoundPools}
-use Rattle.run_model.proofs.PoolMap.{live_given}
+use Rattle.run_model.proofs.Formed.{path_live}
 
 -- what holds where no pool is named, and where one is, of what is done to it
 pub on_named : (P : Run → Type 0) (change : ℕ → Run → Run) (o : Option ℕ) (r : Run) → P r → ((n : ℕ) → o ≡ Some n → P (change n r)) → P (on_pool change o r)
@@ -38,10 +37,7 @@ own_named q n r e = in_var (r.inst.pools q) e where
   in_var (poolvar.Named m) e = cc
 
 pub conn_given : (r : Run) → SoundPools r → r.shared.conn < r.shared.pools.next
-conn_given r s = live_given r.shared.pools r.shared.conn s.fresh s.conn
+conn_given r s = s.formed.named r.shared.conn s.conn
 
 pub req_given : (r : Run) (m : ℕ) → r.shared.req ≡ Some m → SoundPools r → m < r.shared.pools.next
-req_given r m is s = elim (cases_lt m r.shared.pools.next) [
-  | inl lt ↦ lt
-  | inr le ↦ absurd (let both : (m ∷ r.shared.pools.path r.shared.conn) ≡ [] = sym (s.req m is).0 ∙ s.fresh m le in cc)
-]
+req_given r m is s = s.formed.named m (path_live r.shared.pools m m (r.shared.pools.path r.shared.conn) (s.req m is).0)

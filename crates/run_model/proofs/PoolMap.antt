@@ -1,18 +1,12 @@
 -- What a new pool and a destroyed one leave of the others.
-use Rattle.std.proofs.Common.{◌≡◌, ◌≢◌, ℕ, ◌+◌, ◌<◌, ◌≤◌, Bool, true, false, ◌&&◌, ◌||◌, not, ◌==◌, cond, [], ◌∷◌, ◌⊎◌, inl, inr, refl, sym, ◌∙◌, ap, arith, eq-eqb, ne_eqb}
-use Rattle.std.proofs.lemmas.Bool.{cases_lt}
-use Rattle.std.proofs.lemmas.Bool.Decides.{nat_tests}
-use Rattle.run_model.specs.Pools.{Pools, is_empty, is_in, is_live, is_under, planted, created, cleared, destroyed}
+use Rattle.std.proofs.Common.{◌≡◌, ◌≢◌, ℕ, ◌+◌, ◌<◌, ◌≤◌, Bool, true, false, ◌&&◌, not, ◌==◌, cond, [], ◌∷◌, ◌⊎◌, inl, inr, refl, ◌∙◌, ap, arith, eq-eqb, ne_eqb}
+use Rattle.run_model.specs.Pools.{Pools, is_empty, is_in, is_live, is_under, created, cleared, destroyed}
 use Rattle.run_model.proofs.Updates.{upd_at, upd_off, upd_either}
 
 -- a pool that is live has a path
 pub live_path : {T : Type 0} (ps : Pools T) (n : ℕ) → is_live ps n ≡ true → ps.path n ≡ [] → ⊥
 unfolding is_live
 live_path ps n lives none = let dead : not (is_empty (ps.path n)) ≡ false = ap (λ path. not (is_empty path)) none in cc
-
--- a live pool's name was given out
-pub live_given : {T : Type 0} (ps : Pools T) (n : ℕ) → ((k : ℕ) → ps.next ≤ k → ps.path k ≡ []) → is_live ps n ≡ true → n < ps.next
-live_given ps n fresh lives = elim (cases_lt n ps.next) [ inl lt ↦ lt | inr le ↦ absurd (live_path ps n lives (fresh n le)) ]
 
 pub created_lives : {T : Type 0} (parent : ℕ) (ps : Pools T) (n : ℕ) → is_live ps n ≡ true → is_live (created parent ps) n ≡ true
 unfolding is_live created
@@ -33,23 +27,6 @@ created_kept parent ps n lt = upd_off ps.path ps.next n (ps.next ∷ ps.path par
 pub created_at : {T : Type 0} (parent : ℕ) (ps : Pools T) → (created parent ps).path ps.next ≡ ps.next ∷ ps.path parent
 unfolding created
 created_at parent ps = upd_at ps.path ps.next (ps.next ∷ ps.path parent)
-
-pub created_fresh : {T : Type 0} (parent : ℕ) (ps : Pools T) → ((k : ℕ) → ps.next ≤ k → ps.path k ≡ []) → (k : ℕ) → (created parent ps).next ≤ k → (created parent ps).path k ≡ []
-unfolding created
-created_fresh parent ps fresh k le = upd_off ps.path ps.next k (ps.next ∷ ps.path parent) (λ e. absurd (omega (arith, e))) ∙ fresh k (omega arith)
-
-pub created_older : {T : Type 0} (parent : ℕ) (ps : Pools T) → parent < ps.next
-    → ((n m : ℕ) → is_in m (ps.path n) ≡ true → m ≤ n) → (n m : ℕ) → is_in m ((created parent ps).path n) ≡ true → m ≤ n
-unfolding created
-created_older parent ps lt older n m h = elim (upd_either ps.path ps.next n (ps.next ∷ ps.path parent)) [
-  | inl p ↦ (let found : is_in m (ps.next ∷ ps.path parent) ≡ true = sym (ap (is_in m) p.1) ∙ h in
-      let le : m ≤ ps.next = on_path ps.next m (is_in m (ps.path parent)) found (λ up. let up_le : m ≤ parent = older parent m up in omega arith) in
-      omega (arith, p.0))
-  | inr p ↦ older n m (sym (ap (is_in m) p.1) ∙ h)
-] where
-  on_path : (next m : ℕ) (above : Bool) → ((next == m) || above) ≡ true → (above ≡ true → m ≤ next) → m ≤ next
-  on_path next m true h up = up refl
-  on_path next m false h up = grind (arith, nat_tests)
 
 pub created_next : {T : Type 0} (parent : ℕ) (ps : Pools T) → (created parent ps).next ≡ ps.next + 1
 unfolding created
@@ -116,18 +93,3 @@ not_under p ps n older lt = by_test (is_in p (ps.path n)) (older n p) lt where
   by_test : (b : Bool) → (b ≡ true → p ≤ n) → n < p → b ≡ false
   by_test true h lt = absurd (let le : p ≤ n = h refl in omega arith)
   by_test false h lt = refl
-
--- a tree of one pool
-
-pub planted_fresh : (T : Type 0) (first k : ℕ) → first + 1 ≤ k → (planted {T = T} first).path k ≡ []
-unfolding planted
-planted_fresh T first k le = upd_off (λ _. []) first k (first ∷ []) (λ e. absurd (omega (arith, e)))
-
-pub planted_older : (T : Type 0) (first n m : ℕ) → is_in m ((planted {T = T} first).path n) ≡ true → m ≤ n
-unfolding planted
-planted_older T first n m h = elim (upd_either (λ (k : ℕ). []) first n (first ∷ [])) [
-  | inl p ↦ (let found : is_in m (first ∷ []) ≡ true = sym (ap (is_in m) p.1) ∙ h in alone first n m found p.0)
-  | inr p ↦ absurd (let none : is_in m [] ≡ true = sym (ap (is_in m) p.1) ∙ h in cc)
-] where
-  alone : (first n m : ℕ) → ((first == m) || false) ≡ true → n ≡ first → m ≤ n
-  alone first n m h e = grind (arith, nat_tests)

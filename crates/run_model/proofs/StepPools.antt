@@ -12,6 +12,8 @@ use Rattle.run_model.specs.declared.bucket.Mark.TheVariants.{Usable}
 use Rattle.run_model.specs.declared.bucket.PoolVar.TheVariants as poolvar
 use Rattle.run_model.specs.declared.bucket.Var.{Var}
 use Rattle.run_model.specs.declared.bucket.Var.TheVariants as var
+use Rattle.run_model.specs.declared.payload.Payload.TheVariants.{Label}
+use Rattle.run_model.specs.Payloads.{is_label}
 use Rattle.run_model.specs.Indexed.{upd}
 use Rattle.run_model.specs.Pools.{is_live, created, registered}
 use Rattle.run_model.specs.RunOrder.{killed}
@@ -22,9 +24,10 @@ use Rattle.run_model.specs.Steps.{do_create, do_clean, do_concat, do_pass, do_re
 use Rattle.run_model.specs.Sound.{brigade_pool, SoundPools}
 use Rattle.run_model.specs.Laws.{StepKeepsPools}
 use Rattle.run_model.proofs.Updates.{upd_either}
-use Rattle.run_model.proofs.PoolMap.{live_given, created_lives, created_fresh, created_older, created_next, created_kept, cleared_path, cleared_apart, cleared_next, destroyed_path, destroyed_apart, destroyed_next}
+use Rattle.run_model.proofs.PoolMap.{created_lives, created_next, created_kept, cleared_apart, cleared_next, destroyed_apart, destroyed_next}
 use Rattle.run_model.proofs.Names.{at_each, at_two}
 use Rattle.run_model.proofs.StepNames.{not_spent}
+use Rattle.run_model.proofs.Formed.{created_formed, cleared_formed, destroyed_formed, registered_formed, killed_formed}
 use Rattle.run_model.proofs.NamedPools.{on_named, made_under_named, own_named, conn_given, req_given}
 use Rattle.run_model.proofs.Thinned.{keeps_paths, keeps_pools, went_pools}
 
@@ -117,8 +120,7 @@ made_pools : (parent q : ℕ) (r : Run) → r.shared.pools.next + 1 < 2 ^ 64 →
 unfolding set_pool with_pools
 made_pools parent q r limit lives s = record {
   limit = subst (λ (k : ℕ). k < 2 ^ 64) (sym (created_next parent r.shared.pools)) limit;
-  fresh = created_fresh parent r.shared.pools s.fresh;
-  older = created_older parent r.shared.pools (live_given r.shared.pools parent s.fresh lives) s.older;
+  formed = created_formed parent r.shared.pools lives s.formed;
   conn = created_lives parent r.shared.pools r.shared.conn s.conn;
   req = λ m e.
       let old = s.req m e in
@@ -140,29 +142,29 @@ cleared_pools : (q n : ℕ) (r : Run) → r.inst.pools q ≡ poolvar.Named n →
 unfolding run_down with_pools
 cleared_pools q n r is s =
     let own = s.own q n is in
-    went_pools n r (pool_cleared n r) (cleared_next n r.shared.pools) (cleared_path n r.shared.pools) (λ k apart. (cleared_apart n r.shared.pools k apart).0)
+    went_pools n r (pool_cleared n r) (cleared_next n r.shared.pools) (cleared_formed n r.shared.pools s.formed) (λ k apart. (cleared_apart n r.shared.pools k apart).0)
     refl (λ m e. (e, λ same. own.2 (e ∙ ap (λ (k : ℕ). Some k) same))) refl (λ b. refl) own.0 s
 
 destroyed_pools : (q n : ℕ) (r : Run) → r.inst.pools q ≡ poolvar.Named n → SoundPools r → SoundPools (pool_destroyed n r)
 unfolding run_down with_pools
 destroyed_pools q n r is s =
     let own = s.own q n is in
-    went_pools n r (pool_destroyed n r) (destroyed_next n r.shared.pools) (destroyed_path n r.shared.pools) (λ k apart. (destroyed_apart n r.shared.pools k apart).0)
+    went_pools n r (pool_destroyed n r) (destroyed_next n r.shared.pools) (destroyed_formed n r.shared.pools s.formed) (λ k apart. (destroyed_apart n r.shared.pools k apart).0)
     refl (λ m e. (e, λ same. own.2 (e ∙ ap (λ (k : ℕ). Some k) same))) refl (λ b. refl) own.0 s
 
-labelled_pools : (text : List ℕ) (n : ℕ) (r : Run) → SoundPools r → SoundPools (label_registered text n r)
+labelled_pools : (text : List ℕ) (n : ℕ) (r : Run) → is_live r.shared.pools n ≡ true → SoundPools r → SoundPools (label_registered text n r)
 unfolding registered with_pools
-labelled_pools text n r s = keeps_paths r (label_registered text n r) refl refl refl refl refl s.brigades s
+labelled_pools text n r lives s = keeps_paths r (label_registered text n r) (registered_formed n (Label text) r.shared.pools lives s.formed) refl refl refl refl refl s.brigades s
 
 unlabelled_pools : (text : List ℕ) (n : ℕ) (r : Run) → SoundPools r → SoundPools (label_killed text n r)
 unfolding killed with_pools
-unlabelled_pools text n r s = keeps_paths r (label_killed text n r) refl refl refl refl refl s.brigades s
+unlabelled_pools text n r s = keeps_paths r (label_killed text n r) (killed_formed n (is_label text) r.shared.pools s.formed) refl refl refl refl refl s.brigades s
 
 pub step_pools : StepKeepsPools
 step_pools p choice (instr.PCreate q) r may s = pcreate_pools p q r (lasting_pool r (instr.PCreate q) may.names_last) (wanted_pool r (pool_of_pool p q) _ may.faultless) s
 step_pools p choice (instr.PClear q) r may s = on_named SoundPools pool_cleared (pool_named r (pool.Own q)) r s (λ n e. cleared_pools q n r (own_named q n r e) s)
 step_pools p choice (instr.PDestroy q) r may s = on_named SoundPools pool_destroyed (pool_named r (pool.Own q)) r s (λ n e. destroyed_pools q n r (own_named q n r e) s)
-step_pools p choice (instr.Label q t) r may s = on_named SoundPools (label_registered (text_of p t)) (pool_named r q) r s (λ n e. labelled_pools (text_of p t) n r s)
+step_pools p choice (instr.Label q t) r may s = on_named SoundPools (label_registered (text_of p t)) (pool_named r q) r s (λ n e. labelled_pools (text_of p t) n r (named_lives r q n (wanted_pool r q None may.faultless) e) s)
 step_pools p choice (instr.Unlabel q t) r may s = on_named SoundPools (label_killed (text_of p t)) (pool_named r q) r s (λ n e. unlabelled_pools (text_of p t) n r s)
 step_pools p choice (instr.BCreate o) r may s = create_pools p o r (wanted_pool r (pool_of_brigade p o) _ may.faultless) s
 step_pools p choice (instr.BClean b) r may s = clean_pools b r s

@@ -1,19 +1,21 @@
 -- Where pools go and none comes, the pools that are left stay sound.
-use Rattle.std.proofs.Common.{◌≡◌, ◌≢◌, ℕ, ◌^◌, ◌<◌, ◌≤◌, Bool, true, false, ◌||◌, not, cond, List, [], ◌∷◌, map, ◌⊎◌, inl, inr, Some, refl, sym, ◌∙◌, ap, subst, ne_eqb}
+use Rattle.std.proofs.Common.{◌≡◌, ◌≢◌, ℕ, ◌^◌, ◌<◌, Bool, true, false, ◌||◌, not, cond, List, ◌∷◌, map, Some, refl, sym, ◌∙◌, ap, subst, ne_eqb}
 use Rattle.run_model.specs.declared.payload.Payload.{Payload}
 use Rattle.run_model.specs.declared.bucket.Var.{Var}
 use Rattle.run_model.specs.declared.bucket.Var.TheVariants as var
 use Rattle.run_model.specs.Pools.{Pools, is_empty, is_live, is_in, is_under}
+use Rattle.run_model.specs.RunOrder.{IsPoolMap}
 use Rattle.run_model.specs.Buckets.{cleared_bucket}
 use Rattle.run_model.specs.Clearing.{is_reached, cleared_var}
 use Rattle.run_model.specs.State.{Run}
 use Rattle.run_model.specs.Sound.{brigade_pool, SoundPools}
 use Rattle.run_model.proofs.PoolMap.{not_under}
+use Rattle.run_model.proofs.Formed.{formed_older}
 
 -- Each pool stays or goes; the connection's pool stays, and so do an open request's and those that brigades lie on.
 pub record IsThinned (r new : Run) : Type 0 where
   pub next : new.shared.pools.next ≡ r.shared.pools.next
-  pub paths : (k : ℕ) → (new.shared.pools.path k ≡ []) ⊎ (new.shared.pools.path k ≡ r.shared.pools.path k)
+  pub formed : IsPoolMap new.shared.pools
   pub conn : new.shared.conn ≡ r.shared.conn
   pub conn_stays : new.shared.pools.path r.shared.conn ≡ r.shared.pools.path r.shared.conn
   pub req : (m : ℕ) → new.shared.req ≡ Some m → (r.shared.req ≡ Some m) × (new.shared.pools.path m ≡ r.shared.pools.path m)
@@ -27,11 +29,7 @@ same_path_lives r new m same lives = ap (λ (path : List ℕ). not (is_empty pat
 pub thinned_sound : (r new : Run) → IsThinned r new → SoundPools r → SoundPools new
 thinned_sound r new t s = record {
   limit = subst (λ (k : ℕ). k < 2 ^ 64) (sym t.next) s.limit;
-  fresh = λ k le. elim (t.paths k) [ inl e ↦ e | inr e ↦ e ∙ s.fresh k (subst (λ (x : ℕ). x ≤ k) t.next le) ];
-  older = λ k m h. elim (t.paths k) [
-    | inl e ↦ absurd (let none : is_in m [] ≡ true = sym (ap (is_in m) e) ∙ h in cc)
-    | inr e ↦ s.older k m (sym (ap (is_in m) e) ∙ h)
-  ];
+  formed = t.formed;
   conn = subst (λ (c : ℕ). is_live new.shared.pools c ≡ true) (sym t.conn) (same_path_lives r new r.shared.conn t.conn_stays s.conn);
   req = λ m e.
       let old = t.req m e in
@@ -44,14 +42,14 @@ thinned_sound r new t s = record {
 }
 
 -- where no pool goes
-pub keeps_paths : (r new : Run) → new.shared.pools.path ≡ r.shared.pools.path → new.shared.pools.next ≡ r.shared.pools.next
+pub keeps_paths : (r new : Run) → IsPoolMap new.shared.pools → new.shared.pools.path ≡ r.shared.pools.path → new.shared.pools.next ≡ r.shared.pools.next
     → new.shared.conn ≡ r.shared.conn → new.shared.req ≡ r.shared.req → new.inst.pools ≡ r.inst.pools
     → ((b n : ℕ) → brigade_pool (new.inst.brigs b) ≡ Some n → is_live r.shared.pools n ≡ true)
     → SoundPools r → SoundPools new
-keeps_paths r new path next conn req own brigades s =
+keeps_paths r new formed path next conn req own brigades s =
     thinned_sound r new (record {
       next = next;
-      paths = λ k. inr (ap (λ (g : ℕ → List ℕ). g k) path);
+      formed = formed;
       conn = conn;
       conn_stays = ap (λ (g : ℕ → List ℕ). g r.shared.conn) path;
       req = λ m e. (sym req ∙ e, ap (λ (g : ℕ → List ℕ). g m) path);
@@ -64,7 +62,7 @@ pub keeps_pools : (r new : Run) → new.shared.pools ≡ r.shared.pools → new.
     → ((b n : ℕ) → brigade_pool (new.inst.brigs b) ≡ Some n → is_live r.shared.pools n ≡ true)
     → SoundPools r → SoundPools new
 keeps_pools r new pools conn req own brigades s =
-    keeps_paths r new (ap (λ (ps : Pools Payload). ps.path) pools) (ap (λ (ps : Pools Payload). ps.next) pools) conn req own brigades s
+    keeps_paths r new (subst (λ (ps : Pools Payload). IsPoolMap ps) (sym pools) s.formed) (ap (λ (ps : Pools Payload). ps.path) pools) (ap (λ (ps : Pools Payload). ps.next) pools) conn req own brigades s
 
 -- A brigade that a clear leaves does not lie on a pool that it reaches.
 pub cleared_pool : (reached : ℕ → Bool) (v : Var) (n : ℕ) → brigade_pool (cleared_var reached v) ≡ Some n → (brigade_pool v ≡ Some n) × (reached n ≡ false)
@@ -79,24 +77,24 @@ cleared_pool reached (var.Live v) n e = by_test (is_reached reached v.on) refl e
 req_apart : (n m : ℕ) (r : Run) → r.shared.conn < n → m ≢ n → r.shared.req ≡ Some m → SoundPools r → is_under r.shared.pools n m ≡ false
 unfolding is_under
 req_apart n m r newer ne is s =
-    ap (is_in n) (s.req m is).0 ∙ (ap (λ b. b || is_in n (r.shared.pools.path r.shared.conn)) (ne_eqb m n ne) ∙ not_under n r.shared.pools r.shared.conn s.older newer)
+    ap (is_in n) (s.req m is).0 ∙ (ap (λ b. b || is_in n (r.shared.pools.path r.shared.conn)) (ne_eqb m n ne) ∙ not_under n r.shared.pools r.shared.conn (formed_older r.shared.pools s.formed) newer)
 
 -- The pool n, which is newer than the connection's, is cleared or destroyed.
 pub went_pools : (n : ℕ) (r new : Run)
     → new.shared.pools.next ≡ r.shared.pools.next
-    → ((k : ℕ) → (new.shared.pools.path k ≡ []) ⊎ (new.shared.pools.path k ≡ r.shared.pools.path k))
+    → IsPoolMap new.shared.pools
     → ((k : ℕ) → is_under r.shared.pools n k ≡ false → new.shared.pools.path k ≡ r.shared.pools.path k)
     → new.shared.conn ≡ r.shared.conn
     → ((m : ℕ) → new.shared.req ≡ Some m → (r.shared.req ≡ Some m) × (m ≢ n))
     → new.inst.pools ≡ r.inst.pools
     → ((b : ℕ) → new.inst.brigs b ≡ cleared_var (is_under r.shared.pools n) (r.inst.brigs b))
     → r.shared.conn < n → SoundPools r → SoundPools new
-went_pools n r new next paths apart conn req own brigs newer s =
+went_pools n r new next formed apart conn req own brigs newer s =
     thinned_sound r new (record {
       next = next;
-      paths = paths;
+      formed = formed;
       conn = conn;
-      conn_stays = apart r.shared.conn (not_under n r.shared.pools r.shared.conn s.older newer);
+      conn_stays = apart r.shared.conn (not_under n r.shared.pools r.shared.conn (formed_older r.shared.pools s.formed) newer);
       req = λ m e. let old = req m e in (old.0, apart m (req_apart n m r newer old.1 old.0 s));
       own = own;
       brigades = λ b m e.

@@ -27,6 +27,7 @@ use Rattle.run_model.specs.declared.event.Cause.TheVariants as cause
 use Rattle.run_model.specs.declared.event.Refusal.TheVariants as refusal
 use Rattle.run_model.specs.declared.fault.FaultKind.TheVariants as fault_kind
 use Rattle.run_model.specs.Pools.{planted, created}
+use Rattle.run_model.specs.Connection.{closing_pools}
 use Rattle.run_model.specs.State.{Run, items_of}
 use Rattle.run_model.specs.Faults.{fault}
 use Rattle.run_model.specs.Steps.{do_return}
@@ -124,6 +125,16 @@ cleans_up = with_open (pool.Conn ∷ pool.Own 0 ∷ []) [] ((49 ∷ []) ∷ (50 
 -- `pool p0 conn`, `brigade b0 p0`, with this `open`
 abbrev pub one_pool : List Instr → Program
 one_pool first = with_open (pool.Conn ∷ []) (pool.Own 0 ∷ []) ((97 ∷ []) ∷ (98 ∷ []) ∷ []) (first ++ instr.Ret Success ∷ [])
+
+-- `pool p0 conn`, `pool p1 p0`, `brigade b0 p1`, with this `open`
+abbrev pub two_pools : List Instr → Program
+two_pools first = with_open (pool.Conn ∷ pool.Own 0 ∷ []) (pool.Own 1 ∷ []) [] (first ++ instr.Ret Success ∷ [])
+
+-- `pool p0 req`, `pool p1 p0`, `brigade b0 p1`, with this `init`, which begins at 1
+abbrev pub request_pools : List Instr → Program
+request_pools first =
+    let init : List Instr = first ++ instr.Ret Success ∷ [] in
+    record { pools = pool.Req ∷ pool.Own 0 ∷ []; brigades = pool.Own 1 ∷ []; texts = (97 ∷ []) ∷ []; code = instr.Ret Success ∷ (init ++ instr.Ret Success ∷ []); init = 1; main = length init + 1 }
 
 -- what so many steps of `open` answer, and what is told then
 abbrev pub opening : ℕ → List Event → List Event
@@ -245,6 +256,36 @@ pub record KindRuns : Type 0 where
   -- numbers stop at 0 and at 4294967295, and only a byte is put into the buffer
   pub numbers : answers 1000000 counts (opening 8 []) ≡ Done ∷ went ∷ went ∷ went ∷ went ∷ went ∷ went ∷ went ∷ step_ok ∷ []
 
+-- How pools end with those above them, with their request and with their connection.
+pub record PoolEnds : Type 0 where
+  pub subpool_brigade : answers 1000000 (two_pools (instr.PCreate 0 ∷ instr.PCreate 1 ∷ instr.BCreate 0 ∷ instr.PClear 0 ∷ instr.BClean 0 ∷ [])) (opening 5 [])
+      ≡ Done ∷ went ∷ went ∷ went ∷ went ∷ Step (stepped.Fault fault_kind.F2 0 4) ∷ []
+  pub subpool : answers 1000000 (two_pools (instr.PCreate 0 ∷ instr.PCreate 1 ∷ instr.PDestroy 0 ∷ instr.PClear 1 ∷ [])) (opening 4 [])
+      ≡ Done ∷ went ∷ went ∷ went ∷ Step (stepped.Fault fault_kind.F1 0 3) ∷ []
+  -- a pool above a cleared one is left as it is
+  pub above : answers 1000000 (two_pools (instr.PCreate 0 ∷ instr.PCreate 1 ∷ instr.PDestroy 1 ∷ instr.PClear 0 ∷ [])) (opening 5 []) ≡ Done ∷ went ∷ went ∷ went ∷ went ∷ step_ok ∷ []
+  -- no label of another pool is killed, and where there is none nothing happens
+  pub other_pool : answers 1000000 (one_pool (instr.PCreate 0 ∷ instr.Label pool.Conn 0 ∷ instr.Unlabel (pool.Own 0) 0 ∷ instr.Unlabel pool.Conn 1 ∷ [])) (opening 5 (event.Close ∷ []))
+      ≡ Done ∷ went ∷ went ∷ went ∷ went ∷ step_ok ∷ Labels ((97 ∷ []) ∷ []) ∷ []
+  -- the labels of a request's pools run where it ends
+  pub request_labels : answers 1000000 (request_pools (instr.Label pool.Req 0 ∷ [])) (event.Open ∷ event.Step ∷ event.Begin ∷ event.Step ∷ event.Step ∷ event.TellLabels ∷ event.End ∷ event.TellLabels ∷ event.Close ∷ [])
+      ≡ Done ∷ step_ok ∷ Done ∷ went ∷ step_ok ∷ Labels [] ∷ Done ∷ Labels ((97 ∷ []) ∷ []) ∷ Labels ((97 ∷ []) ∷ []) ∷ []
+  -- they and their brigades may be made again in the next request
+  pub next_request : answers 1000000 (request_pools (instr.PCreate 0 ∷ instr.PCreate 1 ∷ instr.BCreate 0 ∷ []))
+      (event.Open ∷ (event.Step ∷ event.Begin ∷ three_steps ++ event.Step ∷ event.End ∷ event.Begin ∷ three_steps ++ event.Step ∷ []))
+      ≡ Done ∷ step_ok ∷ Done ∷ went ∷ went ∷ went ∷ step_ok ∷ Done ∷ Done ∷ went ∷ went ∷ went ∷ step_ok ∷ []
+  -- until then they are dead, and not null
+  pub after_request : answers 1000000 (request_pools (instr.JNull (varref.Pool 0) 3 ∷ instr.PClear 0 ∷ instr.PCreate 0 ∷ []))
+      (event.Open ∷ (event.Step ∷ event.Begin ∷ three_steps ++ event.End ∷ event.Begin ∷ event.Step ∷ event.Step ∷ []))
+      ≡ Done ∷ step_ok ∷ Done ∷ went ∷ went ∷ step_ok ∷ Done ∷ Done ∷ went ∷ Step (stepped.Fault fault_kind.F1 0 2) ∷ []
+  pub while_busy : answers 1000000 identity (event.Open ∷ event.Close ∷ event.Step ∷ event.TakeOutput ∷ event.Close ∷ [])
+      ≡ Done ∷ Labels [] ∷ Refused refusal.NoSuchConn ∷ Refused refusal.NoSuchConn ∷ Refused refusal.NoSuchConn ∷ []
+  -- the root is left, alone
+  pub root_left : (closing_pools opened).path 1 ≡ 1 ∷ []
+  pub none_left : (closing_pools opened).path 2 ≡ []
+  pub no_memory_to_end : (happens false 1000000 identity event.End (world_after Before 1000000 identity beginning)).0 ≡ Refused refusal.NoMemory
+  pub no_memory_to_close : happens false 1000000 identity event.Close (There (opened no_files)) ≡ (Refused refusal.NoMemory, There opened)
+
 -- How instructions have faults, which are told whether or not there is memory.
 pub record FaultRuns : Type 0 where
   pub passed : answers 1000000 asks_after_pass (beginning ++ event.Bring [] ∷ three_steps ++ event.TakeOutput ∷ [])
@@ -314,6 +355,10 @@ holding b mark items =
 abbrev pub in_request : List Named → Run
 in_request items = record (holding 0 Usable items) { shared = record (holding 0 Usable items).shared { pools = created 2 (created 1 (planted 1)) } }
 
+-- a run whose pool variable 0 names a dead pool, and the others a live one
+abbrev pub dead_and_live : Run
+dead_and_live = record opened.run { inst = record opened.run.inst { pools = λ p. if p == 0 then poolvar.Named 9 else poolvar.Named 2 } }
+
 -- Faults of what may be held, and their order.
 pub record HeldFaults : Type 0 where
   pub dead : fault gathers (holding 0 Usable (a_bucket kind.File home.Ended ∷ [])) (instr.Pass 0 5) ≡ Some fault_kind.F5
@@ -335,6 +380,9 @@ pub record HeldFaults : Type 0 where
   pub pool_before_brigade : fault lacks_its_pool (holding 0 Usable []) (instr.BCreate 0) ≡ Some fault_kind.F1
   pub live_brigade : fault creates_each_time (holding 0 Usable []) (instr.BCreate 0) ≡ Some fault_kind.F10
   pub passed_brigade : fault creates_each_time (holding 0 Passed []) (instr.BCreate 0) ≡ Some fault_kind.F10
+  pub parent_before_new : fault cleans_up dead_and_live (instr.PCreate 1) ≡ Some fault_kind.F1
+  pub dead_made_again : fault cleans_up dead_and_live (instr.PCreate 0) ≡ None
+  pub live_pool : fault (two_pools []) (record dead_and_live { inst = record dead_and_live.inst { pools = λ p. poolvar.Named 2 } }) (instr.PCreate 1) ≡ Some fault_kind.F10
 
 -- What a return and the end of a request make of the buckets that are held.
 pub record HeldChanges : Type 0 where

@@ -28,10 +28,12 @@ use Rattle.run_model.specs.declared.bucket.Kind.TheVariants as kind
 use Rattle.run_model.specs.declared.bucket.Home.{Home}
 use Rattle.run_model.specs.declared.bucket.Home.TheVariants as home
 use Rattle.run_model.specs.declared.payload.Payload.{Payload}
-use Rattle.run_model.specs.Pools.{Pools, is_live, is_under, cleared, destroyed}
+use Rattle.run_model.specs.Pools.{Pools, is_live, is_under, created, cleared, destroyed}
 use Rattle.run_model.specs.RunOrder.{IsPoolMap, run_order}
-use Rattle.run_model.specs.Payloads.{labels_in}
+use Rattle.std.specs.List.{list_any}
+use Rattle.run_model.specs.Payloads.{is_label, labels_in}
 use Rattle.run_model.specs.Clearing.{is_reached}
+use Rattle.run_model.specs.Steps.{label_registered, label_killed}
 
 -- An instruction of a module may be executed: it has no fault, and the names that it gives out are there.
 pub record MayExecute (p : Program) (r : Run) (i : Instr) : Type 0 where
@@ -242,6 +244,27 @@ abbrev pub CleanedIsUsable : Type 0
 CleanedIsUsable = (p : Program) (choice : Choice) (b : ℕ) (r : Run) → fault p r (instr.BClean b) ≡ None
     → (fault_want (step p choice (instr.BClean b) r).run (WUsable b) ≡ None) × (items_of ((step p choice (instr.BClean b) r).run.inst.brigs b) ≡ [])
 
+-- Where a pool is made under a parent: its name was no pool's, it has nothing to hand on, and the others are as they were.
+pub record CreateKeeps {T : Type 0} (parent : ℕ) (ps new : Pools T) : Type 0 where
+  pub fresh : is_live ps ps.next ≡ false
+  pub child : new.path ps.next ≡ ps.next ∷ ps.path parent
+  pub bare : new.payloads ps.next ≡ []
+  pub path : (m : ℕ) → is_live ps m ≡ true → new.path m ≡ ps.path m
+  pub payloads : (m : ℕ) → is_live ps m ≡ true → new.payloads m ≡ ps.payloads m
+  pub names : new.next ≡ ps.next + 1
+
+abbrev pub CreatesKeepOthers : Type 0
+CreatesKeepOthers = (parent : ℕ) (ps : Pools Payload) → IsPoolMap ps → CreateKeeps parent ps (created parent ps)
+
+-- A label that is registered and then killed leaves all payloads as they were, also where the same label was there before.
+abbrev pub KillsTheNewest : Type 0
+KillsTheNewest = (n m : ℕ) (text : List ℕ) (r : Run) → (label_killed text n (label_registered text n r)).shared.pools.payloads m ≡ r.shared.pools.payloads m
+
+-- Where no payload is that label, nothing is killed.
+abbrev pub KillsNoOther : Type 0
+KillsNoOther = (n m : ℕ) (text : List ℕ) (r : Run) → list_any (is_label text) (r.shared.pools.payloads n) ≡ false
+    → (label_killed text n r).shared.pools.payloads m ≡ r.shared.pools.payloads m
+
 -- Where the pool n is cleared: what does not stand under it is as it was, it stays itself and has nothing to hand on, no
 -- other pool under it is left, and no name comes back.
 pub record ClearKeeps {T : Type 0} (n : ℕ) (ps new : Pools T) : Type 0 where
@@ -278,7 +301,7 @@ pub record SameContents (old new : List Named) : Type 0 where
 
 -- What goes with the pool n. gone, kept: a brigade goes exactly where it lies there, and else keeps its buckets. apart,
 -- loose: no bucket that is left depends on what went. others: a brigade that did not depend on it is as it was.
--- labels: they are run in the run order, behind those that were run before.
+-- call: a call keeps all but its loose buckets. labels: they are run in the run order, behind those that were run before.
 pub record TakesAlong (n : ℕ) (r new : Run) : Type 0 where
   pub gone : (b : ℕ) → lies_under r n (r.inst.brigs b) ≡ true → new.inst.brigs b ≡ var.Gone
   pub kept : (b : ℕ) → lies_under r n (r.inst.brigs b) ≡ false
@@ -286,6 +309,7 @@ pub record TakesAlong (n : ℕ) (r new : Run) : Type 0 where
   pub apart : (b : ℕ) → All (StandsApart r n) (items_of (new.inst.brigs b))
   pub others : (b : ℕ) → lies_under r n (r.inst.brigs b) ≡ false → All (StandsApart r n) (items_of (r.inst.brigs b)) → new.inst.brigs b ≡ r.inst.brigs b
   pub loose : All (StandsApart r n) new.call.loose × SameContents r.call.loose new.call.loose
+  pub call : new.call ≡ record r.call { loose = new.call.loose }
   pub labels : new.shared.labels ≡ r.shared.labels ++ labels_in (run_order r.shared.pools n)
 
 abbrev pub ClearsTakeAlong : Type 0

@@ -1,5 +1,5 @@
 -- What is true of each run: every name once, new names new, buckets as their kinds have them, brigades on live pools.
-use Rattle.std.specs.Prelude.{◌≡◌, ◌≢◌, ◌∷◌, ℕ, zero, suc, ◌+◌, ◌^◌, ◌<◌, ◌≤◌, Bool, true, false, ◌&&◌, ◌||◌, ◌==◌, List, [], Option, Some, None, All, count_by}
+use Rattle.std.specs.Prelude.{◌≡◌, ◌≢◌, ◌∷◌, ℕ, zero, suc, ◌+◌, ◌^◌, ◌<◌, ◌≤◌, Bool, true, false, ◌&&◌, ◌||◌, ◌==◌, List, Option, Some, None, All, count_by}
 use Rattle.run_model.specs.declared.bucket.Kind.{Kind}
 use Rattle.run_model.specs.declared.bucket.Kind.TheVariants as kind
 use Rattle.run_model.specs.declared.bucket.Content.{Content}
@@ -10,7 +10,8 @@ use Rattle.run_model.specs.declared.bucket.Named.{Named}
 use Rattle.run_model.specs.declared.bucket.Var.{Var}
 use Rattle.run_model.specs.declared.bucket.Var.TheVariants as var
 use Rattle.run_model.specs.declared.bucket.PoolVar.TheVariants as poolvar
-use Rattle.run_model.specs.Pools.{is_live, is_in}
+use Rattle.run_model.specs.Pools.{is_live}
+use Rattle.run_model.specs.RunOrder.{IsPoolMap}
 use Rattle.run_model.specs.Buckets.{is_ended}
 use Rattle.run_model.specs.State.{Run, items_of}
 
@@ -109,13 +110,12 @@ pub record SoundBuckets (r : Run) : Type 0 where
   pub brigades : (b : ℕ) → All (λ x. is_proper x ≡ true) (items_of (r.inst.brigs b))
   pub loose : All (λ x. is_proper x ≡ true) r.call.loose
 
--- Pools. fresh: a name that was not given out is no pool. older: what stands on a pool's path is not newer than the
--- pool. conn, req: the connection's pool is live, and an open request's is a child of it. own: a pool that the module
+-- Pools. formed: the pools are a tree, in which what stands above a pool is older, and names that were not given out are no
+-- pool's. conn, req: the connection's pool is live, and an open request's is a child of it. own: a pool that the module
 -- made is neither of the two, and newer than the connection's. brigades: a brigade lies on a live pool.
 pub record SoundPools (r : Run) : Type 0 where
   pub limit : r.shared.pools.next < 2 ^ 64
-  pub fresh : (n : ℕ) → r.shared.pools.next ≤ n → r.shared.pools.path n ≡ []
-  pub older : (n m : ℕ) → is_in m (r.shared.pools.path n) ≡ true → m ≤ n
+  pub formed : IsPoolMap r.shared.pools
   pub conn : is_live r.shared.pools r.shared.conn ≡ true
   pub req : (n : ℕ) → r.shared.req ≡ Some n → (r.shared.pools.path n ≡ n ∷ r.shared.pools.path r.shared.conn) × (r.shared.conn < n)
   pub own : (q n : ℕ) → r.inst.pools q ≡ poolvar.Named n → (r.shared.conn < n) × (n < r.shared.pools.next) × (r.shared.req ≢ Some n)

@@ -1,7 +1,9 @@
 //! Laws of the definitions. Each function does nothing: what its contract says holds of the definitions alone.
 
-ghost use Rattle.run_model.specs.Examples.{PassRuns, PoolRuns, KindRuns, FaultRuns, BreakRuns, RefusedRuns, NameRuns, HeldFaults, HeldChanges};
-ghost use Rattle.run_model.specs.Laws.{StepKeepsNames, StepKeepsBuckets, StepKeepsPools, StepAtEndKeeps, OpenedIsSound, EventKeepsSound, RunIsSound, RunGoesOn, StepsGoOn, StepsAreARun, EndedStepsAreARun, StepChangesOnly, RefusedChangesNothing, RefusedStepBreaks, FaultBreaks, BrokenStaysBroken, EventKeepsOrder, RunIsOrderly, BroughtEndsOnce, OutputOfCuts, FaultOfCuts, PassedIsNotUsed, CleanedIsUsable, ClearsKeepOthers, ClearsTakeAlong, AsideLasts, ReadsGiveTheFile, FilesCloseLast};
+ghost use Rattle.run_model.specs.Examples.{PassRuns, PoolRuns, PoolEnds, KindRuns, FaultRuns, BreakRuns, RefusedRuns, NameRuns, HeldFaults, HeldChanges};
+ghost use Rattle.run_model.specs.Laws.{CreatesKeepOthers, KillsTheNewest, KillsNoOther};
+ghost use Rattle.run_model.specs.Laws.{StepKeepsNames, StepKeepsBuckets, StepKeepsPools, StepAtEndKeeps, OpenedIsSound, EventKeepsSound, RunIsSound, RunGoesOn, StepsGoOn, StepsAreARun, EndedStepsAreARun, StepChangesOnly, RefusedChangesNothing, RefusedStepBreaks, FaultBreaks, BrokenStaysBroken, EventKeepsOrder, RunIsOrderly, BroughtEndsOnce, OutputOfCuts, FaultOfCuts, PassedIsNotUsed, CleanedIsUsable, ClearsKeepOthers, ClearsTakeAlong};
+ghost use Rattle.run_model.specs.Laws.{AsideLasts, ReadsGiveTheFile, FilesCloseLast};
 
 /// Small runs answer as they are worked out by hand, and so do faults and changes of small states.
 pub fn worked_runs()
@@ -14,6 +16,7 @@ pub fn worked_runs()
     ensures names { NameRuns }
     ensures held_faults { HeldFaults }
     ensures held_changes { HeldChanges }
+    ensures pool_ends { PoolEnds }
 {}
 
 /// A step without a fault keeps what is sound: each name is one bucket's, new names are new, buckets are as their
@@ -76,6 +79,14 @@ pub fn bodies_are_cut_anywhere()
 pub fn passed_brigades_are_only_cleaned()
     ensures passed { PassedIsNotUsed }
     ensures cleaned { CleanedIsUsable }
+{}
+
+/// A new pool is a child of its parent and changes no other; a kill takes out the label that was registered last, and
+/// no other.
+pub fn pools_are_made_and_filled()
+    ensures made { CreatesKeepOthers }
+    ensures killed { KillsTheNewest }
+    ensures kept { KillsNoOther }
 {}
 
 /// A clear of a pool leaves what does not stand under it as it was; what lies on it and under it goes, and its labels are
