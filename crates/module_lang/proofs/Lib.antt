@@ -7,7 +7,9 @@ pub mod LabelLaws
 pub mod LineLaws
 pub mod ListLaws
 pub mod ModuleLaws
+pub mod NumberLaws
 pub mod OperandLaws
+pub mod QuoteFound
 pub mod QuoteLaws
 pub mod QuotedLaws
 pub mod RunLaws

@@ -1,12 +1,12 @@
 -- A text that is spelled by the grammar is read as its bytes, and stands behind the first quote of its line.
-use Rattle.std.proofs.Common.{◌≡◌, ℕ, ◌+◌, ◌-◌, ◌*◌, ◌<◌, Bool, true, false, ◌&&◌, not, cond, eqb, ltb, leb, List, [], ◌∷◌, ◌++◌, length, map, drop, Option, Some, None, Ok, refl, sym, ◌∙◌, ap, arith, append_assoc, append-nil, length-append}
+use Rattle.std.proofs.Common.{◌≡◌, ℕ, ◌+◌, ◌-◌, ◌*◌, ◌<◌, Bool, true, false, ◌&&◌, not, cond, eqb, ltb, leb, List, [], ◌∷◌, ◌++◌, length, map, Option, Some, refl, sym, ◌∙◌, ap, arith, append_assoc, append-nil, length-append}
 use Rattle.std.specs.Prelude.{All}
 use Rattle.std.specs.List.{list_all}
 use Rattle.std.proofs.lemmas.Bool.{and_parts, ltb-true, ltb-false, le-leb, lt-leb, ne_eqb, not-true}
 use Rattle.module_lang.specs.Bytes.{is_printable, unindented}
 use Rattle.module_lang.specs.Entries.{from_quote}
 use Rattle.module_lang.specs.Quoted.{Quoted, hex_digit, hex_value, quoted, text_from}
-use Rattle.module_lang.specs.Texts.{Piece, plain, quote, backslash, line_feed, carriage_return, hex, Spells, is_piece, piece_byte, piece_text, pieces_text, place_text}
+use Rattle.module_lang.specs.Texts.{Piece, plain, quote, backslash, line_feed, carriage_return, hex, Spells, is_piece, piece_byte, pieces_text, place_text}
 use Rattle.module_lang.specs.declared.instr.PoolRef.{PoolRef}
 use Rattle.module_lang.specs.declared.instr.PoolRef.TheVariants as pool
 use Rattle.module_lang.specs.declared.quoted.Scan.TheVariants as scan

@@ -1,5 +1,5 @@
 -- What is known of a line that says something.
-use Rattle.std.proofs.Common.{◌||◌, ◌≡◌, Bool, true, false, cond, List, ℕ, ◌==◌, not, length, Ok, Err, Option, Some, None, refl, subst}
+use Rattle.std.proofs.Common.{◌||◌, ◌≡◌, Bool, true, false, cond, List, ℕ, ◌==◌, not, length, Ok, Err, Option, Some, None, subst}
 use Rattle.module_lang.specs.Bytes.{all_printable, begins, tail, unindented}
 use Rattle.module_lang.specs.Codes.{unless}
 use Rattle.module_lang.specs.Lines.{is_handler, label_read, item_read, unindented_read, line_read, or_no_label}

@@ -6,6 +6,7 @@ pub mod Entries
 pub mod Handlers
 pub mod Lines
 pub mod Names
+pub mod Numbers
 pub mod Operands
 pub mod Program
 pub mod Quoted

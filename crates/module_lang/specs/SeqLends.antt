@@ -1,5 +1,5 @@
 -- What a borrow of a list's items leaves.
-use Rattle.std.specs.Prelude.{ℕ, List, ◌++◌, take, drop, length}
+use Rattle.std.specs.Prelude.{List, ◌++◌, take, drop, length}
 use Rattle.std.specs.Borrow.{Lends, MutBor, Fml, Array, RattleType}
 use Rattle.module_lang.specs.contracts.seq.Seq.{the_row}
 

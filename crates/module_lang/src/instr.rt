@@ -29,12 +29,12 @@ pub enum VarRef {
     Brigade(u8),
 }
 
-/// An operand that is a number: a number variable, or a constant.
+/// A number that an instruction takes.
 #[derive(Clone, Copy)]
 pub enum Value {
-    /// The number variable `n0` to `n7`.
+    /// The number that is in this variable, `n0` to `n7` as 0 to 7.
     Number(u8),
-    /// A constant.
+    /// This number.
     Constant(u32),
 }
 
@@ -58,10 +58,26 @@ pub enum Instr {
     BClean(u8),
     /// `bconcat B B'`: the buckets of B' go to the tail of B (APR_BRIGADE_CONCAT).
     BConcat(u8, u8),
+    /// `bsave O B`: the buckets of B are set aside and go to the tail of O (ap_save_brigade).
+    BSave(u8, u8),
     /// `pass B L`: passes B to the next filter (ap_pass_brigade); to L where the answer is Fail.
     Pass(u8, u16),
     /// `jempty B L`: to L where B has no bucket (APR_BRIGADE_EMPTY).
     JEmpty(u8, u16),
+    /// `put x L`: appends the byte x to the buffer; to L where x is over 255 or the buffer is full.
+    Put(Value, u16),
+    /// `clearbuf`: empties the buffer.
+    ClearBuf,
+    /// `set n x`: n becomes x.
+    Set(u8, Value),
+    /// `add n x`: n becomes n + x, at most 4294967295.
+    Add(u8, Value),
+    /// `sub n x`: n becomes n - x, at least 0.
+    Sub(u8, Value),
+    /// `jlt n x L`: to L where n < x.
+    JLt(u8, Value, u16),
+    /// `jeq n x L`: to L where n = x.
+    JEq(u8, Value, u16),
     /// `jnull V L`: to L where the variable V is null.
     JNull(VarRef, u16),
     /// `jsent L`: to L where this instance passed an EOS in this request.

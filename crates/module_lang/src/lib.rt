@@ -10,10 +10,13 @@ mod instr;
 mod lines;
 mod module;
 mod name;
+mod number;
 mod operand;
 mod quoted;
 mod refusal;
 mod seq;
+#[cfg(test)]
+mod tests;
 mod word;
 
 pub use assembler::assemble;

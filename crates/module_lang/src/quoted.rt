@@ -1,6 +1,7 @@
 //! Texts in quotes.
 
-ghost use Rattle.std.specs.Prelude.{◌≡◌, ℕ, ◌+◌, ◌<◌, ◌≤◌, ◌++◌, ◌∷◌, [], length, take, option_map, option_to_list, IfSome, IfOk, OnOk, OnErr, Some};
+ghost use Rattle.std.specs.Prelude.{◌≡◌, ℕ, ◌+◌, ◌<◌, ◌≤◌, ◌++◌, ◌∷◌, [], List, length, take, option_map, option_to_list, IfSome, IfOk, OnOk, OnErr, Some};
+ghost use Rattle.module_lang.specs.Texts.{Spells, StandsIn};
 ghost use Rattle.module_lang.specs.Quoted.{hex_value, hex_digit, plain, escaped, scanned, IsBelow16, is_done, measured_from, text_from, quoted, measure_of, text_of, spelled, spelled_all, spelling};
 
 use crate::bytes::is_printable;
@@ -189,15 +190,25 @@ fn unquote_rest(alloc: Global, rest: &[u8]) -> Result<Option<Seq<u8>>, AllocErro
     Ok(None)
 }
 
-/// The text whose spelling these bytes begin with, as `measure` has its length.
 #[tactic(auto, unfolding(crate::specs::Quoted::quoted))]
-pub fn unquote(alloc: Global, bytes: &[u8]) -> Result<Option<Seq<u8>>, AllocError>
+fn read_quoted(alloc: Global, bytes: &[u8]) -> Result<Option<Seq<u8>>, AllocError>
     ensures { IfOk result (λ t. t ≡ text_of (quoted bytes.now)) }
 {
     if bytes.is_empty() || bytes[0] != b'"' {
         return Ok(None);
     }
     unquote_rest(alloc, &bytes[1..])
+}
+
+/// The text whose spelling these bytes begin with, as `measure` has its length.
+pub fn unquote(alloc: Global, bytes: &[u8]) -> Result<Option<Seq<u8>>, AllocError>
+    ensures value { IfOk result (λ t. t ≡ text_of (quoted bytes.now)) }
+
+    // The texts that are taken are those that the grammar spells.
+    ensures only { (s text rest : List ℕ) → Spells s text → bytes.now ≡ s ++ rest → IfOk result (λ t. t ≡ Some text) }
+    ensures found { IfOk result (λ t. IfSome t (λ text. StandsIn text bytes.now)) }
+{
+    read_quoted(alloc, bytes)
 }
 
 /// How a byte is written in a text: at most four bytes.

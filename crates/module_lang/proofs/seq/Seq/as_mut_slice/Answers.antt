@@ -1,5 +1,5 @@
 -- The length that the list keeps is that of its items.
-use Rattle.std.proofs.Common.{◌≡◌, ◌++◌, length, take, drop, refl, ap, rules}
+use Rattle.std.proofs.Common.{length, refl, ap, rules}
 use Rattle.module_lang.proofs.seq.Seq.as_mut_slice.Goals as goal
 
 pub returns : goal.returns
