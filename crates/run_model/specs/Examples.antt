@@ -143,8 +143,15 @@ opening n es = event.Open ∷ (replicate n event.Step ++ es)
 -- `brigade b0 conn`; open: `bcreate b0`, `ret ok`; init: `ret ok`; main: `jempty in send`, this, `ret ok`, `:send` `pass b0 bad`,
 -- `bclean b0`, `ret ok`, `:bad` `bclean b0`, `ret fail`
 abbrev pub gathers_by : Instr → Program
-gathers_by i = record { pools = []; brigades = pool.Conn ∷ []; texts = []; code = instr.BCreate 0 ∷ instr.Ret Success ∷ instr.Ret Success
-    ∷ instr.JEmpty 8 6 ∷ i ∷ instr.Ret Success ∷ instr.Pass 0 9 ∷ instr.BClean 0 ∷ instr.Ret Success ∷ instr.BClean 0 ∷ instr.Ret Fail ∷ []; init = 2; main = 3 }
+gathers_by i = record {
+  pools = [];
+  brigades = pool.Conn ∷ [];
+  texts = [];
+  code = instr.BCreate 0 ∷ instr.Ret Success ∷ instr.Ret Success
+      ∷ instr.JEmpty 8 6 ∷ i ∷ instr.Ret Success ∷ instr.Pass 0 9 ∷ instr.BClean 0 ∷ instr.Ret Success ∷ instr.BClean 0 ∷ instr.Ret Fail ∷ [];
+  init = 2;
+  main = 3;
+}
 
 -- with `bsave b0 in`, and with `bconcat b0 in`
 abbrev pub saver : Program
@@ -159,10 +166,10 @@ saving = event.Open ∷ event.Step ∷ event.Step ∷ event.Begin ∷ event.Step
 abbrev pub saving_well : List Answer
 saving_well = Done ∷ went ∷ step_ok ∷ Done ∷ step_ok ∷ []
 
--- open: `set n0 300`, `put n0 a`, `:loop` `jump loop`, `:a` `sub n0 301`, `jeq n0 0 b`, `:loop2` `jump loop2`, `:b` `add n0 4294967295`,
+-- open: `set n0 256`, `put n0 a`, `:loop` `jump loop`, `:a` `sub n0 257`, `jeq n0 0 b`, `:loop2` `jump loop2`, `:b` `add n0 4294967295`,
 -- `add n0 1`, `:loop3` `jlt n0 4294967295 loop3`, `ret ok`
 abbrev pub counts : Program
-counts = with_open [] [] [] (instr.Set 0 (value.Constant 300) ∷ instr.Put (value.Number 0) 3 ∷ instr.Jump 2 ∷ instr.Sub 0 (value.Constant 301) ∷ instr.JEq 0 (value.Constant 0) 6 ∷ instr.Jump 5
+counts = with_open [] [] [] (instr.Set 0 (value.Constant 256) ∷ instr.Put (value.Number 0) 3 ∷ instr.Jump 2 ∷ instr.Sub 0 (value.Constant 257) ∷ instr.JEq 0 (value.Constant 0) 6 ∷ instr.Jump 5
     ∷ instr.Add 0 (value.Constant 4294967295) ∷ instr.Add 0 (value.Constant 1) ∷ instr.JLt 0 (value.Constant 4294967295) 8 ∷ instr.Ret Success ∷ [])
 
 -- a world in which so many reads go on well, and then one fails
@@ -281,10 +288,10 @@ pub record PoolEnds : Type 0 where
   pub while_busy : answers 1000000 identity (event.Open ∷ event.Close ∷ event.Step ∷ event.TakeOutput ∷ event.Close ∷ [])
       ≡ Done ∷ Labels [] ∷ Refused refusal.NoSuchConn ∷ Refused refusal.NoSuchConn ∷ Refused refusal.NoSuchConn ∷ []
   -- the root is left, alone
-  pub root_left : (closing_pools opened).path 1 ≡ 1 ∷ []
-  pub none_left : (closing_pools opened).path 2 ≡ []
-  pub no_memory_to_end : (happens false 1000000 identity event.End (world_after Before 1000000 identity beginning)).0 ≡ Refused refusal.NoMemory
-  pub no_memory_to_close : happens false 1000000 identity event.Close (There (opened no_files)) ≡ (Refused refusal.NoMemory, There opened)
+  pub root_left : (closing_pools (opened no_files)).path 1 ≡ 1 ∷ []
+  pub none_left : (closing_pools (opened no_files)).path 2 ≡ []
+  pub no_memory_to_end : (happens false 1000000 identity event.End (world_after (Before no_files) 1000000 identity beginning)).0 ≡ Refused refusal.NoMemory
+  pub no_memory_to_close : happens false 1000000 identity event.Close (There (opened no_files)) ≡ (Refused refusal.NoMemory, There (opened no_files))
 
 -- How instructions have faults, which are told whether or not there is memory.
 pub record FaultRuns : Type 0 where
@@ -357,7 +364,7 @@ in_request items = record (holding 0 Usable items) { shared = record (holding 0 
 
 -- a run whose pool variable 0 names a dead pool, and the others a live one
 abbrev pub dead_and_live : Run
-dead_and_live = record opened.run { inst = record opened.run.inst { pools = λ p. if p == 0 then poolvar.Named 9 else poolvar.Named 2 } }
+dead_and_live = record (opened no_files).run { inst = record (opened no_files).run.inst { pools = λ p. if p == 0 then poolvar.Named 9 else poolvar.Named 2 } }
 
 -- Faults of what may be held, and their order.
 pub record HeldFaults : Type 0 where

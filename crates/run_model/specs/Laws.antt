@@ -1,8 +1,11 @@
 -- The laws of the definitions, as statements.
-use Rattle.std.specs.Prelude.{◌≡◌, ◌≢◌, ℕ, ◌+◌, ◌<◌, ◌≤◌, Bool, true, false, ◌==◌, ◌||◌, ◌⊎◌, List, [], ◌∷◌, ◌++◌, map, length, replicate, Some, None, Result, Ok, Err, All}
+use Rattle.std.specs.Prelude.{◌≡◌, ◌≢◌, ℕ, ◌+◌, ◌<◌, ◌≤◌, Bool, true, false, ◌==◌, ◌||◌, ◌⊎◌, List, [], ◌∷◌, ◌++◌, map, length, take, drop, replicate, Option, Some, None, Result, Ok, Err, All}
 use Rattle.module_lang.specs.declared.instr.Instr.{Instr}
 use Rattle.module_lang.specs.declared.instr.Instr.TheVariants as instr
 use Rattle.module_lang.specs.Program.{Program, IsModule, fits}
+use Rattle.run_model.specs.declared.bucket.Bucket.{Bucket}
+use Rattle.run_model.specs.declared.bucket.Content.{Content}
+use Rattle.run_model.specs.declared.bucket.Content.TheVariants as content
 use Rattle.run_model.specs.declared.bucket.Named.{Named}
 use Rattle.run_model.specs.declared.bucket.Var.{Var}
 use Rattle.run_model.specs.declared.bucket.Var.TheVariants as var
@@ -17,13 +20,14 @@ use Rattle.run_model.specs.declared.event.Event.TheVariants as event
 use Rattle.run_model.specs.declared.event.Stepped.{Stepped}
 use Rattle.run_model.specs.declared.event.Stepped.TheVariants as stepped
 use Rattle.run_model.specs.Buckets.{has_eos, data_after_eos, is_dead}
-use Rattle.run_model.specs.Files.{Files, all_taken, range_taken, parts_of, let_go, is_referred}
+use Rattle.run_model.specs.Files.{Files, all_taken, range_taken, parts_of, is_referred}
+use Rattle.run_model.specs.Cutting.{wanted, read_of}
 use Rattle.run_model.specs.State.{Run, Out, fresh_call, items_of}
 use Rattle.run_model.specs.Faults.{WUsable, fault_want, fault, send_fault, or_else}
 use Rattle.run_model.specs.Steps.{Choice, step, step_at_end, aside_named, delivered, lacks_names, names_of, pool_cleared, pool_destroyed}
 use Rattle.run_model.specs.Connection.{Connection, opened, bucket_of, named_from, data_behind_eos, breaks, steps}
 use Rattle.run_model.specs.Runs.{Answer, Refused, Step, World, Before, There, Closed, happens, IsDue, step_of, IsRun, GoesOn, EndsRun}
-use Rattle.run_model.specs.Sound.{SoundNames, SoundBuckets, SoundPools, Sound, brigade_pool, is_proper}
+use Rattle.run_model.specs.Sound.{SoundNames, SoundBuckets, SoundPools, Sound, brigade_pool, is_range, is_proper}
 use Rattle.run_model.specs.declared.bucket.Kind.TheVariants as kind
 use Rattle.run_model.specs.declared.bucket.Home.{Home}
 use Rattle.run_model.specs.declared.bucket.Home.TheVariants as home
@@ -31,7 +35,7 @@ use Rattle.run_model.specs.declared.payload.Payload.{Payload}
 use Rattle.run_model.specs.Pools.{Pools, is_live, is_under, created, cleared, destroyed}
 use Rattle.run_model.specs.RunOrder.{IsPoolMap, run_order}
 use Rattle.std.specs.List.{list_any}
-use Rattle.run_model.specs.Payloads.{is_label, labels_in}
+use Rattle.run_model.specs.Payloads.{is_label, is_file_ref, labels_in}
 use Rattle.run_model.specs.Clearing.{is_reached}
 use Rattle.run_model.specs.Steps.{label_registered, label_killed}
 
@@ -145,6 +149,7 @@ pub record ChangesOnly (i : Instr) (r new : Run) : Type 0 where
   pub numbers : (k : ℕ) → may_change_number i k ≡ false → new.inst.numbers k ≡ r.inst.numbers k
   pub sent : is_pass i ≡ false → new.inst.sent ≡ r.inst.sent
   pub call : is_return i ≡ false → is_clear i ≡ false → fills i ≡ false → new.call ≡ r.call
+  pub filled : fills i ≡ true → new.call ≡ record r.call { buffer = new.call.buffer }
   pub tree : changes_pools i ≡ false → new.shared.pools ≡ r.shared.pools
   pub conn : new.shared.conn ≡ r.shared.conn
   pub req : new.shared.req ≡ r.shared.req
@@ -322,18 +327,54 @@ MatchHome (home.Call n) C P = C n
 MatchHome (home.Pool n) C P = P n
 MatchHome home.Ended C P = Unit {0}
 
--- A bucket that was set aside into the pool `target` does not depend on a call, nor on a pool that is neither the target
--- nor above it.
-abbrev pub AsideLasts : Type 0
-AsideLasts = (ps : Pools Payload) (target : ℕ) (x : Named) → is_proper x ≡ true → is_dead x ≡ false
-    → MatchHome (aside_named ps target x).bucket.home (λ call. ⊥) (λ p. (p ≡ target) ⊎ (is_under ps p target ≡ true))
+-- What setting aside into the pool `target` makes of a bucket. lasts: it depends on no call, and on no pool but the target
+-- and those above it. alive: what it depends on is there. name, content: it is the same bucket with the same bytes.
+pub record KeptAside (ps : Pools Payload) (target : ℕ) (old new : Named) : Type 0 where
+  pub lasts : MatchHome new.bucket.home (λ call. ⊥) (λ p. (p ≡ target) ⊎ (is_under ps p target ≡ true))
+  pub alive : is_dead new ≡ false
+  pub name : new.name ≡ old.name
+  pub content : new.bucket.content ≡ old.bucket.content
 
--- A read that does not fail gives the bytes of the file.
+abbrev pub AsideLasts : Type 0
+AsideLasts = (ps : Pools Payload) (target : ℕ) (x : Named) → is_proper x ≡ true → is_dead x ≡ false → KeptAside ps target x (aside_named ps target x)
+
+-- Where no read fails, all bytes of a range are taken from the file.
 abbrev pub ReadsGiveTheFile : Type 0
 ReadsGiveTheFile = (file start len : ℕ) (bytes : List ℕ) (fs : Files) → fs.fails_in ≡ None → fs.opened file ≡ Some bytes → start + len ≤ length bytes
     → range_taken (parts_of len) file start len fs ≡ all_taken (take len (drop start bytes)) fs
 
--- Where a file is open after a clear, it was open before, and it closes only where no pool refers to it any more.
+-- the bytes that a content stands for, where its file has these
+abbrev pub bytes_in : List ℕ → Content → List ℕ
+bytes_in file (content.Bytes bs) = bs
+bytes_in file (content.Range n start len) = take len (drop start file)
+bytes_in file content.Nothing = []
+
+abbrev pub bytes_of_rest : List ℕ → Option Bucket → List ℕ
+bytes_of_rest file None = []
+bytes_of_rest file (Some b) = bytes_in file b.content
+
+-- the bytes that a read takes from the file of a bucket
+abbrev pub bytes_read : List ℕ → Bucket → List ℕ
+bytes_read file b = take (wanted b.content) (bytes_in file b.content)
+
+-- A read leaves the bucket in memory, and drops no byte: its bytes and those of the rest are what it stood for.
+abbrev pub ReadsDropNothing : Type 0
+ReadsDropNothing = (file : List ℕ) (b : Bucket)
+    → (is_range (read_of (bytes_read file b) b).0.content ≡ false)
+    × (bytes_in file (read_of (bytes_read file b) b).0.content ++ bytes_of_rest file (read_of (bytes_read file b) b).1 ≡ bytes_in file b.content)
+
+-- whether a clear of the pool n hands on a reference to the file
+abbrev pub hands_on : Run → ℕ → ℕ → Bool
+hands_on r n file = list_any (λ x. is_file_ref file x.1) (run_order r.shared.pools n)
+
+-- What becomes of the open files where the pool n goes. closes: a file closes where a reference to it goes and none is left.
+-- stays: it stays open where one is left, and where none went. others: no file comes, by name or by number.
+pub record FilesGo (n : ℕ) (r new : Run) : Type 0 where
+  pub closes : (file : ℕ) → hands_on r n file ≡ true → is_referred new.shared.pools file ≡ false → new.shared.files.opened file ≡ None
+  pub stays : (file : ℕ) → is_referred new.shared.pools file ≡ true → new.shared.files.opened file ≡ r.shared.files.opened file
+  pub apart : (file : ℕ) → hands_on r n file ≡ false → new.shared.files.opened file ≡ r.shared.files.opened file
+  pub named : new.shared.files.named ≡ r.shared.files.named
+  pub numbers : new.shared.files.next ≡ r.shared.files.next
+
 abbrev pub FilesCloseLast : Type 0
-FilesCloseLast = (handed : List (ℕ × Payload)) (left : Pools Payload) (fs : Files) (file : ℕ)
-    → ((let_go handed left fs).opened file ≡ fs.opened file) ⊎ (((let_go handed left fs).opened file ≡ None) × (is_referred left file ≡ false))
+FilesCloseLast = (n : ℕ) (r : Run) → FilesGo n r (pool_cleared n r) × FilesGo n r (pool_destroyed n r)

@@ -3,7 +3,7 @@
 ghost use Rattle.run_model.specs.Examples.{PassRuns, PoolRuns, PoolEnds, KindRuns, FaultRuns, BreakRuns, RefusedRuns, NameRuns, HeldFaults, HeldChanges};
 ghost use Rattle.run_model.specs.Laws.{CreatesKeepOthers, KillsTheNewest, KillsNoOther};
 ghost use Rattle.run_model.specs.Laws.{StepKeepsNames, StepKeepsBuckets, StepKeepsPools, StepAtEndKeeps, OpenedIsSound, EventKeepsSound, RunIsSound, RunGoesOn, StepsGoOn, StepsAreARun, EndedStepsAreARun, StepChangesOnly, RefusedChangesNothing, RefusedStepBreaks, FaultBreaks, BrokenStaysBroken, EventKeepsOrder, RunIsOrderly, BroughtEndsOnce, OutputOfCuts, FaultOfCuts, PassedIsNotUsed, CleanedIsUsable, ClearsKeepOthers, ClearsTakeAlong};
-ghost use Rattle.run_model.specs.Laws.{AsideLasts, ReadsGiveTheFile, FilesCloseLast};
+ghost use Rattle.run_model.specs.Laws.{AsideLasts, ReadsGiveTheFile, ReadsDropNothing, FilesCloseLast};
 
 /// Small runs answer as they are worked out by hand, and so do faults and changes of small states.
 pub fn worked_runs()
@@ -96,10 +96,11 @@ pub fn clears_take_what_lies_under()
     ensures brigades { ClearsTakeAlong }
 {}
 
-/// A bucket that was set aside lasts as long as the pool that it was set aside into; reads give what the file holds; a file
-/// closes only where no pool refers to it.
+/// A bucket that was set aside lasts as long as the pool that it was set aside into; reads give what the file holds and
+/// drop nothing; a file closes where the last reference to it goes, and not before.
 pub fn kept_buckets_last()
     ensures aside { AsideLasts }
     ensures reads { ReadsGiveTheFile }
+    ensures rest { ReadsDropNothing }
     ensures files { FilesCloseLast }
 {}
