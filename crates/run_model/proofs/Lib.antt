@@ -23,3 +23,5 @@ pub mod Filled
 pub mod Marks
 pub mod Clears
 pub mod Kept
+pub mod References
+pub mod StepFiles
