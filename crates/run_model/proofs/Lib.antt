@@ -25,3 +25,4 @@ pub mod Clears
 pub mod Kept
 pub mod References
 pub mod StepFiles
+pub mod FilesRuns

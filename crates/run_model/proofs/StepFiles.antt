@@ -30,6 +30,7 @@ use Rattle.run_model.specs.Clearing.{is_reached, cleared_var, run_down}
 use Rattle.run_model.specs.State.{Run, items_of, set_pool, with_pools, set_brig, set_number, pool_named}
 use Rattle.run_model.specs.Faults.{usable_fault, homes_fault}
 use Rattle.run_model.specs.Steps.{do_create, do_clean, do_concat, do_pass, do_return, do_put, do_clearbuf, cleaned, with_items, handed_over, returned_var, pool_cleared, pool_destroyed, files_let_go, label_registered, label_killed, text_of, value_of, is_above, aside_named, file_of, new_ref, all_referred, saved_into, made_on}
+use Rattle.run_model.specs.Connection.{has_range}
 use Rattle.run_model.specs.Sound.{home_fits, content_fits, is_proper, SoundPools, SoundBuckets}
 use Rattle.run_model.specs.Laws.{refers, IsHeld, SoundFiles, StepKeepsFiles}
 use Rattle.run_model.proofs.Updates.{upd_either}
@@ -136,11 +137,12 @@ refilled_files files r new grow back brigs call same req s =
     (λ b. weaker r.shared.pools new.shared.pools grow _ (subst (λ (g : ℕ → Var). HeldList r.shared.pools (items_of (g b))) (sym brigs) (s.brigades b)))
     (weaker r.shared.pools new.shared.pools grow _ (subst (λ c. HeldList r.shared.pools c) (sym (ap (λ c. c.loose) call)) s.loose)) req s
 
--- The pool n goes or is emptied, but the request's pool stays.
-pub went_files : (files : List (ℕ × ℕ)) (n : ℕ) (r : Run) (ps : Pools Payload) → Emptied n r.shared.pools ps → SoundPools r
-    → ((m : ℕ) → r.shared.req ≡ Some m → is_under r.shared.pools n m ≡ false) → SoundFiles files r → SoundFiles files (files_let_go n r (with_pools ps (run_down n r)))
+-- The pool n goes or is emptied; what is said of the request's pool is told.
+pub went_and : (files : List (ℕ × ℕ)) (n : ℕ) (r : Run) (ps : Pools Payload) → Emptied n r.shared.pools ps → SoundPools r
+    → ((file end q : ℕ) → has_range files file end ≡ true → r.shared.req ≡ Some q → refers ps q file ≡ true)
+    → (old : List (ℕ × ℕ)) → SoundFiles old r → SoundFiles files (files_let_go n r (with_pools ps (run_down n r)))
 unfolding with_pools run_down
-went_files files n r ps e pools req s = record {
+went_and files n r ps e pools request old s = record {
   lasts = λ p file h.
       let old = emptied_back n r.shared.pools ps e p file h in
       let lt = refers_given r.shared.pools p file pools.formed old.1 in
@@ -148,8 +150,13 @@ went_files files n r ps e pools req s = record {
       ap is_some ((files_go n r ps).stays file there) ∙ s.lasts p file old.1;
   brigades = λ b. spared_var n r.shared.pools ps e (r.inst.brigs b) (s.brigades b);
   loose = spared_list n r.shared.pools ps e r.call.loose s.loose;
-  request = λ file end q has is. emptied_refers n r.shared.pools ps e q file (req q is) (s.request file end q has is);
+  request = request;
 }
+
+-- the same where the request's pool stays
+went_files : (files : List (ℕ × ℕ)) (n : ℕ) (r : Run) (ps : Pools Payload) → Emptied n r.shared.pools ps → SoundPools r
+    → ((m : ℕ) → r.shared.req ≡ Some m → is_under r.shared.pools n m ≡ false) → SoundFiles files r → SoundFiles files (files_let_go n r (with_pools ps (run_down n r)))
+went_files files n r ps e pools req s = went_and files n r ps e pools (λ file end q has is. emptied_refers n r.shared.pools ps e q file (req q is) (s.request file end q has is)) files s
 
 pub cleared_emptied : (n : ℕ) (ps : Pools Payload) → Emptied n ps (cleared n ps)
 cleared_emptied n ps = record { kept = λ m off. (cleared_apart n ps m off).1; gone = λ m under. cleared_payloads n ps m under; next = cleared_next n ps }
@@ -304,7 +311,7 @@ concat_files files a b r s =
     s.loose s
 
 -- one variable is written
-written_files : (files : List (ℕ × ℕ)) (r new : Run) (i : ℕ) (w : Var) → new.inst.brigs ≡ upd r.inst.brigs i w → HeldList r.shared.pools (items_of w)
+pub written_files : (files : List (ℕ × ℕ)) (r new : Run) (i : ℕ) (w : Var) → new.inst.brigs ≡ upd r.inst.brigs i w → HeldList r.shared.pools (items_of w)
     → new.shared.pools ≡ r.shared.pools → new.shared.files.opened ≡ r.shared.files.opened → new.shared.req ≡ r.shared.req → HeldList r.shared.pools new.call.loose → SoundFiles files r → SoundFiles files new
 written_files files r new i w brigs held pools opened req loose s =
     same_files files r new pools opened req

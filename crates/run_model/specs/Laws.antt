@@ -398,3 +398,15 @@ pub record SoundFiles (files : List (ℕ × ℕ)) (r : Run) : Type 0 where
 -- A step without a fault keeps all that.
 abbrev pub StepKeepsFiles : Type 0
 StepKeepsFiles = (p : Program) (choice : Choice) (i : Instr) (files : List (ℕ × ℕ)) (r : Run) → MayExecute p r i → Sound r → SoundFiles files r → SoundFiles files (step p choice i r).run
+
+abbrev pub FilesWorld : World → Type 0
+FilesWorld (Before fs) = Unit {0}
+FilesWorld (There c) = SoundFiles c.files c.run
+FilesWorld (Closed pools fs) = Unit {0}
+
+-- Each event keeps it, and so it is true of each world that a run reaches.
+abbrev pub EventKeepsFiles : Type 0
+EventKeepsFiles = (memory : Bool) (budget : ℕ) (p : Program) (e : Event) (w : World) → IsModule p → SoundWorld w → FilesWorld w → FilesWorld (happens memory budget p e w).1
+
+abbrev pub RunKeepsFiles : Type 0
+RunKeepsFiles = (budget : ℕ) (p : Program) (fs : Files) (es : List Event) (answers : List Answer) (w : World) → IsModule p → IsRun budget p (Before fs) es answers w → FilesWorld w
