@@ -22,3 +22,7 @@ pub mod Cuts
 pub mod Filled
 pub mod Marks
 pub mod Clears
+pub mod Kept
+pub mod References
+pub mod StepFiles
+pub mod FilesRuns

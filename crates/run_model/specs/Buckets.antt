@@ -3,8 +3,6 @@ use Rattle.std.specs.Prelude.{ℕ, Bool, true, false, ◌&&◌, ◌||◌, ◌==�
 use Rattle.std.specs.List.{list_any}
 use Rattle.run_model.specs.declared.bucket.Kind.{Kind}
 use Rattle.run_model.specs.declared.bucket.Kind.TheVariants as kind
-use Rattle.run_model.specs.declared.bucket.Content.{Content}
-use Rattle.run_model.specs.declared.bucket.Content.TheVariants as content
 use Rattle.run_model.specs.declared.bucket.Home.{Home}
 use Rattle.run_model.specs.declared.bucket.Home.TheVariants as home
 use Rattle.run_model.specs.declared.bucket.Named.{Named}
@@ -33,12 +31,6 @@ is_data b = is_data_kind b.bucket.kind
 
 abbrev pub is_eos : Named → Bool
 is_eos b = is_eos_kind b.bucket.kind
-
--- the bytes that lie in memory
-abbrev pub bytes_of : Content → List ℕ
-bytes_of (content.Bytes bs) = bs
-bytes_of (content.Range file start len) = []
-bytes_of content.Nothing = []
 
 abbrev pub has_data : List Named → Bool
 has_data = list_any is_data
