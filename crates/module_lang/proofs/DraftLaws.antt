@@ -161,6 +161,7 @@ next_pool n (operand.Brigade b) k h = absurd (cc k)
 next_pool n (operand.Ending e) k h = absurd (cc k)
 next_pool n (operand.Label l) k h = absurd (cc k)
 next_pool n (operand.Text t) k h = absurd (cc k)
+next_pool n (operand.Value v) k h = absurd (cc k)
 
 next_brigade : (n : ℕ) (x : Operand) → of_kind kind.Brigade x ≡ true → is_next n x ≡ true → n < 8
 next_brigade n operand.Nothing k h = absurd (cc k)
@@ -170,6 +171,7 @@ next_brigade n (operand.Brigade i) k h = let same = eqb-true i n h in let low = 
 next_brigade n (operand.Ending e) k h = absurd (cc k)
 next_brigade n (operand.Label l) k h = absurd (cc k)
 next_brigade n (operand.Text t) k h = absurd (cc k)
+next_brigade n (operand.Value v) k h = absurd (cc k)
 
 -- the second operand of a declaration is a declared pool
 home_declared : (n : ℕ) (x : Operand) → is_declared n 0 x ≡ true → place_is_declared n (operand_place x) ≡ true
@@ -180,6 +182,7 @@ home_declared n (operand.Brigade b) h = refl
 home_declared n (operand.Ending e) h = refl
 home_declared n (operand.Label l) h = refl
 home_declared n (operand.Text t) h = refl
+home_declared n (operand.Value v) h = refl
 
 pub record IsDeclaration (count pools : ℕ) (o : Operands) : Type 0 where
   pub next : is_next count o.first ≡ true
@@ -372,8 +375,16 @@ has_text_of (instr.Unlabel q t) n k = refl
 has_text_of (instr.BCreate o) n k = refl
 has_text_of (instr.BClean b) n k = refl
 has_text_of (instr.BConcat a b) n k = refl
+has_text_of (instr.BSave o b) n k = refl
 has_text_of (instr.Pass b l) n k = refl
 has_text_of (instr.JEmpty b l) n k = refl
+has_text_of (instr.Put x l) n k = refl
+has_text_of instr.ClearBuf n k = refl
+has_text_of (instr.Set m x) n k = refl
+has_text_of (instr.Add m x) n k = refl
+has_text_of (instr.Sub m x) n k = refl
+has_text_of (instr.JLt m x l) n k = refl
+has_text_of (instr.JEq m x l) n k = refl
 has_text_of (instr.JNull v l) n k = rw (variable_bare v) refl
 has_text_of (instr.JSent l) n k = refl
 has_text_of (instr.Jump l) n k = refl
@@ -390,8 +401,16 @@ text_has op.Unlabel d s o h = inr (ap has_text (shape op.Unlabel o 0 0 (kinds_re
 text_has op.BCreate d s o h = inl (ap has_text (shape op.BCreate o 0 0 (kinds_read (op_kinds op.BCreate) h.rest o h.read)).same)
 text_has op.BClean d s o h = inl (ap has_text (shape op.BClean o 0 0 (kinds_read (op_kinds op.BClean) h.rest o h.read)).same)
 text_has op.BConcat d s o h = inl (ap has_text (shape op.BConcat o 0 0 (kinds_read (op_kinds op.BConcat) h.rest o h.read)).same)
+text_has op.BSave d s o h = inl (ap has_text (shape op.BSave o 0 0 (kinds_read (op_kinds op.BSave) h.rest o h.read)).same)
 text_has op.Pass d s o h = inl (ap has_text (shape op.Pass o 0 0 (kinds_read (op_kinds op.Pass) h.rest o h.read)).same)
 text_has op.JEmpty d s o h = inl (ap has_text (shape op.JEmpty o 0 0 (kinds_read (op_kinds op.JEmpty) h.rest o h.read)).same)
+text_has op.Put d s o h = inl (ap has_text (shape op.Put o 0 0 (kinds_read (op_kinds op.Put) h.rest o h.read)).same)
+text_has op.ClearBuf d s o h = inl (ap has_text (shape op.ClearBuf o 0 0 (kinds_read (op_kinds op.ClearBuf) h.rest o h.read)).same)
+text_has op.Set d s o h = inl (ap has_text (shape op.Set o 0 0 (kinds_read (op_kinds op.Set) h.rest o h.read)).same)
+text_has op.Add d s o h = inl (ap has_text (shape op.Add o 0 0 (kinds_read (op_kinds op.Add) h.rest o h.read)).same)
+text_has op.Sub d s o h = inl (ap has_text (shape op.Sub o 0 0 (kinds_read (op_kinds op.Sub) h.rest o h.read)).same)
+text_has op.JLt d s o h = inl (ap has_text (shape op.JLt o 0 0 (kinds_read (op_kinds op.JLt) h.rest o h.read)).same)
+text_has op.JEq d s o h = inl (ap has_text (shape op.JEq o 0 0 (kinds_read (op_kinds op.JEq) h.rest o h.read)).same)
 text_has op.JNull d s o h = inl (ap has_text (shape op.JNull o 0 0 (kinds_read (op_kinds op.JNull) h.rest o h.read)).same ∙ rw (variable_bare (operand_variable o.first)) refl)
 text_has op.JSent d s o h = inl (ap has_text (shape op.JSent o 0 0 (kinds_read (op_kinds op.JSent) h.rest o h.read)).same)
 text_has op.Jump d s o h = inl (ap has_text (shape op.Jump o 0 0 (kinds_read (op_kinds op.Jump) h.rest o h.read)).same)

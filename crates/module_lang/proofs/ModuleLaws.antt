@@ -7,8 +7,9 @@ use Rattle.std.proofs.lemmas.List.{length-map}
 use Rattle.std.proofs.lemmas.List.Elements.{filter_map-append}
 use Rattle.std.proofs.lemmas.Option.{slice_get-map, slice_get_within}
 use Rattle.module_lang.specs.Entries.{IsDraft, IsStep, step_numbers, step_text}
-use Rattle.module_lang.specs.Handlers.{handler_fault, handler_resolved, code_or_fault, ends_open, last_goes_on, op_goes_on, sooner, fault, label_fault, jump_fault, is_lost, is_missing, label_of, place_of, place_from, target_place, step_code, op_instr, operand_index, operand_variable, is_named}
+use Rattle.module_lang.specs.Handlers.{handler_fault, handler_resolved, code_or_fault, ends_open, last_goes_on, op_goes_on, sooner, fault, label_fault, jump_fault, is_lost, is_missing, label_of, place_of, place_from, target_place, step_code, op_instr, operand_index, operand_value, operand_variable, is_named}
 use Rattle.module_lang.specs.Lines.{are_declared, has_equal_brigades, is_declared, misplaced, same_brigade, has_text, place_is_declared}
+use Rattle.module_lang.specs.Numbers.{is_value}
 use Rattle.module_lang.specs.Operands.{IsOfKinds, of_kind, operand_place}
 use Rattle.module_lang.specs.Program.{Program, program, IsHandler, IsInside, IsModule, IsPlaced, fits, goes_on, is_variable, target, text_of_instr}
 use Rattle.module_lang.specs.Spelling.{op_of, operands_of}
@@ -24,6 +25,7 @@ use Rattle.module_lang.specs.declared.instr.Instr.{Instr}
 use Rattle.module_lang.specs.declared.instr.Instr.TheVariants as instr
 use Rattle.module_lang.specs.declared.instr.PoolRef.{PoolRef}
 use Rattle.module_lang.specs.declared.instr.PoolRef.TheVariants as pool
+use Rattle.module_lang.specs.declared.instr.Value.TheVariants as value
 use Rattle.module_lang.specs.declared.operand.Operand.{Operand}
 use Rattle.module_lang.specs.declared.operand.Operand.TheVariants as operand
 use Rattle.module_lang.specs.declared.operand.Operands.{Operands}
@@ -111,8 +113,16 @@ in_range op.Unlabel o x t from to low high = tt
 in_range op.BCreate o x t from to low high = tt
 in_range op.BClean o x t from to low high = tt
 in_range op.BConcat o x t from to low high = tt
+in_range op.BSave o x t from to low high = tt
 in_range op.Pass o x t from to low high = (low, high)
 in_range op.JEmpty o x t from to low high = (low, high)
+in_range op.Put o x t from to low high = (low, high)
+in_range op.ClearBuf o x t from to low high = tt
+in_range op.Set o x t from to low high = tt
+in_range op.Add o x t from to low high = tt
+in_range op.Sub o x t from to low high = tt
+in_range op.JLt o x t from to low high = (low, high)
+in_range op.JEq o x t from to low high = (low, high)
 in_range op.JNull o x t from to low high = (low, high)
 in_range op.JSent o x t from to low high = (low, high)
 in_range op.Jump o x t from to low high = (low, high)
@@ -127,8 +137,16 @@ same_op op.Unlabel o x t = refl
 same_op op.BCreate o x t = refl
 same_op op.BClean o x t = refl
 same_op op.BConcat o x t = refl
+same_op op.BSave o x t = refl
 same_op op.Pass o x t = refl
 same_op op.JEmpty o x t = refl
+same_op op.Put o x t = refl
+same_op op.ClearBuf o x t = refl
+same_op op.Set o x t = refl
+same_op op.Add o x t = refl
+same_op op.Sub o x t = refl
+same_op op.JLt o x t = refl
+same_op op.JEq o x t = refl
 same_op op.JNull o x t = refl
 same_op op.JSent o x t = refl
 same_op op.Jump o x t = refl
@@ -143,8 +161,16 @@ same_end op.Unlabel o x t = refl
 same_end op.BCreate o x t = refl
 same_end op.BClean o x t = refl
 same_end op.BConcat o x t = refl
+same_end op.BSave o x t = refl
 same_end op.Pass o x t = refl
 same_end op.JEmpty o x t = refl
+same_end op.Put o x t = refl
+same_end op.ClearBuf o x t = refl
+same_end op.Set o x t = refl
+same_end op.Add o x t = refl
+same_end op.Sub o x t = refl
+same_end op.JLt o x t = refl
+same_end op.JEq o x t = refl
 same_end op.JNull o x t = refl
 same_end op.JSent o x t = refl
 same_end op.Jump o x t = refl
@@ -159,8 +185,16 @@ own_text op.Unlabel o x t = refl
 own_text op.BCreate o x t = refl
 own_text op.BClean o x t = refl
 own_text op.BConcat o x t = refl
+own_text op.BSave o x t = refl
 own_text op.Pass o x t = refl
 own_text op.JEmpty o x t = refl
+own_text op.Put o x t = refl
+own_text op.ClearBuf o x t = refl
+own_text op.Set o x t = refl
+own_text op.Add o x t = refl
+own_text op.Sub o x t = refl
+own_text op.JLt o x t = refl
+own_text op.JEq o x t = refl
 own_text op.JNull o x t = refl
 own_text op.JSent o x t = refl
 own_text op.Jump o x t = refl
@@ -181,8 +215,16 @@ unnamed q ps bs (instr.Unlabel x t) n k = refl
 unnamed q ps bs (instr.BCreate o) n k = refl
 unnamed q ps bs (instr.BClean b) n k = refl
 unnamed q ps bs (instr.BConcat a b) n k = refl
+unnamed q ps bs (instr.BSave o b) n k = refl
 unnamed q ps bs (instr.Pass b l) n k = refl
 unnamed q ps bs (instr.JEmpty b l) n k = refl
+unnamed q ps bs (instr.Put x l) n k = refl
+unnamed q ps bs instr.ClearBuf n k = refl
+unnamed q ps bs (instr.Set m x) n k = refl
+unnamed q ps bs (instr.Add m x) n k = refl
+unnamed q ps bs (instr.Sub m x) n k = refl
+unnamed q ps bs (instr.JLt m x l) n k = refl
+unnamed q ps bs (instr.JEq m x l) n k = refl
 unnamed q ps bs (instr.JNull v l) n k = refl
 unnamed q ps bs (instr.JSent l) n k = refl
 unnamed q ps bs (instr.Jump l) n k = refl
@@ -210,12 +252,14 @@ same_brigades (operand.Place x) b p q h = absurd (cc p)
 same_brigades (operand.Ending x) b p q h = absurd (cc p)
 same_brigades (operand.Label x) b p q h = absurd (cc p)
 same_brigades (operand.Text x) b p q h = absurd (cc p)
+same_brigades (operand.Value v) b p q h = absurd (cc p)
 same_brigades (operand.Brigade x) operand.Nothing p q h = absurd (cc q)
 same_brigades (operand.Brigade x) operand.One p q h = absurd (cc q)
 same_brigades (operand.Brigade x) (operand.Place y) p q h = absurd (cc q)
 same_brigades (operand.Brigade x) (operand.Ending y) p q h = absurd (cc q)
 same_brigades (operand.Brigade x) (operand.Label y) p q h = absurd (cc q)
 same_brigades (operand.Brigade x) (operand.Text y) p q h = absurd (cc q)
+same_brigades (operand.Brigade x) (operand.Value v) p q h = absurd (cc q)
 
 -- a brigade operand that is declared
 declared_as : (m n : ℕ) (x : Operand) → x ≡ operand.Brigade (operand_index x) → is_declared m n x ≡ true → (nat_lt (operand_index x) n || (eqb (operand_index x) 8)) ≡ true
@@ -229,6 +273,7 @@ brigade_below (operand.Place x) h = absurd (cc h)
 brigade_below (operand.Ending x) h = absurd (cc h)
 brigade_below (operand.Label x) h = absurd (cc h)
 brigade_below (operand.Text x) h = absurd (cc h)
+brigade_below (operand.Value v) h = absurd (cc h)
 
 first_declared : (m n : ℕ) (o : Operands) → are_declared m n o ≡ true → is_declared m n o.first ≡ true
 first_declared m n o h =
@@ -257,6 +302,7 @@ pool_declared m n (operand.Brigade b) k h = absurd (cc k)
 pool_declared m n (operand.Ending e) k h = absurd (cc k)
 pool_declared m n (operand.Label l) k h = absurd (cc k)
 pool_declared m n (operand.Text t) k h = absurd (cc k)
+pool_declared m n (operand.Value v) k h = absurd (cc k)
 
 place_declared : (m n : ℕ) (x : Operand) → is_declared m n x ≡ true → place_is_declared m (operand_place x) ≡ true
 place_declared m n (operand.Place p) h = h
@@ -266,6 +312,7 @@ place_declared m n (operand.Brigade b) h = refl
 place_declared m n (operand.Ending e) h = refl
 place_declared m n (operand.Label l) h = refl
 place_declared m n (operand.Text t) h = refl
+place_declared m n (operand.Value v) h = refl
 
 variable_declared : (p : Program) (x : Operand) → of_kind kind.Variable x ≡ true → is_declared (length p.pools) (length p.brigades) x ≡ true → is_variable p (operand_variable x) ≡ true
 variable_declared p (operand.Place (pool.Own i)) k h = h
@@ -277,6 +324,28 @@ variable_declared p operand.One k h = absurd (cc k)
 variable_declared p (operand.Ending e) k h = absurd (cc k)
 variable_declared p (operand.Label l) k h = absurd (cc k)
 variable_declared p (operand.Text t) k h = absurd (cc k)
+variable_declared p (operand.Value v) k h = absurd (cc k)
+
+number_fits : (x : Operand) → of_kind kind.Number x ≡ true → nat_lt (operand_index x) 8 ≡ true
+number_fits (operand.Value (value.Number i)) h = h
+number_fits (operand.Value (value.Constant k)) h = absurd (cc h)
+number_fits operand.Nothing h = absurd (cc h)
+number_fits operand.One h = absurd (cc h)
+number_fits (operand.Place p) h = absurd (cc h)
+number_fits (operand.Brigade b) h = absurd (cc h)
+number_fits (operand.Ending e) h = absurd (cc h)
+number_fits (operand.Label l) h = absurd (cc h)
+number_fits (operand.Text t) h = absurd (cc h)
+
+value_fits : (x : Operand) → of_kind kind.Value x ≡ true → is_value (operand_value x) ≡ true
+value_fits (operand.Value v) h = h
+value_fits operand.Nothing h = absurd (cc h)
+value_fits operand.One h = absurd (cc h)
+value_fits (operand.Place p) h = absurd (cc h)
+value_fits (operand.Brigade b) h = absurd (cc h)
+value_fits (operand.Ending e) h = absurd (cc h)
+value_fits (operand.Label l) h = absurd (cc h)
+value_fits (operand.Text t) h = absurd (cc h)
 
 -- the operands of an instruction that was read are declared, its brigades differ, and its text is one of the module
 fit : (p : Program) (i : Op) (o : Operands) (x t : ℕ) → IsOfKinds (op_kinds i) o → are_declared (length p.pools) (length p.brigades) o ≡ true → has_equal_brigades o ≡ false → (has_text o ≡ true → x < length p.texts) → fits p (op_instr i o x t) ≡ true
@@ -299,8 +368,20 @@ fit p op.BConcat o x t k h a w =
     let second = declared_as (length p.pools) (length p.brigades) o.second (source_is o.second k.second) (second_declared (length p.pools) (length p.brigades) o h) in
     let apart = same_brigades o.first o.second (source_is o.first k.first) (source_is o.second k.second) (first_apart o a) in
     rw (first, second, apart) refl
+fit p op.BSave o x t k h a w =
+    let first = own_brigade (length p.brigades) (operand_index o.first) (brigade_below o.first k.first) (declared_as (length p.pools) (length p.brigades) o.first (brigade_is o.first k.first) (first_declared (length p.pools) (length p.brigades) o h)) in
+    let second = declared_as (length p.pools) (length p.brigades) o.second (source_is o.second k.second) (second_declared (length p.pools) (length p.brigades) o h) in
+    let apart = same_brigades o.first o.second (brigade_is o.first k.first) (source_is o.second k.second) (first_apart o a) in
+    rw (first, second, apart) refl
 fit p op.Pass o x t k h a w = declared_as (length p.pools) (length p.brigades) o.first (source_is o.first k.first) (first_declared (length p.pools) (length p.brigades) o h)
 fit p op.JEmpty o x t k h a w = declared_as (length p.pools) (length p.brigades) o.first (source_is o.first k.first) (first_declared (length p.pools) (length p.brigades) o h)
+fit p op.Put o x t k h a w = value_fits o.first k.first
+fit p op.ClearBuf o x t k h a w = refl
+fit p op.Set o x t k h a w = rw (number_fits o.first k.first, value_fits o.second k.second) refl
+fit p op.Add o x t k h a w = rw (number_fits o.first k.first, value_fits o.second k.second) refl
+fit p op.Sub o x t k h a w = rw (number_fits o.first k.first, value_fits o.second k.second) refl
+fit p op.JLt o x t k h a w = rw (number_fits o.first k.first, value_fits o.second k.second) refl
+fit p op.JEq o x t k h a w = rw (number_fits o.first k.first, value_fits o.second k.second) refl
 fit p op.JNull o x t k h a w = variable_declared p o.first k.first (first_declared (length p.pools) (length p.brigades) o h)
 fit p op.JSent o x t k h a w = refl
 fit p op.Jump o x t k h a w = refl

@@ -1,18 +1,20 @@
 -- Operands that were read are of their kinds, and an instruction has them again.
-use Rattle.std.proofs.Common.{◌≡◌, ℕ, ◌-◌, ◌<◌, Bool, true, false, ◌&&◌, not, cond, eqb, leb, nat_eq, List, [], length, Option, Some, None, Result, Ok, Err, refl, ◌∙◌, ap, subst, arith}
+use Rattle.std.proofs.Common.{◌≡◌, ℕ, ◌-◌, ◌^◌, ◌<◌, Bool, true, false, ◌&&◌, not, cond, eqb, leb, nat_eq, List, [], length, Option, Some, None, Result, Ok, Err, refl, ◌∙◌, ap, subst, arith}
 use Rattle.std.specs.Prelude.{option_map, slice_index, codes}
 use Rattle.std.specs.Cmp.Lexicographic.{pointwise}
 use Rattle.std.proofs.lemmas.Bool.{and_parts, leb-true, lt-ltb}
 use Rattle.module_lang.specs.Bytes.{begins, tail, token}
 use Rattle.module_lang.specs.Codes.{◌>>=◌, unless}
-use Rattle.module_lang.specs.Handlers.{op_instr, operand_index, operand_status, operand_variable}
+use Rattle.module_lang.specs.Handlers.{op_instr, operand_index, operand_status, operand_value, operand_variable}
 use Rattle.module_lang.specs.Names.{name_of}
+use Rattle.module_lang.specs.Numbers.{constant_of}
 use Rattle.module_lang.specs.Operands.{IsOfKinds, numbered, of_kind, operand_in, operand_at, operand_place, or_wrong, text_operand, text_measured, operands_at, after_operand}
 use Rattle.module_lang.specs.Quoted.{quoted, measure_of}
-use Rattle.module_lang.specs.Spelling.{operands_of, one, two, own_pool, variable_operand}
+use Rattle.module_lang.specs.Spelling.{number_operand, operands_of, one, two, three, own_pool, variable_operand}
 use Rattle.module_lang.specs.Words.{op_kinds}
 use Rattle.module_lang.specs.declared.instr.PoolRef.TheVariants as pool
 use Rattle.module_lang.specs.declared.instr.Status.TheVariants as status
+use Rattle.module_lang.specs.declared.instr.Value.TheVariants as value
 use Rattle.module_lang.specs.declared.operand.Operand.{Operand}
 use Rattle.module_lang.specs.declared.operand.Operand.TheVariants as operand
 use Rattle.module_lang.specs.declared.operand.Operands.{Operands}
@@ -25,6 +27,7 @@ use Rattle.module_lang.specs.declared.word.Kinds.{Kinds}
 use Rattle.module_lang.specs.declared.word.Op.{Op}
 use Rattle.module_lang.specs.declared.word.Op.TheVariants as op
 use Rattle.module_lang.proofs.LineLaws.{bind_ok}
+use Rattle.module_lang.proofs.NumberLaws.{constant_found}
 
 abbrev pub made : Operand → Operand → Operand → Operand → Operands
 made a b c d = record { first = a; second = b; third = c; fourth = d }
@@ -96,6 +99,22 @@ variable_kind : (a : Bool) (t : List ℕ) (o : Operand) → cond a (option_map (
 variable_kind true t o e = number_variable (numbered 112 t) o (numbered_below 112 t) e
 variable_kind false t o e = brigade_variable (numbered 98 t) o (numbered_below 98 t) e
 
+number_kind : (n : Option ℕ) (o : Operand) → ((i : ℕ) → n ≡ Some i → i < 8) → option_map (λ i. operand.Value (value.Number i)) n ≡ Some o → of_kind kind.Number o ≡ true
+number_kind None o h e = absurd (cc e)
+number_kind (Some i) o h e = is_kind kind.Number (operand.Value (value.Number i)) o (lt-ltb i 8 (h i refl)) e
+
+number_value : (n : Option ℕ) (o : Operand) → ((i : ℕ) → n ≡ Some i → i < 8) → option_map (λ i. operand.Value (value.Number i)) n ≡ Some o → of_kind kind.Value o ≡ true
+number_value None o h e = absurd (cc e)
+number_value (Some i) o h e = is_kind kind.Value (operand.Value (value.Number i)) o (lt-ltb i 8 (h i refl)) e
+
+constant_value : (n : Option ℕ) (o : Operand) → ((k : ℕ) → n ≡ Some k → k < 2 ^ 32) → option_map (λ k. operand.Value (value.Constant k)) n ≡ Some o → of_kind kind.Value o ≡ true
+constant_value None o h e = absurd (cc e)
+constant_value (Some k) o h e = is_kind kind.Value (operand.Value (value.Constant k)) o (lt-ltb k (2 ^ 32) (h k refl)) e
+
+value_kind : (a : Bool) (t : List ℕ) (o : Operand) → cond a (option_map (λ i. operand.Value (value.Number i)) (numbered 110 t)) (option_map (λ k. operand.Value (value.Constant k)) (constant_of t)) ≡ Some o → of_kind kind.Value o ≡ true
+value_kind true t o e = number_value (numbered 110 t) o (numbered_below 110 t) e
+value_kind false t o e = constant_value (constant_of t) o (λ k h. (constant_found t k h).1) e
+
 pub token_kind : (k : Kind) (t : List ℕ) (o : Operand) → operand_in k t ≡ Some o → of_kind k o ≡ true
 unfolding operand_in
 token_kind kind.Nothing t o e = absurd (cc e)
@@ -108,6 +127,8 @@ token_kind kind.Ending t o e = ending_kind (pointwise nat_eq t (codes "ok")) (po
 token_kind kind.Label t o e = label_kind (name_of t) o e
 token_kind kind.Text t o e = absurd (cc e)
 token_kind kind.Variable t o e = variable_kind (begins 112 t) t o e
+token_kind kind.Number t o e = number_kind (numbered 110 t) o (numbered_below 110 t) e
+token_kind kind.Value t o e = value_kind (begins 110 t) t o e
 
 wrong_or : (k : Kind) (t : List ℕ) (r : Option Operand) (o : Operand) → operand_in k t ≡ r → or_wrong r ≡ Ok o → of_kind k o ≡ true
 wrong_or k t None o q e = absurd (cc e)
@@ -141,6 +162,8 @@ read_kind kind.Ending rest o e = word_kind kind.Ending (not (begins 32 rest)) (t
 read_kind kind.Label rest o e = word_kind kind.Label (not (begins 32 rest)) (token (tail rest)) o e
 read_kind kind.Text rest o e = text_kind (not (begins 32 rest)) (tail rest) o e
 read_kind kind.Variable rest o e = word_kind kind.Variable (not (begins 32 rest)) (token (tail rest)) o e
+read_kind kind.Number rest o e = word_kind kind.Number (not (begins 32 rest)) (token (tail rest)) o e
+read_kind kind.Value rest o e = word_kind kind.Value (not (begins 32 rest)) (token (tail rest)) o e
 
 -- the steps by which operands are read
 pub kinds_read : (k : Kinds) (rest : List ℕ) (o : Operands) → operands_at k rest ≡ Ok o → IsOfKinds k o
@@ -176,6 +199,7 @@ nothing_is (operand.Brigade b) h = absurd (cc h)
 nothing_is (operand.Ending s) h = absurd (cc h)
 nothing_is (operand.Label n) h = absurd (cc h)
 nothing_is (operand.Text n) h = absurd (cc h)
+nothing_is (operand.Value v) h = absurd (cc h)
 
 pub brigade_is : (x : Operand) → of_kind kind.Brigade x ≡ true → x ≡ operand.Brigade (operand_index x)
 brigade_is operand.Nothing h = absurd (cc h)
@@ -185,6 +209,7 @@ brigade_is (operand.Brigade b) h = refl
 brigade_is (operand.Ending s) h = absurd (cc h)
 brigade_is (operand.Label n) h = absurd (cc h)
 brigade_is (operand.Text n) h = absurd (cc h)
+brigade_is (operand.Value v) h = absurd (cc h)
 
 pub source_is : (x : Operand) → of_kind kind.Source x ≡ true → x ≡ operand.Brigade (operand_index x)
 source_is operand.Nothing h = absurd (cc h)
@@ -194,6 +219,7 @@ source_is (operand.Brigade b) h = refl
 source_is (operand.Ending s) h = absurd (cc h)
 source_is (operand.Label n) h = absurd (cc h)
 source_is (operand.Text n) h = absurd (cc h)
+source_is (operand.Value v) h = absurd (cc h)
 
 pub ending_is : (x : Operand) → of_kind kind.Ending x ≡ true → x ≡ operand.Ending (operand_status x)
 ending_is operand.Nothing h = absurd (cc h)
@@ -203,6 +229,7 @@ ending_is (operand.Brigade b) h = absurd (cc h)
 ending_is (operand.Ending s) h = refl
 ending_is (operand.Label n) h = absurd (cc h)
 ending_is (operand.Text n) h = absurd (cc h)
+ending_is (operand.Value v) h = absurd (cc h)
 
 pub label_is : (x : Operand) → of_kind kind.Label x ≡ true → (n : List ℕ) × (x ≡ operand.Label n)
 label_is operand.Nothing h = absurd (cc h)
@@ -212,6 +239,7 @@ label_is (operand.Brigade b) h = absurd (cc h)
 label_is (operand.Ending s) h = absurd (cc h)
 label_is (operand.Label n) h = (n, refl)
 label_is (operand.Text n) h = absurd (cc h)
+label_is (operand.Value v) h = absurd (cc h)
 
 pub place_is : (x : Operand) → of_kind kind.Place x ≡ true → x ≡ operand.Place (operand_place x)
 place_is operand.Nothing h = absurd (cc h)
@@ -221,6 +249,7 @@ place_is (operand.Brigade b) h = absurd (cc h)
 place_is (operand.Ending s) h = absurd (cc h)
 place_is (operand.Label n) h = absurd (cc h)
 place_is (operand.Text n) h = absurd (cc h)
+place_is (operand.Value v) h = absurd (cc h)
 
 pub pool_is : (x : Operand) → of_kind kind.Pool x ≡ true → x ≡ own_pool (operand_index x)
 pool_is operand.Nothing h = absurd (cc h)
@@ -232,6 +261,7 @@ pool_is (operand.Brigade b) h = absurd (cc h)
 pool_is (operand.Ending s) h = absurd (cc h)
 pool_is (operand.Label n) h = absurd (cc h)
 pool_is (operand.Text n) h = absurd (cc h)
+pool_is (operand.Value v) h = absurd (cc h)
 
 pub variable_is : (x : Operand) → of_kind kind.Variable x ≡ true → x ≡ variable_operand (operand_variable x)
 variable_is operand.Nothing h = absurd (cc h)
@@ -243,6 +273,7 @@ variable_is (operand.Brigade b) h = refl
 variable_is (operand.Ending s) h = absurd (cc h)
 variable_is (operand.Label n) h = absurd (cc h)
 variable_is (operand.Text n) h = absurd (cc h)
+variable_is (operand.Value v) h = absurd (cc h)
 
 pub text_is : (x : Operand) → of_kind kind.Text x ≡ true → (k : ℕ) × (x ≡ operand.Text k)
 text_is operand.Nothing h = absurd (cc h)
@@ -252,12 +283,37 @@ text_is (operand.Brigade b) h = absurd (cc h)
 text_is (operand.Ending s) h = absurd (cc h)
 text_is (operand.Label n) h = absurd (cc h)
 text_is (operand.Text k) h = (k, refl)
+text_is (operand.Value v) h = absurd (cc h)
+
+pub number_is : (x : Operand) → of_kind kind.Number x ≡ true → x ≡ number_operand (operand_index x)
+number_is operand.Nothing h = absurd (cc h)
+number_is operand.One h = absurd (cc h)
+number_is (operand.Place p) h = absurd (cc h)
+number_is (operand.Brigade b) h = absurd (cc h)
+number_is (operand.Ending s) h = absurd (cc h)
+number_is (operand.Label n) h = absurd (cc h)
+number_is (operand.Text k) h = absurd (cc h)
+number_is (operand.Value (value.Number i)) h = refl
+number_is (operand.Value (value.Constant k)) h = absurd (cc h)
+
+pub value_is : (x : Operand) → of_kind kind.Value x ≡ true → x ≡ operand.Value (operand_value x)
+value_is operand.Nothing h = absurd (cc h)
+value_is operand.One h = absurd (cc h)
+value_is (operand.Place p) h = absurd (cc h)
+value_is (operand.Brigade b) h = absurd (cc h)
+value_is (operand.Ending s) h = absurd (cc h)
+value_is (operand.Label n) h = absurd (cc h)
+value_is (operand.Text k) h = absurd (cc h)
+value_is (operand.Value v) h = refl
 
 four : (o : Operands) (a b c d : Operand) → o.first ≡ a → o.second ≡ b → o.third ≡ c → o.fourth ≡ d → o ≡ made a b c d
 four o a b c d p q r s = λ i. made (p i) (q i) (r i) (s i)
 
 one_shape : (o : Operands) (a : Operand) → o.first ≡ a → of_kind kind.Nothing o.second ≡ true → of_kind kind.Nothing o.third ≡ true → of_kind kind.Nothing o.fourth ≡ true → o ≡ one a
 one_shape o a p q r s = four o a operand.Nothing operand.Nothing operand.Nothing p (nothing_is o.second q) (nothing_is o.third r) (nothing_is o.fourth s)
+
+three_shape : (o : Operands) (a b c : Operand) → o.first ≡ a → o.second ≡ b → o.third ≡ c → of_kind kind.Nothing o.fourth ≡ true → o ≡ three a b c
+three_shape o a b c p q r s = four o a b c operand.Nothing p q r (nothing_is o.fourth s)
 
 two_shape : (o : Operands) (a b : Operand) → o.first ≡ a → o.second ≡ b → of_kind kind.Nothing o.third ≡ true → of_kind kind.Nothing o.fourth ≡ true → o ≡ two a b
 two_shape o a b p q r s = four o a b operand.Nothing operand.Nothing p q (nothing_is o.third r) (nothing_is o.fourth s)
@@ -278,8 +334,16 @@ shape op.Unlabel o x t h = let k = text_is o.second h.second in record { name = 
 shape op.BCreate o x t h = record { name = []; len = 0; same = one_shape o _ (brigade_is o.first h.first) h.second h.third h.fourth }
 shape op.BClean o x t h = record { name = []; len = 0; same = one_shape o _ (source_is o.first h.first) h.second h.third h.fourth }
 shape op.BConcat o x t h = record { name = []; len = 0; same = two_shape o _ _ (source_is o.first h.first) (source_is o.second h.second) h.third h.fourth }
+shape op.BSave o x t h = record { name = []; len = 0; same = two_shape o _ _ (brigade_is o.first h.first) (source_is o.second h.second) h.third h.fourth }
 shape op.Pass o x t h = let l = label_is o.second h.second in record { name = l.0; len = 0; same = two_shape o _ _ (source_is o.first h.first) l.1 h.third h.fourth }
 shape op.JEmpty o x t h = let l = label_is o.second h.second in record { name = l.0; len = 0; same = two_shape o _ _ (source_is o.first h.first) l.1 h.third h.fourth }
+shape op.Put o x t h = let l = label_is o.second h.second in record { name = l.0; len = 0; same = two_shape o _ _ (value_is o.first h.first) l.1 h.third h.fourth }
+shape op.ClearBuf o x t h = record { name = []; len = 0; same = one_shape o _ (nothing_is o.first h.first) h.second h.third h.fourth }
+shape op.Set o x t h = record { name = []; len = 0; same = two_shape o _ _ (number_is o.first h.first) (value_is o.second h.second) h.third h.fourth }
+shape op.Add o x t h = record { name = []; len = 0; same = two_shape o _ _ (number_is o.first h.first) (value_is o.second h.second) h.third h.fourth }
+shape op.Sub o x t h = record { name = []; len = 0; same = two_shape o _ _ (number_is o.first h.first) (value_is o.second h.second) h.third h.fourth }
+shape op.JLt o x t h = let l = label_is o.third h.third in record { name = l.0; len = 0; same = three_shape o _ _ _ (number_is o.first h.first) (value_is o.second h.second) l.1 h.fourth }
+shape op.JEq o x t h = let l = label_is o.third h.third in record { name = l.0; len = 0; same = three_shape o _ _ _ (number_is o.first h.first) (value_is o.second h.second) l.1 h.fourth }
 shape op.JNull o x t h = let l = label_is o.second h.second in record { name = l.0; len = 0; same = two_shape o _ _ (variable_is o.first h.first) l.1 h.third h.fourth }
 shape op.JSent o x t h = let l = label_is o.first h.first in record { name = l.0; len = 0; same = one_shape o _ l.1 h.second h.third h.fourth }
 shape op.Jump o x t h = let l = label_is o.first h.first in record { name = l.0; len = 0; same = one_shape o _ l.1 h.second h.third h.fourth }

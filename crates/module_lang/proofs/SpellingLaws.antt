@@ -1,5 +1,5 @@
 -- What is spelled is read again: words, operands and lines.
-use Rattle.std.proofs.Common.{◌≡◌, ℕ, ◌+◌, ◌-◌, ◌<◌, ◌≤◌, Bool, true, false, ◌&&◌, ◌||◌, not, cond, eqb, ltb, leb, List, [], ◌∷◌, ◌++◌, length, Option, Some, None, Ok, refl, sym, ◌∙◌, ap, arith}
+use Rattle.std.proofs.Common.{◌≡◌, ℕ, ◌+◌, ◌-◌, ◌^◌, ◌<◌, ◌≤◌, Bool, true, false, ◌&&◌, ◌||◌, not, cond, eqb, ltb, leb, List, [], ◌∷◌, ◌++◌, length, Option, Some, None, Ok, refl, sym, ◌∙◌, ap, arith}
 use Rattle.std.specs.Prelude.{slice_index, codes, replicate, IfSome}
 use Rattle.std.specs.List.{list_all}
 use Rattle.std.proofs.lemmas.Bool.{and_parts, le-leb, eq-eqb, ne_eqb, eqb-true, ltb-true, lt-ltb}
@@ -8,10 +8,11 @@ use Rattle.module_lang.specs.Bytes.{token, token_len, after_token, begins}
 use Rattle.module_lang.specs.Lines.{item_read, unindented_read, is_due, judged, place_is_declared}
 use Rattle.module_lang.specs.Program.{Program, fits, is_brigade, target, text_at, text_of_instr}
 use Rattle.module_lang.specs.Names.{is_letter, is_name, is_name_byte, all_name_bytes, name_of}
+use Rattle.module_lang.specs.Numbers.{is_value}
 use Rattle.module_lang.specs.Operands.{numbered, operand_in, operand_at, after_operand, operands_at, operand_kind_is_nothing, operand_kind_is_text}
-use Rattle.module_lang.specs.Spelling.{op_of, operands_of}
-use Rattle.module_lang.specs.Texts.{Spells, place_text, own_text, brigade_text, status_text, operands_text, line_text, operand_texts, instr_word, is_skipped}
-use Rattle.module_lang.specs.Words.{op_text, word_text, word_at, word_kinds, op_kinds, two_operands, one_operand, no_operand}
+use Rattle.module_lang.specs.Spelling.{number_operand, op_of, operands_of, three}
+use Rattle.module_lang.specs.Texts.{Spells, place_text, own_text, brigade_text, number_text, status_text, value_text, operands_text, line_text, operand_texts, instr_word, is_skipped}
+use Rattle.module_lang.specs.Words.{op_text, word_text, word_at, word_kinds, op_kinds, three_operands, two_operands, one_operand, no_operand}
 use Rattle.module_lang.specs.declared.draft.Draft.{Draft}
 use Rattle.module_lang.specs.declared.instr.Instr.{Instr}
 use Rattle.module_lang.specs.declared.instr.Instr.TheVariants as instr
@@ -20,6 +21,8 @@ use Rattle.module_lang.specs.declared.instr.PoolRef.TheVariants as pool
 use Rattle.module_lang.specs.declared.instr.Status.{Status}
 use Rattle.module_lang.specs.declared.instr.Status.TheVariants as status
 use Rattle.module_lang.specs.declared.lines.Line.TheVariants as line
+use Rattle.module_lang.specs.declared.instr.Value.{Value}
+use Rattle.module_lang.specs.declared.instr.Value.TheVariants as value
 use Rattle.module_lang.specs.declared.instr.VarRef.TheVariants as variable
 use Rattle.module_lang.specs.declared.operand.Operand.{Operand}
 use Rattle.module_lang.specs.declared.operand.Operand.TheVariants as operand
@@ -29,6 +32,7 @@ use Rattle.module_lang.specs.declared.word.Kind.TheVariants as kind
 use Rattle.module_lang.specs.declared.word.Op.TheVariants as op
 use Rattle.module_lang.specs.declared.word.Word.{Word}
 use Rattle.module_lang.specs.declared.word.Word.TheVariants as word
+use Rattle.module_lang.proofs.NumberLaws.{constant_again, decimal_begins, decimal_without}
 use Rattle.module_lang.proofs.QuoteLaws.{quoted_again}
 
 -- no space among these bytes
@@ -94,6 +98,10 @@ one_again k o t h = rw (operand_again k o t [] h tt, behind_again k o t [] h tt,
 pub two_again : (k l : Kind) (o q : Operand) (t u : List ℕ) → IsOperand k o t → IsOperand l q u → operands_at (two_operands k l) (operands_text (t ∷ u ∷ [])) ≡ Ok (operands o q)
 unfolding operands_at
 two_again k l o q t u h j = rw (operand_again k o t (operands_text (u ∷ [])) h refl, behind_again k o t (operands_text (u ∷ [])) h refl, operand_again l q u [] j tt, behind_again l q u [] j tt, none_again [], none_behind [], none_again [], none_behind []) refl
+
+pub three_again : (k l m : Kind) (o q r : Operand) (t u v : List ℕ) → IsOperand k o t → IsOperand l q u → IsOperand m r v → operands_at (three_operands k l m) (operands_text (t ∷ u ∷ v ∷ [])) ≡ Ok (three o q r)
+unfolding operands_at
+three_again k l m o q r t u v h i j = rw (operand_again k o t (operands_text (u ∷ v ∷ [])) h refl, behind_again k o t (operands_text (u ∷ v ∷ [])) h refl, operand_again l q u (operands_text (v ∷ [])) i refl, behind_again l q u (operands_text (v ∷ [])) i refl, operand_again m r v [] j tt, behind_again m r v [] j tt, none_again [], none_behind []) refl
 
 numbered_again : (letter i : ℕ) → i < 8 → numbered letter (letter ∷ (48 + i) ∷ []) ≡ Some i
 numbered_again letter i h =
@@ -188,6 +196,17 @@ pub brigade_variable : (b : ℕ) → b < 8 → IsOperand kind.Variable (operand.
 unfolding operand_in
 brigade_variable b h = record { some = refl; bare = refl; read = rw (numbered_again 98 b h) refl; plain = digit_plain 98 b refl }
 
+number_again : (i : ℕ) → i < 8 → IsOperand kind.Number (number_operand i) (number_text i)
+unfolding operand_in
+number_again i h = record { some = refl; bare = refl; read = rw (numbered_again 110 i h) refl; plain = digit_plain 110 i refl }
+
+value_again : (v : Value) → is_value v ≡ true → IsOperand kind.Value (operand.Value v) (value_text v)
+unfolding operand_in
+value_again (value.Number i) h = record { some = refl; bare = refl; read = rw (numbered_again 110 i (ltb-true i 8 h)) refl; plain = digit_plain 110 i refl }
+value_again (value.Constant k) h =
+    let low = ltb-true k (2 ^ 32) h in
+    record { some = refl; bare = refl; read = rw (decimal_begins 110 k refl low, constant_again k low) refl; plain = decimal_without 32 k refl low }
+
 pub declared_up : (k n : ℕ) (q : PoolRef) → k ≤ n → place_is_declared k q ≡ true → place_is_declared n q ≡ true
 declared_up k n pool.Conn le h = refl
 declared_up k n pool.Req le h = refl
@@ -216,8 +235,19 @@ instr_again p (instr.BConcat a b) n s few small h name text =
     let x = and_parts (is_brigade p a && is_brigade p b) (not (eqb a b)) h in
     let y = and_parts (is_brigade p a) (is_brigade p b) x.0 in
     two_again kind.Source kind.Source (operand.Brigade a) (operand.Brigade b) (brigade_text a) (brigade_text b) (source_operand (length p.brigades) a small y.0) (source_operand (length p.brigades) b small y.1)
+instr_again p (instr.BSave o b) n s few small h name text =
+    let x = and_parts (ltb o (length p.brigades) && is_brigade p b) (not (eqb o b)) h in
+    let y = and_parts (ltb o (length p.brigades)) (is_brigade p b) x.0 in
+    two_again kind.Brigade kind.Source (operand.Brigade o) (operand.Brigade b) (own_text o) (brigade_text b) (own_operand o (own_below (length p.brigades) o small y.0)) (source_operand (length p.brigades) b small y.1)
 instr_again p (instr.Pass b l) n s few small h name text = two_again kind.Source kind.Label (operand.Brigade b) (operand.Label (padded n)) (brigade_text b) n (source_operand (length p.brigades) b small h) (label_operand n name)
 instr_again p (instr.JEmpty b l) n s few small h name text = two_again kind.Source kind.Label (operand.Brigade b) (operand.Label (padded n)) (brigade_text b) n (source_operand (length p.brigades) b small h) (label_operand n name)
+instr_again p (instr.Put x l) n s few small h name text = two_again kind.Value kind.Label (operand.Value x) (operand.Label (padded n)) (value_text x) n (value_again x h) (label_operand n name)
+instr_again p instr.ClearBuf n s few small h name text = no_operands
+instr_again p (instr.Set m x) n s few small h name text = two_again kind.Number kind.Value (number_operand m) (operand.Value x) (number_text m) (value_text x) (number_again m (ltb-true m 8 (and_parts (ltb m 8) (is_value x) h).0)) (value_again x (and_parts (ltb m 8) (is_value x) h).1)
+instr_again p (instr.Add m x) n s few small h name text = two_again kind.Number kind.Value (number_operand m) (operand.Value x) (number_text m) (value_text x) (number_again m (ltb-true m 8 (and_parts (ltb m 8) (is_value x) h).0)) (value_again x (and_parts (ltb m 8) (is_value x) h).1)
+instr_again p (instr.Sub m x) n s few small h name text = two_again kind.Number kind.Value (number_operand m) (operand.Value x) (number_text m) (value_text x) (number_again m (ltb-true m 8 (and_parts (ltb m 8) (is_value x) h).0)) (value_again x (and_parts (ltb m 8) (is_value x) h).1)
+instr_again p (instr.JLt m x l) n s few small h name text = three_again kind.Number kind.Value kind.Label (number_operand m) (operand.Value x) (operand.Label (padded n)) (number_text m) (value_text x) n (number_again m (ltb-true m 8 (and_parts (ltb m 8) (is_value x) h).0)) (value_again x (and_parts (ltb m 8) (is_value x) h).1) (label_operand n name)
+instr_again p (instr.JEq m x l) n s few small h name text = three_again kind.Number kind.Value kind.Label (number_operand m) (operand.Value x) (operand.Label (padded n)) (number_text m) (value_text x) n (number_again m (ltb-true m 8 (and_parts (ltb m 8) (is_value x) h).0)) (value_again x (and_parts (ltb m 8) (is_value x) h).1) (label_operand n name)
 instr_again p (instr.JNull (variable.Pool q) l) n s few small h name text = two_again kind.Variable kind.Label (operand.Place (pool.Own q)) (operand.Label (padded n)) (place_text (pool.Own q)) n (own_variable q (own_below (length p.pools) q few h)) (label_operand n name)
 instr_again p (instr.JNull (variable.Brigade b) l) n s few small h name text = two_again kind.Variable kind.Label (operand.Brigade b) (operand.Label (padded n)) (own_text b) n (brigade_variable b (own_below (length p.brigades) b small h)) (label_operand n name)
 instr_again p (instr.JSent l) n s few small h name text = one_again kind.Label (operand.Label (padded n)) n (label_operand n name)
@@ -234,8 +264,16 @@ word_of_instr (instr.Unlabel q t) = refl
 word_of_instr (instr.BCreate o) = refl
 word_of_instr (instr.BClean b) = refl
 word_of_instr (instr.BConcat a b) = refl
+word_of_instr (instr.BSave o b) = refl
 word_of_instr (instr.Pass b l) = refl
 word_of_instr (instr.JEmpty b l) = refl
+word_of_instr (instr.Put x l) = refl
+word_of_instr instr.ClearBuf = refl
+word_of_instr (instr.Set m x) = refl
+word_of_instr (instr.Add m x) = refl
+word_of_instr (instr.Sub m x) = refl
+word_of_instr (instr.JLt m x l) = refl
+word_of_instr (instr.JEq m x l) = refl
 word_of_instr (instr.JNull v l) = refl
 word_of_instr (instr.JSent l) = refl
 word_of_instr (instr.Jump l) = refl
@@ -265,8 +303,16 @@ word_again (word.Op op.Unlabel) = record { found = refl; plain = refl; starts = 
 word_again (word.Op op.BCreate) = record { found = refl; plain = refl; starts = λ r. rw (ne_eqb (length (codes "bcreate" ++ r)) 0 (λ e. omega arith)) refl; worded = λ r. refl }
 word_again (word.Op op.BClean) = record { found = refl; plain = refl; starts = λ r. rw (ne_eqb (length (codes "bclean" ++ r)) 0 (λ e. omega arith)) refl; worded = λ r. refl }
 word_again (word.Op op.BConcat) = record { found = refl; plain = refl; starts = λ r. rw (ne_eqb (length (codes "bconcat" ++ r)) 0 (λ e. omega arith)) refl; worded = λ r. refl }
+word_again (word.Op op.BSave) = record { found = refl; plain = refl; starts = λ r. rw (ne_eqb (length (codes "bsave" ++ r)) 0 (λ e. omega arith)) refl; worded = λ r. refl }
 word_again (word.Op op.Pass) = record { found = refl; plain = refl; starts = λ r. rw (ne_eqb (length (codes "pass" ++ r)) 0 (λ e. omega arith)) refl; worded = λ r. refl }
 word_again (word.Op op.JEmpty) = record { found = refl; plain = refl; starts = λ r. rw (ne_eqb (length (codes "jempty" ++ r)) 0 (λ e. omega arith)) refl; worded = λ r. refl }
+word_again (word.Op op.Put) = record { found = refl; plain = refl; starts = λ r. rw (ne_eqb (length (codes "put" ++ r)) 0 (λ e. omega arith)) refl; worded = λ r. refl }
+word_again (word.Op op.ClearBuf) = record { found = refl; plain = refl; starts = λ r. rw (ne_eqb (length (codes "clearbuf" ++ r)) 0 (λ e. omega arith)) refl; worded = λ r. refl }
+word_again (word.Op op.Set) = record { found = refl; plain = refl; starts = λ r. rw (ne_eqb (length (codes "set" ++ r)) 0 (λ e. omega arith)) refl; worded = λ r. refl }
+word_again (word.Op op.Add) = record { found = refl; plain = refl; starts = λ r. rw (ne_eqb (length (codes "add" ++ r)) 0 (λ e. omega arith)) refl; worded = λ r. refl }
+word_again (word.Op op.Sub) = record { found = refl; plain = refl; starts = λ r. rw (ne_eqb (length (codes "sub" ++ r)) 0 (λ e. omega arith)) refl; worded = λ r. refl }
+word_again (word.Op op.JLt) = record { found = refl; plain = refl; starts = λ r. rw (ne_eqb (length (codes "jlt" ++ r)) 0 (λ e. omega arith)) refl; worded = λ r. refl }
+word_again (word.Op op.JEq) = record { found = refl; plain = refl; starts = λ r. rw (ne_eqb (length (codes "jeq" ++ r)) 0 (λ e. omega arith)) refl; worded = λ r. refl }
 word_again (word.Op op.JNull) = record { found = refl; plain = refl; starts = λ r. rw (ne_eqb (length (codes "jnull" ++ r)) 0 (λ e. omega arith)) refl; worded = λ r. refl }
 word_again (word.Op op.JSent) = record { found = refl; plain = refl; starts = λ r. rw (ne_eqb (length (codes "jsent" ++ r)) 0 (λ e. omega arith)) refl; worded = λ r. refl }
 word_again (word.Op op.Jump) = record { found = refl; plain = refl; starts = λ r. rw (ne_eqb (length (codes "jump" ++ r)) 0 (λ e. omega arith)) refl; worded = λ r. refl }

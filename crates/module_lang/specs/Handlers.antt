@@ -15,6 +15,8 @@ use Rattle.module_lang.specs.declared.instr.Instr.TheVariants as instr
 use Rattle.module_lang.specs.declared.instr.PoolRef.TheVariants as pool
 use Rattle.module_lang.specs.declared.instr.Status.{Status}
 use Rattle.module_lang.specs.declared.instr.Status.TheVariants as status
+use Rattle.module_lang.specs.declared.instr.Value.{Value}
+use Rattle.module_lang.specs.declared.instr.Value.TheVariants as value
 use Rattle.module_lang.specs.declared.instr.VarRef.{VarRef}
 use Rattle.module_lang.specs.declared.instr.VarRef.TheVariants as variable
 use Rattle.module_lang.specs.declared.operand.Operand.{Operand}
@@ -118,11 +120,17 @@ handler_fault before h =
 abbrev pub operand_index : Operand → ℕ
 operand_index (operand.Place (pool.Own i)) = i
 operand_index (operand.Brigade b) = b
+operand_index (operand.Value (value.Number i)) = i
 operand_index _ = 0
 
 abbrev pub operand_status : Operand → Status
 operand_status (operand.Ending s) = s
 operand_status _ = status.Success
+
+-- the number that an operand is
+abbrev pub operand_value : Operand → Value
+operand_value (operand.Value v) = v
+operand_value _ = value.Constant 0
 
 -- the variable that an operand names
 abbrev pub operand_variable : Operand → VarRef
@@ -139,8 +147,16 @@ op_instr op.Unlabel o x t = instr.Unlabel (operand_place o.first) x
 op_instr op.BCreate o x t = instr.BCreate (operand_index o.first)
 op_instr op.BClean o x t = instr.BClean (operand_index o.first)
 op_instr op.BConcat o x t = instr.BConcat (operand_index o.first) (operand_index o.second)
+op_instr op.BSave o x t = instr.BSave (operand_index o.first) (operand_index o.second)
 op_instr op.Pass o x t = instr.Pass (operand_index o.first) t
 op_instr op.JEmpty o x t = instr.JEmpty (operand_index o.first) t
+op_instr op.Put o x t = instr.Put (operand_value o.first) t
+op_instr op.ClearBuf o x t = instr.ClearBuf
+op_instr op.Set o x t = instr.Set (operand_index o.first) (operand_value o.second)
+op_instr op.Add o x t = instr.Add (operand_index o.first) (operand_value o.second)
+op_instr op.Sub o x t = instr.Sub (operand_index o.first) (operand_value o.second)
+op_instr op.JLt o x t = instr.JLt (operand_index o.first) (operand_value o.second) t
+op_instr op.JEq o x t = instr.JEq (operand_index o.first) (operand_value o.second) t
 op_instr op.JNull o x t = instr.JNull (operand_variable o.first) t
 op_instr op.JSent o x t = instr.JSent t
 op_instr op.Jump o x t = instr.Jump t

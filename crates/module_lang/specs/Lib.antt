@@ -7,6 +7,7 @@ pub mod FirstFault
 pub mod Handlers
 pub mod Lines
 pub mod Names
+pub mod Numbers
 pub mod Operands
 pub mod Printing
 pub mod Program

@@ -4,10 +4,12 @@ use Rattle.std.specs.Cmp.Lexicographic.{pointwise}
 use Rattle.module_lang.specs.Bytes.{begins, tail, token, after_token}
 use Rattle.module_lang.specs.Codes.{◌>>=◌, unless}
 use Rattle.module_lang.specs.Names.{name_of}
+use Rattle.module_lang.specs.Numbers.{constant_of, is_value}
 use Rattle.module_lang.specs.Quoted.{quoted, measure_of}
 use Rattle.module_lang.specs.declared.instr.PoolRef.{PoolRef}
 use Rattle.module_lang.specs.declared.instr.PoolRef.TheVariants as pool
 use Rattle.module_lang.specs.declared.instr.Status.TheVariants as status
+use Rattle.module_lang.specs.declared.instr.Value.TheVariants as value
 use Rattle.module_lang.specs.declared.operand.Operand.{Operand}
 use Rattle.module_lang.specs.declared.operand.Operand.TheVariants as operand
 use Rattle.module_lang.specs.declared.operand.Operands.{Operands}
@@ -52,6 +54,15 @@ label_in t = option_map (λ n. operand.Label n) (name_of t)
 abbrev pub variable_in : List ℕ → Option Operand
 variable_in t = if begins 112 t then pool_in t else brigade_in t
 
+abbrev pub number_in : List ℕ → Option Operand
+number_in t = option_map (λ i. operand.Value (value.Number i)) (numbered 110 t)
+
+abbrev pub constant_in : List ℕ → Option Operand
+constant_in t = option_map (λ k. operand.Value (value.Constant k)) (constant_of t)
+
+abbrev pub value_in : List ℕ → Option Operand
+value_in t = if begins 110 t then number_in t else constant_in t
+
 -- the operand of a kind that a token without spaces spells
 unfoldable pub operand_in : Kind → List ℕ → Option Operand
 operand_in kind.Nothing t = None
@@ -64,6 +75,8 @@ operand_in kind.Ending t = ending_in t
 operand_in kind.Label t = label_in t
 operand_in kind.Text t = None
 operand_in kind.Variable t = variable_in t
+operand_in kind.Number t = number_in t
+operand_in kind.Value t = value_in t
 
 -- whether an operand is of a kind
 abbrev pub of_kind : Kind → Operand → Bool
@@ -78,6 +91,8 @@ of_kind kind.Label (operand.Label n) = true
 of_kind kind.Text (operand.Text len) = true
 of_kind kind.Variable (operand.Place (pool.Own i)) = nat_lt i 8
 of_kind kind.Variable (operand.Brigade b) = nat_lt b 8
+of_kind kind.Number (operand.Value (value.Number i)) = nat_lt i 8
+of_kind kind.Value (operand.Value v) = is_value v
 of_kind _ _ = false
 
 pub record IsOfKinds (k : Kinds) (o : Operands) : Type 0 where

@@ -1,5 +1,5 @@
 -- Module texts as they are written: the grammar.
-use Rattle.std.specs.Prelude.{◌≡◌, ◌≢◌, ℕ, ◌+◌, ◌*◌, ◌<◌, ◌≤◌, Bool, true, ◌&&◌, ◌||◌, not, nat_lt, ◌==◌, if◌then◌else◌, List, [], ◌∷◌, ◌++◌, length, map, codes, All, IfSome, ◌⊎◌}
+use Rattle.std.specs.Prelude.{◌≡◌, ◌≢◌, ℕ, ◌+◌, ◌*◌, ◌<◌, ◌≤◌, Bool, true, ◌&&◌, ◌||◌, not, nat_lt, ◌==◌, if◌then◌else◌, List, [], ◌∷◌, ◌++◌, length, map, codes, decimal, All, IfSome, ◌⊎◌}
 use Rattle.module_lang.specs.Bytes.{all_printable, begins, is_printable, unindented}
 use Rattle.module_lang.specs.Names.{is_name}
 use Rattle.module_lang.specs.Program.{IsModule, Program, target, text_at, text_of_instr}
@@ -8,6 +8,8 @@ use Rattle.module_lang.specs.declared.instr.Instr.{Instr}
 use Rattle.module_lang.specs.declared.instr.Instr.TheVariants as instr
 use Rattle.module_lang.specs.declared.instr.PoolRef.{PoolRef}
 use Rattle.module_lang.specs.declared.instr.PoolRef.TheVariants as pool
+use Rattle.module_lang.specs.declared.instr.Value.{Value}
+use Rattle.module_lang.specs.declared.instr.Value.TheVariants as value
 use Rattle.module_lang.specs.declared.instr.VarRef.{VarRef}
 use Rattle.module_lang.specs.declared.instr.VarRef.TheVariants as variable
 use Rattle.module_lang.specs.declared.instr.Status.{Status}
@@ -30,6 +32,15 @@ brigade_text b = if b == 8 then codes "in" else own_text b
 abbrev pub variable_text : VarRef → List ℕ
 variable_text (variable.Pool q) = place_text (pool.Own q)
 variable_text (variable.Brigade b) = own_text b
+
+-- `n0` to `n7`
+abbrev pub number_text : ℕ → List ℕ
+number_text n = 110 ∷ (48 + n) ∷ []
+
+-- `n0` to `n7`, or the decimal digits of a constant
+abbrev pub value_text : Value → List ℕ
+value_text (value.Number n) = number_text n
+value_text (value.Constant k) = decimal k
 
 abbrev pub status_text : Status → List ℕ
 status_text status.Success = codes "ok"
@@ -102,8 +113,16 @@ operand_texts (instr.Unlabel q t) n s = place_text q ∷ s ∷ []
 operand_texts (instr.BCreate o) n s = own_text o ∷ []
 operand_texts (instr.BClean b) n s = brigade_text b ∷ []
 operand_texts (instr.BConcat a b) n s = brigade_text a ∷ brigade_text b ∷ []
+operand_texts (instr.BSave o b) n s = own_text o ∷ brigade_text b ∷ []
 operand_texts (instr.Pass b l) n s = brigade_text b ∷ n ∷ []
 operand_texts (instr.JEmpty b l) n s = brigade_text b ∷ n ∷ []
+operand_texts (instr.Put x l) n s = value_text x ∷ n ∷ []
+operand_texts instr.ClearBuf n s = []
+operand_texts (instr.Set m x) n s = number_text m ∷ value_text x ∷ []
+operand_texts (instr.Add m x) n s = number_text m ∷ value_text x ∷ []
+operand_texts (instr.Sub m x) n s = number_text m ∷ value_text x ∷ []
+operand_texts (instr.JLt m x l) n s = number_text m ∷ value_text x ∷ n ∷ []
+operand_texts (instr.JEq m x l) n s = number_text m ∷ value_text x ∷ n ∷ []
 operand_texts (instr.JNull v l) n s = variable_text v ∷ n ∷ []
 operand_texts (instr.JSent l) n s = n ∷ []
 operand_texts (instr.Jump l) n s = n ∷ []
@@ -119,8 +138,16 @@ instr_word (instr.Unlabel q t) = codes "unlabel"
 instr_word (instr.BCreate o) = codes "bcreate"
 instr_word (instr.BClean b) = codes "bclean"
 instr_word (instr.BConcat a b) = codes "bconcat"
+instr_word (instr.BSave o b) = codes "bsave"
 instr_word (instr.Pass b l) = codes "pass"
 instr_word (instr.JEmpty b l) = codes "jempty"
+instr_word (instr.Put x l) = codes "put"
+instr_word instr.ClearBuf = codes "clearbuf"
+instr_word (instr.Set m x) = codes "set"
+instr_word (instr.Add m x) = codes "add"
+instr_word (instr.Sub m x) = codes "sub"
+instr_word (instr.JLt m x l) = codes "jlt"
+instr_word (instr.JEq m x l) = codes "jeq"
 instr_word (instr.JNull v l) = codes "jnull"
 instr_word (instr.JSent l) = codes "jsent"
 instr_word (instr.Jump l) = codes "jump"

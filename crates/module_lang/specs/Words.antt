@@ -10,8 +10,11 @@ use Rattle.module_lang.specs.declared.word.Kind.{Kind}
 use Rattle.module_lang.specs.declared.word.Kind.TheVariants as kind
 use Rattle.module_lang.specs.declared.word.Kinds.{Kinds}
 
+abbrev pub three_operands : Kind → Kind → Kind → Kinds
+three_operands a b c = record { first = a; second = b; third = c; fourth = kind.Nothing }
+
 abbrev pub two_operands : Kind → Kind → Kinds
-two_operands a b = record { first = a; second = b; third = kind.Nothing; fourth = kind.Nothing }
+two_operands a b = three_operands a b kind.Nothing
 
 abbrev pub one_operand : Kind → Kinds
 one_operand a = two_operands a kind.Nothing
@@ -29,8 +32,16 @@ op_text op.Unlabel = codes "unlabel"
 op_text op.BCreate = codes "bcreate"
 op_text op.BClean = codes "bclean"
 op_text op.BConcat = codes "bconcat"
+op_text op.BSave = codes "bsave"
 op_text op.Pass = codes "pass"
 op_text op.JEmpty = codes "jempty"
+op_text op.Put = codes "put"
+op_text op.ClearBuf = codes "clearbuf"
+op_text op.Set = codes "set"
+op_text op.Add = codes "add"
+op_text op.Sub = codes "sub"
+op_text op.JLt = codes "jlt"
+op_text op.JEq = codes "jeq"
 op_text op.JNull = codes "jnull"
 op_text op.JSent = codes "jsent"
 op_text op.Jump = codes "jump"
@@ -46,8 +57,16 @@ op_kinds op.Unlabel = two_operands kind.Place kind.Text
 op_kinds op.BCreate = one_operand kind.Brigade
 op_kinds op.BClean = one_operand kind.Source
 op_kinds op.BConcat = two_operands kind.Source kind.Source
+op_kinds op.BSave = two_operands kind.Brigade kind.Source
 op_kinds op.Pass = two_operands kind.Source kind.Label
 op_kinds op.JEmpty = two_operands kind.Source kind.Label
+op_kinds op.Put = two_operands kind.Value kind.Label
+op_kinds op.ClearBuf = no_operand
+op_kinds op.Set = two_operands kind.Number kind.Value
+op_kinds op.Add = two_operands kind.Number kind.Value
+op_kinds op.Sub = two_operands kind.Number kind.Value
+op_kinds op.JLt = three_operands kind.Number kind.Value kind.Label
+op_kinds op.JEq = three_operands kind.Number kind.Value kind.Label
 op_kinds op.JNull = two_operands kind.Variable kind.Label
 op_kinds op.JSent = one_operand kind.Label
 op_kinds op.Jump = one_operand kind.Label
@@ -79,7 +98,8 @@ abbrev pub all_words : List Word
 all_words =
     word.Module ∷ word.Pool ∷ word.Brigade ∷ word.Open ∷ word.Init ∷ word.Main ∷ word.End
     ∷ word.Op op.PCreate ∷ word.Op op.PClear ∷ word.Op op.PDestroy ∷ word.Op op.Label ∷ word.Op op.Unlabel
-    ∷ word.Op op.BCreate ∷ word.Op op.BClean ∷ word.Op op.BConcat ∷ word.Op op.Pass ∷ word.Op op.JEmpty
+    ∷ word.Op op.BCreate ∷ word.Op op.BClean ∷ word.Op op.BConcat ∷ word.Op op.BSave ∷ word.Op op.Pass ∷ word.Op op.JEmpty
+    ∷ word.Op op.Put ∷ word.Op op.ClearBuf ∷ word.Op op.Set ∷ word.Op op.Add ∷ word.Op op.Sub ∷ word.Op op.JLt ∷ word.Op op.JEq
     ∷ word.Op op.JNull ∷ word.Op op.JSent ∷ word.Op op.Jump ∷ word.Op op.Ret ∷ []
 
 -- the word that is written so

@@ -6,10 +6,10 @@ ghost use Rattle.std.specs.Cmp.Lexicographic.{slice_cmp};
 ghost use Rattle.std.specs.Ordering.{nat_cmp};
 ghost use Rattle.module_lang.specs.declared.draft.Label.{Label};
 ghost use Rattle.module_lang.specs.Codes.{Tells};
-ghost use Rattle.module_lang.specs.Handlers.{IsPlaces, IsSeen, label_fault, operand_label, label_of, is_lost, jump_fault, op_goes_on, ends_open, sooner, place_of, handler_fault, operand_index, operand_status, operand_variable, instr_of, target_place, step_code, handler_resolved, HasPlacesBelow};
+ghost use Rattle.module_lang.specs.Handlers.{IsPlaces, IsSeen, label_fault, operand_label, label_of, is_lost, jump_fault, op_goes_on, ends_open, sooner, place_of, handler_fault, operand_index, operand_status, operand_variable, operand_value, instr_of, target_place, step_code, handler_resolved, HasPlacesBelow};
 
 use crate::draft::{Handler, Label, Step};
-use crate::instr::{Instr, PoolRef, Status, VarRef};
+use crate::instr::{Instr, PoolRef, Status, Value, VarRef};
 use crate::name::Name;
 use crate::operand::{Operand, Operands, operand_place};
 use crate::refusal::{AsmRefusal, Code};
@@ -175,7 +175,17 @@ fn operand_index(operand: Operand) -> u8
     match operand {
         Operand::Place(PoolRef::Own(i)) => i,
         Operand::Brigade(b) => b,
+        Operand::Value(Value::Number(i)) => i,
         _ => 0,
+    }
+}
+
+fn operand_value(operand: Operand) -> Value
+    ensures { result ≡ operand_value operand }
+{
+    match operand {
+        Operand::Value(value) => value,
+        _ => Value::Constant(0),
     }
 }
 
@@ -202,6 +212,7 @@ fn instr_of(step: &Step, target: u16) -> Instr
     ensures { result ≡ instr_of step.now target }
 {
     let first = step.operands.first;
+    let second = step.operands.second;
     match step.op {
         Op::PCreate => Instr::PCreate(operand_index(first)),
         Op::PClear => Instr::PClear(operand_index(first)),
@@ -210,9 +221,17 @@ fn instr_of(step: &Step, target: u16) -> Instr
         Op::Unlabel => Instr::Unlabel(operand_place(first), step.text),
         Op::BCreate => Instr::BCreate(operand_index(first)),
         Op::BClean => Instr::BClean(operand_index(first)),
-        Op::BConcat => Instr::BConcat(operand_index(first), operand_index(step.operands.second)),
+        Op::BConcat => Instr::BConcat(operand_index(first), operand_index(second)),
+        Op::BSave => Instr::BSave(operand_index(first), operand_index(second)),
         Op::Pass => Instr::Pass(operand_index(first), target),
         Op::JEmpty => Instr::JEmpty(operand_index(first), target),
+        Op::Put => Instr::Put(operand_value(first), target),
+        Op::ClearBuf => Instr::ClearBuf,
+        Op::Set => Instr::Set(operand_index(first), operand_value(second)),
+        Op::Add => Instr::Add(operand_index(first), operand_value(second)),
+        Op::Sub => Instr::Sub(operand_index(first), operand_value(second)),
+        Op::JLt => Instr::JLt(operand_index(first), operand_value(second), target),
+        Op::JEq => Instr::JEq(operand_index(first), operand_value(second), target),
         Op::JNull => Instr::JNull(operand_variable(first), target),
         Op::JSent => Instr::JSent(target),
         Op::Jump => Instr::Jump(target),

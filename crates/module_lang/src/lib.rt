@@ -10,6 +10,7 @@ mod instr;
 mod lines;
 mod module;
 mod name;
+mod number;
 mod operand;
 mod print;
 mod quoted;
@@ -21,7 +22,7 @@ mod word;
 mod writer;
 
 pub use assembler::assemble;
-pub use instr::{Instr, PoolRef, Status, VarRef};
+pub use instr::{Instr, PoolRef, Status, Value, VarRef};
 pub use module::Module;
 pub use print::print_module;
 pub use quoted::{Measured, measure, print_text, push_spelling, unquote};

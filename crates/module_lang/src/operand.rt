@@ -2,11 +2,12 @@
 
 ghost use Rattle.std.specs.Prelude.{◌≡◌, ◌<◌, ◌≤◌, length, IsTrue};
 ghost use Rattle.module_lang.specs.Bytes.{begins, tail};
-ghost use Rattle.module_lang.specs.Operands.{numbered, is_one, place_in, pool_in, brigade_in, source_in, ending_in, label_in, variable_in, operand_place, operand_in, text_operand, operand_at, after_text, after_operand, operands_at, operand_kind_is_nothing, operand_kind_is_text};
+ghost use Rattle.module_lang.specs.Operands.{numbered, is_one, place_in, pool_in, brigade_in, source_in, ending_in, label_in, variable_in, number_in, constant_in, value_in, operand_place, operand_in, text_operand, operand_at, after_text, after_operand, operands_at, operand_kind_is_nothing, operand_kind_is_text};
 
 use crate::bytes::{after_token, begins, is_text, tail, token};
-use crate::instr::{PoolRef, Status};
+use crate::instr::{PoolRef, Status, Value};
 use crate::name::{Name, name_of};
+use crate::number::constant_of;
 use crate::quoted::measure;
 use crate::refusal::Code;
 use crate::word::{Kind, Kinds};
@@ -28,6 +29,8 @@ pub enum Operand {
     Label(Name),
     /// A text of so many bytes.
     Text(usize),
+    /// A number variable or a constant.
+    Value(Value),
 }
 
 /// The operands of a line, `Nothing` behind the last.
@@ -120,6 +123,27 @@ fn variable_in(token: &[u8]) -> Option<Operand>
     brigade_in(token)
 }
 
+fn number_in(token: &[u8]) -> Option<Operand>
+    ensures { result ≡ number_in token.now }
+{
+    Some(Operand::Value(Value::Number(numbered(b'n', token)?)))
+}
+
+fn constant_in(token: &[u8]) -> Option<Operand>
+    ensures { result ≡ constant_in token.now }
+{
+    Some(Operand::Value(Value::Constant(constant_of(token)?)))
+}
+
+fn value_in(token: &[u8]) -> Option<Operand>
+    ensures { result ≡ value_in token.now }
+{
+    if begins(token, b'n') {
+        return number_in(token);
+    }
+    constant_in(token)
+}
+
 /// The operand of a kind that a token without spaces spells.
 #[tactic(auto, unfolding(crate::specs::Operands::operand_in))]
 fn operand_in(kind: Kind, token: &[u8]) -> Option<Operand>
@@ -136,6 +160,8 @@ fn operand_in(kind: Kind, token: &[u8]) -> Option<Operand>
         Kind::Label => label_in(token),
         Kind::Text => None,
         Kind::Variable => variable_in(token),
+        Kind::Number => number_in(token),
+        Kind::Value => value_in(token),
     }
 }
 

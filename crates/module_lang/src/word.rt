@@ -1,7 +1,7 @@
 //! The words of module texts, and what operands follow each.
 
 ghost use Rattle.std.specs.Prelude.{◌≡◌};
-ghost use Rattle.module_lang.specs.Words.{op_text, op_kinds, word_text, word_kinds, word_at, no_operand, one_operand, two_operands};
+ghost use Rattle.module_lang.specs.Words.{op_text, op_kinds, word_text, word_kinds, word_at, no_operand, one_operand, two_operands, three_operands};
 
 /// What an operand may be.
 #[derive(Clone, Copy)]
@@ -26,6 +26,10 @@ pub enum Kind {
     Text,
     /// A pool variable or a brigade variable.
     Variable,
+    /// A number variable.
+    Number,
+    /// A number variable or a constant.
+    Value,
 }
 
 /// The kinds of the operands that follow a word, `Nothing` behind the last.
@@ -60,6 +64,17 @@ impl Kinds {
             fourth: Kind::Nothing,
         }
     }
+
+    fn three(first: Kind, second: Kind, third: Kind) -> Self
+        ensures { result ≡ three_operands first second third }
+    {
+        Kinds {
+            first,
+            second,
+            third,
+            fourth: Kind::Nothing,
+        }
+    }
 }
 
 /// The word of an instruction.
@@ -73,8 +88,16 @@ pub enum Op {
     BCreate,
     BClean,
     BConcat,
+    BSave,
     Pass,
     JEmpty,
+    Put,
+    ClearBuf,
+    Set,
+    Add,
+    Sub,
+    JLt,
+    JEq,
     JNull,
     JSent,
     Jump,
@@ -96,8 +119,16 @@ impl Op {
             Op::BCreate => b"bcreate",
             Op::BClean => b"bclean",
             Op::BConcat => b"bconcat",
+            Op::BSave => b"bsave",
             Op::Pass => b"pass",
             Op::JEmpty => b"jempty",
+            Op::Put => b"put",
+            Op::ClearBuf => b"clearbuf",
+            Op::Set => b"set",
+            Op::Add => b"add",
+            Op::Sub => b"sub",
+            Op::JLt => b"jlt",
+            Op::JEq => b"jeq",
             Op::JNull => b"jnull",
             Op::JSent => b"jsent",
             Op::Jump => b"jump",
@@ -119,8 +150,16 @@ impl Op {
             Op::BCreate => Kinds::one(Kind::Brigade),
             Op::BClean => Kinds::one(Kind::Source),
             Op::BConcat => Kinds::two(Kind::Source, Kind::Source),
+            Op::BSave => Kinds::two(Kind::Brigade, Kind::Source),
             Op::Pass => Kinds::two(Kind::Source, Kind::Label),
             Op::JEmpty => Kinds::two(Kind::Source, Kind::Label),
+            Op::Put => Kinds::two(Kind::Value, Kind::Label),
+            Op::ClearBuf => Kinds::none(),
+            Op::Set => Kinds::two(Kind::Number, Kind::Value),
+            Op::Add => Kinds::two(Kind::Number, Kind::Value),
+            Op::Sub => Kinds::two(Kind::Number, Kind::Value),
+            Op::JLt => Kinds::three(Kind::Number, Kind::Value, Kind::Label),
+            Op::JEq => Kinds::three(Kind::Number, Kind::Value, Kind::Label),
             Op::JNull => Kinds::two(Kind::Variable, Kind::Label),
             Op::JSent => Kinds::one(Kind::Label),
             Op::Jump => Kinds::one(Kind::Label),
@@ -178,7 +217,7 @@ impl Word {
     }
 }
 
-const WORDS: [Word; 21] = [
+const WORDS: [Word; 29] = [
     Word::Module,
     Word::Pool,
     Word::Brigade,
@@ -194,8 +233,16 @@ const WORDS: [Word; 21] = [
     Word::Op(Op::BCreate),
     Word::Op(Op::BClean),
     Word::Op(Op::BConcat),
+    Word::Op(Op::BSave),
     Word::Op(Op::Pass),
     Word::Op(Op::JEmpty),
+    Word::Op(Op::Put),
+    Word::Op(Op::ClearBuf),
+    Word::Op(Op::Set),
+    Word::Op(Op::Add),
+    Word::Op(Op::Sub),
+    Word::Op(Op::JLt),
+    Word::Op(Op::JEq),
     Word::Op(Op::JNull),
     Word::Op(Op::JSent),
     Word::Op(Op::Jump),

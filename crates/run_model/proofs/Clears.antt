@@ -14,6 +14,7 @@ use Rattle.run_model.specs.RunOrderLaws.{under_itself}
 use Rattle.run_model.specs.Buckets.{end_pools, to_heap, cleared_bucket}
 use Rattle.run_model.specs.Clearing.{is_reached, cleared_var, run_down}
 use Rattle.run_model.specs.State.{Run, with_pools, items_of}
+use Rattle.run_model.specs.Steps.{files_let_go}
 use Rattle.run_model.specs.Sound.{brigade_pool}
 use Rattle.run_model.specs.Laws.{ClearsKeepOthers, lies_under, StandsApart, SameContents, TakesAlong, ClearsTakeAlong}
 use Rattle.run_model.proofs.PoolMap.{cleared_apart, cleared_itself, cleared_under, cleared_payloads, cleared_next, destroyed_apart, destroyed_under, destroyed_next}
@@ -151,7 +152,7 @@ var_same n r (var.Live v) off apart =
 
 -- Runs.
 
-run_down_takes : (n : ℕ) (r : Run) (ps : Pools Payload) → TakesAlong n r (with_pools ps (run_down n r))
+run_down_takes : (n : ℕ) (r : Run) (ps : Pools Payload) → TakesAlong n r (files_let_go n r (with_pools ps (run_down n r)))
 unfolding with_pools run_down
 run_down_takes n r ps = record {
   gone = λ b lies. var_gone (is_under r.shared.pools n) (r.inst.brigs b) lies;

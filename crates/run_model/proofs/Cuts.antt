@@ -4,35 +4,64 @@ use Rattle.std.proofs.lemmas.List.Folds.{list_any-append}
 use Rattle.run_model.specs.declared.fault.FaultKind.{FaultKind}
 use Rattle.run_model.specs.declared.fault.FaultKind.TheVariants.{F8}
 use Rattle.run_model.specs.declared.bucket.Named.{Named}
-use Rattle.run_model.specs.Buckets.{is_data, is_eos, has_data, has_eos, bytes_of, data_after_eos}
-use Rattle.run_model.specs.State.{Out}
+use Rattle.run_model.specs.Buckets.{is_data, is_eos, has_data, has_eos, data_after_eos}
+use Rattle.run_model.specs.Files.{Files, Taken, all_taken, and_then, content_taken, followed_by, taken_of}
 use Rattle.run_model.specs.Faults.{or_else}
-use Rattle.run_model.specs.Steps.{bytes_before_eos, delivered}
+use Rattle.run_model.specs.Steps.{Delivered, delivered}
 use Rattle.run_model.specs.Laws.{OutputOfCuts, FaultOfCuts}
 
 -- The output.
 
--- the bytes before the first EOS of two lists
-before_append : (xs ys : List Named) → bytes_before_eos (xs ++ ys) ≡ cond (has_eos xs) (bytes_before_eos xs) (bytes_before_eos xs ++ bytes_before_eos ys)
-before_append [] ys = refl
-before_append (x ∷ xs) ys = at_head (is_eos x) (bytes_of x.bucket.content) (has_eos xs) (bytes_before_eos xs) (bytes_before_eos ys) (bytes_before_eos (xs ++ ys)) (before_append xs ys) where
-  at_head : (eos : Bool) (c : List ℕ) (m : Bool) (bx by bxy : List ℕ) → bxy ≡ cond m bx (bx ++ by) → cond eos [] (c ++ bxy) ≡ cond (eos || m) (cond eos [] (c ++ bx)) (cond eos [] (c ++ bx) ++ by)
-  at_head true c m bx by bxy h = refl
-  at_head false c true bx by bxy h = ap (λ b. c ++ b) h
-  at_head false c false bx by bxy h = ap (λ b. c ++ b) h ∙ sym (append_assoc c bx by)
+-- bytes before what was taken, and before that again
+regrouped_bytes : (m : Bool) (bs : List ℕ) (t u : Taken) → and_then bs (cond m t (and_then t.bytes u)) ≡ cond m (and_then bs t) (and_then (bs ++ t.bytes) u)
+regrouped_bytes true bs t u = refl
+regrouped_bytes false bs t u = ap (λ (b : List ℕ). record u { bytes = b }) (sym (append_assoc bs t.bytes u.bytes))
 
-joined : (bs : List ℕ) (m n t : Bool) (bx by bxy : List ℕ) → bxy ≡ cond m bx (bx ++ by) → t ≡ (m || n)
-    → cond m (record { bytes = bs ++ bx; ended = m }) (record { bytes = (bs ++ bx) ++ by; ended = n }) ≡ (let out : Out = record { bytes = bs ++ bxy; ended = t } in out)
-joined bs true n t bx by bxy h k = sym (ap (λ b. let out : Out = record { bytes = bs ++ b; ended = t } in out) h ∙ ap (λ e. let out : Out = record { bytes = bs ++ bx; ended = e } in out) k)
-joined bs false n t bx by bxy h k =
-    sym (ap (λ b. let out : Out = record { bytes = bs ++ b; ended = t } in out) h ∙ (ap (λ e. let out : Out = record { bytes = bs ++ (bx ++ by); ended = e } in out) k ∙ ap (λ b. let out : Out = record { bytes = b; ended = n } in out) (sym (append_assoc bs bx by))))
+-- What is taken of two lists, where no read of the first failed.
+Joined : List Named → List Named → Files → Type 0
+Joined xs ys fs = (taken_of xs fs).whole ≡ true → taken_of (xs ++ ys) fs ≡ cond (has_eos xs) (taken_of xs fs) (and_then (taken_of xs fs).bytes (taken_of ys (taken_of xs fs).files))
+
+-- the same of what follows a bucket of which t was taken
+behind : (t : Taken) (xs ys : List Named) → Joined xs ys t.files → (followed_by t (taken_of xs)).whole ≡ true
+    → followed_by t (taken_of (xs ++ ys)) ≡ cond (has_eos xs) (followed_by t (taken_of xs)) (and_then (followed_by t (taken_of xs)).bytes (taken_of ys (followed_by t (taken_of xs)).files))
+unfolding Joined
+behind t xs ys rest = by_whole t.whole refl where
+  by_whole : (b : Bool) → t.whole ≡ b → (cond b (and_then t.bytes (taken_of xs t.files)) t).whole ≡ true
+      → cond b (and_then t.bytes (taken_of (xs ++ ys) t.files)) t
+      ≡ cond (has_eos xs) (cond b (and_then t.bytes (taken_of xs t.files)) t) (and_then (cond b (and_then t.bytes (taken_of xs t.files)) t).bytes (taken_of ys (cond b (and_then t.bytes (taken_of xs t.files)) t).files))
+  by_whole true is whole = ap (and_then t.bytes) (rest whole) ∙ regrouped_bytes (has_eos xs) t.bytes (taken_of xs t.files) (taken_of ys (taken_of xs t.files).files)
+  by_whole false is whole = absurd (let both : false ≡ true = sym is ∙ whole in cc)
+
+taken_append : (xs ys : List Named) (fs : Files) → Joined xs ys fs
+unfolding Joined taken_of
+taken_append [] ys fs whole = refl
+taken_append (x ∷ xs) ys fs whole = by_eos (taken_append xs ys (content_taken x.bucket.content fs).files) (is_eos x) whole where
+  by_eos : Joined xs ys (content_taken x.bucket.content fs).files → (eos : Bool) → (cond eos (all_taken [] fs) (followed_by (content_taken x.bucket.content fs) (taken_of xs))).whole ≡ true
+      → cond eos (all_taken [] fs) (followed_by (content_taken x.bucket.content fs) (taken_of (xs ++ ys)))
+      ≡ cond (eos || has_eos xs) (cond eos (all_taken [] fs) (followed_by (content_taken x.bucket.content fs) (taken_of xs)))
+      (and_then (cond eos (all_taken [] fs) (followed_by (content_taken x.bucket.content fs) (taken_of xs))).bytes (taken_of ys (cond eos (all_taken [] fs) (followed_by (content_taken x.bucket.content fs) (taken_of xs))).files))
+  by_eos rest true whole = refl
+  by_eos rest false whole = behind (content_taken x.bucket.content fs) xs ys rest whole
+
+-- what the output filter has put out, of an output that did not end
+abbrev put_behind : List ℕ → Bool → Taken → Delivered
+put_behind bs ended t = record { out = record { bytes = bs ++ t.bytes; ended = ended }; well = t.whole; files = t.files }
+
+joined : (bs : List ℕ) (m n : Bool) (t u : Taken) → t.whole ≡ true
+    → cond m (record { out = record { bytes = bs ++ t.bytes; ended = m }; well = true; files = t.files }) (put_behind (bs ++ t.bytes) n u) ≡ put_behind bs (m || n) (cond m t (and_then t.bytes u))
+joined bs true n t u whole = ap (λ (w : Bool). let d : Delivered = record { out = record { bytes = bs ++ t.bytes; ended = true }; well = w; files = t.files } in d) (sym whole)
+joined bs false n t u whole = ap (λ (b : List ℕ). let d : Delivered = record { out = record { bytes = b; ended = n }; well = u.whole; files = u.files } in d) (append_assoc bs t.bytes u.bytes)
 
 pub output_of_cuts : OutputOfCuts
-unfolding delivered
-output_of_cuts out xs ys = by_ended out.bytes out.ended where
-  by_ended : (bs : List ℕ) (e : Bool) → delivered (delivered (record { bytes = bs; ended = e }) xs) ys ≡ delivered (record { bytes = bs; ended = e }) (xs ++ ys)
-  by_ended bs true = refl
-  by_ended bs false = joined bs (has_eos xs) (has_eos ys) (has_eos (xs ++ ys)) (bytes_before_eos xs) (bytes_before_eos ys) (bytes_before_eos (xs ++ ys)) (before_append xs ys) (list_any-append is_eos xs ys)
+unfolding delivered Joined
+output_of_cuts out xs ys fs = by_ended out.bytes out.ended where
+  by_ended : (bs : List ℕ) (e : Bool) → (delivered (record { bytes = bs; ended = e }) xs fs).well ≡ true
+      → delivered (delivered (record { bytes = bs; ended = e }) xs fs).out ys (delivered (record { bytes = bs; ended = e }) xs fs).files ≡ delivered (record { bytes = bs; ended = e }) (xs ++ ys) fs
+  by_ended bs true well = refl
+  by_ended bs false well =
+      joined bs (has_eos xs) (has_eos ys) (taken_of xs fs) (taken_of ys (taken_of xs fs).files) well
+      ∙ (ap (λ (e : Bool). put_behind bs e (cond (has_eos xs) (taken_of xs fs) (and_then (taken_of xs fs).bytes (taken_of ys (taken_of xs fs).files)))) (sym (list_any-append is_eos xs ys))
+      ∙ ap (put_behind bs (has_eos (xs ++ ys))) (sym (taken_append xs ys fs well)))
 
 -- The fault.
 

@@ -1,43 +1,71 @@
 -- The events of a connection keep its run sound.
 use Rattle.std.proofs.Common.{◌≡◌, ℕ, zero, suc, ◌+◌, ◌^◌, ◌<◌, ◌≤◌, Bool, true, false, ◌||◌, List, [], ◌∷◌, length, Some, None, inl, inr, refl, sym, ◌∙◌, ap, subst, arith}
 use Rattle.module_lang.specs.Program.{Program}
+use Rattle.run_model.specs.declared.bucket.Bucket.{Bucket}
 use Rattle.run_model.specs.declared.bucket.Mark.TheVariants.{Usable}
 use Rattle.run_model.specs.declared.bucket.Brigade.{Brigade}
 use Rattle.run_model.specs.declared.bucket.Var.{Var}
 use Rattle.run_model.specs.declared.bucket.Var.TheVariants as var
 use Rattle.run_model.specs.declared.event.Piece.{Piece}
 use Rattle.run_model.specs.declared.payload.Payload.{Payload}
-use Rattle.run_model.specs.Pools.{is_under, planted, created}
-use Rattle.run_model.specs.State.{Shared, Run, items_of, with_pools, set_brig}
+use Rattle.run_model.specs.declared.payload.Payload.TheVariants.{FileRef}
+use Rattle.run_model.specs.Files.{Files, file_added}
+use Rattle.run_model.specs.Pools.{Pools, is_live, is_under, planted, created, registered}
+use Rattle.run_model.specs.RunOrder.{IsPoolMap}
+use Rattle.run_model.specs.State.{Inst, Run, items_of, with_pools, set_brig}
 use Rattle.run_model.specs.Steps.{is_spent}
 use Rattle.run_model.specs.Clearing.{run_down}
-use Rattle.run_model.specs.Connection.{Connection, opened, begun, brought, request_ended, named_from}
+use Rattle.run_model.specs.Connection.{Connection, opened, begun, bucket_of, brought_in, file_taken, request_ended, named_from}
 use Rattle.run_model.specs.Sound.{sum_below, count_named, brigade_pool, SoundPools, Sound}
 use Rattle.run_model.proofs.Updates.{upd_either}
 use Rattle.run_model.proofs.PoolMap.{created_lives, created_kept, created_at, new_lives, destroyed_apart, destroyed_next}
 use Rattle.run_model.proofs.Names.{count_none, count_before, count_once, count_behind, Fewer, fewer_same, keeps_slots, went_names, placed_names}
-use Rattle.run_model.proofs.StepNames.{not_spent}
-use Rattle.run_model.proofs.StepBuckets.{ProperList, none_proper, named_proper, keeps_buckets, went_buckets, written_buckets}
-use Rattle.run_model.proofs.Formed.{planted_live, planted_formed, created_formed, destroyed_formed}
+use Rattle.run_model.proofs.StepNames.{not_spent, same_slots}
+use Rattle.run_model.proofs.StepBuckets.{ProperList, none_proper, named_proper, keeps_buckets, went_buckets, written_buckets, same_buckets}
+use Rattle.run_model.proofs.Formed.{path_live, planted_live, planted_formed, created_formed, registered_formed, destroyed_formed}
 use Rattle.run_model.proofs.NamedPools.{conn_given}
-use Rattle.run_model.proofs.Thinned.{keeps_pools, went_pools}
+use Rattle.run_model.proofs.Thinned.{keeps_paths, keeps_pools, went_pools}
 
--- Brigades and shared things stay, and loose buckets stay or go.
-pub same_sound : (r new : Run) → new.inst.brigs ≡ r.inst.brigs → new.inst.pools ≡ r.inst.pools → new.shared ≡ r.shared
+-- Brigades, pools and names stay, and loose buckets stay or go.
+pub same_sound : (r new : Run) → new.inst.brigs ≡ r.inst.brigs → new.inst.pools ≡ r.inst.pools
+    → new.shared.pools ≡ r.shared.pools → new.shared.conn ≡ r.shared.conn → new.shared.req ≡ r.shared.req → new.shared.next ≡ r.shared.next
     → ((n : ℕ) → count_named n new.call.loose ≤ count_named n r.call.loose) → (ProperList r.call.loose → ProperList new.call.loose)
     → Sound r → Sound new
-same_sound r new brigs own shared fewer proper s = record {
+same_sound r new brigs own pools conn req next fewer proper s = record {
   names = keeps_slots r new fewer (λ b. subst (λ (g : ℕ → Var). Fewer (r.inst.brigs b) (g b)) (sym brigs) (fewer_same (r.inst.brigs b)))
-      (subst (λ (x : Shared). r.shared.next ≤ x.next) (sym shared) (omega arith)) (subst (λ (x : Shared). x.next < 2 ^ 64) (sym shared) s.names.limit) s.names;
+      (omega (arith, next)) (subst (λ (k : ℕ). k < 2 ^ 64) (sym next) s.names.limit) s.names;
   buckets = keeps_buckets r new (λ b h. subst (λ (g : ℕ → Var). ProperList (items_of (g b))) (sym brigs) h) proper s.buckets;
-  pools = keeps_pools r new (ap (λ (x : Shared). x.pools) shared) (ap (λ (x : Shared). x.conn) shared) (ap (λ (x : Shared). x.req) shared) own
-      (λ b n e. s.pools.brigades b n (sym (ap (λ (g : ℕ → Var). brigade_pool (g b)) brigs) ∙ e)) s.pools;
+  pools = keeps_pools r new pools conn req own (λ b n e. s.pools.brigades b n (sym (ap (λ (g : ℕ → Var). brigade_pool (g b)) brigs) ∙ e)) s.pools;
 }
 
 -- where nothing of all this changes
-pub untouched_sound : (r new : Run) → new.inst.brigs ≡ r.inst.brigs → new.inst.pools ≡ r.inst.pools → new.shared ≡ r.shared → new.call.loose ≡ r.call.loose → Sound r → Sound new
-untouched_sound r new brigs own shared same s =
-    same_sound r new brigs own shared (λ n. rw same (omega arith)) (λ h. subst ProperList (sym same) h) s
+pub untouched_sound : (r new : Run) → new.inst.brigs ≡ r.inst.brigs → new.inst.pools ≡ r.inst.pools
+    → new.shared.pools ≡ r.shared.pools → new.shared.conn ≡ r.shared.conn → new.shared.req ≡ r.shared.req → new.shared.next ≡ r.shared.next
+    → new.call.loose ≡ r.call.loose → Sound r → Sound new
+untouched_sound r new brigs own pools conn req next same s =
+    same_sound r new brigs own pools conn req next (λ n. rw same (omega arith)) (λ h. subst ProperList (sym same) h) s
+
+-- a file is added
+pub added_sound : (name bytes : List ℕ) (r : Run) → Sound r → Sound (record r { shared = record r.shared { files = file_added name bytes r.shared.files } })
+added_sound name bytes r s = untouched_sound r (record r { shared = record r.shared { files = file_added name bytes r.shared.files } }) refl refl refl refl refl refl refl s
+
+-- A file is opened.
+
+referred_pools : (req : ℕ) (x : Payload) (r new : Run) → new.shared.pools ≡ registered req x r.shared.pools → new.inst ≡ r.inst → new.shared.conn ≡ r.shared.conn → new.shared.req ≡ r.shared.req
+    → r.shared.req ≡ Some req → SoundPools r → SoundPools new
+unfolding registered
+referred_pools req x r new pools inst conn same is s =
+    let lives : is_live r.shared.pools req ≡ true = path_live r.shared.pools req req _ (s.req req is).0 in
+    keeps_paths r new (subst (λ (ps : Pools Payload). IsPoolMap ps) (sym pools) (registered_formed req x r.shared.pools lives s.formed))
+    (ap (λ (ps : Pools Payload). ps.path) pools) (ap (λ (ps : Pools Payload). ps.next) pools) conn same (ap (λ (i : Inst). i.pools) inst)
+    (λ b n e. s.brigades b n (sym (ap (λ (i : Inst). brigade_pool (i.brigs b)) inst) ∙ e)) s
+
+pub taken_sound : (req len : ℕ) (name : List ℕ) (c : Connection) → c.run.shared.req ≡ Some req → Sound c.run → Sound (file_taken req name len c).run
+taken_sound req len name c is s = record {
+  names = same_slots c.run (file_taken req name len c).run refl refl refl s.names;
+  buckets = same_buckets c.run (file_taken req name len c).run refl refl s.buckets;
+  pools = referred_pools req (FileRef c.run.shared.files.next) c.run (file_taken req name len c).run refl refl refl refl is s.pools;
+}
 
 -- A request begins.
 
@@ -75,19 +103,20 @@ begun_sound p c last s =
 
 -- A brigade is brought.
 
-brought_brigade : ℕ → List Piece → Brigade
-brought_brigade n pieces = record { name = n + 1; on = None; mark = Usable; items = named_from (n + 2) pieces }
+brought_brigade : ℕ → ℕ → List Piece → Brigade
+brought_brigade n req pieces = record { name = n + 1; on = None; mark = Usable; items = named_from (bucket_of n req) (n + 2) pieces }
 
-pub brought_sound : (p : Program) (pieces : List Piece) (c : Connection) → is_spent c.run.shared.next (2 + length pieces) ≡ false → Sound c.run → Sound (brought p pieces c).run
+pub brought_sound : (req : ℕ) (p : Program) (pieces : List Piece) (c : Connection) → is_spent c.run.shared.next (2 + length pieces) ≡ false → Sound c.run → Sound (brought_in req p pieces c).run
 unfolding set_brig brought_brigade
-brought_sound p pieces c last s =
+brought_sound req p pieces c last s =
     let n = c.run.shared.next in
+    let make : Piece → Bucket = bucket_of n req in
     let limit : n + (2 + length pieces) < 2 ^ 64 = not_spent n (2 + length pieces) last in
     record {
-      names = placed_names c.run (brought p pieces c).run 8 (brought_brigade n pieces) (omega arith) refl (λ k. rw (count_none k) (omega arith)) (omega arith) (omega arith) (omega arith)
-          (λ k lt. count_before k (n + 2) pieces (omega arith)) (λ k. count_once k (n + 2) pieces) (λ k le. count_behind k (n + 2) pieces (omega arith)) s.names;
-      buckets = written_buckets c.run (brought p pieces c).run 8 (var.Live (brought_brigade n pieces)) refl (named_proper (n + 2) pieces) (λ h. none_proper) s.buckets;
-      pools = keeps_pools c.run (brought p pieces c).run refl refl refl refl (λ b k e. elim (upd_either c.run.inst.brigs 8 b (var.Live (brought_brigade n pieces))) [
+      names = placed_names c.run (brought_in req p pieces c).run 8 (brought_brigade n req pieces) (omega arith) refl (λ k. rw (count_none k) (omega arith)) (omega arith) (omega arith) (omega arith)
+          (λ k lt. count_before make k (n + 2) pieces (omega arith)) (λ k. count_once make k (n + 2) pieces) (λ k le. count_behind make k (n + 2) pieces (omega arith)) s.names;
+      buckets = written_buckets c.run (brought_in req p pieces c).run 8 (var.Live (brought_brigade n req pieces)) refl (named_proper n req (n + 2) pieces) (λ h. none_proper) s.buckets;
+      pools = keeps_pools c.run (brought_in req p pieces c).run refl refl refl refl (λ b k e. elim (upd_either c.run.inst.brigs 8 b (var.Live (brought_brigade n req pieces))) [
         | inl q ↦ absurd (let none : None ≡ Some k = sym (ap brigade_pool q.1) ∙ e in cc)
         | inr q ↦ s.pools.brigades b k (sym (ap brigade_pool q.1) ∙ e)
       ]) s.pools;
@@ -117,9 +146,9 @@ no_buckets zero n = refl
 no_buckets (suc m) n = let rest : sum_below m (λ b. count_named n []) ≡ 0 = no_buckets m n in omega (arith, count_none n)
 
 -- the connection's pool 2 stands under the root 1
-opened_pools : SoundPools opened.run
+opened_pools : (fs : Files) → SoundPools (opened fs).run
 unfolding opened created planted
-opened_pools = record {
+opened_pools fs = record {
   limit = omega arith;
   formed = created_formed 1 (planted {T = Payload} 1) (planted_live Payload 1) (planted_formed Payload 1);
   conn = new_lives 1 (planted {T = Payload} 1);
@@ -128,9 +157,9 @@ opened_pools = record {
   brigades = λ b n e. absurd (cc);
 }
 
-pub opened_sound : Sound opened.run
+pub opened_sound : (fs : Files) → Sound (opened fs).run
 unfolding opened
-opened_sound = record {
+opened_sound fs = record {
   names = record {
     once = λ n. omega (arith, no_buckets 9 n, count_none n);
     fresh = λ n le. omega (arith, no_buckets 9 n, count_none n);
@@ -140,5 +169,5 @@ opened_sound = record {
     slots = λ b le. refl;
   };
   buckets = record { brigades = λ b. none_proper; loose = none_proper };
-  pools = opened_pools;
+  pools = opened_pools fs;
 }

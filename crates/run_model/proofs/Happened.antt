@@ -8,8 +8,9 @@ use Rattle.run_model.specs.declared.event.Event.TheVariants as event
 use Rattle.run_model.specs.declared.event.Refusal.{Refusal}
 use Rattle.run_model.specs.declared.event.Stepped.{Stepped}
 use Rattle.run_model.specs.Pools.{Pools}
+use Rattle.run_model.specs.Files.{Files}
 use Rattle.run_model.specs.Connection.{Connection, first_refusal, refused_if, unless_refused}
-use Rattle.run_model.specs.Runs.{World, Before, There, Closed, answer_of, step_of, happens}
+use Rattle.run_model.specs.Runs.{World, Before, There, Closed, answer_of, step_of, file_of, adds_file, happens}
 
 pub none_first : (t : Option Refusal) (ts : List (Option Refusal)) → first_refusal (t ∷ ts) ≡ None → first_refusal ts ≡ None
 none_first None ts h = h
@@ -25,9 +26,9 @@ happened P (Some r) old new s h = s
 
 -- what is true of a connection, where it is there
 abbrev pub IfThere : World → (Connection → Type 0) → Type 0
-IfThere Before P = Unit {0}
+IfThere (Before fs) P = Unit {0}
 IfThere (There c) P = P c
-IfThere (Closed pools) P = Unit {0}
+IfThere (Closed pools fs) P = Unit {0}
 
 pub told : (P : Connection → Type 0) (a : Option Refusal × Connection) → P a.1 → IfThere (answer_of a).1 P
 told P (None, c) s = s
@@ -37,14 +38,29 @@ pub stepped_told : (P : Connection → Type 0) (a : Result Stepped Refusal × Co
 stepped_told P (Ok x, c) s = s
 stepped_told P (Err r, c) s = s
 
--- what is told of a closed connection leaves it closed
-pub closed_stays : (memory : Bool) (budget : ℕ) (p : Program) (e : Event) (pools : Pools Payload) → (happens memory budget p e (Closed pools)).1 ≡ Closed pools
-closed_stays memory budget p event.Open pools = refl
-closed_stays memory budget p event.Begin pools = refl
-closed_stays memory budget p (event.Bring pieces) pools = refl
-closed_stays memory budget p event.Step pools = refl
-closed_stays memory budget p event.End pools = refl
-closed_stays memory budget p event.TakeOutput pools = refl
-closed_stays memory budget p event.TellLabels pools = refl
-closed_stays memory budget p event.Close pools = refl
-closed_stays memory budget p event.TellPools pools = refl
+pub opening_told : (P : Connection → Type 0) (a : Result (ℕ × ℕ) Refusal × Connection) → P a.1 → IfThere (file_of a).1 P
+opening_told P (Ok f, c) s = s
+opening_told P (Err r, c) s = s
+
+-- Where no connection is there, none is made but by an opening.
+
+pub added_before : (P : Connection → Type 0) (memory : Bool) (name bytes : List ℕ) (fs : Files) → IfThere (adds_file memory name bytes (Before fs)).1 P
+added_before P true name bytes fs = tt
+added_before P false name bytes fs = tt
+
+added_closed : (P : Connection → Type 0) (memory : Bool) (name bytes : List ℕ) (pools : Pools Payload) (fs : Files) → IfThere (adds_file memory name bytes (Closed pools fs)).1 P
+added_closed P true name bytes pools fs = tt
+added_closed P false name bytes pools fs = tt
+
+pub closed_stays : (P : Connection → Type 0) (memory : Bool) (budget : ℕ) (p : Program) (e : Event) (pools : Pools Payload) (fs : Files) → IfThere (happens memory budget p e (Closed pools fs)).1 P
+closed_stays P memory budget p event.Open pools fs = tt
+closed_stays P memory budget p (event.AddFile name bytes) pools fs = added_closed P memory name bytes pools fs
+closed_stays P memory budget p event.Begin pools fs = tt
+closed_stays P memory budget p (event.OpenFile name) pools fs = tt
+closed_stays P memory budget p (event.Bring pieces) pools fs = tt
+closed_stays P memory budget p event.Step pools fs = tt
+closed_stays P memory budget p event.End pools fs = tt
+closed_stays P memory budget p event.TakeOutput pools fs = tt
+closed_stays P memory budget p event.TellLabels pools fs = tt
+closed_stays P memory budget p event.Close pools fs = tt
+closed_stays P memory budget p event.TellPools pools fs = tt

@@ -22,3 +22,4 @@ pub mod Cuts
 pub mod Filled
 pub mod Marks
 pub mod Clears
+pub mod Kept

@@ -45,6 +45,17 @@ passed_is_not_used p choice b l r (instr.Unlabel q t) used none = absurd (cc)
 passed_is_not_used p choice b l r (instr.JNull v k) used none = absurd (cc)
 passed_is_not_used p choice b l r (instr.BCreate o) used none = absurd (cc)
 passed_is_not_used p choice b l r (instr.BClean c) used none = absurd (cc)
+passed_is_not_used p choice b l r (instr.Put x k) used none = absurd (cc)
+passed_is_not_used p choice b l r instr.ClearBuf used none = absurd (cc)
+passed_is_not_used p choice b l r (instr.Set n x) used none = absurd (cc)
+passed_is_not_used p choice b l r (instr.Add n x) used none = absurd (cc)
+passed_is_not_used p choice b l r (instr.Sub n x) used none = absurd (cc)
+passed_is_not_used p choice b l r (instr.JLt n x k) used none = absurd (cc)
+passed_is_not_used p choice b l r (instr.JEq n x k) used none = absurd (cc)
+passed_is_not_used p choice b l r (instr.BSave a c) used none = elim (one_of (a == b) (c == b) used) [
+  | inl first ↦ not_usable b a r first (first_none (usable_fault ((do_pass b r).inst.brigs a)) _ none)
+  | inr second ↦ not_usable b c r second (first_none (usable_fault ((do_pass b r).inst.brigs c)) _ (second_none (usable_fault ((do_pass b r).inst.brigs a)) _ none))
+]
 passed_is_not_used p choice b l r (instr.BConcat a c) used none = elim (one_of (a == b) (c == b) used) [
   | inl first ↦ not_usable b a r first (first_none (usable_fault ((do_pass b r).inst.brigs a)) _ none)
   | inr second ↦ not_usable b c r second (first_none (usable_fault ((do_pass b r).inst.brigs c)) _ (second_none (usable_fault ((do_pass b r).inst.brigs a)) _ none))

@@ -1,12 +1,13 @@
 -- A step on a pool that may be named, case by case, and what a sound state says of the pools that are named.
-use Rattle.std.proofs.Common.{◌≡◌, ℕ, ◌<◌, Option, Some, None, refl}
+use Rattle.std.proofs.Common.{◌≡◌, ℕ, ◌<◌, Bool, true, false, cond, List, [], ◌∷◌, ◌++◌, Option, Some, None, refl}
 use Rattle.module_lang.specs.declared.instr.PoolRef.TheVariants as pool
+use Rattle.module_lang.specs.declared.instr.Value.{Value}
 use Rattle.module_lang.specs.Program.{Program, pool_of_pool}
 use Rattle.run_model.specs.declared.bucket.PoolVar.{PoolVar}
 use Rattle.run_model.specs.declared.bucket.PoolVar.TheVariants as poolvar
 use Rattle.run_model.specs.Pools.{created}
 use Rattle.run_model.specs.State.{Run, set_pool, with_pools, name_in, pool_named}
-use Rattle.run_model.specs.Steps.{on_pool, do_pcreate}
+use Rattle.run_model.specs.Steps.{on_pool, do_pcreate, value_of, is_full, do_put}
 use Rattle.run_model.specs.Sound.{SoundPools}
 use Rattle.run_model.proofs.Formed.{path_live}
 
@@ -14,6 +15,17 @@ use Rattle.run_model.proofs.Formed.{path_live}
 pub on_named : (P : Run → Type 0) (change : ℕ → Run → Run) (o : Option ℕ) (r : Run) → P r → ((n : ℕ) → o ≡ Some n → P (change n r)) → P (on_pool change o r)
 on_named P change None r none some = none
 on_named P change (Some n) r none some = some n refl
+
+-- r with another buffer
+abbrev pub with_buffer : List ℕ → Run → Run
+with_buffer buffer r = record r { call = record r.call { buffer = buffer } }
+
+-- what holds where nothing is put into the buffer, and where something is
+pub put_keeps : (P : Run → Type 0) (x : Value) (r : Run) → P r → ((buffer : List ℕ) → P (with_buffer buffer r)) → P (do_put x r)
+put_keeps P x r full fits = by_test (is_full r x) where
+  by_test : (b : Bool) → P (cond b r (with_buffer (r.call.buffer ++ value_of r x ∷ []) r))
+  by_test true = full
+  by_test false = fits (r.call.buffer ++ value_of r x ∷ [])
 
 abbrev made : ℕ → Run → Option ℕ → Run
 made q r None = r

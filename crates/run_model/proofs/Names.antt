@@ -3,6 +3,7 @@ use Rattle.std.proofs.Common.{◌≡◌, ℕ, ◌+◌, ◌^◌, ◌<◌, ◌≤�
 use Rattle.std.proofs.lemmas.List.Sums.{sum_by-append, sum_by-cons}
 use Rattle.std.proofs.lemmas.Bool.{cases_lt}
 use Rattle.std.proofs.lemmas.Bool.Decides.{eqb_tells}
+use Rattle.run_model.specs.declared.bucket.Bucket.{Bucket}
 use Rattle.run_model.specs.declared.bucket.Named.{Named}
 use Rattle.run_model.specs.declared.bucket.Brigade.{Brigade}
 use Rattle.run_model.specs.declared.bucket.Var.{Var}
@@ -39,36 +40,36 @@ count_map n f same (x ∷ xs) =
     count_cons n (f x) (map f xs) ∙ (ap (λ k. cond (k == n) 1 0 + count_named n (map f xs)) (same x) ∙ (ap (λ k. cond (x.name == n) 1 0 + k) (count_map n f same xs) ∙ sym (count_cons n x xs)))
 
 -- the count at the head of named pieces, which is of the name m
-head_count : (n m : ℕ) (x : Piece) (xs : List Piece) → count_named n (named_from m (x ∷ xs)) ≡ cond (m == n) 1 0 + count_named n (named_from (m + 1) xs)
-head_count n m x xs = count_cons n _ (named_from (m + 1) xs)
+head_count : (make : Piece → Bucket) (n m : ℕ) (x : Piece) (xs : List Piece) → count_named n (named_from make m (x ∷ xs)) ≡ cond (m == n) 1 0 + count_named n (named_from make (m + 1) xs)
+head_count make n m x xs = count_cons n _ (named_from make (m + 1) xs)
 
 -- names from m on are given to pieces once each
-pub count_before : (n m : ℕ) (xs : List Piece) → n < m → count_named n (named_from m xs) ≡ 0
-count_before n m [] lt = count_none n
-count_before n m (x ∷ xs) lt =
+pub count_before : (make : Piece → Bucket) (n m : ℕ) (xs : List Piece) → n < m → count_named n (named_from make m xs) ≡ 0
+count_before make n m [] lt = count_none n
+count_before make n m (x ∷ xs) lt =
     let head : ◌≡◌ {A = ℕ} (cond (m == n) 1 0) 0 = ap (λ b. cond b 1 0) (ne_eqb m n (λ e. absurd (omega (arith, e)))) in
-    let rest : count_named n (named_from (m + 1) xs) ≡ 0 = count_before n (m + 1) xs (omega arith) in
-    omega (arith, head_count n m x xs)
+    let rest : count_named n (named_from make (m + 1) xs) ≡ 0 = count_before make n (m + 1) xs (omega arith) in
+    omega (arith, head_count make n m x xs)
 
-pub count_once : (n m : ℕ) (xs : List Piece) → count_named n (named_from m xs) ≤ 1
-count_once n m [] = rw (count_none n) (omega arith)
-count_once n m (x ∷ xs) = elim (eqb_tells m n) [
+pub count_once : (make : Piece → Bucket) (n m : ℕ) (xs : List Piece) → count_named n (named_from make m xs) ≤ 1
+count_once make n m [] = rw (count_none n) (omega arith)
+count_once make n m (x ∷ xs) = elim (eqb_tells m n) [
   | inl p ↦
       (let head : ◌≡◌ {A = ℕ} (cond (m == n) 1 0) 1 = ap (λ b. cond b 1 0) p.0 in
-      let rest : count_named n (named_from (m + 1) xs) ≡ 0 = count_before n (m + 1) xs (omega (arith, p.1)) in
-      omega (arith, head_count n m x xs))
+      let rest : count_named n (named_from make (m + 1) xs) ≡ 0 = count_before make n (m + 1) xs (omega (arith, p.1)) in
+      omega (arith, head_count make n m x xs))
   | inr p ↦
       (let head : ◌≡◌ {A = ℕ} (cond (m == n) 1 0) 0 = ap (λ b. cond b 1 0) p.0 in
-      let rest : count_named n (named_from (m + 1) xs) ≤ 1 = count_once n (m + 1) xs in
-      omega (arith, head_count n m x xs))
+      let rest : count_named n (named_from make (m + 1) xs) ≤ 1 = count_once make n (m + 1) xs in
+      omega (arith, head_count make n m x xs))
 ]
 
-pub count_behind : (n m : ℕ) (xs : List Piece) → m + length xs ≤ n → count_named n (named_from m xs) ≡ 0
-count_behind n m [] le = count_none n
-count_behind n m (x ∷ xs) le =
+pub count_behind : (make : Piece → Bucket) (n m : ℕ) (xs : List Piece) → m + length xs ≤ n → count_named n (named_from make m xs) ≡ 0
+count_behind make n m [] le = count_none n
+count_behind make n m (x ∷ xs) le =
     let head : ◌≡◌ {A = ℕ} (cond (m == n) 1 0) 0 = ap (λ b. cond b 1 0) (ne_eqb m n (λ e. absurd (omega (arith, e)))) in
-    let rest : count_named n (named_from (m + 1) xs) ≡ 0 = count_behind n (m + 1) xs (omega arith) in
-    omega (arith, head_count n m x xs)
+    let rest : count_named n (named_from make (m + 1) xs) ≡ 0 = count_behind make n (m + 1) xs (omega arith) in
+    omega (arith, head_count make n m x xs)
 
 -- How a brigade variable may change: it keeps its name or lets go of it, and what is null stays null.
 pub record Carried (v w : Var) : Type 0 where

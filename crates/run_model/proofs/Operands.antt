@@ -10,10 +10,11 @@ brigade_below p m b h = small b (length p.brigades) m.brigades h where
   small : (b n : ℕ) → n ≤ 8 → (nat_lt b n || (b == 8)) ≡ true → b < 9
   small b n le h = grind (arith, nat_tests)
 
+small : (o n : ℕ) → n ≤ 8 → nat_lt o n ≡ true → o < 9
+small o n le h = grind (arith, nat_tests)
+
 pub created_below : (p : Program) → IsModule p → (o : ℕ) → fits p (instr.BCreate o) ≡ true → o < 9
-created_below p m o h = small o (length p.brigades) m.brigades h where
-  small : (o n : ℕ) → n ≤ 8 → nat_lt o n ≡ true → o < 9
-  small o n le h = grind (arith, nat_tests)
+created_below p m o h = small o (length p.brigades) m.brigades h
 
 -- the two brigades of one instruction
 pub record TwoBrigades (a b : ℕ) : Type 0 where
@@ -21,17 +22,25 @@ pub record TwoBrigades (a b : ℕ) : Type 0 where
   pub second : b < 9
   pub differ : a ≢ b
 
+parts : (x y z : Bool) → (x && y && z) ≡ true → (x ≡ true) × (y ≡ true) × (z ≡ true)
+parts true true true h = (h, h, h)
+parts true true false h = absurd (cc)
+parts true false z h = absurd (cc)
+parts false y z h = absurd (cc)
+
+unequal : (a b : ℕ) → not (a == b) ≡ true → a ≡ b → ⊥
+unequal a b h e = grind (arith, nat_tests)
+
 pub two_brigades : (p : Program) → IsModule p → (a b : ℕ) → fits p (instr.BConcat a b) ≡ true → TwoBrigades a b
 two_brigades p m a b h = record {
   first = brigade_below p m a (parts (is_brigade p a) (is_brigade p b) (not (a == b)) h).0;
   second = brigade_below p m b (parts (is_brigade p a) (is_brigade p b) (not (a == b)) h).1;
   differ = λ e. unequal a b (parts (is_brigade p a) (is_brigade p b) (not (a == b)) h).2 e;
-} where
-  parts : (x y z : Bool) → (x && y && z) ≡ true → (x ≡ true) × (y ≡ true) × (z ≡ true)
-  parts true true true h = (h, h, h)
-  parts true true false h = absurd (cc)
-  parts true false z h = absurd (cc)
-  parts false y z h = absurd (cc)
+}
 
-  unequal : (a b : ℕ) → not (a == b) ≡ true → a ≡ b → ⊥
-  unequal a b h e = grind (arith, nat_tests)
+pub saved_brigades : (p : Program) → IsModule p → (o b : ℕ) → fits p (instr.BSave o b) ≡ true → TwoBrigades o b
+saved_brigades p m o b h = record {
+  first = small o (length p.brigades) m.brigades (parts (nat_lt o (length p.brigades)) (is_brigade p b) (not (o == b)) h).0;
+  second = brigade_below p m b (parts (nat_lt o (length p.brigades)) (is_brigade p b) (not (o == b)) h).1;
+  differ = λ e. unequal o b (parts (nat_lt o (length p.brigades)) (is_brigade p b) (not (o == b)) h).2 e;
+}

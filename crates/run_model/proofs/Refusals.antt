@@ -1,5 +1,5 @@
 -- What a refused event and a fault leave as it was.
-use Rattle.std.proofs.Common.{◌≡◌, ℕ, Bool, true, false, ◌||◌, not, cond, List, [], ◌∷◌, ◌⊎◌, inl, inr, Option, Some, None, Result, Ok, Err, nat_le, refl, sym, ◌∙◌, ap}
+use Rattle.std.proofs.Common.{◌≡◌, ℕ, Bool, true, false, ◌||◌, not, cond, List, [], ◌∷◌, length, ◌⊎◌, inl, inr, Option, Some, None, Result, Ok, Err, nat_le, refl, sym, ◌∙◌, ap}
 use Rattle.module_lang.specs.declared.instr.Instr.{Instr}
 use Rattle.module_lang.specs.Program.{Program}
 use Rattle.run_model.specs.declared.fault.FaultKind.{FaultKind}
@@ -14,12 +14,12 @@ use Rattle.run_model.specs.declared.event.Stepped.{Stepped}
 use Rattle.run_model.specs.declared.event.Stepped.TheVariants as stepped
 use Rattle.run_model.specs.declared.event.StepRefusal.{StepRefusal}
 use Rattle.run_model.specs.declared.event.StepRefusal.TheVariants as step_refusal
+use Rattle.run_model.specs.Files.{Files}
 use Rattle.run_model.specs.State.{Run}
 use Rattle.run_model.specs.Faults.{fault}
 use Rattle.run_model.specs.Steps.{step_at_end, settled, grows, lacks_names, current, succeeded, executed, unless_fault, watched}
-use Rattle.run_model.specs.Connection.{Connection, begins, brings, ends, takes, steps, begun, brought, ended, closing_labels, first_refusal, refused_if, if_broken, unless_refused, breaks, broke, step_answer, step_from, step_if, after_step}
-use Rattle.run_model.specs.Runs.{Answer, Done, Refused, Output, Labels, World, Before, There, Closed, answer_of, step_of, opens, closes}
-use Rattle.run_model.proofs.Happened.{closed_stays}
+use Rattle.run_model.specs.Connection.{Connection, begins, brings, ends, takes, steps, begun, brought, file_answer, opens_file, ended, closing_labels, first_refusal, refused_if, if_broken, unless_refused, breaks, broke, step_answer, step_from, step_if, after_step}
+use Rattle.run_model.specs.Runs.{Answer, Done, Refused, Output, Opened, Labels, World, Before, There, Closed, answer_of, step_of, file_of, adds_file, opens, closes}
 use Rattle.run_model.specs.Laws.{RefusedChangesNothing, RefusedStepBreaks, FaultBreaks, BrokenStaysBroken}
 
 -- Events but steps.
@@ -28,28 +28,43 @@ refused_same : (o : Option Refusal) (old new : Connection) (r : Refusal) (w : Wo
 refused_same None old new r w e = absurd (let told : Done ≡ Refused r = ap (λ (x : Answer × World). x.0) e in cc)
 refused_same (Some q) old new r w e = sym (ap (λ (x : Answer × World). x.1) e)
 
-opens_refused : (memory : Bool) (r : Refusal) (new : World) → opens memory ≡ (Refused r, new) → new ≡ Before
-opens_refused true r new e = absurd (let told : Done ≡ Refused r = ap (λ (x : Answer × World). x.0) e in cc)
-opens_refused false r new e = sym (ap (λ (x : Answer × World). x.1) e)
+opens_refused : (memory : Bool) (fs : Files) (r : Refusal) (new : World) → opens memory fs ≡ (Refused r, new) → new ≡ Before fs
+opens_refused true fs r new e = absurd (let told : Done ≡ Refused r = ap (λ (x : Answer × World). x.0) e in cc)
+opens_refused false fs r new e = sym (ap (λ (x : Answer × World). x.1) e)
 
 closes_refused : (memory : Bool) (c : Connection) (r : Refusal) (new : World) → closes memory c ≡ (Refused r, new) → new ≡ There c
 closes_refused true c r new e = absurd (let told : Labels (closing_labels c) ≡ Refused r = ap (λ (x : Answer × World). x.0) e in cc)
 closes_refused false c r new e = sym (ap (λ (x : Answer × World). x.1) e)
 
+adds_refused : (memory : Bool) (name bytes : List ℕ) (w : World) (r : Refusal) (new : World) → adds_file memory name bytes w ≡ (Refused r, new) → new ≡ w
+adds_refused true name bytes w r new e = absurd (let told : Done ≡ Refused r = ap (λ (x : Answer × World). x.0) e in cc)
+adds_refused false name bytes w r new e = sym (ap (λ (x : Answer × World). x.1) e)
+
+opening_refused : (o : Option Refusal) (req : Option ℕ) (found : Option (List ℕ)) (name : List ℕ) (c : Connection) (r : Refusal) (new : World)
+    → file_of (file_answer o req found name c) ≡ (Refused r, new) → new ≡ There c
+opening_refused (Some q) req found name c r new e = sym (ap (λ (x : Answer × World). x.1) e)
+opening_refused None None found name c r new e = sym (ap (λ (x : Answer × World). x.1) e)
+opening_refused None (Some req) None name c r new e = sym (ap (λ (x : Answer × World). x.1) e)
+opening_refused None (Some req) (Some bytes) name c r new e = absurd (let told : Opened c.run.shared.files.next (length bytes) ≡ Refused r = ap (λ (x : Answer × World). x.0) e in cc)
+
 pub refused_changes_nothing : RefusedChangesNothing
-unfolding begins brings ends
-refused_changes_nothing memory budget p event.Open Before new r ne e = opens_refused memory r new e
+unfolding begins brings opens_file ends
+refused_changes_nothing memory budget p event.Open (Before fs) new r ne e = opens_refused memory fs r new e
 refused_changes_nothing memory budget p event.Open (There c) new r ne e = absurd (let told : Done ≡ Refused r = ap (λ (x : Answer × World). x.0) e in cc)
+refused_changes_nothing memory budget p (event.AddFile name bytes) (There c) new r ne e = adds_refused memory name bytes (There c) r new e
+refused_changes_nothing memory budget p (event.OpenFile name) (There c) new r ne e = opening_refused _ c.run.shared.req (c.run.shared.files.named name) name c r new e
 refused_changes_nothing memory budget p event.Begin (There c) new r ne e = refused_same _ c (begun p c) r new e
-refused_changes_nothing memory budget p (event.Bring pieces) (There c) new r ne e = refused_same _ c (brought p pieces c) r new e
+refused_changes_nothing memory budget p (event.Bring pieces) (There c) new r ne e = refused_same _ c (brought c.run.shared.req p pieces c) r new e
 refused_changes_nothing memory budget p event.Step (There c) new r ne e = absurd (ne refl)
 refused_changes_nothing memory budget p event.End (There c) new r ne e = refused_same _ c (ended c.run.shared.req c) r new e
 refused_changes_nothing memory budget p event.TakeOutput (There c) new r ne e = absurd (let told : Output (takes c).0 ≡ Refused r = ap (λ (x : Answer × World). x.0) e in cc)
 refused_changes_nothing memory budget p event.TellLabels (There c) new r ne e = absurd (let told : Labels c.run.shared.labels ≡ Refused r = ap (λ (x : Answer × World). x.0) e in cc)
 refused_changes_nothing memory budget p event.Close (There c) new r ne e = closes_refused memory c r new e
 refused_changes_nothing memory budget p event.TellPools (There c) new r ne e = sym (ap (λ (x : Answer × World). x.1) e)
-refused_changes_nothing memory budget p e Before new r ne h = sym (ap (λ (x : Answer × World). x.1) h)
-refused_changes_nothing memory budget p e (Closed pools) new r ne h = sym (ap (λ (x : Answer × World). x.1) h) ∙ closed_stays memory budget p e pools
+refused_changes_nothing memory budget p (event.AddFile name bytes) (Before fs) new r ne e = adds_refused memory name bytes (Before fs) r new e
+refused_changes_nothing memory budget p e (Before fs) new r ne h = sym (ap (λ (x : Answer × World). x.1) h)
+refused_changes_nothing memory budget p (event.AddFile name bytes) (Closed pools fs) new r ne e = adds_refused memory name bytes (Closed pools fs) r new e
+refused_changes_nothing memory budget p e (Closed pools fs) new r ne h = sym (ap (λ (x : Answer × World). x.1) h)
 
 -- Steps.
 
@@ -168,9 +183,10 @@ first_broken None k tests is = absurd (cc)
 first_broken (Some j) k tests is = let same : j ≡ k = cc in ap (λ (x : Cause). Some (refusal.Broken x)) same
 
 pub broken_stays_broken : BrokenStaysBroken
-unfolding begins brings ends steps
+unfolding begins brings opens_file ends steps
 broken_stays_broken memory budget p event.Begin c k is work = ap (λ (o : Option Refusal). answer_of (unless_refused o c (begun p c))) (first_broken c.broken k _ is)
-broken_stays_broken memory budget p (event.Bring pieces) c k is work = ap (λ (o : Option Refusal). answer_of (unless_refused o c (brought p pieces c))) (first_broken c.broken k _ is)
+broken_stays_broken memory budget p (event.Bring pieces) c k is work = ap (λ (o : Option Refusal). answer_of (unless_refused o c (brought c.run.shared.req p pieces c))) (first_broken c.broken k _ is)
+broken_stays_broken memory budget p (event.OpenFile name) c k is work = ap (λ (o : Option Refusal). file_of (file_answer o c.run.shared.req (c.run.shared.files.named name) name c)) (first_broken c.broken k _ is)
 broken_stays_broken memory budget p event.Step c k is work = ap (λ (o : Option Refusal). step_of (step_if o memory budget p c)) (first_broken c.broken k _ is)
 broken_stays_broken memory budget p event.End c k is work = ap (λ (o : Option Refusal). answer_of (unless_refused o c (ended c.run.shared.req c))) (first_broken c.broken k _ is)
 broken_stays_broken memory budget p e c k is work = absurd (cc)

@@ -1,5 +1,6 @@
 -- Each event keeps what is sound, and so does each run.
 use Rattle.std.proofs.Common.{◌≡◌, ℕ, ◌+◌, Bool, true, false, ◌||◌, not, cond, List, length, get_or, Option, Some, None, is_some, Result, Ok, Err, nat_le, inl, inr, refl, sym, ap, subst}
+use Rattle.std.specs.List.{list_any}
 use Rattle.std.proofs.lemmas.Bool.{cases_lt}
 use Rattle.std.proofs.lemmas.List.{get_or_past}
 use Rattle.std.proofs.lemmas.Option.{slice_get-get_or}
@@ -19,19 +20,20 @@ use Rattle.run_model.specs.declared.event.StepRefusal.TheVariants as step_refusa
 use Rattle.run_model.specs.declared.event.Refusal.{Refusal}
 use Rattle.run_model.specs.declared.event.Refusal.TheVariants as refusal
 use Rattle.run_model.specs.declared.fault.FaultKind.{FaultKind}
+use Rattle.run_model.specs.Files.{Files}
 use Rattle.run_model.specs.State.{Run}
 use Rattle.run_model.specs.Faults.{fault}
 use Rattle.run_model.specs.Steps.{step, step_at_end, settled, grows, is_spent, lacks_names, current, succeeded, executed, unless_fault, watched}
-use Rattle.run_model.specs.Connection.{Connection, begins, brings, ends, takes, steps, begun, brought, ended, if_broken, step_answer, step_from, step_if, after_step, broke, data_behind_eos}
-use Rattle.run_model.specs.Runs.{World, Before, There, Closed, opens, closes}
+use Rattle.run_model.specs.Connection.{Connection, begins, brings, opens_file, file_answer, lacks_file, ends, takes, steps, begun, brought, ended, if_broken, step_answer, step_from, step_if, after_step, broke, data_behind_eos}
+use Rattle.run_model.specs.Runs.{World, Before, There, Closed, adds_file, opens, closes}
 use Rattle.run_model.specs.Sound.{Sound}
 use Rattle.run_model.specs.Laws.{MayExecute, StepAtEndKeeps, SoundWorld, EventKeepsSound, RunIsSound}
 use Rattle.run_model.proofs.Runs.{run_keeps}
-use Rattle.run_model.proofs.Happened.{IfThere, none_first, none_if, happened, told, stepped_told, closed_stays}
+use Rattle.run_model.proofs.Happened.{IfThere, none_first, none_if, happened, told, stepped_told, opening_told, added_before, closed_stays}
 use Rattle.run_model.proofs.StepNames.{step_names}
 use Rattle.run_model.proofs.StepBuckets.{step_buckets}
 use Rattle.run_model.proofs.StepPools.{step_pools}
-use Rattle.run_model.proofs.Events.{untouched_sound, begun_sound, brought_sound, ended_sound, opened_sound}
+use Rattle.run_model.proofs.Events.{untouched_sound, added_sound, taken_sound, begun_sound, brought_sound, ended_sound, opened_sound}
 
 -- Steps.
 
@@ -44,7 +46,7 @@ succeeds p i r may s = record {
 
 pub at_end_sound : StepAtEndKeeps
 at_end_sound p (instr.Pass b l) r may s =
-    untouched_sound (step p (record { answer = Success }) (instr.Pass b l) r).run (step_at_end p (instr.Pass b l) r).run refl refl refl refl (succeeds p (instr.Pass b l) r may s)
+    untouched_sound (step p (record { answer = Success }) (instr.Pass b l) r).run (step_at_end p (instr.Pass b l) r).run refl refl refl refl refl refl refl (succeeds p (instr.Pass b l) r may s)
 at_end_sound p (instr.PCreate q) r may s = succeeds p (instr.PCreate q) r may s
 at_end_sound p (instr.PClear q) r may s = succeeds p (instr.PClear q) r may s
 at_end_sound p (instr.PDestroy q) r may s = succeeds p (instr.PDestroy q) r may s
@@ -54,14 +56,22 @@ at_end_sound p (instr.JNull v l) r may s = succeeds p (instr.JNull v l) r may s
 at_end_sound p (instr.BCreate o) r may s = succeeds p (instr.BCreate o) r may s
 at_end_sound p (instr.BClean b) r may s = succeeds p (instr.BClean b) r may s
 at_end_sound p (instr.BConcat a b) r may s = succeeds p (instr.BConcat a b) r may s
+at_end_sound p (instr.BSave o b) r may s = succeeds p (instr.BSave o b) r may s
+at_end_sound p (instr.Put x l) r may s = succeeds p (instr.Put x l) r may s
+at_end_sound p instr.ClearBuf r may s = succeeds p instr.ClearBuf r may s
+at_end_sound p (instr.Set n x) r may s = succeeds p (instr.Set n x) r may s
+at_end_sound p (instr.Add n x) r may s = succeeds p (instr.Add n x) r may s
+at_end_sound p (instr.Sub n x) r may s = succeeds p (instr.Sub n x) r may s
+at_end_sound p (instr.JLt n x l) r may s = succeeds p (instr.JLt n x l) r may s
+at_end_sound p (instr.JEq n x l) r may s = succeeds p (instr.JEq n x l) r may s
 at_end_sound p (instr.JEmpty b l) r may s = succeeds p (instr.JEmpty b l) r may s
 at_end_sound p (instr.JSent l) r may s = succeeds p (instr.JSent l) r may s
 at_end_sound p (instr.Jump l) r may s = succeeds p (instr.Jump l) r may s
 at_end_sound p (instr.Ret st) r may s = succeeds p (instr.Ret st) r may s
 
 settled_sound : (i : Instr) (exit : Exit) (r : Run) → Sound r → Sound (settled i exit r).1
-settled_sound i GoOn r s = untouched_sound r (settled i GoOn r).1 refl refl refl refl s
-settled_sound i Jump r s = untouched_sound r (settled i Jump r).1 refl refl refl refl s
+settled_sound i GoOn r s = untouched_sound r (settled i GoOn r).1 refl refl refl refl refl refl refl s
+settled_sound i Jump r s = untouched_sound r (settled i Jump r).1 refl refl refl refl refl refl refl s
 settled_sound i Return r s = s
 
 -- the instruction at a place fits the module, and so does the return that stands for none
@@ -125,15 +135,34 @@ begins_sound memory p c s = happened SoundConnection _ c (begun p c) s (λ none.
     let e = none_if (is_spent c.run.shared.pools.next 1 || is_spent c.run.shared.next 1) refusal.NamesSpent _ d.1 in
     begun_sound p c e.0 s)
 
+bringing_sound : (o : Option ℕ) (p : Program) (pieces : List Piece) (c : Connection) → is_spent c.run.shared.next (2 + length pieces) ≡ false → Sound c.run → Sound (brought o p pieces c).run
+bringing_sound None p pieces c last s = s
+bringing_sound (Some req) p pieces c last s = brought_sound req p pieces c last s
+
 brings_sound : (memory : Bool) (p : Program) (pieces : List Piece) (c : Connection) → Sound c.run → Sound (brings memory p pieces c).1.run
 unfolding brings
-brings_sound memory p pieces c s = happened SoundConnection _ c (brought p pieces c) s (λ none.
+brings_sound memory p pieces c s = happened SoundConnection _ c (brought c.run.shared.req p pieces c) s (λ none.
     let a = none_first (if_broken c.broken) _ none in
     let b = none_if c.busy refusal.Busy _ a in
     let d = none_if (not (is_some c.run.shared.req)) refusal.NotInRequest _ b.1 in
     let e = none_if (data_behind_eos pieces) refusal.DataAfterEos _ d.1 in
-    let f = none_if (is_spent c.run.shared.next (2 + length pieces)) refusal.NamesSpent _ e.1 in
-    brought_sound p pieces c f.0 s)
+    let g = none_if (list_any (lacks_file c.files) pieces) refusal.NoFile _ e.1 in
+    let f = none_if (is_spent c.run.shared.next (2 + length pieces)) refusal.NamesSpent _ g.1 in
+    bringing_sound c.run.shared.req p pieces c f.0 s)
+
+opening_sound : (o : Option Refusal) (req : Option ℕ) (found : Option (List ℕ)) (name : List ℕ) (c : Connection) → c.run.shared.req ≡ req → Sound c.run → Sound (file_answer o req found name c).1.run
+opening_sound (Some r) req found name c is s = s
+opening_sound None None found name c is s = s
+opening_sound None (Some req) None name c is s = s
+opening_sound None (Some req) (Some bytes) name c is s = taken_sound req (length bytes) name c is s
+
+opens_file_sound : (memory : Bool) (name : List ℕ) (c : Connection) → Sound c.run → Sound (opens_file memory name c).1.run
+unfolding opens_file
+opens_file_sound memory name c s = opening_sound _ c.run.shared.req (c.run.shared.files.named name) name c refl s
+
+adds_file_sound : (memory : Bool) (name bytes : List ℕ) (c : Connection) → Sound c.run → SoundWorld (adds_file memory name bytes (There c)).1
+adds_file_sound true name bytes c s = added_sound name bytes c.run s
+adds_file_sound false name bytes c s = s
 
 ended_request : (o : Option ℕ) (c : Connection) → c.run.shared.req ≡ o → Sound c.run → Sound (ended o c).run
 ended_request None c is s = s
@@ -145,11 +174,11 @@ ends_sound memory c s = happened SoundConnection _ c (ended c.run.shared.req c) 
 
 takes_sound : (c : Connection) → Sound c.run → Sound (takes c).1.run
 unfolding takes
-takes_sound c s = untouched_sound c.run (takes c).1.run refl refl refl refl s
+takes_sound c s = untouched_sound c.run (takes c).1.run refl refl refl refl refl refl refl s
 
-opens_sound : (memory : Bool) → SoundWorld (opens memory).1
-opens_sound true = opened_sound
-opens_sound false = tt
+opens_sound : (memory : Bool) (fs : Files) → SoundWorld (opens memory fs).1
+opens_sound true fs = opened_sound fs
+opens_sound false fs = tt
 
 closes_sound : (memory : Bool) (c : Connection) → Sound c.run → SoundWorld (closes memory c).1
 closes_sound true c s = tt
@@ -158,13 +187,15 @@ closes_sound false c s = s
 -- All events.
 
 sound_world : (w : World) → IfThere w SoundConnection → SoundWorld w
-sound_world Before s = s
+sound_world (Before fs) s = s
 sound_world (There c) s = s
-sound_world (Closed pools) s = s
+sound_world (Closed pools fs) s = s
 
 pub event_sound : EventKeepsSound
-event_sound memory budget p event.Open Before m s = opens_sound memory
+event_sound memory budget p event.Open (Before fs) m s = opens_sound memory fs
 event_sound memory budget p event.Open (There c) m s = s
+event_sound memory budget p (event.AddFile name bytes) (There c) m s = adds_file_sound memory name bytes c s
+event_sound memory budget p (event.OpenFile name) (There c) m s = sound_world _ (opening_told SoundConnection (opens_file memory name c) (opens_file_sound memory name c s))
 event_sound memory budget p event.Begin (There c) m s = sound_world _ (told SoundConnection (begins memory p c) (begins_sound memory p c s))
 event_sound memory budget p (event.Bring pieces) (There c) m s = sound_world _ (told SoundConnection (brings memory p pieces c) (brings_sound memory p pieces c s))
 event_sound memory budget p event.Step (There c) m s = sound_world _ (stepped_told SoundConnection (steps memory budget p c) (steps_sound memory budget p c m s))
@@ -173,10 +204,11 @@ event_sound memory budget p event.TakeOutput (There c) m s = takes_sound c s
 event_sound memory budget p event.TellLabels (There c) m s = s
 event_sound memory budget p event.Close (There c) m s = closes_sound memory c s
 event_sound memory budget p event.TellPools (There c) m s = s
-event_sound memory budget p e Before m s = s
-event_sound memory budget p e (Closed pools) m s = subst SoundWorld (sym (closed_stays memory budget p e pools)) tt
+event_sound memory budget p (event.AddFile name bytes) (Before fs) m s = sound_world _ (added_before SoundConnection memory name bytes fs)
+event_sound memory budget p e (Before fs) m s = s
+event_sound memory budget p e (Closed pools fs) m s = sound_world _ (closed_stays SoundConnection memory budget p e pools fs)
 
 -- Runs.
 
 pub run_sound : RunIsSound
-run_sound budget p es answers w m run = run_keeps budget p SoundWorld (λ memory e v s. event_sound memory budget p e v m s) Before w es answers tt run
+run_sound budget p fs es answers w m run = run_keeps budget p SoundWorld (λ memory e v s. event_sound memory budget p e v m s) (Before fs) w es answers tt run

@@ -2,6 +2,7 @@
 use Rattle.std.proofs.Common.{◌≡◌, ℕ, ◌+◌, Bool, true, false, ◌&&◌, ◌||◌, ◌==◌, cond, List, [], ◌∷◌, ◌++◌, map, refl, sym, subst, All}
 use Rattle.std.proofs.lemmas.List.Elements.{All-nil, All-cons, All-append, All-map}
 use Rattle.module_lang.specs.declared.instr.PoolRef.TheVariants as pool
+use Rattle.module_lang.specs.declared.instr.Value.{Value}
 use Rattle.module_lang.specs.declared.instr.Instr.TheVariants as instr
 use Rattle.module_lang.specs.Program.{Program}
 use Rattle.run_model.specs.declared.bucket.Kind.{Kind}
@@ -17,15 +18,17 @@ use Rattle.run_model.specs.declared.event.Piece.{Piece}
 use Rattle.run_model.specs.declared.event.Piece.TheVariants as piece
 use Rattle.run_model.specs.Indexed.{upd}
 use Rattle.run_model.specs.Buckets.{is_ended, end_call, end_pools, to_heap, returned_bucket, cleared_bucket}
-use Rattle.run_model.specs.Pools.{is_under, created}
-use Rattle.run_model.specs.State.{Call, Run, items_of, set_pool, with_pools, set_brig, pool_named}
-use Rattle.run_model.specs.Steps.{do_create, do_clean, do_concat, do_pass, do_return, cleaned, with_items, handed_over, returned_var, do_pcreate, pool_cleared, pool_destroyed, label_registered, label_killed, text_of}
+use Rattle.run_model.specs.declared.payload.Payload.{Payload}
+use Rattle.run_model.specs.Cutting.{set_aside}
+use Rattle.run_model.specs.Pools.{Pools, is_under, created}
+use Rattle.run_model.specs.State.{Call, Run, items_of, set_pool, with_pools, set_brig, set_number, pool_named}
+use Rattle.run_model.specs.Steps.{do_create, do_clean, do_concat, do_pass, do_return, cleaned, with_items, handed_over, returned_var, do_pcreate, pool_cleared, pool_destroyed, label_registered, label_killed, text_of, is_above, aside_named, saved_into, made_on, value_of, do_put, do_clearbuf}
 use Rattle.run_model.specs.Clearing.{cleared_var, is_reached, run_down}
-use Rattle.run_model.specs.Connection.{named_from}
-use Rattle.run_model.specs.Sound.{is_free, is_call, is_pool, home_fits, content_fits, is_proper, SoundBuckets}
+use Rattle.run_model.specs.Connection.{bucket_of, named_from}
+use Rattle.run_model.specs.Sound.{is_free, is_call, is_pool, is_bytes, is_range, home_fits, content_fits, is_proper, SoundBuckets}
 use Rattle.run_model.specs.Laws.{StepKeepsBuckets}
 use Rattle.run_model.proofs.Names.{at_each, at_two}
-use Rattle.run_model.proofs.NamedPools.{on_named, made_under_named}
+use Rattle.run_model.proofs.NamedPools.{on_named, made_under_named, with_buffer, put_keeps}
 
 -- One bucket.
 
@@ -138,11 +141,19 @@ pub none_proper : ProperList []
 none_proper = All-nil (λ x. is_proper x ≡ true)
 
 -- the buckets of brought pieces
-pub named_proper : (n : ℕ) (xs : List Piece) → ProperList (named_from n xs)
+piece_proper : (call req n : ℕ) (x : Piece) → is_proper (record { name = n; bucket = bucket_of call req x }) ≡ true
 unfolding is_proper
-named_proper n [] = All-nil (λ x. is_proper x ≡ true)
-named_proper n (piece.Heap bytes ∷ xs) = All-cons (λ x. is_proper x ≡ true) _ (named_from (n + 1) xs) refl (named_proper (n + 1) xs)
-named_proper n (piece.Eos ∷ xs) = All-cons (λ x. is_proper x ≡ true) _ (named_from (n + 1) xs) refl (named_proper (n + 1) xs)
+piece_proper call req n (piece.Heap bytes) = refl
+piece_proper call req n (piece.Transient bytes) = refl
+piece_proper call req n (piece.Immortal bytes) = refl
+piece_proper call req n (piece.Pool bytes) = refl
+piece_proper call req n (piece.File file start len) = refl
+piece_proper call req n piece.Flush = refl
+piece_proper call req n piece.Eos = refl
+
+pub named_proper : (call req n : ℕ) (xs : List Piece) → ProperList (named_from (bucket_of call req) n xs)
+named_proper call req n [] = All-nil (λ x. is_proper x ≡ true)
+named_proper call req n (x ∷ xs) = All-cons (λ x. is_proper x ≡ true) _ (named_from (bucket_of call req) (n + 1) xs) (piece_proper call req n x) (named_proper call req (n + 1) xs)
 
 -- what a change of a variable does to its buckets
 abbrev pub KeepsProper : Var → Var → Type 0
@@ -208,15 +219,44 @@ pass_buckets : (b : ℕ) (r : Run) → SoundBuckets r → SoundBuckets (do_pass 
 unfolding set_brig
 pass_buckets b r s = written_buckets r (do_pass b r) b (handed_over (r.inst.brigs b)) refl (handed_proper (r.inst.brigs b)) (λ h. h) s
 
+-- these items go to the tail of a, and b is empty
+moved_buckets : (items : List Named) (a b : ℕ) (r new : Run) → (ProperList (items_of (r.inst.brigs b)) → ProperList items)
+    → new.inst.brigs ≡ upd (upd r.inst.brigs b (with_items [] (r.inst.brigs b))) a (with_items (items_of (r.inst.brigs a) ++ items) (r.inst.brigs a))
+    → new.call ≡ r.call → SoundBuckets r → SoundBuckets new
+moved_buckets items a b r new proper brigs call s =
+    keeps_buckets r new
+    (λ k. subst (λ (g : ℕ → Var). KeepsProper (r.inst.brigs k) (g k)) (sym brigs)
+    (at_two KeepsProper r.inst.brigs b a (with_items [] (r.inst.brigs b)) (with_items (items_of (r.inst.brigs a) ++ items) (r.inst.brigs a))
+    (λ h. filled_proper [] (r.inst.brigs b) none_proper)
+    (λ h. filled_proper _ (r.inst.brigs a) (All-append (λ x. is_proper x ≡ true) (items_of (r.inst.brigs a)) items h (proper (s.brigades b))))
+    same_proper k))
+    (λ h. subst (λ (c : Call). ProperList c.loose) (sym call) h) s
+
 concat_buckets : (a b : ℕ) (r : Run) → SoundBuckets r → SoundBuckets (do_concat a b r)
 unfolding set_brig
-concat_buckets a b r s =
-    keeps_buckets r (do_concat a b r)
-    (at_two KeepsProper r.inst.brigs b a (with_items [] (r.inst.brigs b)) (with_items (items_of (r.inst.brigs a) ++ items_of (r.inst.brigs b)) (r.inst.brigs a))
-    (λ h. filled_proper [] (r.inst.brigs b) none_proper)
-    (λ h. filled_proper _ (r.inst.brigs a) (All-append (λ x. is_proper x ≡ true) (items_of (r.inst.brigs a)) (items_of (r.inst.brigs b)) h (s.brigades b)))
-    same_proper)
-    (λ h. h) s
+concat_buckets a b r s = moved_buckets (items_of (r.inst.brigs b)) a b r (do_concat a b r) (λ h. h) refl refl s
+
+-- a bucket that is set aside, of its parts
+aside_parts : (target name : ℕ) (above : Bool) (k : Kind) (c : Content) (h : Home) → is_proper (record { name = name; bucket = record { kind = k; content = c; home = h } }) ≡ true
+    → is_proper (record { name = name; bucket = set_aside target above (record { kind = k; content = c; home = h }) }) ≡ true
+unfolding is_proper
+aside_parts target name above kind.Heap c h e = e
+aside_parts target name above kind.Transient c h e = (each (is_call h || is_ended h) (is_bytes c) e).1
+aside_parts target name above kind.Immortal c h e = e
+aside_parts target name above (kind.Pool p) c h e = e
+aside_parts target name true kind.File c h e = e
+aside_parts target name false kind.File c h e = (each (is_pool h || is_ended h) (is_range c) e).1
+aside_parts target name above kind.Flush c h e = e
+aside_parts target name above kind.Eos c h e = e
+
+pub aside_proper : (ps : Pools Payload) (target : ℕ) (x : Named) → is_proper x ≡ true → is_proper (aside_named ps target x) ≡ true
+aside_proper ps target x e = aside_parts target x.name (is_above ps target x.bucket.home) x.bucket.kind x.bucket.content x.bucket.home e
+
+save_buckets : (o b target : ℕ) (r : Run) → SoundBuckets r → SoundBuckets (saved_into o b target r)
+unfolding set_brig with_pools
+save_buckets o b target r s =
+    moved_buckets (map (aside_named r.shared.pools target) (items_of (r.inst.brigs b))) o b r (saved_into o b target r)
+    (mapped_proper (aside_named r.shared.pools target) (aside_proper r.shared.pools target) (items_of (r.inst.brigs b))) refl refl s
 
 return_buckets : (r : Run) → SoundBuckets r → SoundBuckets (do_return r)
 return_buckets r s = keeps_buckets r (do_return r) (λ b. left b (b == 8)) (λ h. none_proper) s where
@@ -224,9 +264,16 @@ return_buckets r s = keeps_buckets r (do_return r) (λ b. left b (b == 8)) (λ h
   left b true h = none_proper
   left b false h = returned_list r.call.name (r.inst.brigs b) h
 
-same_buckets : (r new : Run) → new.inst.brigs ≡ r.inst.brigs → new.call ≡ r.call → SoundBuckets r → SoundBuckets new
-same_buckets r new brigs call s =
-    keeps_buckets r new (λ b. subst (λ (g : ℕ → Var). KeepsProper (r.inst.brigs b) (g b)) (sym brigs) (same_proper (r.inst.brigs b))) (λ h. subst (λ (c : Call). ProperList c.loose) (sym call) h) s
+pub same_buckets : (r new : Run) → new.inst.brigs ≡ r.inst.brigs → new.call.loose ≡ r.call.loose → SoundBuckets r → SoundBuckets new
+same_buckets r new brigs loose s =
+    keeps_buckets r new (λ b. subst (λ (g : ℕ → Var). KeepsProper (r.inst.brigs b) (g b)) (sym brigs) (same_proper (r.inst.brigs b))) (λ h. subst ProperList (sym loose) h) s
+
+number_buckets : (n v : ℕ) (r : Run) → SoundBuckets r → SoundBuckets (set_number n v r)
+unfolding set_number
+number_buckets n v r s = same_buckets r (set_number n v r) refl refl s
+
+put_buckets : (x : Value) (r : Run) → SoundBuckets r → SoundBuckets (do_put x r)
+put_buckets x r s = put_keeps SoundBuckets x r s (λ buffer. same_buckets r (with_buffer buffer r) refl refl s)
 
 pcreate_buckets : (p : Program) (q : ℕ) (r : Run) → SoundBuckets r → SoundBuckets (do_pcreate p q r)
 unfolding set_pool with_pools
@@ -258,7 +305,15 @@ step_buckets p choice (instr.JNull v l) r may s = s
 step_buckets p choice (instr.BCreate o) r may s = create_buckets p o r s
 step_buckets p choice (instr.BClean b) r may s = clean_buckets b r s
 step_buckets p choice (instr.BConcat a b) r may s = concat_buckets a b r s
+step_buckets p choice (instr.BSave o b) r may s = on_named SoundBuckets (saved_into o b) (made_on (r.inst.brigs o)) r s (λ target e. save_buckets o b target r s)
 step_buckets p choice (instr.Pass b l) r may s = pass_buckets b r s
+step_buckets p choice (instr.Put x l) r may s = put_buckets x r s
+step_buckets p choice instr.ClearBuf r may s = same_buckets r (do_clearbuf r) refl refl s
+step_buckets p choice (instr.Set n x) r may s = number_buckets n (value_of r x) r s
+step_buckets p choice (instr.Add n x) r may s = number_buckets n _ r s
+step_buckets p choice (instr.Sub n x) r may s = number_buckets n _ r s
+step_buckets p choice (instr.JLt n x l) r may s = s
+step_buckets p choice (instr.JEq n x l) r may s = s
 step_buckets p choice (instr.JEmpty b l) r may s = s
 step_buckets p choice (instr.JSent l) r may s = s
 step_buckets p choice (instr.Jump l) r may s = s

@@ -1,7 +1,8 @@
 -- Steps keep each brigade on a live pool.
-use Rattle.std.proofs.Common.{◌≡◌, ℕ, ◌+◌, ◌^◌, ◌<◌, inl, inr, Bool, true, false, ◌||◌, ◌==◌, cond, List, [], ◌∷◌, ◌++◌, Option, Some, None, refl, sym, ◌∙◌, ap, subst, arith}
+use Rattle.std.proofs.Common.{◌≡◌, ℕ, ◌+◌, ◌^◌, ◌<◌, inl, inr, Bool, true, false, ◌||◌, ◌==◌, cond, List, [], ◌∷◌, ◌++◌, filter_map, Option, Some, None, refl, sym, ◌∙◌, ap, subst, arith}
 use Rattle.module_lang.specs.declared.instr.PoolRef.{PoolRef}
 use Rattle.module_lang.specs.declared.instr.PoolRef.TheVariants as pool
+use Rattle.module_lang.specs.declared.instr.Value.{Value}
 use Rattle.module_lang.specs.declared.instr.Instr.{Instr}
 use Rattle.module_lang.specs.declared.instr.Instr.TheVariants as instr
 use Rattle.module_lang.specs.Program.{Program, pool_of_brigade, pool_of_pool}
@@ -12,15 +13,16 @@ use Rattle.run_model.specs.declared.bucket.Mark.TheVariants.{Usable}
 use Rattle.run_model.specs.declared.bucket.PoolVar.TheVariants as poolvar
 use Rattle.run_model.specs.declared.bucket.Var.{Var}
 use Rattle.run_model.specs.declared.bucket.Var.TheVariants as var
-use Rattle.run_model.specs.declared.payload.Payload.TheVariants.{Label}
+use Rattle.run_model.specs.declared.payload.Payload.{Payload}
+use Rattle.run_model.specs.declared.payload.Payload.TheVariants.{Label, FileRef}
 use Rattle.run_model.specs.Payloads.{is_label}
 use Rattle.run_model.specs.Indexed.{upd}
-use Rattle.run_model.specs.Pools.{is_live, created, registered}
-use Rattle.run_model.specs.RunOrder.{killed}
-use Rattle.run_model.specs.State.{Run, items_of, set_pool, with_pools, set_brig, pool_named}
+use Rattle.run_model.specs.Pools.{Pools, is_live, created, registered}
+use Rattle.run_model.specs.RunOrder.{IsPoolMap, killed}
+use Rattle.run_model.specs.State.{Run, items_of, set_pool, with_pools, set_brig, set_number, pool_named}
 use Rattle.run_model.specs.Clearing.{run_down}
 use Rattle.run_model.specs.Faults.{has_pool, is_live_named, or_else}
-use Rattle.run_model.specs.Steps.{do_create, do_clean, do_concat, do_pass, do_return, cleaned, with_items, handed_over, returned_var, do_pcreate, pool_cleared, pool_destroyed, label_registered, label_killed, text_of, names_of, pool_names_of, is_spent, lacks_names}
+use Rattle.run_model.specs.Steps.{do_create, do_clean, do_concat, do_pass, do_return, cleaned, with_items, handed_over, returned_var, do_pcreate, pool_cleared, pool_destroyed, label_registered, label_killed, text_of, new_ref, all_referred, saved_into, made_on, value_of, do_put, do_clearbuf, names_of, pool_names_of, is_spent, lacks_names}
 use Rattle.run_model.specs.Sound.{brigade_pool, SoundPools}
 use Rattle.run_model.specs.Laws.{StepKeepsPools}
 use Rattle.run_model.proofs.Updates.{upd_either}
@@ -28,7 +30,7 @@ use Rattle.run_model.proofs.PoolMap.{created_lives, created_next, created_kept, 
 use Rattle.run_model.proofs.Names.{at_each, at_two}
 use Rattle.run_model.proofs.StepNames.{not_spent}
 use Rattle.run_model.proofs.Formed.{created_formed, cleared_formed, destroyed_formed, registered_formed, killed_formed}
-use Rattle.run_model.proofs.NamedPools.{on_named, made_under_named, own_named, conn_given, req_given}
+use Rattle.run_model.proofs.NamedPools.{on_named, made_under_named, with_buffer, put_keeps, own_named, conn_given, req_given}
 use Rattle.run_model.proofs.Thinned.{keeps_paths, keeps_pools, went_pools}
 
 -- What a change of a variable does to the pool of its brigade: it stays, or the brigade goes.
@@ -100,6 +102,46 @@ concat_pools a b r s =
     (filled_pool [] (r.inst.brigs b)) (filled_pool (items_of (r.inst.brigs a) ++ items_of (r.inst.brigs b)) (r.inst.brigs a)) same_pool)
     s
 
+-- references to files are registered on a live pool
+referred_path : (target : ℕ) (files : List ℕ) (ps : Pools Payload) → (all_referred target files ps).path ≡ ps.path
+unfolding all_referred registered
+referred_path target [] ps = refl
+referred_path target (file ∷ files) ps = referred_path target files (registered target (FileRef file) ps)
+
+referred_next : (target : ℕ) (files : List ℕ) (ps : Pools Payload) → (all_referred target files ps).next ≡ ps.next
+unfolding all_referred registered
+referred_next target [] ps = refl
+referred_next target (file ∷ files) ps = referred_next target files (registered target (FileRef file) ps)
+
+still_live : (n target : ℕ) (x : Payload) (ps : Pools Payload) → is_live ps n ≡ true → is_live (registered target x ps) n ≡ true
+unfolding is_live registered
+still_live n target x ps lives = lives
+
+referred_formed : (target : ℕ) (files : List ℕ) (ps : Pools Payload) → is_live ps target ≡ true → IsPoolMap ps → IsPoolMap (all_referred target files ps)
+unfolding all_referred
+referred_formed target [] ps lives f = f
+referred_formed target (file ∷ files) ps lives f = referred_formed target files (registered target (FileRef file) ps) (still_live target target (FileRef file) ps lives) (registered_formed target (FileRef file) ps lives f)
+
+save_pools : (o b target : ℕ) (r : Run) → made_on (r.inst.brigs o) ≡ Some target → SoundPools r → SoundPools (saved_into o b target r)
+unfolding set_brig with_pools
+save_pools o b target r on s =
+    let refs : List ℕ = filter_map (new_ref r.shared.pools target) (items_of (r.inst.brigs b)) in
+    keeps_paths r (saved_into o b target r) (referred_formed target refs r.shared.pools (s.brigades o target (made_pool (r.inst.brigs o) target on)) s.formed)
+    (referred_path target refs r.shared.pools) (referred_next target refs r.shared.pools) refl refl refl
+    (λ k n e. s.brigades k n (at_two KeepsPool r.inst.brigs b o (with_items [] (r.inst.brigs b)) (with_items _ (r.inst.brigs o)) (filled_pool [] (r.inst.brigs b)) (filled_pool _ (r.inst.brigs o)) same_pool k n e))
+    s where
+      made_pool : (v : Var) (n : ℕ) → made_on v ≡ Some n → brigade_pool v ≡ Some n
+      made_pool var.Null n e = e
+      made_pool var.Gone n e = e
+      made_pool (var.Live v) n e = e
+
+number_pools : (n v : ℕ) (r : Run) → SoundPools r → SoundPools (set_number n v r)
+unfolding set_number
+number_pools n v r s = keeps_pools r (set_number n v r) refl refl refl refl s.brigades s
+
+put_pools : (x : Value) (r : Run) → SoundPools r → SoundPools (do_put x r)
+put_pools x r s = put_keeps SoundPools x r s (λ buffer. keeps_pools r (with_buffer buffer r) refl refl refl refl s.brigades s)
+
 return_pools : (r : Run) → SoundPools r → SoundPools (do_return r)
 return_pools r s = keeps_slots r (do_return r) refl refl refl refl (λ b. left b (b == 8)) s where
   left : (b : ℕ) (is_in : Bool) → KeepsPool (r.inst.brigs b) (cond is_in var.Null (returned_var r.call.name (r.inst.brigs b)))
@@ -169,7 +211,15 @@ step_pools p choice (instr.Unlabel q t) r may s = on_named SoundPools (label_kil
 step_pools p choice (instr.BCreate o) r may s = create_pools p o r (wanted_pool r (pool_of_brigade p o) _ may.faultless) s
 step_pools p choice (instr.BClean b) r may s = clean_pools b r s
 step_pools p choice (instr.BConcat a b) r may s = concat_pools a b r s
+step_pools p choice (instr.BSave o b) r may s = on_named SoundPools (saved_into o b) (made_on (r.inst.brigs o)) r s (λ target e. save_pools o b target r e s)
 step_pools p choice (instr.Pass b l) r may s = pass_pools b r s
+step_pools p choice (instr.Put x l) r may s = put_pools x r s
+step_pools p choice instr.ClearBuf r may s = keeps_pools r (do_clearbuf r) refl refl refl refl s.brigades s
+step_pools p choice (instr.Set n x) r may s = number_pools n (value_of r x) r s
+step_pools p choice (instr.Add n x) r may s = number_pools n _ r s
+step_pools p choice (instr.Sub n x) r may s = number_pools n _ r s
+step_pools p choice (instr.JLt n x l) r may s = s
+step_pools p choice (instr.JEq n x l) r may s = s
 step_pools p choice (instr.JEmpty b l) r may s = s
 step_pools p choice (instr.JNull v l) r may s = s
 step_pools p choice (instr.JSent l) r may s = s

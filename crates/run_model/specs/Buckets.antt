@@ -34,12 +34,6 @@ is_data b = is_data_kind b.bucket.kind
 abbrev pub is_eos : Named → Bool
 is_eos b = is_eos_kind b.bucket.kind
 
--- the bytes that lie in memory
-abbrev pub bytes_of : Content → List ℕ
-bytes_of (content.Bytes bs) = bs
-bytes_of (content.Range file start len) = []
-bytes_of content.Nothing = []
-
 abbrev pub has_data : List Named → Bool
 has_data = list_any is_data
 

@@ -1,6 +1,6 @@
 -- One connection, and what happens to it: it is opened, requests begin and end, brigades are brought, steps are
 -- made, output is taken, it breaks, and it is closed.
-use Rattle.std.specs.Prelude.{ℕ, ◌+◌, Bool, true, false, ◌&&◌, ◌||◌, not, nat_le, if◌then◌else◌, List, [], ◌∷◌, length, Option, Some, None, is_some, Result, Ok, Err}
+use Rattle.std.specs.Prelude.{ℕ, ◌+◌, Bool, true, false, ◌&&◌, ◌||◌, not, nat_le, if◌then◌else◌, List, [], ◌∷◌, ◌++◌, length, Option, Some, None, is_some, ◌==◌, Result, Ok, Err}
 use Rattle.std.specs.List.{list_any}
 use Rattle.run_model.specs.declared.bucket.Kind.TheVariants as kind
 use Rattle.run_model.specs.declared.bucket.Content.TheVariants as content
@@ -22,30 +22,33 @@ use Rattle.run_model.specs.declared.event.Stepped.{Stepped}
 use Rattle.run_model.specs.declared.event.Stepped.TheVariants as stepped
 use Rattle.module_lang.specs.Program.{Program}
 use Rattle.run_model.specs.declared.payload.Payload.{Payload}
-use Rattle.run_model.specs.Pools.{Pools, planted, created}
+use Rattle.run_model.specs.declared.payload.Payload.TheVariants.{FileRef}
+use Rattle.run_model.specs.Pools.{Pools, planted, created, registered}
+use Rattle.run_model.specs.Files.{Files, file_opened}
 use Rattle.run_model.specs.Buckets.{is_data_kind, is_eos_kind}
 use Rattle.run_model.specs.State.{Run, fresh_inst, fresh_call, set_brig}
 use Rattle.run_model.specs.Steps.{watched, current, is_spent, pool_destroyed}
 
--- busy: a call is running. count: the instructions executed since the last open, begin or bring. broken: why
--- nothing is served any more but the output.
+-- files: the files that were opened in this request, each with its length. busy: a call is running. count: the
+-- instructions executed since the last open, begin or bring. broken: why the work goes on no more.
 pub record Connection : Type 0 where
   pub run : Run
+  pub files : List (ℕ × ℕ)
   pub busy : Bool
   pub count : ℕ
   pub broken : Option Cause
 
--- The call `name` of the handler that begins at pc begins.
-abbrev pub calling : ℕ → ℕ → Run → Connection
-calling name pc r = record { run = record r { call = fresh_call name; pc = pc }; busy = true; count = 0; broken = None }
+-- The call `name` of the handler that begins at pc begins, with these files open.
+abbrev pub calling : ℕ → ℕ → List (ℕ × ℕ) → Run → Connection
+calling name pc files r = record { files = files; run = record r { call = fresh_call name; pc = pc }; busy = true; count = 0; broken = None }
 
 -- The first connection of a host is opened: pool 1 is the root, pool 2 the connection's. Its `open` begins.
-unfoldable pub opened : Connection
-opened =
-    calling 1 0 (record {
+unfoldable pub opened : Files → Connection
+opened fs =
+    calling 1 0 [] (record {
       inst = fresh_inst;
       call = fresh_call 0;
-      shared = record { pools = created 1 (planted 1); conn = 2; req = None; labels = []; next = 2 };
+      shared = record { pools = created 1 (planted 1); conn = 2; req = None; labels = []; files = fs; next = 2 };
       pc = 0;
       out = record { bytes = []; ended = false };
     })
@@ -72,7 +75,7 @@ unless_refused (Some r) old new = (Some r, old)
 abbrev pub begun : Program → Connection → Connection
 begun p c =
     let shared = record c.run.shared { pools = created c.run.shared.conn c.run.shared.pools; req = Some c.run.shared.pools.next; next = c.run.shared.next + 1 } in
-    calling c.run.shared.next p.init (record c.run { shared = shared })
+    calling c.run.shared.next p.init [] (record c.run { shared = shared })
 
 unfoldable pub begins : Bool → Program → Connection → Option Refusal × Connection
 begins memory p c =
@@ -82,33 +85,75 @@ begins memory p c =
     ∷ (refused_if (is_spent c.run.shared.pools.next 1 || is_spent c.run.shared.next 1) refusal.NamesSpent
     ∷ (refused_if (not memory) refusal.NoMemory ∷ [])))))) c (begun p c)
 
--- the bucket of a brought piece
-abbrev pub bucket_of : Piece → Bucket
-bucket_of (piece.Heap bytes) = record { kind = kind.Heap; content = content.Bytes bytes; home = home.Free }
-bucket_of piece.Eos = record { kind = kind.Eos; content = content.Nothing; home = home.Free }
+-- A file is opened in a request, whose pool holds the reference.
+abbrev pub file_taken : ℕ → List ℕ → ℕ → Connection → Connection
+file_taken req name len c =
+    let fs = c.run.shared.files in
+    let shared = record c.run.shared { files = file_opened name fs; pools = registered req (FileRef fs.next) c.run.shared.pools } in
+    record c { files = c.files ++ (fs.next, len) ∷ []; run = record c.run { shared = shared } }
+
+-- The file is open, and its number and length are told, or why it is not.
+abbrev pub file_answer : Option Refusal → Option ℕ → Option (List ℕ) → List ℕ → Connection → Result (ℕ × ℕ) Refusal × Connection
+file_answer (Some r) req found name c = (Err r, c)
+file_answer None None found name c = (Err refusal.NotInRequest, c)
+file_answer None (Some req) None name c = (Err refusal.NoFile, c)
+file_answer None (Some req) (Some bytes) name c = (Ok (c.run.shared.files.next, length bytes), file_taken req name (length bytes) c)
+
+unfoldable pub opens_file : Bool → List ℕ → Connection → Result (ℕ × ℕ) Refusal × Connection
+opens_file memory name c =
+    let fs = c.run.shared.files in
+    file_answer (first_refusal (if_broken c.broken
+    ∷ (refused_if c.busy refusal.Busy
+    ∷ (refused_if (not (is_some c.run.shared.req)) refusal.NotInRequest
+    ∷ (refused_if (not (is_some (fs.named name))) refusal.NoFile
+    ∷ (refused_if (is_spent fs.next 1) refusal.NamesSpent
+    ∷ (refused_if (not memory) refusal.NoMemory ∷ []))))))) c.run.shared.req (fs.named name) name c
+
+-- The bucket of a piece that is brought to a call of this name, in a request of this pool.
+abbrev pub bucket_of : ℕ → ℕ → Piece → Bucket
+bucket_of call req (piece.Heap bytes) = record { kind = kind.Heap; content = content.Bytes bytes; home = home.Free }
+bucket_of call req (piece.Transient bytes) = record { kind = kind.Transient; content = content.Bytes bytes; home = home.Call call }
+bucket_of call req (piece.Immortal bytes) = record { kind = kind.Immortal; content = content.Bytes bytes; home = home.Free }
+bucket_of call req (piece.Pool bytes) = record { kind = kind.Pool req; content = content.Bytes bytes; home = home.Free }
+bucket_of call req (piece.File file start len) = record { kind = kind.File; content = content.Range file start len; home = home.Pool req }
+bucket_of call req piece.Flush = record { kind = kind.Flush; content = content.Nothing; home = home.Free }
+bucket_of call req piece.Eos = record { kind = kind.Eos; content = content.Nothing; home = home.Free }
 
 -- the buckets of the pieces, with names from n on
-abbrev pub named_from : ℕ → List Piece → List Named
-named_from n [] = []
-named_from n (x ∷ xs) = (record { name = n; bucket = bucket_of x }) ∷ named_from (n + 1) xs
+abbrev pub named_from : (Piece → Bucket) → ℕ → List Piece → List Named
+named_from make n [] = []
+named_from make n (x ∷ xs) = (record { name = n; bucket = make x }) ∷ named_from make (n + 1) xs
 
 abbrev pub is_data_piece : Piece → Bool
-is_data_piece x = is_data_kind (bucket_of x).kind
+is_data_piece x = is_data_kind (bucket_of 0 0 x).kind
 
 abbrev pub is_eos_piece : Piece → Bool
-is_eos_piece x = is_eos_kind (bucket_of x).kind
+is_eos_piece x = is_eos_kind (bucket_of 0 0 x).kind
 
 -- whether a data piece stands behind an EOS
 abbrev pub data_behind_eos : List Piece → Bool
 data_behind_eos [] = false
 data_behind_eos (x ∷ xs) = (is_eos_piece x && list_any is_data_piece xs) || data_behind_eos xs
 
+-- Whether a file of this number was opened in this request and reaches so far. (Numbers are given once.)
+abbrev pub has_range : List (ℕ × ℕ) → ℕ → ℕ → Bool
+has_range files file end = list_any (λ f. f.0 == file && nat_le end f.1) files
+
+-- whether a piece is a range that no file of the request has
+abbrev pub lacks_file : List (ℕ × ℕ) → Piece → Bool
+lacks_file files (piece.File file start len) = not (has_range files file (start + len))
+lacks_file files x = false
+
 -- A brigade is brought: it is the `in` of a call of `main`. Names go to the call, the brigade and its buckets.
-abbrev pub brought : Program → List Piece → Connection → Connection
-brought p pieces c =
+abbrev pub brought_in : ℕ → Program → List Piece → Connection → Connection
+brought_in req p pieces c =
     let n = c.run.shared.next in
-    let in_brigade : Brigade = record { name = n + 1; on = None; mark = Usable; items = named_from (n + 2) pieces } in
-    calling n p.main (set_brig 8 (var.Live in_brigade) (record c.run { shared = record c.run.shared { next = n + 2 + length pieces } }))
+    let in_brigade : Brigade = record { name = n + 1; on = None; mark = Usable; items = named_from (bucket_of n req) (n + 2) pieces } in
+    calling n p.main c.files (set_brig 8 (var.Live in_brigade) (record c.run { shared = record c.run.shared { next = n + 2 + length pieces } }))
+
+abbrev pub brought : Option ℕ → Program → List Piece → Connection → Connection
+brought None p pieces c = c
+brought (Some req) p pieces c = brought_in req p pieces c
 
 unfoldable pub brings : Bool → Program → List Piece → Connection → Option Refusal × Connection
 brings memory p pieces c =
@@ -116,8 +161,9 @@ brings memory p pieces c =
     ∷ (refused_if c.busy refusal.Busy
     ∷ (refused_if (not (is_some c.run.shared.req)) refusal.NotInRequest
     ∷ (refused_if (data_behind_eos pieces) refusal.DataAfterEos
+    ∷ (refused_if (list_any (lacks_file c.files) pieces) refusal.NoFile
     ∷ (refused_if (is_spent c.run.shared.next (2 + length pieces)) refusal.NamesSpent
-    ∷ (refused_if (not memory) refusal.NoMemory ∷ []))))))) c (brought p pieces c)
+    ∷ (refused_if (not memory) refusal.NoMemory ∷ [])))))))) c (brought c.run.shared.req p pieces c)
 
 -- The request's pool is destroyed, and no EOS was passed in the next request.
 abbrev pub request_ended : ℕ → Run → Run
@@ -127,7 +173,7 @@ request_ended req r =
 
 abbrev pub ended : Option ℕ → Connection → Connection
 ended None c = c
-ended (Some req) c = record c { run = request_ended req c.run }
+ended (Some req) c = record c { files = []; run = request_ended req c.run }
 
 unfoldable pub ends : Bool → Connection → Option Refusal × Connection
 ends memory c =
@@ -140,6 +186,9 @@ ends memory c =
 -- pools that are left.
 abbrev pub closing_labels : Connection → List (List ℕ)
 closing_labels c = (pool_destroyed c.run.shared.conn c.run).shared.labels
+
+abbrev pub closing_files : Connection → Files
+closing_files c = (pool_destroyed c.run.shared.conn c.run).shared.files
 
 abbrev pub closing_pools : Connection → Pools Payload
 closing_pools c = (pool_destroyed c.run.shared.conn c.run).shared.pools

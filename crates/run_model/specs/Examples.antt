@@ -2,6 +2,7 @@
 use Rattle.std.specs.Prelude.{◌≡◌, ℕ, ◌-◌, ◌^◌, true, false, ◌+◌, List, [], ◌∷◌, ◌++◌, length, replicate, Some, None, ◌==◌, if◌then◌else◌}
 use Rattle.module_lang.specs.declared.instr.PoolRef.{PoolRef}
 use Rattle.module_lang.specs.declared.instr.PoolRef.TheVariants as pool
+use Rattle.module_lang.specs.declared.instr.Value.TheVariants as value
 use Rattle.module_lang.specs.declared.instr.VarRef.TheVariants as varref
 use Rattle.module_lang.specs.declared.instr.Status.TheVariants.{Success, Fail}
 use Rattle.module_lang.specs.declared.instr.Instr.{Instr}
@@ -30,8 +31,9 @@ use Rattle.run_model.specs.Connection.{closing_pools}
 use Rattle.run_model.specs.State.{Run, items_of}
 use Rattle.run_model.specs.Faults.{fault}
 use Rattle.run_model.specs.Steps.{do_return}
+use Rattle.run_model.specs.Files.{no_files, file_added}
 use Rattle.run_model.specs.Connection.{opened, request_ended}
-use Rattle.run_model.specs.Runs.{Answer, Done, Refused, Step, Output, Labels, World, Before, There, Closed, happens}
+use Rattle.run_model.specs.Runs.{Answer, Done, Refused, Step, Output, Opened, Labels, World, Before, There, Closed, happens}
 
 -- the answers of these events, where memory is ample
 unfoldable pub answers_from : World → ℕ → Program → List Event → List Answer
@@ -40,7 +42,7 @@ answers_from w budget p (e ∷ es) = (happens true budget p e w).0 ∷ answers_f
 
 -- the answers of a host that is not yet open
 abbrev pub answers : ℕ → Program → List Event → List Answer
-answers budget p es = answers_from Before budget p es
+answers budget p es = answers_from (Before no_files) budget p es
 
 -- a module with no variables, whose `open` and `init` succeed at once
 abbrev pub with_main : List Instr → Program
@@ -97,8 +99,8 @@ begun_well = Done ∷ step_ok ∷ Done ∷ step_ok ∷ []
 
 -- a world with other next names, of pools and of all else
 abbrev pub with_names : ℕ → ℕ → World → World
-with_names pool_name name Before = Before
-with_names pool_name name (Closed pools) = Closed pools
+with_names pool_name name (Before fs) = Before fs
+with_names pool_name name (Closed pools fs) = Closed pools fs
 with_names pool_name name (There c) = There (record c { run = record c.run { shared = record c.run.shared { pools = record c.run.shared.pools { next = pool_name }; next = name } } })
 
 -- what the events lead to, where memory is ample
@@ -108,7 +110,7 @@ world_after w budget p (e ∷ es) = world_after (happens true budget p e w).1 bu
 
 -- the answers of these events after `beginning`, with these next names
 abbrev pub answers_with_names : ℕ → ℕ → Program → List Event → List Answer
-answers_with_names pool_name name p es = answers_from (with_names pool_name name (world_after Before 1000000 p beginning)) 1000000 p es
+answers_with_names pool_name name p es = answers_from (with_names pool_name name (world_after (Before no_files) 1000000 p beginning)) 1000000 p es
 
 -- a module with these variables and texts whose `open` is this, and whose `init` and `main` succeed at once
 abbrev pub with_open : List PoolRef → List PoolRef → List (List ℕ) → List Instr → Program
@@ -137,6 +139,44 @@ request_pools first =
 -- what so many steps of `open` answer, and what is told then
 abbrev pub opening : ℕ → List Event → List Event
 opening n es = event.Open ∷ (replicate n event.Step ++ es)
+
+-- `brigade b0 conn`; open: `bcreate b0`, `ret ok`; init: `ret ok`; main: `jempty in send`, this, `ret ok`, `:send` `pass b0 bad`,
+-- `bclean b0`, `ret ok`, `:bad` `bclean b0`, `ret fail`
+abbrev pub gathers_by : Instr → Program
+gathers_by i = record {
+  pools = [];
+  brigades = pool.Conn ∷ [];
+  texts = [];
+  code = instr.BCreate 0 ∷ instr.Ret Success ∷ instr.Ret Success
+      ∷ instr.JEmpty 8 6 ∷ i ∷ instr.Ret Success ∷ instr.Pass 0 9 ∷ instr.BClean 0 ∷ instr.Ret Success ∷ instr.BClean 0 ∷ instr.Ret Fail ∷ [];
+  init = 2;
+  main = 3;
+}
+
+-- with `bsave b0 in`, and with `bconcat b0 in`
+abbrev pub saver : Program
+saver = gathers_by (instr.BSave 0 8)
+
+abbrev pub keeper : Program
+keeper = gathers_by (instr.BConcat 0 8)
+
+abbrev pub saving : List Event
+saving = event.Open ∷ event.Step ∷ event.Step ∷ event.Begin ∷ event.Step ∷ []
+
+abbrev pub saving_well : List Answer
+saving_well = Done ∷ went ∷ step_ok ∷ Done ∷ step_ok ∷ []
+
+-- open: `set n0 256`, `put n0 a`, `:loop` `jump loop`, `:a` `sub n0 257`, `jeq n0 0 b`, `:loop2` `jump loop2`, `:b` `add n0 4294967295`,
+-- `add n0 1`, `:loop3` `jlt n0 4294967295 loop3`, `ret ok`
+abbrev pub counts : Program
+counts = with_open [] [] [] (instr.Set 0 (value.Constant 256) ∷ instr.Put (value.Number 0) 3 ∷ instr.Jump 2 ∷ instr.Sub 0 (value.Constant 257) ∷ instr.JEq 0 (value.Constant 0) 6 ∷ instr.Jump 5
+    ∷ instr.Add 0 (value.Constant 4294967295) ∷ instr.Add 0 (value.Constant 1) ∷ instr.JLt 0 (value.Constant 4294967295) 8 ∷ instr.Ret Success ∷ [])
+
+-- a world in which so many reads go on well, and then one fails
+abbrev pub failing_in : ℕ → World → World
+failing_in n (Before fs) = Before (record fs { fails_in = Some n })
+failing_in n (There c) = There (record c { run = record c.run { shared = record c.run.shared { files = record c.run.shared.files { fails_in = Some n } } } })
+failing_in n (Closed pools fs) = Closed pools (record fs { fails_in = Some n })
 
 -- bodies of these bytes
 abbrev pub a_heap : List ℕ → Event
@@ -185,9 +225,43 @@ pub record PoolRuns : Type 0 where
   -- a dead variable is not null
   pub nulls : answers 1000000 (one_pool (instr.JNull (varref.Pool 0) 2 ∷ instr.PClear 0 ∷ instr.PCreate 0 ∷ instr.PDestroy 0 ∷ instr.JNull (varref.Pool 0) 1 ∷ instr.JNull (varref.Brigade 0) 7 ∷ instr.PClear 0 ∷ []))
       (opening 6 []) ≡ Done ∷ went ∷ went ∷ went ∷ went ∷ went ∷ step_ok ∷ []
-  pub pool_names : (happens true 1000000 (one_pool (instr.PCreate 0 ∷ [])) event.Step (with_names (2 ^ 64 - 1) 4 (There opened))).0 ≡ broken_by cause.NamesSpent
-  pub last_pool_name : (happens true 1000000 (one_pool (instr.PCreate 0 ∷ [])) event.Step (with_names (2 ^ 64 - 2) 4 (There opened))).0 ≡ went
-  pub no_memory : (happens false 1000000 (one_pool (instr.PCreate 0 ∷ [])) event.Step (There opened)).0 ≡ broken_by cause.NoMemory
+  pub pool_names : (happens true 1000000 (one_pool (instr.PCreate 0 ∷ [])) event.Step (with_names (2 ^ 64 - 1) 4 (There (opened no_files)))).0 ≡ broken_by cause.NamesSpent
+  pub last_pool_name : (happens true 1000000 (one_pool (instr.PCreate 0 ∷ [])) event.Step (with_names (2 ^ 64 - 2) 4 (There (opened no_files)))).0 ≡ went
+  pub no_memory : (happens false 1000000 (one_pool (instr.PCreate 0 ∷ [])) event.Step (There (opened no_files))).0 ≡ broken_by cause.NoMemory
+
+-- How buckets of the kinds are kept, passed on and read.
+pub record KindRuns : Type 0 where
+  -- a transient bucket is saved before its call returns
+  pub saved : answers 1000000 saver (saving ++ event.Bring (piece.Transient (97 ∷ []) ∷ []) ∷ three_steps ++ event.Bring [] ∷ three_steps ++ event.Step ∷ event.TakeOutput ∷ [])
+      ≡ saving_well ++ Done ∷ went ∷ went ∷ step_ok ∷ Done ∷ went ∷ went ∷ went ∷ step_ok ∷ Output (97 ∷ []) ∷ []
+  -- or kept beyond it
+  pub kept : answers 1000000 keeper (saving ++ event.Bring (piece.Transient (97 ∷ []) ∷ []) ∷ three_steps)
+      ≡ saving_well ++ Done ∷ went ∷ went ∷ Step (stepped.Fault fault_kind.F6 0 5) ∷ []
+  -- a file that is saved outlasts its request
+  pub file_saved : answers 1000000 saver (event.AddFile (102 ∷ []) (120 ∷ 121 ∷ 122 ∷ []) ∷ saving ++ event.OpenFile (102 ∷ []) ∷ event.Bring (piece.File 1 1 2 ∷ []) ∷ three_steps
+      ++ event.End ∷ event.Begin ∷ event.Step ∷ event.Bring [] ∷ three_steps ++ event.Step ∷ event.TakeOutput ∷ [])
+      ≡ Done ∷ saving_well ++ Opened 1 3 ∷ Done ∷ went ∷ went ∷ step_ok ∷ Done ∷ Done ∷ step_ok ∷ Done ∷ went ∷ went ∷ went ∷ step_ok ∷ Output (121 ∷ 122 ∷ []) ∷ []
+  -- and one that is only kept does not
+  pub file_kept : answers 1000000 keeper (event.AddFile (102 ∷ []) (120 ∷ []) ∷ saving ++ event.OpenFile (102 ∷ []) ∷ event.Bring (piece.File 1 0 1 ∷ []) ∷ three_steps
+      ++ event.End ∷ event.Begin ∷ event.Step ∷ event.Bring [] ∷ event.Step ∷ event.Step ∷ [])
+      ≡ Done ∷ saving_well ++ Opened 1 1 ∷ Done ∷ went ∷ went ∷ step_ok ∷ Done ∷ Done ∷ step_ok ∷ Done ∷ went ∷ Step (stepped.Fault fault_kind.F5 0 6) ∷ []
+  -- bytes in the request's pool are kept when it goes
+  pub pool_bytes : answers 1000000 keeper (saving ++ event.Bring (piece.Pool (97 ∷ []) ∷ []) ∷ three_steps ++ event.End ∷ event.Begin ∷ event.Step ∷ event.Bring [] ∷ three_steps ++ event.Step ∷ event.TakeOutput ∷ [])
+      ≡ saving_well ++ Done ∷ went ∷ went ∷ step_ok ∷ Done ∷ Done ∷ step_ok ∷ Done ∷ went ∷ went ∷ went ∷ step_ok ∷ Output (97 ∷ []) ∷ []
+  pub metadata : answers 1000000 identity (beginning ++ event.Bring (piece.Flush ∷ piece.Immortal (97 ∷ []) ∷ piece.Eos ∷ piece.Flush ∷ []) ∷ three_steps ++ event.TakeOutput ∷ [])
+      ≡ begun_well ++ Done ∷ went ∷ went ∷ step_ok ∷ Output (97 ∷ []) ∷ []
+  -- the first of the reads fails: the pass answers Fail, and an EOS counts
+  pub read_fails : answers_from (failing_in 0 (world_after (Before (file_added (102 ∷ []) (120 ∷ []) no_files)) 1000000 identity beginning)) 1000000 identity
+      (event.OpenFile (102 ∷ []) ∷ event.Bring (piece.Heap (97 ∷ []) ∷ piece.File 1 0 1 ∷ piece.Heap (98 ∷ []) ∷ piece.Eos ∷ []) ∷ three_steps ++ event.TakeOutput ∷ event.Bring [] ∷ three_steps)
+      ≡ Opened 1 1 ∷ Done ∷ went ∷ went ∷ Step (stepped.CallEnded Fail) ∷ Output (97 ∷ []) ∷ Done ∷ went ∷ went ∷ step_ok ∷ []
+  pub no_file : answers 1000000 identity (event.AddFile (102 ∷ []) (120 ∷ []) ∷ event.Open ∷ event.Step ∷ event.OpenFile (102 ∷ []) ∷ event.Begin ∷ event.OpenFile (102 ∷ []) ∷ event.Step ∷ event.OpenFile (103 ∷ [])
+      ∷ event.OpenFile (102 ∷ []) ∷ event.Bring (piece.File 1 0 2 ∷ []) ∷ event.Bring (piece.File 2 0 0 ∷ []) ∷ event.Bring (piece.File 1 1 0 ∷ []) ∷ [])
+      ≡ Done ∷ Done ∷ step_ok ∷ Refused refusal.NotInRequest ∷ Done ∷ Refused refusal.Busy ∷ step_ok ∷ Refused refusal.NoFile ∷ Opened 1 1 ∷ Refused refusal.NoFile ∷ Refused refusal.NoFile ∷ Done ∷ []
+  -- a file of the last request is not open in this one
+  pub next_request : answers 1000000 identity (event.AddFile (102 ∷ []) (120 ∷ []) ∷ beginning ++ event.OpenFile (102 ∷ []) ∷ event.End ∷ event.Begin ∷ event.Step ∷ event.Bring (piece.File 1 0 1 ∷ []) ∷ event.OpenFile (102 ∷ []) ∷ [])
+      ≡ Done ∷ begun_well ++ Opened 1 1 ∷ Done ∷ Done ∷ step_ok ∷ Refused refusal.NoFile ∷ Opened 2 1 ∷ []
+  -- numbers stop at 0 and at 4294967295, and only a byte is put into the buffer
+  pub numbers : answers 1000000 counts (opening 8 []) ≡ Done ∷ went ∷ went ∷ went ∷ went ∷ went ∷ went ∷ went ∷ step_ok ∷ []
 
 -- How pools end with those above them, with their request and with their connection.
 pub record PoolEnds : Type 0 where
@@ -214,10 +288,10 @@ pub record PoolEnds : Type 0 where
   pub while_busy : answers 1000000 identity (event.Open ∷ event.Close ∷ event.Step ∷ event.TakeOutput ∷ event.Close ∷ [])
       ≡ Done ∷ Labels [] ∷ Refused refusal.NoSuchConn ∷ Refused refusal.NoSuchConn ∷ Refused refusal.NoSuchConn ∷ []
   -- the root is left, alone
-  pub root_left : (closing_pools opened).path 1 ≡ 1 ∷ []
-  pub none_left : (closing_pools opened).path 2 ≡ []
-  pub no_memory_to_end : (happens false 1000000 identity event.End (world_after Before 1000000 identity beginning)).0 ≡ Refused refusal.NoMemory
-  pub no_memory_to_close : happens false 1000000 identity event.Close (There opened) ≡ (Refused refusal.NoMemory, There opened)
+  pub root_left : (closing_pools (opened no_files)).path 1 ≡ 1 ∷ []
+  pub none_left : (closing_pools (opened no_files)).path 2 ≡ []
+  pub no_memory_to_end : (happens false 1000000 identity event.End (world_after (Before no_files) 1000000 identity beginning)).0 ≡ Refused refusal.NoMemory
+  pub no_memory_to_close : happens false 1000000 identity event.Close (There (opened no_files)) ≡ (Refused refusal.NoMemory, There (opened no_files))
 
 -- How instructions have faults, which are told whether or not there is memory.
 pub record FaultRuns : Type 0 where
@@ -231,7 +305,7 @@ pub record FaultRuns : Type 0 where
       ≡ Done ∷ step_ok ∷ Done ∷ Step (stepped.Fault fault_kind.F1 0 1) ∷ []
   pub no_brigade : answers 1000000 never_creates (beginning ++ event.Bring [] ∷ event.Step ∷ [])
       ≡ begun_well ++ Done ∷ Step (stepped.Fault fault_kind.F2 0 2) ∷ []
-  pub without_memory : (happens false 1000000 never_creates event.Step (world_after Before 1000000 never_creates (beginning ++ event.Bring [] ∷ []))).0 ≡ Step (stepped.Fault fault_kind.F2 0 2)
+  pub without_memory : (happens false 1000000 never_creates event.Step (world_after (Before no_files) 1000000 never_creates (beginning ++ event.Bring [] ∷ []))).0 ≡ Step (stepped.Fault fault_kind.F2 0 2)
 
 -- How connections break.
 pub record BreakRuns : Type 0 where
@@ -242,8 +316,8 @@ pub record BreakRuns : Type 0 where
   pub none : answers 0 identity (event.Open ∷ event.Step ∷ []) ≡ Done ∷ broken_by cause.OutOfSteps ∷ []
   pub for_ever : answers 2 loops (beginning ++ event.Bring [] ∷ three_steps) ≡ begun_well ++ Done ∷ went ∷ went ∷ broken_by cause.OutOfSteps ∷ []
   -- a brigade wants memory, a return wants none
-  pub no_memory : (happens false 1000000 gathers event.Step (world_after Before 1000000 gathers (event.Open ∷ event.Step ∷ event.Begin ∷ []))).0 ≡ broken_by cause.NoMemory
-  pub no_growth : (happens false 1000000 identity event.Step (There opened)).0 ≡ step_ok
+  pub no_memory : (happens false 1000000 gathers event.Step (world_after (Before no_files) 1000000 gathers (event.Open ∷ event.Step ∷ event.Begin ∷ []))).0 ≡ broken_by cause.NoMemory
+  pub no_growth : (happens false 1000000 identity event.Step (There (opened no_files))).0 ≡ step_ok
 
 -- Which events are refused in which states.
 pub record RefusedRuns : Type 0 where
@@ -256,7 +330,7 @@ pub record RefusedRuns : Type 0 where
   pub in_request : answers 1000000 identity (beginning ++ event.Begin ∷ event.Step ∷ []) ≡ begun_well ++ Refused refusal.InRequest ∷ Refused refusal.Idle ∷ []
   pub data_after_eos : answers 1000000 identity (beginning ++ event.Bring (piece.Heap (97 ∷ []) ∷ piece.Eos ∷ piece.Heap (98 ∷ []) ∷ []) ∷ event.Step ∷ [])
       ≡ begun_well ++ Refused refusal.DataAfterEos ∷ Refused refusal.Idle ∷ []
-  pub no_memory : (happens false 1000000 identity (event.Bring []) (world_after Before 1000000 identity beginning)).0 ≡ Refused refusal.NoMemory
+  pub no_memory : (happens false 1000000 identity (event.Bring []) (world_after (Before no_files) 1000000 identity beginning)).0 ≡ Refused refusal.NoMemory
 
 -- How far names last: 2^64 - 2 is the last one, of pools as of all else.
 pub record NameRuns : Type 0 where
@@ -279,9 +353,9 @@ a_bucket k h = record { name = 90; bucket = record { kind = k; content = content
 -- number has these buckets.
 abbrev pub holding : ℕ → Mark → List Named → Run
 holding b mark items =
-    record opened.run {
-      inst = record opened.run.inst { pools = λ p. poolvar.Named 5; brigs = λ k. if k == b then var.Live (record { name = 80; on = Some 2; mark = mark; items = items }) else var.Null };
-      shared = record opened.run.shared { req = Some 3 };
+    record (opened no_files).run {
+      inst = record (opened no_files).run.inst { pools = λ p. poolvar.Named 5; brigs = λ k. if k == b then var.Live (record { name = 80; on = Some 2; mark = mark; items = items }) else var.Null };
+      shared = record (opened no_files).run.shared { req = Some 3 };
     }
 
 -- the same, where the pool 3 stands under the pool 2
@@ -290,7 +364,7 @@ in_request items = record (holding 0 Usable items) { shared = record (holding 0 
 
 -- a run whose pool variable 0 names a dead pool, and the others a live one
 abbrev pub dead_and_live : Run
-dead_and_live = record opened.run { inst = record opened.run.inst { pools = λ p. if p == 0 then poolvar.Named 9 else poolvar.Named 2 } }
+dead_and_live = record (opened no_files).run { inst = record (opened no_files).run.inst { pools = λ p. if p == 0 then poolvar.Named 9 else poolvar.Named 2 } }
 
 -- Faults of what may be held, and their order.
 pub record HeldFaults : Type 0 where

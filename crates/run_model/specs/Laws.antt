@@ -1,8 +1,11 @@
 -- The laws of the definitions, as statements.
-use Rattle.std.specs.Prelude.{◌≡◌, ◌≢◌, ℕ, ◌+◌, ◌<◌, ◌≤◌, Bool, true, false, ◌==◌, ◌||◌, ◌⊎◌, List, [], ◌∷◌, ◌++◌, map, length, replicate, Some, None, Result, Ok, Err, All}
+use Rattle.std.specs.Prelude.{◌≡◌, ◌≢◌, ℕ, ◌+◌, ◌<◌, ◌≤◌, Bool, true, false, ◌==◌, ◌||◌, ◌⊎◌, List, [], ◌∷◌, ◌++◌, map, length, take, drop, replicate, Option, Some, None, Result, Ok, Err, All}
 use Rattle.module_lang.specs.declared.instr.Instr.{Instr}
 use Rattle.module_lang.specs.declared.instr.Instr.TheVariants as instr
 use Rattle.module_lang.specs.Program.{Program, IsModule, fits}
+use Rattle.run_model.specs.declared.bucket.Bucket.{Bucket}
+use Rattle.run_model.specs.declared.bucket.Content.{Content}
+use Rattle.run_model.specs.declared.bucket.Content.TheVariants as content
 use Rattle.run_model.specs.declared.bucket.Named.{Named}
 use Rattle.run_model.specs.declared.bucket.Var.{Var}
 use Rattle.run_model.specs.declared.bucket.Var.TheVariants as var
@@ -16,20 +19,23 @@ use Rattle.run_model.specs.declared.event.Event.{Event}
 use Rattle.run_model.specs.declared.event.Event.TheVariants as event
 use Rattle.run_model.specs.declared.event.Stepped.{Stepped}
 use Rattle.run_model.specs.declared.event.Stepped.TheVariants as stepped
-use Rattle.run_model.specs.Buckets.{has_eos, data_after_eos}
+use Rattle.run_model.specs.Buckets.{has_eos, data_after_eos, is_dead}
+use Rattle.run_model.specs.Files.{Files, all_taken, range_taken, parts_of, is_referred}
+use Rattle.run_model.specs.Cutting.{wanted, read_of}
 use Rattle.run_model.specs.State.{Run, Out, fresh_call, items_of}
 use Rattle.run_model.specs.Faults.{WUsable, fault_want, fault, send_fault, or_else}
-use Rattle.run_model.specs.Steps.{Choice, step, step_at_end, delivered, lacks_names, names_of, pool_cleared, pool_destroyed}
-use Rattle.run_model.specs.Connection.{Connection, opened, named_from, data_behind_eos, breaks, steps}
+use Rattle.run_model.specs.Steps.{Choice, step, step_at_end, aside_named, delivered, lacks_names, names_of, pool_cleared, pool_destroyed}
+use Rattle.run_model.specs.Connection.{Connection, opened, bucket_of, named_from, data_behind_eos, breaks, steps}
 use Rattle.run_model.specs.Runs.{Answer, Refused, Step, World, Before, There, Closed, happens, IsDue, step_of, IsRun, GoesOn, EndsRun}
-use Rattle.run_model.specs.Sound.{SoundNames, SoundBuckets, SoundPools, Sound, brigade_pool}
+use Rattle.run_model.specs.Sound.{SoundNames, SoundBuckets, SoundPools, Sound, brigade_pool, is_range, is_proper}
 use Rattle.run_model.specs.declared.bucket.Kind.TheVariants as kind
+use Rattle.run_model.specs.declared.bucket.Home.{Home}
 use Rattle.run_model.specs.declared.bucket.Home.TheVariants as home
 use Rattle.run_model.specs.declared.payload.Payload.{Payload}
 use Rattle.run_model.specs.Pools.{Pools, is_live, is_under, created, cleared, destroyed}
 use Rattle.run_model.specs.RunOrder.{IsPoolMap, run_order}
 use Rattle.std.specs.List.{list_any}
-use Rattle.run_model.specs.Payloads.{is_label, labels_in}
+use Rattle.run_model.specs.Payloads.{is_label, is_file_ref, labels_in}
 use Rattle.run_model.specs.Clearing.{is_reached}
 use Rattle.run_model.specs.Steps.{label_registered, label_killed}
 
@@ -58,20 +64,20 @@ StepAtEndKeeps = (p : Program) (i : Instr) (r : Run) → MayExecute p r i → So
 
 -- A connection that has just been opened is sound.
 abbrev pub OpenedIsSound : Type 0
-OpenedIsSound = Sound opened.run
+OpenedIsSound = (fs : Files) → Sound (opened fs).run
 
 -- what is true of a connection, where it is there
 abbrev pub SoundWorld : World → Type 0
-SoundWorld Before = Unit {0}
+SoundWorld (Before fs) = Unit {0}
 SoundWorld (There c) = Sound c.run
-SoundWorld (Closed pools) = Unit {0}
+SoundWorld (Closed pools fs) = Unit {0}
 
 -- Each event keeps it, and so it is true of each world that a run reaches.
 abbrev pub EventKeepsSound : Type 0
 EventKeepsSound = (memory : Bool) (budget : ℕ) (p : Program) (e : Event) (w : World) → IsModule p → SoundWorld w → SoundWorld (happens memory budget p e w).1
 
 abbrev pub RunIsSound : Type 0
-RunIsSound = (budget : ℕ) (p : Program) (es : List Event) (answers : List Answer) (w : World) → IsModule p → IsRun budget p Before es answers w → SoundWorld w
+RunIsSound = (budget : ℕ) (p : Program) (fs : Files) (es : List Event) (answers : List Answer) (w : World) → IsModule p → IsRun budget p (Before fs) es answers w → SoundWorld w
 
 -- A run goes on by one event, but a connection is opened once.
 abbrev pub RunGoesOn : Type 0
@@ -90,6 +96,7 @@ may_change (instr.PDestroy q) k = true
 may_change (instr.BCreate o) k = k == o
 may_change (instr.BClean b) k = k == b
 may_change (instr.BConcat a b) k = k == a || k == b
+may_change (instr.BSave o b) k = k == o || k == b
 may_change (instr.Pass b l) k = k == b
 may_change (instr.Ret s) k = true
 may_change i k = false
@@ -98,6 +105,19 @@ may_change i k = false
 abbrev pub may_change_pool : Instr → ℕ → Bool
 may_change_pool (instr.PCreate q) k = k == q
 may_change_pool i k = false
+
+-- the number variables that it may change
+abbrev pub may_change_number : Instr → ℕ → Bool
+may_change_number (instr.Set n x) k = k == n
+may_change_number (instr.Add n x) k = k == n
+may_change_number (instr.Sub n x) k = k == n
+may_change_number i k = false
+
+-- whether it may change the call's buffer
+abbrev pub fills : Instr → Bool
+fills (instr.Put x l) = true
+fills instr.ClearBuf = true
+fills i = false
 
 abbrev pub is_pass : Instr → Bool
 is_pass (instr.Pass b l) = true
@@ -117,21 +137,24 @@ abbrev pub changes_pools : Instr → Bool
 changes_pools (instr.PCreate q) = true
 changes_pools (instr.Label q t) = true
 changes_pools (instr.Unlabel q t) = true
+changes_pools (instr.BSave o b) = true
 changes_pools i = is_clear i
 
--- What an instruction does not name is as before: other brigades and pool variables, numbers, and but for a pass or a
--- return also whether an EOS was passed, and the call. Pools change by their own instructions, and labels are run by
--- clears alone; else only names are given out.
+-- What an instruction does not name is as before: other brigades, pool variables and numbers, and but for a pass or a
+-- return also whether an EOS was passed, and the call. Pools change by their own instructions and by a save; labels are
+-- run and files closed by clears alone; else only names are given out.
 pub record ChangesOnly (i : Instr) (r new : Run) : Type 0 where
   pub brigades : (k : ℕ) → may_change i k ≡ false → new.inst.brigs k ≡ r.inst.brigs k
   pub pools : (k : ℕ) → may_change_pool i k ≡ false → new.inst.pools k ≡ r.inst.pools k
-  pub numbers : new.inst.numbers ≡ r.inst.numbers
+  pub numbers : (k : ℕ) → may_change_number i k ≡ false → new.inst.numbers k ≡ r.inst.numbers k
   pub sent : is_pass i ≡ false → new.inst.sent ≡ r.inst.sent
-  pub call : is_return i ≡ false → is_clear i ≡ false → new.call ≡ r.call
+  pub call : is_return i ≡ false → is_clear i ≡ false → fills i ≡ false → new.call ≡ r.call
+  pub filled : fills i ≡ true → new.call ≡ record r.call { buffer = new.call.buffer }
   pub tree : changes_pools i ≡ false → new.shared.pools ≡ r.shared.pools
   pub conn : new.shared.conn ≡ r.shared.conn
   pub req : new.shared.req ≡ r.shared.req
   pub labels : is_clear i ≡ false → new.shared.labels ≡ r.shared.labels
+  pub files : is_clear i ≡ false → new.shared.files ≡ r.shared.files
   pub names : new.shared.next ≡ r.shared.next + names_of i
   pub output : new.out ≡ r.out
 
@@ -156,6 +179,7 @@ FaultBreaks = (memory : Bool) (budget : ℕ) (p : Program) (c new : Connection) 
 -- the events that a broken connection does not serve
 abbrev pub is_work : Event → Bool
 is_work event.Begin = true
+is_work (event.OpenFile name) = true
 is_work (event.Bring pieces) = true
 is_work event.Step = true
 is_work event.End = true
@@ -176,24 +200,25 @@ pub record IsOrderly (budget : ℕ) (p : Program) (c : Connection) : Type 0 wher
   pub spent : c.count ≤ budget
 
 abbrev pub OrderlyWorld : ℕ → Program → World → Type 0
-OrderlyWorld budget p Before = Unit {0}
+OrderlyWorld budget p (Before fs) = Unit {0}
 OrderlyWorld budget p (There c) = IsOrderly budget p c
-OrderlyWorld budget p (Closed pools) = Unit {0}
+OrderlyWorld budget p (Closed pools fs) = Unit {0}
 
 abbrev pub EventKeepsOrder : Type 0
 EventKeepsOrder = (memory : Bool) (budget : ℕ) (p : Program) (e : Event) (w : World) → IsModule p → OrderlyWorld budget p w → OrderlyWorld budget p (happens memory budget p e w).1
 
 abbrev pub RunIsOrderly : Type 0
-RunIsOrderly = (budget : ℕ) (p : Program) (es : List Event) (answers : List Answer) (w : World) → IsModule p → IsRun budget p Before es answers w → OrderlyWorld budget p w
+RunIsOrderly = (budget : ℕ) (p : Program) (fs : Files) (es : List Event) (answers : List Answer) (w : World) → IsModule p → IsRun budget p (Before fs) es answers w → OrderlyWorld budget p w
 
 -- No data stands behind an EOS of a brigade that is brought.
 abbrev pub BroughtEndsOnce : Type 0
-BroughtEndsOnce = (n : ℕ) (pieces : List Piece) → data_after_eos (named_from n pieces) ≡ data_behind_eos pieces
+BroughtEndsOnce = (call req n : ℕ) (pieces : List Piece) → data_after_eos (named_from (bucket_of call req) n pieces) ≡ data_behind_eos pieces
 
--- However a body is cut: brigades that are passed one after the other reach the output as they would in one, and have
--- the fault of data after an EOS where they would have it in one.
+-- However a body is cut: brigades that are passed one after the other reach the output as they would in one, where no
+-- read failed in the first, and have the fault of data after an EOS where they would have it in one.
 abbrev pub OutputOfCuts : Type 0
-OutputOfCuts = (out : Out) (xs ys : List Named) → delivered (delivered out xs) ys ≡ delivered out (xs ++ ys)
+OutputOfCuts = (out : Out) (xs ys : List Named) (fs : Files) → (delivered out xs fs).well ≡ true
+    → delivered (delivered out xs fs).out ys (delivered out xs fs).files ≡ delivered out (xs ++ ys) fs
 
 abbrev pub FaultOfCuts : Type 0
 FaultOfCuts = (sent : Bool) (xs ys : List Named) → or_else (send_fault sent xs) (send_fault (sent || has_eos xs) ys) ≡ send_fault sent (xs ++ ys)
@@ -210,6 +235,7 @@ EndedStepsAreARun = (memory : Bool) (budget : ℕ) (p : Program) (old new : Conn
 -- whether an instruction wants this brigade usable
 abbrev pub uses : Instr → ℕ → Bool
 uses (instr.BConcat a c) b = a == b || c == b
+uses (instr.BSave a c) b = a == b || c == b
 uses (instr.Pass c l) b = c == b
 uses (instr.JEmpty c l) b = c == b
 uses i b = false
@@ -293,3 +319,62 @@ pub record TakesAlong (n : ℕ) (r new : Run) : Type 0 where
 
 abbrev pub ClearsTakeAlong : Type 0
 ClearsTakeAlong = (n : ℕ) (r : Run) → TakesAlong n r (pool_cleared n r) × TakesAlong n r (pool_destroyed n r)
+
+-- what is said of a home that is a call, and of one that is a pool
+abbrev pub MatchHome : Home → (ℕ → Type 0) → (ℕ → Type 0) → Type 0
+MatchHome home.Free C P = Unit {0}
+MatchHome (home.Call n) C P = C n
+MatchHome (home.Pool n) C P = P n
+MatchHome home.Ended C P = Unit {0}
+
+-- What setting aside into the pool `target` makes of a bucket. lasts: it depends on no call, and on no pool but the target
+-- and those above it. alive: what it depends on is there. name, content: it is the same bucket with the same bytes.
+pub record KeptAside (ps : Pools Payload) (target : ℕ) (old new : Named) : Type 0 where
+  pub lasts : MatchHome new.bucket.home (λ call. ⊥) (λ p. (p ≡ target) ⊎ (is_under ps p target ≡ true))
+  pub alive : is_dead new ≡ false
+  pub name : new.name ≡ old.name
+  pub content : new.bucket.content ≡ old.bucket.content
+
+abbrev pub AsideLasts : Type 0
+AsideLasts = (ps : Pools Payload) (target : ℕ) (x : Named) → is_proper x ≡ true → is_dead x ≡ false → KeptAside ps target x (aside_named ps target x)
+
+-- Where no read fails, all bytes of a range are taken from the file.
+abbrev pub ReadsGiveTheFile : Type 0
+ReadsGiveTheFile = (file start len : ℕ) (bytes : List ℕ) (fs : Files) → fs.fails_in ≡ None → fs.opened file ≡ Some bytes → start + len ≤ length bytes
+    → range_taken (parts_of len) file start len fs ≡ all_taken (take len (drop start bytes)) fs
+
+-- the bytes that a content stands for, where its file has these
+abbrev pub bytes_in : List ℕ → Content → List ℕ
+bytes_in file (content.Bytes bs) = bs
+bytes_in file (content.Range n start len) = take len (drop start file)
+bytes_in file content.Nothing = []
+
+abbrev pub bytes_of_rest : List ℕ → Option Bucket → List ℕ
+bytes_of_rest file None = []
+bytes_of_rest file (Some b) = bytes_in file b.content
+
+-- the bytes that a read takes from the file of a bucket
+abbrev pub bytes_read : List ℕ → Bucket → List ℕ
+bytes_read file b = take (wanted b.content) (bytes_in file b.content)
+
+-- A read leaves the bucket in memory, and drops no byte: its bytes and those of the rest are what it stood for.
+abbrev pub ReadsDropNothing : Type 0
+ReadsDropNothing = (file : List ℕ) (b : Bucket)
+    → (is_range (read_of (bytes_read file b) b).0.content ≡ false)
+    × (bytes_in file (read_of (bytes_read file b) b).0.content ++ bytes_of_rest file (read_of (bytes_read file b) b).1 ≡ bytes_in file b.content)
+
+-- whether a clear of the pool n hands on a reference to the file
+abbrev pub hands_on : Run → ℕ → ℕ → Bool
+hands_on r n file = list_any (λ x. is_file_ref file x.1) (run_order r.shared.pools n)
+
+-- What becomes of the open files where the pool n goes. closes: a file closes where a reference to it goes and none is left.
+-- stays: it stays open where one is left, and where none went. others: no file comes, by name or by number.
+pub record FilesGo (n : ℕ) (r new : Run) : Type 0 where
+  pub closes : (file : ℕ) → hands_on r n file ≡ true → is_referred new.shared.pools file ≡ false → new.shared.files.opened file ≡ None
+  pub stays : (file : ℕ) → is_referred new.shared.pools file ≡ true → new.shared.files.opened file ≡ r.shared.files.opened file
+  pub apart : (file : ℕ) → hands_on r n file ≡ false → new.shared.files.opened file ≡ r.shared.files.opened file
+  pub named : new.shared.files.named ≡ r.shared.files.named
+  pub numbers : new.shared.files.next ≡ r.shared.files.next
+
+abbrev pub FilesCloseLast : Type 0
+FilesCloseLast = (n : ℕ) (r : Run) → FilesGo n r (pool_cleared n r) × FilesGo n r (pool_destroyed n r)

@@ -7,6 +7,7 @@ pub mod Payloads
 pub mod SamePayload
 pub mod Buckets
 pub mod Cutting
+pub mod Files
 pub mod State
 pub mod Clearing
 pub mod Faults

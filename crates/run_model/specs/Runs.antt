@@ -9,7 +9,8 @@ use Rattle.run_model.specs.declared.event.Stepped.TheVariants as stepped
 use Rattle.module_lang.specs.Program.{Program}
 use Rattle.run_model.specs.declared.payload.Payload.{Payload}
 use Rattle.run_model.specs.Pools.{Pools, planted}
-use Rattle.run_model.specs.Connection.{Connection, opened, begins, brings, ends, takes, steps, closing_labels, closing_pools}
+use Rattle.run_model.specs.Connection.{Connection, opened, begins, brings, opens_file, ends, takes, steps, closing_labels, closing_pools, closing_files}
+use Rattle.run_model.specs.Files.{Files, file_added}
 
 -- what an event answers
 pub data Answer : Type 0 where
@@ -21,16 +22,18 @@ pub data Answer : Type 0 where
   Step : Stepped → Answer
   -- the output
   Output : List ℕ → Answer
+  -- a file was opened: its number and length
+  Opened : ℕ → ℕ → Answer
   -- the labels run
   Labels : List (List ℕ) → Answer
   -- the pools
   Tree : Pools Payload → Answer
 
--- A host of one connection: it was not opened yet, it is there, or it was closed, and these pools are left.
+-- A host of one connection, with files: it was not opened yet, it is there, or it was closed, and these pools are left.
 pub data World : Type 0 where
-  Before : World
+  Before : Files → World
   There : Connection → World
-  Closed : Pools Payload → World
+  Closed : Pools Payload → Files → World
 
 abbrev pub answer_of : Option Refusal × Connection → Answer × World
 answer_of (None, c) = (Done, There c)
@@ -42,20 +45,40 @@ step_of (Err r, c) = (Refused r, There c)
 
 -- the pools of a world; before the connection is opened the root 1 is there alone
 abbrev pub pools_of : World → Pools Payload
-pools_of Before = planted 1
+pools_of (Before fs) = planted 1
 pools_of (There c) = c.run.shared.pools
-pools_of (Closed pools) = pools
+pools_of (Closed pools fs) = pools
 
-abbrev pub opens : Bool → Answer × World
-opens memory = if memory then (Done, There opened) else (Refused refusal.NoMemory, Before)
+-- a file is added
+abbrev pub with_file : List ℕ → List ℕ → World → World
+with_file name bytes (Before fs) = Before (file_added name bytes fs)
+with_file name bytes (There c) = There (record c { run = record c.run { shared = record c.run.shared { files = file_added name bytes c.run.shared.files } } })
+with_file name bytes (Closed pools fs) = Closed pools (file_added name bytes fs)
+
+abbrev pub files_of : World → Files
+files_of (Before fs) = fs
+files_of (There c) = c.run.shared.files
+files_of (Closed pools fs) = fs
+
+abbrev pub adds_file : Bool → List ℕ → List ℕ → World → Answer × World
+adds_file memory name bytes w = if memory then (Done, with_file name bytes w) else (Refused refusal.NoMemory, w)
+
+abbrev pub opens : Bool → Files → Answer × World
+opens memory fs = if memory then (Done, There (opened fs)) else (Refused refusal.NoMemory, Before fs)
 
 abbrev pub closes : Bool → Connection → Answer × World
-closes memory c = if memory then (Labels (closing_labels c), Closed (closing_pools c)) else (Refused refusal.NoMemory, There c)
+closes memory c = if memory then (Labels (closing_labels c), Closed (closing_pools c) (closing_files c)) else (Refused refusal.NoMemory, There c)
+
+abbrev pub file_of : Result (ℕ × ℕ) Refusal × Connection → Answer × World
+file_of (Ok f, c) = (Opened f.0 f.1, There c)
+file_of (Err r, c) = (Refused r, There c)
 
 -- What an event answers and leaves where the connection is there; memory says whether a growth would succeed. (It is
 -- not opened again.)
 abbrev pub happens_to : Bool → ℕ → Program → Event → Connection → Answer × World
 happens_to memory budget p event.Open c = (Done, There c)
+happens_to memory budget p (event.AddFile name bytes) c = adds_file memory name bytes (There c)
+happens_to memory budget p (event.OpenFile name) c = file_of (opens_file memory name c)
 happens_to memory budget p event.Begin c = answer_of (begins memory p c)
 happens_to memory budget p (event.Bring pieces) c = answer_of (brings memory p pieces c)
 happens_to memory budget p event.Step c = step_of (steps memory budget p c)
@@ -65,23 +88,24 @@ happens_to memory budget p event.TellLabels c = (Labels c.run.shared.labels, The
 happens_to memory budget p event.Close c = closes memory c
 happens_to memory budget p event.TellPools c = (Tree c.run.shared.pools, There c)
 
--- Where it is not there, the pools can be told, and at first it can be opened.
-abbrev pub happens_without : Event → World → Answer × World
-happens_without event.TellPools w = (Tree (pools_of w), w)
-happens_without e w = (Refused refusal.NoSuchConn, w)
+-- Where it is not there, the pools can be told, files be added, and at first it can be opened.
+abbrev pub happens_without : Bool → Event → World → Answer × World
+happens_without memory event.TellPools w = (Tree (pools_of w), w)
+happens_without memory (event.AddFile name bytes) w = adds_file memory name bytes w
+happens_without memory e w = (Refused refusal.NoSuchConn, w)
 
 -- what an event answers and leaves
 abbrev pub happens : Bool → ℕ → Program → Event → World → Answer × World
-happens memory budget p event.Open Before = opens memory
-happens memory budget p e Before = happens_without e Before
+happens memory budget p event.Open (Before fs) = opens memory fs
+happens memory budget p e (Before fs) = happens_without memory e (Before fs)
 happens memory budget p e (There c) = happens_to memory budget p e c
-happens memory budget p e (Closed pools) = happens_without e (Closed pools)
+happens memory budget p e (Closed pools fs) = happens_without memory e (Closed pools fs)
 
--- A connection is opened once.
+-- A connection is opened once, and a file is added once.
 abbrev pub IsDue : Event → World → Type 0
-IsDue event.Open Before = Unit {0}
-IsDue event.Open (There c) = ⊥
-IsDue event.Open (Closed pools) = ⊥
+IsDue event.Open (Before fs) = Unit {0}
+IsDue event.Open w = ⊥
+IsDue (event.AddFile name bytes) w = (files_of w).named name ≡ None
 IsDue e w = Unit {0}
 
 -- These events may give these answers, one after another, and lead from one world to another. Each growth may find

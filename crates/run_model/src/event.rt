@@ -8,6 +8,16 @@ use module_lang::{Seq, Status};
 pub enum Piece {
     /// A HEAP bucket of these bytes.
     Heap(Seq<u8>),
+    /// A TRANSIENT bucket of these bytes, which last as long as the call that it is brought to.
+    Transient(Seq<u8>),
+    /// An IMMORTAL bucket of these bytes.
+    Immortal(Seq<u8>),
+    /// A POOL bucket of these bytes in the request's pool.
+    Pool(Seq<u8>),
+    /// A FILE bucket: a range of a file that was opened in this request.
+    File { file: u64, start: u64, len: u64 },
+    /// A FLUSH bucket.
+    Flush,
     /// An EOS bucket.
     Eos,
 }
@@ -42,6 +52,8 @@ pub enum Refusal {
     NotInRequest,
     /// Data stands after an EOS among the pieces.
     DataAfterEos,
+    /// A file is not there, was not opened in this request, or is shorter than the range.
+    NoFile,
     /// A name that would have to be given out is the last one.
     NamesSpent,
     /// There is no memory.
@@ -88,8 +100,12 @@ pub enum StepRefusal {
 pub enum Event {
     /// The connection is opened.
     Open,
+    /// A file of this name and these bytes is added.
+    AddFile(Seq<u8>, Seq<u8>),
     /// A request begins.
     Begin,
+    /// The file of this name is opened.
+    OpenFile(Seq<u8>),
     /// A brigade of these pieces comes.
     Bring(Seq<Piece>),
     /// One instruction is executed, or the connection breaks.

@@ -1,13 +1,15 @@
 //! Laws of the definitions. Each function does nothing: what its contract says holds of the definitions alone.
 
-ghost use Rattle.run_model.specs.Examples.{PassRuns, PoolRuns, PoolEnds, FaultRuns, BreakRuns, RefusedRuns, NameRuns, HeldFaults, HeldChanges};
+ghost use Rattle.run_model.specs.Examples.{PassRuns, PoolRuns, PoolEnds, KindRuns, FaultRuns, BreakRuns, RefusedRuns, NameRuns, HeldFaults, HeldChanges};
 ghost use Rattle.run_model.specs.Laws.{CreatesKeepOthers, KillsTheNewest, KillsNoOther};
 ghost use Rattle.run_model.specs.Laws.{StepKeepsNames, StepKeepsBuckets, StepKeepsPools, StepAtEndKeeps, OpenedIsSound, EventKeepsSound, RunIsSound, RunGoesOn, StepsGoOn, StepsAreARun, EndedStepsAreARun, StepChangesOnly, RefusedChangesNothing, RefusedStepBreaks, FaultBreaks, BrokenStaysBroken, EventKeepsOrder, RunIsOrderly, BroughtEndsOnce, OutputOfCuts, FaultOfCuts, PassedIsNotUsed, CleanedIsUsable, ClearsKeepOthers, ClearsTakeAlong};
+ghost use Rattle.run_model.specs.Laws.{AsideLasts, ReadsGiveTheFile, ReadsDropNothing, FilesCloseLast};
 
 /// Small runs answer as they are worked out by hand, and so do faults and changes of small states.
 pub fn worked_runs()
     ensures passes { PassRuns }
     ensures pools { PoolRuns }
+    ensures kinds { KindRuns }
     ensures faults { FaultRuns }
     ensures breaks { BreakRuns }
     ensures refusals { RefusedRuns }
@@ -92,4 +94,13 @@ pub fn pools_are_made_and_filled()
 pub fn clears_take_what_lies_under()
     ensures pools { ClearsKeepOthers }
     ensures brigades { ClearsTakeAlong }
+{}
+
+/// A bucket that was set aside lasts as long as the pool that it was set aside into; reads give what the file holds and
+/// drop nothing; a file closes where the last reference to it goes, and not before.
+pub fn kept_buckets_last()
+    ensures aside { AsideLasts }
+    ensures reads { ReadsGiveTheFile }
+    ensures rest { ReadsDropNothing }
+    ensures files { FilesCloseLast }
 {}

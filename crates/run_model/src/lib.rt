@@ -11,5 +11,5 @@ mod payload;
 pub use bucket::{Brigade, Bucket, Content, Cursor, Home, Kind, Mark, Named, PoolVar, Var};
 pub use event::{Cause, Event, Exit, Piece, Refusal, StepRefusal, Stepped};
 pub use fault::FaultKind;
-pub use module_lang::{Instr, Module, PoolRef, Seq, Status, VarRef};
+pub use module_lang::{Instr, Module, PoolRef, Seq, Status, Value, VarRef};
 pub use payload::Payload;

@@ -1,4 +1,4 @@
-use Rattle.run_model.proofs.Examples.{pass_runs, pool_runs, pool_ends, fault_runs, break_runs, refused_runs, name_runs, held_faults, held_changes}
+use Rattle.run_model.proofs.Examples.{pass_runs, pool_runs, pool_ends, kind_runs, fault_runs, break_runs, refused_runs, name_runs, held_faults, held_changes}
 use Rattle.run_model.proofs.laws.worked_runs.Goals as goal
 
 pub returns-clause-passes : goal.returns-clause-passes
@@ -9,6 +9,9 @@ returns-clause-pools c = pool_runs
 
 pub returns-clause-pool_ends : goal.returns-clause-pool_ends
 returns-clause-pool_ends c = pool_ends
+
+pub returns-clause-kinds : goal.returns-clause-kinds
+returns-clause-kinds c = kind_runs
 
 pub returns-clause-faults : goal.returns-clause-faults
 returns-clause-faults c = fault_runs

@@ -1,0 +1,164 @@
+-- Buckets that are set aside, read, and let go with their files.
+use Rattle.std.proofs.Common.{◌≡◌, ℕ, zero, suc, ◌+◌, ◌-◌, ◌*◌, ◌/◌, ◌<◌, ◌≤◌, Bool, true, false, ◌&&◌, ◌||◌, not, cond, List, [], ◌∷◌, ◌++◌, append-nil, length, take, drop, ◌⊎◌, inl, inr, Option, Some, None, nat_le, min, refl, sym, ◌∙◌, ap, arith}
+use Rattle.std.proofs.Math.Seq.{take-add}
+use Rattle.std.proofs.lemmas.List.{drop-drop, drop-take, length-drop, length-take, take-append-drop, take_all}
+use Rattle.std.proofs.lemmas.Bool.{cases_lt}
+use Rattle.std.proofs.lemmas.Bool.Decides.{nat_tests}
+use Rattle.run_model.specs.declared.bucket.Kind.{Kind}
+use Rattle.run_model.specs.declared.bucket.Kind.TheVariants as kind
+use Rattle.run_model.specs.declared.bucket.Content.{Content}
+use Rattle.run_model.specs.declared.bucket.Content.TheVariants as content
+use Rattle.run_model.specs.declared.bucket.Home.{Home}
+use Rattle.run_model.specs.declared.bucket.Home.TheVariants as home
+use Rattle.run_model.specs.declared.bucket.Bucket.{Bucket}
+use Rattle.run_model.specs.declared.bucket.Named.{Named}
+use Rattle.run_model.specs.declared.payload.Payload.{Payload}
+use Rattle.run_model.specs.Pools.{Pools, is_under, cleared, destroyed}
+use Rattle.run_model.specs.Buckets.{is_ended, is_dead}
+use Rattle.run_model.specs.Cutting.{read_limit, rest_of, wanted, set_aside, read_as}
+use Rattle.run_model.specs.Files.{Files, Taken, is_referred, fails_now, after_read, part_of, read_part, read_done, all_taken, and_then, unless_failed, range_taken, parts_of}
+use Rattle.run_model.specs.Clearing.{run_down}
+use Rattle.run_model.specs.State.{Run, with_pools}
+use Rattle.run_model.specs.Steps.{is_above, aside_named, files_let_go}
+use Rattle.run_model.specs.Sound.{is_free, is_call, is_pool, is_bytes, is_range, home_fits, content_fits, is_proper}
+use Rattle.run_model.specs.Laws.{MatchHome, KeptAside, AsideLasts, ReadsGiveTheFile, bytes_in, bytes_of_rest, ReadsDropNothing, hands_on, FilesGo, FilesCloseLast}
+
+-- Setting aside.
+
+-- what depends on nothing lasts
+free_lasts : (C P : ℕ → Type 0) (h : Home) → is_free h ≡ true → MatchHome h C P
+free_lasts C P home.Free e = tt
+free_lasts C P (home.Call n) e = absurd (cc)
+free_lasts C P (home.Pool n) e = absurd (cc)
+free_lasts C P home.Ended e = absurd (cc)
+
+first : (x y : Bool) → (x && y) ≡ true → x ≡ true
+first true y h = refl
+first false y h = absurd (cc)
+
+-- a FILE bucket that stays as it is has its home at the target or above it
+above_lasts : (ps : Pools Payload) (target : ℕ) (h : Home) → is_ended h ≡ false → (is_pool h || is_ended h) ≡ true → is_above ps target h ≡ true
+    → MatchHome h (λ call. ⊥) (λ p. (p ≡ target) ⊎ (is_under ps p target ≡ true))
+above_lasts ps target home.Free live fit above = tt
+above_lasts ps target (home.Call n) live fit above = absurd (cc)
+above_lasts ps target (home.Pool n) live fit above = inr above
+above_lasts ps target home.Ended live fit above = tt
+
+aside_parts : (ps : Pools Payload) (target name : ℕ) (k : Kind) (c : Content) (h : Home) (above : Bool) → is_above ps target h ≡ above
+    → home_fits k h ≡ true → is_ended h ≡ false
+    → KeptAside ps target (record { name = name; bucket = record { kind = k; content = c; home = h } }) (record { name = name; bucket = set_aside target above (record { kind = k; content = c; home = h }) })
+aside_parts ps target name kind.Heap c h above is fit live = record { lasts = free_lasts _ _ h fit; alive = live; name = refl; content = refl }
+aside_parts ps target name kind.Transient c h above is fit live = record { lasts = tt; alive = refl; name = refl; content = refl }
+aside_parts ps target name kind.Immortal c h above is fit live = record { lasts = free_lasts _ _ h fit; alive = live; name = refl; content = refl }
+aside_parts ps target name (kind.Pool p) c h above is fit live = record { lasts = free_lasts _ _ h fit; alive = live; name = refl; content = refl }
+aside_parts ps target name kind.File c h true is fit live = record { lasts = above_lasts ps target h live fit is; alive = live; name = refl; content = refl }
+aside_parts ps target name kind.File c h false is fit live = record { lasts = inl refl; alive = refl; name = refl; content = refl }
+aside_parts ps target name kind.Flush c h above is fit live = record { lasts = free_lasts _ _ h fit; alive = live; name = refl; content = refl }
+aside_parts ps target name kind.Eos c h above is fit live = record { lasts = free_lasts _ _ h fit; alive = live; name = refl; content = refl }
+
+pub aside_lasts : AsideLasts
+unfolding is_proper
+aside_lasts ps target x proper live =
+    aside_parts ps target x.name x.bucket.kind x.bucket.content x.bucket.home (is_above ps target x.bucket.home) refl (first (home_fits x.bucket.kind x.bucket.home) (content_fits x.bucket.kind x.bucket.content) proper) live
+
+-- Files that close.
+
+files_go : (n : ℕ) (r : Run) (ps : Pools Payload) → FilesGo n r (files_let_go n r (with_pools ps (run_down n r)))
+unfolding with_pools run_down
+files_go n r ps = record {
+  closes = λ file handed left. let both : (hands_on r n file && not (is_referred ps file)) ≡ true = ap (λ (b : Bool). b && not (is_referred ps file)) handed ∙ ap (λ (b : Bool). true && not b) left in
+      ap (λ (b : Bool). cond b None (r.shared.files.opened file)) both;
+  stays = λ file left. by_handed (hands_on r n file) (r.shared.files.opened file) (is_referred ps file) left;
+  apart = λ file none. ap (λ (b : Bool). cond (b && not (is_referred ps file)) None (r.shared.files.opened file)) none;
+  named = refl;
+  numbers = refl;
+} where
+  by_handed : (b : Bool) (o : Option (List ℕ)) (c : Bool) → c ≡ true → cond (b && not c) None o ≡ o
+  by_handed true o true left = refl
+  by_handed false o true left = refl
+  by_handed b o false left = absurd (cc)
+
+pub files_close_last : FilesCloseLast
+files_close_last n r = (files_go n r (cleared n r.shared.pools), files_go n r (destroyed n r.shared.pools))
+
+-- Reads.
+
+both_true : (n k : ℕ) → n ≤ k → nat_le n k ≡ true
+both_true n k le = grind (arith, nat_tests)
+
+-- what one read gives
+one_read : (file at n : ℕ) (bytes : List ℕ) (fs : Files) → fs.fails_in ≡ None → fs.opened file ≡ Some bytes → n ≤ length bytes - at → read_part file at n fs ≡ Some (take n (drop at bytes))
+unfolding read_part
+one_read file at n bytes fs sound is le =
+    let reaches : nat_le n (length (drop at bytes)) ≡ true = both_true n (length (drop at bytes)) (omega (arith, length-drop at bytes)) in
+    ap (λ (o : Option ℕ). cond (fails_now o) None (part_of (fs.opened file) at n)) sound
+    ∙ (ap (λ (o : Option (List ℕ)). part_of o at n) is
+    ∙ ap (λ (b : Bool). cond b (Some (take n (drop at bytes))) None) reaches)
+
+same_files : (fs : Files) → fs.fails_in ≡ None → read_done fs ≡ fs
+same_files fs sound = ap (λ (o : Option ℕ). record fs { fails_in = after_read o }) sound ∙ sym (ap (λ (o : Option ℕ). record fs { fails_in = o }) sound)
+
+-- the first bytes, and those behind them
+front_and_rest : (start len : ℕ) (bytes : List ℕ) → take (min len read_limit) (drop start bytes) ++ take (len - read_limit) (drop (start + read_limit) bytes) ≡ take len (drop start bytes)
+front_and_rest start len bytes = elim (cases_lt read_limit len) [
+  | inl lt ↦ (let front : min len read_limit ≡ read_limit = grind (arith, nat_tests) in
+      let all : read_limit + (len - read_limit) ≡ len = omega arith in
+      ap (λ (n : ℕ). take n (drop start bytes) ++ take (len - read_limit) (drop (start + read_limit) bytes)) front
+      ∙ (ap (λ (d : List ℕ). take read_limit (drop start bytes) ++ take (len - read_limit) d) (sym (drop-drop read_limit start bytes))
+      ∙ (sym (take-add read_limit (len - read_limit) (drop start bytes)) ∙ ap (λ (n : ℕ). take n (drop start bytes)) all)))
+  | inr le ↦ (let front : min len read_limit ≡ len = grind (arith, nat_tests) in
+      let none : len - read_limit ≡ 0 = omega arith in
+      ap (λ (n : ℕ). take n (drop start bytes) ++ take (len - read_limit) (drop (start + read_limit) bytes)) front
+      ∙ (ap (λ (n : ℕ). take len (drop start bytes) ++ take n (drop (start + read_limit) bytes)) none ∙ append-nil (take len (drop start bytes))))
+]
+
+in_parts : (parts file start len : ℕ) (bytes : List ℕ) (fs : Files) → fs.fails_in ≡ None → fs.opened file ≡ Some bytes → len ≤ length bytes - start → len ≤ parts * read_limit
+    → range_taken parts file start len fs ≡ all_taken (take len (drop start bytes)) fs
+unfolding range_taken
+in_parts zero file start len bytes fs sound is le few = let none : len ≡ 0 = omega arith in ap (λ (n : ℕ). all_taken (take n (drop start bytes)) fs) (sym none)
+in_parts (suc parts) file start len bytes fs sound is le few =
+    let within : min len read_limit ≤ len = grind (arith, nat_tests) in
+    let rest : range_taken parts file (start + read_limit) (len - read_limit) fs ≡ all_taken (take (len - read_limit) (drop (start + read_limit) bytes)) fs
+    = in_parts parts file (start + read_limit) (len - read_limit) bytes fs sound is (omega arith) (omega arith) in
+    ap (λ (o : Option (List ℕ)). unless_failed o (read_done fs) (range_taken parts file (start + read_limit) (len - read_limit))) (one_read file start (min len read_limit) bytes fs sound is (omega arith))
+    ∙ (ap (λ (now : Files). and_then (take (min len read_limit) (drop start bytes)) (range_taken parts file (start + read_limit) (len - read_limit) now)) (same_files fs sound)
+    ∙ (ap (and_then (take (min len read_limit) (drop start bytes))) rest
+    ∙ ap (λ (bs : List ℕ). all_taken bs fs) (front_and_rest start len bytes)))
+
+pub reads_give_the_file : ReadsGiveTheFile
+reads_give_the_file file start len bytes fs sound is le = in_parts (parts_of len) file start len bytes fs sound is (omega arith) (enough len) where
+  enough : (len : ℕ) → len ≤ ((len + (read_limit - 1)) / read_limit) * read_limit
+  enough len = omega arith
+
+-- the bytes behind the first that were read
+behind_read : (start len : ℕ) (file : List ℕ) → read_limit < len → take read_limit (take len (drop start file)) ++ take (len - read_limit) (drop (start + read_limit) file) ≡ take len (drop start file)
+behind_read start len file lt =
+    let all : len ≡ read_limit + (len - read_limit) = omega arith in
+    let rest : drop read_limit (take len (drop start file)) ≡ take (len - read_limit) (drop (start + read_limit) file) =
+    ap (λ (n : ℕ). drop read_limit (take n (drop start file))) all ∙ (drop-take read_limit (len - read_limit) (drop start file) ∙ ap (take (len - read_limit)) (drop-drop read_limit start file)) in
+    ap (λ (bs : List ℕ). take read_limit (take len (drop start file)) ++ bs) (sym rest) ∙ take-append-drop read_limit (take len (drop start file))
+
+range_read : (n start len : ℕ) (file : List ℕ) (b : Bucket)
+    → take (min len read_limit) (take len (drop start file)) ++ bytes_of_rest file (cond (nat_le len read_limit) None (Some (record b { content = content.Range n (start + read_limit) (len - read_limit) }))) ≡ take len (drop start file)
+range_read n start len file b = elim (cases_lt read_limit len) [
+  | inl lt ↦ (let front : min len read_limit ≡ read_limit = grind (arith, nat_tests) in
+      let longer : nat_le len read_limit ≡ false = grind (arith, nat_tests) in
+      ap (λ (k : ℕ). take k (take len (drop start file)) ++ bytes_of_rest file (cond (nat_le len read_limit) None (Some (record b { content = content.Range n (start + read_limit) (len - read_limit) })))) front
+      ∙ (ap (λ (t : Bool). take read_limit (take len (drop start file)) ++ bytes_of_rest file (cond t None (Some (record b { content = content.Range n (start + read_limit) (len - read_limit) })))) longer
+      ∙ behind_read start len file lt))
+  | inr le ↦ (let front : min len read_limit ≡ len = grind (arith, nat_tests) in
+      let whole : nat_le len read_limit ≡ true = grind (arith, nat_tests) in
+      ap (λ (k : ℕ). take k (take len (drop start file)) ++ bytes_of_rest file (cond (nat_le len read_limit) None (Some (record b { content = content.Range n (start + read_limit) (len - read_limit) })))) front
+      ∙ (ap (λ (t : Bool). take len (take len (drop start file)) ++ bytes_of_rest file (cond t None (Some (record b { content = content.Range n (start + read_limit) (len - read_limit) })))) whole
+      ∙ (append-nil (take len (take len (drop start file))) ∙ take_all len (take len (drop start file)) (grind (arith, length-take len (drop start file), nat_tests)))))
+]
+
+of_content : (file : List ℕ) (b : Bucket) (c : Content) → c ≡ b.content
+    → (is_range (read_as (take (wanted c) (bytes_in file c)) b c).0.content ≡ false)
+    × (bytes_in file (read_as (take (wanted c) (bytes_in file c)) b c).0.content ++ bytes_of_rest file (read_as (take (wanted c) (bytes_in file c)) b c).1 ≡ bytes_in file c)
+of_content file b (content.Bytes bs) is = (sym (ap is_range is), ap (λ (c : Content). bytes_in file c ++ []) (sym is) ∙ append-nil bs)
+of_content file b (content.Range n start len) is = (refl, ap (λ (c : Content). take (min len read_limit) (take len (drop start file)) ++ bytes_of_rest file (cond (nat_le len read_limit) None (Some (record b { content = rest_of read_limit c })))) (sym is) ∙ range_read n start len file b)
+of_content file b content.Nothing is = (sym (ap is_range is), ap (λ (c : Content). bytes_in file c ++ []) (sym is))
+
+pub reads_drop_nothing : ReadsDropNothing
+reads_drop_nothing file b = of_content file b b.content refl

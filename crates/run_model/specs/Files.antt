@@ -1,0 +1,103 @@
+-- Files: which can be opened, by name, which are open, by number, and what a read gives.
+use Rattle.std.specs.Prelude.{ℕ, zero, suc, ◌+◌, ◌-◌, ◌/◌, Bool, true, false, ◌&&◌, not, nat_le, min, if◌then◌else◌, List, [], ◌∷◌, ◌++◌, length, take, drop, Option, Some, None, is_some}
+use Rattle.std.specs.List.{list_any}
+use Rattle.std.specs.Str.{bytes_eq}
+use Rattle.run_model.specs.declared.bucket.Content.{Content}
+use Rattle.run_model.specs.declared.bucket.Content.TheVariants as content
+use Rattle.run_model.specs.declared.bucket.Named.{Named}
+use Rattle.run_model.specs.declared.payload.Payload.{Payload}
+use Rattle.run_model.specs.Indexed.{upd, any_below}
+use Rattle.run_model.specs.Pools.{Pools}
+use Rattle.run_model.specs.Payloads.{is_file_ref}
+use Rattle.run_model.specs.Buckets.{is_eos}
+use Rattle.run_model.specs.Cutting.{read_limit}
+
+-- next is the number that is given next. Where fails_in is told, so many reads go on well, and then one fails.
+pub record Files : Type 0 where
+  pub named : List ℕ → Option (List ℕ)
+  pub opened : ℕ → Option (List ℕ)
+  pub next : ℕ
+  pub fails_in : Option ℕ
+
+abbrev pub no_files : Files
+no_files = record { named = λ name. None; opened = λ n. None; next = 1; fails_in = None }
+
+-- one more file, of this name
+abbrev pub file_added : List ℕ → List ℕ → Files → Files
+file_added name bytes fs = record fs { named = λ q. if bytes_eq q name then Some bytes else fs.named q }
+
+-- the file of this name is open under the next number
+abbrev pub file_opened : List ℕ → Files → Files
+file_opened name fs = record fs { opened = upd fs.opened fs.next (fs.named name); next = fs.next + 1 }
+
+-- whether a pool holds a reference to the file
+abbrev pub is_referred : Pools Payload → ℕ → Bool
+is_referred ps file = any_below ps.next (λ p. list_any (is_file_ref file) (ps.payloads p))
+
+-- A file closes where its last reference is handed on by a clear, which left these pools.
+abbrev pub let_go : List (ℕ × Payload) → Pools Payload → Files → Files
+let_go handed left fs =
+    record fs { opened = λ file. if list_any (λ x. is_file_ref file x.1) handed && not (is_referred left file) then None else fs.opened file }
+
+abbrev pub fails_now : Option ℕ → Bool
+fails_now None = false
+fails_now (Some zero) = true
+fails_now (Some (suc n)) = false
+
+abbrev pub after_read : Option ℕ → Option ℕ
+after_read None = None
+after_read (Some zero) = None
+after_read (Some (suc n)) = Some n
+
+-- n bytes of a file from a place on, where it is open and reaches so far
+abbrev pub part_of : Option (List ℕ) → ℕ → ℕ → Option (List ℕ)
+part_of None at n = None
+part_of (Some bytes) at n = if nat_le n (length (drop at bytes)) then Some (take n (drop at bytes)) else None
+
+-- what a read of n bytes gives, unless it fails
+unfoldable pub read_part : ℕ → ℕ → ℕ → Files → Option (List ℕ)
+read_part file at n fs = if fails_now fs.fails_in then None else part_of (fs.opened file) at n
+
+abbrev pub read_done : Files → Files
+read_done fs = record fs { fails_in = after_read fs.fails_in }
+
+-- What was taken of buckets: bytes, whether no read failed, and the files afterwards.
+pub record Taken : Type 0 where
+  pub bytes : List ℕ
+  pub whole : Bool
+  pub files : Files
+
+abbrev pub all_taken : List ℕ → Files → Taken
+all_taken bytes fs = record { bytes = bytes; whole = true; files = fs }
+
+-- these bytes, and what is taken after them
+abbrev pub and_then : List ℕ → Taken → Taken
+and_then bytes t = record t { bytes = bytes ++ t.bytes }
+
+-- nothing is taken behind a read that failed
+abbrev pub unless_failed : Option (List ℕ) → Files → (Files → Taken) → Taken
+unless_failed None fs rest = record { bytes = []; whole = false; files = fs }
+unless_failed (Some bytes) fs rest = and_then bytes (rest fs)
+
+-- A range is read in parts of 8000 bytes; so many are left.
+unfoldable pub range_taken : ℕ → ℕ → ℕ → ℕ → Files → Taken
+range_taken zero file start len fs = all_taken [] fs
+range_taken (suc parts) file start len fs =
+    unless_failed (read_part file start (min len read_limit) fs) (read_done fs) (range_taken parts file (start + read_limit) (len - read_limit))
+
+-- how many reads a range takes
+abbrev pub parts_of : ℕ → ℕ
+parts_of len = (len + (read_limit - 1)) / read_limit
+
+abbrev pub content_taken : Content → Files → Taken
+content_taken (content.Bytes bs) fs = all_taken bs fs
+content_taken (content.Range file start len) fs = range_taken (parts_of len) file start len fs
+content_taken content.Nothing fs = all_taken [] fs
+
+abbrev pub followed_by : Taken → (Files → Taken) → Taken
+followed_by t rest = if t.whole then and_then t.bytes (rest t.files) else t
+
+-- the bytes of the buckets before the first EOS, up to a read that fails
+unfoldable pub taken_of : List Named → Files → Taken
+taken_of [] fs = all_taken [] fs
+taken_of (b ∷ bs) fs = if is_eos b then all_taken [] fs else followed_by (content_taken b.bucket.content fs) (taken_of bs)
