@@ -16,7 +16,6 @@ use Rattle.module_lang.specs.declared.draft.Part.TheVariants as part
 use Rattle.module_lang.specs.declared.instr.PoolRef.{PoolRef}
 use Rattle.module_lang.specs.declared.instr.PoolRef.TheVariants as pool
 use Rattle.module_lang.proofs.DraftLaws.{declaration}
-use Rattle.module_lang.proofs.InverseLaws.{none_spelled}
 use Rattle.module_lang.specs.Handlers.{op_instr}
 use Rattle.module_lang.specs.Names.{is_name}
 use Rattle.module_lang.specs.Program.{target, text_of_instr}
@@ -34,7 +33,7 @@ use Rattle.module_lang.specs.declared.word.Word.{Word}
 use Rattle.module_lang.specs.declared.lines.Line.{Line}
 use Rattle.module_lang.specs.declared.lines.Line.TheVariants as line
 use Rattle.module_lang.specs.declared.word.Word.TheVariants as word
-use Rattle.module_lang.proofs.InverseLaws.{Item, Spells, one_taken, two_taken, own_is}
+use Rattle.module_lang.proofs.InverseLaws.{Item, Spells, none_spelled, one_taken, two_taken, own_is}
 use Rattle.module_lang.proofs.InverseLaws.{Spelled}
 use Rattle.module_lang.proofs.ModuleLaws as modules
 use Rattle.module_lang.proofs.OperandLaws.{kinds_read}
@@ -115,6 +114,7 @@ one_is (operand.Brigade b) h = absurd (cc h)
 one_is (operand.Ending s) h = absurd (cc h)
 one_is (operand.Label n) h = absurd (cc h)
 one_is (operand.Text n) h = absurd (cc h)
+one_is (operand.Value v) h = absurd (cc h)
 
 -- the lines of the words that stand alone
 module_line : (d : Draft) (s : List ℕ) (o : Operands) → Item d s word.Module o → s ≡ codes "module 1"
@@ -152,6 +152,7 @@ next_place n (operand.Brigade b) t k h s = absurd (cc k)
 next_place n (operand.Ending e) t k h s = absurd (cc k)
 next_place n (operand.Label l) t k h s = absurd (cc k)
 next_place n (operand.Text l) t k h s = absurd (cc k)
+next_place n (operand.Value v) t k h s = absurd (cc k)
 
 next_own : (n : ℕ) (x : Operand) (t : List ℕ) → of_kind kind.Brigade x ≡ true → is_next n x ≡ true → Spells x t → t ≡ own_text n
 next_own n operand.Nothing t k h s = absurd (cc k)
@@ -161,6 +162,7 @@ next_own n (operand.Brigade i) t k h s = s ∙ sym (own_is i (ltb-true i 8 k)) �
 next_own n (operand.Ending e) t k h s = absurd (cc k)
 next_own n (operand.Label l) t k h s = absurd (cc k)
 next_own n (operand.Text l) t k h s = absurd (cc k)
+next_own n (operand.Value v) t k h s = absurd (cc k)
 
 home_text : (x : Operand) (t : List ℕ) → of_kind kind.Place x ≡ true → Spells x t → t ≡ place_text (operand_place x)
 home_text operand.Nothing t k s = absurd (cc k)
@@ -170,6 +172,7 @@ home_text (operand.Brigade b) t k s = absurd (cc k)
 home_text (operand.Ending e) t k s = absurd (cc k)
 home_text (operand.Label l) t k s = absurd (cc k)
 home_text (operand.Text l) t k s = absurd (cc k)
+home_text (operand.Value v) t k s = absurd (cc k)
 
 pub pool_line : (d : Draft) (s : List ℕ) (o : Operands) → Item d s word.Pool o → s ≡ line_text (codes "pool") (place_text (pool.Own (length d.pools)) ∷ place_text (operand_place o.second) ∷ [])
 unfolding word_kinds word_text judged

@@ -25,6 +25,7 @@ use Rattle.module_lang.specs.declared.refusal.AsmRefusal.{AsmRefusal}
 use Rattle.module_lang.proofs.DraftLaws.{entered_keeps}
 use Rattle.module_lang.proofs.FoundLabels.{labels_distinct, lines_aimed}
 use Rattle.module_lang.proofs.FoundLaws.{Told, served}
+use Rattle.module_lang.proofs.RawLines.{}
 use Rattle.module_lang.proofs.RawLines.{AreTexted, Built, Raw, raw_labels, raw_steps, raw_text}
 use Rattle.module_lang.proofs.FoundModule.{instrs_same, labels_good, labels_marked, line_of, lines_spelled, texts_same}
 use Rattle.module_lang.proofs.FoundText.{cut_lines, fold_told}

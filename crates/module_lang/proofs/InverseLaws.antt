@@ -1,8 +1,8 @@
 -- What is read was spelled so: words, operands and lines.
-use Rattle.std.proofs.Common.{◌≡◌, ℕ, zero, suc, ◌+◌, ◌-◌, ◌<◌, Bool, true, false, ◌&&◌, not, cond, eqb, leb, nat_eq, List, [], ◌∷◌, ◌++◌, length, take, drop, Option, Some, None, Result, Ok, Err, refl, sym, ◌∙◌, ap, subst, arith}
+use Rattle.std.proofs.Common.{◌≡◌, ℕ, zero, suc, ◌+◌, ◌-◌, ◌^◌, ◌<◌, Bool, true, false, ◌&&◌, not, cond, eqb, leb, nat_eq, List, [], ◌∷◌, ◌++◌, length, take, drop, Option, Some, None, Result, Ok, Err, refl, sym, ◌∙◌, ap, subst, arith}
 use Rattle.std.specs.Prelude.{All, slice_index, codes, option_map, find}
 use Rattle.std.specs.Cmp.Lexicographic.{pointwise, same_text}
-use Rattle.std.proofs.lemmas.Bool.{and_parts, leb-true, eqb-true, ne_eqb}
+use Rattle.std.proofs.lemmas.Bool.{and_parts, leb-true, eqb-true, lt-ltb, ltb-true, ne_eqb}
 use Rattle.std.proofs.lemmas.List.{drop_at}
 use Rattle.std.specs.List.{list_all}
 use Rattle.module_lang.specs.Bytes.{begins, tail, token, token_len, after_token}
@@ -10,14 +10,16 @@ use Rattle.module_lang.specs.Codes.{◌>>=◌, unless}
 use Rattle.module_lang.specs.Lines.{is_due, judged, known_word, or_unknown, label_read, item_read, or_no_label, is_handler}
 use Rattle.module_lang.specs.Entries.{from_quote}
 use Rattle.module_lang.specs.Names.{all_name_bytes, is_letter, is_name, is_name_byte, name_of}
+use Rattle.module_lang.specs.Numbers.{constant_of, is_value}
 use Rattle.module_lang.specs.Operands.{numbered, operand_in, operand_at, after_operand, operands_at, operand_kind_is_nothing, operand_kind_is_text, or_wrong, text_measured, text_operand}
 use Rattle.module_lang.specs.Quoted.{Quoted, quoted, measure_of, text_of}
-use Rattle.module_lang.specs.Texts.{place_text, own_text, brigade_text, status_text, operands_text}
+use Rattle.module_lang.specs.Texts.{place_text, own_text, brigade_text, status_text, value_text, operands_text}
 use Rattle.module_lang.specs.Texts as grammar
-use Rattle.module_lang.specs.Words.{all_words, word_at, word_text, word_kinds, two_operands, one_operand, no_operand}
+use Rattle.module_lang.specs.Words.{all_words, word_at, word_text, word_kinds, three_operands, two_operands, one_operand, no_operand}
 use Rattle.module_lang.specs.declared.draft.Draft.{Draft}
 use Rattle.module_lang.specs.declared.instr.PoolRef.TheVariants as pool
 use Rattle.module_lang.specs.declared.instr.Status.TheVariants as status
+use Rattle.module_lang.specs.declared.instr.Value.TheVariants as value
 use Rattle.module_lang.specs.declared.lines.Line.{Line}
 use Rattle.module_lang.specs.declared.lines.Line.TheVariants as line
 use Rattle.module_lang.specs.declared.operand.Operand.{Operand}
@@ -30,6 +32,7 @@ use Rattle.module_lang.specs.declared.word.Kind.TheVariants as kind
 use Rattle.module_lang.specs.declared.word.Kinds.{Kinds}
 use Rattle.module_lang.specs.declared.word.Word.{Word}
 use Rattle.module_lang.proofs.LineLaws.{bind_ok, unless_ok, not_false}
+use Rattle.module_lang.proofs.NumberLaws.{constant_found, decimal_without}
 use Rattle.module_lang.proofs.OperandLaws.{cond_some, made, numbered_below}
 use Rattle.module_lang.proofs.QuoteFound.{quoted_found}
 use Rattle.module_lang.proofs.QuoteLaws.{spelled_bytes, unquoted, place_unquoted, quote_behind, quoted_again}
@@ -101,6 +104,7 @@ Spells (operand.Brigade b) t = t ≡ brigade_text b
 Spells (operand.Ending s) t = t ≡ status_text s
 Spells (operand.Label n) t = (is_name t ≡ true) × (n ≡ padded t)
 Spells (operand.Text n) t = ⊥
+Spells (operand.Value v) t = (t ≡ value_text v) × (is_value v ≡ true)
 
 to : (o x : Operand) (t : List ℕ) → Some x ≡ Some o → Spells x t → Spells o t
 to o x t e h = let s : x ≡ o = cc e in subst (λ y. Spells y t) s h
@@ -146,6 +150,18 @@ variable_spelled : (a : Bool) (t : List ℕ) (o : Operand) → cond a (option_ma
 variable_spelled true t o e = number_place (numbered 112 t) t o refl e
 variable_spelled false t o e = number_brigade (numbered 98 t) t o refl e
 
+number_spelled : (n : Option ℕ) (t : List ℕ) (o : Operand) → numbered 110 t ≡ n → option_map (λ i. operand.Value (value.Number i)) n ≡ Some o → Spells o t
+number_spelled None t o q e = absurd (cc e)
+number_spelled (Some i) t o q e = to o (operand.Value (value.Number i)) t e (numbered_spelled 110 t i q, lt-ltb i 8 (numbered_below 110 t i q))
+
+constant_spelled : (n : Option ℕ) (t : List ℕ) (o : Operand) → constant_of t ≡ n → option_map (λ k. operand.Value (value.Constant k)) n ≡ Some o → Spells o t
+constant_spelled None t o q e = absurd (cc e)
+constant_spelled (Some k) t o q e = let z = constant_found t k q in to o (operand.Value (value.Constant k)) t e (z.0, lt-ltb k (2 ^ 32) z.1)
+
+value_spelled : (a : Bool) (t : List ℕ) (o : Operand) → cond a (option_map (λ i. operand.Value (value.Number i)) (numbered 110 t)) (option_map (λ k. operand.Value (value.Constant k)) (constant_of t)) ≡ Some o → Spells o t
+value_spelled true t o e = number_spelled (numbered 110 t) t o refl e
+value_spelled false t o e = constant_spelled (constant_of t) t o refl e
+
 pub token_spelled : (k : Kind) (t : List ℕ) (o : Operand) → operand_in k t ≡ Some o → Spells o t
 unfolding operand_in
 token_spelled kind.Nothing t o e = absurd (cc e)
@@ -158,6 +174,8 @@ token_spelled kind.Ending t o e = ending_spelled (pointwise nat_eq t (codes "ok"
 token_spelled kind.Label t o e = label_spelled (name_of t) t o refl e
 token_spelled kind.Text t o e = absurd (cc e)
 token_spelled kind.Variable t o e = variable_spelled (begins 112 t) t o e
+token_spelled kind.Number t o e = number_spelled (numbered 110 t) t o refl e
+token_spelled kind.Value t o e = value_spelled (begins 110 t) t o e
 
 -- the operands of a line, one behind another
 pub record IsChain (k : Kinds) (rest : List ℕ) (o : Operands) : Type 0 where
@@ -199,7 +217,7 @@ nothing_behind : (rest : List ℕ) → after_operand kind.Nothing rest ≡ rest
 unfolding after_operand
 nothing_behind rest = refl
 
--- a line with no operand, one operand and two
+-- a line with no operand, one operand, two and three
 pub none_spelled : (rest : List ℕ) (o : Operands) → operands_at no_operand rest ≡ Ok o → rest ≡ []
 none_spelled rest o h =
     let c = chain no_operand rest o h in
@@ -241,6 +259,35 @@ two_taken k l rest o n q m r h =
       second = token_spelled l y.token o.second y.read;
     }
 
+pub record ThreeSpelled (rest : List ℕ) (o : Operands) : Type 0 where
+  pub one : List ℕ
+  pub two : List ℕ
+  pub three : List ℕ
+  pub whole : rest ≡ operands_text (one ∷ two ∷ three ∷ [])
+  pub first : Spells o.first one
+  pub second : Spells o.second two
+  pub third : Spells o.third three
+
+pub three_taken : (k l m : Kind) (rest : List ℕ) (o : Operands) → (operand_kind_is_nothing k ≡ false) × (operand_kind_is_text k ≡ false) → (operand_kind_is_nothing l ≡ false) × (operand_kind_is_text l ≡ false) → (operand_kind_is_nothing m ≡ false) × (operand_kind_is_text m ≡ false) → operands_at (three_operands k l m) rest ≡ Ok o → ThreeSpelled rest o
+three_taken k l m rest o n q r h =
+    let c = chain (three_operands k l m) rest o h in
+    let r1 = after_operand k rest in
+    let r2 = after_operand l r1 in
+    let r3 = after_operand m r2 in
+    let x = read_token k rest o.first n.0 n.1 c.first in
+    let y = read_token l r1 o.second q.0 q.1 c.second in
+    let z = read_token m r2 o.third r.0 r.1 c.third in
+    let none : r3 ≡ [] = rw (nothing_behind r3) at c.last in
+    record {
+      one = x.token;
+      two = y.token;
+      three = z.token;
+      whole = x.spelled ∙ ap (λ ys. 32 ∷ (x.token ++ ys)) (y.spelled ∙ ap (λ ys. 32 ∷ (y.token ++ ys)) (z.spelled ∙ ap (λ ys. 32 ∷ (z.token ++ ys)) none));
+      first = token_spelled k x.token o.first x.read;
+      second = token_spelled l y.token o.second y.read;
+      third = token_spelled m z.token o.third z.read;
+    }
+
 one_unquoted : (b : ℕ) → is_name_byte b ≡ true → eqb b 34 ≡ false
 one_unquoted b h = ne_eqb b 34 (λ e. absurd (cc (sym h ∙ ap is_name_byte e)))
 
@@ -268,6 +315,8 @@ token_unquoted (operand.Ending status.Success) t h = rw h refl
 token_unquoted (operand.Ending status.Fail) t h = rw h refl
 token_unquoted (operand.Label n) t h = name_unquoted t (all_named t h.0)
 token_unquoted (operand.Text n) t h = absurd h
+token_unquoted (operand.Value (value.Number i)) t h = rw h.0 (let apart : eqb (48 + i) 34 ≡ false = ne_eqb (48 + i) 34 (λ e. omega arith) in rw apart refl)
+token_unquoted (operand.Value (value.Constant k)) t h = rw h.0 (decimal_without 34 k refl (ltb-true k (2 ^ 32) h.1))
 
 -- a text that was read
 pub record TextRead (rest : List ℕ) (o : Operand) : Type 0 where

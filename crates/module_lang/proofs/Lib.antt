@@ -17,6 +17,7 @@ pub mod LineLaws
 pub mod ListLaws
 pub mod ModuleFaults
 pub mod ModuleLaws
+pub mod NumberLaws
 pub mod OperandFaults
 pub mod OperandLaws
 pub mod OpsFound

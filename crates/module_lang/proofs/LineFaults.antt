@@ -173,6 +173,8 @@ text_stands kind.Label bytes o rest h = ap is_text_operand h.2.1
 text_stands kind.Text bytes o rest h = ap is_text_operand h.4
 text_stands kind.Variable bytes o rest (t, e, inl h, b) = ap is_text_operand h.1
 text_stands kind.Variable bytes o rest (t, e, inr h, b) = ap is_text_operand h.1
+text_stands kind.Number bytes o rest h = ap is_text_operand h.2.1
+text_stands kind.Value bytes o rest h = ap is_text_operand h.2.1
 
 pub text_written : (k : Kinds) (bytes : List ℕ) (o : Operands) → AreWritten k bytes o → has_text o ≡ has_text_kind k
 text_written k bytes o w =

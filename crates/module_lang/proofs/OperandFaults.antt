@@ -2,7 +2,7 @@
 use Rattle.std.proofs.Common.{◌≡◌, ℕ, suc, ◌+◌, ◌<◌, ◌≤◌, Bool, true, false, ◌||◌, not, cond, eqb, ltb, nat_eq, List, [], ◌∷◌, ◌++◌, length, drop, Option, Some, None, inl, inr, ◌⊎◌, Result, Ok, Err, refl, sym, ◌∙◌, ap, subst, arith}
 use Rattle.std.specs.Prelude.{codes, option_map}
 use Rattle.std.specs.Cmp.Lexicographic.{pointwise}
-use Rattle.std.proofs.lemmas.Bool.{cases_lt, eqb-true, lt-ltb}
+use Rattle.std.proofs.lemmas.Bool.{cases_lt, eqb-true, lt-ltb, ltb-true}
 use Rattle.std.proofs.lemmas.List.{drop_at}
 use Rattle.module_lang.specs.Bytes.{after_token, begins, tail, token, token_len}
 use Rattle.module_lang.specs.Codes.{◌>>=◌, unless}
@@ -25,9 +25,9 @@ use Rattle.module_lang.specs.declared.word.Kinds.{Kinds}
 use Rattle.module_lang.proofs.InverseLaws.{Reads, Spells, chain, name_spelled, own_is, read_token, token_spelled}
 use Rattle.module_lang.proofs.QuoteFound.{quoted_found}
 use Rattle.module_lang.proofs.QuoteLaws.{quoted_again}
-use Rattle.module_lang.proofs.OperandLaws.{ending_is, made, numbered_below, place_is, source_is, token_kind}
-use Rattle.module_lang.specs.Handlers.{operand_index, operand_status}
-use Rattle.module_lang.proofs.SpellingLaws.{IsOperand, Stops, behind_again, ending_operand, label_operand, operand_again, own_operand, place_operand, pool_operand, source_operand, brigade_variable, own_variable, text_at_again, text_behind}
+use Rattle.module_lang.proofs.OperandLaws.{number_is, value_is, ending_is, made, numbered_below, place_is, source_is, token_kind}
+use Rattle.module_lang.specs.Handlers.{operand_index, operand_status, operand_value}
+use Rattle.module_lang.proofs.SpellingLaws.{IsOperand, Stops, behind_again, ending_operand, label_operand, operand_again, own_operand, place_operand, pool_operand, source_operand, brigade_variable, number_again, own_variable, value_again, text_at_again, text_behind}
 
 pub stops_of : (bytes : List ℕ) → IsBreak bytes → Stops bytes
 stops_of [] h = tt
@@ -98,6 +98,14 @@ spelled_as kind.Ending t o e =
 spelled_as kind.Label t o e = label_low (name_of t) t o refl e
 spelled_as kind.Text t o e = absurd (cc e)
 spelled_as kind.Variable t o e = variable_low (begins 112 t) t o (token_spelled kind.Variable t o e) e
+spelled_as kind.Number t o e =
+    let k = number_is o (token_kind kind.Number t o e) in
+    let s = subst (λ x. Spells x t) k (token_spelled kind.Number t o e) in
+    (operand_index o, k, s.0, ltb-true (operand_index o) 8 s.1)
+spelled_as kind.Value t o e =
+    let k = value_is o (token_kind kind.Value t o e) in
+    let s = subst (λ x. Spells x t) k (token_spelled kind.Value t o e) in
+    (operand_value o, k, s.0, s.1)
 
 below_or_8 : (b : ℕ) → b ≤ 8 → (ltb b 8 || eqb b 8) ≡ true
 below_or_8 b h = either (cases_lt b 8)
@@ -120,6 +128,8 @@ operand_of kind.Label t o h = let n = name_spelled t h.0 h.2 in rw (h.1, n.1) (l
 operand_of kind.Text t o h = absurd h
 operand_of kind.Variable t o (inl h) = rw (h.1, h.2) (own_variable h.0 h.3)
 operand_of kind.Variable t o (inr h) = rw (h.1, h.2) (brigade_variable h.0 h.3)
+operand_of kind.Number t o h = rw (h.1, h.2) (number_again h.0 h.3)
+operand_of kind.Value t o h = rw (h.1, h.2) (value_again h.0 h.3)
 
 -- an operand that was read stands there
 stands_token : (k : Kind) (bytes : List ℕ) (o : Operand) → Reads k bytes o → IsBreak (after_operand k bytes) → (t : List ℕ) × (bytes ≡ 32 ∷ (t ++ after_operand k bytes)) × IsSpelled k o t × IsBreak (after_operand k bytes)
@@ -158,6 +168,8 @@ stands kind.Ending bytes o h = stands_token kind.Ending bytes o (read_token kind
 stands kind.Label bytes o h = stands_token kind.Label bytes o (read_token kind.Label bytes o refl refl h) (after_break (tail bytes))
 stands kind.Text bytes o h = text_read bytes o h
 stands kind.Variable bytes o h = stands_token kind.Variable bytes o (read_token kind.Variable bytes o refl refl h) (after_break (tail bytes))
+stands kind.Number bytes o h = stands_token kind.Number bytes o (read_token kind.Number bytes o refl refl h) (after_break (tail bytes))
+stands kind.Value bytes o h = stands_token kind.Value bytes o (read_token kind.Value bytes o refl refl h) (after_break (tail bytes))
 
 -- an operand that stands there is read
 abbrev Again : Kind → List ℕ → Operand → List ℕ → Type 0
@@ -178,6 +190,8 @@ again kind.Ending bytes o rest h = token_read kind.Ending bytes o rest h.0 h.1 h
 again kind.Label bytes o rest h = token_read kind.Label bytes o rest h.0 h.1 h.2 h.3
 again kind.Text bytes o rest h = rw (h.2, h.4) (text_at_again h.0 h.1 rest h.3, text_behind h.0 h.1 rest h.3)
 again kind.Variable bytes o rest h = token_read kind.Variable bytes o rest h.0 h.1 h.2 h.3
+again kind.Number bytes o rest h = token_read kind.Number bytes o rest h.0 h.1 h.2 h.3
+again kind.Value bytes o rest h = token_read kind.Value bytes o rest h.0 h.1 h.2 h.3
 
 -- operands that were read are written there, and the other way round
 pub written : (k : Kinds) (bytes : List ℕ) (o : Operands) → operands_at k bytes ≡ Ok o → AreWritten k bytes o
@@ -262,6 +276,8 @@ wrong kind.Ending bytes c h = wrong_token kind.Ending bytes (not (begins 32 byte
 wrong kind.Label bytes c h = wrong_token kind.Label bytes (not (begins 32 bytes)) (operand_in kind.Label (token (tail bytes))) c h
 wrong kind.Text bytes c h = wrong_text bytes c h
 wrong kind.Variable bytes c h = wrong_token kind.Variable bytes (not (begins 32 bytes)) (operand_in kind.Variable (token (tail bytes))) c h
+wrong kind.Number bytes c h = wrong_token kind.Number bytes (not (begins 32 bytes)) (operand_in kind.Number (token (tail bytes))) c h
+wrong kind.Value bytes c h = wrong_token kind.Value bytes (not (begins 32 bytes)) (operand_in kind.Value (token (tail bytes))) c h
 
 wrong_again : (k : Kind) (bytes : List ℕ) → IsFaultyText k bytes → operand_at k bytes ≡ Err code.FaultyText
 unfolding operand_at
@@ -275,6 +291,8 @@ wrong_again kind.Ending bytes h = absurd h
 wrong_again kind.Label bytes h = absurd h
 wrong_again kind.Text bytes h = let none = stands_none (34 ∷ h.0) h.2 in rw h.1 (rw none refl)
 wrong_again kind.Variable bytes h = absurd h
+wrong_again kind.Number bytes h = absurd h
+wrong_again kind.Value bytes h = absurd h
 
 -- operands that were refused are wrong, or have a faulty text
 abbrev pub AreRefused : Kinds → List ℕ → Code → Type 0

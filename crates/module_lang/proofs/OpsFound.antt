@@ -7,12 +7,12 @@ use Rattle.module_lang.specs.Entries.{from_quote}
 use Rattle.module_lang.specs.Lines.{has_text}
 use Rattle.module_lang.specs.Operands.{of_kind, operand_place}
 use Rattle.module_lang.specs.Texts as grammar
-use Rattle.module_lang.specs.Texts.{place_text, variable_text}
+use Rattle.module_lang.specs.Texts.{place_text, number_text, own_text, value_text, variable_text}
 use Rattle.module_lang.specs.declared.instr.PoolRef.TheVariants as pool
-use Rattle.module_lang.specs.Handlers.{op_instr, operand_index, operand_status, operand_variable}
+use Rattle.module_lang.specs.Handlers.{op_instr, operand_index, operand_status, operand_value, operand_variable}
 use Rattle.module_lang.specs.Names.{is_name}
 use Rattle.module_lang.specs.Program.{target, text_of_instr}
-use Rattle.module_lang.specs.Spelling.{operands_of, own_pool}
+use Rattle.module_lang.specs.Spelling.{number_operand, operands_of, own_pool}
 use Rattle.module_lang.specs.Texts.{step, code_text, operands_text, brigade_text}
 use Rattle.module_lang.specs.Words.{word_text, word_kinds, op_kinds, op_text}
 use Rattle.module_lang.specs.declared.draft.Draft.{Draft}
@@ -23,9 +23,9 @@ use Rattle.module_lang.specs.declared.word.Kind.TheVariants as kind
 use Rattle.module_lang.specs.declared.word.Op.{Op}
 use Rattle.module_lang.specs.declared.word.Op.TheVariants as op
 use Rattle.module_lang.specs.declared.word.Word.TheVariants as word
-use Rattle.module_lang.proofs.InverseLaws.{Item, Spells, TextSpelled, one_taken, two_taken, own_is, quote_found, text_spelled}
+use Rattle.module_lang.proofs.InverseLaws.{Item, Spells, TextSpelled, none_spelled, one_taken, two_taken, three_taken, own_is, quote_found, text_spelled}
 use Rattle.module_lang.proofs.ModuleLaws.{brigade_below}
-use Rattle.module_lang.proofs.OperandLaws.{brigade_is, source_is, ending_is, place_is, pool_is, kinds_read, shape}
+use Rattle.module_lang.proofs.OperandLaws.{brigade_is, source_is, ending_is, number_is, place_is, pool_is, value_is, kinds_read, shape}
 use Rattle.module_lang.proofs.QuoteLaws.{unquoted}
 use Rattle.module_lang.proofs.SpellingLaws.{padded}
 
@@ -58,6 +58,13 @@ variable_at operand.One t k h = absurd (cc k)
 variable_at (operand.Ending e) t k h = absurd (cc k)
 variable_at (operand.Label n) t k h = absurd (cc k)
 variable_at (operand.Text n) t k h = absurd h
+variable_at (operand.Value v) t k h = absurd (cc k)
+
+number_at : (x : Operand) (t : List ℕ) → x ≡ number_operand (operand_index x) → Spells x t → t ≡ number_text (operand_index x)
+number_at x t e h = (subst (λ y. Spells y t) e h).0
+
+value_at : (x : Operand) (t : List ℕ) → x ≡ operand.Value (operand_value x) → Spells x t → t ≡ value_text (operand_value x)
+value_at x t e h = (subst (λ y. Spells y t) e h).0
 
 ending_at : (x : Operand) (t : List ℕ) → x ≡ operand.Ending (operand_status x) → Spells x t → Spells (operand.Ending (operand_status x)) t
 ending_at x t e h = subst (λ y. Spells y t) e h
@@ -120,6 +127,13 @@ op_spelled d s op.BConcat o x h =
     let t = brigade_at o.first y.one (source_is o.first k.first) y.first in
     let u = brigade_at o.second y.two (source_is o.second k.second) y.second in
     record { name = []; text = []; len = 0; spelled = h.spelled ∙ ap (λ r. codes "bconcat" ++ r) (y.whole ∙ ap (λ z. operands_text (z ∷ y.two ∷ [])) t ∙ ap (λ z. operands_text (brigade_text (operand_index o.first) ∷ z ∷ [])) u); same = f.same; named = tt; texted = λ bytes e. tt }
+op_spelled d s op.BSave o x h =
+    let k = kinds_read (op_kinds op.BSave) h.rest o h.read in
+    let y = two_taken kind.Brigade kind.Source h.rest o refl refl refl refl h.read in
+    let f = shape op.BSave o x 0 k in
+    let t = brigade_at o.first y.one (brigade_is o.first k.first) y.first ∙ sym (own_is (operand_index o.first) (brigade_below o.first k.first)) in
+    let u = brigade_at o.second y.two (source_is o.second k.second) y.second in
+    record { name = []; text = []; len = 0; spelled = h.spelled ∙ ap (λ r. codes "bsave" ++ r) (y.whole ∙ ap (λ z. operands_text (z ∷ y.two ∷ [])) t ∙ ap (λ z. operands_text (own_text (operand_index o.first) ∷ z ∷ [])) u); same = f.same; named = tt; texted = λ bytes e. tt }
 op_spelled d s op.Pass o x h =
     let k = kinds_read (op_kinds op.Pass) h.rest o h.read in
     let y = two_taken kind.Source kind.Label h.rest o refl refl refl refl h.read in
@@ -134,6 +148,54 @@ op_spelled d s op.JEmpty o x h =
     let t = brigade_at o.first y.one (source_is o.first k.first) y.first in
     let n = label_at o.second f.name y.two (ap (λ (z : Operands). z.second) f.same) y.second in
     record { name = y.two; text = []; len = 0; spelled = h.spelled ∙ ap (λ r. codes "jempty" ++ r) (y.whole ∙ ap (λ z. operands_text (z ∷ y.two ∷ [])) t); same = f.same ∙ ap (λ z. operands_of (op_instr op.JEmpty o x 0) z 0) n.1; named = n.0; texted = λ bytes e. tt }
+op_spelled d s op.Put o x h =
+    let k = kinds_read (op_kinds op.Put) h.rest o h.read in
+    let y = two_taken kind.Value kind.Label h.rest o refl refl refl refl h.read in
+    let f = shape op.Put o x 0 k in
+    let t = value_at o.first y.one (value_is o.first k.first) y.first in
+    let n = label_at o.second f.name y.two (ap (λ (z : Operands). z.second) f.same) y.second in
+    record { name = y.two; text = []; len = 0; spelled = h.spelled ∙ ap (λ r. codes "put" ++ r) (y.whole ∙ ap (λ z. operands_text (z ∷ y.two ∷ [])) t); same = f.same ∙ ap (λ z. operands_of (op_instr op.Put o x 0) z 0) n.1; named = n.0; texted = λ bytes e. tt }
+op_spelled d s op.ClearBuf o x h =
+    let k = kinds_read (op_kinds op.ClearBuf) h.rest o h.read in
+    let f = shape op.ClearBuf o x 0 k in
+    record { name = []; text = []; len = 0; spelled = h.spelled ∙ ap (λ r. codes "clearbuf" ++ r) (none_spelled h.rest o h.read); same = f.same; named = tt; texted = λ bytes e. tt }
+op_spelled d s op.Set o x h =
+    let k = kinds_read (op_kinds op.Set) h.rest o h.read in
+    let y = two_taken kind.Number kind.Value h.rest o refl refl refl refl h.read in
+    let f = shape op.Set o x 0 k in
+    let t = number_at o.first y.one (number_is o.first k.first) y.first in
+    let u = value_at o.second y.two (value_is o.second k.second) y.second in
+    record { name = []; text = []; len = 0; spelled = h.spelled ∙ ap (λ r. codes "set" ++ r) (y.whole ∙ ap (λ z. operands_text (z ∷ y.two ∷ [])) t ∙ ap (λ z. operands_text (number_text (operand_index o.first) ∷ z ∷ [])) u); same = f.same; named = tt; texted = λ bytes e. tt }
+op_spelled d s op.Add o x h =
+    let k = kinds_read (op_kinds op.Add) h.rest o h.read in
+    let y = two_taken kind.Number kind.Value h.rest o refl refl refl refl h.read in
+    let f = shape op.Add o x 0 k in
+    let t = number_at o.first y.one (number_is o.first k.first) y.first in
+    let u = value_at o.second y.two (value_is o.second k.second) y.second in
+    record { name = []; text = []; len = 0; spelled = h.spelled ∙ ap (λ r. codes "add" ++ r) (y.whole ∙ ap (λ z. operands_text (z ∷ y.two ∷ [])) t ∙ ap (λ z. operands_text (number_text (operand_index o.first) ∷ z ∷ [])) u); same = f.same; named = tt; texted = λ bytes e. tt }
+op_spelled d s op.Sub o x h =
+    let k = kinds_read (op_kinds op.Sub) h.rest o h.read in
+    let y = two_taken kind.Number kind.Value h.rest o refl refl refl refl h.read in
+    let f = shape op.Sub o x 0 k in
+    let t = number_at o.first y.one (number_is o.first k.first) y.first in
+    let u = value_at o.second y.two (value_is o.second k.second) y.second in
+    record { name = []; text = []; len = 0; spelled = h.spelled ∙ ap (λ r. codes "sub" ++ r) (y.whole ∙ ap (λ z. operands_text (z ∷ y.two ∷ [])) t ∙ ap (λ z. operands_text (number_text (operand_index o.first) ∷ z ∷ [])) u); same = f.same; named = tt; texted = λ bytes e. tt }
+op_spelled d s op.JLt o x h =
+    let k = kinds_read (op_kinds op.JLt) h.rest o h.read in
+    let y = three_taken kind.Number kind.Value kind.Label h.rest o (refl, refl) (refl, refl) (refl, refl) h.read in
+    let f = shape op.JLt o x 0 k in
+    let t = number_at o.first y.one (number_is o.first k.first) y.first in
+    let u = value_at o.second y.two (value_is o.second k.second) y.second in
+    let n = label_at o.third f.name y.three (ap (λ (z : Operands). z.third) f.same) y.third in
+    record { name = y.three; text = []; len = 0; spelled = h.spelled ∙ ap (λ r. codes "jlt" ++ r) (y.whole ∙ ap (λ z. operands_text (z ∷ y.two ∷ y.three ∷ [])) t ∙ ap (λ z. operands_text (number_text (operand_index o.first) ∷ z ∷ y.three ∷ [])) u); same = f.same ∙ ap (λ z. operands_of (op_instr op.JLt o x 0) z 0) n.1; named = n.0; texted = λ bytes e. tt }
+op_spelled d s op.JEq o x h =
+    let k = kinds_read (op_kinds op.JEq) h.rest o h.read in
+    let y = three_taken kind.Number kind.Value kind.Label h.rest o (refl, refl) (refl, refl) (refl, refl) h.read in
+    let f = shape op.JEq o x 0 k in
+    let t = number_at o.first y.one (number_is o.first k.first) y.first in
+    let u = value_at o.second y.two (value_is o.second k.second) y.second in
+    let n = label_at o.third f.name y.three (ap (λ (z : Operands). z.third) f.same) y.third in
+    record { name = y.three; text = []; len = 0; spelled = h.spelled ∙ ap (λ r. codes "jeq" ++ r) (y.whole ∙ ap (λ z. operands_text (z ∷ y.two ∷ y.three ∷ [])) t ∙ ap (λ z. operands_text (number_text (operand_index o.first) ∷ z ∷ y.three ∷ [])) u); same = f.same ∙ ap (λ z. operands_of (op_instr op.JEq o x 0) z 0) n.1; named = n.0; texted = λ bytes e. tt }
 op_spelled d s op.JNull o x h =
     let k = kinds_read (op_kinds op.JNull) h.rest o h.read in
     let y = two_taken kind.Variable kind.Label h.rest o refl refl refl refl h.read in

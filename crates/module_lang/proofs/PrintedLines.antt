@@ -1,5 +1,5 @@
 -- The lines of a printed module: each says something and begins with no space, and together they are short.
-use Rattle.std.proofs.Common.{◌≡◌, ℕ, ◌+◌, ◌*◌, ◌%◌, ◌||◌, ltb, ◌<◌, ◌≤◌, Bool, true, false, ◌&&◌, not, cond, eqb, List, [], ◌∷◌, ◌++◌, length, map, Option, Some, None, refl, ◌∙◌, ap, arith, length-append}
+use Rattle.std.proofs.Common.{◌≡◌, ℕ, ◌+◌, ◌*◌, ◌%◌, ◌^◌, ◌||◌, ltb, ◌<◌, ◌≤◌, Bool, true, false, ◌&&◌, not, cond, eqb, List, [], ◌∷◌, ◌++◌, length, map, Option, Some, None, refl, ◌∙◌, ap, arith, length-append}
 use Rattle.std.specs.Prelude.{All, IfSome, codes, filter_map}
 use Rattle.std.specs.List.{cons_option, list_all}
 use Rattle.std.proofs.lemmas.Bool.{and_parts, ne_eqb, ltb-true}
@@ -9,11 +9,14 @@ use Rattle.module_lang.specs.Bytes.{all_printable, is_printable, unindented}
 use Rattle.module_lang.specs.Printing.{target_name, aim, is_target, printed_code, quoted_text}
 use Rattle.module_lang.specs.Program.{Program, fits, is_brigade, target, text_of_instr}
 use Rattle.module_lang.specs.Lines.{place_is_declared}
-use Rattle.module_lang.specs.Texts.{CodeLine, label, step, brigade_text, brigade_texts, code_text, instr_word, is_skipped, joined, line_text, operand_texts, operands_text, own_text, place_text, pool_texts, statements, status_text}
+use Rattle.module_lang.specs.Texts.{CodeLine, label, step, brigade_text, brigade_texts, code_text, instr_word, is_skipped, joined, line_text, operand_texts, number_text, operands_text, own_text, place_text, pool_texts, statements, status_text, value_text}
 use Rattle.module_lang.specs.declared.instr.Instr.{Instr}
 use Rattle.module_lang.specs.declared.instr.Instr.TheVariants as instr
 use Rattle.module_lang.specs.declared.instr.PoolRef.{PoolRef}
 use Rattle.module_lang.specs.declared.instr.PoolRef.TheVariants as pool
+use Rattle.module_lang.specs.Numbers.{is_value}
+use Rattle.module_lang.specs.declared.instr.Value.{Value}
+use Rattle.module_lang.specs.declared.instr.Value.TheVariants as value
 use Rattle.module_lang.specs.declared.instr.VarRef.TheVariants as variable
 use Rattle.module_lang.specs.declared.instr.Status.{Status}
 use Rattle.module_lang.specs.declared.instr.Status.TheVariants as status
@@ -54,20 +57,20 @@ plain_clean (l ∷ ls) h = all_cons (λ x. all_printable x ≡ true) l ls (plain
 
 abbrev AreShown : List (List ℕ) → Type 0
 AreShown [] = Unit {0}
-AreShown (o ∷ os) = (list_all is_printable o ≡ true) × (length o ≤ 8) × AreShown os
+AreShown (o ∷ os) = (list_all is_printable o ≡ true) × (length o ≤ 10) × AreShown os
 
 operands_printable : (os : List (List ℕ)) → AreShown os → list_all is_printable (operands_text os) ≡ true
 operands_printable [] h = refl
 operands_printable (o ∷ os) h = list_all-append is_printable o (operands_text os) ∙ rw (h.0, operands_printable os h.2) refl
 
-operands_short : (os : List (List ℕ)) → AreShown os → length (operands_text os) ≤ 9 * length os
+operands_short : (os : List (List ℕ)) → AreShown os → length (operands_text os) ≤ 11 * length os
 operands_short [] h = omega arith
 operands_short (o ∷ os) h = omega (arith, h.1, operands_short os h.2, length-append o (operands_text os))
 
 -- operands of printable bytes, and so many bytes more than three short ones have
 record StepShown (os : List (List ℕ)) (more : ℕ) : Type 0 where
   clean : list_all is_printable (operands_text os) ≡ true
-  short : length (operands_text os) ≤ 27 + more
+  short : length (operands_text os) ≤ 33 + more
 
 all_short : (os : List (List ℕ)) (more : ℕ) → length os ≤ 3 → AreShown os → StepShown os more
 all_short os more few s = record { clean = operands_printable os s; short = omega (arith, operands_short os s) }
@@ -76,7 +79,7 @@ line_plain : (w : List ℕ) (os : List (List ℕ)) (more : ℕ) → IsPlain w �
 line_plain [] os more h s = absurd h
 line_plain (b ∷ bs) os more h s = (h.0, h.1, list_all-append is_printable (b ∷ bs) (operands_text os) ∙ rw (h.2, s.clean) refl)
 
-line_short : (w : List ℕ) (os : List (List ℕ)) (more : ℕ) → length w ≤ 10 → StepShown os more → length (line_text w os) ≤ 40 + more
+line_short : (w : List ℕ) (os : List (List ℕ)) (more : ℕ) → length w ≤ 10 → StepShown os more → length (line_text w os) ≤ 44 + more
 line_short w os more low s = omega (arith, s.short, length-append w (operands_text os))
 
 -- operands
@@ -114,6 +117,15 @@ status_shown : (s : Status) → (list_all is_printable (status_text s) ≡ true)
 status_shown status.Success = (refl, omega arith)
 status_shown status.Fail = (refl, omega arith)
 
+value_shown : (v : Value) → is_value v ≡ true → (list_all is_printable (value_text v) ≡ true) × (length (value_text v) ≤ 10)
+value_shown (value.Number n) h = let low = ltb-true n 8 h in (rw (digit_printable n (omega arith)) refl, omega arith)
+value_shown (value.Constant k) h =
+    let low = ltb-true k (2 ^ 32) h in
+    (decimal_by_steps (λ m ds. list_all is_printable ds ≡ true) digit_printable (λ m ds high e. all_joined is_printable ds ((48 + m % 10) ∷ []) e (digit_printable (m % 10) (omega arith))) k (omega arith), length-decimal-le 10 k (omega arith) (omega arith) (omega arith))
+
+number_shown : (n : ℕ) → ltb n 8 ≡ true → (list_all is_printable (number_text n) ≡ true) × (length (number_text n) ≤ 10)
+number_shown n h = let low = ltb-true n 8 h in (rw (digit_printable n (omega arith)) refl, omega arith)
+
 -- instructions
 
 -- a text in quotes is printable, and has so many bytes at most
@@ -134,30 +146,64 @@ text_operands q s a b =
     record { clean = one ∙ rw (a.0, last, b.0) refl; short = omega (arith, size, end, a.1, b.1) }
 
 instr_shown : (p : Program) (i : Instr) (n s : List ℕ) → length p.pools ≤ 8 → length p.brigades ≤ 8 → fits p i ≡ true → (list_all is_printable n ≡ true) × (length n ≤ 8) → QuotedShown (text_of_instr i) s → StepShown (operand_texts i n s) (text_room (text_of_instr i))
-instr_shown p (instr.PCreate q) n s few small h t w = let low = ltb-true q (length p.pools) h in let a = own_pool_shown q (omega arith) in all_short (place_text (pool.Own q) ∷ []) 0 (omega arith) (a.0, a.1, tt)
-instr_shown p (instr.PClear q) n s few small h t w = let low = ltb-true q (length p.pools) h in let a = own_pool_shown q (omega arith) in all_short (place_text (pool.Own q) ∷ []) 0 (omega arith) (a.0, a.1, tt)
-instr_shown p (instr.PDestroy q) n s few small h t w = let low = ltb-true q (length p.pools) h in let a = own_pool_shown q (omega arith) in all_short (place_text (pool.Own q) ∷ []) 0 (omega arith) (a.0, a.1, tt)
+instr_shown p (instr.PCreate q) n s few small h t w = let low = ltb-true q (length p.pools) h in let a = own_pool_shown q (omega arith) in all_short (place_text (pool.Own q) ∷ []) 0 (omega arith) (a.0, omega (arith, a.1), tt)
+instr_shown p (instr.PClear q) n s few small h t w = let low = ltb-true q (length p.pools) h in let a = own_pool_shown q (omega arith) in all_short (place_text (pool.Own q) ∷ []) 0 (omega arith) (a.0, omega (arith, a.1), tt)
+instr_shown p (instr.PDestroy q) n s few small h t w = let low = ltb-true q (length p.pools) h in let a = own_pool_shown q (omega arith) in all_short (place_text (pool.Own q) ∷ []) 0 (omega arith) (a.0, omega (arith, a.1), tt)
 instr_shown p (instr.Label q t) n s few small h v w =
     let x = and_parts (place_is_declared (length p.pools) q) (ltb t (length p.texts)) h in
     text_operands q s (place_shown (length p.pools) q few x.0) w
 instr_shown p (instr.Unlabel q t) n s few small h v w =
     let x = and_parts (place_is_declared (length p.pools) q) (ltb t (length p.texts)) h in
     text_operands q s (place_shown (length p.pools) q few x.0) w
-instr_shown p (instr.BCreate o) n s few small h t w = let low = ltb-true o (length p.brigades) h in let a = own_shown o (omega arith) in all_short (own_text o ∷ []) 0 (omega arith) (a.0, a.1, tt)
-instr_shown p (instr.BClean b) n s few small h t w = let a = brigade_shown (length p.brigades) b small h in all_short (brigade_text b ∷ []) 0 (omega arith) (a.0, a.1, tt)
+instr_shown p (instr.BCreate o) n s few small h t w = let low = ltb-true o (length p.brigades) h in let a = own_shown o (omega arith) in all_short (own_text o ∷ []) 0 (omega arith) (a.0, omega (arith, a.1), tt)
+instr_shown p (instr.BClean b) n s few small h t w = let a = brigade_shown (length p.brigades) b small h in all_short (brigade_text b ∷ []) 0 (omega arith) (a.0, omega (arith, a.1), tt)
 instr_shown p (instr.BConcat b c) n s few small h t w =
     let both = and_parts (is_brigade p b && is_brigade p c) (not (eqb b c)) h in
     let each = and_parts (is_brigade p b) (is_brigade p c) both.0 in
     let x = brigade_shown (length p.brigades) b small each.0 in
     let y = brigade_shown (length p.brigades) c small each.1 in
-    all_short (brigade_text b ∷ brigade_text c ∷ []) 0 (omega arith) (x.0, x.1, (y.0, y.1, tt))
-instr_shown p (instr.Pass b l) n s few small h t w = let a = brigade_shown (length p.brigades) b small h in all_short (brigade_text b ∷ n ∷ []) 0 (omega arith) (a.0, a.1, (t.0, t.1, tt))
-instr_shown p (instr.JEmpty b l) n s few small h t w = let a = brigade_shown (length p.brigades) b small h in all_short (brigade_text b ∷ n ∷ []) 0 (omega arith) (a.0, a.1, (t.0, t.1, tt))
-instr_shown p (instr.JNull (variable.Pool q) l) n s few small h t w = let low = ltb-true q (length p.pools) h in let a = own_pool_shown q (omega arith) in all_short (place_text (pool.Own q) ∷ n ∷ []) 0 (omega arith) (a.0, a.1, (t.0, t.1, tt))
-instr_shown p (instr.JNull (variable.Brigade b) l) n s few small h t w = let low = ltb-true b (length p.brigades) h in let a = own_shown b (omega arith) in all_short (own_text b ∷ n ∷ []) 0 (omega arith) (a.0, a.1, (t.0, t.1, tt))
-instr_shown p (instr.JSent l) n s few small h t w = all_short (n ∷ []) 0 (omega arith) (t.0, t.1, tt)
-instr_shown p (instr.Jump l) n s few small h t w = all_short (n ∷ []) 0 (omega arith) (t.0, t.1, tt)
-instr_shown p (instr.Ret e) n s few small h t w = let a = status_shown e in all_short (status_text e ∷ []) 0 (omega arith) (a.0, a.1, tt)
+    all_short (brigade_text b ∷ brigade_text c ∷ []) 0 (omega arith) (x.0, omega (arith, x.1), (y.0, omega (arith, y.1), tt))
+instr_shown p (instr.BSave o b) n s few small h t w =
+    let both = and_parts (ltb o (length p.brigades) && is_brigade p b) (not (eqb o b)) h in
+    let each = and_parts (ltb o (length p.brigades)) (is_brigade p b) both.0 in
+    let low = ltb-true o (length p.brigades) each.0 in
+    let x = own_shown o (omega arith) in
+    let y = brigade_shown (length p.brigades) b small each.1 in
+    all_short (own_text o ∷ brigade_text b ∷ []) 0 (omega arith) (x.0, omega (arith, x.1), (y.0, omega (arith, y.1), tt))
+instr_shown p (instr.Pass b l) n s few small h t w = let a = brigade_shown (length p.brigades) b small h in all_short (brigade_text b ∷ n ∷ []) 0 (omega arith) (a.0, omega (arith, a.1), (t.0, omega (arith, t.1), tt))
+instr_shown p (instr.JEmpty b l) n s few small h t w = let a = brigade_shown (length p.brigades) b small h in all_short (brigade_text b ∷ n ∷ []) 0 (omega arith) (a.0, omega (arith, a.1), (t.0, omega (arith, t.1), tt))
+instr_shown p (instr.Put x l) n s few small h t w = let a = value_shown x h in all_short (value_text x ∷ n ∷ []) 0 (omega arith) (a.0, omega (arith, a.1), (t.0, omega (arith, t.1), tt))
+instr_shown p instr.ClearBuf n s few small h t w = all_short [] 0 (omega arith) tt
+instr_shown p (instr.Set m x) n s few small h t w =
+    let y = and_parts (ltb m 8) (is_value x) h in
+    let a = number_shown m y.0 in
+    let b = value_shown x y.1 in
+    all_short (number_text m ∷ value_text x ∷ []) 0 (omega arith) (a.0, omega (arith, a.1), (b.0, b.1, tt))
+instr_shown p (instr.Add m x) n s few small h t w =
+    let y = and_parts (ltb m 8) (is_value x) h in
+    let a = number_shown m y.0 in
+    let b = value_shown x y.1 in
+    all_short (number_text m ∷ value_text x ∷ []) 0 (omega arith) (a.0, omega (arith, a.1), (b.0, b.1, tt))
+instr_shown p (instr.Sub m x) n s few small h t w =
+    let y = and_parts (ltb m 8) (is_value x) h in
+    let a = number_shown m y.0 in
+    let b = value_shown x y.1 in
+    all_short (number_text m ∷ value_text x ∷ []) 0 (omega arith) (a.0, omega (arith, a.1), (b.0, b.1, tt))
+instr_shown p (instr.JLt m x l) n s few small h t w =
+    let y = and_parts (ltb m 8) (is_value x) h in
+    let a = number_shown m y.0 in
+    let b = value_shown x y.1 in
+    all_short (number_text m ∷ value_text x ∷ n ∷ []) 0 (omega arith) (a.0, omega (arith, a.1), (b.0, b.1, (t.0, omega (arith, t.1), tt)))
+instr_shown p (instr.JEq m x l) n s few small h t w =
+    let y = and_parts (ltb m 8) (is_value x) h in
+    let a = number_shown m y.0 in
+    let b = value_shown x y.1 in
+    all_short (number_text m ∷ value_text x ∷ n ∷ []) 0 (omega arith) (a.0, omega (arith, a.1), (b.0, b.1, (t.0, omega (arith, t.1), tt)))
+instr_shown p (instr.JNull (variable.Pool q) l) n s few small h t w = let low = ltb-true q (length p.pools) h in let a = own_pool_shown q (omega arith) in all_short (place_text (pool.Own q) ∷ n ∷ []) 0 (omega arith) (a.0, omega (arith, a.1), (t.0, omega (arith, t.1), tt))
+instr_shown p (instr.JNull (variable.Brigade b) l) n s few small h t w = let low = ltb-true b (length p.brigades) h in let a = own_shown b (omega arith) in all_short (own_text b ∷ n ∷ []) 0 (omega arith) (a.0, omega (arith, a.1), (t.0, omega (arith, t.1), tt))
+instr_shown p (instr.JSent l) n s few small h t w = all_short (n ∷ []) 0 (omega arith) (t.0, omega (arith, t.1), tt)
+instr_shown p (instr.Jump l) n s few small h t w = all_short (n ∷ []) 0 (omega arith) (t.0, omega (arith, t.1), tt)
+instr_shown p (instr.Ret e) n s few small h t w = let a = status_shown e in all_short (status_text e ∷ []) 0 (omega arith) (a.0, omega (arith, a.1), tt)
 
 instr_worded : (i : Instr) → IsPlain (instr_word i) × (length (instr_word i) ≤ 10)
 instr_worded (instr.PCreate q) = ((refl, refl, refl), omega arith)
@@ -168,8 +214,16 @@ instr_worded (instr.Unlabel q t) = ((refl, refl, refl), omega arith)
 instr_worded (instr.BCreate o) = ((refl, refl, refl), omega arith)
 instr_worded (instr.BClean b) = ((refl, refl, refl), omega arith)
 instr_worded (instr.BConcat b c) = ((refl, refl, refl), omega arith)
+instr_worded (instr.BSave o b) = ((refl, refl, refl), omega arith)
 instr_worded (instr.Pass b l) = ((refl, refl, refl), omega arith)
 instr_worded (instr.JEmpty b l) = ((refl, refl, refl), omega arith)
+instr_worded (instr.Put x l) = ((refl, refl, refl), omega arith)
+instr_worded instr.ClearBuf = ((refl, refl, refl), omega arith)
+instr_worded (instr.Set m x) = ((refl, refl, refl), omega arith)
+instr_worded (instr.Add m x) = ((refl, refl, refl), omega arith)
+instr_worded (instr.Sub m x) = ((refl, refl, refl), omega arith)
+instr_worded (instr.JLt m x l) = ((refl, refl, refl), omega arith)
+instr_worded (instr.JEq m x l) = ((refl, refl, refl), omega arith)
 instr_worded (instr.JNull v l) = ((refl, refl, refl), omega arith)
 instr_worded (instr.JSent l) = ((refl, refl, refl), omega arith)
 instr_worded (instr.Jump l) = ((refl, refl, refl), omega arith)
@@ -185,7 +239,7 @@ pub record IsPrintable (p : Program) (i : Instr) : Type 0 where
   pub low : IfSome (target i) (λ t. t < 1024)
   pub text : QuotedShown (text_of_instr i) (quoted_text p.texts (text_of_instr i))
 
-step_plain : (p : Program) (i : Instr) → length p.pools ≤ 8 → length p.brigades ≤ 8 → IsPrintable p i → IsPlain (code_text (step i (aim (target i)) (quoted_text p.texts (text_of_instr i)))) × (length (code_text (step i (aim (target i)) (quoted_text p.texts (text_of_instr i)))) ≤ 40 + text_room (text_of_instr i))
+step_plain : (p : Program) (i : Instr) → length p.pools ≤ 8 → length p.brigades ≤ 8 → IsPrintable p i → IsPlain (code_text (step i (aim (target i)) (quoted_text p.texts (text_of_instr i)))) × (length (code_text (step i (aim (target i)) (quoted_text p.texts (text_of_instr i)))) ≤ 44 + text_room (text_of_instr i))
 step_plain p i few small h =
     let name = aim (target i) in
     let s = quoted_text p.texts (text_of_instr i) in
@@ -201,7 +255,7 @@ label_plain n low = ((refl, refl, name_printable n low), omega (arith, name_shor
 abbrev pub IsFew : ℕ → List (List ℕ) → Type 0
 IsFew n ls = ArePlain ls × (length (joined ls) ≤ n)
 
-printed_line : (b : Bool) (l : List ℕ) (i : Instr) (y s : List ℕ) (ls : List CodeLine) (k m : ℕ) → IsPlain (58 ∷ l) × (length (58 ∷ l) ≤ 40) → IsPlain (code_text (step i y s)) × (length (code_text (step i y s)) ≤ 40 + k) → IsFew m (map code_text ls) → IsFew (82 + k + m) (map code_text (cond b (label l ∷ []) [] ++ step i y s ∷ ls))
+printed_line : (b : Bool) (l : List ℕ) (i : Instr) (y s : List ℕ) (ls : List CodeLine) (k m : ℕ) → IsPlain (58 ∷ l) × (length (58 ∷ l) ≤ 40) → IsPlain (code_text (step i y s)) × (length (code_text (step i y s)) ≤ 44 + k) → IsFew m (map code_text ls) → IsFew (86 + k + m) (map code_text (cond b (label l ∷ []) [] ++ step i y s ∷ ls))
 printed_line true l i y s ls k m a c h =
     let rest = joined (map code_text ls) in
     let one = length-append (code_text (step i y s)) (10 ∷ rest) in
@@ -217,37 +271,37 @@ more_room None ts = omega arith
 more_room (Some t) ts = omega arith
 
 -- the lines of code
-pub code_plain : (p : Program) (n : ℕ) (is : List Instr) → length p.pools ≤ 8 → length p.brigades ≤ 8 → n + length is ≤ 1024 → All (IsPrintable p) is → IsFew (82 * length is + 1022 * length (filter_map text_of_instr is)) (map code_text (printed_code p.texts p.code n is))
+pub code_plain : (p : Program) (n : ℕ) (is : List Instr) → length p.pools ≤ 8 → length p.brigades ≤ 8 → n + length is ≤ 1024 → All (IsPrintable p) is → IsFew (86 * length is + 1022 * length (filter_map text_of_instr is)) (map code_text (printed_code p.texts p.code n is))
 code_plain p n [] few small low h = (tt, omega arith)
 code_plain p n (i ∷ is) few small low h =
     let k = text_room (text_of_instr i) in
     let more = filter_map text_of_instr is in
     let rest = code_plain p (n + 1) is few small (omega arith) (all_tail (IsPrintable p) i is h) in
-    let x = printed_line (is_target p.code n) (target_name n) i (aim (target i)) (quoted_text p.texts (text_of_instr i)) (printed_code p.texts p.code (n + 1) is) k (82 * length is + 1022 * length more) (label_plain n (omega arith)) (step_plain p i few small (all_head (IsPrintable p) i is h)) rest in
+    let x = printed_line (is_target p.code n) (target_name n) i (aim (target i)) (quoted_text p.texts (text_of_instr i)) (printed_code p.texts p.code (n + 1) is) k (86 * length is + 1022 * length more) (label_plain n (omega arith)) (step_plain p i few small (all_head (IsPrintable p) i is h)) rest in
     (x.0, omega (arith, x.1, more_room (text_of_instr i) more))
 
 -- the declarations
-declared_line : (w : List ℕ) (os ls : List (List ℕ)) (n : ℕ) → IsPlain w → length w ≤ 10 → length os ≤ 3 → AreShown os → IsFew n ls → IsFew (41 + n) (line_text w os ∷ ls)
+declared_line : (w : List ℕ) (os ls : List (List ℕ)) (n : ℕ) → IsPlain w → length w ≤ 10 → length os ≤ 3 → AreShown os → IsFew n ls → IsFew (45 + n) (line_text w os ∷ ls)
 declared_line w os ls n h low few s r =
     let x = all_short os 0 few s in
     let size = line_short w os 0 low x in
     let one = length-append (line_text w os) (10 ∷ joined ls) in
     ((line_plain w os 0 h x, r.0), omega (arith, one, size, r.1))
 
-pub pools_plain : (k : ℕ) (ps : List PoolRef) → k + length ps ≤ 8 → All (λ q. place_is_declared 8 q ≡ true) ps → IsFew (41 * length ps) (pool_texts k ps)
+pub pools_plain : (k : ℕ) (ps : List PoolRef) → k + length ps ≤ 8 → All (λ q. place_is_declared 8 q ≡ true) ps → IsFew (45 * length ps) (pool_texts k ps)
 pools_plain k [] few h = (tt, omega arith)
 pools_plain k (q ∷ qs) few h =
     let own = own_pool_shown k (omega arith) in
     let place = place_shown 8 q (omega arith) (all_head (λ q. place_is_declared 8 q ≡ true) q qs h) in
     let rest = pools_plain (k + 1) qs (omega arith) (all_tail (λ q. place_is_declared 8 q ≡ true) q qs h) in
-    let x = declared_line (codes "pool") (place_text (pool.Own k) ∷ place_text q ∷ []) (pool_texts (k + 1) qs) (41 * length qs) (refl, refl, refl) (omega arith) (omega arith) (own.0, own.1, (place.0, place.1, tt)) rest in
+    let x = declared_line (codes "pool") (place_text (pool.Own k) ∷ place_text q ∷ []) (pool_texts (k + 1) qs) (45 * length qs) (refl, refl, refl) (omega arith) (omega arith) (own.0, omega (arith, own.1), (place.0, omega (arith, place.1), tt)) rest in
     (x.0, omega (arith, x.1))
 
-pub brigades_plain : (k : ℕ) (ps : List PoolRef) → k + length ps ≤ 8 → All (λ q. place_is_declared 8 q ≡ true) ps → IsFew (41 * length ps) (brigade_texts k ps)
+pub brigades_plain : (k : ℕ) (ps : List PoolRef) → k + length ps ≤ 8 → All (λ q. place_is_declared 8 q ≡ true) ps → IsFew (45 * length ps) (brigade_texts k ps)
 brigades_plain k [] few h = (tt, omega arith)
 brigades_plain k (q ∷ qs) few h =
     let own = own_shown k (omega arith) in
     let place = place_shown 8 q (omega arith) (all_head (λ q. place_is_declared 8 q ≡ true) q qs h) in
     let rest = brigades_plain (k + 1) qs (omega arith) (all_tail (λ q. place_is_declared 8 q ≡ true) q qs h) in
-    let x = declared_line (codes "brigade") (own_text k ∷ place_text q ∷ []) (brigade_texts (k + 1) qs) (41 * length qs) (refl, refl, refl) (omega arith) (omega arith) (own.0, own.1, (place.0, place.1, tt)) rest in
+    let x = declared_line (codes "brigade") (own_text k ∷ place_text q ∷ []) (brigade_texts (k + 1) qs) (45 * length qs) (refl, refl, refl) (omega arith) (omega arith) (own.0, omega (arith, own.1), (place.0, omega (arith, place.1), tt)) rest in
     (x.0, omega (arith, x.1))

@@ -90,6 +90,8 @@ stands_break kind.Source bytes o rest h b = rw h.1 refl
 stands_break kind.Ending bytes o rest h b = rw h.1 refl
 stands_break kind.Label bytes o rest h b = rw h.1 refl
 stands_break kind.Variable bytes o rest h b = rw h.1 refl
+stands_break kind.Number bytes o rest h b = rw h.1 refl
+stands_break kind.Value bytes o rest h b = rw h.1 refl
 stands_break kind.Text bytes o rest h b = rw h.2 refl
 
 pub written_break : (k : Kinds) (bytes : List ℕ) (o : Operands) → AreWritten k bytes o → IsBreak bytes

@@ -26,25 +26,27 @@ pub label_shown : (code : List Instr) (n : ℕ) → is_target code n ≡ true �
 label_shown code n h = rw h refl
 
 -- a line whose operands are these
-pub line_shown : (word : List ℕ) (os : List (List ℕ)) (a b : Shown) → shown_text a ++ shown_text b ≡ operands_text os → shown_line word a b ≡ line_text word os ++ 10 ∷ []
-line_shown word os a b h =
-    ap (λ z. word ++ z) (sym (append_assoc (shown_text a) (shown_text b) (10 ∷ [])) ∙ ap (λ z. z ++ 10 ∷ []) h) ∙ sym (append_assoc word (operands_text os) (10 ∷ []))
+pub line_shown : (word : List ℕ) (os : List (List ℕ)) (a b c : Shown) → shown_text a ++ (shown_text b ++ shown_text c) ≡ operands_text os → shown_line word a b c ≡ line_text word os ++ 10 ∷ []
+line_shown word os a b c h =
+    let behind : shown_text b ++ (shown_text c ++ 10 ∷ []) ≡ (shown_text b ++ shown_text c) ++ 10 ∷ [] = sym (append_assoc (shown_text b) (shown_text c) (10 ∷ [])) in
+    let all : shown_text a ++ ((shown_text b ++ shown_text c) ++ 10 ∷ []) ≡ operands_text os ++ 10 ∷ [] = sym (append_assoc (shown_text a) (shown_text b ++ shown_text c) (10 ∷ [])) ∙ ap (λ z. z ++ 10 ∷ []) h in
+    ap (λ z. word ++ (shown_text a ++ z)) behind ∙ ap (λ z. word ++ z) all ∙ sym (append_assoc word (operands_text os) (10 ∷ []))
 
 -- the operands of an instruction but its text
-abbrev Operands : Instr → Shown → Shown → Type 0
-Operands i a b = (s : List ℕ) → shown_text a ++ (shown_text b ++ text_shown s (text_of_instr i)) ≡ operands_text (operand_texts i (aim (target i)) s)
+abbrev Operands : Instr → Shown → Shown → Shown → Type 0
+Operands i a b c = (s : List ℕ) → shown_text a ++ (shown_text b ++ (shown_text c ++ text_shown s (text_of_instr i))) ≡ operands_text (operand_texts i (aim (target i)) s)
 
-pub step_shown : (ts : List (List ℕ)) (i : Instr) (a b : Shown) → text_of_instr i ≡ None → Operands i a b → shown_line (instr_word i) a b ≡ shown_step ts i
-step_shown ts i a b e h =
-    let bare : shown_text a ++ (shown_text b ++ []) ≡ operands_text (operand_texts i (aim (target i)) []) = rw e at h [] in
-    let same : shown_text a ++ shown_text b ≡ operands_text (operand_texts i (aim (target i)) []) = ap (λ z. shown_text a ++ z) (sym (append-nil (shown_text b))) ∙ bare in
-    rw e (line_shown (instr_word i) (operand_texts i (aim (target i)) []) a b same)
+pub step_shown : (ts : List (List ℕ)) (i : Instr) (a b c : Shown) → text_of_instr i ≡ None → Operands i a b c → shown_line (instr_word i) a b c ≡ shown_step ts i
+step_shown ts i a b c e h =
+    let bare : shown_text a ++ (shown_text b ++ (shown_text c ++ [])) ≡ operands_text (operand_texts i (aim (target i)) []) = rw e at h [] in
+    let same : shown_text a ++ (shown_text b ++ shown_text c) ≡ operands_text (operand_texts i (aim (target i)) []) = ap (λ z. shown_text a ++ (shown_text b ++ z)) (sym (append-nil (shown_text c))) ∙ bare in
+    rw e (line_shown (instr_word i) (operand_texts i (aim (target i)) []) a b c same)
 
-pub text_step_shown : (ts : List (List ℕ)) (i : Instr) (a b : Shown) (t : ℕ) → text_of_instr i ≡ Some t → b ≡ shown.Nothing → Operands i a b → text_line (instr_word i) a (slice_index_or ts t []) ≡ shown_step ts i
-text_step_shown ts i a b t e n h =
+pub text_step_shown : (ts : List (List ℕ)) (i : Instr) (a b c : Shown) (t : ℕ) → text_of_instr i ≡ Some t → (b ≡ shown.Nothing) × (c ≡ shown.Nothing) → Operands i a b c → text_line (instr_word i) a (slice_index_or ts t []) ≡ shown_step ts i
+text_step_shown ts i a b c t e n h =
     let s = spelling (slice_index_or ts t []) in
     let word = instr_word i in
-    let same : shown_text a ++ 32 ∷ s ≡ operands_text (operand_texts i (aim (target i)) s) = rw (e, n) at h s in
+    let same : shown_text a ++ 32 ∷ s ≡ operands_text (operand_texts i (aim (target i)) s) = rw (e, n.0, n.1) at h s in
     rw e (ap (λ z. word ++ z) (sym (append_assoc (shown_text a) (32 ∷ s) (10 ∷ []))) ∙ sym (append_assoc word (shown_text a ++ 32 ∷ s) (10 ∷ [])) ∙ ap (λ z. (word ++ z) ++ 10 ∷ []) same)
 
 -- a declared pool has one digit
@@ -61,8 +63,16 @@ text_there p (instr.Unlabel q t) h = let x = and_parts (place_is_declared (lengt
 text_there p (instr.BCreate o) h = tt
 text_there p (instr.BClean b) h = tt
 text_there p (instr.BConcat b c) h = tt
+text_there p (instr.BSave o b) h = tt
 text_there p (instr.Pass b l) h = tt
 text_there p (instr.JEmpty b l) h = tt
+text_there p (instr.Put x l) h = tt
+text_there p instr.ClearBuf h = tt
+text_there p (instr.Set m x) h = tt
+text_there p (instr.Add m x) h = tt
+text_there p (instr.Sub m x) h = tt
+text_there p (instr.JLt m x l) h = tt
+text_there p (instr.JEq m x l) h = tt
 text_there p (instr.JNull v l) h = tt
 text_there p (instr.JSent l) h = tt
 text_there p (instr.Jump l) h = tt
@@ -94,27 +104,25 @@ code_none ts code n to high = let k : to - n ≡ 0 = omega arith in rw k refl
 
 -- declarations
 
-pool_line : (k : ℕ) (q : PoolRef) → shown_line (codes "pool") (shown.Place (pool.Own k)) (shown.Place q) ≡ line_text (codes "pool") (place_text (pool.Own k) ∷ place_text q ∷ []) ++ 10 ∷ []
-pool_line k q =
-    line_shown (codes "pool") (place_text (pool.Own k) ∷ place_text q ∷ []) (shown.Place (pool.Own k)) (shown.Place q) (ap (λ z. 32 ∷ (place_text (pool.Own k) ++ 32 ∷ z)) (sym (append-nil (place_text q))))
+pool_line : (k : ℕ) (q : PoolRef) → shown_line (codes "pool") (shown.Place (pool.Own k)) (shown.Place q) shown.Nothing ≡ line_text (codes "pool") (place_text (pool.Own k) ∷ place_text q ∷ []) ++ 10 ∷ []
+pool_line k q = line_shown (codes "pool") (place_text (pool.Own k) ∷ place_text q ∷ []) (shown.Place (pool.Own k)) (shown.Place q) shown.Nothing refl
 
-brigade_line : (k : ℕ) (q : PoolRef) → shown_line (codes "brigade") (shown.Own k) (shown.Place q) ≡ line_text (codes "brigade") (own_text k ∷ place_text q ∷ []) ++ 10 ∷ []
-brigade_line k q =
-    line_shown (codes "brigade") (own_text k ∷ place_text q ∷ []) (shown.Own k) (shown.Place q) (ap (λ z. 32 ∷ (own_text k ++ 32 ∷ z)) (sym (append-nil (place_text q))))
+brigade_line : (k : ℕ) (q : PoolRef) → shown_line (codes "brigade") (shown.Own k) (shown.Place q) shown.Nothing ≡ line_text (codes "brigade") (own_text k ∷ place_text q ∷ []) ++ 10 ∷ []
+brigade_line k q = line_shown (codes "brigade") (own_text k ∷ place_text q ∷ []) (shown.Own k) (shown.Place q) shown.Nothing refl
 
-pub pools_more : (ps : List PoolRef) (k : ℕ) (d : PoolRef) → k < length ps → joined (pool_texts k (drop k ps)) ≡ shown_line (codes "pool") (shown.Place (pool.Own k)) (shown.Place (get_or ps k d)) ++ joined (pool_texts (k + 1) (drop (k + 1) ps))
+pub pools_more : (ps : List PoolRef) (k : ℕ) (d : PoolRef) → k < length ps → joined (pool_texts k (drop k ps)) ≡ shown_line (codes "pool") (shown.Place (pool.Own k)) (shown.Place (get_or ps k d)) shown.Nothing ++ joined (pool_texts (k + 1) (drop (k + 1) ps))
 pools_more ps k d low =
     let q = get_or ps k d in
     let rest = joined (pool_texts (k + 1) (drop (k + 1) ps)) in
     ap (λ xs. joined (pool_texts k xs)) (drop_here ps k d low) ∙ line_joined (line_text (codes "pool") (place_text (pool.Own k) ∷ place_text q ∷ [])) rest ∙ ap (λ z. z ++ rest) (sym (pool_line k q))
 
-pub brigades_more : (ps : List PoolRef) (k : ℕ) (d : PoolRef) → k < length ps → joined (brigade_texts k (drop k ps)) ≡ shown_line (codes "brigade") (shown.Own k) (shown.Place (get_or ps k d)) ++ joined (brigade_texts (k + 1) (drop (k + 1) ps))
+pub brigades_more : (ps : List PoolRef) (k : ℕ) (d : PoolRef) → k < length ps → joined (brigade_texts k (drop k ps)) ≡ shown_line (codes "brigade") (shown.Own k) (shown.Place (get_or ps k d)) shown.Nothing ++ joined (brigade_texts (k + 1) (drop (k + 1) ps))
 brigades_more ps k d low =
     let q = get_or ps k d in
     let rest = joined (brigade_texts (k + 1) (drop (k + 1) ps)) in
     ap (λ xs. joined (brigade_texts k xs)) (drop_here ps k d low) ∙ line_joined (line_text (codes "brigade") (own_text k ∷ place_text q ∷ [])) rest ∙ ap (λ z. z ++ rest) (sym (brigade_line k q))
 
-handler_joined : (word : List ℕ) (ls rest : List (List ℕ)) → joined (word ∷ (ls ++ rest)) ≡ shown_line word shown.Nothing shown.Nothing ++ joined ls ++ joined rest
+handler_joined : (word : List ℕ) (ls rest : List (List ℕ)) → joined (word ∷ (ls ++ rest)) ≡ shown_line word shown.Nothing shown.Nothing shown.Nothing ++ joined ls ++ joined rest
 handler_joined word ls rest =
     ap (λ z. word ++ 10 ∷ z) (joined-append ls rest) ∙ line_joined word (joined ls ++ joined rest) ∙ sym (append_assoc (word ++ 10 ∷ []) (joined ls) (joined rest))
 
@@ -131,7 +139,7 @@ printed_parts m init main to i j k =
     let second = codes "init" ∷ (b ++ third) in
     let first = codes "open" ∷ (a ++ second) in
     let head : List ℕ → List ℕ = λ z. codes "module 1" ++ 10 ∷ z in
-    let line : List ℕ → List ℕ = λ word. shown_line word shown.Nothing shown.Nothing in
+    let line : List ℕ → List ℕ = λ word. shown_line word shown.Nothing shown.Nothing shown.Nothing in
     let declared : joined (ps ++ (bs ++ first)) ≡ joined ps ++ joined bs ++ joined first = joined-append ps (bs ++ first) ∙ ap (λ z. joined ps ++ z) (joined-append bs first) ∙ sym (append_assoc (joined ps) (joined bs) (joined first)) in
     let handled : joined first ≡ (line (codes "open") ++ joined a) ++ ((line (codes "init") ++ joined b) ++ ((line (codes "main") ++ joined c) ++ codes "end\n")) = handler_joined (codes "open") a second ∙ ap (λ z. line (codes "open") ++ joined a ++ z) (handler_joined (codes "init") b third ∙ ap (λ z. line (codes "init") ++ joined b ++ z) (handler_joined (codes "main") c (codes "end" ∷ []))) in
     rw (i, j, k) (ap head declared ∙ ap (λ z. head (joined ps ++ joined bs) ++ z) handled)

@@ -196,11 +196,11 @@ pub brigade_variable : (b : ℕ) → b < 8 → IsOperand kind.Variable (operand.
 unfolding operand_in
 brigade_variable b h = record { some = refl; bare = refl; read = rw (numbered_again 98 b h) refl; plain = digit_plain 98 b refl }
 
-number_again : (i : ℕ) → i < 8 → IsOperand kind.Number (number_operand i) (number_text i)
+pub number_again : (i : ℕ) → i < 8 → IsOperand kind.Number (number_operand i) (number_text i)
 unfolding operand_in
 number_again i h = record { some = refl; bare = refl; read = rw (numbered_again 110 i h) refl; plain = digit_plain 110 i refl }
 
-value_again : (v : Value) → is_value v ≡ true → IsOperand kind.Value (operand.Value v) (value_text v)
+pub value_again : (v : Value) → is_value v ≡ true → IsOperand kind.Value (operand.Value v) (value_text v)
 unfolding operand_in
 value_again (value.Number i) h = record { some = refl; bare = refl; read = rw (numbered_again 110 i (ltb-true i 8 h)) refl; plain = digit_plain 110 i refl }
 value_again (value.Constant k) h =

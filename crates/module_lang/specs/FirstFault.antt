@@ -8,13 +8,16 @@ use Rattle.module_lang.specs.Codes.{code_number}
 use Rattle.module_lang.specs.Handlers.{label_of, op_goes_on}
 use Rattle.module_lang.specs.Lines.{are_declared, has_equal_brigades, has_long_text, is_declared, is_due, is_handler, is_next, misplaced, place_is_declared}
 use Rattle.module_lang.specs.Names.{is_name, name_of}
-use Rattle.module_lang.specs.Texts.{Spells, StandsIn, brigade_text, brigade_texts, is_skipped, own_text, place_text, pool_texts, statements, status_text}
+use Rattle.module_lang.specs.Numbers.{is_value}
+use Rattle.module_lang.specs.Spelling.{number_operand}
+use Rattle.module_lang.specs.Texts.{Spells, StandsIn, brigade_text, brigade_texts, is_skipped, number_text, own_text, place_text, pool_texts, statements, status_text, value_text}
 use Rattle.module_lang.specs.Words.{op_kinds, word_at, word_kinds, word_text}
 use Rattle.module_lang.specs.declared.draft.Part.{Part}
 use Rattle.module_lang.specs.declared.draft.Part.TheVariants as part
 use Rattle.module_lang.specs.declared.instr.PoolRef.{PoolRef}
 use Rattle.module_lang.specs.declared.instr.PoolRef.TheVariants as pool
 use Rattle.module_lang.specs.declared.instr.Status.{Status}
+use Rattle.module_lang.specs.declared.instr.Value.{Value}
 use Rattle.module_lang.specs.declared.operand.Operand.{Operand}
 use Rattle.module_lang.specs.declared.operand.Operand.TheVariants as operand
 use Rattle.module_lang.specs.declared.operand.Operands.{Operands}
@@ -113,6 +116,8 @@ IsSpelled kind.Text o t = ⊥
 IsSpelled kind.Variable o t =
     ((i : ℕ) × (o ≡ operand.Place (pool.Own i)) × (t ≡ place_text (pool.Own i)) × (i < 8))
     ⊎ ((b : ℕ) × (o ≡ operand.Brigade b) × (t ≡ own_text b) × (b < 8))
+IsSpelled kind.Number o t = (i : ℕ) × (o ≡ number_operand i) × (t ≡ number_text i) × (i < 8)
+IsSpelled kind.Value o t = (v : Value) × (o ≡ operand.Value v) × (t ≡ value_text v) × (is_value v ≡ true)
 
 -- these bytes are a space, an operand of a kind, and the rest
 abbrev pub Stands : Kind → List ℕ → Operand → List ℕ → Type 0

@@ -1,7 +1,8 @@
 //! Modules as texts.
 
-ghost use Rattle.std.specs.Prelude.{◌≡◌, ℕ, ◌<◌, ◌≤◌, ◌∷◌, ◌++◌, [], Some, true, All, List, length, map, slice_get, is_some};
+ghost use Rattle.std.specs.Prelude.{◌≡◌, ℕ, ◌<◌, ◌≤◌, ◌∷◌, ◌++◌, [], Some, true, All, List, decimal, length, map, slice_get, is_some};
 ghost use Rattle.module_lang.specs.Lines.{place_is_declared};
+ghost use Rattle.module_lang.specs.Numbers.{is_value};
 ghost use Rattle.module_lang.specs.Printing.{aim, is_number, label_line, is_target, printed, target_name};
 ghost use Rattle.module_lang.specs.Program.{IsModule, Program, fits, target, text_of_instr};
 ghost use Rattle.module_lang.specs.Shown.{shown_text, shown_variable, text_shown, text_line, IsShort, shown_line, shown_step, shown_code, shown_declarations, shown_handler};
@@ -9,7 +10,7 @@ ghost use Rattle.module_lang.specs.Spelling.{op_of};
 ghost use Rattle.module_lang.specs.Texts.{brigade_texts, code_text, joined, operand_texts, operands_text, pool_texts, IsTextOf};
 ghost use Rattle.module_lang.specs.Writes.{Wrote};
 
-use crate::instr::{Instr, PoolRef, Status, VarRef};
+use crate::instr::{Instr, PoolRef, Status, Value, VarRef};
 use crate::module::Module;
 use crate::quoted::print_text;
 use crate::word::Op;
@@ -33,6 +34,8 @@ pub enum Shown {
     Target(u16),
     /// How a call ends.
     Ending(Status),
+    /// A number variable or a constant.
+    Value(Value),
 }
 
 fn op_of(instr: Instr) -> Op
@@ -47,8 +50,16 @@ fn op_of(instr: Instr) -> Op
         Instr::BCreate(_) => Op::BCreate,
         Instr::BClean(_) => Op::BClean,
         Instr::BConcat(_, _) => Op::BConcat,
+        Instr::BSave(_, _) => Op::BSave,
         Instr::Pass(_, _) => Op::Pass,
         Instr::JEmpty(_, _) => Op::JEmpty,
+        Instr::Put(_, _) => Op::Put,
+        Instr::ClearBuf => Op::ClearBuf,
+        Instr::Set(_, _) => Op::Set,
+        Instr::Add(_, _) => Op::Add,
+        Instr::Sub(_, _) => Op::Sub,
+        Instr::JLt(_, _, _) => Op::JLt,
+        Instr::JEq(_, _, _) => Op::JEq,
         Instr::JNull(_, _) => Op::JNull,
         Instr::JSent(_) => Op::JSent,
         Instr::Jump(_) => Op::Jump,
@@ -67,23 +78,37 @@ fn variable(variable: VarRef) -> Shown
 
 /// The operands of an instruction but its text.
 #[tactic(auto, using(crate::proofs::ShownLaws::place_short))]
-fn operands(instr: Instr) -> (Shown, Shown)
-    ensures text { (s : List ℕ) → shown_text result.0 ++ (shown_text result.1 ++ text_shown s (text_of_instr instr)) ≡ operands_text (operand_texts instr (aim (target instr)) s) }
-    ensures lone { is_some (text_of_instr instr) ≡ true → result.1 ≡ Shown.Nothing }
-    ensures short { (p : Program) → length p.pools ≤ 8 → length p.brigades ≤ 8 → fits p instr ≡ true → IsShort result.0 × IsShort result.1 }
+fn operands(instr: Instr) -> (Shown, Shown, Shown)
+    ensures text { (s : List ℕ) → shown_text result.0 ++ (shown_text result.1 ++ (shown_text result.2 ++ text_shown s (text_of_instr instr))) ≡ operands_text (operand_texts instr (aim (target instr)) s) }
+    ensures lone { is_some (text_of_instr instr) ≡ true → (result.1 ≡ Shown.Nothing) × (result.2 ≡ Shown.Nothing) }
+    ensures short { (p : Program) → length p.pools ≤ 8 → length p.brigades ≤ 8 → fits p instr ≡ true → IsShort result.0 × IsShort result.1 × IsShort result.2 }
 {
+    let none = Shown::Nothing;
     match instr {
         Instr::PCreate(q) | Instr::PClear(q) | Instr::PDestroy(q) => {
-            (Shown::Place(PoolRef::Own(q)), Shown::Nothing)
+            (Shown::Place(PoolRef::Own(q)), none, none)
         }
-        Instr::Label(place, _) | Instr::Unlabel(place, _) => (Shown::Place(place), Shown::Nothing),
-        Instr::JNull(v, l) => (variable(v), Shown::Target(l)),
-        Instr::BCreate(o) => (Shown::Own(o), Shown::Nothing),
-        Instr::BClean(b) => (Shown::Brigade(b), Shown::Nothing),
-        Instr::BConcat(a, b) => (Shown::Brigade(a), Shown::Brigade(b)),
-        Instr::Pass(b, l) | Instr::JEmpty(b, l) => (Shown::Brigade(b), Shown::Target(l)),
-        Instr::JSent(l) | Instr::Jump(l) => (Shown::Target(l), Shown::Nothing),
-        Instr::Ret(status) => (Shown::Ending(status), Shown::Nothing),
+        Instr::Label(place, _) | Instr::Unlabel(place, _) => (Shown::Place(place), none, none),
+        Instr::BCreate(o) => (Shown::Own(o), none, none),
+        Instr::BClean(b) => (Shown::Brigade(b), none, none),
+        Instr::BConcat(a, b) => (Shown::Brigade(a), Shown::Brigade(b), none),
+        Instr::BSave(o, b) => (Shown::Own(o), Shown::Brigade(b), none),
+        Instr::Pass(b, l) | Instr::JEmpty(b, l) => (Shown::Brigade(b), Shown::Target(l), none),
+        Instr::Put(x, l) => (Shown::Value(x), Shown::Target(l), none),
+        Instr::ClearBuf => (none, none, none),
+        Instr::Set(n, x) | Instr::Add(n, x) | Instr::Sub(n, x) => {
+            (Shown::Value(Value::Number(n)), Shown::Value(x), none)
+        }
+        Instr::JLt(n, x, l) | Instr::JEq(n, x, l) => {
+            (
+                Shown::Value(Value::Number(n)),
+                Shown::Value(x),
+                Shown::Target(l),
+            )
+        }
+        Instr::JNull(v, l) => (variable(v), Shown::Target(l), none),
+        Instr::JSent(l) | Instr::Jump(l) => (Shown::Target(l), none, none),
+        Instr::Ret(status) => (Shown::Ending(status), none, none),
     }
 }
 
@@ -93,6 +118,7 @@ fn target(instr: Instr) -> Option<u16>
 {
     match instr {
         Instr::Pass(_, l) | Instr::JEmpty(_, l) | Instr::JNull(_, l) => Some(l),
+        Instr::Put(_, l) | Instr::JLt(_, _, l) | Instr::JEq(_, _, l) => Some(l),
         Instr::JSent(l) | Instr::Jump(l) => Some(l),
         _ => None,
     }
@@ -178,6 +204,24 @@ fn put_status<W: Write>(out: &mut W, status: Status) -> Result<(), WriteFault>
     }
 }
 
+fn put_constant<W: Write>(out: &mut W, constant: u32) -> Result<(), WriteFault>
+    ensures { Wrote result (W.contents out.old) (W.contents out.new) (32 ∷ decimal constant) }
+{
+    let mut digits = Buffer::new();
+    put_all(out, b" ")?;
+    put_all(out, digits.format(constant).as_bytes())
+}
+
+fn put_value<W: Write>(out: &mut W, value: Value) -> Result<(), WriteFault>
+    requires { is_value value ≡ true }
+    ensures { Wrote result (W.contents out.old) (W.contents out.new) (shown_text (Shown.Value value)) }
+{
+    match value {
+        Value::Number(number) => put_all(out, &[b' ', b'n', b'0' + number]),
+        Value::Constant(constant) => put_constant(out, constant),
+    }
+}
+
 /// An operand, with the space before it.
 fn put_shown<W: Write>(out: &mut W, shown: Shown) -> Result<(), WriteFault>
     requires { IsShort shown }
@@ -190,6 +234,7 @@ fn put_shown<W: Write>(out: &mut W, shown: Shown) -> Result<(), WriteFault>
         Shown::Brigade(brigade) => put_brigade(out, brigade),
         Shown::Target(number) => put_target(out, usize::from(number)),
         Shown::Ending(status) => put_status(out, status),
+        Shown::Value(value) => put_value(out, value),
     }
 }
 
@@ -199,14 +244,17 @@ fn put_line<W: Write>(
     word: &[u8],
     first: Shown,
     second: Shown,
+    third: Shown,
 ) -> Result<(), WriteFault>
     requires first { IsShort first }
     requires second { IsShort second }
-    ensures { Wrote result (W.contents out.old) (W.contents out.new) (shown_line word.now first second) }
+    requires third { IsShort third }
+    ensures { Wrote result (W.contents out.old) (W.contents out.new) (shown_line word.now first second third) }
 {
     put_all(out, word)?;
     put_shown(out, first)?;
     put_shown(out, second)?;
+    put_shown(out, third)?;
     put_all(out, b"\n")
 }
 
@@ -235,10 +283,10 @@ fn put_step<W: Write>(out: &mut W, module: &Module, instr: Instr) -> Result<(), 
     ensures { Wrote result (W.contents out.old) (W.contents out.new) (shown_step «module».now.texts instr) }
 {
     let word = op_of(instr).text();
-    let (first, second) = operands(instr);
+    let (first, second, third) = operands(instr);
     match text_number(instr) {
         Some(text) => put_text_line(out, word, first, module.text(text)),
-        None => put_line(out, word, first, second),
+        None => put_line(out, word, first, second, third),
     }
 }
 
@@ -287,7 +335,13 @@ fn put_pools<W: Write>(out: &mut W, pools: &[PoolRef]) -> Result<(), WriteFault>
 {
     for (i, parent) in pools.iter().enumerate() {
         let pool = PoolRef::Own(i as u8);
-        put_line(out, b"pool", Shown::Place(pool), Shown::Place(*parent))?;
+        put_line(
+            out,
+            b"pool",
+            Shown::Place(pool),
+            Shown::Place(*parent),
+            Shown::Nothing,
+        )?;
     }
     Ok(())
 }
@@ -298,7 +352,13 @@ fn put_brigades<W: Write>(out: &mut W, brigades: &[PoolRef]) -> Result<(), Write
     ensures { Wrote result (W.contents out.old) (W.contents out.new) (joined (brigade_texts 0 brigades.now)) }
 {
     for (i, pool) in brigades.iter().enumerate() {
-        put_line(out, b"brigade", Shown::Own(i as u8), Shown::Place(*pool))?;
+        put_line(
+            out,
+            b"brigade",
+            Shown::Own(i as u8),
+            Shown::Place(*pool),
+            Shown::Nothing,
+        )?;
     }
     Ok(())
 }
@@ -323,7 +383,7 @@ fn put_handler<W: Write>(
     requires { range.end ≤ length «module».now.code }
     ensures { Wrote result (W.contents out.old) (W.contents out.new) (shown_handler word.now «module».now.texts «module».now.code range.start range.end) }
 {
-    put_line(out, word, Shown::Nothing, Shown::Nothing)?;
+    put_line(out, word, Shown::Nothing, Shown::Nothing, Shown::Nothing)?;
     put_code(out, module, range.start, range.end)
 }
 

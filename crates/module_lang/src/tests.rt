@@ -1,6 +1,6 @@
-//! Whole module texts with the instructions of pools.
+//! Whole module texts.
 
-use crate::{AsmRefusal, Instr, Module, PoolRef, VarRef, assemble, print_module};
+use crate::{AsmRefusal, Instr, Module, PoolRef, Value, VarRef, assemble, print_module};
 use std::test::Fail;
 
 const POOLS: &[u8] =
@@ -14,7 +14,47 @@ struct Row {
     fault: Option<(usize, u8)>,
 }
 
-const ROWS: [Row; 15] = [
+const ROWS: [Row; 23] = [
+    Row {
+        name: "bsave of one brigade",
+        text: b"module 1\nbrigade b0 conn\nopen\nbsave b0 b0\nret ok\ninit\nret ok\nmain\nret ok\nend\n",
+        fault: Some((4, 4)),
+    },
+    Row {
+        name: "bsave from in outside main",
+        text: b"module 1\nbrigade b0 conn\nopen\nbsave b0 in\nret ok\ninit\nret ok\nmain\nret ok\nend\n",
+        fault: Some((4, 9)),
+    },
+    Row {
+        name: "a ninth number",
+        text: b"module 1\nopen\nset n8 1\nret ok\ninit\nret ok\nmain\nret ok\nend\n",
+        fault: Some((3, 4)),
+    },
+    Row {
+        name: "a constant past the last",
+        text: b"module 1\nopen\nset n7 4294967295\nadd n7 4294967296\nret ok\ninit\nret ok\nmain\nret ok\nend\n",
+        fault: Some((4, 4)),
+    },
+    Row {
+        name: "a zero in front",
+        text: b"module 1\nopen\nset n7 0\nsub n7 00\nret ok\ninit\nret ok\nmain\nret ok\nend\n",
+        fault: Some((4, 4)),
+    },
+    Row {
+        name: "an operand of clearbuf",
+        text: b"module 1\nopen\nclearbuf n0\nret ok\ninit\nret ok\nmain\nret ok\nend\n",
+        fault: Some((3, 4)),
+    },
+    Row {
+        name: "a lost label of a comparison",
+        text: b"module 1\nopen\njlt n0 n1 l\nret ok\ninit\nret ok\nmain\nret ok\nend\n",
+        fault: Some((3, 8)),
+    },
+    Row {
+        name: "no label",
+        text: b"module 1\nopen\nput 65\nret ok\ninit\nret ok\nmain\nret ok\nend\n",
+        fault: Some((3, 4)),
+    },
     Row {
         name: "no quote",
         text: b"module 1\nopen\nlabel conn x\nret ok\ninit\nret ok\nmain\nret ok\nend\n",
@@ -176,6 +216,26 @@ fn reads_parents(rt: HostRuntime) -> Result<(), Fail> {
     Ok(())
 }
 
+const NUMBERS: &[u8] =
+    b"module 1\nbrigade b0 conn\nopen\nset n0 4294967295\nadd n1 n2\nsub n3 0\n:l\nclearbuf\nput 10 l\njlt n4 n5 l\njeq n6 7 l\nret ok\ninit\nret ok\nmain\nbsave b0 in\nret ok\nend\n";
+
+#[test]
+fn reads_numbers(rt: HostRuntime) -> Result<(), Fail> {
+    let module = assemble(rt.alloc(), NUMBERS).ok().ok_or("no module")?;
+    assert_eq!(rt; module.len(), 11);
+    if 11 <= module.len() {
+        assert!(rt; matches!(module.at(0), Instr::Set(0, Value::Constant(u32::MAX))));
+        assert!(rt; matches!(module.at(1), Instr::Add(1, Value::Number(2))));
+        assert!(rt; matches!(module.at(2), Instr::Sub(3, Value::Constant(0))));
+        assert!(rt; matches!(module.at(3), Instr::ClearBuf));
+        assert!(rt; matches!(module.at(4), Instr::Put(Value::Constant(10), 3)));
+        assert!(rt; matches!(module.at(5), Instr::JLt(4, Value::Number(5), 3)));
+        assert!(rt; matches!(module.at(6), Instr::JEq(6, Value::Constant(7), 3)));
+        assert!(rt; matches!(module.at(9), Instr::BSave(0, 8)));
+    }
+    Ok(())
+}
+
 #[test]
 fn prints_texts(rt: HostRuntime) -> Result<(), Fail> {
     let module = assemble(rt.alloc(), POOLS).ok().ok_or("no module")?;
@@ -183,6 +243,17 @@ fn prints_texts(rt: HostRuntime) -> Result<(), Fail> {
     print_module(&module, &mut out).ok().ok_or("not written")?;
     let want =
         b"module 1\npool p0 conn\npool p1 p0\nbrigade b0 p1\nopen\npcreate p0\nlabel p0 \"a \\\"b\\\"\\x0a\\x00\"\nunlabel conn \"\"\npclear p1\npdestroy p0\njnull p1 i7\njnull b0 i7\n:i7\nret ok\ninit\nlabel req \"q\"\nret ok\nmain\nret ok\nend\n";
+    assert!(rt; out.as_slice() == want.as_slice());
+    Ok(())
+}
+
+#[test]
+fn prints_numbers(rt: HostRuntime) -> Result<(), Fail> {
+    let module = assemble(rt.alloc(), NUMBERS).ok().ok_or("no module")?;
+    let mut out = Vec::new(rt.alloc());
+    print_module(&module, &mut out).ok().ok_or("not written")?;
+    let want =
+        b"module 1\nbrigade b0 conn\nopen\nset n0 4294967295\nadd n1 n2\nsub n3 0\n:i3\nclearbuf\nput 10 i3\njlt n4 n5 i3\njeq n6 7 i3\nret ok\ninit\nret ok\nmain\nbsave b0 in\nret ok\nend\n";
     assert!(rt; out.as_slice() == want.as_slice());
     Ok(())
 }

@@ -8,7 +8,7 @@ pub returns-in_err-put_line : goal.returns-in_err-put_line
 unfolding shown_handler
 returns-in_err-put_line g c =
     let w = g.W.Write.contents in
-    let line = shown_line c.args.word.now shown.Nothing shown.Nothing in
+    let line = shown_line c.args.word.now shown.Nothing shown.Nothing shown.Nothing in
     let code = shown_code c.args.module.now.texts c.args.module.now.code c.args.range.start c.args.range.end in
     let whole = line ++ code in
     leaves_fault (w c.args.out.now) (w c.args.out.now) (w c.put_line.new.out) whole line (code) c.in_err-put_line.field-0.0 c.from_residual.result c.from_residual.ensures.0 (leaves_all (w c.args.out.now) whole) c.in_err-put_line.ensures
@@ -17,7 +17,7 @@ pub returns : goal.returns
 unfolding shown_handler
 returns g c =
     let w = g.W.Write.contents in
-    let line = shown_line c.args.word.now shown.Nothing shown.Nothing in
+    let line = shown_line c.args.word.now shown.Nothing shown.Nothing shown.Nothing in
     let code = shown_code c.args.module.now.texts c.args.module.now.code c.args.range.start c.args.range.end in
     let whole = line ++ code in
     let l1 = leaves_less (w c.args.out.now) (w c.args.out.now) (w c.put_line.new.out) whole line (code) (leaves_all (w c.args.out.now) whole) c.in_ok-put_line.ensures in

@@ -13,7 +13,7 @@ returns-in_err-put_line g c =
     let ps = c.args.pools.now in
     let i = c.loop-i.i in
     let whole = joined (pool_texts 0 ps) in
-    let line = shown_line (codes "pool") (shown.Place (pool.Own i)) (shown.Place (get_or ps i pool.Conn)) in
+    let line = shown_line (codes "pool") (shown.Place (pool.Own i)) (shown.Place (get_or ps i pool.Conn)) shown.Nothing in
     let left = subst (Leaves (w c.args.out.now) (w c.loop-i.out) whole) (pools_more ps i pool.Conn c.loop-i-test.true) c.loop-i.invariant in
     leaves_fault (w c.args.out.now) (w c.loop-i.out) (w c.put_line.new.out) whole line (joined (pool_texts (i + 1) (drop (i + 1) ps))) c.in_err-put_line.field-0.0 c.from_residual.result c.from_residual.ensures.0 left c.in_err-put_line.ensures
 
@@ -23,6 +23,6 @@ loop-i-preserved g c =
     let ps = c.args.pools.now in
     let i = c.loop-i.i in
     let whole = joined (pool_texts 0 ps) in
-    let line = shown_line (codes "pool") (shown.Place (pool.Own i)) (shown.Place (get_or ps i pool.Conn)) in
+    let line = shown_line (codes "pool") (shown.Place (pool.Own i)) (shown.Place (get_or ps i pool.Conn)) shown.Nothing in
     let left = subst (Leaves (w c.args.out.now) (w c.loop-i.out) whole) (pools_more ps i pool.Conn c.loop-i-test.true) c.loop-i.invariant in
     leaves_less (w c.args.out.now) (w c.loop-i.out) (w c.put_line.new.out) whole line (joined (pool_texts (i + 1) (drop (i + 1) ps))) left c.in_ok-put_line.ensures
