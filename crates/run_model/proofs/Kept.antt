@@ -1,5 +1,5 @@
 -- Buckets that are set aside, read, and let go with their files.
-use Rattle.std.proofs.Common.{◌≡◌, ℕ, zero, suc, ◌+◌, ◌-◌, ◌*◌, ◌/◌, ◌<◌, ◌≤◌, Bool, true, false, ◌&&◌, ◌||◌, not, cond, List, [], ◌∷◌, ◌++◌, append-nil, length, take, drop, ◌⊎◌, inl, inr, Option, Some, None, nat_le, min, refl, sym, ◌∙◌, ap, arith}
+use Rattle.std.proofs.Common.{◌≡◌, ℕ, zero, suc, ◌+◌, ◌-◌, ◌*◌, ◌/◌, ◌<◌, ◌≤◌, Bool, true, false, ◌&&◌, ◌||◌, not, cond, List, [], ◌++◌, append-nil, length, take, drop, ◌⊎◌, inl, inr, Option, Some, None, nat_le, min, refl, sym, ◌∙◌, ap, arith}
 use Rattle.std.proofs.Math.Seq.{take-add}
 use Rattle.std.proofs.lemmas.List.{drop-drop, drop-take, length-drop, length-take, take-append-drop, take_all}
 use Rattle.std.proofs.lemmas.Bool.{cases_lt}
@@ -11,16 +11,15 @@ use Rattle.run_model.specs.declared.bucket.Content.TheVariants as content
 use Rattle.run_model.specs.declared.bucket.Home.{Home}
 use Rattle.run_model.specs.declared.bucket.Home.TheVariants as home
 use Rattle.run_model.specs.declared.bucket.Bucket.{Bucket}
-use Rattle.run_model.specs.declared.bucket.Named.{Named}
 use Rattle.run_model.specs.declared.payload.Payload.{Payload}
 use Rattle.run_model.specs.Pools.{Pools, is_under, cleared, destroyed}
-use Rattle.run_model.specs.Buckets.{is_ended, is_dead}
+use Rattle.run_model.specs.Buckets.{is_ended}
 use Rattle.run_model.specs.Cutting.{read_limit, rest_of, wanted, set_aside, read_as}
-use Rattle.run_model.specs.Files.{Files, Taken, is_referred, fails_now, after_read, part_of, read_part, read_done, all_taken, and_then, unless_failed, range_taken, parts_of}
+use Rattle.run_model.specs.Files.{Files, is_referred, fails_now, after_read, part_of, read_part, read_done, all_taken, and_then, unless_failed, range_taken, parts_of}
 use Rattle.run_model.specs.Clearing.{run_down}
 use Rattle.run_model.specs.State.{Run, with_pools}
-use Rattle.run_model.specs.Steps.{is_above, aside_named, files_let_go}
-use Rattle.run_model.specs.Sound.{is_free, is_call, is_pool, is_bytes, is_range, home_fits, content_fits, is_proper}
+use Rattle.run_model.specs.Steps.{is_above, files_let_go}
+use Rattle.run_model.specs.Sound.{is_free, is_pool, is_range, home_fits, content_fits, is_proper}
 use Rattle.run_model.specs.Laws.{MatchHome, KeptAside, AsideLasts, ReadsGiveTheFile, bytes_in, bytes_of_rest, ReadsDropNothing, hands_on, FilesGo, FilesCloseLast}
 
 -- Setting aside.
@@ -32,7 +31,7 @@ free_lasts C P (home.Call n) e = absurd (cc)
 free_lasts C P (home.Pool n) e = absurd (cc)
 free_lasts C P home.Ended e = absurd (cc)
 
-first : (x y : Bool) → (x && y) ≡ true → x ≡ true
+pub first : (x y : Bool) → (x && y) ≡ true → x ≡ true
 first true y h = refl
 first false y h = absurd (cc)
 
@@ -63,7 +62,7 @@ aside_lasts ps target x proper live =
 
 -- Files that close.
 
-files_go : (n : ℕ) (r : Run) (ps : Pools Payload) → FilesGo n r (files_let_go n r (with_pools ps (run_down n r)))
+pub files_go : (n : ℕ) (r : Run) (ps : Pools Payload) → FilesGo n r (files_let_go n r (with_pools ps (run_down n r)))
 unfolding with_pools run_down
 files_go n r ps = record {
   closes = λ file handed left. let both : (hands_on r n file && not (is_referred ps file)) ≡ true = ap (λ (b : Bool). b && not (is_referred ps file)) handed ∙ ap (λ (b : Bool). true && not b) left in

@@ -23,3 +23,6 @@ pub mod Filled
 pub mod Marks
 pub mod Clears
 pub mod Kept
+pub mod References
+pub mod StepFiles
+pub mod FilesRuns

@@ -16,11 +16,11 @@ handed_fault var.Null e = cc
 handed_fault var.Gone e = cc
 handed_fault (var.Live v) e = cc
 
-first_none : (a b : Option FaultKind) → or_else a b ≡ None → a ≡ None
+pub first_none : (a b : Option FaultKind) → or_else a b ≡ None → a ≡ None
 first_none None b e = refl
 first_none (Some k) b e = e
 
-second_none : (a b : Option FaultKind) → or_else a b ≡ None → b ≡ None
+pub second_none : (a b : Option FaultKind) → or_else a b ≡ None → b ≡ None
 second_none None b e = e
 second_none (Some k) b e = absurd (cc)
 

@@ -74,7 +74,7 @@ cleared_pool reached (var.Live v) n e = by_test (is_reached reached v.on) refl e
   by_test false is e = (e, sym (ap (is_reached reached) e) ∙ is)
 
 -- the request's pool does not stand under another pool that is newer than the connection's
-req_apart : (n m : ℕ) (r : Run) → r.shared.conn < n → m ≢ n → r.shared.req ≡ Some m → SoundPools r → is_under r.shared.pools n m ≡ false
+pub req_apart : (n m : ℕ) (r : Run) → r.shared.conn < n → m ≢ n → r.shared.req ≡ Some m → SoundPools r → is_under r.shared.pools n m ≡ false
 unfolding is_under
 req_apart n m r newer ne is s =
     ap (is_in n) (s.req m is).0 ∙ (ap (λ b. b || is_in n (r.shared.pools.path r.shared.conn)) (ne_eqb m n ne) ∙ not_under n r.shared.pools r.shared.conn (formed_older r.shared.pools s.formed) newer)

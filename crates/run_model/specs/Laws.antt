@@ -1,5 +1,5 @@
 -- The laws of the definitions, as statements.
-use Rattle.std.specs.Prelude.{◌≡◌, ◌≢◌, ℕ, ◌+◌, ◌<◌, ◌≤◌, Bool, true, false, ◌==◌, ◌||◌, ◌⊎◌, List, [], ◌∷◌, ◌++◌, map, length, take, drop, replicate, Option, Some, None, Result, Ok, Err, All}
+use Rattle.std.specs.Prelude.{◌≡◌, ◌≢◌, ℕ, ◌+◌, ◌<◌, ◌≤◌, Bool, true, false, ◌==◌, ◌||◌, ◌⊎◌, List, [], ◌∷◌, ◌++◌, map, length, take, drop, replicate, Option, is_some, Some, None, Result, Ok, Err, All}
 use Rattle.module_lang.specs.declared.instr.Instr.{Instr}
 use Rattle.module_lang.specs.declared.instr.Instr.TheVariants as instr
 use Rattle.module_lang.specs.Program.{Program, IsModule, fits}
@@ -25,7 +25,7 @@ use Rattle.run_model.specs.Cutting.{wanted, read_of}
 use Rattle.run_model.specs.State.{Run, Out, fresh_call, items_of}
 use Rattle.run_model.specs.Faults.{WUsable, fault_want, fault, send_fault, or_else}
 use Rattle.run_model.specs.Steps.{Choice, step, step_at_end, aside_named, delivered, lacks_names, names_of, pool_cleared, pool_destroyed}
-use Rattle.run_model.specs.Connection.{Connection, opened, bucket_of, named_from, data_behind_eos, breaks, steps}
+use Rattle.run_model.specs.Connection.{Connection, opened, bucket_of, named_from, data_behind_eos, has_range, breaks, steps}
 use Rattle.run_model.specs.Runs.{Answer, Refused, Step, World, Before, There, Closed, happens, IsDue, step_of, IsRun, GoesOn, EndsRun}
 use Rattle.run_model.specs.Sound.{SoundNames, SoundBuckets, SoundPools, Sound, brigade_pool, is_range, is_proper}
 use Rattle.run_model.specs.declared.bucket.Kind.TheVariants as kind
@@ -378,3 +378,35 @@ pub record FilesGo (n : ℕ) (r new : Run) : Type 0 where
 
 abbrev pub FilesCloseLast : Type 0
 FilesCloseLast = (n : ℕ) (r : Run) → FilesGo n r (pool_cleared n r) × FilesGo n r (pool_destroyed n r)
+
+-- whether the pool p holds a reference to the file
+abbrev pub refers : Pools Payload → ℕ → ℕ → Bool
+refers ps p file = list_any (is_file_ref file) (ps.payloads p)
+
+-- The pool that is the home of a range of a file holds a reference to that file.
+abbrev pub IsHeld : Pools Payload → Named → Type 0
+IsHeld ps x = (file start len p : ℕ) → x.bucket.content ≡ content.Range file start len → x.bucket.home ≡ home.Pool p → refers ps p file ≡ true
+
+-- Files, where these were opened in the request. lasts: a file is open as long as a pool holds a reference to it. brigades,
+-- loose: a FILE bucket whose home is alive has such a reference in that home. request: so have the request's files in its pool.
+pub record SoundFiles (files : List (ℕ × ℕ)) (r : Run) : Type 0 where
+  pub lasts : (p file : ℕ) → refers r.shared.pools p file ≡ true → is_some (r.shared.files.opened file) ≡ true
+  pub brigades : (b : ℕ) → All (IsHeld r.shared.pools) (items_of (r.inst.brigs b))
+  pub loose : All (IsHeld r.shared.pools) r.call.loose
+  pub request : (file end req : ℕ) → has_range files file end ≡ true → r.shared.req ≡ Some req → refers r.shared.pools req file ≡ true
+
+-- A step without a fault keeps all that.
+abbrev pub StepKeepsFiles : Type 0
+StepKeepsFiles = (p : Program) (choice : Choice) (i : Instr) (files : List (ℕ × ℕ)) (r : Run) → MayExecute p r i → Sound r → SoundFiles files r → SoundFiles files (step p choice i r).run
+
+abbrev pub FilesWorld : World → Type 0
+FilesWorld (Before fs) = Unit {0}
+FilesWorld (There c) = SoundFiles c.files c.run
+FilesWorld (Closed pools fs) = Unit {0}
+
+-- Each event keeps it, and so it is true of each world that a run reaches.
+abbrev pub EventKeepsFiles : Type 0
+EventKeepsFiles = (memory : Bool) (budget : ℕ) (p : Program) (e : Event) (w : World) → IsModule p → SoundWorld w → FilesWorld w → FilesWorld (happens memory budget p e w).1
+
+abbrev pub RunKeepsFiles : Type 0
+RunKeepsFiles = (budget : ℕ) (p : Program) (fs : Files) (es : List Event) (answers : List Answer) (w : World) → IsModule p → IsRun budget p (Before fs) es answers w → FilesWorld w

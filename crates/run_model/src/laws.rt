@@ -3,7 +3,7 @@
 ghost use Rattle.run_model.specs.Examples.{PassRuns, PoolRuns, PoolEnds, KindRuns, FaultRuns, BreakRuns, RefusedRuns, NameRuns, HeldFaults, HeldChanges};
 ghost use Rattle.run_model.specs.Laws.{CreatesKeepOthers, KillsTheNewest, KillsNoOther};
 ghost use Rattle.run_model.specs.Laws.{StepKeepsNames, StepKeepsBuckets, StepKeepsPools, StepAtEndKeeps, OpenedIsSound, EventKeepsSound, RunIsSound, RunGoesOn, StepsGoOn, StepsAreARun, EndedStepsAreARun, StepChangesOnly, RefusedChangesNothing, RefusedStepBreaks, FaultBreaks, BrokenStaysBroken, EventKeepsOrder, RunIsOrderly, BroughtEndsOnce, OutputOfCuts, FaultOfCuts, PassedIsNotUsed, CleanedIsUsable, ClearsKeepOthers, ClearsTakeAlong};
-ghost use Rattle.run_model.specs.Laws.{AsideLasts, ReadsGiveTheFile, ReadsDropNothing, FilesCloseLast};
+ghost use Rattle.run_model.specs.Laws.{AsideLasts, ReadsGiveTheFile, ReadsDropNothing, FilesCloseLast, StepKeepsFiles, EventKeepsFiles, RunKeepsFiles};
 
 /// Small runs answer as they are worked out by hand, and so do faults and changes of small states.
 pub fn worked_runs()
@@ -103,4 +103,12 @@ pub fn kept_buckets_last()
     ensures reads { ReadsGiveTheFile }
     ensures rest { ReadsDropNothing }
     ensures files { FilesCloseLast }
+{}
+
+/// In each run a file is open as long as a pool refers to it, and a FILE bucket whose home is alive has such a reference
+/// there.
+pub fn kept_files_stay_open()
+    ensures step { StepKeepsFiles }
+    ensures event { EventKeepsFiles }
+    ensures run { RunKeepsFiles }
 {}
