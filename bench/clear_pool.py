@@ -1,5 +1,6 @@
 #!/usr/bin/env python3
-"""Measures a clear of a pool with 1,000 subpools, alone and beside other pools, up to 1,000,000 of them, in one run.
+"""Measures a clear of a pool with 1,000 subpools beside other pools, up to 1,000,000 of them, and the same clear once these
+others are gone, so that the tree has the same memory; in one run.
 
     python3 bench/clear_pool.py
 
@@ -14,7 +15,7 @@ TOP = os.path.dirname(os.path.dirname(os.path.abspath(__file__)))
 BELOW = ('module_lang', 'run_model', 'pool_tree')
 
 PROGRAM = '''\
-//! The time of a clear of a pool with 1,000 subpools, alone and beside other pools.
+//! The time of a clear of a pool with 1,000 subpools, beside other pools and once these are gone.
 #![tactic(auto)]
 
 use pool_tree::{PoolId, PoolTree};
@@ -40,11 +41,25 @@ fn fill(tree: &mut PoolTree<u64>, parent: PoolId, count: u32) -> Option<()> {
     Some(())
 }
 
-/// How many microseconds the clear takes beside so many other pools.
-fn clear_time(rt: &HostRuntime, others: u32) -> Option<u128> {
+/// A tree in which so many pools stand under one, or stood there.
+fn grown(rt: &HostRuntime, others: u32, stay: bool) -> Option<PoolTree<u64>> {
     let mut tree = PoolTree::new(rt.alloc(), 1).ok()?;
     let root = tree.root();
-    fill(&mut tree, root, others)?;
+    if !tree.is_live(root) {
+        return None;
+    }
+    let holder = tree.create(root).ok()?;
+    fill(&mut tree, holder, others)?;
+    if !stay && tree.is_live(holder) {
+        tree.clear(holder).ok()?;
+    }
+    Some(tree)
+}
+
+/// How many microseconds the clear takes beside so many other pools, or once they are gone.
+fn clear_time(rt: &HostRuntime, others: u32, stay: bool) -> Option<u128> {
+    let mut tree = grown(rt, others, stay)?;
+    let root = tree.root();
     if !tree.is_live(root) {
         return None;
     }
@@ -65,8 +80,9 @@ fn clear_time(rt: &HostRuntime, others: u32) -> Option<u128> {
 fn measure(rt: &HostRuntime) -> Option<()> {
     for _ in 0..ROUNDS {
         for others in OTHERS {
-            let took = clear_time(rt, others)?;
-            println!(rt; "{others} {took}").ok()?;
+            let beside = clear_time(rt, others, true)?;
+            let alone = clear_time(rt, others, false)?;
+            println!(rt; "{others} {beside} {alone}").ok()?;
         }
     }
     Some(())
@@ -107,9 +123,10 @@ def main():
         rounds = [line.split() for line in done.stdout.split('\n') if line.replace(' ', '').isdigit()]
         if done.returncode != 0 or not rounds:
             raise SystemExit('not built or not run:\n' + done.stdout + done.stderr)
-        for others in sorted({int(others) for others, _ in rounds}):
-            took = sorted(int(took) for count, took in rounds if int(count) == others)
-            print('clear of 1,000 subpools beside %d pools: %d us at best, %d in the middle' % (others, took[0], took[len(took) // 2]))
+        for others in sorted({int(row[0]) for row in rounds}):
+            beside, alone = (sorted(int(row[k]) for row in rounds if int(row[0]) == others) for k in (1, 2))
+            print('clear of 1,000 subpools, microseconds at best and in the middle: beside %d pools %d %d, once they are gone %d %d' % (
+                others, beside[0], beside[len(beside) // 2], alone[0], alone[len(alone) // 2]))
 
 
 if __name__ == '__main__':
