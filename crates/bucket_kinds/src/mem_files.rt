@@ -99,6 +99,13 @@ impl MemFiles {
         find(&self.files, name).is_some()
     }
 
+    /// The number that the next file that is opened gets; where it is `u64::MAX`, none is opened any more.
+    pub fn next_number(&self) -> FileNo
+        ensures { result ≡ (files_of self.now).next }
+    {
+        self.next
+    }
+
     /// From now on `reads` reads go on well, the next one fails, and those after it go on well again.
     pub fn fail_at(&mut self, reads: u64)
         ensures files { files_of self.new ≡ failing_in reads (files_of self.old) }
