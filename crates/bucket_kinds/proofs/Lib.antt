@@ -1,2 +1,4 @@
 pub mod InMemoryLemmas
+pub mod MemDeviceLemmas
 pub mod OpenNumbers
+pub mod ReadLemmas

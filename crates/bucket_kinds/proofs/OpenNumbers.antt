@@ -14,27 +14,27 @@ renumbered d f = record d { numbered = f }
 abbrev pub numbered_on : Device → (ℕ → Held) → Device
 numbered_on d f = record d { numbered = f; next = d.next + 1 }
 
-held_choice : {V : Type 0} (held : Option V → Held) (b : Bool) (x y : Option V) → held (cond b x y) ≡ cond b (held x) (held y)
+held_choice : {V X : Type 0} (held : Option V → X) (b : Bool) (x y : Option V) → held (cond b x y) ≡ cond b (held x) (held y)
 held_choice held true x y = refl
 held_choice held false x y = refl
 
 -- What stands under one number is changed.
-pub numbered_after : {V : Type 0} (held : Option V → Held) (old new : BTreeMap ℕ V) (k : ℕ) (w : Option V)
+pub numbered_after : {V X : Type 0} (held : Option V → X) (old new : BTreeMap ℕ V) (k : ℕ) (w : Option V)
     → ((n : ℕ) → get nat_cmp new n ≡ cond (n == k) w (get nat_cmp old n))
     → (λ n. held (get nat_cmp new n)) ≡ upd (λ n. held (get nat_cmp old n)) k (held w)
 unfolding upd
 numbered_after held old new k w h =
     fun_ext (λ n. ap held (h n) ∙ held_choice held (n == k) w (get nat_cmp old n))
 
-nothing_held : {V : Type 0} (held : Option V → Held) (o : Option V) → (IsSome o → ⊥) → held None ≡ Missing → held o ≡ Missing
-nothing_held held None h none = none
-nothing_held held (Some b) h none = absurd (h refl)
+nothing_held : {V X : Type 0} (held : Option V → X) (o : Option V) → (IsSome o → ⊥) → held o ≡ held None
+nothing_held held None h = refl
+nothing_held held (Some b) h = absurd (h refl)
 
 -- The next number is free.
-pub next_is_free : {V : Type 0} (held : Option V → Held) (opened : BTreeMap ℕ V) (next : ℕ)
-    → ((n : ℕ) → IsSome (get nat_cmp opened n) → n < next) → held None ≡ Missing → held (get nat_cmp opened next) ≡ Missing
-next_is_free held opened next given none =
-    nothing_held held (get nat_cmp opened next) (λ some. omega (arith, given next some)) none
+pub next_is_free : {V X : Type 0} (held : Option V → X) (opened : BTreeMap ℕ V) (next : ℕ)
+    → ((n : ℕ) → IsSome (get nat_cmp opened n) → n < next) → held (get nat_cmp opened next) ≡ held None
+next_is_free held opened next given =
+    nothing_held held (get nat_cmp opened next) (λ some. omega (arith, given next some))
 
 there : (h : Held) (len : ℕ) → MayHave len h → is_there h ≡ true
 there Missing len has = absurd has

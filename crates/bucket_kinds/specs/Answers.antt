@@ -1,10 +1,8 @@
 -- What a device of files answers, and what it is afterwards.
 use Rattle.std.specs.Prelude.{ℕ, ◌≡◌, ◌<◌, ◌≤◌, true, List, ◌++◌, length, take, drop, Result, Ok, Err}
-use Rattle.bucket_kinds.specs.Device.{Held, Missing, Untold, Holds, Device, last_number, is_there, failed, opened, added}
+use Rattle.bucket_kinds.specs.Device.{Held, Missing, Untold, Holds, Device, last_number, is_there, failed, opened}
 use Rattle.bucket_kinds.specs.declared.refusal.FileFault.{FileFault}
 use Rattle.bucket_kinds.specs.declared.refusal.FileFault.TheVariants as fault
-use Rattle.bucket_kinds.specs.declared.refusal.AddRefusal.{AddRefusal}
-use Rattle.bucket_kinds.specs.declared.refusal.AddRefusal.TheVariants as refusal
 
 -- whether the file may be missing
 abbrev pub MayMiss : Held → Type 0
@@ -46,9 +44,3 @@ IsFilled (Holds bytes) at old n new =
 abbrev pub IsReading : Device → ℕ → ℕ → List ℕ → Result ℕ FileFault → List ℕ → Device → Type 0
 IsReading d file at old (Ok n) new e = IsFilled (d.numbered file) at old n new × (e ≡ d)
 IsReading d file at old (Err f) new e = (f ≡ fault.Failed) × (e ≡ failed d)
-
--- A file of a name that is not taken is added.
-abbrev pub IsAdding : Device → List ℕ → List ℕ → Result (Unit {0}) AddRefusal → Device → Type 0
-IsAdding d name bytes (Ok x) e = (d.named name ≡ Missing) × (e ≡ added name bytes d)
-IsAdding d name bytes (Err refusal.Taken) e = (is_there (d.named name) ≡ true) × (e ≡ d)
-IsAdding d name bytes (Err refusal.NoMemory) e = (d.named name ≡ Missing) × (e ≡ d)

@@ -1,6 +1,5 @@
 -- What a device of files is: which names have a file, which numbers are open, and how often it failed.
 use Rattle.std.specs.Prelude.{ℕ, ◌+◌, Bool, true, false, ◌==◌, if◌then◌else◌, List}
-use Rattle.std.specs.Str.{bytes_eq}
 use Rattle.run_model.specs.Indexed.{upd}
 
 -- what stands under a name or a number: no file, a file of which nothing is told, or a file of these bytes
@@ -15,10 +14,6 @@ pub record Device : Type 0 where
   pub numbered : ℕ → Held
   pub next : ℕ
   pub failures : ℕ
-
--- no file, and none that was opened
-abbrev pub no_files : Device
-no_files = record { named = λ name. Missing; numbered = λ n. Missing; next = 1; failures = 0 }
 
 abbrev pub last_number : ℕ
 last_number = 18446744073709551615
@@ -42,7 +37,3 @@ opened name d = record d { numbered = upd d.numbered d.next (d.named name); next
 
 abbrev pub closed : ℕ → Device → Device
 closed file d = record d { numbered = upd d.numbered file Missing }
-
--- There is a file of this name and these bytes.
-abbrev pub added : List ℕ → List ℕ → Device → Device
-added name bytes d = record d { named = λ q. if bytes_eq q name then Holds bytes else d.named q }

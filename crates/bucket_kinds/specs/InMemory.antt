@@ -4,23 +4,22 @@ use Rattle.std.specs.declared.alloc.Global.{Global}
 use Rattle.std.specs.BTreeMap.{BTreeMap, get, get_by}
 use Rattle.std.specs.Ordering.{nat_cmp}
 use Rattle.std.specs.Cmp.Lexicographic.{slice_cmp}
-use Rattle.bucket_kinds.specs.Device.{Held, Missing, Holds}
 
 abbrev pub Bytes : Type 0
 Bytes = Vec ℕ Global
 
-abbrev pub held_as : Option Bytes → Held
-held_as None = Missing
-held_as (Some bytes) = Holds bytes.items
+abbrev pub text_of : Option Bytes → Option (List ℕ)
+text_of None = None
+text_of (Some bytes) = Some bytes.items
 
 -- the file of a name
-abbrev pub under : BTreeMap Bytes Bytes → List ℕ → Held
-under files name = held_as (get_by (λ k. slice_cmp nat_cmp name k.items) files)
+abbrev pub under : BTreeMap Bytes Bytes → List ℕ → Option (List ℕ)
+under files name = text_of (get_by (λ k. slice_cmp nat_cmp name k.items) files)
 
-abbrev pub under_one : BTreeMap Bytes Bytes → Option Bytes → Held
-under_one files None = Missing
+abbrev pub under_one : BTreeMap Bytes Bytes → Option Bytes → Option (List ℕ)
+under_one files None = None
 under_one files (Some name) = under files name.items
 
 -- the open file of a number
-abbrev pub at_number : BTreeMap Bytes Bytes → BTreeMap ℕ Bytes → ℕ → Held
+abbrev pub at_number : BTreeMap Bytes Bytes → BTreeMap ℕ Bytes → ℕ → Option (List ℕ)
 at_number files opened n = under_one files (get nat_cmp opened n)

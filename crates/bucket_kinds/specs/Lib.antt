@@ -1,9 +1,11 @@
 pub use Rattle.run_model.specs.Indexed
 pub use Rattle.run_model.specs.Buckets
 pub use Rattle.run_model.specs.Cutting
+pub use Rattle.run_model.specs.Files
 pub mod Device
 pub mod Answers
 pub mod Reading
 pub mod InMemory
 pub mod MemDevice
+pub mod MemAnswers
 pub mod DiskDevice

@@ -68,14 +68,14 @@ fn parts(alloc: Global, content: &Content, n: u64) -> Result<(Content, Content),
 /// before a length is looked at. A FILE bucket is split by its range, without a read and without memory. A
 /// refused bucket is as it was.
 pub fn split_bucket(alloc: Global, bucket: &mut Bucket, n: u64) -> Result<Bucket, SplitRefusal>
-    requires { IsBucket bucket.old }
+    requires { EndsInFile bucket.old.content }
     ensures ok { IfOk result (λ rest. (bucket.new, rest) ≡ split_at n bucket.old) }
     ensures metadata { (result ≡ Err SplitRefusal.Metadata) ↔ (is_data_kind bucket.old.kind ≡ false) }
     ensures too_long { (result ≡ Err SplitRefusal.TooLong) ↔ ((is_data_kind bucket.old.kind ≡ true) × (length_of bucket.old.content < n)) }
     ensures no_memory { result ≡ Err SplitRefusal.NoMemory → form_of bucket.old.content ≡ Memory }
     ensures err { OnErr result (bucket.new ≡ bucket.old) }
-    ensures fits { IsBucket bucket.new }
-    ensures rest_fits { IfOk result IsBucket }
+    ensures fits { IsBucket bucket.old → IsBucket bucket.new }
+    ensures rest_fits { IsBucket bucket.old → IfOk result IsBucket }
 {
     if is_metadata(bucket.kind) {
         return Err(SplitRefusal::Metadata);
@@ -94,10 +94,9 @@ pub fn split_bucket(alloc: Global, bucket: &mut Bucket, n: u64) -> Result<Bucket
 
 /// A bucket of the same kind, content and home.
 pub fn copy_bucket(alloc: Global, bucket: &Bucket) -> Result<Bucket, AllocError>
-    requires { IsBucket bucket.now }
     ensures ok { IfOk result (λ copy. copy ≡ bucket.now) }
     ensures err { OnErr result (form_of bucket.now.content ≡ Memory) }
-    ensures fits { IfOk result IsBucket }
+    ensures fits { IsBucket bucket.now → IfOk result IsBucket }
 {
     let content = match &bucket.content {
         Content::Bytes(bytes) => Content::Bytes(bytes_copy(alloc, bytes.as_slice())?),
@@ -118,9 +117,8 @@ pub fn copy_bucket(alloc: Global, bucket: &Bucket) -> Result<Bucket, AllocError>
 /// Sets a bucket aside into the pool `target`: TRANSIENT becomes HEAP with the same bytes, FILE gets `target` as its
 /// home unless its home is an ancestor of it, and every other bucket is left. It takes no memory.
 pub fn aside_bucket(bucket: &mut Bucket, target: u64, is_ancestor: bool)
-    requires { IsBucket bucket.old }
     ensures new { bucket.new ≡ set_aside target is_ancestor bucket.old }
-    ensures fits { IsBucket bucket.new }
+    ensures fits { IsBucket bucket.old → IsBucket bucket.new }
 {
     match bucket.kind {
         Kind::Transient => {

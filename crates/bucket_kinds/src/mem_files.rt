@@ -1,33 +1,36 @@
 //! Files in memory.
 
-ghost use Rattle.std.specs.Prelude.{◌≡◌, ◌<◌, ◌==◌, if◌then◌else◌, ℕ, List, true, Some, None, IsSome, MatchOption, OnOk, OnErr};
+ghost use Rattle.std.specs.Prelude.{◌≡◌, ◌<◌, ◌==◌, if◌then◌else◌, ℕ, List, length, true, Some, None, IsSome, is_some, MatchOption, OnOk, OnErr, IsErr, ◌↔◌};
 ghost use Rattle.std.specs.Str.{bytes_eq};
 ghost use Rattle.std.specs.Ordering.{nat_cmp};
 ghost use Rattle.std.specs.BTreeMap.{get};
-ghost use Rattle.bucket_kinds.specs.Device.{Missing, Holds, is_there};
+ghost use Rattle.bucket_kinds.specs.Device.{Holds};
+ghost use Rattle.bucket_kinds.specs.Answers.{IsFilled};
 ghost use Rattle.bucket_kinds.specs.InMemory.{Bytes, under, at_number};
 
 use crate::files::{FileNo, Files};
 use crate::numbers::{drop_number, put_number};
-use crate::refusal::{AddRefusal, FileFault};
+use crate::refusal::{AddRefusal, FileFault, ReadFault};
 use std::alloc::{AllocError, Global};
 use std::collections::BTreeMap;
 
-/// Files in memory: a map from name to bytes. It never fails.
+/// Files in memory: a map from name to bytes. A read fails only where it was told to.
 #[derive(Drop)]
 pub struct MemFiles {
     alloc: Global,
     files: BTreeMap<Vec<u8>, Vec<u8>>,
     opened: BTreeMap<u64, Vec<u8>>,
     next: u64,
+    fails_in: Option<u64>,
+    failures: u64,
 
     // An open file is there, and its number was given.
-    ghost there: { (n : ℕ) (name : Bytes) → get nat_cmp opened n ≡ Some name → is_there (under files name.items) ≡ true },
+    ghost there: { (n : ℕ) (name : Bytes) → get nat_cmp opened n ≡ Some name → is_some (under files name.items) ≡ true },
     ghost given: { (n : ℕ) → IsSome (get nat_cmp opened n) → n < next },
 }
 
 fn find<'a>(files: &'a BTreeMap<Vec<u8>, Vec<u8>>, name: &[u8]) -> Option<&'a Vec<u8>>
-    ensures { MatchOption result (under files.now name.now ≡ Missing) (λ bytes. under files.now name.now ≡ Holds bytes.now.items) }
+    ensures { MatchOption result (under files.now name.now ≡ None) (λ bytes. under files.now name.now ≡ Some bytes.now.items) }
 {
     files.get(name)
 }
@@ -38,35 +41,50 @@ fn put(
     name: Vec<u8>,
     bytes: Vec<u8>,
 ) -> Result<(), AllocError>
-    ensures ok { OnOk result ((q : List ℕ) → under files.new q ≡ (if bytes_eq q name.items then Holds bytes.items else under files.old q)) }
+    ensures ok { OnOk result ((q : List ℕ) → under files.new q ≡ (if bytes_eq q name.items then Some bytes.items else under files.old q)) }
     ensures err { OnErr result (files.new.entries ≡ files.old.entries) }
 {
     files.insert(name, bytes)?;
     Ok(())
 }
 
+// Fills the buffer from a place of a text on, as far as the text reaches, and gives how many bytes that are.
+fn copy_from(text: &[u8], at: u64, buffer: &mut [u8]) -> usize
+    ensures { IsFilled (Holds text.now) at buffer.old result buffer.new }
+{
+    let start = at.min(text.len() as u64) as usize;
+    let count = buffer.len().min(text.len() - start);
+    buffer[..count].copy_from_slice(&text[start..start + count]);
+    count
+}
+
+#[tactic(auto, unfolding(crate::specs::MemDevice::files_of, crate::specs::MemDevice::failures_of))]
 impl MemFiles {
-    ghost use Rattle.bucket_kinds.specs.Device.{no_files};
-    ghost use Rattle.bucket_kinds.specs.Answers.{IsAdding};
-    ghost use Rattle.bucket_kinds.specs.MemDevice.{mem_device};
+    ghost use Rattle.run_model.specs.Files.{no_files, fails_now, read_part, read_done};
+    ghost use Rattle.bucket_kinds.specs.MemDevice.{files_of, failures_of};
+    ghost use Rattle.bucket_kinds.specs.MemAnswers.{IsAdding, IsFileOpening, file_closed, failing_in, failures_after};
 
     /// No files. It takes no memory.
     pub fn new(alloc: Global) -> Self
-        ensures { mem_device result ≡ no_files }
+        ensures files { files_of result ≡ no_files }
+        ensures failures { failures_of result ≡ 0 }
     {
         MemFiles {
             alloc,
             files: BTreeMap::new(alloc),
             opened: BTreeMap::new(alloc),
             next: 1,
+            fails_in: None,
+            failures: 0,
         }
     }
 
     /// Adds a file. `Taken` is told where there is a file of that name, and `NoMemory` only where there is none.
     pub fn add(&mut self, name: &[u8], bytes: Vec<u8>) -> Result<(), AddRefusal>
-        ensures { IsAdding (mem_device self.old) name.now bytes.items result (mem_device self.new) }
+        ensures files { IsAdding (files_of self.old) name.now bytes.items result (files_of self.new) }
+        ensures failures { failures_of self.new ≡ failures_of self.old }
     {
-        if find(&self.files, name).is_some() {
+        if self.has(name) {
             return Err(AddRefusal::Taken);
         }
         let name = name.to_vec(self.alloc)?;
@@ -74,22 +92,34 @@ impl MemFiles {
         Ok(())
     }
 
-    // The bytes of an open file.
-    fn text(&self, file: FileNo) -> Option<&Vec<u8>>
-        ensures { MatchOption result ((mem_device self.now).numbered file ≡ Missing)
-            (λ bytes. (mem_device self.now).numbered file ≡ Holds bytes.now.items) }
+    /// Whether there is a file of that name.
+    pub fn has(&self, name: &[u8]) -> bool
+        ensures { result ≡ is_some ((files_of self.now).named name.now) }
     {
-        let name = self.opened.get(&file)?;
-        find(&self.files, name.as_slice())
+        find(&self.files, name).is_some()
     }
-}
 
-impl Files for MemFiles {
-    ghost use Rattle.bucket_kinds.specs.MemDevice.{mem_device};
+    /// The number that the next file that is opened gets; where it is `u64::MAX`, none is opened any more.
+    pub fn next_number(&self) -> FileNo
+        ensures { result ≡ (files_of self.now).next }
+    {
+        self.next
+    }
 
-    ghost device = { mem_device };
+    /// From now on `reads` reads go on well, the next one fails, and those after it go on well again.
+    pub fn fail_at(&mut self, reads: u64)
+        ensures files { files_of self.new ≡ failing_in reads (files_of self.old) }
+        ensures failures { failures_of self.new ≡ failures_of self.old }
+    {
+        self.fails_in = Some(reads);
+    }
 
-    fn open_file(&mut self, name: &[u8]) -> Result<(FileNo, u64), FileFault> {
+    /// Opens the file of a name, and gives its new number and its length in bytes. `NotThere` is told of a name
+    /// without a file, then `NamesSpent` where the number would be `u64::MAX`. Refused, nothing is changed.
+    pub fn open(&mut self, name: &[u8]) -> Result<(FileNo, u64), FileFault>
+        ensures files { IsFileOpening (files_of self.old) name.now result (files_of self.new) }
+        ensures failures { failures_of self.new ≡ failures_of self.old }
+    {
         let Some(bytes) = find(&self.files, name) else {
             return Err(FileFault::NotThere);
         };
@@ -104,21 +134,106 @@ impl Files for MemFiles {
         Ok((number, len))
     }
 
-    fn read_at(&mut self, file: FileNo, at: u64, buffer: &mut [u8]) -> Result<usize, FileFault> {
-        let Some(bytes) = self.text(file) else {
-            unreachable!()
-        };
-        let start = at.min(bytes.len() as u64) as usize;
-        let count = buffer.len().min(bytes.len() - start);
-        buffer[..count].copy_from_slice(&bytes[start..start + count]);
-        Ok(count)
+    // The bytes of an open file.
+    fn text(&self, file: FileNo) -> Option<&Vec<u8>>
+        ensures { MatchOption result ((files_of self.now).opened file ≡ None)
+            (λ bytes. (files_of self.now).opened file ≡ Some bytes.now.items) }
+    {
+        let name = self.opened.get(&file)?;
+        find(&self.files, name.as_slice())
     }
 
-    fn close_file(&mut self, file: FileNo) {
+    // Counts a read, and tells whether it fails.
+    #[tactic(auto, using(crate::proofs::ReadLemmas::after_well, crate::proofs::ReadLemmas::well_now), unfolding(crate::specs::MemDevice::files_of, crate::specs::MemDevice::failures_of))]
+    fn read_fails(&mut self) -> bool
+        ensures result { result ≡ fails_now (files_of self.old).fails_in }
+        ensures files { files_of self.new ≡ read_done (files_of self.old) }
+        ensures failures { failures_of self.new ≡ failures_after (files_of self.old) (failures_of self.old) }
+    {
+        match self.fails_in {
+            None => false,
+            Some(0) => {
+                self.fails_in = None;
+                self.failures = self.failures.saturating_add(1);
+                true
+            }
+            Some(reads) => {
+                self.fails_in = Some(reads - 1);
+                false
+            }
+        }
+    }
+
+    /// Fills the whole buffer from a place of an open file on. `ReadFault` comes where the read fails, the file is not
+    /// open, or it ends before the buffer is full; then nothing is said of what stands in the buffer. It takes no
+    /// memory.
+    pub fn read_part(&mut self, file: FileNo, at: u64, buffer: &mut [u8]) -> Result<(), ReadFault>
+        ensures ok { OnOk result (read_part file at (length buffer.old) (files_of self.old) ≡ Some buffer.new) }
+        ensures err { OnErr result (read_part file at (length buffer.old) (files_of self.old) ≡ None) }
+        ensures files { files_of self.new ≡ read_done (files_of self.old) }
+        ensures failures { failures_of self.new ≡ failures_after (files_of self.old) (failures_of self.old) }
+    {
+        if self.read_fails() {
+            return Err(ReadFault);
+        }
+        let Some(text) = self.text(file) else {
+            return Err(ReadFault);
+        };
+        if copy_from(text, at, buffer) < buffer.len() {
+            return Err(ReadFault);
+        }
+        Ok(())
+    }
+
+    /// Closes a file. Where no file of that number is open, nothing is changed. It takes no memory.
+    pub fn close(&mut self, file: FileNo)
+        ensures files { files_of self.new ≡ file_closed file (files_of self.old) }
+        ensures failures { failures_of self.new ≡ failures_of self.old }
+    {
         drop_number(&mut self.opened, file);
     }
+}
 
+impl Files for MemFiles {
+    ghost use Rattle.run_model.specs.Files.{fails_now, read_done};
+    ghost use Rattle.bucket_kinds.specs.Device.{is_there, closed};
+    ghost use Rattle.bucket_kinds.specs.Answers.{IsOpening, IsReading};
+    ghost use Rattle.bucket_kinds.specs.MemDevice.{files_of, mem_device};
+    ghost use Rattle.bucket_kinds.specs.MemAnswers.{IsFileOpening, file_closed};
+
+    ghost device = { mem_device };
+
+    fn open_file(&mut self, name: &[u8]) -> Result<(FileNo, u64), FileFault>
+        ensures device { IsOpening (mem_device self.old) name.now result (mem_device self.new) }
+        ensures files { IsFileOpening (files_of self.old) name.now result (files_of self.new) }
+    {
+        self.open(name)
+    }
+
+    fn read_at(&mut self, file: FileNo, at: u64, buffer: &mut [u8]) -> Result<usize, FileFault>
+        requires { is_there ((mem_device self.old).numbered file) ≡ true }
+        ensures device { IsReading (mem_device self.old) file at buffer.old result buffer.new (mem_device self.new) }
+        ensures files { files_of self.new ≡ read_done (files_of self.old) }
+        ensures fails { IsErr result ↔ (fails_now (files_of self.old).fails_in ≡ true) }
+    {
+        if self.read_fails() {
+            return Err(FileFault::Failed);
+        }
+        let Some(text) = self.text(file) else {
+            unreachable!()
+        };
+        Ok(copy_from(text, at, buffer))
+    }
+
+    fn close_file(&mut self, file: FileNo)
+        ensures device { mem_device self.new ≡ closed file (mem_device self.old) }
+        ensures files { files_of self.new ≡ file_closed file (files_of self.old) }
+    {
+        self.close(file);
+    }
+
+    #[tactic(auto, unfolding(crate::specs::MemDevice::failures_of))]
     fn failures(&self) -> u64 {
-        0
+        self.failures
     }
 }

@@ -1,7 +1,7 @@
 //! Reading one bucket.
 
 ghost use Rattle.std.specs.Prelude.{◌≡◌, ◌≤◌, ◌<◌, ◌⊎◌, ℕ, List, Ok, None, true, length, IfOk, OnOk, OnErr, IfSome};
-ghost use Rattle.run_model.specs.Cutting.{IsBucket, wanted, read_of};
+ghost use Rattle.run_model.specs.Cutting.{IsBucket, EndsInFile, wanted, read_of};
 ghost use Rattle.bucket_kinds.specs.Device.{failed, is_there};
 ghost use Rattle.bucket_kinds.specs.Reading.{MayGive, MayEnd, IsOpenFor, GivesFor, EndsWithin};
 
@@ -55,7 +55,7 @@ pub fn read_bucket<F: Files>(
     bucket: &mut Bucket,
     files: &mut F,
 ) -> Result<Option<Bucket>, ReadRefusal>
-    requires fits { IsBucket bucket.old }
+    requires ends { EndsInFile bucket.old.content }
     requires open { IsOpenFor (F.device files.old) bucket.old.content }
     ensures ok { IfOk result (λ rest. (bytes : List ℕ) × GivesFor (F.device files.old) bucket.old.content bytes
         × ((bucket.new, rest) ≡ read_of bytes bucket.old)) }
@@ -67,8 +67,8 @@ pub fn read_bucket<F: Files>(
         ⊎ ((F.device files.new ≡ F.device files.old) × EndsWithin (F.device files.old) bucket.old.content) }
     ensures open_files { (F.device files.new).numbered ≡ (F.device files.old).numbered }
     ensures err { OnErr result (bucket.new ≡ bucket.old) }
-    ensures new_fits { IsBucket bucket.new }
-    ensures rest_fits { IfOk result (λ rest. IfSome rest IsBucket) }
+    ensures new_fits { IsBucket bucket.old → IsBucket bucket.new }
+    ensures rest_fits { IsBucket bucket.old → IfOk result (λ rest. IfSome rest IsBucket) }
 {
     let Content::Range { file, start, len } = &bucket.content else {
         return Ok(None);

@@ -41,6 +41,10 @@ pub enum FileFault {
     NoMemory,
 }
 
+/// A buffer was not filled from a file: the device failed, the file is not open, or it ends too soon.
+#[derive(Clone, Copy)]
+pub struct ReadFault;
+
 /// Why a file is not added.
 #[derive(Clone, Copy)]
 pub enum AddRefusal {

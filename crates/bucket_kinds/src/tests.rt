@@ -224,6 +224,28 @@ fn reads_from_a_disk(rt: HostRuntime) -> Result<(), Fail> {
 }
 
 #[test]
+fn fails_the_read_that_was_told(rt: HostRuntime) -> Result<(), Fail> {
+    let mut files = MemFiles::new(rt.alloc());
+    assert!(rt; add(rt.alloc(), &mut files, b"short", 3)?);
+    assert!(rt; files.has(b"short"));
+    assert!(rt; !files.has(b"no"));
+    let (file, len) = files.open(b"short").ok().ok_or("open")?;
+    assert_eq!(rt; len, 3);
+    let mut buffer = [0; 2];
+    files.fail_at(1);
+    for (at, well) in [(0, true), (1, false), (1, true), (2, false)] {
+        let read = files.read_part(file, at, &mut buffer);
+        assert_eq!(rt; read.is_ok(), well, "at {at}");
+    }
+    assert_eq!(rt; buffer.as_slice(), b"xx".as_slice());
+    assert_eq!(rt; failures(&files), 1);
+    files.close(file);
+    files.close(file);
+    assert!(rt; files.read_part(file, 0, &mut buffer).is_err());
+    Ok(())
+}
+
+#[test]
 fn tells_that_a_file_was_cut(rt: HostRuntime) -> Result<(), Fail> {
     let path = own_path(&rt, "cut")?;
     fs::write(&rt, path.as_path(), b"abcdefghij")?;

@@ -1,6 +1,6 @@
 //! A list that grows at its end.
 
-ghost use Rattle.std.specs.Prelude.{◌≡◌, ◌<◌, ◌==◌, [], ◌∷◌, ◌++◌, length, slice_index_or, slice_set, OnOk, OnErr};
+ghost use Rattle.std.specs.Prelude.{◌≡◌, ◌<◌, ◌==◌, [], ◌∷◌, ◌++◌, length, take, replicate, slice_index_or, slice_set, OnOk, OnErr};
 
 use std::alloc::{AllocError, Global};
 use std::marker::Model;
@@ -124,5 +124,26 @@ impl<T> Seq<T> {
         ensures { self.new ≡ [] }
     {
         self.items.clear();
+    }
+    /// Keeps the first `len` items and drops the others.
+    pub fn truncate(&mut self, len: usize)
+    where
+        T: Drop,
+        ensures { self.new ≡ take len self.old }
+    {
+        self.items.truncate(len);
+    }
+}
+
+impl Seq<u8> {
+    /// Adds zeros at the end. Without memory nothing is changed.
+    pub fn add_zeros(&mut self, count: usize) -> Result<(), AllocError>
+        ensures ok { OnOk result (self.new ≡ self.old ++ replicate count 0) }
+        ensures err { OnErr result (self.new ≡ self.old) }
+    {
+        let Some(len) = self.len().checked_add(count) else {
+            return Err(AllocError);
+        };
+        self.items.resize(len, 0)
     }
 }

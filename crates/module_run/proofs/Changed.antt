@@ -13,6 +13,8 @@ use Rattle.run_model.specs.Payloads.{labels_in}
 use Rattle.run_model.specs.Pools.{Pools, created, is_under}
 use Rattle.run_model.specs.RunOrder.{run_order}
 use Rattle.run_model.specs.Clearing.{cleared_var, run_down}
+use Rattle.run_model.specs.Files.{Files, let_go}
+use Rattle.run_model.specs.Steps.{files_let_go}
 use Rattle.run_model.specs.State.{Run, with_pools, set_pool}
 use Rattle.module_run.specs.Seen.{labels_handed}
 use Rattle.module_run.specs.Mapped.{mapped}
@@ -42,24 +44,27 @@ pub labels_more : (runs : List (Vec (ℕ × Payload))) (ran : Vec (ℕ × Payloa
 labels_more [] ran = append-nil (labels_in ran.items)
 labels_more (first ∷ runs) ran = ap (λ (xs : List (List ℕ)). labels_in first.items ++ xs) (labels_more runs ran) ∙ sym (append_assoc (labels_in first.items) (labels_handed runs) (labels_in ran.items))
 
--- a run with other pools and labels
-abbrev pub with_ran : Pools Payload → List (List ℕ) → Run → Run
-with_ran pools labels r = record r { shared = record r.shared { pools = pools; labels = labels } }
+-- a run with other pools, labels and files
+abbrev pub with_ran : Pools Payload → List (List ℕ) → Files → Run → Run
+with_ran pools labels files r = record r { shared = record r.shared { pools = pools; labels = labels; files = files } }
 
--- the brigades were cleared, the pools changed, and labels ran
-pub ran_down : (r mid : Run) (p : ℕ) (after pools : Pools Payload) (labels : List (List ℕ)) → r.call.loose ≡ []
+-- the brigades were cleared, the pools changed, labels ran, and files closed
+pub ran_down : (r mid : Run) (p : ℕ) (after pools : Pools Payload) (labels : List (List ℕ)) (files : Files) → r.call.loose ≡ []
     → mid ≡ mapped (cleared_var (is_under r.shared.pools p)) r → pools ≡ after → labels ≡ r.shared.labels ++ labels_in (run_order r.shared.pools p)
-    → with_ran pools labels mid ≡ with_pools after (run_down p r)
+    → files ≡ let_go (run_order r.shared.pools p) after r.shared.files
+    → with_ran pools labels files mid ≡ files_let_go p r (with_pools after (run_down p r))
 unfolding mapped with_pools run_down
-ran_down r mid p after pools labels none changed became ran =
+ran_down r mid p after pools labels files none changed became ran closed =
     let reached : ℕ → Bool = is_under r.shared.pools p in
     let clear : List Named → List Named = map (cleared_bucket reached) in
     let kept : r.call.loose ≡ clear r.call.loose = none ∙ sym (ap clear none) in
     let base : Run = mapped (cleared_var reached) r in
-    ap (with_ran pools labels) changed
-    ∙ (ap (λ (ps : Pools Payload). with_ran ps labels base) became
-    ∙ (ap (λ (ls : List (List ℕ)). with_ran after ls base) ran
-    ∙ ap (λ (loose : List Named). record (with_ran after (r.shared.labels ++ labels_in (run_order r.shared.pools p)) base) { call = record r.call { loose = loose } }) kept))
+    let left : Files = let_go (run_order r.shared.pools p) after r.shared.files in
+    ap (with_ran pools labels files) changed
+    ∙ (ap (λ (ps : Pools Payload). with_ran ps labels files base) became
+    ∙ (ap (λ (ls : List (List ℕ)). with_ran after ls files base) ran
+    ∙ (ap (λ (fs : Files). with_ran after (r.shared.labels ++ labels_in (run_order r.shared.pools p)) fs base) closed
+    ∙ ap (λ (loose : List Named). record (with_ran after (r.shared.labels ++ labels_in (run_order r.shared.pools p)) left base) { call = record r.call { loose = loose } }) kept)))
 
 -- a run with other pool variables and pools
 abbrev pub with_made : (ℕ → PoolVar) → Pools Payload → Run → Run

@@ -65,7 +65,7 @@ late_piece_is late (x ∷ xs) =
     let along = late_piece_is late xs in
     ap (λ t. cond (is_eos_piece x) t (cond (late && is_data_piece x) true (late_piece late xs))) behind
     ∙ (ap (λ t. cond (is_eos_piece x) (data_behind_eos xs || (true && list_any is_data_piece xs)) (cond (late && is_data_piece x) true t)) along
-    ∙ one_more (is_eos_piece x) (is_data_piece x) late (data_behind_eos xs) (list_any is_data_piece xs) (eos_is_no_data (bucket_of x).kind))
+    ∙ one_more (is_eos_piece x) (is_data_piece x) late (data_behind_eos xs) (list_any is_data_piece xs) (eos_is_no_data (bucket_of 0 0 x).kind))
 
 or_false : (b : Bool) → (b || false) ≡ b
 or_false true = refl

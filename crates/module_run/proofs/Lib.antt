@@ -1,5 +1,4 @@
 pub mod LateData
-pub mod Below
 pub mod Refilled
 pub mod Writes
 pub mod Mapping
@@ -9,3 +8,7 @@ pub mod Changed
 pub mod Named
 pub mod Killed
 pub mod Running
+pub mod LetGo
+pub mod Opened
+pub mod Filling
+pub mod Ranges

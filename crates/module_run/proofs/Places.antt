@@ -1,5 +1,5 @@
 -- Where a step leads, there is an instruction.
-use Rattle.std.proofs.Common.{◌≡◌, ℕ, ◌+◌, ◌<◌, Bool, true, false, ◌||◌, not, length, Option, Some, None, refl, sym, ap, ◌∙◌, subst, Result, Ok, Err, cond, unwrap_or, slice_get, arith}
+use Rattle.std.proofs.Common.{◌≡◌, ℕ, ◌+◌, ◌<◌, Bool, true, false, ◌||◌, not, length, nat_lt, ◌==◌, Option, Some, None, refl, sym, ap, ◌∙◌, subst, Result, Ok, Err, cond, unwrap_or, slice_get, arith}
 use Rattle.std.proofs.lemmas.Option.{get_or_from_slice_get}
 use Rattle.run_model.specs.declared.event.Exit.{Exit}
 use Rattle.run_model.specs.declared.event.Stepped.{Stepped}
@@ -16,10 +16,10 @@ use Rattle.module_lang.specs.Program.{Program, IsPlaced, target}
 use Rattle.run_model.specs.Pools.{is_empty}
 use Rattle.module_lang.specs.declared.instr.PoolRef.TheVariants as pool
 use Rattle.run_model.specs.Clearing.{run_down}
-use Rattle.run_model.specs.State.{Run, set_brig, set_pool, with_pools, pool_named, items_of}
-use Rattle.run_model.proofs.NamedPools.{on_named, made_under_named}
+use Rattle.run_model.specs.State.{Run, set_brig, set_number, set_pool, with_pools, pool_named, items_of}
+use Rattle.run_model.proofs.NamedPools.{on_named, made_under_named, put_keeps}
 use Rattle.run_model.specs.Faults.{fault}
-use Rattle.run_model.specs.Steps.{pool_cleared, pool_destroyed, label_registered, label_killed, text_of, is_null, Went, step_at_end, settled, watched, executed, succeeded, unless_fault, current, jumps_if, lacks_names, is_spent, names_of, pool_names_of, grows}
+use Rattle.run_model.specs.Steps.{saved_into, made_on, do_put, is_full, value_of, Delivered, delivered, with_delivered, do_pass, is_fail, answer_to, pool_cleared, pool_destroyed, label_registered, label_killed, text_of, is_null, Went, step_at_end, settled, watched, executed, succeeded, unless_fault, current, jumps_if, lacks_names, is_spent, names_of, pool_names_of, grows}
 
 -- the instruction that is executed next is the one that stands there
 pub current_is : (p : Program) (pc : ℕ) (i : Instr) → slice_get p.code pc ≡ Some i → current p pc ≡ i
@@ -31,12 +31,20 @@ current_at p pc at i same found = current_is p pc i (subst (λ (n : ℕ). slice_
 
 -- an instruction leaves the place to its settling
 pub pc_kept : (p : Program) (i : Instr) (r : Run) → (step_at_end p i r).run.pc ≡ r.pc
-unfolding set_brig set_pool with_pools run_down
+unfolding set_brig set_number set_pool with_pools run_down
 pc_kept p (instr.PCreate q) r = made_under_named (λ (x : Run). x.pc ≡ r.pc) p q r refl (λ parent e. refl)
 pc_kept p (instr.PClear q) r = on_named (λ (x : Run). x.pc ≡ r.pc) pool_cleared (pool_named r (pool.Own q)) r refl (λ n e. refl)
 pc_kept p (instr.PDestroy q) r = on_named (λ (x : Run). x.pc ≡ r.pc) pool_destroyed (pool_named r (pool.Own q)) r refl (λ n e. refl)
 pc_kept p (instr.Label q t) r = on_named (λ (x : Run). x.pc ≡ r.pc) (label_registered (text_of p t)) (pool_named r q) r refl (λ n e. refl)
 pc_kept p (instr.Unlabel q t) r = on_named (λ (x : Run). x.pc ≡ r.pc) (label_killed (text_of p t)) (pool_named r q) r refl (λ n e. refl)
+pc_kept p (instr.BSave o b) r = on_named (λ (x : Run). x.pc ≡ r.pc) (saved_into o b) (made_on (r.inst.brigs o)) r refl (λ n e. refl)
+pc_kept p (instr.Put x l) r = put_keeps (λ (y : Run). y.pc ≡ r.pc) x r refl (λ buffer. refl)
+pc_kept p instr.ClearBuf r = refl
+pc_kept p (instr.Set n x) r = refl
+pc_kept p (instr.Add n x) r = refl
+pc_kept p (instr.Sub n x) r = refl
+pc_kept p (instr.JLt n x l) r = refl
+pc_kept p (instr.JEq n x l) r = refl
 pc_kept p (instr.JNull v l) r = refl
 pc_kept p (instr.BCreate o) r = refl
 pc_kept p (instr.BClean b) r = refl
@@ -56,17 +64,27 @@ after_jump p l pc i r true same names inside next = subst (λ (o : Option ℕ). 
 after_jump p l pc i r false same names inside next = omega arith
 
 pub stays_inside : (p : Program) (i : Instr) (r : Run) → IsPlaced p r.pc i → r.pc < length p.code → (settled i (step_at_end p i r).exit (step_at_end p i r).run).1.pc < length p.code
-unfolding set_brig set_pool with_pools run_down
+unfolding set_brig set_number set_pool with_pools run_down
 stays_inside p (instr.PCreate q) r placed inside = made_under_named (λ (x : Run). x.pc + 1 < length p.code) p q r (placed.next refl) (λ parent e. placed.next refl)
 stays_inside p (instr.PClear q) r placed inside = on_named (λ (x : Run). x.pc + 1 < length p.code) pool_cleared (pool_named r (pool.Own q)) r (placed.next refl) (λ n e. placed.next refl)
 stays_inside p (instr.PDestroy q) r placed inside = on_named (λ (x : Run). x.pc + 1 < length p.code) pool_destroyed (pool_named r (pool.Own q)) r (placed.next refl) (λ n e. placed.next refl)
 stays_inside p (instr.Label q t) r placed inside = on_named (λ (x : Run). x.pc + 1 < length p.code) (label_registered (text_of p t)) (pool_named r q) r (placed.next refl) (λ n e. placed.next refl)
 stays_inside p (instr.Unlabel q t) r placed inside = on_named (λ (x : Run). x.pc + 1 < length p.code) (label_killed (text_of p t)) (pool_named r q) r (placed.next refl) (λ n e. placed.next refl)
+stays_inside p (instr.BSave o b) r placed inside = on_named (λ (x : Run). x.pc + 1 < length p.code) (saved_into o b) (made_on (r.inst.brigs o)) r (placed.next refl) (λ n e. placed.next refl)
+stays_inside p (instr.Put x l) r placed inside = after_jump p l r.pc (instr.Put x l) (do_put x r) (is_full r x) (pc_kept p (instr.Put x l) r) refl placed.jump (placed.next refl)
+stays_inside p instr.ClearBuf r placed inside = placed.next refl
+stays_inside p (instr.Set n x) r placed inside = placed.next refl
+stays_inside p (instr.Add n x) r placed inside = placed.next refl
+stays_inside p (instr.Sub n x) r placed inside = placed.next refl
+stays_inside p (instr.JLt n x l) r placed inside = after_jump p l r.pc (instr.JLt n x l) r (nat_lt (r.inst.numbers n) (value_of r x)) refl refl placed.jump (placed.next refl)
+stays_inside p (instr.JEq n x l) r placed inside = after_jump p l r.pc (instr.JEq n x l) r (r.inst.numbers n == value_of r x) refl refl placed.jump (placed.next refl)
 stays_inside p (instr.JNull v l) r placed inside = after_jump p l r.pc (instr.JNull v l) r (is_null r v) refl refl placed.jump (placed.next refl)
 stays_inside p (instr.BCreate o) r placed inside = placed.next refl
 stays_inside p (instr.BClean b) r placed inside = placed.next refl
 stays_inside p (instr.BConcat a b) r placed inside = placed.next refl
-stays_inside p (instr.Pass b l) r placed inside = placed.next refl
+stays_inside p (instr.Pass b l) r placed inside =
+    let d : Delivered = delivered r.out (items_of (r.inst.brigs b)) r.shared.files in
+    after_jump p l r.pc (instr.Pass b l) (with_delivered d (do_pass b r)) (is_fail (answer_to d.well)) refl refl placed.jump (placed.next refl)
 stays_inside p (instr.JEmpty b l) r placed inside = after_jump p l r.pc (instr.JEmpty b l) r (is_empty (items_of (r.inst.brigs b))) refl refl placed.jump (placed.next refl)
 stays_inside p (instr.JSent l) r placed inside = after_jump p l r.pc (instr.JSent l) r r.inst.sent refl refl placed.jump (placed.next refl)
 stays_inside p (instr.Jump l) r placed inside = placed.jump

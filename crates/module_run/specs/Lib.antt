@@ -5,9 +5,15 @@ pub use Rattle.run_model.specs.Steps
 pub use Rattle.run_model.specs.Connection
 pub use Rattle.run_model.specs.Runs
 pub use Rattle.pool_tree.specs.Tree
+pub use Rattle.bucket_kinds.specs.MemDevice
+pub use Rattle.bucket_kinds.specs.MemAnswers
+pub mod OpenFiles
 pub mod Standing
 pub mod Seen
 pub mod Tests
 pub mod Mapped
 pub mod Made
+pub mod Passed
+pub mod Filling
+pub mod Saved
 pub mod Starts

@@ -1,16 +1,14 @@
 //! Tests and changes on lists of buckets.
 
-ghost use Rattle.std.specs.Prelude.{◌≡◌, ◌||◌, ◌&&◌, map, IfOk, IsTrue, ◌++◌};
+ghost use Rattle.std.specs.Prelude.{◌≡◌, ◌||◌, ◌&&◌, map, IsTrue};
 ghost use Rattle.std.specs.List.{list_any};
-ghost use Rattle.run_model.specs.Buckets.{is_data_kind, is_eos_kind, has_data, has_eos, data_after_eos, is_ended, is_dead, end_call, returned_bucket, end_pools, to_heap, cleared_bucket, bytes_of};
+ghost use Rattle.run_model.specs.Buckets.{is_data_kind, is_eos_kind, has_data, has_eos, data_after_eos, is_ended, is_dead, end_call, returned_bucket, end_pools, to_heap, cleared_bucket};
 ghost use Rattle.run_model.specs.Pools.{is_live, is_under};
-ghost use Rattle.run_model.specs.Steps.{bytes_before_eos};
 ghost use Rattle.pool_tree.specs.Tree.{map_of};
 ghost use Rattle.module_run.specs.Tests.{late_data};
 
 use pool_tree::PoolTree;
-use run_model::{Content, Home, Kind, Named, Payload, Seq};
-use std::alloc::{AllocError, Global};
+use run_model::{Home, Kind, Named, Payload};
 
 /// Whether buckets of this kind are data.
 pub(crate) fn is_data_kind(kind: Kind) -> bool
@@ -77,29 +75,6 @@ pub(crate) fn end_homes(items: &mut [Named], call: u64)
     for b in items.iter_mut() {
         b.bucket.home = end_call(call, b.bucket.home);
     }
-}
-
-fn append_bytes(out: &mut Seq<u8>, content: &Content) -> Result<(), AllocError>
-    ensures { IfOk result (λ _. out.new ≡ out.old ++ bytes_of content.now) }
-{
-    match content {
-        Content::Bytes(bytes) => out.extend(bytes.as_slice()),
-        Content::Range { .. } | Content::Nothing => Ok(()),
-    }
-}
-
-/// The bytes of the buckets before the first EOS.
-pub(crate) fn bytes_before_eos(alloc: Global, items: &[Named]) -> Result<Seq<u8>, AllocError>
-    ensures { IfOk result (λ bytes. bytes ≡ bytes_before_eos items.now) }
-{
-    let mut out = Seq::new(alloc);
-    for b in items {
-        if is_eos_kind(b.bucket.kind) {
-            return Ok(out);
-        }
-        append_bytes(&mut out, &b.bucket.content)?;
-    }
-    Ok(out)
 }
 
 /// Whether a clear of a pool reaches the pool of a name.

@@ -1,15 +1,19 @@
 //! A connection, and what happens to it.
 
 ghost use Rattle.std.specs.Prelude.{◌≡◌, ◌↔◌, IsTrue, ◌+◌, ◌<◌, ◌-◌, ◌^◌, [], ◌∷◌, length, Ok, IfOk, IfErr};
-ghost use Rattle.run_model.specs.Connection.{opened, calling, begins, brings, ends, takes, steps, breaks, after_step, closing_labels, closing_pools};
+ghost use Rattle.run_model.specs.Connection.{opened, calling, begins, brings, ends, takes, steps, breaks, after_step, closing_labels, closing_pools, closing_files, opens_file};
 ghost use Rattle.run_model.specs.Steps.{watched, current};
 ghost use Rattle.run_model.specs.Runs.{EndsRun};
 ghost use Rattle.pool_tree.specs.Tree.{map_of};
-ghost use Rattle.module_run.specs.Seen.{seen, seen_run, step_lasted, lasted, refusal_of, labels_handed, labels_of, pools_left};
+ghost use Rattle.module_run.specs.Seen.{seen, seen_run, step_lasted, lasted, refusal_of, labels_handed, labels_of, pools_left, files_left};
+ghost use Rattle.bucket_kinds.specs.MemDevice.{files_of};
+ghost use Rattle.bucket_kinds.specs.MemAnswers.{IsAdding};
 
 use crate::closed::Closed;
 use crate::machine::Machine;
+use crate::pieces::OpenFile;
 use crate::{effects, pieces, step};
+use bucket_kinds::{AddRefusal, FileNo, MemFiles};
 use pool_tree::{PoolId, PoolTree};
 use run_model::{Cause, Module, Payload, Piece, Refusal, Seq, StepRefusal, Stepped};
 use std::alloc::Global;
@@ -18,6 +22,7 @@ use std::alloc::Global;
 #[derive(Drop)]
 pub struct Conn {
     machine: Machine,
+    files: Vec<OpenFile>,
     busy: bool,
     count: u64,
     broken: Option<Cause>,
@@ -96,7 +101,7 @@ impl Conn {
     }
 
     fn call(&mut self, name: u64, pc: usize)
-        ensures { seen self.new ≡ calling name pc (seen self.old).run }
+        ensures { seen self.new ≡ calling name pc (seen self.old).files (seen self.old).run }
     {
         self.machine.set_call(name);
         self.machine.go_to(pc);
@@ -105,17 +110,17 @@ impl Conn {
         self.broken = None;
     }
 
-    /// A connection is opened: its `open` is to be stepped. `NoMemory`: there is none for its pools.
+    /// A connection on these files is opened: its `open` is to be stepped. `Err`: there is no memory for its pools, and the
+    /// files come back.
     #[tactic(auto, unfolding(crate::specs::Seen::seen, run_model::specs::Connection::opened))]
-    pub fn open(alloc: Global) -> Result<Conn, Refusal>
-        ensures ok { IfOk result (λ conn. seen conn ≡ opened) }
-        ensures err { IfErr result (λ e. e ≡ Refusal.NoMemory) }
+    pub fn open(alloc: Global, files: MemFiles) -> Result<Conn, MemFiles>
+        ensures ok { IfOk result (λ conn. seen conn ≡ opened (files_of files)) }
+        ensures back { IfErr result (λ back. back ≡ files) }
     {
-        let Ok(machine) = Machine::new(alloc) else {
-            return Err(Refusal::NoMemory);
-        };
+        let machine = Machine::new(alloc, files)?;
         let mut conn = Conn {
             machine,
+            files: Vec::new(alloc),
             busy: false,
             count: 0,
             broken: None,
@@ -147,6 +152,7 @@ impl Conn {
             return Err(Refusal::NoMemory);
         }
         let name = self.machine.take_name();
+        self.files.clear();
         self.call(name, code.init());
         Ok(())
     }
@@ -169,7 +175,55 @@ impl Conn {
         if self.machine.end_request(pool).is_err() {
             return Err(Refusal::NoMemory);
         }
+        self.files.clear();
         Ok(())
+    }
+
+    /// Adds a file. `Taken`: there is a file of that name. Refused, nothing is changed. It serves in any state.
+    pub fn add_file(&mut self, name: &[u8], bytes: Vec<u8>) -> Result<(), AddRefusal>
+        ensures files { IsAdding (seen self.old).run.shared.files name.now bytes.items result (seen self.new).run.shared.files }
+        ensures rest { let c = seen self.old in seen self.new ≡ record c { run = record c.run { shared = record c.run.shared { files = (seen self.new).run.shared.files } } } }
+    {
+        self.machine.add_file(name, bytes)
+    }
+
+    /// The files. It takes no memory, and serves in any state.
+    pub fn files(&self) -> &MemFiles
+        ensures { files_of result.now ≡ (seen self.now).run.shared.files }
+    {
+        self.machine.files()
+    }
+
+    /// Opens a file in the open request, and gives its number and its length in bytes. Refused, nothing is changed:
+    /// `Broken`; `Busy`: a call is running; `NotInRequest`; `NoFile`: there is none of that name; `NamesSpent`: its number
+    /// would be 2^64 - 1; `NoMemory`.
+    #[tactic(auto, unfolding(crate::specs::Seen::seen, run_model::specs::Connection::opens_file))]
+    pub fn open_file(&mut self, name: &[u8]) -> Result<(FileNo, u64), Refusal>
+        ensures { opens_file (lasted result) name.now (seen self.old) ≡ (result, seen self.new) }
+    {
+        if let Some(cause) = self.broken {
+            return Err(Refusal::Broken(cause));
+        }
+        if self.busy {
+            return Err(Refusal::Busy);
+        }
+        let Some(req) = self.machine.request() else {
+            return Err(Refusal::NotInRequest);
+        };
+        if !self.machine.has_file(name) {
+            return Err(Refusal::NoFile);
+        }
+        if self.machine.lacks_file_numbers() {
+            return Err(Refusal::NamesSpent);
+        }
+        if self.files.reserve(1).is_err() {
+            return Err(Refusal::NoMemory);
+        }
+        let Ok((number, len)) = self.machine.open_file(req, name) else {
+            return Err(Refusal::NoMemory);
+        };
+        self.files.push(OpenFile { number, len }).unwrap();
+        Ok((number, len))
     }
 
     /// What each clear and each end of a pool handed on, the oldest first. Labels are what ran. It takes no memory, and
@@ -193,10 +247,12 @@ impl Conn {
     pub fn close(self) -> Result<Closed, Conn>
         ensures labels { IfOk result (λ closed. labels_of closed ≡ closing_labels (seen self)) }
         ensures pools { IfOk result (λ closed. pools_left closed ≡ closing_pools (seen self)) }
+        ensures files { IfOk result (λ closed. files_left closed ≡ closing_files (seen self)) }
         ensures back { IfErr result (λ conn. seen conn ≡ seen self) }
     {
         let Conn {
             machine,
+            files,
             busy,
             count,
             broken,
@@ -205,6 +261,7 @@ impl Conn {
             Ok(closed) => Ok(closed),
             Err(machine) => Err(Conn {
                 machine,
+                files,
                 busy,
                 count,
                 broken,
@@ -234,17 +291,20 @@ impl Conn {
         if self.busy {
             return Err(Refusal::Busy);
         }
-        if self.machine.request().is_none() {
+        let Some(req) = self.machine.request() else {
             return Err(Refusal::NotInRequest);
-        }
+        };
         if pieces::has_data_behind_eos(pieces.as_slice()) {
             return Err(Refusal::DataAfterEos);
+        }
+        if pieces::lack_files(self.files.as_slice(), pieces.as_slice()) {
+            return Err(Refusal::NoFile);
         }
         if self.machine.is_spent_by_brigade(pieces.len() as u64) {
             return Err(Refusal::NamesSpent);
         }
         let name = self.machine.next();
-        if effects::bring(alloc, &mut self.machine, pieces).is_err() {
+        if effects::bring(alloc, &mut self.machine, req, pieces).is_err() {
             return Err(Refusal::NoMemory);
         }
         self.call(name, code.main());

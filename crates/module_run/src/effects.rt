@@ -1,7 +1,7 @@
 //! What instructions do to a machine.
 
-ghost use Rattle.std.specs.Prelude.{◌≡◌, ◌+◌, ◌≢◌, ◌<◌, true, false, length, OnOk, OnErr};
-ghost use Rattle.run_model.specs.Steps.{do_pcreate, on_pool, label_registered, label_killed, text_of, do_create, do_clean, do_concat, do_pass, do_return, delivered, is_spent, returned_var};
+ghost use Rattle.std.specs.Prelude.{◌≡◌, ◌+◌, ◌≢◌, ◌<◌, true, false, length, IfOk, OnOk, OnErr};
+ghost use Rattle.run_model.specs.Steps.{do_pcreate, on_pool, label_registered, label_killed, text_of, do_create, do_clean, do_concat, do_pass, do_return, delivered, with_delivered, answer_to, is_spent, returned_var};
 ghost use Rattle.run_model.specs.State.{items_of, pool_named};
 ghost use Rattle.module_lang.specs.Program.{pool_of_brigade, pool_of_pool};
 ghost use Rattle.run_model.specs.Faults.{has_pool};
@@ -11,7 +11,7 @@ ghost use Rattle.module_run.specs.Starts.{with_in};
 
 use crate::machine::{IN, Machine};
 use crate::{buckets, pieces, vars};
-use run_model::{Brigade, Mark, Module, Piece, PoolRef, Seq, Var};
+use run_model::{Brigade, Mark, Module, Piece, PoolRef, Seq, Status, Var};
 use std::alloc::{AllocError, Global};
 
 /// Makes a pool under its declared parent. Without memory nothing is changed.
@@ -102,36 +102,30 @@ pub(crate) fn concat(machine: &mut Machine, a: u8, b: u8) -> Result<(), AllocErr
     joined
 }
 
-/// What is passed reaches the output, up to the first EOS of the request. Without memory nothing is changed.
-#[tactic(auto, unfolding(run_model::specs::Steps::delivered))]
-fn deliver(alloc: Global, machine: &mut Machine, b: u8) -> Result<(), AllocError>
-    requires { b < 9 }
-    ensures ok { let r = seen_run machine.old in OnOk result (seen_run machine.new ≡ record r { out = delivered r.out (items_of (r.inst.brigs b)) }) }
-    ensures err { OnErr result (seen_run machine.new ≡ seen_run machine.old) }
+fn answer_to(well: bool) -> Status
+    ensures { result ≡ answer_to well }
 {
-    if machine.ended() {
-        return Ok(());
-    }
-    let items = vars::items(machine.brig(b));
-    let ended = buckets::has_eos(items);
-    let mut bytes = buckets::bytes_before_eos(alloc, items)?;
-    machine.write(&mut bytes, ended)
+    if well { Status::Success } else { Status::Fail }
 }
 
-/// Passes a brigade to the end of the chain. Without memory nothing is changed.
+/// Passes a brigade to the end of the chain, and gives what is answered. Without memory nothing is changed.
 #[tactic(auto, using(crate::proofs::Writes::set_twice), unfolding(run_model::specs::State::set_brig))]
-pub(crate) fn pass(alloc: Global, machine: &mut Machine, b: u8) -> Result<(), AllocError>
+pub(crate) fn pass(machine: &mut Machine, b: u8) -> Result<Status, AllocError>
     requires { b < 9 }
-    ensures ok { let r = seen_run machine.old in OnOk result (seen_run machine.new ≡ record (do_pass b r) { out = delivered r.out (items_of (r.inst.brigs b)) }) }
+    ensures answer { let r = seen_run machine.old in IfOk result (λ answer. answer ≡ answer_to (delivered r.out (items_of (r.inst.brigs b)) r.shared.files).well) }
+    ensures ok { let r = seen_run machine.old in OnOk result (seen_run machine.new ≡ with_delivered (delivered r.out (items_of (r.inst.brigs b)) r.shared.files) (do_pass b r)) }
     ensures err { OnErr result (seen_run machine.new ≡ seen_run machine.old) }
 {
-    let ends = buckets::has_eos(vars::items(machine.brig(b)));
-    deliver(alloc, machine, b)?;
-    machine.set_sent(machine.sent() || ends);
     let mut var = machine.put(b, Var::Null);
+    let ends = buckets::has_eos(vars::items(&var));
+    let Ok(well) = machine.deliver(vars::items(&var)) else {
+        machine.put(b, var);
+        return Err(AllocError);
+    };
+    machine.set_sent(machine.sent() || ends);
     vars::hand_over(&mut var);
     machine.put(b, var);
-    Ok(())
+    Ok(answer_to(well))
 }
 
 /// Ends the homes that are the running call, in each brigade.
@@ -161,15 +155,16 @@ pub(crate) fn end_call(machine: &mut Machine)
 pub(crate) fn bring(
     alloc: Global,
     machine: &mut Machine,
+    req: u64,
     pieces: Seq<Piece>,
 ) -> Result<(), AllocError>
     requires { is_spent (seen_run machine.old).shared.next (2 + length pieces) ≡ false }
-    ensures ok { OnOk result (seen_run machine.new ≡ with_in pieces (seen_run machine.old)) }
+    ensures ok { OnOk result (seen_run machine.new ≡ with_in req pieces (seen_run machine.old)) }
     ensures err { OnErr result (seen_run machine.new ≡ seen_run machine.old) }
 {
     let name = machine.next();
     let names = pieces.len() as u64 + 2;
-    let items = pieces::named(alloc, name + 2, pieces)?;
+    let items = pieces::named(alloc, name, req, name + 2, pieces)?;
     machine.take_names(names);
     let brigade = Brigade {
         name: name + 1,

@@ -5,14 +5,18 @@ mod buckets;
 mod closed;
 mod conn;
 mod effects;
+mod file_refs;
 mod labels;
 mod machine;
+mod output;
 mod pieces;
 mod pool_vars;
 mod step;
+mod values;
 mod vars;
 mod wants;
 
+pub use bucket_kinds::{AddRefusal, FileNo, MemFiles};
 pub use closed::Closed;
 pub use conn::{Conn, step_watched};
 pub use pool_tree::{PoolId, PoolTree};

@@ -1,34 +1,40 @@
 //! What a step sees and changes of a connection.
 
-ghost use Rattle.std.specs.Prelude.{◌≡◌, ◌+◌, ◌<◌, ◌++◌, [], false, slice_index_or, slice_set, OnOk, OnErr};
+ghost use Rattle.std.specs.Prelude.{◌≡◌, ◌+◌, ◌<◌, [], false, slice_index_or, slice_set};
 ghost use Rattle.run_model.specs.State.{set_brig, fresh_call};
 ghost use Rattle.run_model.specs.Steps.{is_spent};
 ghost use Rattle.pool_tree.specs.Tree.{map_of};
 ghost use Rattle.module_run.specs.Standing.{IsStanding};
 
+mod files;
+mod numbers;
 mod pool_steps;
 mod pools;
 
+use bucket_kinds::MemFiles;
 use pool_tree::{PoolId, PoolTree};
 use run_model::{Payload, PoolVar, Seq, Var};
-use std::alloc::{AllocError, Global};
+use std::alloc::Global;
 use std::mem;
 
 /// The number of the brigade variable `in`.
 pub(crate) const IN: u8 = 8;
 
-/// The instance, the call, the pools and the output of a connection. Brigade variables are numbered 0 to 7, and 8
+/// The instance, the call, the pools, the files and the output of a connection. Brigade variables are numbered 0 to 7, and 8
 /// is `in`. Pool 1 is the root and pool 2 the connection's. Each clear and each end of a pool left one list of what
 /// it handed on.
 #[derive(Drop)]
 pub(crate) struct Machine {
     brigs: [Var; 9],
     pool_vars: [PoolVar; 8],
+    numbers: [u32; 8],
     sent: bool,
     call: u64,
+    buffer: Seq<u8>,
     pools: PoolTree<Payload>,
     req: Option<u64>,
     runs: Vec<Vec<(PoolId, Payload)>>,
+    files: MemFiles,
     next: u64,
     pc: usize,
     output: Seq<u8>,
@@ -132,6 +138,7 @@ impl Machine {
         ensures { seen_run self.new ≡ record (seen_run self.old) { call = fresh_call name } }
     {
         self.call = name;
+        self.buffer.clear();
     }
 
     /// The output that was not taken yet.
@@ -162,15 +169,5 @@ impl Machine {
         ensures { result ≡ (seen_run self.now).out.ended }
     {
         self.ended
-    }
-
-    /// Moves bytes to the end of the output, and says whether the output has ended. Without memory nothing is changed.
-    pub(crate) fn write(&mut self, bytes: &mut Seq<u8>, ended: bool) -> Result<(), AllocError>
-        ensures ok { OnOk result (let r = seen_run self.old in seen_run self.new ≡ record r { out = record { bytes = r.out.bytes ++ bytes.old; ended = ended } }) }
-        ensures err { OnErr result (seen_run self.new ≡ seen_run self.old) }
-    {
-        self.output.append(bytes)?;
-        self.ended = ended;
-        Ok(())
     }
 }

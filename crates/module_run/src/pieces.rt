@@ -1,45 +1,64 @@
 //! The buckets of brought pieces.
 
-ghost use Rattle.std.specs.Prelude.{◌≡◌, false, ◌+◌, ◌^◌, ◌<◌, length, IfOk};
-ghost use Rattle.run_model.specs.Connection.{bucket_of, named_from, is_data_piece, is_eos_piece, data_behind_eos};
+ghost use Rattle.std.specs.Prelude.{◌≡◌, ◌==◌, ◌&&◌, nat_le, false, ◌+◌, ◌^◌, ◌<◌, ◌≤◌, length, IfOk};
+ghost use Rattle.std.specs.List.{list_any};
+ghost use Rattle.run_model.specs.Connection.{bucket_of, named_from, is_data_piece, is_eos_piece, data_behind_eos, has_range, lacks_file};
 ghost use Rattle.module_run.specs.Tests.{late_piece};
+ghost use Rattle.module_run.specs.OpenFiles.{lengths};
 
 use run_model::{Bucket, Content, Home, Kind, Named, Piece, Seq};
 use std::alloc::{AllocError, Global};
 
-fn bucket_of(piece: Piece) -> Bucket
-    ensures { result ≡ bucket_of piece }
+/// A bucket in memory.
+fn in_memory(kind: Kind, bytes: Seq<u8>, home: Home) -> Bucket
+    ensures { result ≡ record { kind = kind; content = Content.Bytes bytes; home = home } }
+{
+    Bucket {
+        kind,
+        content: Content::Bytes(bytes),
+        home,
+    }
+}
+
+fn metadata(kind: Kind) -> Bucket
+    ensures { result ≡ record { kind = kind; content = Content.Nothing; home = Home.Free } }
+{
+    Bucket {
+        kind,
+        content: Content::Nothing,
+        home: Home::Free,
+    }
+}
+
+/// The bucket of a piece that is brought to a call, in a request of this pool.
+fn bucket_of(call: u64, req: u64, piece: Piece) -> Bucket
+    ensures { result ≡ bucket_of call req piece }
 {
     match piece {
-        Piece::Heap(bytes) => Bucket {
-            kind: Kind::Heap,
-            content: Content::Bytes(bytes),
-            home: Home::Free,
+        Piece::Heap(bytes) => in_memory(Kind::Heap, bytes, Home::Free),
+        Piece::Transient(bytes) => in_memory(Kind::Transient, bytes, Home::Call(call)),
+        Piece::Immortal(bytes) => in_memory(Kind::Immortal, bytes, Home::Free),
+        Piece::Pool(bytes) => in_memory(Kind::Pool(req), bytes, Home::Free),
+        Piece::File { file, start, len } => Bucket {
+            kind: Kind::File,
+            content: Content::Range { file, start, len },
+            home: Home::Pool(req),
         },
-        Piece::Eos => Bucket {
-            kind: Kind::Eos,
-            content: Content::Nothing,
-            home: Home::Free,
-        },
+        Piece::Flush => metadata(Kind::Flush),
+        Piece::Eos => metadata(Kind::Eos),
     }
 }
 
 fn is_data(piece: &Piece) -> bool
     ensures { result ≡ is_data_piece piece.now }
 {
-    match piece {
-        Piece::Heap(_) => true,
-        Piece::Eos => false,
-    }
+    !matches!(piece, Piece::Flush | Piece::Eos)
 }
 
 fn is_eos(piece: &Piece) -> bool
     ensures { result ≡ is_eos_piece piece.now }
 {
-    match piece {
-        Piece::Heap(_) => false,
-        Piece::Eos => true,
-    }
+    matches!(piece, Piece::Eos)
 }
 
 fn has_late_data(pieces: &[Piece]) -> bool
@@ -64,17 +83,61 @@ pub(crate) fn has_data_behind_eos(pieces: &[Piece]) -> bool
     has_late_data(pieces)
 }
 
-/// The buckets of the pieces, with names from `first` on.
-pub(crate) fn named(alloc: Global, first: u64, pieces: Seq<Piece>) -> Result<Seq<Named>, AllocError>
+/// A file that was opened in the open request.
+#[derive(Clone, Copy)]
+pub(crate) struct OpenFile {
+    pub(crate) number: u64,
+    pub(crate) len: u64,
+}
+
+/// Whether this is the file of a number and reaches so far.
+fn covers(f: &OpenFile, file: u64, start: u64, len: u64) -> bool
+    ensures { result ≡ (f.now.number == file && nat_le (start + len) f.now.len) }
+{
+    f.number == file && start <= f.len && len <= f.len - start
+}
+
+/// Whether one of the files is that of a number and reaches so far.
+fn has_range(files: &[OpenFile], file: u64, start: u64, len: u64) -> bool
+    ensures { result ≡ list_any (λ f. f.number == file && nat_le (start + len) f.len) files.now }
+{
+    files.iter().any(|f| covers(f, file, start, len))
+}
+
+#[tactic(auto, using(crate::proofs::Ranges::any_lengths))]
+fn lacks_file(files: &[OpenFile], piece: &Piece) -> bool
+    ensures { result ≡ lacks_file (lengths files.now) piece.now }
+{
+    match piece {
+        Piece::File { file, start, len } => !has_range(files, *file, *start, *len),
+        _ => false,
+    }
+}
+
+/// Whether a piece is a range that no file of the request has.
+pub(crate) fn lack_files(files: &[OpenFile], pieces: &[Piece]) -> bool
+    ensures { result ≡ list_any (lacks_file (lengths files.now)) pieces.now }
+{
+    pieces.iter().any(|piece| lacks_file(files, piece))
+}
+
+/// The buckets of the pieces that are brought to a call in a request of this pool, with names from `first` on.
+pub(crate) fn named(
+    alloc: Global,
+    call: u64,
+    req: u64,
+    first: u64,
+    pieces: Seq<Piece>,
+) -> Result<Seq<Named>, AllocError>
     requires { first + length pieces < 2 ^ 64 }
-    ensures { IfOk result (λ items. items ≡ named_from first pieces) }
+    ensures { IfOk result (λ items. items ≡ named_from (bucket_of call req) first pieces) }
 {
     let mut items = Seq::new(alloc);
     let mut name = first;
     for piece in pieces.into_vec() {
         items.push(Named {
             name,
-            bucket: bucket_of(piece),
+            bucket: bucket_of(call, req, piece),
         })?;
         name += 1;
     }

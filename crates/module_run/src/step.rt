@@ -2,12 +2,13 @@
 
 ghost use Rattle.std.specs.Prelude.{◌≡◌, ◌<◌, ◌≤◌, true, false, length, Ok, None, IfOk, IsOk, OnOk, OnErr, unwrap_or};
 ghost use Rattle.module_lang.specs.Program.{fits, is_variable, target};
-ghost use Rattle.run_model.specs.Steps.{step_at_end, settled, status_of, is_null, names_of, pool_names_of, lacks_names, grows, watched, current, jumps_if};
+ghost use Rattle.run_model.specs.Steps.{step_at_end, settled, status_of, is_null, is_fail, names_of, pool_names_of, lacks_names, grows, watched, current, jumps_if};
 ghost use Rattle.run_model.specs.Faults.{fault};
 ghost use Rattle.module_run.specs.Seen.{seen_run, step_lasted};
+ghost use Rattle.module_run.specs.Passed.{passed_by};
 
 use crate::machine::Machine;
-use crate::{effects, vars, wants};
+use crate::{effects, values, vars, wants};
 use run_model::{Exit, Instr, Module, PoolVar, Status, StepRefusal, Stepped, Var, VarRef};
 use std::alloc::{AllocError, Global};
 
@@ -15,6 +16,12 @@ fn jumps_if(test: bool) -> Exit
     ensures { result ≡ jumps_if test }
 {
     if test { Exit::Jump } else { Exit::GoOn }
+}
+
+fn is_fail(status: Status) -> bool
+    ensures { result ≡ is_fail status }
+{
+    matches!(status, Status::Fail)
 }
 
 /// Whether nothing was made in a variable.
@@ -29,15 +36,20 @@ fn is_null(code: &Module, machine: &Machine, var: VarRef) -> bool
     }
 }
 
-/// Where an instruction leads.
+/// Where an instruction leads that is no pass.
 fn exit(code: &Module, machine: &Machine, instr: Instr) -> Exit
     requires fit { fits code.now instr ≡ true }
     requires few { length code.now.brigades ≤ 8 }
+    requires other { passed_by instr ≡ None }
     ensures { result ≡ (step_at_end code.now instr (seen_run machine.now)).exit }
 {
     match instr {
+        Instr::Pass(_, _) => unreachable!(),
         Instr::JEmpty(b, _) => jumps_if(vars::items(machine.brig(b)).is_empty()),
         Instr::JNull(var, _) => jumps_if(is_null(code, machine, var)),
+        Instr::Put(x, _) => jumps_if(values::is_full(machine, x)),
+        Instr::JLt(n, x, _) => jumps_if(values::is_below(machine, n, x)),
+        Instr::JEq(n, x, _) => jumps_if(values::is_equal(machine, n, x)),
         Instr::JSent(_) => jumps_if(machine.sent()),
         Instr::Jump(_) => Exit::Jump,
         Instr::Ret(_) => Exit::Return,
@@ -45,7 +57,7 @@ fn exit(code: &Module, machine: &Machine, instr: Instr) -> Exit
     }
 }
 
-/// What an instruction does that has no fault and whose names are there. Without memory nothing is changed.
+/// What an instruction does that is no pass, has no fault and whose names are there. Without memory nothing is changed.
 fn change(
     alloc: Global,
     code: &Module,
@@ -57,6 +69,7 @@ fn change(
     requires pools { length code.now.pools ≤ 8 }
     requires faultless { fault code.now (seen_run machine.old) instr ≡ None }
     requires unspent { lacks_names (seen_run machine.old) instr ≡ false }
+    requires other { passed_by instr ≡ None }
     ensures ok { OnOk result (seen_run machine.new ≡ (step_at_end code.now instr (seen_run machine.old)).run) }
     ensures err { OnErr result (seen_run machine.new ≡ seen_run machine.old) }
     ensures sure { grows instr ≡ false → IsOk result }
@@ -66,26 +79,47 @@ fn change(
         Instr::PClear(q) => machine.clear_pool(q),
         Instr::PDestroy(q) => machine.destroy_pool(q),
         Instr::Label(pool, text) => effects::label(alloc, code, machine, pool, text),
-        Instr::Unlabel(pool, text) => {
-            effects::unlabel(code, machine, pool, text);
-            Ok(())
-        }
-        Instr::BCreate(o) => {
-            effects::create(alloc, code, machine, o);
-            Ok(())
-        }
-        Instr::BClean(b) => {
-            effects::clean(machine, b);
-            Ok(())
-        }
+        Instr::Unlabel(pool, text) => Ok(effects::unlabel(code, machine, pool, text)),
+        Instr::BCreate(o) => Ok(effects::create(alloc, code, machine, o)),
+        Instr::BClean(b) => Ok(effects::clean(machine, b)),
         Instr::BConcat(a, b) => effects::concat(machine, a, b),
-        Instr::Pass(b, _) => effects::pass(alloc, machine, b),
-        Instr::JEmpty(_, _) | Instr::JNull(_, _) | Instr::JSent(_) | Instr::Jump(_) => Ok(()),
-        Instr::Ret(_) => {
-            effects::end_call(machine);
-            Ok(())
-        }
+        Instr::BSave(o, b) => Err(AllocError),
+        Instr::Put(x, _) => values::put(machine, x),
+        Instr::Ret(_) => Ok(effects::end_call(machine)),
+        Instr::ClearBuf => Ok(machine.clear_buffer()),
+        Instr::Set(n, x) => Ok(values::set(machine, n, x)),
+        Instr::Add(n, x) => Ok(values::add(machine, n, x)),
+        Instr::Sub(n, x) => Ok(values::sub(machine, n, x)),
+        Instr::Pass(_, _) => unreachable!(),
+        Instr::JEmpty(_, _)
+        | Instr::JNull(_, _)
+        | Instr::JLt(_, _, _)
+        | Instr::JEq(_, _, _)
+        | Instr::JSent(_)
+        | Instr::Jump(_) => Ok(()),
     }
+}
+
+/// Executes an instruction that is no pass, has no fault and whose names are there. Without memory nothing is changed.
+fn execute_other(
+    alloc: Global,
+    code: &Module,
+    machine: &mut Machine,
+    instr: Instr,
+) -> Result<Exit, AllocError>
+    requires fit { fits code.now instr ≡ true }
+    requires few { length code.now.brigades ≤ 8 }
+    requires pools { length code.now.pools ≤ 8 }
+    requires faultless { fault code.now (seen_run machine.old) instr ≡ None }
+    requires unspent { lacks_names (seen_run machine.old) instr ≡ false }
+    requires other { passed_by instr ≡ None }
+    ensures step { IfOk result (λ e. step_at_end code.now instr (seen_run machine.old) ≡ record { exit = e; run = seen_run machine.new }) }
+    ensures err { OnErr result (seen_run machine.new ≡ seen_run machine.old) }
+    ensures sure { grows instr ≡ false → IsOk result }
+{
+    let exit = exit(code, machine, instr);
+    change(alloc, code, machine, instr)?;
+    Ok(exit)
 }
 
 /// Executes an instruction that has no fault and whose names are there. Without memory nothing is changed.
@@ -104,9 +138,13 @@ fn execute(
     ensures err { OnErr result (seen_run machine.new ≡ seen_run machine.old) }
     ensures sure { grows instr ≡ false → IsOk result }
 {
-    let exit = exit(code, machine, instr);
-    change(alloc, code, machine, instr)?;
-    Ok(exit)
+    match instr {
+        Instr::Pass(b, _) => {
+            let answer = effects::pass(machine, b)?;
+            Ok(jumps_if(is_fail(answer)))
+        }
+        _ => execute_other(alloc, code, machine, instr),
+    }
 }
 
 fn target(instr: Instr) -> usize
@@ -116,6 +154,9 @@ fn target(instr: Instr) -> usize
         Instr::Pass(_, target)
         | Instr::JEmpty(_, target)
         | Instr::JNull(_, target)
+        | Instr::Put(_, target)
+        | Instr::JLt(_, _, target)
+        | Instr::JEq(_, _, target)
         | Instr::JSent(target)
         | Instr::Jump(target) => usize::from(target),
         _ => 0,

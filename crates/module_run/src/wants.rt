@@ -161,7 +161,20 @@ pub(crate) fn fault(code: &Module, machine: &Machine, instr: Instr) -> Option<Fa
             or_else(want_homes(machine, b), want_send(machine, b)),
         ),
         Instr::JEmpty(b, _) => want_usable(machine, b),
-        Instr::JNull(_, _) | Instr::JSent(_) | Instr::Jump(_) => None,
+        Instr::BSave(o, b) => or_else(
+            want_usable(machine, o),
+            or_else(want_usable(machine, b), want_homes(machine, b)),
+        ),
+        Instr::Put(_, _)
+        | Instr::ClearBuf
+        | Instr::Set(_, _)
+        | Instr::Add(_, _)
+        | Instr::Sub(_, _)
+        | Instr::JLt(_, _, _)
+        | Instr::JEq(_, _, _)
+        | Instr::JNull(_, _)
+        | Instr::JSent(_)
+        | Instr::Jump(_) => None,
         Instr::Ret(_) => want_return(machine),
     }
 }

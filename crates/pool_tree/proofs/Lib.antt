@@ -14,3 +14,4 @@ pub mod Destroyed
 pub mod Removed
 pub mod Writing
 pub mod Printing
+pub mod Below

@@ -1,6 +1,8 @@
 //! The tree of pools.
 
 ghost use Rattle.std.specs.Prelude.{◌≡◌, ℕ, ◌<◌, length, slice_index_or, remove, is_some, IsTrue, ◌↔◌, [], ◌∷◌, IfOk, OnOk, OnErr, IfErr, IsErrOf};
+ghost use Rattle.std.specs.List.{list_any};
+ghost use Rattle.run_model.specs.Indexed.{any_below};
 ghost use Rattle.pool_tree.specs.Links.{IsLinked};
 ghost use Rattle.pool_tree.specs.Records.{record_of};
 
@@ -9,7 +11,7 @@ mod print;
 mod walk;
 
 use crate::links::add_child;
-use crate::payloads::{push, take_at, take_newest_equal};
+use crate::payloads::{is_among, push, take_at, take_newest_equal};
 use crate::records::{Pool, Records};
 use crate::refusal::PoolRefusal;
 pub use clear::Room;
@@ -120,6 +122,20 @@ impl<T: Drop> PoolTree<T> {
         ensures formed { IsPoolMap (map_of self.new) }
     {
         take_newest_equal(&mut self.records, pool, payload)
+    }
+
+    /// Whether a payload of some pool equals this one. It takes no memory.
+    pub fn is_held(&self, payload: &T) -> bool
+    where
+        T: PartialEq,
+        ensures { let ps = map_of self.now in result ≡ any_below ps.next (λ pool. list_any (λ other. T.eq other payload.now) (ps.payloads pool)) }
+    {
+        for pool in 0..self.next {
+            if is_among(self.records.payloads(pool), payload) {
+                return true;
+            }
+        }
+        false
     }
 
     /// The payloads of a pool, the oldest first.

@@ -368,7 +368,7 @@ abbrev pub hands_on : Run → ℕ → ℕ → Bool
 hands_on r n file = list_any (λ x. is_file_ref file x.1) (run_order r.shared.pools n)
 
 -- What becomes of the open files where the pool n goes. closes: a file closes where a reference to it goes and none is left.
--- stays: it stays open where one is left, and where none went. others: no file comes, by name or by number.
+-- stays, apart: it is as it was where one is left, and where none goes. named, numbers: files by name stay, and no number is given.
 pub record FilesGo (n : ℕ) (r new : Run) : Type 0 where
   pub closes : (file : ℕ) → hands_on r n file ≡ true → is_referred new.shared.pools file ≡ false → new.shared.files.opened file ≡ None
   pub stays : (file : ℕ) → is_referred new.shared.pools file ≡ true → new.shared.files.opened file ≡ r.shared.files.opened file

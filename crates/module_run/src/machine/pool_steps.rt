@@ -11,7 +11,7 @@ ghost use Rattle.module_run.specs.Made.{pool_made};
 
 use super::Machine;
 use super::pools::add;
-use crate::labels;
+use crate::{file_refs, labels};
 use run_model::{Payload, PoolRef, PoolVar, Seq};
 use std::alloc::AllocError;
 
@@ -56,6 +56,7 @@ impl Machine {
         let pool = self.live_pool(PoolRef::Own(q));
         let room = self.run_down(pool)?;
         let ran = self.pools.clear_in(pool, room);
+        file_refs::let_go(&mut self.files, &self.pools, ran.as_slice());
         add(&mut self.runs, ran);
         Ok(())
     }
@@ -69,6 +70,7 @@ impl Machine {
         let pool = self.live_pool(PoolRef::Own(q));
         let room = self.run_down(pool)?;
         let ran = self.pools.destroy_in(pool, room);
+        file_refs::let_go(&mut self.files, &self.pools, ran.as_slice());
         add(&mut self.runs, ran);
         Ok(())
     }

@@ -10,13 +10,15 @@ ghost use Rattle.run_model.specs.Steps.{is_spent, pool_destroyed};
 ghost use Rattle.run_model.specs.Connection.{request_ended};
 ghost use Rattle.pool_tree.specs.Tree.{map_of};
 ghost use Rattle.pool_tree.specs.Room.{IsRoomFor};
-ghost use Rattle.module_run.specs.Seen.{seen_run, labels_handed, labels_of, pools_left};
+ghost use Rattle.module_run.specs.Seen.{seen_run, labels_handed, labels_of, pools_left, files_left};
+ghost use Rattle.bucket_kinds.specs.MemDevice.{files_of};
 ghost use Rattle.module_run.specs.Mapped.{mapped};
 ghost use Rattle.module_run.specs.Starts.{before_open};
 
 use super::Machine;
 use crate::closed::Closed;
-use crate::{pool_vars, vars};
+use crate::{file_refs, pool_vars, vars};
+use bucket_kinds::MemFiles;
 use pool_tree::{PoolId, PoolTree, Room};
 use run_model::{Payload, PoolRef, PoolVar, Seq, Var};
 use std::alloc::{AllocError, Global};
@@ -52,12 +54,16 @@ pub(super) fn add(runs: &mut Vec<Vec<(PoolId, Payload)>>, ran: Vec<(PoolId, Payl
 
 #[tactic(auto, unfolding(crate::specs::Seen::seen_run))]
 impl Machine {
-    /// A machine before its first call.
+    /// A machine with these files before its first call.
     #[tactic(auto, using(crate::proofs::Standing::standing_first), unfolding(crate::specs::Seen::seen_run))]
-    pub(crate) fn new(alloc: Global) -> Result<Machine, AllocError>
-        ensures { IfOk result (λ machine. seen_run machine ≡ before_open) }
+    /// Without memory the files come back.
+    pub(crate) fn new(alloc: Global, files: MemFiles) -> Result<Machine, MemFiles>
+        ensures ok { IfOk result (λ machine. seen_run machine ≡ before_open (files_of files)) }
+        ensures back { IfErr result (λ back. back ≡ files) }
     {
-        let pools = first_pools(alloc)?;
+        let Ok(pools) = first_pools(alloc) else {
+            return Err(files);
+        };
         Ok(Machine {
             brigs: [
                 Var::Null,
@@ -71,11 +77,14 @@ impl Machine {
                 Var::Null,
             ],
             pool_vars: [PoolVar::Null; 8],
+            numbers: [0; 8],
             sent: false,
             call: 0,
+            buffer: Seq::new(alloc),
             pools,
             req: None,
             runs: Vec::new(alloc),
+            files,
             next: 2,
             pc: 0,
             output: Seq::new(alloc),
@@ -192,6 +201,7 @@ impl Machine {
     {
         let room = self.run_down(pool)?;
         let ran = self.pools.destroy_in(pool, room);
+        file_refs::let_go(&mut self.files, &self.pools, ran.as_slice());
         add(&mut self.runs, ran);
         self.req = None;
         self.sent = false;
@@ -203,6 +213,7 @@ impl Machine {
     pub(crate) fn close(mut self) -> Result<Closed, Machine>
         ensures labels { IfOk result (λ d. labels_of d ≡ (pool_destroyed (seen_run self).shared.conn (seen_run self)).shared.labels) }
         ensures pools { IfOk result (λ d. pools_left d ≡ (pool_destroyed (seen_run self).shared.conn (seen_run self)).shared.pools) }
+        ensures files { IfOk result (λ d. files_left d ≡ (pool_destroyed (seen_run self).shared.conn (seen_run self)).shared.files) }
         ensures back { IfErr result (λ e. seen_run e ≡ seen_run self) }
     {
         let Ok(room) = self.run_down(CONN_POOL) else {
@@ -210,8 +221,10 @@ impl Machine {
         };
         let mut pools = self.pools;
         let mut runs = self.runs;
+        let mut files = self.files;
         let ran = pools.destroy_in(CONN_POOL, room);
+        file_refs::let_go(&mut files, &pools, ran.as_slice());
         add(&mut runs, ran);
-        Ok(Closed { pools, runs })
+        Ok(Closed { pools, runs, files })
     }
 }

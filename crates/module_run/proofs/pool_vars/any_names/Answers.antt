@@ -2,7 +2,7 @@
 use Rattle.std.proofs.Common.{◌≡◌, ℕ, Bool, true, refl, arith, rules}
 use Rattle.run_model.specs.State.{name_in, is_named}
 use Rattle.module_run.specs.Standing.{variables}
-use Rattle.module_run.proofs.Below.{any_below_some, any_below_none}
+use Rattle.pool_tree.proofs.Below.{any_below_some, any_below_none}
 use Rattle.module_run.proofs.pool_vars.any_names.Goals as goal
 
 pub returns-then-is_named : goal.returns-then-is_named

@@ -2,7 +2,7 @@
 use Rattle.std.proofs.Common.{◌≡◌, ℕ, Bool, true, refl, arith, rules}
 use Rattle.run_model.specs.Faults.{keeps_stray}
 use Rattle.module_run.specs.Seen.{seen_run}
-use Rattle.module_run.proofs.Below.{any_below_some, any_below_none}
+use Rattle.pool_tree.proofs.Below.{any_below_some, any_below_none}
 use Rattle.module_run.proofs.wants.want_return.Goals as goal
 
 pub returns-then-keeps_stray : goal.returns-then-keeps_stray

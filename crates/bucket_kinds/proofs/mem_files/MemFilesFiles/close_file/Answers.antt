@@ -1,11 +1,11 @@
-use Rattle.std.proofs.Common.{None, ap}
-use Rattle.bucket_kinds.specs.InMemory.{under_one}
-use Rattle.bucket_kinds.specs.MemDevice.{mem_device}
-use Rattle.bucket_kinds.proofs.OpenNumbers.{numbered_after, renumbered}
+use Rattle.std.proofs.Common.{◌∙◌, ap}
+use Rattle.bucket_kinds.specs.MemDevice.{files_of, failures_of, device_of}
+use Rattle.bucket_kinds.specs.MemAnswers.{file_closed}
+use Rattle.bucket_kinds.proofs.MemDeviceLemmas.{closed_device}
 use Rattle.bucket_kinds.proofs.mem_files.MemFilesFiles.close_file.Goals as goal
 
-pub returns : goal.returns
-returns c =
-    let mem = c.args.self.now in
-    ap (renumbered (mem_device mem))
-    (numbered_after (under_one mem.files) mem.opened c.drop_number.new.opened c.args.file None c.drop_number.ensures)
+pub returns-clause-device : goal.returns-clause-device
+returns-clause-device c =
+    let old = files_of c.args.self.now in
+    ap (λ fs. device_of fs (failures_of c.close.new.self)) c.close.ensures.files
+    ∙ (ap (device_of (file_closed c.args.file old)) c.close.ensures.failures ∙ closed_device old c.args.file (failures_of c.args.self.now))

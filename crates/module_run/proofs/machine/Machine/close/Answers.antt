@@ -8,7 +8,9 @@ use Rattle.run_model.specs.Clearing.{run_down}
 use Rattle.run_model.specs.State.{Run, with_pools}
 use Rattle.pool_tree.specs.declared.tree.PoolTree.{PoolTree}
 use Rattle.pool_tree.specs.Tree.{map_of}
-use Rattle.module_run.specs.Seen.{seen_run, labels_handed, labels_of, pools_left}
+use Rattle.bucket_kinds.specs.MemDevice.{files_of}
+use Rattle.module_run.proofs.LetGo.{let_go_as}
+use Rattle.module_run.specs.Seen.{seen_run, labels_handed, labels_of, pools_left, files_left}
 use Rattle.module_run.specs.Mapped.{mapped}
 use Rattle.pool_tree.proofs.Trees.{tree_formed}
 use Rattle.module_run.proofs.Standing.{conn_live, root_path, root_left}
@@ -43,3 +45,12 @@ invariant_of-result c =
       rooted = ap (λ (ps : Pools Payload). ps.path 1) c.destroy_in-ran.ensures.ok
           ∙ root_left (map_of m.pools) (root_path (map_of m.pools) m.req m.pool_vars (tree_formed m.pools) m.standing);
     }
+
+pub returns-clause-files : goal.returns-clause-files
+unfolding files_left seen_run with_pools run_down mapped
+returns-clause-files c =
+    let old = map_of c.args.self.pools in
+    let same = ap (λ (t : PoolTree Payload). run_order (map_of t) 2) c.in-Ok.ensures.same in
+    let pools = c.destroy_in-ran.ensures.ok ∙ ap (λ (t : PoolTree Payload). destroyed 2 (map_of t)) c.in-Ok.ensures.same in
+    let kept = ap (λ (r : Run). r.shared.files) c.in-Ok.ensures.ok in
+    let_go_as c.as_slice.result.now (run_order old 2) (map_of c.destroy_in-ran.new.self) (destroyed 2 old) (files_of c.let_go.new.files) (files_of c.run_down.new.self.files) (files_of c.args.self.files) c.let_go.ensures (c.as_slice.ensures.value ∙ (c.destroy_in-ran.ensures.ran ∙ same)) pools kept

@@ -10,6 +10,9 @@ use Rattle.run_model.specs.Steps.{pool_destroyed}
 use Rattle.pool_tree.specs.declared.tree.PoolTree.{PoolTree}
 use Rattle.pool_tree.specs.Tree.{map_of}
 use Rattle.pool_tree.proofs.Trees.{tree_formed}
+use Rattle.run_model.specs.Files.{let_go}
+use Rattle.bucket_kinds.specs.MemDevice.{files_of}
+use Rattle.module_run.proofs.LetGo.{let_go_as}
 use Rattle.module_run.specs.Seen.{seen_run, labels_handed}
 use Rattle.module_run.specs.Mapped.{mapped}
 use Rattle.module_run.specs.Standing.{IsStanding}
@@ -50,6 +53,8 @@ returns-clause-ok c =
     let labels : labels_handed c.add.new.runs.items ≡ old ++ labels_in (run_order (map_of c.args.self.now.pools) n)
     = c.add.ensures ∙ (ap (λ (xs : List (List ℕ)). xs ++ labels_in c.destroy_in-ran.result.items) kept ∙ ap (λ (ys : List (ℕ × Payload)). old ++ labels_in ys) (c.destroy_in-ran.ensures.ran ∙ same)) in
     let pools : map_of c.destroy_in-ran.new.self ≡ after = c.destroy_in-ran.ensures.ok ∙ ap (λ (t : PoolTree Payload). destroyed n (map_of t)) c.in_ok-room.ensures.same in
-    let new = with_ran (map_of c.destroy_in-ran.new.self) (labels_handed c.add.new.runs.items) (seen_run c.run_down.new.self) in
+    let gone : files_of c.let_go.new.files ≡ let_go (run_order (map_of c.args.self.now.pools) n) after r.shared.files
+    = let_go_as c.as_slice.result.now (run_order (map_of c.args.self.now.pools) n) (map_of c.destroy_in-ran.new.self) after (files_of c.let_go.new.files) (files_of c.run_down.new.self.files) r.shared.files c.let_go.ensures (c.as_slice.ensures.value ∙ (c.destroy_in-ran.ensures.ran ∙ same)) pools (ap (λ (x : Run). x.shared.files) c.in_ok-room.ensures.ok) in
+    let new = with_ran (map_of c.destroy_in-ran.new.self) (labels_handed c.add.new.runs.items) (files_of c.let_go.new.files) (seen_run c.run_down.new.self) in
     done_to pool_destroyed (pool_named r (pool.Own c.args.q)) n r new c.live_pool-pool.ensures.named
-    (ran_down r (seen_run c.run_down.new.self) n after (map_of c.destroy_in-ran.new.self) (labels_handed c.add.new.runs.items) refl c.in_ok-room.ensures.ok pools labels)
+    (ran_down r (seen_run c.run_down.new.self) n after (map_of c.destroy_in-ran.new.self) (labels_handed c.add.new.runs.items) (files_of c.let_go.new.files) refl c.in_ok-room.ensures.ok pools labels gone)

@@ -8,6 +8,9 @@ use Rattle.run_model.specs.State.{Run}
 use Rattle.pool_tree.specs.declared.tree.PoolTree.{PoolTree}
 use Rattle.pool_tree.specs.Tree.{map_of}
 use Rattle.pool_tree.proofs.Trees.{tree_formed}
+use Rattle.run_model.specs.Files.{let_go}
+use Rattle.bucket_kinds.specs.MemDevice.{files_of}
+use Rattle.module_run.proofs.LetGo.{let_go_as}
 use Rattle.module_run.specs.Seen.{seen_run, labels_handed}
 use Rattle.module_run.specs.Mapped.{mapped}
 use Rattle.module_run.specs.Standing.{IsStanding}
@@ -52,4 +55,6 @@ returns-clause-ok c =
     let labels : labels_handed c.add.new.runs.items ≡ old ++ labels_in (run_order (map_of c.args.self.now.pools) c.args.pool)
     = c.add.ensures ∙ (ap (λ (xs : List (List ℕ)). xs ++ labels_in c.destroy_in-ran.result.items) kept ∙ ap (λ (ys : List (ℕ × Payload)). old ++ labels_in ys) (c.destroy_in-ran.ensures.ran ∙ same)) in
     let pools : map_of c.destroy_in-ran.new.self ≡ after = c.destroy_in-ran.ensures.ok ∙ ap (λ (t : PoolTree Payload). destroyed c.args.pool (map_of t)) c.in_ok-room.ensures.same in
-    ap closed (ran_down r (seen_run c.run_down.new.self) c.args.pool after (map_of c.destroy_in-ran.new.self) (labels_handed c.add.new.runs.items) refl c.in_ok-room.ensures.ok pools labels)
+    let gone : files_of c.let_go.new.files ≡ let_go (run_order (map_of c.args.self.now.pools) c.args.pool) after r.shared.files
+    = let_go_as c.as_slice.result.now (run_order (map_of c.args.self.now.pools) c.args.pool) (map_of c.destroy_in-ran.new.self) after (files_of c.let_go.new.files) (files_of c.run_down.new.self.files) r.shared.files c.let_go.ensures (c.as_slice.ensures.value ∙ (c.destroy_in-ran.ensures.ran ∙ same)) pools (ap (λ (x : Run). x.shared.files) c.in_ok-room.ensures.ok) in
+    ap closed (ran_down r (seen_run c.run_down.new.self) c.args.pool after (map_of c.destroy_in-ran.new.self) (labels_handed c.add.new.runs.items) (files_of c.let_go.new.files) refl c.in_ok-room.ensures.ok pools labels gone)

@@ -1,0 +1,83 @@
+//! What instructions do to numbers and to a call's buffer.
+
+ghost use Rattle.std.specs.Prelude.{◌≡◌, ◌==◌, ◌<◌, ◌-◌, ◌+◌, min, nat_lt, OnOk, OnErr};
+ghost use Rattle.run_model.specs.State.{set_number};
+ghost use Rattle.run_model.specs.Steps.{value_of, is_full, do_put, last_value};
+ghost use Rattle.module_run.specs.Seen.{seen_run};
+
+use crate::machine::Machine;
+use run_model::Value;
+use std::alloc::AllocError;
+
+/// How many bytes a call's buffer holds at most.
+const BUFFER_LIMIT: usize = 8000;
+
+/// The number that an operand stands for.
+pub(crate) fn value_of(machine: &Machine, x: Value) -> u32
+    ensures { result ≡ value_of (seen_run machine.now) x }
+{
+    match x {
+        Value::Number(n) => machine.number(n),
+        Value::Constant(number) => number,
+    }
+}
+
+/// Whether a number is no byte, or the buffer is full.
+pub(crate) fn is_full(machine: &Machine, x: Value) -> bool
+    ensures { result ≡ is_full (seen_run machine.now) x }
+{
+    value_of(machine, x) > 255 || machine.buffered() >= BUFFER_LIMIT
+}
+
+/// Appends a byte to the buffer, where it is one and fits. Without memory nothing is changed.
+pub(crate) fn put(machine: &mut Machine, x: Value) -> Result<(), AllocError>
+    ensures ok { OnOk result (seen_run machine.new ≡ do_put x (seen_run machine.old)) }
+    ensures err { OnErr result (seen_run machine.new ≡ seen_run machine.old) }
+{
+    if is_full(machine, x) {
+        return Ok(());
+    }
+    let byte = value_of(machine, x) as u8;
+    machine.buffer_byte(byte)
+}
+
+/// Sets a number.
+pub(crate) fn set(machine: &mut Machine, n: u8, x: Value)
+    requires { n < 8 }
+    ensures { let r = seen_run machine.old in seen_run machine.new ≡ set_number n (value_of r x) r }
+{
+    let number = value_of(machine, x);
+    machine.set_number(n, number);
+}
+
+/// Adds to a number, at most up to 4294967295.
+pub(crate) fn add(machine: &mut Machine, n: u8, x: Value)
+    requires { n < 8 }
+    ensures { let r = seen_run machine.old in seen_run machine.new ≡ set_number n (min last_value (r.inst.numbers n + value_of r x)) r }
+{
+    let sum = machine.number(n).saturating_add(value_of(machine, x));
+    machine.set_number(n, sum);
+}
+
+/// Takes from a number, at least down to 0.
+pub(crate) fn sub(machine: &mut Machine, n: u8, x: Value)
+    requires { n < 8 }
+    ensures { let r = seen_run machine.old in seen_run machine.new ≡ set_number n (r.inst.numbers n - value_of r x) r }
+{
+    let left = machine.number(n).saturating_sub(value_of(machine, x));
+    machine.set_number(n, left);
+}
+
+/// Whether a number is below another.
+pub(crate) fn is_below(machine: &Machine, n: u8, x: Value) -> bool
+    ensures { let r = seen_run machine.now in result ≡ nat_lt (r.inst.numbers n) (value_of r x) }
+{
+    machine.number(n) < value_of(machine, x)
+}
+
+/// Whether a number equals another.
+pub(crate) fn is_equal(machine: &Machine, n: u8, x: Value) -> bool
+    ensures { let r = seen_run machine.now in result ≡ (r.inst.numbers n == value_of r x) }
+{
+    machine.number(n) == value_of(machine, x)
+}
