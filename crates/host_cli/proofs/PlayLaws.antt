@@ -1,5 +1,5 @@
 -- Runs of commands: there is one where memory lasts, and where no answer says otherwise it is the only one.
-use Rattle.std.proofs.Common.{◌≡◌, ℕ, ◌+◌, Bool, true, false, ◌||◌, not, cond, List, [], ◌∷◌, Option, Some, None, Result, Ok, Err, refl, ap, sym, ◌∙◌, arith, is_some, length, MatchBool}
+use Rattle.std.proofs.Common.{◌≡◌, ◌≢◌, ℕ, zero, suc, ◌+◌, ◌-◌, ◌<◌, ◌≤◌, Bool, true, false, ◌||◌, not, cond, eqb, List, [], ◌∷◌, ◌++◌, Option, Some, None, Result, Ok, Err, refl, ap, sym, ◌∙◌, subst, arith, is_some, length, MatchBool}
 use Rattle.std.specs.List.{list_any}
 use Rattle.module_lang.specs.Program.{Program}
 use Rattle.run_model.specs.declared.event.Event.{Event}
@@ -8,14 +8,18 @@ use Rattle.run_model.specs.declared.event.Piece.{Piece}
 use Rattle.run_model.specs.declared.event.Refusal.{Refusal}
 use Rattle.run_model.specs.declared.event.Refusal.TheVariants as refusal
 use Rattle.run_model.specs.declared.event.Stepped.{Stepped}
+use Rattle.run_model.specs.declared.event.Stepped.TheVariants as stepped
 use Rattle.run_model.specs.Steps.{is_spent}
-use Rattle.run_model.specs.Connection.{Connection, begins, begun, brings, brought, ends, ended, first_refusal, refused_if, if_broken, unless_refused, data_behind_eos, steps}
-use Rattle.run_model.specs.Runs.{World, Before, There, Closed, happens, step_of, answer_of}
+use Rattle.run_model.specs.declared.event.Piece.TheVariants as piece
+use Rattle.run_model.specs.Connection.{Connection, begins, begun, brings, brought, opens_file, file_answer, ends, ended, first_refusal, refused_if, if_broken, unless_refused, data_behind_eos, lacks_file, steps}
+use Rattle.run_model.specs.Runs.{Answer, World, Before, There, Closed, happens, GoesOn, step_of, answer_of, file_of}
+use Rattle.host_cli.specs.declared.pieces.ScriptPiece.{ScriptPiece}
+use Rattle.host_cli.specs.declared.pieces.ScriptPiece.TheVariants as script_piece
 use Rattle.host_cli.specs.declared.command.Command.{Command}
 use Rattle.host_cli.specs.declared.command.Command.TheVariants as command
 use Rattle.host_cli.specs.declared.reply.Reply.{Reply}
 use Rattle.host_cli.specs.declared.reply.Reply.TheVariants as reply
-use Rattle.host_cli.specs.Plays.{told, told_open, is_for_first, ran, run_of, answered, served, MayRun, MayAnswer, Serves, Plays, replies_of, refusal_names_memory, names_memory}
+use Rattle.host_cli.specs.Plays.{told, told_open, is_for_first, ran, run_of, if_opened, IfOpened, brought_after, bring_of, answered, served, Brings, MayBring, MayRun, MayAnswer, Serves, Plays, replies_of, refusal_names_memory, names_memory}
 use Rattle.host_cli.proofs.StepLaws.{lost, same_step, ran_ends, ran_only, goes_below}
 
 true≢false : true ≡ false → ⊥
@@ -26,30 +30,57 @@ abbrev names_it : Option Refusal → Bool
 names_it None = false
 names_it (Some r) = refusal_names_memory r
 
-tests_same : (a b d e f : Option Refusal) (old new : Connection) → names_it (unless_refused (first_refusal (a ∷ b ∷ d ∷ e ∷ f ∷ refused_if true refusal.NoMemory ∷ [])) old new).0 ≡ false → unless_refused (first_refusal (a ∷ b ∷ d ∷ e ∷ f ∷ refused_if true refusal.NoMemory ∷ [])) old new ≡ unless_refused (first_refusal (a ∷ b ∷ d ∷ e ∷ f ∷ refused_if false refusal.NoMemory ∷ [])) old new
-tests_same (Some r) b d e f old new h = refl
-tests_same None (Some r) d e f old new h = refl
-tests_same None None (Some r) e f old new h = refl
-tests_same None None None (Some r) f old new h = refl
-tests_same None None None None (Some r) old new h = refl
-tests_same None None None None None old new h = absurd (true≢false h)
+tests_same : (a b d e f g : Option Refusal) (old new : Connection) → names_it (unless_refused (first_refusal (a ∷ b ∷ d ∷ e ∷ f ∷ g ∷ refused_if true refusal.NoMemory ∷ [])) old new).0 ≡ false → unless_refused (first_refusal (a ∷ b ∷ d ∷ e ∷ f ∷ g ∷ refused_if true refusal.NoMemory ∷ [])) old new ≡ unless_refused (first_refusal (a ∷ b ∷ d ∷ e ∷ f ∷ g ∷ refused_if false refusal.NoMemory ∷ [])) old new
+tests_same (Some r) b d e f g old new h = refl
+tests_same None (Some r) d e f g old new h = refl
+tests_same None None (Some r) e f g old new h = refl
+tests_same None None None (Some r) f g old new h = refl
+tests_same None None None None (Some r) g old new h = refl
+tests_same None None None None None (Some r) old new h = refl
+tests_same None None None None None None old new h = absurd (true≢false h)
+
+-- the same of the opening of a file
+abbrev lost_file : Result (ℕ × ℕ) Refusal → Bool
+lost_file (Ok f) = false
+lost_file (Err r) = refusal_names_memory r
+
+file_same : (a b d e f : Option Refusal) (req : Option ℕ) (found : Option (List ℕ)) (name : List ℕ) (c : Connection) → lost_file (file_answer (first_refusal (a ∷ b ∷ d ∷ e ∷ f ∷ refused_if true refusal.NoMemory ∷ [])) req found name c).0 ≡ false → file_answer (first_refusal (a ∷ b ∷ d ∷ e ∷ f ∷ refused_if true refusal.NoMemory ∷ [])) req found name c ≡ file_answer (first_refusal (a ∷ b ∷ d ∷ e ∷ f ∷ refused_if false refusal.NoMemory ∷ [])) req found name c
+file_same (Some r) b d e f req found name c h = refl
+file_same None (Some r) d e f req found name c h = refl
+file_same None None (Some r) e f req found name c h = refl
+file_same None None None (Some r) f req found name c h = refl
+file_same None None None None (Some r) req found name c h = refl
+file_same None None None None None req found name c h = absurd (true≢false h)
 
 begins_same : (p : Program) (c : Connection) → names_it (begins false p c).0 ≡ false → begins false p c ≡ begins true p c
 unfolding begins
-begins_same p c h = tests_same None (if_broken c.broken) (refused_if c.busy refusal.Busy) (refused_if (is_some c.run.shared.req) refusal.InRequest) (refused_if (is_spent c.run.shared.pools.next 1 || is_spent c.run.shared.next 1) refusal.NamesSpent) c (begun p c) h
+begins_same p c h = tests_same None None (if_broken c.broken) (refused_if c.busy refusal.Busy) (refused_if (is_some c.run.shared.req) refusal.InRequest) (refused_if (is_spent c.run.shared.pools.next 1 || is_spent c.run.shared.next 1) refusal.NamesSpent) c (begun p c) h
 
 brings_same : (p : Program) (ps : List Piece) (c : Connection) → names_it (brings false p ps c).0 ≡ false → brings false p ps c ≡ brings true p ps c
 unfolding brings
-brings_same p ps c h = tests_same (if_broken c.broken) (refused_if c.busy refusal.Busy) (refused_if (not (is_some c.run.shared.req)) refusal.NotInRequest) (refused_if (data_behind_eos ps) refusal.DataAfterEos) (refused_if (is_spent c.run.shared.next (2 + length ps)) refusal.NamesSpent) c (brought p ps c) h
+brings_same p ps c h = tests_same (if_broken c.broken) (refused_if c.busy refusal.Busy) (refused_if (not (is_some c.run.shared.req)) refusal.NotInRequest) (refused_if (data_behind_eos ps) refusal.DataAfterEos) (refused_if (list_any (lacks_file c.files) ps) refusal.NoFile) (refused_if (is_spent c.run.shared.next (2 + length ps)) refusal.NamesSpent) c (brought c.run.shared.req p ps c) h
 
 ends_same : (c : Connection) → names_it (ends false c).0 ≡ false → ends false c ≡ ends true c
 unfolding ends
-ends_same c h = tests_same None None (if_broken c.broken) (refused_if c.busy refusal.Busy) (refused_if (not (is_some c.run.shared.req)) refusal.NotInRequest) c (ended c.run.shared.req c) h
+ends_same c h = tests_same None None None (if_broken c.broken) (refused_if c.busy refusal.Busy) (refused_if (not (is_some c.run.shared.req)) refusal.NotInRequest) c (ended c.run.shared.req c) h
+
+opens_same : (m : Bool) (name : List ℕ) (c : Connection) → lost_file (opens_file m name c).0 ≡ false → opens_file m name c ≡ opens_file true name c
+unfolding opens_file
+opens_same true name c h = refl
+opens_same false name c h = file_same (if_broken c.broken) (refused_if c.busy refusal.Busy) (refused_if (not (is_some c.run.shared.req)) refusal.NotInRequest) (refused_if (not (is_some (c.run.shared.files.named name))) refusal.NoFile) (refused_if (is_spent c.run.shared.files.next 1) refusal.NamesSpent) c.run.shared.req (c.run.shared.files.named name) name c h
+
+bring_same : (m : Bool) (p : Program) (ps : List Piece) (c : Connection) → names_it (brings m p ps c).0 ≡ false → brings m p ps c ≡ brings true p ps c
+bring_same true p ps c h = refl
+bring_same false p ps c h = brings_same p ps c h
 
 -- what an event answers names memory where its refusal does
 named : (x : Option Refusal × Connection) → names_memory (told (answer_of x)).0 ≡ names_it x.0
 named (None, c) = refl
 named (Some r, c) = refl
+
+named_file : (x : Result (ℕ × ℕ) Refusal × Connection) → names_memory (told (file_of x)).0 ≡ lost_file x.0
+named_file (Ok f, c) = refl
+named_file (Err r, c) = refl
 
 named_step : (x : Result Stepped Refusal × Connection) → names_memory (told (step_of x)).0 ≡ lost x.0
 named_step (Ok s, c) = refl
@@ -58,6 +89,8 @@ named_step (Err r, c) = refl
 -- An event that does not answer that there was no memory answers as it does with memory.
 there_same : (budget : ℕ) (p : Program) (e : Event) (c : Connection) → names_memory (told (happens false budget p e (There c))).0 ≡ false → happens false budget p e (There c) ≡ happens true budget p e (There c)
 there_same budget p event.Open c h = refl
+there_same budget p (event.AddFile name bytes) c h = absurd (true≢false h)
+there_same budget p (event.OpenFile name) c h = ap file_of (opens_same false name c (sym (named_file (opens_file false name c)) ∙ h))
 there_same budget p event.Begin c h = ap answer_of (begins_same p c (sym (named (begins false p c)) ∙ h))
 there_same budget p (event.Bring ps) c h = ap answer_of (brings_same p ps c (sym (named (brings false p ps c)) ∙ h))
 there_same budget p event.Step c h = ap step_of (same_step false budget p c (sym (named_step (steps false budget p c)) ∙ h))
@@ -69,36 +102,41 @@ there_same budget p event.TellPools c h = refl
 
 happens_same : (budget : ℕ) (p : Program) (e : Event) (w : World) → names_memory (told (happens false budget p e w)).0 ≡ false → happens false budget p e w ≡ happens true budget p e w
 happens_same budget p e (There c) h = there_same budget p e c h
-happens_same budget p event.Open Before h = absurd (true≢false h)
-happens_same budget p event.Begin Before h = refl
-happens_same budget p (event.Bring ps) Before h = refl
-happens_same budget p event.Step Before h = refl
-happens_same budget p event.End Before h = refl
-happens_same budget p event.TakeOutput Before h = refl
-happens_same budget p event.TellLabels Before h = refl
-happens_same budget p event.Close Before h = refl
-happens_same budget p event.TellPools Before h = refl
-happens_same budget p event.Open (Closed ps) h = refl
-happens_same budget p event.Begin (Closed ps) h = refl
-happens_same budget p (event.Bring pieces) (Closed ps) h = refl
-happens_same budget p event.Step (Closed ps) h = refl
-happens_same budget p event.End (Closed ps) h = refl
-happens_same budget p event.TakeOutput (Closed ps) h = refl
-happens_same budget p event.TellLabels (Closed ps) h = refl
-happens_same budget p event.Close (Closed ps) h = refl
-happens_same budget p event.TellPools (Closed ps) h = refl
+happens_same budget p event.Open (Before fs) h = absurd (true≢false h)
+happens_same budget p (event.AddFile name bytes) (Before fs) h = absurd (true≢false h)
+happens_same budget p (event.OpenFile name) (Before fs) h = refl
+happens_same budget p event.Begin (Before fs) h = refl
+happens_same budget p (event.Bring ps) (Before fs) h = refl
+happens_same budget p event.Step (Before fs) h = refl
+happens_same budget p event.End (Before fs) h = refl
+happens_same budget p event.TakeOutput (Before fs) h = refl
+happens_same budget p event.TellLabels (Before fs) h = refl
+happens_same budget p event.Close (Before fs) h = refl
+happens_same budget p event.TellPools (Before fs) h = refl
+happens_same budget p event.Open (Closed ps fs) h = refl
+happens_same budget p (event.AddFile name bytes) (Closed ps fs) h = absurd (true≢false h)
+happens_same budget p (event.OpenFile name) (Closed ps fs) h = refl
+happens_same budget p event.Begin (Closed ps fs) h = refl
+happens_same budget p (event.Bring pieces) (Closed ps fs) h = refl
+happens_same budget p event.Step (Closed ps fs) h = refl
+happens_same budget p event.End (Closed ps fs) h = refl
+happens_same budget p event.TakeOutput (Closed ps fs) h = refl
+happens_same budget p event.TellLabels (Closed ps fs) h = refl
+happens_same budget p event.Close (Closed ps fs) h = refl
+happens_same budget p event.TellPools (Closed ps fs) h = refl
 
 open_same : (budget : ℕ) (p : Program) (w : World) → names_memory (told_open (happens false budget p event.Open w)).0 ≡ false → happens false budget p event.Open w ≡ happens true budget p event.Open w
-open_same budget p Before h = absurd (true≢false h)
+open_same budget p (Before fs) h = absurd (true≢false h)
 open_same budget p (There c) h = refl
-open_same budget p (Closed ps) h = refl
+open_same budget p (Closed ps fs) h = refl
 
 answered_same : (m : Bool) (budget : ℕ) (p : Program) (c : Command) (w : World) → names_memory (answered m budget p c w).0 ≡ false → answered m budget p c w ≡ answered true budget p c w
 answered_same true budget p c w h = refl
 answered_same false budget p command.Open w h = ap told_open (open_same budget p w h)
 answered_same false budget p (command.Begin c) w h = ap told (happens_same budget p event.Begin w h)
 answered_same false budget p (command.End c) w h = ap told (happens_same budget p event.End w h)
-answered_same false budget p (command.Bring c ps) w h = ap told (happens_same budget p (event.Bring ps) w h)
+answered_same false budget p (command.File f) w h = refl
+answered_same false budget p (command.Bring c ps) w h = refl
 answered_same false budget p (command.Run c) w h = refl
 answered_same false budget p (command.Output c) w h = ap told (happens_same budget p event.TakeOutput w h)
 answered_same false budget p (command.Labels c) w h = ap told (happens_same budget p event.TellLabels w h)
@@ -107,20 +145,47 @@ answered_same false budget p command.Pools w h = ap told (happens_same budget p 
 
 -- A run of steps that does not answer that there was no memory is the run with memory.
 run_is : (budget : ℕ) (p : Program) (w new : World) (r : Reply) → MayRun budget p w r new → names_memory r ≡ false → (r, new) ≡ run_of budget p w
-run_is budget p Before new r m h = let a = m.0 in let b = m.1 in cc
-run_is budget p (Closed ps) new r m h = let a = m.0 in let b = m.1 in cc
+run_is budget p (Before fs) new r m h = let a = m.0 in let b = m.1 in cc
+run_is budget p (Closed ps fs) new r m h = let a = m.0 in let b = m.1 in cc
 run_is budget p (There c) new r (m, answer, d, e, t) h =
     let lasts : lost answer ≡ false = sym (named_step (answer, d)) ∙ sym (ap (λ x. names_memory x.0) t) ∙ h in
     let few = goes_below e.count budget p c e.last e.goes in
     let ran_so = ran_only e.count budget budget p c e.last d m answer (omega arith) e.goes e.ends e.stops lasts in
     t ∙ ap (λ x. told (step_of x)) (sym ran_so)
 
+-- So is the bringing of pieces.
+opened_is : (m : Bool) (name : List ℕ) (c d : Connection) (r : Option Refusal) (x : Result (ℕ × ℕ) Refusal × Connection) (Rest : ℕ → Connection → Type 0) (rest : ℕ → Connection → Option Refusal × Connection) → opens_file m name c ≡ x → IfOpened x (λ e a. (r ≡ Some e) × (d ≡ a)) Rest → names_it r ≡ false → ((file : ℕ) (a : Connection) → Rest file a → (r, d) ≡ rest file a) → (r, d) ≡ if_opened (opens_file true name c) (λ e a. (Some e, a)) rest
+opened_is m name c d r (Err e, a) Rest rest o (is, new) h more =
+    let kept : lost_file (opens_file m name c).0 ≡ false = ap (λ z. lost_file z.0) o ∙ sym (ap names_it is) ∙ h in
+    let same : opens_file true name c ≡ (Err e, a) = sym (opens_same m name c kept) ∙ o in
+    ap (λ z. (z, d)) is ∙ ap (λ z. (Some e, z)) new ∙ sym (ap (λ z. if_opened z (λ e a. (Some e, a)) rest) same)
+opened_is m name c d r (Ok f, a) Rest rest o b h more =
+    let kept : lost_file (opens_file m name c).0 ≡ false = ap (λ z. lost_file z.0) o in
+    let same : opens_file true name c ≡ (Ok f, a) = sym (opens_same m name c kept) ∙ o in
+    more f.0 a b ∙ sym (ap (λ z. if_opened z (λ e a. (Some e, a)) rest) same)
+
+brings_is : (p : Program) (ready : List Piece) (xs : List ScriptPiece) (c d : Connection) (r : Option Refusal) → Brings p ready xs c r d → names_it r ≡ false → (r, d) ≡ brought_after p ready xs c
+unfolding Brings brought_after
+brings_is p ready [] c d r (m, e) h = sym e ∙ bring_same m p ready c (ap (λ z. names_it z.0) e ∙ h)
+brings_is p ready (script_piece.Ready x ∷ xs) c d r b h = brings_is p (ready ++ x ∷ []) xs c d r b h
+brings_is p ready (script_piece.Range name start len ∷ xs) c d r (m, b) h =
+    opened_is m name c d r (opens_file m name c) (λ file a. Brings p (ready ++ piece.File file start len ∷ []) xs a r d) (λ file a. brought_after p (ready ++ piece.File file start len ∷ []) xs a) refl b h
+    (λ file a rest. brings_is p (ready ++ piece.File file start len ∷ []) xs a d r rest h)
+
+bring_is : (p : Program) (xs : List ScriptPiece) (w new : World) (r : Reply) → MayBring p xs w r new → names_memory r ≡ false → (r, new) ≡ bring_of p xs w
+bring_is p xs (Before fs) new r m h = let a = m.0 in let b = m.1 in cc
+bring_is p xs (Closed ps fs) new r m h = let a = m.0 in let b = m.1 in cc
+bring_is p xs (There c) new r (answer, d, b, t) h =
+    let kept : names_it answer ≡ false = sym (named (answer, d)) ∙ sym (ap (λ x. names_memory x.0) t) ∙ h in
+    t ∙ ap (λ x. told (answer_of x)) (brings_is p [] xs c d answer b kept)
+
 answers_is : (budget : ℕ) (p : Program) (c : Command) (w new : World) (r : Reply) → MayAnswer budget p c w r new → names_memory r ≡ false → (r, new) ≡ answered true budget p c w
 unfolding MayAnswer
 answers_is budget p command.Open w new r (m, e) h = sym e ∙ answered_same m budget p command.Open w (ap (λ x. names_memory x.0) e ∙ h)
 answers_is budget p (command.Begin c) w new r (m, e) h = sym e ∙ answered_same m budget p (command.Begin c) w (ap (λ x. names_memory x.0) e ∙ h)
 answers_is budget p (command.End c) w new r (m, e) h = sym e ∙ answered_same m budget p (command.End c) w (ap (λ x. names_memory x.0) e ∙ h)
-answers_is budget p (command.Bring c ps) w new r (m, e) h = sym e ∙ answered_same m budget p (command.Bring c ps) w (ap (λ x. names_memory x.0) e ∙ h)
+answers_is budget p (command.File f) w new r e h = sym e
+answers_is budget p (command.Bring c ps) w new r m h = bring_is p ps w new r m h
 answers_is budget p (command.Run c) w new r m h = run_is budget p w new r m h
 answers_is budget p (command.Output c) w new r (m, e) h = sym e ∙ answered_same m budget p (command.Output c) w (ap (λ x. names_memory x.0) e ∙ h)
 answers_is budget p (command.Labels c) w new r (m, e) h = sym e ∙ answered_same m budget p (command.Labels c) w (ap (λ x. names_memory x.0) e ∙ h)
@@ -155,16 +220,33 @@ plays_only budget p (c ∷ cs) w (r ∷ rs) (mid, serves, plays) h =
     ap (λ x. x.0 ∷ rs) here ∙ ap (λ l. (served true budget p c w).0 ∷ l) (rest ∙ ap (λ x. replies_of budget p cs x.1) here)
 
 run_may : (budget : ℕ) (p : Program) (w : World) → MayRun budget p w (run_of budget p w).0 (run_of budget p w).1
-run_may budget p Before = (refl, refl)
-run_may budget p (Closed ps) = (refl, refl)
+run_may budget p (Before fs) = (refl, refl)
+run_may budget p (Closed ps fs) = (refl, refl)
 run_may budget p (There c) = (true, (ran budget budget p c).0, (ran budget budget p c).1, ran_ends budget budget p c (omega arith), refl)
+
+opened_so : (x : Result (ℕ × ℕ) Refusal × Connection) (rest : ℕ → Connection → Option Refusal × Connection) (Rest : ℕ → Connection → Option Refusal → Connection → Type 0) → ((file : ℕ) (a : Connection) → Rest file a (rest file a).0 (rest file a).1) → IfOpened x (λ e a. ((if_opened x (λ e a. (Some e, a)) rest).0 ≡ Some e) × ((if_opened x (λ e a. (Some e, a)) rest).1 ≡ a)) (λ file a. Rest file a (if_opened x (λ e a. (Some e, a)) rest).0 (if_opened x (λ e a. (Some e, a)) rest).1)
+opened_so (Err e, a) rest Rest more = (refl, refl)
+opened_so (Ok f, a) rest Rest more = more f.0 a
+
+brings_so : (p : Program) (ready : List Piece) (xs : List ScriptPiece) (c : Connection) → Brings p ready xs c (brought_after p ready xs c).0 (brought_after p ready xs c).1
+unfolding Brings brought_after
+brings_so p ready [] c = (true, refl)
+brings_so p ready (script_piece.Ready x ∷ xs) c = brings_so p (ready ++ x ∷ []) xs c
+brings_so p ready (script_piece.Range name start len ∷ xs) c =
+    (true, opened_so (opens_file true name c) (λ file a. brought_after p (ready ++ piece.File file start len ∷ []) xs a) (λ file a r d. Brings p (ready ++ piece.File file start len ∷ []) xs a r d) (λ file a. brings_so p (ready ++ piece.File file start len ∷ []) xs a))
+
+bring_may : (p : Program) (xs : List ScriptPiece) (w : World) → MayBring p xs w (bring_of p xs w).0 (bring_of p xs w).1
+bring_may p xs (Before fs) = (refl, refl)
+bring_may p xs (Closed ps fs) = (refl, refl)
+bring_may p xs (There c) = ((brought_after p [] xs c).0, (brought_after p [] xs c).1, brings_so p [] xs c, refl)
 
 answers_so : (budget : ℕ) (p : Program) (c : Command) (w : World) → MayAnswer budget p c w (answered true budget p c w).0 (answered true budget p c w).1
 unfolding MayAnswer
 answers_so budget p command.Open w = (true, refl)
 answers_so budget p (command.Begin c) w = (true, refl)
 answers_so budget p (command.End c) w = (true, refl)
-answers_so budget p (command.Bring c ps) w = (true, refl)
+answers_so budget p (command.File f) w = refl
+answers_so budget p (command.Bring c ps) w = bring_may p ps w
 answers_so budget p (command.Run c) w = run_may budget p w
 answers_so budget p (command.Output c) w = (true, refl)
 answers_so budget p (command.Labels c) w = (true, refl)

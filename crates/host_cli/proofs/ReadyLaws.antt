@@ -1,8 +1,11 @@
 -- The end of a request and the taking of the output leave the next instruction as it is.
-use Rattle.std.proofs.Common.{◌≡◌, ℕ, ◌<◌, length, Bool, List, [], ◌∷◌, Option, Some, None, refl, ap, sym, ◌∙◌, not, is_some}
+use Rattle.std.proofs.Common.{◌≡◌, ℕ, ◌<◌, length, Bool, List, [], ◌∷◌, Option, Some, None, refl, ap, sym, ◌∙◌, subst, not, is_some}
 use Rattle.run_model.specs.declared.event.Refusal.{Refusal}
 use Rattle.run_model.specs.declared.event.Refusal.TheVariants as refusal
 use Rattle.run_model.specs.State.{with_pools}
+use Rattle.run_model.specs.Files.{Files}
+use Rattle.run_model.specs.Runs.{World, Before}
+use Rattle.host_cli.specs.Host.{IsReady}
 use Rattle.run_model.specs.Clearing.{run_down}
 use Rattle.module_lang.specs.Program.{Program}
 use Rattle.run_model.specs.Connection.{Connection, opened, ends, ended, takes, first_refusal, refused_if, if_broken, unless_refused}
@@ -25,6 +28,11 @@ unfolding ends
 pc_ends memory c d r h = ap (λ z. z.1.run.pc) (sym h) ∙ pc_unless (first_refusal (if_broken c.broken ∷ (refused_if c.busy refusal.Busy ∷ (refused_if (not (is_some c.run.shared.req)) refusal.NotInRequest ∷ (refused_if (not memory) refusal.NoMemory ∷ []))))) c
 
 -- A connection that was just opened is at the first instruction.
-pub ready_opened : (p : Program) → 0 < length p.code → opened.run.pc < length p.code
+first_ready : (p : Program) (fs : Files) → 0 < length p.code → (opened fs).run.pc < length p.code
 unfolding opened
-ready_opened p some = some
+first_ready p fs some = some
+
+pub ready_opened : (p : Program) (w : World) (fs : Files) (c : Connection) → w ≡ Before fs → c ≡ opened fs → IsReady p w → c.run.pc < length p.code
+ready_opened p w fs c was is h =
+    let some : 0 < length p.code = subst (λ (x : World). IsReady p x) was h in
+    subst (λ (x : Connection). x.run.pc < length p.code) (sym is) (first_ready p fs some)

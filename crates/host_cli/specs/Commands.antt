@@ -1,6 +1,7 @@
 -- The commands of a script: their words, and the lines that say them.
-use Rattle.std.specs.Prelude.{ℕ, nat_eq, List, [], ◌∷◌, Option, find, option_map, codes}
+use Rattle.std.specs.Prelude.{ℕ, nat_eq, if◌then◌else◌, List, [], ◌∷◌, drop, Option, find, option_map, codes}
 use Rattle.std.specs.Option.{option_and_then}
+use Rattle.std.specs.List.{starts_with}
 use Rattle.std.specs.Cmp.Lexicographic.{pointwise}
 use Rattle.host_cli.specs.declared.command.Word.{Word}
 use Rattle.host_cli.specs.declared.command.Word.TheVariants as word
@@ -9,7 +10,9 @@ use Rattle.host_cli.specs.declared.command.Takes.TheVariants as takes
 use Rattle.host_cli.specs.declared.command.Command.{Command}
 use Rattle.host_cli.specs.declared.command.Command.TheVariants as command
 use Rattle.host_cli.specs.declared.operands.Operands.{Operands}
-use Rattle.host_cli.specs.Operands.{first_word, after_word, operands_at}
+use Rattle.host_cli.specs.Words.{first_word, after_word}
+use Rattle.host_cli.specs.Operands.{operands_at}
+use Rattle.host_cli.specs.FileLines.{file_line_of}
 
 -- how a word is written
 unfoldable pub word_text : Word → List ℕ
@@ -54,7 +57,12 @@ words = word.Open ∷ word.Begin ∷ word.End ∷ word.Bring ∷ word.Run ∷ wo
 unfoldable pub word_at : List ℕ → Option Word
 word_at token = find (λ w. pointwise nat_eq (word_text w) token) words
 
+-- a command other than `file`
+abbrev pub word_command_of : List ℕ → Option Command
+word_command_of line =
+    option_and_then (λ w. option_map (command_with w) (operands_at (takes_of w) (after_word line))) (word_at (first_word line))
+
 -- the command that a line says
 unfoldable pub command_of : List ℕ → Option Command
 command_of line =
-    option_and_then (λ w. option_map (command_with w) (operands_at (takes_of w) (after_word line))) (word_at (first_word line))
+    if starts_with nat_eq line (codes "file ") then option_map command.File (file_line_of (drop 5 line)) else word_command_of line

@@ -1,9 +1,12 @@
 pub use Rattle.module_lang.specs.Program
 pub mod Lines
+pub mod Words
+pub mod Pieces
 pub mod Operands
+pub mod FileLines
 pub mod Commands
+pub mod Numbers
 pub mod Replies
 pub mod Scripts
 pub mod Plays
 pub mod Host
-pub mod Numbers

@@ -1,6 +1,6 @@
 -- The play of a script: what its commands may answer, and what is written of that.
-use Rattle.std.specs.Prelude.{◌≡◌, ℕ, zero, suc, Bool, true, false, ◌==◌, if◌then◌else◌, List, [], ◌∷◌, ◌++◌, take, drop, Option, Some, None, Result, Ok, Err, flat_map, MatchBool, IfSome}
-use Rattle.std.specs.List.{list_any}
+use Rattle.std.specs.Prelude.{◌≡◌, ℕ, zero, suc, ◌+◌, Bool, true, false, ◌||◌, ◌==◌, if◌then◌else◌, List, [], ◌∷◌, ◌++◌, take, drop, Option, Some, None, Result, Ok, Err, flat_map, MatchBool, IfSome}
+use Rattle.std.specs.List.{list_any, repeat}
 use Rattle.std.specs.Io.KnownBytes.{Appends}
 use Rattle.module_lang.specs.Program.{Program}
 use Rattle.module_lang.specs.Codes.{code_number}
@@ -8,16 +8,23 @@ use Rattle.module_lang.specs.Assembling.{assembling}
 use Rattle.module_lang.specs.declared.refusal.AsmRefusal.{AsmRefusal}
 use Rattle.module_lang.specs.declared.refusal.AsmRefusal.TheVariants as asm
 use Rattle.run_model.specs.declared.event.Cause.TheVariants as cause
+use Rattle.run_model.specs.declared.event.Event.{Event}
 use Rattle.run_model.specs.declared.event.Event.TheVariants as event
 use Rattle.run_model.specs.declared.event.Refusal.{Refusal}
 use Rattle.run_model.specs.declared.event.Refusal.TheVariants as refusal
 use Rattle.run_model.specs.declared.event.Stepped.{Stepped}
 use Rattle.run_model.specs.declared.event.Stepped.TheVariants as stepped
-use Rattle.run_model.specs.Connection.{Connection, steps}
-use Rattle.run_model.specs.Runs.{Answer, Done, Refused, Step, Output, Labels, Tree, World, Before, There, happens, EndsRun, step_of}
+use Rattle.run_model.specs.declared.event.Piece.{Piece}
+use Rattle.run_model.specs.declared.event.Piece.TheVariants as piece
+use Rattle.run_model.specs.Files.{no_files}
+use Rattle.run_model.specs.Connection.{Connection, steps, brings, opens_file}
+use Rattle.run_model.specs.Runs.{Answer, Done, Refused, Step, Output, Opened, Labels, Tree, World, Before, There, Closed, happens, EndsRun, step_of, answer_of}
 use Rattle.pool_tree.specs.Printed.{payload_text, printed}
+use Rattle.host_cli.specs.declared.file_line.FileLine.{FileLine}
 use Rattle.host_cli.specs.declared.command.Command.{Command}
 use Rattle.host_cli.specs.declared.command.Command.TheVariants as command
+use Rattle.host_cli.specs.declared.pieces.ScriptPiece.{ScriptPiece}
+use Rattle.host_cli.specs.declared.pieces.ScriptPiece.TheVariants as script_piece
 use Rattle.host_cli.specs.declared.reply.Reply.{Reply}
 use Rattle.host_cli.specs.declared.reply.Reply.TheVariants as reply
 use Rattle.host_cli.specs.declared.ended.Ended.{Ended}
@@ -32,6 +39,7 @@ reply_of Done = reply.Done
 reply_of (Refused r) = reply.Refused r
 reply_of (Step s) = reply.Stepped s
 reply_of (Output bytes) = reply.Output bytes
+reply_of (Opened file len) = reply.Done
 reply_of (Labels labels) = reply.Labels labels
 reply_of (Tree pools) = reply.Pools (printed payload_text pools 0 1)
 
@@ -46,9 +54,10 @@ opened_reply a = reply_of a
 abbrev pub told_open : Answer × World → Reply × World
 told_open (a, w) = (opened_reply a, w)
 
--- Connection 1 is the only one that there can be. (The commands `open` and `pools` name none.)
+-- Connection 1 is the only one that there can be. (The commands `open`, `file` and `pools` name none.)
 abbrev pub is_for_first : Command → Bool
 is_for_first command.Open = true
+is_for_first (command.File f) = true
 is_for_first (command.Begin c) = c == 1
 is_for_first (command.End c) = c == 1
 is_for_first (command.Bring c pieces) = c == 1
@@ -73,13 +82,38 @@ abbrev pub run_of : ℕ → Program → World → Reply × World
 run_of budget p (There c) = told (step_of (ran budget budget p c))
 run_of budget p w = (reply.Refused refusal.NoSuchConn, w)
 
+-- The pieces come to the connection, memory lasting: the files of ranges are opened, left to right, and then the
+-- brigade is brought. The first refusal is the answer; files that were opened before it stay open.
+abbrev pub if_opened : Result (ℕ × ℕ) Refusal × Connection → (Refusal → Connection → Option Refusal × Connection) → (ℕ → Connection → Option Refusal × Connection) → Option Refusal × Connection
+if_opened (Err r, c) refused opened = refused r c
+if_opened (Ok f, c) refused opened = opened f.0 c
+
+abbrev pub IfOpened : Result (ℕ × ℕ) Refusal × Connection → (Refusal → Connection → Type 0) → (ℕ → Connection → Type 0) → Type 0
+IfOpened (Err r, c) refused opened = refused r c
+IfOpened (Ok f, c) refused opened = opened f.0 c
+
+unfoldable pub brought_after : Program → List Piece → List ScriptPiece → Connection → Option Refusal × Connection
+brought_after p ready [] c = brings true p ready c
+brought_after p ready (script_piece.Ready x ∷ xs) c = brought_after p (ready ++ x ∷ []) xs c
+brought_after p ready (script_piece.Range name start len ∷ xs) c =
+    if_opened (opens_file true name c) (λ r d. (Some r, d)) (λ file d. brought_after p (ready ++ piece.File file start len ∷ []) xs d)
+
+abbrev pub bring_of : Program → List ScriptPiece → World → Reply × World
+bring_of p xs (There c) = told (answer_of (brought_after p [] xs c))
+bring_of p xs w = (reply.Refused refusal.NoSuchConn, w)
+
+-- the bytes of the file that a line adds
+abbrev pub file_bytes : FileLine → List ℕ
+file_bytes f = repeat f.count f.text
+
 -- What a command for connection 1 answers and leaves; memory says whether a growth would succeed. (It always does in
--- a run of steps.)
+-- a run of steps, in a bring and where a file is added.)
 abbrev pub answered : Bool → ℕ → Program → Command → World → Reply × World
 answered memory budget p command.Open w = told_open (happens memory budget p event.Open w)
+answered memory budget p (command.File f) w = told (happens true budget p (event.AddFile f.name (file_bytes f)) w)
 answered memory budget p (command.Begin c) w = told (happens memory budget p event.Begin w)
 answered memory budget p (command.End c) w = told (happens memory budget p event.End w)
-answered memory budget p (command.Bring c pieces) w = told (happens memory budget p (event.Bring pieces) w)
+answered memory budget p (command.Bring c pieces) w = bring_of p pieces w
 answered memory budget p (command.Run c) w = run_of budget p w
 answered memory budget p (command.Output c) w = told (happens memory budget p event.TakeOutput w)
 answered memory budget p (command.Labels c) w = told (happens memory budget p event.TellLabels w)
@@ -95,12 +129,31 @@ abbrev pub MayRun : ℕ → Program → World → Reply → World → Type 0
 MayRun budget p (There c) r new = (memory : Bool) × (answer : Result Stepped Refusal) × (d : Connection) × EndsRun memory budget p c answer d × ((r, new) ≡ told (step_of (answer, d)))
 MayRun budget p w r new = (r ≡ reply.Refused refusal.NoSuchConn) × (new ≡ w)
 
--- What a command for connection 1 may answer and leave. Each growth may find no memory.
+-- A piece may be made ready so: the file of a range is opened, which may find no memory.
+abbrev pub IsMadeReady : ScriptPiece → Connection → Result Piece Refusal → Connection → Type 0
+IsMadeReady (script_piece.Ready x) old r new = (r ≡ Ok x) × (new ≡ old)
+IsMadeReady (script_piece.Range name start len) old r new =
+    (memory : Bool) × IfOpened (opens_file memory name old) (λ e c. (r ≡ Err e) × (new ≡ c)) (λ file c. (r ≡ Ok (piece.File file start len)) × (new ≡ c))
+
+-- How pieces may come to the connection: each opening of a file, and the bring itself, may find no memory.
+unfoldable pub Brings : Program → List Piece → List ScriptPiece → Connection → Option Refusal → Connection → Type 0
+Brings p ready [] old r new = (memory : Bool) × (brings memory p ready old ≡ (r, new))
+Brings p ready (script_piece.Ready x ∷ xs) old r new = Brings p (ready ++ x ∷ []) xs old r new
+Brings p ready (script_piece.Range name start len ∷ xs) old r new =
+    (memory : Bool) × IfOpened (opens_file memory name old) (λ e c. (r ≡ Some e) × (new ≡ c)) (λ file c. Brings p (ready ++ piece.File file start len ∷ []) xs c r new)
+
+abbrev pub MayBring : Program → List ScriptPiece → World → Reply → World → Type 0
+MayBring p xs (There c) r new = (answer : Option Refusal) × (d : Connection) × Brings p [] xs c answer d × ((r, new) ≡ told (answer_of (answer, d)))
+MayBring p xs w r new = (r ≡ reply.Refused refusal.NoSuchConn) × (new ≡ w)
+
+-- What a command for connection 1 may answer and leave. Each growth may find no memory. (Want of memory for a file that
+-- is added ends the play.)
 unfoldable pub MayAnswer : ℕ → Program → Command → World → Reply → World → Type 0
 MayAnswer budget p command.Open old r new = (memory : Bool) × (answered memory budget p command.Open old ≡ (r, new))
+MayAnswer budget p (command.File f) old r new = answered true budget p (command.File f) old ≡ (r, new)
 MayAnswer budget p (command.Begin c) old r new = (memory : Bool) × (answered memory budget p (command.Begin c) old ≡ (r, new))
 MayAnswer budget p (command.End c) old r new = (memory : Bool) × (answered memory budget p (command.End c) old ≡ (r, new))
-MayAnswer budget p (command.Bring c pieces) old r new = (memory : Bool) × (answered memory budget p (command.Bring c pieces) old ≡ (r, new))
+MayAnswer budget p (command.Bring c pieces) old r new = MayBring p pieces old r new
 MayAnswer budget p (command.Run c) old r new = MayRun budget p old r new
 MayAnswer budget p (command.Output c) old r new = (memory : Bool) × (answered memory budget p (command.Output c) old ≡ (r, new))
 MayAnswer budget p (command.Labels c) old r new = (memory : Bool) × (answered memory budget p (command.Labels c) old ≡ (r, new))
@@ -156,10 +209,10 @@ lines_of_replies rs = flat_map reply_line rs
 -- answers are those of the run in which memory lasts.
 pub record IsPlayed (budget : ℕ) (p : Program) (script : Commands) (text : List ℕ) (e : Ended) : Type 0 where
   pub replies : List Reply
-  pub run : Plays budget p script.commands Before replies
+  pub run : Plays budget p script.commands (Before no_files) replies
   pub lines : text ≡ lines_of_replies replies ++ last_line script.fault
   pub ended : e ≡ ended_at script.fault
-  pub only : list_any names_memory replies ≡ false → replies ≡ replies_of budget p script.commands Before
+  pub only : list_any names_memory replies ≡ false → replies ≡ replies_of budget p script.commands (Before no_files)
 
 -- The text is the front of one that a play writes.
 pub record IsPlayedSoFar (budget : ℕ) (p : Program) (script : Commands) (text : List ℕ) : Type 0 where

@@ -1,14 +1,16 @@
 //! The commands of a script.
 
 ghost use Rattle.std.specs.Prelude.{◌≡◌, IfOk, Ok, Some};
-ghost use Rattle.host_cli.specs.Commands.{word_text, takes_of, word_at, command_with, command_of};
+ghost use Rattle.host_cli.specs.Commands.{word_text, takes_of, word_at, command_with, word_command_of, command_of};
 
-use crate::lines::len_before;
+use crate::file_line::{FileLine, file_line_of};
 use crate::operands::{Operands, operands_of};
-use run_model::{Piece, Seq};
+use crate::pieces::ScriptPiece;
+use crate::words::{after_word, first_word};
+use run_model::Seq;
 use std::alloc::{AllocError, Global};
 
-/// The first word of a command.
+/// The first word of a command other than `file`.
 #[derive(Clone, Copy)]
 pub enum Word {
     Open,
@@ -38,12 +40,14 @@ pub enum Takes {
 pub enum Command {
     /// Opens a connection.
     Open,
+    /// Adds a file.
+    File(FileLine),
     /// Begins a request.
     Begin(u64),
     /// Ends the request.
     End(u64),
-    /// Brings a brigade of these pieces.
-    Bring(u64, Seq<Piece>),
+    /// Opens the files of these pieces, and brings a brigade of them.
+    Bring(u64, Seq<ScriptPiece>),
     /// Makes steps until a call has ended, or more is refused.
     Run(u64),
     /// Takes the output.
@@ -123,17 +127,30 @@ fn word_at(token: &[u8]) -> Option<Word>
     WORDS.iter().copied().find(|word| word.text() == token)
 }
 
+/// A command other than `file`.
+#[tactic(auto, unfolding(crate::specs::Commands::command_of))]
+fn word_command_of(alloc: Global, line: &[u8]) -> Result<Option<Command>, AllocError>
+    ensures { IfOk result (λ c. c ≡ word_command_of line.now) }
+{
+    let Some(word) = word_at(first_word(line)) else {
+        return Ok(None);
+    };
+    match operands_of(alloc, word.takes(), after_word(line))? {
+        Some(operands) => Ok(Some(word.with(operands))),
+        None => Ok(None),
+    }
+}
+
 /// The command that a line says, without its LF. `None` where it says none.
 #[tactic(auto, unfolding(crate::specs::Commands::command_of))]
 pub fn command_of(alloc: Global, line: &[u8]) -> Result<Option<Command>, AllocError>
     ensures { IfOk result (λ c. c ≡ command_of line.now) }
 {
-    let len = len_before(line, b' ');
-    let Some(word) = word_at(&line[..len]) else {
-        return Ok(None);
-    };
-    match operands_of(alloc, word.takes(), &line[len..])? {
-        Some(operands) => Ok(Some(word.with(operands))),
+    if !line.starts_with(b"file ") {
+        return word_command_of(alloc, line);
+    }
+    match file_line_of(alloc, &line[5..])? {
+        Some(file) => Ok(Some(Command::File(file))),
         None => Ok(None),
     }
 }

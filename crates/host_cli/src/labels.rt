@@ -4,17 +4,10 @@ ghost use Rattle.std.specs.Prelude.{◌≡◌, ℕ, ◌++◌, ◌∷◌, [], IfO
 ghost use Rattle.run_model.specs.Payloads.{labels_in};
 ghost use Rattle.module_run.specs.Seen.{labels_handed};
 
+use crate::words::copied;
 use pool_tree::PoolId;
 use run_model::{Payload, Seq};
 use std::alloc::{AllocError, Global};
-
-fn copied(alloc: Global, text: &[u8]) -> Result<Seq<u8>, AllocError>
-    ensures { IfOk result (λ copy. copy ≡ text.now) }
-{
-    let mut copy = Seq::new(alloc);
-    copy.extend(text)?;
-    Ok(copy)
-}
 
 /// Adds the text of a payload that is a label.
 fn push_label(alloc: Global, labels: &mut Seq<Seq<u8>>, payload: &Payload) -> Result<(), AllocError>

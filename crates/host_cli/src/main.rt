@@ -1,14 +1,17 @@
 //! The program: it plays a script from standard input, and writes the answers to standard output.
 #![tactic(auto)]
 
+mod bringing;
 mod command;
 mod ended;
 mod fault;
+mod file_line;
 mod host;
 mod labels;
 mod lines;
 mod number;
 mod operands;
+mod pieces;
 mod play;
 mod pools;
 mod reply;
@@ -17,6 +20,7 @@ mod script;
 mod streams;
 #[cfg(test)]
 mod tests;
+mod words;
 
 use ended::Ended;
 use fault::PlayFault;

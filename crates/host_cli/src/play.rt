@@ -1,13 +1,12 @@
 //! Playing a script.
 
 ghost use Rattle.std.specs.Prelude.{◌≡◌, ℕ, ◌+◌, ◌<◌, ◌≤◌, ◌^◌, ◌++◌, [], length, true, false, IfOk, OnOk, OnErr};
-ghost use Rattle.run_model.specs.Runs.{Before};
 ghost use Rattle.host_cli.specs.declared.reply.Reply.{Reply};
 ghost use Rattle.host_cli.specs.Replies.{reply_line};
 ghost use Rattle.host_cli.specs.Lines.{lines_of};
 ghost use Rattle.host_cli.specs.Scripts.{opens, commands_of, header_of, script_of};
 ghost use Rattle.host_cli.specs.Plays.{Serves, IsPlayed, IsPlayedSoFar, IsTextOf, IsFrontOf};
-ghost use Rattle.host_cli.specs.Host.{world_of, IsReady};
+ghost use Rattle.host_cli.specs.Host.{world_of, is_before, IsFreeFor, IsReady};
 
 use crate::command::Command;
 use crate::ended::Ended;
@@ -29,11 +28,12 @@ fn answer(
     out: &mut Vec<u8>,
 ) -> Result<(), AllocError>
     requires ready { IsReady code.now (world_of host.old) }
-    requires once { opens command ≡ true → world_of host.old ≡ Before }
+    requires once { opens command ≡ true → is_before (world_of host.old) ≡ true }
+    requires free { IsFreeFor command (world_of host.old) }
     ensures ok { OnOk result ((r : Reply) × Serves budget code.now command (world_of host.old) r (world_of host.new) × (out.new.items ≡ out.old.items ++ reply_line r)) }
     ensures err { OnErr result (out.new.items ≡ out.old.items) }
     ensures ready { IsReady code.now (world_of host.new) }
-    ensures before { opens command ≡ false → world_of host.old ≡ Before → world_of host.new ≡ Before }
+    ensures before { opens command ≡ false → is_before (world_of host.new) ≡ is_before (world_of host.old) }
 {
     let reply = serve(alloc, code, budget, host, command)?;
     put_reply(alloc, out, &reply)
@@ -51,16 +51,16 @@ pub fn play_commands(
 ) -> Result<Ended, AllocError>
     requires small { first + length commands.now < 2 ^ 64 }
     requires fresh { out.old.items ≡ [] }
-    ensures ok { IfOk result (λ e. IsPlayed budget code.now (commands_of false first (lines_of commands.now)) out.new.items e) }
-    ensures err { OnErr result (IsPlayedSoFar budget code.now (commands_of false first (lines_of commands.now)) out.new.items) }
+    ensures ok { IfOk result (λ e. IsPlayed budget code.now (commands_of false [] first (lines_of commands.now)) out.new.items e) }
+    ensures err { OnErr result (IsPlayedSoFar budget code.now (commands_of false [] first (lines_of commands.now)) out.new.items) }
 {
-    let mut host = no_conn(code);
+    let mut host = no_conn(alloc, code);
     let mut is_open = false;
     let mut at = 0;
     let mut number = first;
     while at < commands.len() {
         let line = first_line(&commands[at..]);
-        let Some(command) = due_command(alloc, line.text, line.ended, is_open)? else {
+        let Some(command) = due_command(alloc, line.text, line.ended, is_open, &host)? else {
             put_script_fault(alloc, out, number)?;
             return Ok(Ended::Refused);
         };

@@ -67,6 +67,7 @@ fn refusal_name(refusal: Refusal) -> &'static str
         Refusal::InRequest => "InRequest",
         Refusal::NotInRequest => "NotInRequest",
         Refusal::DataAfterEos => "DataAfterEos",
+        Refusal::NoFile => "NoFile",
         Refusal::NamesSpent => "NamesSpent",
         Refusal::NoMemory => "NoMemory",
     }

@@ -2,9 +2,11 @@
 
 ghost use Rattle.std.specs.Prelude.{◌≡◌, ◌≤◌, length, IfOk, Some};
 ghost use Rattle.host_cli.specs.Lines.{first_line, lines_of};
-ghost use Rattle.host_cli.specs.Scripts.{budget_at, header_of, command_at, opens, due};
+ghost use Rattle.host_cli.specs.Scripts.{budget_at, header_of, command_at, opens, name_given, is_taken, due};
+ghost use Rattle.host_cli.specs.Host.{is_had, world_of};
 
 use crate::command::{Command, command_of};
+use crate::host::{Host, has_file};
 use crate::lines::first_line;
 use crate::number::number_of;
 use std::alloc::{AllocError, Global};
@@ -79,25 +81,36 @@ pub fn opens(command: &Command) -> bool
     matches!(command, Command::Open)
 }
 
-/// The command of a line, where it may stand: a second connection is not opened.
+/// Whether a command gives a file a name that a file has.
+fn is_taken(command: &Command, host: &Host) -> bool
+    ensures { result ≡ is_taken (is_had (world_of host.now)) (name_given command.now) }
+{
+    match command {
+        Command::File(line) => has_file(host, line.name.as_slice()),
+        _ => false,
+    }
+}
+
+/// The command of a line, where it may stand: a second connection is not opened, and no name is given to a second file.
 pub fn due_command(
     alloc: Global,
     text: &[u8],
     ended: bool,
     is_open: bool,
+    host: &Host,
 ) -> Result<Option<Command>, AllocError>
-    ensures { IfOk result (λ c. c ≡ due is_open (command_at (record { text = text.now; ended = ended }))) }
+    ensures { IfOk result (λ c. c ≡ due is_open (is_had (world_of host.now)) (command_at (record { text = text.now; ended = ended }))) }
 {
     match command_at(alloc, text, ended)? {
-        Some(command) => Ok(due(command, is_open)),
+        Some(command) => Ok(due(command, is_open, host)),
         None => Ok(None),
     }
 }
 
-fn due(command: Command, is_open: bool) -> Option<Command>
-    ensures { result ≡ due is_open (Some command) }
+fn due(command: Command, is_open: bool, host: &Host) -> Option<Command>
+    ensures { result ≡ due is_open (is_had (world_of host.now)) (Some command) }
 {
-    if is_open && opens(&command) {
+    if is_open && opens(&command) || is_taken(&command, host) {
         return None;
     }
     Some(command)

@@ -24,6 +24,7 @@ mod writer;
 pub use assembler::assemble;
 pub use instr::{Instr, PoolRef, Status, Value, VarRef};
 pub use module::Module;
+pub use name::is_name;
 pub use print::print_module;
 pub use quoted::{Measured, measure, print_text, push_spelling, unquote};
 pub use refusal::{AsmRefusal, Code};

@@ -25,8 +25,9 @@ fn all_name_bytes(token: &[u8]) -> bool
     token.iter().all(|byte| is_name_byte(*byte))
 }
 
+/// Whether a name is written so: a letter, then up to 15 letters or digits, lower case.
 #[tactic(auto, unfolding(crate::specs::Names::is_name))]
-fn is_name(token: &[u8]) -> bool
+pub fn is_name(token: &[u8]) -> bool
     ensures { result ≡ is_name token.now }
 {
     1 <= token.len() && token.len() <= 16 && is_letter(token[0]) && all_name_bytes(token)

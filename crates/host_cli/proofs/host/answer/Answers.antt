@@ -22,9 +22,8 @@ returns-in-End-clause-answers c = rw c.in-End.is (lasted_by c.end.result, c.end.
 pub returns-in-End-clause-ready : goal.returns-in-End-clause-ready
 returns-in-End-clause-ready c = c.end.ensures.ready c.args.code.now c.requires.ready
 
-pub returns-in-Bring-clause-answers : goal.returns-in-Bring-clause-answers
-unfolding MayAnswer
-returns-in-Bring-clause-answers c = rw c.in-Bring.is (lasted_by c.bring.result, c.bring.ensures.event c.args.budget)
+pub returns-in-File-clause-ready : goal.returns-in-File-clause-ready
+returns-in-File-clause-ready c = c.file.ensures.ready c.args.code.now c.requires.ready
 
 pub returns-in-Output-clause-answers : goal.returns-in-Output-clause-answers
 unfolding MayAnswer

@@ -1,6 +1,9 @@
-use Rattle.std.proofs.Common.{◌||◌, sym, refl, ap, ◌∙◌, arith}
+use Rattle.std.proofs.Common.{◌≡◌, ◌||◌, sym, refl, ap, ◌∙◌, arith}
+use Rattle.host_cli.specs.Scripts.{due, command_at}
 use Rattle.host_cli.proofs.LineLaws.{length_rest}
 use Rattle.host_cli.proofs.PlayTurns.{front_at, fault_at, goes_at, end_at, on_err, or_left, or_right}
+use Rattle.host_cli.specs.Host.{world_of}
+use Rattle.host_cli.proofs.NameLaws.{due_free, due_once}
 use Rattle.host_cli.proofs.play.play_commands.Goals as goal
 
 pub returns-in_err-command-clause-err : goal.returns-in_err-command-clause-err
@@ -34,6 +37,16 @@ loop-at-preserved c =
       within = omega arith;
       counted = omega arith;
       ready = c.in_ok-answer.ensures.ready;
-      before = λ h. c.in_ok-answer.ensures.before (sym c.opens-opening.ensures ∙ or_right _ _ h) (c.loop-at.invariant.before (or_left _ _ h));
+      before = λ h. c.in_ok-answer.ensures.before (sym c.opens-opening.ensures ∙ or_right _ _ h) ∙ c.loop-at.invariant.before (or_left _ _ h);
       played = goes_at _ _ _ _ _ _ c.loop-at.at line.result.width c.args.commands.now _ _ _ _ line.result.text.now line.result.ended _ c.in-Some.command c.loop-at.invariant.played c.loop-at-test.true (line.ensures.text, line.ensures.ended) line.ensures.width due_here c.in-Some.is (ap (λ b. c.loop-at.is_open || b) c.opens-opening.ensures) c.in_ok-answer.ensures.ok;
     }
+
+pub answer-requires-clause-once : goal.answer-requires-clause-once
+answer-requires-clause-once c = λ h.
+    let line = c.first_line-line.result in
+    c.loop-at.invariant.before (due_once c.loop-at.is_open (world_of c.loop-at.host) (command_at (record { text = line.text.now; ended = line.ended })) c.in-Some.command (sym c.in_ok-command.ensures ∙ c.in-Some.is) h)
+
+pub answer-requires-clause-free : goal.answer-requires-clause-free
+answer-requires-clause-free c =
+    let line = c.first_line-line.result in
+    due_free c.loop-at.is_open (world_of c.loop-at.host) (command_at (record { text = line.text.now; ended = line.ended })) c.in-Some.command (sym c.in_ok-command.ensures ∙ c.in-Some.is)

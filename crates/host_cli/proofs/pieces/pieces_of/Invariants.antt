@@ -1,6 +1,6 @@
 use Rattle.std.proofs.Common.{◌≡◌, ◌-◌, ◌≤◌, [], length, drop}
-use Rattle.host_cli.specs.Operands.{pieces_from}
-use Rattle.host_cli.proofs.operands.pieces_of.Given as goal
+use Rattle.host_cli.specs.Pieces.{pieces_from}
+use Rattle.host_cli.proofs.pieces.pieces_of.Given as goal
 
 -- the bytes that are left go on with the pieces so far
 abbrev pub invariant-loop : goal.invariant-loop

@@ -1,0 +1,234 @@
+//! The pieces of a brigade, as scripts write them.
+
+ghost use Rattle.std.specs.Prelude.{◌≡◌, ◌<◌, ◌≤◌, ◌+◌, ◌^◌, true, nat_eq, length, IfOk, IfSome};
+ghost use Rattle.std.specs.List.{starts_with};
+ghost use Rattle.host_cli.specs.Pieces.{word_of, piece_of, kind_at, text_of_kind, text_at, eos_at, flush_at, range_at, range_from, or_else, piece_at, pieces_of, IsWithin};
+
+use crate::words::{after_number, after_word, copied, first_word, is_parted, number_at};
+use module_lang::{is_name, measure, unquote};
+use run_model::{Piece, Seq};
+use std::alloc::{AllocError, Global};
+
+/// A piece of a brigade, as a script writes it.
+#[derive(Drop)]
+pub enum ScriptPiece {
+    /// A piece that can be brought as it is.
+    Ready(Piece),
+    /// A range of the file of this name: `len` bytes from byte `start` on.
+    Range { name: Seq<u8>, start: u64, len: u64 },
+}
+
+/// A piece, and how many bytes its text takes, with the space before it.
+#[derive(Drop)]
+pub struct PieceRead {
+    /// The piece.
+    pub piece: ScriptPiece,
+    /// How many bytes it takes.
+    pub used: usize,
+}
+
+/// The pieces that have a text.
+#[derive(Clone, Copy)]
+pub enum TextKind {
+    Heap,
+    Transient,
+    Immortal,
+    Pool,
+}
+
+const TEXT_KINDS: [TextKind; 4] = [
+    TextKind::Heap,
+    TextKind::Transient,
+    TextKind::Immortal,
+    TextKind::Pool,
+];
+
+impl TextKind {
+    /// The word before the text, with the spaces around it.
+    #[tactic(auto, unfolding(crate::specs::Pieces::word_of))]
+    fn word(self) -> &'static [u8]
+        ensures value { result.now ≡ word_of self }
+        ensures small { 0 < length result.now }
+    {
+        match self {
+            TextKind::Heap => b" heap ",
+            TextKind::Transient => b" transient ",
+            TextKind::Immortal => b" immortal ",
+            TextKind::Pool => b" pool ",
+        }
+    }
+
+    #[tactic(auto, unfolding(crate::specs::Pieces::piece_of))]
+    fn piece(self, text: Seq<u8>) -> Piece
+        ensures { result ≡ piece_of self text }
+    {
+        match self {
+            TextKind::Heap => Piece::Heap(text),
+            TextKind::Transient => Piece::Transient(text),
+            TextKind::Immortal => Piece::Immortal(text),
+            TextKind::Pool => Piece::Pool(text),
+        }
+    }
+}
+
+#[tactic(auto, unfolding(crate::specs::Pieces::kind_at))]
+fn kind_at(bytes: &[u8]) -> Option<TextKind>
+    ensures value { result ≡ kind_at bytes.now }
+    ensures found { IfSome result (λ k. starts_with nat_eq bytes.now (word_of k) ≡ true) }
+{
+    TEXT_KINDS
+        .iter()
+        .copied()
+        .find(|kind| bytes.starts_with(kind.word()))
+}
+
+/// The piece of a kind with a text, whose word these bytes begin with.
+fn text_of_kind(
+    alloc: Global,
+    kind: TextKind,
+    bytes: &[u8],
+) -> Result<Option<PieceRead>, AllocError>
+    requires { starts_with nat_eq bytes.now (word_of kind) ≡ true }
+    ensures value { IfOk result (λ r. r ≡ text_of_kind kind bytes.now) }
+    ensures within { IfOk result (λ r. IfSome r (λ r. IsWithin r bytes.now)) }
+{
+    let word = kind.word().len();
+    let quoted = &bytes[word..];
+    let Some(measured) = measure(quoted) else {
+        return Ok(None);
+    };
+    if !is_parted(&quoted[measured.used..]) {
+        return Ok(None);
+    }
+    match unquote(alloc, quoted)? {
+        Some(text) => Ok(Some(PieceRead {
+            piece: ScriptPiece::Ready(kind.piece(text)),
+            used: word + measured.used,
+        })),
+        None => Ok(None),
+    }
+}
+
+#[tactic(auto, unfolding(crate::specs::Pieces::text_at))]
+fn text_at(alloc: Global, bytes: &[u8]) -> Result<Option<PieceRead>, AllocError>
+    ensures value { IfOk result (λ r. r ≡ text_at bytes.now) }
+    ensures within { IfOk result (λ r. IfSome r (λ r. IsWithin r bytes.now)) }
+{
+    match kind_at(bytes) {
+        Some(kind) => text_of_kind(alloc, kind, bytes),
+        None => Ok(None),
+    }
+}
+
+#[tactic(auto, unfolding(crate::specs::Pieces::eos_at))]
+fn eos_at(bytes: &[u8]) -> Option<PieceRead>
+    ensures value { result ≡ eos_at bytes.now }
+    ensures within { IfSome result (λ r. IsWithin r bytes.now) }
+{
+    if !bytes.starts_with(b" eos") || !is_parted(&bytes[4..]) {
+        return None;
+    }
+    Some(PieceRead {
+        piece: ScriptPiece::Ready(Piece::Eos),
+        used: 4,
+    })
+}
+
+#[tactic(auto, unfolding(crate::specs::Pieces::flush_at))]
+fn flush_at(bytes: &[u8]) -> Option<PieceRead>
+    ensures value { result ≡ flush_at bytes.now }
+    ensures within { IfSome result (λ r. IsWithin r bytes.now) }
+{
+    if !bytes.starts_with(b" flush") || !is_parted(&bytes[6..]) {
+        return None;
+    }
+    Some(PieceRead {
+        piece: ScriptPiece::Ready(Piece::Flush),
+        used: 6,
+    })
+}
+
+/// The range of a file that stands behind the word `file`: its name and two numbers.
+fn range_from(alloc: Global, bytes: &[u8]) -> Result<Option<PieceRead>, AllocError>
+    requires { length bytes.now + 6 < 2 ^ 64 }
+    ensures value { IfOk result (λ r. r ≡ range_from bytes.now) }
+    ensures within { IfOk result (λ r. IfSome r (λ r. (0 < r.used) × (r.used ≤ length bytes.now + 6))) }
+{
+    let name = first_word(bytes);
+    if !is_name(name) {
+        return Ok(None);
+    }
+    let numbers = after_word(bytes);
+    let Some(start) = number_at(numbers) else {
+        return Ok(None);
+    };
+    let second = after_number(numbers);
+    let Some(len) = number_at(second) else {
+        return Ok(None);
+    };
+    let used = 6 + (bytes.len() - after_number(second).len());
+    let name = copied(alloc, name)?;
+    Ok(Some(PieceRead {
+        piece: ScriptPiece::Range { name, start, len },
+        used,
+    }))
+}
+
+#[tactic(auto, unfolding(crate::specs::Pieces::range_at))]
+fn range_at(alloc: Global, bytes: &[u8]) -> Result<Option<PieceRead>, AllocError>
+    ensures value { IfOk result (λ r. r ≡ range_at bytes.now) }
+    ensures within { IfOk result (λ r. IfSome r (λ r. IsWithin r bytes.now)) }
+{
+    if !bytes.starts_with(b" file ") {
+        return Ok(None);
+    }
+    range_from(alloc, &bytes[6..])
+}
+
+fn named_at(alloc: Global, bytes: &[u8]) -> Result<Option<PieceRead>, AllocError>
+    ensures value { IfOk result (λ r. r ≡ or_else (range_at bytes.now) (text_at bytes.now)) }
+    ensures within { IfOk result (λ r. IfSome r (λ r. IsWithin r bytes.now)) }
+{
+    match range_at(alloc, bytes)? {
+        Some(read) => Ok(Some(read)),
+        None => text_at(alloc, bytes),
+    }
+}
+
+/// The piece that stands after a space, and before the end or another space.
+#[tactic(auto, unfolding(crate::specs::Pieces::piece_at))]
+fn piece_at(alloc: Global, bytes: &[u8]) -> Result<Option<PieceRead>, AllocError>
+    ensures value { IfOk result (λ r. r ≡ piece_at bytes.now) }
+    ensures within { IfOk result (λ r. IfSome r (λ r. IsWithin r bytes.now)) }
+{
+    if let Some(read) = eos_at(bytes) {
+        return Ok(Some(read));
+    }
+    if let Some(read) = flush_at(bytes) {
+        return Ok(Some(read));
+    }
+    named_at(alloc, bytes)
+}
+
+/// The pieces that these bytes are, each after a space. A piece takes a byte at least.
+#[tactic(auto, unfolding(crate::specs::Pieces::pieces_of))]
+pub fn pieces_of(alloc: Global, bytes: &[u8]) -> Result<Option<Seq<ScriptPiece>>, AllocError>
+    ensures { IfOk result (λ ps. ps ≡ pieces_of bytes.now) }
+{
+    let mut pieces = Seq::new(alloc);
+    let mut at = 0;
+    for _ in 0..bytes.len() {
+        if at == bytes.len() {
+            return Ok(Some(pieces));
+        }
+        let Some(read) = piece_at(alloc, &bytes[at..])? else {
+            return Ok(None);
+        };
+        pieces.push(read.piece)?;
+        at += read.used;
+    }
+    if at == bytes.len() {
+        return Ok(Some(pieces));
+    }
+    Ok(None)
+}
