@@ -1,10 +1,10 @@
 -- Ranges that are read part by part, and bytes that are put behind one another.
-use Rattle.std.proofs.Common.{◌≡◌, ℕ, zero, suc, ◌+◌, ◌-◌, ◌<◌, ◌≤◌, min, Bool, true, false, cond, List, [], ◌∷◌, ◌++◌, length, take, drop, Option, Some, None, refl, sym, ap, subst, ⊎_elim, ◌∙◌, append_assoc, arith}
+use Rattle.std.proofs.Common.{◌≡◌, ℕ, zero, suc, ◌+◌, ◌-◌, ◌<◌, ◌≤◌, min, true, false, cond, List, [], ◌∷◌, ◌++◌, length, take, drop, Some, None, refl, sym, ap, ⊎_elim, ◌∙◌, append_assoc, arith}
 use Rattle.std.specs.Prelude.{Result, Ok, Err, OnOk, OnErr}
 use Rattle.std.specs.Result.{is_err}
 use Rattle.std.proofs.lemmas.Bool.{false≢true}
 use Rattle.std.proofs.lemmas.List.{append-nil, length-append, length-take, length-drop, length-take-le, take-append-le}
-use borrow.Rule.Slice.PartMut.{put_mid, mid_of, post_of}
+use borrow.Rule.Slice.PartMut.{put_mid, post_of}
 use Rattle.std.proofs.lemmas.Bool.{cases_lt}
 use Rattle.run_model.specs.declared.bucket.Named.{Named}
 use Rattle.run_model.specs.Buckets.{is_eos}

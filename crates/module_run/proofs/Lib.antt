@@ -12,3 +12,4 @@ pub mod LetGo
 pub mod Opened
 pub mod Filling
 pub mod Ranges
+pub mod Referred

@@ -1,5 +1,5 @@
 -- A reference that was registered and is killed again leaves the pools as they were.
-use Rattle.std.proofs.Common.{◌≡◌, ℕ, Bool, true, false, ◌||◌, cond, List, [], ◌∷◌, ◌++◌, refl, sym, ap, ◌∙◌}
+use Rattle.std.proofs.Common.{◌≡◌, ℕ, Bool, true, false, ◌||◌, cond, List, [], ◌∷◌, ◌++◌, refl, ap, ◌∙◌}
 use Rattle.std.specs.List.{list_any}
 use Rattle.run_model.specs.Indexed.{upd}
 use Rattle.run_model.specs.Pools.{Pools, is_live, registered}
@@ -28,7 +28,7 @@ without_newest test (y ∷ ys) x passes =
     ap (λ b. cond b (y ∷ without_last test (ys ++ x ∷ [])) (cond (test y) (ys ++ x ∷ []) (y ∷ (ys ++ x ∷ [])))) (last_any test ys x passes)
     ∙ ap (λ zs. y ∷ zs) (without_newest test ys x passes)
 
-abbrev with_payloads : {T : Type 0} → Pools T → (ℕ → List T) → Pools T
+abbrev pub with_payloads : {T : Type 0} → Pools T → (ℕ → List T) → Pools T
 with_payloads ps f = record ps { payloads = f }
 
 pub killed_again : {T : Type 0} (ps : Pools T) (p : ℕ) (test : T → Bool) (x : T) → test x ≡ true → killed p test (registered p x ps) ≡ ps

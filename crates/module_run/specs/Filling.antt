@@ -1,5 +1,5 @@
 -- What is taken of buckets into a list of bytes that was made ready.
-use Rattle.std.specs.Prelude.{◌≡◌, ℕ, Bool, List, take, All, sum_by}
+use Rattle.std.specs.Prelude.{ℕ, List, take, All, sum_by}
 use Rattle.run_model.specs.declared.bucket.Named.{Named}
 use Rattle.run_model.specs.Files.{Files, Taken}
 use Rattle.run_model.specs.Cutting.{EndsInFile, length_of}

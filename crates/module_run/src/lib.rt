@@ -11,6 +11,7 @@ mod machine;
 mod output;
 mod pieces;
 mod pool_vars;
+mod saves;
 mod step;
 mod values;
 mod vars;

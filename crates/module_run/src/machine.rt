@@ -10,6 +10,7 @@ mod files;
 mod numbers;
 mod pool_steps;
 mod pools;
+mod saves;
 
 use bucket_kinds::MemFiles;
 use pool_tree::{PoolId, PoolTree};

@@ -8,7 +8,7 @@ ghost use Rattle.module_run.specs.Seen.{seen_run, step_lasted};
 ghost use Rattle.module_run.specs.Passed.{passed_by};
 
 use crate::machine::Machine;
-use crate::{effects, values, vars, wants};
+use crate::{effects, saves, values, vars, wants};
 use run_model::{Exit, Instr, Module, PoolVar, Status, StepRefusal, Stepped, Var, VarRef};
 use std::alloc::{AllocError, Global};
 
@@ -83,7 +83,7 @@ fn change(
         Instr::BCreate(o) => Ok(effects::create(alloc, code, machine, o)),
         Instr::BClean(b) => Ok(effects::clean(machine, b)),
         Instr::BConcat(a, b) => effects::concat(machine, a, b),
-        Instr::BSave(o, b) => Err(AllocError),
+        Instr::BSave(o, b) => saves::save(alloc, machine, o, b),
         Instr::Put(x, _) => values::put(machine, x),
         Instr::Ret(_) => Ok(effects::end_call(machine)),
         Instr::ClearBuf => Ok(machine.clear_buffer()),

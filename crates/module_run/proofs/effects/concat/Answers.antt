@@ -1,5 +1,4 @@
 -- Without memory both brigades are put back.
-use Rattle.std.proofs.Common.{◌≡◌, ap}
 use Rattle.run_model.specs.declared.bucket.Var.TheVariants as var
 use Rattle.module_run.specs.Seen.{seen_run}
 use Rattle.module_run.proofs.Writes.{read_other, put_same, on_err}

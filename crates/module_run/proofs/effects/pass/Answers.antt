@@ -1,8 +1,8 @@
 -- Without memory the brigade is put back.
-use Rattle.std.proofs.Common.{◌≡◌, sym, ap, ◌∙◌}
+use Rattle.std.proofs.Common.{ap, ◌∙◌}
 use Rattle.run_model.specs.declared.bucket.Var.{Var}
 use Rattle.run_model.specs.declared.bucket.Var.TheVariants as var
-use Rattle.run_model.specs.State.{Run, set_brig}
+use Rattle.run_model.specs.State.{set_brig}
 use Rattle.module_run.specs.Seen.{seen_run}
 use Rattle.module_run.proofs.Writes.{set_twice, set_same}
 use Rattle.module_run.proofs.effects.pass.Goals as goal

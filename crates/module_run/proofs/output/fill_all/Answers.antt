@@ -1,11 +1,11 @@
 -- One bucket after another.
-use Rattle.std.proofs.Common.{◌≡◌, ℕ, ◌+◌, ◌-◌, ◌<◌, ◌≤◌, Bool, true, false, List, [], ◌∷◌, ◌++◌, length, take, drop, get_or, refl, sym, ap, subst, ◌∙◌, arith, rules}
+use Rattle.std.proofs.Common.{◌≡◌, ℕ, ◌+◌, ◌-◌, ◌≤◌, Bool, true, false, List, ◌∷◌, length, take, drop, get_or, sym, ap, ◌∙◌, arith, rules}
 use Rattle.std.proofs.lemmas.List.{drop_more, at_drop_all, append-nil}
 use Rattle.std.proofs.lemmas.List.Sums.{sum_by-drop_more}
 use Rattle.std.proofs.lemmas.List.Elements.{All-drop}
 use Rattle.run_model.specs.declared.bucket.Named.{Named}
 use Rattle.run_model.specs.Buckets.{is_eos}
-use Rattle.run_model.specs.Files.{Taken, and_then, taken_of, content_taken}
+use Rattle.run_model.specs.Files.{and_then, taken_of}
 use Rattle.run_model.specs.Cutting.{EndsInFile, length_of}
 use Rattle.bucket_kinds.specs.MemDevice.{files_of}
 use Rattle.module_run.proofs.Filling.{both, put_len, put_front, at_eos, at_failed, at_more, at_end, tail_len}

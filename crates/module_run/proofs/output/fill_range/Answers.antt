@@ -1,8 +1,8 @@
 -- Each part is read to its place, or not read.
-use Rattle.std.proofs.Common.{◌≡◌, ℕ, ◌+◌, ◌-◌, ◌<◌, ◌≤◌, min, true, false, List, ◌++◌, length, take, Some, None, refl, sym, ap, subst, ◌∙◌, arith, rules}
+use Rattle.std.proofs.Common.{◌≡◌, ℕ, ◌+◌, ◌-◌, ◌<◌, min, true, false, List, length, take, Some, None, refl, sym, ap, ◌∙◌, arith}
 use Rattle.std.proofs.lemmas.Slice.{take-put_mid, take-put_mid_below}
 use Rattle.std.proofs.lemmas.List.{append-nil}
-use Rattle.run_model.specs.Files.{read_part, Taken, and_then}
+use Rattle.run_model.specs.Files.{read_part, and_then}
 use Rattle.bucket_kinds.specs.MemDevice.{files_of}
 use Rattle.module_run.proofs.Filling.{rest_of_range, part_read, part_failed, none_left, part_len, put_len, told_none, told_some}
 use Rattle.module_run.proofs.output.fill_range.Goals as goal

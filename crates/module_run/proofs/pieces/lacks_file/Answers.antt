@@ -1,5 +1,5 @@
 -- A range is one of some file of the request, or of none.
-use Rattle.std.proofs.Common.{◌≡◌, ◌+◌, not, sym, ap, ◌∙◌}
+use Rattle.std.proofs.Common.{◌+◌, not, sym, ap, ◌∙◌}
 use Rattle.run_model.specs.Connection.{lacks_file}
 use Rattle.module_run.specs.OpenFiles.{lengths}
 use Rattle.module_run.proofs.Ranges.{any_lengths}

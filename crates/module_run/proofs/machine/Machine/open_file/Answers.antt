@@ -1,11 +1,10 @@
 -- A file is opened, or what was registered for it is killed again.
-use Rattle.std.proofs.Common.{◌≡◌, ℕ, Bool, true, refl, sym, ap, subst, ◌∙◌}
+use Rattle.std.proofs.Common.{◌≡◌, Bool, true, refl, sym, ap, subst, ◌∙◌}
 use Rattle.run_model.specs.declared.payload.Payload.{Payload}
 use Rattle.run_model.specs.declared.payload.Payload.TheVariants.{FileRef}
 use Rattle.run_model.specs.Pools.{Pools, registered}
 use Rattle.pool_tree.specs.Tree.{map_of}
 use Rattle.module_run.specs.Seen.{seen_run}
-use Rattle.module_run.specs.Standing.{IsStanding}
 use Rattle.module_run.proofs.Standing.{request_live, standing_same}
 use Rattle.module_run.proofs.Opened.{killed_again, live_registered, unopened, with_both}
 use Rattle.std.proofs.lemmas.Bool.{eq-eqb}
