@@ -1,5 +1,5 @@
 -- Fronts of what a play of a script may write.
-use Rattle.std.proofs.Common.{◌≡◌, ℕ, List, [], ◌∷◌, ◌++◌, take, drop, false, Option, Some, None, IfSome, Result, Ok, Err, IfOk, OnErr, refl, ap, sym, ◌∙◌, subst, append_assoc}
+use Rattle.std.proofs.Common.{◌≡◌, ℕ, List, [], ◌++◌, take, drop, false, Option, Some, None, IfSome, Result, Ok, Err, IfOk, OnErr, refl, ap, sym, ◌∙◌, subst, append_assoc}
 use Rattle.std.proofs.lemmas.List.{take-append-drop, append-nil}
 use Rattle.std.specs.Io.KnownBytes.{Appends, Consumes, IsAtEnd}
 use Rattle.module_lang.specs.Program.{Program}
@@ -11,8 +11,8 @@ use Rattle.host_cli.specs.declared.ended.Ended.{Ended}
 use Rattle.host_cli.specs.declared.ended.Ended.TheVariants as ended
 use Rattle.host_cli.specs.declared.lines.ModuleCut.{ModuleCut}
 use Rattle.host_cli.specs.Lines.{lines_of, module_cut}
-use Rattle.host_cli.specs.Scripts.{Commands, commands_of, header_of, script_of}
-use Rattle.host_cli.specs.Plays.{IsPlayed, IsPlayedSoFar, IsPlayOf, IsTextOf, IsFrontOf, Writes, module_text, after_module, refusal_line}
+use Rattle.host_cli.specs.Scripts.{header_of, script_of}
+use Rattle.host_cli.specs.Plays.{IsPlayedSoFar, IsPlayOf, IsTextOf, IsFrontOf, Writes, module_text, after_module, refusal_line}
 use Rattle.host_cli.proofs.PlayTurns.{under_first, turn_front}
 
 pub front_of_play : (script text : List ℕ) (p : Program) → assembling (module_text script) ≡ Ok p → IsPlayedSoFar (header_of (lines_of (after_module script))).budget p (script_of (module_cut (lines_of script)).lines (after_module script)) text → IsFrontOf script text

@@ -1,12 +1,10 @@
 -- A text that is not empty begins with its first line, and the other lines are those of the rest.
-use Rattle.std.proofs.Common.{◌≡◌, ℕ, suc, ◌+◌, ◌-◌, ◌<◌, ◌≤◌, Bool, true, false, cond, eqb, ltb, not, List, [], ◌∷◌, length, take, drop, refl, ap, sym, ◌∙◌, arith, rules, add-one}
+use Rattle.std.proofs.Common.{◌≡◌, ℕ, suc, ◌+◌, ◌-◌, ◌<◌, ◌≤◌, Bool, true, false, cond, eqb, ltb, List, [], ◌∷◌, length, take, drop, refl, ap, sym, ◌∙◌, arith}
 use Rattle.std.proofs.Math.Numerals.{one-add}
 use Rattle.std.proofs.lemmas.Grind.{common_steps}
 use Rattle.std.proofs.lemmas.Bool.Decides.{nat_tests}
 use Rattle.std.proofs.lemmas.List.{drop-drop, drop_all}
-use Rattle.std.specs.List.{position_or_len, prefix_len}
-use Rattle.host_cli.specs.declared.lines.ModuleCut.{ModuleCut}
-use Rattle.host_cli.specs.Lines.{Line, at_front, lines_of, line_len, first_line, width, is_end, cut_from}
+use Rattle.host_cli.specs.Lines.{at_front, lines_of, line_len, first_line, width, is_end, cut_from}
 
 abbrev rest_of : List ℕ → List ℕ
 rest_of bytes = drop (width (first_line bytes)) bytes

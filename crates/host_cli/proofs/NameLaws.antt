@@ -1,6 +1,5 @@
 -- The files that there are by name are those of the lines that were played.
 use Rattle.std.proofs.Common.{◌≡◌, ℕ, Bool, true, false, ◌&&◌, ◌||◌, cond, List, [], ◌∷◌, ◌++◌, Option, Some, None, Result, Ok, Err, refl, ap, sym, ◌∙◌, is_some, MatchBool, IfSome, subst}
-use Rattle.std.specs.List.{list_any}
 use Rattle.std.specs.Str.{bytes_eq}
 use Rattle.module_lang.specs.Program.{Program}
 use Rattle.run_model.specs.Files.{no_files}
@@ -10,8 +9,8 @@ use Rattle.run_model.specs.declared.event.Piece.{Piece}
 use Rattle.run_model.specs.declared.event.Piece.TheVariants as piece
 use Rattle.run_model.specs.declared.event.Refusal.{Refusal}
 use Rattle.run_model.specs.declared.event.Refusal.TheVariants as refusal
-use Rattle.run_model.specs.Connection.{Connection, brings, opens_file}
-use Rattle.run_model.specs.Runs.{Answer, World, Before, There, Closed, happens, files_of, answer_of, step_of}
+use Rattle.run_model.specs.Connection.{Connection, opens_file}
+use Rattle.run_model.specs.Runs.{Answer, World, Before, There, Closed, happens, files_of, answer_of}
 use Rattle.host_cli.specs.declared.file_line.FileLine.{FileLine}
 use Rattle.host_cli.specs.declared.command.Command.{Command}
 use Rattle.host_cli.specs.declared.command.Command.TheVariants as command
@@ -20,7 +19,7 @@ use Rattle.host_cli.specs.declared.pieces.ScriptPiece.TheVariants as script_piec
 use Rattle.host_cli.specs.declared.reply.Reply.{Reply}
 use Rattle.host_cli.specs.declared.reply.Reply.TheVariants as reply
 use Rattle.host_cli.specs.Scripts.{due, opens, name_given, is_taken, is_among, and_name}
-use Rattle.host_cli.specs.Plays.{told, told_open, is_for_first, IfOpened, answered, file_bytes, Brings, MayBring, MayRun, MayAnswer, Serves}
+use Rattle.host_cli.specs.Plays.{told, told_open, is_for_first, IfOpened, file_bytes, Brings, MayBring, MayRun, MayAnswer, Serves}
 use Rattle.host_cli.specs.Host.{is_had, IsFree, IsFreeFor}
 use Rattle.host_cli.proofs.NamedFiles.{names_in, names_at, adds, run_named, brings_named, opens_named, happens_named}
 

@@ -1,7 +1,6 @@
 -- Which files there are by name is changed by lines that add files alone.
-use Rattle.std.proofs.Common.{◌≡◌, ℕ, zero, suc, ◌+◌, ◌-◌, Bool, true, false, ◌&&◌, ◌||◌, not, cond, leb, List, [], ◌∷◌, Option, Some, None, Result, Ok, Err, refl, ap, sym, ◌∙◌, is_some}
+use Rattle.std.proofs.Common.{◌≡◌, ℕ, zero, suc, ◌+◌, ◌-◌, Bool, true, false, ◌||◌, not, cond, leb, List, [], ◌∷◌, Option, Some, None, Result, Ok, Err, refl, ap, sym, ◌∙◌}
 use Rattle.std.specs.Prelude.{min}
-use Rattle.std.specs.Str.{bytes_eq}
 use Rattle.module_lang.specs.Program.{Program, pool_of_pool}
 use Rattle.module_lang.specs.declared.instr.Status.TheVariants.{Success}
 use Rattle.module_lang.specs.declared.instr.PoolRef.TheVariants as pool
@@ -30,9 +29,9 @@ use Rattle.run_model.specs.Pools.{created}
 use Rattle.run_model.specs.Files.{Files, Taken, read_part, read_done, unless_failed, range_taken, parts_of, content_taken, and_then, all_taken, followed_by, taken_of}
 use Rattle.run_model.specs.Faults.{fault}
 use Rattle.run_model.specs.State.{Run, Out, items_of, pool_named, set_pool, set_brig, set_number, with_pools}
-use Rattle.run_model.specs.Steps.{Choice, step, step_at_end, on_pool, do_pcreate, pool_cleared, pool_destroyed, label_registered, label_killed, text_of, do_save, saved_into, made_on, do_put, is_full, value_of, delivered, put_out, settled, executed, unless_fault, watched, current, succeeded, lacks_names, grows}
-use Rattle.run_model.specs.Connection.{Connection, opened, begins, begun, brings, brought, ends, ended, opens_file, file_answer, takes, steps, step_if, step_from, step_answer, after_step, first_refusal, if_broken, refused_if, unless_refused}
-use Rattle.run_model.specs.Runs.{Answer, World, Before, There, Closed, happens, GoesOn, EndsRun, answer_of, step_of, file_of, files_of}
+use Rattle.run_model.specs.Steps.{Choice, step, step_at_end, on_pool, do_pcreate, pool_cleared, pool_destroyed, label_registered, label_killed, text_of, saved_into, made_on, is_full, delivered, put_out, settled, executed, unless_fault, watched, current, succeeded, lacks_names, grows}
+use Rattle.run_model.specs.Connection.{Connection, opened, begins, begun, brings, brought, ends, ended, opens_file, file_answer, takes, steps, step_if, step_from, step_answer, first_refusal, if_broken, refused_if, unless_refused}
+use Rattle.run_model.specs.Runs.{World, Before, There, Closed, happens, GoesOn, EndsRun, answer_of, step_of, file_of, files_of}
 
 abbrev pub Names : Type 0
 Names = List ℕ → Option (List ℕ)

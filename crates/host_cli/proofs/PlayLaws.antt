@@ -1,5 +1,5 @@
 -- Runs of commands: there is one where memory lasts, and where no answer says otherwise it is the only one.
-use Rattle.std.proofs.Common.{◌≡◌, ◌≢◌, ℕ, zero, suc, ◌+◌, ◌-◌, ◌<◌, ◌≤◌, Bool, true, false, ◌||◌, not, cond, eqb, List, [], ◌∷◌, ◌++◌, Option, Some, None, Result, Ok, Err, refl, ap, sym, ◌∙◌, subst, arith, is_some, length, MatchBool}
+use Rattle.std.proofs.Common.{◌≡◌, ℕ, ◌+◌, Bool, true, false, ◌||◌, not, cond, List, [], ◌∷◌, ◌++◌, Option, Some, None, Result, Ok, Err, refl, ap, sym, ◌∙◌, arith, is_some, length, MatchBool}
 use Rattle.std.specs.List.{list_any}
 use Rattle.module_lang.specs.Program.{Program}
 use Rattle.run_model.specs.declared.event.Event.{Event}
@@ -8,11 +8,10 @@ use Rattle.run_model.specs.declared.event.Piece.{Piece}
 use Rattle.run_model.specs.declared.event.Refusal.{Refusal}
 use Rattle.run_model.specs.declared.event.Refusal.TheVariants as refusal
 use Rattle.run_model.specs.declared.event.Stepped.{Stepped}
-use Rattle.run_model.specs.declared.event.Stepped.TheVariants as stepped
 use Rattle.run_model.specs.Steps.{is_spent}
 use Rattle.run_model.specs.declared.event.Piece.TheVariants as piece
 use Rattle.run_model.specs.Connection.{Connection, begins, begun, brings, brought, opens_file, file_answer, ends, ended, first_refusal, refused_if, if_broken, unless_refused, data_behind_eos, lacks_file, steps}
-use Rattle.run_model.specs.Runs.{Answer, World, Before, There, Closed, happens, GoesOn, step_of, answer_of, file_of}
+use Rattle.run_model.specs.Runs.{World, Before, There, Closed, happens, step_of, answer_of, file_of}
 use Rattle.host_cli.specs.declared.pieces.ScriptPiece.{ScriptPiece}
 use Rattle.host_cli.specs.declared.pieces.ScriptPiece.TheVariants as script_piece
 use Rattle.host_cli.specs.declared.command.Command.{Command}

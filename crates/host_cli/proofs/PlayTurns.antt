@@ -1,16 +1,15 @@
 -- The play of commands, line by line.
-use Rattle.std.proofs.Common.{◌≡◌, ℕ, ◌+◌, ◌-◌, ◌<◌, ◌≤◌, Bool, true, false, ◌||◌, List, [], ◌∷◌, ◌++◌, length, take, drop, Option, Some, None, Result, Ok, Err, OnErr, refl, ap, sym, ◌∙◌, subst, arith, append_assoc}
+use Rattle.std.proofs.Common.{◌≡◌, ℕ, ◌+◌, ◌<◌, ◌≤◌, Bool, true, false, ◌||◌, List, [], ◌∷◌, ◌++◌, length, drop, Option, Some, None, Result, Ok, Err, OnErr, refl, ap, sym, ◌∙◌, subst, append_assoc}
 use Rattle.std.proofs.lemmas.List.{append-nil}
 use Rattle.module_lang.specs.Program.{Program}
 use Rattle.run_model.specs.Files.{no_files}
-use Rattle.run_model.specs.Runs.{World, Before, files_of}
+use Rattle.run_model.specs.Runs.{World, Before}
 use Rattle.host_cli.specs.declared.command.Command.{Command}
 use Rattle.host_cli.specs.declared.reply.Reply.{Reply}
-use Rattle.host_cli.specs.declared.ended.Ended.{Ended}
 use Rattle.host_cli.specs.declared.ended.Ended.TheVariants as ended
 use Rattle.host_cli.specs.Replies.{reply_line, script_line}
 use Rattle.host_cli.specs.Lines.{Line, lines_of, first_line, width}
-use Rattle.host_cli.specs.Scripts.{Commands, commands_of, first_then, due, command_at, opens, name_given, is_taken, is_among, and_name}
+use Rattle.host_cli.specs.Scripts.{Commands, commands_of, first_then, due, command_at, opens, name_given, is_among, and_name}
 use Rattle.host_cli.specs.Plays.{Serves, Plays, replies_of, lines_of_replies, last_line, ended_at, IsPlayed, IsPlayedSoFar}
 use Rattle.host_cli.proofs.PlayLaws.{plays_only, plays_so}
 use Rattle.host_cli.proofs.NameLaws.{Knows, knows_first, serves_knows, due_known}

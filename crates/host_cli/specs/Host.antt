@@ -1,5 +1,5 @@
 -- What of the model a connection that may not be open yet, or was closed, stands for.
-use Rattle.std.specs.Prelude.{ℕ, ◌≡◌, ◌<◌, Bool, true, false, List, length, Option, Some, None, is_some, Result, Ok, Err, IfSome}
+use Rattle.std.specs.Prelude.{ℕ, ◌≡◌, ◌<◌, Bool, true, false, List, length, None, is_some, Result, Ok, Err, IfSome}
 use Rattle.module_lang.specs.Program.{Program}
 use Rattle.run_model.specs.declared.event.Refusal.{Refusal}
 use Rattle.run_model.specs.Runs.{World, Before, There, Closed, with_file, files_of as world_files}

@@ -1,5 +1,5 @@
 -- The lines of a text, and which of them are the module text of a script.
-use Rattle.std.specs.Prelude.{ℕ, ◌+◌, Bool, true, false, ◌&&◌, nat_eq, nat_lt, ◌==◌, if◌then◌else◌, List, [], ◌∷◌, length, take, drop, codes}
+use Rattle.std.specs.Prelude.{ℕ, ◌+◌, Bool, true, false, ◌&&◌, nat_eq, nat_lt, ◌==◌, if◌then◌else◌, List, [], ◌∷◌, length, take, codes}
 use Rattle.std.specs.List.{position_or_len}
 use Rattle.std.specs.Cmp.Lexicographic.{pointwise}
 use Rattle.host_cli.specs.declared.lines.ModuleCut.{ModuleCut}

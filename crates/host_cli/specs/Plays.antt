@@ -1,5 +1,5 @@
 -- The play of a script: what its commands may answer, and what is written of that.
-use Rattle.std.specs.Prelude.{◌≡◌, ℕ, zero, suc, ◌+◌, Bool, true, false, ◌||◌, ◌==◌, if◌then◌else◌, List, [], ◌∷◌, ◌++◌, take, drop, Option, Some, None, Result, Ok, Err, flat_map, MatchBool, IfSome}
+use Rattle.std.specs.Prelude.{◌≡◌, ℕ, zero, suc, Bool, true, false, ◌==◌, if◌then◌else◌, List, [], ◌∷◌, ◌++◌, take, drop, Option, Some, None, Result, Ok, Err, flat_map, MatchBool, IfSome}
 use Rattle.std.specs.List.{list_any, repeat}
 use Rattle.std.specs.Io.KnownBytes.{Appends}
 use Rattle.module_lang.specs.Program.{Program}
@@ -8,7 +8,6 @@ use Rattle.module_lang.specs.Assembling.{assembling}
 use Rattle.module_lang.specs.declared.refusal.AsmRefusal.{AsmRefusal}
 use Rattle.module_lang.specs.declared.refusal.AsmRefusal.TheVariants as asm
 use Rattle.run_model.specs.declared.event.Cause.TheVariants as cause
-use Rattle.run_model.specs.declared.event.Event.{Event}
 use Rattle.run_model.specs.declared.event.Event.TheVariants as event
 use Rattle.run_model.specs.declared.event.Refusal.{Refusal}
 use Rattle.run_model.specs.declared.event.Refusal.TheVariants as refusal
@@ -18,7 +17,7 @@ use Rattle.run_model.specs.declared.event.Piece.{Piece}
 use Rattle.run_model.specs.declared.event.Piece.TheVariants as piece
 use Rattle.run_model.specs.Files.{no_files}
 use Rattle.run_model.specs.Connection.{Connection, steps, brings, opens_file}
-use Rattle.run_model.specs.Runs.{Answer, Done, Refused, Step, Output, Opened, Labels, Tree, World, Before, There, Closed, happens, EndsRun, step_of, answer_of}
+use Rattle.run_model.specs.Runs.{Answer, Done, Refused, Step, Output, Opened, Labels, Tree, World, Before, There, happens, EndsRun, step_of, answer_of}
 use Rattle.pool_tree.specs.Printed.{payload_text, printed}
 use Rattle.host_cli.specs.declared.file_line.FileLine.{FileLine}
 use Rattle.host_cli.specs.declared.command.Command.{Command}

@@ -1,5 +1,5 @@
 -- The words of a command line, and the numbers among them.
-use Rattle.std.specs.Prelude.{ℕ, Bool, true, false, ◌==◌, if◌then◌else◌, List, [], ◌∷◌, take, drop, Option, Some, None}
+use Rattle.std.specs.Prelude.{ℕ, Bool, true, false, ◌==◌, if◌then◌else◌, List, [], ◌∷◌, take, drop, Option, None}
 use Rattle.std.specs.List.{position_or_len}
 use Rattle.host_cli.specs.Numbers.{number_of}
 

@@ -279,7 +279,7 @@ pub const ROWS: [Row; 39] = [
         name: "a name that is taken",
         module_text: IDENTITY,
         commands: "file a 1 \"x\"\nfile a 1 \"y\"\n",
-        answers: "ok\nscript line 16\n",
+        answers: "ok\nscript line 17\n",
         is_done: false,
     },
     Row {

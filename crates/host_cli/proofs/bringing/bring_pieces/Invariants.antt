@@ -1,5 +1,5 @@
 -- The pieces so far and those that are left are brought as all are.
-use Rattle.std.proofs.Common.{◌≡◌, ◌<◌, [], length, Option}
+use Rattle.std.proofs.Common.{◌<◌, [], length, Option}
 use Rattle.std.specs.Vec.Iter.{into_iter_items}
 use Rattle.run_model.specs.declared.event.Refusal.{Refusal}
 use Rattle.run_model.specs.Connection.{Connection}

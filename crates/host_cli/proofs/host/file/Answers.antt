@@ -1,4 +1,3 @@
-use Rattle.std.proofs.Common.{ap, sym, ◌∙◌}
 use Rattle.host_cli.specs.Host.{world_of}
 use Rattle.host_cli.proofs.HostLaws.{not_taken, file_told, ready_added, before_kept}
 use Rattle.host_cli.proofs.host.file.Goals as goal

@@ -1,5 +1,5 @@
-use Rattle.std.proofs.Common.{◌≡◌, ◌∙◌, ◌-◌, ◌+◌, length, drop, sym, ap, arith}
-use Rattle.host_cli.specs.Pieces.{pieces_of, pieces_from, IsWithin}
+use Rattle.std.proofs.Common.{◌∙◌, ◌-◌, ◌+◌, length, drop, sym, ap, arith}
+use Rattle.host_cli.specs.Pieces.{pieces_of, pieces_from}
 use Rattle.host_cli.proofs.PieceLaws.{turn_goes, turn_fails, turn_spent}
 use Rattle.host_cli.proofs.LineLaws.{length_rest}
 use Rattle.host_cli.proofs.pieces.pieces_of.Goals as goal

@@ -1,4 +1,4 @@
-use Rattle.std.proofs.Common.{◌≡◌, ◌∙◌, refl, arith}
+use Rattle.std.proofs.Common.{◌∙◌, refl, arith}
 use Rattle.std.proofs.lemmas.Result.{on_err_weaker}
 use Rattle.host_cli.proofs.LineLaws.{length_rest, rest_is}
 use Rattle.host_cli.proofs.PlayTurns.{on_err}

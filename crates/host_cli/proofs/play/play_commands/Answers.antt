@@ -1,5 +1,5 @@
-use Rattle.std.proofs.Common.{◌≡◌, ◌||◌, sym, refl, ap, ◌∙◌, arith}
-use Rattle.host_cli.specs.Scripts.{due, command_at}
+use Rattle.std.proofs.Common.{◌||◌, sym, refl, ap, ◌∙◌, arith}
+use Rattle.host_cli.specs.Scripts.{command_at}
 use Rattle.host_cli.proofs.LineLaws.{length_rest}
 use Rattle.host_cli.proofs.PlayTurns.{front_at, fault_at, goes_at, end_at, on_err, or_left, or_right}
 use Rattle.host_cli.specs.Host.{world_of}
