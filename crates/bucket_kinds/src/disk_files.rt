@@ -16,7 +16,8 @@ use std::os::unix::fs::FileExt;
 use std::rt::Files as FileSystem;
 use std::{fs, io, str};
 
-/// Files of a disk, reached by a runtime. What they hold is not told. A name is a path.
+/// Files of a disk, reached by a runtime. What they hold is not told. A name is a path: one that is not UTF-8, that holds a
+/// NUL, or that leads to no regular file is `NotThere`. Any other fault of an opening is `Failed`, and is counted.
 #[derive(Drop)]
 pub struct DiskFiles<R: FileSystem + AllocGlobal> {
     runtime: R,

@@ -15,7 +15,8 @@ pub trait Files {
     ghost device: { Self → Device };
 
     /// Opens the file of a name, and gives its new number and its length in bytes. `NotThere` is told of a name
-    /// without a file, `NamesSpent` where the number would be `u64::MAX`. Refused, no file more is open.
+    /// without a file, `Failed` where the device failed, `NamesSpent` where the number would be `u64::MAX`, `NoMemory`
+    /// where there is none for the open file. Refused, no file more is open.
     fn open_file(&mut self, name: &[u8]) -> Result<(FileNo, u64), FileFault>
         ensures { IsOpening (device self.old) name.now result (device self.new) };
 

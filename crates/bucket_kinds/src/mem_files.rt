@@ -79,7 +79,8 @@ impl MemFiles {
         }
     }
 
-    /// Adds a file. `Taken` is told where there is a file of that name, and `NoMemory` only where there is none.
+    /// Adds a file. `Taken` is told where there is a file of that name, and `NoMemory` only where there is none. Refused,
+    /// nothing is changed.
     pub fn add(&mut self, name: &[u8], bytes: Vec<u8>) -> Result<(), AddRefusal>
         ensures files { IsAdding (files_of self.old) name.now bytes.items result (files_of self.new) }
         ensures failures { failures_of self.new ≡ failures_of self.old }

@@ -48,8 +48,8 @@ fn fetch<F: Files>(
 
 /// Reads a bucket. FILE of length at most 8000 becomes HEAP; a longer one becomes HEAP of its first 8000 bytes, and
 /// the rest is given as a FILE bucket with the same home. Any other bucket is left, and there is no rest. Nothing is
-/// read of a range of length 0. `ReadFault` comes where the device failed or the file was shorter than the range;
-/// a refused bucket is as it was.
+/// read of a range of length 0. `ReadFault` comes where the device failed or the file ends before the last byte that
+/// is read; a refused bucket is as it was.
 pub fn read_bucket<F: Files>(
     alloc: Global,
     bucket: &mut Bucket,

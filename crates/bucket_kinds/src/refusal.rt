@@ -35,7 +35,7 @@ pub enum FileFault {
     NotThere,
     /// The device failed.
     Failed,
-    /// The number that would have to be given out is the last one.
+    /// The number that would have to be given out is 2^64 - 1.
     NamesSpent,
     /// There is no memory.
     NoMemory,

@@ -12,7 +12,7 @@ use Rattle.host_cli.specs.declared.ended.Ended.TheVariants as ended
 use Rattle.host_cli.specs.declared.lines.ModuleCut.{ModuleCut}
 use Rattle.host_cli.specs.Lines.{lines_of, module_cut}
 use Rattle.host_cli.specs.Scripts.{header_of, script_of}
-use Rattle.host_cli.specs.Plays.{IsPlayedSoFar, IsPlayOf, IsTextOf, IsFrontOf, Writes, module_text, after_module, refusal_line}
+use Rattle.host_cli.specs.Plays.{IsPlayedSoFar, IsPlayOf, IsWrittenFor, IsFrontOf, Writes, module_text, after_module, refusal_line}
 use Rattle.host_cli.proofs.PlayTurns.{under_first, turn_front}
 
 pub front_of_play : (script text : List ℕ) (p : Program) → assembling (module_text script) ≡ Ok p → IsPlayedSoFar (header_of (lines_of (after_module script))).budget p (script_of (module_cut (lines_of script)).lines (after_module script)) text → IsFrontOf script text
@@ -44,16 +44,16 @@ front_at_cut script text head rest cut p e h r a front =
 -- A front of a front, or of the whole, is one.
 pub front_take : (script text : List ℕ) (n : ℕ) → IsFrontOf script text → IsFrontOf script (take n text)
 front_take script text n f =
-    let P : List ℕ → Type 0 = λ t. IsTextOf script t f.end in
+    let P : List ℕ → Type 0 = λ t. IsWrittenFor script t f.end in
     record {
       more = drop n text ++ f.more;
       end = f.end;
       whole = subst P (ap (λ t. t ++ f.more) (sym (take-append-drop n text)) ∙ append_assoc (take n text) (drop n text) f.more) f.whole;
     }
 
-pub front_of_text : (script text : List ℕ) (e : Ended) → IsTextOf script text e → IsFrontOf script text
+pub front_of_text : (script text : List ℕ) (e : Ended) → IsWrittenFor script text e → IsFrontOf script text
 front_of_text script text e w =
-    let P : List ℕ → Type 0 = λ t. IsTextOf script t e in
+    let P : List ℕ → Type 0 = λ t. IsWrittenFor script t e in
     record { more = []; end = e; whole = subst P (sym (append-nil text)) w }
 
 -- What a reader gave up to its end is all that it had.
@@ -66,7 +66,7 @@ pub appends_nothing : (w : Option (List ℕ)) → Appends w w []
 appends_nothing None = tt
 appends_nothing (Some xs) = sym (append-nil xs)
 
-pub front_of_played : {E : Type 0} (r : Result Ended E) (script text : List ℕ) → IfOk r (λ e. IsTextOf script text e) → OnErr r (IsFrontOf script text) → IsFrontOf script text
+pub front_of_played : {E : Type 0} (r : Result Ended E) (script text : List ℕ) → IfOk r (λ e. IsWrittenFor script text e) → OnErr r (IsFrontOf script text) → IsFrontOf script text
 front_of_played (Ok e) script text w f = front_of_text script text e w
 front_of_played (Err x) script text w f = f
 

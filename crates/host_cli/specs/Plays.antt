@@ -237,14 +237,14 @@ abbrev pub IsPlayOf : Result Program AsmRefusal → ℕ → List ℕ → List �
 IsPlayOf (Ok p) lines rest text e = IsPlayed (header_of (lines_of rest)).budget p (script_of lines rest) text e
 IsPlayOf (Err fault) lines rest text e = (text ≡ refusal_line fault) × (e ≡ ended.Refused)
 
-pub record IsTextOf (script text : List ℕ) (e : Ended) : Type 0 where
+pub record IsWrittenFor (script text : List ℕ) (e : Ended) : Type 0 where
   pub play : IsPlayOf (assembling (module_text script)) (module_cut (lines_of script)).lines (after_module script) text e
 
 -- The text is the front of one that a play of the script may write.
 pub record IsFrontOf (script text : List ℕ) : Type 0 where
   pub more : List ℕ
   pub end : Ended
-  pub whole : IsTextOf script (text ++ more) end
+  pub whole : IsWrittenFor script (text ++ more) end
 
 -- Where the input of a call is known, what it wrote is such a text of that input.
 abbrev pub Writes : Option (List ℕ) → Option (List ℕ) → Option (List ℕ) → (List ℕ → List ℕ → Type 0) → Type 0

@@ -11,7 +11,7 @@ pub enum PlayFault {
     /// The writer failed, or took nothing.
     #[error("cannot write")]
     Write,
-    /// There was no memory for the script or for an answer.
+    /// There was no memory for the script, for an answer, for the bytes of a `file` or for the list of pieces of a `bring`.
     #[error("no memory")]
     NoMemory,
 }

@@ -5,7 +5,7 @@ ghost use Rattle.host_cli.specs.declared.reply.Reply.{Reply};
 ghost use Rattle.host_cli.specs.Replies.{reply_line};
 ghost use Rattle.host_cli.specs.Lines.{lines_of};
 ghost use Rattle.host_cli.specs.Scripts.{opens, commands_of, header_of, script_of};
-ghost use Rattle.host_cli.specs.Plays.{Serves, IsPlayed, IsPlayedSoFar, IsTextOf, IsFrontOf};
+ghost use Rattle.host_cli.specs.Plays.{Serves, IsPlayed, IsPlayedSoFar, IsWrittenFor, IsFrontOf};
 ghost use Rattle.host_cli.specs.Host.{world_of, is_before, IsFreeFor, IsReady};
 
 use crate::command::Command;
@@ -95,7 +95,7 @@ fn play_module(
 pub fn play(alloc: Global, script: &[u8], out: &mut Vec<u8>) -> Result<Ended, AllocError>
     requires small { length script.now < 2 ^ 63 }
     requires fresh { out.old.items ≡ [] }
-    ensures ok { IfOk result (λ e. IsTextOf script.now out.new.items e) }
+    ensures ok { IfOk result (λ e. IsWrittenFor script.now out.new.items e) }
     ensures err { OnErr result (IsFrontOf script.now out.new.items) }
 {
     let cut = module_cut(script);

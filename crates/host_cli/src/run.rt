@@ -2,7 +2,7 @@
 
 ghost use Rattle.std.specs.Prelude.{◌≡◌, ◌≢◌, ℕ, List, ◌<◌, ◌^◌, length, IfOk, IfErr, OnErr};
 ghost use Rattle.std.specs.Io.KnownBytes.{Appends};
-ghost use Rattle.host_cli.specs.Plays.{IsTextOf, IsFrontOf, Writes};
+ghost use Rattle.host_cli.specs.Plays.{IsWrittenFor, IsFrontOf, Writes};
 
 use crate::ended::Ended;
 use crate::fault::PlayFault;
@@ -15,7 +15,7 @@ use std::io::{Read, Write};
 /// Plays a script, and writes the answers.
 fn write_play<W: Write>(alloc: Global, script: &[u8], writer: &mut W) -> Result<Ended, PlayFault>
     requires { length script.now < 2 ^ 63 }
-    ensures ok { IfOk result (λ e. (text : List ℕ) × IsTextOf script.now text e × Appends (W.contents writer.old) (W.contents writer.new) text) }
+    ensures ok { IfOk result (λ e. (text : List ℕ) × IsWrittenFor script.now text e × Appends (W.contents writer.old) (W.contents writer.new) text) }
     ensures err { OnErr result ((text : List ℕ) × IsFrontOf script.now text × Appends (W.contents writer.old) (W.contents writer.new) text) }
     ensures fault { IfErr result (λ e. e ≢ PlayFault.Read) }
 {
@@ -39,7 +39,7 @@ pub fn run_play<R: Read, W: Write>(
     reader: &mut R,
     writer: &mut W,
 ) -> Result<Ended, PlayFault>
-    ensures ok { IfOk result (λ e. Writes (R.remaining reader.old) (W.contents writer.old) (W.contents writer.new) (λ script text. IsTextOf script text e)) }
+    ensures ok { IfOk result (λ e. Writes (R.remaining reader.old) (W.contents writer.old) (W.contents writer.new) (λ script text. IsWrittenFor script text e)) }
     ensures err { OnErr result (Writes (R.remaining reader.old) (W.contents writer.old) (W.contents writer.new) IsFrontOf) }
     ensures silent { result ≡ Err PlayFault.Read → writer.new ≡ writer.old }
 {

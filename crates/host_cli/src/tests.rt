@@ -1,5 +1,6 @@
 //! Scripts and what is written for them, over memory, and readers and writers that fail.
 
+mod reads;
 mod rows;
 
 use super::*;
@@ -16,7 +17,7 @@ struct FaultyText {
     answer: &'static str,
 }
 
-const FAULTY_TEXTS: [FaultyText; 16] = [
+const FAULTY_TEXTS: [FaultyText; 19] = [
     FaultyText {
         module_text: "module 1\nopen\n\tret ok\ninit\nret ok\nmain\nret ok\nend\n",
         answer: "asm line 3 code 1\n",
@@ -40,6 +41,18 @@ const FAULTY_TEXTS: [FaultyText; 16] = [
     FaultyText {
         module_text: "module 1\nbrigade b0 conn\nopen\nbconcat b0 b0\nret ok\ninit\nret ok\nmain\nret ok\nend\n",
         answer: "asm line 4 code 4\n",
+    },
+    FaultyText {
+        module_text: "module 1\nopen\nset n0 00\nret ok\ninit\nret ok\nmain\nret ok\nend\n",
+        answer: "asm line 3 code 4\n",
+    },
+    FaultyText {
+        module_text: "module 1\nopen\nlabel conn \"\\x4G\"\nret ok\ninit\nret ok\nmain\nret ok\nend\n",
+        answer: "asm line 3 code 5\n",
+    },
+    FaultyText {
+        module_text: "module 1\nopen\nlabel conn x\nret ok\ninit\nret ok\nmain\nret ok\nend\n",
+        answer: "asm line 3 code 4\n",
     },
     FaultyText {
         module_text: "module 1\nopen\nret  ok\ninit\nret ok\nmain\nret ok\nend\n",

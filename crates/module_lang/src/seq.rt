@@ -125,6 +125,7 @@ impl<T> Seq<T> {
     {
         self.items.clear();
     }
+
     /// Keeps the first `len` items and drops the others.
     pub fn truncate(&mut self, len: usize)
     where

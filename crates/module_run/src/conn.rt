@@ -279,7 +279,8 @@ impl Conn {
 
     /// A brigade of these pieces comes: `main` is to be stepped with it as its `in`. Refused, nothing is changed and the
     /// pieces are dropped: `Broken`; `Busy`: a call is running; `NotInRequest`; `DataAfterEos`: a data piece stands
-    /// behind an EOS; `NamesSpent`: a name to be given out would be 2^64 - 1; `NoMemory`.
+    /// behind an EOS; `NoFile`: a range is of no file that was opened in this request, or ends behind it; `NamesSpent`: a name
+    /// to be given out would be 2^64 - 1; `NoMemory`.
     #[tactic(auto, unfolding(crate::specs::Seen::seen, run_model::specs::Connection::brings))]
     pub fn bring(&mut self, alloc: Global, code: &Module, pieces: Seq<Piece>) -> Result<(), Refusal>
         ensures brings { brings (lasted result) code.now pieces (seen self.old) ≡ (refusal_of result, seen self.new) }

@@ -15,3 +15,4 @@ pub mod Removed
 pub mod Writing
 pub mod Printing
 pub mod Below
+pub mod Holding

@@ -11,7 +11,7 @@ mod print;
 mod walk;
 
 use crate::links::add_child;
-use crate::payloads::{is_among, push, take_at, take_newest_equal};
+use crate::payloads::{push, take_at, take_newest_equal};
 use crate::records::{Pool, Records};
 use crate::refusal::PoolRefusal;
 pub use clear::Room;
@@ -37,7 +37,7 @@ impl<T: Drop> PoolTree<T> {
     ghost use Rattle.run_model.specs.RunOrder.{last_that, killed, IsPoolMap};
     ghost use Rattle.pool_tree.specs.Tree.{map_of};
 
-    /// A tree of the root pool `first`, which must not be `u64::MAX`: `NamesSpent`.
+    /// A tree of the root pool `first`, which must not be `u64::MAX`: `NamesSpent`. `NoMemory`: there is none for the root.
     pub fn new(alloc: Global, first: PoolId) -> Result<Self, PoolRefusal>
         ensures ok { IfOk result (λ tree. map_of tree ≡ planted first) }
         ensures formed { IfOk result (λ tree. IsPoolMap (map_of tree)) }
@@ -130,12 +130,7 @@ impl<T: Drop> PoolTree<T> {
         T: PartialEq,
         ensures { let ps = map_of self.now in result ≡ any_below ps.next (λ pool. list_any (λ other. T.eq other payload.now) (ps.payloads pool)) }
     {
-        for pool in 0..self.next {
-            if is_among(self.records.payloads(pool), payload) {
-                return true;
-            }
-        }
-        false
+        self.records.hold(payload)
     }
 
     /// The payloads of a pool, the oldest first.

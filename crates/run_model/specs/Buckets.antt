@@ -1,4 +1,4 @@
--- Buckets: which are data, what bytes they hold, and what becomes of their homes (apr_buckets.h).
+-- Buckets: which are data, and what becomes of their homes (apr_buckets.h).
 use Rattle.std.specs.Prelude.{ℕ, Bool, true, false, ◌&&◌, ◌||◌, ◌==◌, if◌then◌else◌, List, [], ◌∷◌}
 use Rattle.std.specs.List.{list_any}
 use Rattle.run_model.specs.declared.bucket.Kind.{Kind}

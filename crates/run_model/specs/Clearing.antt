@@ -21,8 +21,8 @@ cleared_var reached var.Gone = var.Gone
 cleared_var reached (var.Live v) =
     if is_reached reached v.on then var.Gone else var.Live (record v { items = map (cleared_bucket reached) v.items })
 
--- What goes with the pool n and those under it: brigades with their buckets, homes and the bytes of POOL buckets; and
--- their labels are run. (The pools themselves are the pool map's matter.)
+-- What becomes of what depends on the pool n and those under it: brigades on them go with their buckets, homes end, POOL
+-- buckets become HEAP; and their labels are run. (The pools themselves are the pool map's matter.)
 unfoldable pub run_down : ℕ → Run → Run
 run_down n r =
     let reached = is_under r.shared.pools n in

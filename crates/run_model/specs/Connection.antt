@@ -197,7 +197,7 @@ closing_pools c = (pool_destroyed c.run.shared.conn c.run).shared.pools
 unfoldable pub takes : Connection → List ℕ × Connection
 takes c = (c.run.out.bytes, record c { run = record c.run { out = record c.run.out { bytes = [] } } })
 
--- From now on nothing is served but the output.
+-- From now on nothing is served but the output, the labels and the close.
 abbrev pub breaks : Cause → Connection → Connection
 breaks k c = record c { broken = Some k }
 

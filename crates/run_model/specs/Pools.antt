@@ -38,7 +38,7 @@ created parent ps = record { path = upd ps.path ps.next (ps.next ∷ ps.path par
 unfoldable pub registered : {T : Type 0} → ℕ → T → Pools T → Pools T
 registered p x ps = record ps { payloads = upd ps.payloads p (ps.payloads p ++ x ∷ []) }
 
--- what is left of the paths when the pools that pass the test go
+-- what is left when the pools that pass the test go: they have no path and no payloads
 abbrev pub without_pools : {T : Type 0} → (ℕ → Bool) → Pools T → Pools T
 without_pools goes ps = record ps { path = λ n. if goes n then [] else ps.path n; payloads = λ n. if goes n then [] else ps.payloads n }
 

@@ -26,7 +26,7 @@ pub enum Kind {
 pub enum Content {
     /// Bytes in memory.
     Bytes(Seq<u8>),
-    /// A range of the open file of this number.
+    /// `len` bytes, from the byte `start` on, of the open file of this number.
     Range { file: u64, start: u64, len: u64 },
     /// Nothing, as in metadata.
     Nothing,

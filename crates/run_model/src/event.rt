@@ -14,7 +14,7 @@ pub enum Piece {
     Immortal(Seq<u8>),
     /// A POOL bucket of these bytes in the request's pool.
     Pool(Seq<u8>),
-    /// A FILE bucket: a range of a file that was opened in this request.
+    /// A FILE bucket: `len` bytes, from the byte `start` on, of a file that was opened in this request.
     File { file: u64, start: u64, len: u64 },
     /// A FLUSH bucket.
     Flush,
@@ -22,14 +22,14 @@ pub enum Piece {
     Eos,
 }
 
-/// Why a connection serves nothing but its output any more.
+/// Why a connection serves nothing but its output, its labels and its close any more.
 #[derive(Clone, Copy)]
 pub enum Cause {
     /// An instruction had a fault.
     Faulted,
     /// A step found no memory.
     NoMemory,
-    /// A step would have had to give out the last name.
+    /// A step would have had to give out the name 2^64 - 1.
     NamesSpent,
     /// The steps of a call met the budget.
     OutOfSteps,
@@ -54,7 +54,7 @@ pub enum Refusal {
     DataAfterEos,
     /// A file is not there, was not opened in this request, or is shorter than the range.
     NoFile,
-    /// A name that would have to be given out is the last one.
+    /// A name that would have to be given out is 2^64 - 1.
     NamesSpent,
     /// There is no memory.
     NoMemory,
@@ -89,7 +89,7 @@ pub enum Exit {
 /// Why an instruction that has no fault was not executed.
 #[derive(Clone, Copy)]
 pub enum StepRefusal {
-    /// A name that it would have to give out is the last one.
+    /// A name that it would have to give out is 2^64 - 1.
     NamesSpent,
     /// There is no memory.
     NoMemory,

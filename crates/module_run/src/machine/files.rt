@@ -65,6 +65,7 @@ impl Machine {
         let _killed = self.pools.kill(req, &Payload::FileRef(number));
         Err(AllocError)
     }
+
     /// Gives buckets to the output filter: what they hold reaches the output, up to the first EOS of the request. Tells whether
     /// no read failed. Without memory nothing is changed.
     #[tactic(auto, unfolding(crate::specs::Seen::seen_run, run_model::specs::Steps::delivered))]

@@ -54,9 +54,8 @@ pub(super) fn add(runs: &mut Vec<Vec<(PoolId, Payload)>>, ran: Vec<(PoolId, Payl
 
 #[tactic(auto, unfolding(crate::specs::Seen::seen_run))]
 impl Machine {
-    /// A machine with these files before its first call.
+    /// A machine with these files before its first call. Without memory the files come back.
     #[tactic(auto, using(crate::proofs::Standing::standing_first), unfolding(crate::specs::Seen::seen_run))]
-    /// Without memory the files come back.
     pub(crate) fn new(alloc: Global, files: MemFiles) -> Result<Machine, MemFiles>
         ensures ok { IfOk result (λ machine. seen_run machine ≡ before_open (files_of files)) }
         ensures back { IfErr result (λ back. back ≡ files) }

@@ -1,6 +1,6 @@
-use Rattle.std.proofs.Common.{◌≡◌, ◌<◌, ℕ, List, ◌∙◌, sym, ap, subst, length, get_or, remove}
+use Rattle.std.proofs.Common.{◌∙◌, sym, ap, remove}
 use Rattle.run_model.specs.Indexed.{upd}
-use Rattle.pool_tree.specs.Records.{record_of, payloads_of}
+use Rattle.pool_tree.specs.Records.{record_of}
 use Rattle.pool_tree.specs.Tree.{map_of}
 use Rattle.pool_tree.proofs.Refilled.{refilled_linked, refilled_map}
 use Rattle.pool_tree.proofs.Trees.{tree_live, tree_payloads}

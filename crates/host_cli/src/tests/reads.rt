@@ -1,0 +1,175 @@
+//! Files that a filter keeps and sends: read whole, and each read refused in turn.
+
+ghost use Rattle.std.specs.Prelude.{◌≡◌, IfOk};
+ghost use Rattle.host_cli.specs.Host.{world_of, IsReady};
+
+use super::rows::SAVES;
+use crate::command::{Command, command_of};
+use crate::host::{Host, serve};
+use crate::reply::put_reply;
+use crate::run::run_play;
+use bucket_kinds::MemFiles;
+use module_lang::assemble;
+use module_run::Conn;
+use run_model::Module;
+use std::alloc::Global;
+use std::test::Fail;
+
+/// Two requests of a filter that keeps what comes and sends it when an empty brigade comes. The first sending reads a
+/// file four times, the second twice.
+const COMMANDS: [&str; 21] = [
+    "run 1",
+    "begin 1",
+    "run 1",
+    "bring 1 heap \"ab\" file f 3 17000 immortal \"cd\" file f 0 1",
+    "run 1",
+    "bring 1",
+    "run 1",
+    "output 1",
+    "end 1",
+    "begin 1",
+    "run 1",
+    "bring 1 file f 0 8000 file f 100 0 transient \"xyz\" file f 19999 1 flush",
+    "run 1",
+    "bring 1",
+    "run 1",
+    "output 1",
+    "end 1",
+    "output 1",
+    "labels 1",
+    "pools",
+    "close 1",
+];
+
+/// A read: the command that sends what was kept, and how many bytes of that are taken before the read.
+#[derive(Clone, Copy)]
+struct Reading {
+    sends: usize,
+    taken: usize,
+}
+
+const READS: [Reading; 6] = [
+    Reading { sends: 6, taken: 2 },
+    Reading {
+        sends: 6,
+        taken: 8_002,
+    },
+    Reading {
+        sends: 6,
+        taken: 16_002,
+    },
+    Reading {
+        sends: 6,
+        taken: 17_004,
+    },
+    Reading {
+        sends: 14,
+        taken: 0,
+    },
+    Reading {
+        sends: 14,
+        taken: 8_003,
+    },
+];
+
+/// A connection on a file of 20,000 bytes. So many reads go on well, and the next one fails.
+fn host_on(alloc: Global, code: &Module, reads: u64) -> Result<Host, Fail>
+    ensures ready { IfOk result (λ host. IsReady code.now (world_of host)) }
+{
+    // A module has a handler `init`, and so an instruction.
+    let _ = code.init();
+    let mut files = MemFiles::new(alloc);
+    let bytes = b"0123456789".as_slice().repeat(alloc, 2_000)?;
+    if files.add(b"f", bytes).is_err() {
+        return Err(Fail::from("no file"));
+    }
+    files.fail_at(reads);
+    match Conn::open(alloc, files) {
+        Ok(conn) => Ok(Host::There(conn)),
+        Err(_) => Err(Fail::from("no connection")),
+    }
+}
+
+/// The line that answers a command.
+fn answer(alloc: Global, code: &Module, host: &mut Host, command: Command) -> Result<Vec<u8>, Fail>
+    requires ready { IsReady code.now (world_of host.old) }
+    ensures ready { IsReady code.now (world_of host.new) }
+{
+    if matches!(command, Command::Open | Command::File(_)) {
+        return Err(Fail::from("another command"));
+    }
+    let reply = serve(alloc, code, 100, host, command)?;
+    let mut line = Vec::new(alloc);
+    put_reply(alloc, &mut line, &reply)?;
+    Ok(line)
+}
+
+/// The lines that answer the commands where so many reads go on well, and the next one fails.
+fn answers(alloc: Global, code: &Module, reads: u64) -> Result<Vec<Vec<u8>>, Fail> {
+    let mut host = host_on(alloc, code, reads)?;
+    let mut lines = Vec::new(alloc);
+    let commands = COMMANDS;
+    for text in commands.iter() {
+        let Some(command) = command_of(alloc, text.as_bytes())? else {
+            return Err(Fail::from("no command"));
+        };
+        lines.push(answer(alloc, code, &mut host, command)?)?;
+    }
+    Ok(lines)
+}
+
+/// The answer to a command where a read fails: the call that sends fails, and its output ends before that read.
+fn due(alloc: Global, well: &[u8], command: usize, read: Reading) -> Result<Vec<u8>, Fail> {
+    if command == read.sends {
+        return Ok(b"ended fail\n".as_slice().to_vec(alloc)?);
+    }
+    if command != read.sends + 1 {
+        return Ok(well.to_vec(alloc)?);
+    }
+    let front = (b"output \"".len() + read.taken).min(well.len());
+    let mut line = well[..front].to_vec(alloc)?;
+    line.extend_from_slice(b"\"\n")?;
+    Ok(line)
+}
+
+#[test]
+fn refuses_each_read(rt: HostRuntime) -> Result<(), Fail> {
+    let Ok(code) = assemble(rt.alloc(), SAVES.as_bytes()) else {
+        return Err(Fail::from("no module"));
+    };
+    let reads = READS;
+    let well = answers(rt.alloc(), &code, reads.len() as u64)?;
+    assert!(rt; well[7].len() == 17_005 + 10);
+    assert!(rt; well[15].len() == 8_004 + 10);
+    for (number, read) in reads.iter().enumerate() {
+        let lines = answers(rt.alloc(), &code, number as u64)?;
+        for (command, line) in lines.iter().enumerate() {
+            let due = due(rt.alloc(), well[command].as_slice(), command, *read)?;
+            assert!(rt; *line == due, "read {number}, command {command}");
+        }
+    }
+    Ok(())
+}
+
+#[test]
+fn sends_a_saved_file(rt: HostRuntime) -> Result<(), Fail> {
+    let mut sent = Vec::new(rt.alloc());
+    sent.extend_from_slice(b"output \"")?;
+    sent.extend_from_slice(b"x".as_slice().repeat(rt.alloc(), 9_000)?.as_slice())?;
+    sent.extend_from_slice(b"\"\n")?;
+    // In the request that brought it, and in the next one.
+    for between in ["", "end 1\nbegin 1\nrun 1\n"] {
+        let mut script = Vec::new(rt.alloc());
+        script.extend_from_slice(SAVES.as_bytes())?;
+        script.extend_from_slice(
+            b"file a 9000 \"x\"\nopen\nrun 1\nbegin 1\nrun 1\nbring 1 file a 0 9000\nrun 1\n",
+        )?;
+        script.extend_from_slice(between.as_bytes())?;
+        script.extend_from_slice(b"bring 1\nrun 1\noutput 1\n")?;
+        let mut reader = script.as_slice();
+        let mut written = Vec::new(rt.alloc());
+        let _ended = run_play(rt.alloc(), &mut reader, &mut written)?;
+        assert!(rt; written.as_slice().ends_with(sent.as_slice()), "{between}");
+    }
+    Ok(())
+}
