@@ -43,6 +43,12 @@ def brigades(count, taken):
     return seconds((IDENTITY + BEGUN + once * count).encode(), ends)
 
 
+def requests(count):
+    once = 'begin 1\nrun 1\nbring 1 file a 0 100 eos\nrun 1\nend 1\n'
+    script = IDENTITY + 'file a 100 "x"\nopen\nrun 1\n' + once * count + 'labels 1\n'
+    return seconds(script.encode(), b'labels\n')
+
+
 def assembled(filler):
     head, tail = 'module 1\nopen\nret ok\ninit\nret ok\nmain\n', 'ret ok\nend\n'
     room = 1048576 - len(head) - len(tail)
@@ -75,6 +81,8 @@ def main():
         print('brought brigades of 100 bytes per second, %d of them, output kept: %.2e' % (count, count / took))
         took = brigades(count, True) - brigades(0, True)
         print('brought brigades of 100 bytes per second, %d of them, output taken each time: %.2e' % (count, count / took))
+        took = requests(count) - requests(0)
+        print('requests per second that bring a file, %d of them: %.2e' % (count, count / took))
     print('a module text of 1,048,576 bytes, of labels: %.3f s' % assembled(lambda i: ':%s\n' % name(i)))
     print('a module text of 1,048,576 bytes, of comments: %.3f s' % assembled(lambda i: '# comment %d\n' % i))
 
