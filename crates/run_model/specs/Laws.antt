@@ -1,5 +1,5 @@
 -- The laws of the definitions, as statements.
-use Rattle.std.specs.Prelude.{◌≡◌, ◌≢◌, ℕ, ◌+◌, ◌<◌, ◌≤◌, Bool, true, false, ◌==◌, ◌||◌, ◌⊎◌, List, [], ◌∷◌, ◌++◌, map, length, take, drop, replicate, Option, is_some, Some, None, Result, Ok, Err, All}
+use Rattle.std.specs.Prelude.{◌≡◌, ◌≢◌, ℕ, ◌+◌, ◌<◌, ◌≤◌, Bool, true, false, ◌==◌, ◌||◌, if◌then◌else◌, ◌⊎◌, List, [], ◌∷◌, ◌++◌, map, filter, reverse, length, take, drop, replicate, Option, is_some, Some, None, Result, Ok, Err, All}
 use Rattle.module_lang.specs.declared.instr.Instr.{Instr}
 use Rattle.module_lang.specs.declared.instr.Instr.TheVariants as instr
 use Rattle.module_lang.specs.Program.{Program, IsModule, fits}
@@ -33,7 +33,7 @@ use Rattle.run_model.specs.declared.bucket.Home.{Home}
 use Rattle.run_model.specs.declared.bucket.Home.TheVariants as home
 use Rattle.run_model.specs.declared.payload.Payload.{Payload}
 use Rattle.run_model.specs.Pools.{Pools, is_live, is_under, created, cleared, destroyed}
-use Rattle.run_model.specs.RunOrder.{IsPoolMap, run_order}
+use Rattle.run_model.specs.RunOrder.{IsPoolMap, runs_within, run_order}
 use Rattle.std.specs.List.{list_any}
 use Rattle.run_model.specs.Payloads.{is_label, is_file_ref, labels_in}
 use Rattle.run_model.specs.Clearing.{is_reached}
@@ -269,6 +269,16 @@ KillsTheNewest = (n m : ℕ) (text : List ℕ) (r : Run) → (label_killed text 
 abbrev pub KillsNoOther : Type 0
 KillsNoOther = (n m : ℕ) (text : List ℕ) (r : Run) → list_any (is_label text) (r.shared.pools.payloads n) ≡ false
     → (label_killed text n r).shared.pools.payloads m ≡ r.shared.pools.payloads m
+
+-- In the run order of a pool p each payload of p and of the pools under it stands once: of each such pool there are its
+-- payloads, the last first, and of no other pool is there any.
+abbrev pub EachStandsOnce : Type 0
+EachStandsOnce = (n p : ℕ) (ps : Pools Payload) → IsPoolMap ps → is_live ps p ≡ true
+    → filter (λ (x : ℕ × Payload). x.0 == n) (run_order ps p) ≡ (if is_under ps p n then map (λ x. (n, x)) (reverse (ps.payloads n)) else [])
+
+-- It is the run order down to any depth that is deep enough.
+abbrev pub DepthDoesNotMatter : Type 0
+DepthDoesNotMatter = (depth p : ℕ) (ps : Pools Payload) → IsPoolMap ps → is_live ps p ≡ true → ps.next ≤ depth + p → runs_within depth ps p ≡ run_order ps p
 
 -- Where the pool n is cleared: what does not stand under it is as it was, it stays itself and has nothing to hand on, no
 -- other pool under it is left, and no name comes back.

@@ -1,7 +1,7 @@
 //! Laws of the definitions. Each function does nothing: what its contract says holds of the definitions alone.
 
 ghost use Rattle.run_model.specs.Examples.{PassRuns, PoolRuns, PoolEnds, KindRuns, FaultRuns, BreakRuns, RefusedRuns, NameRuns, HeldFaults, HeldChanges};
-ghost use Rattle.run_model.specs.Laws.{CreatesKeepOthers, KillsTheNewest, KillsNoOther};
+ghost use Rattle.run_model.specs.Laws.{CreatesKeepOthers, KillsTheNewest, KillsNoOther, EachStandsOnce, DepthDoesNotMatter};
 ghost use Rattle.run_model.specs.Laws.{StepKeepsNames, StepKeepsBuckets, StepKeepsPools, StepAtEndKeeps, OpenedIsSound, EventKeepsSound, RunIsSound, RunGoesOn, StepsGoOn, StepsAreARun, EndedStepsAreARun, StepChangesOnly, RefusedChangesNothing, RefusedStepBreaks, FaultBreaks, BrokenStaysBroken, EventKeepsOrder, RunIsOrderly, BroughtEndsOnce, OutputOfCuts, FaultOfCuts, PassedIsNotUsed, CleanedIsUsable, ClearsKeepOthers, ClearsTakeAlong};
 ghost use Rattle.run_model.specs.Laws.{AsideLasts, ReadsGiveTheFile, ReadsDropNothing, FilesCloseLast, StepKeepsFiles, EventKeepsFiles, RunKeepsFiles};
 
@@ -87,6 +87,13 @@ pub fn pools_are_made_and_filled()
     ensures made { CreatesKeepOthers }
     ensures killed { KillsTheNewest }
     ensures kept { KillsNoOther }
+{}
+
+/// In the run order of a pool each payload of that pool and of those under it stands once, and none of another pool, however
+/// deep the pools lie.
+pub fn run_orders_hold_each_payload_once()
+    ensures once { EachStandsOnce }
+    ensures depth { DepthDoesNotMatter }
 {}
 
 /// A clear of a pool leaves what does not stand under it as it was; what lies on it and under it goes, and its labels are
