@@ -18,7 +18,7 @@ pass_runs = record { one_brigade = refl; no_pieces = refl; dropped = refl; next_
 
 pub pool_runs : PoolRuns
 unfolding answers_from world_after opened begins brings ends takes steps upd any_below is_live is_under planted created destroyed set_brig set_number pool_named is_own has_pool is_stray keeps_stray delivered read_part range_taken taken_of all_referred opens_file is_spent lacks_names current pool_of_brigade pool_of_pool registered cleared killed is_child children_below own_run runs_within run_order last_that without_last set_pool with_pools run_down text_of
-pool_runs = record { order = refl; killed = refl; again = refl; gone = refl; dead = refl; null = refl; over_live = refl; nulls = refl; pool_names = refl; last_pool_name = refl; no_memory = refl }
+pool_runs = record { order = refl; killed = refl; killed_below = refl; again = refl; gone = refl; dead = refl; null = refl; over_live = refl; nulls = refl; pool_names = refl; last_pool_name = refl; no_memory = refl }
 
 pub pool_ends : PoolEnds
 unfolding answers_from world_after opened begins brings ends takes steps upd any_below is_live is_under planted created destroyed set_brig set_number pool_named is_own has_pool is_stray keeps_stray delivered read_part range_taken taken_of all_referred opens_file is_spent lacks_names current pool_of_brigade pool_of_pool registered cleared killed is_child children_below own_run runs_within run_order last_that without_last set_pool with_pools run_down text_of

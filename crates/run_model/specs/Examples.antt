@@ -212,6 +212,9 @@ pub record PoolRuns : Type 0 where
   -- of two equal labels the newer one is killed; what is left runs at the close
   pub killed : answers 1000000 (one_pool (instr.PCreate 0 ∷ instr.Label (pool.Own 0) 0 ∷ instr.Label pool.Conn 1 ∷ instr.Label (pool.Own 0) 1 ∷ instr.Label (pool.Own 0) 0 ∷ instr.Unlabel (pool.Own 0) 0 ∷ []))
       (opening 7 (event.TellLabels ∷ event.Close ∷ [])) ≡ Done ∷ went ∷ went ∷ went ∷ went ∷ went ∷ went ∷ step_ok ∷ Labels [] ∷ Labels ((98 ∷ []) ∷ (97 ∷ []) ∷ (98 ∷ []) ∷ []) ∷ []
+  -- a label that was not registered last is killed too
+  pub killed_below : answers 1000000 (one_pool (instr.PCreate 0 ∷ instr.Label (pool.Own 0) 0 ∷ instr.Label (pool.Own 0) 1 ∷ instr.Unlabel (pool.Own 0) 0 ∷ instr.PClear 0 ∷ []))
+      (opening 6 (event.TellLabels ∷ [])) ≡ Done ∷ went ∷ went ∷ went ∷ went ∷ went ∷ step_ok ∷ Labels ((98 ∷ []) ∷ []) ∷ []
   -- a brigade goes with its pool, and may be made again; a cleared pool is usable
   pub again : answers 1000000 (one_pool (instr.PCreate 0 ∷ instr.BCreate 0 ∷ instr.PClear 0 ∷ instr.BCreate 0 ∷ instr.BClean 0 ∷ [])) (opening 6 [])
       ≡ Done ∷ went ∷ went ∷ went ∷ went ∷ went ∷ step_ok ∷ []

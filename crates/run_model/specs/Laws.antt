@@ -32,10 +32,11 @@ use Rattle.run_model.specs.declared.bucket.Kind.TheVariants as kind
 use Rattle.run_model.specs.declared.bucket.Home.{Home}
 use Rattle.run_model.specs.declared.bucket.Home.TheVariants as home
 use Rattle.run_model.specs.declared.payload.Payload.{Payload}
+use Rattle.run_model.specs.declared.payload.Payload.TheVariants as payload
 use Rattle.run_model.specs.Pools.{Pools, is_live, is_under, created, cleared, destroyed}
 use Rattle.run_model.specs.RunOrder.{IsPoolMap, runs_within, run_order}
 use Rattle.std.specs.List.{list_any}
-use Rattle.run_model.specs.Payloads.{is_label, is_file_ref, labels_in}
+use Rattle.run_model.specs.Payloads.{is_file_ref, labels_in}
 use Rattle.run_model.specs.Clearing.{is_reached}
 use Rattle.run_model.specs.Steps.{label_registered, label_killed}
 
@@ -265,10 +266,18 @@ CreatesKeepOthers = (parent : ℕ) (ps : Pools Payload) → IsPoolMap ps → Cre
 abbrev pub KillsTheNewest : Type 0
 KillsTheNewest = (n m : ℕ) (text : List ℕ) (r : Run) → (label_killed text n (label_registered text n r)).shared.pools.payloads m ≡ r.shared.pools.payloads m
 
--- Where no payload is that label, nothing is killed.
-abbrev pub KillsNoOther : Type 0
-KillsNoOther = (n m : ℕ) (text : List ℕ) (r : Run) → list_any (is_label text) (r.shared.pools.payloads n) ≡ false
-    → (label_killed text n r).shared.pools.payloads m ≡ r.shared.pools.payloads m
+-- What a kill of a label leaves in the pools. newest: of the payloads of its pool that are this label, the one that was
+-- registered last goes, and no other payload. none: where there is none, all stay. others: other pools keep theirs. path,
+-- names: no pool comes or goes.
+pub record KillKeeps (n : ℕ) (text : List ℕ) (old new : Pools Payload) : Type 0 where
+  pub newest : (xs ys : List Payload) → old.payloads n ≡ xs ++ payload.Label text ∷ ys → All (λ y. y ≢ payload.Label text) ys → new.payloads n ≡ xs ++ ys
+  pub none : All (λ y. y ≢ payload.Label text) (old.payloads n) → new.payloads n ≡ old.payloads n
+  pub others : (m : ℕ) → m ≢ n → new.payloads m ≡ old.payloads m
+  pub path : new.path ≡ old.path
+  pub names : new.next ≡ old.next
+
+abbrev pub KillsOneLabel : Type 0
+KillsOneLabel = (n : ℕ) (text : List ℕ) (r : Run) → KillKeeps n text r.shared.pools (label_killed text n r).shared.pools
 
 -- In the run order of a pool p each payload of p and of the pools under it stands once: of each such pool there are its
 -- payloads, the last first, and of no other pool is there any.

@@ -1,7 +1,7 @@
 //! Laws of the definitions. Each function does nothing: what its contract says holds of the definitions alone.
 
 ghost use Rattle.run_model.specs.Examples.{PassRuns, PoolRuns, PoolEnds, KindRuns, FaultRuns, BreakRuns, RefusedRuns, NameRuns, HeldFaults, HeldChanges};
-ghost use Rattle.run_model.specs.Laws.{CreatesKeepOthers, KillsTheNewest, KillsNoOther, EachStandsOnce, DepthDoesNotMatter};
+ghost use Rattle.run_model.specs.Laws.{CreatesKeepOthers, KillsTheNewest, KillsOneLabel, EachStandsOnce, DepthDoesNotMatter};
 ghost use Rattle.run_model.specs.Laws.{StepKeepsNames, StepKeepsBuckets, StepKeepsPools, StepAtEndKeeps, OpenedIsSound, EventKeepsSound, RunIsSound, RunGoesOn, StepsGoOn, StepsAreARun, EndedStepsAreARun, StepChangesOnly, RefusedChangesNothing, RefusedStepBreaks, FaultBreaks, BrokenStaysBroken, EventKeepsOrder, RunIsOrderly, BroughtEndsOnce, OutputOfCuts, FaultOfCuts, PassedIsNotUsed, CleanedIsUsable, ClearsKeepOthers, ClearsTakeAlong};
 ghost use Rattle.run_model.specs.Laws.{AsideLasts, ReadsGiveTheFile, ReadsDropNothing, FilesCloseLast, StepKeepsFiles, EventKeepsFiles, RunKeepsFiles};
 
@@ -81,12 +81,12 @@ pub fn passed_brigades_are_only_cleaned()
     ensures cleaned { CleanedIsUsable }
 {}
 
-/// A new pool is a child of its parent and changes no other; a kill takes out the label that was registered last, and
-/// no other.
+/// A new pool is a child of its parent and changes no other; a kill of a label takes out the payload that is this label and
+/// was registered last, and no other, and where none is this label nothing.
 pub fn pools_are_made_and_filled()
     ensures made { CreatesKeepOthers }
     ensures killed { KillsTheNewest }
-    ensures kept { KillsNoOther }
+    ensures one { KillsOneLabel }
 {}
 
 /// In the run order of a pool each payload of that pool and of those under it stands once, and none of another pool, however

@@ -1,4 +1,4 @@
-use Rattle.run_model.proofs.Filled.{creates_keep_others, kills_the_newest, kills_no_other}
+use Rattle.run_model.proofs.Filled.{creates_keep_others, kills_the_newest, kills_one_label}
 use Rattle.run_model.proofs.laws.pools_are_made_and_filled.Goals as goal
 
 pub returns-clause-made : goal.returns-clause-made
@@ -7,5 +7,5 @@ returns-clause-made c = creates_keep_others
 pub returns-clause-killed : goal.returns-clause-killed
 returns-clause-killed c = kills_the_newest
 
-pub returns-clause-kept : goal.returns-clause-kept
-returns-clause-kept c = kills_no_other
+pub returns-clause-one : goal.returns-clause-one
+returns-clause-one c = kills_one_label
