@@ -26,7 +26,7 @@ pool_ends = record { subpool_brigade = refl; subpool = refl; above = refl; other
 
 pub fault_runs : FaultRuns
 unfolding answers_from world_after opened begins brings ends takes steps upd any_below is_live is_under planted created destroyed set_brig set_number pool_named is_own has_pool is_stray keeps_stray delivered read_part range_taken taken_of all_referred opens_file is_spent lacks_names current pool_of_brigade pool_of_pool registered cleared killed is_child children_below own_run runs_within run_order last_that without_last set_pool with_pools run_down text_of
-fault_runs = record { passed = refl; data_after_eos = refl; made_again = refl; no_pool = refl; no_brigade = refl; without_memory = refl }
+fault_runs = record { passed = refl; passed_before = refl; data_after_eos = refl; made_again = refl; no_pool = refl; no_brigade = refl; without_memory = refl }
 
 pub break_runs : BreakRuns
 unfolding answers_from world_after opened begins brings ends takes steps upd any_below is_live is_under planted created destroyed set_brig set_number pool_named is_own has_pool is_stray keeps_stray delivered read_part range_taken taken_of all_referred opens_file is_spent lacks_names current pool_of_brigade pool_of_pool registered cleared killed is_child children_below own_run runs_within run_order last_that without_last set_pool with_pools run_down text_of

@@ -21,6 +21,7 @@ pub mod Orderly
 pub mod Cuts
 pub mod Filled
 pub mod Marks
+pub mod Passed
 pub mod Clears
 pub mod Kept
 pub mod References

@@ -8,7 +8,7 @@ use Rattle.run_model.specs.Indexed.{upd}
 use Rattle.run_model.specs.State.{Run, items_of, set_brig}
 use Rattle.run_model.specs.Faults.{brigade_fault, usable_fault, or_else}
 use Rattle.run_model.specs.Steps.{do_pass, cleaned, handed_over}
-use Rattle.run_model.specs.Laws.{PassedIsNotUsed, CleanedIsUsable}
+use Rattle.run_model.specs.Laws.{UseAfterPassFaults, CleanedIsUsable}
 use Rattle.run_model.proofs.Updates.{upd_at}
 
 handed_fault : (v : Var) → usable_fault (handed_over v) ≡ None → ⊥
@@ -24,47 +24,47 @@ pub second_none : (a b : Option FaultKind) → or_else a b ≡ None → b ≡ No
 second_none None b e = e
 second_none (Some k) b e = absurd (cc)
 
-one_of : (x y : Bool) → (x || y) ≡ true → (x ≡ true) ⊎ (y ≡ true)
+pub one_of : (x y : Bool) → (x || y) ≡ true → (x ≡ true) ⊎ (y ≡ true)
 one_of true y h = inl refl
 one_of false y h = inr h
 
 -- the variable that was passed, under another number that is the same
-passed_var : (b c : ℕ) (r : Run) → (c == b) ≡ true → (do_pass b r).inst.brigs c ≡ handed_over (r.inst.brigs b)
+pub passed_var : (b c : ℕ) (r : Run) → (c == b) ≡ true → (do_pass b r).inst.brigs c ≡ handed_over (r.inst.brigs b)
 unfolding set_brig
 passed_var b c r same = ap (upd r.inst.brigs b (handed_over (r.inst.brigs b))) (eqb-true c b same) ∙ upd_at r.inst.brigs b (handed_over (r.inst.brigs b))
 
 not_usable : (b c : ℕ) (r : Run) → (c == b) ≡ true → usable_fault ((do_pass b r).inst.brigs c) ≡ None → ⊥
 not_usable b c r same e = handed_fault (r.inst.brigs b) (sym (ap usable_fault (passed_var b c r same)) ∙ e)
 
-pub passed_is_not_used : PassedIsNotUsed
-passed_is_not_used p choice b l r (instr.PCreate q) used none = absurd (cc)
-passed_is_not_used p choice b l r (instr.PClear q) used none = absurd (cc)
-passed_is_not_used p choice b l r (instr.PDestroy q) used none = absurd (cc)
-passed_is_not_used p choice b l r (instr.Label q t) used none = absurd (cc)
-passed_is_not_used p choice b l r (instr.Unlabel q t) used none = absurd (cc)
-passed_is_not_used p choice b l r (instr.JNull v k) used none = absurd (cc)
-passed_is_not_used p choice b l r (instr.BCreate o) used none = absurd (cc)
-passed_is_not_used p choice b l r (instr.BClean c) used none = absurd (cc)
-passed_is_not_used p choice b l r (instr.Put x k) used none = absurd (cc)
-passed_is_not_used p choice b l r instr.ClearBuf used none = absurd (cc)
-passed_is_not_used p choice b l r (instr.Set n x) used none = absurd (cc)
-passed_is_not_used p choice b l r (instr.Add n x) used none = absurd (cc)
-passed_is_not_used p choice b l r (instr.Sub n x) used none = absurd (cc)
-passed_is_not_used p choice b l r (instr.JLt n x k) used none = absurd (cc)
-passed_is_not_used p choice b l r (instr.JEq n x k) used none = absurd (cc)
-passed_is_not_used p choice b l r (instr.BSave a c) used none = elim (one_of (a == b) (c == b) used) [
+pub use_after_pass : UseAfterPassFaults
+use_after_pass p choice b l r (instr.PCreate q) used none = absurd (cc)
+use_after_pass p choice b l r (instr.PClear q) used none = absurd (cc)
+use_after_pass p choice b l r (instr.PDestroy q) used none = absurd (cc)
+use_after_pass p choice b l r (instr.Label q t) used none = absurd (cc)
+use_after_pass p choice b l r (instr.Unlabel q t) used none = absurd (cc)
+use_after_pass p choice b l r (instr.JNull v k) used none = absurd (cc)
+use_after_pass p choice b l r (instr.BCreate o) used none = absurd (cc)
+use_after_pass p choice b l r (instr.BClean c) used none = absurd (cc)
+use_after_pass p choice b l r (instr.Put x k) used none = absurd (cc)
+use_after_pass p choice b l r instr.ClearBuf used none = absurd (cc)
+use_after_pass p choice b l r (instr.Set n x) used none = absurd (cc)
+use_after_pass p choice b l r (instr.Add n x) used none = absurd (cc)
+use_after_pass p choice b l r (instr.Sub n x) used none = absurd (cc)
+use_after_pass p choice b l r (instr.JLt n x k) used none = absurd (cc)
+use_after_pass p choice b l r (instr.JEq n x k) used none = absurd (cc)
+use_after_pass p choice b l r (instr.BSave a c) used none = elim (one_of (a == b) (c == b) used) [
   | inl first ↦ not_usable b a r first (first_none (usable_fault ((do_pass b r).inst.brigs a)) _ none)
   | inr second ↦ not_usable b c r second (first_none (usable_fault ((do_pass b r).inst.brigs c)) _ (second_none (usable_fault ((do_pass b r).inst.brigs a)) _ none))
 ]
-passed_is_not_used p choice b l r (instr.BConcat a c) used none = elim (one_of (a == b) (c == b) used) [
+use_after_pass p choice b l r (instr.BConcat a c) used none = elim (one_of (a == b) (c == b) used) [
   | inl first ↦ not_usable b a r first (first_none (usable_fault ((do_pass b r).inst.brigs a)) _ none)
   | inr second ↦ not_usable b c r second (first_none (usable_fault ((do_pass b r).inst.brigs c)) _ (second_none (usable_fault ((do_pass b r).inst.brigs a)) _ none))
 ]
-passed_is_not_used p choice b l r (instr.Pass c k) used none = not_usable b c r used (first_none (usable_fault ((do_pass b r).inst.brigs c)) _ none)
-passed_is_not_used p choice b l r (instr.JEmpty c k) used none = not_usable b c r used (first_none (usable_fault ((do_pass b r).inst.brigs c)) _ none)
-passed_is_not_used p choice b l r (instr.JSent k) used none = absurd (cc)
-passed_is_not_used p choice b l r (instr.Jump k) used none = absurd (cc)
-passed_is_not_used p choice b l r (instr.Ret s) used none = absurd (cc)
+use_after_pass p choice b l r (instr.Pass c k) used none = not_usable b c r used (first_none (usable_fault ((do_pass b r).inst.brigs c)) _ none)
+use_after_pass p choice b l r (instr.JEmpty c k) used none = not_usable b c r used (first_none (usable_fault ((do_pass b r).inst.brigs c)) _ none)
+use_after_pass p choice b l r (instr.JSent k) used none = absurd (cc)
+use_after_pass p choice b l r (instr.Jump k) used none = absurd (cc)
+use_after_pass p choice b l r (instr.Ret s) used none = absurd (cc)
 
 cleaned_usable : (v : Var) → brigade_fault v ≡ None → usable_fault (cleaned v) ≡ None
 cleaned_usable var.Null e = e

@@ -160,6 +160,10 @@ saver = gathers_by (instr.BSave 0 8)
 abbrev pub keeper : Program
 keeper = gathers_by (instr.BConcat 0 8)
 
+-- `brigade b0 conn`; open: `bcreate b0`, `ret ok`; init: `ret ok`; main: `bconcat b0 in`, `pass b0 bad`, `:bad` `ret ok`
+abbrev pub never_cleans : Program
+never_cleans = record { pools = []; brigades = pool.Conn ∷ []; texts = []; code = instr.BCreate 0 ∷ instr.Ret Success ∷ instr.Ret Success ∷ instr.BConcat 0 8 ∷ instr.Pass 0 5 ∷ instr.Ret Success ∷ []; init = 2; main = 3 }
+
 abbrev pub saving : List Event
 saving = event.Open ∷ event.Step ∷ event.Step ∷ event.Begin ∷ event.Step ∷ []
 
@@ -300,6 +304,9 @@ pub record PoolEnds : Type 0 where
 pub record FaultRuns : Type 0 where
   pub passed : answers 1000000 asks_after_pass (beginning ++ event.Bring [] ∷ three_steps ++ event.TakeOutput ∷ [])
       ≡ begun_well ++ Done ∷ went ∷ Step (stepped.Fault fault_kind.F7 0 3) ∷ Refused (refusal.Broken cause.Faulted) ∷ Output [] ∷ []
+  -- a return leaves a passed brigade passed
+  pub passed_before : answers 1000000 never_cleans (saving ++ a_heap (97 ∷ []) ∷ three_steps ++ a_heap (98 ∷ []) ∷ event.Step ∷ event.TakeOutput ∷ [])
+      ≡ saving_well ++ Done ∷ went ∷ went ∷ step_ok ∷ Done ∷ Step (stepped.Fault fault_kind.F7 0 3) ∷ Output (97 ∷ []) ∷ []
   pub data_after_eos : answers 1000000 passes_on (beginning ++ a_last_heap (97 ∷ []) ∷ event.Step ∷ event.Step ∷ a_heap (98 ∷ []) ∷ event.Step ∷ event.TakeOutput ∷ [])
       ≡ begun_well ++ Done ∷ went ∷ step_ok ∷ Done ∷ Step (stepped.Fault fault_kind.F8 0 2) ∷ Output (97 ∷ []) ∷ []
   pub made_again : answers 1000000 creates_each_time (event.Open ∷ event.Step ∷ event.Begin ∷ event.Step ∷ event.Step ∷ event.End ∷ event.Begin ∷ event.Step ∷ [])

@@ -1,15 +1,18 @@
 -- The laws of the definitions, as statements.
 use Rattle.std.specs.Prelude.{◌≡◌, ◌≢◌, ℕ, ◌+◌, ◌<◌, ◌≤◌, Bool, true, false, ◌==◌, ◌||◌, if◌then◌else◌, ◌⊎◌, List, [], ◌∷◌, ◌++◌, map, filter, reverse, length, take, drop, replicate, Option, is_some, Some, None, Result, Ok, Err, All}
+use Rattle.module_lang.specs.declared.instr.Status.{Status}
 use Rattle.module_lang.specs.declared.instr.Instr.{Instr}
 use Rattle.module_lang.specs.declared.instr.Instr.TheVariants as instr
 use Rattle.module_lang.specs.Program.{Program, IsModule, fits}
 use Rattle.run_model.specs.declared.bucket.Bucket.{Bucket}
 use Rattle.run_model.specs.declared.bucket.Content.{Content}
 use Rattle.run_model.specs.declared.bucket.Content.TheVariants as content
+use Rattle.run_model.specs.declared.bucket.Mark.TheVariants.{Passed}
 use Rattle.run_model.specs.declared.bucket.Named.{Named}
 use Rattle.run_model.specs.declared.bucket.Var.{Var}
 use Rattle.run_model.specs.declared.bucket.Var.TheVariants as var
 use Rattle.run_model.specs.declared.fault.FaultKind.{FaultKind}
+use Rattle.run_model.specs.declared.fault.FaultKind.TheVariants as fault_kind
 use Rattle.run_model.specs.declared.event.Piece.{Piece}
 use Rattle.run_model.specs.declared.event.Cause.{Cause}
 use Rattle.run_model.specs.declared.event.Cause.TheVariants as cause
@@ -23,11 +26,11 @@ use Rattle.run_model.specs.Buckets.{has_eos, data_after_eos, is_dead}
 use Rattle.run_model.specs.Files.{Files, all_taken, range_taken, parts_of, is_referred}
 use Rattle.run_model.specs.Cutting.{wanted, read_of}
 use Rattle.run_model.specs.State.{Run, Out, fresh_call, items_of}
-use Rattle.run_model.specs.Faults.{WUsable, fault_want, fault, send_fault, or_else}
-use Rattle.run_model.specs.Steps.{Choice, step, step_at_end, aside_named, delivered, lacks_names, names_of, pool_cleared, pool_destroyed}
+use Rattle.run_model.specs.Faults.{WUsable, brigade_fault, fault_want, fault, send_fault, or_else}
+use Rattle.run_model.specs.Steps.{Choice, step, step_at_end, current, aside_named, delivered, lacks_names, names_of, pool_cleared, pool_destroyed}
 use Rattle.run_model.specs.Connection.{Connection, opened, bucket_of, named_from, data_behind_eos, has_range, breaks, steps}
 use Rattle.run_model.specs.Runs.{Answer, Refused, Step, World, Before, There, Closed, happens, IsDue, step_of, IsRun, GoesOn, EndsRun}
-use Rattle.run_model.specs.Sound.{SoundNames, SoundBuckets, SoundPools, Sound, brigade_pool, is_range, is_proper}
+use Rattle.run_model.specs.Sound.{SoundNames, SoundBuckets, SoundPools, Sound, brigade_name, brigade_pool, is_range, is_proper}
 use Rattle.run_model.specs.declared.bucket.Kind.TheVariants as kind
 use Rattle.run_model.specs.declared.bucket.Home.{Home}
 use Rattle.run_model.specs.declared.bucket.Home.TheVariants as home
@@ -241,9 +244,62 @@ uses (instr.Pass c l) b = c == b
 uses (instr.JEmpty c l) b = c == b
 uses i b = false
 
--- A brigade that was passed is not used again before it is cleaned.
+-- A variable holds a brigade that was passed.
+abbrev pub HoldsPassed : Var → Type 0
+HoldsPassed var.Null = ⊥
+HoldsPassed var.Gone = ⊥
+HoldsPassed (var.Live v) = v.mark ≡ Passed
+
+-- The same brigade is still in the variable and passed, or it is gone.
+abbrev pub StaysPassed : Var → Var → Type 0
+StaysPassed old var.Null = ⊥
+StaysPassed old var.Gone = Unit {0}
+StaysPassed old (var.Live v) = (brigade_name old ≡ Some v.name) × (v.mark ≡ Passed)
+
+-- After a pass without a fault its variable holds the same brigade, which was passed.
+abbrev pub PassesMark : Type 0
+PassesMark = (p : Program) (choice : Choice) (b l : ℕ) (r : Run) → fault p r (instr.Pass b l) ≡ None
+    → HoldsPassed ((step p choice (instr.Pass b l) r).run.inst.brigs b) × (brigade_name ((step p choice (instr.Pass b l) r).run.inst.brigs b) ≡ brigade_name (r.inst.brigs b))
+
+-- An instruction that uses a brigade that was passed has the fault F7, or F2 where a brigade that it uses is null or dead.
 abbrev pub PassedIsNotUsed : Type 0
-PassedIsNotUsed = (p : Program) (choice : Choice) (b l : ℕ) (r : Run) (i : Instr) → uses i b ≡ true → fault p (step p choice (instr.Pass b l) r).run i ≡ None → ⊥
+PassedIsNotUsed = (p : Program) (b : ℕ) (r : Run) (i : Instr) → uses i b ≡ true → HoldsPassed (r.inst.brigs b)
+    → (fault p r i ≡ Some fault_kind.F7) ⊎ ((fault p r i ≡ Some fault_kind.F2) × (c : ℕ) × (uses i c ≡ true) × (brigade_fault (r.inst.brigs c) ≡ Some fault_kind.F2))
+
+-- So after a pass no instruction that uses the brigade goes on.
+abbrev pub UseAfterPassFaults : Type 0
+UseAfterPassFaults = (p : Program) (choice : Choice) (b l : ℕ) (r : Run) (i : Instr) → uses i b ≡ true → fault p (step p choice (instr.Pass b l) r).run i ≡ None → ⊥
+
+-- whether an instruction lets go of a passed brigade: a clean of it, and of `in` a return
+abbrev pub lets_go : Instr → ℕ → Bool
+lets_go (instr.BClean c) b = b == c
+lets_go (instr.Ret s) b = b == 8
+lets_go i b = false
+
+-- Each other step without a fault leaves it passed, or it is gone.
+abbrev pub StepKeepsPassed : Type 0
+StepKeepsPassed = (p : Program) (choice : Choice) (i : Instr) (b : ℕ) (r : Run) → fault p r i ≡ None → lets_go i b ≡ false → HoldsPassed (r.inst.brigs b)
+    → StaysPassed (r.inst.brigs b) ((step p choice i r).run.inst.brigs b)
+
+-- A return ends `in`.
+abbrev pub ReturnEndsIn : Type 0
+ReturnEndsIn = (p : Program) (choice : Choice) (s : Status) (r : Run) → (step p choice (instr.Ret s) r).run.inst.brigs 8 ≡ var.Null
+
+-- whether an event lets go of it: a step whose instruction does
+abbrev pub event_lets_go : Program → Connection → Event → ℕ → Bool
+event_lets_go p c event.Step b = lets_go (current p c.run.pc) b
+event_lets_go p c e b = false
+
+-- the same of a variable in a world, in which the connection may be closed
+abbrev pub StaysPassedIn : Var → ℕ → World → Type 0
+StaysPassedIn old b (Before fs) = ⊥
+StaysPassedIn old b (There c) = StaysPassed old (c.run.inst.brigs b)
+StaysPassedIn old b (Closed pools fs) = Unit {0}
+
+-- Each other event of an orderly connection leaves it passed, or it is gone; or the connection is closed.
+abbrev pub EventKeepsPassed : Type 0
+EventKeepsPassed = (memory : Bool) (budget : ℕ) (p : Program) (e : Event) (b : ℕ) (c : Connection) → IsOrderly budget p c → event_lets_go p c e b ≡ false → HoldsPassed (c.run.inst.brigs b)
+    → StaysPassedIn (c.run.inst.brigs b) b (happens memory budget p e (There c)).1
 
 -- A brigade that was cleaned is usable and empty.
 abbrev pub CleanedIsUsable : Type 0

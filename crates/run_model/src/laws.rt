@@ -2,7 +2,7 @@
 
 ghost use Rattle.run_model.specs.Examples.{PassRuns, PoolRuns, PoolEnds, KindRuns, FaultRuns, BreakRuns, RefusedRuns, NameRuns, HeldFaults, HeldChanges};
 ghost use Rattle.run_model.specs.Laws.{CreatesKeepOthers, KillsTheNewest, KillsOneLabel, EachStandsOnce, DepthDoesNotMatter};
-ghost use Rattle.run_model.specs.Laws.{StepKeepsNames, StepKeepsBuckets, StepKeepsPools, StepAtEndKeeps, OpenedIsSound, EventKeepsSound, RunIsSound, RunGoesOn, StepsGoOn, StepsAreARun, EndedStepsAreARun, StepChangesOnly, RefusedChangesNothing, RefusedStepBreaks, FaultBreaks, BrokenStaysBroken, EventKeepsOrder, RunIsOrderly, BroughtEndsOnce, OutputOfCuts, FaultOfCuts, PassedIsNotUsed, CleanedIsUsable, ClearsKeepOthers, ClearsTakeAlong};
+ghost use Rattle.run_model.specs.Laws.{StepKeepsNames, StepKeepsBuckets, StepKeepsPools, StepAtEndKeeps, OpenedIsSound, EventKeepsSound, RunIsSound, RunGoesOn, StepsGoOn, StepsAreARun, EndedStepsAreARun, StepChangesOnly, RefusedChangesNothing, RefusedStepBreaks, FaultBreaks, BrokenStaysBroken, EventKeepsOrder, RunIsOrderly, BroughtEndsOnce, OutputOfCuts, FaultOfCuts, PassesMark, PassedIsNotUsed, UseAfterPassFaults, StepKeepsPassed, ReturnEndsIn, EventKeepsPassed, CleanedIsUsable, ClearsKeepOthers, ClearsTakeAlong};
 ghost use Rattle.run_model.specs.Laws.{AsideLasts, ReadsGiveTheFile, ReadsDropNothing, FilesCloseLast, StepKeepsFiles, EventKeepsFiles, RunKeepsFiles};
 
 /// Small runs answer as they are worked out by hand, and so do faults and changes of small states.
@@ -75,9 +75,16 @@ pub fn bodies_are_cut_anywhere()
     ensures fault { FaultOfCuts }
 {}
 
-/// A brigade that was passed is not used again before it is cleaned, and one that was cleaned is empty and usable.
+/// A pass leaves its brigade passed. A brigade that was passed is not used again before it is cleaned: each other use of it
+/// has a fault, and each step and each event leaves it passed, or it is gone, but for a clean of it and, of `in`, a return,
+/// which ends it. A brigade that was cleaned is empty and usable.
 pub fn passed_brigades_are_only_cleaned()
+    ensures marked { PassesMark }
     ensures passed { PassedIsNotUsed }
+    ensures after { UseAfterPassFaults }
+    ensures step { StepKeepsPassed }
+    ensures ended { ReturnEndsIn }
+    ensures event { EventKeepsPassed }
     ensures cleaned { CleanedIsUsable }
 {}
 
