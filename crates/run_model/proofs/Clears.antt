@@ -1,6 +1,8 @@
 -- What a clear of a pool leaves and what goes with it.
 use Rattle.std.proofs.Common.{◌≡◌, ◌≢◌, ℕ, Bool, true, false, not, cond, List, [], ◌∷◌, map, All, refl, sym, ◌∙◌, ap}
 use Rattle.std.proofs.lemmas.List.Elements.{All-nil, All-cons, All-head, All-tail}
+use Rattle.std.specs.List.{AllZip}
+use Rattle.run_model.specs.declared.bucket.Brigade.{Brigade}
 use Rattle.run_model.specs.declared.bucket.Kind.{Kind}
 use Rattle.run_model.specs.declared.bucket.Kind.TheVariants as kind
 use Rattle.run_model.specs.declared.bucket.Home.{Home}
@@ -16,7 +18,7 @@ use Rattle.run_model.specs.Clearing.{is_reached, cleared_var, run_down}
 use Rattle.run_model.specs.State.{Run, with_pools, items_of}
 use Rattle.run_model.specs.Steps.{files_let_go}
 use Rattle.run_model.specs.Sound.{brigade_pool}
-use Rattle.run_model.specs.Laws.{ClearsKeepOthers, lies_under, StandsApart, SameContents, TakesAlong, ClearsTakeAlong}
+use Rattle.run_model.specs.Laws.{ClearsKeepOthers, lies_under, StandsApart, LeavesBucket, LeavesVar, TakesAlong, ClearsTakeAlong}
 use Rattle.run_model.proofs.PoolMap.{cleared_apart, cleared_itself, cleared_under, cleared_payloads, cleared_next, destroyed_apart, destroyed_under, destroyed_next}
 
 -- Pools.
@@ -96,6 +98,25 @@ same_bucket n r x apart =
     ap (λ (k : Kind). record x { bucket = record x.bucket { kind = k; home = end_pools reached x.bucket.home } }) kept_kind
     ∙ ap (λ (h : Home). record x { bucket = record x.bucket { home = h } }) kept_home
 
+heap_there : (reached : ℕ → Bool) (k : Kind) (m : ℕ) → reached m ≡ true → k ≡ kind.Pool m → to_heap reached k ≡ kind.Heap
+heap_there reached k m under is = ap (to_heap reached) is ∙ ap (λ b. cond b kind.Heap (kind.Pool m)) under
+
+ended_there : (reached : ℕ → Bool) (h : Home) (m : ℕ) → reached m ≡ true → h ≡ home.Pool m → end_pools reached h ≡ home.Ended
+ended_there reached h m under is = ap (end_pools reached) is ∙ ap (λ b. cond b home.Ended (home.Pool m)) under
+
+bucket_left : (n : ℕ) (r : Run) (x : Named) → LeavesBucket r n x (cleared_bucket (is_under r.shared.pools n) x)
+bucket_left n r x =
+    let reached = is_under r.shared.pools n in
+    record {
+      name = refl;
+      content = refl;
+      same = same_bucket n r x;
+      same_kind = same_kind reached x.bucket.kind;
+      same_home = same_home reached x.bucket.home;
+      heap = heap_there reached x.bucket.kind;
+      ended = ended_there reached x.bucket.home;
+    }
+
 -- Lists of buckets.
 
 all_apart : (n : ℕ) (r : Run) (xs : List Named) → All (StandsApart r n) (map (cleared_bucket (is_under r.shared.pools n)) xs)
@@ -110,12 +131,9 @@ same_list n r (x ∷ xs) apart =
     ap (λ (y : Named). y ∷ map (cleared_bucket (is_under r.shared.pools n)) xs) (same_bucket n r x (All-head (StandsApart r n) x xs apart))
     ∙ ap (λ (ys : List Named). x ∷ ys) (same_list n r xs (All-tail (StandsApart r n) x xs apart))
 
-same_contents : (reached : ℕ → Bool) (xs : List Named) → SameContents xs (map (cleared_bucket reached) xs)
-same_contents reached [] = record { names = refl; contents = refl }
-same_contents reached (x ∷ xs) = let rest = same_contents reached xs in record { names = ap (λ ns. x.name ∷ ns) rest.names; contents = ap (λ cs. x.bucket.content ∷ cs) rest.contents }
-
-no_contents : SameContents [] []
-no_contents = record { names = refl; contents = refl }
+all_left : (n : ℕ) (r : Run) (xs : List Named) → AllZip (LeavesBucket r n) xs (map (cleared_bucket (is_under r.shared.pools n)) xs)
+all_left n r [] = tt
+all_left n r (x ∷ xs) = (bucket_left n r x, all_left n r xs)
 
 -- Brigades.
 
@@ -124,16 +142,12 @@ var_gone reached var.Null lies = absurd (cc)
 var_gone reached var.Gone lies = refl
 var_gone reached (var.Live v) lies = ap (λ b. cond b var.Gone (var.Live (record v { items = map (cleared_bucket reached) v.items }))) lies
 
-var_left : (reached : ℕ → Bool) (v : Var) → is_reached reached (brigade_pool v) ≡ false
-    → (brigade_pool (cleared_var reached v) ≡ brigade_pool v) × SameContents (items_of v) (items_of (cleared_var reached v))
-var_left reached var.Null off = (refl, no_contents)
-var_left reached var.Gone off = (refl, no_contents)
-var_left reached (var.Live v) off = by_test (is_reached reached v.on) off where
-  by_test : (b : Bool) → b ≡ false
-      → (brigade_pool (cond b var.Gone (var.Live (record v { items = map (cleared_bucket reached) v.items }))) ≡ v.on)
-      × SameContents v.items (items_of (cond b var.Gone (var.Live (record v { items = map (cleared_bucket reached) v.items }))))
-  by_test true off = absurd (cc)
-  by_test false off = (refl, same_contents reached v.items)
+var_left : (n : ℕ) (r : Run) (v : Var) → lies_under r n v ≡ false → LeavesVar r n v (cleared_var (is_under r.shared.pools n) v)
+var_left n r var.Null off = refl
+var_left n r var.Gone off = refl
+var_left n r (var.Live v) off =
+    let left : Brigade = record v { items = map (cleared_bucket (is_under r.shared.pools n)) v.items } in
+    (left, ap (λ b. cond b var.Gone (var.Live left)) off, record { name = refl; on = refl; mark = refl; items = all_left n r v.items })
 
 var_apart : (n : ℕ) (r : Run) (v : Var) → All (StandsApart r n) (items_of (cleared_var (is_under r.shared.pools n) v))
 var_apart n r var.Null = All-nil (StandsApart r n)
@@ -156,10 +170,10 @@ run_down_takes : (n : ℕ) (r : Run) (ps : Pools Payload) → TakesAlong n r (fi
 unfolding with_pools run_down
 run_down_takes n r ps = record {
   gone = λ b lies. var_gone (is_under r.shared.pools n) (r.inst.brigs b) lies;
-  kept = λ b off. var_left (is_under r.shared.pools n) (r.inst.brigs b) off;
+  kept = λ b off. var_left n r (r.inst.brigs b) off;
   apart = λ b. var_apart n r (r.inst.brigs b);
   others = λ b off apart. var_same n r (r.inst.brigs b) off apart;
-  loose = (all_apart n r r.call.loose, same_contents (is_under r.shared.pools n) r.call.loose);
+  loose = (all_apart n r r.call.loose, all_left n r r.call.loose);
   call = refl;
   labels = refl;
 }

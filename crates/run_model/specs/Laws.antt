@@ -4,6 +4,7 @@ use Rattle.module_lang.specs.declared.instr.Status.{Status}
 use Rattle.module_lang.specs.declared.instr.Instr.{Instr}
 use Rattle.module_lang.specs.declared.instr.Instr.TheVariants as instr
 use Rattle.module_lang.specs.Program.{Program, IsModule, fits}
+use Rattle.run_model.specs.declared.bucket.Brigade.{Brigade}
 use Rattle.run_model.specs.declared.bucket.Bucket.{Bucket}
 use Rattle.run_model.specs.declared.bucket.Content.{Content}
 use Rattle.run_model.specs.declared.bucket.Content.TheVariants as content
@@ -38,7 +39,7 @@ use Rattle.run_model.specs.declared.payload.Payload.{Payload}
 use Rattle.run_model.specs.declared.payload.Payload.TheVariants as payload
 use Rattle.run_model.specs.Pools.{Pools, is_live, is_under, created, cleared, destroyed}
 use Rattle.run_model.specs.RunOrder.{IsPoolMap, runs_within, run_order}
-use Rattle.std.specs.List.{list_any}
+use Rattle.std.specs.List.{list_any, AllZip}
 use Rattle.run_model.specs.Payloads.{is_file_ref, labels_in}
 use Rattle.run_model.specs.Clearing.{is_reached}
 use Rattle.run_model.specs.Steps.{label_registered, label_killed}
@@ -374,21 +375,40 @@ lies_under r n v = is_reached (is_under r.shared.pools n) (brigade_pool v)
 abbrev pub StandsApart : Run → ℕ → Named → Type 0
 StandsApart r n x = (m : ℕ) → is_under r.shared.pools n m ≡ true → (x.bucket.home ≢ home.Pool m) × (x.bucket.kind ≢ kind.Pool m)
 
--- The same buckets with the same content, in the same order; only kinds and homes may be others.
-pub record SameContents (old new : List Named) : Type 0 where
-  pub names : map (λ x. x.name) new ≡ map (λ x. x.name) old
-  pub contents : map (λ x. x.bucket.content) new ≡ map (λ x. x.bucket.content) old
+-- What a clear of the pool n makes of one bucket. name, content: it keeps both. same: where it stands apart it is the same
+-- bucket. same_kind, same_home: each of kind and home is as it was, unless it is a pool there. heap: a POOL bucket of a pool
+-- there is HEAP. ended: a home there has ended.
+pub record LeavesBucket (r : Run) (n : ℕ) (old new : Named) : Type 0 where
+  pub name : new.name ≡ old.name
+  pub content : new.bucket.content ≡ old.bucket.content
+  pub same : StandsApart r n old → new ≡ old
+  pub same_kind : ((m : ℕ) → is_under r.shared.pools n m ≡ true → old.bucket.kind ≢ kind.Pool m) → new.bucket.kind ≡ old.bucket.kind
+  pub same_home : ((m : ℕ) → is_under r.shared.pools n m ≡ true → old.bucket.home ≢ home.Pool m) → new.bucket.home ≡ old.bucket.home
+  pub heap : (m : ℕ) → is_under r.shared.pools n m ≡ true → old.bucket.kind ≡ kind.Pool m → new.bucket.kind ≡ kind.Heap
+  pub ended : (m : ℕ) → is_under r.shared.pools n m ≡ true → old.bucket.home ≡ home.Pool m → new.bucket.home ≡ home.Ended
 
--- What goes with the pool n. gone, kept: a brigade goes exactly where it lies there, and else keeps its buckets. apart,
--- loose: no bucket that is left depends on what went. others: a brigade that did not depend on it is as it was.
--- call: a call keeps all but its loose buckets. labels: they are run in the run order, behind those that were run before.
+-- What it makes of a brigade that does not go: its name, its pool and its mark stay, and so do the places of its buckets.
+pub record LeavesBrigade (r : Run) (n : ℕ) (old new : Brigade) : Type 0 where
+  pub name : new.name ≡ old.name
+  pub on : new.on ≡ old.on
+  pub mark : new.mark ≡ old.mark
+  pub items : AllZip (LeavesBucket r n) old.items new.items
+
+abbrev pub LeavesVar : Run → ℕ → Var → Var → Type 0
+LeavesVar r n var.Null new = new ≡ var.Null
+LeavesVar r n var.Gone new = new ≡ var.Gone
+LeavesVar r n (var.Live v) new = (w : Brigade) × (new ≡ var.Live w) × LeavesBrigade r n v w
+
+-- What goes with the pool n. gone, kept: a brigade goes exactly where it lies there, and else is left as above. apart, loose:
+-- no bucket that is left depends on what went, and loose ones are left as above. others: a brigade that did not depend on it
+-- is as it was. call: a call keeps all but its loose buckets. labels: they are run in the run order, behind those that were
+-- run before.
 pub record TakesAlong (n : ℕ) (r new : Run) : Type 0 where
   pub gone : (b : ℕ) → lies_under r n (r.inst.brigs b) ≡ true → new.inst.brigs b ≡ var.Gone
-  pub kept : (b : ℕ) → lies_under r n (r.inst.brigs b) ≡ false
-      → (brigade_pool (new.inst.brigs b) ≡ brigade_pool (r.inst.brigs b)) × SameContents (items_of (r.inst.brigs b)) (items_of (new.inst.brigs b))
+  pub kept : (b : ℕ) → lies_under r n (r.inst.brigs b) ≡ false → LeavesVar r n (r.inst.brigs b) (new.inst.brigs b)
   pub apart : (b : ℕ) → All (StandsApart r n) (items_of (new.inst.brigs b))
   pub others : (b : ℕ) → lies_under r n (r.inst.brigs b) ≡ false → All (StandsApart r n) (items_of (r.inst.brigs b)) → new.inst.brigs b ≡ r.inst.brigs b
-  pub loose : All (StandsApart r n) new.call.loose × SameContents r.call.loose new.call.loose
+  pub loose : All (StandsApart r n) new.call.loose × AllZip (LeavesBucket r n) r.call.loose new.call.loose
   pub call : new.call ≡ record r.call { loose = new.call.loose }
   pub labels : new.shared.labels ≡ r.shared.labels ++ labels_in (run_order r.shared.pools n)
 

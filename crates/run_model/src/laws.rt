@@ -103,8 +103,10 @@ pub fn run_orders_hold_each_payload_once()
     ensures depth { DepthDoesNotMatter }
 {}
 
-/// A clear of a pool leaves what does not stand under it as it was; what lies on it and under it goes, and its labels are
-/// run in their order.
+/// A clear of a pool leaves the pools that do not stand under it as they were, and of the others itself alone; a destroy takes
+/// it too. Brigades on these pools go. The others keep their name, pool and mark, and their buckets their places, names and
+/// content: a POOL bucket with its bytes there becomes HEAP, a home there ends, and no other kind or home changes. The labels
+/// there are run in their order.
 pub fn clears_take_what_lies_under()
     ensures pools { ClearsKeepOthers }
     ensures brigades { ClearsTakeAlong }
