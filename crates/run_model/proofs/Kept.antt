@@ -1,8 +1,8 @@
 -- Buckets that are set aside, read, and let go with their files.
-use Rattle.std.proofs.Common.{◌≡◌, ℕ, zero, suc, ◌+◌, ◌-◌, ◌*◌, ◌/◌, ◌<◌, ◌≤◌, Bool, true, false, ◌&&◌, ◌||◌, not, cond, List, [], ◌++◌, append-nil, length, take, drop, ◌⊎◌, inl, inr, Option, Some, None, nat_le, min, refl, sym, ◌∙◌, ap, arith}
+use Rattle.std.proofs.Common.{◌≡◌, ℕ, zero, suc, ◌+◌, ◌-◌, ◌*◌, ◌/◌, ◌<◌, ◌≤◌, Bool, true, false, ◌&&◌, ◌||◌, not, cond, List, [], ◌∷◌, ◌++◌, append-nil, length, take, drop, ◌⊎◌, inl, inr, Option, Some, None, nat_le, min, ◌==◌, eqb-true, subst, refl, sym, ◌∙◌, ap, arith}
 use Rattle.std.proofs.Math.Seq.{take-add}
 use Rattle.std.proofs.lemmas.List.{drop-drop, drop-take, length-drop, length-take, take-append-drop, take_all}
-use Rattle.std.proofs.lemmas.Bool.{cases_lt}
+use Rattle.std.proofs.lemmas.Bool.{cases_lt, or_cases}
 use Rattle.std.proofs.lemmas.Bool.Decides.{nat_tests}
 use Rattle.run_model.specs.declared.bucket.Kind.{Kind}
 use Rattle.run_model.specs.declared.bucket.Kind.TheVariants as kind
@@ -11,9 +11,11 @@ use Rattle.run_model.specs.declared.bucket.Content.TheVariants as content
 use Rattle.run_model.specs.declared.bucket.Home.{Home}
 use Rattle.run_model.specs.declared.bucket.Home.TheVariants as home
 use Rattle.run_model.specs.declared.bucket.Bucket.{Bucket}
+use Rattle.run_model.specs.declared.bucket.Named.{Named}
 use Rattle.run_model.specs.declared.payload.Payload.{Payload}
-use Rattle.run_model.specs.Pools.{Pools, is_under, cleared, destroyed}
-use Rattle.run_model.specs.Buckets.{is_ended}
+use Rattle.run_model.specs.Pools.{Pools, is_in, is_live, is_under, cleared, destroyed}
+use Rattle.run_model.specs.RunOrder.{IsPoolMap}
+use Rattle.run_model.specs.Buckets.{is_dead, is_ended}
 use Rattle.run_model.specs.Cutting.{read_limit, rest_of, wanted, set_aside, read_as}
 use Rattle.run_model.specs.Files.{Files, is_referred, fails_now, after_read, part_of, read_part, read_done, all_taken, and_then, unless_failed, range_taken, parts_of}
 use Rattle.run_model.specs.Clearing.{run_down}
@@ -21,6 +23,7 @@ use Rattle.run_model.specs.State.{Run, with_pools}
 use Rattle.run_model.specs.Steps.{is_above, files_let_go}
 use Rattle.run_model.specs.Sound.{is_free, is_pool, is_range, home_fits, content_fits, is_proper}
 use Rattle.run_model.specs.Laws.{MatchHome, KeptAside, AsideLasts, ReadsGiveTheFile, bytes_in, bytes_of_rest, ReadsDropNothing, hands_on, FilesGo, FilesCloseLast}
+use Rattle.run_model.proofs.Formed.{path_live}
 
 -- Setting aside.
 
@@ -43,17 +46,45 @@ above_lasts ps target (home.Call n) live fit above = absurd (cc)
 above_lasts ps target (home.Pool n) live fit above = inr above
 above_lasts ps target home.Ended live fit above = tt
 
+-- a pool above a live one is live
+above_lives : (ps : Pools Payload) → IsPoolMap ps → (xs : List ℕ) (n p : ℕ) → ps.path n ≡ xs → is_in p xs ≡ true → is_live ps p ≡ true
+above_lives ps formed [] n p is inside = absurd (cc)
+above_lives ps formed (m ∷ []) n p is inside = elim (or_cases (m == p) false inside) [
+  | inl e ↦ path_live ps p m [] (ap ps.path (sym (eqb-true m p e) ∙ formed.first n m [] is) ∙ is)
+  | inr e ↦ absurd (cc)
+]
+above_lives ps formed (m ∷ q ∷ above) n p is inside = elim (or_cases (m == p) (is_in p (q ∷ above)) inside) [
+  | inl e ↦ path_live ps p m (q ∷ above) (ap ps.path (sym (eqb-true m p e) ∙ formed.first n m (q ∷ above) is) ∙ is)
+  | inr e ↦ above_lives ps formed (q ∷ above) q p (formed.closed n m q above is) e
+]
+
+home_lives : (ps : Pools Payload) (target : ℕ) → IsPoolMap ps → is_live ps target ≡ true → (h : Home)
+    → MatchHome h (λ call. ⊥) (λ p. (p ≡ target) ⊎ (is_under ps p target ≡ true)) → MatchHome h (λ call. ⊥) (λ p. is_live ps p ≡ true)
+unfolding is_under
+home_lives ps target formed live home.Free lasts = tt
+home_lives ps target formed live (home.Call n) lasts = lasts
+home_lives ps target formed live (home.Pool n) lasts = elim lasts [
+  | inl e ↦ subst (λ (k : ℕ). is_live ps k ≡ true) (sym e) live
+  | inr e ↦ above_lives ps formed (ps.path target) target n refl e
+]
+home_lives ps target formed live home.Ended lasts = tt
+
+kept_as : (ps : Pools Payload) (target : ℕ) (old new : Named) → MatchHome new.bucket.home (λ call. ⊥) (λ p. (p ≡ target) ⊎ (is_under ps p target ≡ true)) → is_dead new ≡ false
+    → new.name ≡ old.name → new.bucket.content ≡ old.bucket.content → KeptAside ps target old new
+kept_as ps target old new lasts alive name content =
+    record { lasts = lasts; alive = alive; there = λ formed live. home_lives ps target formed live new.bucket.home lasts; name = name; content = content }
+
 aside_parts : (ps : Pools Payload) (target name : ℕ) (k : Kind) (c : Content) (h : Home) (above : Bool) → is_above ps target h ≡ above
     → home_fits k h ≡ true → is_ended h ≡ false
     → KeptAside ps target (record { name = name; bucket = record { kind = k; content = c; home = h } }) (record { name = name; bucket = set_aside target above (record { kind = k; content = c; home = h }) })
-aside_parts ps target name kind.Heap c h above is fit live = record { lasts = free_lasts _ _ h fit; alive = live; name = refl; content = refl }
-aside_parts ps target name kind.Transient c h above is fit live = record { lasts = tt; alive = refl; name = refl; content = refl }
-aside_parts ps target name kind.Immortal c h above is fit live = record { lasts = free_lasts _ _ h fit; alive = live; name = refl; content = refl }
-aside_parts ps target name (kind.Pool p) c h above is fit live = record { lasts = free_lasts _ _ h fit; alive = live; name = refl; content = refl }
-aside_parts ps target name kind.File c h true is fit live = record { lasts = above_lasts ps target h live fit is; alive = live; name = refl; content = refl }
-aside_parts ps target name kind.File c h false is fit live = record { lasts = inl refl; alive = refl; name = refl; content = refl }
-aside_parts ps target name kind.Flush c h above is fit live = record { lasts = free_lasts _ _ h fit; alive = live; name = refl; content = refl }
-aside_parts ps target name kind.Eos c h above is fit live = record { lasts = free_lasts _ _ h fit; alive = live; name = refl; content = refl }
+aside_parts ps target name kind.Heap c h above is fit live = kept_as ps target _ _ (free_lasts _ _ h fit) live refl refl
+aside_parts ps target name kind.Transient c h above is fit live = kept_as ps target _ _ tt refl refl refl
+aside_parts ps target name kind.Immortal c h above is fit live = kept_as ps target _ _ (free_lasts _ _ h fit) live refl refl
+aside_parts ps target name (kind.Pool p) c h above is fit live = kept_as ps target _ _ (free_lasts _ _ h fit) live refl refl
+aside_parts ps target name kind.File c h true is fit live = kept_as ps target _ _ (above_lasts ps target h live fit is) live refl refl
+aside_parts ps target name kind.File c h false is fit live = kept_as ps target _ _ (inl refl) refl refl refl
+aside_parts ps target name kind.Flush c h above is fit live = kept_as ps target _ _ (free_lasts _ _ h fit) live refl refl
+aside_parts ps target name kind.Eos c h above is fit live = kept_as ps target _ _ (free_lasts _ _ h fit) live refl refl
 
 pub aside_lasts : AsideLasts
 unfolding is_proper

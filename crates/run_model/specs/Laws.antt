@@ -423,10 +423,12 @@ MatchHome (home.Pool n) C P = P n
 MatchHome home.Ended C P = Unit {0}
 
 -- What setting aside into the pool `target` makes of a bucket. lasts: it depends on no call, and on no pool but the target
--- and those above it. alive: what it depends on is there. name, content: it is the same bucket with the same bytes.
+-- and those above it. alive: its home has not ended. there: where the target is live, so is the pool that is its home. name,
+-- content: it is the same bucket with the same bytes.
 pub record KeptAside (ps : Pools Payload) (target : ℕ) (old new : Named) : Type 0 where
   pub lasts : MatchHome new.bucket.home (λ call. ⊥) (λ p. (p ≡ target) ⊎ (is_under ps p target ≡ true))
   pub alive : is_dead new ≡ false
+  pub there : IsPoolMap ps → is_live ps target ≡ true → MatchHome new.bucket.home (λ call. ⊥) (λ p. is_live ps p ≡ true)
   pub name : new.name ≡ old.name
   pub content : new.bucket.content ≡ old.bucket.content
 

@@ -112,8 +112,10 @@ pub fn clears_take_what_lies_under()
     ensures brigades { ClearsTakeAlong }
 {}
 
-/// A bucket that was set aside lasts as long as the pool that it was set aside into; reads give what the file holds and
-/// drop nothing; a file closes where the last reference to it goes, and not before.
+/// A bucket that was set aside keeps its name and bytes, and depends on no call and on no pool but the one that it was set
+/// aside into and those above it, which are live where that pool is. Where no read fails, all bytes of a range of an open file
+/// are taken, and a read of one bucket drops none. Where a pool goes, a file closes where a reference to it went and none is
+/// left, and no other file closes.
 pub fn kept_buckets_last()
     ensures aside { AsideLasts }
     ensures reads { ReadsGiveTheFile }
