@@ -1,11 +1,19 @@
--- The buckets of brought pieces stand as the pieces do.
-use Rattle.std.proofs.Common.{◌≡◌, ℕ, ◌+◌, Bool, ◌&&◌, ◌||◌, List, [], ◌∷◌, refl, ◌∙◌, ap}
+-- The buckets of brought pieces stand as the pieces do, and late data is refused.
+use Rattle.std.proofs.Common.{◌≡◌, ℕ, ◌+◌, Bool, true, false, ◌&&◌, ◌||◌, not, List, [], ◌∷◌, Option, Some, None, is_some, refl, sym, ◌∙◌, ap}
 use Rattle.std.specs.List.{list_any}
+use Rattle.module_lang.specs.Program.{Program}
+use Rattle.run_model.specs.declared.bucket.Var.{Var}
+use Rattle.run_model.specs.declared.event.Cause.{Cause}
+use Rattle.run_model.specs.declared.event.Refusal.{Refusal}
+use Rattle.run_model.specs.declared.event.Refusal.TheVariants as refusal
 use Rattle.run_model.specs.declared.event.Piece.{Piece}
 use Rattle.run_model.specs.declared.event.Piece.TheVariants as piece
 use Rattle.run_model.specs.Buckets.{is_data_kind, is_eos_kind, has_data, data_after_eos}
-use Rattle.run_model.specs.Connection.{bucket_of, named_from, is_data_piece, is_eos_piece}
-use Rattle.run_model.specs.Laws.{BroughtEndsOnce}
+use Rattle.run_model.specs.State.{items_of, set_brig}
+use Rattle.run_model.specs.Connection.{Connection, bucket_of, named_from, is_data_piece, is_eos_piece, data_behind_eos, brought, brings, first_refusal, refused_if, if_broken, unless_refused}
+use Rattle.run_model.specs.Laws.{BucketsAsPieces, LateDataIsRefused, BroughtEndsOnce}
+use Rattle.run_model.proofs.Happened.{none_first, none_if}
+use Rattle.run_model.proofs.Updates.{upd_at}
 
 -- metadata or data, whatever the call and the request
 data_piece : (call req : ℕ) (x : Piece) → is_data_kind (bucket_of call req x).kind ≡ is_data_piece x
@@ -32,9 +40,45 @@ same_data call req n (x ∷ xs) =
     ap (λ (b : Bool). b || has_data (named_from (bucket_of call req) (n + 1) xs)) (data_piece call req x)
     ∙ ap (λ (b : Bool). is_data_piece x || b) (same_data call req (n + 1) xs)
 
-pub brought_ends_once : BroughtEndsOnce
-brought_ends_once call req n [] = refl
-brought_ends_once call req n (x ∷ xs) =
+pub buckets_as_pieces : BucketsAsPieces
+buckets_as_pieces call req n [] = refl
+buckets_as_pieces call req n (x ∷ xs) =
     ap (λ (b : Bool). (b && has_data (named_from (bucket_of call req) (n + 1) xs)) || data_after_eos (named_from (bucket_of call req) (n + 1) xs)) (eos_piece call req x)
     ∙ (ap (λ (b : Bool). (is_eos_piece x && b) || data_after_eos (named_from (bucket_of call req) (n + 1) xs)) (same_data call req (n + 1) xs)
-    ∙ ap (λ (b : Bool). (is_eos_piece x && list_any is_data_piece xs) || b) (brought_ends_once call req (n + 1) xs))
+    ∙ ap (λ (b : Bool). (is_eos_piece x && list_any is_data_piece xs) || b) (buckets_as_pieces call req (n + 1) xs))
+
+-- Bringing.
+
+late_first : (b : Option Cause) (busy : Bool) (o : Option ℕ) (late : Bool) (rest : List (Option Refusal)) (req : ℕ) → b ≡ None → busy ≡ false → o ≡ Some req → late ≡ true
+    → first_refusal (if_broken b ∷ (refused_if busy refusal.Busy ∷ (refused_if (not (is_some o)) refusal.NotInRequest ∷ (refused_if late refusal.DataAfterEos ∷ rest)))) ≡ Some refusal.DataAfterEos
+late_first None false (Some q) true rest req sound idle in_request late = refl
+late_first None false (Some q) false rest req sound idle in_request late = absurd (cc)
+late_first None false None l rest req sound idle in_request late = absurd (cc)
+late_first None true o l rest req sound idle in_request late = absurd (cc)
+late_first (Some k) busy o l rest req sound idle in_request late = absurd (cc)
+
+pub late_data_is_refused : LateDataIsRefused
+unfolding brings
+late_data_is_refused memory p pieces c req sound idle is late =
+    ap (λ (o : Option Refusal). unless_refused o c (brought c.run.shared.req p pieces c)) (late_first c.broken c.busy c.run.shared.req (data_behind_eos pieces) _ req sound idle is late)
+
+-- what happened passed each test
+served : (o : Option Refusal) (old done new : Connection) → unless_refused o old done ≡ (None, new) → (o ≡ None) × (new ≡ done)
+served None old done new is = (refl, ap (λ (a : Option Refusal × Connection). a.1) (sym is))
+served (Some r) old done new is = absurd (let no : Some r ≡ None = ap (λ (a : Option Refusal × Connection). a.0) is in cc)
+
+in_brought : (o : Option ℕ) (p : Program) (pieces : List Piece) (c : Connection) → not (is_some o) ≡ false → data_behind_eos pieces ≡ false → data_after_eos (items_of ((brought o p pieces c).run.inst.brigs 8)) ≡ false
+unfolding set_brig
+in_brought None p pieces c in_request none = absurd (cc)
+in_brought (Some req) p pieces c in_request none =
+    ap (λ (v : Var). data_after_eos (items_of v)) (upd_at c.run.inst.brigs 8 _) ∙ (buckets_as_pieces c.run.shared.next req (c.run.shared.next + 2) pieces ∙ none)
+
+pub brought_ends_once : BroughtEndsOnce
+unfolding brings
+brought_ends_once memory p pieces c new is =
+    let happened = served _ c (brought c.run.shared.req p pieces c) new is in
+    let a = none_first (if_broken c.broken) _ happened.0 in
+    let b = none_if c.busy refusal.Busy _ a in
+    let d = none_if (not (is_some c.run.shared.req)) refusal.NotInRequest _ b.1 in
+    let e = none_if (data_behind_eos pieces) refusal.DataAfterEos _ d.1 in
+    ap (λ (x : Connection). data_after_eos (items_of (x.run.inst.brigs 8))) happened.1 ∙ in_brought c.run.shared.req p pieces c d.0 e.0

@@ -29,7 +29,7 @@ use Rattle.run_model.specs.Cutting.{wanted, read_of}
 use Rattle.run_model.specs.State.{Run, Out, fresh_call, items_of}
 use Rattle.run_model.specs.Faults.{WUsable, brigade_fault, fault_want, fault, send_fault, or_else}
 use Rattle.run_model.specs.Steps.{Choice, step, step_at_end, current, aside_named, delivered, lacks_names, names_of, pool_cleared, pool_destroyed}
-use Rattle.run_model.specs.Connection.{Connection, opened, bucket_of, named_from, data_behind_eos, has_range, breaks, steps}
+use Rattle.run_model.specs.Connection.{Connection, opened, bucket_of, named_from, data_behind_eos, has_range, brings, breaks, steps}
 use Rattle.run_model.specs.Runs.{Answer, Refused, Step, World, Before, There, Closed, happens, IsDue, step_of, IsRun, GoesOn, EndsRun}
 use Rattle.run_model.specs.Sound.{SoundNames, SoundBuckets, SoundPools, Sound, brigade_name, brigade_pool, is_range, is_proper}
 use Rattle.run_model.specs.declared.bucket.Kind.TheVariants as kind
@@ -215,9 +215,18 @@ EventKeepsOrder = (memory : Bool) (budget : ℕ) (p : Program) (e : Event) (w : 
 abbrev pub RunIsOrderly : Type 0
 RunIsOrderly = (budget : ℕ) (p : Program) (fs : Files) (es : List Event) (answers : List Answer) (w : World) → IsModule p → IsRun budget p (Before fs) es answers w → OrderlyWorld budget p w
 
--- No data stands behind an EOS of a brigade that is brought.
+-- The buckets of pieces have data behind an EOS exactly where the pieces do.
+abbrev pub BucketsAsPieces : Type 0
+BucketsAsPieces = (call req n : ℕ) (pieces : List Piece) → data_after_eos (named_from (bucket_of call req) n pieces) ≡ data_behind_eos pieces
+
+-- Such pieces are refused, where the connection is not broken, no call runs and a request is open.
+abbrev pub LateDataIsRefused : Type 0
+LateDataIsRefused = (memory : Bool) (p : Program) (pieces : List Piece) (c : Connection) (req : ℕ) → c.broken ≡ None → c.busy ≡ false → c.run.shared.req ≡ Some req → data_behind_eos pieces ≡ true
+    → brings memory p pieces c ≡ (Some refusal.DataAfterEos, c)
+
+-- No data stands behind an EOS of a brigade that was brought.
 abbrev pub BroughtEndsOnce : Type 0
-BroughtEndsOnce = (call req n : ℕ) (pieces : List Piece) → data_after_eos (named_from (bucket_of call req) n pieces) ≡ data_behind_eos pieces
+BroughtEndsOnce = (memory : Bool) (p : Program) (pieces : List Piece) (c new : Connection) → brings memory p pieces c ≡ (None, new) → data_after_eos (items_of (new.run.inst.brigs 8)) ≡ false
 
 -- However a body is cut: brigades that are passed one after the other reach the output as they would in one, where no
 -- read failed in the first, and have the fault of data after an EOS where they would have it in one.

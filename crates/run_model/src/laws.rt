@@ -2,7 +2,7 @@
 
 ghost use Rattle.run_model.specs.Examples.{PassRuns, PoolRuns, PoolEnds, KindRuns, FaultRuns, BreakRuns, RefusedRuns, NameRuns, HeldFaults, HeldChanges};
 ghost use Rattle.run_model.specs.Laws.{CreatesKeepOthers, KillsTheNewest, KillsOneLabel, EachStandsOnce, DepthDoesNotMatter};
-ghost use Rattle.run_model.specs.Laws.{StepKeepsNames, StepKeepsBuckets, StepKeepsPools, StepAtEndKeeps, OpenedIsSound, EventKeepsSound, RunIsSound, RunGoesOn, StepsGoOn, StepsAreARun, EndedStepsAreARun, StepChangesOnly, RefusedChangesNothing, RefusedStepBreaks, FaultBreaks, BrokenStaysBroken, EventKeepsOrder, RunIsOrderly, BroughtEndsOnce, OutputOfCuts, FaultOfCuts, PassesMark, PassedIsNotUsed, UseAfterPassFaults, StepKeepsPassed, ReturnEndsIn, EventKeepsPassed, CleanedIsUsable, ClearsKeepOthers, ClearsTakeAlong};
+ghost use Rattle.run_model.specs.Laws.{StepKeepsNames, StepKeepsBuckets, StepKeepsPools, StepAtEndKeeps, OpenedIsSound, EventKeepsSound, RunIsSound, RunGoesOn, StepsGoOn, StepsAreARun, EndedStepsAreARun, StepChangesOnly, RefusedChangesNothing, RefusedStepBreaks, FaultBreaks, BrokenStaysBroken, EventKeepsOrder, RunIsOrderly, BucketsAsPieces, LateDataIsRefused, BroughtEndsOnce, OutputOfCuts, FaultOfCuts, PassesMark, PassedIsNotUsed, UseAfterPassFaults, StepKeepsPassed, ReturnEndsIn, EventKeepsPassed, CleanedIsUsable, ClearsKeepOthers, ClearsTakeAlong};
 ghost use Rattle.run_model.specs.Laws.{AsideLasts, ReadsGiveTheFile, ReadsDropNothing, FilesCloseLast, StepKeepsFiles, EventKeepsFiles, RunKeepsFiles};
 
 /// Small runs answer as they are worked out by hand, and so do faults and changes of small states.
@@ -63,13 +63,16 @@ pub fn runs_are_orderly()
     ensures run { RunIsOrderly }
 {}
 
-/// No data stands behind an EOS of a brigade that is brought.
+/// Pieces with data behind an EOS are refused, and no data stands behind an EOS of a brigade that was brought: its buckets have
+/// it where its pieces do.
 pub fn brought_brigades_end_once()
-    ensures { BroughtEndsOnce }
+    ensures pieces { BucketsAsPieces }
+    ensures refused { LateDataIsRefused }
+    ensures brought { BroughtEndsOnce }
 {}
 
-/// Brigades that are passed one after the other have the output, and the fault of data after an EOS, that they would
-/// have in one.
+/// Brigades that are passed one after the other reach the output as they would in one, where no read failed in the first, and
+/// have the fault of data after an EOS where they would have it in one.
 pub fn bodies_are_cut_anywhere()
     ensures output { OutputOfCuts }
     ensures fault { FaultOfCuts }
