@@ -63,8 +63,8 @@ pub fn runs_are_orderly()
     ensures run { RunIsOrderly }
 {}
 
-/// Pieces with data behind an EOS are refused, and no data stands behind an EOS of a brigade that was brought: its buckets have
-/// it where its pieces do.
+/// Pieces with data behind an EOS are refused, where the connection is not broken, no call runs and a request is open. No data
+/// stands behind an EOS of a brigade that was brought: its buckets have it exactly where its pieces do.
 pub fn brought_brigades_end_once()
     ensures pieces { BucketsAsPieces }
     ensures refused { LateDataIsRefused }
@@ -78,9 +78,10 @@ pub fn bodies_are_cut_anywhere()
     ensures fault { FaultOfCuts }
 {}
 
-/// A pass leaves its brigade passed. A brigade that was passed is not used again before it is cleaned: each other use of it
-/// has a fault, and each step and each event leaves it passed, or it is gone, but for a clean of it and, of `in`, a return,
-/// which ends it. A brigade that was cleaned is empty and usable.
+/// A pass without a fault leaves its brigade passed. A brigade that was passed is not used again before it is cleaned: each
+/// other use of it has a fault, and each step without a fault and each event of an orderly connection leaves it passed, or it
+/// is gone, or the connection is closed; but for a clean of it and, of `in`, a return, which ends it. A brigade that was
+/// cleaned is empty and usable.
 pub fn passed_brigades_are_only_cleaned()
     ensures marked { PassesMark }
     ensures passed { PassedIsNotUsed }
@@ -91,16 +92,16 @@ pub fn passed_brigades_are_only_cleaned()
     ensures cleaned { CleanedIsUsable }
 {}
 
-/// A new pool is a child of its parent and changes no other; a kill of a label takes out the payload that is this label and
-/// was registered last, and no other, and where none is this label nothing.
+/// A new pool is a child of its parent and changes no other. A kill of a label takes out, of the payloads that are this label,
+/// the one that was registered last, and no other; where there is none it takes out nothing.
 pub fn pools_are_made_and_filled()
     ensures made { CreatesKeepOthers }
     ensures killed { KillsTheNewest }
     ensures one { KillsOneLabel }
 {}
 
-/// In the run order of a pool each payload of that pool and of those under it stands once, and none of another pool, however
-/// deep the pools lie.
+/// In the run order of a live pool each payload of that pool and of those under it stands once, and none of another pool. It
+/// is the same down to any depth that is deep enough.
 pub fn run_orders_hold_each_payload_once()
     ensures once { EachStandsOnce }
     ensures depth { DepthDoesNotMatter }
