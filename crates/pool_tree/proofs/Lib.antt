@@ -16,3 +16,4 @@ pub mod Writing
 pub mod Printing
 pub mod Below
 pub mod Holding
+pub mod Hashing

@@ -5,3 +5,4 @@ pub mod Handed
 pub mod Printed
 pub mod Room
 pub mod Tree
+pub mod Names

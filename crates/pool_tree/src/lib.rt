@@ -3,6 +3,7 @@
 
 mod handed;
 mod links;
+mod names;
 mod payloads;
 mod records;
 mod refusal;

@@ -6,9 +6,11 @@ ghost use Rattle.std.specs.List.{list_any};
 ghost use Rattle.std.specs.Option.{option_copied};
 ghost use Rattle.run_model.specs.Indexed.{upd};
 
+use crate::names::NameHasher;
 use crate::payloads::is_among;
 use std::alloc::{AllocError, Global};
 use std::collections::HashMap;
+use std::hash::BuildHasherDefault;
 
 /// A pool, with the names of the pools that it is linked to.
 #[derive(Drop)]
@@ -28,7 +30,7 @@ pub(crate) struct Pool<T> {
 /// The pools by name.
 #[derive(Drop)]
 pub(crate) struct Records<T> {
-    pub(crate) by_name: HashMap<u64, Pool<T>>,
+    pub(crate) by_name: HashMap<u64, Pool<T>, BuildHasherDefault<NameHasher>>,
 }
 
 #[tactic(auto, unfolding(crate::specs::Records::record_of, run_model::specs::Indexed::upd, crate::specs::Records::changed))]
@@ -40,7 +42,7 @@ impl<T: Drop> Records<T> {
         ensures { (n : ℕ) → record_of result n ≡ None }
     {
         Records {
-            by_name: HashMap::new(alloc),
+            by_name: HashMap::with_hasher(alloc, BuildHasherDefault::new()),
         }
     }
 
