@@ -27,3 +27,4 @@ pub mod Kept
 pub mod References
 pub mod StepFiles
 pub mod FilesRuns
+pub mod InRange

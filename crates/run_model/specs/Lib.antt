@@ -17,3 +17,4 @@ pub mod Runs
 pub mod Sound
 pub mod Examples
 pub mod Laws
+pub mod Ranges

@@ -4,6 +4,7 @@ ghost use Rattle.run_model.specs.Examples.{PassRuns, PoolRuns, PoolEnds, KindRun
 ghost use Rattle.run_model.specs.Laws.{CreatesKeepOthers, KillsTheNewest, KillsOneLabel, EachStandsOnce, DepthDoesNotMatter};
 ghost use Rattle.run_model.specs.Laws.{StepKeepsNames, StepKeepsBuckets, StepKeepsPools, StepAtEndKeeps, OpenedIsSound, EventKeepsSound, RunIsSound, RunGoesOn, StepsGoOn, StepsAreARun, EndedStepsAreARun, StepChangesOnly, RefusedChangesNothing, RefusedStepBreaks, FaultBreaks, BrokenStaysBroken, EventKeepsOrder, RunIsOrderly, BucketsAsPieces, LateDataIsRefused, BroughtEndsOnce, OutputOfCuts, FaultOfCuts, PassesMark, PassedIsNotUsed, UseAfterPassFaults, StepKeepsPassed, ReturnEndsIn, EventKeepsPassed, CleanedIsUsable, ClearsKeepOthers, ClearsTakeAlong};
 ghost use Rattle.run_model.specs.Laws.{AsideLasts, ReadsGiveTheFile, ReadsDropNothing, FilesCloseLast, StepKeepsFiles, EventKeepsFiles, RunKeepsFiles};
+ghost use Rattle.run_model.specs.Ranges.{OpenedInRange, StepKeepsInRange, EventKeepsInRange, RunIsInRange};
 
 /// Small runs answer as they are worked out by hand, and so do faults and changes of small states.
 pub fn worked_runs()
@@ -133,4 +134,12 @@ pub fn kept_files_stay_open()
     ensures step { StepKeepsFiles }
     ensures event { EventKeepsFiles }
     ensures run { RunKeepsFiles }
+{}
+
+/// In each run numbers are at most 4294967295, and the buffer of a call holds at most 8000 bytes, each of them at most 255.
+pub fn numbers_stay_in_range()
+    ensures opened { OpenedInRange }
+    ensures step { StepKeepsInRange }
+    ensures event { EventKeepsInRange }
+    ensures run { RunIsInRange }
 {}

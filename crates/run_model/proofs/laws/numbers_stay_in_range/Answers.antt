@@ -1,0 +1,14 @@
+use Rattle.run_model.proofs.InRange.{opened_in_range, step_in_range, event_in_range, run_in_range}
+use Rattle.run_model.proofs.laws.numbers_stay_in_range.Goals as goal
+
+pub returns-clause-opened : goal.returns-clause-opened
+returns-clause-opened c = opened_in_range
+
+pub returns-clause-step : goal.returns-clause-step
+returns-clause-step c = step_in_range
+
+pub returns-clause-event : goal.returns-clause-event
+returns-clause-event c = event_in_range
+
+pub returns-clause-run : goal.returns-clause-run
+returns-clause-run c = run_in_range
