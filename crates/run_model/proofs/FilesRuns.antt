@@ -43,45 +43,51 @@ use Rattle.run_model.proofs.SoundRuns.{current_fits, event_sound}
 use Rattle.run_model.proofs.References.{one_of, created_refers, created_back, registered_refers, registered_back, registered_itself}
 use Rattle.run_model.proofs.StepFiles.{HeldList, none_held, weaker, same_files, went_and, destroyed_emptied, written_files, step_files}
 
--- Reads leave open what is open.
+-- What no read changes is as before where buckets are taken and put out.
 
-range_opened : (parts file start len : ℕ) (fs : Files) → (range_taken parts file start len fs).files.opened ≡ fs.opened
+abbrev IsUnread : {X : Type 0} → (Files → X) → Type 0
+IsUnread g = (fs : Files) → g (read_done fs) ≡ g fs
+
+range_unread : {X : Type 0} (g : Files → X) → IsUnread g → (parts file start len : ℕ) (fs : Files) → g (range_taken parts file start len fs).files ≡ g fs
 unfolding range_taken
-range_opened zero file start len fs = refl
-range_opened (suc parts) file start len fs = by_read (read_part file start (min len read_limit) fs) (range_opened parts file (start + read_limit) (len - read_limit) (read_done fs)) where
-  by_read : (o : Option (List ℕ)) → (range_taken parts file (start + read_limit) (len - read_limit) (read_done fs)).files.opened ≡ fs.opened
-      → (unless_failed o (read_done fs) (range_taken parts file (start + read_limit) (len - read_limit))).files.opened ≡ fs.opened
-  by_read None rest = refl
-  by_read (Some bytes) rest = rest
+range_unread g same zero file start len fs = refl
+range_unread g same (suc parts) file start len fs = by_read (read_part file start (min len read_limit) fs) (range_unread g same parts file (start + read_limit) (len - read_limit) (read_done fs)) where
+  by_read : (o : Option (List ℕ)) → g (range_taken parts file (start + read_limit) (len - read_limit) (read_done fs)).files ≡ g (read_done fs)
+      → g (unless_failed o (read_done fs) (range_taken parts file (start + read_limit) (len - read_limit))).files ≡ g fs
+  by_read None rest = same fs
+  by_read (Some bytes) rest = rest ∙ same fs
 
-content_opened : (c : Content) (fs : Files) → (content_taken c fs).files.opened ≡ fs.opened
-content_opened (content.Bytes bs) fs = refl
-content_opened (content.Range file start len) fs = range_opened (parts_of len) file start len fs
-content_opened content.Nothing fs = refl
+content_unread : {X : Type 0} (g : Files → X) → IsUnread g → (c : Content) (fs : Files) → g (content_taken c fs).files ≡ g fs
+content_unread g same (content.Bytes bs) fs = refl
+content_unread g same (content.Range file start len) fs = range_unread g same (parts_of len) file start len fs
+content_unread g same content.Nothing fs = refl
 
-taken_opened : (xs : List Named) (fs : Files) → (taken_of xs fs).files.opened ≡ fs.opened
+taken_unread : {X : Type 0} (g : Files → X) → IsUnread g → (xs : List Named) (fs : Files) → g (taken_of xs fs).files ≡ g fs
 unfolding taken_of
-taken_opened [] fs = refl
-taken_opened (x ∷ xs) fs = by_eos (is_eos x) (content_taken x.bucket.content fs) (content_opened x.bucket.content fs) (taken_opened xs (content_taken x.bucket.content fs).files) where
-  by_whole : (b : Bool) (t : Taken) → t.files.opened ≡ fs.opened → (taken_of xs t.files).files.opened ≡ t.files.opened
-      → (cond b (record (taken_of xs t.files) { bytes = t.bytes ++ (taken_of xs t.files).bytes }) t).files.opened ≡ fs.opened
+taken_unread g same [] fs = refl
+taken_unread g same (x ∷ xs) fs = by_eos (is_eos x) (content_taken x.bucket.content fs) (content_unread g same x.bucket.content fs) (taken_unread g same xs (content_taken x.bucket.content fs).files) where
+  by_whole : (b : Bool) (t : Taken) → g t.files ≡ g fs → g (taken_of xs t.files).files ≡ g t.files
+      → g (cond b (record (taken_of xs t.files) { bytes = t.bytes ++ (taken_of xs t.files).bytes }) t).files ≡ g fs
   by_whole true t here rest = rest ∙ here
   by_whole false t here rest = here
 
-  by_eos : (eos : Bool) (t : Taken) → t.files.opened ≡ fs.opened → (taken_of xs t.files).files.opened ≡ t.files.opened → (cond eos (all_taken [] fs) (followed_by t (taken_of xs))).files.opened ≡ fs.opened
+  by_eos : (eos : Bool) (t : Taken) → g t.files ≡ g fs → g (taken_of xs t.files).files ≡ g t.files → g (cond eos (all_taken [] fs) (followed_by t (taken_of xs))).files ≡ g fs
   by_eos true t here rest = refl
   by_eos false t here rest = by_whole t.whole t here rest
 
-delivered_opened : (out : Out) (xs : List Named) (fs : Files) → (delivered out xs fs).files.opened ≡ fs.opened
+pub delivered_unread : {X : Type 0} (g : Files → X) → ((fs : Files) → g (read_done fs) ≡ g fs) → (out : Out) (xs : List Named) (fs : Files) → g (delivered out xs fs).files ≡ g fs
 unfolding delivered
-delivered_opened out xs fs = by_ended out.bytes out.ended where
-  by_ended : (bs : List ℕ) (b : Bool) → (delivered (record { bytes = bs; ended = b }) xs fs).files.opened ≡ fs.opened
+delivered_unread g same out xs fs = by_ended out.bytes out.ended where
+  by_ended : (bs : List ℕ) (b : Bool) → g (delivered (record { bytes = bs; ended = b }) xs fs).files ≡ g fs
   by_ended bs true = refl
-  by_ended bs false = taken_opened xs fs
+  by_ended bs false = taken_unread g same xs fs
+
+delivered_opened : (out : Out) (xs : List Named) (fs : Files) → (delivered out xs fs).files.opened ≡ fs.opened
+delivered_opened out xs fs = delivered_unread (λ (f : Files). f.opened) (λ f. refl) out xs fs
 
 -- Steps.
 
-at_end_files : (p : Program) (i : Instr) (files : List (ℕ × ℕ)) (r : Run) → MayExecute p r i → Sound r → SoundFiles files r → SoundFiles files (step_at_end p i r).run
+pub at_end_files : (p : Program) (i : Instr) (files : List (ℕ × ℕ)) (r : Run) → MayExecute p r i → Sound r → SoundFiles files r → SoundFiles files (step_at_end p i r).run
 unfolding set_brig
 at_end_files p (instr.Pass b l) files r may s held =
     let passed : SoundFiles files (do_pass b r) = step_files p (record { answer = Success }) (instr.Pass b l) files r may s held in

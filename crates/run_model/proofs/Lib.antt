@@ -28,3 +28,5 @@ pub mod References
 pub mod StepFiles
 pub mod FilesRuns
 pub mod InRange
+pub mod StepRanges
+pub mod RangesRuns

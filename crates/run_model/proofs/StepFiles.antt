@@ -68,7 +68,7 @@ filled_held ps items var.Gone h = none_held ps
 filled_held ps items (var.Live v) h = h
 
 -- a home that a return leaves alive
-left_home : (call : ℕ) (h : Home) (p : ℕ) → end_call call h ≡ home.Pool p → h ≡ home.Pool p
+pub left_home : (call : ℕ) (h : Home) (p : ℕ) → end_call call h ≡ home.Pool p → h ≡ home.Pool p
 left_home call home.Free p e = e
 left_home call (home.Call n) p e = by_test (n == call) e where
   by_test : (b : Bool) → cond b home.Ended (home.Call n) ≡ home.Pool p → home.Call n ≡ home.Pool p
@@ -84,7 +84,7 @@ returned_held ps call (var.Live v) h =
     All-map (IsHeld ps) (returned_bucket call) v.items (λ k d lt. λ file start len p c at. h k d lt file start len p c (left_home call _ p at))
 
 -- a home that a clear leaves alive
-spared_home : (reached : ℕ → Bool) (h : Home) (p : ℕ) → end_pools reached h ≡ home.Pool p → (h ≡ home.Pool p) × (reached p ≡ false)
+pub spared_home : (reached : ℕ → Bool) (h : Home) (p : ℕ) → end_pools reached h ≡ home.Pool p → (h ≡ home.Pool p) × (reached p ≡ false)
 spared_home reached home.Free p e = absurd (cc)
 spared_home reached (home.Call n) p e = absurd (cc)
 spared_home reached (home.Pool n) p e = by_test (reached n) refl e where
@@ -106,7 +106,7 @@ spared_var n ps new e (var.Live v) h = by_test (is_reached (is_under ps n) v.on)
   by_test true = none_held new
   by_test false = spared_list n ps new e v.items h
 
-written : (P : Var → Type 0) (g : ℕ → Var) (i : ℕ) (w : Var) → P w → ((k : ℕ) → P (g k)) → (k : ℕ) → P (upd g i w k)
+pub written : (P : Var → Type 0) (g : ℕ → Var) (i : ℕ) (w : Var) → P w → ((k : ℕ) → P (g k)) → (k : ℕ) → P (upd g i w k)
 written P g i w here there k = elim (upd_either g i k w) [ inl q ↦ subst P (sym q.1) here | inr q ↦ subst P (sym q.1) (there k) ]
 
 -- Runs.
@@ -165,7 +165,7 @@ pub destroyed_emptied : (n : ℕ) (ps : Pools Payload) → Emptied n ps (destroy
 destroyed_emptied n ps = record { kept = λ m off. (destroyed_apart n ps m off).1; gone = λ m under. (destroyed_under n ps m under).1; next = destroyed_next n ps }
 
 -- an own pool does not stand above the request's
-own_apart : (q n : ℕ) (r : Run) → r.inst.pools q ≡ poolvar.Named n → SoundPools r → (m : ℕ) → r.shared.req ≡ Some m → is_under r.shared.pools n m ≡ false
+pub own_apart : (q n : ℕ) (r : Run) → r.inst.pools q ≡ poolvar.Named n → SoundPools r → (m : ℕ) → r.shared.req ≡ Some m → is_under r.shared.pools n m ≡ false
 own_apart q n r is s m req = let own = s.own q n is in req_apart n m r own.0 (λ same. own.2 (req ∙ ap (λ (k : ℕ). Some k) same)) req s
 
 made_files : (files : List (ℕ × ℕ)) (parent q : ℕ) (r : Run) → SoundPools r → SoundFiles files r → SoundFiles files (set_pool q (poolvar.Named r.shared.pools.next) (with_pools (created parent r.shared.pools) r))
@@ -194,25 +194,25 @@ no_ref : (b : Bool) (file : ℕ) → ◌≡◌ {A = Option ℕ} (cond b None Non
 no_ref true file e = cc
 no_ref false file e = cc
 
--- the file of a bucket that takes a further reference is open
-ref_open : (ps : Pools Payload) (target file : ℕ) (opened : ℕ → Option (List ℕ)) → ((p file : ℕ) → refers ps p file ≡ true → is_some (opened file) ≡ true)
+-- what is true of each file that has a reference is true of the file of a bucket that takes a further one
+ref_open : (ps : Pools Payload) (target file : ℕ) (Q : ℕ → Type 0) → ((p file : ℕ) → refers ps p file ≡ true → Q file)
     → (name : ℕ) (k : Kind) (c : Content) (h : Home) → home_fits k h ≡ true → is_ended h ≡ false → IsHeld ps (record { name = name; bucket = record { kind = k; content = c; home = h } })
-    → cond (is_above ps target h) None (file_of k c) ≡ Some file → is_some (opened file) ≡ true
-ref_open ps target file opened lasts name kind.File (content.Range f start len) (home.Pool p) fit live held ref = by_above (is_above ps target (home.Pool p)) ref where
-  by_above : (b : Bool) → cond b None (Some f) ≡ Some file → is_some (opened file) ≡ true
+    → cond (is_above ps target h) None (file_of k c) ≡ Some file → Q file
+ref_open ps target file Q lasts name kind.File (content.Range f start len) (home.Pool p) fit live held ref = by_above (is_above ps target (home.Pool p)) ref where
+  by_above : (b : Bool) → cond b None (Some f) ≡ Some file → Q file
   by_above true e = absurd (cc)
-  by_above false e = let same : f ≡ file = cc in subst (λ (n : ℕ). is_some (opened n) ≡ true) same (lasts p f (held f start len p refl refl))
-ref_open ps target file opened lasts name kind.File (content.Range f start len) home.Free fit live held ref = absurd (cc)
-ref_open ps target file opened lasts name kind.File (content.Range f start len) (home.Call n) fit live held ref = absurd (cc)
-ref_open ps target file opened lasts name kind.File (content.Range f start len) home.Ended fit live held ref = absurd (cc)
-ref_open ps target file opened lasts name kind.File (content.Bytes bs) h fit live held ref = absurd (no_ref (is_above ps target h) file ref)
-ref_open ps target file opened lasts name kind.File content.Nothing h fit live held ref = absurd (no_ref (is_above ps target h) file ref)
-ref_open ps target file opened lasts name kind.Heap c h fit live held ref = absurd (no_ref (is_above ps target h) file ref)
-ref_open ps target file opened lasts name kind.Transient c h fit live held ref = absurd (no_ref (is_above ps target h) file ref)
-ref_open ps target file opened lasts name kind.Immortal c h fit live held ref = absurd (no_ref (is_above ps target h) file ref)
-ref_open ps target file opened lasts name (kind.Pool p) c h fit live held ref = absurd (no_ref (is_above ps target h) file ref)
-ref_open ps target file opened lasts name kind.Flush c h fit live held ref = absurd (no_ref (is_above ps target h) file ref)
-ref_open ps target file opened lasts name kind.Eos c h fit live held ref = absurd (no_ref (is_above ps target h) file ref)
+  by_above false e = let same : f ≡ file = cc in subst Q same (lasts p f (held f start len p refl refl))
+ref_open ps target file Q lasts name kind.File (content.Range f start len) home.Free fit live held ref = absurd (cc)
+ref_open ps target file Q lasts name kind.File (content.Range f start len) (home.Call n) fit live held ref = absurd (cc)
+ref_open ps target file Q lasts name kind.File (content.Range f start len) home.Ended fit live held ref = absurd (cc)
+ref_open ps target file Q lasts name kind.File (content.Bytes bs) h fit live held ref = absurd (no_ref (is_above ps target h) file ref)
+ref_open ps target file Q lasts name kind.File content.Nothing h fit live held ref = absurd (no_ref (is_above ps target h) file ref)
+ref_open ps target file Q lasts name kind.Heap c h fit live held ref = absurd (no_ref (is_above ps target h) file ref)
+ref_open ps target file Q lasts name kind.Transient c h fit live held ref = absurd (no_ref (is_above ps target h) file ref)
+ref_open ps target file Q lasts name kind.Immortal c h fit live held ref = absurd (no_ref (is_above ps target h) file ref)
+ref_open ps target file Q lasts name (kind.Pool p) c h fit live held ref = absurd (no_ref (is_above ps target h) file ref)
+ref_open ps target file Q lasts name kind.Flush c h fit live held ref = absurd (no_ref (is_above ps target h) file ref)
+ref_open ps target file Q lasts name kind.Eos c h fit live held ref = absurd (no_ref (is_above ps target h) file ref)
 
 -- among what the buckets give
 any_cons : (o : Option ℕ) (rest : List ℕ) (file : ℕ) → list_any (λ g. g == file) (cons_option o rest) ≡ true → (o ≡ Some file) ⊎ (list_any (λ g. g == file) rest ≡ true)
@@ -222,7 +222,7 @@ any_cons (Some g) rest file h = elim (one_of (g == file) (list_any (λ g. g == f
   | inr there ↦ inr there
 ]
 
-same_number : (n : ℕ) → (n == n) ≡ true
+pub same_number : (n : ℕ) → (n == n) ≡ true
 same_number n = grind (arith, nat_tests)
 
 head_any : (o : Option ℕ) (rest : List ℕ) (file : ℕ) → o ≡ Some file → list_any (λ g. g == file) (cons_option o rest) ≡ true
@@ -232,23 +232,23 @@ tail_any : (o : Option ℕ) (rest : List ℕ) (file : ℕ) → list_any (λ g. g
 tail_any None rest file h = h
 tail_any (Some g) rest file h = or_right (g == file) (list_any (λ g. g == file) rest) h
 
-fits_home : (x : Named) → is_proper x ≡ true → home_fits x.bucket.kind x.bucket.home ≡ true
+pub fits_home : (x : Named) → is_proper x ≡ true → home_fits x.bucket.kind x.bucket.home ≡ true
 unfolding is_proper
 fits_home x h = first (home_fits x.bucket.kind x.bucket.home) (content_fits x.bucket.kind x.bucket.content) h
 
-neither : (a b : Bool) → (a || b) ≡ false → (a ≡ false) × (b ≡ false)
+pub neither : (a b : Bool) → (a || b) ≡ false → (a ≡ false) × (b ≡ false)
 neither true b h = absurd (cc)
 neither false b h = (refl, h)
 
-refs_open : (ps : Pools Payload) (target file : ℕ) (opened : ℕ → Option (List ℕ)) → ((p file : ℕ) → refers ps p file ≡ true → is_some (opened file) ≡ true)
+pub refs_open : (ps : Pools Payload) (target file : ℕ) (Q : ℕ → Type 0) → ((p file : ℕ) → refers ps p file ≡ true → Q file)
     → (xs : List Named) → All (λ x. is_proper x ≡ true) xs → list_any is_dead xs ≡ false → HeldList ps xs
-    → list_any (λ g. g == file) (filter_map (new_ref ps target) xs) ≡ true → is_some (opened file) ≡ true
-refs_open ps target file opened lasts [] proper live held h = absurd (cc)
-refs_open ps target file opened lasts (x ∷ xs) proper live held h =
+    → list_any (λ g. g == file) (filter_map (new_ref ps target) xs) ≡ true → Q file
+refs_open ps target file Q lasts [] proper live held h = absurd (cc)
+refs_open ps target file Q lasts (x ∷ xs) proper live held h =
     let alive = neither (is_dead x) (list_any is_dead xs) live in
     elim (any_cons (new_ref ps target x) (filter_map (new_ref ps target) xs) file h) [
-      | inl here ↦ ref_open ps target file opened lasts x.name x.bucket.kind x.bucket.content x.bucket.home (fits_home x (All-head (λ x. is_proper x ≡ true) x xs proper)) alive.0 (All-head (IsHeld ps) x xs held) here
-      | inr there ↦ refs_open ps target file opened lasts xs (All-tail (λ x. is_proper x ≡ true) x xs proper) alive.1 (All-tail (IsHeld ps) x xs held) there
+      | inl here ↦ ref_open ps target file Q lasts x.name x.bucket.kind x.bucket.content x.bucket.home (fits_home x (All-head (λ x. is_proper x ≡ true) x xs proper)) alive.0 (All-head (IsHeld ps) x xs held) here
+      | inr there ↦ refs_open ps target file Q lasts xs (All-tail (λ x. is_proper x ≡ true) x xs proper) alive.1 (All-tail (IsHeld ps) x xs held) there
     ]
 
 -- a bucket that is set aside is held, where the file that it asks for has a reference in the target
@@ -290,7 +290,7 @@ save_files files o b target r buckets live s =
     kept_files files r (saved_into o b target r) grow
     (λ p file h. elim (all_back target refs ps p file h) [
       | inl old ↦ s.lasts p file old
-      | inr asked ↦ refs_open ps target file r.shared.files.opened s.lasts items (buckets.brigades b) live (s.brigades b) asked
+      | inr asked ↦ refs_open ps target file (λ (n : ℕ). is_some (r.shared.files.opened n) ≡ true) s.lasts items (buckets.brigades b) live (s.brigades b) asked
     ])
     (λ k. written (λ v. HeldList new (items_of v)) (upd r.inst.brigs b (with_items [] (r.inst.brigs b))) o _
     (filled_held new (items_of (r.inst.brigs o) ++ map (aside_named ps target) items) (r.inst.brigs o)
@@ -342,7 +342,7 @@ number_files files n v r s = same_files files r (set_number n v r) refl refl ref
 put_files : (files : List (ℕ × ℕ)) (x : Value) (r : Run) → SoundFiles files r → SoundFiles files (do_put x r)
 put_files files x r s = put_keeps (SoundFiles files) x r s (λ buffer. same_files files r (with_buffer buffer r) refl refl refl s.brigades s.loose s)
 
-no_dead : (items : List Named) → homes_fault items ≡ None → list_any is_dead items ≡ false
+pub no_dead : (items : List Named) → homes_fault items ≡ None → list_any is_dead items ≡ false
 no_dead items h = by_test (list_any is_dead items) h where
   by_test : (b : Bool) → cond b (Some F5) None ≡ None → b ≡ false
   by_test true e = absurd (cc)

@@ -1,13 +1,18 @@
 -- What stays in range in each run: numbers and bytes, and what is brought of files.
-use Rattle.std.specs.Prelude.{◌≡◌, ℕ, ◌≤◌, Bool, true, List, length, All}
+use Rattle.std.specs.Prelude.{◌≡◌, ℕ, ◌+◌, ◌<◌, ◌≤◌, Bool, true, List, length, Some, All}
 use Rattle.module_lang.specs.declared.instr.Instr.{Instr}
 use Rattle.module_lang.specs.Program.{Program, IsModule, fits}
+use Rattle.run_model.specs.declared.bucket.Content.TheVariants as content
+use Rattle.run_model.specs.declared.bucket.Home.TheVariants as home
+use Rattle.run_model.specs.declared.bucket.Named.{Named}
 use Rattle.run_model.specs.declared.event.Event.{Event}
 use Rattle.run_model.specs.Files.{Files}
-use Rattle.run_model.specs.State.{Run}
+use Rattle.run_model.specs.State.{Run, items_of}
 use Rattle.run_model.specs.Steps.{Choice, step}
 use Rattle.run_model.specs.Connection.{opened}
 use Rattle.run_model.specs.Runs.{Answer, World, Before, There, Closed, happens, IsRun}
+use Rattle.run_model.specs.Sound.{Sound}
+use Rattle.run_model.specs.Laws.{MayExecute, SoundWorld, refers, SoundFiles, FilesWorld}
 
 -- Numbers, and the buffer of a call. numbers: each number is below 2^32. bytes: what is in the buffer are bytes. size: there
 -- are no more of them than the buffer holds.
@@ -35,3 +40,42 @@ EventKeepsInRange = (memory : Bool) (budget : ℕ) (p : Program) (e : Event) (w 
 
 abbrev pub RunIsInRange : Type 0
 RunIsInRange = (budget : ℕ) (p : Program) (fs : Files) (es : List Event) (answers : List Answer) (w : World) → IsModule p → IsRun budget p (Before fs) es answers w → InRangeWorld w
+
+-- The file is open, and reaches so far.
+abbrev pub Reaches : Files → ℕ → ℕ → Type 0
+Reaches fs file end = (bytes : List ℕ) × (fs.opened file ≡ Some bytes) × (end ≤ length bytes)
+
+-- A range whose home is a pool lies in its file, which is open.
+abbrev pub LiesInFile : Files → Named → Type 0
+LiesInFile fs x = (file start len p : ℕ) → x.bucket.content ≡ content.Range file start len → x.bucket.home ≡ home.Pool p → Reaches fs file (start + len)
+
+-- A file that is told with a length is open, and has it.
+abbrev pub HasLength : Files → ℕ × ℕ → Type 0
+HasLength fs f = (bytes : List ℕ) × (fs.opened f.0 ≡ Some bytes) × (f.1 ≡ length bytes)
+
+-- Ranges, where these files were opened in the request. brigades, loose: each range whose home is alive lies in its file.
+-- told: the request's files have the lengths that were told. given: a file of which a pool holds a reference has a number
+-- that was given.
+pub record SoundRanges (files : List (ℕ × ℕ)) (r : Run) : Type 0 where
+  pub brigades : (b : ℕ) → All (LiesInFile r.shared.files) (items_of (r.inst.brigs b))
+  pub loose : All (LiesInFile r.shared.files) r.call.loose
+  pub told : (req : ℕ) → r.shared.req ≡ Some req → All (HasLength r.shared.files) files
+  pub given : (p file : ℕ) → refers r.shared.pools p file ≡ true → file < r.shared.files.next
+
+-- A step without a fault keeps all that.
+abbrev pub StepKeepsRanges : Type 0
+StepKeepsRanges = (p : Program) (choice : Choice) (i : Instr) (files : List (ℕ × ℕ)) (r : Run)
+    → MayExecute p r i → Sound r → SoundFiles files r → SoundRanges files r → SoundRanges files (step p choice i r).run
+
+abbrev pub RangesWorld : World → Type 0
+RangesWorld (Before fs) = Unit {0}
+RangesWorld (There c) = SoundRanges c.files c.run
+RangesWorld (Closed pools fs) = Unit {0}
+
+-- Each event keeps it, and so it is true of each world that a run reaches.
+abbrev pub EventKeepsRanges : Type 0
+EventKeepsRanges = (memory : Bool) (budget : ℕ) (p : Program) (e : Event) (w : World)
+    → IsModule p → SoundWorld w → FilesWorld w → RangesWorld w → RangesWorld (happens memory budget p e w).1
+
+abbrev pub RunKeepsRanges : Type 0
+RunKeepsRanges = (budget : ℕ) (p : Program) (fs : Files) (es : List Event) (answers : List Answer) (w : World) → IsModule p → IsRun budget p (Before fs) es answers w → RangesWorld w
