@@ -204,7 +204,7 @@ pieces_held ps files call req n (x ∷ xs) there request =
       one (piece.File f st l) lacks = λ file start len p e at.
           let same_file : f ≡ file = cc in
           let same_pool : req ≡ p = cc in
-          subst (λ (q : ℕ). refers ps q file ≡ true) same_pool (subst (λ (k : ℕ). refers ps req k ≡ true) same_file (request f (st + l) (has (has_range files f (st + l)) lacks)))
+          subst (λ (q : ℕ). refers ps q file ≡ true) same_pool (subst (λ (k : ℕ). refers ps req k ≡ true) same_file (request f _ (has _ lacks)))
       one piece.Flush lacks = λ file start len p e at. absurd (cc)
       one piece.Eos lacks = λ file start len p e at. absurd (cc)
 

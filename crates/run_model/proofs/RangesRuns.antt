@@ -137,10 +137,10 @@ reach_told fs (f ∷ rest) file end h has = elim (one_of (f.0 == file && nat_le 
   reaches n e = grind (arith, nat_tests)
 
 pieces_lie : (fs : Files) (files : List (ℕ × ℕ)) (call req n : ℕ) (xs : List Piece) → list_any (lacks_file files) xs ≡ false → All (HasLength fs) files → LieList fs (named_from (bucket_of call req) n xs)
-pieces_lie fs files call req n [] there told = none_lie fs
-pieces_lie fs files call req n (x ∷ xs) there told =
+pieces_lie fs files call req n [] there lengths = none_lie fs
+pieces_lie fs files call req n (x ∷ xs) there lengths =
     let parts = neither (lacks_file files x) (list_any (lacks_file files) xs) there in
-    All-cons (LiesInFile fs) _ (named_from (bucket_of call req) (n + 1) xs) (one x parts.0) (pieces_lie fs files call req (n + 1) xs parts.1 told) where
+    All-cons (LiesInFile fs) _ (named_from (bucket_of call req) (n + 1) xs) (one x parts.0) (pieces_lie fs files call req (n + 1) xs parts.1 lengths) where
       has : (b : Bool) → not b ≡ false → b ≡ true
       has true h = refl
       has false h = absurd (cc)
@@ -154,7 +154,7 @@ pieces_lie fs files call req n (x ∷ xs) there told =
           let same_file : f ≡ file = cc in
           let same_start : st ≡ start = cc in
           let same_len : l ≡ len = cc in
-          let reach = reach_told fs files f (st + l) told (has (has_range files f (st + l)) lacks) in
+          let reach = reach_told fs files f (st + l) lengths (has (has_range files f (st + l)) lacks) in
           subst (λ (k : ℕ). Reaches fs k (start + len)) same_file (subst (λ (k : ℕ). Reaches fs f (start + k)) same_len (subst (λ (k : ℕ). Reaches fs f (k + l)) same_start reach))
       one piece.Flush lacks = λ file start len p e at. absurd (cc)
       one piece.Eos lacks = λ file start len p e at. absurd (cc)
