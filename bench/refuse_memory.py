@@ -1,11 +1,14 @@
 #!/usr/bin/env python3
-"""Refuses each growth of memory in turn while a script is played. The answers are those where memory lasts, up to the first
-line that differs, and that line must say that there was no memory.
+"""Refuses each growth of memory in turn while a script is played, and looks at all answers.
 
     python3 bench/refuse_memory.py [SCRIPT ..]
 
-Without words it plays each script of examples/. The program is crates/host_cli/out/host_cli (`./host` builds it). A small
-library before the C library's calls that give memory counts them and refuses one; it is built with `cc` in a folder of its own.
+Without scripts it plays those of examples/. The answers are those where memory lasts, up to the command that met the refused
+growth. That one answers `refused NoMemory`, and all later ones answer as in the script without it; or `refused
+Broken(NoMemory)`, and what the connection served until then stands; or the program ends with `no memory`.
+
+The program is crates/host_cli/out/host_cli (`./host` builds it). A small library before the C library's calls that give memory
+counts them and refuses one; it is built with `cc` in a folder of its own.
 """
 import glob
 import os
@@ -15,7 +18,7 @@ import tempfile
 
 TOP = os.path.dirname(os.path.dirname(os.path.abspath(__file__)))
 PROGRAM = os.path.join(TOP, 'crates', 'host_cli', 'out', 'host_cli')
-NAMING = (b'refused NoMemory', b'refused Broken(NoMemory)', b'no memory')
+REFUSED, BROKEN, ENDED = b'refused NoMemory', b'refused Broken(NoMemory)', b'no memory'
 
 REFUSER = '''\
 #include <errno.h>
@@ -64,11 +67,71 @@ def play(library, script, refused):
     return done.stdout.splitlines(), int(calls[-1]) if calls else 0
 
 
-def first_difference(lines, others):
-    for line, other in zip(lines, others):
-        if line != other:
-            return other
-    return others[len(lines)] if len(others) > len(lines) else None
+def split(script):
+    """The module text with its budget, and the commands, as lists of lines."""
+    lines = script.split(b'\n')[:-1]
+    first = next((i + 1 for i, line in enumerate(lines) if line.strip(b' ') == b'end'), len(lines))
+    if first < len(lines) and lines[first].startswith(b'budget '):
+        first += 1
+    return lines[:first], lines[first:]
+
+
+def joined(head, commands):
+    return b''.join(line + b'\n' for line in head + commands)
+
+
+def answers(commands, lines):
+    """The lines that answer each command: `pools` has all up to its `ok`."""
+    found, at = [], 0
+    for command in commands:
+        end = at + 1
+        while command == b'pools' and end < len(lines) and lines[end - 1] not in (b'ok', ENDED):
+            end += 1
+        found.append(lines[at:end])
+        at = end
+    return found + [lines[at:]]
+
+
+def is_front(answer, of):
+    """Whether output or labels are the front of others."""
+    return answer[:-1] == of[:len(answer) - 1] if answer.endswith(b'"') else answer == of[:len(answer)]
+
+
+def stands_broken(command, answer, well):
+    """Whether a broken connection answers a command so: `well` is the answer where memory lasts."""
+    word = command.split(b' ')[0]
+    if word in (b'begin', b'end', b'bring', b'run'):
+        return answer == [BROKEN]
+    if word in (b'output', b'labels'):
+        return len(answer) == 1 and is_front(answer[0], well[0])
+    if word == b'pools':
+        return answer[-1:] == [b'ok']
+    return len(answer) == 1 and answer[0].startswith(b'labels') if word == b'close' else answer == well
+
+
+def is_broken_well(commands, answers, well):
+    """Whether these answers are those of a connection that a want of memory broke."""
+    closed = False
+    for command, answer, whole in zip(commands, answers, well):
+        serves = command == b'pools' or (command.split(b' ')[1:2] == [b'1'] and not closed)
+        if not (stands_broken(command, answer, whole) if serves else answer == whole):
+            return False
+        closed = closed or command == b'close 1'
+    return True
+
+
+def is_well_told(library, script, lines, others):
+    """Whether `others` answer the script as they should where one growth was refused, and `lines` where none was."""
+    head, commands = split(script)
+    well, found = answers(commands, lines), answers(commands, others)
+    at = next(i for i in range(len(found)) if found[i] != well[i])
+    answer, later = found[at], others[sum(map(len, found[:at + 1])):]
+    if answer == [ENDED]:
+        return later == []
+    if answer == [REFUSED]:
+        without, _ = play(library, joined(head, commands[:at] + commands[at + 1:]), 0)
+        return later == without[sum(map(len, found[:at])):]
+    return answer == [BROKEN] and is_broken_well(commands[at + 1:], found[at + 1:], well[at + 1:])
 
 
 def check(library, name):
@@ -78,13 +141,11 @@ def check(library, name):
     met = 0
     for refused in range(1, calls + 1):
         others, _ = play(library, script, refused)
-        if others == lines:
-            continue
-        difference = first_difference(lines, others)
-        if difference is None or not difference.startswith(NAMING):
-            raise SystemExit('%s, growth %d: %r' % (name, refused, difference))
-        met += 1
-    print('%s: of %d growths %d were met by an answer, and each of these names memory' % (os.path.basename(name), calls, met))
+        if others != lines:
+            met += 1
+            if not is_well_told(library, script, lines, others):
+                raise SystemExit('%s, growth %d: %r' % (name, refused, others))
+    print('%s: of %d growths %d were met by an answer, and no other answer changed' % (os.path.basename(name), calls, met))
 
 
 def main():
@@ -98,4 +159,5 @@ def main():
             check(library, name)
 
 
-main()
+if __name__ == '__main__':
+    main()

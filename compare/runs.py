@@ -10,11 +10,7 @@ BUDGET = 1000000
 
 
 class Refused(Exception):
-    """An event that the state does not allow; nothing changes but the files that were opened before."""
-
-    def __init__(self, reason):
-        super().__init__(reason)
-        self.reason = reason
+    """The name of why the state does not allow an event; nothing changes but the files that were opened before."""
 
 
 class Host(Steps):

@@ -126,8 +126,8 @@ def answer(host, command):
     try:
         return ANSWERS[word](host, *read_operands(word, command))
     except Refused as refused:
-        arose('%s refused, %s' % (word, refused.reason))
-        return 'refused %s\n' % refused.reason
+        arose('%s refused, %s' % (word, refused))
+        return 'refused %s\n' % refused
 
 
 def read_operands(word, command):
