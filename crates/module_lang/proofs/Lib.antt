@@ -1,5 +1,6 @@
 pub mod AssemblingLaws
 pub mod BodyLaws
+pub mod CutLaws
 pub mod DraftLaws
 pub mod FirstLaws
 pub mod FoundLabels

@@ -38,7 +38,7 @@ unfolding after_token
 after_break [] = tt
 after_break (b ∷ bs) = space (eqb b 32) refl (after_break bs)
   where
-    space : (x : Bool) → eqb b 32 ≡ x → IsBreak (drop (token_len bs) bs) → IsBreak (drop (cond x 0 (1 + token_len bs)) (b ∷ bs))
+    space : (x : Bool) → eqb b 32 ≡ x → IsBreak (drop (token_len bs) bs) → IsBreak (drop (cond (not x) (1 + token_len bs) 0) (b ∷ bs))
     space true q h = eqb-true b 32 q
     space false q h = let e : 1 + token_len bs ≡ suc (token_len bs) = omega arith in rw e h
 

@@ -1,6 +1,6 @@
 -- Which line of a module text is the first faulty one, and by which code: `IsFirstFault`, at the end. Each code fits a line
 -- by itself, whatever other codes fit it.
-use Rattle.std.specs.Prelude.{◌≡◌, ◌≢◌, ℕ, ◌+◌, ◌<◌, ◌≤◌, Bool, true, false, ◌||◌, not, ◌==◌, if◌then◌else◌, List, [], ◌∷◌, ◌++◌, length, take, codes, Option, Some, ◌⊎◌}
+use Rattle.std.specs.Prelude.{◌≡◌, ◌≢◌, ℕ, ◌+◌, ◌<◌, ◌≤◌, Bool, true, false, ◌||◌, not, ◌==◌, if◌then◌else◌, List, [], ◌∷◌, ◌++◌, length, take, codes, Option, Some, ◌⊎◌, Result, Ok, Err}
 use Rattle.std.specs.List.{filter}
 use Rattle.module_lang.specs.Assembling.{is_end}
 use Rattle.module_lang.specs.Bytes.{all_printable, begins, token, unindented}
@@ -9,8 +9,9 @@ use Rattle.module_lang.specs.Handlers.{label_of, op_goes_on}
 use Rattle.module_lang.specs.Lines.{are_declared, has_equal_brigades, has_long_text, is_declared, is_due, is_handler, is_next, misplaced, place_is_declared}
 use Rattle.module_lang.specs.Names.{is_name, name_of}
 use Rattle.module_lang.specs.Numbers.{is_value}
+use Rattle.module_lang.specs.Program.{Program}
 use Rattle.module_lang.specs.Spelling.{number_operand}
-use Rattle.module_lang.specs.Texts.{Spells, StandsIn, brigade_text, brigade_texts, is_skipped, number_text, own_text, place_text, pool_texts, statements, status_text, value_text}
+use Rattle.module_lang.specs.Texts.{IsTextOf, Spells, StandsIn, brigade_text, brigade_texts, is_skipped, number_text, own_text, place_text, pool_texts, statements, status_text, value_text}
 use Rattle.module_lang.specs.Words.{op_kinds, word_at, word_kinds, word_text}
 use Rattle.module_lang.specs.declared.draft.Part.{Part}
 use Rattle.module_lang.specs.declared.draft.Part.TheVariants as part
@@ -336,7 +337,8 @@ IsFirstFault text n c =
     IsFirst (HasLineCode text) n c
     ⊎ (((m : ℕ) (d : Code) → HasLineCode text m d → ⊥) × IsFirst (HasModuleCode text) n c)
 
--- an answer tells the first fault, or there was no memory
-abbrev pub TellsFirst : List ℕ → AsmRefusal → Type 0
-TellsFirst text (Fault n c) = IsFirstFault text n c
-TellsFirst text NoMemory = Unit {0}
+-- What a text is: a module, or a text whose first faulty line has this number and this code.
+abbrev pub Reads : List ℕ → Result Program AsmRefusal → Type 0
+Reads text (Ok p) = IsTextOf text p
+Reads text (Err (Fault n c)) = IsFirstFault text n c
+Reads text (Err NoMemory) = ⊥
