@@ -1,41 +1,55 @@
 -- The fault that is told is the first one, and the first one is told.
-use Rattle.std.proofs.Common.{◌≡◌, ◌≢◌, ℕ, List, Result, Ok, Err, inl, inr, refl, sym, ◌∙◌, ap, subst, arith}
+use Rattle.std.proofs.Common.{◌≡◌, ◌≢◌, ℕ, ltb, List, [], length, take, Option, Some, None, Result, Ok, Err, inl, inr, refl, sym, ◌∙◌, subst, arith}
 use Rattle.module_lang.specs.Assembling.{assembling, draft_read, program_of}
 use Rattle.module_lang.specs.Codes.{Gives, ◌>>=◌}
-use Rattle.module_lang.specs.FirstFault.{HasLineCode, HasModuleCode, IsFirst, IsFirstFault, Reads, lines_of}
+use Rattle.module_lang.specs.Drafts.{empty_draft}
+use Rattle.module_lang.specs.FirstFault.{HasLineCode, HasModuleCode, IsFirst, IsFirstFault, Reads, draft_of, goes_on, lines_of}
 use Rattle.module_lang.specs.Program.{Program}
-use Rattle.module_lang.specs.declared.draft.Draft.{Draft}
+use Rattle.module_lang.specs.declared.handler.LineFault.{LineFault}
 use Rattle.module_lang.specs.declared.refusal.AsmRefusal.{AsmRefusal}
 use Rattle.module_lang.specs.declared.refusal.AsmRefusal.TheVariants.{Fault, NoMemory}
 use Rattle.module_lang.specs.declared.refusal.Code.{Code}
+use Rattle.module_lang.proofs.FirstOf.{Tells}
 use Rattle.module_lang.proofs.FoundWhole.{text_found}
+use Rattle.module_lang.proofs.HandlerFaults.{draft_fault, draft_tells, program_is}
 use Rattle.module_lang.proofs.LineFaults.{same_code}
-use Rattle.module_lang.proofs.LineLaws.{bind_ok}
-use Rattle.module_lang.proofs.ModuleFaults.{Answers, lines_answer, lines_codeless, lines_first}
-use Rattle.module_lang.proofs.Sections.{numbered}
+use Rattle.module_lang.proofs.LineOrder.{blank_ordered}
 use Rattle.module_lang.proofs.TextAgain.{text_again}
-use Rattle.module_lang.proofs.TextFaults.{read_first, read_lines, read_none}
+use Rattle.module_lang.proofs.TextFaults.{lines_ordered, lines_tell, or_fault, read_is, text_fault}
 
-draft_answers : (text : List ℕ) (d : Draft) → draft_read text ≡ Ok d → Answers (program_of d) (numbered 1 (lines_of text))
-draft_answers text d h = let f = read_lines text d h in lines_answer (lines_of text) d f.0 f.1
+-- what a computed answer says of the first fault
+abbrev Judged : List ℕ → Result Program AsmRefusal → Type 0
+Judged text (Ok p) = (n : ℕ) (c : Code) → IsFirstFault text n c → ⊥
+Judged text (Err (Fault n c)) = IsFirstFault text n c
+Judged text (Err NoMemory) = ⊥
 
-fault_first : (text : List ℕ) (n : ℕ) (c : Code) → assembling text ≡ Err (Fault n c) → IsFirstFault text n c
-unfolding assembling
-fault_first text n c h = read (draft_read text) refl h
+judged : (text : List ℕ) → Judged text (assembling text)
+unfolding assembling draft_read
+judged text = subst (λ r. Judged text (r >>= λ d. program_of d)) (sym (read_is (take 1048576 text) (ltb 1048576 (length text)) empty_draft 1 [])) (by lines refl (lines_tell (goes_on text) empty_draft 1 (lines_of text)))
   where
-    read : (r : Result Draft AsmRefusal) → draft_read text ≡ r → (r >>= λ d. program_of d) ≡ Err (Fault n c) → IsFirstFault text n c
-    read (Err f) q e = let s : f ≡ Fault n c = cc e in inl (read_first text n c (q ∙ ap Err s))
-    read (Ok d) q e = inr (read_none text d q, lines_first text n c (subst (λ r. Answers r (numbered 1 (lines_of text))) e (draft_answers text d q)))
+    lines : Option LineFault
+    lines = text_fault (goes_on text) empty_draft 1 (lines_of text)
+
+    module_judged : ((n : ℕ) (c : Code) → HasLineCode text n c → ⊥) → (f : Option LineFault) (p : Program) → Tells f (HasModuleCode text) → Judged text (or_fault f p)
+    module_judged none (Some f) p t = inr (none, t)
+    module_judged none None p t = first
+      where
+        first : (n : ℕ) (c : Code) → IsFirstFault text n c → ⊥
+        first n c (inl x) = none n c x.holds
+        first n c (inr x) = t n c x.1.holds
+
+    by : (f : Option LineFault) → lines ≡ f → Tells f (HasLineCode text) → Judged text (or_fault f (draft_of text) >>= λ d. program_of d)
+    by (Some f) q t = inl t
+    by None q t =
+        let o = lines_ordered (goes_on text) empty_draft 1 (lines_of text) q blank_ordered in
+        let p = program_is (draft_of text) in
+        subst (Judged text) (sym p.1) (module_judged t (draft_fault (draft_of text)) p.0 (draft_tells o.0 (draft_of text) o.2 o.1))
 
 module_none : (text : List ℕ) (m : Program) → assembling text ≡ Ok m → (n : ℕ) (c : Code) → IsFirstFault text n c → ⊥
-unfolding assembling
-module_none text m h n c =
-    let a = bind_ok (draft_read text) program_of m h in
-    either (read_none text a.0 a.1) (λ k e. lines_codeless text k e (subst (λ r. Answers r (numbered 1 (lines_of text))) a.2 (draft_answers text a.0 a.1)))
-  where
-    either : ((k : ℕ) (e : Code) → HasLineCode text k e → ⊥) → ((k : ℕ) (e : Code) → HasModuleCode text k e → ⊥) → IsFirstFault text n c → ⊥
-    either none codeless (inl x) = none n c x.holds
-    either none codeless (inr x) = codeless n c x.1.holds
+module_none text m h = subst (Judged text) h (judged text)
+
+fault_first : (text : List ℕ) (n : ℕ) (c : Code) → assembling text ≡ Err (Fault n c) → IsFirstFault text n c
+fault_first text n c h = subst (Judged text) h (judged text)
 
 -- there is one first fault
 same_first : (P : ℕ → Code → Type 0) (n m : ℕ) (c e : Code) → IsFirst P n c → IsFirst P m e → (n ≡ m) × (c ≡ e)

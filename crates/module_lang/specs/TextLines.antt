@@ -1,5 +1,5 @@
 -- The lines of a text.
-use Rattle.std.specs.Prelude.{ℕ, ◌+◌, Bool, true, false, nat_lt, ◌==◌, if◌then◌else◌, List, [], ◌∷◌, length, take}
+use Rattle.std.specs.Prelude.{ℕ, ◌+◌, Bool, true, false, nat_lt, ◌==◌, if◌then◌else◌, List, [], ◌∷◌, ◌++◌, length, take}
 use Rattle.std.specs.List.{position_or_len}
 
 -- a line, and whether the LF that ends it is there
@@ -26,3 +26,12 @@ first_line bytes = record { text = take (line_len bytes) bytes; ended = nat_lt (
 -- how many bytes a line takes, with its LF
 abbrev pub width : Line → ℕ
 width l = length l.text + (if l.ended then 1 else 0)
+
+-- the lines of a text that end with an LF, where the first has begun with these bytes; and what stands behind the last LF
+abbrev pub lines_from : List ℕ → List ℕ → List (List ℕ)
+lines_from line [] = []
+lines_from line (b ∷ bs) = if b == 10 then line ∷ lines_from [] bs else lines_from (line ++ b ∷ []) bs
+
+abbrev pub rest_from : List ℕ → List ℕ → List ℕ
+rest_from line [] = line
+rest_from line (b ∷ bs) = if b == 10 then rest_from [] bs else rest_from (line ++ b ∷ []) bs
