@@ -7,6 +7,7 @@ mod draft;
 mod entry;
 mod handler;
 mod instr;
+mod line_reader;
 mod lines;
 mod module;
 mod name;
