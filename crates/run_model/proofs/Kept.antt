@@ -11,7 +11,7 @@ use Rattle.run_model.specs.declared.bucket.Content.TheVariants as content
 use Rattle.run_model.specs.declared.bucket.Home.{Home}
 use Rattle.run_model.specs.declared.bucket.Home.TheVariants as home
 use Rattle.run_model.specs.declared.bucket.Bucket.{Bucket}
-use Rattle.run_model.specs.declared.bucket.Named.{Named}
+use Rattle.run_model.specs.declared.bucket.NamedBucket.{NamedBucket}
 use Rattle.run_model.specs.declared.payload.Payload.{Payload}
 use Rattle.run_model.specs.Pools.{Pools, is_in, is_live, is_under, cleared, destroyed}
 use Rattle.run_model.specs.RunOrder.{IsPoolMap}
@@ -19,7 +19,7 @@ use Rattle.run_model.specs.Buckets.{is_dead, is_ended}
 use Rattle.run_model.specs.Cutting.{read_limit, rest_of, wanted, set_aside, read_as}
 use Rattle.run_model.specs.Files.{Files, is_referred, fails_now, after_read, part_of, read_part, read_done, all_taken, and_then, unless_failed, range_taken, parts_of}
 use Rattle.run_model.specs.Clearing.{run_down}
-use Rattle.run_model.specs.State.{Run, with_pools}
+use Rattle.run_model.specs.State.{Configuration, with_pools}
 use Rattle.run_model.specs.Steps.{is_above, files_let_go}
 use Rattle.run_model.specs.Sound.{is_free, is_pool, is_range, home_fits, content_fits, is_proper}
 use Rattle.run_model.specs.Laws.{MatchHome, KeptAside, AsideLasts, ReadsGiveTheFile, bytes_in, bytes_of_rest, ReadsDropNothing, hands_on, FilesGo, FilesCloseLast}
@@ -69,7 +69,7 @@ home_lives ps target formed live (home.Pool n) lasts = elim lasts [
 ]
 home_lives ps target formed live home.Ended lasts = tt
 
-kept_as : (ps : Pools Payload) (target : ℕ) (old new : Named) → MatchHome new.bucket.home (λ call. ⊥) (λ p. (p ≡ target) ⊎ (is_under ps p target ≡ true)) → is_dead new ≡ false
+kept_as : (ps : Pools Payload) (target : ℕ) (old new : NamedBucket) → MatchHome new.bucket.home (λ call. ⊥) (λ p. (p ≡ target) ⊎ (is_under ps p target ≡ true)) → is_dead new ≡ false
     → new.name ≡ old.name → new.bucket.content ≡ old.bucket.content → KeptAside ps target old new
 kept_as ps target old new lasts alive name content =
     record { lasts = lasts; alive = alive; there = λ formed live. home_lives ps target formed live new.bucket.home lasts; name = name; content = content }
@@ -93,7 +93,7 @@ aside_lasts ps target x proper live =
 
 -- Files that close.
 
-pub files_go : (n : ℕ) (r : Run) (ps : Pools Payload) → FilesGo n r (files_let_go n r (with_pools ps (run_down n r)))
+pub files_go : (n : ℕ) (r : Configuration) (ps : Pools Payload) → FilesGo n r (files_let_go n r (with_pools ps (run_down n r)))
 unfolding with_pools run_down
 files_go n r ps = record {
   closes = λ file handed left. let both : (hands_on r n file && not (is_referred ps file)) ≡ true = ap (λ (b : Bool). b && not (is_referred ps file)) handed ∙ ap (λ (b : Bool). true && not b) left in

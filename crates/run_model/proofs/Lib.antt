@@ -8,11 +8,11 @@ pub mod StepNames
 pub mod StepBuckets
 pub mod Formed
 pub mod NamedPools
-pub mod Thinned
+pub mod PoolsKept
 pub mod StepPools
 pub mod Events
 pub mod Runs
-pub mod Happened
+pub mod EventAnswers
 pub mod Brought
 pub mod SoundRuns
 pub mod Unchanged

@@ -14,4 +14,4 @@ variables vars q = slice_index_or vars q poolvar.Null
 pub record IsStanding (ps : Pools Payload) (req : Option ℕ) (vars : List PoolVar) : Type 0 where
   pub conn : ps.path 2 ≡ 2 ∷ 1 ∷ []
   pub request : (n : ℕ) → req ≡ Some n → ps.path n ≡ n ∷ 2 ∷ 1 ∷ []
-  pub own : (q n : ℕ) → variables vars q ≡ poolvar.Named n → (2 < n) × (n < ps.next) × (req ≢ Some n)
+  pub own : (q n : ℕ) → variables vars q ≡ poolvar.Made n → (2 < n) × (n < ps.next) × (req ≢ Some n)

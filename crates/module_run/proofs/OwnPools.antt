@@ -12,8 +12,8 @@ use Rattle.run_model.specs.Pools.{Pools, planted, created, cleared, destroyed, i
 use Rattle.run_model.specs.RunOrder.{IsPoolMap}
 use Rattle.run_model.specs.State.{name_in}
 use Rattle.run_model.proofs.Updates.{upd_at, upd_off}
-use Rattle.module_run.specs.Standing.{IsStanding, variables}
-use Rattle.module_run.proofs.Named.{named_in}
+use Rattle.module_run.specs.OwnPools.{IsStanding, variables}
+use Rattle.module_run.proofs.PoolNames.{named_in}
 
 none_in : (p : ℕ) (path : List ℕ) → not (is_empty path) ≡ false → is_in p path ≡ false
 none_in p [] dead = refl
@@ -52,7 +52,7 @@ null_at zero q = refl
 null_at (suc k) zero = refl
 null_at (suc k) (suc q) = null_at k q
 
-no_name : {n : ℕ} {v : PoolVar} → v ≡ poolvar.Null → v ≡ poolvar.Named n → ⊥
+no_name : {n : ℕ} {v : PoolVar} → v ≡ poolvar.Null → v ≡ poolvar.Made n → ⊥
 no_name null named = cc
 
 -- before the first request
@@ -139,7 +139,7 @@ request_given ps req vars n formed stands at = formed.named n (request_live ps r
 
 -- a pool is made in a pool variable
 pub standing_made : (ps : Pools Payload) (req : Option ℕ) (vars : List PoolVar) (parent q : ℕ) → IsPoolMap ps → IsStanding ps req vars → q < length vars
-    → IsStanding (created parent ps) req (set vars q (poolvar.Named ps.next))
+    → IsStanding (created parent ps) req (set vars q (poolvar.Made ps.next))
 unfolding created
 standing_made ps req vars parent q formed stands within =
     let room = above_conn ps req vars formed stands in
@@ -147,19 +147,19 @@ standing_made ps req vars parent q formed stands within =
     record {
       conn = upd_off ps.path ps.next 2 path (λ e. omega (arith, e, room)) ∙ stands.conn;
       request = λ n at. upd_off ps.path ps.next n path (λ e. let low = request_given ps req vars n formed stands at in omega (arith, e, low)) ∙ stands.request n at;
-      own = λ k n at. owned k n (sym (set_at vars q (poolvar.Named ps.next) k within (cases_eq k q)) ∙ at) (cases_eq k q);
+      own = λ k n at. owned k n (sym (set_at vars q (poolvar.Made ps.next) k within (cases_eq k q)) ∙ at) (cases_eq k q);
     } where
-      new_name : (n : ℕ) → poolvar.Named ps.next ≡ poolvar.Named n → (2 < n) × (n < ps.next + 1) × (req ≢ Some n)
+      new_name : (n : ℕ) → poolvar.Made ps.next ≡ poolvar.Made n → (2 < n) × (n < ps.next + 1) × (req ≢ Some n)
       new_name n same =
           let e : Some ps.next ≡ Some n = ap name_in same in
           let next : ps.next ≡ n = same_name ps.next n e in
           let room = above_conn ps req vars formed stands in
           (omega (arith, next, room), omega (arith, next), λ at. let low = request_given ps req vars n formed stands at in omega (arith, next, low))
 
-      owned : (k n : ℕ) → upd (variables vars) q (poolvar.Named ps.next) k ≡ poolvar.Named n → ((k ≡ q) ⊎ (k ≢ q)) → (2 < n) × (n < ps.next + 1) × (req ≢ Some n)
-      owned k n at (inl same) = new_name n (sym (upd_at (variables vars) q (poolvar.Named ps.next)) ∙ sym (ap (upd (variables vars) q (poolvar.Named ps.next)) same) ∙ at)
+      owned : (k n : ℕ) → upd (variables vars) q (poolvar.Made ps.next) k ≡ poolvar.Made n → ((k ≡ q) ⊎ (k ≢ q)) → (2 < n) × (n < ps.next + 1) × (req ≢ Some n)
+      owned k n at (inl same) = new_name n (sym (upd_at (variables vars) q (poolvar.Made ps.next)) ∙ sym (ap (upd (variables vars) q (poolvar.Made ps.next)) same) ∙ at)
       owned k n at (inr other) =
-          let o = stands.own k n (sym (upd_off (variables vars) q k (poolvar.Named ps.next) other) ∙ at) in
+          let o = stands.own k n (sym (upd_off (variables vars) q k (poolvar.Made ps.next) other) ∙ at) in
           (o.0, omega (arith, o.1), o.2)
 
 not_above : (p n : ℕ) → 2 < p → n ≢ p → is_in p (n ∷ 2 ∷ 1 ∷ []) ≡ false
