@@ -11,7 +11,8 @@ use Rattle.module_lang.specs.Entries.{from_quote, step_text, step_texts}
 use Rattle.module_lang.specs.Lines.{has_text, is_due, is_handler, judged, misplaced, instruction_count, place_is_declared}
 use Rattle.module_lang.specs.Names.{is_name}
 use Rattle.module_lang.specs.Program.{Program, IsModule, fits, target, text_at, text_of_instr}
-use Rattle.module_lang.specs.Spelling.{op_of, operands_of}
+use Rattle.module_lang.specs.Args.{op_of}
+use Rattle.module_lang.specs.Spelling.{operands_of}
 use Rattle.module_lang.specs.Texts.{CodeLine, Spells, label, step, code_text, instr_word, line_text, instrs, operand_texts, pool_texts, brigade_texts, place_text, own_text}
 use Rattle.module_lang.specs.Words.{word_text, word_kinds}
 use Rattle.module_lang.specs.declared.draft.Draft.{Draft}

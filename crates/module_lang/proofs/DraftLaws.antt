@@ -392,7 +392,7 @@ has_text_of (instr.Ret s) n k = refl
 
 -- an instruction has a text in its line, or none
 pub text_has : (i : Op) (d : Draft) (s : List ℕ) (o : Operands) → Item d s (word.Op i) o → (has_text o ≡ false) ⊎ ((has_text o ≡ true) × TextFound s o.second)
-unfolding word_kinds op_kinds word_text op_text
+unfolding word_kinds word_text
 text_has op.PCreate d s o h = inl (ap has_text (shape op.PCreate o 0 0 (kinds_read (op_kinds op.PCreate) h.rest o h.read)).same)
 text_has op.PClear d s o h = inl (ap has_text (shape op.PClear o 0 0 (kinds_read (op_kinds op.PClear) h.rest o h.read)).same)
 text_has op.PDestroy d s o h = inl (ap has_text (shape op.PDestroy o 0 0 (kinds_read (op_kinds op.PDestroy) h.rest o h.read)).same)

@@ -1,3 +1,4 @@
+pub mod ArgLaws
 pub mod AssemblingLaws
 pub mod BodyLaws
 pub mod DraftLaws

@@ -7,12 +7,14 @@ use Rattle.std.proofs.lemmas.List.{length-map}
 use Rattle.std.proofs.lemmas.List.Elements.{filter_map-append}
 use Rattle.std.proofs.lemmas.Option.{slice_get-map, slice_get_within}
 use Rattle.module_lang.specs.Entries.{IsDraft, IsStep, step_numbers, step_text}
-use Rattle.module_lang.specs.Handlers.{handler_fault, handler_resolved, code_or_fault, ends_open, last_goes_on, op_goes_on, sooner, fault, label_fault, jump_fault, is_lost, is_missing, label_of, place_of, place_from, target_place, step_code, op_instr, operand_index, operand_value, operand_variable, is_named}
+use Rattle.module_lang.specs.Handlers.{handler_fault, handler_resolved, code_or_fault, ends_open, last_goes_on, sooner, fault, label_fault, jump_fault, is_lost, is_missing, label_of, place_of, place_from, target_place, step_code, op_instr, operand_index, operand_value, operand_variable, is_named}
+use Rattle.module_lang.specs.Words.{op_goes_on}
 use Rattle.module_lang.specs.Lines.{are_declared, has_equal_brigades, is_declared, misplaced, same_brigade, has_text, place_is_declared}
 use Rattle.module_lang.specs.Numbers.{is_value}
 use Rattle.module_lang.specs.Operands.{IsOfKinds, of_kind, operand_place}
 use Rattle.module_lang.specs.Program.{Program, program, IsHandler, IsInside, IsModule, IsPlaced, fits, goes_on, is_variable, target, text_of_instr}
-use Rattle.module_lang.specs.Spelling.{op_of, operands_of}
+use Rattle.module_lang.specs.Args.{op_of}
+use Rattle.module_lang.specs.Spelling.{operands_of}
 use Rattle.module_lang.specs.Words.{op_kinds}
 use Rattle.module_lang.specs.declared.draft.Draft.{Draft}
 use Rattle.module_lang.specs.declared.draft.Handler.{Handler}
@@ -349,7 +351,6 @@ value_fits (operand.Text t) h = absurd (cc h)
 
 -- the operands of an instruction that was read are declared, its brigades differ, and its text is one of the module
 fit : (p : Program) (i : Op) (o : Operands) (x t : ℕ) → IsOfKinds (op_kinds i) o → are_declared (length p.pools) (length p.brigades) o ≡ true → has_equal_brigades o ≡ false → (has_text o ≡ true → x < length p.texts) → fits p (op_instr i o x t) ≡ true
-unfolding op_kinds
 fit p op.PCreate o x t k h a w = pool_declared (length p.pools) (length p.brigades) o.first k.first (first_declared (length p.pools) (length p.brigades) o h)
 fit p op.PClear o x t k h a w = pool_declared (length p.pools) (length p.brigades) o.first k.first (first_declared (length p.pools) (length p.brigades) o h)
 fit p op.PDestroy o x t k h a w = pool_declared (length p.pools) (length p.brigades) o.first k.first (first_declared (length p.pools) (length p.brigades) o h)

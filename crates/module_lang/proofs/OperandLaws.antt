@@ -325,7 +325,6 @@ pub record IsShaped (i : Op) (o : Operands) (x t : ℕ) : Type 0 where
   pub same : o ≡ operands_of (op_instr i o x t) name len
 
 pub shape : (i : Op) (o : Operands) (x t : ℕ) → IsOfKinds (op_kinds i) o → IsShaped i o x t
-unfolding op_kinds
 shape op.PCreate o x t h = record { name = []; len = 0; same = one_shape o _ (pool_is o.first h.first) h.second h.third h.fourth }
 shape op.PClear o x t h = record { name = []; len = 0; same = one_shape o _ (pool_is o.first h.first) h.second h.third h.fourth }
 shape op.PDestroy o x t h = record { name = []; len = 0; same = one_shape o _ (pool_is o.first h.first) h.second h.third h.fourth }

@@ -77,7 +77,7 @@ texted_by : (word : List ℕ) (rest s : List ℕ) (o : Operands) (x : TextSpelle
 texted_by word rest s o x u e b bytes q = (x.text, rw (b, quote_found word rest bytes o x u (q ∙ ap from_quote e)) refl, x.right)
 
 pub op_spelled : (d : Draft) (s : List ℕ) (i : Op) (o : Operands) (x : ℕ) → Item d s (word.Op i) o → OpSpelled i o x s
-unfolding word_kinds op_kinds word_text op_text
+unfolding word_kinds word_text
 op_spelled d s op.PCreate o x h =
     let k = kinds_read (op_kinds op.PCreate) h.rest o h.read in
     let y = one_taken kind.Pool h.rest o refl refl h.read in

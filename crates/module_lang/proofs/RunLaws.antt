@@ -12,7 +12,8 @@ use Rattle.module_lang.specs.Lines.{line_read, unindented_read, is_due, is_handl
 use Rattle.module_lang.specs.Names.{is_name}
 use Rattle.module_lang.specs.Operands.{operands_at}
 use Rattle.module_lang.specs.Program.{Program, fits, is_brigade, text_of_instr}
-use Rattle.module_lang.specs.Spelling.{op_of, operands_of}
+use Rattle.module_lang.specs.Args.{op_of}
+use Rattle.module_lang.specs.Spelling.{operands_of}
 use Rattle.module_lang.specs.Texts.{is_skipped, statements, joined, line_text, operands_text}
 use Rattle.module_lang.specs.Words.{word_text, word_kinds}
 use Rattle.module_lang.specs.declared.draft.Draft.{Draft}

@@ -2,11 +2,13 @@
 use Rattle.std.proofs.Common.{◌≡◌, ℕ, zero, suc, ◌+◌, ◌-◌, ◌<◌, ◌≤◌, Bool, true, false, cond, List, [], ◌∷◌, ◌++◌, length, map, Option, Some, None, inl, inr, Ok, refl, sym, ◌∙◌, ap, arith}
 use Rattle.std.specs.Prelude.{IfSome, slice_get, option_map}
 use Rattle.std.proofs.lemmas.Option.{slice_get-map, slice_get_within}
-use Rattle.module_lang.specs.Handlers.{handler_fault, handler_resolved, ends_open, last_goes_on, op_goes_on, jump_fault, is_lost, is_missing, label_of, place_of, target_place, step_code, op_instr}
+use Rattle.module_lang.specs.Handlers.{handler_fault, handler_resolved, ends_open, last_goes_on, jump_fault, is_lost, is_missing, label_of, place_of, target_place, step_code, op_instr}
+use Rattle.module_lang.specs.Words.{op_goes_on}
 use Rattle.module_lang.specs.Lines.{has_text, misplaced}
 use Rattle.module_lang.specs.Names.{is_name}
 use Rattle.module_lang.specs.Program.{Program, IsHandler, IsModule, fits, goes_on, target, text_of_instr}
-use Rattle.module_lang.specs.Spelling.{op_of, operands_of}
+use Rattle.module_lang.specs.Args.{op_of}
+use Rattle.module_lang.specs.Spelling.{operands_of}
 use Rattle.module_lang.specs.Texts.{CodeLine, label, step, instrs, labels_from, AreDistinct, AreSpelled, IsAimed, IsCode, IsLabel}
 use Rattle.module_lang.specs.declared.draft.Handler.{Handler}
 use Rattle.module_lang.specs.declared.draft.Label.{Label}

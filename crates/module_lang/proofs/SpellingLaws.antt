@@ -10,7 +10,8 @@ use Rattle.module_lang.specs.Program.{Program, fits, is_brigade, target, text_at
 use Rattle.module_lang.specs.Names.{is_letter, is_name, is_name_byte, all_name_bytes, name_of}
 use Rattle.module_lang.specs.Numbers.{is_value}
 use Rattle.module_lang.specs.Operands.{numbered, operand_in, operand_at, after_operand, operands_at, operand_kind_is_nothing, operand_kind_is_text}
-use Rattle.module_lang.specs.Spelling.{number_operand, op_of, operands_of, three}
+use Rattle.module_lang.specs.Args.{op_of}
+use Rattle.module_lang.specs.Spelling.{number_operand, operands_of, three}
 use Rattle.module_lang.specs.Texts.{Spells, place_text, own_text, brigade_text, number_text, status_text, value_text, operands_text, line_text, operand_texts, instr_word, is_skipped}
 use Rattle.module_lang.specs.Words.{op_text, word_text, word_at, word_kinds, op_kinds, three_operands, two_operands, one_operand, no_operand}
 use Rattle.module_lang.specs.declared.draft.Draft.{Draft}
@@ -219,7 +220,6 @@ text_len p (Some t) = length (text_at p t)
 
 -- the operands of an instruction are read again
 pub instr_again : (p : Program) (i : Instr) (n s : List ℕ) → length p.pools ≤ 8 → length p.brigades ≤ 8 → fits p i ≡ true → IfSome (target i) (λ _. is_name n ≡ true) → IfSome (text_of_instr i) (λ t. Spells s (text_at p t)) → operands_at (op_kinds (op_of i)) (operands_text (operand_texts i n s)) ≡ Ok (operands_of i (padded n) (text_len p (text_of_instr i)))
-unfolding op_kinds
 instr_again p (instr.PCreate q) n s few small h name text = one_again kind.Pool (operand.Place (pool.Own q)) (place_text (pool.Own q)) (pool_operand q (own_below (length p.pools) q few h))
 instr_again p (instr.PClear q) n s few small h name text = one_again kind.Pool (operand.Place (pool.Own q)) (place_text (pool.Own q)) (pool_operand q (own_below (length p.pools) q few h))
 instr_again p (instr.PDestroy q) n s few small h name text = one_again kind.Pool (operand.Place (pool.Own q)) (place_text (pool.Own q)) (pool_operand q (own_below (length p.pools) q few h))
@@ -255,7 +255,7 @@ instr_again p (instr.Jump l) n s few small h name text = one_again kind.Label (o
 instr_again p (instr.Ret e) n s few small h name text = one_again kind.Ending (operand.Ending e) (status_text e) (ending_operand e)
 
 pub word_of_instr : (i : Instr) → instr_word i ≡ word_text (word.Op (op_of i))
-unfolding word_text op_text
+unfolding word_text
 word_of_instr (instr.PCreate q) = refl
 word_of_instr (instr.PClear q) = refl
 word_of_instr (instr.PDestroy q) = refl
@@ -287,7 +287,7 @@ pub record IsWord (w : Word) : Type 0 where
   pub worded : (rest : List ℕ) → begins 58 (word_text w ++ rest) ≡ false
 
 pub word_again : (w : Word) → IsWord w
-unfolding word_at word_text op_text
+unfolding word_at word_text
 word_again word.Module = record { found = refl; plain = refl; starts = λ r. rw (ne_eqb (length (codes "module" ++ r)) 0 (λ e. omega arith)) refl; worded = λ r. refl }
 word_again word.Pool = record { found = refl; plain = refl; starts = λ r. rw (ne_eqb (length (codes "pool" ++ r)) 0 (λ e. omega arith)) refl; worded = λ r. refl }
 word_again word.Brigade = record { found = refl; plain = refl; starts = λ r. rw (ne_eqb (length (codes "brigade" ++ r)) 0 (λ e. omega arith)) refl; worded = λ r. refl }
