@@ -1,6 +1,7 @@
 -- An instruction is made again from its word and its operands.
-use Rattle.std.proofs.Common.{◌≡◌, ℕ, Bool, true, false, refl, ◌∙◌, ap}
-use Rattle.module_lang.specs.Args.{AreOf, IsSplit, arg_aim, arg_index, arg_place, arg_status, arg_text, arg_value, arg_variable, args, is_of, made, op_of, parts}
+use Rattle.std.proofs.Common.{◌≡◌, ℕ, Bool, true, false, ◌&&◌, ◌||◌, not, None, refl, ◌∙◌}
+use Rattle.std.specs.Prelude.{is_some}
+use Rattle.module_lang.specs.Args.{AreOf, IsSplit, arg_aim, arg_index, arg_place, arg_status, arg_text, arg_value, arg_variable, args, is_of, made, names_target, names_text, parts}
 use Rattle.module_lang.specs.Handlers.{args_in}
 use Rattle.module_lang.specs.Words.{op_kinds}
 use Rattle.module_lang.specs.declared.arg.Arg.{Arg}
@@ -64,3 +65,29 @@ made_again o a h =
 pub args_are : (i : Op) (o : Operands) (x t : ℕ) → AreOf (op_kinds i) (args_in (op_kinds i) o x t)
 args_are op.ClearBuf o x t = record { first = refl; second = refl; third = refl; fourth = refl }
 args_are _ o x t = record { first = refl; second = refl; third = refl; fourth = refl }
+
+-- an operand that is a variable beside a brigade: two names of brigades that no test compares
+abbrev pub mixes : Arg → Arg → Bool
+mixes (arg.Variable v) (arg.Brigade b) = true
+mixes (arg.Variable v) (arg.Source b) = true
+mixes (arg.Variable v) (arg.Variable w) = true
+mixes (arg.Brigade b) (arg.Variable v) = true
+mixes (arg.Source b) (arg.Variable v) = true
+mixes _ _ = false
+
+abbrev pub at_most_one : Bool → Bool → Bool → Bool → Bool
+at_most_one a b c d = not (a && b) && not ((a || b) && c) && not ((a || b || c) && d)
+
+-- At most one operand is a target, a text is the second, and no variable stands beside a brigade.
+pub record AreFormed (a : Args) : Type 0 where
+  pub targets : at_most_one (is_some (names_target a.first)) (is_some (names_target a.second)) (is_some (names_target a.third)) (is_some (names_target a.fourth)) ≡ true
+  pub first : names_text a.first ≡ None
+  pub third : names_text a.third ≡ None
+  pub fourth : names_text a.fourth ≡ None
+  pub one_two : mixes a.first a.second ≡ false
+  pub one_three : mixes a.first a.third ≡ false
+  pub two_three : mixes a.second a.third ≡ false
+
+pub formed : (i : Instr) → AreFormed (args i)
+formed instr.ClearBuf = record { targets = refl; first = refl; third = refl; fourth = refl; one_two = refl; one_three = refl; two_three = refl }
+formed _ = record { targets = refl; first = refl; third = refl; fourth = refl; one_two = refl; one_three = refl; two_three = refl }

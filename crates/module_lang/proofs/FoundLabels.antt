@@ -89,28 +89,15 @@ variable_label (variable.Brigade b) n = refl
 
 -- an instruction that names no lost label is aimed at a label of that name
 op_aimed : (base : ℕ) (i : Op) (o : Operands) (x k : ℕ) (name : List ℕ) (ls : List Label) (xs : List (List ℕ × ℕ)) → o ≡ operands_of (op_instr i o x 0) (padded name) k → IfSome (target (op_instr i o x 0)) (λ _. is_name name ≡ true) → Marked base ls xs → AreNamed xs → is_lost ls o ≡ false → IfSome (target (op_instr i o x (base + target_place ls (label_of o)))) (λ t. IsLabel name t xs)
-op_aimed base op.PCreate o x k name ls xs e v m n h = tt
-op_aimed base op.PClear o x k name ls xs e v m n h = tt
-op_aimed base op.PDestroy o x k name ls xs e v m n h = tt
-op_aimed base op.Label o x k name ls xs e v m n h = tt
-op_aimed base op.Unlabel o x k name ls xs e v m n h = tt
-op_aimed base op.BCreate o x k name ls xs e v m n h = tt
-op_aimed base op.BClean o x k name ls xs e v m n h = tt
-op_aimed base op.BConcat o x k name ls xs e v m n h = tt
-op_aimed base op.BSave o x k name ls xs e v m n h = tt
 op_aimed base op.Pass o x k name ls xs e v m n h = label_there base name (label_of o) ls xs (ap label_of e) v m n h
 op_aimed base op.JEmpty o x k name ls xs e v m n h = label_there base name (label_of o) ls xs (ap label_of e) v m n h
 op_aimed base op.Put o x k name ls xs e v m n h = label_there base name (label_of o) ls xs (ap label_of e) v m n h
-op_aimed base op.ClearBuf o x k name ls xs e v m n h = tt
-op_aimed base op.Set o x k name ls xs e v m n h = tt
-op_aimed base op.Add o x k name ls xs e v m n h = tt
-op_aimed base op.Sub o x k name ls xs e v m n h = tt
 op_aimed base op.JLt o x k name ls xs e v m n h = label_there base name (label_of o) ls xs (ap label_of e) v m n h
 op_aimed base op.JEq o x k name ls xs e v m n h = label_there base name (label_of o) ls xs (ap label_of e) v m n h
 op_aimed base op.JNull o x k name ls xs e v m n h = label_there base name (label_of o) ls xs (ap label_of e ∙ variable_label (operand_variable o.first) (padded name)) v m n h
 op_aimed base op.JSent o x k name ls xs e v m n h = label_there base name (label_of o) ls xs (ap label_of e) v m n h
 op_aimed base op.Jump o x k name ls xs e v m n h = label_there base name (label_of o) ls xs (ap label_of e) v m n h
-op_aimed base op.Ret o x k name ls xs e v m n h = tt
+op_aimed base _ o x k name ls xs e v m n h = tt
 
 -- instructions without a lost label are aimed
 pub lines_aimed : (base n : ℕ) (ls : List Label) (xs : List (List ℕ × ℕ)) (rs : List Raw) → Marked base ls xs → AreNamed xs → AreBuilt n rs → jump_fault ls (raw_steps rs) ≡ None → IsAimed xs (map (line_of base ls) rs)

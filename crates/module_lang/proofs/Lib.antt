@@ -3,6 +3,7 @@ pub mod AssemblingLaws
 pub mod BodyLaws
 pub mod DraftLaws
 pub mod FirstLaws
+pub mod FitLaws
 pub mod FoundLabels
 pub mod FoundLaws
 pub mod FoundModule

@@ -107,100 +107,27 @@ found_below ls n (Some name) all some h = found (place_from None name ls) refl h
     found (Some p) q h = place_from-below n None name ls (λ x e. absurd (cc e)) all p q
 
 in_range : (i : Op) (o : Operands) (x t from to : ℕ) → from ≤ t → t < to → IfSome (target (op_instr i o x t)) (λ y. (from ≤ y) × (y < to))
-in_range op.PCreate o x t from to low high = tt
-in_range op.PClear o x t from to low high = tt
-in_range op.PDestroy o x t from to low high = tt
-in_range op.Label o x t from to low high = tt
-in_range op.Unlabel o x t from to low high = tt
-in_range op.BCreate o x t from to low high = tt
-in_range op.BClean o x t from to low high = tt
-in_range op.BConcat o x t from to low high = tt
-in_range op.BSave o x t from to low high = tt
 in_range op.Pass o x t from to low high = (low, high)
 in_range op.JEmpty o x t from to low high = (low, high)
 in_range op.Put o x t from to low high = (low, high)
-in_range op.ClearBuf o x t from to low high = tt
-in_range op.Set o x t from to low high = tt
-in_range op.Add o x t from to low high = tt
-in_range op.Sub o x t from to low high = tt
 in_range op.JLt o x t from to low high = (low, high)
 in_range op.JEq o x t from to low high = (low, high)
 in_range op.JNull o x t from to low high = (low, high)
 in_range op.JSent o x t from to low high = (low, high)
 in_range op.Jump o x t from to low high = (low, high)
-in_range op.Ret o x t from to low high = tt
+in_range _ o x t from to low high = tt
 
 same_op : (i : Op) (o : Operands) (x t : ℕ) → i ≡ op_of (op_instr i o x t)
 same_op op.PCreate o x t = refl
-same_op op.PClear o x t = refl
-same_op op.PDestroy o x t = refl
-same_op op.Label o x t = refl
-same_op op.Unlabel o x t = refl
-same_op op.BCreate o x t = refl
-same_op op.BClean o x t = refl
-same_op op.BConcat o x t = refl
-same_op op.BSave o x t = refl
-same_op op.Pass o x t = refl
-same_op op.JEmpty o x t = refl
-same_op op.Put o x t = refl
-same_op op.ClearBuf o x t = refl
-same_op op.Set o x t = refl
-same_op op.Add o x t = refl
-same_op op.Sub o x t = refl
-same_op op.JLt o x t = refl
-same_op op.JEq o x t = refl
-same_op op.JNull o x t = refl
-same_op op.JSent o x t = refl
-same_op op.Jump o x t = refl
-same_op op.Ret o x t = refl
+same_op _ o x t = refl
 
 same_end : (i : Op) (o : Operands) (x t : ℕ) → goes_on (op_instr i o x t) ≡ op_goes_on i
 same_end op.PCreate o x t = refl
-same_end op.PClear o x t = refl
-same_end op.PDestroy o x t = refl
-same_end op.Label o x t = refl
-same_end op.Unlabel o x t = refl
-same_end op.BCreate o x t = refl
-same_end op.BClean o x t = refl
-same_end op.BConcat o x t = refl
-same_end op.BSave o x t = refl
-same_end op.Pass o x t = refl
-same_end op.JEmpty o x t = refl
-same_end op.Put o x t = refl
-same_end op.ClearBuf o x t = refl
-same_end op.Set o x t = refl
-same_end op.Add o x t = refl
-same_end op.Sub o x t = refl
-same_end op.JLt o x t = refl
-same_end op.JEq o x t = refl
-same_end op.JNull o x t = refl
-same_end op.JSent o x t = refl
-same_end op.Jump o x t = refl
-same_end op.Ret o x t = refl
+same_end _ o x t = refl
 
 pub own_text : (i : Op) (o : Operands) (x t : ℕ) → text_of_instr (op_instr i o x t) ≡ cond (is_some (text_of_instr (op_instr i o x t))) (Some x) None
 own_text op.PCreate o x t = refl
-own_text op.PClear o x t = refl
-own_text op.PDestroy o x t = refl
-own_text op.Label o x t = refl
-own_text op.Unlabel o x t = refl
-own_text op.BCreate o x t = refl
-own_text op.BClean o x t = refl
-own_text op.BConcat o x t = refl
-own_text op.BSave o x t = refl
-own_text op.Pass o x t = refl
-own_text op.JEmpty o x t = refl
-own_text op.Put o x t = refl
-own_text op.ClearBuf o x t = refl
-own_text op.Set o x t = refl
-own_text op.Add o x t = refl
-own_text op.Sub o x t = refl
-own_text op.JLt o x t = refl
-own_text op.JEq o x t = refl
-own_text op.JNull o x t = refl
-own_text op.JSent o x t = refl
-own_text op.Jump o x t = refl
-own_text op.Ret o x t = refl
+own_text _ o x t = refl
 
 text_same : (i : Op) (o : Operands) (x t : ℕ) → IsOfKinds (op_kinds i) o → text_of_instr (op_instr i o x t) ≡ cond (has_text o) (Some x) None
 text_same i o x t k =
@@ -210,27 +137,7 @@ text_same i o x t k =
 -- the name of a label and the length of a text matter to no handler
 pub unnamed : (q : Part) (ps bs : List PoolRef) (i : Instr) (n : List ℕ) (k : ℕ) → misplaced q ps bs (op_of i) (operands_of i n k) ≡ misplaced q ps bs (op_of i) (operands_of i [] 0)
 unnamed q ps bs (instr.PCreate x) n k = refl
-unnamed q ps bs (instr.PClear x) n k = refl
-unnamed q ps bs (instr.PDestroy x) n k = refl
-unnamed q ps bs (instr.Label x t) n k = refl
-unnamed q ps bs (instr.Unlabel x t) n k = refl
-unnamed q ps bs (instr.BCreate o) n k = refl
-unnamed q ps bs (instr.BClean b) n k = refl
-unnamed q ps bs (instr.BConcat a b) n k = refl
-unnamed q ps bs (instr.BSave o b) n k = refl
-unnamed q ps bs (instr.Pass b l) n k = refl
-unnamed q ps bs (instr.JEmpty b l) n k = refl
-unnamed q ps bs (instr.Put x l) n k = refl
-unnamed q ps bs instr.ClearBuf n k = refl
-unnamed q ps bs (instr.Set m x) n k = refl
-unnamed q ps bs (instr.Add m x) n k = refl
-unnamed q ps bs (instr.Sub m x) n k = refl
-unnamed q ps bs (instr.JLt m x l) n k = refl
-unnamed q ps bs (instr.JEq m x l) n k = refl
-unnamed q ps bs (instr.JNull v l) n k = refl
-unnamed q ps bs (instr.JSent l) n k = refl
-unnamed q ps bs (instr.Jump l) n k = refl
-unnamed q ps bs (instr.Ret s) n k = refl
+unnamed q ps bs _ n k = refl
 
 is_allowed : (q : Part) (ps bs : List PoolRef) (i : Op) (o : Operands) (x t : ℕ) → IsOfKinds (op_kinds i) o → misplaced q ps bs i o ≡ false → misplaced q ps bs (op_of (op_instr i o x t)) (operands_of (op_instr i o x t) [] 0) ≡ false
 is_allowed q ps bs i o x t k h =
@@ -248,13 +155,6 @@ own_brigade n b low h = declared (nat_lt b n) (eqb b 8) (ne_eqb b 8 (λ e. omega
 
 same_brigades : (a b : Operand) → a ≡ operand.Brigade (operand_index a) → b ≡ operand.Brigade (operand_index b) → same_brigade a b ≡ false → eqb (operand_index a) (operand_index b) ≡ false
 same_brigades (operand.Brigade x) (operand.Brigade y) p q h = h
-same_brigades operand.Nothing b p q h = absurd (cc p)
-same_brigades operand.One b p q h = absurd (cc p)
-same_brigades (operand.Place x) b p q h = absurd (cc p)
-same_brigades (operand.Ending x) b p q h = absurd (cc p)
-same_brigades (operand.Label x) b p q h = absurd (cc p)
-same_brigades (operand.Text x) b p q h = absurd (cc p)
-same_brigades (operand.Value v) b p q h = absurd (cc p)
 same_brigades (operand.Brigade x) operand.Nothing p q h = absurd (cc q)
 same_brigades (operand.Brigade x) operand.One p q h = absurd (cc q)
 same_brigades (operand.Brigade x) (operand.Place y) p q h = absurd (cc q)
@@ -262,6 +162,7 @@ same_brigades (operand.Brigade x) (operand.Ending y) p q h = absurd (cc q)
 same_brigades (operand.Brigade x) (operand.Label y) p q h = absurd (cc q)
 same_brigades (operand.Brigade x) (operand.Text y) p q h = absurd (cc q)
 same_brigades (operand.Brigade x) (operand.Value v) p q h = absurd (cc q)
+same_brigades _ b p q h = absurd (cc p)
 
 -- a brigade operand that is declared
 declared_as : (m n : ℕ) (x : Operand) → x ≡ operand.Brigade (operand_index x) → is_declared m n x ≡ true → (nat_lt (operand_index x) n || (eqb (operand_index x) 8)) ≡ true
@@ -269,13 +170,7 @@ declared_as m n x e h = subst (λ y. is_declared m n y ≡ true) e h
 
 pub brigade_below : (x : Operand) → of_kind kind.Brigade x ≡ true → operand_index x < 8
 brigade_below (operand.Brigade b) h = ltb-true b 8 h
-brigade_below operand.Nothing h = absurd (cc h)
-brigade_below operand.One h = absurd (cc h)
-brigade_below (operand.Place x) h = absurd (cc h)
-brigade_below (operand.Ending x) h = absurd (cc h)
-brigade_below (operand.Label x) h = absurd (cc h)
-brigade_below (operand.Text x) h = absurd (cc h)
-brigade_below (operand.Value v) h = absurd (cc h)
+brigade_below _ h = absurd (cc h)
 
 first_declared : (m n : ℕ) (o : Operands) → are_declared m n o ≡ true → is_declared m n o.first ≡ true
 first_declared m n o h =
@@ -296,58 +191,24 @@ first_apart o h =
 
 pool_declared : (m n : ℕ) (x : Operand) → of_kind kind.Pool x ≡ true → is_declared m n x ≡ true → nat_lt (operand_index x) m ≡ true
 pool_declared m n (operand.Place (pool.Own i)) k h = h
-pool_declared m n (operand.Place pool.Conn) k h = absurd (cc k)
-pool_declared m n (operand.Place pool.Req) k h = absurd (cc k)
-pool_declared m n operand.Nothing k h = absurd (cc k)
-pool_declared m n operand.One k h = absurd (cc k)
-pool_declared m n (operand.Brigade b) k h = absurd (cc k)
-pool_declared m n (operand.Ending e) k h = absurd (cc k)
-pool_declared m n (operand.Label l) k h = absurd (cc k)
-pool_declared m n (operand.Text t) k h = absurd (cc k)
-pool_declared m n (operand.Value v) k h = absurd (cc k)
+pool_declared m n _ k h = absurd (cc k)
 
 place_declared : (m n : ℕ) (x : Operand) → is_declared m n x ≡ true → place_is_declared m (operand_place x) ≡ true
 place_declared m n (operand.Place p) h = h
-place_declared m n operand.Nothing h = refl
-place_declared m n operand.One h = refl
-place_declared m n (operand.Brigade b) h = refl
-place_declared m n (operand.Ending e) h = refl
-place_declared m n (operand.Label l) h = refl
-place_declared m n (operand.Text t) h = refl
-place_declared m n (operand.Value v) h = refl
+place_declared m n _ h = refl
 
 variable_declared : (p : Program) (x : Operand) → of_kind kind.Variable x ≡ true → is_declared (length p.pools) (length p.brigades) x ≡ true → is_variable p (operand_variable x) ≡ true
 variable_declared p (operand.Place (pool.Own i)) k h = h
 variable_declared p (operand.Brigade b) k h = own_brigade (length p.brigades) b (ltb-true b 8 k) h
-variable_declared p (operand.Place pool.Conn) k h = absurd (cc k)
-variable_declared p (operand.Place pool.Req) k h = absurd (cc k)
-variable_declared p operand.Nothing k h = absurd (cc k)
-variable_declared p operand.One k h = absurd (cc k)
-variable_declared p (operand.Ending e) k h = absurd (cc k)
-variable_declared p (operand.Label l) k h = absurd (cc k)
-variable_declared p (operand.Text t) k h = absurd (cc k)
-variable_declared p (operand.Value v) k h = absurd (cc k)
+variable_declared p _ k h = absurd (cc k)
 
 number_fits : (x : Operand) → of_kind kind.Number x ≡ true → nat_lt (operand_index x) 8 ≡ true
 number_fits (operand.Value (value.Number i)) h = h
-number_fits (operand.Value (value.Constant k)) h = absurd (cc h)
-number_fits operand.Nothing h = absurd (cc h)
-number_fits operand.One h = absurd (cc h)
-number_fits (operand.Place p) h = absurd (cc h)
-number_fits (operand.Brigade b) h = absurd (cc h)
-number_fits (operand.Ending e) h = absurd (cc h)
-number_fits (operand.Label l) h = absurd (cc h)
-number_fits (operand.Text t) h = absurd (cc h)
+number_fits _ h = absurd (cc h)
 
 value_fits : (x : Operand) → of_kind kind.Value x ≡ true → is_value (operand_value x) ≡ true
 value_fits (operand.Value v) h = h
-value_fits operand.Nothing h = absurd (cc h)
-value_fits operand.One h = absurd (cc h)
-value_fits (operand.Place p) h = absurd (cc h)
-value_fits (operand.Brigade b) h = absurd (cc h)
-value_fits (operand.Ending e) h = absurd (cc h)
-value_fits (operand.Label l) h = absurd (cc h)
-value_fits (operand.Text t) h = absurd (cc h)
+value_fits _ h = absurd (cc h)
 
 -- the operands of an instruction that was read are declared, its brigades differ, and its text is one of the module
 fit : (p : Program) (i : Op) (o : Operands) (x t : ℕ) → IsOfKinds (op_kinds i) o → are_declared (length p.pools) (length p.brigades) o ≡ true → has_equal_brigades o ≡ false → (has_text o ≡ true → x < length p.texts) → fits p (op_instr i o x t) ≡ true

@@ -14,7 +14,7 @@ use Rattle.module_lang.specs.Names.{is_name}
 use Rattle.module_lang.specs.Program.{target, text_of_instr}
 use Rattle.module_lang.specs.Spelling.{number_operand, operands_of, own_pool}
 use Rattle.module_lang.specs.Texts.{step, code_text, operands_text, brigade_text}
-use Rattle.module_lang.specs.Words.{word_text, word_kinds, op_kinds, op_text}
+use Rattle.module_lang.specs.Words.{word_text, word_kinds, op_kinds}
 use Rattle.module_lang.specs.declared.draft.Draft.{Draft}
 use Rattle.module_lang.specs.declared.operand.Operand.{Operand}
 use Rattle.module_lang.specs.declared.operand.Operand.TheVariants as operand

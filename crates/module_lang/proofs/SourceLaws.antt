@@ -43,54 +43,30 @@ unfolding place_of
 found_again n labels xs name t h l = let z = place_again None name t n labels xs h.marked h.named h.distinct l in rw z.2 (sym z.1)
 
 step_kept : (n : ℕ) (labels : List Label) (xs : List (List ℕ × ℕ)) (i : Instr) (name : List ℕ) (k : ℕ) → AreHandled n labels xs → IfSome (target i) (λ t. IsLabel name t xs) → is_lost labels (operands_of i (padded name) k) ≡ false
-step_kept n labels xs (instr.PCreate q) name k h a = refl
-step_kept n labels xs (instr.PClear q) name k h a = refl
-step_kept n labels xs (instr.PDestroy q) name k h a = refl
-step_kept n labels xs (instr.Label q t) name k h a = refl
-step_kept n labels xs (instr.Unlabel q t) name k h a = refl
-step_kept n labels xs (instr.BCreate o) name k h a = refl
-step_kept n labels xs (instr.BClean b) name k h a = refl
-step_kept n labels xs (instr.BConcat b c) name k h a = refl
-step_kept n labels xs (instr.BSave o b) name k h a = refl
 step_kept n labels xs (instr.Pass b l) name k h a = lost_none n labels xs name l h a
 step_kept n labels xs (instr.JEmpty b l) name k h a = lost_none n labels xs name l h a
 step_kept n labels xs (instr.Put x l) name k h a = lost_none n labels xs name l h a
-step_kept n labels xs instr.ClearBuf name k h a = refl
-step_kept n labels xs (instr.Set m x) name k h a = refl
-step_kept n labels xs (instr.Add m x) name k h a = refl
-step_kept n labels xs (instr.Sub m x) name k h a = refl
 step_kept n labels xs (instr.JLt m x l) name k h a = lost_none n labels xs name l h a
 step_kept n labels xs (instr.JEq m x l) name k h a = lost_none n labels xs name l h a
 step_kept n labels xs (instr.JNull (variable.Pool q) l) name k h a = lost_none n labels xs name l h a
 step_kept n labels xs (instr.JNull (variable.Brigade b) l) name k h a = lost_none n labels xs name l h a
 step_kept n labels xs (instr.JSent l) name k h a = lost_none n labels xs name l h a
 step_kept n labels xs (instr.Jump l) name k h a = lost_none n labels xs name l h a
-step_kept n labels xs (instr.Ret s) name k h a = refl
+step_kept n labels xs _ name k h a = refl
 
 instr_made : (n : ℕ) (labels : List Label) (xs : List (List ℕ × ℕ)) (i : Instr) (name : List ℕ) (k x : ℕ) → AreHandled n labels xs → IfSome (target i) (λ t. IsLabel name t xs) → IfSome (text_of_instr i) (λ t. x ≡ t) → op_instr (op_of i) (operands_of i (padded name) k) x (n + target_place labels (label_of (operands_of i (padded name) k))) ≡ i
-instr_made n labels xs (instr.PCreate q) name k x h a w = refl
-instr_made n labels xs (instr.PClear q) name k x h a w = refl
-instr_made n labels xs (instr.PDestroy q) name k x h a w = refl
 instr_made n labels xs (instr.Label q t) name k x h a w = ap (instr.Label q) w
 instr_made n labels xs (instr.Unlabel q t) name k x h a w = ap (instr.Unlabel q) w
-instr_made n labels xs (instr.BCreate o) name k x h a w = refl
-instr_made n labels xs (instr.BClean b) name k x h a w = refl
-instr_made n labels xs (instr.BConcat b c) name k x h a w = refl
-instr_made n labels xs (instr.BSave o b) name k x h a w = refl
 instr_made n labels xs (instr.Pass b l) name k x h a w = ap (instr.Pass b) (found_again n labels xs name l h a)
 instr_made n labels xs (instr.JEmpty b l) name k x h a w = ap (instr.JEmpty b) (found_again n labels xs name l h a)
 instr_made n labels xs (instr.Put v l) name k x h a w = ap (instr.Put v) (found_again n labels xs name l h a)
-instr_made n labels xs instr.ClearBuf name k x h a w = refl
-instr_made n labels xs (instr.Set m v) name k x h a w = refl
-instr_made n labels xs (instr.Add m v) name k x h a w = refl
-instr_made n labels xs (instr.Sub m v) name k x h a w = refl
 instr_made n labels xs (instr.JLt m v l) name k x h a w = ap (instr.JLt m v) (found_again n labels xs name l h a)
 instr_made n labels xs (instr.JEq m v l) name k x h a w = ap (instr.JEq m v) (found_again n labels xs name l h a)
 instr_made n labels xs (instr.JNull (variable.Pool q) l) name k x h a w = ap (instr.JNull (variable.Pool q)) (found_again n labels xs name l h a)
 instr_made n labels xs (instr.JNull (variable.Brigade b) l) name k x h a w = ap (instr.JNull (variable.Brigade b)) (found_again n labels xs name l h a)
 instr_made n labels xs (instr.JSent l) name k x h a w = ap instr.JSent (found_again n labels xs name l h a)
 instr_made n labels xs (instr.Jump l) name k x h a w = ap instr.Jump (found_again n labels xs name l h a)
-instr_made n labels xs (instr.Ret s) name k x h a w = refl
+instr_made n labels xs _ name k x h a w = refl
 
 number_of : (b : Bool) (x : ℕ) (o : Option ℕ) → cond b (Some x) None ≡ o → IfSome o (λ t. x ≡ t)
 number_of b x None e = tt
@@ -125,27 +101,7 @@ bares-get p (step j x w ∷ body) (suc k) i e = bares-get p body k i e
 
 same_goes : (i : Instr) → op_goes_on (op_of i) ≡ goes_on i
 same_goes (instr.PCreate q) = refl
-same_goes (instr.PClear q) = refl
-same_goes (instr.PDestroy q) = refl
-same_goes (instr.Label q t) = refl
-same_goes (instr.Unlabel q t) = refl
-same_goes (instr.BCreate o) = refl
-same_goes (instr.BClean b) = refl
-same_goes (instr.BConcat b c) = refl
-same_goes (instr.BSave o b) = refl
-same_goes (instr.Pass b l) = refl
-same_goes (instr.JEmpty b l) = refl
-same_goes (instr.Put x l) = refl
-same_goes instr.ClearBuf = refl
-same_goes (instr.Set m x) = refl
-same_goes (instr.Add m x) = refl
-same_goes (instr.Sub m x) = refl
-same_goes (instr.JLt m x l) = refl
-same_goes (instr.JEq m x l) = refl
-same_goes (instr.JNull v l) = refl
-same_goes (instr.JSent l) = refl
-same_goes (instr.Jump l) = refl
-same_goes (instr.Ret s) = refl
+same_goes _ = refl
 
 bare_op : (o : Option Step) (i : Op) (os : Operands) (t : Option ℕ) → option_map bare o ≡ Some (i, os, t) → last_goes_on o ≡ op_goes_on i
 bare_op None i os t e = absurd (cc e)

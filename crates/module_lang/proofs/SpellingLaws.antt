@@ -13,7 +13,7 @@ use Rattle.module_lang.specs.Operands.{numbered, operand_in, operand_at, after_o
 use Rattle.module_lang.specs.Args.{op_of}
 use Rattle.module_lang.specs.Spelling.{number_operand, operands_of, three}
 use Rattle.module_lang.specs.Texts.{Spells, place_text, own_text, brigade_text, number_text, status_text, value_text, operands_text, line_text, operand_texts, instr_word, is_skipped}
-use Rattle.module_lang.specs.Words.{op_text, word_text, word_at, word_kinds, op_kinds, three_operands, two_operands, one_operand, no_operand}
+use Rattle.module_lang.specs.Words.{word_text, word_at, word_kinds, op_kinds, three_operands, two_operands, one_operand, no_operand}
 use Rattle.module_lang.specs.declared.draft.Draft.{Draft}
 use Rattle.module_lang.specs.declared.instr.Instr.{Instr}
 use Rattle.module_lang.specs.declared.instr.Instr.TheVariants as instr
@@ -257,27 +257,7 @@ instr_again p (instr.Ret e) n s few small h name text = one_again kind.Ending (o
 pub word_of_instr : (i : Instr) → instr_word i ≡ word_text (word.Op (op_of i))
 unfolding word_text
 word_of_instr (instr.PCreate q) = refl
-word_of_instr (instr.PClear q) = refl
-word_of_instr (instr.PDestroy q) = refl
-word_of_instr (instr.Label q t) = refl
-word_of_instr (instr.Unlabel q t) = refl
-word_of_instr (instr.BCreate o) = refl
-word_of_instr (instr.BClean b) = refl
-word_of_instr (instr.BConcat a b) = refl
-word_of_instr (instr.BSave o b) = refl
-word_of_instr (instr.Pass b l) = refl
-word_of_instr (instr.JEmpty b l) = refl
-word_of_instr (instr.Put x l) = refl
-word_of_instr instr.ClearBuf = refl
-word_of_instr (instr.Set m x) = refl
-word_of_instr (instr.Add m x) = refl
-word_of_instr (instr.Sub m x) = refl
-word_of_instr (instr.JLt m x l) = refl
-word_of_instr (instr.JEq m x l) = refl
-word_of_instr (instr.JNull v l) = refl
-word_of_instr (instr.JSent l) = refl
-word_of_instr (instr.Jump l) = refl
-word_of_instr (instr.Ret s) = refl
+word_of_instr _ = refl
 
 -- a word is found again, has no space, and begins neither a label nor a comment
 pub record IsWord (w : Word) : Type 0 where

@@ -1,5 +1,3 @@
-use Rattle.module_lang.specs.Args.{AreOf}
-use Rattle.module_lang.specs.Words.{op_kinds}
 use Rattle.module_lang.proofs.ArgLaws.{args_are}
 use Rattle.module_lang.proofs.handler.instr_of.Goals as goal
 
