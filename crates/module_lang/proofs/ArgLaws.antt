@@ -1,7 +1,7 @@
 -- An instruction is made again from its word and its operands.
 use Rattle.std.proofs.Common.{◌≡◌, ℕ, Bool, true, false, ◌&&◌, ◌||◌, not, None, refl, ◌∙◌}
 use Rattle.std.specs.Prelude.{is_some}
-use Rattle.module_lang.specs.Args.{AreOf, IsSplit, arg_aim, arg_index, arg_place, arg_status, arg_text, arg_value, arg_variable, args, is_of, made, names_target, names_text, parts}
+use Rattle.module_lang.specs.Args.{AreOf, IsSplit, arg_aim, arg_index, arg_place, arg_status, arg_text, arg_value, arg_variable, args, first_some, is_of, made, names_target, names_text, parts}
 use Rattle.module_lang.specs.Handlers.{args_in}
 use Rattle.module_lang.specs.Words.{op_kinds}
 use Rattle.module_lang.specs.declared.arg.Arg.{Arg}
@@ -82,6 +82,7 @@ at_most_one a b c d = not (a && b) && not ((a || b) && c) && not ((a || b || c) 
 pub record AreFormed (a : Args) : Type 0 where
   pub targets : at_most_one (is_some (names_target a.first)) (is_some (names_target a.second)) (is_some (names_target a.third)) (is_some (names_target a.fourth)) ≡ true
   pub first : names_text a.first ≡ None
+  pub second : first_some (names_text a.first) (names_text a.second) (names_text a.third) (names_text a.fourth) ≡ names_text a.second
   pub third : names_text a.third ≡ None
   pub fourth : names_text a.fourth ≡ None
   pub one_two : mixes a.first a.second ≡ false
@@ -89,5 +90,5 @@ pub record AreFormed (a : Args) : Type 0 where
   pub two_three : mixes a.second a.third ≡ false
 
 pub formed : (i : Instr) → AreFormed (args i)
-formed instr.ClearBuf = record { targets = refl; first = refl; third = refl; fourth = refl; one_two = refl; one_three = refl; two_three = refl }
-formed _ = record { targets = refl; first = refl; third = refl; fourth = refl; one_two = refl; one_three = refl; two_three = refl }
+formed instr.ClearBuf = record { targets = refl; first = refl; second = refl; third = refl; fourth = refl; one_two = refl; one_three = refl; two_three = refl }
+formed _ = record { targets = refl; first = refl; second = refl; third = refl; fourth = refl; one_two = refl; one_three = refl; two_three = refl }

@@ -4,8 +4,7 @@ use Rattle.std.specs.Prelude.{is_some, slice_get}
 use Rattle.std.specs.Cmp.Lexicographic.{pointwise, same_text}
 use Rattle.module_lang.specs.Bytes.{begins}
 use Rattle.module_lang.specs.FirstFault.{IsAmong, NamesLost, have_instruction, is_header, open_after, since_header, stays_open, up_to_header, word_of}
-use Rattle.module_lang.specs.Handlers.{ends_open, is_missing, is_named, label_of, last_goes_on, place_from, place_of}
-use Rattle.module_lang.specs.Words.{op_goes_on}
+use Rattle.module_lang.specs.Handlers.{ends_open, is_missing, is_named, label_of, last_goes_on, op_goes_on, place_from, place_of}
 use Rattle.module_lang.specs.Names.{is_name, name_of}
 use Rattle.module_lang.specs.Operands.{operands_at}
 use Rattle.module_lang.specs.Words.{op_kinds, word_at, word_text}
