@@ -7,15 +7,15 @@ use Rattle.std.proofs.lemmas.List.{length-map}
 use Rattle.std.proofs.lemmas.List.Elements.{filter_map-append}
 use Rattle.std.proofs.lemmas.Option.{slice_get-map, slice_get_within}
 use Rattle.module_lang.specs.Entries.{IsDraft, IsStep, step_numbers, step_text}
-use Rattle.module_lang.specs.Handlers.{handler_fault, handler_resolved, code_or_fault, ends_open, last_goes_on, sooner, fault, label_fault, jump_fault, is_lost, is_missing, label_of, place_of, place_from, target_place, step_code, op_instr, operand_index, operand_value, operand_variable, is_named}
+use Rattle.module_lang.specs.Handlers.{handler_fault, handler_resolved, code_or_fault, ends_open, last_goes_on, sooner, fault, label_fault, jump_fault, is_lost, is_missing, arg_in, args_in, label_of, place_of, place_from, target_place, step_code, op_instr, operand_index, is_named}
 use Rattle.module_lang.specs.Words.{op_goes_on}
-use Rattle.module_lang.specs.Lines.{are_declared, has_equal_brigades, is_declared, misplaced, same_brigade, has_text, place_is_declared}
-use Rattle.module_lang.specs.Numbers.{is_value}
-use Rattle.module_lang.specs.Operands.{IsOfKinds, of_kind, operand_place}
-use Rattle.module_lang.specs.Program.{Program, program, IsHandler, IsInside, IsModule, IsPlaced, fits, goes_on, is_variable, target, text_of_instr}
+use Rattle.module_lang.specs.Lines.{are_declared, has_equal_brigades, is_declared, is_text_operand, misplaced, same_brigade, has_text, place_is_declared}
+use Rattle.module_lang.specs.Operands.{IsOfKinds, of_kind, operand_kind_is_text}
+use Rattle.module_lang.specs.Program.{Program, program, IsHandler, IsInside, IsModule, IsPlaced, all_of, apart, fit_tests, fits, goes_on, target, tests, text_of_instr}
 use Rattle.module_lang.specs.Args.{op_of}
 use Rattle.module_lang.specs.Spelling.{operands_of}
 use Rattle.module_lang.specs.Words.{op_kinds}
+use Rattle.module_lang.specs.declared.arg.Args.{Args}
 use Rattle.module_lang.specs.declared.draft.Draft.{Draft}
 use Rattle.module_lang.specs.declared.draft.Handler.{Handler}
 use Rattle.module_lang.specs.declared.draft.Label.{Label}
@@ -32,10 +32,13 @@ use Rattle.module_lang.specs.declared.operand.Operand.{Operand}
 use Rattle.module_lang.specs.declared.operand.Operand.TheVariants as operand
 use Rattle.module_lang.specs.declared.operand.Operands.{Operands}
 use Rattle.module_lang.specs.declared.refusal.Code.TheVariants as codes
+use Rattle.module_lang.specs.declared.word.Kind.{Kind}
 use Rattle.module_lang.specs.declared.word.Kind.TheVariants as kind
 use Rattle.module_lang.specs.declared.word.Op.{Op}
 use Rattle.module_lang.specs.declared.word.Op.TheVariants as op
+use Rattle.module_lang.proofs.ArgLaws.{args_of_read, parts_in, target_moved}
 use Rattle.module_lang.proofs.DraftLaws.{has_text_of}
+use Rattle.module_lang.proofs.FitLaws.{Every, parts_fit}
 use Rattle.module_lang.proofs.HandlerLaws.{place_from-below}
 use Rattle.module_lang.proofs.ListLaws.{AllBelow, all_cons, all_head, all_tail, below_back, below_front, numbers_below, range_below}
 use Rattle.module_lang.proofs.OperandLaws.{shape, brigade_is, source_is}
@@ -107,23 +110,14 @@ found_below ls n (Some name) all some h = found (place_from None name ls) refl h
     found (Some p) q h = place_from-below n None name ls (λ x e. absurd (cc e)) all p q
 
 in_range : (i : Op) (o : Operands) (x t from to : ℕ) → from ≤ t → t < to → IfSome (target (op_instr i o x t)) (λ y. (from ≤ y) × (y < to))
-in_range op.Pass o x t from to low high = (low, high)
-in_range op.JEmpty o x t from to low high = (low, high)
-in_range op.Put o x t from to low high = (low, high)
-in_range op.JLt o x t from to low high = (low, high)
-in_range op.JEq o x t from to low high = (low, high)
-in_range op.JNull o x t from to low high = (low, high)
-in_range op.JSent o x t from to low high = (low, high)
-in_range op.Jump o x t from to low high = (low, high)
-in_range _ o x t from to low high = tt
+in_range i o x t from to low high = subst (λ y. IfSome y (λ u. (from ≤ u) × (u < to))) (sym (target_moved i o x t)) (by_target (target (op_instr i o x 0)))
+  where
+    by_target : (y : Option ℕ) → IfSome (option_map (λ _. t) y) (λ u. (from ≤ u) × (u < to))
+    by_target None = tt
+    by_target (Some u) = (low, high)
 
 same_op : (i : Op) (o : Operands) (x t : ℕ) → i ≡ op_of (op_instr i o x t)
-same_op op.PCreate o x t = refl
-same_op _ o x t = refl
-
-same_end : (i : Op) (o : Operands) (x t : ℕ) → goes_on (op_instr i o x t) ≡ op_goes_on i
-same_end op.PCreate o x t = refl
-same_end _ o x t = refl
+same_op i o x t = ap (λ (z : Op × Args). z.0) (sym (parts_in i o x t))
 
 pub own_text : (i : Op) (o : Operands) (x t : ℕ) → text_of_instr (op_instr i o x t) ≡ cond (is_some (text_of_instr (op_instr i o x t))) (Some x) None
 own_text op.PCreate o x t = refl
@@ -164,90 +158,69 @@ same_brigades (operand.Brigade x) (operand.Text y) p q h = absurd (cc q)
 same_brigades (operand.Brigade x) (operand.Value v) p q h = absurd (cc q)
 same_brigades _ b p q h = absurd (cc p)
 
--- a brigade operand that is declared
-declared_as : (m n : ℕ) (x : Operand) → x ≡ operand.Brigade (operand_index x) → is_declared m n x ≡ true → (nat_lt (operand_index x) n || (eqb (operand_index x) 8)) ≡ true
-declared_as m n x e h = subst (λ y. is_declared m n y ≡ true) e h
-
 pub brigade_below : (x : Operand) → of_kind kind.Brigade x ≡ true → operand_index x < 8
 brigade_below (operand.Brigade b) h = ltb-true b 8 h
 brigade_below _ h = absurd (cc h)
 
-first_declared : (m n : ℕ) (o : Operands) → are_declared m n o ≡ true → is_declared m n o.first ≡ true
-first_declared m n o h =
-    let a = and_parts (is_declared m n o.first && is_declared m n o.second && is_declared m n o.third) (is_declared m n o.fourth) h in
-    let b = and_parts (is_declared m n o.first && is_declared m n o.second) (is_declared m n o.third) a.0 in
-    (and_parts (is_declared m n o.first) (is_declared m n o.second) b.0).0
+-- the tests of an operand that was read
+one_fits : (p : Program) (k : Kind) (o : Operand) (x t : ℕ) → of_kind k o ≡ true → is_declared (length p.pools) (length p.brigades) o ≡ true → (operand_kind_is_text k ≡ true → x < length p.texts) → Every (tests p (arg_in k o x t))
+one_fits p kind.Nothing o x t h d w = tt
+one_fits p kind.One o x t h d w = tt
+one_fits p kind.Ending o x t h d w = tt
+one_fits p kind.Label o x t h d w = tt
+one_fits p kind.Text o x t h d w = (lt-ltb x (length p.texts) (w refl), tt)
+one_fits p kind.Place (operand.Place q) x t h d w = (d, tt)
+one_fits p kind.Pool (operand.Place (pool.Own i)) x t h d w = (d, tt)
+one_fits p kind.Brigade (operand.Brigade b) x t h d w = (own_brigade (length p.brigades) b (ltb-true b 8 h) d, tt)
+one_fits p kind.Source (operand.Brigade b) x t h d w = (d, tt)
+one_fits p kind.Variable (operand.Place (pool.Own i)) x t h d w = (d, tt)
+one_fits p kind.Variable (operand.Brigade b) x t h d w = (own_brigade (length p.brigades) b (ltb-true b 8 h) d, tt)
+one_fits p kind.Number (operand.Value (value.Number i)) x t h d w = (h, tt)
+one_fits p kind.Value (operand.Value v) x t h d w = (h, tt)
+one_fits p _ _ x t h d w = absurd (cc h)
 
-second_declared : (m n : ℕ) (o : Operands) → are_declared m n o ≡ true → is_declared m n o.second ≡ true
-second_declared m n o h =
-    let a = and_parts (is_declared m n o.first && is_declared m n o.second && is_declared m n o.third) (is_declared m n o.fourth) h in
-    let b = and_parts (is_declared m n o.first && is_declared m n o.second) (is_declared m n o.third) a.0 in
-    (and_parts (is_declared m n o.first) (is_declared m n o.second) b.0).1
+-- two operands that were read are not one brigade
+pair_fits : (k l : Kind) (a b : Operand) (x t : ℕ) → of_kind k a ≡ true → of_kind l b ≡ true → same_brigade a b ≡ false → Every (apart (arg_in k a x t) (arg_in l b x t))
+pair_fits kind.Brigade kind.Brigade a b x t p q h = (rw (same_brigades a b (brigade_is a p) (brigade_is b q) h) refl, tt)
+pair_fits kind.Brigade kind.Source a b x t p q h = (rw (same_brigades a b (brigade_is a p) (source_is b q) h) refl, tt)
+pair_fits kind.Source kind.Brigade a b x t p q h = (rw (same_brigades a b (source_is a p) (brigade_is b q) h) refl, tt)
+pair_fits kind.Source kind.Source a b x t p q h = (rw (same_brigades a b (source_is a p) (source_is b q) h) refl, tt)
+pair_fits _ _ a b x t p q h = tt
 
-first_apart : (o : Operands) → has_equal_brigades o ≡ false → same_brigade o.first o.second ≡ false
-first_apart o h =
-    let a = or_parts (same_brigade o.first o.second || same_brigade o.first o.third) (same_brigade o.second o.third) h in
-    (or_parts (same_brigade o.first o.second) (same_brigade o.first o.third) a.0).0
-
-pool_declared : (m n : ℕ) (x : Operand) → of_kind kind.Pool x ≡ true → is_declared m n x ≡ true → nat_lt (operand_index x) m ≡ true
-pool_declared m n (operand.Place (pool.Own i)) k h = h
-pool_declared m n _ k h = absurd (cc k)
-
-place_declared : (m n : ℕ) (x : Operand) → is_declared m n x ≡ true → place_is_declared m (operand_place x) ≡ true
-place_declared m n (operand.Place p) h = h
-place_declared m n _ h = refl
-
-variable_declared : (p : Program) (x : Operand) → of_kind kind.Variable x ≡ true → is_declared (length p.pools) (length p.brigades) x ≡ true → is_variable p (operand_variable x) ≡ true
-variable_declared p (operand.Place (pool.Own i)) k h = h
-variable_declared p (operand.Brigade b) k h = own_brigade (length p.brigades) b (ltb-true b 8 k) h
-variable_declared p _ k h = absurd (cc k)
-
-number_fits : (x : Operand) → of_kind kind.Number x ≡ true → nat_lt (operand_index x) 8 ≡ true
-number_fits (operand.Value (value.Number i)) h = h
-number_fits _ h = absurd (cc h)
-
-value_fits : (x : Operand) → of_kind kind.Value x ≡ true → is_value (operand_value x) ≡ true
-value_fits (operand.Value v) h = h
-value_fits _ h = absurd (cc h)
+text_there : (k : Kind) (o : Operand) → of_kind k o ≡ true → operand_kind_is_text k ≡ true → is_text_operand o ≡ true
+text_there kind.Text (operand.Text n) h t = refl
+text_there kind.Text _ h t = absurd (cc h)
+text_there _ o h t = absurd (cc t)
 
 -- the operands of an instruction that was read are declared, its brigades differ, and its text is one of the module
 fit : (p : Program) (i : Op) (o : Operands) (x t : ℕ) → IsOfKinds (op_kinds i) o → are_declared (length p.pools) (length p.brigades) o ≡ true → has_equal_brigades o ≡ false → (has_text o ≡ true → x < length p.texts) → fits p (op_instr i o x t) ≡ true
-fit p op.PCreate o x t k h a w = pool_declared (length p.pools) (length p.brigades) o.first k.first (first_declared (length p.pools) (length p.brigades) o h)
-fit p op.PClear o x t k h a w = pool_declared (length p.pools) (length p.brigades) o.first k.first (first_declared (length p.pools) (length p.brigades) o h)
-fit p op.PDestroy o x t k h a w = pool_declared (length p.pools) (length p.brigades) o.first k.first (first_declared (length p.pools) (length p.brigades) o h)
-fit p op.Label o x t k h a w =
-    let first = place_declared (length p.pools) (length p.brigades) o.first (first_declared (length p.pools) (length p.brigades) o h) in
-    let number = lt-ltb x (length p.texts) (w (ap has_text (shape op.Label o x t k).same)) in
-    rw (first, number) refl
-fit p op.Unlabel o x t k h a w =
-    let first = place_declared (length p.pools) (length p.brigades) o.first (first_declared (length p.pools) (length p.brigades) o h) in
-    let number = lt-ltb x (length p.texts) (w (ap has_text (shape op.Unlabel o x t k).same)) in
-    rw (first, number) refl
-fit p op.BCreate o x t k h a w = own_brigade (length p.brigades) (operand_index o.first) (brigade_below o.first k.first) (declared_as (length p.pools) (length p.brigades) o.first (brigade_is o.first k.first) (first_declared (length p.pools) (length p.brigades) o h))
-fit p op.BClean o x t k h a w = declared_as (length p.pools) (length p.brigades) o.first (source_is o.first k.first) (first_declared (length p.pools) (length p.brigades) o h)
-fit p op.BConcat o x t k h a w =
-    let first = declared_as (length p.pools) (length p.brigades) o.first (source_is o.first k.first) (first_declared (length p.pools) (length p.brigades) o h) in
-    let second = declared_as (length p.pools) (length p.brigades) o.second (source_is o.second k.second) (second_declared (length p.pools) (length p.brigades) o h) in
-    let apart = same_brigades o.first o.second (source_is o.first k.first) (source_is o.second k.second) (first_apart o a) in
-    rw (first, second, apart) refl
-fit p op.BSave o x t k h a w =
-    let first = own_brigade (length p.brigades) (operand_index o.first) (brigade_below o.first k.first) (declared_as (length p.pools) (length p.brigades) o.first (brigade_is o.first k.first) (first_declared (length p.pools) (length p.brigades) o h)) in
-    let second = declared_as (length p.pools) (length p.brigades) o.second (source_is o.second k.second) (second_declared (length p.pools) (length p.brigades) o h) in
-    let apart = same_brigades o.first o.second (brigade_is o.first k.first) (source_is o.second k.second) (first_apart o a) in
-    rw (first, second, apart) refl
-fit p op.Pass o x t k h a w = declared_as (length p.pools) (length p.brigades) o.first (source_is o.first k.first) (first_declared (length p.pools) (length p.brigades) o h)
-fit p op.JEmpty o x t k h a w = declared_as (length p.pools) (length p.brigades) o.first (source_is o.first k.first) (first_declared (length p.pools) (length p.brigades) o h)
-fit p op.Put o x t k h a w = value_fits o.first k.first
-fit p op.ClearBuf o x t k h a w = refl
-fit p op.Set o x t k h a w = rw (number_fits o.first k.first, value_fits o.second k.second) refl
-fit p op.Add o x t k h a w = rw (number_fits o.first k.first, value_fits o.second k.second) refl
-fit p op.Sub o x t k h a w = rw (number_fits o.first k.first, value_fits o.second k.second) refl
-fit p op.JLt o x t k h a w = rw (number_fits o.first k.first, value_fits o.second k.second) refl
-fit p op.JEq o x t k h a w = rw (number_fits o.first k.first, value_fits o.second k.second) refl
-fit p op.JNull o x t k h a w = variable_declared p o.first k.first (first_declared (length p.pools) (length p.brigades) o h)
-fit p op.JSent o x t k h a w = refl
-fit p op.Jump o x t k h a w = refl
-fit p op.Ret o x t k h a w = refl
+fit p i o x t h d a w =
+    let k = op_kinds i in
+    let declared = is_declared (length p.pools) (length p.brigades) in
+    let d1 = and_parts (declared o.first && declared o.second && declared o.third) (declared o.fourth) d in
+    let d2 = and_parts (declared o.first && declared o.second) (declared o.third) d1.0 in
+    let d3 = and_parts (declared o.first) (declared o.second) d2.0 in
+    let a1 = or_parts (same_brigade o.first o.second || same_brigade o.first o.third) (same_brigade o.second o.third) a in
+    let a2 = or_parts (same_brigade o.first o.second) (same_brigade o.first o.third) a1.0 in
+    ap (λ y. all_of (fit_tests p y)) (args_of_read i o x t) ∙ parts_fit p (args_in k o x t) (record {
+      first = one_fits p k.first o.first x t h.first d3.0 (λ e. w (rw (text_there k.first o.first h.first e) refl));
+      second = one_fits p k.second o.second x t h.second d3.1 (λ e. w (second_text (is_text_operand o.first) (is_text_operand o.second) (is_text_operand o.third) (is_text_operand o.fourth) (text_there k.second o.second h.second e)));
+      third = one_fits p k.third o.third x t h.third d2.1 (λ e. w (third_text (is_text_operand o.first || is_text_operand o.second) (is_text_operand o.third) (is_text_operand o.fourth) (text_there k.third o.third h.third e)));
+      fourth = one_fits p k.fourth o.fourth x t h.fourth d1.1 (λ e. w (or_last (is_text_operand o.first || is_text_operand o.second || is_text_operand o.third) (is_text_operand o.fourth) (text_there k.fourth o.fourth h.fourth e)));
+      one_two = pair_fits k.first k.second o.first o.second x t h.first h.second a2.0;
+      one_three = pair_fits k.first k.third o.first o.third x t h.first h.third a2.1;
+      two_three = pair_fits k.second k.third o.second o.third x t h.second h.third a1.1;
+    })
+  where
+    or_last : (a b : Bool) → b ≡ true → (a || b) ≡ true
+    or_last true b e = refl
+    or_last false b e = e
+
+    third_text : (a b c : Bool) → b ≡ true → (a || b || c) ≡ true
+    third_text a b c e = rw (or_last a b e) refl
+
+    second_text : (a b c d : Bool) → b ≡ true → (a || b || c || d) ≡ true
+    second_text a b c d e = rw (or_last a b e) refl
 
 number_low : (b : Bool) (x n : ℕ) → IfSome (cond b (Some x) None) (λ t. t < n) → b ≡ true → x < n
 number_low true x n h e = h
@@ -306,7 +279,7 @@ part_of p q h before code after rest whole r all numbers =
             let s = at (length after - 1) i low high e in
             let k : length after - 1 - length code ≡ n - 1 = omega arith in
             let same : last.0 ≡ s.0 = let a : Some last.0 ≡ Some s.0 = sym last.1 ∙ ap (slice_get h.steps) (sym k) ∙ s.1 in cc a in
-            ap goes_on (sym s.2) ∙ same_end s.0.op s.0.operands s.0.text (length code + target_place h.labels (label_of s.0.operands)) ∙ ap (λ (x : Step). op_goes_on x.op) (sym same) ∙ last.2;
+            ap goes_on (sym s.2) ∙ sym (ap op_goes_on (same_op s.0.op s.0.operands s.0.text (length code + target_place h.labels (label_of s.0.operands)))) ∙ ap (λ (x : Step). op_goes_on x.op) (sym same) ∙ last.2;
         inside = λ pc i low high e.
             let s = at pc i low high e in
             let fine = item_of (IsStep p.pools p.brigades q) h.steps (pc - length code) s.0 all s.1 in

@@ -15,10 +15,9 @@ use Rattle.module_lang.specs.declared.draft.Label.{Label}
 use Rattle.module_lang.specs.declared.draft.Part.{Part}
 use Rattle.module_lang.specs.declared.draft.Step.{Step}
 use Rattle.module_lang.specs.declared.instr.Instr.{Instr}
-use Rattle.module_lang.specs.declared.instr.Instr.TheVariants as instr
-use Rattle.module_lang.specs.declared.instr.VarRef.TheVariants as variable
 use Rattle.module_lang.specs.declared.operand.Operands.{Operands}
 use Rattle.module_lang.specs.declared.word.Op.{Op}
+use Rattle.module_lang.proofs.ArgLaws.{instr_again, label_target}
 use Rattle.module_lang.proofs.BodyLaws.{AreRight, Matches, bare, bares, steps-length, written}
 use Rattle.module_lang.proofs.LabelLaws.{AreNamed, Marked, Named, labels_right, marked_from, names_of, place_again}
 use Rattle.module_lang.proofs.SliceLaws.{front_item, back_item}
@@ -43,30 +42,21 @@ unfolding place_of
 found_again n labels xs name t h l = let z = place_again None name t n labels xs h.marked h.named h.distinct l in rw z.2 (sym z.1)
 
 step_kept : (n : ℕ) (labels : List Label) (xs : List (List ℕ × ℕ)) (i : Instr) (name : List ℕ) (k : ℕ) → AreHandled n labels xs → IfSome (target i) (λ t. IsLabel name t xs) → is_lost labels (operands_of i (padded name) k) ≡ false
-step_kept n labels xs (instr.Pass b l) name k h a = lost_none n labels xs name l h a
-step_kept n labels xs (instr.JEmpty b l) name k h a = lost_none n labels xs name l h a
-step_kept n labels xs (instr.Put x l) name k h a = lost_none n labels xs name l h a
-step_kept n labels xs (instr.JLt m x l) name k h a = lost_none n labels xs name l h a
-step_kept n labels xs (instr.JEq m x l) name k h a = lost_none n labels xs name l h a
-step_kept n labels xs (instr.JNull (variable.Pool q) l) name k h a = lost_none n labels xs name l h a
-step_kept n labels xs (instr.JNull (variable.Brigade b) l) name k h a = lost_none n labels xs name l h a
-step_kept n labels xs (instr.JSent l) name k h a = lost_none n labels xs name l h a
-step_kept n labels xs (instr.Jump l) name k h a = lost_none n labels xs name l h a
-step_kept n labels xs _ name k h a = refl
+step_kept n labels xs i name k h a = ap (is_missing labels) (label_target i (padded name) k) ∙ by_target (target i) a
+  where
+    by_target : (o : Option ℕ) → IfSome o (λ t. IsLabel name t xs) → is_missing labels (option_map (λ _. padded name) o) ≡ false
+    by_target None h = refl
+    by_target (Some t) l = lost_none n labels xs name t h l
 
 instr_made : (n : ℕ) (labels : List Label) (xs : List (List ℕ × ℕ)) (i : Instr) (name : List ℕ) (k x : ℕ) → AreHandled n labels xs → IfSome (target i) (λ t. IsLabel name t xs) → IfSome (text_of_instr i) (λ t. x ≡ t) → op_instr (op_of i) (operands_of i (padded name) k) x (n + target_place labels (label_of (operands_of i (padded name) k))) ≡ i
-instr_made n labels xs (instr.Label q t) name k x h a w = ap (instr.Label q) w
-instr_made n labels xs (instr.Unlabel q t) name k x h a w = ap (instr.Unlabel q) w
-instr_made n labels xs (instr.Pass b l) name k x h a w = ap (instr.Pass b) (found_again n labels xs name l h a)
-instr_made n labels xs (instr.JEmpty b l) name k x h a w = ap (instr.JEmpty b) (found_again n labels xs name l h a)
-instr_made n labels xs (instr.Put v l) name k x h a w = ap (instr.Put v) (found_again n labels xs name l h a)
-instr_made n labels xs (instr.JLt m v l) name k x h a w = ap (instr.JLt m v) (found_again n labels xs name l h a)
-instr_made n labels xs (instr.JEq m v l) name k x h a w = ap (instr.JEq m v) (found_again n labels xs name l h a)
-instr_made n labels xs (instr.JNull (variable.Pool q) l) name k x h a w = ap (instr.JNull (variable.Pool q)) (found_again n labels xs name l h a)
-instr_made n labels xs (instr.JNull (variable.Brigade b) l) name k x h a w = ap (instr.JNull (variable.Brigade b)) (found_again n labels xs name l h a)
-instr_made n labels xs (instr.JSent l) name k x h a w = ap instr.JSent (found_again n labels xs name l h a)
-instr_made n labels xs (instr.Jump l) name k x h a w = ap instr.Jump (found_again n labels xs name l h a)
-instr_made n labels xs _ name k x h a w = refl
+instr_made n labels xs i name k x h a w = instr_again i (padded name) k x _ (by_target (target i) (label_target i (padded name) k) a) w
+  where
+    o : Operands
+    o = operands_of i (padded name) k
+
+    by_target : (y : Option ℕ) → label_of o ≡ option_map (λ _. padded name) y → IfSome y (λ t. IsLabel name t xs) → IfSome y (λ t. n + target_place labels (label_of o) ≡ t)
+    by_target None e l = tt
+    by_target (Some t) e l = ap (λ z. n + target_place labels z) e ∙ found_again n labels xs name t h l
 
 number_of : (b : Bool) (x : ℕ) (o : Option ℕ) → cond b (Some x) None ≡ o → IfSome o (λ t. x ≡ t)
 number_of b x None e = tt
@@ -99,10 +89,6 @@ bares-get p (step j x w ∷ body) zero i e =
     ((o, text_of_instr j), ap (λ y. Some (op_of y, o, text_of_instr j)) s)
 bares-get p (step j x w ∷ body) (suc k) i e = bares-get p body k i e
 
-same_goes : (i : Instr) → op_goes_on (op_of i) ≡ goes_on i
-same_goes (instr.PCreate q) = refl
-same_goes _ = refl
-
 bare_op : (o : Option Step) (i : Op) (os : Operands) (t : Option ℕ) → option_map bare o ≡ Some (i, os, t) → last_goes_on o ≡ op_goes_on i
 bare_op None i os t e = absurd (cc e)
 bare_op (Some s) i os t e = let first : bare s ≡ (i, os, t) = cc e in ap (λ (z : Op × Operands × Option ℕ). op_goes_on z.0) first
@@ -112,7 +98,7 @@ ends_again p body h i m e g =
     let size = steps-length p body h m in
     let b = bares-get p body (length (instrs body) - 1) i e in
     let at : option_map bare (slice_get h.steps (length h.steps - 1)) ≡ Some (op_of i, b.0.0, b.0.1) = sym (slice_get-map bare h.steps (length h.steps - 1)) ∙ ap (λ x. slice_get x (length h.steps - 1)) m.steps ∙ ap (λ n. slice_get (bares p body) (n - 1)) size ∙ b.1 in
-    bare_op (slice_get h.steps (length h.steps - 1)) (op_of i) b.0.0 b.0.1 at ∙ same_goes i ∙ g
+    bare_op (slice_get h.steps (length h.steps - 1)) (op_of i) b.0.0 b.0.1 at ∙ g
 
 -- a handler that is spelled is resolved as its instructions
 pub resolve_again : (p : Program) (before : List Label) (bs : List (List ℕ × ℕ)) (h : Handler) (code : List Instr) (body : List CodeLine) → Named before bs → AreNamed bs → Matches p body h → IsCode p (length code) body → AreDistinct (bs ++ labels_from (length code) body) → ends_open h.steps ≡ false → handler_resolved before h code ≡ Ok (code ++ instrs body)

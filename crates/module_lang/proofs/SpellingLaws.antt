@@ -13,7 +13,7 @@ use Rattle.module_lang.specs.Operands.{numbered, operand_in, operand_at, after_o
 use Rattle.module_lang.specs.Args.{args, is_of, names_target, names_text, op_of, or_else}
 use Rattle.module_lang.specs.Spelling.{number_operand, operand_of, operands_of}
 use Rattle.module_lang.specs.Texts.{Spells, arg_texts, place_text, own_text, brigade_text, number_text, status_text, value_text, operands_text, line_text, operand_texts, instr_word, is_skipped}
-use Rattle.module_lang.specs.Words.{word_text, word_at, word_kinds, op_kinds, three_operands, two_operands, one_operand, no_operand}
+use Rattle.module_lang.specs.Words.{word_text, word_at, word_kinds, op_kinds, two_operands, one_operand, no_operand}
 use Rattle.module_lang.specs.declared.arg.Arg.{Arg}
 use Rattle.module_lang.specs.declared.arg.Arg.TheVariants as arg
 use Rattle.module_lang.specs.declared.arg.Args.{Args}
