@@ -14,7 +14,7 @@ use Rattle.module_lang.specs.Operands.{of_kind, operand_place}
 use Rattle.module_lang.specs.Program.{text_of_instr}
 use Rattle.module_lang.specs.Quoted.{quoted, text_of}
 use Rattle.module_lang.specs.Spelling.{operands_of, variable_operand}
-use Rattle.module_lang.specs.Words.{word_kinds, word_text, op_kinds, op_text}
+use Rattle.module_lang.specs.Words.{word_kinds, word_text, op_kinds}
 use Rattle.module_lang.specs.declared.draft.Draft.{Draft}
 use Rattle.module_lang.specs.declared.draft.Label.{Label}
 use Rattle.module_lang.specs.declared.draft.Part.{Part}
@@ -152,37 +152,17 @@ more_declared n (pool.Own i) h = let low = ltb-true i n h in lt-ltb i (n + 1) (o
 
 -- the variable that is declared next, where a kind allows eight
 next_pool : (n : ℕ) (x : Operand) → of_kind kind.Pool x ≡ true → is_next n x ≡ true → n < 8
-next_pool n operand.Nothing k h = absurd (cc k)
-next_pool n operand.One k h = absurd (cc k)
-next_pool n (operand.Place pool.Conn) k h = absurd (cc k)
-next_pool n (operand.Place pool.Req) k h = absurd (cc k)
 next_pool n (operand.Place (pool.Own i)) k h = let same = eqb-true i n h in let low = ltb-true i 8 k in omega arith
-next_pool n (operand.Brigade b) k h = absurd (cc k)
-next_pool n (operand.Ending e) k h = absurd (cc k)
-next_pool n (operand.Label l) k h = absurd (cc k)
-next_pool n (operand.Text t) k h = absurd (cc k)
-next_pool n (operand.Value v) k h = absurd (cc k)
+next_pool n _ k h = absurd (cc k)
 
 next_brigade : (n : ℕ) (x : Operand) → of_kind kind.Brigade x ≡ true → is_next n x ≡ true → n < 8
-next_brigade n operand.Nothing k h = absurd (cc k)
-next_brigade n operand.One k h = absurd (cc k)
-next_brigade n (operand.Place p) k h = absurd (cc k)
 next_brigade n (operand.Brigade i) k h = let same = eqb-true i n h in let low = ltb-true i 8 k in omega arith
-next_brigade n (operand.Ending e) k h = absurd (cc k)
-next_brigade n (operand.Label l) k h = absurd (cc k)
-next_brigade n (operand.Text t) k h = absurd (cc k)
-next_brigade n (operand.Value v) k h = absurd (cc k)
+next_brigade n _ k h = absurd (cc k)
 
 -- the second operand of a declaration is a declared pool
 home_declared : (n : ℕ) (x : Operand) → is_declared n 0 x ≡ true → place_is_declared n (operand_place x) ≡ true
-home_declared n operand.Nothing h = refl
-home_declared n operand.One h = refl
 home_declared n (operand.Place p) h = h
-home_declared n (operand.Brigade b) h = refl
-home_declared n (operand.Ending e) h = refl
-home_declared n (operand.Label l) h = refl
-home_declared n (operand.Text t) h = refl
-home_declared n (operand.Value v) h = refl
+home_declared n _ h = refl
 
 pub record IsDeclaration (count pools : ℕ) (o : Operands) : Type 0 where
   pub next : is_next count o.first ≡ true
@@ -367,32 +347,12 @@ variable_bare (variable.Brigade b) = refl
 
 -- the operands of an instruction have a text where the instruction has
 pub has_text_of : (i : Instr) (n : List ℕ) (k : ℕ) → has_text (operands_of i n k) ≡ is_some (text_of_instr i)
-has_text_of (instr.PCreate q) n k = refl
-has_text_of (instr.PClear q) n k = refl
-has_text_of (instr.PDestroy q) n k = refl
-has_text_of (instr.Label q t) n k = refl
-has_text_of (instr.Unlabel q t) n k = refl
-has_text_of (instr.BCreate o) n k = refl
-has_text_of (instr.BClean b) n k = refl
-has_text_of (instr.BConcat a b) n k = refl
-has_text_of (instr.BSave o b) n k = refl
-has_text_of (instr.Pass b l) n k = refl
-has_text_of (instr.JEmpty b l) n k = refl
-has_text_of (instr.Put x l) n k = refl
-has_text_of instr.ClearBuf n k = refl
-has_text_of (instr.Set m x) n k = refl
-has_text_of (instr.Add m x) n k = refl
-has_text_of (instr.Sub m x) n k = refl
-has_text_of (instr.JLt m x l) n k = refl
-has_text_of (instr.JEq m x l) n k = refl
 has_text_of (instr.JNull v l) n k = rw (variable_bare v) refl
-has_text_of (instr.JSent l) n k = refl
-has_text_of (instr.Jump l) n k = refl
-has_text_of (instr.Ret s) n k = refl
+has_text_of _ n k = refl
 
 -- an instruction has a text in its line, or none
 pub text_has : (i : Op) (d : Draft) (s : List ℕ) (o : Operands) → Item d s (word.Op i) o → (has_text o ≡ false) ⊎ ((has_text o ≡ true) × TextFound s o.second)
-unfolding word_kinds op_kinds word_text op_text
+unfolding word_kinds word_text
 text_has op.PCreate d s o h = inl (ap has_text (shape op.PCreate o 0 0 (kinds_read (op_kinds op.PCreate) h.rest o h.read)).same)
 text_has op.PClear d s o h = inl (ap has_text (shape op.PClear o 0 0 (kinds_read (op_kinds op.PClear) h.rest o h.read)).same)
 text_has op.PDestroy d s o h = inl (ap has_text (shape op.PDestroy o 0 0 (kinds_read (op_kinds op.PDestroy) h.rest o h.read)).same)

@@ -14,7 +14,7 @@ use Rattle.module_lang.specs.Names.{is_name}
 use Rattle.module_lang.specs.Program.{target, text_of_instr}
 use Rattle.module_lang.specs.Spelling.{number_operand, operands_of, own_pool}
 use Rattle.module_lang.specs.Texts.{step, code_text, operands_text, brigade_text}
-use Rattle.module_lang.specs.Words.{word_text, word_kinds, op_kinds, op_text}
+use Rattle.module_lang.specs.Words.{word_text, word_kinds, op_kinds}
 use Rattle.module_lang.specs.declared.draft.Draft.{Draft}
 use Rattle.module_lang.specs.declared.operand.Operand.{Operand}
 use Rattle.module_lang.specs.declared.operand.Operand.TheVariants as operand
@@ -77,7 +77,7 @@ texted_by : (word : List ℕ) (rest s : List ℕ) (o : Operands) (x : TextSpelle
 texted_by word rest s o x u e b bytes q = (x.text, rw (b, quote_found word rest bytes o x u (q ∙ ap from_quote e)) refl, x.right)
 
 pub op_spelled : (d : Draft) (s : List ℕ) (i : Op) (o : Operands) (x : ℕ) → Item d s (word.Op i) o → OpSpelled i o x s
-unfolding word_kinds op_kinds word_text op_text
+unfolding word_kinds word_text
 op_spelled d s op.PCreate o x h =
     let k = kinds_read (op_kinds op.PCreate) h.rest o h.read in
     let y = one_taken kind.Pool h.rest o refl refl h.read in
