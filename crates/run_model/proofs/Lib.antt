@@ -1,4 +1,5 @@
 pub mod Updates
+pub mod RunOrderLaws
 pub mod Examples
 pub mod Sums
 pub mod Operands

@@ -2,7 +2,6 @@ pub use Rattle.module_lang.specs.Program
 pub mod Indexed
 pub mod Pools
 pub mod RunOrder
-pub mod RunOrderLaws
 pub mod Payloads
 pub mod SamePayload
 pub mod Buckets
