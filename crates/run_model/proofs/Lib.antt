@@ -18,6 +18,7 @@ pub mod Brought
 pub mod SoundRuns
 pub mod Unchanged
 pub mod Refusals
+pub mod RefusalOrder
 pub mod Orderly
 pub mod Cuts
 pub mod Filled

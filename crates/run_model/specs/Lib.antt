@@ -16,4 +16,5 @@ pub mod Runs
 pub mod Sound
 pub mod Examples
 pub mod Laws
+pub mod RefusalOrder
 pub mod Ranges
