@@ -1,4 +1,5 @@
 pub mod Updates
+pub mod RunOrderLaws
 pub mod Examples
 pub mod Sums
 pub mod Operands
@@ -17,6 +18,7 @@ pub mod Brought
 pub mod SoundRuns
 pub mod Unchanged
 pub mod Refusals
+pub mod RefusalOrder
 pub mod Orderly
 pub mod Cuts
 pub mod Filled

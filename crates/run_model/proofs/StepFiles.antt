@@ -31,14 +31,15 @@ use Rattle.run_model.specs.State.{Configuration, items_of, set_pool, with_pools,
 use Rattle.run_model.specs.Faults.{usable_fault, homes_fault}
 use Rattle.run_model.specs.Steps.{do_create, do_clean, do_concat, do_pass, do_return, do_put, do_clearbuf, cleaned, with_items, handed_over, returned_var, pool_cleared, pool_destroyed, files_let_go, label_registered, label_killed, text_of, value_of, is_above, aside_named, file_of, new_ref, all_referred, saved_into, made_on}
 use Rattle.run_model.specs.Connection.{has_range}
-use Rattle.run_model.specs.Sound.{home_fits, content_fits, is_proper, SoundPools, SoundBuckets}
+use Rattle.run_model.specs.Sound.{SoundPools, SoundBuckets}
+use Rattle.run_model.specs.Cutting.{FitsKind, LivesAs}
 use Rattle.run_model.specs.Laws.{refers, IsHeld, SoundFiles, StepKeepsFiles}
 use Rattle.run_model.proofs.Updates.{upd_either}
 use Rattle.run_model.proofs.PoolMap.{cleared_apart, cleared_payloads, cleared_next, destroyed_apart, destroyed_under, destroyed_next}
 use Rattle.run_model.proofs.NamedPools.{on_named, made_under_named, own_named, with_buffer, put_keeps}
 use Rattle.run_model.proofs.PoolsKept.{req_apart}
 use Rattle.run_model.proofs.Marks.{first_none, second_none}
-use Rattle.run_model.proofs.Kept.{first, files_go}
+use Rattle.run_model.proofs.Kept.{files_go}
 use Rattle.run_model.proofs.References.{one_of, or_left, or_right, refers_given, referred_at, created_refers, created_back, registered_refers, registered_back, all_grow, all_there, all_back, killed_refers, Emptied, emptied_refers, emptied_back}
 
 -- Lists and variables.
@@ -196,14 +197,14 @@ no_ref false file e = cc
 
 -- what is true of each file that has a reference is true of the file of a bucket that takes a further one
 ref_open : (ps : Pools Payload) (target file : ℕ) (Q : ℕ → Type 0) → ((p file : ℕ) → refers ps p file ≡ true → Q file)
-    → (name : ℕ) (k : Kind) (c : Content) (h : Home) → home_fits k h ≡ true → is_ended h ≡ false → IsHeld ps (record { name = name; bucket = record { kind = k; content = c; home = h } })
+    → (name : ℕ) (k : Kind) (c : Content) (h : Home) → LivesAs k h → is_ended h ≡ false → IsHeld ps (record { name = name; bucket = record { kind = k; content = c; home = h } })
     → cond (is_above ps target h) None (file_of k c) ≡ Some file → Q file
 ref_open ps target file Q lasts name kind.File (content.Range f start len) (home.Pool p) fit live held ref = by_above (is_above ps target (home.Pool p)) ref where
   by_above : (b : Bool) → cond b None (Some f) ≡ Some file → Q file
   by_above true e = absurd (cc)
   by_above false e = let same : f ≡ file = cc in subst Q same (lasts p f (held f start len p refl refl))
-ref_open ps target file Q lasts name kind.File (content.Range f start len) home.Free fit live held ref = absurd (cc)
-ref_open ps target file Q lasts name kind.File (content.Range f start len) (home.Call n) fit live held ref = absurd (cc)
+ref_open ps target file Q lasts name kind.File (content.Range f start len) home.Free fit live held ref = absurd fit
+ref_open ps target file Q lasts name kind.File (content.Range f start len) (home.Call n) fit live held ref = absurd fit
 ref_open ps target file Q lasts name kind.File (content.Range f start len) home.Ended fit live held ref = absurd (cc)
 ref_open ps target file Q lasts name kind.File (content.Bytes bs) h fit live held ref = absurd (no_ref (is_above ps target h) file ref)
 ref_open ps target file Q lasts name kind.File content.Nothing h fit live held ref = absurd (no_ref (is_above ps target h) file ref)
@@ -232,23 +233,19 @@ tail_any : (o : Option ℕ) (rest : List ℕ) (file : ℕ) → list_any (λ g. g
 tail_any None rest file h = h
 tail_any (Some g) rest file h = or_right (g == file) (list_any (λ g. g == file) rest) h
 
-pub fits_home : (x : NamedBucket) → is_proper x ≡ true → home_fits x.bucket.kind x.bucket.home ≡ true
-unfolding is_proper
-fits_home x h = first (home_fits x.bucket.kind x.bucket.home) (content_fits x.bucket.kind x.bucket.content) h
-
 pub neither : (a b : Bool) → (a || b) ≡ false → (a ≡ false) × (b ≡ false)
 neither true b h = absurd (cc)
 neither false b h = (refl, h)
 
 pub refs_open : (ps : Pools Payload) (target file : ℕ) (Q : ℕ → Type 0) → ((p file : ℕ) → refers ps p file ≡ true → Q file)
-    → (xs : List NamedBucket) → All (λ x. is_proper x ≡ true) xs → list_any is_dead xs ≡ false → HeldList ps xs
+    → (xs : List NamedBucket) → All (λ x. FitsKind x.bucket) xs → list_any is_dead xs ≡ false → HeldList ps xs
     → list_any (λ g. g == file) (filter_map (new_ref ps target) xs) ≡ true → Q file
 refs_open ps target file Q lasts [] proper live held h = absurd (cc)
 refs_open ps target file Q lasts (x ∷ xs) proper live held h =
     let alive = neither (is_dead x) (list_any is_dead xs) live in
     elim (any_cons (new_ref ps target x) (filter_map (new_ref ps target) xs) file h) [
-      | inl here ↦ ref_open ps target file Q lasts x.name x.bucket.kind x.bucket.content x.bucket.home (fits_home x (All-head (λ x. is_proper x ≡ true) x xs proper)) alive.0 (All-head (IsHeld ps) x xs held) here
-      | inr there ↦ refs_open ps target file Q lasts xs (All-tail (λ x. is_proper x ≡ true) x xs proper) alive.1 (All-tail (IsHeld ps) x xs held) there
+      | inl here ↦ ref_open ps target file Q lasts x.name x.bucket.kind x.bucket.content x.bucket.home (All-head (λ x. FitsKind x.bucket) x xs proper).lives alive.0 (All-head (IsHeld ps) x xs held) here
+      | inr there ↦ refs_open ps target file Q lasts xs (All-tail (λ x. FitsKind x.bucket) x xs proper) alive.1 (All-tail (IsHeld ps) x xs held) there
     ]
 
 -- a bucket that is set aside is held, where the file that it asks for has a reference in the target

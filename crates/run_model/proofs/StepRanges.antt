@@ -27,14 +27,15 @@ use Rattle.run_model.specs.State.{Configuration, items_of, set_pool, with_pools,
 use Rattle.run_model.specs.Faults.{usable_fault, homes_fault}
 use Rattle.run_model.specs.Steps.{do_create, do_clean, do_concat, do_pass, do_return, cleaned, with_items, handed_over, returned_var, pool_cleared, pool_destroyed, files_let_go, label_registered, label_killed, text_of, aside_named, new_ref, saved_into, made_on}
 use Rattle.run_model.specs.Connection.{has_range}
-use Rattle.run_model.specs.Sound.{home_fits, content_fits, is_proper, SoundPools, SoundBuckets}
+use Rattle.run_model.specs.Sound.{SoundPools, SoundBuckets}
+use Rattle.run_model.specs.Cutting.{FitsKind, LivesAs, OpenFile, form_of, form_of_kind}
 use Rattle.run_model.specs.Laws.{refers, IsHeld, KeptAside, SoundFiles}
 use Rattle.run_model.specs.Ranges.{LiesInFile, HasLength, SoundRanges, StepKeepsRanges}
 use Rattle.run_model.proofs.NamedPools.{on_named, made_under_named, with_buffer, put_keeps}
 use Rattle.run_model.proofs.Marks.{first_none, second_none}
 use Rattle.run_model.proofs.Kept.{aside_lasts, files_go}
 use Rattle.run_model.proofs.References.{or_left, or_right, refers_given, referred_at, created_back, registered_back, all_back, killed_refers, Emptied, emptied_back}
-use Rattle.run_model.proofs.StepFiles.{left_home, spared_home, written, cleared_emptied, destroyed_emptied, fits_home, neither, refs_open, no_dead, step_files}
+use Rattle.run_model.proofs.StepFiles.{left_home, spared_home, written, cleared_emptied, destroyed_emptied, neither, refs_open, no_dead, step_files}
 
 -- Lists and variables.
 
@@ -151,41 +152,28 @@ unlabelled_ranges files text n r s =
 -- Setting aside.
 
 -- a range whose home has not ended has a pool for its home
-homed : (k : Kind) (c : Content) (h : Home) (file start len : ℕ) → home_fits k h ≡ true → content_fits k c ≡ true → is_ended h ≡ false → c ≡ content.Range file start len
+homed : (k : Kind) (c : Content) (h : Home) (file start len : ℕ) → LivesAs k h → form_of c ≡ form_of_kind k → is_ended h ≡ false → c ≡ content.Range file start len
     → (p : ℕ) × (h ≡ home.Pool p)
-homed kind.File c home.Free file start len fit holds live e = absurd (cc)
-homed kind.File c (home.Call n) file start len fit holds live e = absurd (cc)
+homed kind.File c home.Free file start len fit holds live e = absurd fit
+homed kind.File c (home.Call n) file start len fit holds live e = absurd fit
 homed kind.File c (home.Pool n) file start len fit holds live e = (n, refl)
 homed kind.File c home.Ended file start len fit holds live e = absurd (cc)
-homed kind.Heap c h file start len fit holds live e = absurd (let no : false ≡ true = sym (ap (content_fits kind.Heap) e) ∙ holds in cc)
-homed kind.Transient c h file start len fit holds live e = absurd (let no : false ≡ true = sym (ap (content_fits kind.Transient) e) ∙ holds in cc)
-homed kind.Immortal c h file start len fit holds live e = absurd (let no : false ≡ true = sym (ap (content_fits kind.Immortal) e) ∙ holds in cc)
-homed (kind.Pool p) c h file start len fit holds live e = absurd (let no : false ≡ true = sym (ap (content_fits (kind.Pool p)) e) ∙ holds in cc)
-homed kind.Flush c h file start len fit holds live e = absurd (let no : false ≡ true = sym (ap (content_fits kind.Flush) e) ∙ holds in cc)
-homed kind.Eos c h file start len fit holds live e = absurd (let no : false ≡ true = sym (ap (content_fits kind.Eos) e) ∙ holds in cc)
+homed k c h file start len fit holds live e = absurd (let no : OpenFile ≡ form_of_kind k = sym (ap form_of e) ∙ holds in cc)
 
-second : (a b : Bool) → (a && b) ≡ true → b ≡ true
-second true b h = h
-second false b h = absurd (cc)
-
-fits_content : (x : NamedBucket) → is_proper x ≡ true → content_fits x.bucket.kind x.bucket.content ≡ true
-unfolding is_proper
-fits_content x h = second (home_fits x.bucket.kind x.bucket.home) (content_fits x.bucket.kind x.bucket.content) h
-
-aside_lies : (fs : Files) (ps : Pools Payload) (target : ℕ) (x : NamedBucket) → is_proper x ≡ true → is_dead x ≡ false → LiesInFile fs x → LiesInFile fs (aside_named ps target x)
+aside_lies : (fs : Files) (ps : Pools Payload) (target : ℕ) (x : NamedBucket) → FitsKind x.bucket → is_dead x ≡ false → LiesInFile fs x → LiesInFile fs (aside_named ps target x)
 aside_lies fs ps target x proper live lies file start len p e at =
     let kept : KeptAside ps target x (aside_named ps target x) = aside_lasts ps target x proper live in
     let was : x.bucket.content ≡ content.Range file start len = sym kept.content ∙ e in
-    let old = homed x.bucket.kind x.bucket.content x.bucket.home file start len (fits_home x proper) (fits_content x proper) live was in
+    let old = homed x.bucket.kind x.bucket.content x.bucket.home file start len proper.lives proper.holds live was in
     lies file start len old.0 was old.1
 
-aside_lie : (fs : Files) (ps : Pools Payload) (target : ℕ) (xs : List NamedBucket) → All (λ x. is_proper x ≡ true) xs → list_any is_dead xs ≡ false → LieList fs xs → LieList fs (map (aside_named ps target) xs)
+aside_lie : (fs : Files) (ps : Pools Payload) (target : ℕ) (xs : List NamedBucket) → All (λ x. FitsKind x.bucket) xs → list_any is_dead xs ≡ false → LieList fs xs → LieList fs (map (aside_named ps target) xs)
 aside_lie fs ps target [] proper live h = none_lie fs
 aside_lie fs ps target (x ∷ xs) proper live h =
     let alive = neither (is_dead x) (list_any is_dead xs) live in
     All-cons (LiesInFile fs) (aside_named ps target x) (map (aside_named ps target) xs)
-    (aside_lies fs ps target x (All-head (λ x. is_proper x ≡ true) x xs proper) alive.0 (All-head (LiesInFile fs) x xs h))
-    (aside_lie fs ps target xs (All-tail (λ x. is_proper x ≡ true) x xs proper) alive.1 (All-tail (LiesInFile fs) x xs h))
+    (aside_lies fs ps target x (All-head (λ x. FitsKind x.bucket) x xs proper) alive.0 (All-head (LiesInFile fs) x xs h))
+    (aside_lie fs ps target xs (All-tail (λ x. FitsKind x.bucket) x xs proper) alive.1 (All-tail (LiesInFile fs) x xs h))
 
 save_ranges : (files : List (ℕ × ℕ)) (o b target : ℕ) (r : Configuration) → SoundBuckets r → list_any is_dead (items_of (r.instance.brigades b)) ≡ false → SoundFiles files r → SoundRanges files r
     → SoundRanges files (saved_into o b target r)

@@ -25,13 +25,13 @@ use Rattle.run_model.specs.declared.event.Stepped.{Stepped}
 use Rattle.run_model.specs.declared.event.Stepped.TheVariants as stepped
 use Rattle.run_model.specs.Buckets.{has_eos, data_after_eos, is_dead}
 use Rattle.run_model.specs.Files.{Files, all_taken, range_taken, parts_of, is_referred}
-use Rattle.run_model.specs.Cutting.{wanted, read_of}
+use Rattle.run_model.specs.Cutting.{FitsKind, wanted, read_of}
 use Rattle.run_model.specs.State.{Configuration, Out, fresh_call, items_of}
 use Rattle.run_model.specs.Faults.{WUsable, brigade_fault, fault_want, fault, send_fault, or_else}
 use Rattle.run_model.specs.Steps.{Choice, step, step_at_end, current, aside_named, delivered, lacks_names, names_of, pool_cleared, pool_destroyed}
 use Rattle.run_model.specs.Connection.{Connection, opened, bucket_of, named_from, data_behind_eos, has_range, brings, breaks, steps}
 use Rattle.run_model.specs.Runs.{Answer, Refused, Step, World, Before, There, Closed, happens, IsDue, step_of, IsRun, GoesOn, EndsRun}
-use Rattle.run_model.specs.Sound.{SoundNames, SoundBuckets, SoundPools, Sound, brigade_name, brigade_pool, is_range, is_proper}
+use Rattle.run_model.specs.Sound.{SoundNames, SoundBuckets, SoundPools, Sound, brigade_name, brigade_pool}
 use Rattle.run_model.specs.declared.bucket.Kind.TheVariants as kind
 use Rattle.run_model.specs.declared.bucket.Home.{Home}
 use Rattle.run_model.specs.declared.bucket.Home.TheVariants as home
@@ -442,7 +442,7 @@ pub record KeptAside (ps : Pools Payload) (target : ℕ) (old new : NamedBucket)
   pub content : new.bucket.content ≡ old.bucket.content
 
 abbrev pub AsideLasts : Type 0
-AsideLasts = (ps : Pools Payload) (target : ℕ) (x : NamedBucket) → is_proper x ≡ true → is_dead x ≡ false → KeptAside ps target x (aside_named ps target x)
+AsideLasts = (ps : Pools Payload) (target : ℕ) (x : NamedBucket) → FitsKind x.bucket → is_dead x ≡ false → KeptAside ps target x (aside_named ps target x)
 
 -- Where no read fails, all bytes of a range are taken from the file.
 abbrev pub ReadsGiveTheFile : Type 0
@@ -462,6 +462,11 @@ bytes_of_rest file (Some b) = bytes_in file b.content
 -- the bytes that a read takes from the file of a bucket
 abbrev pub bytes_read : List ℕ → Bucket → List ℕ
 bytes_read file b = take (wanted b.content) (bytes_in file b.content)
+
+abbrev pub is_range : Content → Bool
+is_range (content.Bytes bs) = false
+is_range (content.Range file start len) = true
+is_range content.Nothing = false
 
 -- A read leaves the bucket in memory, and drops no byte: its bytes and those of the rest are what it stood for.
 abbrev pub ReadsDropNothing : Type 0

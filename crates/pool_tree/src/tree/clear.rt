@@ -2,8 +2,7 @@
 
 ghost use Rattle.std.specs.Prelude.{◌≡◌, ◌≢◌, ◌≤◌, IsTrue, IfOk, OnOk, OnErr, reverse, length, vec_capacity, [], ◌∷◌};
 ghost use Rattle.run_model.specs.Pools.{is_live, cleared, destroyed};
-ghost use Rattle.run_model.specs.RunOrder.{children, run_order, IsPoolMap};
-ghost use Rattle.run_model.specs.RunOrderLaws.{order_under};
+ghost use Rattle.run_model.specs.RunOrder.{children, run_order, IsPoolMap, order_under};
 ghost use Rattle.pool_tree.specs.Room.{IsRoomFor};
 ghost use Rattle.pool_tree.specs.Tree.{map_of};
 

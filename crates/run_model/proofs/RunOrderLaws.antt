@@ -1,4 +1,4 @@
--- Laws of the run order: each pool under the cleared one stands in it exactly once.
+-- The run order: each pool under the cleared one stands in it exactly once, and a greater depth changes nothing.
 use Rattle.std.specs.Prelude.{◌≡◌, ℕ, zero, suc, ◌+◌, ◌<◌, ◌≤◌, Bool, true, false, nat_lt, ◌==◌, ◌&&◌, not, if◌then◌else◌, List, [], ◌∷◌, ◌++◌, map, reverse, filter, refl}
 use Rattle.std.specs.List.{flat_map}
 use Rattle.std.proofs.Common.{sym, ◌∙◌, ap, subst, inl, inr, arith}
@@ -7,12 +7,7 @@ use Rattle.std.proofs.lemmas.List.Concat.{flat_map-append}
 use Rattle.std.proofs.lemmas.List.Elements.{filter-append}
 use Rattle.std.proofs.lemmas.Bool.{cases_Bool, eqb-true, eq-eqb, ne_eqb, or_cases, or_left, or_right, cases_eq, false_from_ne_true, both_ways, lt-ltb, le-ltb, cases_lt}
 use Rattle.run_model.specs.Pools.{Pools, is_live, is_under, is_in, is_empty}
-use Rattle.run_model.specs.RunOrder.{leads_to, is_child, children_below, children, own_run, runs_within, run_order, IsPoolMap}
-
--- the pools of the run order
-unfoldable pub order_within : {T : Type 0} → ℕ → Pools T → ℕ → List ℕ
-order_within zero ps p = []
-order_within (suc depth) ps p = flat_map (order_within depth ps) (children ps p) ++ p ∷ []
+use Rattle.run_model.specs.RunOrder.{leads_to, is_child, children_below, children, own_run, runs_within, run_order, order_within, order, order_under, IsPoolMap}
 
 -- the list of one number, or the empty list
 unfoldable pub once_if : Bool → ℕ → List ℕ
@@ -274,14 +269,6 @@ order_deep ps formed (suc d) (suc e) p deep far live =
     ap (λ xs. xs ++ p ∷ []) (children_same ps p (order_within d ps) (order_within e ps)
     (λ c child. order_deep ps formed d e c (omega (arith, child_above ps formed p c child)) (omega (arith, child_above ps formed p c child)) (child_live ps formed p c child))
     ps.next)
-
--- the pools of the run order of p
-unfoldable pub order : {T : Type 0} → Pools T → ℕ → List ℕ
-order ps p = order_within ps.next ps p
-
--- the pools of the run order of p, without p itself
-unfoldable pub order_under : {T : Type 0} → Pools T → ℕ → List ℕ
-order_under ps p = flat_map (order ps) (children ps p)
 
 pub order_step : {T : Type 0} (ps : Pools T) → IsPoolMap ps → (p : ℕ) → is_live ps p ≡ true → order ps p ≡ order_under ps p ++ p ∷ []
 unfolding order order_under order_within
