@@ -14,6 +14,3 @@ pub use module_lang::WriteFault;
 pub use refusal::PoolRefusal;
 pub use text::PoolText;
 pub use tree::{PoolId, PoolTree, Room};
-
-#[cfg(test)]
-mod tests;
