@@ -29,10 +29,7 @@ impl<T: Drop> PoolTree<T> {
     {
         let mut count = self.records.payload_count(pool);
         for name in names {
-            count = match count.checked_add(self.records.payload_count(*name)) {
-                Some(sum) => sum,
-                None => return Err(AllocError),
-            };
+            count = count.saturating_add(self.records.payload_count(*name));
         }
         Vec::with_capacity(self.alloc, count)
     }
