@@ -2,8 +2,8 @@
 
 Part of the reading that scripts.py plays.
 """
-from counts import arose
-from texts import show_text
+from .counts import arose
+from .texts import show_text
 
 ROOT = 1
 DATA = ('heap', 'transient', 'immortal', 'pool', 'file')

@@ -2,9 +2,9 @@
 
 Part of the reading that scripts.py plays.
 """
-from counts import arose
-from pools import ROOT, Brigade, Bucket
-from steps import Call, Steps
+from .counts import arose
+from .pools import ROOT, Brigade, Bucket
+from .steps import Call, Steps
 
 BUDGET = 1000000
 

@@ -2,14 +2,10 @@
 
 A reading of the rules of docs/LANGUAGE.md, written apart from the definitions and from the code, so that a slip in
 either shows. Memory lasts in it, and readers and writers do not fail.
-
-    python3 compare/scripts.py < SCRIPT
 """
-import sys
-
-from counts import arose
-from runs import Host, Refused
-from texts import NAME, PRINTABLE, U32, FaultyText, assemble, decimal, read_text, show_text
+from .counts import arose
+from .events import Host, Refused
+from .texts import NAME, PRINTABLE, U32, FaultyText, assemble, decimal, read_text, show_text
 
 LINE_LIMIT = 65536
 U64 = 2 ** 64 - 1
@@ -188,10 +184,3 @@ ANSWERS = {
     'labels': lambda host, conn: labels_line(host.labels_run(conn)),
     'close': lambda host, conn: labels_line(host.close(conn)),
 }
-
-
-if __name__ == '__main__':
-    printed, status = play(sys.stdin.buffer.read())
-    sys.stdout.buffer.write(printed)
-    sys.stdout.buffer.flush()
-    sys.exit(status)
