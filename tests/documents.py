@@ -7,7 +7,7 @@
 Checked are, in each Markdown file: that links lead to a file, and to a heading of it; that a file or folder which is named
 `like/this.rt` is there; that a function, definition or clause which is linked `like_this` stands in the file that the link
 names; that a number beside a link in a table is the file's number of lines; that what a transcript shows below
-`$ ./host < SCRIPT` are the answers kept with that script; and that no cell of a table in README.md has more than 30 words.
+`$ cat FILE` and `$ ./host < SCRIPT` is that file, and the answers kept with that script; and that no cell of a table in README.md has more than 30 words.
 """
 import os
 import re
@@ -125,6 +125,9 @@ def transcript_faults(text):
     """The transcripts that do not show the answers that are kept, with the numbers of their lines."""
     lines = text.split('\n')
     for number, line in enumerate(lines, 1):
+        kept = re.fullmatch(r'( *)\$ cat (\S+)', line)
+        if kept and lines[number:number + read(kept[2]).count('\n')] != [kept[1] + due for due in read(kept[2]).split('\n')[:-1]]:
+            yield number, 'not the text of %s' % kept[2]
         found = re.fullmatch(r'( *)\$ \./host < (\S+)\.script', line)
         if not found:
             continue
