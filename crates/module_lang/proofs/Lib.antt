@@ -1,4 +1,5 @@
 pub mod ArgLaws
+pub mod ArgsFound
 pub mod AssemblingLaws
 pub mod BodyLaws
 pub mod CutLaws
