@@ -1,9 +1,12 @@
+pub mod ArgLaws
+pub mod ArgsFound
 pub mod AssemblingLaws
 pub mod BodyLaws
 pub mod CutLaws
 pub mod DraftLaws
 pub mod FirstLaws
 pub mod FirstOf
+pub mod FitLaws
 pub mod FoundLabels
 pub mod FoundLaws
 pub mod FoundModule

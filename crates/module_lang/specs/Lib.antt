@@ -1,3 +1,4 @@
+pub mod Args
 pub mod Assembling
 pub mod Bytes
 pub mod Codes

@@ -1,6 +1,7 @@
 //! The module language: module texts, the modules that they spell, and their instructions.
 #![tactic(auto)]
 
+mod arg;
 mod assembler;
 mod bytes;
 mod draft;
@@ -13,6 +14,7 @@ mod module;
 mod name;
 mod number;
 mod operand;
+mod parts;
 mod print;
 mod quoted;
 mod refusal;
