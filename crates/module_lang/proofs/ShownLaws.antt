@@ -1,20 +1,24 @@
 -- The parts of printed lines.
-use Rattle.std.proofs.Common.{◌≡◌, ℕ, suc, ◌+◌, ◌-◌, ◌<◌, ◌≤◌, Bool, true, false, cond, get_or, List, [], ◌∷◌, ◌++◌, length, map, drop, ltb, Some, None, refl, sym, ◌∙◌, ap, arith, append_assoc, append-nil}
+use Rattle.std.proofs.Common.{◌≡◌, ℕ, suc, ◌+◌, ◌-◌, ◌<◌, ◌≤◌, Bool, true, false, cond, get_or, List, [], ◌∷◌, ◌++◌, length, map, drop, Some, None, refl, sym, ◌∙◌, ap, subst, arith, append_assoc, append-nil}
 use Rattle.std.specs.Prelude.{IfSome, codes, slice_get, slice_index_or, slice_range}
-use Rattle.std.proofs.lemmas.Bool.{and_parts, ltb-true}
+use Rattle.std.proofs.lemmas.Bool.{ltb-true}
 use Rattle.std.proofs.lemmas.Option.{slice_get_within, get_or_from_slice_get}
+use Rattle.module_lang.specs.Args.{args, names_text}
 use Rattle.module_lang.specs.Printing.{aim, is_target, label_line, quoted_text, printed, printed_code, printed_handler, target_name}
-use Rattle.module_lang.specs.Program.{Program, fits, target, text_of_instr}
+use Rattle.module_lang.specs.Program.{Program, fits, target, tests, text_of_instr}
 use Rattle.module_lang.specs.Lines.{place_is_declared}
 use Rattle.module_lang.specs.Quoted.{spelling}
 use Rattle.module_lang.specs.Shown.{shown_code, shown_declarations, shown_handler, shown_line, shown_step, shown_text, text_line, text_shown}
 use Rattle.module_lang.specs.Texts.{CodeLine, brigade_texts, code_text, instr_word, joined, label, line_text, operand_texts, operands_text, own_text, place_text, pool_texts, step}
+use Rattle.module_lang.specs.declared.arg.Arg.{Arg}
+use Rattle.module_lang.specs.declared.arg.Arg.TheVariants as arg
 use Rattle.module_lang.specs.declared.instr.Instr.{Instr}
-use Rattle.module_lang.specs.declared.instr.Instr.TheVariants as instr
 use Rattle.module_lang.specs.declared.instr.PoolRef.{PoolRef}
 use Rattle.module_lang.specs.declared.instr.PoolRef.TheVariants as pool
 use Rattle.module_lang.specs.declared.print.Shown.{Shown}
 use Rattle.module_lang.specs.declared.print.Shown.TheVariants as shown
+use Rattle.module_lang.proofs.ArgLaws.{formed}
+use Rattle.module_lang.proofs.FitLaws.{Every, fits_parts}
 use Rattle.module_lang.proofs.HandlerLaws.{drop_here}
 use Rattle.module_lang.proofs.SpellingLaws.{declared_up}
 
@@ -55,9 +59,11 @@ place_short n q low h = declared_up n 8 q low h
 
 -- the text of an instruction of a module is there
 pub text_there : (p : Program) (i : Instr) → fits p i ≡ true → IfSome (text_of_instr i) (λ t. t < length p.texts)
-text_there p (instr.Label q t) h = let x = and_parts (place_is_declared (length p.pools) q) (ltb t (length p.texts)) h in ltb-true t (length p.texts) x.1
-text_there p (instr.Unlabel q t) h = let x = and_parts (place_is_declared (length p.pools) q) (ltb t (length p.texts)) h in ltb-true t (length p.texts) x.1
-text_there p _ h = tt
+text_there p i h = subst (λ o. IfSome o (λ t. t < length p.texts)) (sym (formed i).second) (low (args i).second (fits_parts p i h).second)
+  where
+    low : (a : Arg) → Every (tests p a) → IfSome (names_text a) (λ t. t < length p.texts)
+    low (arg.Text t) h = ltb-true t (length p.texts) h.0
+    low _ h = tt
 
 range_more : {X : Type 0} (xs : List X) (n to : ℕ) (x : X) → n < to → slice_get xs n ≡ Some x → slice_range xs n to ≡ x ∷ slice_range xs (n + 1) to
 range_more xs n to x low at =
