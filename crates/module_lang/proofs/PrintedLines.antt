@@ -1,5 +1,5 @@
 -- The lines of a printed module: each says something and begins with no space, and together they are short.
-use Rattle.std.proofs.Common.{◌≡◌, ℕ, ◌+◌, ◌*◌, ◌%◌, ◌^◌, ◌||◌, ltb, ◌<◌, ◌≤◌, Bool, true, false, cond, eqb, List, [], ◌∷◌, ◌++◌, length, map, Option, Some, None, refl, sym, ◌∙◌, ap, subst, arith, append_assoc, length-append}
+use Rattle.std.proofs.Common.{◌≡◌, ℕ, ◌+◌, ◌*◌, ◌%◌, ◌^◌, ◌||◌, ltb, ◌<◌, ◌≤◌, Bool, true, false, cond, eqb, List, [], ◌∷◌, ◌++◌, length, map, Option, Some, None, refl, sym, ◌∙◌, ap, subst, arith, length-append}
 use Rattle.std.specs.Prelude.{All, IfSome, codes, filter_map}
 use Rattle.std.specs.List.{cons_option, list_all}
 use Rattle.std.proofs.lemmas.Bool.{ne_eqb, ltb-true}
@@ -26,6 +26,7 @@ use Rattle.module_lang.specs.declared.instr.Status.TheVariants as status
 use Rattle.module_lang.proofs.ArgLaws.{formed}
 use Rattle.module_lang.proofs.FitLaws.{Every, fits_parts}
 use Rattle.module_lang.proofs.PrintedLabels.{all_joined}
+use Rattle.module_lang.proofs.ShownLaws.{operands_text-append}
 use Rattle.module_lang.proofs.ListLaws.{all_cons, all_head, all_tail}
 
 -- printable bytes, of which the first is neither a space nor `#`
@@ -146,10 +147,6 @@ QuotedShown (Some t) s = (list_all is_printable s ≡ true) × (length s ≤ 102
 record AreWritten (os : List (List ℕ)) (most : ℕ) : Type 0 where
   clean : list_all is_printable (operands_text os) ≡ true
   short : length (operands_text os) ≤ most
-
-operands_text-append : (xs ys : List (List ℕ)) → operands_text (xs ++ ys) ≡ operands_text xs ++ operands_text ys
-operands_text-append [] ys = refl
-operands_text-append (x ∷ xs) ys = ap (λ z. 32 ∷ (x ++ z)) (operands_text-append xs ys) ∙ ap (λ z. 32 ∷ z) (sym (append_assoc x (operands_text xs) (operands_text ys)))
 
 written_both : (xs ys : List (List ℕ)) (m n : ℕ) → AreWritten xs m → AreWritten ys n → AreWritten (xs ++ ys) (m + n)
 written_both xs ys m n a b =
