@@ -28,10 +28,10 @@ use Rattle.run_model.specs.State.{Call, Shared, Configuration, fresh_call, items
 use Rattle.run_model.specs.Faults.{fault}
 use Rattle.run_model.specs.Steps.{step_at_end, settled, jumps_if, is_null, is_fail, answer_to, delivered, made_on, saved_into, value_of, is_full, do_put, on_pool, pool_cleared, pool_destroyed, label_registered, label_killed, text_of, grows, lacks_names, current, succeeded, executed, unless_fault, watched}
 use Rattle.run_model.specs.Connection.{Connection, opened, begins, brings, ends, takes, steps, begun, brought_in, brought, file_answer, file_taken, opens_file, ended, first_refusal, refused_if, if_broken, broke, step_answer, step_from, step_if}
-use Rattle.run_model.specs.Runs.{World, Before, There, Closed, adds_file, opens, closes}
+use Rattle.run_model.specs.Runs.{IfThere, World, Before, There, Closed, adds_file, opens, closes}
 use Rattle.run_model.specs.Laws.{IsOrderly, OrderlyWorld, EventKeepsOrder, RunIsOrderly}
 use Rattle.run_model.proofs.Runs.{run_keeps}
-use Rattle.run_model.proofs.EventAnswers.{IfThere, none_first, none_if, happened, told, stepped_told, opening_told, added_before, closed_stays}
+use Rattle.run_model.proofs.EventAnswers.{none_first, none_if, happened, told, stepped_told, opening_told, added_before, closed_stays}
 use Rattle.run_model.proofs.NamedPools.{on_named, made_under_named, put_keeps}
 
 -- What an answer says of the run that it leaves: a call goes on inside the module, or ends and leaves nothing, or
