@@ -28,7 +28,7 @@ use Rattle.run_model.specs.Steps.{with_delivered, delivered, do_pass, step, step
 use Rattle.run_model.specs.Connection.{Connection, opened, begins, brings, opens_file, file_answer, file_taken, lacks_file, data_behind_eos, ends, takes, steps, begun, brought, brought_in, ended, if_broken, step_answer, step_from, step_if, after_step, broke}
 use Rattle.run_model.specs.Runs.{World, Before, There, Closed, IfThere, adds_file, opens, closes, happens}
 use Rattle.run_model.specs.Laws.{MayExecute}
-use Rattle.run_model.proofs.EventAnswers.{none_first, none_if, happened, told, stepped_told, opening_told, added_before, closed_stays}
+use Rattle.run_model.proofs.EventAnswers.{none_first, none_if, happened, After, as_there, told, stepped_told, opening_told, added_before, closed_stays}
 
 -- Steps.
 
@@ -46,10 +46,13 @@ current_fits p m pc = elim (cases_lt pc (length p.code)) [
   | inr le ↦ ap (fits p) (get_or_past p.code pc (instr.Ret Success) le)
 ]
 
--- A property of what a step sees, where these files were opened in the request: it is kept by each instruction that may be
+pub may_execute : (p : Program) (r : Configuration) → IsModule p → fault p r (current p r.pc) ≡ None → lacks_names r (current p r.pc) ≡ false → MayExecute p r (current p r.pc)
+may_execute p r m none last = record { proper = m; fit = current_fits p m r.pc; faultless = none; names_last = last }
+
+-- A property of what a step sees, where these files were opened in the request: it is kept by the instruction that is
 -- executed, and does not hang on the place in the code.
 pub record StepKeeps (p : Program) (S R : List (ℕ × ℕ) → Configuration → Type 0) : Type 0 where
-  pub at_end : (i : Instr) (files : List (ℕ × ℕ)) (r : Configuration) → MayExecute p r i → S files r → R files r → R files (step_at_end p i r).state
+  pub at_end : (files : List (ℕ × ℕ)) (r : Configuration) → fault p r (current p r.pc) ≡ None → lacks_names r (current p r.pc) ≡ false → S files r → R files r → R files (step_at_end p (current p r.pc) r).state
   pub moved : (pc : ℕ) (files : List (ℕ × ℕ)) (r : Configuration) → R files r → R files (record r { pc = pc })
 
 abbrev pub Of : (List (ℕ × ℕ) → Configuration → Type 0) → Connection → Type 0
@@ -61,19 +64,20 @@ module _ (p : Program) (S R : List (ℕ × ℕ) → Configuration → Type 0) (k
   settled_keeps i Jump files r s = keeps.moved _ files r s
   settled_keeps i Return files r s = s
 
-  watched_keeps : (memory : Bool) (i : Instr) (files : List (ℕ × ℕ)) (r : Configuration) → IsModule p → fits p i ≡ true → S files r → R files r → R files (watched memory p i r).1
-  watched_keeps memory i files r m fit sound s = by_fault (fault p r i) refl where
-    by_memory : (b : Bool) → MayExecute p r i → R files (cond b (succeeded (settled i (step_at_end p i r).exit (step_at_end p i r).state)) (Err step_refusal.NoMemory, r)).1
-    by_memory true may = settled_keeps i (step_at_end p i r).exit files (step_at_end p i r).state (keeps.at_end i files r may sound s)
-    by_memory false may = s
+  watched_keeps : (memory : Bool) (files : List (ℕ × ℕ)) (r : Configuration) → S files r → R files r → R files (watched memory p (current p r.pc) r).1
+  watched_keeps memory files r sound s = by_fault (fault p r (current p r.pc)) refl where
+    by_memory : (b : Bool) → fault p r (current p r.pc) ≡ None → lacks_names r (current p r.pc) ≡ false
+        → (let i = current p r.pc in R files (cond b (succeeded (settled i (step_at_end p i r).exit (step_at_end p i r).state)) (Err step_refusal.NoMemory, r)).1)
+    by_memory true none last = settled_keeps (current p r.pc) (step_at_end p (current p r.pc) r).exit files (step_at_end p (current p r.pc) r).state (keeps.at_end files r none last sound s)
+    by_memory false none last = s
 
-    by_names : (b c : Bool) → lacks_names r i ≡ b → fault p r i ≡ None
-        → R files (cond b (Err step_refusal.NamesSpent, r) (cond c (succeeded (settled i (step_at_end p i r).exit (step_at_end p i r).state)) (Err step_refusal.NoMemory, r))).1
+    by_names : (b c : Bool) → lacks_names r (current p r.pc) ≡ b → fault p r (current p r.pc) ≡ None
+        → (let i = current p r.pc in R files (cond b (Err step_refusal.NamesSpent, r) (cond c (succeeded (settled i (step_at_end p i r).exit (step_at_end p i r).state)) (Err step_refusal.NoMemory, r))).1)
     by_names true c spent none = s
-    by_names false c spent none = by_memory c (record { proper = m; fit = fit; faultless = none; names_last = spent })
+    by_names false c spent none = by_memory c none spent
 
-    by_fault : (f : Option FaultKind) → fault p r i ≡ f → R files (unless_fault f r (executed memory p i r)).1
-    by_fault None none = by_names (lacks_names r i) (memory || not (grows i)) refl none
+    by_fault : (f : Option FaultKind) → fault p r (current p r.pc) ≡ f → R files (unless_fault f r (executed memory p (current p r.pc) r)).1
+    by_fault None none = by_names (lacks_names r (current p r.pc)) (memory || not (grows (current p r.pc))) refl none
     by_fault (Some k) none = s
 
   after_keeps : (a : Stepped) (c : Connection) → Of R c → Of R (after_step a c)
@@ -86,34 +90,32 @@ module _ (p : Program) (S R : List (ℕ × ℕ) → Configuration → Type 0) (k
   answer_keeps (Err step_refusal.NamesSpent) c s = s
   answer_keeps (Err step_refusal.NoMemory) c s = s
 
-  step_if_keeps : (o : Option Refusal) (memory : Bool) (budget : ℕ) (c : Connection) → IsModule p → Of S c → Of R c → Of R (step_if o memory budget p c).1
-  step_if_keeps (Some r) memory budget c m sound s = s
-  step_if_keeps None memory budget c m sound s = by_budget (nat_le budget c.count) where
+  step_if_keeps : (o : Option Refusal) (memory : Bool) (budget : ℕ) (c : Connection) → Of S c → Of R c → Of R (step_if o memory budget p c).1
+  step_if_keeps (Some r) memory budget c sound s = s
+  step_if_keeps None memory budget c sound s = by_budget (nat_le budget c.count) where
     by_budget : (b : Bool) → Of R (cond b (broke cause.OutOfSteps c) (step_from (watched memory p (current p c.state.pc) c.state) c)).1
     by_budget true = s
     by_budget false =
         answer_keeps (watched memory p (current p c.state.pc) c.state).0 (record c { state = (watched memory p (current p c.state.pc) c.state).1 })
-        (watched_keeps memory (current p c.state.pc) c.files c.state m (current_fits p m c.state.pc) sound s)
+        (watched_keeps memory c.files c.state sound s)
 
-  pub steps_keep : (memory : Bool) (budget : ℕ) (c : Connection) → IsModule p → Of S c → Of R c → Of R (steps memory budget p c).1
+  pub steps_keep : (memory : Bool) (budget : ℕ) (c : Connection) → Of S c → Of R c → Of R (steps memory budget p c).1
   unfolding steps
-  steps_keep memory budget c m sound s = step_if_keeps _ memory budget c m sound s
+  steps_keep memory budget c sound s = step_if_keeps _ memory budget c sound s
 
 -- The other events.
 
--- A property P of connections that are sound is kept by what each event does where it happens.
-pub record EventKeeps (budget : ℕ) (p : Program) (S P : Connection → Type 0) : Type 0 where
-  pub opening : (fs : Files) → P (opened fs)
+-- A property P of connections that are sound is kept by what each event but a step does where it happens.
+pub record EventKeeps (p : Program) (S P : Connection → Type 0) : Type 0 where
   pub begin : (c : Connection) → (is_spent c.state.shared.pools.next 1 || is_spent c.state.shared.next 1) ≡ false → S c → P c → P (begun p c)
-  pub bring : (req : ℕ) (pieces : List Piece) (c : Connection) → c.state.shared.req ≡ Some req → list_any (lacks_file c.files) pieces ≡ false → is_spent c.state.shared.next (2 + length pieces) ≡ false → S c → P c
+  pub bring : (req : ℕ) (pieces : List Piece) (c : Connection) → c.state.shared.req ≡ Some req → c.busy ≡ false → list_any (lacks_file c.files) pieces ≡ false → is_spent c.state.shared.next (2 + length pieces) ≡ false → S c → P c
       → P (brought_in req p pieces c)
   pub open_file : (req : ℕ) (name bytes : List ℕ) (c : Connection) → c.state.shared.req ≡ Some req → c.state.shared.files.named name ≡ Some bytes → S c → P c → P (file_taken req name (length bytes) c)
-  pub step : (memory : Bool) (c : Connection) → S c → P c → P (steps memory budget p c).1
   pub end : (req : ℕ) (c : Connection) → c.state.shared.req ≡ Some req → c.busy ≡ false → S c → P c → P (ended (Some req) c)
   pub take : (c : Connection) → P c → P (takes c).1
   pub add : (name bytes : List ℕ) (c : Connection) → P c → P (record c { state = record c.state { shared = record c.state.shared { files = file_added name bytes c.state.shared.files } } })
 
-module _ (budget : ℕ) (p : Program) (S P : Connection → Type 0) (keeps : EventKeeps budget p S P) where
+module _ (budget : ℕ) (p : Program) (S P : Connection → Type 0) (keeps : EventKeeps p S P) where
   begins_keep : (memory : Bool) (c : Connection) → S c → P c → P (begins memory p c).1
   unfolding begins
   begins_keep memory c sound s = happened P _ c (begun p c) s (λ none.
@@ -123,10 +125,10 @@ module _ (budget : ℕ) (p : Program) (S P : Connection → Type 0) (keeps : Eve
       let e = none_if (is_spent c.state.shared.pools.next 1 || is_spent c.state.shared.next 1) refusal.NamesSpent _ d.1 in
       keeps.begin c e.0 sound s)
 
-  bringing_keeps : (o : Option ℕ) (pieces : List Piece) (c : Connection) → c.state.shared.req ≡ o → list_any (lacks_file c.files) pieces ≡ false → is_spent c.state.shared.next (2 + length pieces) ≡ false → S c → P c
+  bringing_keeps : (o : Option ℕ) (pieces : List Piece) (c : Connection) → c.state.shared.req ≡ o → c.busy ≡ false → list_any (lacks_file c.files) pieces ≡ false → is_spent c.state.shared.next (2 + length pieces) ≡ false → S c → P c
       → P (brought o p pieces c)
-  bringing_keeps None pieces c is there last sound s = s
-  bringing_keeps (Some req) pieces c is there last sound s = keeps.bring req pieces c is there last sound s
+  bringing_keeps None pieces c is idle there last sound s = s
+  bringing_keeps (Some req) pieces c is idle there last sound s = keeps.bring req pieces c is idle there last sound s
 
   brings_keep : (memory : Bool) (pieces : List Piece) (c : Connection) → S c → P c → P (brings memory p pieces c).1
   unfolding brings
@@ -137,7 +139,7 @@ module _ (budget : ℕ) (p : Program) (S P : Connection → Type 0) (keeps : Eve
       let e = none_if (data_behind_eos pieces) refusal.DataAfterEos _ d.1 in
       let g = none_if (list_any (lacks_file c.files) pieces) refusal.NoFile _ e.1 in
       let f = none_if (is_spent c.state.shared.next (2 + length pieces)) refusal.NamesSpent _ g.1 in
-      bringing_keeps c.state.shared.req pieces c refl g.0 f.0 sound s)
+      bringing_keeps c.state.shared.req pieces c refl b.0 g.0 f.0 sound s)
 
   opening_keeps : (o : Option Refusal) (req : Option ℕ) (found : Option (List ℕ)) (name : List ℕ) (c : Connection) → c.state.shared.req ≡ req → c.state.shared.files.named name ≡ found → S c → P c
       → P (file_answer o req found name c).1
@@ -159,32 +161,35 @@ module _ (budget : ℕ) (p : Program) (S P : Connection → Type 0) (keeps : Eve
   ends_keep memory c sound s = happened P _ c (ended c.state.shared.req c) s (λ none.
       ending_keeps c.state.shared.req c refl (none_if c.busy refusal.Busy _ (none_first (if_broken c.broken) _ none)).0 sound s)
 
-  opens_keep : (memory : Bool) (fs : Files) → IfThere (opens memory fs).1 P
-  opens_keep true fs = keeps.opening fs
-  opens_keep false fs = tt
-
-  adds_keep : (memory : Bool) (name bytes : List ℕ) (c : Connection) → P c → IfThere (adds_file memory name bytes (There c)).1 P
+  adds_keep : (memory : Bool) (name bytes : List ℕ) (c : Connection) → P c → After (adds_file memory name bytes (There c)).1 P
   adds_keep true name bytes c s = keeps.add name bytes c s
   adds_keep false name bytes c s = s
 
-  closes_keep : (memory : Bool) (c : Connection) → P c → IfThere (closes memory c).1 P
+  closes_keep : (memory : Bool) (c : Connection) → P c → After (closes memory c).1 P
   closes_keep true c s = tt
   closes_keep false c s = s
 
-  pub events_keep : (memory : Bool) (e : Event) (w : World) → IfThere w S → IfThere w P → IfThere (happens memory budget p e w).1 P
-  events_keep memory event.Open (Before fs) sound s = opens_keep memory fs
-  events_keep memory (event.AddFile name bytes) (There c) sound s = adds_keep memory name bytes c s
-  events_keep memory (event.OpenFile name) (There c) sound s = opening_told P (opens_file memory name c) (opens_file_keeps memory name c sound s)
-  events_keep memory event.Begin (There c) sound s = told P (begins memory p c) (begins_keep memory c sound s)
-  events_keep memory (event.Bring pieces) (There c) sound s = told P (brings memory p pieces c) (brings_keep memory pieces c sound s)
-  events_keep memory event.Step (There c) sound s = stepped_told P (steps memory budget p c) (keeps.step memory c sound s)
-  events_keep memory event.End (There c) sound s = told P (ends memory c) (ends_keep memory c sound s)
-  events_keep memory event.TakeOutput (There c) sound s = keeps.take c s
-  events_keep memory event.Close (There c) sound s = closes_keep memory c s
-  events_keep memory e (There c) sound s = s
-  events_keep memory (event.AddFile name bytes) (Before fs) sound s = added_before P memory name bytes fs
-  events_keep memory e (Before fs) sound s = s
-  events_keep memory e (Closed pools fs) sound s = closed_stays P memory budget p e pools fs
+  pub event_keeps : (memory : Bool) (e : Event) (c : Connection) → (e ≡ event.Step → P (steps memory budget p c).1) → S c → P c → After (happens memory budget p e (There c)).1 P
+  event_keeps memory (event.AddFile name bytes) c stepped sound s = adds_keep memory name bytes c s
+  event_keeps memory (event.OpenFile name) c stepped sound s = opening_told P (opens_file memory name c) (opens_file_keeps memory name c sound s)
+  event_keeps memory event.Begin c stepped sound s = told P (begins memory p c) (begins_keep memory c sound s)
+  event_keeps memory (event.Bring pieces) c stepped sound s = told P (brings memory p pieces c) (brings_keep memory pieces c sound s)
+  event_keeps memory event.Step c stepped sound s = stepped_told P (steps memory budget p c) (stepped refl)
+  event_keeps memory event.End c stepped sound s = told P (ends memory c) (ends_keep memory c sound s)
+  event_keeps memory event.TakeOutput c stepped sound s = keeps.take c s
+  event_keeps memory event.Close c stepped sound s = closes_keep memory c s
+  event_keeps memory e c stepped sound s = s
+
+  opens_keep : ((fs : Files) → P (opened fs)) → (memory : Bool) (fs : Files) → IfThere (opens memory fs).1 P
+  opens_keep opening true fs = opening fs
+  opens_keep opening false fs = tt
+
+  pub events_keep : ((fs : Files) → P (opened fs)) → ((memory : Bool) (c : Connection) → S c → P c → P (steps memory budget p c).1) → (memory : Bool) (e : Event) (w : World) → IfThere w S → IfThere w P → IfThere (happens memory budget p e w).1 P
+  events_keep opening stepped memory e (There c) sound s = as_there P _ (event_keeps memory e c (λ is. stepped memory c sound s) sound s)
+  events_keep opening stepped memory event.Open (Before fs) sound s = opens_keep opening memory fs
+  events_keep opening stepped memory (event.AddFile name bytes) (Before fs) sound s = added_before P memory name bytes fs
+  events_keep opening stepped memory e (Before fs) sound s = s
+  events_keep opening stepped memory e (Closed pools fs) sound s = closed_stays P memory budget p e pools fs
 
 -- A property that no other one is needed for.
 

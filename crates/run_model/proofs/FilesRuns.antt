@@ -18,14 +18,14 @@ use Rattle.run_model.specs.Buckets.{is_eos}
 use Rattle.run_model.specs.Cutting.{read_limit}
 use Rattle.run_model.specs.Files.{Files, BytesTaken, read_part, read_done, all_taken, unless_failed, range_taken, parts_of, content_taken, followed_by, taken_of, file_opened}
 use Rattle.run_model.specs.State.{Configuration, Out, items_of, set_brigade}
-use Rattle.run_model.specs.Steps.{step_at_end, delivered, do_pass}
+use Rattle.run_model.specs.Steps.{current, step_at_end, delivered, do_pass}
 use Rattle.run_model.specs.Connection.{Connection, opened, file_taken, lacks_file, has_range, takes, begun, brought_in, bucket_of, named_from, ended}
 use Rattle.run_model.specs.Runs.{Before}
 use Rattle.run_model.specs.Sound.{Sound}
 use Rattle.run_model.specs.Laws.{MayExecute, SoundWorld, refers, IsHeld, SoundFiles, FilesWorld, EventKeepsFiles, RunKeepsFiles}
 use Rattle.run_model.proofs.Updates.{upd_either}
 use Rattle.run_model.proofs.Runs.{run_keeps}
-use Rattle.run_model.proofs.EventsKeep.{at_end_keeps, StepKeeps, steps_keep, EventKeeps, events_keep}
+use Rattle.run_model.proofs.EventsKeep.{may_execute, at_end_keeps, StepKeeps, steps_keep, EventKeeps, events_keep}
 use Rattle.run_model.proofs.SoundRuns.{event_sound}
 use Rattle.run_model.proofs.References.{one_of, created_refers, created_back, registered_refers, registered_back, registered_itself}
 use Rattle.run_model.proofs.StepFiles.{HeldList, none_held, weaker, same_files, went_and, destroyed_emptied, written_files, step_files}
@@ -181,24 +181,22 @@ opened_files fs = record {
 
 -- All events.
 
-files_steps : (p : Program) → StepKeeps p (λ files r. Sound r) SoundFiles
-files_steps p = record { at_end = λ i files r may sound s. at_end_files p i files r may sound s; moved = λ pc files r s. again files r _ refl refl refl refl refl s }
+files_steps : (p : Program) → IsModule p → StepKeeps p (λ files r. Sound r) SoundFiles
+files_steps p m = record { at_end = λ files r none last sound s. at_end_files p (current p r.pc) files r (may_execute p r m none last) sound s; moved = λ pc files r s. again files r _ refl refl refl refl refl s }
 
-files_events : (budget : ℕ) (p : Program) → IsModule p → EventKeeps budget p (λ c. Sound c.state) FilesIn
+files_events : (p : Program) → IsModule p → EventKeeps p (λ c. Sound c.state) FilesIn
 unfolding takes
-files_events budget p m = record {
-  opening = opened_files;
+files_events p m = record {
   begin = λ c last sound s. begun_files p c sound s;
-  bring = λ req pieces c is there last sound s. brought_files req p pieces c is there s;
+  bring = λ req pieces c is idle there last sound s. brought_files req p pieces c is there s;
   open_file = λ req name bytes c is found sound s. taken_files req (length bytes) name c is (ap is_some found) s;
-  step = λ memory c sound s. steps_keep p (λ files r. Sound r) SoundFiles (files_steps p) memory budget c m sound s;
   end = λ req c is idle sound s. ended_files req c sound s;
   take = λ c s. again c.files c.state _ refl refl refl refl refl s;
   add = λ name bytes c s. again c.files c.state _ refl refl refl refl refl s;
 }
 
 pub event_files : EventKeepsFiles
-event_files memory budget p e w m sound s = events_keep budget p (λ c. Sound c.state) FilesIn (files_events budget p m) memory e w sound s
+event_files memory budget p e w m sound s = events_keep budget p (λ c. Sound c.state) FilesIn (files_events p m) opened_files (λ memory c sound s. steps_keep p (λ files r. Sound r) SoundFiles (files_steps p m) memory budget c sound s) memory e w sound s
 
 -- Runs.
 

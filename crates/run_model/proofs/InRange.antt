@@ -15,14 +15,14 @@ use Rattle.run_model.specs.declared.bucket.PoolVar.TheVariants as poolvar
 use Rattle.run_model.specs.Pools.{created}
 use Rattle.run_model.specs.Clearing.{run_down}
 use Rattle.run_model.specs.State.{Configuration, set_pool, with_pools, set_brigade, set_number, pool_named}
-use Rattle.run_model.specs.Steps.{step_at_end, do_create, do_clean, do_concat, do_pass, do_return, do_put, do_clearbuf, pool_cleared, pool_destroyed, label_registered, label_killed, text_of, value_of, is_full, last_value, saved_into, made_on}
+use Rattle.run_model.specs.Steps.{current, step_at_end, do_create, do_clean, do_concat, do_pass, do_return, do_put, do_clearbuf, pool_cleared, pool_destroyed, label_registered, label_killed, text_of, value_of, is_full, last_value, saved_into, made_on}
 use Rattle.run_model.specs.Connection.{opened, takes}
 use Rattle.run_model.specs.Runs.{Before}
 use Rattle.run_model.specs.Ranges.{InRange, OpenedInRange, StepKeepsInRange, InRangeWorld, EventKeepsInRange, RunIsInRange}
 use Rattle.run_model.proofs.Updates.{upd_either}
 use Rattle.run_model.proofs.NamedPools.{on_named, made_under_named, with_buffer}
 use Rattle.run_model.proofs.Runs.{run_keeps}
-use Rattle.run_model.proofs.EventsKeep.{Nothing, nothing_there, at_end_keeps, StepKeeps, steps_keep, EventKeeps, events_keep}
+use Rattle.run_model.proofs.EventsKeep.{current_fits, Nothing, nothing_there, at_end_keeps, StepKeeps, steps_keep, EventKeeps, events_keep}
 
 -- where numbers and buffer are as they were
 same_range : (r new : Configuration) → new.instance.numbers ≡ r.instance.numbers → new.call.buffer ≡ r.call.buffer → InRange r → InRange new
@@ -152,24 +152,22 @@ pub opened_in_range : OpenedInRange
 unfolding opened
 opened_in_range fs = record { numbers = λ n. omega arith; bytes = All-nil (λ b. b ≤ 255); size = omega arith }
 
-in_range_steps : (p : Program) → StepKeeps p (λ files r. Unit {0}) (λ files r. InRange r)
-in_range_steps p = record { at_end = λ i files r may sound s. at_end_range p i r may.fit s; moved = λ pc files r s. same_range r _ refl refl s }
+in_range_steps : (p : Program) → IsModule p → StepKeeps p (λ files r. Unit {0}) (λ files r. InRange r)
+in_range_steps p m = record { at_end = λ files r none last sound s. at_end_range p (current p r.pc) r (current_fits p m r.pc) s; moved = λ pc files r s. same_range r _ refl refl s }
 
-in_range_events : (budget : ℕ) (p : Program) → IsModule p → EventKeeps budget p Nothing (λ c. InRange c.state)
+in_range_events : (p : Program) → IsModule p → EventKeeps p Nothing (λ c. InRange c.state)
 unfolding takes set_brigade with_pools run_down
-in_range_events budget p m = record {
-  opening = opened_in_range;
+in_range_events p m = record {
   begin = λ c last sound s. bare_range c.state _ refl refl s;
-  bring = λ req pieces c is there last sound s. bare_range c.state _ refl refl s;
+  bring = λ req pieces c is idle there last sound s. bare_range c.state _ refl refl s;
   open_file = λ req name bytes c is found sound s. same_range c.state _ refl refl s;
-  step = λ memory c sound s. steps_keep p (λ files r. Unit {0}) (λ files r. InRange r) (in_range_steps p) memory budget c m sound s;
   end = λ req c is idle sound s. same_range c.state _ refl refl s;
   take = λ c s. same_range c.state _ refl refl s;
   add = λ name bytes c s. same_range c.state _ refl refl s;
 }
 
 pub event_in_range : EventKeepsInRange
-event_in_range memory budget p e w m s = events_keep budget p Nothing (λ c. InRange c.state) (in_range_events budget p m) memory e w (nothing_there w) s
+event_in_range memory budget p e w m s = events_keep budget p Nothing (λ c. InRange c.state) (in_range_events p m) opened_in_range (λ memory c sound s. steps_keep p (λ files r. Unit {0}) (λ files r. InRange r) (in_range_steps p m) memory budget c sound s) memory e w (nothing_there w) s
 
 -- Runs.
 

@@ -15,7 +15,7 @@ use Rattle.run_model.specs.Pools.{planted, created, destroyed}
 use Rattle.run_model.specs.Files.{Files, file_opened}
 use Rattle.run_model.specs.Clearing.{run_down}
 use Rattle.run_model.specs.State.{Configuration, items_of, set_brigade, with_pools}
-use Rattle.run_model.specs.Steps.{with_delivered, delivered, step_at_end, do_pass}
+use Rattle.run_model.specs.Steps.{current, with_delivered, delivered, step_at_end, do_pass}
 use Rattle.run_model.specs.Connection.{Connection, brought_in, opened, file_taken, lacks_file, has_range, takes, begun, bucket_of, named_from, ended}
 use Rattle.run_model.specs.Runs.{IfThere, World, Before, There, Closed}
 use Rattle.run_model.specs.Sound.{Sound}
@@ -23,7 +23,7 @@ use Rattle.run_model.specs.Laws.{MayExecute, SoundWorld, refers, SoundFiles, Fil
 use Rattle.run_model.specs.Ranges.{Reaches, LiesInFile, HasLength, SoundRanges, RangesWorld, EventKeepsRanges, RunKeepsRanges}
 use Rattle.run_model.proofs.Updates.{upd_at, upd_off}
 use Rattle.run_model.proofs.Runs.{run_keeps}
-use Rattle.run_model.proofs.EventsKeep.{at_end_keeps, StepKeeps, steps_keep, EventKeeps, events_keep}
+use Rattle.run_model.proofs.EventsKeep.{may_execute, at_end_keeps, StepKeeps, steps_keep, EventKeeps, events_keep}
 use Rattle.run_model.proofs.SoundRuns.{event_sound}
 use Rattle.run_model.proofs.References.{one_of, created_back, registered_back, emptied_back}
 use Rattle.run_model.proofs.StepFiles.{step_files, same_files, went_and, destroyed_emptied, neither, written}
@@ -173,20 +173,18 @@ opened_ranges fs = record {
 
 -- All events.
 
-ranges_steps : (p : Program) → StepKeeps p (λ files r. Sound r × SoundFiles files r) SoundRanges
-ranges_steps p = record {
-  at_end = λ i files r may sound s. at_end_ranges p i files r may sound.0 sound.1 s;
+ranges_steps : (p : Program) → IsModule p → StepKeeps p (λ files r. Sound r × SoundFiles files r) SoundRanges
+ranges_steps p m = record {
+  at_end = λ files r none last sound s. at_end_ranges p (current p r.pc) files r (may_execute p r m none last) sound.0 sound.1 s;
   moved = λ pc files r s. record { brigades = s.brigades; loose = s.loose; told = s.told; given = s.given };
 }
 
-ranges_events : (budget : ℕ) (p : Program) → IsModule p → EventKeeps budget p (λ c. Sound c.state × FilesIn c) RangesIn
+ranges_events : (p : Program) → IsModule p → EventKeeps p (λ c. Sound c.state × FilesIn c) RangesIn
 unfolding takes
-ranges_events budget p m = record {
-  opening = opened_ranges;
+ranges_events p m = record {
   begin = λ c last sound s. begun_ranges p c s;
-  bring = λ req pieces c is there last sound s. brought_ranges req p pieces c is there s;
+  bring = λ req pieces c is idle there last sound s. brought_ranges req p pieces c is there s;
   open_file = λ req name bytes c is found sound s. taken_ranges req bytes name c is found sound.1 s;
-  step = λ memory c sound s. steps_keep p (λ files r. Sound r × SoundFiles files r) SoundRanges (ranges_steps p) memory budget c m sound s;
   end = λ req c is idle sound s. ended_ranges req c sound.0 sound.1 s;
   take = λ c s. record { brigades = s.brigades; loose = s.loose; told = s.told; given = s.given };
   add = λ name bytes c s. record { brigades = s.brigades; loose = s.loose; told = s.told; given = s.given };
@@ -199,7 +197,7 @@ both_there S P (Closed pools fs) a b = tt
 
 pub event_ranges : EventKeepsRanges
 event_ranges memory budget p e w m sound held s =
-    events_keep budget p (λ c. Sound c.state × FilesIn c) RangesIn (ranges_events budget p m) memory e w (both_there (λ c. Sound c.state) FilesIn w sound held) s
+    events_keep budget p (λ c. Sound c.state × FilesIn c) RangesIn (ranges_events p m) opened_ranges (λ memory c sound s. steps_keep p (λ files r. Sound r × SoundFiles files r) SoundRanges (ranges_steps p m) memory budget c sound s) memory e w (both_there (λ c. Sound c.state) FilesIn w sound held) s
 
 -- Runs.
 
