@@ -4,7 +4,7 @@ use Rattle.run_model.specs.Pools.{is_under}
 use Rattle.pool_tree.specs.Tree.{map_of}
 use Rattle.module_run.specs.Seen.{seen_machine}
 use Rattle.module_run.proofs.Changed.{mapped_by}
-use Rattle.module_run.proofs.machine.Machine.run_down.Goals as goal
+use Rattle.module_run.proofs.machine.Machine.prepare_clear.Goals as goal
 
 pub returns-clause-ok : goal.returns-clause-ok
 unfolding seen_machine
