@@ -49,7 +49,7 @@ len_again [] [] h s = refl
 len_again [] (b ∷ bs) h s = rw (eq-eqb b 32 s) refl
 len_again (b ∷ bs) rest h s = first (eqb b 32) (len_again bs rest) h
   where
-    first : (x : Bool) → (unspaced bs ≡ true → Stops rest → token_len (bs ++ rest) ≡ length bs) → (not x && unspaced bs) ≡ true → cond x 0 (1 + token_len (bs ++ rest)) ≡ length (b ∷ bs)
+    first : (x : Bool) → (unspaced bs ≡ true → Stops rest → token_len (bs ++ rest) ≡ length bs) → (not x && unspaced bs) ≡ true → cond (not x) (1 + token_len (bs ++ rest)) 0 ≡ length (b ∷ bs)
     first true more h = absurd (cc h)
     first false more h = rw (more h s) (omega arith)
 

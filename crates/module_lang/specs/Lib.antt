@@ -14,6 +14,8 @@ pub mod Program
 pub mod Quoted
 pub mod Spelling
 pub mod Shown
+pub mod Tables
+pub mod TextLines
 pub mod Texts
 pub mod Words
 pub mod Writes

@@ -18,6 +18,8 @@ mod refusal;
 mod seq;
 #[cfg(test)]
 mod tests;
+pub mod text;
+mod text_line;
 mod word;
 mod writer;
 
