@@ -66,15 +66,15 @@ made_range m name start len c d x e =
       by_answer (Ok f) = (refl, refl)
 
 -- Opening a file leaves the next instruction as it is.
-pc_answer : (t : Option Refusal) (req : Option ℕ) (found : Option (List ℕ)) (name : List ℕ) (c : Connection) → (file_answer t req found name c).1.run.pc ≡ c.run.pc
+pc_answer : (t : Option Refusal) (req : Option ℕ) (found : Option (List ℕ)) (name : List ℕ) (c : Connection) → (file_answer t req found name c).1.state.pc ≡ c.state.pc
 pc_answer (Some r) req found name c = refl
 pc_answer None None found name c = refl
 pc_answer None (Some req) None name c = refl
 pc_answer None (Some req) (Some bytes) name c = refl
 
-pub pc_opens : (m : Bool) (name : List ℕ) (c d : Connection) (x : Result (ℕ × ℕ) Refusal) → opens_file m name c ≡ (x, d) → d.run.pc ≡ c.run.pc
+pub pc_opens : (m : Bool) (name : List ℕ) (c d : Connection) (x : Result (ℕ × ℕ) Refusal) → opens_file m name c ≡ (x, d) → d.state.pc ≡ c.state.pc
 unfolding opens_file
-pc_opens m name c d x e = ap (λ z. z.1.run.pc) (sym e) ∙ pc_answer _ c.run.shared.req (c.run.shared.files.named name) name c
+pc_opens m name c d x e = ap (λ z. z.1.state.pc) (sym e) ∙ pc_answer _ c.state.shared.req (c.state.shared.files.named name) name c
 
 -- The turns of a loop over the pieces.
 pub brings_turn : (p : Program) (ready more : List Piece) (all rest : List ScriptPiece) (x : ScriptPiece) (y : Piece) (c d e : Connection) (r : Option Refusal) → all ≡ x ∷ rest → more ≡ ready ++ y ∷ [] → IsMadeReady x c (Ok y) d → Brings p more rest d r e → Brings p ready all c r e

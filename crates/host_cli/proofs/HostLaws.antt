@@ -16,14 +16,14 @@ use Rattle.host_cli.specs.Host.{IsFree, IsAddingTo, IsReady, is_before}
 
 -- a connection with other files
 abbrev with_files : Files → Connection → Connection
-with_files fs c = record c { run = record c.run { shared = record c.run.shared { files = fs } } }
+with_files fs c = record c { state = record c.state { shared = record c.state.shared { files = fs } } }
 
 pub before_added : (fs gs : Files) (name bytes : List ℕ) (r : Result (Unit {0}) AddRefusal) → IsAdding fs name bytes r gs → IsAddingTo (Before fs) name bytes r (Before gs)
 before_added fs gs name bytes (Ok u) (free, is) = (free, ap Before is)
 before_added fs gs name bytes (Err refusal.Taken) (had, is) = (had, ap Before is)
 before_added fs gs name bytes (Err refusal.NoMemory) (free, is) = ap Before is
 
-pub there_added : (c d : Connection) (name bytes : List ℕ) (r : Result (Unit {0}) AddRefusal) → IsAdding c.run.shared.files name bytes r d.run.shared.files → d ≡ with_files d.run.shared.files c → IsAddingTo (There c) name bytes r (There d)
+pub there_added : (c d : Connection) (name bytes : List ℕ) (r : Result (Unit {0}) AddRefusal) → IsAdding c.state.shared.files name bytes r d.state.shared.files → d ≡ with_files d.state.shared.files c → IsAddingTo (There c) name bytes r (There d)
 there_added c d name bytes (Ok u) (free, is) rest = (free, ap There (rest ∙ ap (λ fs. with_files fs c) is))
 there_added c d name bytes (Err refusal.Taken) (had, is) rest = (had, ap There (rest ∙ ap (λ fs. with_files fs c) is))
 there_added c d name bytes (Err refusal.NoMemory) (free, is) rest = ap There (rest ∙ ap (λ fs. with_files fs c) is)

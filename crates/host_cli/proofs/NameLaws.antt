@@ -62,7 +62,7 @@ added false o bytes = refl
 
 file_added_knows : (name bytes : List ℕ) (w : World) (names : List (List ℕ)) → Knows names w → (budget : ℕ) (p : Program) → Knows (name ∷ names) (happens true budget p (event.AddFile name bytes) w).1
 file_added_knows name bytes (Before fs) names k budget p q = added (bytes_eq q name) (fs.named q) bytes ∙ ap (λ t. bytes_eq q name || t) (k q)
-file_added_knows name bytes (There c) names k budget p q = added (bytes_eq q name) (c.run.shared.files.named q) bytes ∙ ap (λ t. bytes_eq q name || t) (k q)
+file_added_knows name bytes (There c) names k budget p q = added (bytes_eq q name) (c.state.shared.files.named q) bytes ∙ ap (λ t. bytes_eq q name || t) (k q)
 file_added_knows name bytes (Closed ps fs) names k budget p q = added (bytes_eq q name) (fs.named q) bytes ∙ ap (λ t. bytes_eq q name || t) (k q)
 
 file_knows : (budget : ℕ) (p : Program) (f : FileLine) (w new : World) (r : Reply) (names : List (List ℕ)) → told (happens true budget p (event.AddFile f.name (file_bytes f)) w) ≡ (r, new) → Knows names w → Knows (f.name ∷ names) new

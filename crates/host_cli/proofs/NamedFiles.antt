@@ -9,7 +9,7 @@ use Rattle.module_lang.specs.declared.instr.Instr.TheVariants as instr
 use Rattle.run_model.specs.declared.fault.FaultKind.{FaultKind}
 use Rattle.run_model.specs.declared.bucket.Content.{Content}
 use Rattle.run_model.specs.declared.bucket.Content.TheVariants as content
-use Rattle.run_model.specs.declared.bucket.Named.{Named}
+use Rattle.run_model.specs.declared.bucket.NamedBucket.{NamedBucket}
 use Rattle.run_model.specs.declared.bucket.PoolVar.TheVariants as poolvar
 use Rattle.run_model.specs.declared.event.Exit.{Exit}
 use Rattle.run_model.specs.declared.event.Exit.TheVariants.{GoOn, Jump, Return}
@@ -26,9 +26,9 @@ use Rattle.run_model.specs.Buckets.{is_eos}
 use Rattle.run_model.specs.Cutting.{read_limit}
 use Rattle.run_model.specs.Clearing.{run_down}
 use Rattle.run_model.specs.Pools.{created}
-use Rattle.run_model.specs.Files.{Files, Taken, read_part, read_done, unless_failed, range_taken, parts_of, content_taken, and_then, all_taken, followed_by, taken_of}
+use Rattle.run_model.specs.Files.{Files, BytesTaken, read_part, read_done, unless_failed, range_taken, parts_of, content_taken, and_then, all_taken, followed_by, taken_of}
 use Rattle.run_model.specs.Faults.{fault}
-use Rattle.run_model.specs.State.{Run, Out, items_of, pool_named, set_pool, set_brig, set_number, with_pools}
+use Rattle.run_model.specs.State.{Configuration, Out, items_of, pool_named, set_pool, set_brigade, set_number, with_pools}
 use Rattle.run_model.specs.Steps.{Choice, step, step_at_end, on_pool, do_pcreate, pool_cleared, pool_destroyed, label_registered, label_killed, text_of, saved_into, made_on, is_full, delivered, put_out, settled, executed, unless_fault, watched, current, succeeded, lacks_names, grows}
 use Rattle.run_model.specs.Connection.{Connection, opened, begins, begun, brings, brought, ends, ended, opens_file, file_answer, takes, steps, step_if, step_from, step_answer, first_refusal, if_broken, refused_if, unless_refused}
 use Rattle.run_model.specs.Runs.{World, Before, There, Closed, happens, GoesOn, EndsRun, answer_of, step_of, file_of, files_of}
@@ -38,7 +38,7 @@ Names = List ℕ → Option (List ℕ)
 
 -- reads leave the names
 
-unless_named : (o : Option (List ℕ)) (fs : Files) (rest : Files → Taken) → (rest fs).files.named ≡ fs.named → (unless_failed o fs rest).files.named ≡ fs.named
+unless_named : (o : Option (List ℕ)) (fs : Files) (rest : Files → BytesTaken) → (rest fs).files.named ≡ fs.named → (unless_failed o fs rest).files.named ≡ fs.named
 unless_named None fs rest h = refl
 unless_named (Some bytes) fs rest h = h
 
@@ -53,67 +53,67 @@ content_named (content.Bytes bs) fs = refl
 content_named (content.Range file start len) fs = range_named (parts_of len) file start len fs
 content_named content.Nothing fs = refl
 
-followed_named : (whole : Bool) (t : Taken) (rest : Files → Taken) (names : Names) → ((fs : Files) → (rest fs).files.named ≡ fs.named) → t.files.named ≡ names → (cond whole (and_then t.bytes (rest t.files)) t).files.named ≡ names
+followed_named : (whole : Bool) (t : BytesTaken) (rest : Files → BytesTaken) (names : Names) → ((fs : Files) → (rest fs).files.named ≡ fs.named) → t.files.named ≡ names → (cond whole (and_then t.bytes (rest t.files)) t).files.named ≡ names
 followed_named true t rest names more h = more t.files ∙ h
 followed_named false t rest names more h = h
 
-eos_named : (eos : Bool) (fs : Files) (t : Taken) → t.files.named ≡ fs.named → (cond eos (all_taken [] fs) t).files.named ≡ fs.named
+eos_named : (eos : Bool) (fs : Files) (t : BytesTaken) → t.files.named ≡ fs.named → (cond eos (all_taken [] fs) t).files.named ≡ fs.named
 eos_named true fs t h = refl
 eos_named false fs t h = h
 
-taken_named : (items : List Named) (fs : Files) → (taken_of items fs).files.named ≡ fs.named
+taken_named : (items : List NamedBucket) (fs : Files) → (taken_of items fs).files.named ≡ fs.named
 unfolding taken_of
 taken_named [] fs = refl
 taken_named (b ∷ bs) fs =
     eos_named (is_eos b) fs (followed_by (content_taken b.bucket.content fs) (taken_of bs))
     (followed_named (content_taken b.bucket.content fs).whole (content_taken b.bucket.content fs) (taken_of bs) fs.named (λ gs. taken_named bs gs) (content_named b.bucket.content fs))
 
-ended_named : (done : Bool) (out : Out) (items : List Named) (fs : Files) → (cond done (record { out = out; well = true; files = fs }) (put_out out items (taken_of items fs))).files.named ≡ fs.named
+ended_named : (done : Bool) (out : Out) (items : List NamedBucket) (fs : Files) → (cond done (record { out = out; well = true; files = fs }) (put_out out items (taken_of items fs))).files.named ≡ fs.named
 ended_named true out items fs = refl
 ended_named false out items fs = taken_named items fs
 
-delivered_named : (out : Out) (items : List Named) (fs : Files) → (delivered out items fs).files.named ≡ fs.named
+delivered_named : (out : Out) (items : List NamedBucket) (fs : Files) → (delivered out items fs).files.named ≡ fs.named
 unfolding delivered
 delivered_named out items fs = ended_named out.ended out items fs
 
 -- steps leave them
 
-abbrev names_of_run : Run → Names
-names_of_run r = r.shared.files.named
+abbrev names_of_configuration : Configuration → Names
+names_of_configuration r = r.shared.files.named
 
-on_named : (change : ℕ → Run → Run) (o : Option ℕ) (r : Run) → ((n : ℕ) → names_of_run (change n r) ≡ names_of_run r) → names_of_run (on_pool change o r) ≡ names_of_run r
+on_named : (change : ℕ → Configuration → Configuration) (o : Option ℕ) (r : Configuration) → ((n : ℕ) → names_of_configuration (change n r) ≡ names_of_configuration r) → names_of_configuration (on_pool change o r) ≡ names_of_configuration r
 on_named change None r h = refl
 on_named change (Some n) r h = h n
 
-abbrev made : ℕ → Run → Option ℕ → Run
+abbrev made : ℕ → Configuration → Option ℕ → Configuration
 made q r None = r
-made q r (Some parent) = set_pool q (poolvar.Named r.shared.pools.next) (with_pools (created parent r.shared.pools) r)
+made q r (Some parent) = set_pool q (poolvar.Made r.shared.pools.next) (with_pools (created parent r.shared.pools) r)
 
-made_named : (p : Program) (q : ℕ) (r : Run) → names_of_run (do_pcreate p q r) ≡ names_of_run r
+made_named : (p : Program) (q : ℕ) (r : Configuration) → names_of_configuration (do_pcreate p q r) ≡ names_of_configuration r
 unfolding set_pool with_pools
 made_named p q r = by_parent (pool_named r (pool_of_pool p q)) where
-  by_parent : (o : Option ℕ) → names_of_run (made q r o) ≡ names_of_run r
+  by_parent : (o : Option ℕ) → names_of_configuration (made q r o) ≡ names_of_configuration r
   by_parent None = refl
   by_parent (Some parent) = refl
 
-gone_named : (n : ℕ) (r : Run) → (names_of_run (pool_cleared n r) ≡ names_of_run r) × (names_of_run (pool_destroyed n r) ≡ names_of_run r)
+gone_named : (n : ℕ) (r : Configuration) → (names_of_configuration (pool_cleared n r) ≡ names_of_configuration r) × (names_of_configuration (pool_destroyed n r) ≡ names_of_configuration r)
 unfolding with_pools run_down
 gone_named n r = (refl, refl)
 
-label_named : (text : List ℕ) (n : ℕ) (r : Run) → (names_of_run (label_registered text n r) ≡ names_of_run r) × (names_of_run (label_killed text n r) ≡ names_of_run r)
+label_named : (text : List ℕ) (n : ℕ) (r : Configuration) → (names_of_configuration (label_registered text n r) ≡ names_of_configuration r) × (names_of_configuration (label_killed text n r) ≡ names_of_configuration r)
 unfolding with_pools
 label_named text n r = (refl, refl)
 
-saved_named : (o b n : ℕ) (r : Run) → names_of_run (saved_into o b n r) ≡ names_of_run r
-unfolding set_brig with_pools
+saved_named : (o b n : ℕ) (r : Configuration) → names_of_configuration (saved_into o b n r) ≡ names_of_configuration r
+unfolding set_brigade with_pools
 saved_named o b n r = refl
 
-put_named : (full : Bool) (r other : Run) → names_of_run other ≡ names_of_run r → names_of_run (cond full r other) ≡ names_of_run r
+put_named : (full : Bool) (r other : Configuration) → names_of_configuration other ≡ names_of_configuration r → names_of_configuration (cond full r other) ≡ names_of_configuration r
 put_named true r other h = refl
 put_named false r other h = h
 
-step_named : (p : Program) (choice : Choice) (i : Instr) (r : Run) → names_of_run (step p choice i r).run ≡ names_of_run r
-unfolding set_brig set_number
+step_named : (p : Program) (choice : Choice) (i : Instr) (r : Configuration) → names_of_configuration (step p choice i r).state ≡ names_of_configuration r
+unfolding set_brigade set_number
 step_named p choice (instr.PCreate q) r = made_named p q r
 step_named p choice (instr.PClear q) r = on_named pool_cleared (pool_named r (pool.Own q)) r (λ n. (gone_named n r).0)
 step_named p choice (instr.PDestroy q) r = on_named pool_destroyed (pool_named r (pool.Own q)) r (λ n. (gone_named n r).1)
@@ -122,7 +122,7 @@ step_named p choice (instr.Unlabel q t) r = on_named (label_killed (text_of p t)
 step_named p choice (instr.BCreate o) r = refl
 step_named p choice (instr.BClean b) r = refl
 step_named p choice (instr.BConcat a b) r = refl
-step_named p choice (instr.BSave o b) r = on_named (saved_into o b) (made_on (r.inst.brigs o)) r (λ n. saved_named o b n r)
+step_named p choice (instr.BSave o b) r = on_named (saved_into o b) (made_on (r.instance.brigades o)) r (λ n. saved_named o b n r)
 step_named p choice (instr.Pass b l) r = refl
 step_named p choice (instr.JEmpty b l) r = refl
 step_named p choice (instr.JNull v l) r = refl
@@ -140,7 +140,7 @@ step_named p choice (instr.Ret s) r = refl
 abbrev well : Choice
 well = record { answer = Success }
 
-at_end_named : (p : Program) (i : Instr) (r : Run) → names_of_run (step_at_end p i r).run ≡ names_of_run r
+at_end_named : (p : Program) (i : Instr) (r : Configuration) → names_of_configuration (step_at_end p i r).state ≡ names_of_configuration r
 at_end_named p (instr.PCreate q) r = step_named p well (instr.PCreate q) r
 at_end_named p (instr.PClear q) r = step_named p well (instr.PClear q) r
 at_end_named p (instr.PDestroy q) r = step_named p well (instr.PDestroy q) r
@@ -150,7 +150,7 @@ at_end_named p (instr.BCreate o) r = step_named p well (instr.BCreate o) r
 at_end_named p (instr.BClean b) r = step_named p well (instr.BClean b) r
 at_end_named p (instr.BConcat a b) r = step_named p well (instr.BConcat a b) r
 at_end_named p (instr.BSave o b) r = step_named p well (instr.BSave o b) r
-at_end_named p (instr.Pass b l) r = delivered_named r.out (items_of (r.inst.brigs b)) r.shared.files
+at_end_named p (instr.Pass b l) r = delivered_named r.out (items_of (r.instance.brigades b)) r.shared.files
 at_end_named p (instr.JEmpty b l) r = refl
 at_end_named p (instr.JNull v l) r = refl
 at_end_named p (instr.Put x l) r = step_named p well (instr.Put x l) r
@@ -164,28 +164,28 @@ at_end_named p (instr.JSent l) r = refl
 at_end_named p (instr.Jump l) r = refl
 at_end_named p (instr.Ret s) r = refl
 
-settled_named : (i : Instr) (e : Exit) (r : Run) → names_of_run (settled i e r).1 ≡ names_of_run r
+settled_named : (i : Instr) (e : Exit) (r : Configuration) → names_of_configuration (settled i e r).1 ≡ names_of_configuration r
 settled_named i GoOn r = refl
 settled_named i Jump r = refl
 settled_named i Return r = refl
 
-done_named : (spent lasts : Bool) (x : Result Stepped StepRefusal × Run) (r : Run) → names_of_run x.1 ≡ names_of_run r → names_of_run (cond spent (Err step_refusal.NamesSpent, r) (cond lasts x (Err step_refusal.NoMemory, r))).1 ≡ names_of_run r
+done_named : (spent lasts : Bool) (x : Result Stepped StepRefusal × Configuration) (r : Configuration) → names_of_configuration x.1 ≡ names_of_configuration r → names_of_configuration (cond spent (Err step_refusal.NamesSpent, r) (cond lasts x (Err step_refusal.NoMemory, r))).1 ≡ names_of_configuration r
 done_named true lasts x r h = refl
 done_named false true x r h = h
 done_named false false x r h = refl
 
-unless_fault_named : (f : Option FaultKind) (x : Result Stepped StepRefusal × Run) (r : Run) → names_of_run x.1 ≡ names_of_run r → names_of_run (unless_fault f r x).1 ≡ names_of_run r
+unless_fault_named : (f : Option FaultKind) (x : Result Stepped StepRefusal × Configuration) (r : Configuration) → names_of_configuration x.1 ≡ names_of_configuration r → names_of_configuration (unless_fault f r x).1 ≡ names_of_configuration r
 unless_fault_named None x r h = h
 unless_fault_named (Some k) x r h = refl
 
-watched_named : (m : Bool) (p : Program) (i : Instr) (r : Run) → names_of_run (watched m p i r).1 ≡ names_of_run r
+watched_named : (m : Bool) (p : Program) (i : Instr) (r : Configuration) → names_of_configuration (watched m p i r).1 ≡ names_of_configuration r
 watched_named m p i r =
     let went = step_at_end p i r in
     unless_fault_named (fault p r i) (executed m p i r) r
-    (done_named (lacks_names r i) (m || not (grows i)) (succeeded (settled i went.exit went.run)) r (settled_named i went.exit went.run ∙ at_end_named p i r))
+    (done_named (lacks_names r i) (m || not (grows i)) (succeeded (settled i went.exit went.state)) r (settled_named i went.exit went.state ∙ at_end_named p i r))
 
 abbrev pub names_in : Connection → Names
-names_in c = c.run.shared.files.named
+names_in c = c.state.shared.files.named
 
 answer_named : (x : Result Stepped StepRefusal) (c : Connection) → names_in (step_answer x c).1 ≡ names_in c
 answer_named (Ok stepped.Went) c = refl
@@ -201,8 +201,8 @@ below_named false c x y h i = i
 if_named : (t : Option Refusal) (m : Bool) (budget : ℕ) (p : Program) (c : Connection) → names_in (step_if t m budget p c).1 ≡ names_in c
 if_named (Some r) m budget p c = refl
 if_named None m budget p c =
-    let w = watched m p (current p c.run.pc) c.run in
-    below_named (leb budget c.count) c _ (step_from w c) refl (answer_named w.0 (record c { run = w.1 }) ∙ watched_named m p (current p c.run.pc) c.run)
+    let w = watched m p (current p c.state.pc) c.state in
+    below_named (leb budget c.count) c _ (step_from w c) refl (answer_named w.0 (record c { state = w.1 }) ∙ watched_named m p (current p c.state.pc) c.state)
 
 pub steps_named : (m : Bool) (budget : ℕ) (p : Program) (c : Connection) → names_in (steps m budget p c).1 ≡ names_in c
 unfolding steps
@@ -224,7 +224,7 @@ unless_refused_named None c d h = h
 unless_refused_named (Some r) c d h = refl
 
 brought_named : (req : Option ℕ) (p : Program) (ps : List Piece) (c : Connection) → names_in (brought req p ps c) ≡ names_in c
-unfolding set_brig
+unfolding set_brigade
 brought_named None p ps c = refl
 brought_named (Some req) p ps c = refl
 
@@ -241,11 +241,11 @@ file_answer_named None (Some req) (Some bytes) name c = refl
 
 pub brings_named : (m : Bool) (p : Program) (ps : List Piece) (c : Connection) → names_in (brings m p ps c).1 ≡ names_in c
 unfolding brings
-brings_named m p ps c = unless_refused_named _ c _ (brought_named c.run.shared.req p ps c)
+brings_named m p ps c = unless_refused_named _ c _ (brought_named c.state.shared.req p ps c)
 
 pub opens_named : (m : Bool) (name : List ℕ) (c : Connection) → names_in (opens_file m name c).1 ≡ names_in c
 unfolding opens_file
-opens_named m name c = file_answer_named _ c.run.shared.req (c.run.shared.files.named name) name c
+opens_named m name c = file_answer_named _ c.state.shared.req (c.state.shared.files.named name) name c
 
 begins_named : (m : Bool) (p : Program) (c : Connection) → names_in (begins m p c).1 ≡ names_in c
 unfolding begins
@@ -253,7 +253,7 @@ begins_named m p c = unless_refused_named _ c (begun p c) refl
 
 ends_named : (m : Bool) (c : Connection) → names_in (ends m c).1 ≡ names_in c
 unfolding ends
-ends_named m c = unless_refused_named _ c _ (ended_request_named c.run.shared.req c)
+ends_named m c = unless_refused_named _ c _ (ended_request_named c.state.shared.req c)
 
 takes_named : (c : Connection) → names_in (takes c).1 ≡ names_in c
 unfolding takes

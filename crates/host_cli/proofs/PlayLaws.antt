@@ -53,20 +53,20 @@ file_same None None None None None req found name c h = absurd (true≢false h)
 
 begins_same : (p : Program) (c : Connection) → names_it (begins false p c).0 ≡ false → begins false p c ≡ begins true p c
 unfolding begins
-begins_same p c h = tests_same None None (if_broken c.broken) (refused_if c.busy refusal.Busy) (refused_if (is_some c.run.shared.req) refusal.InRequest) (refused_if (is_spent c.run.shared.pools.next 1 || is_spent c.run.shared.next 1) refusal.NamesSpent) c (begun p c) h
+begins_same p c h = tests_same None None (if_broken c.broken) (refused_if c.busy refusal.Busy) (refused_if (is_some c.state.shared.req) refusal.InRequest) (refused_if (is_spent c.state.shared.pools.next 1 || is_spent c.state.shared.next 1) refusal.NamesSpent) c (begun p c) h
 
 brings_same : (p : Program) (ps : List Piece) (c : Connection) → names_it (brings false p ps c).0 ≡ false → brings false p ps c ≡ brings true p ps c
 unfolding brings
-brings_same p ps c h = tests_same (if_broken c.broken) (refused_if c.busy refusal.Busy) (refused_if (not (is_some c.run.shared.req)) refusal.NotInRequest) (refused_if (data_behind_eos ps) refusal.DataAfterEos) (refused_if (list_any (lacks_file c.files) ps) refusal.NoFile) (refused_if (is_spent c.run.shared.next (2 + length ps)) refusal.NamesSpent) c (brought c.run.shared.req p ps c) h
+brings_same p ps c h = tests_same (if_broken c.broken) (refused_if c.busy refusal.Busy) (refused_if (not (is_some c.state.shared.req)) refusal.NotInRequest) (refused_if (data_behind_eos ps) refusal.DataAfterEos) (refused_if (list_any (lacks_file c.files) ps) refusal.NoFile) (refused_if (is_spent c.state.shared.next (2 + length ps)) refusal.NamesSpent) c (brought c.state.shared.req p ps c) h
 
 ends_same : (c : Connection) → names_it (ends false c).0 ≡ false → ends false c ≡ ends true c
 unfolding ends
-ends_same c h = tests_same None None None (if_broken c.broken) (refused_if c.busy refusal.Busy) (refused_if (not (is_some c.run.shared.req)) refusal.NotInRequest) c (ended c.run.shared.req c) h
+ends_same c h = tests_same None None None (if_broken c.broken) (refused_if c.busy refusal.Busy) (refused_if (not (is_some c.state.shared.req)) refusal.NotInRequest) c (ended c.state.shared.req c) h
 
 opens_same : (m : Bool) (name : List ℕ) (c : Connection) → lost_file (opens_file m name c).0 ≡ false → opens_file m name c ≡ opens_file true name c
 unfolding opens_file
 opens_same true name c h = refl
-opens_same false name c h = file_same (if_broken c.broken) (refused_if c.busy refusal.Busy) (refused_if (not (is_some c.run.shared.req)) refusal.NotInRequest) (refused_if (not (is_some (c.run.shared.files.named name))) refusal.NoFile) (refused_if (is_spent c.run.shared.files.next 1) refusal.NamesSpent) c.run.shared.req (c.run.shared.files.named name) name c h
+opens_same false name c h = file_same (if_broken c.broken) (refused_if c.busy refusal.Busy) (refused_if (not (is_some c.state.shared.req)) refusal.NotInRequest) (refused_if (not (is_some (c.state.shared.files.named name))) refusal.NoFile) (refused_if (is_spent c.state.shared.files.next 1) refusal.NamesSpent) c.state.shared.req (c.state.shared.files.named name) name c h
 
 bring_same : (m : Bool) (p : Program) (ps : List Piece) (c : Connection) → names_it (brings m p ps c).0 ≡ false → brings m p ps c ≡ brings true p ps c
 bring_same true p ps c h = refl

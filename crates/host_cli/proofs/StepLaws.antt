@@ -10,7 +10,7 @@ use Rattle.run_model.specs.declared.event.StepRefusal.{StepRefusal}
 use Rattle.run_model.specs.declared.event.StepRefusal.TheVariants as step_refusal
 use Rattle.run_model.specs.declared.event.Stepped.{Stepped}
 use Rattle.run_model.specs.declared.event.Stepped.TheVariants as stepped
-use Rattle.run_model.specs.State.{Run}
+use Rattle.run_model.specs.State.{Configuration}
 use Rattle.run_model.specs.Steps.{watched, current, unless_fault, executed, succeeded, settled, step_at_end, lacks_names, grows}
 use Rattle.run_model.specs.Faults.{fault}
 use Rattle.run_model.specs.Connection.{Connection, steps, step_if, step_answer, step_from, first_refusal, refused_if, if_broken}
@@ -32,9 +32,9 @@ went_leaves (Err step_refusal.NoMemory) c d h = let e = ap (λ z. z.0) h in cc
 went_below : (b m : Bool) (budget : ℕ) (p : Program) (c d : Connection) → leb budget c.count ≡ b → step_if None m budget p c ≡ (Ok stepped.Went, d) → (c.count < budget) × (d.count ≡ c.count + 1)
 went_below true m budget p c d t h = let e = ap (λ z. z.0) (rw t at h) in cc
 went_below false m budget p c d t h =
-    let w = watched m p (current p c.run.pc) c.run in
+    let w = watched m p (current p c.state.pc) c.state in
     let answer = rw t at h in
-    (grind (arith, nat_tests), went_leaves w.0 (record c { run = w.1 }) d answer)
+    (grind (arith, nat_tests), went_leaves w.0 (record c { state = w.1 }) d answer)
 
 went_if : (t : Option Refusal) (m : Bool) (budget : ℕ) (p : Program) (c d : Connection) → step_if t m budget p c ≡ (Ok stepped.Went, d) → (c.count < budget) × (d.count ≡ c.count + 1)
 went_if (Some r) m budget p c d h = let e = ap (λ z. z.0) h in cc
@@ -48,26 +48,26 @@ went_counts m budget p c d h = went_if (first_refusal (if_broken c.broken ∷ (r
 true≢false : true ≡ false → ⊥
 true≢false h = cc
 
-executes : Bool → Bool → Bool → Stepped × Run → Run → Result Stepped StepRefusal × Run
+executes : Bool → Bool → Bool → Stepped × Configuration → Configuration → Result Stepped StepRefusal × Configuration
 executes memory spent g w r = cond spent (Err step_refusal.NamesSpent, r) (cond (memory || not g) (succeeded w) (Err step_refusal.NoMemory, r))
 
-exec_same : (spent g : Bool) (w : Stepped × Run) (r : Run) (c : Connection) → lost (step_from (executes false spent g w r) c).0 ≡ false → step_from (executes false spent g w r) c ≡ step_from (executes true spent g w r) c
+exec_same : (spent g : Bool) (w : Stepped × Configuration) (r : Configuration) (c : Connection) → lost (step_from (executes false spent g w r) c).0 ≡ false → step_from (executes false spent g w r) c ≡ step_from (executes true spent g w r) c
 unfolding executes
 exec_same true g w r c h = refl
 exec_same false true w r c h = absurd (true≢false h)
 exec_same false false w r c h = refl
 
-fault_same : (f : Option FaultKind) (p : Program) (i : Instr) (r : Run) (c : Connection) → lost (step_from (unless_fault f r (executed false p i r)) c).0 ≡ false → step_from (unless_fault f r (executed false p i r)) c ≡ step_from (unless_fault f r (executed true p i r)) c
+fault_same : (f : Option FaultKind) (p : Program) (i : Instr) (r : Configuration) (c : Connection) → lost (step_from (unless_fault f r (executed false p i r)) c).0 ≡ false → step_from (unless_fault f r (executed false p i r)) c ≡ step_from (unless_fault f r (executed true p i r)) c
 unfolding executes
 fault_same (Some k) p i r c h = refl
-fault_same None p i r c h = exec_same (lacks_names r i) (grows i) (settled i (step_at_end p i r).exit (step_at_end p i r).run) r c h
+fault_same None p i r c h = exec_same (lacks_names r i) (grows i) (settled i (step_at_end p i r).exit (step_at_end p i r).state) r c h
 
 below_same : (b : Bool) (budget : ℕ) (p : Program) (c : Connection) → leb budget c.count ≡ b → lost (step_if None false budget p c).0 ≡ false → step_if None false budget p c ≡ step_if None true budget p c
 below_same true budget p c t h = rw t refl
 below_same false budget p c t h =
-    let i = current p c.run.pc in
+    let i = current p c.state.pc in
     let told = rw t at h in
-    rw t (fault_same (fault p c.run i) p i c.run c told)
+    rw t (fault_same (fault p c.state i) p i c.state c told)
 
 if_same : (t : Option Refusal) (budget : ℕ) (p : Program) (c : Connection) → lost (step_if t false budget p c).0 ≡ false → step_if t false budget p c ≡ step_if t true budget p c
 if_same (Some r) budget p c h = refl

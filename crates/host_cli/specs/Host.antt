@@ -22,7 +22,7 @@ world_of (host.Closed closed) = Closed (pools_left closed) (files_left closed)
 -- The next instruction of a connection is one of the module; a connection begins at the first.
 abbrev pub IsReady : Program → World → Type 0
 IsReady p (Before fs) = 0 < length p.code
-IsReady p (There c) = c.run.pc < length p.code
+IsReady p (There c) = c.state.pc < length p.code
 IsReady p (Closed pools fs) = Unit {0}
 
 -- The connection was not opened yet.

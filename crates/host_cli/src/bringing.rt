@@ -15,7 +15,7 @@ use std::alloc::{AllocError, Global};
 /// The piece to be brought. The file of a range is opened.
 fn made_ready(conn: &mut Conn, piece: ScriptPiece) -> Result<Piece, Refusal>
     ensures made { IsMadeReady piece (seen conn.old) result (seen conn.new) }
-    ensures place { (seen conn.new).run.pc ≡ (seen conn.old).run.pc }
+    ensures place { (seen conn.new).state.pc ≡ (seen conn.old).state.pc }
 {
     match piece {
         ScriptPiece::Ready(piece) => Ok(piece),
@@ -34,9 +34,9 @@ pub fn bring_pieces(
     conn: &mut Conn,
     pieces: Seq<ScriptPiece>,
 ) -> Result<Reply, AllocError>
-    requires { (seen conn.old).run.pc < length code.now.code }
+    requires { (seen conn.old).state.pc < length code.now.code }
     ensures brings { IfOk result (λ r. MayBring code.now pieces (There (seen conn.old)) r (There (seen conn.new))) }
-    ensures inside { (seen conn.new).run.pc < length code.now.code }
+    ensures inside { (seen conn.new).state.pc < length code.now.code }
 {
     let mut ready = Seq::new(alloc);
     for piece in pieces.into_vec() {

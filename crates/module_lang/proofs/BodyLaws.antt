@@ -11,7 +11,8 @@ use Rattle.module_lang.specs.Entries.{from_quote, step_text, step_texts}
 use Rattle.module_lang.specs.Lines.{has_text, is_due, is_handler, judged, misplaced, instruction_count, place_is_declared}
 use Rattle.module_lang.specs.Names.{is_name}
 use Rattle.module_lang.specs.Program.{Program, IsModule, fits, target, text_at, text_of_instr}
-use Rattle.module_lang.specs.Spelling.{op_of, operands_of}
+use Rattle.module_lang.specs.Args.{op_of}
+use Rattle.module_lang.specs.Spelling.{operands_of}
 use Rattle.module_lang.specs.Texts.{CodeLine, Spells, label, step, code_text, instr_word, line_text, instrs, operand_texts, pool_texts, brigade_texts, place_text, own_text}
 use Rattle.module_lang.specs.Words.{word_text, word_kinds}
 use Rattle.module_lang.specs.declared.draft.Draft.{Draft}
@@ -186,33 +187,15 @@ text_is (Some t) b m e h = rw e (ap Some (sym h))
 
 -- the text that stands in the line of an instruction
 pub text_entered : (p : Program) (i : Instr) (name s bytes : List ℕ) (k : ℕ) → IfSome (text_of_instr i) (λ t. Spells s (text_at p t)) → unindented bytes ≡ line_text (instr_word i) (operand_texts i name s) → step_texts (operands_of i (padded name) k) bytes ≡ text_list p (text_of_instr i)
-text_entered p (instr.PCreate q) name s bytes k h e = refl
-text_entered p (instr.PClear q) name s bytes k h e = refl
-text_entered p (instr.PDestroy q) name s bytes k h e = refl
 text_entered p (instr.Label q t) name s bytes k h e =
     let at = quote_unindented bytes ∙ ap from_quote e ∙ quote_at (codes "label") q s (text_at p t) refl h in
     rw (at, quoted_again s (text_at p t) [] h) refl
 text_entered p (instr.Unlabel q t) name s bytes k h e =
     let at = quote_unindented bytes ∙ ap from_quote e ∙ quote_at (codes "unlabel") q s (text_at p t) refl h in
     rw (at, quoted_again s (text_at p t) [] h) refl
-text_entered p (instr.BCreate o) name s bytes k h e = refl
-text_entered p (instr.BClean b) name s bytes k h e = refl
-text_entered p (instr.BConcat a b) name s bytes k h e = refl
-text_entered p (instr.BSave o b) name s bytes k h e = refl
-text_entered p (instr.Pass b l) name s bytes k h e = refl
-text_entered p (instr.JEmpty b l) name s bytes k h e = refl
-text_entered p (instr.Put x l) name s bytes k h e = refl
-text_entered p instr.ClearBuf name s bytes k h e = refl
-text_entered p (instr.Set m x) name s bytes k h e = refl
-text_entered p (instr.Add m x) name s bytes k h e = refl
-text_entered p (instr.Sub m x) name s bytes k h e = refl
-text_entered p (instr.JLt m x l) name s bytes k h e = refl
-text_entered p (instr.JEq m x l) name s bytes k h e = refl
 text_entered p (instr.JNull (variable.Pool q) l) name s bytes k h e = refl
 text_entered p (instr.JNull (variable.Brigade b) l) name s bytes k h e = refl
-text_entered p (instr.JSent l) name s bytes k h e = refl
-text_entered p (instr.Jump l) name s bytes k h e = refl
-text_entered p (instr.Ret x) name s bytes k h e = refl
+text_entered p _ name s bytes k h e = refl
 
 text_short : (p : Program) (o : Option ℕ) → IsModule p → IfSome o (λ t. t < length p.texts) → text_len p o ≤ 255
 unfolding text_at

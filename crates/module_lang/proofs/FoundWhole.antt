@@ -1,12 +1,12 @@
 -- A text that is read as a module is a text of it.
 use Rattle.std.proofs.Common.{◌≡◌, ℕ, zero, suc, ◌+◌, ◌<◌, ◌≤◌, true, nat_lt, List, [], ◌∷◌, ◌++◌, length, take, map, Some, Result, Ok, Err, refl, sym, ◌∙◌, ap, subst, arith, append_assoc, take_all, length-append}
-use Rattle.std.specs.Prelude.{All, IfOk, codes, slice_get}
+use Rattle.std.specs.Prelude.{All, codes, slice_get}
 use Rattle.std.proofs.lemmas.Bool.{ltb-false}
 use Rattle.std.proofs.lemmas.List.{length-map}
 use Rattle.module_lang.specs.Assembling.{assembling, draft_read, program_of, is_end}
 use Rattle.module_lang.specs.Bytes.{all_printable}
 use Rattle.module_lang.specs.Drafts.{empty_draft}
-use Rattle.module_lang.specs.Codes.{Gives, ◌>>=◌}
+use Rattle.module_lang.specs.Codes.{◌>>=◌}
 use Rattle.module_lang.specs.Entries.{IsDraft, entered, line_taken, taken}
 use Rattle.module_lang.specs.Handlers.{handler_resolved, jump_fault, step_code}
 use Rattle.module_lang.specs.Lines.{line_read}
@@ -202,7 +202,3 @@ text_found text m h =
     let three = bind_ok (handler_resolved (d.open.labels ++ d.init.labels) d.main two.0) (made one.0 two.0) m two.2 in
     let same : program d.pools d.brigades d.texts three.0 (length one.0) (length two.0) ≡ m = cc three.2 in
     subst (IsTextOf text) same (of_draft text d one.0 two.0 three.0 (read_as text d a.1) one.1 two.1 three.1)
-
-pub answer_found : (text : List ℕ) (r : Result Program AsmRefusal) → Gives (λ m. m) r (assembling text) → IfOk r (λ m. IsTextOf text m)
-answer_found text (Ok m) h = text_found text m h
-answer_found text (Err e) h = tt

@@ -6,7 +6,7 @@ use Rattle.std.specs.Option.{option_and_then}
 use Rattle.std.proofs.lemmas.Bool.{and_parts, cases_lt, eqb-false, leb-true, le-leb, lt-ltb, ltb-true, ne_eqb, not-true}
 use Rattle.std.proofs.lemmas.Fmt.{decimal_by_steps, decimal_digit, decimal_step}
 use Rattle.module_lang.specs.Bytes.{begins}
-use Rattle.module_lang.specs.Numbers.{constant_from, constant_of, is_canonical, with_digit}
+use Rattle.module_lang.specs.Numbers.{constant_of, decimal_below, decimal_from, is_canonical, with_digit}
 
 -- one more digit
 pub record IsDigit (n b m : ℕ) : Type 0 where
@@ -15,7 +15,7 @@ pub record IsDigit (n b m : ℕ) : Type 0 where
   pub value : m ≡ 10 * n + (b - 48)
   pub small : m < 2 ^ 32
 
-digit_taken : (n b m : ℕ) → with_digit n b ≡ Some m → IsDigit n b m
+digit_taken : (n b m : ℕ) → with_digit (2 ^ 32) n b ≡ Some m → IsDigit n b m
 unfolding with_digit
 digit_taken n b m h = right (leb 48 b && leb b 57 && ltb (10 * n + (b - 48)) (2 ^ 32)) refl h
   where
@@ -28,7 +28,7 @@ digit_taken n b m h = right (leb 48 b && leb b 57 && ltb (10 * n + (b - 48)) (2 
         let small = ltb-true (10 * n + (b - 48)) (2 ^ 32) a.1 in
         record { low = leb-true 48 b c.0; high = leb-true b 57 c.1; value = sym e; small = omega (arith, e, small) }
 
-digit_again : (n d m : ℕ) → d < 10 → m ≡ 10 * n + d → m < 2 ^ 32 → with_digit n (48 + d) ≡ Some m
+digit_again : (n d m : ℕ) → d < 10 → m ≡ 10 * n + d → m < 2 ^ 32 → with_digit (2 ^ 32) n (48 + d) ≡ Some m
 unfolding with_digit
 digit_again n d m low e small =
     let a : leb 48 (48 + d) ≡ true = le-leb 48 (48 + d) (omega arith) in
@@ -36,15 +36,15 @@ digit_again n d m low e small =
     let v : 10 * n + (48 + d - 48) ≡ m = omega (arith, e) in
     rw (a, b, v, lt-ltb m (2 ^ 32) small) refl
 
-from_push : (ds : List ℕ) (n m b : ℕ) → constant_from n ds ≡ Some m → constant_from n (ds ++ b ∷ []) ≡ with_digit m b
-from_push [] n m b h = let e : n ≡ m = cc h in same (with_digit n b) ∙ ap (λ x. with_digit x b) e
+from_push : (ds : List ℕ) (n m b : ℕ) → decimal_from (2 ^ 32) n ds ≡ Some m → decimal_from (2 ^ 32) n (ds ++ b ∷ []) ≡ with_digit (2 ^ 32) m b
+from_push [] n m b h = let e : n ≡ m = cc h in same (with_digit (2 ^ 32) n b) ∙ ap (λ x. with_digit (2 ^ 32) x b) e
   where
-    same : (o : Option ℕ) → option_and_then (λ x. constant_from x []) o ≡ o
+    same : (o : Option ℕ) → option_and_then (λ x. decimal_from (2 ^ 32) x []) o ≡ o
     same None = refl
     same (Some x) = refl
-from_push (d ∷ ds) n m b h = next (with_digit n d) (λ x. from_push ds x m b) h
+from_push (d ∷ ds) n m b h = next (with_digit (2 ^ 32) n d) (λ x. from_push ds x m b) h
   where
-    next : (o : Option ℕ) → ((x : ℕ) → constant_from x ds ≡ Some m → constant_from x (ds ++ b ∷ []) ≡ with_digit m b) → option_and_then (λ x. constant_from x ds) o ≡ Some m → option_and_then (λ x. constant_from x (ds ++ b ∷ [])) o ≡ with_digit m b
+    next : (o : Option ℕ) → ((x : ℕ) → decimal_from (2 ^ 32) x ds ≡ Some m → decimal_from (2 ^ 32) x (ds ++ b ∷ []) ≡ with_digit (2 ^ 32) m b) → option_and_then (λ x. decimal_from (2 ^ 32) x ds) o ≡ Some m → option_and_then (λ x. decimal_from (2 ^ 32) x (ds ++ b ∷ [])) o ≡ with_digit (2 ^ 32) m b
     next None more h = absurd (cc h)
     next (Some x) more h = more x h
 
@@ -62,20 +62,20 @@ decimal_leads n low = decimal_by_steps Leads (λ m small some. (48 + m, [], refl
 decimal_canonical : (n : ℕ) → n < 2 ^ 64 → is_canonical (decimal n) ≡ true
 decimal_canonical n low = (decimal_by_steps (λ m ds. Leads m ds × (is_canonical ds ≡ true)) (λ m small. ((λ some. (48 + m, [], refl, ne_eqb (48 + m) 48 (λ e. omega arith))), refl)) (λ m ds high h. let z = h.0 (omega arith) in let last = (48 + m % 10) ∷ [] in ((λ some. (z.0, z.1 ++ last, ap (λ xs. xs ++ last) z.2, z.3)), subst (λ xs. is_canonical (xs ++ last) ≡ true) (sym z.2) (canonical_first z.0 (z.1 ++ last) z.3))) n low).1
 
-decimal_read : (n : ℕ) → n < 2 ^ 64 → n < 2 ^ 32 → constant_from 0 (decimal n) ≡ Some n
+decimal_read : (n : ℕ) → n < 2 ^ 64 → n < 2 ^ 32 → decimal_from (2 ^ 32) 0 (decimal n) ≡ Some n
 decimal_read n low =
-    decimal_by_steps (λ m ds. m < 2 ^ 32 → constant_from 0 ds ≡ Some m) (λ m small fits. ap (option_and_then (λ x. constant_from x [])) (digit_again 0 m m small (omega arith) fits)) (λ m ds high h fits. from_push ds 0 (m / 10) (48 + m % 10) (h (omega arith)) ∙ digit_again (m / 10) (m % 10) m (omega arith) (omega arith) fits) n low
+    decimal_by_steps (λ m ds. m < 2 ^ 32 → decimal_from (2 ^ 32) 0 ds ≡ Some m) (λ m small fits. ap (option_and_then (λ x. decimal_from (2 ^ 32) x [])) (digit_again 0 m m small (omega arith) fits)) (λ m ds high h fits. from_push ds 0 (m / 10) (48 + m % 10) (h (omega arith)) ∙ digit_again (m / 10) (m % 10) m (omega arith) (omega arith) fits) n low
 
 pub constant_again : (k : ℕ) → k < 2 ^ 32 → constant_of (decimal k) ≡ Some k
-unfolding constant_of
+unfolding constant_of decimal_below
 constant_again k h = rw (decimal_canonical k (omega arith)) (decimal_read k (omega arith) h)
 
 -- the digits of a number and those behind them
-grown : (bs : List ℕ) (n k : ℕ) → 0 < n → n < 2 ^ 32 → constant_from n bs ≡ Some k → (decimal n ++ bs ≡ decimal k) × (k < 2 ^ 32)
+grown : (bs : List ℕ) (n k : ℕ) → 0 < n → n < 2 ^ 32 → decimal_from (2 ^ 32) n bs ≡ Some k → (decimal n ++ bs ≡ decimal k) × (k < 2 ^ 32)
 grown [] n k some low h = let e : n ≡ k = cc h in (append-nil (decimal n) ∙ ap decimal e, omega (arith, e))
-grown (b ∷ bs) n k some low h = next (with_digit n b) refl (λ m. grown bs m k) h
+grown (b ∷ bs) n k some low h = next (with_digit (2 ^ 32) n b) refl (λ m. grown bs m k) h
   where
-    next : (o : Option ℕ) → with_digit n b ≡ o → ((m : ℕ) → 0 < m → m < 2 ^ 32 → constant_from m bs ≡ Some k → (decimal m ++ bs ≡ decimal k) × (k < 2 ^ 32)) → option_and_then (λ x. constant_from x bs) o ≡ Some k → (decimal n ++ b ∷ bs ≡ decimal k) × (k < 2 ^ 32)
+    next : (o : Option ℕ) → with_digit (2 ^ 32) n b ≡ o → ((m : ℕ) → 0 < m → m < 2 ^ 32 → decimal_from (2 ^ 32) m bs ≡ Some k → (decimal m ++ bs ≡ decimal k) × (k < 2 ^ 32)) → option_and_then (λ x. decimal_from (2 ^ 32) x bs) o ≡ Some k → (decimal n ++ b ∷ bs ≡ decimal k) × (k < 2 ^ 32)
     next None q rest h = absurd (cc h)
     next (Some m) q rest h =
         let d = digit_taken n b m q in
@@ -93,11 +93,11 @@ first_above b m (inr le) low e n = absurd (eqb-false b 48 n (omega (arith, low, 
 
 -- the digits of a constant, and that it is below 2^32
 pub constant_found : (t : List ℕ) (k : ℕ) → constant_of t ≡ Some k → (t ≡ decimal k) × (k < 2 ^ 32)
-unfolding constant_of
+unfolding constant_of decimal_below
 constant_found [] k h = absurd (cc h)
-constant_found (b ∷ []) k h = next (with_digit 0 b) refl h
+constant_found (b ∷ []) k h = next (with_digit (2 ^ 32) 0 b) refl h
   where
-    next : (o : Option ℕ) → with_digit 0 b ≡ o → option_and_then (λ x. constant_from x []) o ≡ Some k → (b ∷ [] ≡ decimal k) × (k < 2 ^ 32)
+    next : (o : Option ℕ) → with_digit (2 ^ 32) 0 b ≡ o → option_and_then (λ x. decimal_from (2 ^ 32) x []) o ≡ Some k → (b ∷ [] ≡ decimal k) × (k < 2 ^ 32)
     next None q h = absurd (cc h)
     next (Some m) q h =
         let d = digit_taken 0 b m q in
@@ -106,7 +106,7 @@ constant_found (b ∷ []) k h = next (with_digit 0 b) refl h
         (ap (λ x. x ∷ []) same ∙ sym (decimal_digit k (omega (arith, d.high, d.value, e))), omega (arith, d.small, e))
 constant_found (b ∷ c ∷ bs) k h = first (eqb b 48) refl h
   where
-    next : (o : Option ℕ) → with_digit 0 b ≡ o → eqb b 48 ≡ false → option_and_then (λ x. constant_from x (c ∷ bs)) o ≡ Some k → (b ∷ c ∷ bs ≡ decimal k) × (k < 2 ^ 32)
+    next : (o : Option ℕ) → with_digit (2 ^ 32) 0 b ≡ o → eqb b 48 ≡ false → option_and_then (λ x. decimal_from (2 ^ 32) x (c ∷ bs)) o ≡ Some k → (b ∷ c ∷ bs ≡ decimal k) × (k < 2 ^ 32)
     next None q n h = absurd (cc h)
     next (Some m) q n h =
         let d = digit_taken 0 b m q in
@@ -116,9 +116,9 @@ constant_found (b ∷ c ∷ bs) k h = first (eqb b 48) refl h
         let more = grown (c ∷ bs) m k some d.small h in
         (ap (λ xs. xs ++ c ∷ bs) (sym digits) ∙ more.0, more.1)
 
-    first : (x : Bool) → eqb b 48 ≡ x → cond (not x) (constant_from 0 (b ∷ c ∷ bs)) None ≡ Some k → (b ∷ c ∷ bs ≡ decimal k) × (k < 2 ^ 32)
+    first : (x : Bool) → eqb b 48 ≡ x → cond (not x) (decimal_from (2 ^ 32) 0 (b ∷ c ∷ bs)) None ≡ Some k → (b ∷ c ∷ bs ≡ decimal k) × (k < 2 ^ 32)
     first true q h = absurd (cc h)
-    first false q h = next (with_digit 0 b) refl q h
+    first false q h = next (with_digit (2 ^ 32) 0 b) refl q h
 
 -- digits alone
 abbrev is_digit : ℕ → Bool

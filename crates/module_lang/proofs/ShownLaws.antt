@@ -55,28 +55,9 @@ place_short n q low h = declared_up n 8 q low h
 
 -- the text of an instruction of a module is there
 pub text_there : (p : Program) (i : Instr) → fits p i ≡ true → IfSome (text_of_instr i) (λ t. t < length p.texts)
-text_there p (instr.PCreate q) h = tt
-text_there p (instr.PClear q) h = tt
-text_there p (instr.PDestroy q) h = tt
 text_there p (instr.Label q t) h = let x = and_parts (place_is_declared (length p.pools) q) (ltb t (length p.texts)) h in ltb-true t (length p.texts) x.1
 text_there p (instr.Unlabel q t) h = let x = and_parts (place_is_declared (length p.pools) q) (ltb t (length p.texts)) h in ltb-true t (length p.texts) x.1
-text_there p (instr.BCreate o) h = tt
-text_there p (instr.BClean b) h = tt
-text_there p (instr.BConcat b c) h = tt
-text_there p (instr.BSave o b) h = tt
-text_there p (instr.Pass b l) h = tt
-text_there p (instr.JEmpty b l) h = tt
-text_there p (instr.Put x l) h = tt
-text_there p instr.ClearBuf h = tt
-text_there p (instr.Set m x) h = tt
-text_there p (instr.Add m x) h = tt
-text_there p (instr.Sub m x) h = tt
-text_there p (instr.JLt m x l) h = tt
-text_there p (instr.JEq m x l) h = tt
-text_there p (instr.JNull v l) h = tt
-text_there p (instr.JSent l) h = tt
-text_there p (instr.Jump l) h = tt
-text_there p (instr.Ret e) h = tt
+text_there p _ h = tt
 
 range_more : {X : Type 0} (xs : List X) (n to : ℕ) (x : X) → n < to → slice_get xs n ≡ Some x → slice_range xs n to ≡ x ∷ slice_range xs (n + 1) to
 range_more xs n to x low at =

@@ -1,6 +1,6 @@
--- The bytes of a line, and its words.
-use Rattle.std.specs.Prelude.{ℕ, ◌+◌, Bool, false, ◌&&◌, nat_le, ◌==◌, if◌then◌else◌, List, [], ◌∷◌, take, drop}
-use Rattle.std.specs.List.{list_all}
+-- The bytes of a line, its words, and the spaces before it.
+use Rattle.std.specs.Prelude.{ℕ, Bool, false, ◌&&◌, nat_le, ◌==◌, if◌then◌else◌, List, [], ◌∷◌, take, drop}
+use Rattle.std.specs.List.{list_all, position_or_len}
 
 abbrev pub is_printable : ℕ → Bool
 is_printable b = nat_le 32 b && nat_le b 126
@@ -10,8 +10,7 @@ all_printable bytes = list_all is_printable bytes
 
 -- how many bytes stand before the first space
 abbrev pub token_len : List ℕ → ℕ
-token_len [] = 0
-token_len (b ∷ bs) = if b == 32 then 0 else 1 + token_len bs
+token_len bytes = position_or_len (λ b. b == 32) bytes
 
 -- the bytes before the first space, and those from it on
 unfoldable pub token : List ℕ → List ℕ

@@ -1,3 +1,4 @@
+pub mod Args
 pub mod Assembling
 pub mod Bytes
 pub mod Codes
@@ -14,6 +15,8 @@ pub mod Program
 pub mod Quoted
 pub mod Spelling
 pub mod Shown
+pub mod Tables
+pub mod TextLines
 pub mod Texts
 pub mod Words
 pub mod Writes

@@ -1,14 +1,14 @@
 //! Modules from their texts.
 
-ghost use Rattle.std.specs.Prelude.{◌≡◌, ◌≤◌, ℕ, [], Err, IfOk, IfErr, length};
+ghost use Rattle.std.specs.Prelude.{◌≡◌, ◌≢◌, ◌≤◌, [], Ok, Err, Result, IfOk, length};
 ghost use Rattle.module_lang.specs.Assembling.{is_end, lines_read, lines_ended, draft_read, program_of, assembling};
 ghost use Rattle.module_lang.specs.Codes.{Gives};
 ghost use Rattle.module_lang.specs.Drafts.{empty_draft};
 ghost use Rattle.module_lang.specs.Entries.{IsDraft};
-ghost use Rattle.module_lang.specs.FirstFault.{IsFirstFault, TellsFirst};
+ghost use Rattle.module_lang.specs.FirstFault.{Reads};
 ghost use Rattle.module_lang.specs.Printing.{printed};
 ghost use Rattle.module_lang.specs.Program.{IsModule, Program};
-ghost use Rattle.module_lang.specs.Texts.{IsTextOf};
+ghost use Rattle.module_lang.specs.declared.refusal.AsmRefusal.TheVariants.{NoMemory};
 
 use crate::draft::{Draft, Part};
 use crate::handler::resolve_handler;
@@ -118,19 +118,14 @@ fn read_module(alloc: Global, text: &[u8]) -> Result<Module, AsmRefusal>
 pub fn assemble(alloc: Global, text: &[u8]) -> Result<Module, AsmRefusal>
     ensures exact { Gives (λ m. m) result (assembling text.now) }
 
-    // A fault that is told is the first one, in words of lines and codes, and the first one is told, memory apart.
-    ensures first { IfErr result (λ e. TellsFirst text.now e) }
-    ensures told { (n : ℕ) (c : Code) → IsFirstFault text.now n c → Gives (λ m. m) result (Err (AsmRefusal.Fault n c)) }
-
-    // What is taken is a text that the grammar writes for the module.
-    ensures found { IfOk result (λ m. IsTextOf text.now m) }
-
-    // A text that is written by the grammar is taken as the module that it spells, memory apart.
-    ensures only { (p : Program) → IsTextOf text.now p → Gives (λ m. m) result (Ok p) }
+    // A text is a module by the grammar, or has a first faulty line. What is answered it is, and what it is is answered,
+    // memory apart; and it is one thing alone.
+    ensures reads { result ≢ Err NoMemory → Reads text.now result }
+    ensures told { (r : Result Program AsmRefusal) → Reads text.now r → Gives (λ m. m) result r }
+    ensures one { (r s : Result Program AsmRefusal) → Reads text.now r → Reads text.now s → r ≡ s }
 
     // The text that a module is printed as is taken as that module, memory apart.
     ensures again { (p : Program) → IsModule p → text.now ≡ printed p → Gives (λ m. m) result (Ok p) }
-    ensures one { (p q : Program) → IsTextOf text.now p → IsTextOf text.now q → p ≡ q }
 {
     read_module(alloc, text)
 }

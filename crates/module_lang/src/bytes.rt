@@ -1,8 +1,9 @@
-//! The bytes of a line, and its words.
+//! The bytes of a line, its words, and the spaces before it.
 
-ghost use Rattle.std.specs.Prelude.{◌≡◌, ◌≤◌, length, nat_eq};
+ghost use Rattle.std.specs.Prelude.{◌≡◌, ◌==◌, ◌≤◌, length, nat_eq};
 ghost use Rattle.std.specs.Cmp.Lexicographic.{pointwise};
-ghost use Rattle.module_lang.specs.Bytes.{is_printable, all_printable, token, token_len, after_token, unindented, begins, tail};
+ghost use Rattle.std.specs.List.{position_or_len};
+ghost use Rattle.module_lang.specs.Bytes.{is_printable, all_printable, token, after_token, unindented, begins, tail};
 
 /// Whether a byte may stand in a text as it is, from 0x20 to 0x7E.
 pub fn is_printable(byte: u8) -> bool
@@ -43,33 +44,34 @@ pub fn tail(bytes: &[u8]) -> &[u8]
     &bytes[1..]
 }
 
-/// How many bytes stand before the first space.
-fn token_len(bytes: &[u8]) -> usize
-    ensures count { result ≡ token_len bytes.now }
+/// How many bytes stand before the first of these, or all where it is not there.
+pub fn len_before(bytes: &[u8], stop: u8) -> usize
+    ensures value { result ≡ position_or_len (λ b. b == stop) bytes.now }
     ensures within { result ≤ length bytes.now }
 {
     for (i, byte) in bytes.iter().enumerate() {
-        if *byte == b' ' {
+        if *byte == stop {
             return i;
         }
     }
     bytes.len()
 }
 
-/// The bytes before the first space.
+/// The bytes before the first space: the word that a line begins with.
 #[tactic(auto, unfolding(crate::specs::Bytes::token))]
 pub fn token(bytes: &[u8]) -> &[u8]
     ensures { result.now ≡ token bytes.now }
 {
-    &bytes[..token_len(bytes)]
+    &bytes[..len_before(bytes, b' ')]
 }
 
 /// The bytes from the first space on.
 #[tactic(auto, unfolding(crate::specs::Bytes::after_token))]
 pub fn after_token(bytes: &[u8]) -> &[u8]
-    ensures { result.now ≡ after_token bytes.now }
+    ensures value { result.now ≡ after_token bytes.now }
+    ensures within { length result.now ≤ length bytes.now }
 {
-    &bytes[token_len(bytes)..]
+    &bytes[len_before(bytes, b' ')..]
 }
 
 /// A line without the spaces that it begins with.

@@ -1,6 +1,7 @@
 //! The module language: module texts, the modules that they spell, and their instructions.
 #![tactic(auto)]
 
+mod arg;
 mod assembler;
 mod bytes;
 mod draft;
@@ -12,12 +13,15 @@ mod module;
 mod name;
 mod number;
 mod operand;
+mod parts;
 mod print;
 mod quoted;
 mod refusal;
 mod seq;
 #[cfg(test)]
 mod tests;
+pub mod text;
+mod text_line;
 mod word;
 mod writer;
 

@@ -6,14 +6,13 @@ ghost use Rattle.module_lang.specs.Numbers.{is_value};
 ghost use Rattle.module_lang.specs.Printing.{aim, is_number, label_line, is_target, printed, target_name};
 ghost use Rattle.module_lang.specs.Program.{IsModule, Program, fits, target, text_of_instr};
 ghost use Rattle.module_lang.specs.Shown.{shown_text, shown_variable, text_shown, text_line, IsShort, shown_line, shown_step, shown_code, shown_declarations, shown_handler};
-ghost use Rattle.module_lang.specs.Spelling.{op_of};
 ghost use Rattle.module_lang.specs.Texts.{brigade_texts, code_text, joined, operand_texts, operands_text, pool_texts, IsTextOf};
 ghost use Rattle.module_lang.specs.Writes.{Wrote};
 
 use crate::instr::{Instr, PoolRef, Status, Value, VarRef};
 use crate::module::Module;
+use crate::parts::parts;
 use crate::quoted::print_text;
-use crate::word::Op;
 use crate::writer::{WriteFault, put_all};
 use itoa::Buffer;
 use std::io::Write;
@@ -36,35 +35,6 @@ pub enum Shown {
     Ending(Status),
     /// A number variable or a constant.
     Value(Value),
-}
-
-fn op_of(instr: Instr) -> Op
-    ensures { result ≡ op_of instr }
-{
-    match instr {
-        Instr::PCreate(_) => Op::PCreate,
-        Instr::PClear(_) => Op::PClear,
-        Instr::PDestroy(_) => Op::PDestroy,
-        Instr::Label(_, _) => Op::Label,
-        Instr::Unlabel(_, _) => Op::Unlabel,
-        Instr::BCreate(_) => Op::BCreate,
-        Instr::BClean(_) => Op::BClean,
-        Instr::BConcat(_, _) => Op::BConcat,
-        Instr::BSave(_, _) => Op::BSave,
-        Instr::Pass(_, _) => Op::Pass,
-        Instr::JEmpty(_, _) => Op::JEmpty,
-        Instr::Put(_, _) => Op::Put,
-        Instr::ClearBuf => Op::ClearBuf,
-        Instr::Set(_, _) => Op::Set,
-        Instr::Add(_, _) => Op::Add,
-        Instr::Sub(_, _) => Op::Sub,
-        Instr::JLt(_, _, _) => Op::JLt,
-        Instr::JEq(_, _, _) => Op::JEq,
-        Instr::JNull(_, _) => Op::JNull,
-        Instr::JSent(_) => Op::JSent,
-        Instr::Jump(_) => Op::Jump,
-        Instr::Ret(_) => Op::Ret,
-    }
 }
 
 fn variable(variable: VarRef) -> Shown
@@ -116,12 +86,7 @@ fn operands(instr: Instr) -> (Shown, Shown, Shown)
 fn target(instr: Instr) -> Option<u16>
     ensures { result ≡ target instr }
 {
-    match instr {
-        Instr::Pass(_, l) | Instr::JEmpty(_, l) | Instr::JNull(_, l) => Some(l),
-        Instr::Put(_, l) | Instr::JLt(_, _, l) | Instr::JEq(_, _, l) => Some(l),
-        Instr::JSent(l) | Instr::Jump(l) => Some(l),
-        _ => None,
-    }
+    parts(instr).1.target()
 }
 
 /// The number of the text that an instruction names.
@@ -282,7 +247,7 @@ fn put_step<W: Write>(out: &mut W, module: &Module, instr: Instr) -> Result<(), 
     requires fit { fits «module».now instr ≡ true }
     ensures { Wrote result (W.contents out.old) (W.contents out.new) (shown_step «module».now.texts instr) }
 {
-    let word = op_of(instr).text();
+    let word = parts(instr).0.text();
     let (first, second, third) = operands(instr);
     match text_number(instr) {
         Some(text) => put_text_line(out, word, first, module.text(text)),

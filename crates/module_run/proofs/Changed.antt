@@ -4,10 +4,10 @@ use Rattle.std.proofs.Math.Path.{fun_ext}
 use Rattle.std.proofs.Math.ListN.{get_or-map}
 use Rattle.std.specs.Global.{Vec}
 use Rattle.std.proofs.lemmas.List.{append-nil}
-use Rattle.run_model.specs.declared.bucket.Var.{Var}
-use Rattle.run_model.specs.declared.bucket.Var.TheVariants as var
+use Rattle.run_model.specs.declared.bucket.BrigadeVar.{BrigadeVar}
+use Rattle.run_model.specs.declared.bucket.BrigadeVar.TheVariants as var
 use Rattle.run_model.specs.declared.payload.Payload.{Payload}
-use Rattle.run_model.specs.declared.bucket.Named.{Named}
+use Rattle.run_model.specs.declared.bucket.NamedBucket.{NamedBucket}
 use Rattle.run_model.specs.Buckets.{cleared_bucket}
 use Rattle.run_model.specs.Payloads.{labels_in}
 use Rattle.run_model.specs.Pools.{Pools, created, is_under}
@@ -15,29 +15,29 @@ use Rattle.run_model.specs.RunOrder.{run_order}
 use Rattle.run_model.specs.Clearing.{cleared_var, run_down}
 use Rattle.run_model.specs.Files.{Files, let_go}
 use Rattle.run_model.specs.Steps.{files_let_go}
-use Rattle.run_model.specs.State.{Run, with_pools, set_pool}
+use Rattle.run_model.specs.State.{Configuration, with_pools, set_pool}
 use Rattle.module_run.specs.Seen.{labels_handed}
 use Rattle.module_run.specs.Mapped.{mapped}
 use Rattle.module_run.specs.Made.{pool_made}
-use Rattle.module_run.specs.Standing.{variables}
-use Rattle.module_run.proofs.Standing.{set_variables}
+use Rattle.module_run.specs.OwnPools.{variables}
+use Rattle.module_run.proofs.OwnPools.{set_variables}
 use Rattle.run_model.specs.Indexed.{upd}
 use Rattle.run_model.specs.declared.bucket.PoolVar.{PoolVar}
 use Rattle.run_model.specs.declared.bucket.PoolVar.TheVariants as poolvar
 
-abbrev with_parts : Run → (ℕ → Var) → List (List ℕ) → Run
-with_parts r brigs labels = record r { inst = record r.inst { brigs = brigs }; shared = record r.shared { labels = labels } }
+abbrev with_parts : Configuration → (ℕ → BrigadeVar) → List (List ℕ) → Configuration
+with_parts r brigades labels = record r { instance = record r.instance { brigades = brigades }; shared = record r.shared { labels = labels } }
 
 -- the brigades of a list that was cleared
-pub mapped_by : (r : Run) (reached : ℕ → Bool) (old new : List Var) (runs later : List (Vec (ℕ × Payload)))
-    → (λ b. get_or old b var.Null) ≡ r.inst.brigs → new ≡ map (cleared_var reached) old → labels_handed runs ≡ r.shared.labels → later ≡ runs
+pub mapped_by : (r : Configuration) (reached : ℕ → Bool) (old new : List BrigadeVar) (runs later : List (Vec (ℕ × Payload)))
+    → (λ b. get_or old b var.Null) ≡ r.instance.brigades → new ≡ map (cleared_var reached) old → labels_handed runs ≡ r.shared.labels → later ≡ runs
     → with_parts r (λ b. get_or new b var.Null) (labels_handed later) ≡ mapped (cleared_var reached) r
 unfolding mapped
-mapped_by r reached old new runs later brigs changed labels same =
-    ap (λ (vs : List Var). with_parts r (λ b. get_or vs b var.Null) (labels_handed later)) changed
-    ∙ (ap (λ (f : ℕ → Var). with_parts r f (labels_handed later)) (fun_ext (λ b. get_or-map (cleared_var reached) old b var.Null))
-    ∙ (ap (λ (f : ℕ → Var). with_parts r (λ b. cleared_var reached (f b)) (labels_handed later)) brigs
-    ∙ ap (with_parts r (λ b. cleared_var reached (r.inst.brigs b))) (ap labels_handed same ∙ labels)))
+mapped_by r reached old new runs later brigades changed labels same =
+    ap (λ (vs : List BrigadeVar). with_parts r (λ b. get_or vs b var.Null) (labels_handed later)) changed
+    ∙ (ap (λ (f : ℕ → BrigadeVar). with_parts r f (labels_handed later)) (fun_ext (λ b. get_or-map (cleared_var reached) old b var.Null))
+    ∙ (ap (λ (f : ℕ → BrigadeVar). with_parts r (λ b. cleared_var reached (f b)) (labels_handed later)) brigades
+    ∙ ap (with_parts r (λ b. cleared_var reached (r.instance.brigades b))) (ap labels_handed same ∙ labels)))
 
 -- the labels of one more clear
 pub labels_more : (runs : List (Vec (ℕ × Payload))) (ran : Vec (ℕ × Payload)) → labels_handed (runs ++ ran ∷ []) ≡ labels_handed runs ++ labels_in ran.items
@@ -45,39 +45,39 @@ labels_more [] ran = append-nil (labels_in ran.items)
 labels_more (first ∷ runs) ran = ap (λ (xs : List (List ℕ)). labels_in first.items ++ xs) (labels_more runs ran) ∙ sym (append_assoc (labels_in first.items) (labels_handed runs) (labels_in ran.items))
 
 -- a run with other pools, labels and files
-abbrev pub with_ran : Pools Payload → List (List ℕ) → Files → Run → Run
+abbrev pub with_ran : Pools Payload → List (List ℕ) → Files → Configuration → Configuration
 with_ran pools labels files r = record r { shared = record r.shared { pools = pools; labels = labels; files = files } }
 
 -- the brigades were cleared, the pools changed, labels ran, and files closed
-pub ran_down : (r mid : Run) (p : ℕ) (after pools : Pools Payload) (labels : List (List ℕ)) (files : Files) → r.call.loose ≡ []
+pub ran_down : (r mid : Configuration) (p : ℕ) (after pools : Pools Payload) (labels : List (List ℕ)) (files : Files) → r.call.loose ≡ []
     → mid ≡ mapped (cleared_var (is_under r.shared.pools p)) r → pools ≡ after → labels ≡ r.shared.labels ++ labels_in (run_order r.shared.pools p)
     → files ≡ let_go (run_order r.shared.pools p) after r.shared.files
     → with_ran pools labels files mid ≡ files_let_go p r (with_pools after (run_down p r))
 unfolding mapped with_pools run_down
 ran_down r mid p after pools labels files none changed became ran closed =
     let reached : ℕ → Bool = is_under r.shared.pools p in
-    let clear : List Named → List Named = map (cleared_bucket reached) in
+    let clear : List NamedBucket → List NamedBucket = map (cleared_bucket reached) in
     let kept : r.call.loose ≡ clear r.call.loose = none ∙ sym (ap clear none) in
-    let base : Run = mapped (cleared_var reached) r in
+    let base : Configuration = mapped (cleared_var reached) r in
     let left : Files = let_go (run_order r.shared.pools p) after r.shared.files in
     ap (with_ran pools labels files) changed
     ∙ (ap (λ (ps : Pools Payload). with_ran ps labels files base) became
     ∙ (ap (λ (ls : List (List ℕ)). with_ran after ls files base) ran
     ∙ (ap (λ (fs : Files). with_ran after (r.shared.labels ++ labels_in (run_order r.shared.pools p)) fs base) closed
-    ∙ ap (λ (loose : List Named). record (with_ran after (r.shared.labels ++ labels_in (run_order r.shared.pools p)) left base) { call = record r.call { loose = loose } }) kept)))
+    ∙ ap (λ (loose : List NamedBucket). record (with_ran after (r.shared.labels ++ labels_in (run_order r.shared.pools p)) left base) { call = record r.call { loose = loose } }) kept)))
 
 -- a run with other pool variables and pools
-abbrev pub with_made : (ℕ → PoolVar) → Pools Payload → Run → Run
-with_made vars pools r = record r { inst = record r.inst { pools = vars }; shared = record r.shared { pools = pools } }
+abbrev pub with_made : (ℕ → PoolVar) → Pools Payload → Configuration → Configuration
+with_made vars pools r = record r { instance = record r.instance { pools = vars }; shared = record r.shared { pools = pools } }
 
 -- a pool was made in a pool variable
-pub made_by : (r : Run) (q parent k name : ℕ) (vars : List PoolVar) (pools : Pools Payload) → r.inst.pools ≡ variables vars → k < length vars → k ≡ q
-    → name ≡ r.shared.pools.next → pools ≡ created parent r.shared.pools → with_made (variables (set vars k (poolvar.Named name))) pools r ≡ pool_made q parent r
+pub made_by : (r : Configuration) (q parent k name : ℕ) (vars : List PoolVar) (pools : Pools Payload) → r.instance.pools ≡ variables vars → k < length vars → k ≡ q
+    → name ≡ r.shared.pools.next → pools ≡ created parent r.shared.pools → with_made (variables (set vars k (poolvar.Made name))) pools r ≡ pool_made q parent r
 unfolding pool_made set_pool with_pools
 made_by r q parent k name vars pools seen within place next made =
-    let set_so : variables (set vars k (poolvar.Named name)) ≡ upd r.inst.pools q (poolvar.Named r.shared.pools.next)
-    = set_variables vars k (poolvar.Named name) within
-    ∙ (ap (λ (f : ℕ → PoolVar). upd f k (poolvar.Named name)) (sym seen)
-    ∙ (ap (λ (j : ℕ). upd r.inst.pools j (poolvar.Named name)) place
-    ∙ ap (λ (n : ℕ). upd r.inst.pools q (poolvar.Named n)) next)) in
-    ap (λ (f : ℕ → PoolVar). with_made f pools r) set_so ∙ ap (λ (ps : Pools Payload). with_made (upd r.inst.pools q (poolvar.Named r.shared.pools.next)) ps r) made
+    let set_so : variables (set vars k (poolvar.Made name)) ≡ upd r.instance.pools q (poolvar.Made r.shared.pools.next)
+    = set_variables vars k (poolvar.Made name) within
+    ∙ (ap (λ (f : ℕ → PoolVar). upd f k (poolvar.Made name)) (sym seen)
+    ∙ (ap (λ (j : ℕ). upd r.instance.pools j (poolvar.Made name)) place
+    ∙ ap (λ (n : ℕ). upd r.instance.pools q (poolvar.Made n)) next)) in
+    ap (λ (f : ℕ → PoolVar). with_made f pools r) set_so ∙ ap (λ (ps : Pools Payload). with_made (upd r.instance.pools q (poolvar.Made r.shared.pools.next)) ps r) made

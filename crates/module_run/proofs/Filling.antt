@@ -6,12 +6,12 @@ use Rattle.std.proofs.lemmas.Bool.{false≢true}
 use Rattle.std.proofs.lemmas.List.{append-nil, length-append, length-take, length-drop, length-take-le, take-append-le}
 use borrow.Rule.Slice.PartMut.{put_mid, post_of}
 use Rattle.std.proofs.lemmas.Bool.{cases_lt}
-use Rattle.run_model.specs.declared.bucket.Named.{Named}
+use Rattle.run_model.specs.declared.bucket.NamedBucket.{NamedBucket}
 use Rattle.run_model.specs.Buckets.{is_eos}
-use Rattle.run_model.specs.Files.{content_taken, taken_of, followed_by, Files, Taken, all_taken, and_then, unless_failed, range_taken, parts_of, read_part, read_done}
+use Rattle.run_model.specs.Files.{content_taken, taken_of, followed_by, Files, BytesTaken, all_taken, and_then, unless_failed, range_taken, parts_of, read_part, read_done}
 
 -- the rest of a range of which m bytes are left
-abbrev pub rest_of_range : ℕ → ℕ → ℕ → Files → Taken
+abbrev pub rest_of_range : ℕ → ℕ → ℕ → Files → BytesTaken
 rest_of_range m file at = range_taken (parts_of m) file at m
 
 pub none_left : (file at : ℕ) (fs : Files) → rest_of_range 0 file at fs ≡ all_taken [] fs
@@ -38,7 +38,7 @@ same_rest m file at n gs is =
     ap (λ k. rest_of_range (m - k) file (at + k) gs) whole)
     (cases_lt m 8000)
 
-pub both : (a b : List ℕ) (t : Taken) → and_then a (and_then b t) ≡ and_then (a ++ b) t
+pub both : (a b : List ℕ) (t : BytesTaken) → and_then a (and_then b t) ≡ and_then (a ++ b) t
 both a b t = ap (λ bytes. record t { bytes = bytes }) (sym (append_assoc a b t.bytes))
 
 -- a part was read
@@ -101,17 +101,17 @@ put_front a k j xs ys fits inside =
     take_past (take a xs) (ys ++ post_of a k xs) (a + j) j (omega (arith, len)) ∙ ap (λ zs. take a xs ++ zs) (take-append-le j ys (post_of a k xs) inside)
 
 -- what is taken of buckets, by the first of them
-pub at_eos : (b : Named) (bs : List Named) (fs : Files) → is_eos b ≡ true → taken_of (b ∷ bs) fs ≡ all_taken [] fs
+pub at_eos : (b : NamedBucket) (bs : List NamedBucket) (fs : Files) → is_eos b ≡ true → taken_of (b ∷ bs) fs ≡ all_taken [] fs
 unfolding taken_of
 at_eos b bs fs eos = ap (λ e. cond e (all_taken [] fs) (followed_by (content_taken b.bucket.content fs) (taken_of bs))) eos
 
-pub at_failed : (b : Named) (bs : List Named) (fs gs : Files) (bytes : List ℕ) → is_eos b ≡ false → content_taken b.bucket.content fs ≡ record { bytes = bytes; whole = false; files = gs }
+pub at_failed : (b : NamedBucket) (bs : List NamedBucket) (fs gs : Files) (bytes : List ℕ) → is_eos b ≡ false → content_taken b.bucket.content fs ≡ record { bytes = bytes; whole = false; files = gs }
     → taken_of (b ∷ bs) fs ≡ record { bytes = bytes; whole = false; files = gs }
 unfolding taken_of
 at_failed b bs fs gs bytes plain taken =
     ap (λ e. cond e (all_taken [] fs) (followed_by (content_taken b.bucket.content fs) (taken_of bs))) plain ∙ ap (λ t. followed_by t (taken_of bs)) taken
 
-pub at_more : (b : Named) (bs : List Named) (fs gs : Files) (bytes : List ℕ) → is_eos b ≡ false → content_taken b.bucket.content fs ≡ record { bytes = bytes; whole = true; files = gs }
+pub at_more : (b : NamedBucket) (bs : List NamedBucket) (fs gs : Files) (bytes : List ℕ) → is_eos b ≡ false → content_taken b.bucket.content fs ≡ record { bytes = bytes; whole = true; files = gs }
     → taken_of (b ∷ bs) fs ≡ and_then bytes (taken_of bs gs)
 unfolding taken_of
 at_more b bs fs gs bytes plain taken =

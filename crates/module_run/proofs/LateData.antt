@@ -3,7 +3,7 @@ use Rattle.std.proofs.Common.{◌≡◌, Bool, true, false, ◌&&◌, ◌||◌, 
 use Rattle.std.proofs.lemmas.Bool.{false≢true}
 use Rattle.run_model.specs.declared.bucket.Kind.{Kind}
 use Rattle.run_model.specs.declared.bucket.Kind.TheVariants as kind
-use Rattle.run_model.specs.declared.bucket.Named.{Named}
+use Rattle.run_model.specs.declared.bucket.NamedBucket.{NamedBucket}
 use Rattle.module_run.specs.Tests.{late_data, late_piece}
 use Rattle.run_model.specs.declared.event.Piece.{Piece}
 use Rattle.run_model.specs.Connection.{bucket_of, is_data_piece, is_eos_piece, data_behind_eos}
@@ -47,7 +47,7 @@ one_more false false false true false p = refl
 one_more false false false false true p = refl
 one_more false false false false false p = refl
 
-pub late_data_is : (late : Bool) (items : List Named) → late_data late items ≡ (data_after_eos items || (late && has_data items))
+pub late_data_is : (late : Bool) (items : List NamedBucket) → late_data late items ≡ (data_after_eos items || (late && has_data items))
 late_data_is true [] = refl
 late_data_is false [] = refl
 late_data_is late (b ∷ bs) =

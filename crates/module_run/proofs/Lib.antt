@@ -3,9 +3,9 @@ pub mod Refilled
 pub mod Writes
 pub mod Mapping
 pub mod Places
-pub mod Standing
+pub mod OwnPools
 pub mod Changed
-pub mod Named
+pub mod PoolNames
 pub mod Killed
 pub mod Running
 pub mod LetGo

@@ -7,7 +7,7 @@ use Rattle.run_model.specs.RunOrder.{killed, without_last}
 use Rattle.std.specs.Prelude.{Err}
 use Rattle.run_model.specs.declared.payload.Payload.{Payload}
 use Rattle.run_model.specs.Files.{Files}
-use Rattle.run_model.specs.State.{Run}
+use Rattle.run_model.specs.State.{Configuration}
 use Rattle.bucket_kinds.specs.declared.refusal.FileFault.{FileFault}
 use Rattle.bucket_kinds.specs.declared.refusal.FileFault.TheVariants as fault
 use Rattle.bucket_kinds.specs.MemAnswers.{IsFileOpening}
@@ -46,7 +46,7 @@ unfolding registered is_live
 live_registered ps p n x live = live
 
 -- a run with other pools and files
-abbrev pub with_both : Pools Payload → Files → Run → Run
+abbrev pub with_both : Pools Payload → Files → Configuration → Configuration
 with_both pools files r = record r { shared = record r.shared { pools = pools; files = files } }
 
 -- what was not opened changed nothing

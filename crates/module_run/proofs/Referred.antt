@@ -4,19 +4,19 @@ use Rattle.std.specs.Prelude.{Result, Ok, Err, OnOk, OnErr}
 use Rattle.std.specs.Result.{is_err}
 use Rattle.std.proofs.Math.Path.{fun_ext}
 use Rattle.run_model.specs.declared.bucket.Brigade.{Brigade}
-use Rattle.run_model.specs.declared.bucket.Var.TheVariants as var
+use Rattle.run_model.specs.declared.bucket.BrigadeVar.TheVariants as var
 use Rattle.std.proofs.lemmas.Bool.{false≢true, cases_eq, ne_eqb, eq-eqb}
 use Rattle.run_model.specs.declared.bucket.Home.{Home}
 use Rattle.run_model.specs.declared.bucket.Home.TheVariants as home
-use Rattle.run_model.specs.declared.bucket.Named.{Named}
-use Rattle.run_model.specs.declared.bucket.Var.{Var}
+use Rattle.run_model.specs.declared.bucket.NamedBucket.{NamedBucket}
+use Rattle.run_model.specs.declared.bucket.BrigadeVar.{BrigadeVar}
 use Rattle.run_model.specs.declared.payload.Payload.{Payload}
 use Rattle.run_model.specs.declared.payload.Payload.TheVariants.{FileRef}
 use Rattle.run_model.specs.Pools.{Pools, is_live, is_under, is_in, is_empty, registered}
 use Rattle.run_model.specs.RunOrder.{IsPoolMap, killed}
 use Rattle.run_model.specs.Payloads.{payload_eq}
 use Rattle.run_model.specs.Cutting.{set_aside}
-use Rattle.run_model.specs.State.{Run, set_brig, with_pools, items_of}
+use Rattle.run_model.specs.State.{Configuration, set_brigade, with_pools, items_of}
 use Rattle.run_model.specs.Steps.{is_above, aside_named, all_referred, made_on, on_pool, saved_into}
 use Rattle.module_run.specs.Saved.{pools_saved, var_saved, var_emptied}
 use Rattle.module_run.proofs.Opened.{killed_again}
@@ -91,23 +91,23 @@ above_same ps qs target home.Ended same = refl
 
 -- setting aside looks at paths alone
 pub aside_same : (ps qs : Pools Payload) (target : ℕ) → qs.path ≡ ps.path → aside_named qs target ≡ aside_named ps target
-aside_same ps qs target same = fun_ext (λ (x : Named). ap (λ above. record x { bucket = set_aside target above x.bucket }) (above_same ps qs target x.bucket.home same))
+aside_same ps qs target same = fun_ext (λ (x : NamedBucket). ap (λ above. record x { bucket = set_aside target above x.bucket }) (above_same ps qs target x.bucket.home same))
 
 -- two brigades that were taken out are put back saved
-pub saved_as : (w : Option ℕ) (o b : ℕ) (m n : Var) (r : Run) → o ≢ b
-    → set_brig o (var_saved w (items_of (r.inst.brigs b)) r.shared.pools (r.inst.brigs o)) (set_brig b (var_emptied w (r.inst.brigs b)) (with_pools (pools_saved w (items_of (r.inst.brigs b)) r.shared.pools) (set_brig o m (set_brig b n r))))
+pub saved_as : (w : Option ℕ) (o b : ℕ) (m n : BrigadeVar) (r : Configuration) → o ≢ b
+    → set_brigade o (var_saved w (items_of (r.instance.brigades b)) r.shared.pools (r.instance.brigades o)) (set_brigade b (var_emptied w (r.instance.brigades b)) (with_pools (pools_saved w (items_of (r.instance.brigades b)) r.shared.pools) (set_brigade o m (set_brigade b n r))))
     ≡ on_pool (saved_into o b) w r
-unfolding set_brig with_pools
+unfolding set_brigade with_pools
 saved_as None o b m n r apart = put_same o b m n r apart
 saved_as (Some target) o b m n r apart =
-    put_back o b m n (var_saved (Some target) (items_of (r.inst.brigs b)) r.shared.pools (r.inst.brigs o)) (var_emptied (Some target) (r.inst.brigs b))
-    (with_pools (pools_saved (Some target) (items_of (r.inst.brigs b)) r.shared.pools) r) apart
+    put_back o b m n (var_saved (Some target) (items_of (r.instance.brigades b)) r.shared.pools (r.instance.brigades o)) (var_emptied (Some target) (r.instance.brigades b))
+    (with_pools (pools_saved (Some target) (items_of (r.instance.brigades b)) r.shared.pools) r) apart
 
-pub saved_path : (w : Option ℕ) (items : List Named) (ps : Pools Payload) → (pools_saved w items ps).path ≡ ps.path
+pub saved_path : (w : Option ℕ) (items : List NamedBucket) (ps : Pools Payload) → (pools_saved w items ps).path ≡ ps.path
 saved_path None items ps = refl
 saved_path (Some target) items ps = referred_path target _ ps
 
-pub saved_next : (w : Option ℕ) (items : List Named) (ps : Pools Payload) → (pools_saved w items ps).next ≡ ps.next
+pub saved_next : (w : Option ℕ) (items : List NamedBucket) (ps : Pools Payload) → (pools_saved w items ps).next ≡ ps.next
 saved_next None items ps = refl
 saved_next (Some target) items ps = referred_next target _ ps
 
@@ -142,17 +142,17 @@ on_fail_all (Ok y) P Q R C by p q r = p
 on_fail_all (Err e) P Q R C by p q r = by p q r
 
 -- a brigade with the buckets of another behind its own
-pub saved_live : (v : Var) (b new : Brigade) (target : ℕ) (items : List Named) (ps : Pools Payload) → v ≡ var.Live b → b.on ≡ Some target → new ≡ record b { items = b.items ++ map (aside_named ps target) items }
+pub saved_live : (v : BrigadeVar) (b new : Brigade) (target : ℕ) (items : List NamedBucket) (ps : Pools Payload) → v ≡ var.Live b → b.on ≡ Some target → new ≡ record b { items = b.items ++ map (aside_named ps target) items }
     → var.Live new ≡ var_saved (made_on v) items ps v
 saved_live v b new target items ps is on moved =
-    ap var.Live moved ∙ (sym (ap (λ (w : Option ℕ). var_saved w items ps (var.Live b)) on) ∙ ap (λ (u : Var). var_saved (made_on u) items ps u) (sym is))
+    ap var.Live moved ∙ (sym (ap (λ (w : Option ℕ). var_saved w items ps (var.Live b)) on) ∙ ap (λ (u : BrigadeVar). var_saved (made_on u) items ps u) (sym is))
 
 -- a variable with no brigade has no buckets
-pub no_items : (v : Var) → ((v ≡ var.Null) ⊎ (v ≡ var.Gone)) → items_of v ≡ []
+pub no_items : (v : BrigadeVar) → ((v ≡ var.Null) ⊎ (v ≡ var.Gone)) → items_of v ≡ []
 no_items v (inl none) = ap items_of none
 no_items v (inr gone) = ap items_of gone
 
 -- brigades that are taken out leave the pools
-pub shared_kept : (o b : ℕ) (m n : Var) (r : Run) → (set_brig o m (set_brig b n r)).shared ≡ r.shared
-unfolding set_brig
+pub shared_kept : (o b : ℕ) (m n : BrigadeVar) (r : Configuration) → (set_brigade o m (set_brigade b n r)).shared ≡ r.shared
+unfolding set_brigade
 shared_kept o b m n r = refl

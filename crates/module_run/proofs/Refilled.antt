@@ -2,8 +2,8 @@
 use Rattle.std.proofs.Common.{◌≡◌, List, [], ◌++◌, drop, map, length, refl, ap, arith}
 use Rattle.std.proofs.lemmas.List.{append-nil, take_all, drop_all, length-map}
 use Rattle.module_lang.specs.SeqLends.{refilled}
-use Rattle.run_model.specs.declared.bucket.Var.{Var}
-use Rattle.run_model.specs.declared.bucket.Var.TheVariants as var
+use Rattle.run_model.specs.declared.bucket.BrigadeVar.{BrigadeVar}
+use Rattle.run_model.specs.declared.bucket.BrigadeVar.TheVariants as var
 use Rattle.run_model.specs.State.{items_of}
 use Rattle.run_model.specs.Steps.{with_items}
 
@@ -13,7 +13,7 @@ refilled_map f xs =
     rw (none, append-nil) (take_all (length xs) (map f xs) (omega (arith, length-map xs f)))
 
 -- nothing more in a brigade
-pub with_same_items : (v : Var) → with_items (items_of v ++ []) v ≡ v
+pub with_same_items : (v : BrigadeVar) → with_items (items_of v ++ []) v ≡ v
 with_same_items var.Null = refl
 with_same_items var.Gone = refl
 with_same_items (var.Live b) = ap (λ items. var.Live (record b { items = items })) (append-nil b.items)

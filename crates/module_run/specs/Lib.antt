@@ -8,7 +8,7 @@ pub use Rattle.pool_tree.specs.Tree
 pub use Rattle.bucket_kinds.specs.MemDevice
 pub use Rattle.bucket_kinds.specs.MemAnswers
 pub mod OpenFiles
-pub mod Standing
+pub mod OwnPools
 pub mod Seen
 pub mod Tests
 pub mod Mapped

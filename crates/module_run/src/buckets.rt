@@ -8,7 +8,7 @@ ghost use Rattle.pool_tree.specs.Tree.{map_of};
 ghost use Rattle.module_run.specs.Tests.{late_data};
 
 use pool_tree::PoolTree;
-use run_model::{Home, Kind, Named, Payload};
+use run_model::{Home, Kind, NamedBucket, Payload};
 
 /// Whether buckets of this kind are data.
 pub(crate) fn is_data_kind(kind: Kind) -> bool
@@ -25,14 +25,14 @@ pub(crate) fn is_eos_kind(kind: Kind) -> bool
 }
 
 /// Whether an EOS is among the buckets.
-pub(crate) fn has_eos(items: &[Named]) -> bool
+pub(crate) fn has_eos(items: &[NamedBucket]) -> bool
     ensures { result ≡ has_eos items.now }
 {
     items.iter().any(|b| is_eos_kind(b.bucket.kind))
 }
 
 /// Whether data stands behind an EOS of the list, or anywhere in it where an EOS was sent before it.
-pub(crate) fn has_late_data(sent: bool, items: &[Named]) -> bool
+pub(crate) fn has_late_data(sent: bool, items: &[NamedBucket]) -> bool
     ensures { result ≡ late_data sent items.now }
 {
     let mut late = sent;
@@ -53,7 +53,7 @@ fn is_ended(home: Home) -> bool
 }
 
 /// Whether the home of some bucket is dead.
-pub(crate) fn has_dead(items: &[Named]) -> bool
+pub(crate) fn has_dead(items: &[NamedBucket]) -> bool
     ensures { result ≡ list_any is_dead items.now }
 {
     items.iter().any(|b| is_ended(b.bucket.home))
@@ -69,7 +69,7 @@ fn end_call(call: u64, home: Home) -> Home
 }
 
 /// Ends the homes that are this call.
-pub(crate) fn end_homes(items: &mut [Named], call: u64)
+pub(crate) fn end_homes(items: &mut [NamedBucket], call: u64)
     ensures { items.new ≡ map (returned_bucket call) items.old }
 {
     for b in items.iter_mut() {
@@ -78,7 +78,7 @@ pub(crate) fn end_homes(items: &mut [Named], call: u64)
 }
 
 /// Whether a clear of a pool reaches the pool of a name.
-#[tactic(auto, using(crate::proofs::Standing::under_none))]
+#[tactic(auto, using(crate::proofs::OwnPools::under_none))]
 pub(crate) fn reaches(pools: &PoolTree<Payload>, cleared: u64, name: u64) -> bool
     requires { IsTrue (is_live (map_of pools.now) cleared) }
     ensures { result ≡ is_under (map_of pools.now) cleared name }
@@ -108,7 +108,7 @@ fn to_heap(pools: &PoolTree<Payload>, cleared: u64, kind: Kind) -> Kind
 
 /// What a clear of a pool does to buckets: those whose home it reaches lose it, and those whose bytes lie in a pool that it
 /// reaches become HEAP.
-pub(crate) fn clear(items: &mut [Named], pools: &PoolTree<Payload>, cleared: u64)
+pub(crate) fn clear(items: &mut [NamedBucket], pools: &PoolTree<Payload>, cleared: u64)
     requires { IsTrue (is_live (map_of pools.now) cleared) }
     ensures { items.new ≡ map (cleared_bucket (is_under (map_of pools.now) cleared)) items.old }
 {

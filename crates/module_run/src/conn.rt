@@ -5,7 +5,7 @@ ghost use Rattle.run_model.specs.Connection.{opened, calling, begins, brings, en
 ghost use Rattle.run_model.specs.Steps.{watched, current};
 ghost use Rattle.run_model.specs.Runs.{EndsRun};
 ghost use Rattle.pool_tree.specs.Tree.{map_of};
-ghost use Rattle.module_run.specs.Seen.{seen, seen_run, step_lasted, lasted, refusal_of, labels_handed, labels_of, pools_left, files_left};
+ghost use Rattle.module_run.specs.Seen.{seen, seen_machine, step_lasted, lasted, refusal_of, labels_handed, labels_of, pools_left, files_left};
 ghost use Rattle.bucket_kinds.specs.MemDevice.{files_of};
 ghost use Rattle.bucket_kinds.specs.MemAnswers.{IsAdding};
 
@@ -33,10 +33,10 @@ pub struct Conn {
 /// where a growth was refused. A fault and a refusal change nothing.
 #[tactic(auto, unfolding(crate::specs::Seen::seen))]
 pub fn step_watched(alloc: Global, code: &Module, conn: &mut Conn) -> Result<Stepped, StepRefusal>
-    requires { (seen conn.old).run.pc < length code.now.code }
-    ensures step { let r = (seen conn.old).run in watched (step_lasted result) code.now (current code.now r.pc) r ≡ (result, (seen conn.new).run) }
-    ensures rest { seen conn.new ≡ record (seen conn.old) { run = (seen conn.new).run } }
-    ensures inside { (seen conn.new).run.pc < length code.now.code }
+    requires { (seen conn.old).state.pc < length code.now.code }
+    ensures step { let r = (seen conn.old).state in watched (step_lasted result) code.now (current code.now r.pc) r ≡ (result, (seen conn.new).state) }
+    ensures rest { seen conn.new ≡ record (seen conn.old) { state = (seen conn.new).state } }
+    ensures inside { (seen conn.new).state.pc < length code.now.code }
 {
     step::step(alloc, code, &mut conn.machine)
 }
@@ -68,9 +68,9 @@ impl Conn {
     /// and `NoMemory` as in `step_watched`. `Idle`: no call is running. After `Fault` it is broken by `Faulted`.
     #[tactic(auto, unfolding(crate::specs::Seen::seen, run_model::specs::Connection::steps))]
     pub fn step(&mut self, alloc: Global, code: &Module, budget: u64) -> Result<Stepped, Refusal>
-        requires { (seen self.old).run.pc < length code.now.code }
+        requires { (seen self.old).state.pc < length code.now.code }
         ensures step { steps (lasted result) budget code.now (seen self.old) ≡ (result, seen self.new) }
-        ensures inside { (seen self.new).run.pc < length code.now.code }
+        ensures inside { (seen self.new).state.pc < length code.now.code }
         ensures counts { result ≡ Ok Stepped.Went → (seen self.new).count ≡ (seen self.old).count + 1 }
         ensures room { result ≡ Ok Stepped.Went → (seen self.old).count < budget }
     {
@@ -101,7 +101,7 @@ impl Conn {
     }
 
     fn call(&mut self, name: u64, pc: usize)
-        ensures { seen self.new ≡ calling name pc (seen self.old).files (seen self.old).run }
+        ensures { seen self.new ≡ calling name pc (seen self.old).files (seen self.old).state }
     {
         self.machine.set_call(name);
         self.machine.go_to(pc);
@@ -134,7 +134,7 @@ impl Conn {
     #[tactic(auto, unfolding(crate::specs::Seen::seen, run_model::specs::Connection::begins))]
     pub fn begin(&mut self, code: &Module) -> Result<(), Refusal>
         ensures begins { begins (lasted result) code.now (seen self.old) ≡ (refusal_of result, seen self.new) }
-        ensures inside { (seen self.old).run.pc < length code.now.code → (seen self.new).run.pc < length code.now.code }
+        ensures inside { (seen self.old).state.pc < length code.now.code → (seen self.new).state.pc < length code.now.code }
     {
         if let Some(cause) = self.broken {
             return Err(Refusal::Broken(cause));
@@ -181,15 +181,15 @@ impl Conn {
 
     /// Adds a file. `Taken`: there is a file of that name. Refused, nothing is changed. It serves in any state.
     pub fn add_file(&mut self, name: &[u8], bytes: Vec<u8>) -> Result<(), AddRefusal>
-        ensures files { IsAdding (seen self.old).run.shared.files name.now bytes.items result (seen self.new).run.shared.files }
-        ensures rest { let c = seen self.old in seen self.new ≡ record c { run = record c.run { shared = record c.run.shared { files = (seen self.new).run.shared.files } } } }
+        ensures files { IsAdding (seen self.old).state.shared.files name.now bytes.items result (seen self.new).state.shared.files }
+        ensures rest { let c = seen self.old in seen self.new ≡ record c { state = record c.state { shared = record c.state.shared { files = (seen self.new).state.shared.files } } } }
     {
         self.machine.add_file(name, bytes)
     }
 
     /// The files. It takes no memory, and serves in any state.
     pub fn files(&self) -> &MemFiles
-        ensures { files_of result.now ≡ (seen self.now).run.shared.files }
+        ensures { files_of result.now ≡ (seen self.now).state.shared.files }
     {
         self.machine.files()
     }
@@ -229,14 +229,14 @@ impl Conn {
     /// What each clear and each end of a pool handed on, the oldest first. Labels are what ran. It takes no memory, and
     /// serves in any state.
     pub fn labels_run(&self) -> &[Vec<(PoolId, Payload)>]
-        ensures { labels_handed result.now ≡ (seen self.now).run.shared.labels }
+        ensures { labels_handed result.now ≡ (seen self.now).state.shared.labels }
     {
         self.machine.labels_run()
     }
 
     /// The pools, with the root 1. It takes no memory, and serves in any state.
     pub fn pools(&self) -> &PoolTree<Payload>
-        ensures map { map_of result.now ≡ (seen self.now).run.shared.pools }
+        ensures map { map_of result.now ≡ (seen self.now).state.shared.pools }
         ensures root { (map_of result.now).path 1 ≡ 1 ∷ [] }
     {
         self.machine.pools()
@@ -284,7 +284,7 @@ impl Conn {
     #[tactic(auto, unfolding(crate::specs::Seen::seen, run_model::specs::Connection::brings))]
     pub fn bring(&mut self, alloc: Global, code: &Module, pieces: Seq<Piece>) -> Result<(), Refusal>
         ensures brings { brings (lasted result) code.now pieces (seen self.old) ≡ (refusal_of result, seen self.new) }
-        ensures inside { (seen self.old).run.pc < length code.now.code → (seen self.new).run.pc < length code.now.code }
+        ensures inside { (seen self.old).state.pc < length code.now.code → (seen self.new).state.pc < length code.now.code }
     {
         if let Some(cause) = self.broken {
             return Err(Refusal::Broken(cause));
@@ -314,9 +314,9 @@ impl Conn {
 
     /// Steps until one answers something else than `Went`, and that answer. Each refusal is as in `step`.
     pub fn run(&mut self, alloc: Global, code: &Module, budget: u64) -> Result<Stepped, Refusal>
-        requires { (seen self.old).run.pc < length code.now.code }
+        requires { (seen self.old).state.pc < length code.now.code }
         ensures run { EndsRun (lasted result) budget code.now (seen self.old) result (seen self.new) }
-        ensures inside { (seen self.new).run.pc < length code.now.code }
+        ensures inside { (seen self.new).state.pc < length code.now.code }
     {
         'steps: loop {
             let answer = self.step(alloc, code, budget);

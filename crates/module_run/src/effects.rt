@@ -5,23 +5,23 @@ ghost use Rattle.run_model.specs.Steps.{do_pcreate, on_pool, label_registered, l
 ghost use Rattle.run_model.specs.State.{items_of, pool_named};
 ghost use Rattle.module_lang.specs.Program.{pool_of_brigade, pool_of_pool};
 ghost use Rattle.run_model.specs.Faults.{has_pool};
-ghost use Rattle.module_run.specs.Seen.{seen_run};
+ghost use Rattle.module_run.specs.Seen.{seen_machine};
 ghost use Rattle.module_run.specs.Mapped.{mapped};
 ghost use Rattle.module_run.specs.Starts.{with_in};
 
 use crate::machine::{IN, Machine};
 use crate::{buckets, pieces, vars};
-use run_model::{Brigade, Mark, Module, Piece, PoolRef, Seq, Status, Var};
+use run_model::{Brigade, BrigadeVar, Mark, Module, Piece, PoolRef, Seq, Status};
 use std::alloc::{AllocError, Global};
 
 /// Makes a pool under its declared parent. Without memory nothing is changed.
-#[tactic(auto, using(crate::proofs::Named::made_there))]
+#[tactic(auto, using(crate::proofs::PoolNames::made_there))]
 pub(crate) fn create_pool(code: &Module, machine: &mut Machine, q: u8) -> Result<(), AllocError>
     requires slot { q < 8 }
     requires declared { q < length code.now.pools }
-    requires live { has_pool (seen_run machine.old) (pool_of_pool code.now q) ≡ true }
-    ensures ok { OnOk result (seen_run machine.new ≡ do_pcreate code.now q (seen_run machine.old)) }
-    ensures err { OnErr result (seen_run machine.new ≡ seen_run machine.old) }
+    requires live { has_pool (seen_machine machine.old) (pool_of_pool code.now q) ≡ true }
+    ensures ok { OnOk result (seen_machine machine.new ≡ do_pcreate code.now q (seen_machine machine.old)) }
+    ensures err { OnErr result (seen_machine machine.new ≡ seen_machine machine.old) }
 {
     machine.create_pool(q, code.pool_parent(q))
 }
@@ -36,9 +36,9 @@ pub(crate) fn label(
     text: u8,
 ) -> Result<(), AllocError>
     requires declared { text < length code.now.texts }
-    requires live { has_pool (seen_run machine.old) pool ≡ true }
-    ensures ok { let r = seen_run machine.old in OnOk result (seen_run machine.new ≡ on_pool (label_registered (text_of code.now text)) (pool_named r pool) r) }
-    ensures err { OnErr result (seen_run machine.new ≡ seen_run machine.old) }
+    requires live { has_pool (seen_machine machine.old) pool ≡ true }
+    ensures ok { let r = seen_machine machine.old in OnOk result (seen_machine machine.new ≡ on_pool (label_registered (text_of code.now text)) (pool_named r pool) r) }
+    ensures err { OnErr result (seen_machine machine.new ≡ seen_machine machine.old) }
 {
     let mut label = Seq::new(alloc);
     label.extend(code.text(text))?;
@@ -49,8 +49,8 @@ pub(crate) fn label(
 #[tactic(auto, unfolding(run_model::specs::Steps::text_of, module_lang::specs::Program::text_at))]
 pub(crate) fn unlabel(code: &Module, machine: &mut Machine, pool: PoolRef, text: u8)
     requires declared { text < length code.now.texts }
-    requires live { has_pool (seen_run machine.old) pool ≡ true }
-    ensures { let r = seen_run machine.old in seen_run machine.new ≡ on_pool (label_killed (text_of code.now text)) (pool_named r pool) r }
+    requires live { has_pool (seen_machine machine.old) pool ≡ true }
+    ensures { let r = seen_machine machine.old in seen_machine machine.new ≡ on_pool (label_killed (text_of code.now text)) (pool_named r pool) r }
 {
     machine.remove_label(pool, code.text(text));
 }
@@ -60,8 +60,8 @@ pub(crate) fn unlabel(code: &Module, machine: &mut Machine, pool: PoolRef, text:
 pub(crate) fn create(alloc: Global, code: &Module, machine: &mut Machine, o: u8)
     requires slot { o < 8 }
     requires declared { o < length code.now.brigades }
-    requires unspent { is_spent (seen_run machine.old).shared.next 1 ≡ false }
-    ensures { seen_run machine.new ≡ do_create code.now o (seen_run machine.old) }
+    requires unspent { is_spent (seen_machine machine.old).shared.next 1 ≡ false }
+    ensures { seen_machine machine.new ≡ do_create code.now o (seen_machine machine.old) }
 {
     let on = machine.pool_named(code.brigade_pool(o));
     let name = machine.take_name();
@@ -71,16 +71,16 @@ pub(crate) fn create(alloc: Global, code: &Module, machine: &mut Machine, o: u8)
         mark: Mark::Usable,
         items: Seq::new(alloc),
     };
-    machine.put(o, Var::Live(brigade));
+    machine.put(o, BrigadeVar::Live(brigade));
 }
 
 /// Destroys the buckets of a brigade, which is usable again.
 #[tactic(auto, using(crate::proofs::Writes::set_twice))]
 pub(crate) fn clean(machine: &mut Machine, b: u8)
     requires { b < 9 }
-    ensures { seen_run machine.new ≡ do_clean b (seen_run machine.old) }
+    ensures { seen_machine machine.new ≡ do_clean b (seen_machine machine.old) }
 {
-    let mut var = machine.put(b, Var::Null);
+    let mut var = machine.put(b, BrigadeVar::Null);
     vars::clean(&mut var);
     machine.put(b, var);
 }
@@ -91,11 +91,11 @@ pub(crate) fn concat(machine: &mut Machine, a: u8, b: u8) -> Result<(), AllocErr
     requires first { a < 9 }
     requires second { b < 9 }
     requires apart { a ≢ b }
-    ensures ok { OnOk result (seen_run machine.new ≡ do_concat a b (seen_run machine.old)) }
-    ensures err { OnErr result (seen_run machine.new ≡ seen_run machine.old) }
+    ensures ok { OnOk result (seen_machine machine.new ≡ do_concat a b (seen_machine machine.old)) }
+    ensures err { OnErr result (seen_machine machine.new ≡ seen_machine machine.old) }
 {
-    let mut from = machine.put(b, Var::Null);
-    let mut to = machine.put(a, Var::Null);
+    let mut from = machine.put(b, BrigadeVar::Null);
+    let mut to = machine.put(a, BrigadeVar::Null);
     let joined = vars::join(&mut to, &mut from);
     machine.put(b, from);
     machine.put(a, to);
@@ -109,14 +109,14 @@ fn answer_to(well: bool) -> Status
 }
 
 /// Passes a brigade to the end of the chain, and gives what is answered. Without memory nothing is changed.
-#[tactic(auto, using(crate::proofs::Writes::set_twice), unfolding(run_model::specs::State::set_brig))]
+#[tactic(auto, using(crate::proofs::Writes::set_twice), unfolding(run_model::specs::State::set_brigade))]
 pub(crate) fn pass(machine: &mut Machine, b: u8) -> Result<Status, AllocError>
     requires { b < 9 }
-    ensures answer { let r = seen_run machine.old in IfOk result (λ answer. answer ≡ answer_to (delivered r.out (items_of (r.inst.brigs b)) r.shared.files).well) }
-    ensures ok { let r = seen_run machine.old in OnOk result (seen_run machine.new ≡ with_delivered (delivered r.out (items_of (r.inst.brigs b)) r.shared.files) (do_pass b r)) }
-    ensures err { OnErr result (seen_run machine.new ≡ seen_run machine.old) }
+    ensures answer { let r = seen_machine machine.old in IfOk result (λ answer. answer ≡ answer_to (delivered r.out (items_of (r.instance.brigades b)) r.shared.files).well) }
+    ensures ok { let r = seen_machine machine.old in OnOk result (seen_machine machine.new ≡ with_delivered (delivered r.out (items_of (r.instance.brigades b)) r.shared.files) (do_pass b r)) }
+    ensures err { OnErr result (seen_machine machine.new ≡ seen_machine machine.old) }
 {
-    let mut var = machine.put(b, Var::Null);
+    let mut var = machine.put(b, BrigadeVar::Null);
     let ends = buckets::has_eos(vars::items(&var));
     let Ok(well) = machine.deliver(vars::items(&var)) else {
         machine.put(b, var);
@@ -130,10 +130,10 @@ pub(crate) fn pass(machine: &mut Machine, b: u8) -> Result<Status, AllocError>
 
 /// Ends the homes that are the running call, in each brigade.
 fn end_homes(machine: &mut Machine, call: u64)
-    ensures { seen_run machine.new ≡ mapped (returned_var call) (seen_run machine.old) }
+    ensures { seen_machine machine.new ≡ mapped (returned_var call) (seen_machine machine.old) }
 {
     for b in 0..9u8 {
-        let mut var = machine.put(b, Var::Null);
+        let mut var = machine.put(b, BrigadeVar::Null);
         vars::end_homes(&mut var, call);
         machine.put(b, var);
     }
@@ -141,11 +141,11 @@ fn end_homes(machine: &mut Machine, call: u64)
 
 /// Ends the running call: the homes that are this call end, and its `in` goes.
 pub(crate) fn end_call(machine: &mut Machine)
-    ensures { seen_run machine.new ≡ do_return (seen_run machine.old) }
+    ensures { seen_machine machine.new ≡ do_return (seen_machine machine.old) }
 {
     let call = machine.call();
     end_homes(machine, call);
-    machine.put(IN, Var::Null);
+    machine.put(IN, BrigadeVar::Null);
     machine.set_call(0);
 }
 
@@ -158,9 +158,9 @@ pub(crate) fn bring(
     req: u64,
     pieces: Seq<Piece>,
 ) -> Result<(), AllocError>
-    requires { is_spent (seen_run machine.old).shared.next (2 + length pieces) ≡ false }
-    ensures ok { OnOk result (seen_run machine.new ≡ with_in req pieces (seen_run machine.old)) }
-    ensures err { OnErr result (seen_run machine.new ≡ seen_run machine.old) }
+    requires { is_spent (seen_machine machine.old).shared.next (2 + length pieces) ≡ false }
+    ensures ok { OnOk result (seen_machine machine.new ≡ with_in req pieces (seen_machine machine.old)) }
+    ensures err { OnErr result (seen_machine machine.new ≡ seen_machine machine.old) }
 {
     let name = machine.next();
     let names = pieces.len() as u64 + 2;
@@ -172,6 +172,6 @@ pub(crate) fn bring(
         mark: Mark::Usable,
         items,
     };
-    machine.put(IN, Var::Live(brigade));
+    machine.put(IN, BrigadeVar::Live(brigade));
     Ok(())
 }

@@ -1,10 +1,10 @@
 //! What a step sees and changes of a connection.
 
 ghost use Rattle.std.specs.Prelude.{◌≡◌, ◌+◌, ◌<◌, [], false, slice_index_or, slice_set};
-ghost use Rattle.run_model.specs.State.{set_brig, fresh_call};
+ghost use Rattle.run_model.specs.State.{set_brigade, fresh_call};
 ghost use Rattle.run_model.specs.Steps.{is_spent};
 ghost use Rattle.pool_tree.specs.Tree.{map_of};
-ghost use Rattle.module_run.specs.Standing.{IsStanding};
+ghost use Rattle.module_run.specs.OwnPools.{IsStanding};
 
 mod files;
 mod numbers;
@@ -14,7 +14,7 @@ mod saves;
 
 use bucket_kinds::MemFiles;
 use pool_tree::{PoolId, PoolTree};
-use run_model::{Payload, PoolVar, Seq, Var};
+use run_model::{BrigadeVar, Payload, PoolVar, Seq};
 use std::alloc::Global;
 use std::mem;
 
@@ -26,7 +26,7 @@ pub(crate) const IN: u8 = 8;
 /// it handed on.
 #[derive(Drop)]
 pub(crate) struct Machine {
-    brigs: [Var; 9],
+    brigades: [BrigadeVar; 9],
     pool_vars: [PoolVar; 8],
     numbers: [u32; 8],
     sent: bool,
@@ -43,74 +43,74 @@ pub(crate) struct Machine {
     ghost standing: { IsStanding (map_of pools) req pool_vars },
 }
 
-#[tactic(auto, unfolding(crate::specs::Seen::seen_run, run_model::specs::State::set_brig, run_model::specs::Steps::is_spent))]
+#[tactic(auto, unfolding(crate::specs::Seen::seen_machine, run_model::specs::State::set_brigade, run_model::specs::Steps::is_spent))]
 impl Machine {
-    ghost use Rattle.module_run.specs.Seen.{seen_run};
+    ghost use Rattle.module_run.specs.Seen.{seen_machine};
 
     /// The brigade variable of a number.
-    pub(crate) fn brig(&self, b: u8) -> &Var
+    pub(crate) fn brigade(&self, b: u8) -> &BrigadeVar
         requires { b < 9 }
-        ensures { result.now ≡ (seen_run self.now).inst.brigs b }
+        ensures { result.now ≡ (seen_machine self.now).instance.brigades b }
     {
-        &self.brigs[usize::from(b)]
+        &self.brigades[usize::from(b)]
     }
 
-    fn swap(&mut self, b: usize, var: Var) -> Var
+    fn swap(&mut self, b: usize, var: BrigadeVar) -> BrigadeVar
         requires { b < 9 }
-        ensures old { result ≡ slice_index_or self.old.brigs b Var.Null }
-        ensures new { self.new ≡ record self.old { brigs = slice_set self.old.brigs b var } }
+        ensures old { result ≡ slice_index_or self.old.brigades b BrigadeVar.Null }
+        ensures new { self.new ≡ record self.old { brigades = slice_set self.old.brigades b var } }
     {
-        mem::replace(&mut self.brigs[b], var)
+        mem::replace(&mut self.brigades[b], var)
     }
 
     /// Sets a brigade variable, and gives back what was in it.
-    #[tactic(auto, unfolding(crate::specs::Seen::seen_run, run_model::specs::State::set_brig, run_model::specs::Indexed::upd))]
-    pub(crate) fn put(&mut self, b: u8, var: Var) -> Var
+    #[tactic(auto, unfolding(crate::specs::Seen::seen_machine, run_model::specs::State::set_brigade, run_model::specs::Indexed::upd))]
+    pub(crate) fn put(&mut self, b: u8, var: BrigadeVar) -> BrigadeVar
         requires { b < 9 }
-        ensures old { result ≡ (seen_run self.old).inst.brigs b }
-        ensures new { seen_run self.new ≡ set_brig b var (seen_run self.old) }
+        ensures old { result ≡ (seen_machine self.old).instance.brigades b }
+        ensures new { seen_machine self.new ≡ set_brigade b var (seen_machine self.old) }
     {
         self.swap(usize::from(b), var)
     }
 
     /// The number of the next instruction.
     pub(crate) fn pc(&self) -> usize
-        ensures { result ≡ (seen_run self.now).pc }
+        ensures { result ≡ (seen_machine self.now).pc }
     {
         self.pc
     }
 
     /// Makes an instruction the next one.
     pub(crate) fn go_to(&mut self, pc: usize)
-        ensures { seen_run self.new ≡ record (seen_run self.old) { pc = pc } }
+        ensures { seen_machine self.new ≡ record (seen_machine self.old) { pc = pc } }
     {
         self.pc = pc;
     }
 
     /// Whether an EOS of this request was passed.
     pub(crate) fn sent(&self) -> bool
-        ensures { result ≡ (seen_run self.now).inst.sent }
+        ensures { result ≡ (seen_machine self.now).instance.sent }
     {
         self.sent
     }
 
     /// Says whether an EOS of this request was passed.
     pub(crate) fn set_sent(&mut self, sent: bool)
-        ensures { let r = seen_run self.old in seen_run self.new ≡ record r { inst = record r.inst { sent = sent } } }
+        ensures { let r = seen_machine self.old in seen_machine self.new ≡ record r { instance = record r.instance { sent = sent } } }
     {
         self.sent = sent;
     }
 
     /// Whether there are not so many names left.
     pub(crate) fn is_spent(&self, names: u64) -> bool
-        ensures { result ≡ is_spent (seen_run self.now).shared.next names }
+        ensures { result ≡ is_spent (seen_machine self.now).shared.next names }
     {
         names > u64::MAX - self.next
     }
 
     /// Whether there are not so many names left as a brought brigade of so many buckets takes, with its call.
     pub(crate) fn is_spent_by_brigade(&self, buckets: u64) -> bool
-        ensures { result ≡ is_spent (seen_run self.now).shared.next (2 + buckets) }
+        ensures { result ≡ is_spent (seen_machine self.now).shared.next (2 + buckets) }
     {
         let left = u64::MAX - self.next;
         left < 2 || buckets > left - 2
@@ -118,9 +118,9 @@ impl Machine {
 
     /// Gives out the next name.
     pub(crate) fn take_name(&mut self) -> u64
-        requires { is_spent (seen_run self.old).shared.next 1 ≡ false }
-        ensures name { result ≡ (seen_run self.old).shared.next }
-        ensures new { let r = seen_run self.old in seen_run self.new ≡ record r { shared = record r.shared { next = r.shared.next + 1 } } }
+        requires { is_spent (seen_machine self.old).shared.next 1 ≡ false }
+        ensures name { result ≡ (seen_machine self.old).shared.next }
+        ensures new { let r = seen_machine self.old in seen_machine self.new ≡ record r { shared = record r.shared { next = r.shared.next + 1 } } }
     {
         let name = self.next;
         self.next += 1;
@@ -129,14 +129,14 @@ impl Machine {
 
     /// The name of the call that runs.
     pub(crate) fn call(&self) -> u64
-        ensures { result ≡ (seen_run self.now).call.name }
+        ensures { result ≡ (seen_machine self.now).call.name }
     {
         self.call
     }
 
     /// The call begins that has this name; 0 is for none.
     pub(crate) fn set_call(&mut self, name: u64)
-        ensures { seen_run self.new ≡ record (seen_run self.old) { call = fresh_call name } }
+        ensures { seen_machine self.new ≡ record (seen_machine self.old) { call = fresh_call name } }
     {
         self.call = name;
         self.buffer.clear();
@@ -144,30 +144,30 @@ impl Machine {
 
     /// The output that was not taken yet.
     pub(crate) fn take_output(&mut self, alloc: Global) -> Seq<u8>
-        ensures bytes { result ≡ (seen_run self.old).out.bytes }
-        ensures rest { let r = seen_run self.old in seen_run self.new ≡ record r { out = record r.out { bytes = [] } } }
+        ensures bytes { result ≡ (seen_machine self.old).out.bytes }
+        ensures rest { let r = seen_machine self.old in seen_machine self.new ≡ record r { out = record r.out { bytes = [] } } }
     {
         mem::replace(&mut self.output, Seq::new(alloc))
     }
 
     /// The next name, which is not given out.
     pub(crate) fn next(&self) -> u64
-        ensures { result ≡ (seen_run self.now).shared.next }
+        ensures { result ≡ (seen_machine self.now).shared.next }
     {
         self.next
     }
 
     /// Gives out names.
     pub(crate) fn take_names(&mut self, names: u64)
-        requires { is_spent (seen_run self.old).shared.next names ≡ false }
-        ensures { let r = seen_run self.old in seen_run self.new ≡ record r { shared = record r.shared { next = r.shared.next + names } } }
+        requires { is_spent (seen_machine self.old).shared.next names ≡ false }
+        ensures { let r = seen_machine self.old in seen_machine self.new ≡ record r { shared = record r.shared { next = r.shared.next + names } } }
     {
         self.next += names;
     }
 
     /// Whether an EOS of this request reached the output.
     pub(crate) fn ended(&self) -> bool
-        ensures { result ≡ (seen_run self.now).out.ended }
+        ensures { result ≡ (seen_machine self.now).out.ended }
     {
         self.ended
     }

@@ -8,7 +8,7 @@ ghost use Rattle.module_run.specs.Filling.{filled_in, sum_of, AllEnd};
 
 use crate::buckets::is_eos_kind;
 use bucket_kinds::MemFiles;
-use run_model::{Content, Named, Seq};
+use run_model::{Content, NamedBucket, Seq};
 use std::alloc::AllocError;
 
 /// How many bytes a read takes from a file, at most.
@@ -37,7 +37,7 @@ fn length_of(content: &Content) -> Option<usize>
 }
 
 /// How many bytes the buckets stand for.
-fn sum_of(items: &[Named]) -> Option<usize>
+fn sum_of(items: &[NamedBucket]) -> Option<usize>
     ensures sum { IfSome result (λ n. n ≡ sum_of items.now) }
     ensures ends { IfSome result (λ _. AllEnd items.now) }
 {
@@ -97,7 +97,7 @@ fn fill(out: &mut [u8], files: &mut MemFiles, content: &Content) -> Filled
 }
 
 /// Takes the bytes of the buckets before the first EOS to the front of a list that is long enough, up to a read that fails.
-fn fill_all(out: &mut [u8], files: &mut MemFiles, items: &[Named]) -> Filled
+fn fill_all(out: &mut [u8], files: &mut MemFiles, items: &[NamedBucket]) -> Filled
     requires room { sum_of items.now ≤ length out.old }
     requires ends { AllEnd items.now }
     ensures taken { taken_of items.now (files_of files.old) ≡ filled_in result out.new (files_of files.new) }
@@ -126,7 +126,7 @@ fn fill_all(out: &mut [u8], files: &mut MemFiles, items: &[Named]) -> Filled
 pub(crate) fn deliver(
     output: &mut Seq<u8>,
     files: &mut MemFiles,
-    items: &[Named],
+    items: &[NamedBucket],
 ) -> Result<bool, AllocError>
     ensures well { IfOk result (λ well. well ≡ (taken_of items.now (files_of files.old)).whole) }
     ensures bytes { OnOk result (output.new ≡ output.old ++ (taken_of items.now (files_of files.old)).bytes) }

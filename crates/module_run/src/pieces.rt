@@ -6,7 +6,7 @@ ghost use Rattle.run_model.specs.Connection.{bucket_of, named_from, is_data_piec
 ghost use Rattle.module_run.specs.Tests.{late_piece};
 ghost use Rattle.module_run.specs.OpenFiles.{lengths};
 
-use run_model::{Bucket, Content, Home, Kind, Named, Piece, Seq};
+use run_model::{Bucket, Content, Home, Kind, NamedBucket, Piece, Seq};
 use std::alloc::{AllocError, Global};
 
 /// A bucket in memory.
@@ -128,14 +128,14 @@ pub(crate) fn named(
     req: u64,
     first: u64,
     pieces: Seq<Piece>,
-) -> Result<Seq<Named>, AllocError>
+) -> Result<Seq<NamedBucket>, AllocError>
     requires { first + length pieces < 2 ^ 64 }
     ensures { IfOk result (λ items. items ≡ named_from (bucket_of call req) first pieces) }
 {
     let mut items = Seq::new(alloc);
     let mut name = first;
     for piece in pieces.into_vec() {
-        items.push(Named {
+        items.push(NamedBucket {
             name,
             bucket: bucket_of(call, req, piece),
         })?;

@@ -3,7 +3,7 @@
 ghost use Rattle.std.specs.Prelude.{◌≡◌};
 ghost use Rattle.run_model.specs.Indexed.{any_below};
 ghost use Rattle.run_model.specs.State.{name_in, is_named};
-ghost use Rattle.module_run.specs.Standing.{variables};
+ghost use Rattle.module_run.specs.OwnPools.{variables};
 
 use run_model::PoolVar;
 
@@ -23,7 +23,7 @@ pub(crate) fn name_in(var: PoolVar) -> Option<u64>
 {
     match var {
         PoolVar::Null => None,
-        PoolVar::Named(name) => Some(name),
+        PoolVar::Made(name) => Some(name),
     }
 }
 

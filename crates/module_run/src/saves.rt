@@ -8,13 +8,13 @@ ghost use Rattle.run_model.specs.Steps.{is_above, aside_named, file_of, new_ref,
 ghost use Rattle.run_model.specs.State.{items_of};
 ghost use Rattle.pool_tree.specs.Tree.{map_of};
 ghost use Rattle.module_run.specs.Saved.{pools_saved, var_saved, var_emptied};
-ghost use Rattle.module_run.specs.Seen.{seen_run};
+ghost use Rattle.module_run.specs.Seen.{seen_machine};
 
 use crate::buckets::reaches;
 use crate::machine::Machine;
 use bucket_kinds::aside_bucket;
 use pool_tree::PoolTree;
-use run_model::{Brigade, Content, Home, Kind, Named, Payload, Seq, Var};
+use run_model::{Brigade, BrigadeVar, Content, Home, Kind, NamedBucket, Payload, Seq};
 use std::alloc::{AllocError, Global};
 
 /// Whether the pool of a home is the target or stands above it.
@@ -50,7 +50,7 @@ fn file_of(kind: Kind, content: &Content) -> Option<u64>
 }
 
 /// The file of which setting aside takes a further reference.
-fn new_ref(pools: &PoolTree<Payload>, target: u64, item: &Named) -> Option<u64>
+fn new_ref(pools: &PoolTree<Payload>, target: u64, item: &NamedBucket) -> Option<u64>
     requires { IsTrue (is_live (map_of pools.now) target) }
     ensures { result ≡ new_ref (map_of pools.now) target item.now }
 {
@@ -65,7 +65,7 @@ fn new_refs(
     alloc: Global,
     pools: &PoolTree<Payload>,
     target: u64,
-    items: &[Named],
+    items: &[NamedBucket],
 ) -> Result<Seq<u64>, AllocError>
     requires { IsTrue (is_live (map_of pools.now) target) }
     ensures { IfOk result (λ files. files ≡ filter_map (new_ref (map_of pools.now) target) items.now) }
@@ -132,7 +132,7 @@ fn refer(pools: &mut PoolTree<Payload>, target: u64, files: &[u64]) -> Result<()
 }
 
 /// Sets buckets aside into the pool `target`.
-fn aside_all(pools: &PoolTree<Payload>, target: u64, items: &mut [Named])
+fn aside_all(pools: &PoolTree<Payload>, target: u64, items: &mut [NamedBucket])
     requires { IsTrue (is_live (map_of pools.now) target) }
     ensures { items.new ≡ map (aside_named (map_of pools.now) target) items.old }
 {
@@ -146,8 +146,8 @@ fn aside_all(pools: &PoolTree<Payload>, target: u64, items: &mut [Named])
 fn move_aside(
     pools: &PoolTree<Payload>,
     target: u64,
-    to: &mut Seq<Named>,
-    from: &mut Seq<Named>,
+    to: &mut Seq<NamedBucket>,
+    from: &mut Seq<NamedBucket>,
 ) -> Result<(), AllocError>
     requires { IsTrue (is_live (map_of pools.now) target) }
     ensures moved { OnOk result (to.new ≡ to.old ++ map (aside_named (map_of pools.now) target) from.old) }
@@ -166,8 +166,8 @@ fn save_into(
     alloc: Global,
     pools: &mut PoolTree<Payload>,
     target: u64,
-    to: &mut Seq<Named>,
-    from: &mut Seq<Named>,
+    to: &mut Seq<NamedBucket>,
+    from: &mut Seq<NamedBucket>,
 ) -> Result<(), AllocError>
     requires { IsTrue (is_live (map_of pools.old) target) }
     ensures ok { OnOk result (map_of pools.new ≡ all_referred target (filter_map (new_ref (map_of pools.old) target) from.old) (map_of pools.old)) }
@@ -191,8 +191,8 @@ fn save_from(
     alloc: Global,
     pools: &mut PoolTree<Payload>,
     target: u64,
-    to: &mut Seq<Named>,
-    from: &mut Var,
+    to: &mut Seq<NamedBucket>,
+    from: &mut BrigadeVar,
 ) -> Result<(), AllocError>
     requires { IsTrue (is_live (map_of pools.old) target) }
     ensures ok { OnOk result (map_of pools.new ≡ pools_saved (Some target) (items_of from.old) (map_of pools.old)) }
@@ -203,8 +203,8 @@ fn save_from(
     ensures kept { OnErr result (from.new ≡ from.old) }
 {
     match from {
-        Var::Live(brigade) => save_into(alloc, pools, target, to, &mut brigade.items),
-        Var::Null | Var::Gone => Ok(()),
+        BrigadeVar::Live(brigade) => save_into(alloc, pools, target, to, &mut brigade.items),
+        BrigadeVar::Null | BrigadeVar::Gone => Ok(()),
     }
 }
 
@@ -214,7 +214,7 @@ fn save_brigade(
     pools: &mut PoolTree<Payload>,
     target: u64,
     to: &mut Brigade,
-    from: &mut Var,
+    from: &mut BrigadeVar,
 ) -> Result<(), AllocError>
     requires { IsTrue (is_live (map_of pools.old) target) }
     ensures ok { OnOk result (map_of pools.new ≡ pools_saved (Some target) (items_of from.old) (map_of pools.old)) }
@@ -231,8 +231,8 @@ fn save_brigade(
 pub(crate) fn save_vars(
     alloc: Global,
     pools: &mut PoolTree<Payload>,
-    to: &mut Var,
-    from: &mut Var,
+    to: &mut BrigadeVar,
+    from: &mut BrigadeVar,
 ) -> Result<(), AllocError>
     ensures ok { OnOk result (map_of pools.new ≡ pools_saved (made_on to.old) (items_of from.old) (map_of pools.old)) }
     ensures moved { OnOk result (to.new ≡ var_saved (made_on to.old) (items_of from.old) (map_of pools.old) to.old) }
@@ -241,7 +241,7 @@ pub(crate) fn save_vars(
     ensures same { OnErr result (to.new ≡ to.old) }
     ensures kept { OnErr result (from.new ≡ from.old) }
 {
-    let Var::Live(brigade) = to else {
+    let BrigadeVar::Live(brigade) = to else {
         return Ok(());
     };
     let Some(target) = brigade.on else {
@@ -259,11 +259,11 @@ pub(crate) fn save(alloc: Global, machine: &mut Machine, o: u8, b: u8) -> Result
     requires first { o < 9 }
     requires second { b < 9 }
     requires apart { o ≢ b }
-    ensures ok { OnOk result (seen_run machine.new ≡ do_save o b (seen_run machine.old)) }
-    ensures err { OnErr result (seen_run machine.new ≡ seen_run machine.old) }
+    ensures ok { OnOk result (seen_machine machine.new ≡ do_save o b (seen_machine machine.old)) }
+    ensures err { OnErr result (seen_machine machine.new ≡ seen_machine machine.old) }
 {
-    let mut from = machine.put(b, Var::Null);
-    let mut to = machine.put(o, Var::Null);
+    let mut from = machine.put(b, BrigadeVar::Null);
+    let mut to = machine.put(o, BrigadeVar::Null);
     let saved = machine.save(alloc, &mut to, &mut from);
     machine.put(b, from);
     machine.put(o, to);

@@ -4,12 +4,12 @@ ghost use Rattle.std.specs.Prelude.{◌≡◌, ◌<◌, ◌≤◌, true, false, 
 ghost use Rattle.module_lang.specs.Program.{fits, is_variable, target};
 ghost use Rattle.run_model.specs.Steps.{step_at_end, settled, status_of, is_null, is_fail, names_of, pool_names_of, lacks_names, grows, watched, current, jumps_if};
 ghost use Rattle.run_model.specs.Faults.{fault};
-ghost use Rattle.module_run.specs.Seen.{seen_run, step_lasted};
+ghost use Rattle.module_run.specs.Seen.{seen_machine, step_lasted};
 ghost use Rattle.module_run.specs.Passed.{passed_by};
 
 use crate::machine::Machine;
 use crate::{effects, saves, values, vars, wants};
-use run_model::{Exit, Instr, Module, PoolVar, Status, StepRefusal, Stepped, Var, VarRef};
+use run_model::{BrigadeVar, Exit, Instr, Module, PoolVar, Status, StepRefusal, Stepped, VarRef};
 use std::alloc::{AllocError, Global};
 
 fn jumps_if(test: bool) -> Exit
@@ -28,11 +28,11 @@ fn is_fail(status: Status) -> bool
 fn is_null(code: &Module, machine: &Machine, var: VarRef) -> bool
     requires fit { is_variable code.now var ≡ true }
     requires few { length code.now.brigades ≤ 8 }
-    ensures { result ≡ is_null (seen_run machine.now) var }
+    ensures { result ≡ is_null (seen_machine machine.now) var }
 {
     match var {
         VarRef::Pool(q) => matches!(machine.pool_var(q), PoolVar::Null),
-        VarRef::Brigade(b) => matches!(machine.brig(b), Var::Null),
+        VarRef::Brigade(b) => matches!(machine.brigade(b), BrigadeVar::Null),
     }
 }
 
@@ -41,11 +41,11 @@ fn exit(code: &Module, machine: &Machine, instr: Instr) -> Exit
     requires fit { fits code.now instr ≡ true }
     requires few { length code.now.brigades ≤ 8 }
     requires other { passed_by instr ≡ None }
-    ensures { result ≡ (step_at_end code.now instr (seen_run machine.now)).exit }
+    ensures { result ≡ (step_at_end code.now instr (seen_machine machine.now)).exit }
 {
     match instr {
         Instr::Pass(_, _) => unreachable!(),
-        Instr::JEmpty(b, _) => jumps_if(vars::items(machine.brig(b)).is_empty()),
+        Instr::JEmpty(b, _) => jumps_if(vars::items(machine.brigade(b)).is_empty()),
         Instr::JNull(var, _) => jumps_if(is_null(code, machine, var)),
         Instr::Put(x, _) => jumps_if(values::is_full(machine, x)),
         Instr::JLt(n, x, _) => jumps_if(values::is_below(machine, n, x)),
@@ -67,11 +67,11 @@ fn change(
     requires fit { fits code.now instr ≡ true }
     requires few { length code.now.brigades ≤ 8 }
     requires pools { length code.now.pools ≤ 8 }
-    requires faultless { fault code.now (seen_run machine.old) instr ≡ None }
-    requires unspent { lacks_names (seen_run machine.old) instr ≡ false }
+    requires faultless { fault code.now (seen_machine machine.old) instr ≡ None }
+    requires unspent { lacks_names (seen_machine machine.old) instr ≡ false }
     requires other { passed_by instr ≡ None }
-    ensures ok { OnOk result (seen_run machine.new ≡ (step_at_end code.now instr (seen_run machine.old)).run) }
-    ensures err { OnErr result (seen_run machine.new ≡ seen_run machine.old) }
+    ensures ok { OnOk result (seen_machine machine.new ≡ (step_at_end code.now instr (seen_machine machine.old)).state) }
+    ensures err { OnErr result (seen_machine machine.new ≡ seen_machine machine.old) }
     ensures sure { grows instr ≡ false → IsOk result }
 {
     match instr {
@@ -110,11 +110,11 @@ fn execute_other(
     requires fit { fits code.now instr ≡ true }
     requires few { length code.now.brigades ≤ 8 }
     requires pools { length code.now.pools ≤ 8 }
-    requires faultless { fault code.now (seen_run machine.old) instr ≡ None }
-    requires unspent { lacks_names (seen_run machine.old) instr ≡ false }
+    requires faultless { fault code.now (seen_machine machine.old) instr ≡ None }
+    requires unspent { lacks_names (seen_machine machine.old) instr ≡ false }
     requires other { passed_by instr ≡ None }
-    ensures step { IfOk result (λ e. step_at_end code.now instr (seen_run machine.old) ≡ record { exit = e; run = seen_run machine.new }) }
-    ensures err { OnErr result (seen_run machine.new ≡ seen_run machine.old) }
+    ensures step { IfOk result (λ e. step_at_end code.now instr (seen_machine machine.old) ≡ record { exit = e; state = seen_machine machine.new }) }
+    ensures err { OnErr result (seen_machine machine.new ≡ seen_machine machine.old) }
     ensures sure { grows instr ≡ false → IsOk result }
 {
     let exit = exit(code, machine, instr);
@@ -132,10 +132,10 @@ fn execute(
     requires fit { fits code.now instr ≡ true }
     requires few { length code.now.brigades ≤ 8 }
     requires pools { length code.now.pools ≤ 8 }
-    requires faultless { fault code.now (seen_run machine.old) instr ≡ None }
-    requires unspent { lacks_names (seen_run machine.old) instr ≡ false }
-    ensures step { IfOk result (λ e. step_at_end code.now instr (seen_run machine.old) ≡ record { exit = e; run = seen_run machine.new }) }
-    ensures err { OnErr result (seen_run machine.new ≡ seen_run machine.old) }
+    requires faultless { fault code.now (seen_machine machine.old) instr ≡ None }
+    requires unspent { lacks_names (seen_machine machine.old) instr ≡ false }
+    ensures step { IfOk result (λ e. step_at_end code.now instr (seen_machine machine.old) ≡ record { exit = e; state = seen_machine machine.new }) }
+    ensures err { OnErr result (seen_machine machine.new ≡ seen_machine machine.old) }
     ensures sure { grows instr ≡ false → IsOk result }
 {
     match instr {
@@ -173,8 +173,8 @@ fn status(instr: Instr) -> Status
 }
 
 fn settle(machine: &mut Machine, instr: Instr, exit: Exit) -> Stepped
-    requires { (seen_run machine.old).pc < 1024 }
-    ensures { settled instr exit (seen_run machine.old) ≡ (result, seen_run machine.new) }
+    requires { (seen_machine machine.old).pc < 1024 }
+    ensures { settled instr exit (seen_machine machine.old) ≡ (result, seen_machine machine.new) }
 {
     match exit {
         Exit::GoOn => {
@@ -206,7 +206,7 @@ fn pool_names(instr: Instr) -> u64
 /// Whether a name that an instruction would have to give out is not there.
 #[tactic(auto, unfolding(run_model::specs::Steps::lacks_names))]
 fn lacks_names(machine: &Machine, instr: Instr) -> bool
-    ensures { result ≡ lacks_names (seen_run machine.now) instr }
+    ensures { result ≡ lacks_names (seen_machine machine.now) instr }
 {
     machine.is_spent(names(instr)) || machine.lacks_pools(pool_names(instr))
 }
@@ -218,9 +218,9 @@ pub(crate) fn step(
     code: &Module,
     machine: &mut Machine,
 ) -> Result<Stepped, StepRefusal>
-    requires { (seen_run machine.old).pc < length code.now.code }
-    ensures step { let r = seen_run machine.old in watched (step_lasted result) code.now (current code.now r.pc) r ≡ (result, seen_run machine.new) }
-    ensures inside { (seen_run machine.new).pc < length code.now.code }
+    requires { (seen_machine machine.old).pc < length code.now.code }
+    ensures step { let r = seen_machine machine.old in watched (step_lasted result) code.now (current code.now r.pc) r ≡ (result, seen_machine machine.new) }
+    ensures inside { (seen_machine machine.new).pc < length code.now.code }
 {
     let pc = machine.pc();
     let instr = code.at(pc);

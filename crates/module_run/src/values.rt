@@ -3,7 +3,7 @@
 ghost use Rattle.std.specs.Prelude.{◌≡◌, ◌==◌, ◌<◌, ◌-◌, ◌+◌, min, nat_lt, OnOk, OnErr};
 ghost use Rattle.run_model.specs.State.{set_number};
 ghost use Rattle.run_model.specs.Steps.{value_of, is_full, do_put, last_value};
-ghost use Rattle.module_run.specs.Seen.{seen_run};
+ghost use Rattle.module_run.specs.Seen.{seen_machine};
 
 use crate::machine::Machine;
 use run_model::Value;
@@ -14,7 +14,7 @@ const BUFFER_LIMIT: usize = 8000;
 
 /// The number that an operand stands for.
 pub(crate) fn value_of(machine: &Machine, x: Value) -> u32
-    ensures { result ≡ value_of (seen_run machine.now) x }
+    ensures { result ≡ value_of (seen_machine machine.now) x }
 {
     match x {
         Value::Number(n) => machine.number(n),
@@ -24,15 +24,15 @@ pub(crate) fn value_of(machine: &Machine, x: Value) -> u32
 
 /// Whether a number is no byte, or the buffer is full.
 pub(crate) fn is_full(machine: &Machine, x: Value) -> bool
-    ensures { result ≡ is_full (seen_run machine.now) x }
+    ensures { result ≡ is_full (seen_machine machine.now) x }
 {
     value_of(machine, x) > 255 || machine.buffered() >= BUFFER_LIMIT
 }
 
 /// Appends a byte to the buffer, where it is one and fits. Without memory nothing is changed.
 pub(crate) fn put(machine: &mut Machine, x: Value) -> Result<(), AllocError>
-    ensures ok { OnOk result (seen_run machine.new ≡ do_put x (seen_run machine.old)) }
-    ensures err { OnErr result (seen_run machine.new ≡ seen_run machine.old) }
+    ensures ok { OnOk result (seen_machine machine.new ≡ do_put x (seen_machine machine.old)) }
+    ensures err { OnErr result (seen_machine machine.new ≡ seen_machine machine.old) }
 {
     if is_full(machine, x) {
         return Ok(());
@@ -44,7 +44,7 @@ pub(crate) fn put(machine: &mut Machine, x: Value) -> Result<(), AllocError>
 /// Sets a number.
 pub(crate) fn set(machine: &mut Machine, n: u8, x: Value)
     requires { n < 8 }
-    ensures { let r = seen_run machine.old in seen_run machine.new ≡ set_number n (value_of r x) r }
+    ensures { let r = seen_machine machine.old in seen_machine machine.new ≡ set_number n (value_of r x) r }
 {
     let number = value_of(machine, x);
     machine.set_number(n, number);
@@ -53,7 +53,7 @@ pub(crate) fn set(machine: &mut Machine, n: u8, x: Value)
 /// Adds to a number, at most up to 4294967295.
 pub(crate) fn add(machine: &mut Machine, n: u8, x: Value)
     requires { n < 8 }
-    ensures { let r = seen_run machine.old in seen_run machine.new ≡ set_number n (min last_value (r.inst.numbers n + value_of r x)) r }
+    ensures { let r = seen_machine machine.old in seen_machine machine.new ≡ set_number n (min last_value (r.instance.numbers n + value_of r x)) r }
 {
     let sum = machine.number(n).saturating_add(value_of(machine, x));
     machine.set_number(n, sum);
@@ -62,7 +62,7 @@ pub(crate) fn add(machine: &mut Machine, n: u8, x: Value)
 /// Takes from a number, at least down to 0.
 pub(crate) fn sub(machine: &mut Machine, n: u8, x: Value)
     requires { n < 8 }
-    ensures { let r = seen_run machine.old in seen_run machine.new ≡ set_number n (r.inst.numbers n - value_of r x) r }
+    ensures { let r = seen_machine machine.old in seen_machine machine.new ≡ set_number n (r.instance.numbers n - value_of r x) r }
 {
     let left = machine.number(n).saturating_sub(value_of(machine, x));
     machine.set_number(n, left);
@@ -70,14 +70,14 @@ pub(crate) fn sub(machine: &mut Machine, n: u8, x: Value)
 
 /// Whether a number is below another.
 pub(crate) fn is_below(machine: &Machine, n: u8, x: Value) -> bool
-    ensures { let r = seen_run machine.now in result ≡ nat_lt (r.inst.numbers n) (value_of r x) }
+    ensures { let r = seen_machine machine.now in result ≡ nat_lt (r.instance.numbers n) (value_of r x) }
 {
     machine.number(n) < value_of(machine, x)
 }
 
 /// Whether a number equals another.
 pub(crate) fn is_equal(machine: &Machine, n: u8, x: Value) -> bool
-    ensures { let r = seen_run machine.now in result ≡ (r.inst.numbers n == value_of r x) }
+    ensures { let r = seen_machine machine.now in result ≡ (r.instance.numbers n == value_of r x) }
 {
     machine.number(n) == value_of(machine, x)
 }

@@ -10,34 +10,34 @@ ghost use Rattle.run_model.specs.Steps.{cleaned, with_items, handed_over, return
 
 use crate::buckets;
 use pool_tree::PoolTree;
-use run_model::{Brigade, Mark, Named, Payload, Seq, Var};
+use run_model::{Brigade, BrigadeVar, Mark, NamedBucket, Payload, Seq};
 use std::alloc::AllocError;
 
 /// The buckets in a brigade variable.
-pub(crate) fn items(var: &Var) -> &[Named]
+pub(crate) fn items(var: &BrigadeVar) -> &[NamedBucket]
     ensures { result.now ≡ items_of var.now }
 {
     match var {
-        Var::Null | Var::Gone => &[],
-        Var::Live(brigade) => brigade.items.as_slice(),
+        BrigadeVar::Null | BrigadeVar::Gone => &[],
+        BrigadeVar::Live(brigade) => brigade.items.as_slice(),
     }
 }
 
 /// Destroys the buckets; the brigade is usable again.
-pub(crate) fn clean(var: &mut Var)
+pub(crate) fn clean(var: &mut BrigadeVar)
     ensures { var.new ≡ cleaned var.old }
 {
-    if let Var::Live(brigade) = var {
+    if let BrigadeVar::Live(brigade) = var {
         brigade.items.clear();
         brigade.mark = Mark::Usable;
     }
 }
 
 /// The buckets are gone, and the brigade is passed.
-pub(crate) fn hand_over(var: &mut Var)
+pub(crate) fn hand_over(var: &mut BrigadeVar)
     ensures { var.new ≡ handed_over var.old }
 {
-    if let Var::Live(brigade) = var {
+    if let BrigadeVar::Live(brigade) = var {
         brigade.items.clear();
         brigade.mark = Mark::Passed;
     }
@@ -45,10 +45,10 @@ pub(crate) fn hand_over(var: &mut Var)
 
 /// Ends the homes that are this call.
 #[tactic(auto, using(crate::proofs::Refilled::refilled_map))]
-pub(crate) fn end_homes(var: &mut Var, call: u64)
+pub(crate) fn end_homes(var: &mut BrigadeVar, call: u64)
     ensures { var.new ≡ returned_var call var.old }
 {
-    if let Var::Live(brigade) = var {
+    if let BrigadeVar::Live(brigade) = var {
         buckets::end_homes(brigade.items.as_mut_slice(), call);
     }
 }
@@ -72,19 +72,19 @@ fn clear_items(brigade: &mut Brigade, pools: &PoolTree<Payload>, cleared: u64)
 }
 
 /// What a clear of a pool does: a brigade on a pool that it reaches goes with its buckets, and those of others lose it.
-fn clear(var: &mut Var, pools: &PoolTree<Payload>, cleared: u64)
+fn clear(var: &mut BrigadeVar, pools: &PoolTree<Payload>, cleared: u64)
     requires { IsTrue (is_live (map_of pools.now) cleared) }
     ensures { var.new ≡ cleared_var (is_under (map_of pools.now) cleared) var.old }
 {
     match var {
-        Var::Live(brigade) if lies_on(brigade, pools, cleared) => *var = Var::Gone,
-        Var::Live(brigade) => clear_items(brigade, pools, cleared),
-        Var::Null | Var::Gone => {}
+        BrigadeVar::Live(brigade) if lies_on(brigade, pools, cleared) => *var = BrigadeVar::Gone,
+        BrigadeVar::Live(brigade) => clear_items(brigade, pools, cleared),
+        BrigadeVar::Null | BrigadeVar::Gone => {}
     }
 }
 
 /// What a clear of a pool does to brigade variables.
-pub(crate) fn clear_all(vars: &mut [Var], pools: &PoolTree<Payload>, cleared: u64)
+pub(crate) fn clear_all(vars: &mut [BrigadeVar], pools: &PoolTree<Payload>, cleared: u64)
     requires { IsTrue (is_live (map_of pools.now) cleared) }
     ensures { vars.new ≡ map (cleared_var (is_under (map_of pools.now) cleared)) vars.old }
 {
@@ -94,15 +94,15 @@ pub(crate) fn clear_all(vars: &mut [Var], pools: &PoolTree<Payload>, cleared: u6
 }
 
 /// Moves buckets to the tail of a brigade; where there is none they are destroyed. Without memory nothing is changed.
-fn take_in(to: &mut Var, items: &mut Seq<Named>) -> Result<(), AllocError>
+fn take_in(to: &mut BrigadeVar, items: &mut Seq<NamedBucket>) -> Result<(), AllocError>
     ensures joined { OnOk result (to.new ≡ with_items (items_of to.old ++ items.old) to.old) }
     ensures emptied { OnOk result (items.new ≡ []) }
     ensures err { OnErr result (to.new ≡ to.old) }
     ensures kept { OnErr result (items.new ≡ items.old) }
 {
     match to {
-        Var::Live(brigade) => brigade.items.append(items),
-        Var::Null | Var::Gone => {
+        BrigadeVar::Live(brigade) => brigade.items.append(items),
+        BrigadeVar::Null | BrigadeVar::Gone => {
             items.clear();
             Ok(())
         }
@@ -111,14 +111,14 @@ fn take_in(to: &mut Var, items: &mut Seq<Named>) -> Result<(), AllocError>
 
 /// Moves the buckets of one brigade to the tail of another. Without memory nothing is changed.
 #[tactic(auto, using(crate::proofs::Refilled::with_same_items))]
-pub(crate) fn join(to: &mut Var, from: &mut Var) -> Result<(), AllocError>
+pub(crate) fn join(to: &mut BrigadeVar, from: &mut BrigadeVar) -> Result<(), AllocError>
     ensures joined { OnOk result (to.new ≡ with_items (items_of to.old ++ items_of from.old) to.old) }
     ensures emptied { OnOk result (from.new ≡ with_items [] from.old) }
     ensures err { OnErr result (to.new ≡ to.old) }
     ensures kept { OnErr result (from.new ≡ from.old) }
 {
     match from {
-        Var::Live(brigade) => take_in(to, &mut brigade.items),
-        Var::Null | Var::Gone => Ok(()),
+        BrigadeVar::Live(brigade) => take_in(to, &mut brigade.items),
+        BrigadeVar::Null | BrigadeVar::Gone => Ok(()),
     }
 }

@@ -5,11 +5,11 @@ ghost use Rattle.std.specs.List.{list_any};
 ghost use Rattle.run_model.specs.Faults.{WPool, WBrigade, WUsable, WNew, WNewPool, WHomes, WSend, WReturn, fault_want, or_else, fault, is_stray, keeps_stray};
 ghost use Rattle.run_model.specs.State.{is_own};
 ghost use Rattle.module_lang.specs.Program.{fits};
-ghost use Rattle.module_run.specs.Seen.{seen_run};
+ghost use Rattle.module_run.specs.Seen.{seen_machine};
 
 use crate::buckets;
 use crate::machine::Machine;
-use run_model::{FaultKind, Home, Instr, Mark, Module, Named, PoolRef, Var};
+use run_model::{BrigadeVar, FaultKind, Home, Instr, Mark, Module, NamedBucket, PoolRef};
 
 fn or_else(first: Option<FaultKind>, second: Option<FaultKind>) -> Option<FaultKind>
     ensures { result ≡ or_else first second }
@@ -21,7 +21,7 @@ fn or_else(first: Option<FaultKind>, second: Option<FaultKind>) -> Option<FaultK
 }
 
 fn want_pool(machine: &Machine, pool: PoolRef) -> Option<FaultKind>
-    ensures { result ≡ fault_want (seen_run machine.now) (WPool pool) }
+    ensures { result ≡ fault_want (seen_machine machine.now) (WPool pool) }
 {
     if machine.has_pool(pool) {
         None
@@ -32,21 +32,21 @@ fn want_pool(machine: &Machine, pool: PoolRef) -> Option<FaultKind>
 
 fn want_brigade(machine: &Machine, b: u8) -> Option<FaultKind>
     requires { b < 9 }
-    ensures { result ≡ fault_want (seen_run machine.now) (WBrigade b) }
+    ensures { result ≡ fault_want (seen_machine machine.now) (WBrigade b) }
 {
-    match machine.brig(b) {
-        Var::Null | Var::Gone => Some(FaultKind::F2),
-        Var::Live(_) => None,
+    match machine.brigade(b) {
+        BrigadeVar::Null | BrigadeVar::Gone => Some(FaultKind::F2),
+        BrigadeVar::Live(_) => None,
     }
 }
 
 fn want_usable(machine: &Machine, b: u8) -> Option<FaultKind>
     requires { b < 9 }
-    ensures { result ≡ fault_want (seen_run machine.now) (WUsable b) }
+    ensures { result ≡ fault_want (seen_machine machine.now) (WUsable b) }
 {
-    match machine.brig(b) {
-        Var::Null | Var::Gone => Some(FaultKind::F2),
-        Var::Live(brigade) => match brigade.mark {
+    match machine.brigade(b) {
+        BrigadeVar::Null | BrigadeVar::Gone => Some(FaultKind::F2),
+        BrigadeVar::Live(brigade) => match brigade.mark {
             Mark::Usable => None,
             Mark::Passed => Some(FaultKind::F7),
         },
@@ -55,16 +55,16 @@ fn want_usable(machine: &Machine, b: u8) -> Option<FaultKind>
 
 fn want_new(machine: &Machine, b: u8) -> Option<FaultKind>
     requires { b < 9 }
-    ensures { result ≡ fault_want (seen_run machine.now) (WNew b) }
+    ensures { result ≡ fault_want (seen_machine machine.now) (WNew b) }
 {
-    match machine.brig(b) {
-        Var::Null | Var::Gone => None,
-        Var::Live(_) => Some(FaultKind::F10),
+    match machine.brigade(b) {
+        BrigadeVar::Null | BrigadeVar::Gone => None,
+        BrigadeVar::Live(_) => Some(FaultKind::F10),
     }
 }
 
 fn want_new_pool(machine: &Machine, q: u8) -> Option<FaultKind>
-    ensures { result ≡ fault_want (seen_run machine.now) (WNewPool q) }
+    ensures { result ≡ fault_want (seen_machine machine.now) (WNewPool q) }
 {
     if machine.has_pool(PoolRef::Own(q)) {
         Some(FaultKind::F10)
@@ -75,30 +75,33 @@ fn want_new_pool(machine: &Machine, q: u8) -> Option<FaultKind>
 
 fn want_homes(machine: &Machine, b: u8) -> Option<FaultKind>
     requires { b < 9 }
-    ensures { result ≡ fault_want (seen_run machine.now) (WHomes b) }
+    ensures { result ≡ fault_want (seen_machine machine.now) (WHomes b) }
 {
-    match machine.brig(b) {
-        Var::Live(brigade) if buckets::has_dead(brigade.items.as_slice()) => Some(FaultKind::F5),
-        Var::Null | Var::Gone | Var::Live(_) => None,
+    match machine.brigade(b) {
+        BrigadeVar::Live(brigade) if buckets::has_dead(brigade.items.as_slice()) => Some(
+            FaultKind::F5,
+        ),
+        BrigadeVar::Null | BrigadeVar::Gone | BrigadeVar::Live(_) => None,
     }
 }
 
 #[tactic(auto, using(crate::proofs::LateData::late_data_is))]
 fn want_send(machine: &Machine, b: u8) -> Option<FaultKind>
     requires { b < 9 }
-    ensures { result ≡ fault_want (seen_run machine.now) (WSend b) }
+    ensures { result ≡ fault_want (seen_machine machine.now) (WSend b) }
 {
-    match machine.brig(b) {
-        Var::Live(brigade) if buckets::has_late_data(machine.sent(), brigade.items.as_slice()) => {
+    match machine.brigade(b) {
+        BrigadeVar::Live(brigade)
+            if buckets::has_late_data(machine.sent(), brigade.items.as_slice()) => {
             Some(FaultKind::F8)
         }
-        Var::Null | Var::Gone | Var::Live(_) => None,
+        BrigadeVar::Null | BrigadeVar::Gone | BrigadeVar::Live(_) => None,
     }
 }
 
-#[tactic(auto, unfolding(run_model::specs::Faults::is_stray, run_model::specs::State::is_own, crate::specs::Seen::seen_run))]
+#[tactic(auto, unfolding(run_model::specs::Faults::is_stray, run_model::specs::State::is_own, crate::specs::Seen::seen_machine))]
 fn is_stray(machine: &Machine, home: Home) -> bool
-    ensures { result ≡ is_stray (seen_run machine.now) home }
+    ensures { result ≡ is_stray (seen_machine machine.now) home }
 {
     match home {
         Home::Call(_) => true,
@@ -108,29 +111,29 @@ fn is_stray(machine: &Machine, home: Home) -> bool
 }
 
 #[tactic(auto, unfolding(run_model::specs::Faults::keeps_stray))]
-fn keeps_stray(machine: &Machine, var: &Var) -> bool
-    ensures { result ≡ keeps_stray (seen_run machine.now) var.now }
+fn keeps_stray(machine: &Machine, var: &BrigadeVar) -> bool
+    ensures { result ≡ keeps_stray (seen_machine machine.now) var.now }
 {
     match var {
-        Var::Null | Var::Gone => false,
-        Var::Live(brigade) => match brigade.mark {
+        BrigadeVar::Null | BrigadeVar::Gone => false,
+        BrigadeVar::Live(brigade) => match brigade.mark {
             Mark::Usable => has_stray(machine, brigade.items.as_slice()),
             Mark::Passed => false,
         },
     }
 }
 
-fn has_stray(machine: &Machine, items: &[Named]) -> bool
-    ensures { result ≡ list_any (λ b. is_stray (seen_run machine.now) b.bucket.home) items.now }
+fn has_stray(machine: &Machine, items: &[NamedBucket]) -> bool
+    ensures { result ≡ list_any (λ b. is_stray (seen_machine machine.now) b.bucket.home) items.now }
 {
     items.iter().any(|b| is_stray(machine, b.bucket.home))
 }
 
 fn want_return(machine: &Machine) -> Option<FaultKind>
-    ensures { result ≡ fault_want (seen_run machine.now) WReturn }
+    ensures { result ≡ fault_want (seen_machine machine.now) WReturn }
 {
     for b in 0..8u8 {
-        if keeps_stray(machine, machine.brig(b)) {
+        if keeps_stray(machine, machine.brigade(b)) {
             return Some(FaultKind::F6);
         }
     }
@@ -141,7 +144,7 @@ fn want_return(machine: &Machine) -> Option<FaultKind>
 pub(crate) fn fault(code: &Module, machine: &Machine, instr: Instr) -> Option<FaultKind>
     requires fit { fits code.now instr ≡ true }
     requires few { length code.now.brigades ≤ 8 }
-    ensures { result ≡ fault code.now (seen_run machine.now) instr }
+    ensures { result ≡ fault code.now (seen_machine machine.now) instr }
 {
     match instr {
         Instr::PCreate(q) => or_else(

@@ -7,15 +7,15 @@ use Rattle.run_model.specs.declared.bucket.Kind.{Kind}
 use Rattle.run_model.specs.declared.bucket.Kind.TheVariants as kind
 use Rattle.run_model.specs.declared.bucket.Home.{Home}
 use Rattle.run_model.specs.declared.bucket.Home.TheVariants as home
-use Rattle.run_model.specs.declared.bucket.Named.{Named}
-use Rattle.run_model.specs.declared.bucket.Var.{Var}
-use Rattle.run_model.specs.declared.bucket.Var.TheVariants as var
+use Rattle.run_model.specs.declared.bucket.NamedBucket.{NamedBucket}
+use Rattle.run_model.specs.declared.bucket.BrigadeVar.{BrigadeVar}
+use Rattle.run_model.specs.declared.bucket.BrigadeVar.TheVariants as var
 use Rattle.run_model.specs.declared.payload.Payload.{Payload}
 use Rattle.run_model.specs.Pools.{Pools, is_empty, is_live, is_under, cleared, destroyed}
-use Rattle.run_model.specs.RunOrderLaws.{under_itself}
+use Rattle.run_model.proofs.RunOrderLaws.{under_itself}
 use Rattle.run_model.specs.Buckets.{end_pools, to_heap, cleared_bucket}
 use Rattle.run_model.specs.Clearing.{is_reached, cleared_var, run_down}
-use Rattle.run_model.specs.State.{Run, with_pools, items_of}
+use Rattle.run_model.specs.State.{Configuration, with_pools, items_of}
 use Rattle.run_model.specs.Steps.{files_let_go}
 use Rattle.run_model.specs.Sound.{brigade_pool}
 use Rattle.run_model.specs.Laws.{ClearsKeepOthers, lies_under, StandsApart, LeavesBucket, LeavesVar, TakesAlong, ClearsTakeAlong}
@@ -90,7 +90,7 @@ same_kind reached kind.File apart = refl
 same_kind reached kind.Flush apart = refl
 same_kind reached kind.Eos apart = refl
 
-same_bucket : (n : ℕ) (r : Run) (x : Named) → StandsApart r n x → cleared_bucket (is_under r.shared.pools n) x ≡ x
+same_bucket : (n : ℕ) (r : Configuration) (x : NamedBucket) → StandsApart r n x → cleared_bucket (is_under r.shared.pools n) x ≡ x
 same_bucket n r x apart =
     let reached = is_under r.shared.pools n in
     let kept_home : end_pools reached x.bucket.home ≡ x.bucket.home = same_home reached x.bucket.home (λ m under. (apart m under).0) in
@@ -104,7 +104,7 @@ heap_there reached k m under is = ap (to_heap reached) is ∙ ap (λ b. cond b k
 ended_there : (reached : ℕ → Bool) (h : Home) (m : ℕ) → reached m ≡ true → h ≡ home.Pool m → end_pools reached h ≡ home.Ended
 ended_there reached h m under is = ap (end_pools reached) is ∙ ap (λ b. cond b home.Ended (home.Pool m)) under
 
-bucket_left : (n : ℕ) (r : Run) (x : Named) → LeavesBucket r n x (cleared_bucket (is_under r.shared.pools n) x)
+bucket_left : (n : ℕ) (r : Configuration) (x : NamedBucket) → LeavesBucket r n x (cleared_bucket (is_under r.shared.pools n) x)
 bucket_left n r x =
     let reached = is_under r.shared.pools n in
     record {
@@ -119,37 +119,37 @@ bucket_left n r x =
 
 -- Lists of buckets.
 
-all_apart : (n : ℕ) (r : Run) (xs : List Named) → All (StandsApart r n) (map (cleared_bucket (is_under r.shared.pools n)) xs)
+all_apart : (n : ℕ) (r : Configuration) (xs : List NamedBucket) → All (StandsApart r n) (map (cleared_bucket (is_under r.shared.pools n)) xs)
 all_apart n r [] = All-nil (StandsApart r n)
 all_apart n r (x ∷ xs) = All-cons (StandsApart r n) _ _
     (λ m under. (home_apart (is_under r.shared.pools n) x.bucket.home m under, kind_apart (is_under r.shared.pools n) x.bucket.kind m under))
     (all_apart n r xs)
 
-same_list : (n : ℕ) (r : Run) (xs : List Named) → All (StandsApart r n) xs → map (cleared_bucket (is_under r.shared.pools n)) xs ≡ xs
+same_list : (n : ℕ) (r : Configuration) (xs : List NamedBucket) → All (StandsApart r n) xs → map (cleared_bucket (is_under r.shared.pools n)) xs ≡ xs
 same_list n r [] apart = refl
 same_list n r (x ∷ xs) apart =
-    ap (λ (y : Named). y ∷ map (cleared_bucket (is_under r.shared.pools n)) xs) (same_bucket n r x (All-head (StandsApart r n) x xs apart))
-    ∙ ap (λ (ys : List Named). x ∷ ys) (same_list n r xs (All-tail (StandsApart r n) x xs apart))
+    ap (λ (y : NamedBucket). y ∷ map (cleared_bucket (is_under r.shared.pools n)) xs) (same_bucket n r x (All-head (StandsApart r n) x xs apart))
+    ∙ ap (λ (ys : List NamedBucket). x ∷ ys) (same_list n r xs (All-tail (StandsApart r n) x xs apart))
 
-all_left : (n : ℕ) (r : Run) (xs : List Named) → AllZip (LeavesBucket r n) xs (map (cleared_bucket (is_under r.shared.pools n)) xs)
+all_left : (n : ℕ) (r : Configuration) (xs : List NamedBucket) → AllZip (LeavesBucket r n) xs (map (cleared_bucket (is_under r.shared.pools n)) xs)
 all_left n r [] = tt
 all_left n r (x ∷ xs) = (bucket_left n r x, all_left n r xs)
 
 -- Brigades.
 
-var_gone : (reached : ℕ → Bool) (v : Var) → is_reached reached (brigade_pool v) ≡ true → cleared_var reached v ≡ var.Gone
+var_gone : (reached : ℕ → Bool) (v : BrigadeVar) → is_reached reached (brigade_pool v) ≡ true → cleared_var reached v ≡ var.Gone
 var_gone reached var.Null lies = absurd (cc)
 var_gone reached var.Gone lies = refl
 var_gone reached (var.Live v) lies = ap (λ b. cond b var.Gone (var.Live (record v { items = map (cleared_bucket reached) v.items }))) lies
 
-var_left : (n : ℕ) (r : Run) (v : Var) → lies_under r n v ≡ false → LeavesVar r n v (cleared_var (is_under r.shared.pools n) v)
+var_left : (n : ℕ) (r : Configuration) (v : BrigadeVar) → lies_under r n v ≡ false → LeavesVar r n v (cleared_var (is_under r.shared.pools n) v)
 var_left n r var.Null off = refl
 var_left n r var.Gone off = refl
 var_left n r (var.Live v) off =
     let left : Brigade = record v { items = map (cleared_bucket (is_under r.shared.pools n)) v.items } in
     (left, ap (λ b. cond b var.Gone (var.Live left)) off, record { name = refl; on = refl; mark = refl; items = all_left n r v.items })
 
-var_apart : (n : ℕ) (r : Run) (v : Var) → All (StandsApart r n) (items_of (cleared_var (is_under r.shared.pools n) v))
+var_apart : (n : ℕ) (r : Configuration) (v : BrigadeVar) → All (StandsApart r n) (items_of (cleared_var (is_under r.shared.pools n) v))
 var_apart n r var.Null = All-nil (StandsApart r n)
 var_apart n r var.Gone = All-nil (StandsApart r n)
 var_apart n r (var.Live v) = by_test (is_reached (is_under r.shared.pools n) v.on) where
@@ -157,22 +157,22 @@ var_apart n r (var.Live v) = by_test (is_reached (is_under r.shared.pools n) v.o
   by_test true = All-nil (StandsApart r n)
   by_test false = all_apart n r v.items
 
-var_same : (n : ℕ) (r : Run) (v : Var) → lies_under r n v ≡ false → All (StandsApart r n) (items_of v) → cleared_var (is_under r.shared.pools n) v ≡ v
+var_same : (n : ℕ) (r : Configuration) (v : BrigadeVar) → lies_under r n v ≡ false → All (StandsApart r n) (items_of v) → cleared_var (is_under r.shared.pools n) v ≡ v
 var_same n r var.Null off apart = refl
 var_same n r var.Gone off apart = refl
 var_same n r (var.Live v) off apart =
     ap (λ b. cond b var.Gone (var.Live (record v { items = map (cleared_bucket (is_under r.shared.pools n)) v.items }))) off
-    ∙ ap (λ (xs : List Named). var.Live (record v { items = xs })) (same_list n r v.items apart)
+    ∙ ap (λ (xs : List NamedBucket). var.Live (record v { items = xs })) (same_list n r v.items apart)
 
 -- Runs.
 
-run_down_takes : (n : ℕ) (r : Run) (ps : Pools Payload) → TakesAlong n r (files_let_go n r (with_pools ps (run_down n r)))
+run_down_takes : (n : ℕ) (r : Configuration) (ps : Pools Payload) → TakesAlong n r (files_let_go n r (with_pools ps (run_down n r)))
 unfolding with_pools run_down
 run_down_takes n r ps = record {
-  gone = λ b lies. var_gone (is_under r.shared.pools n) (r.inst.brigs b) lies;
-  kept = λ b off. var_left n r (r.inst.brigs b) off;
-  apart = λ b. var_apart n r (r.inst.brigs b);
-  others = λ b off apart. var_same n r (r.inst.brigs b) off apart;
+  gone = λ b lies. var_gone (is_under r.shared.pools n) (r.instance.brigades b) lies;
+  kept = λ b off. var_left n r (r.instance.brigades b) off;
+  apart = λ b. var_apart n r (r.instance.brigades b);
+  others = λ b off apart. var_same n r (r.instance.brigades b) off apart;
   loose = (all_apart n r r.call.loose, all_left n r r.call.loose);
   call = refl;
   labels = refl;

@@ -3,9 +3,9 @@ use Rattle.std.proofs.Common.{◌≡◌, Bool, true, false, ◌&&◌, ◌||◌, 
 use Rattle.std.proofs.lemmas.List.Folds.{list_any-append}
 use Rattle.run_model.specs.declared.fault.FaultKind.{FaultKind}
 use Rattle.run_model.specs.declared.fault.FaultKind.TheVariants.{F8}
-use Rattle.run_model.specs.declared.bucket.Named.{Named}
+use Rattle.run_model.specs.declared.bucket.NamedBucket.{NamedBucket}
 use Rattle.run_model.specs.Buckets.{is_data, is_eos, has_data, has_eos, data_after_eos}
-use Rattle.run_model.specs.Files.{Files, Taken, all_taken, and_then, content_taken, followed_by, taken_of}
+use Rattle.run_model.specs.Files.{Files, BytesTaken, all_taken, and_then, content_taken, followed_by, taken_of}
 use Rattle.run_model.specs.Faults.{or_else}
 use Rattle.run_model.specs.Steps.{Delivered, delivered}
 use Rattle.run_model.specs.Laws.{OutputOfCuts, FaultOfCuts}
@@ -13,16 +13,16 @@ use Rattle.run_model.specs.Laws.{OutputOfCuts, FaultOfCuts}
 -- The output.
 
 -- bytes before what was taken, and before that again
-regrouped_bytes : (m : Bool) (bs : List ℕ) (t u : Taken) → and_then bs (cond m t (and_then t.bytes u)) ≡ cond m (and_then bs t) (and_then (bs ++ t.bytes) u)
+regrouped_bytes : (m : Bool) (bs : List ℕ) (t u : BytesTaken) → and_then bs (cond m t (and_then t.bytes u)) ≡ cond m (and_then bs t) (and_then (bs ++ t.bytes) u)
 regrouped_bytes true bs t u = refl
 regrouped_bytes false bs t u = ap (λ (b : List ℕ). record u { bytes = b }) (sym (append_assoc bs t.bytes u.bytes))
 
 -- What is taken of two lists, where no read of the first failed.
-Joined : List Named → List Named → Files → Type 0
+Joined : List NamedBucket → List NamedBucket → Files → Type 0
 Joined xs ys fs = (taken_of xs fs).whole ≡ true → taken_of (xs ++ ys) fs ≡ cond (has_eos xs) (taken_of xs fs) (and_then (taken_of xs fs).bytes (taken_of ys (taken_of xs fs).files))
 
 -- the same of what follows a bucket of which t was taken
-behind : (t : Taken) (xs ys : List Named) → Joined xs ys t.files → (followed_by t (taken_of xs)).whole ≡ true
+behind : (t : BytesTaken) (xs ys : List NamedBucket) → Joined xs ys t.files → (followed_by t (taken_of xs)).whole ≡ true
     → followed_by t (taken_of (xs ++ ys)) ≡ cond (has_eos xs) (followed_by t (taken_of xs)) (and_then (followed_by t (taken_of xs)).bytes (taken_of ys (followed_by t (taken_of xs)).files))
 unfolding Joined
 behind t xs ys rest = by_whole t.whole refl where
@@ -32,7 +32,7 @@ behind t xs ys rest = by_whole t.whole refl where
   by_whole true is whole = ap (and_then t.bytes) (rest whole) ∙ regrouped_bytes (has_eos xs) t.bytes (taken_of xs t.files) (taken_of ys (taken_of xs t.files).files)
   by_whole false is whole = absurd (let both : false ≡ true = sym is ∙ whole in cc)
 
-taken_append : (xs ys : List Named) (fs : Files) → Joined xs ys fs
+taken_append : (xs ys : List NamedBucket) (fs : Files) → Joined xs ys fs
 unfolding Joined taken_of
 taken_append [] ys fs whole = refl
 taken_append (x ∷ xs) ys fs whole = by_eos (taken_append xs ys (content_taken x.bucket.content fs).files) (is_eos x) whole where
@@ -44,10 +44,10 @@ taken_append (x ∷ xs) ys fs whole = by_eos (taken_append xs ys (content_taken 
   by_eos rest false whole = behind (content_taken x.bucket.content fs) xs ys rest whole
 
 -- what the output filter has put out, of an output that did not end
-abbrev put_behind : List ℕ → Bool → Taken → Delivered
+abbrev put_behind : List ℕ → Bool → BytesTaken → Delivered
 put_behind bs ended t = record { out = record { bytes = bs ++ t.bytes; ended = ended }; well = t.whole; files = t.files }
 
-joined : (bs : List ℕ) (m n : Bool) (t u : Taken) → t.whole ≡ true
+joined : (bs : List ℕ) (m n : Bool) (t u : BytesTaken) → t.whole ≡ true
     → cond m (record { out = record { bytes = bs ++ t.bytes; ended = m }; well = true; files = t.files }) (put_behind (bs ++ t.bytes) n u) ≡ put_behind bs (m || n) (cond m t (and_then t.bytes u))
 joined bs true n t u whole = ap (λ (w : Bool). let d : Delivered = record { out = record { bytes = bs ++ t.bytes; ended = true }; well = w; files = t.files } in d) (sym whole)
 joined bs false n t u whole = ap (λ (b : List ℕ). let d : Delivered = record { out = record { bytes = b; ended = n }; well = u.whole; files = u.files } in d) (append_assoc bs t.bytes u.bytes)
@@ -69,7 +69,7 @@ or_false : (b : Bool) → b ≡ (b || false)
 or_false true = refl
 or_false false = refl
 
-after_append : (xs ys : List Named) → data_after_eos (xs ++ ys) ≡ (data_after_eos xs || data_after_eos ys || (has_eos xs && has_data ys))
+after_append : (xs ys : List NamedBucket) → data_after_eos (xs ++ ys) ≡ (data_after_eos xs || data_after_eos ys || (has_eos xs && has_data ys))
 after_append [] ys = or_false (data_after_eos ys)
 after_append (x ∷ xs) ys =
     ap (λ b. (is_eos x && b) || data_after_eos (xs ++ ys)) (list_any-append is_data xs ys)

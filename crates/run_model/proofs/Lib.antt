@@ -1,4 +1,5 @@
 pub mod Updates
+pub mod RunOrderLaws
 pub mod Examples
 pub mod Sums
 pub mod Operands
@@ -8,15 +9,16 @@ pub mod StepNames
 pub mod StepBuckets
 pub mod Formed
 pub mod NamedPools
-pub mod Thinned
+pub mod PoolsKept
 pub mod StepPools
 pub mod Events
 pub mod Runs
-pub mod Happened
+pub mod EventAnswers
 pub mod Brought
 pub mod SoundRuns
 pub mod Unchanged
 pub mod Refusals
+pub mod RefusalOrder
 pub mod Orderly
 pub mod Cuts
 pub mod Filled

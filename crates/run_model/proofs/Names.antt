@@ -4,14 +4,14 @@ use Rattle.std.proofs.lemmas.List.Sums.{sum_by-append, sum_by-cons}
 use Rattle.std.proofs.lemmas.Bool.{cases_lt}
 use Rattle.std.proofs.lemmas.Bool.Decides.{eqb_tells}
 use Rattle.run_model.specs.declared.bucket.Bucket.{Bucket}
-use Rattle.run_model.specs.declared.bucket.Named.{Named}
+use Rattle.run_model.specs.declared.bucket.NamedBucket.{NamedBucket}
 use Rattle.run_model.specs.declared.bucket.Brigade.{Brigade}
-use Rattle.run_model.specs.declared.bucket.Var.{Var}
-use Rattle.run_model.specs.declared.bucket.Var.TheVariants as var
+use Rattle.run_model.specs.declared.bucket.BrigadeVar.{BrigadeVar}
+use Rattle.run_model.specs.declared.bucket.BrigadeVar.TheVariants as var
 use Rattle.run_model.specs.declared.event.Piece.{Piece}
 use Rattle.run_model.specs.Indexed.{upd}
 use Rattle.run_model.specs.Buckets.{returned_bucket, cleared_bucket}
-use Rattle.run_model.specs.State.{Run, items_of}
+use Rattle.run_model.specs.State.{Configuration, items_of}
 use Rattle.run_model.specs.Steps.{cleaned, with_items, handed_over, returned_var}
 use Rattle.run_model.specs.Clearing.{cleared_var, is_reached}
 use Rattle.run_model.specs.Connection.{named_from}
@@ -25,16 +25,16 @@ pub count_none : (n : ℕ) → count_named n [] ≡ 0
 unfolding count_named
 count_none n = refl
 
-pub count_append : (n : ℕ) (xs ys : List Named) → count_named n (xs ++ ys) ≡ count_named n xs + count_named n ys
+pub count_append : (n : ℕ) (xs ys : List NamedBucket) → count_named n (xs ++ ys) ≡ count_named n xs + count_named n ys
 unfolding count_named
 count_append n xs ys = sum_by-append (λ b. cond (b.name == n) 1 0) xs ys
 
-pub count_cons : (n : ℕ) (x : Named) (xs : List Named) → count_named n (x ∷ xs) ≡ cond (x.name == n) 1 0 + count_named n xs
+pub count_cons : (n : ℕ) (x : NamedBucket) (xs : List NamedBucket) → count_named n (x ∷ xs) ≡ cond (x.name == n) 1 0 + count_named n xs
 unfolding count_named
 count_cons n x xs = sum_by-cons (λ b. cond (b.name == n) 1 0) x xs
 
 -- a change of buckets that leaves their names
-pub count_map : (n : ℕ) (f : Named → Named) → ((b : Named) → (f b).name ≡ b.name) → (xs : List Named) → count_named n (map f xs) ≡ count_named n xs
+pub count_map : (n : ℕ) (f : NamedBucket → NamedBucket) → ((b : NamedBucket) → (f b).name ≡ b.name) → (xs : List NamedBucket) → count_named n (map f xs) ≡ count_named n xs
 count_map n f same [] = refl
 count_map n f same (x ∷ xs) =
     count_cons n (f x) (map f xs) ∙ (ap (λ k. cond (k == n) 1 0 + count_named n (map f xs)) (same x) ∙ (ap (λ k. cond (x.name == n) 1 0 + k) (count_map n f same xs) ∙ sym (count_cons n x xs)))
@@ -72,35 +72,35 @@ count_behind make n m (x ∷ xs) le =
     omega (arith, head_count make n m x xs)
 
 -- How a brigade variable may change: it keeps its name or lets go of it, and what is null stays null.
-pub record Carried (v w : Var) : Type 0 where
+pub record Carried (v w : BrigadeVar) : Type 0 where
   pub name : (n : ℕ) → brigade_name w ≡ Some n → brigade_name v ≡ Some n
   pub null : v ≡ var.Null → w ≡ var.Null
 
 -- and no bucket comes to it
-pub record Fewer (v w : Var) : Type 0 where
+pub record Fewer (v w : BrigadeVar) : Type 0 where
   pub carried : Carried v w
   pub items : (n : ℕ) → count_named n (items_of w) ≤ count_named n (items_of v)
 
-pub carried_same : (v : Var) → Carried v v
+pub carried_same : (v : BrigadeVar) → Carried v v
 carried_same v = record { name = λ n h. h; null = λ h. h }
 
-pub fewer_same : (v : Var) → Fewer v v
+pub fewer_same : (v : BrigadeVar) → Fewer v v
 fewer_same v = record { carried = carried_same v; items = λ n. omega arith }
 
-pub fewer_none : (v w : Var) → Carried v w → items_of w ≡ [] → Fewer v w
+pub fewer_none : (v w : BrigadeVar) → Carried v w → items_of w ≡ [] → Fewer v w
 fewer_none v w carried none = record { carried = carried; items = λ n. rw (none, count_none n) (omega arith) }
 
-pub cleaned_fewer : (v : Var) → Fewer v (cleaned v)
+pub cleaned_fewer : (v : BrigadeVar) → Fewer v (cleaned v)
 cleaned_fewer var.Null = fewer_same var.Null
 cleaned_fewer var.Gone = fewer_same var.Gone
 cleaned_fewer (var.Live v) = fewer_none _ _ (record { name = λ n h. h; null = λ h. absurd (cc) }) refl
 
-pub handed_fewer : (v : Var) → Fewer v (handed_over v)
+pub handed_fewer : (v : BrigadeVar) → Fewer v (handed_over v)
 handed_fewer var.Null = fewer_same var.Null
 handed_fewer var.Gone = fewer_same var.Gone
 handed_fewer (var.Live v) = fewer_none _ _ (record { name = λ n h. h; null = λ h. absurd (cc) }) refl
 
-pub returned_fewer : (call : ℕ) (v : Var) → Fewer v (returned_var call v)
+pub returned_fewer : (call : ℕ) (v : BrigadeVar) → Fewer v (returned_var call v)
 returned_fewer call var.Null = fewer_same var.Null
 returned_fewer call var.Gone = fewer_same var.Gone
 returned_fewer call (var.Live v) = record {
@@ -108,7 +108,7 @@ returned_fewer call (var.Live v) = record {
   items = λ n. rw (count_map n (returned_bucket call) (λ b. refl) v.items) (omega arith);
 }
 
-pub cleared_fewer : (reached : ℕ → Bool) (v : Var) → Fewer v (cleared_var reached v)
+pub cleared_fewer : (reached : ℕ → Bool) (v : BrigadeVar) → Fewer v (cleared_var reached v)
 cleared_fewer reached var.Null = fewer_same var.Null
 cleared_fewer reached var.Gone = fewer_same var.Gone
 cleared_fewer reached (var.Live v) = by_test (is_reached reached v.on) where
@@ -119,34 +119,34 @@ cleared_fewer reached (var.Live v) = by_test (is_reached reached v.on) where
     items = λ n. rw (count_map n (cleared_bucket reached) (λ b. refl) v.items) (omega arith);
   }
 
-pub filled_carried : (items : List Named) (v : Var) → Carried v (with_items items v)
+pub filled_carried : (items : List NamedBucket) (v : BrigadeVar) → Carried v (with_items items v)
 filled_carried items var.Null = carried_same var.Null
 filled_carried items var.Gone = carried_same var.Gone
 filled_carried items (var.Live v) = record { name = λ n h. h; null = λ h. absurd (cc) }
 
-pub filled_items : (n : ℕ) (items : List Named) (v : Var) → count_named n (items_of (with_items items v)) ≤ count_named n items
+pub filled_items : (n : ℕ) (items : List NamedBucket) (v : BrigadeVar) → count_named n (items_of (with_items items v)) ≤ count_named n items
 filled_items n items var.Null = rw (count_none n) (omega arith)
 filled_items n items var.Gone = rw (count_none n) (omega arith)
 filled_items n items (var.Live v) = omega arith
 
 -- what holds of a change at the index that is written, and of no change, holds everywhere
-pub at_each : (P : Var → Var → Type 0) (g : ℕ → Var) (i : ℕ) (w : Var) → P (g i) w → ((v : Var) → P v v) → (k : ℕ) → P (g k) (upd g i w k)
+pub at_each : (P : BrigadeVar → BrigadeVar → Type 0) (g : ℕ → BrigadeVar) (i : ℕ) (w : BrigadeVar) → P (g i) w → ((v : BrigadeVar) → P v v) → (k : ℕ) → P (g k) (upd g i w k)
 at_each P g i w here same k = elim (upd_either g i k w) [
   | inl p ↦ subst (λ x. P (g k) x) (sym p.1) (subst (λ j. P (g j) w) (sym p.0) here)
   | inr p ↦ subst (λ x. P (g k) x) (sym p.1) (same (g k))
 ]
 
 -- the same of two indexes that are written
-pub at_two : (P : Var → Var → Type 0) (g : ℕ → Var) (i j : ℕ) (v w : Var) → P (g i) v → P (g j) w → ((u : Var) → P u u) → (k : ℕ) → P (g k) (upd (upd g i v) j w k)
+pub at_two : (P : BrigadeVar → BrigadeVar → Type 0) (g : ℕ → BrigadeVar) (i j : ℕ) (v w : BrigadeVar) → P (g i) v → P (g j) w → ((u : BrigadeVar) → P u u) → (k : ℕ) → P (g k) (upd (upd g i v) j w k)
 at_two P g i j v w here there same k = elim (upd_either (upd g i v) j k w) [
   | inl p ↦ subst (λ x. P (g k) x) (sym p.1) (subst (λ m. P (g m) w) (sym p.0) there)
   | inr p ↦ subst (λ x. P (g k) x) (sym p.1) (at_each P g i v here same k)
 ]
 
 -- Where buckets do not grow in number and brigades keep their names, names stay sound.
-pub keeps_names : (r new : Run)
+pub keeps_names : (r new : Configuration)
     → ((n : ℕ) → count new n ≤ count r n)
-    → ((b : ℕ) → Carried (r.inst.brigs b) (new.inst.brigs b))
+    → ((b : ℕ) → Carried (r.instance.brigades b) (new.instance.brigades b))
     → r.shared.next ≤ new.shared.next → new.shared.next < 2 ^ 64
     → SoundNames r → SoundNames new
 keeps_names r new fewer carried rises limit s = record {
@@ -159,36 +159,36 @@ keeps_names r new fewer carried rises limit s = record {
 }
 
 -- the same, slot for slot
-pub keeps_slots : (r new : Run)
+pub keeps_slots : (r new : Configuration)
     → ((n : ℕ) → count_named n new.call.loose ≤ count_named n r.call.loose)
-    → ((b : ℕ) → Fewer (r.inst.brigs b) (new.inst.brigs b))
+    → ((b : ℕ) → Fewer (r.instance.brigades b) (new.instance.brigades b))
     → r.shared.next ≤ new.shared.next → new.shared.next < 2 ^ 64
     → SoundNames r → SoundNames new
 keeps_slots r new loose slots rises limit s =
     keeps_names r new (λ n.
     let l : count_named n new.call.loose ≤ count_named n r.call.loose = loose n in
-    let b : sum_below 9 (λ k. count_named n (items_of (new.inst.brigs k))) ≤ sum_below 9 (λ k. count_named n (items_of (r.inst.brigs k))) = sum_below_le 9 _ _ (λ k. (slots k).items n) in
+    let b : sum_below 9 (λ k. count_named n (items_of (new.instance.brigades k))) ≤ sum_below 9 (λ k. count_named n (items_of (r.instance.brigades k))) = sum_below_le 9 _ _ (λ k. (slots k).items n) in
     omega arith)
     (λ k. (slots k).carried) rises limit s
 
 -- What a clear leaves of the brigades and of the loose buckets.
-pub went_names : (reached : ℕ → Bool) (r new : Run)
-    → ((b : ℕ) → new.inst.brigs b ≡ cleared_var reached (r.inst.brigs b))
+pub went_names : (reached : ℕ → Bool) (r new : Configuration)
+    → ((b : ℕ) → new.instance.brigades b ≡ cleared_var reached (r.instance.brigades b))
     → new.call.loose ≡ map (cleared_bucket reached) r.call.loose → new.shared.next ≡ r.shared.next
     → SoundNames r → SoundNames new
-went_names reached r new brigs loose next s =
+went_names reached r new brigades loose next s =
     keeps_slots r new
     (λ n. let same : count_named n new.call.loose ≡ count_named n r.call.loose = ap (count_named n) loose ∙ count_map n (cleared_bucket reached) (λ b. refl) r.call.loose in omega arith)
-    (λ b. subst (λ v. Fewer (r.inst.brigs b) v) (sym (brigs b)) (cleared_fewer reached (r.inst.brigs b)))
+    (λ b. subst (λ v. Fewer (r.instance.brigades b) v) (sym (brigades b)) (cleared_fewer reached (r.instance.brigades b)))
     (omega arith) (subst (λ (k : ℕ). k < 2 ^ 64) (sym next) s.limit) s
 
 some_is : (a b : ℕ) → Some a ≡ Some b → a ≡ b
 some_is a b e = cc
 
 -- A new brigade in a variable: its name and its buckets' are among those that were not given out.
-pub placed_names : (r new : Run) (o : ℕ) (v : Brigade)
+pub placed_names : (r new : Configuration) (o : ℕ) (v : Brigade)
     → o < 9
-    → new.inst.brigs ≡ upd r.inst.brigs o (var.Live v)
+    → new.instance.brigades ≡ upd r.instance.brigades o (var.Live v)
     → ((n : ℕ) → count_named n new.call.loose ≤ count_named n r.call.loose)
     → r.shared.next ≤ v.name → v.name < new.shared.next → new.shared.next < 2 ^ 64
     → ((n : ℕ) → n < r.shared.next → count_named n v.items ≡ 0)
@@ -221,19 +221,19 @@ placed_names r new o v in_range is loose above below limit old_names once behind
     | inr p ↦ (let lt : n < r.shared.next = s.given b n p in omega arith)
   ];
   limit = limit;
-  slots = λ b le. ap (λ (g : ℕ → Var). g b) is ∙ (upd_off r.inst.brigs o b (var.Live v) (λ e. absurd (omega (arith, e))) ∙ s.slots b le);
+  slots = λ b le. ap (λ (g : ℕ → BrigadeVar). g b) is ∙ (upd_off r.instance.brigades o b (var.Live v) (λ e. absurd (omega (arith, e))) ∙ s.slots b le);
 } where
   counted : (n : ℕ) → count new n ≤ count r n + count_named n v.items
   counted n =
       let l : count_named n new.call.loose ≤ count_named n r.call.loose = loose n in
-      let e : sum_below 9 (λ k. count_named n (items_of (new.inst.brigs k))) ≡ sum_below 9 (λ k. count_named n (items_of (upd r.inst.brigs o (var.Live v) k))) = ap (λ (g : ℕ → Var). sum_below 9 (λ k. count_named n (items_of (g k)))) is in
-      let u : sum_below 9 (λ k. count_named n (items_of (upd r.inst.brigs o (var.Live v) k))) + count_named n (items_of (r.inst.brigs o)) ≡ sum_below 9 (λ k. count_named n (items_of (r.inst.brigs k))) + count_named n v.items = sum_below_upd 9 o r.inst.brigs (var.Live v) (λ x. count_named n (items_of x)) in_range in
+      let e : sum_below 9 (λ k. count_named n (items_of (new.instance.brigades k))) ≡ sum_below 9 (λ k. count_named n (items_of (upd r.instance.brigades o (var.Live v) k))) = ap (λ (g : ℕ → BrigadeVar). sum_below 9 (λ k. count_named n (items_of (g k)))) is in
+      let u : sum_below 9 (λ k. count_named n (items_of (upd r.instance.brigades o (var.Live v) k))) + count_named n (items_of (r.instance.brigades o)) ≡ sum_below 9 (λ k. count_named n (items_of (r.instance.brigades k))) + count_named n v.items = sum_below_upd 9 o r.instance.brigades (var.Live v) (λ x. count_named n (items_of x)) in_range in
       omega arith
 
-  named : (b n : ℕ) → brigade_name (new.inst.brigs b) ≡ Some n → ((b ≡ o) × (v.name ≡ n)) ⊎ (brigade_name (r.inst.brigs b) ≡ Some n)
+  named : (b n : ℕ) → brigade_name (new.instance.brigades b) ≡ Some n → ((b ≡ o) × (v.name ≡ n)) ⊎ (brigade_name (r.instance.brigades b) ≡ Some n)
   named b n h =
-      let at_b : new.inst.brigs b ≡ upd r.inst.brigs o (var.Live v) b = ap (λ (g : ℕ → Var). g b) is in
-      elim (upd_either r.inst.brigs o b (var.Live v)) [
+      let at_b : new.instance.brigades b ≡ upd r.instance.brigades o (var.Live v) b = ap (λ (g : ℕ → BrigadeVar). g b) is in
+      elim (upd_either r.instance.brigades o b (var.Live v)) [
         | inl p ↦ inl (p.0, some_is v.name n (ap brigade_name (sym (at_b ∙ p.1)) ∙ h))
         | inr p ↦ inr (ap brigade_name (sym (at_b ∙ p.1)) ∙ h)
       ]

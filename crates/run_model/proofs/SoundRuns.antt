@@ -21,7 +21,7 @@ use Rattle.run_model.specs.declared.event.Refusal.{Refusal}
 use Rattle.run_model.specs.declared.event.Refusal.TheVariants as refusal
 use Rattle.run_model.specs.declared.fault.FaultKind.{FaultKind}
 use Rattle.run_model.specs.Files.{Files}
-use Rattle.run_model.specs.State.{Run}
+use Rattle.run_model.specs.State.{Configuration}
 use Rattle.run_model.specs.Faults.{fault}
 use Rattle.run_model.specs.Steps.{step, step_at_end, settled, grows, is_spent, lacks_names, current, succeeded, executed, unless_fault, watched}
 use Rattle.run_model.specs.Connection.{Connection, begins, brings, opens_file, file_answer, lacks_file, ends, takes, steps, begun, brought, ended, if_broken, step_answer, step_from, step_if, after_step, broke, data_behind_eos}
@@ -29,7 +29,7 @@ use Rattle.run_model.specs.Runs.{World, Before, There, Closed, adds_file, opens,
 use Rattle.run_model.specs.Sound.{Sound}
 use Rattle.run_model.specs.Laws.{MayExecute, StepAtEndKeeps, SoundWorld, EventKeepsSound, RunIsSound}
 use Rattle.run_model.proofs.Runs.{run_keeps}
-use Rattle.run_model.proofs.Happened.{IfThere, none_first, none_if, happened, told, stepped_told, opening_told, added_before, closed_stays}
+use Rattle.run_model.proofs.EventAnswers.{IfThere, none_first, none_if, happened, told, stepped_told, opening_told, added_before, closed_stays}
 use Rattle.run_model.proofs.StepNames.{step_names}
 use Rattle.run_model.proofs.StepBuckets.{step_buckets}
 use Rattle.run_model.proofs.StepPools.{step_pools}
@@ -37,7 +37,7 @@ use Rattle.run_model.proofs.Events.{untouched_sound, added_sound, taken_sound, b
 
 -- Steps.
 
-succeeds : (p : Program) (i : Instr) (r : Run) → MayExecute p r i → Sound r → Sound (step p (record { answer = Success }) i r).run
+succeeds : (p : Program) (i : Instr) (r : Configuration) → MayExecute p r i → Sound r → Sound (step p (record { answer = Success }) i r).state
 succeeds p i r may s = record {
   names = step_names p (record { answer = Success }) i r may s.names;
   buckets = step_buckets p (record { answer = Success }) i r may s.buckets;
@@ -46,7 +46,7 @@ succeeds p i r may s = record {
 
 pub at_end_sound : StepAtEndKeeps
 at_end_sound p (instr.Pass b l) r may s =
-    untouched_sound (step p (record { answer = Success }) (instr.Pass b l) r).run (step_at_end p (instr.Pass b l) r).run refl refl refl refl refl refl refl (succeeds p (instr.Pass b l) r may s)
+    untouched_sound (step p (record { answer = Success }) (instr.Pass b l) r).state (step_at_end p (instr.Pass b l) r).state refl refl refl refl refl refl refl (succeeds p (instr.Pass b l) r may s)
 at_end_sound p (instr.PCreate q) r may s = succeeds p (instr.PCreate q) r may s
 at_end_sound p (instr.PClear q) r may s = succeeds p (instr.PClear q) r may s
 at_end_sound p (instr.PDestroy q) r may s = succeeds p (instr.PDestroy q) r may s
@@ -69,7 +69,7 @@ at_end_sound p (instr.JSent l) r may s = succeeds p (instr.JSent l) r may s
 at_end_sound p (instr.Jump l) r may s = succeeds p (instr.Jump l) r may s
 at_end_sound p (instr.Ret st) r may s = succeeds p (instr.Ret st) r may s
 
-settled_sound : (i : Instr) (exit : Exit) (r : Run) → Sound r → Sound (settled i exit r).1
+settled_sound : (i : Instr) (exit : Exit) (r : Configuration) → Sound r → Sound (settled i exit r).1
 settled_sound i GoOn r s = untouched_sound r (settled i GoOn r).1 refl refl refl refl refl refl refl s
 settled_sound i Jump r s = untouched_sound r (settled i Jump r).1 refl refl refl refl refl refl refl s
 settled_sound i Return r s = s
@@ -82,15 +82,15 @@ current_fits p m pc = elim (cases_lt pc (length p.code)) [
   | inr le ↦ ap (fits p) (get_or_past p.code pc (instr.Ret Success) le)
 ]
 
-watched_sound : (memory : Bool) (p : Program) (i : Instr) (r : Run) → IsModule p → fits p i ≡ true → Sound r → Sound (watched memory p i r).1
+watched_sound : (memory : Bool) (p : Program) (i : Instr) (r : Configuration) → IsModule p → fits p i ≡ true → Sound r → Sound (watched memory p i r).1
 watched_sound memory p i r m fit s = by_fault (fault p r i) refl where
-  by_memory : (b : Bool) → MayExecute p r i → Sound (cond b (succeeded (settled i (step_at_end p i r).exit (step_at_end p i r).run)) (Err step_refusal.NoMemory, r)).1
-  by_memory true may = settled_sound i (step_at_end p i r).exit (step_at_end p i r).run (at_end_sound p i r may s)
+  by_memory : (b : Bool) → MayExecute p r i → Sound (cond b (succeeded (settled i (step_at_end p i r).exit (step_at_end p i r).state)) (Err step_refusal.NoMemory, r)).1
+  by_memory true may = settled_sound i (step_at_end p i r).exit (step_at_end p i r).state (at_end_sound p i r may s)
   by_memory false may = s
 
   by_names : (b : Bool) → lacks_names r i ≡ b → fault p r i ≡ None
-      → ((may : MayExecute p r i) → Sound (cond (memory || not (grows i)) (succeeded (settled i (step_at_end p i r).exit (step_at_end p i r).run)) (Err step_refusal.NoMemory, r)).1)
-      → Sound (cond b (Err step_refusal.NamesSpent, r) (cond (memory || not (grows i)) (succeeded (settled i (step_at_end p i r).exit (step_at_end p i r).run)) (Err step_refusal.NoMemory, r))).1
+      → ((may : MayExecute p r i) → Sound (cond (memory || not (grows i)) (succeeded (settled i (step_at_end p i r).exit (step_at_end p i r).state)) (Err step_refusal.NoMemory, r)).1)
+      → Sound (cond b (Err step_refusal.NamesSpent, r) (cond (memory || not (grows i)) (succeeded (settled i (step_at_end p i r).exit (step_at_end p i r).state)) (Err step_refusal.NoMemory, r))).1
   by_names true spent none rest = s
   by_names false spent none rest = rest (record { proper = m; fit = fit; faultless = none; names_last = spent })
 
@@ -100,87 +100,87 @@ watched_sound memory p i r m fit s = by_fault (fault p r i) refl where
 
 -- A step of a connection.
 
-after_sound : (a : Stepped) (c : Connection) → Sound c.run → Sound (after_step a c).run
+after_sound : (a : Stepped) (c : Connection) → Sound c.state → Sound (after_step a c).state
 after_sound stepped.Went c s = s
 after_sound (stepped.CallEnded status) c s = s
 after_sound (stepped.Fault k m pc) c s = s
 
-answer_sound : (a : Result Stepped StepRefusal) (c : Connection) → Sound c.run → Sound (step_answer a c).1.run
+answer_sound : (a : Result Stepped StepRefusal) (c : Connection) → Sound c.state → Sound (step_answer a c).1.state
 answer_sound (Ok a) c s = after_sound a c s
 answer_sound (Err step_refusal.NamesSpent) c s = s
 answer_sound (Err step_refusal.NoMemory) c s = s
 
-step_if_sound : (o : Option Refusal) (memory : Bool) (budget : ℕ) (p : Program) (c : Connection) → IsModule p → Sound c.run → Sound (step_if o memory budget p c).1.run
+step_if_sound : (o : Option Refusal) (memory : Bool) (budget : ℕ) (p : Program) (c : Connection) → IsModule p → Sound c.state → Sound (step_if o memory budget p c).1.state
 step_if_sound (Some r) memory budget p c m s = s
 step_if_sound None memory budget p c m s = by_budget (nat_le budget c.count) where
-  by_budget : (b : Bool) → Sound (cond b (broke cause.OutOfSteps c) (step_from (watched memory p (current p c.run.pc) c.run) c)).1.run
+  by_budget : (b : Bool) → Sound (cond b (broke cause.OutOfSteps c) (step_from (watched memory p (current p c.state.pc) c.state) c)).1.state
   by_budget true = s
-  by_budget false = answer_sound (watched memory p (current p c.run.pc) c.run).0 (record c { run = (watched memory p (current p c.run.pc) c.run).1 }) (watched_sound memory p (current p c.run.pc) c.run m (current_fits p m c.run.pc) s)
+  by_budget false = answer_sound (watched memory p (current p c.state.pc) c.state).0 (record c { state = (watched memory p (current p c.state.pc) c.state).1 }) (watched_sound memory p (current p c.state.pc) c.state m (current_fits p m c.state.pc) s)
 
-steps_sound : (memory : Bool) (budget : ℕ) (p : Program) (c : Connection) → IsModule p → Sound c.run → Sound (steps memory budget p c).1.run
+steps_sound : (memory : Bool) (budget : ℕ) (p : Program) (c : Connection) → IsModule p → Sound c.state → Sound (steps memory budget p c).1.state
 unfolding steps
 steps_sound memory budget p c m s = step_if_sound _ memory budget p c m s
 
 -- The other events. Where none of the tests holds, the event happens.
 
 abbrev SoundConnection : Connection → Type 0
-SoundConnection c = Sound c.run
+SoundConnection c = Sound c.state
 
-begins_sound : (memory : Bool) (p : Program) (c : Connection) → Sound c.run → Sound (begins memory p c).1.run
+begins_sound : (memory : Bool) (p : Program) (c : Connection) → Sound c.state → Sound (begins memory p c).1.state
 unfolding begins
 begins_sound memory p c s = happened SoundConnection _ c (begun p c) s (λ none.
     let a = none_first (if_broken c.broken) _ none in
     let b = none_if c.busy refusal.Busy _ a in
-    let d = none_if (is_some c.run.shared.req) refusal.InRequest _ b.1 in
-    let e = none_if (is_spent c.run.shared.pools.next 1 || is_spent c.run.shared.next 1) refusal.NamesSpent _ d.1 in
+    let d = none_if (is_some c.state.shared.req) refusal.InRequest _ b.1 in
+    let e = none_if (is_spent c.state.shared.pools.next 1 || is_spent c.state.shared.next 1) refusal.NamesSpent _ d.1 in
     begun_sound p c e.0 s)
 
-bringing_sound : (o : Option ℕ) (p : Program) (pieces : List Piece) (c : Connection) → is_spent c.run.shared.next (2 + length pieces) ≡ false → Sound c.run → Sound (brought o p pieces c).run
+bringing_sound : (o : Option ℕ) (p : Program) (pieces : List Piece) (c : Connection) → is_spent c.state.shared.next (2 + length pieces) ≡ false → Sound c.state → Sound (brought o p pieces c).state
 bringing_sound None p pieces c last s = s
 bringing_sound (Some req) p pieces c last s = brought_sound req p pieces c last s
 
-brings_sound : (memory : Bool) (p : Program) (pieces : List Piece) (c : Connection) → Sound c.run → Sound (brings memory p pieces c).1.run
+brings_sound : (memory : Bool) (p : Program) (pieces : List Piece) (c : Connection) → Sound c.state → Sound (brings memory p pieces c).1.state
 unfolding brings
-brings_sound memory p pieces c s = happened SoundConnection _ c (brought c.run.shared.req p pieces c) s (λ none.
+brings_sound memory p pieces c s = happened SoundConnection _ c (brought c.state.shared.req p pieces c) s (λ none.
     let a = none_first (if_broken c.broken) _ none in
     let b = none_if c.busy refusal.Busy _ a in
-    let d = none_if (not (is_some c.run.shared.req)) refusal.NotInRequest _ b.1 in
+    let d = none_if (not (is_some c.state.shared.req)) refusal.NotInRequest _ b.1 in
     let e = none_if (data_behind_eos pieces) refusal.DataAfterEos _ d.1 in
     let g = none_if (list_any (lacks_file c.files) pieces) refusal.NoFile _ e.1 in
-    let f = none_if (is_spent c.run.shared.next (2 + length pieces)) refusal.NamesSpent _ g.1 in
-    bringing_sound c.run.shared.req p pieces c f.0 s)
+    let f = none_if (is_spent c.state.shared.next (2 + length pieces)) refusal.NamesSpent _ g.1 in
+    bringing_sound c.state.shared.req p pieces c f.0 s)
 
-opening_sound : (o : Option Refusal) (req : Option ℕ) (found : Option (List ℕ)) (name : List ℕ) (c : Connection) → c.run.shared.req ≡ req → Sound c.run → Sound (file_answer o req found name c).1.run
+opening_sound : (o : Option Refusal) (req : Option ℕ) (found : Option (List ℕ)) (name : List ℕ) (c : Connection) → c.state.shared.req ≡ req → Sound c.state → Sound (file_answer o req found name c).1.state
 opening_sound (Some r) req found name c is s = s
 opening_sound None None found name c is s = s
 opening_sound None (Some req) None name c is s = s
 opening_sound None (Some req) (Some bytes) name c is s = taken_sound req (length bytes) name c is s
 
-opens_file_sound : (memory : Bool) (name : List ℕ) (c : Connection) → Sound c.run → Sound (opens_file memory name c).1.run
+opens_file_sound : (memory : Bool) (name : List ℕ) (c : Connection) → Sound c.state → Sound (opens_file memory name c).1.state
 unfolding opens_file
-opens_file_sound memory name c s = opening_sound _ c.run.shared.req (c.run.shared.files.named name) name c refl s
+opens_file_sound memory name c s = opening_sound _ c.state.shared.req (c.state.shared.files.named name) name c refl s
 
-adds_file_sound : (memory : Bool) (name bytes : List ℕ) (c : Connection) → Sound c.run → SoundWorld (adds_file memory name bytes (There c)).1
-adds_file_sound true name bytes c s = added_sound name bytes c.run s
+adds_file_sound : (memory : Bool) (name bytes : List ℕ) (c : Connection) → Sound c.state → SoundWorld (adds_file memory name bytes (There c)).1
+adds_file_sound true name bytes c s = added_sound name bytes c.state s
 adds_file_sound false name bytes c s = s
 
-ended_request : (o : Option ℕ) (c : Connection) → c.run.shared.req ≡ o → Sound c.run → Sound (ended o c).run
+ended_request : (o : Option ℕ) (c : Connection) → c.state.shared.req ≡ o → Sound c.state → Sound (ended o c).state
 ended_request None c is s = s
-ended_request (Some req) c is s = ended_sound req c.run is s
+ended_request (Some req) c is s = ended_sound req c.state is s
 
-ends_sound : (memory : Bool) (c : Connection) → Sound c.run → Sound (ends memory c).1.run
+ends_sound : (memory : Bool) (c : Connection) → Sound c.state → Sound (ends memory c).1.state
 unfolding ends
-ends_sound memory c s = happened SoundConnection _ c (ended c.run.shared.req c) s (λ none. ended_request c.run.shared.req c refl s)
+ends_sound memory c s = happened SoundConnection _ c (ended c.state.shared.req c) s (λ none. ended_request c.state.shared.req c refl s)
 
-takes_sound : (c : Connection) → Sound c.run → Sound (takes c).1.run
+takes_sound : (c : Connection) → Sound c.state → Sound (takes c).1.state
 unfolding takes
-takes_sound c s = untouched_sound c.run (takes c).1.run refl refl refl refl refl refl refl s
+takes_sound c s = untouched_sound c.state (takes c).1.state refl refl refl refl refl refl refl s
 
 opens_sound : (memory : Bool) (fs : Files) → SoundWorld (opens memory fs).1
 opens_sound true fs = opened_sound fs
 opens_sound false fs = tt
 
-closes_sound : (memory : Bool) (c : Connection) → Sound c.run → SoundWorld (closes memory c).1
+closes_sound : (memory : Bool) (c : Connection) → Sound c.state → SoundWorld (closes memory c).1
 closes_sound true c s = tt
 closes_sound false c s = s
 

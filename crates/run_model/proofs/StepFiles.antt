@@ -15,10 +15,10 @@ use Rattle.run_model.specs.declared.bucket.Content.{Content}
 use Rattle.run_model.specs.declared.bucket.Content.TheVariants as content
 use Rattle.run_model.specs.declared.bucket.Home.{Home}
 use Rattle.run_model.specs.declared.bucket.Home.TheVariants as home
-use Rattle.run_model.specs.declared.bucket.Named.{Named}
+use Rattle.run_model.specs.declared.bucket.NamedBucket.{NamedBucket}
 use Rattle.run_model.specs.declared.bucket.PoolVar.TheVariants as poolvar
-use Rattle.run_model.specs.declared.bucket.Var.{Var}
-use Rattle.run_model.specs.declared.bucket.Var.TheVariants as var
+use Rattle.run_model.specs.declared.bucket.BrigadeVar.{BrigadeVar}
+use Rattle.run_model.specs.declared.bucket.BrigadeVar.TheVariants as var
 use Rattle.run_model.specs.declared.payload.Payload.{Payload}
 use Rattle.run_model.specs.declared.payload.Payload.TheVariants.{Label}
 use Rattle.run_model.specs.Indexed.{upd}
@@ -27,42 +27,43 @@ use Rattle.run_model.specs.Buckets.{is_dead, is_ended, end_call, end_pools, retu
 use Rattle.run_model.specs.Cutting.{set_aside}
 use Rattle.run_model.specs.Files.{Files}
 use Rattle.run_model.specs.Clearing.{is_reached, cleared_var, run_down}
-use Rattle.run_model.specs.State.{Run, items_of, set_pool, with_pools, set_brig, set_number, pool_named}
+use Rattle.run_model.specs.State.{Configuration, items_of, set_pool, with_pools, set_brigade, set_number, pool_named}
 use Rattle.run_model.specs.Faults.{usable_fault, homes_fault}
 use Rattle.run_model.specs.Steps.{do_create, do_clean, do_concat, do_pass, do_return, do_put, do_clearbuf, cleaned, with_items, handed_over, returned_var, pool_cleared, pool_destroyed, files_let_go, label_registered, label_killed, text_of, value_of, is_above, aside_named, file_of, new_ref, all_referred, saved_into, made_on}
 use Rattle.run_model.specs.Connection.{has_range}
-use Rattle.run_model.specs.Sound.{home_fits, content_fits, is_proper, SoundPools, SoundBuckets}
+use Rattle.run_model.specs.Sound.{SoundPools, SoundBuckets}
+use Rattle.run_model.specs.Cutting.{FitsKind, LivesAs}
 use Rattle.run_model.specs.Laws.{refers, IsHeld, SoundFiles, StepKeepsFiles}
 use Rattle.run_model.proofs.Updates.{upd_either}
 use Rattle.run_model.proofs.PoolMap.{cleared_apart, cleared_payloads, cleared_next, destroyed_apart, destroyed_under, destroyed_next}
 use Rattle.run_model.proofs.NamedPools.{on_named, made_under_named, own_named, with_buffer, put_keeps}
-use Rattle.run_model.proofs.Thinned.{req_apart}
+use Rattle.run_model.proofs.PoolsKept.{req_apart}
 use Rattle.run_model.proofs.Marks.{first_none, second_none}
-use Rattle.run_model.proofs.Kept.{first, files_go}
+use Rattle.run_model.proofs.Kept.{files_go}
 use Rattle.run_model.proofs.References.{one_of, or_left, or_right, refers_given, referred_at, created_refers, created_back, registered_refers, registered_back, all_grow, all_there, all_back, killed_refers, Emptied, emptied_refers, emptied_back}
 
 -- Lists and variables.
 
-abbrev pub HeldList : Pools Payload → List Named → Type 0
+abbrev pub HeldList : Pools Payload → List NamedBucket → Type 0
 HeldList ps xs = All (IsHeld ps) xs
 
 pub none_held : (ps : Pools Payload) → HeldList ps []
 none_held ps = All-nil (IsHeld ps)
 
-pub weaker : (ps new : Pools Payload) → ((p file : ℕ) → refers ps p file ≡ true → refers new p file ≡ true) → (xs : List Named) → HeldList ps xs → HeldList new xs
+pub weaker : (ps new : Pools Payload) → ((p file : ℕ) → refers ps p file ≡ true → refers new p file ≡ true) → (xs : List NamedBucket) → HeldList ps xs → HeldList new xs
 weaker ps new grow xs h = λ k d lt. λ file start len p c at. grow p file (h k d lt file start len p c at)
 
-cleaned_held : (ps : Pools Payload) (v : Var) → HeldList ps (items_of (cleaned v))
+cleaned_held : (ps : Pools Payload) (v : BrigadeVar) → HeldList ps (items_of (cleaned v))
 cleaned_held ps var.Null = none_held ps
 cleaned_held ps var.Gone = none_held ps
 cleaned_held ps (var.Live v) = none_held ps
 
-handed_held : (ps : Pools Payload) (v : Var) → HeldList ps (items_of (handed_over v))
+handed_held : (ps : Pools Payload) (v : BrigadeVar) → HeldList ps (items_of (handed_over v))
 handed_held ps var.Null = none_held ps
 handed_held ps var.Gone = none_held ps
 handed_held ps (var.Live v) = none_held ps
 
-filled_held : (ps : Pools Payload) (items : List Named) (v : Var) → HeldList ps items → HeldList ps (items_of (with_items items v))
+filled_held : (ps : Pools Payload) (items : List NamedBucket) (v : BrigadeVar) → HeldList ps items → HeldList ps (items_of (with_items items v))
 filled_held ps items var.Null h = none_held ps
 filled_held ps items var.Gone h = none_held ps
 filled_held ps items (var.Live v) h = h
@@ -77,7 +78,7 @@ left_home call (home.Call n) p e = by_test (n == call) e where
 left_home call (home.Pool n) p e = e
 left_home call home.Ended p e = e
 
-returned_held : (ps : Pools Payload) (call : ℕ) (v : Var) → HeldList ps (items_of v) → HeldList ps (items_of (returned_var call v))
+returned_held : (ps : Pools Payload) (call : ℕ) (v : BrigadeVar) → HeldList ps (items_of v) → HeldList ps (items_of (returned_var call v))
 returned_held ps call var.Null h = none_held ps
 returned_held ps call var.Gone h = none_held ps
 returned_held ps call (var.Live v) h =
@@ -93,12 +94,12 @@ spared_home reached (home.Pool n) p e = by_test (reached n) refl e where
   by_test false is e = (e, let same : n ≡ p = cc in sym (ap reached same) ∙ is)
 spared_home reached home.Ended p e = absurd (cc)
 
-spared_list : (n : ℕ) (ps new : Pools Payload) → Emptied n ps new → (xs : List Named) → HeldList ps xs → HeldList new (map (cleared_bucket (is_under ps n)) xs)
+spared_list : (n : ℕ) (ps new : Pools Payload) → Emptied n ps new → (xs : List NamedBucket) → HeldList ps xs → HeldList new (map (cleared_bucket (is_under ps n)) xs)
 spared_list n ps new e xs h =
     All-map (IsHeld new) (cleared_bucket (is_under ps n)) xs (λ k d lt. λ file start len p c at.
     let old = spared_home (is_under ps n) _ p at in emptied_refers n ps new e p file old.1 (h k d lt file start len p c old.0))
 
-spared_var : (n : ℕ) (ps new : Pools Payload) → Emptied n ps new → (v : Var) → HeldList ps (items_of v) → HeldList new (items_of (cleared_var (is_under ps n) v))
+spared_var : (n : ℕ) (ps new : Pools Payload) → Emptied n ps new → (v : BrigadeVar) → HeldList ps (items_of v) → HeldList new (items_of (cleared_var (is_under ps n) v))
 spared_var n ps new e var.Null h = none_held new
 spared_var n ps new e var.Gone h = none_held new
 spared_var n ps new e (var.Live v) h = by_test (is_reached (is_under ps n) v.on) where
@@ -106,39 +107,39 @@ spared_var n ps new e (var.Live v) h = by_test (is_reached (is_under ps n) v.on)
   by_test true = none_held new
   by_test false = spared_list n ps new e v.items h
 
-pub written : (P : Var → Type 0) (g : ℕ → Var) (i : ℕ) (w : Var) → P w → ((k : ℕ) → P (g k)) → (k : ℕ) → P (upd g i w k)
+pub written : (P : BrigadeVar → Type 0) (g : ℕ → BrigadeVar) (i : ℕ) (w : BrigadeVar) → P w → ((k : ℕ) → P (g k)) → (k : ℕ) → P (upd g i w k)
 written P g i w here there k = elim (upd_either g i k w) [ inl q ↦ subst P (sym q.1) here | inr q ↦ subst P (sym q.1) (there k) ]
 
 -- Runs.
 
 -- where no reference goes, and files are open that have one
-pub kept_files : (files : List (ℕ × ℕ)) (r new : Run)
+pub kept_files : (files : List (ℕ × ℕ)) (r new : Configuration)
     → ((p file : ℕ) → refers r.shared.pools p file ≡ true → refers new.shared.pools p file ≡ true)
     → ((p file : ℕ) → refers new.shared.pools p file ≡ true → is_some (new.shared.files.opened file) ≡ true)
-    → ((b : ℕ) → HeldList new.shared.pools (items_of (new.inst.brigs b))) → HeldList new.shared.pools new.call.loose → new.shared.req ≡ r.shared.req
+    → ((b : ℕ) → HeldList new.shared.pools (items_of (new.instance.brigades b))) → HeldList new.shared.pools new.call.loose → new.shared.req ≡ r.shared.req
     → SoundFiles files r → SoundFiles files new
 kept_files files r new grow lasts brigades loose req s =
     record { lasts = lasts; brigades = brigades; loose = loose; request = λ file end q has is. grow q file (s.request file end q has (sym req ∙ is)) }
 
 -- where pools and open files are as they were
-pub same_files : (files : List (ℕ × ℕ)) (r new : Run) → new.shared.pools ≡ r.shared.pools → new.shared.files.opened ≡ r.shared.files.opened → new.shared.req ≡ r.shared.req
-    → ((b : ℕ) → HeldList r.shared.pools (items_of (new.inst.brigs b))) → HeldList r.shared.pools new.call.loose → SoundFiles files r → SoundFiles files new
+pub same_files : (files : List (ℕ × ℕ)) (r new : Configuration) → new.shared.pools ≡ r.shared.pools → new.shared.files.opened ≡ r.shared.files.opened → new.shared.req ≡ r.shared.req
+    → ((b : ℕ) → HeldList r.shared.pools (items_of (new.instance.brigades b))) → HeldList r.shared.pools new.call.loose → SoundFiles files r → SoundFiles files new
 same_files files r new pools opened req brigades loose s =
     kept_files files r new (λ p file h. subst (λ (ps : Pools Payload). refers ps p file ≡ true) (sym pools) h)
     (λ p file h. ap (λ (g : ℕ → Option (List ℕ)). is_some (g file)) opened ∙ s.lasts p file (subst (λ (ps : Pools Payload). refers ps p file ≡ true) pools h))
-    (λ b. subst (λ (ps : Pools Payload). HeldList ps (items_of (new.inst.brigs b))) (sym pools) (brigades b)) (subst (λ (ps : Pools Payload). HeldList ps new.call.loose) (sym pools) loose) req s
+    (λ b. subst (λ (ps : Pools Payload). HeldList ps (items_of (new.instance.brigades b))) (sym pools) (brigades b)) (subst (λ (ps : Pools Payload). HeldList ps new.call.loose) (sym pools) loose) req s
 
 -- where brigades, loose buckets and open files are as they were, and no reference goes or comes
-pub refilled_files : (files : List (ℕ × ℕ)) (r new : Run)
+pub refilled_files : (files : List (ℕ × ℕ)) (r new : Configuration)
     → ((p file : ℕ) → refers r.shared.pools p file ≡ true → refers new.shared.pools p file ≡ true) → ((p file : ℕ) → refers new.shared.pools p file ≡ true → refers r.shared.pools p file ≡ true)
-    → new.inst.brigs ≡ r.inst.brigs → new.call ≡ r.call → new.shared.files ≡ r.shared.files → new.shared.req ≡ r.shared.req → SoundFiles files r → SoundFiles files new
-refilled_files files r new grow back brigs call same req s =
+    → new.instance.brigades ≡ r.instance.brigades → new.call ≡ r.call → new.shared.files ≡ r.shared.files → new.shared.req ≡ r.shared.req → SoundFiles files r → SoundFiles files new
+refilled_files files r new grow back brigades call same req s =
     kept_files files r new grow (λ p file h. ap (λ (fs : Files). is_some (fs.opened file)) same ∙ s.lasts p file (back p file h))
-    (λ b. weaker r.shared.pools new.shared.pools grow _ (subst (λ (g : ℕ → Var). HeldList r.shared.pools (items_of (g b))) (sym brigs) (s.brigades b)))
+    (λ b. weaker r.shared.pools new.shared.pools grow _ (subst (λ (g : ℕ → BrigadeVar). HeldList r.shared.pools (items_of (g b))) (sym brigades) (s.brigades b)))
     (weaker r.shared.pools new.shared.pools grow _ (subst (λ c. HeldList r.shared.pools c) (sym (ap (λ c. c.loose) call)) s.loose)) req s
 
 -- The pool n goes or is emptied; what is said of the request's pool is told.
-pub went_and : (files : List (ℕ × ℕ)) (n : ℕ) (r : Run) (ps : Pools Payload) → Emptied n r.shared.pools ps → SoundPools r
+pub went_and : (files : List (ℕ × ℕ)) (n : ℕ) (r : Configuration) (ps : Pools Payload) → Emptied n r.shared.pools ps → SoundPools r
     → ((file end q : ℕ) → has_range files file end ≡ true → r.shared.req ≡ Some q → refers ps q file ≡ true)
     → (old : List (ℕ × ℕ)) → SoundFiles old r → SoundFiles files (files_let_go n r (with_pools ps (run_down n r)))
 unfolding with_pools run_down
@@ -148,13 +149,13 @@ went_and files n r ps e pools request old s = record {
       let lt = refers_given r.shared.pools p file pools.formed old.1 in
       let there = referred_at ps p file (subst (λ (k : ℕ). p < k) (sym e.next) lt) h in
       ap is_some ((files_go n r ps).stays file there) ∙ s.lasts p file old.1;
-  brigades = λ b. spared_var n r.shared.pools ps e (r.inst.brigs b) (s.brigades b);
+  brigades = λ b. spared_var n r.shared.pools ps e (r.instance.brigades b) (s.brigades b);
   loose = spared_list n r.shared.pools ps e r.call.loose s.loose;
   request = request;
 }
 
 -- the same where the request's pool stays
-went_files : (files : List (ℕ × ℕ)) (n : ℕ) (r : Run) (ps : Pools Payload) → Emptied n r.shared.pools ps → SoundPools r
+went_files : (files : List (ℕ × ℕ)) (n : ℕ) (r : Configuration) (ps : Pools Payload) → Emptied n r.shared.pools ps → SoundPools r
     → ((m : ℕ) → r.shared.req ≡ Some m → is_under r.shared.pools n m ≡ false) → SoundFiles files r → SoundFiles files (files_let_go n r (with_pools ps (run_down n r)))
 went_files files n r ps e pools req s = went_and files n r ps e pools (λ file end q has is. emptied_refers n r.shared.pools ps e q file (req q is) (s.request file end q has is)) files s
 
@@ -165,16 +166,16 @@ pub destroyed_emptied : (n : ℕ) (ps : Pools Payload) → Emptied n ps (destroy
 destroyed_emptied n ps = record { kept = λ m off. (destroyed_apart n ps m off).1; gone = λ m under. (destroyed_under n ps m under).1; next = destroyed_next n ps }
 
 -- an own pool does not stand above the request's
-pub own_apart : (q n : ℕ) (r : Run) → r.inst.pools q ≡ poolvar.Named n → SoundPools r → (m : ℕ) → r.shared.req ≡ Some m → is_under r.shared.pools n m ≡ false
+pub own_apart : (q n : ℕ) (r : Configuration) → r.instance.pools q ≡ poolvar.Made n → SoundPools r → (m : ℕ) → r.shared.req ≡ Some m → is_under r.shared.pools n m ≡ false
 own_apart q n r is s m req = let own = s.own q n is in req_apart n m r own.0 (λ same. own.2 (req ∙ ap (λ (k : ℕ). Some k) same)) req s
 
-made_files : (files : List (ℕ × ℕ)) (parent q : ℕ) (r : Run) → SoundPools r → SoundFiles files r → SoundFiles files (set_pool q (poolvar.Named r.shared.pools.next) (with_pools (created parent r.shared.pools) r))
+made_files : (files : List (ℕ × ℕ)) (parent q : ℕ) (r : Configuration) → SoundPools r → SoundFiles files r → SoundFiles files (set_pool q (poolvar.Made r.shared.pools.next) (with_pools (created parent r.shared.pools) r))
 unfolding set_pool with_pools
 made_files files parent q r pools s =
-    refilled_files files r (set_pool q (poolvar.Named r.shared.pools.next) (with_pools (created parent r.shared.pools) r))
+    refilled_files files r (set_pool q (poolvar.Made r.shared.pools.next) (with_pools (created parent r.shared.pools) r))
     (λ p file h. created_refers parent r.shared.pools p file pools.formed h) (λ p file h. created_back parent r.shared.pools p file h) refl refl refl refl s
 
-labelled_files : (files : List (ℕ × ℕ)) (text : List ℕ) (n : ℕ) (r : Run) → SoundFiles files r → SoundFiles files (label_registered text n r)
+labelled_files : (files : List (ℕ × ℕ)) (text : List ℕ) (n : ℕ) (r : Configuration) → SoundFiles files r → SoundFiles files (label_registered text n r)
 unfolding with_pools
 labelled_files files text n r s =
     refilled_files files r (label_registered text n r) (λ p file h. registered_refers n (Label text) r.shared.pools p file h) (λ p file h. back p file (registered_back n (Label text) r.shared.pools p file h)) refl refl refl refl s where
@@ -182,7 +183,7 @@ labelled_files files text n r s =
       back p file (inl h) = h
       back p file (inr e) = absurd (cc)
 
-unlabelled_files : (files : List (ℕ × ℕ)) (text : List ℕ) (n : ℕ) (r : Run) → SoundFiles files r → SoundFiles files (label_killed text n r)
+unlabelled_files : (files : List (ℕ × ℕ)) (text : List ℕ) (n : ℕ) (r : Configuration) → SoundFiles files r → SoundFiles files (label_killed text n r)
 unfolding with_pools
 unlabelled_files files text n r s =
     refilled_files files r (label_killed text n r) (λ p file h. killed_refers n text r.shared.pools p file ∙ h) (λ p file h. sym (killed_refers n text r.shared.pools p file) ∙ h) refl refl refl refl s
@@ -196,14 +197,14 @@ no_ref false file e = cc
 
 -- what is true of each file that has a reference is true of the file of a bucket that takes a further one
 ref_open : (ps : Pools Payload) (target file : ℕ) (Q : ℕ → Type 0) → ((p file : ℕ) → refers ps p file ≡ true → Q file)
-    → (name : ℕ) (k : Kind) (c : Content) (h : Home) → home_fits k h ≡ true → is_ended h ≡ false → IsHeld ps (record { name = name; bucket = record { kind = k; content = c; home = h } })
+    → (name : ℕ) (k : Kind) (c : Content) (h : Home) → LivesAs k h → is_ended h ≡ false → IsHeld ps (record { name = name; bucket = record { kind = k; content = c; home = h } })
     → cond (is_above ps target h) None (file_of k c) ≡ Some file → Q file
 ref_open ps target file Q lasts name kind.File (content.Range f start len) (home.Pool p) fit live held ref = by_above (is_above ps target (home.Pool p)) ref where
   by_above : (b : Bool) → cond b None (Some f) ≡ Some file → Q file
   by_above true e = absurd (cc)
   by_above false e = let same : f ≡ file = cc in subst Q same (lasts p f (held f start len p refl refl))
-ref_open ps target file Q lasts name kind.File (content.Range f start len) home.Free fit live held ref = absurd (cc)
-ref_open ps target file Q lasts name kind.File (content.Range f start len) (home.Call n) fit live held ref = absurd (cc)
+ref_open ps target file Q lasts name kind.File (content.Range f start len) home.Free fit live held ref = absurd fit
+ref_open ps target file Q lasts name kind.File (content.Range f start len) (home.Call n) fit live held ref = absurd fit
 ref_open ps target file Q lasts name kind.File (content.Range f start len) home.Ended fit live held ref = absurd (cc)
 ref_open ps target file Q lasts name kind.File (content.Bytes bs) h fit live held ref = absurd (no_ref (is_above ps target h) file ref)
 ref_open ps target file Q lasts name kind.File content.Nothing h fit live held ref = absurd (no_ref (is_above ps target h) file ref)
@@ -232,23 +233,19 @@ tail_any : (o : Option ℕ) (rest : List ℕ) (file : ℕ) → list_any (λ g. g
 tail_any None rest file h = h
 tail_any (Some g) rest file h = or_right (g == file) (list_any (λ g. g == file) rest) h
 
-pub fits_home : (x : Named) → is_proper x ≡ true → home_fits x.bucket.kind x.bucket.home ≡ true
-unfolding is_proper
-fits_home x h = first (home_fits x.bucket.kind x.bucket.home) (content_fits x.bucket.kind x.bucket.content) h
-
 pub neither : (a b : Bool) → (a || b) ≡ false → (a ≡ false) × (b ≡ false)
 neither true b h = absurd (cc)
 neither false b h = (refl, h)
 
 pub refs_open : (ps : Pools Payload) (target file : ℕ) (Q : ℕ → Type 0) → ((p file : ℕ) → refers ps p file ≡ true → Q file)
-    → (xs : List Named) → All (λ x. is_proper x ≡ true) xs → list_any is_dead xs ≡ false → HeldList ps xs
+    → (xs : List NamedBucket) → All (λ x. FitsKind x.bucket) xs → list_any is_dead xs ≡ false → HeldList ps xs
     → list_any (λ g. g == file) (filter_map (new_ref ps target) xs) ≡ true → Q file
 refs_open ps target file Q lasts [] proper live held h = absurd (cc)
 refs_open ps target file Q lasts (x ∷ xs) proper live held h =
     let alive = neither (is_dead x) (list_any is_dead xs) live in
     elim (any_cons (new_ref ps target x) (filter_map (new_ref ps target) xs) file h) [
-      | inl here ↦ ref_open ps target file Q lasts x.name x.bucket.kind x.bucket.content x.bucket.home (fits_home x (All-head (λ x. is_proper x ≡ true) x xs proper)) alive.0 (All-head (IsHeld ps) x xs held) here
-      | inr there ↦ refs_open ps target file Q lasts xs (All-tail (λ x. is_proper x ≡ true) x xs proper) alive.1 (All-tail (IsHeld ps) x xs held) there
+      | inl here ↦ ref_open ps target file Q lasts x.name x.bucket.kind x.bucket.content x.bucket.home (All-head (λ x. FitsKind x.bucket) x xs proper).lives alive.0 (All-head (IsHeld ps) x xs held) here
+      | inr there ↦ refs_open ps target file Q lasts xs (All-tail (λ x. FitsKind x.bucket) x xs proper) alive.1 (All-tail (IsHeld ps) x xs held) there
     ]
 
 -- a bucket that is set aside is held, where the file that it asks for has a reference in the target
@@ -269,7 +266,7 @@ aside_one ps new target name grow kind.File c h false is held asked = λ file st
 aside_one ps new target name grow kind.Flush c h above is held asked = λ file start len p e at. grow p file (held file start len p e at)
 aside_one ps new target name grow kind.Eos c h above is held asked = λ file start len p e at. grow p file (held file start len p e at)
 
-aside_held : (ps new : Pools Payload) (target : ℕ) → ((p file : ℕ) → refers ps p file ≡ true → refers new p file ≡ true) → (xs : List Named) → HeldList ps xs
+aside_held : (ps new : Pools Payload) (target : ℕ) → ((p file : ℕ) → refers ps p file ≡ true → refers new p file ≡ true) → (xs : List NamedBucket) → HeldList ps xs
     → ((file : ℕ) → list_any (λ g. g == file) (filter_map (new_ref ps target) xs) ≡ true → refers new target file ≡ true) → HeldList new (map (aside_named ps target) xs)
 aside_held ps new target grow [] held asked = none_held new
 aside_held ps new target grow (x ∷ xs) held asked =
@@ -278,11 +275,11 @@ aside_held ps new target grow (x ∷ xs) held asked =
     (λ file e. asked file (head_any (new_ref ps target x) (filter_map (new_ref ps target) xs) file e)))
     (aside_held ps new target grow xs (All-tail (IsHeld ps) x xs held) (λ file h. asked file (tail_any (new_ref ps target x) (filter_map (new_ref ps target) xs) file h)))
 
-save_files : (files : List (ℕ × ℕ)) (o b target : ℕ) (r : Run) → SoundBuckets r → list_any is_dead (items_of (r.inst.brigs b)) ≡ false → SoundFiles files r → SoundFiles files (saved_into o b target r)
-unfolding set_brig with_pools
+save_files : (files : List (ℕ × ℕ)) (o b target : ℕ) (r : Configuration) → SoundBuckets r → list_any is_dead (items_of (r.instance.brigades b)) ≡ false → SoundFiles files r → SoundFiles files (saved_into o b target r)
+unfolding set_brigade with_pools
 save_files files o b target r buckets live s =
     let ps = r.shared.pools in
-    let items : List Named = items_of (r.inst.brigs b) in
+    let items : List NamedBucket = items_of (r.instance.brigades b) in
     let refs : List ℕ = filter_map (new_ref ps target) items in
     let new : Pools Payload = all_referred target refs ps in
     let grow : ((p file : ℕ) → refers ps p file ≡ true → refers new p file ≡ true) = λ p file h. all_grow target refs ps p file h in
@@ -292,57 +289,57 @@ save_files files o b target r buckets live s =
       | inl old ↦ s.lasts p file old
       | inr asked ↦ refs_open ps target file (λ (n : ℕ). is_some (r.shared.files.opened n) ≡ true) s.lasts items (buckets.brigades b) live (s.brigades b) asked
     ])
-    (λ k. written (λ v. HeldList new (items_of v)) (upd r.inst.brigs b (with_items [] (r.inst.brigs b))) o _
-    (filled_held new (items_of (r.inst.brigs o) ++ map (aside_named ps target) items) (r.inst.brigs o)
-    (All-append (IsHeld new) (items_of (r.inst.brigs o)) (map (aside_named ps target) items) (weaker ps new grow (items_of (r.inst.brigs o)) (s.brigades o)) held))
-    (written (λ v. HeldList new (items_of v)) r.inst.brigs b (with_items [] (r.inst.brigs b)) (filled_held new [] (r.inst.brigs b) (none_held new)) (λ j. weaker ps new grow (items_of (r.inst.brigs j)) (s.brigades j))) k)
+    (λ k. written (λ v. HeldList new (items_of v)) (upd r.instance.brigades b (with_items [] (r.instance.brigades b))) o _
+    (filled_held new (items_of (r.instance.brigades o) ++ map (aside_named ps target) items) (r.instance.brigades o)
+    (All-append (IsHeld new) (items_of (r.instance.brigades o)) (map (aside_named ps target) items) (weaker ps new grow (items_of (r.instance.brigades o)) (s.brigades o)) held))
+    (written (λ v. HeldList new (items_of v)) r.instance.brigades b (with_items [] (r.instance.brigades b)) (filled_held new [] (r.instance.brigades b) (none_held new)) (λ j. weaker ps new grow (items_of (r.instance.brigades j)) (s.brigades j))) k)
     (weaker ps new grow r.call.loose s.loose) refl s
 
 -- Brigades.
 
-concat_files : (files : List (ℕ × ℕ)) (a b : ℕ) (r : Run) → SoundFiles files r → SoundFiles files (do_concat a b r)
-unfolding set_brig
+concat_files : (files : List (ℕ × ℕ)) (a b : ℕ) (r : Configuration) → SoundFiles files r → SoundFiles files (do_concat a b r)
+unfolding set_brigade
 concat_files files a b r s =
     let ps = r.shared.pools in
     same_files files r (do_concat a b r) refl refl refl
-    (λ k. written (λ v. HeldList ps (items_of v)) (upd r.inst.brigs b (with_items [] (r.inst.brigs b))) a _
-    (filled_held ps (items_of (r.inst.brigs a) ++ items_of (r.inst.brigs b)) (r.inst.brigs a) (All-append (IsHeld ps) (items_of (r.inst.brigs a)) (items_of (r.inst.brigs b)) (s.brigades a) (s.brigades b)))
-    (written (λ v. HeldList ps (items_of v)) r.inst.brigs b (with_items [] (r.inst.brigs b)) (filled_held ps [] (r.inst.brigs b) (none_held ps)) s.brigades) k)
+    (λ k. written (λ v. HeldList ps (items_of v)) (upd r.instance.brigades b (with_items [] (r.instance.brigades b))) a _
+    (filled_held ps (items_of (r.instance.brigades a) ++ items_of (r.instance.brigades b)) (r.instance.brigades a) (All-append (IsHeld ps) (items_of (r.instance.brigades a)) (items_of (r.instance.brigades b)) (s.brigades a) (s.brigades b)))
+    (written (λ v. HeldList ps (items_of v)) r.instance.brigades b (with_items [] (r.instance.brigades b)) (filled_held ps [] (r.instance.brigades b) (none_held ps)) s.brigades) k)
     s.loose s
 
 -- one variable is written
-pub written_files : (files : List (ℕ × ℕ)) (r new : Run) (i : ℕ) (w : Var) → new.inst.brigs ≡ upd r.inst.brigs i w → HeldList r.shared.pools (items_of w)
+pub written_files : (files : List (ℕ × ℕ)) (r new : Configuration) (i : ℕ) (w : BrigadeVar) → new.instance.brigades ≡ upd r.instance.brigades i w → HeldList r.shared.pools (items_of w)
     → new.shared.pools ≡ r.shared.pools → new.shared.files.opened ≡ r.shared.files.opened → new.shared.req ≡ r.shared.req → HeldList r.shared.pools new.call.loose → SoundFiles files r → SoundFiles files new
-written_files files r new i w brigs held pools opened req loose s =
+written_files files r new i w brigades held pools opened req loose s =
     same_files files r new pools opened req
-    (λ k. subst (λ (g : ℕ → Var). HeldList r.shared.pools (items_of (g k))) (sym brigs) (written (λ v. HeldList r.shared.pools (items_of v)) r.inst.brigs i w held s.brigades k)) loose s
+    (λ k. subst (λ (g : ℕ → BrigadeVar). HeldList r.shared.pools (items_of (g k))) (sym brigades) (written (λ v. HeldList r.shared.pools (items_of v)) r.instance.brigades i w held s.brigades k)) loose s
 
-create_files : (files : List (ℕ × ℕ)) (p : Program) (o : ℕ) (r : Run) → SoundFiles files r → SoundFiles files (do_create p o r)
-unfolding set_brig
+create_files : (files : List (ℕ × ℕ)) (p : Program) (o : ℕ) (r : Configuration) → SoundFiles files r → SoundFiles files (do_create p o r)
+unfolding set_brigade
 create_files files p o r s = written_files files r (do_create p o r) o _ refl (none_held r.shared.pools) refl refl refl s.loose s
 
-clean_files : (files : List (ℕ × ℕ)) (b : ℕ) (r : Run) → SoundFiles files r → SoundFiles files (do_clean b r)
-unfolding set_brig
-clean_files files b r s = written_files files r (do_clean b r) b (cleaned (r.inst.brigs b)) refl (cleaned_held r.shared.pools (r.inst.brigs b)) refl refl refl s.loose s
+clean_files : (files : List (ℕ × ℕ)) (b : ℕ) (r : Configuration) → SoundFiles files r → SoundFiles files (do_clean b r)
+unfolding set_brigade
+clean_files files b r s = written_files files r (do_clean b r) b (cleaned (r.instance.brigades b)) refl (cleaned_held r.shared.pools (r.instance.brigades b)) refl refl refl s.loose s
 
-pass_files : (files : List (ℕ × ℕ)) (b : ℕ) (r : Run) → SoundFiles files r → SoundFiles files (do_pass b r)
-unfolding set_brig
-pass_files files b r s = written_files files r (do_pass b r) b (handed_over (r.inst.brigs b)) refl (handed_held r.shared.pools (r.inst.brigs b)) refl refl refl s.loose s
+pass_files : (files : List (ℕ × ℕ)) (b : ℕ) (r : Configuration) → SoundFiles files r → SoundFiles files (do_pass b r)
+unfolding set_brigade
+pass_files files b r s = written_files files r (do_pass b r) b (handed_over (r.instance.brigades b)) refl (handed_held r.shared.pools (r.instance.brigades b)) refl refl refl s.loose s
 
-return_files : (files : List (ℕ × ℕ)) (r : Run) → SoundFiles files r → SoundFiles files (do_return r)
+return_files : (files : List (ℕ × ℕ)) (r : Configuration) → SoundFiles files r → SoundFiles files (do_return r)
 return_files files r s = same_files files r (do_return r) refl refl refl (λ b. left b (b == 8)) (none_held r.shared.pools) s where
-  left : (b : ℕ) (is_in : Bool) → HeldList r.shared.pools (items_of (cond is_in var.Null (returned_var r.call.name (r.inst.brigs b))))
+  left : (b : ℕ) (is_in : Bool) → HeldList r.shared.pools (items_of (cond is_in var.Null (returned_var r.call.name (r.instance.brigades b))))
   left b true = none_held r.shared.pools
-  left b false = returned_held r.shared.pools r.call.name (r.inst.brigs b) (s.brigades b)
+  left b false = returned_held r.shared.pools r.call.name (r.instance.brigades b) (s.brigades b)
 
-number_files : (files : List (ℕ × ℕ)) (n v : ℕ) (r : Run) → SoundFiles files r → SoundFiles files (set_number n v r)
+number_files : (files : List (ℕ × ℕ)) (n v : ℕ) (r : Configuration) → SoundFiles files r → SoundFiles files (set_number n v r)
 unfolding set_number
 number_files files n v r s = same_files files r (set_number n v r) refl refl refl s.brigades s.loose s
 
-put_files : (files : List (ℕ × ℕ)) (x : Value) (r : Run) → SoundFiles files r → SoundFiles files (do_put x r)
+put_files : (files : List (ℕ × ℕ)) (x : Value) (r : Configuration) → SoundFiles files r → SoundFiles files (do_put x r)
 put_files files x r s = put_keeps (SoundFiles files) x r s (λ buffer. same_files files r (with_buffer buffer r) refl refl refl s.brigades s.loose s)
 
-pub no_dead : (items : List Named) → homes_fault items ≡ None → list_any is_dead items ≡ false
+pub no_dead : (items : List NamedBucket) → homes_fault items ≡ None → list_any is_dead items ≡ false
 no_dead items h = by_test (list_any is_dead items) h where
   by_test : (b : Bool) → cond b (Some F5) None ≡ None → b ≡ false
   by_test true e = absurd (cc)
@@ -359,9 +356,9 @@ step_files p choice (instr.Unlabel q t) files r may s held = on_named (SoundFile
 step_files p choice (instr.BCreate o) files r may s held = create_files files p o r held
 step_files p choice (instr.BClean b) files r may s held = clean_files files b r held
 step_files p choice (instr.BConcat a b) files r may s held = concat_files files a b r held
-step_files p choice (instr.BSave o b) files r may s held = on_named (SoundFiles files) (saved_into o b) (made_on (r.inst.brigs o)) r held (λ target e.
+step_files p choice (instr.BSave o b) files r may s held = on_named (SoundFiles files) (saved_into o b) (made_on (r.instance.brigades o)) r held (λ target e.
     save_files files o b target r s.buckets
-    (no_dead (items_of (r.inst.brigs b)) (first_none (homes_fault (items_of (r.inst.brigs b))) None (second_none (usable_fault (r.inst.brigs b)) _ (second_none (usable_fault (r.inst.brigs o)) _ may.faultless)))) held)
+    (no_dead (items_of (r.instance.brigades b)) (first_none (homes_fault (items_of (r.instance.brigades b))) None (second_none (usable_fault (r.instance.brigades b)) _ (second_none (usable_fault (r.instance.brigades o)) _ may.faultless)))) held)
 step_files p choice (instr.Pass b l) files r may s held = pass_files files b r held
 step_files p choice (instr.JEmpty b l) files r may s held = held
 step_files p choice (instr.JNull v l) files r may s held = held

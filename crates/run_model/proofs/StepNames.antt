@@ -6,14 +6,14 @@ use Rattle.module_lang.specs.declared.instr.Instr.{Instr}
 use Rattle.module_lang.specs.declared.instr.Instr.TheVariants as instr
 use Rattle.module_lang.specs.Program.{Program, pool_of_brigade}
 use Rattle.module_lang.specs.declared.instr.Value.{Value}
-use Rattle.run_model.specs.declared.bucket.Named.{Named}
+use Rattle.run_model.specs.declared.bucket.NamedBucket.{NamedBucket}
 use Rattle.run_model.specs.declared.bucket.Mark.TheVariants.{Usable}
 use Rattle.run_model.specs.declared.bucket.PoolVar.TheVariants as poolvar
-use Rattle.run_model.specs.declared.bucket.Var.{Var}
-use Rattle.run_model.specs.declared.bucket.Var.TheVariants as var
+use Rattle.run_model.specs.declared.bucket.BrigadeVar.{BrigadeVar}
+use Rattle.run_model.specs.declared.bucket.BrigadeVar.TheVariants as var
 use Rattle.run_model.specs.Indexed.{upd}
 use Rattle.run_model.specs.Pools.{is_under, created}
-use Rattle.run_model.specs.State.{Run, items_of, set_pool, with_pools, set_brig, set_number, pool_named}
+use Rattle.run_model.specs.State.{Configuration, items_of, set_pool, with_pools, set_brigade, set_number, pool_named}
 use Rattle.run_model.specs.Clearing.{run_down}
 use Rattle.run_model.specs.Steps.{do_create, do_clean, do_concat, do_pass, do_return, cleaned, with_items, handed_over, returned_var, do_pcreate, pool_cleared, pool_destroyed, label_registered, label_killed, text_of, aside_named, saved_into, made_on, value_of, do_put, do_clearbuf, names_of, pool_names_of, is_spent, lacks_names}
 use Rattle.run_model.specs.Sound.{sum_below, count_named, SoundNames}
@@ -30,42 +30,42 @@ unfolding is_spent
 not_spent next names h = grind (arith, nat_tests)
 
 -- the names that an instruction gives out are there
-lasting : (r : Run) (i : Instr) → lacks_names r i ≡ false → r.shared.next + names_of i < 2 ^ 64
+lasting : (r : Configuration) (i : Instr) → lacks_names r i ≡ false → r.shared.next + names_of i < 2 ^ 64
 unfolding lacks_names
 lasting r i h = not_spent r.shared.next (names_of i) (first (is_spent r.shared.next (names_of i)) (is_spent r.shared.pools.next (pool_names_of i)) h) where
   first : (a b : Bool) → (a || b) ≡ false → a ≡ false
   first true b h = absurd (cc)
   first false b h = refl
 
-create_names : (p : Program) (o : ℕ) (r : Run) → o < 9 → r.shared.next + 1 < 2 ^ 64 → SoundNames r → SoundNames (do_create p o r)
-unfolding set_brig
+create_names : (p : Program) (o : ℕ) (r : Configuration) → o < 9 → r.shared.next + 1 < 2 ^ 64 → SoundNames r → SoundNames (do_create p o r)
+unfolding set_brigade
 create_names p o r lt limit s =
     placed_names r (do_create p o r) o (record { name = r.shared.next; on = pool_named r (pool_of_brigade p o); mark = Usable; items = [] }) lt refl
     (λ n. omega arith) (omega arith) (omega arith) limit (λ n h. count_none n) (λ n. rw (count_none n) (omega arith)) (λ n h. count_none n) s
 
-clean_names : (b : ℕ) (r : Run) → SoundNames r → SoundNames (do_clean b r)
-unfolding set_brig
+clean_names : (b : ℕ) (r : Configuration) → SoundNames r → SoundNames (do_clean b r)
+unfolding set_brigade
 clean_names b r s =
-    keeps_slots r (do_clean b r) (λ n. omega arith) (at_each Fewer r.inst.brigs b (cleaned (r.inst.brigs b)) (cleaned_fewer (r.inst.brigs b)) fewer_same) (omega arith) s.limit s
+    keeps_slots r (do_clean b r) (λ n. omega arith) (at_each Fewer r.instance.brigades b (cleaned (r.instance.brigades b)) (cleaned_fewer (r.instance.brigades b)) fewer_same) (omega arith) s.limit s
 
-pass_names : (b : ℕ) (r : Run) → SoundNames r → SoundNames (do_pass b r)
-unfolding set_brig
+pass_names : (b : ℕ) (r : Configuration) → SoundNames r → SoundNames (do_pass b r)
+unfolding set_brigade
 pass_names b r s =
-    keeps_slots r (do_pass b r) (λ n. omega arith) (at_each Fewer r.inst.brigs b (handed_over (r.inst.brigs b)) (handed_fewer (r.inst.brigs b)) fewer_same) (omega arith) s.limit s
+    keeps_slots r (do_pass b r) (λ n. omega arith) (at_each Fewer r.instance.brigades b (handed_over (r.instance.brigades b)) (handed_fewer (r.instance.brigades b)) fewer_same) (omega arith) s.limit s
 
-return_names : (r : Run) → SoundNames r → SoundNames (do_return r)
+return_names : (r : Configuration) → SoundNames r → SoundNames (do_return r)
 return_names r s =
     keeps_slots r (do_return r) (λ n. rw (count_none n) (omega arith)) (λ b. left b (b == 8)) (omega arith) s.limit s where
-      left : (b : ℕ) (is_in : Bool) → Fewer (r.inst.brigs b) (cond is_in var.Null (returned_var r.call.name (r.inst.brigs b)))
+      left : (b : ℕ) (is_in : Bool) → Fewer (r.instance.brigades b) (cond is_in var.Null (returned_var r.call.name (r.instance.brigades b)))
       left b true = fewer_none _ _ (record { name = λ n h. absurd (cc); null = λ h. refl }) refl
-      left b false = returned_fewer r.call.name (r.inst.brigs b)
+      left b false = returned_fewer r.call.name (r.instance.brigades b)
 
 -- what one variable loses, as these items of the same names, the other gets
-moved : (g : ℕ → Var) (a b n : ℕ) (items : List Named) → TwoBrigades a b → count_named n items ≡ count_named n (items_of (g b))
+moved : (g : ℕ → BrigadeVar) (a b n : ℕ) (items : List NamedBucket) → TwoBrigades a b → count_named n items ≡ count_named n (items_of (g b))
     → sum_below 9 (λ k. count_named n (items_of (upd (upd g b (with_items [] (g b))) a (with_items (items_of (g a) ++ items) (g a)) k))) ≤ sum_below 9 (λ k. count_named n (items_of (g k)))
 moved g a b n items two same =
-    let emptied : Var = with_items [] (g b) in
-    let filled : Var = with_items (items_of (g a) ++ items) (g a) in
+    let emptied : BrigadeVar = with_items [] (g b) in
+    let filled : BrigadeVar = with_items (items_of (g a) ++ items) (g a) in
     let first : sum_below 9 (λ k. count_named n (items_of (upd (upd g b emptied) a filled k))) + count_named n (items_of (upd g b emptied a)) ≡ sum_below 9 (λ k. count_named n (items_of (upd g b emptied k))) + count_named n (items_of filled) = sum_below_upd 9 a (upd g b emptied) filled (λ x. count_named n (items_of x)) two.first in
     let second : sum_below 9 (λ k. count_named n (items_of (upd g b emptied k))) + count_named n (items_of (g b)) ≡ sum_below 9 (λ k. count_named n (items_of (g k))) + count_named n (items_of emptied) = sum_below_upd 9 b g emptied (λ x. count_named n (items_of x)) two.second in
     let there : count_named n (items_of (upd g b emptied a)) ≡ count_named n (items_of (g a)) = ap (λ x. count_named n (items_of x)) (upd_off g b a emptied two.differ) in
@@ -74,56 +74,56 @@ moved g a b n items two same =
     omega (arith, count_none n, count_append n (items_of (g a)) items, same)
 
 -- these items, of the names of those of b, go to the tail of a
-moved_names : (items : List Named) (a b : ℕ) (r new : Run) → ((n : ℕ) → count_named n items ≡ count_named n (items_of (r.inst.brigs b))) → TwoBrigades a b
-    → new.inst.brigs ≡ upd (upd r.inst.brigs b (with_items [] (r.inst.brigs b))) a (with_items (items_of (r.inst.brigs a) ++ items) (r.inst.brigs a))
+moved_names : (items : List NamedBucket) (a b : ℕ) (r new : Configuration) → ((n : ℕ) → count_named n items ≡ count_named n (items_of (r.instance.brigades b))) → TwoBrigades a b
+    → new.instance.brigades ≡ upd (upd r.instance.brigades b (with_items [] (r.instance.brigades b))) a (with_items (items_of (r.instance.brigades a) ++ items) (r.instance.brigades a))
     → new.call ≡ r.call → new.shared.next ≡ r.shared.next → SoundNames r → SoundNames new
-moved_names items a b r new same two brigs call next s =
+moved_names items a b r new same two brigades call next s =
     keeps_names r new
-    (λ n. rw (call, brigs) (let m = moved r.inst.brigs a b n items two (same n) in omega arith))
-    (λ k. rw brigs (at_two Carried r.inst.brigs b a (with_items [] (r.inst.brigs b)) (with_items (items_of (r.inst.brigs a) ++ items) (r.inst.brigs a))
-    (filled_carried [] (r.inst.brigs b)) (filled_carried (items_of (r.inst.brigs a) ++ items) (r.inst.brigs a)) carried_same k))
+    (λ n. rw (call, brigades) (let m = moved r.instance.brigades a b n items two (same n) in omega arith))
+    (λ k. rw brigades (at_two Carried r.instance.brigades b a (with_items [] (r.instance.brigades b)) (with_items (items_of (r.instance.brigades a) ++ items) (r.instance.brigades a))
+    (filled_carried [] (r.instance.brigades b)) (filled_carried (items_of (r.instance.brigades a) ++ items) (r.instance.brigades a)) carried_same k))
     (omega arith) (subst (λ (k : ℕ). k < 2 ^ 64) (sym next) s.limit) s
 
-concat_names : (a b : ℕ) (r : Run) → TwoBrigades a b → SoundNames r → SoundNames (do_concat a b r)
-unfolding set_brig
-concat_names a b r two s = moved_names (items_of (r.inst.brigs b)) a b r (do_concat a b r) (λ n. refl) two refl refl refl s
+concat_names : (a b : ℕ) (r : Configuration) → TwoBrigades a b → SoundNames r → SoundNames (do_concat a b r)
+unfolding set_brigade
+concat_names a b r two s = moved_names (items_of (r.instance.brigades b)) a b r (do_concat a b r) (λ n. refl) two refl refl refl s
 
-save_names : (o b target : ℕ) (r : Run) → TwoBrigades o b → SoundNames r → SoundNames (saved_into o b target r)
-unfolding set_brig with_pools
+save_names : (o b target : ℕ) (r : Configuration) → TwoBrigades o b → SoundNames r → SoundNames (saved_into o b target r)
+unfolding set_brigade with_pools
 save_names o b target r two s =
-    moved_names (map (aside_named r.shared.pools target) (items_of (r.inst.brigs b))) o b r (saved_into o b target r)
-    (λ n. count_map n (aside_named r.shared.pools target) (λ x. refl) (items_of (r.inst.brigs b))) two refl refl refl s
+    moved_names (map (aside_named r.shared.pools target) (items_of (r.instance.brigades b))) o b r (saved_into o b target r)
+    (λ n. count_map n (aside_named r.shared.pools target) (λ x. refl) (items_of (r.instance.brigades b))) two refl refl refl s
 
 -- where no brigade and no bucket changes, and no name is given out
-pub same_slots : (r new : Run) → new.inst.brigs ≡ r.inst.brigs → new.call.loose ≡ r.call.loose → new.shared.next ≡ r.shared.next → SoundNames r → SoundNames new
-same_slots r new brigs loose next s =
-    keeps_slots r new (λ n. rw loose (omega arith)) (λ b. subst (λ (g : ℕ → Var). Fewer (r.inst.brigs b) (g b)) (sym brigs) (fewer_same (r.inst.brigs b))) (omega arith) (subst (λ (k : ℕ). k < 2 ^ 64) (sym next) s.limit) s
+pub same_slots : (r new : Configuration) → new.instance.brigades ≡ r.instance.brigades → new.call.loose ≡ r.call.loose → new.shared.next ≡ r.shared.next → SoundNames r → SoundNames new
+same_slots r new brigades loose next s =
+    keeps_slots r new (λ n. rw loose (omega arith)) (λ b. subst (λ (g : ℕ → BrigadeVar). Fewer (r.instance.brigades b) (g b)) (sym brigades) (fewer_same (r.instance.brigades b))) (omega arith) (subst (λ (k : ℕ). k < 2 ^ 64) (sym next) s.limit) s
 
-pcreate_names : (p : Program) (q : ℕ) (r : Run) → SoundNames r → SoundNames (do_pcreate p q r)
+pcreate_names : (p : Program) (q : ℕ) (r : Configuration) → SoundNames r → SoundNames (do_pcreate p q r)
 unfolding set_pool with_pools
-pcreate_names p q r s = made_under_named SoundNames p q r s (λ parent e. same_slots r (set_pool q (poolvar.Named r.shared.pools.next) (with_pools (created parent r.shared.pools) r)) refl refl refl s)
+pcreate_names p q r s = made_under_named SoundNames p q r s (λ parent e. same_slots r (set_pool q (poolvar.Made r.shared.pools.next) (with_pools (created parent r.shared.pools) r)) refl refl refl s)
 
-cleared_names : (n : ℕ) (r : Run) → SoundNames r → SoundNames (pool_cleared n r)
+cleared_names : (n : ℕ) (r : Configuration) → SoundNames r → SoundNames (pool_cleared n r)
 unfolding run_down with_pools
 cleared_names n r s = went_names (is_under r.shared.pools n) r (pool_cleared n r) (λ b. refl) refl refl s
 
-destroyed_names : (n : ℕ) (r : Run) → SoundNames r → SoundNames (pool_destroyed n r)
+destroyed_names : (n : ℕ) (r : Configuration) → SoundNames r → SoundNames (pool_destroyed n r)
 unfolding run_down with_pools
 destroyed_names n r s = went_names (is_under r.shared.pools n) r (pool_destroyed n r) (λ b. refl) refl refl s
 
-labelled_names : (text : List ℕ) (n : ℕ) (r : Run) → SoundNames r → SoundNames (label_registered text n r)
+labelled_names : (text : List ℕ) (n : ℕ) (r : Configuration) → SoundNames r → SoundNames (label_registered text n r)
 unfolding with_pools
 labelled_names text n r s = same_slots r (label_registered text n r) refl refl refl s
 
-unlabelled_names : (text : List ℕ) (n : ℕ) (r : Run) → SoundNames r → SoundNames (label_killed text n r)
+unlabelled_names : (text : List ℕ) (n : ℕ) (r : Configuration) → SoundNames r → SoundNames (label_killed text n r)
 unfolding with_pools
 unlabelled_names text n r s = same_slots r (label_killed text n r) refl refl refl s
 
-number_names : (n v : ℕ) (r : Run) → SoundNames r → SoundNames (set_number n v r)
+number_names : (n v : ℕ) (r : Configuration) → SoundNames r → SoundNames (set_number n v r)
 unfolding set_number
 number_names n v r s = same_slots r (set_number n v r) refl refl refl s
 
-put_names : (x : Value) (r : Run) → SoundNames r → SoundNames (do_put x r)
+put_names : (x : Value) (r : Configuration) → SoundNames r → SoundNames (do_put x r)
 put_names x r s = put_keeps SoundNames x r s (λ buffer. same_slots r (with_buffer buffer r) refl refl refl s)
 
 pub step_names : StepKeepsNames
@@ -136,7 +136,7 @@ step_names p choice (instr.JNull v l) r may s = s
 step_names p choice (instr.BCreate o) r may s = create_names p o r (created_below p may.proper o may.fit) (lasting r (instr.BCreate o) may.names_last) s
 step_names p choice (instr.BClean b) r may s = clean_names b r s
 step_names p choice (instr.BConcat a b) r may s = concat_names a b r (two_brigades p may.proper a b may.fit) s
-step_names p choice (instr.BSave o b) r may s = on_named SoundNames (saved_into o b) (made_on (r.inst.brigs o)) r s (λ target e. save_names o b target r (saved_brigades p may.proper o b may.fit) s)
+step_names p choice (instr.BSave o b) r may s = on_named SoundNames (saved_into o b) (made_on (r.instance.brigades o)) r s (λ target e. save_names o b target r (saved_brigades p may.proper o b may.fit) s)
 step_names p choice (instr.Pass b l) r may s = pass_names b r s
 step_names p choice (instr.Put x l) r may s = put_names x r s
 step_names p choice instr.ClearBuf r may s = same_slots r (do_clearbuf r) refl refl refl s

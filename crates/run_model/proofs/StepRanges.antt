@@ -12,10 +12,10 @@ use Rattle.run_model.specs.declared.bucket.Content.{Content}
 use Rattle.run_model.specs.declared.bucket.Content.TheVariants as content
 use Rattle.run_model.specs.declared.bucket.Home.{Home}
 use Rattle.run_model.specs.declared.bucket.Home.TheVariants as home
-use Rattle.run_model.specs.declared.bucket.Named.{Named}
+use Rattle.run_model.specs.declared.bucket.NamedBucket.{NamedBucket}
 use Rattle.run_model.specs.declared.bucket.PoolVar.TheVariants as poolvar
-use Rattle.run_model.specs.declared.bucket.Var.{Var}
-use Rattle.run_model.specs.declared.bucket.Var.TheVariants as var
+use Rattle.run_model.specs.declared.bucket.BrigadeVar.{BrigadeVar}
+use Rattle.run_model.specs.declared.bucket.BrigadeVar.TheVariants as var
 use Rattle.run_model.specs.declared.payload.Payload.{Payload}
 use Rattle.run_model.specs.declared.payload.Payload.TheVariants.{Label}
 use Rattle.run_model.specs.Indexed.{upd}
@@ -23,53 +23,54 @@ use Rattle.run_model.specs.Pools.{Pools, is_under, created, cleared, destroyed}
 use Rattle.run_model.specs.Buckets.{is_dead, is_ended, returned_bucket, cleared_bucket}
 use Rattle.run_model.specs.Files.{Files}
 use Rattle.run_model.specs.Clearing.{is_reached, cleared_var, run_down}
-use Rattle.run_model.specs.State.{Run, items_of, set_pool, with_pools, set_brig, set_number, pool_named}
+use Rattle.run_model.specs.State.{Configuration, items_of, set_pool, with_pools, set_brigade, set_number, pool_named}
 use Rattle.run_model.specs.Faults.{usable_fault, homes_fault}
 use Rattle.run_model.specs.Steps.{do_create, do_clean, do_concat, do_pass, do_return, cleaned, with_items, handed_over, returned_var, pool_cleared, pool_destroyed, files_let_go, label_registered, label_killed, text_of, aside_named, new_ref, saved_into, made_on}
 use Rattle.run_model.specs.Connection.{has_range}
-use Rattle.run_model.specs.Sound.{home_fits, content_fits, is_proper, SoundPools, SoundBuckets}
+use Rattle.run_model.specs.Sound.{SoundPools, SoundBuckets}
+use Rattle.run_model.specs.Cutting.{FitsKind, LivesAs, OpenFile, form_of, form_of_kind}
 use Rattle.run_model.specs.Laws.{refers, IsHeld, KeptAside, SoundFiles}
 use Rattle.run_model.specs.Ranges.{LiesInFile, HasLength, SoundRanges, StepKeepsRanges}
 use Rattle.run_model.proofs.NamedPools.{on_named, made_under_named, with_buffer, put_keeps}
 use Rattle.run_model.proofs.Marks.{first_none, second_none}
 use Rattle.run_model.proofs.Kept.{aside_lasts, files_go}
 use Rattle.run_model.proofs.References.{or_left, or_right, refers_given, referred_at, created_back, registered_back, all_back, killed_refers, Emptied, emptied_back}
-use Rattle.run_model.proofs.StepFiles.{left_home, spared_home, written, cleared_emptied, destroyed_emptied, fits_home, neither, refs_open, no_dead, step_files}
+use Rattle.run_model.proofs.StepFiles.{left_home, spared_home, written, cleared_emptied, destroyed_emptied, neither, refs_open, no_dead, step_files}
 
 -- Lists and variables.
 
-abbrev pub LieList : Files → List Named → Type 0
+abbrev pub LieList : Files → List NamedBucket → Type 0
 LieList fs xs = All (LiesInFile fs) xs
 
 pub none_lie : (fs : Files) → LieList fs []
 none_lie fs = All-nil (LiesInFile fs)
 
-cleaned_lie : (fs : Files) (v : Var) → LieList fs (items_of (cleaned v))
+cleaned_lie : (fs : Files) (v : BrigadeVar) → LieList fs (items_of (cleaned v))
 cleaned_lie fs var.Null = none_lie fs
 cleaned_lie fs var.Gone = none_lie fs
 cleaned_lie fs (var.Live v) = none_lie fs
 
-handed_lie : (fs : Files) (v : Var) → LieList fs (items_of (handed_over v))
+handed_lie : (fs : Files) (v : BrigadeVar) → LieList fs (items_of (handed_over v))
 handed_lie fs var.Null = none_lie fs
 handed_lie fs var.Gone = none_lie fs
 handed_lie fs (var.Live v) = none_lie fs
 
-filled_lie : (fs : Files) (items : List Named) (v : Var) → LieList fs items → LieList fs (items_of (with_items items v))
+filled_lie : (fs : Files) (items : List NamedBucket) (v : BrigadeVar) → LieList fs items → LieList fs (items_of (with_items items v))
 filled_lie fs items var.Null h = none_lie fs
 filled_lie fs items var.Gone h = none_lie fs
 filled_lie fs items (var.Live v) h = h
 
-returned_lie : (fs : Files) (call : ℕ) (v : Var) → LieList fs (items_of v) → LieList fs (items_of (returned_var call v))
+returned_lie : (fs : Files) (call : ℕ) (v : BrigadeVar) → LieList fs (items_of v) → LieList fs (items_of (returned_var call v))
 returned_lie fs call var.Null h = none_lie fs
 returned_lie fs call var.Gone h = none_lie fs
 returned_lie fs call (var.Live v) h =
     All-map (LiesInFile fs) (returned_bucket call) v.items (λ k d lt. λ file start len p c at. h k d lt file start len p c (left_home call _ p at))
 
-pub spared_lie : (fs : Files) (reached : ℕ → Bool) (xs : List Named) → LieList fs xs → LieList fs (map (cleared_bucket reached) xs)
+pub spared_lie : (fs : Files) (reached : ℕ → Bool) (xs : List NamedBucket) → LieList fs xs → LieList fs (map (cleared_bucket reached) xs)
 spared_lie fs reached xs h =
     All-map (LiesInFile fs) (cleared_bucket reached) xs (λ k d lt. λ file start len p c at. h k d lt file start len p c (spared_home reached _ p at).0)
 
-pub spared_var_lie : (fs : Files) (reached : ℕ → Bool) (v : Var) → LieList fs (items_of v) → LieList fs (items_of (cleared_var reached v))
+pub spared_var_lie : (fs : Files) (reached : ℕ → Bool) (v : BrigadeVar) → LieList fs (items_of v) → LieList fs (items_of (cleared_var reached v))
 spared_var_lie fs reached var.Null h = none_lie fs
 spared_var_lie fs reached var.Gone h = none_lie fs
 spared_var_lie fs reached (var.Live v) h = by_test (is_reached reached v.on) where
@@ -82,7 +83,7 @@ spared_var_lie fs reached (var.Live v) h = by_test (is_reached reached v.on) whe
 abbrev pub SameWhere : (ℕ → ℕ → Bool) → Files → Files → Type 0
 SameWhere ref old new = (p file : ℕ) → ref p file ≡ true → new.opened file ≡ old.opened file
 
-pub still_lie : (ps : Pools Payload) (old new : Files) → SameWhere (refers ps) old new → (xs : List Named) → All (IsHeld ps) xs → LieList old xs → LieList new xs
+pub still_lie : (ps : Pools Payload) (old new : Files) → SameWhere (refers ps) old new → (xs : List NamedBucket) → All (IsHeld ps) xs → LieList old xs → LieList new xs
 still_lie ps old new same xs held h = λ k d lt. λ file start len p c at.
     let there = h k d lt file start len p c at in (there.0, same p file (held k d lt file start len p c at) ∙ there.1, there.2)
 
@@ -103,18 +104,18 @@ still_told ps old new same files req request h = told_all (HasLength old) (HasLe
 -- Runs.
 
 -- where files with references are as they were, and buckets lay in them
-pub kept_ranges : (files : List (ℕ × ℕ)) (r new : Run) → SoundFiles files new → SameWhere (refers new.shared.pools) r.shared.files new.shared.files
-    → ((b : ℕ) → LieList r.shared.files (items_of (new.inst.brigs b))) → LieList r.shared.files new.call.loose
+pub kept_ranges : (files : List (ℕ × ℕ)) (r new : Configuration) → SoundFiles files new → SameWhere (refers new.shared.pools) r.shared.files new.shared.files
+    → ((b : ℕ) → LieList r.shared.files (items_of (new.instance.brigades b))) → LieList r.shared.files new.call.loose
     → ((p file : ℕ) → refers new.shared.pools p file ≡ true → file < new.shared.files.next) → new.shared.req ≡ r.shared.req → SoundRanges files r → SoundRanges files new
 kept_ranges files r new held same brigades loose given req s = record {
-  brigades = λ b. still_lie new.shared.pools r.shared.files new.shared.files same (items_of (new.inst.brigs b)) (held.brigades b) (brigades b);
+  brigades = λ b. still_lie new.shared.pools r.shared.files new.shared.files same (items_of (new.instance.brigades b)) (held.brigades b) (brigades b);
   loose = still_lie new.shared.pools r.shared.files new.shared.files same new.call.loose held.loose loose;
   told = λ q is. still_told new.shared.pools r.shared.files new.shared.files same files q (λ file end has. held.request file end q has is) (s.told q (sym req ∙ is));
   given = given;
 }
 
 -- what a pool that goes leaves open
-pub went_same : (n : ℕ) (r : Run) (ps : Pools Payload) → Emptied n r.shared.pools ps → SoundPools r
+pub went_same : (n : ℕ) (r : Configuration) (ps : Pools Payload) → Emptied n r.shared.pools ps → SoundPools r
     → SameWhere (refers ps) r.shared.files (files_let_go n r (with_pools ps (run_down n r))).shared.files
 unfolding with_pools run_down
 went_same n r ps e pools p file h =
@@ -122,20 +123,20 @@ went_same n r ps e pools p file h =
     let lt = refers_given r.shared.pools p file pools.formed old.1 in
     (files_go n r ps).stays file (referred_at ps p file (subst (λ (k : ℕ). p < k) (sym e.next) lt) h)
 
-went_ranges : (files : List (ℕ × ℕ)) (n : ℕ) (r : Run) (ps : Pools Payload) → Emptied n r.shared.pools ps → SoundPools r → SoundRanges files r
+went_ranges : (files : List (ℕ × ℕ)) (n : ℕ) (r : Configuration) (ps : Pools Payload) → Emptied n r.shared.pools ps → SoundPools r → SoundRanges files r
     → SoundFiles files (files_let_go n r (with_pools ps (run_down n r))) → SoundRanges files (files_let_go n r (with_pools ps (run_down n r)))
 unfolding with_pools run_down
 went_ranges files n r ps e pools s held =
     kept_ranges files r (files_let_go n r (with_pools ps (run_down n r))) held (went_same n r ps e pools)
-    (λ b. spared_var_lie r.shared.files (is_under r.shared.pools n) (r.inst.brigs b) (s.brigades b))
+    (λ b. spared_var_lie r.shared.files (is_under r.shared.pools n) (r.instance.brigades b) (s.brigades b))
     (spared_lie r.shared.files (is_under r.shared.pools n) r.call.loose s.loose)
     (λ p file h. s.given p file (emptied_back n r.shared.pools ps e p file h).1) refl s
 
-made_ranges : (files : List (ℕ × ℕ)) (parent q : ℕ) (r : Run) → SoundRanges files r → SoundRanges files (set_pool q (poolvar.Named r.shared.pools.next) (with_pools (created parent r.shared.pools) r))
+made_ranges : (files : List (ℕ × ℕ)) (parent q : ℕ) (r : Configuration) → SoundRanges files r → SoundRanges files (set_pool q (poolvar.Made r.shared.pools.next) (with_pools (created parent r.shared.pools) r))
 unfolding set_pool with_pools
 made_ranges files parent q r s = record { brigades = s.brigades; loose = s.loose; told = s.told; given = λ p file h. s.given p file (created_back parent r.shared.pools p file h) }
 
-labelled_ranges : (files : List (ℕ × ℕ)) (text : List ℕ) (n : ℕ) (r : Run) → SoundRanges files r → SoundRanges files (label_registered text n r)
+labelled_ranges : (files : List (ℕ × ℕ)) (text : List ℕ) (n : ℕ) (r : Configuration) → SoundRanges files r → SoundRanges files (label_registered text n r)
 unfolding with_pools
 labelled_ranges files text n r s =
     record { brigades = s.brigades; loose = s.loose; told = s.told; given = λ p file h. s.given p file (back p file (registered_back n (Label text) r.shared.pools p file h)) } where
@@ -143,7 +144,7 @@ labelled_ranges files text n r s =
       back p file (inl h) = h
       back p file (inr e) = absurd (cc)
 
-unlabelled_ranges : (files : List (ℕ × ℕ)) (text : List ℕ) (n : ℕ) (r : Run) → SoundRanges files r → SoundRanges files (label_killed text n r)
+unlabelled_ranges : (files : List (ℕ × ℕ)) (text : List ℕ) (n : ℕ) (r : Configuration) → SoundRanges files r → SoundRanges files (label_killed text n r)
 unfolding with_pools
 unlabelled_ranges files text n r s =
     record { brigades = s.brigades; loose = s.loose; told = s.told; given = λ p file h. s.given p file (sym (killed_refers n text r.shared.pools p file) ∙ h) }
@@ -151,54 +152,41 @@ unlabelled_ranges files text n r s =
 -- Setting aside.
 
 -- a range whose home has not ended has a pool for its home
-homed : (k : Kind) (c : Content) (h : Home) (file start len : ℕ) → home_fits k h ≡ true → content_fits k c ≡ true → is_ended h ≡ false → c ≡ content.Range file start len
+homed : (k : Kind) (c : Content) (h : Home) (file start len : ℕ) → LivesAs k h → form_of c ≡ form_of_kind k → is_ended h ≡ false → c ≡ content.Range file start len
     → (p : ℕ) × (h ≡ home.Pool p)
-homed kind.File c home.Free file start len fit holds live e = absurd (cc)
-homed kind.File c (home.Call n) file start len fit holds live e = absurd (cc)
+homed kind.File c home.Free file start len fit holds live e = absurd fit
+homed kind.File c (home.Call n) file start len fit holds live e = absurd fit
 homed kind.File c (home.Pool n) file start len fit holds live e = (n, refl)
 homed kind.File c home.Ended file start len fit holds live e = absurd (cc)
-homed kind.Heap c h file start len fit holds live e = absurd (let no : false ≡ true = sym (ap (content_fits kind.Heap) e) ∙ holds in cc)
-homed kind.Transient c h file start len fit holds live e = absurd (let no : false ≡ true = sym (ap (content_fits kind.Transient) e) ∙ holds in cc)
-homed kind.Immortal c h file start len fit holds live e = absurd (let no : false ≡ true = sym (ap (content_fits kind.Immortal) e) ∙ holds in cc)
-homed (kind.Pool p) c h file start len fit holds live e = absurd (let no : false ≡ true = sym (ap (content_fits (kind.Pool p)) e) ∙ holds in cc)
-homed kind.Flush c h file start len fit holds live e = absurd (let no : false ≡ true = sym (ap (content_fits kind.Flush) e) ∙ holds in cc)
-homed kind.Eos c h file start len fit holds live e = absurd (let no : false ≡ true = sym (ap (content_fits kind.Eos) e) ∙ holds in cc)
+homed k c h file start len fit holds live e = absurd (let no : OpenFile ≡ form_of_kind k = sym (ap form_of e) ∙ holds in cc)
 
-second : (a b : Bool) → (a && b) ≡ true → b ≡ true
-second true b h = h
-second false b h = absurd (cc)
-
-fits_content : (x : Named) → is_proper x ≡ true → content_fits x.bucket.kind x.bucket.content ≡ true
-unfolding is_proper
-fits_content x h = second (home_fits x.bucket.kind x.bucket.home) (content_fits x.bucket.kind x.bucket.content) h
-
-aside_lies : (fs : Files) (ps : Pools Payload) (target : ℕ) (x : Named) → is_proper x ≡ true → is_dead x ≡ false → LiesInFile fs x → LiesInFile fs (aside_named ps target x)
+aside_lies : (fs : Files) (ps : Pools Payload) (target : ℕ) (x : NamedBucket) → FitsKind x.bucket → is_dead x ≡ false → LiesInFile fs x → LiesInFile fs (aside_named ps target x)
 aside_lies fs ps target x proper live lies file start len p e at =
     let kept : KeptAside ps target x (aside_named ps target x) = aside_lasts ps target x proper live in
     let was : x.bucket.content ≡ content.Range file start len = sym kept.content ∙ e in
-    let old = homed x.bucket.kind x.bucket.content x.bucket.home file start len (fits_home x proper) (fits_content x proper) live was in
+    let old = homed x.bucket.kind x.bucket.content x.bucket.home file start len proper.lives proper.holds live was in
     lies file start len old.0 was old.1
 
-aside_lie : (fs : Files) (ps : Pools Payload) (target : ℕ) (xs : List Named) → All (λ x. is_proper x ≡ true) xs → list_any is_dead xs ≡ false → LieList fs xs → LieList fs (map (aside_named ps target) xs)
+aside_lie : (fs : Files) (ps : Pools Payload) (target : ℕ) (xs : List NamedBucket) → All (λ x. FitsKind x.bucket) xs → list_any is_dead xs ≡ false → LieList fs xs → LieList fs (map (aside_named ps target) xs)
 aside_lie fs ps target [] proper live h = none_lie fs
 aside_lie fs ps target (x ∷ xs) proper live h =
     let alive = neither (is_dead x) (list_any is_dead xs) live in
     All-cons (LiesInFile fs) (aside_named ps target x) (map (aside_named ps target) xs)
-    (aside_lies fs ps target x (All-head (λ x. is_proper x ≡ true) x xs proper) alive.0 (All-head (LiesInFile fs) x xs h))
-    (aside_lie fs ps target xs (All-tail (λ x. is_proper x ≡ true) x xs proper) alive.1 (All-tail (LiesInFile fs) x xs h))
+    (aside_lies fs ps target x (All-head (λ x. FitsKind x.bucket) x xs proper) alive.0 (All-head (LiesInFile fs) x xs h))
+    (aside_lie fs ps target xs (All-tail (λ x. FitsKind x.bucket) x xs proper) alive.1 (All-tail (LiesInFile fs) x xs h))
 
-save_ranges : (files : List (ℕ × ℕ)) (o b target : ℕ) (r : Run) → SoundBuckets r → list_any is_dead (items_of (r.inst.brigs b)) ≡ false → SoundFiles files r → SoundRanges files r
+save_ranges : (files : List (ℕ × ℕ)) (o b target : ℕ) (r : Configuration) → SoundBuckets r → list_any is_dead (items_of (r.instance.brigades b)) ≡ false → SoundFiles files r → SoundRanges files r
     → SoundRanges files (saved_into o b target r)
-unfolding set_brig with_pools
+unfolding set_brigade with_pools
 save_ranges files o b target r buckets live held s =
     let ps = r.shared.pools in
     let fs = r.shared.files in
-    let items : List Named = items_of (r.inst.brigs b) in
+    let items : List NamedBucket = items_of (r.instance.brigades b) in
     record {
-      brigades = λ k. written (λ v. LieList fs (items_of v)) (upd r.inst.brigs b (with_items [] (r.inst.brigs b))) o _
-          (filled_lie fs (items_of (r.inst.brigs o) ++ map (aside_named ps target) items) (r.inst.brigs o)
-          (All-append (LiesInFile fs) (items_of (r.inst.brigs o)) (map (aside_named ps target) items) (s.brigades o) (aside_lie fs ps target items (buckets.brigades b) live (s.brigades b))))
-          (written (λ v. LieList fs (items_of v)) r.inst.brigs b (with_items [] (r.inst.brigs b)) (filled_lie fs [] (r.inst.brigs b) (none_lie fs)) s.brigades) k;
+      brigades = λ k. written (λ v. LieList fs (items_of v)) (upd r.instance.brigades b (with_items [] (r.instance.brigades b))) o _
+          (filled_lie fs (items_of (r.instance.brigades o) ++ map (aside_named ps target) items) (r.instance.brigades o)
+          (All-append (LiesInFile fs) (items_of (r.instance.brigades o)) (map (aside_named ps target) items) (s.brigades o) (aside_lie fs ps target items (buckets.brigades b) live (s.brigades b))))
+          (written (λ v. LieList fs (items_of v)) r.instance.brigades b (with_items [] (r.instance.brigades b)) (filled_lie fs [] (r.instance.brigades b) (none_lie fs)) s.brigades) k;
       loose = s.loose;
       told = s.told;
       given = λ p file h. elim (all_back target (filter_map (new_ref ps target) items) ps p file h) [
@@ -209,50 +197,50 @@ save_ranges files o b target r buckets live held s =
 
 -- Brigades.
 
-concat_ranges : (files : List (ℕ × ℕ)) (a b : ℕ) (r : Run) → SoundRanges files r → SoundRanges files (do_concat a b r)
-unfolding set_brig
+concat_ranges : (files : List (ℕ × ℕ)) (a b : ℕ) (r : Configuration) → SoundRanges files r → SoundRanges files (do_concat a b r)
+unfolding set_brigade
 concat_ranges files a b r s =
     let fs = r.shared.files in
     record {
-      brigades = λ k. written (λ v. LieList fs (items_of v)) (upd r.inst.brigs b (with_items [] (r.inst.brigs b))) a _
-          (filled_lie fs (items_of (r.inst.brigs a) ++ items_of (r.inst.brigs b)) (r.inst.brigs a) (All-append (LiesInFile fs) (items_of (r.inst.brigs a)) (items_of (r.inst.brigs b)) (s.brigades a) (s.brigades b)))
-          (written (λ v. LieList fs (items_of v)) r.inst.brigs b (with_items [] (r.inst.brigs b)) (filled_lie fs [] (r.inst.brigs b) (none_lie fs)) s.brigades) k;
+      brigades = λ k. written (λ v. LieList fs (items_of v)) (upd r.instance.brigades b (with_items [] (r.instance.brigades b))) a _
+          (filled_lie fs (items_of (r.instance.brigades a) ++ items_of (r.instance.brigades b)) (r.instance.brigades a) (All-append (LiesInFile fs) (items_of (r.instance.brigades a)) (items_of (r.instance.brigades b)) (s.brigades a) (s.brigades b)))
+          (written (λ v. LieList fs (items_of v)) r.instance.brigades b (with_items [] (r.instance.brigades b)) (filled_lie fs [] (r.instance.brigades b) (none_lie fs)) s.brigades) k;
       loose = s.loose;
       told = s.told;
       given = s.given;
     }
 
 -- one variable is written
-one_written : (fs : Files) (r : Run) (i : ℕ) (w : Var) → LieList fs (items_of w) → ((b : ℕ) → LieList fs (items_of (r.inst.brigs b))) → (b : ℕ) → LieList fs (items_of (upd r.inst.brigs i w b))
-one_written fs r i w here there b = written (λ v. LieList fs (items_of v)) r.inst.brigs i w here there b
+one_written : (fs : Files) (r : Configuration) (i : ℕ) (w : BrigadeVar) → LieList fs (items_of w) → ((b : ℕ) → LieList fs (items_of (r.instance.brigades b))) → (b : ℕ) → LieList fs (items_of (upd r.instance.brigades i w b))
+one_written fs r i w here there b = written (λ v. LieList fs (items_of v)) r.instance.brigades i w here there b
 
-create_ranges : (files : List (ℕ × ℕ)) (p : Program) (o : ℕ) (r : Run) → SoundRanges files r → SoundRanges files (do_create p o r)
-unfolding set_brig
+create_ranges : (files : List (ℕ × ℕ)) (p : Program) (o : ℕ) (r : Configuration) → SoundRanges files r → SoundRanges files (do_create p o r)
+unfolding set_brigade
 create_ranges files p o r s = record { brigades = one_written r.shared.files r o _ (none_lie r.shared.files) s.brigades; loose = s.loose; told = s.told; given = s.given }
 
-clean_ranges : (files : List (ℕ × ℕ)) (b : ℕ) (r : Run) → SoundRanges files r → SoundRanges files (do_clean b r)
-unfolding set_brig
-clean_ranges files b r s = record { brigades = one_written r.shared.files r b _ (cleaned_lie r.shared.files (r.inst.brigs b)) s.brigades; loose = s.loose; told = s.told; given = s.given }
+clean_ranges : (files : List (ℕ × ℕ)) (b : ℕ) (r : Configuration) → SoundRanges files r → SoundRanges files (do_clean b r)
+unfolding set_brigade
+clean_ranges files b r s = record { brigades = one_written r.shared.files r b _ (cleaned_lie r.shared.files (r.instance.brigades b)) s.brigades; loose = s.loose; told = s.told; given = s.given }
 
-pass_ranges : (files : List (ℕ × ℕ)) (b : ℕ) (r : Run) → SoundRanges files r → SoundRanges files (do_pass b r)
-unfolding set_brig
-pass_ranges files b r s = record { brigades = one_written r.shared.files r b _ (handed_lie r.shared.files (r.inst.brigs b)) s.brigades; loose = s.loose; told = s.told; given = s.given }
+pass_ranges : (files : List (ℕ × ℕ)) (b : ℕ) (r : Configuration) → SoundRanges files r → SoundRanges files (do_pass b r)
+unfolding set_brigade
+pass_ranges files b r s = record { brigades = one_written r.shared.files r b _ (handed_lie r.shared.files (r.instance.brigades b)) s.brigades; loose = s.loose; told = s.told; given = s.given }
 
-return_ranges : (files : List (ℕ × ℕ)) (r : Run) → SoundRanges files r → SoundRanges files (do_return r)
+return_ranges : (files : List (ℕ × ℕ)) (r : Configuration) → SoundRanges files r → SoundRanges files (do_return r)
 return_ranges files r s = record { brigades = λ b. left b (b == 8); loose = none_lie r.shared.files; told = s.told; given = s.given } where
-  left : (b : ℕ) (is_in : Bool) → LieList r.shared.files (items_of (cond is_in var.Null (returned_var r.call.name (r.inst.brigs b))))
+  left : (b : ℕ) (is_in : Bool) → LieList r.shared.files (items_of (cond is_in var.Null (returned_var r.call.name (r.instance.brigades b))))
   left b true = none_lie r.shared.files
-  left b false = returned_lie r.shared.files r.call.name (r.inst.brigs b) (s.brigades b)
+  left b false = returned_lie r.shared.files r.call.name (r.instance.brigades b) (s.brigades b)
 
-number_ranges : (files : List (ℕ × ℕ)) (n v : ℕ) (r : Run) → SoundRanges files r → SoundRanges files (set_number n v r)
+number_ranges : (files : List (ℕ × ℕ)) (n v : ℕ) (r : Configuration) → SoundRanges files r → SoundRanges files (set_number n v r)
 unfolding set_number
 number_ranges files n v r s = record { brigades = s.brigades; loose = s.loose; told = s.told; given = s.given }
 
-buffer_ranges : (files : List (ℕ × ℕ)) (buffer : List ℕ) (r : Run) → SoundRanges files r → SoundRanges files (with_buffer buffer r)
+buffer_ranges : (files : List (ℕ × ℕ)) (buffer : List ℕ) (r : Configuration) → SoundRanges files r → SoundRanges files (with_buffer buffer r)
 buffer_ranges files buffer r s = record { brigades = s.brigades; loose = s.loose; told = s.told; given = s.given }
 
 -- what a clear of an own pool leaves, where files are kept
-abbrev IfHeld : List (ℕ × ℕ) → Run → Type 0
+abbrev IfHeld : List (ℕ × ℕ) → Configuration → Type 0
 IfHeld files new = SoundFiles files new → SoundRanges files new
 
 pub step_ranges : StepKeepsRanges
@@ -268,9 +256,9 @@ step_ranges p choice (instr.Unlabel q t) files r may sound held s = on_named (So
 step_ranges p choice (instr.BCreate o) files r may sound held s = create_ranges files p o r s
 step_ranges p choice (instr.BClean b) files r may sound held s = clean_ranges files b r s
 step_ranges p choice (instr.BConcat a b) files r may sound held s = concat_ranges files a b r s
-step_ranges p choice (instr.BSave o b) files r may sound held s = on_named (SoundRanges files) (saved_into o b) (made_on (r.inst.brigs o)) r s (λ target e.
+step_ranges p choice (instr.BSave o b) files r may sound held s = on_named (SoundRanges files) (saved_into o b) (made_on (r.instance.brigades o)) r s (λ target e.
     save_ranges files o b target r sound.buckets
-    (no_dead (items_of (r.inst.brigs b)) (first_none (homes_fault (items_of (r.inst.brigs b))) None (second_none (usable_fault (r.inst.brigs b)) _ (second_none (usable_fault (r.inst.brigs o)) _ may.faultless)))) held s)
+    (no_dead (items_of (r.instance.brigades b)) (first_none (homes_fault (items_of (r.instance.brigades b))) None (second_none (usable_fault (r.instance.brigades b)) _ (second_none (usable_fault (r.instance.brigades o)) _ may.faultless)))) held s)
 step_ranges p choice (instr.Pass b l) files r may sound held s = pass_ranges files b r s
 step_ranges p choice (instr.JEmpty b l) files r may sound held s = s
 step_ranges p choice (instr.JNull v l) files r may sound held s = s

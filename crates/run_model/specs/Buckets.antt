@@ -5,7 +5,7 @@ use Rattle.run_model.specs.declared.bucket.Kind.{Kind}
 use Rattle.run_model.specs.declared.bucket.Kind.TheVariants as kind
 use Rattle.run_model.specs.declared.bucket.Home.{Home}
 use Rattle.run_model.specs.declared.bucket.Home.TheVariants as home
-use Rattle.run_model.specs.declared.bucket.Named.{Named}
+use Rattle.run_model.specs.declared.bucket.NamedBucket.{NamedBucket}
 
 -- Every kind but FLUSH and EOS is data, also where it is empty.
 abbrev pub is_data_kind : Kind → Bool
@@ -26,20 +26,20 @@ is_eos_kind kind.File = false
 is_eos_kind kind.Flush = false
 is_eos_kind kind.Eos = true
 
-abbrev pub is_data : Named → Bool
+abbrev pub is_data : NamedBucket → Bool
 is_data b = is_data_kind b.bucket.kind
 
-abbrev pub is_eos : Named → Bool
+abbrev pub is_eos : NamedBucket → Bool
 is_eos b = is_eos_kind b.bucket.kind
 
-abbrev pub has_data : List Named → Bool
+abbrev pub has_data : List NamedBucket → Bool
 has_data = list_any is_data
 
-abbrev pub has_eos : List Named → Bool
+abbrev pub has_eos : List NamedBucket → Bool
 has_eos = list_any is_eos
 
 -- whether data stands behind an EOS of the list
-abbrev pub data_after_eos : List Named → Bool
+abbrev pub data_after_eos : List NamedBucket → Bool
 data_after_eos [] = false
 data_after_eos (b ∷ bs) = (is_eos b && has_data bs) || data_after_eos bs
 
@@ -49,7 +49,7 @@ is_ended (home.Call n) = false
 is_ended (home.Pool n) = false
 is_ended home.Ended = true
 
-abbrev pub is_dead : Named → Bool
+abbrev pub is_dead : NamedBucket → Bool
 is_dead b = is_ended b.bucket.home
 
 -- A return ends the homes that are its call.
@@ -76,8 +76,8 @@ to_heap reached kind.File = kind.File
 to_heap reached kind.Flush = kind.Flush
 to_heap reached kind.Eos = kind.Eos
 
-abbrev pub returned_bucket : ℕ → Named → Named
+abbrev pub returned_bucket : ℕ → NamedBucket → NamedBucket
 returned_bucket call b = record b { bucket = record b.bucket { home = end_call call b.bucket.home } }
 
-abbrev pub cleared_bucket : (ℕ → Bool) → Named → Named
+abbrev pub cleared_bucket : (ℕ → Bool) → NamedBucket → NamedBucket
 cleared_bucket reached b = record b { bucket = record b.bucket { kind = to_heap reached b.bucket.kind; home = end_pools reached b.bucket.home } }

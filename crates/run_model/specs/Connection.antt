@@ -6,10 +6,10 @@ use Rattle.run_model.specs.declared.bucket.Kind.TheVariants as kind
 use Rattle.run_model.specs.declared.bucket.Content.TheVariants as content
 use Rattle.run_model.specs.declared.bucket.Home.TheVariants as home
 use Rattle.run_model.specs.declared.bucket.Bucket.{Bucket}
-use Rattle.run_model.specs.declared.bucket.Named.{Named}
+use Rattle.run_model.specs.declared.bucket.NamedBucket.{NamedBucket}
 use Rattle.run_model.specs.declared.bucket.Mark.TheVariants.{Usable}
 use Rattle.run_model.specs.declared.bucket.Brigade.{Brigade}
-use Rattle.run_model.specs.declared.bucket.Var.TheVariants as var
+use Rattle.run_model.specs.declared.bucket.BrigadeVar.TheVariants as var
 use Rattle.run_model.specs.declared.event.Piece.{Piece}
 use Rattle.run_model.specs.declared.event.Piece.TheVariants as piece
 use Rattle.run_model.specs.declared.event.Cause.{Cause}
@@ -26,27 +26,27 @@ use Rattle.run_model.specs.declared.payload.Payload.TheVariants.{FileRef}
 use Rattle.run_model.specs.Pools.{Pools, planted, created, registered}
 use Rattle.run_model.specs.Files.{Files, file_opened}
 use Rattle.run_model.specs.Buckets.{is_data_kind, is_eos_kind}
-use Rattle.run_model.specs.State.{Run, fresh_inst, fresh_call, set_brig}
+use Rattle.run_model.specs.State.{Configuration, fresh_instance, fresh_call, set_brigade}
 use Rattle.run_model.specs.Steps.{watched, current, is_spent, pool_destroyed}
 
 -- files: the files that were opened in this request, each with its length. busy: a call is running. count: the
 -- instructions executed since the last open, begin or bring. broken: why the work goes on no more.
 pub record Connection : Type 0 where
-  pub run : Run
+  pub state : Configuration
   pub files : List (ℕ × ℕ)
   pub busy : Bool
   pub count : ℕ
   pub broken : Option Cause
 
 -- The call `name` of the handler that begins at pc begins, with these files open.
-abbrev pub calling : ℕ → ℕ → List (ℕ × ℕ) → Run → Connection
-calling name pc files r = record { files = files; run = record r { call = fresh_call name; pc = pc }; busy = true; count = 0; broken = None }
+abbrev pub calling : ℕ → ℕ → List (ℕ × ℕ) → Configuration → Connection
+calling name pc files r = record { files = files; state = record r { call = fresh_call name; pc = pc }; busy = true; count = 0; broken = None }
 
 -- The first connection of a host is opened: pool 1 is the root, pool 2 the connection's. Its `open` begins.
 unfoldable pub opened : Files → Connection
 opened fs =
     calling 1 0 [] (record {
-      inst = fresh_inst;
+      instance = fresh_instance;
       call = fresh_call 0;
       shared = record { pools = created 1 (planted 1); conn = 2; req = None; labels = []; files = fs; next = 2 };
       pc = 0;
@@ -74,40 +74,40 @@ unless_refused (Some r) old new = (Some r, old)
 -- A request begins: it has a pool of its own under the connection's, and `init` begins.
 abbrev pub begun : Program → Connection → Connection
 begun p c =
-    let shared = record c.run.shared { pools = created c.run.shared.conn c.run.shared.pools; req = Some c.run.shared.pools.next; next = c.run.shared.next + 1 } in
-    calling c.run.shared.next p.init [] (record c.run { shared = shared })
+    let shared = record c.state.shared { pools = created c.state.shared.conn c.state.shared.pools; req = Some c.state.shared.pools.next; next = c.state.shared.next + 1 } in
+    calling c.state.shared.next p.init [] (record c.state { shared = shared })
 
 unfoldable pub begins : Bool → Program → Connection → Option Refusal × Connection
 begins memory p c =
     unless_refused (first_refusal (if_broken c.broken
     ∷ (refused_if c.busy refusal.Busy
-    ∷ (refused_if (is_some c.run.shared.req) refusal.InRequest
-    ∷ (refused_if (is_spent c.run.shared.pools.next 1 || is_spent c.run.shared.next 1) refusal.NamesSpent
+    ∷ (refused_if (is_some c.state.shared.req) refusal.InRequest
+    ∷ (refused_if (is_spent c.state.shared.pools.next 1 || is_spent c.state.shared.next 1) refusal.NamesSpent
     ∷ (refused_if (not memory) refusal.NoMemory ∷ [])))))) c (begun p c)
 
 -- A file is opened in a request, whose pool holds the reference.
 abbrev pub file_taken : ℕ → List ℕ → ℕ → Connection → Connection
 file_taken req name len c =
-    let fs = c.run.shared.files in
-    let shared = record c.run.shared { files = file_opened name fs; pools = registered req (FileRef fs.next) c.run.shared.pools } in
-    record c { files = c.files ++ (fs.next, len) ∷ []; run = record c.run { shared = shared } }
+    let fs = c.state.shared.files in
+    let shared = record c.state.shared { files = file_opened name fs; pools = registered req (FileRef fs.next) c.state.shared.pools } in
+    record c { files = c.files ++ (fs.next, len) ∷ []; state = record c.state { shared = shared } }
 
 -- The file is open, and its number and length are told, or why it is not.
 abbrev pub file_answer : Option Refusal → Option ℕ → Option (List ℕ) → List ℕ → Connection → Result (ℕ × ℕ) Refusal × Connection
 file_answer (Some r) req found name c = (Err r, c)
 file_answer None None found name c = (Err refusal.NotInRequest, c)
 file_answer None (Some req) None name c = (Err refusal.NoFile, c)
-file_answer None (Some req) (Some bytes) name c = (Ok (c.run.shared.files.next, length bytes), file_taken req name (length bytes) c)
+file_answer None (Some req) (Some bytes) name c = (Ok (c.state.shared.files.next, length bytes), file_taken req name (length bytes) c)
 
 unfoldable pub opens_file : Bool → List ℕ → Connection → Result (ℕ × ℕ) Refusal × Connection
 opens_file memory name c =
-    let fs = c.run.shared.files in
+    let fs = c.state.shared.files in
     file_answer (first_refusal (if_broken c.broken
     ∷ (refused_if c.busy refusal.Busy
-    ∷ (refused_if (not (is_some c.run.shared.req)) refusal.NotInRequest
+    ∷ (refused_if (not (is_some c.state.shared.req)) refusal.NotInRequest
     ∷ (refused_if (not (is_some (fs.named name))) refusal.NoFile
     ∷ (refused_if (is_spent fs.next 1) refusal.NamesSpent
-    ∷ (refused_if (not memory) refusal.NoMemory ∷ []))))))) c.run.shared.req (fs.named name) name c
+    ∷ (refused_if (not memory) refusal.NoMemory ∷ []))))))) c.state.shared.req (fs.named name) name c
 
 -- The bucket of a piece that is brought to a call of this name, in a request of this pool.
 abbrev pub bucket_of : ℕ → ℕ → Piece → Bucket
@@ -120,7 +120,7 @@ bucket_of call req piece.Flush = record { kind = kind.Flush; content = content.N
 bucket_of call req piece.Eos = record { kind = kind.Eos; content = content.Nothing; home = home.Free }
 
 -- the buckets of the pieces, with names from n on
-abbrev pub named_from : (Piece → Bucket) → ℕ → List Piece → List Named
+abbrev pub named_from : (Piece → Bucket) → ℕ → List Piece → List NamedBucket
 named_from make n [] = []
 named_from make n (x ∷ xs) = (record { name = n; bucket = make x }) ∷ named_from make (n + 1) xs
 
@@ -147,9 +147,9 @@ lacks_file files x = false
 -- A brigade is brought: it is the `in` of a call of `main`. Names go to the call, the brigade and its buckets.
 abbrev pub brought_in : ℕ → Program → List Piece → Connection → Connection
 brought_in req p pieces c =
-    let n = c.run.shared.next in
+    let n = c.state.shared.next in
     let in_brigade : Brigade = record { name = n + 1; on = None; mark = Usable; items = named_from (bucket_of n req) (n + 2) pieces } in
-    calling n p.main c.files (set_brig 8 (var.Live in_brigade) (record c.run { shared = record c.run.shared { next = n + 2 + length pieces } }))
+    calling n p.main c.files (set_brigade 8 (var.Live in_brigade) (record c.state { shared = record c.state.shared { next = n + 2 + length pieces } }))
 
 abbrev pub brought : Option ℕ → Program → List Piece → Connection → Connection
 brought None p pieces c = c
@@ -159,43 +159,43 @@ unfoldable pub brings : Bool → Program → List Piece → Connection → Optio
 brings memory p pieces c =
     unless_refused (first_refusal (if_broken c.broken
     ∷ (refused_if c.busy refusal.Busy
-    ∷ (refused_if (not (is_some c.run.shared.req)) refusal.NotInRequest
+    ∷ (refused_if (not (is_some c.state.shared.req)) refusal.NotInRequest
     ∷ (refused_if (data_behind_eos pieces) refusal.DataAfterEos
     ∷ (refused_if (list_any (lacks_file c.files) pieces) refusal.NoFile
-    ∷ (refused_if (is_spent c.run.shared.next (2 + length pieces)) refusal.NamesSpent
-    ∷ (refused_if (not memory) refusal.NoMemory ∷ [])))))))) c (brought c.run.shared.req p pieces c)
+    ∷ (refused_if (is_spent c.state.shared.next (2 + length pieces)) refusal.NamesSpent
+    ∷ (refused_if (not memory) refusal.NoMemory ∷ [])))))))) c (brought c.state.shared.req p pieces c)
 
 -- The request's pool is destroyed, and no EOS was passed in the next request.
-abbrev pub request_ended : ℕ → Run → Run
+abbrev pub request_ended : ℕ → Configuration → Configuration
 request_ended req r =
     let gone = pool_destroyed req r in
-    record gone { inst = record gone.inst { sent = false }; shared = record gone.shared { req = None }; out = record gone.out { ended = false } }
+    record gone { instance = record gone.instance { sent = false }; shared = record gone.shared { req = None }; out = record gone.out { ended = false } }
 
 abbrev pub ended : Option ℕ → Connection → Connection
 ended None c = c
-ended (Some req) c = record c { files = []; run = request_ended req c.run }
+ended (Some req) c = record c { files = []; state = request_ended req c.state }
 
 unfoldable pub ends : Bool → Connection → Option Refusal × Connection
 ends memory c =
     unless_refused (first_refusal (if_broken c.broken
     ∷ (refused_if c.busy refusal.Busy
-    ∷ (refused_if (not (is_some c.run.shared.req)) refusal.NotInRequest
-    ∷ (refused_if (not memory) refusal.NoMemory ∷ []))))) c (ended c.run.shared.req c)
+    ∷ (refused_if (not (is_some c.state.shared.req)) refusal.NotInRequest
+    ∷ (refused_if (not memory) refusal.NoMemory ∷ []))))) c (ended c.state.shared.req c)
 
 -- The connection is closed: its pool is destroyed with all under it. These are the labels run, its own last, and the
 -- pools that are left.
 abbrev pub closing_labels : Connection → List (List ℕ)
-closing_labels c = (pool_destroyed c.run.shared.conn c.run).shared.labels
+closing_labels c = (pool_destroyed c.state.shared.conn c.state).shared.labels
 
 abbrev pub closing_files : Connection → Files
-closing_files c = (pool_destroyed c.run.shared.conn c.run).shared.files
+closing_files c = (pool_destroyed c.state.shared.conn c.state).shared.files
 
 abbrev pub closing_pools : Connection → Pools Payload
-closing_pools c = (pool_destroyed c.run.shared.conn c.run).shared.pools
+closing_pools c = (pool_destroyed c.state.shared.conn c.state).shared.pools
 
 -- the output is taken, and what is left
 unfoldable pub takes : Connection → List ℕ × Connection
-takes c = (c.run.out.bytes, record c { run = record c.run { out = record c.run.out { bytes = [] } } })
+takes c = (c.state.out.bytes, record c { state = record c.state { out = record c.state.out { bytes = [] } } })
 
 -- From now on nothing is served but the output, the labels and the close.
 abbrev pub breaks : Cause → Connection → Connection
@@ -215,15 +215,15 @@ step_answer (Ok s) c = (Ok s, after_step s c)
 step_answer (Err step_refusal.NamesSpent) c = broke cause.NamesSpent c
 step_answer (Err step_refusal.NoMemory) c = broke cause.NoMemory c
 
-abbrev pub step_from : Result Stepped StepRefusal × Run → Connection → Result Stepped Refusal × Connection
-step_from w c = step_answer w.0 (record c { run = w.1 })
+abbrev pub step_from : Result Stepped StepRefusal × Configuration → Connection → Result Stepped Refusal × Connection
+step_from w c = step_answer w.0 (record c { state = w.1 })
 
 -- A step is asked for. Where the count has met the budget, the connection breaks and nothing is executed.
 abbrev pub step_if : Option Refusal → Bool → ℕ → Program → Connection → Result Stepped Refusal × Connection
 step_if (Some r) memory budget p c = (Err r, c)
 step_if None memory budget p c =
     if nat_le budget c.count then broke cause.OutOfSteps c
-    else step_from (watched memory p (current p c.run.pc) c.run) c
+    else step_from (watched memory p (current p c.state.pc) c.state) c
 
 unfoldable pub steps : Bool → ℕ → Program → Connection → Result Stepped Refusal × Connection
 steps memory budget p c =

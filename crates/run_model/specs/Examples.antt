@@ -13,11 +13,11 @@ use Rattle.run_model.specs.declared.bucket.Kind.TheVariants as kind
 use Rattle.run_model.specs.declared.bucket.Content.TheVariants as content
 use Rattle.run_model.specs.declared.bucket.Home.{Home}
 use Rattle.run_model.specs.declared.bucket.Home.TheVariants as home
-use Rattle.run_model.specs.declared.bucket.Named.{Named}
+use Rattle.run_model.specs.declared.bucket.NamedBucket.{NamedBucket}
 use Rattle.run_model.specs.declared.bucket.Mark.{Mark}
 use Rattle.run_model.specs.declared.bucket.Mark.TheVariants.{Usable, Passed}
 use Rattle.run_model.specs.declared.bucket.PoolVar.TheVariants as poolvar
-use Rattle.run_model.specs.declared.bucket.Var.TheVariants as var
+use Rattle.run_model.specs.declared.bucket.BrigadeVar.TheVariants as var
 use Rattle.run_model.specs.declared.event.Piece.TheVariants as piece
 use Rattle.run_model.specs.declared.event.Event.{Event}
 use Rattle.run_model.specs.declared.event.Event.TheVariants as event
@@ -28,7 +28,7 @@ use Rattle.run_model.specs.declared.event.Refusal.TheVariants as refusal
 use Rattle.run_model.specs.declared.fault.FaultKind.TheVariants as fault_kind
 use Rattle.run_model.specs.Pools.{planted, created}
 use Rattle.run_model.specs.Connection.{closing_pools}
-use Rattle.run_model.specs.State.{Run, items_of}
+use Rattle.run_model.specs.State.{Configuration, items_of}
 use Rattle.run_model.specs.Faults.{fault}
 use Rattle.run_model.specs.Steps.{do_return}
 use Rattle.run_model.specs.Files.{no_files, file_added}
@@ -101,7 +101,7 @@ begun_well = Done ∷ step_ok ∷ Done ∷ step_ok ∷ []
 abbrev pub with_names : ℕ → ℕ → World → World
 with_names pool_name name (Before fs) = Before fs
 with_names pool_name name (Closed pools fs) = Closed pools fs
-with_names pool_name name (There c) = There (record c { run = record c.run { shared = record c.run.shared { pools = record c.run.shared.pools { next = pool_name }; next = name } } })
+with_names pool_name name (There c) = There (record c { state = record c.state { shared = record c.state.shared { pools = record c.state.shared.pools { next = pool_name }; next = name } } })
 
 -- what the events lead to, where memory is ample
 unfoldable pub world_after : World → ℕ → Program → List Event → World
@@ -179,7 +179,7 @@ counts = with_open [] [] [] (instr.Set 0 (value.Constant 256) ∷ instr.Put (val
 -- a world in which so many reads go on well, and then one fails
 abbrev pub failing_in : ℕ → World → World
 failing_in n (Before fs) = Before (record fs { fails_in = Some n })
-failing_in n (There c) = There (record c { run = record c.run { shared = record c.run.shared { files = record c.run.shared.files { fails_in = Some n } } } })
+failing_in n (There c) = There (record c { state = record c.state { shared = record c.state.shared { files = record c.state.shared.files { fails_in = Some n } } } })
 failing_in n (Closed pools fs) = Closed pools (record fs { fails_in = Some n })
 
 -- bodies of these bytes
@@ -356,25 +356,25 @@ pub record NameRuns : Type 0 where
       ≡ step_ok ∷ Done ∷ Done ∷ broken_by cause.NamesSpent ∷ broken_by cause.NamesSpent ∷ []
 
 -- a bucket of a kind and a home, whose content is not looked at
-abbrev pub a_bucket : Kind → Home → Named
+abbrev pub a_bucket : Kind → Home → NamedBucket
 a_bucket k h = record { name = 90; bucket = record { kind = k; content = content.Nothing; home = h } }
 
 -- The call 1 of a connection with the pool 2, the request's pool 3 and the instance's own pool 5, whose brigade of this
 -- number has these buckets.
-abbrev pub holding : ℕ → Mark → List Named → Run
+abbrev pub holding : ℕ → Mark → List NamedBucket → Configuration
 holding b mark items =
-    record (opened no_files).run {
-      inst = record (opened no_files).run.inst { pools = λ p. poolvar.Named 5; brigs = λ k. if k == b then var.Live (record { name = 80; on = Some 2; mark = mark; items = items }) else var.Null };
-      shared = record (opened no_files).run.shared { req = Some 3 };
+    record (opened no_files).state {
+      instance = record (opened no_files).state.instance { pools = λ p. poolvar.Made 5; brigades = λ k. if k == b then var.Live (record { name = 80; on = Some 2; mark = mark; items = items }) else var.Null };
+      shared = record (opened no_files).state.shared { req = Some 3 };
     }
 
 -- the same, where the pool 3 stands under the pool 2
-abbrev pub in_request : List Named → Run
+abbrev pub in_request : List NamedBucket → Configuration
 in_request items = record (holding 0 Usable items) { shared = record (holding 0 Usable items).shared { pools = created 2 (created 1 (planted 1)) } }
 
 -- a run whose pool variable 0 names a dead pool, and the others a live one
-abbrev pub dead_and_live : Run
-dead_and_live = record (opened no_files).run { inst = record (opened no_files).run.inst { pools = λ p. if p == 0 then poolvar.Named 9 else poolvar.Named 2 } }
+abbrev pub dead_and_live : Configuration
+dead_and_live = record (opened no_files).state { instance = record (opened no_files).state.instance { pools = λ p. if p == 0 then poolvar.Made 9 else poolvar.Made 2 } }
 
 -- Faults of what may be held, and their order.
 pub record HeldFaults : Type 0 where
@@ -399,12 +399,12 @@ pub record HeldFaults : Type 0 where
   pub passed_brigade : fault creates_each_time (holding 0 Passed []) (instr.BCreate 0) ≡ Some fault_kind.F10
   pub parent_before_new : fault cleans_up dead_and_live (instr.PCreate 1) ≡ Some fault_kind.F1
   pub dead_made_again : fault cleans_up dead_and_live (instr.PCreate 0) ≡ None
-  pub live_pool : fault (two_pools []) (record dead_and_live { inst = record dead_and_live.inst { pools = λ p. poolvar.Named 2 } }) (instr.PCreate 1) ≡ Some fault_kind.F10
+  pub live_pool : fault (two_pools []) (record dead_and_live { instance = record dead_and_live.instance { pools = λ p. poolvar.Made 2 } }) (instr.PCreate 1) ≡ Some fault_kind.F10
 
 -- What a return and the end of a request make of the buckets that are held.
 pub record HeldChanges : Type 0 where
-  pub returned : items_of ((do_return (holding 0 Usable (a_bucket kind.Transient (home.Call 1) ∷ a_bucket kind.Transient (home.Call 9) ∷ a_bucket kind.File (home.Pool 3) ∷ []))).inst.brigs 0)
+  pub returned : items_of ((do_return (holding 0 Usable (a_bucket kind.Transient (home.Call 1) ∷ a_bucket kind.Transient (home.Call 9) ∷ a_bucket kind.File (home.Pool 3) ∷ []))).instance.brigades 0)
       ≡ a_bucket kind.Transient home.Ended ∷ a_bucket kind.Transient (home.Call 9) ∷ a_bucket kind.File (home.Pool 3) ∷ []
-  pub in_goes : (do_return (holding 8 Usable (a_bucket kind.Heap home.Free ∷ []))).inst.brigs 8 ≡ var.Null
-  pub request_ended : items_of ((request_ended 3 (in_request (a_bucket kind.File (home.Pool 3) ∷ a_bucket kind.File (home.Pool 2) ∷ a_bucket (kind.Pool 3) home.Free ∷ a_bucket (kind.Pool 2) home.Free ∷ []))).inst.brigs 0)
+  pub in_goes : (do_return (holding 8 Usable (a_bucket kind.Heap home.Free ∷ []))).instance.brigades 8 ≡ var.Null
+  pub request_ended : items_of ((request_ended 3 (in_request (a_bucket kind.File (home.Pool 3) ∷ a_bucket kind.File (home.Pool 2) ∷ a_bucket (kind.Pool 3) home.Free ∷ a_bucket (kind.Pool 2) home.Free ∷ []))).instance.brigades 0)
       ≡ a_bucket kind.File home.Ended ∷ a_bucket kind.File (home.Pool 2) ∷ a_bucket kind.Heap home.Free ∷ a_bucket (kind.Pool 2) home.Free ∷ []

@@ -4,7 +4,7 @@ use Rattle.std.specs.List.{list_any}
 use Rattle.std.specs.Str.{bytes_eq}
 use Rattle.run_model.specs.declared.bucket.Content.{Content}
 use Rattle.run_model.specs.declared.bucket.Content.TheVariants as content
-use Rattle.run_model.specs.declared.bucket.Named.{Named}
+use Rattle.run_model.specs.declared.bucket.NamedBucket.{NamedBucket}
 use Rattle.run_model.specs.declared.payload.Payload.{Payload}
 use Rattle.run_model.specs.Indexed.{upd, any_below}
 use Rattle.run_model.specs.Pools.{Pools}
@@ -62,25 +62,25 @@ abbrev pub read_done : Files → Files
 read_done fs = record fs { fails_in = after_read fs.fails_in }
 
 -- What was taken of buckets: bytes, whether no read failed, and the files afterwards.
-pub record Taken : Type 0 where
+pub record BytesTaken : Type 0 where
   pub bytes : List ℕ
   pub whole : Bool
   pub files : Files
 
-abbrev pub all_taken : List ℕ → Files → Taken
+abbrev pub all_taken : List ℕ → Files → BytesTaken
 all_taken bytes fs = record { bytes = bytes; whole = true; files = fs }
 
 -- these bytes, and what is taken after them
-abbrev pub and_then : List ℕ → Taken → Taken
+abbrev pub and_then : List ℕ → BytesTaken → BytesTaken
 and_then bytes t = record t { bytes = bytes ++ t.bytes }
 
 -- nothing is taken behind a read that failed
-abbrev pub unless_failed : Option (List ℕ) → Files → (Files → Taken) → Taken
+abbrev pub unless_failed : Option (List ℕ) → Files → (Files → BytesTaken) → BytesTaken
 unless_failed None fs rest = record { bytes = []; whole = false; files = fs }
 unless_failed (Some bytes) fs rest = and_then bytes (rest fs)
 
 -- A range is read in parts of 8000 bytes; so many are left.
-unfoldable pub range_taken : ℕ → ℕ → ℕ → ℕ → Files → Taken
+unfoldable pub range_taken : ℕ → ℕ → ℕ → ℕ → Files → BytesTaken
 range_taken zero file start len fs = all_taken [] fs
 range_taken (suc parts) file start len fs =
     unless_failed (read_part file start (min len read_limit) fs) (read_done fs) (range_taken parts file (start + read_limit) (len - read_limit))
@@ -89,15 +89,15 @@ range_taken (suc parts) file start len fs =
 abbrev pub parts_of : ℕ → ℕ
 parts_of len = (len + (read_limit - 1)) / read_limit
 
-abbrev pub content_taken : Content → Files → Taken
+abbrev pub content_taken : Content → Files → BytesTaken
 content_taken (content.Bytes bs) fs = all_taken bs fs
 content_taken (content.Range file start len) fs = range_taken (parts_of len) file start len fs
 content_taken content.Nothing fs = all_taken [] fs
 
-abbrev pub followed_by : Taken → (Files → Taken) → Taken
+abbrev pub followed_by : BytesTaken → (Files → BytesTaken) → BytesTaken
 followed_by t rest = if t.whole then and_then t.bytes (rest t.files) else t
 
 -- the bytes of the buckets before the first EOS, up to a read that fails
-unfoldable pub taken_of : List Named → Files → Taken
+unfoldable pub taken_of : List NamedBucket → Files → BytesTaken
 taken_of [] fs = all_taken [] fs
 taken_of (b ∷ bs) fs = if is_eos b then all_taken [] fs else followed_by (content_taken b.bucket.content fs) (taken_of bs)

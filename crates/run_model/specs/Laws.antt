@@ -9,9 +9,9 @@ use Rattle.run_model.specs.declared.bucket.Bucket.{Bucket}
 use Rattle.run_model.specs.declared.bucket.Content.{Content}
 use Rattle.run_model.specs.declared.bucket.Content.TheVariants as content
 use Rattle.run_model.specs.declared.bucket.Mark.TheVariants.{Passed}
-use Rattle.run_model.specs.declared.bucket.Named.{Named}
-use Rattle.run_model.specs.declared.bucket.Var.{Var}
-use Rattle.run_model.specs.declared.bucket.Var.TheVariants as var
+use Rattle.run_model.specs.declared.bucket.NamedBucket.{NamedBucket}
+use Rattle.run_model.specs.declared.bucket.BrigadeVar.{BrigadeVar}
+use Rattle.run_model.specs.declared.bucket.BrigadeVar.TheVariants as var
 use Rattle.run_model.specs.declared.fault.FaultKind.{FaultKind}
 use Rattle.run_model.specs.declared.fault.FaultKind.TheVariants as fault_kind
 use Rattle.run_model.specs.declared.event.Piece.{Piece}
@@ -25,13 +25,13 @@ use Rattle.run_model.specs.declared.event.Stepped.{Stepped}
 use Rattle.run_model.specs.declared.event.Stepped.TheVariants as stepped
 use Rattle.run_model.specs.Buckets.{has_eos, data_after_eos, is_dead}
 use Rattle.run_model.specs.Files.{Files, all_taken, range_taken, parts_of, is_referred}
-use Rattle.run_model.specs.Cutting.{wanted, read_of}
-use Rattle.run_model.specs.State.{Run, Out, fresh_call, items_of}
+use Rattle.run_model.specs.Cutting.{FitsKind, wanted, read_of}
+use Rattle.run_model.specs.State.{Configuration, Out, fresh_call, items_of}
 use Rattle.run_model.specs.Faults.{WUsable, brigade_fault, fault_want, fault, send_fault, or_else}
 use Rattle.run_model.specs.Steps.{Choice, step, step_at_end, current, aside_named, delivered, lacks_names, names_of, pool_cleared, pool_destroyed}
 use Rattle.run_model.specs.Connection.{Connection, opened, bucket_of, named_from, data_behind_eos, has_range, brings, breaks, steps}
 use Rattle.run_model.specs.Runs.{Answer, Refused, Step, World, Before, There, Closed, happens, IsDue, step_of, IsRun, GoesOn, EndsRun}
-use Rattle.run_model.specs.Sound.{SoundNames, SoundBuckets, SoundPools, Sound, brigade_name, brigade_pool, is_range, is_proper}
+use Rattle.run_model.specs.Sound.{SoundNames, SoundBuckets, SoundPools, Sound, brigade_name, brigade_pool}
 use Rattle.run_model.specs.declared.bucket.Kind.TheVariants as kind
 use Rattle.run_model.specs.declared.bucket.Home.{Home}
 use Rattle.run_model.specs.declared.bucket.Home.TheVariants as home
@@ -45,7 +45,7 @@ use Rattle.run_model.specs.Clearing.{is_reached}
 use Rattle.run_model.specs.Steps.{label_registered, label_killed}
 
 -- An instruction of a module may be executed: it has no fault, and the names that it gives out are there.
-pub record MayExecute (p : Program) (r : Run) (i : Instr) : Type 0 where
+pub record MayExecute (p : Program) (r : Configuration) (i : Instr) : Type 0 where
   pub proper : IsModule p
   pub fit : fits p i ≡ true
   pub faultless : fault p r i ≡ None
@@ -53,28 +53,28 @@ pub record MayExecute (p : Program) (r : Run) (i : Instr) : Type 0 where
 
 -- A step without a fault keeps each name one bucket's, and new names new.
 abbrev pub StepKeepsNames : Type 0
-StepKeepsNames = (p : Program) (choice : Choice) (i : Instr) (r : Run) → MayExecute p r i → SoundNames r → SoundNames (step p choice i r).run
+StepKeepsNames = (p : Program) (choice : Choice) (i : Instr) (r : Configuration) → MayExecute p r i → SoundNames r → SoundNames (step p choice i r).state
 
 -- It keeps each bucket's home and content as its kind has them.
 abbrev pub StepKeepsBuckets : Type 0
-StepKeepsBuckets = (p : Program) (choice : Choice) (i : Instr) (r : Run) → MayExecute p r i → SoundBuckets r → SoundBuckets (step p choice i r).run
+StepKeepsBuckets = (p : Program) (choice : Choice) (i : Instr) (r : Configuration) → MayExecute p r i → SoundBuckets r → SoundBuckets (step p choice i r).state
 
 -- It keeps each brigade on a live pool.
 abbrev pub StepKeepsPools : Type 0
-StepKeepsPools = (p : Program) (choice : Choice) (i : Instr) (r : Run) → MayExecute p r i → SoundPools r → SoundPools (step p choice i r).run
+StepKeepsPools = (p : Program) (choice : Choice) (i : Instr) (r : Configuration) → MayExecute p r i → SoundPools r → SoundPools (step p choice i r).state
 
 -- The same of the last filter's steps.
 abbrev pub StepAtEndKeeps : Type 0
-StepAtEndKeeps = (p : Program) (i : Instr) (r : Run) → MayExecute p r i → Sound r → Sound (step_at_end p i r).run
+StepAtEndKeeps = (p : Program) (i : Instr) (r : Configuration) → MayExecute p r i → Sound r → Sound (step_at_end p i r).state
 
 -- A connection that has just been opened is sound.
 abbrev pub OpenedIsSound : Type 0
-OpenedIsSound = (fs : Files) → Sound (opened fs).run
+OpenedIsSound = (fs : Files) → Sound (opened fs).state
 
 -- what is true of a connection, where it is there
 abbrev pub SoundWorld : World → Type 0
 SoundWorld (Before fs) = Unit {0}
-SoundWorld (There c) = Sound c.run
+SoundWorld (There c) = Sound c.state
 SoundWorld (Closed pools fs) = Unit {0}
 
 -- Each event keeps it, and so it is true of each world that a run reaches.
@@ -148,11 +148,11 @@ changes_pools i = is_clear i
 -- What an instruction does not name is as before: other brigades, pool variables and numbers, and but for a pass or a
 -- return also whether an EOS was passed, and the call. Pools change by their own instructions and by a save; labels are
 -- run and files closed by clears alone; else only names are given out.
-pub record ChangesOnly (i : Instr) (r new : Run) : Type 0 where
-  pub brigades : (k : ℕ) → may_change i k ≡ false → new.inst.brigs k ≡ r.inst.brigs k
-  pub pools : (k : ℕ) → may_change_pool i k ≡ false → new.inst.pools k ≡ r.inst.pools k
-  pub numbers : (k : ℕ) → may_change_number i k ≡ false → new.inst.numbers k ≡ r.inst.numbers k
-  pub sent : is_pass i ≡ false → new.inst.sent ≡ r.inst.sent
+pub record ChangesOnly (i : Instr) (r new : Configuration) : Type 0 where
+  pub brigades : (k : ℕ) → may_change i k ≡ false → new.instance.brigades k ≡ r.instance.brigades k
+  pub pools : (k : ℕ) → may_change_pool i k ≡ false → new.instance.pools k ≡ r.instance.pools k
+  pub numbers : (k : ℕ) → may_change_number i k ≡ false → new.instance.numbers k ≡ r.instance.numbers k
+  pub sent : is_pass i ≡ false → new.instance.sent ≡ r.instance.sent
   pub call : is_return i ≡ false → is_clear i ≡ false → fills i ≡ false → new.call ≡ r.call
   pub filled : fills i ≡ true → new.call ≡ record r.call { buffer = new.call.buffer }
   pub tree : changes_pools i ≡ false → new.shared.pools ≡ r.shared.pools
@@ -164,7 +164,7 @@ pub record ChangesOnly (i : Instr) (r new : Run) : Type 0 where
   pub output : new.out ≡ r.out
 
 abbrev pub StepChangesOnly : Type 0
-StepChangesOnly = (p : Program) (choice : Choice) (i : Instr) (r : Run) → ChangesOnly i r (step p choice i r).run
+StepChangesOnly = (p : Program) (choice : Choice) (i : Instr) (r : Configuration) → ChangesOnly i r (step p choice i r).state
 
 -- A refused event changes nothing, but that a step that is refused while its call runs leaves the connection broken, by
 -- the cause that it names.
@@ -199,9 +199,9 @@ BrokenStaysBroken = (memory : Bool) (budget : ℕ) (p : Program) (e : Event) (c 
 -- A connection is orderly: a call that runs is at an instruction of the module; between calls there is no brought
 -- brigade, no cursor and no loose bucket; no more instructions were executed than the budget gives.
 pub record IsOrderly (budget : ℕ) (p : Program) (c : Connection) : Type 0 where
-  pub placed : c.busy ≡ true → c.run.pc < length p.code
-  pub nothing_brought : c.busy ≡ false → c.run.inst.brigs 8 ≡ var.Null
-  pub no_call : c.busy ≡ false → c.run.call ≡ fresh_call 0
+  pub placed : c.busy ≡ true → c.state.pc < length p.code
+  pub nothing_brought : c.busy ≡ false → c.state.instance.brigades 8 ≡ var.Null
+  pub no_call : c.busy ≡ false → c.state.call ≡ fresh_call 0
   pub spent : c.count ≤ budget
 
 abbrev pub OrderlyWorld : ℕ → Program → World → Type 0
@@ -221,21 +221,21 @@ BucketsAsPieces = (call req n : ℕ) (pieces : List Piece) → data_after_eos (n
 
 -- Such pieces are refused, where the connection is not broken, no call runs and a request is open.
 abbrev pub LateDataIsRefused : Type 0
-LateDataIsRefused = (memory : Bool) (p : Program) (pieces : List Piece) (c : Connection) (req : ℕ) → c.broken ≡ None → c.busy ≡ false → c.run.shared.req ≡ Some req → data_behind_eos pieces ≡ true
+LateDataIsRefused = (memory : Bool) (p : Program) (pieces : List Piece) (c : Connection) (req : ℕ) → c.broken ≡ None → c.busy ≡ false → c.state.shared.req ≡ Some req → data_behind_eos pieces ≡ true
     → brings memory p pieces c ≡ (Some refusal.DataAfterEos, c)
 
 -- No data stands behind an EOS of a brigade that was brought.
 abbrev pub BroughtEndsOnce : Type 0
-BroughtEndsOnce = (memory : Bool) (p : Program) (pieces : List Piece) (c new : Connection) → brings memory p pieces c ≡ (None, new) → data_after_eos (items_of (new.run.inst.brigs 8)) ≡ false
+BroughtEndsOnce = (memory : Bool) (p : Program) (pieces : List Piece) (c new : Connection) → brings memory p pieces c ≡ (None, new) → data_after_eos (items_of (new.state.instance.brigades 8)) ≡ false
 
 -- However a body is cut: brigades that are passed one after the other reach the output as they would in one, where no
 -- read failed in the first, and have the fault of data after an EOS where they would have it in one.
 abbrev pub OutputOfCuts : Type 0
-OutputOfCuts = (out : Out) (xs ys : List Named) (fs : Files) → (delivered out xs fs).well ≡ true
+OutputOfCuts = (out : Out) (xs ys : List NamedBucket) (fs : Files) → (delivered out xs fs).well ≡ true
     → delivered (delivered out xs fs).out ys (delivered out xs fs).files ≡ delivered out (xs ++ ys) fs
 
 abbrev pub FaultOfCuts : Type 0
-FaultOfCuts = (sent : Bool) (xs ys : List Named) → or_else (send_fault sent xs) (send_fault (sent || has_eos xs) ys) ≡ send_fault sent (xs ++ ys)
+FaultOfCuts = (sent : Bool) (xs ys : List NamedBucket) → or_else (send_fault sent xs) (send_fault (sent || has_eos xs) ys) ≡ send_fault sent (xs ++ ys)
 
 -- Steps that went are a run, and so are they with the step at which they end.
 abbrev pub StepsAreARun : Type 0
@@ -255,30 +255,30 @@ uses (instr.JEmpty c l) b = c == b
 uses i b = false
 
 -- A variable holds a brigade that was passed.
-abbrev pub HoldsPassed : Var → Type 0
+abbrev pub HoldsPassed : BrigadeVar → Type 0
 HoldsPassed var.Null = ⊥
 HoldsPassed var.Gone = ⊥
 HoldsPassed (var.Live v) = v.mark ≡ Passed
 
 -- The same brigade is still in the variable and passed, or it is gone.
-abbrev pub StaysPassed : Var → Var → Type 0
+abbrev pub StaysPassed : BrigadeVar → BrigadeVar → Type 0
 StaysPassed old var.Null = ⊥
 StaysPassed old var.Gone = Unit {0}
 StaysPassed old (var.Live v) = (brigade_name old ≡ Some v.name) × (v.mark ≡ Passed)
 
 -- After a pass without a fault its variable holds the same brigade, which was passed.
 abbrev pub PassesMark : Type 0
-PassesMark = (p : Program) (choice : Choice) (b l : ℕ) (r : Run) → fault p r (instr.Pass b l) ≡ None
-    → HoldsPassed ((step p choice (instr.Pass b l) r).run.inst.brigs b) × (brigade_name ((step p choice (instr.Pass b l) r).run.inst.brigs b) ≡ brigade_name (r.inst.brigs b))
+PassesMark = (p : Program) (choice : Choice) (b l : ℕ) (r : Configuration) → fault p r (instr.Pass b l) ≡ None
+    → HoldsPassed ((step p choice (instr.Pass b l) r).state.instance.brigades b) × (brigade_name ((step p choice (instr.Pass b l) r).state.instance.brigades b) ≡ brigade_name (r.instance.brigades b))
 
 -- An instruction that uses a brigade that was passed has the fault F7, or F2 where a brigade that it uses is null or dead.
 abbrev pub PassedIsNotUsed : Type 0
-PassedIsNotUsed = (p : Program) (b : ℕ) (r : Run) (i : Instr) → uses i b ≡ true → HoldsPassed (r.inst.brigs b)
-    → (fault p r i ≡ Some fault_kind.F7) ⊎ ((fault p r i ≡ Some fault_kind.F2) × (c : ℕ) × (uses i c ≡ true) × (brigade_fault (r.inst.brigs c) ≡ Some fault_kind.F2))
+PassedIsNotUsed = (p : Program) (b : ℕ) (r : Configuration) (i : Instr) → uses i b ≡ true → HoldsPassed (r.instance.brigades b)
+    → (fault p r i ≡ Some fault_kind.F7) ⊎ ((fault p r i ≡ Some fault_kind.F2) × (c : ℕ) × (uses i c ≡ true) × (brigade_fault (r.instance.brigades c) ≡ Some fault_kind.F2))
 
 -- So after a pass no instruction that uses the brigade goes on.
 abbrev pub UseAfterPassFaults : Type 0
-UseAfterPassFaults = (p : Program) (choice : Choice) (b l : ℕ) (r : Run) (i : Instr) → uses i b ≡ true → fault p (step p choice (instr.Pass b l) r).run i ≡ None → ⊥
+UseAfterPassFaults = (p : Program) (choice : Choice) (b l : ℕ) (r : Configuration) (i : Instr) → uses i b ≡ true → fault p (step p choice (instr.Pass b l) r).state i ≡ None → ⊥
 
 -- whether an instruction lets go of a passed brigade: a clean of it, and of `in` a return
 abbrev pub lets_go : Instr → ℕ → Bool
@@ -288,33 +288,33 @@ lets_go i b = false
 
 -- Each other step without a fault leaves it passed, or it is gone.
 abbrev pub StepKeepsPassed : Type 0
-StepKeepsPassed = (p : Program) (choice : Choice) (i : Instr) (b : ℕ) (r : Run) → fault p r i ≡ None → lets_go i b ≡ false → HoldsPassed (r.inst.brigs b)
-    → StaysPassed (r.inst.brigs b) ((step p choice i r).run.inst.brigs b)
+StepKeepsPassed = (p : Program) (choice : Choice) (i : Instr) (b : ℕ) (r : Configuration) → fault p r i ≡ None → lets_go i b ≡ false → HoldsPassed (r.instance.brigades b)
+    → StaysPassed (r.instance.brigades b) ((step p choice i r).state.instance.brigades b)
 
 -- A return ends `in`.
 abbrev pub ReturnEndsIn : Type 0
-ReturnEndsIn = (p : Program) (choice : Choice) (s : Status) (r : Run) → (step p choice (instr.Ret s) r).run.inst.brigs 8 ≡ var.Null
+ReturnEndsIn = (p : Program) (choice : Choice) (s : Status) (r : Configuration) → (step p choice (instr.Ret s) r).state.instance.brigades 8 ≡ var.Null
 
 -- whether an event lets go of it: a step whose instruction does
 abbrev pub event_lets_go : Program → Connection → Event → ℕ → Bool
-event_lets_go p c event.Step b = lets_go (current p c.run.pc) b
+event_lets_go p c event.Step b = lets_go (current p c.state.pc) b
 event_lets_go p c e b = false
 
 -- the same of a variable in a world, in which the connection may be closed
-abbrev pub StaysPassedIn : Var → ℕ → World → Type 0
+abbrev pub StaysPassedIn : BrigadeVar → ℕ → World → Type 0
 StaysPassedIn old b (Before fs) = ⊥
-StaysPassedIn old b (There c) = StaysPassed old (c.run.inst.brigs b)
+StaysPassedIn old b (There c) = StaysPassed old (c.state.instance.brigades b)
 StaysPassedIn old b (Closed pools fs) = Unit {0}
 
 -- Each other event of an orderly connection leaves it passed, or it is gone; or the connection is closed.
 abbrev pub EventKeepsPassed : Type 0
-EventKeepsPassed = (memory : Bool) (budget : ℕ) (p : Program) (e : Event) (b : ℕ) (c : Connection) → IsOrderly budget p c → event_lets_go p c e b ≡ false → HoldsPassed (c.run.inst.brigs b)
-    → StaysPassedIn (c.run.inst.brigs b) b (happens memory budget p e (There c)).1
+EventKeepsPassed = (memory : Bool) (budget : ℕ) (p : Program) (e : Event) (b : ℕ) (c : Connection) → IsOrderly budget p c → event_lets_go p c e b ≡ false → HoldsPassed (c.state.instance.brigades b)
+    → StaysPassedIn (c.state.instance.brigades b) b (happens memory budget p e (There c)).1
 
 -- A brigade that was cleaned is usable and empty.
 abbrev pub CleanedIsUsable : Type 0
-CleanedIsUsable = (p : Program) (choice : Choice) (b : ℕ) (r : Run) → fault p r (instr.BClean b) ≡ None
-    → (fault_want (step p choice (instr.BClean b) r).run (WUsable b) ≡ None) × (items_of ((step p choice (instr.BClean b) r).run.inst.brigs b) ≡ [])
+CleanedIsUsable = (p : Program) (choice : Choice) (b : ℕ) (r : Configuration) → fault p r (instr.BClean b) ≡ None
+    → (fault_want (step p choice (instr.BClean b) r).state (WUsable b) ≡ None) × (items_of ((step p choice (instr.BClean b) r).state.instance.brigades b) ≡ [])
 
 -- Where a pool is made under a parent: its name was no pool's, it has nothing to hand on, and the others are as they were.
 pub record CreateKeeps {T : Type 0} (parent : ℕ) (ps new : Pools T) : Type 0 where
@@ -330,7 +330,7 @@ CreatesKeepOthers = (parent : ℕ) (ps : Pools Payload) → IsPoolMap ps → Cre
 
 -- A label that is registered and then killed leaves all payloads as they were, also where the same label was there before.
 abbrev pub KillsTheNewest : Type 0
-KillsTheNewest = (n m : ℕ) (text : List ℕ) (r : Run) → (label_killed text n (label_registered text n r)).shared.pools.payloads m ≡ r.shared.pools.payloads m
+KillsTheNewest = (n m : ℕ) (text : List ℕ) (r : Configuration) → (label_killed text n (label_registered text n r)).shared.pools.payloads m ≡ r.shared.pools.payloads m
 
 -- What a kill of a label leaves in the pools. newest: of the payloads of its pool that are this label, the one that was
 -- registered last goes, and no other payload. none: where there is none, all stay. others: other pools keep theirs. path,
@@ -343,7 +343,7 @@ pub record KillKeeps (n : ℕ) (text : List ℕ) (old new : Pools Payload) : Typ
   pub names : new.next ≡ old.next
 
 abbrev pub KillsOneLabel : Type 0
-KillsOneLabel = (n : ℕ) (text : List ℕ) (r : Run) → KillKeeps n text r.shared.pools (label_killed text n r).shared.pools
+KillsOneLabel = (n : ℕ) (text : List ℕ) (r : Configuration) → KillKeeps n text r.shared.pools (label_killed text n r).shared.pools
 
 -- In the run order of a pool p each payload of p and of the pools under it stands once: of each such pool there are its
 -- payloads, the last first, and of no other pool is there any.
@@ -377,17 +377,17 @@ abbrev pub ClearsKeepOthers : Type 0
 ClearsKeepOthers = (n : ℕ) (ps : Pools Payload) → IsPoolMap ps → ClearKeeps n ps (cleared n ps) × DestroyKeeps n ps (destroyed n ps)
 
 -- whether a variable holds a brigade on the pool n or on one under it
-abbrev pub lies_under : Run → ℕ → Var → Bool
+abbrev pub lies_under : Configuration → ℕ → BrigadeVar → Bool
 lies_under r n v = is_reached (is_under r.shared.pools n) (brigade_pool v)
 
 -- A bucket has neither its home nor its bytes in the pool n or in one under it.
-abbrev pub StandsApart : Run → ℕ → Named → Type 0
+abbrev pub StandsApart : Configuration → ℕ → NamedBucket → Type 0
 StandsApart r n x = (m : ℕ) → is_under r.shared.pools n m ≡ true → (x.bucket.home ≢ home.Pool m) × (x.bucket.kind ≢ kind.Pool m)
 
 -- What a clear of the pool n makes of one bucket. name, content: it keeps both. same: where it stands apart it is the same
 -- bucket. same_kind, same_home: each of kind and home is as it was, unless it is a pool there. heap: a POOL bucket of a pool
 -- there is HEAP. ended: a home there has ended.
-pub record LeavesBucket (r : Run) (n : ℕ) (old new : Named) : Type 0 where
+pub record LeavesBucket (r : Configuration) (n : ℕ) (old new : NamedBucket) : Type 0 where
   pub name : new.name ≡ old.name
   pub content : new.bucket.content ≡ old.bucket.content
   pub same : StandsApart r n old → new ≡ old
@@ -397,13 +397,13 @@ pub record LeavesBucket (r : Run) (n : ℕ) (old new : Named) : Type 0 where
   pub ended : (m : ℕ) → is_under r.shared.pools n m ≡ true → old.bucket.home ≡ home.Pool m → new.bucket.home ≡ home.Ended
 
 -- What it makes of a brigade that does not go: its name, its pool and its mark stay, and so do the places of its buckets.
-pub record LeavesBrigade (r : Run) (n : ℕ) (old new : Brigade) : Type 0 where
+pub record LeavesBrigade (r : Configuration) (n : ℕ) (old new : Brigade) : Type 0 where
   pub name : new.name ≡ old.name
   pub on : new.on ≡ old.on
   pub mark : new.mark ≡ old.mark
   pub items : AllZip (LeavesBucket r n) old.items new.items
 
-abbrev pub LeavesVar : Run → ℕ → Var → Var → Type 0
+abbrev pub LeavesVar : Configuration → ℕ → BrigadeVar → BrigadeVar → Type 0
 LeavesVar r n var.Null new = new ≡ var.Null
 LeavesVar r n var.Gone new = new ≡ var.Gone
 LeavesVar r n (var.Live v) new = (w : Brigade) × (new ≡ var.Live w) × LeavesBrigade r n v w
@@ -412,17 +412,17 @@ LeavesVar r n (var.Live v) new = (w : Brigade) × (new ≡ var.Live w) × Leaves
 -- no bucket that is left depends on what went, and loose ones are left as above. others: a brigade that did not depend on it
 -- is as it was. call: a call keeps all but its loose buckets. labels: they are run in the run order, behind those that were
 -- run before.
-pub record TakesAlong (n : ℕ) (r new : Run) : Type 0 where
-  pub gone : (b : ℕ) → lies_under r n (r.inst.brigs b) ≡ true → new.inst.brigs b ≡ var.Gone
-  pub kept : (b : ℕ) → lies_under r n (r.inst.brigs b) ≡ false → LeavesVar r n (r.inst.brigs b) (new.inst.brigs b)
-  pub apart : (b : ℕ) → All (StandsApart r n) (items_of (new.inst.brigs b))
-  pub others : (b : ℕ) → lies_under r n (r.inst.brigs b) ≡ false → All (StandsApart r n) (items_of (r.inst.brigs b)) → new.inst.brigs b ≡ r.inst.brigs b
+pub record TakesAlong (n : ℕ) (r new : Configuration) : Type 0 where
+  pub gone : (b : ℕ) → lies_under r n (r.instance.brigades b) ≡ true → new.instance.brigades b ≡ var.Gone
+  pub kept : (b : ℕ) → lies_under r n (r.instance.brigades b) ≡ false → LeavesVar r n (r.instance.brigades b) (new.instance.brigades b)
+  pub apart : (b : ℕ) → All (StandsApart r n) (items_of (new.instance.brigades b))
+  pub others : (b : ℕ) → lies_under r n (r.instance.brigades b) ≡ false → All (StandsApart r n) (items_of (r.instance.brigades b)) → new.instance.brigades b ≡ r.instance.brigades b
   pub loose : All (StandsApart r n) new.call.loose × AllZip (LeavesBucket r n) r.call.loose new.call.loose
   pub call : new.call ≡ record r.call { loose = new.call.loose }
   pub labels : new.shared.labels ≡ r.shared.labels ++ labels_in (run_order r.shared.pools n)
 
 abbrev pub ClearsTakeAlong : Type 0
-ClearsTakeAlong = (n : ℕ) (r : Run) → TakesAlong n r (pool_cleared n r) × TakesAlong n r (pool_destroyed n r)
+ClearsTakeAlong = (n : ℕ) (r : Configuration) → TakesAlong n r (pool_cleared n r) × TakesAlong n r (pool_destroyed n r)
 
 -- what is said of a home that is a call, and of one that is a pool
 abbrev pub MatchHome : Home → (ℕ → Type 0) → (ℕ → Type 0) → Type 0
@@ -434,7 +434,7 @@ MatchHome home.Ended C P = Unit {0}
 -- What setting aside into the pool `target` makes of a bucket. lasts: it depends on no call, and on no pool but the target
 -- and those above it. alive: its home has not ended. there: where the target is live, so is the pool that is its home. name,
 -- content: it is the same bucket with the same bytes.
-pub record KeptAside (ps : Pools Payload) (target : ℕ) (old new : Named) : Type 0 where
+pub record KeptAside (ps : Pools Payload) (target : ℕ) (old new : NamedBucket) : Type 0 where
   pub lasts : MatchHome new.bucket.home (λ call. ⊥) (λ p. (p ≡ target) ⊎ (is_under ps p target ≡ true))
   pub alive : is_dead new ≡ false
   pub there : IsPoolMap ps → is_live ps target ≡ true → MatchHome new.bucket.home (λ call. ⊥) (λ p. is_live ps p ≡ true)
@@ -442,7 +442,7 @@ pub record KeptAside (ps : Pools Payload) (target : ℕ) (old new : Named) : Typ
   pub content : new.bucket.content ≡ old.bucket.content
 
 abbrev pub AsideLasts : Type 0
-AsideLasts = (ps : Pools Payload) (target : ℕ) (x : Named) → is_proper x ≡ true → is_dead x ≡ false → KeptAside ps target x (aside_named ps target x)
+AsideLasts = (ps : Pools Payload) (target : ℕ) (x : NamedBucket) → FitsKind x.bucket → is_dead x ≡ false → KeptAside ps target x (aside_named ps target x)
 
 -- Where no read fails, all bytes of a range are taken from the file.
 abbrev pub ReadsGiveTheFile : Type 0
@@ -463,6 +463,11 @@ bytes_of_rest file (Some b) = bytes_in file b.content
 abbrev pub bytes_read : List ℕ → Bucket → List ℕ
 bytes_read file b = take (wanted b.content) (bytes_in file b.content)
 
+abbrev pub is_range : Content → Bool
+is_range (content.Bytes bs) = false
+is_range (content.Range file start len) = true
+is_range content.Nothing = false
+
 -- A read leaves the bucket in memory, and drops no byte: its bytes and those of the rest are what it stood for.
 abbrev pub ReadsDropNothing : Type 0
 ReadsDropNothing = (file : List ℕ) (b : Bucket)
@@ -470,12 +475,12 @@ ReadsDropNothing = (file : List ℕ) (b : Bucket)
     × (bytes_in file (read_of (bytes_read file b) b).0.content ++ bytes_of_rest file (read_of (bytes_read file b) b).1 ≡ bytes_in file b.content)
 
 -- whether a clear of the pool n hands on a reference to the file
-abbrev pub hands_on : Run → ℕ → ℕ → Bool
+abbrev pub hands_on : Configuration → ℕ → ℕ → Bool
 hands_on r n file = list_any (λ x. is_file_ref file x.1) (run_order r.shared.pools n)
 
 -- What becomes of the open files where the pool n goes. closes: a file closes where a reference to it goes and none is left.
 -- stays, apart: it is as it was where one is left, and where none goes. named, numbers: files by name stay, and no number is given.
-pub record FilesGo (n : ℕ) (r new : Run) : Type 0 where
+pub record FilesGo (n : ℕ) (r new : Configuration) : Type 0 where
   pub closes : (file : ℕ) → hands_on r n file ≡ true → is_referred new.shared.pools file ≡ false → new.shared.files.opened file ≡ None
   pub stays : (file : ℕ) → is_referred new.shared.pools file ≡ true → new.shared.files.opened file ≡ r.shared.files.opened file
   pub apart : (file : ℕ) → hands_on r n file ≡ false → new.shared.files.opened file ≡ r.shared.files.opened file
@@ -483,31 +488,31 @@ pub record FilesGo (n : ℕ) (r new : Run) : Type 0 where
   pub numbers : new.shared.files.next ≡ r.shared.files.next
 
 abbrev pub FilesCloseLast : Type 0
-FilesCloseLast = (n : ℕ) (r : Run) → FilesGo n r (pool_cleared n r) × FilesGo n r (pool_destroyed n r)
+FilesCloseLast = (n : ℕ) (r : Configuration) → FilesGo n r (pool_cleared n r) × FilesGo n r (pool_destroyed n r)
 
 -- whether the pool p holds a reference to the file
 abbrev pub refers : Pools Payload → ℕ → ℕ → Bool
 refers ps p file = list_any (is_file_ref file) (ps.payloads p)
 
 -- The pool that is the home of a range of a file holds a reference to that file.
-abbrev pub IsHeld : Pools Payload → Named → Type 0
+abbrev pub IsHeld : Pools Payload → NamedBucket → Type 0
 IsHeld ps x = (file start len p : ℕ) → x.bucket.content ≡ content.Range file start len → x.bucket.home ≡ home.Pool p → refers ps p file ≡ true
 
 -- Files, where these were opened in the request. lasts: a file is open as long as a pool holds a reference to it. brigades,
 -- loose: a FILE bucket whose home is alive has such a reference in that home. request: so have the request's files in its pool.
-pub record SoundFiles (files : List (ℕ × ℕ)) (r : Run) : Type 0 where
+pub record SoundFiles (files : List (ℕ × ℕ)) (r : Configuration) : Type 0 where
   pub lasts : (p file : ℕ) → refers r.shared.pools p file ≡ true → is_some (r.shared.files.opened file) ≡ true
-  pub brigades : (b : ℕ) → All (IsHeld r.shared.pools) (items_of (r.inst.brigs b))
+  pub brigades : (b : ℕ) → All (IsHeld r.shared.pools) (items_of (r.instance.brigades b))
   pub loose : All (IsHeld r.shared.pools) r.call.loose
   pub request : (file end req : ℕ) → has_range files file end ≡ true → r.shared.req ≡ Some req → refers r.shared.pools req file ≡ true
 
 -- A step without a fault keeps all that.
 abbrev pub StepKeepsFiles : Type 0
-StepKeepsFiles = (p : Program) (choice : Choice) (i : Instr) (files : List (ℕ × ℕ)) (r : Run) → MayExecute p r i → Sound r → SoundFiles files r → SoundFiles files (step p choice i r).run
+StepKeepsFiles = (p : Program) (choice : Choice) (i : Instr) (files : List (ℕ × ℕ)) (r : Configuration) → MayExecute p r i → Sound r → SoundFiles files r → SoundFiles files (step p choice i r).state
 
 abbrev pub FilesWorld : World → Type 0
 FilesWorld (Before fs) = Unit {0}
-FilesWorld (There c) = SoundFiles c.files c.run
+FilesWorld (There c) = SoundFiles c.files c.state
 FilesWorld (Closed pools fs) = Unit {0}
 
 -- Each event keeps it, and so it is true of each world that a run reaches.

@@ -4,10 +4,10 @@ use Rattle.module_lang.specs.declared.instr.Instr.{Instr}
 use Rattle.module_lang.specs.Program.{Program, IsModule, fits}
 use Rattle.run_model.specs.declared.bucket.Content.TheVariants as content
 use Rattle.run_model.specs.declared.bucket.Home.TheVariants as home
-use Rattle.run_model.specs.declared.bucket.Named.{Named}
+use Rattle.run_model.specs.declared.bucket.NamedBucket.{NamedBucket}
 use Rattle.run_model.specs.declared.event.Event.{Event}
 use Rattle.run_model.specs.Files.{Files}
-use Rattle.run_model.specs.State.{Run, items_of}
+use Rattle.run_model.specs.State.{Configuration, items_of}
 use Rattle.run_model.specs.Steps.{Choice, step}
 use Rattle.run_model.specs.Connection.{opened}
 use Rattle.run_model.specs.Runs.{Answer, World, Before, There, Closed, happens, IsRun}
@@ -16,22 +16,22 @@ use Rattle.run_model.specs.Laws.{MayExecute, SoundWorld, refers, SoundFiles, Fil
 
 -- Numbers, and the buffer of a call. numbers: each number is below 2^32. bytes: what is in the buffer are bytes. size: there
 -- are no more of them than the buffer holds.
-pub record InRange (r : Run) : Type 0 where
-  pub numbers : (n : ℕ) → r.inst.numbers n ≤ 4294967295
+pub record InRange (r : Configuration) : Type 0 where
+  pub numbers : (n : ℕ) → r.instance.numbers n ≤ 4294967295
   pub bytes : All (λ b. b ≤ 255) r.call.buffer
   pub size : length r.call.buffer ≤ 8000
 
 -- A connection that has just been opened is so.
 abbrev pub OpenedInRange : Type 0
-OpenedInRange = (fs : Files) → InRange (opened fs).run
+OpenedInRange = (fs : Files) → InRange (opened fs).state
 
 -- A step of an instruction that fits its module keeps it.
 abbrev pub StepKeepsInRange : Type 0
-StepKeepsInRange = (p : Program) (choice : Choice) (i : Instr) (r : Run) → fits p i ≡ true → InRange r → InRange (step p choice i r).run
+StepKeepsInRange = (p : Program) (choice : Choice) (i : Instr) (r : Configuration) → fits p i ≡ true → InRange r → InRange (step p choice i r).state
 
 abbrev pub InRangeWorld : World → Type 0
 InRangeWorld (Before fs) = Unit {0}
-InRangeWorld (There c) = InRange c.run
+InRangeWorld (There c) = InRange c.state
 InRangeWorld (Closed pools fs) = Unit {0}
 
 -- Each event keeps it, and so it is true of each world that a run reaches.
@@ -46,7 +46,7 @@ abbrev pub Reaches : Files → ℕ → ℕ → Type 0
 Reaches fs file end = (bytes : List ℕ) × (fs.opened file ≡ Some bytes) × (end ≤ length bytes)
 
 -- A range whose home is a pool lies in its file, which is open.
-abbrev pub LiesInFile : Files → Named → Type 0
+abbrev pub LiesInFile : Files → NamedBucket → Type 0
 LiesInFile fs x = (file start len p : ℕ) → x.bucket.content ≡ content.Range file start len → x.bucket.home ≡ home.Pool p → Reaches fs file (start + len)
 
 -- A file that is told with a length is open, and has it.
@@ -56,20 +56,20 @@ HasLength fs f = (bytes : List ℕ) × (fs.opened f.0 ≡ Some bytes) × (f.1 �
 -- Ranges, where these files were opened in the request. brigades, loose: each range whose home is alive lies in its file.
 -- told: the request's files have the lengths that were told. given: a file of which a pool holds a reference has a number
 -- that was given.
-pub record SoundRanges (files : List (ℕ × ℕ)) (r : Run) : Type 0 where
-  pub brigades : (b : ℕ) → All (LiesInFile r.shared.files) (items_of (r.inst.brigs b))
+pub record SoundRanges (files : List (ℕ × ℕ)) (r : Configuration) : Type 0 where
+  pub brigades : (b : ℕ) → All (LiesInFile r.shared.files) (items_of (r.instance.brigades b))
   pub loose : All (LiesInFile r.shared.files) r.call.loose
   pub told : (req : ℕ) → r.shared.req ≡ Some req → All (HasLength r.shared.files) files
   pub given : (p file : ℕ) → refers r.shared.pools p file ≡ true → file < r.shared.files.next
 
 -- A step without a fault keeps all that.
 abbrev pub StepKeepsRanges : Type 0
-StepKeepsRanges = (p : Program) (choice : Choice) (i : Instr) (files : List (ℕ × ℕ)) (r : Run)
-    → MayExecute p r i → Sound r → SoundFiles files r → SoundRanges files r → SoundRanges files (step p choice i r).run
+StepKeepsRanges = (p : Program) (choice : Choice) (i : Instr) (files : List (ℕ × ℕ)) (r : Configuration)
+    → MayExecute p r i → Sound r → SoundFiles files r → SoundRanges files r → SoundRanges files (step p choice i r).state
 
 abbrev pub RangesWorld : World → Type 0
 RangesWorld (Before fs) = Unit {0}
-RangesWorld (There c) = SoundRanges c.files c.run
+RangesWorld (There c) = SoundRanges c.files c.state
 RangesWorld (Closed pools fs) = Unit {0}
 
 -- Each event keeps it, and so it is true of each world that a run reaches.

@@ -46,18 +46,18 @@ step_of (Err r, c) = (Refused r, There c)
 -- the pools of a world; before the connection is opened the root 1 is there alone
 abbrev pub pools_of : World → Pools Payload
 pools_of (Before fs) = planted 1
-pools_of (There c) = c.run.shared.pools
+pools_of (There c) = c.state.shared.pools
 pools_of (Closed pools fs) = pools
 
 -- a file is added
 abbrev pub with_file : List ℕ → List ℕ → World → World
 with_file name bytes (Before fs) = Before (file_added name bytes fs)
-with_file name bytes (There c) = There (record c { run = record c.run { shared = record c.run.shared { files = file_added name bytes c.run.shared.files } } })
+with_file name bytes (There c) = There (record c { state = record c.state { shared = record c.state.shared { files = file_added name bytes c.state.shared.files } } })
 with_file name bytes (Closed pools fs) = Closed pools (file_added name bytes fs)
 
 abbrev pub files_of : World → Files
 files_of (Before fs) = fs
-files_of (There c) = c.run.shared.files
+files_of (There c) = c.state.shared.files
 files_of (Closed pools fs) = fs
 
 abbrev pub adds_file : Bool → List ℕ → List ℕ → World → Answer × World
@@ -84,9 +84,9 @@ happens_to memory budget p (event.Bring pieces) c = answer_of (brings memory p p
 happens_to memory budget p event.Step c = step_of (steps memory budget p c)
 happens_to memory budget p event.End c = answer_of (ends memory c)
 happens_to memory budget p event.TakeOutput c = (Output (takes c).0, There (takes c).1)
-happens_to memory budget p event.TellLabels c = (Labels c.run.shared.labels, There c)
+happens_to memory budget p event.TellLabels c = (Labels c.state.shared.labels, There c)
 happens_to memory budget p event.Close c = closes memory c
-happens_to memory budget p event.TellPools c = (Tree c.run.shared.pools, There c)
+happens_to memory budget p event.TellPools c = (Tree c.state.shared.pools, There c)
 
 -- Where it is not there, the pools can be told, files be added, and at first it can be opened.
 abbrev pub happens_without : Bool → Event → World → Answer × World

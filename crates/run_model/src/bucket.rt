@@ -55,7 +55,7 @@ pub struct Bucket {
 
 /// A bucket with the name that no other bucket ever has.
 #[derive(Drop)]
-pub struct Named {
+pub struct NamedBucket {
     pub name: u64,
     pub bucket: Bucket,
 }
@@ -75,12 +75,12 @@ pub struct Brigade {
     pub name: u64,
     pub on: Option<u64>,
     pub mark: Mark,
-    pub items: Seq<Named>,
+    pub items: Seq<NamedBucket>,
 }
 
 /// A brigade variable of an instance.
 #[derive(Drop)]
-pub enum Var {
+pub enum BrigadeVar {
     /// Nothing was made in it.
     Null,
     /// What was made in it went with its pool.
@@ -95,7 +95,7 @@ pub enum PoolVar {
     /// Nothing was made in it.
     Null,
     /// The name of the pool that was made in it, which may be dead.
-    Named(u64),
+    Made(u64),
 }
 
 /// A cursor of a call.

@@ -8,7 +8,9 @@ mod fault;
 pub mod laws;
 mod payload;
 
-pub use bucket::{Brigade, Bucket, Content, Cursor, Home, Kind, Mark, Named, PoolVar, Var};
+pub use bucket::{
+    Brigade, BrigadeVar, Bucket, Content, Cursor, Home, Kind, Mark, NamedBucket, PoolVar,
+};
 pub use event::{Cause, Event, Exit, Piece, Refusal, StepRefusal, Stepped};
 pub use fault::FaultKind;
 pub use module_lang::{Instr, Module, PoolRef, Seq, Status, Value, VarRef};

@@ -3,27 +3,27 @@
 ghost use Rattle.std.specs.Prelude.{◌≡◌, OnOk, OnErr};
 ghost use Rattle.run_model.specs.State.{items_of, with_pools};
 ghost use Rattle.run_model.specs.Steps.{made_on};
-ghost use Rattle.module_run.specs.Seen.{seen_run};
+ghost use Rattle.module_run.specs.Seen.{seen_machine};
 ghost use Rattle.module_run.specs.Saved.{pools_saved, var_saved, var_emptied};
 
 use super::Machine;
 use crate::saves;
-use run_model::Var;
+use run_model::BrigadeVar;
 use std::alloc::{AllocError, Global};
 
-#[tactic(auto, unfolding(crate::specs::Seen::seen_run, run_model::specs::State::with_pools))]
+#[tactic(auto, unfolding(crate::specs::Seen::seen_machine, run_model::specs::State::with_pools))]
 impl Machine {
     /// Sets the buckets of one brigade aside into the pool of another, at its tail. Without memory nothing is changed.
     pub(crate) fn save(
         &mut self,
         alloc: Global,
-        to: &mut Var,
-        from: &mut Var,
+        to: &mut BrigadeVar,
+        from: &mut BrigadeVar,
     ) -> Result<(), AllocError>
-        ensures ok { let r = seen_run self.old in OnOk result (seen_run self.new ≡ with_pools (pools_saved (made_on to.old) (items_of from.old) r.shared.pools) r) }
-        ensures moved { OnOk result (to.new ≡ var_saved (made_on to.old) (items_of from.old) (seen_run self.old).shared.pools to.old) }
+        ensures ok { let r = seen_machine self.old in OnOk result (seen_machine self.new ≡ with_pools (pools_saved (made_on to.old) (items_of from.old) r.shared.pools) r) }
+        ensures moved { OnOk result (to.new ≡ var_saved (made_on to.old) (items_of from.old) (seen_machine self.old).shared.pools to.old) }
         ensures emptied { OnOk result (from.new ≡ var_emptied (made_on to.old) from.old) }
-        ensures err { OnErr result (seen_run self.new ≡ seen_run self.old) }
+        ensures err { OnErr result (seen_machine self.new ≡ seen_machine self.old) }
         ensures same { OnErr result (to.new ≡ to.old) }
         ensures kept { OnErr result (from.new ≡ from.old) }
     {

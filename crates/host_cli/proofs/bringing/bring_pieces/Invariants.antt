@@ -10,5 +10,5 @@ use Rattle.host_cli.proofs.bringing.bring_pieces.Given as goal
 abbrev pub invariant-loop-piece : goal.invariant-loop-piece
 invariant-loop-piece l = record {
   brings : (r : Option Refusal) (d : Connection) → Brings l.code l.ready (into_iter_items l.piece-iterator) (seen l.conn) r d → Brings l.code [] l.fn.pieces (seen l.fn.conn) r d;
-  inside : (seen l.conn).run.pc < length l.code.code;
+  inside : (seen l.conn).state.pc < length l.code.code;
 }

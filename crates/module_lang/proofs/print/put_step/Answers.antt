@@ -4,6 +4,8 @@ use Rattle.module_lang.specs.Program.{text_at, text_of_instr}
 use Rattle.module_lang.specs.Shown.{shown_line, shown_step, text_line}
 use Rattle.module_lang.specs.Texts.{instr_word}
 use Rattle.module_lang.specs.Words.{op_text, word_text}
+use Rattle.module_lang.specs.declared.arg.Args.{Args}
+use Rattle.module_lang.specs.declared.word.Op.{Op}
 use Rattle.module_lang.proofs.ShownLaws.{step_shown, text_step_shown}
 use Rattle.module_lang.proofs.SpellingLaws.{word_of_instr}
 use Rattle.module_lang.proofs.WritingLaws.{wrote_same}
@@ -19,7 +21,7 @@ returns-in-Some g c =
     let a = c.operands-first.result.0 in
     let b = c.operands-first.result.1 in
     let d = c.operands-first.result.2 in
-    let word : c.text-word.result.now ≡ instr_word i = c.text-word.ensures ∙ ap op_text c.op_of.ensures ∙ sym (word_of_instr i) in
+    let word : c.text-word.result.now ≡ instr_word i = c.text-word.ensures ∙ ap (λ (z : Op × Args). op_text z.0) c.parts.ensures.value ∙ sym (word_of_instr i) in
     let e : text_of_instr i ≡ Some t = sym c.text_number.ensures ∙ c.in-Some.is in
     let text : c.text.result.now ≡ slice_index_or ts t [] = c.text.ensures in
     let same = ap (λ z. text_line z a c.text.result.now) word ∙ ap (text_line (instr_word i) a) text ∙ text_step_shown ts i a b d t e (c.operands-first.ensures.lone (ap is_some e)) c.operands-first.ensures.text in
@@ -34,7 +36,7 @@ returns-in-None g c =
     let a = c.operands-first.result.0 in
     let b = c.operands-first.result.1 in
     let d = c.operands-first.result.2 in
-    let word : c.text-word.result.now ≡ instr_word i = c.text-word.ensures ∙ ap op_text c.op_of.ensures ∙ sym (word_of_instr i) in
+    let word : c.text-word.result.now ≡ instr_word i = c.text-word.ensures ∙ ap (λ (z : Op × Args). op_text z.0) c.parts.ensures.value ∙ sym (word_of_instr i) in
     let e : text_of_instr i ≡ None = sym c.text_number.ensures ∙ c.in-None.is in
     let same = ap (λ z. shown_line z a b d) word ∙ step_shown ts i a b d e c.operands-first.ensures.text in
     wrote_same (w c.args.out.now) (w c.put_line.new.out) (shown_line c.text-word.result.now a b d) (shown_step ts i) c.put_line.result same c.put_line.ensures

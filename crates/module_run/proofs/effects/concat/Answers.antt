@@ -1,12 +1,12 @@
 -- Without memory both brigades are put back.
-use Rattle.run_model.specs.declared.bucket.Var.TheVariants as var
-use Rattle.module_run.specs.Seen.{seen_run}
+use Rattle.run_model.specs.declared.bucket.BrigadeVar.TheVariants as var
+use Rattle.module_run.specs.Seen.{seen_machine}
 use Rattle.module_run.proofs.Writes.{read_other, put_same, on_err}
 use Rattle.module_run.proofs.effects.concat.Goals as goal
 
 pub returns-clause-err : goal.returns-clause-err
 returns-clause-err c =
-    let r = seen_run c.args.machine.now in
+    let r = seen_machine c.args.machine.now in
     on_err c.join-joined.result _ _ _
     (λ to from.
     let taken = c.put-from.ensures.new in

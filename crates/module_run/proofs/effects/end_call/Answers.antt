@@ -1,5 +1,5 @@
 -- All brigades are done, and `in` goes.
-use Rattle.module_run.specs.Seen.{seen_run}
+use Rattle.module_run.specs.Seen.{seen_machine}
 use Rattle.module_run.proofs.Mapping.{returned_all}
 use Rattle.module_run.proofs.effects.end_call.Goals as goal
 
@@ -9,5 +9,5 @@ returns c =
     let done = c.end_homes.ensures in
     let gone = c.put.ensures.new in
     let forgot = c.set_call.ensures in
-    let all = returned_all (seen_run c.args.machine.now) in
+    let all = returned_all (seen_machine c.args.machine.now) in
     cc

@@ -1,7 +1,7 @@
 -- What was taken stands behind what was there.
 use Rattle.std.proofs.Common.{◌≡◌, ℕ, ◌+◌, ◌-◌, ◌≤◌, List, ◌++◌, length, take, replicate, sym, ap, ◌∙◌, arith}
 use Rattle.std.proofs.lemmas.List.{take_at, length-append}
-use Rattle.run_model.specs.Files.{Taken}
+use Rattle.run_model.specs.Files.{BytesTaken}
 use Rattle.module_run.proofs.Filling.{put_front, put_len, tail_len}
 use Rattle.module_run.proofs.output.deliver.Goals as goal
 
@@ -24,4 +24,4 @@ returns-clause-bytes c =
     ∙ (ap (take (a + j)) (take_at _ _ (length c.add_zeros.new.self) same)
     ∙ (put_front a (length shown - a) j shown filled inside within
     ∙ (ap (λ (xs : List ℕ). xs ++ take j filled) (ap (take a) grown ∙ take_at output zeros a (sym from))
-    ∙ ap (λ (t : Taken). output ++ t.bytes) (sym c.fill_all-filled.ensures.taken))))
+    ∙ ap (λ (t : BytesTaken). output ++ t.bytes) (sym c.fill_all-filled.ensures.taken))))

@@ -3,7 +3,7 @@ use Rattle.std.proofs.Common.{◌≡◌, ℕ, ◌+◌, ◌-◌, ◌≤◌, Bool,
 use Rattle.std.proofs.lemmas.List.{drop_more, at_drop_all, append-nil}
 use Rattle.std.proofs.lemmas.List.Sums.{sum_by-drop_more}
 use Rattle.std.proofs.lemmas.List.Elements.{All-drop}
-use Rattle.run_model.specs.declared.bucket.Named.{Named}
+use Rattle.run_model.specs.declared.bucket.NamedBucket.{NamedBucket}
 use Rattle.run_model.specs.Buckets.{is_eos}
 use Rattle.run_model.specs.Files.{and_then, taken_of}
 use Rattle.run_model.specs.Cutting.{EndsInFile, length_of}
@@ -18,12 +18,12 @@ here c = search rules
 
 summed : (c : After-is_eos_kind) → sum_of (drop c.loop-b.b-index c.args.items.now) ≡ length_of c.b-item.result.bucket.content + sum_of (drop (c.loop-b.b-index + 1) c.args.items.now)
 summed c =
-    sum_by-drop_more (λ (b : Named). length_of b.bucket.content) c.args.items.now c.loop-b.b-index c.b-item.result c.loop-b-test.true
-    ∙ ap (λ (b : Named). length_of b.bucket.content + sum_of (drop (c.loop-b.b-index + 1) c.args.items.now)) (here c)
+    sum_by-drop_more (λ (b : NamedBucket). length_of b.bucket.content) c.args.items.now c.loop-b.b-index c.b-item.result c.loop-b-test.true
+    ∙ ap (λ (b : NamedBucket). length_of b.bucket.content + sum_of (drop (c.loop-b.b-index + 1) c.args.items.now)) (here c)
 
 first : (c : After-is_eos_kind) → drop c.loop-b.b-index c.args.items.now ≡ c.b-item.result ∷ drop (c.loop-b.b-index + 1) c.args.items.now
 first c =
-    drop_more c.args.items.now c.loop-b.b-index c.b-item.result c.loop-b-test.true ∙ ap (λ (b : Named). b ∷ drop (c.loop-b.b-index + 1) c.args.items.now) (here c)
+    drop_more c.args.items.now c.loop-b.b-index c.b-item.result c.loop-b-test.true ∙ ap (λ (b : NamedBucket). b ∷ drop (c.loop-b.b-index + 1) c.args.items.now) (here c)
 
 pub returns-then-is_eos_kind-clause-taken : goal.returns-then-is_eos_kind-clause-taken
 returns-then-is_eos_kind-clause-taken c =
@@ -31,7 +31,7 @@ returns-then-is_eos_kind-clause-taken c =
     let front = first (goal.at.returns-then-is_eos_kind-clause-taken c).After-is_eos_kind in
     let eos : is_eos c.b-item.result ≡ true = sym c.is_eos_kind.ensures ∙ c.if-is_eos_kind.true in
     l.invariant.taken
-    ∙ (ap (and_then (take l.count l.out)) (ap (λ (xs : List Named). taken_of xs (files_of l.files)) front ∙ at_eos c.b-item.result _ (files_of l.files) eos)
+    ∙ (ap (and_then (take l.count l.out)) (ap (λ (xs : List NamedBucket). taken_of xs (files_of l.files)) front ∙ at_eos c.b-item.result _ (files_of l.files) eos)
     ∙ ap (λ (bytes : List ℕ). record { bytes = bytes; whole = true; files = files_of l.files }) (append-nil (take l.count l.out)))
 
 pub returns-then-not-filled-clause-taken : goal.returns-then-not-filled-clause-taken
@@ -49,7 +49,7 @@ returns-then-not-filled-clause-taken c =
     let room : l.count + sum_of (drop l.b-index c.args.items.now) ≤ length l.out = l.invariant.room in
     let put = put_front l.count (length l.out - l.count) f.result.count l.out f.new.out (omega (arith, room)) (omega (arith, len, sum, within, room)) in
     l.invariant.taken
-    ∙ (ap (and_then (take l.count l.out)) (ap (λ (xs : List Named). taken_of xs (files_of l.files)) front ∙ at_failed c.b-item.result _ (files_of l.files) (files_of f.new.files) bytes plain taken)
+    ∙ (ap (and_then (take l.count l.out)) (ap (λ (xs : List NamedBucket). taken_of xs (files_of l.files)) front ∙ at_failed c.b-item.result _ (files_of l.files) (files_of f.new.files) bytes plain taken)
     ∙ ap (λ (bs : List ℕ). record { bytes = bs; whole = false; files = files_of f.new.files }) (sym put))
 
 pub loop-b-preserved : goal.loop-b-preserved
@@ -67,14 +67,14 @@ loop-b-preserved c =
     let room : l.count + sum_of (drop l.b-index c.args.items.now) ≤ length l.out = l.invariant.room in
     let put = put_front l.count (length l.out - l.count) f.result.count l.out f.new.out (omega (arith, room)) (omega (arith, len, sum, within, room)) in
     let all = put_len l.count (length l.out - l.count) l.out f.new.out (omega (arith, room)) len in
-    let rest : List Named = drop (l.b-index + 1) c.args.items.now in
+    let rest : List NamedBucket = drop (l.b-index + 1) c.args.items.now in
     record {
       len = all ∙ l.invariant.len;
       room = omega (arith, all, sum, within, room);
       ends = All-drop (λ b. EndsInFile b.bucket.content) (l.b-index + 1) c.args.items.now c.requires.ends;
       taken =
           l.invariant.taken
-          ∙ (ap (and_then (take l.count l.out)) (ap (λ (xs : List Named). taken_of xs (files_of l.files)) front ∙ at_more c.b-item.result rest (files_of l.files) (files_of f.new.files) bytes plain taken)
+          ∙ (ap (and_then (take l.count l.out)) (ap (λ (xs : List NamedBucket). taken_of xs (files_of l.files)) front ∙ at_more c.b-item.result rest (files_of l.files) (files_of f.new.files) bytes plain taken)
           ∙ (both (take l.count l.out) bytes (taken_of rest (files_of f.new.files))
           ∙ ap (λ (bs : List ℕ). and_then bs (taken_of rest (files_of f.new.files))) (sym put)));
     }
@@ -83,5 +83,5 @@ pub returns-clause-taken : goal.returns-clause-taken
 returns-clause-taken c =
     let l = c.loop-b in
     l.invariant.taken
-    ∙ (ap (and_then (take l.count l.out)) (at_drop_all (λ (xs : List Named). taken_of xs (files_of l.files)) c.args.items.now l.b-index c.loop-b-test.false ∙ at_end (files_of l.files))
+    ∙ (ap (and_then (take l.count l.out)) (at_drop_all (λ (xs : List NamedBucket). taken_of xs (files_of l.files)) c.args.items.now l.b-index c.loop-b-test.false ∙ at_end (files_of l.files))
     ∙ ap (λ (bytes : List ℕ). record { bytes = bytes; whole = true; files = files_of l.files }) (append-nil (take l.count l.out)))

@@ -1,7 +1,7 @@
 -- A variable that names the pool decides, and none does where the loop ends.
 use Rattle.std.proofs.Common.{◌≡◌, ℕ, Bool, true, refl, arith, rules}
 use Rattle.run_model.specs.State.{name_in, is_named}
-use Rattle.module_run.specs.Standing.{variables}
+use Rattle.module_run.specs.OwnPools.{variables}
 use Rattle.pool_tree.proofs.Below.{any_below_some, any_below_none}
 use Rattle.module_run.proofs.pool_vars.any_names.Goals as goal
 

@@ -1,6 +1,6 @@
 -- The brigade has the other's buckets behind its own, or is as it was.
 use Rattle.std.proofs.Common.{sym, ap, ◌∙◌}
-use Rattle.run_model.specs.declared.bucket.Var.TheVariants as var
+use Rattle.run_model.specs.declared.bucket.BrigadeVar.TheVariants as var
 use Rattle.run_model.specs.State.{items_of}
 use Rattle.pool_tree.specs.Tree.{map_of}
 use Rattle.module_run.proofs.Referred.{on_ok, on_fail, saved_live}

@@ -6,10 +6,10 @@ use Rattle.run_model.specs.Pools.{Pools, registered}
 use Rattle.run_model.specs.State.{with_pools, pool_named}
 use Rattle.run_model.specs.Steps.{label_registered}
 use Rattle.pool_tree.specs.Tree.{map_of}
-use Rattle.module_run.specs.Seen.{seen_run}
-use Rattle.module_run.specs.Standing.{IsStanding}
-use Rattle.module_run.proofs.Standing.{standing_same, either_way}
-use Rattle.module_run.proofs.Named.{done_to}
+use Rattle.module_run.specs.Seen.{seen_machine}
+use Rattle.module_run.specs.OwnPools.{IsStanding}
+use Rattle.module_run.proofs.OwnPools.{standing_same, either_way}
+use Rattle.module_run.proofs.PoolNames.{done_to}
 use Rattle.module_run.proofs.machine.Machine.add_label.Goals as goal
 
 pub invariant_of-self : goal.invariant_of-self
@@ -23,8 +23,8 @@ invariant_of-self c =
     record { standing = either_way c.register.result (new ≡ added) (new ≡ map_of m.pools) (IsStanding new m.req m.pool_vars) (by added refl refl) (by (map_of m.pools) refl refl) c.register.ensures.ok c.register.ensures.err }
 
 pub returns-clause-ok : goal.returns-clause-ok
-unfolding seen_run with_pools
+unfolding seen_machine with_pools
 returns-clause-ok c =
-    let r = seen_run c.args.self.now in
+    let r = seen_machine c.args.self.now in
     done_to (label_registered c.args.text) (pool_named r c.args.pool) c.live_pool-name.result r (with_pools (map_of c.register.new.self) r)
     c.live_pool-name.ensures.named (ap (λ (ps : Pools Payload). with_pools ps r) c.in-Ok.ensures.ok)

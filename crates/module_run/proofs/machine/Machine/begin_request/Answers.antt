@@ -4,8 +4,8 @@ use Rattle.run_model.specs.declared.payload.Payload.{Payload}
 use Rattle.run_model.specs.Pools.{Pools, created}
 use Rattle.pool_tree.specs.Tree.{map_of}
 use Rattle.pool_tree.proofs.Trees.{tree_formed}
-use Rattle.module_run.specs.Standing.{IsStanding}
-use Rattle.module_run.proofs.Standing.{conn_live, standing_begun}
+use Rattle.module_run.specs.OwnPools.{IsStanding}
+use Rattle.module_run.proofs.OwnPools.{conn_live, standing_begun}
 use Rattle.module_run.proofs.machine.Machine.begin_request.Goals as goal
 
 pub create-requires : goal.create-requires

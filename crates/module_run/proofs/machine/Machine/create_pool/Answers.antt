@@ -6,12 +6,12 @@ use Rattle.run_model.specs.Pools.{Pools, created}
 use Rattle.run_model.specs.State.{pool_named}
 use Rattle.pool_tree.specs.Tree.{map_of}
 use Rattle.pool_tree.proofs.Trees.{tree_formed}
-use Rattle.module_run.specs.Seen.{seen_run}
+use Rattle.module_run.specs.Seen.{seen_machine}
 use Rattle.module_run.specs.Made.{pool_made}
-use Rattle.module_run.specs.Standing.{IsStanding, variables}
-use Rattle.module_run.proofs.Standing.{standing_made}
+use Rattle.module_run.specs.OwnPools.{IsStanding, variables}
+use Rattle.module_run.proofs.OwnPools.{standing_made}
 use Rattle.module_run.proofs.Changed.{with_made, made_by}
-use Rattle.module_run.proofs.Named.{done_to}
+use Rattle.module_run.proofs.PoolNames.{done_to}
 use Rattle.module_run.proofs.machine.Machine.create_pool.Goals as goal
 
 pub invariant_of-self : goal.invariant_of-self
@@ -19,15 +19,15 @@ invariant_of-self c =
     let m = c.args.self.now in
     let within : c.from.result < length m.pool_vars = omega arith in
     let stood = standing_made (map_of m.pools) m.req m.pool_vars c.live_pool-above.result c.from.result (tree_formed m.pools) m.standing within in
-    let named = subst (λ (n : ℕ). IsStanding (created c.live_pool-above.result (map_of m.pools)) m.req (set m.pool_vars c.from.result (poolvar.Named n))) (sym c.in-Ok.ensures.name) stood in
-    record { standing = subst (λ (ps : Pools Payload). IsStanding ps m.req (set m.pool_vars c.from.result (poolvar.Named c.in-Ok.name))) (sym c.in-Ok.ensures.ok) named }
+    let named = subst (λ (n : ℕ). IsStanding (created c.live_pool-above.result (map_of m.pools)) m.req (set m.pool_vars c.from.result (poolvar.Made n))) (sym c.in-Ok.ensures.name) stood in
+    record { standing = subst (λ (ps : Pools Payload). IsStanding ps m.req (set m.pool_vars c.from.result (poolvar.Made c.in-Ok.name))) (sym c.in-Ok.ensures.ok) named }
 
 pub returns-in-Ok-clause-ok : goal.returns-in-Ok-clause-ok
-unfolding seen_run
+unfolding seen_machine
 returns-in-Ok-clause-ok c =
     let m = c.args.self.now in
-    let r = seen_run m in
+    let r = seen_machine m in
     let within : c.from.result < length m.pool_vars = omega arith in
-    let new = with_made (variables (set m.pool_vars c.from.result (poolvar.Named c.in-Ok.name))) (map_of c.create.new.self) r in
+    let new = with_made (variables (set m.pool_vars c.from.result (poolvar.Made c.in-Ok.name))) (map_of c.create.new.self) r in
     done_to (pool_made c.args.q) (pool_named r c.args.parent) c.live_pool-above.result r new c.live_pool-above.ensures.named
     (made_by r c.args.q c.live_pool-above.result c.from.result c.in-Ok.name m.pool_vars (map_of c.create.new.self) refl within c.from.ensures c.in-Ok.ensures.name c.in-Ok.ensures.ok)

@@ -4,8 +4,8 @@ use Rattle.run_model.specs.declared.payload.Payload.{Payload}
 use Rattle.run_model.specs.declared.payload.Payload.TheVariants.{FileRef}
 use Rattle.run_model.specs.Pools.{Pools, registered}
 use Rattle.pool_tree.specs.Tree.{map_of}
-use Rattle.module_run.specs.Seen.{seen_run}
-use Rattle.module_run.proofs.Standing.{request_live, standing_same}
+use Rattle.module_run.specs.Seen.{seen_machine}
+use Rattle.module_run.proofs.OwnPools.{request_live, standing_same}
 use Rattle.module_run.proofs.Opened.{killed_again, live_registered, unopened, with_both}
 use Rattle.std.proofs.lemmas.Bool.{eq-eqb}
 use Rattle.run_model.specs.RunOrder.{killed}
@@ -17,7 +17,7 @@ use Rattle.module_run.proofs.machine.Machine.open_file.Goals as goal
 use Rattle.module_run.proofs.machine.Machine.open_file.Goals.{After-kill-killed}
 
 pub register-requires : goal.register-requires
-unfolding seen_run
+unfolding seen_machine
 register-requires c =
     let m = c.args.self.now in
     request_live (map_of m.pools) m.req m.pool_vars c.args.req m.standing c.requires.request
@@ -38,7 +38,7 @@ invariant_of-self-in-Ok-open c =
     record { standing = standing_same (map_of m.pools) (map_of c.register.new.self) m.req m.pool_vars (ap (λ (x : Pools Payload). x.path) same) (ap (λ (x : Pools Payload). x.next) same) m.standing }
 
 pub kill-killed-requires : goal.kill-killed-requires
-unfolding seen_run registered
+unfolding seen_machine registered
 kill-killed-requires c =
     let m = c.args.self.now in
     let live = request_live (map_of m.pools) m.req m.pool_vars c.args.req m.standing c.requires.request in
@@ -51,9 +51,9 @@ invariant_of-self-2 c =
     record { standing = standing_same (map_of m.pools) (map_of c.kill-killed.new.self) m.req m.pool_vars (ap (λ (x : Pools Payload). x.path) same) (ap (λ (x : Pools Payload). x.next) same) m.standing }
 
 pub returns-clause-err : goal.returns-clause-err
-unfolding seen_run
+unfolding seen_machine
 returns-clause-err c =
-    let r = seen_run c.args.self.now in
+    let r = seen_machine c.args.self.now in
     let pools = back (goal.at.returns-clause-err c).After-kill-killed in
     let files = unopened (files_of c.args.self.now.files) (files_of c.open.new.self) c.args.name.now c.in_default-open.field-0 c.in_default-open.ensures.files in
     ap (λ (ps : Pools Payload). with_both ps (files_of c.open.new.self) r) pools ∙ ap (λ (fs : Files). with_both (map_of c.args.self.now.pools) fs r) files

@@ -1,7 +1,7 @@
 -- The root stands above the connection's pool.
 use Rattle.pool_tree.specs.Tree.{map_of}
 use Rattle.pool_tree.proofs.Trees.{tree_formed}
-use Rattle.module_run.proofs.Standing.{root_path}
+use Rattle.module_run.proofs.OwnPools.{root_path}
 use Rattle.module_run.proofs.machine.Machine.pools.Goals as goal
 
 pub returns-clause-root : goal.returns-clause-root

@@ -8,15 +8,15 @@ use Rattle.run_model.specs.State.{with_pools, pool_named}
 use Rattle.run_model.specs.Steps.{label_killed}
 use Rattle.pool_tree.specs.Tree.{map_of}
 use Rattle.pool_tree.specs.Payloads.{IsLastAt}
-use Rattle.module_run.specs.Seen.{seen_run}
-use Rattle.module_run.proofs.Named.{done_to}
+use Rattle.module_run.specs.Seen.{seen_machine}
+use Rattle.module_run.proofs.PoolNames.{done_to}
 use Rattle.module_run.proofs.Killed.{killed_at, killed_none}
 use Rattle.module_run.proofs.machine.Machine.remove_label.Goals as goal
 
 pub returns-in-Some : goal.returns-in-Some
-unfolding seen_run with_pools
+unfolding seen_machine with_pools
 returns-in-Some c =
-    let r = seen_run c.args.self.now in
+    let r = seen_machine c.args.self.now in
     let ps = map_of c.args.self.now.pools in
     let n = c.live_pool-name.result in
     let test = is_label c.args.text.now in
@@ -25,9 +25,9 @@ returns-in-Some c =
     (ap (λ (x : Pools Payload). with_pools x r) (c.take_out.ensures.rest ∙ killed_at ps n test c.in-Some.index c.take_out.result at c.take_out.ensures.taken))
 
 pub returns-in-None : goal.returns-in-None
-unfolding seen_run with_pools
+unfolding seen_machine with_pools
 returns-in-None c =
-    let r = seen_run c.args.self.now in
+    let r = seen_machine c.args.self.now in
     let ps = map_of c.args.self.now.pools in
     let n = c.live_pool-name.result in
     let test = is_label c.args.text.now in

@@ -5,9 +5,9 @@ use Rattle.run_model.specs.Pools.{Pools}
 use Rattle.run_model.specs.State.{items_of}
 use Rattle.run_model.specs.Steps.{made_on}
 use Rattle.pool_tree.specs.Tree.{map_of}
-use Rattle.module_run.specs.Standing.{IsStanding}
+use Rattle.module_run.specs.OwnPools.{IsStanding}
 use Rattle.module_run.specs.Saved.{pools_saved}
-use Rattle.module_run.proofs.Standing.{standing_same, either_way}
+use Rattle.module_run.proofs.OwnPools.{standing_same, either_way}
 use Rattle.module_run.proofs.Referred.{saved_path, saved_next}
 use Rattle.module_run.proofs.machine.Machine.save.Goals as goal
 
