@@ -1,7 +1,7 @@
 -- What is true of the rings between two calls is true after each.
-use Rattle.std.proofs.Common.{◌≡◌, ◌≢◌, ℕ, suc, ◌+◌, ◌<◌, ◌≤◌, ◌==◌, ◌⊎◌, Bool, true, false, ◌||◌, ◌&&◌, if◌then◌else◌, Option, None, Some, is_some, List, [], ◌∷◌, ◌++◌, take, drop, length, refl, ap, sym, ◌∙◌, arith, inl, inr, get_or, append_assoc, zero-add}
+use Rattle.std.proofs.Common.{◌≡◌, ℕ, suc, ◌+◌, ◌<◌, ◌≤◌, ◌==◌, ◌⊎◌, Bool, true, false, ◌||◌, if◌then◌else◌, Option, None, Some, is_some, List, [], ◌∷◌, ◌++◌, take, drop, length, refl, ap, sym, ◌∙◌, arith, inl, inr, get_or, append_assoc, zero-add}
 use Rattle.std.proofs.lemmas.Bool.{cases_eq, cases_Bool, eqb-true, and_parts}
-use Rattle.std.specs.Option.{option_map, option_map_or}
+use Rattle.std.specs.Option.{option_map}
 use Rattle.bucket_ring.specs.declared.names.BucketId.{BucketId}
 use Rattle.bucket_ring.specs.declared.entries.Spot.{Spot}
 use Rattle.bucket_ring.specs.Lists.{upd, on, list_at, same, times, front, rest, without, found, first_of, payload_of, with_payload}
@@ -12,7 +12,7 @@ use Rattle.bucket_ring.specs.Laws.{once_some}
 use Rattle.std.proofs.lemmas.List.{take-append-drop, length-append}
 use Rattle.std.proofs.Math.ListN.{set}
 use Rattle.std.proofs.lemmas.Option.{same_Some}
-use Rattle.bucket_ring.proofs.Counts.{parts, times_append, times_without, times_cut, times_placed, has_some, has_none}
+use Rattle.bucket_ring.proofs.Counts.{parts, times_append, times_without, times_cut, times_placed, has_some}
 use Rattle.bucket_ring.proofs.Counted.{items, IsCounted, upd_on, upd_off, once_most, counted_gone, counted_come}
 
 abbrev first_name : BucketId → Option BucketId → BucketId

@@ -1,15 +1,13 @@
 -- What is kept true of the rings, where buckets are put in, taken out and moved.
-use Rattle.std.proofs.Common.{◌≡◌, ◌≢◌, ℕ, suc, ◌+◌, ◌<◌, ◌≤◌, ◌==◌, Bool, true, false, ◌||◌, if◌then◌else◌, Option, None, Some, is_some, List, [], ◌∷◌, refl, ap, sym, ◌∙◌, arith, inl, inr, subst, add-one}
+use Rattle.std.proofs.Common.{◌≡◌, ◌≢◌, ℕ, ◌+◌, ◌<◌, ◌≤◌, true, if◌then◌else◌, Option, None, Some, List, [], refl, ap, sym, ◌∙◌, arith, inl, inr}
 use Rattle.std.proofs.lemmas.Bool.{cases_eq, cases_Bool, eq-eqb, ne_eqb}
-use Rattle.std.specs.Option.{option_map, option_map_or}
+use Rattle.std.specs.Option.{option_map_or}
 use Rattle.bucket_ring.specs.declared.names.BucketId.{BucketId}
-use Rattle.bucket_ring.specs.declared.entries.Spot.{Spot}
-use Rattle.bucket_ring.specs.Lists.{upd, on, list_at, same, times, front, rest, without, found, with_payload}
-use Rattle.bucket_ring.specs.Spots.{placed, picked}
-use Rattle.bucket_ring.specs.Names.{has, forgotten, moved}
-use Rattle.bucket_ring.specs.Kept.{once_in, IsKept}
+use Rattle.bucket_ring.specs.Lists.{upd, list_at, times}
+use Rattle.bucket_ring.specs.Names.{has, forgotten}
+use Rattle.bucket_ring.specs.Kept.{once_in}
 use Rattle.bucket_ring.specs.Laws.{once_here, once_elsewhere, once_some}
-use Rattle.bucket_ring.proofs.Counts.{times_without, times_cut, times_placed, has_some, has_none}
+use Rattle.bucket_ring.proofs.Counts.{has_some, has_none}
 
 -- the buckets of a list that may not be there
 abbrev pub items : {B : Type 0} → Option (List B) → List B

@@ -1,5 +1,5 @@
 -- Rings as lists of named payloads, and what is done to them, in the words of apr_buckets.h.
-use Rattle.std.specs.Prelude.{ℕ, suc, ◌==◌, Bool, true, false, ◌&&◌, ◌||◌, if◌then◌else◌, Option, None, Some, Result, Ok, Err, List, [], ◌∷◌, ◌++◌, take, drop}
+use Rattle.std.specs.Prelude.{ℕ, suc, ◌==◌, Bool, ◌&&◌, if◌then◌else◌, Option, None, Some, Result, Ok, Err, List, [], ◌∷◌, ◌++◌, take, drop}
 use Rattle.std.specs.Option.{option_map, option_map_or}
 use Rattle.bucket_ring.specs.declared.names.BucketId.{BucketId}
 

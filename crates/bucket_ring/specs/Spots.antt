@@ -1,5 +1,5 @@
 -- The places in a ring where buckets can be put.
-use Rattle.std.specs.Prelude.{List, [], ◌∷◌, ◌++◌, take, drop}
+use Rattle.std.specs.Prelude.{List, ◌++◌, take, drop}
 use Rattle.bucket_ring.specs.declared.names.BucketId.{BucketId}
 use Rattle.bucket_ring.specs.declared.entries.Spot.{Spot}
 use Rattle.bucket_ring.specs.declared.entries.Spot.TheVariants.{Tail, Head, Before, After}

@@ -1,5 +1,4 @@
-use Rattle.std.proofs.Common.{◌≡◌, ◌∙◌, ◌++◌, ap, get_or}
-use Rattle.bucket_ring.specs.Lists.{rest, front}
+use Rattle.std.proofs.Common.{◌≡◌, get_or}
 use Rattle.bucket_ring.proofs.Changes.{set_payload}
 use Rattle.bucket_ring.proofs.entries.set_payload.Goals as goal
 

@@ -1,4 +1,4 @@
-use Rattle.std.proofs.Common.{◌≡◌, ◌∙◌, ◌+◌, ◌≤◌, sym, ap, arith, length}
+use Rattle.std.proofs.Common.{◌≡◌, ◌∙◌, ◌≤◌, sym, ap, arith, length}
 use Rattle.std.proofs.lemmas.Option.{same_Some}
 use Rattle.bucket_ring.specs.Lists.{without, list_at}
 use Rattle.bucket_ring.specs.Names.{ring_at}

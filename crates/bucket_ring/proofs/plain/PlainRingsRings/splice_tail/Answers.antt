@@ -1,4 +1,4 @@
-use Rattle.std.proofs.Common.{◌≡◌, ◌∙◌, ◌≤◌, sym, ap, arith, length, [], ◌++◌}
+use Rattle.std.proofs.Common.{◌≤◌, sym, ap, arith, length, [], ◌++◌}
 use Rattle.bucket_ring.specs.declared.entries.Spot.TheVariants.{Tail}
 use Rattle.bucket_ring.specs.Lists.{list_at}
 use Rattle.bucket_ring.specs.Names.{ring_at}
