@@ -19,8 +19,6 @@ mod print;
 mod quoted;
 mod refusal;
 mod seq;
-#[cfg(test)]
-mod tests;
 pub mod text;
 mod text_line;
 mod word;
