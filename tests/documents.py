@@ -7,7 +7,8 @@
 Checked are, in each Markdown file: that links lead to a file, and to a heading of it; that a file or folder which is named
 `like/this.rt` is there; that a function, definition or clause which is linked `like_this` stands in the file that the link
 names; that a number beside a link in a table is the file's number of lines; that what a transcript shows below
-`$ cat FILE` and `$ ./host < SCRIPT` is that file, and the answers kept with that script; and that no cell of a table in README.md has more than 30 words.
+`$ cat FILE` and `$ ./host < SCRIPT` is that file, and the answers kept with that script; that docs/TRUST.md names each file of
+definitions; that the words of docs/MODEL.md are there; and that no cell of a table in README.md has more than 30 words.
 """
 import os
 import re
@@ -140,6 +141,16 @@ def transcript_faults(text):
             yield number, 'not the answers of %s.script' % found[2]
 
 
+def model_faults():
+    """The words in the first column of docs/MODEL.md that no definition and no type has."""
+    sources = [read(file) for file in all_files() if re.search(r'/(specs|src)/.*\.(antt|rt)$', file)]
+    words = {word for text in sources for word in re.findall(r'\w+', text)}
+    for number, line in without_blocks(read('docs/MODEL.md')):
+        for span in SPAN.findall(line.split('|')[1]) if line.startswith('|') else []:
+            if re.fullmatch(r'\w+', span) and span not in words:
+                yield 'docs/MODEL.md:%d: no definition %s' % (number, span)
+
+
 def lines_of(path, target):
     full = os.path.normpath(os.path.join(TOP, os.path.dirname(path), target))
     if not os.path.isfile(full):
@@ -176,10 +187,16 @@ def faults():
             told += cell_faults(line) if path == 'README.md' else []
             found += ['%s:%d: %s' % (path, number, fault) for fault in told]
         found += ['%s:%d: %s' % (path, number, fault) for number, fault in transcript_faults(text)]
-        for number, (line, right) in enumerate(zip(text.split('\n'), with_figures(path).split('\n')), 1):
-            if line != right:
-                found.append('%s:%d: the number of lines is not right; python3 tests/documents.py --write' % (path, number))
-    return found
+        if text != with_figures(path):
+            found.append('%s: numbers of lines are not right; python3 tests/documents.py --write puts them right' % path)
+    return found + [*model_faults()] + ['docs/TRUST.md: it does not name %s' % file for file in unnamed()]
+
+
+def unnamed():
+    """The files of definitions that docs/TRUST.md does not name."""
+    named = {os.path.normpath(os.path.join('docs', target)) for _, target in LINK.findall(read('docs/TRUST.md'))}
+    return [file for file in all_files()
+            if re.search(r'/specs/.*\.antt$', file) and not file.endswith('/Lib.antt') and file not in named]
 
 
 def write():

@@ -7,6 +7,7 @@ its own; counters in n6 and n7 lead to it. What a test did can be told from the 
 from odd import NUMBERS, ODD_COMMANDS, change, odd_line, quote, some_bytes
 from reading.counts import uncounted
 from reading.events import Host
+from reading.pools import DEAD
 from reading.scripts import BadLine, answer
 from reading.steps import BUFFER
 from reading.texts import HANDLERS, MOST_TEXTS, OPERANDS, TEXT_LIMIT, U32, Module, number_or_constant
@@ -18,7 +19,7 @@ COUNTERS = {'init': 6, 'main': 7}
 OFTEN = {'pcreate': 5, 'pclear': 2, 'label': 2, 'bcreate': 5, 'bclean': 4, 'bconcat': 6, 'bsave': 7, 'pass': 5, 'jempty': 2,
          'add': 2, 'sub': 2, 'jump': .3, 'ret': 0}
 # Faults that seldom come about are written so many times as often.
-SELDOM = {'F2': .5, 'F5': 1000, 'F6': 40, 'F7': 5, 'F8': 100}
+SELDOM = {'F2': .5, 'F5': 1000, 'F6': 200, 'F7': 5, 'F8': 100}
 
 
 class Writer:
@@ -39,6 +40,9 @@ class Writer:
         self.file_chance = rng.choice([0, .3, .7, .9])
         self.is_endless = False
         self.keeps = rng.random() < .5                          # brigades are rarely cleaned and passed
+        self.keeps_files = rng.random() < .25                   # what comes are files, which are kept past their requests
+        if self.keeps_files:
+            self.keeps, self.file_chance, self.kinds, self.wrong = True, .9, ['pool'], .003
         self.commands = []
 
     def declarations(self):
@@ -199,7 +203,12 @@ class Writer:
             return True
         brought = self.host.brought
         if brought and brought.buckets and chance < .4:
-            return self.step(self.rng.choice(['bconcat', 'bsave', 'bsave', 'pass']))
+            return self.step(self.rng.choice(['bconcat', 'bsave'] if self.keeps_files else ['bconcat', 'bsave', 'bsave', 'pass']))
+        homes = [bucket.home for bucket in self.host.all_buckets()]
+        if DEAD in homes and chance < .3 and self.handler == 'main':
+            return self.step(self.rng.choice(['bsave', 'pass', 'bconcat']))
+        if any(kind == 'pool' for kind, _ in homes) and chance < .1:
+            return self.step(self.rng.choice(['pclear', 'pdestroy']))
         return self.step()
 
     def end_call(self):
@@ -293,7 +302,7 @@ class Writer:
             if rng.random() < stray:
                 self.stray()
 
-        for _ in range(rng.choice([0, 1, 2])):
+        for _ in range(2 if self.keeps_files else rng.choice([0, 1, 2])):
             self.file()
         for line in ('open', 'run 1'):
             self.command(line)
