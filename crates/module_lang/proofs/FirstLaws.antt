@@ -67,6 +67,15 @@ one_first text n m c e (inl x) (inr y) = absurd (y.0 n c x.holds)
 one_first text n m c e (inr x) (inl y) = absurd (x.0 m e y.holds)
 one_first text n m c e (inr x) (inr y) = same_first (HasModuleCode text) n m c e x.1 y.1
 
+-- a text is a module, or has a first fault
+pub reads_some : (text : List ℕ) → (r : Result Program AsmRefusal) × Reads text r
+reads_some text = by (assembling text) refl (judged text)
+  where
+    by : (r : Result Program AsmRefusal) → assembling text ≡ r → Judged text r → (s : Result Program AsmRefusal) × Reads text s
+    by (Ok p) q j = (Ok p, text_found text p q)
+    by (Err (Fault n c)) q j = (Err (Fault n c), j)
+    by (Err NoMemory) q j = absurd j
+
 -- an answer says what the text is, or there was no memory
 pub answer_reads : (text : List ℕ) (r : Result Program AsmRefusal) → Gives (λ m. m) r (assembling text) → r ≢ Err NoMemory → Reads text r
 answer_reads text (Ok m) h some = text_found text m h

@@ -2,7 +2,8 @@
 use Rattle.std.proofs.Common.{◌≡◌, ◌≢◌, ℕ, ◌+◌, Bool, true, false, not, cond, leb, nat_eq, List, [], ◌∷◌, ◌++◌, Option, Some, None, inl, inr, ◌⊎◌, refl, sym, ◌∙◌, ap, subst, append_assoc, append-nil}
 use Rattle.std.specs.Prelude.{IfSome, is_some, map, option_map, unwrap_or}
 use Rattle.std.specs.Cmp.Lexicographic.{pointwise, same_text}
-use Rattle.module_lang.specs.Handlers.{is_named, is_lost, is_missing, jump_fault, label_fault, label_of, op_instr, fault, place_from, place_of, step_code, target_place}
+use Rattle.module_lang.specs.Handlers.{is_named, is_lost, is_missing, jump_fault, label_fault, label_of, op_instr, fault, place_from, step_code, target_place}
+use Rattle.module_lang.specs.Labels.{place_of}
 use Rattle.module_lang.specs.Names.{is_name}
 use Rattle.module_lang.specs.Program.{target}
 use Rattle.module_lang.specs.Spelling.{operands_of}

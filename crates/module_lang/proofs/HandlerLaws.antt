@@ -10,7 +10,8 @@ use Rattle.std.specs.BTreeSet.{BTreeSet, contains}
 use Rattle.std.specs.BTreeSet as set
 use Rattle.std.specs.Cmp.Lexicographic.{slice_cmp, texts_ties}
 use Rattle.std.specs.Ordering.{nat_cmp}
-use Rattle.module_lang.specs.Handlers.{HasPlacesBelow, IsPlaces, IsSeen, place_from, place_of, has_name, is_named, fault, label_fault}
+use Rattle.module_lang.specs.Handlers.{HasPlacesBelow, IsPlaces, IsSeen, place_from, has_name, is_named, fault, label_fault}
+use Rattle.module_lang.specs.Labels.{place_of}
 use Rattle.module_lang.specs.declared.draft.Label.{Label}
 use Rattle.module_lang.specs.declared.refusal.Code.TheVariants as code
 

@@ -7,7 +7,8 @@ use Rattle.std.proofs.lemmas.List.{length-map}
 use Rattle.std.proofs.lemmas.List.Elements.{filter_map-append}
 use Rattle.std.proofs.lemmas.Option.{slice_get-map, slice_get_within}
 use Rattle.module_lang.specs.Entries.{IsDraft, IsStep, step_numbers, step_text}
-use Rattle.module_lang.specs.Handlers.{handler_fault, handler_resolved, code_or_fault, ends_open, last_goes_on, sooner, fault, label_fault, jump_fault, is_lost, is_missing, arg_in, args_in, label_of, place_of, place_from, target_place, step_code, op_instr, operand_index, is_named}
+use Rattle.module_lang.specs.Handlers.{handler_fault, handler_resolved, code_or_fault, ends_open, last_goes_on, sooner, fault, label_fault, jump_fault, is_lost, is_missing, arg_in, args_in, label_of, place_from, target_place, step_code, op_instr, operand_index, is_named}
+use Rattle.module_lang.specs.Labels.{place_of}
 use Rattle.module_lang.specs.Words.{op_goes_on}
 use Rattle.module_lang.specs.Lines.{are_declared, has_equal_brigades, is_declared, is_text_operand, misplaced, same_brigade, has_text, place_is_declared}
 use Rattle.module_lang.specs.Operands.{IsOfKinds, of_kind, operand_kind_is_text}

@@ -2,7 +2,8 @@
 use Rattle.std.proofs.Common.{◌≡◌, ℕ, zero, suc, ◌+◌, ◌-◌, ◌<◌, ◌≤◌, Bool, true, false, cond, List, [], ◌∷◌, ◌++◌, length, map, Option, Some, None, inl, inr, Ok, refl, sym, ◌∙◌, ap, arith}
 use Rattle.std.specs.Prelude.{IfSome, slice_get, option_map}
 use Rattle.std.proofs.lemmas.Option.{slice_get-map, slice_get_within}
-use Rattle.module_lang.specs.Handlers.{handler_fault, handler_resolved, ends_open, last_goes_on, jump_fault, is_lost, is_missing, label_of, place_of, target_place, step_code, op_instr}
+use Rattle.module_lang.specs.Handlers.{handler_fault, handler_resolved, ends_open, last_goes_on, jump_fault, is_lost, is_missing, label_of, target_place, step_code, op_instr}
+use Rattle.module_lang.specs.Labels.{place_of}
 use Rattle.module_lang.specs.Words.{op_goes_on}
 use Rattle.module_lang.specs.Lines.{has_text, misplaced}
 use Rattle.module_lang.specs.Names.{is_name}

@@ -1,20 +1,16 @@
 -- What a module text is read as.
-use Rattle.std.specs.Prelude.{ℕ, ◌+◌, Bool, true, false, ◌||◌, not, nat_lt, ◌==◌, if◌then◌else◌, List, [], ◌∷◌, ◌++◌, length, take, Result, Ok, Err}
+use Rattle.std.specs.Prelude.{ℕ, ◌+◌, Bool, ◌||◌, not, nat_lt, ◌==◌, if◌then◌else◌, List, [], ◌∷◌, ◌++◌, length, take, Result, Ok, Err}
 use Rattle.module_lang.specs.Codes.{◌>>=◌}
 use Rattle.module_lang.specs.Drafts.{empty_draft}
 use Rattle.module_lang.specs.Entries.{line_taken}
 use Rattle.module_lang.specs.Handlers.{handler_resolved}
 use Rattle.module_lang.specs.Program.{Program}
+pub use Rattle.module_lang.specs.Tables.{is_end}
 use Rattle.module_lang.specs.declared.draft.Draft.{Draft}
 use Rattle.module_lang.specs.declared.draft.Part.{Part}
-use Rattle.module_lang.specs.declared.draft.Part.TheVariants as part
 use Rattle.module_lang.specs.declared.refusal.AsmRefusal.{AsmRefusal}
 use Rattle.module_lang.specs.declared.refusal.AsmRefusal.TheVariants.{Fault}
 use Rattle.module_lang.specs.declared.refusal.Code.TheVariants as code
-
-abbrev pub is_end : Part → Bool
-is_end part.End = true
-is_end _ = false
 
 -- Nothing may follow the last LF, and the last line must have been `end`.
 unfoldable pub lines_ended : Bool → Part → ℕ → List ℕ → Result (Unit {0}) AsmRefusal

@@ -1,18 +1,17 @@
 -- Which line of a module text is the first faulty one, and by which code: `IsFirstFault`, near the end. Each code fits a
 -- line by itself, whatever other codes fit it. The tables that this page names stand in Tables.antt and Words.antt; how
--- operands are read, in Operands.antt; and what a line adds to the draft, in Entries.antt.
+-- operands are read, in Operands.antt; what a line adds to the draft, in Entries.antt; and which labels there are, in
+-- Labels.antt.
 use Rattle.std.specs.Prelude.{◌≡◌, ℕ, ◌+◌, ◌≤◌, Bool, true, false, ◌&&◌, ◌||◌, not, nat_lt, nat_le, ◌==◌, if◌then◌else◌, List, [], ◌∷◌, ◌++◌, length, take, Option, Some, None, Result, Ok, Err, ◌⊎◌}
-use Rattle.module_lang.specs.Assembling.{is_end}
 use Rattle.module_lang.specs.Bytes.{after_token, all_printable, begins, tail, token, unindented}
 use Rattle.module_lang.specs.Codes.{code_number}
 use Rattle.module_lang.specs.Drafts.{empty_draft}
 use Rattle.module_lang.specs.Entries.{entered}
-use Rattle.module_lang.specs.Handlers.{ends_open, is_lost, is_named}
-use Rattle.module_lang.specs.Lines.{instruction_count}
+use Rattle.module_lang.specs.Labels.{ends_open, is_lost, is_named}
 use Rattle.module_lang.specs.Names.{is_name, name_of}
 use Rattle.module_lang.specs.Operands.{operand_kind_is_text, operands_at}
 use Rattle.module_lang.specs.Program.{Program}
-use Rattle.module_lang.specs.Tables.{are_declared, has_equal_brigades, has_long_text, is_declared, is_due, is_handler, is_next, misplaced}
+use Rattle.module_lang.specs.Tables.{are_declared, has_equal_brigades, has_long_text, instruction_count, is_declared, is_due, is_end, is_handler, is_next, misplaced}
 use Rattle.module_lang.specs.TextLines.{lines_from, rest_from}
 use Rattle.module_lang.specs.Texts.{IsTextOf, is_skipped}
 use Rattle.module_lang.specs.Words.{op_kinds, word_at, word_kinds}

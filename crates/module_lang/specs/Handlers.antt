@@ -1,11 +1,11 @@
 -- The handlers of a draft: their labels, and where they end.
-use Rattle.std.specs.Prelude.{◌≡◌, ℕ, ◌<◌, ◌+◌, ◌-◌, Bool, true, false, not, nat_le, nat_eq, if◌then◌else◌, List, [], ◌∷◌, ◌++◌, length, map, slice_get, Option, Some, None, is_some, unwrap_or, Result, Ok, Err}
-use Rattle.std.specs.Cmp.Lexicographic.{pointwise, slice_cmp}
-use Rattle.std.specs.List.{list_any}
+use Rattle.std.specs.Prelude.{◌≡◌, ℕ, ◌<◌, ◌+◌, nat_le, if◌then◌else◌, List, [], ◌∷◌, ◌++◌, length, map, Option, Some, None, unwrap_or, Result, Ok, Err}
+use Rattle.std.specs.Cmp.Lexicographic.{slice_cmp}
 use Rattle.std.specs.Ordering.{nat_cmp}
 use Rattle.std.specs.BTreeMap.{BTreeMap, get}
 use Rattle.std.specs.BTreeSet.{BTreeSet, contains}
-use Rattle.module_lang.specs.Args.{first_some, made}
+use Rattle.module_lang.specs.Args.{made}
+pub use Rattle.module_lang.specs.Labels.{ends_open, has_name, is_lost, is_missing, is_named, label_of, last_goes_on, operand_label, place_from, place_of}
 use Rattle.module_lang.specs.Operands.{operand_place}
 pub use Rattle.module_lang.specs.Words.{op_goes_on}
 use Rattle.module_lang.specs.Words.{op_kinds}
@@ -36,17 +36,6 @@ use Rattle.module_lang.specs.declared.word.Kind.TheVariants as kind
 use Rattle.module_lang.specs.declared.word.Kinds.{Kinds}
 use Rattle.module_lang.specs.declared.word.Op.{Op}
 
-abbrev pub has_name : List ℕ → Label → Bool
-has_name name l = pointwise nat_eq l.name name
-
--- where the last label of this name stands
-abbrev pub place_from : Option ℕ → List ℕ → List Label → Option ℕ
-place_from found name [] = found
-place_from found name (l ∷ ls) = place_from (if has_name name l then Some l.place else found) name ls
-
-unfoldable pub place_of : List ℕ → List Label → Option ℕ
-place_of name labels = place_from None name labels
-
 -- the map has the places of the labels
 unfoldable pub IsPlaces : BTreeMap (List ℕ) ℕ → List Label → Type 0
 IsPlaces m labels = (q : List ℕ) → get (slice_cmp nat_cmp) m q ≡ place_of q labels
@@ -54,9 +43,6 @@ IsPlaces m labels = (q : List ℕ) → get (slice_cmp nat_cmp) m q ≡ place_of 
 -- each place in the map is below this number
 unfoldable pub HasPlacesBelow : BTreeMap (List ℕ) ℕ → ℕ → Type 0
 HasPlacesBelow m n = (q : List ℕ) (p : ℕ) → get (slice_cmp nat_cmp) m q ≡ Some p → p < n
-
-abbrev pub is_named : List ℕ → List Label → Bool
-is_named name labels = list_any (has_name name) labels
 
 -- the set has the names of the labels
 unfoldable pub IsSeen : BTreeSet (List ℕ) → List Label → Type 0
@@ -72,34 +58,9 @@ label_fault before count (l ∷ ls) =
     if is_named l.name before then fault l.line code.DoubledLabel
     else (if nat_le count l.place then fault l.line code.LostLabel else label_fault (before ++ l ∷ []) count ls)
 
-abbrev pub operand_label : Operand → Option (List ℕ)
-operand_label (operand.Label name) = Some name
-operand_label _ = None
-
--- the label that an instruction names
-abbrev pub label_of : Operands → Option (List ℕ)
-label_of o =
-    first_some (operand_label o.first) (operand_label o.second) (operand_label o.third) (operand_label o.fourth)
-
-abbrev pub is_missing : List Label → Option (List ℕ) → Bool
-is_missing labels None = false
-is_missing labels (Some name) = not (is_some (place_of name labels))
-
--- the instruction names a label, and none of these has its name
-abbrev pub is_lost : List Label → Operands → Bool
-is_lost labels o = is_missing labels (label_of o)
-
 abbrev pub jump_fault : List Label → List Step → Option LineFault
 jump_fault labels [] = None
 jump_fault labels (s ∷ ss) = if is_lost labels s.operands then fault s.line code.LostLabel else jump_fault labels ss
-
-abbrev pub last_goes_on : Option Step → Bool
-last_goes_on None = true
-last_goes_on (Some s) = op_goes_on s.op
-
--- there is no instruction, or the last goes on
-abbrev pub ends_open : List Step → Bool
-ends_open steps = last_goes_on (slice_get steps (length steps - 1))
 
 -- the fault of the lower line, and the first of two at one line
 abbrev pub sooner : Option LineFault → Option LineFault → Option LineFault

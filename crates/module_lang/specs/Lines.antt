@@ -1,6 +1,6 @@
 -- What a line says, and whether it may say so there. The tests of a line stand in the order of their codes.
-pub use Rattle.module_lang.specs.Tables.{any_touches_req, are_declared, has_equal_brigades, has_long_text, has_main_only, has_text, is_declared, is_due, is_handler, is_long_text, is_main, is_main_only, is_next, is_open, is_pass, is_text_operand, misplaced, place_is_declared, same_brigade, touches_req, under_req}
-use Rattle.std.specs.Prelude.{ℕ, ◌+◌, Bool, ◌&&◌, ◌||◌, not, nat_lt, ◌==◌, if◌then◌else◌, List, length, Option, Some, None, Result, Ok, Err}
+pub use Rattle.module_lang.specs.Tables.{any_touches_req, are_declared, has_equal_brigades, has_long_text, has_main_only, has_text, instruction_count, is_declared, is_due, is_handler, is_long_text, is_main, is_main_only, is_next, is_open, is_pass, is_text_operand, misplaced, place_is_declared, same_brigade, touches_req, under_req}
+use Rattle.std.specs.Prelude.{ℕ, Bool, ◌&&◌, ◌||◌, not, nat_lt, ◌==◌, if◌then◌else◌, List, length, Option, Some, None, Result, Ok, Err}
 use Rattle.module_lang.specs.Bytes.{all_printable, begins, tail, token, after_token, unindented}
 use Rattle.module_lang.specs.Codes.{◌>>=◌, unless}
 use Rattle.module_lang.specs.Names.{name_of}
@@ -18,9 +18,6 @@ use Rattle.module_lang.specs.declared.word.Word.TheVariants as word
 
 abbrev pub is_misplaced : Draft → Op → Operands → Bool
 is_misplaced d i o = misplaced d.part d.pools d.brigades i o
-
-abbrev pub instruction_count : Draft → ℕ
-instruction_count d = length d.open.steps + length d.init.steps + length d.main.steps
 
 -- one more instruction with these operands is not too many
 abbrev pub has_room : Draft → Operands → Bool

@@ -1,7 +1,8 @@
 -- The tables of the module language: which words are due, which variables are declared, and what may not stand in a handler.
 -- The grammar, the first fault and the reader share them, so no proof guards them: a reader checks them here, once. The
 -- words and the kinds of their operands stand in Words.antt, and the codes' numbers in Codes.antt.
-use Rattle.std.specs.Prelude.{ℕ, suc, zero, Bool, true, false, ◌&&◌, ◌||◌, not, nat_lt, ◌==◌, List, slice_index_or}
+use Rattle.std.specs.Prelude.{ℕ, ◌+◌, suc, zero, Bool, true, false, ◌&&◌, ◌||◌, not, nat_lt, ◌==◌, List, length, slice_index_or}
+use Rattle.module_lang.specs.declared.draft.Draft.{Draft}
 use Rattle.module_lang.specs.declared.draft.Part.{Part}
 use Rattle.module_lang.specs.declared.draft.Part.TheVariants as part
 use Rattle.module_lang.specs.declared.instr.PoolRef.{PoolRef}
@@ -44,6 +45,10 @@ is_main _ = false
 abbrev pub is_open : Part → Bool
 is_open part.Open = true
 is_open _ = false
+
+abbrev pub is_end : Part → Bool
+is_end part.End = true
+is_end _ = false
 
 -- the two operands are one brigade
 abbrev pub same_brigade : Operand → Operand → Bool
@@ -127,3 +132,7 @@ abbrev pub is_next : ℕ → Operand → Bool
 is_next count (operand.Place (pool.Own i)) = i == count
 is_next count (operand.Brigade i) = i == count
 is_next count _ = false
+
+-- how many instructions were read
+abbrev pub instruction_count : Draft → ℕ
+instruction_count d = length d.open.steps + length d.init.steps + length d.main.steps

@@ -109,13 +109,12 @@ fn read_module(alloc: Global, text: &[u8]) -> Result<Module, AsmRefusal>
 /// The module that a text spells, or its first faulty line, from 1, with the lowest code that fits it. A text has at
 /// most 1,048,576 bytes; `NoMemory` is the answer where memory was wanting.
 pub fn assemble(alloc: Global, text: &[u8]) -> Result<Module, AsmRefusal>
-    ensures exact { Gives (λ m. m) result (assembling text.now) }
-
-    // A text is a module by the grammar, or has a first faulty line. What is answered it is, and what it is is answered,
-    // memory apart; and it is one thing alone.
+    // A text is a module by the grammar, or has a first faulty line: one of these, and one alone. What is answered it is,
+    // and what it is is answered, memory apart.
+    ensures some { (r : Result Program AsmRefusal) × Reads text.now r }
+    ensures one { (r s : Result Program AsmRefusal) → Reads text.now r → Reads text.now s → r ≡ s }
     ensures reads { result ≢ Err NoMemory → Reads text.now result }
     ensures told { (r : Result Program AsmRefusal) → Reads text.now r → Gives (λ m. m) result r }
-    ensures one { (r s : Result Program AsmRefusal) → Reads text.now r → Reads text.now s → r ≡ s }
 
     // The text that a module is printed as is taken as that module, memory apart.
     ensures again { (p : Program) → IsModule p → text.now ≡ printed p → Gives (λ m. m) result (Ok p) }

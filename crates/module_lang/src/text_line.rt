@@ -16,9 +16,9 @@ pub struct TextLine<'a> {
     pub width: usize,
 }
 
-#[tactic(auto, using(crate::proofs::CutLaws::lines_turn))]
 /// The line that a text begins with: its bytes up to the first LF, or all where there is none. Behind it stand the bytes
 /// from its width on.
+#[tactic(auto, using(crate::proofs::CutLaws::lines_turn))]
 pub fn first_line(bytes: &[u8]) -> TextLine<'_>
     ensures text { result.text.now ≡ (first_line bytes.now).text }
     ensures ended { result.ended ≡ (first_line bytes.now).ended }

@@ -1,10 +1,13 @@
 -- What a text is read as.
 use Rattle.std.proofs.Common.{subst, sym}
 use Rattle.module_lang.specs.Texts.{IsTextOf}
-use Rattle.module_lang.proofs.FirstLaws.{answer_reads, reads_once, reads_told}
+use Rattle.module_lang.proofs.FirstLaws.{answer_reads, reads_once, reads_some, reads_told}
 use Rattle.module_lang.proofs.PrintedText.{printed_is_text}
 use Rattle.module_lang.proofs.TextAgain.{text_again}
 use Rattle.module_lang.proofs.assembler.assemble.Goals as goal
+
+pub returns-clause-some : goal.returns-clause-some
+returns-clause-some c = reads_some c.args.text.now
 
 pub returns-clause-reads : goal.returns-clause-reads
 returns-clause-reads c = answer_reads c.args.text.now c.read_module.result c.read_module.ensures
