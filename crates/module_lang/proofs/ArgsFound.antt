@@ -26,8 +26,8 @@ use Rattle.module_lang.specs.declared.word.Kind.TheVariants as kind
 use Rattle.module_lang.specs.declared.word.Op.{Op}
 use Rattle.module_lang.specs.declared.word.Op.TheVariants as op
 use Rattle.module_lang.proofs.ArgLaws.{is_label, is_version, op_formed, picked}
-use Rattle.module_lang.proofs.InverseLaws.{Spells, chain, own_is, read_token, text_behind, text_taken, token_spelled, token_unquoted}
-use Rattle.module_lang.proofs.OperandLaws.{kinds_read, made, read_kind}
+use Rattle.module_lang.proofs.InverseLaws.{Spells, own_is, read_token, text_behind, text_taken, token_spelled, token_unquoted}
+use Rattle.module_lang.proofs.OperandLaws.{chain, kinds_read, made, read_kind}
 use Rattle.module_lang.proofs.QuoteFound.{quoted_found}
 use Rattle.module_lang.proofs.QuoteLaws.{quote_behind, quoted_again, unquoted}
 use Rattle.module_lang.proofs.SpellingLaws.{padded}

@@ -149,13 +149,7 @@ own_brigade n b low h = declared (nat_lt b n) (eqb b 8) (ne_eqb b 8 (λ e. omega
 
 same_brigades : (a b : Operand) → a ≡ operand.Brigade (operand_index a) → b ≡ operand.Brigade (operand_index b) → same_brigade a b ≡ false → eqb (operand_index a) (operand_index b) ≡ false
 same_brigades (operand.Brigade x) (operand.Brigade y) p q h = h
-same_brigades (operand.Brigade x) operand.Nothing p q h = absurd (cc q)
-same_brigades (operand.Brigade x) operand.One p q h = absurd (cc q)
-same_brigades (operand.Brigade x) (operand.Place y) p q h = absurd (cc q)
-same_brigades (operand.Brigade x) (operand.Ending y) p q h = absurd (cc q)
-same_brigades (operand.Brigade x) (operand.Label y) p q h = absurd (cc q)
-same_brigades (operand.Brigade x) (operand.Text y) p q h = absurd (cc q)
-same_brigades (operand.Brigade x) (operand.Value v) p q h = absurd (cc q)
+same_brigades (operand.Brigade x) _ p q h = absurd (cc q)
 same_brigades _ b p q h = absurd (cc p)
 
 pub brigade_below : (x : Operand) → of_kind kind.Brigade x ≡ true → operand_index x < 8

@@ -1,7 +1,7 @@
 //! The words of module texts, and what operands follow each.
 
 ghost use Rattle.std.specs.Prelude.{◌≡◌};
-ghost use Rattle.module_lang.specs.Words.{op_goes_on, op_text, op_kinds, word_text, word_kinds, word_at, no_operand, one_operand, two_operands, three_operands};
+ghost use Rattle.module_lang.specs.Words.{going_on, leaving, op_goes_on, op_text, op_kinds, signature, word_text, word_kinds, word_at, no_operand, one_operand, two_operands, three_operands};
 
 /// What an operand may be.
 #[derive(Clone, Copy)]
@@ -77,6 +77,33 @@ impl Kinds {
     }
 }
 
+/// What is known of an instruction by its word: its operands, and whether the next instruction can follow.
+#[derive(Clone, Copy)]
+pub struct Signature {
+    pub kinds: Kinds,
+    pub goes_on: bool,
+}
+
+impl Signature {
+    fn goes_on(kinds: Kinds) -> Self
+        ensures { result ≡ going_on kinds }
+    {
+        Signature {
+            kinds,
+            goes_on: true,
+        }
+    }
+
+    fn leaves(kinds: Kinds) -> Self
+        ensures { result ≡ leaving kinds }
+    {
+        Signature {
+            kinds,
+            goes_on: false,
+        }
+    }
+}
+
 /// The word of an instruction.
 #[derive(Clone, Copy)]
 pub enum Op {
@@ -135,41 +162,48 @@ impl Op {
         }
     }
 
-    /// Whether the next instruction can follow.
-    pub fn goes_on(self) -> bool
-        ensures { result ≡ op_goes_on self }
+    /// The operands that follow, and whether the next instruction can follow.
+    fn signature(self) -> Signature
+        ensures { result ≡ signature self }
     {
-        !matches!(self, Op::Jump | Op::Ret)
+        match self {
+            Op::PCreate => Signature::goes_on(Kinds::one(Kind::Pool)),
+            Op::PClear => Signature::goes_on(Kinds::one(Kind::Pool)),
+            Op::PDestroy => Signature::goes_on(Kinds::one(Kind::Pool)),
+            Op::Label => Signature::goes_on(Kinds::two(Kind::Place, Kind::Text)),
+            Op::Unlabel => Signature::goes_on(Kinds::two(Kind::Place, Kind::Text)),
+            Op::BCreate => Signature::goes_on(Kinds::one(Kind::Brigade)),
+            Op::BClean => Signature::goes_on(Kinds::one(Kind::Source)),
+            Op::BConcat => Signature::goes_on(Kinds::two(Kind::Source, Kind::Source)),
+            Op::BSave => Signature::goes_on(Kinds::two(Kind::Brigade, Kind::Source)),
+            Op::Pass => Signature::goes_on(Kinds::two(Kind::Source, Kind::Label)),
+            Op::JEmpty => Signature::goes_on(Kinds::two(Kind::Source, Kind::Label)),
+            Op::Put => Signature::goes_on(Kinds::two(Kind::Value, Kind::Label)),
+            Op::ClearBuf => Signature::goes_on(Kinds::none()),
+            Op::Set => Signature::goes_on(Kinds::two(Kind::Number, Kind::Value)),
+            Op::Add => Signature::goes_on(Kinds::two(Kind::Number, Kind::Value)),
+            Op::Sub => Signature::goes_on(Kinds::two(Kind::Number, Kind::Value)),
+            Op::JLt => Signature::goes_on(Kinds::three(Kind::Number, Kind::Value, Kind::Label)),
+            Op::JEq => Signature::goes_on(Kinds::three(Kind::Number, Kind::Value, Kind::Label)),
+            Op::JNull => Signature::goes_on(Kinds::two(Kind::Variable, Kind::Label)),
+            Op::JSent => Signature::goes_on(Kinds::one(Kind::Label)),
+            Op::Jump => Signature::leaves(Kinds::one(Kind::Label)),
+            Op::Ret => Signature::leaves(Kinds::one(Kind::Ending)),
+        }
     }
 
     /// The operands that follow.
     pub fn kinds(self) -> Kinds
         ensures { result ≡ op_kinds self }
     {
-        match self {
-            Op::PCreate => Kinds::one(Kind::Pool),
-            Op::PClear => Kinds::one(Kind::Pool),
-            Op::PDestroy => Kinds::one(Kind::Pool),
-            Op::Label => Kinds::two(Kind::Place, Kind::Text),
-            Op::Unlabel => Kinds::two(Kind::Place, Kind::Text),
-            Op::BCreate => Kinds::one(Kind::Brigade),
-            Op::BClean => Kinds::one(Kind::Source),
-            Op::BConcat => Kinds::two(Kind::Source, Kind::Source),
-            Op::BSave => Kinds::two(Kind::Brigade, Kind::Source),
-            Op::Pass => Kinds::two(Kind::Source, Kind::Label),
-            Op::JEmpty => Kinds::two(Kind::Source, Kind::Label),
-            Op::Put => Kinds::two(Kind::Value, Kind::Label),
-            Op::ClearBuf => Kinds::none(),
-            Op::Set => Kinds::two(Kind::Number, Kind::Value),
-            Op::Add => Kinds::two(Kind::Number, Kind::Value),
-            Op::Sub => Kinds::two(Kind::Number, Kind::Value),
-            Op::JLt => Kinds::three(Kind::Number, Kind::Value, Kind::Label),
-            Op::JEq => Kinds::three(Kind::Number, Kind::Value, Kind::Label),
-            Op::JNull => Kinds::two(Kind::Variable, Kind::Label),
-            Op::JSent => Kinds::one(Kind::Label),
-            Op::Jump => Kinds::one(Kind::Label),
-            Op::Ret => Kinds::one(Kind::Ending),
-        }
+        self.signature().kinds
+    }
+
+    /// Whether the next instruction can follow.
+    pub fn goes_on(self) -> bool
+        ensures { result ≡ op_goes_on self }
+    {
+        self.signature().goes_on
     }
 }
 
