@@ -24,8 +24,8 @@ use Rattle.module_lang.specs.declared.operand.Operand.{Operand}
 use Rattle.module_lang.specs.declared.operand.Operand.TheVariants as operand
 use Rattle.module_lang.specs.declared.operand.Operands.{Operands}
 use Rattle.module_lang.specs.declared.refusal.Code.TheVariants as code
-use Rattle.module_lang.specs.declared.word.Kind.{Kind}
-use Rattle.module_lang.specs.declared.word.Kind.TheVariants as kind
+use Rattle.module_lang.specs.declared.word.OperandKind.{OperandKind}
+use Rattle.module_lang.specs.declared.word.OperandKind.TheVariants as kind
 use Rattle.module_lang.specs.declared.word.Word.{Word}
 use Rattle.module_lang.proofs.LineLaws.{bind_ok, unless_ok, not_false}
 use Rattle.module_lang.proofs.NumberLaws.{constant_found, decimal_without}
@@ -56,12 +56,12 @@ unfolding word_at
 word_spelled t w h = sym (same_text (word_text w) t (sym (found_passes (λ x. pointwise nat_eq (word_text x) t) all_words w h)))
 
 -- a token was read as an operand
-pub record Reads (k : Kind) (rest : List ℕ) (o : Operand) : Type 0 where
+pub record Reads (k : OperandKind) (rest : List ℕ) (o : Operand) : Type 0 where
   pub token : List ℕ
   pub read : operand_in k token ≡ Some o
   pub spelled : rest ≡ 32 ∷ (token ++ after_operand k rest)
 
-pub read_token : (k : Kind) (rest : List ℕ) (o : Operand) → operand_kind_is_nothing k ≡ false → operand_kind_is_text k ≡ false → operand_at k rest ≡ Ok o → Reads k rest o
+pub read_token : (k : OperandKind) (rest : List ℕ) (o : Operand) → operand_kind_is_nothing k ≡ false → operand_kind_is_text k ≡ false → operand_at k rest ≡ Ok o → Reads k rest o
 unfolding operand_at after_operand
 read_token k [] o n q h = let z = rw n at h in absurd (cc z)
 read_token k (b ∷ bs) o n q h = space (eqb b 32) refl (rw (n, q) at h)
@@ -158,7 +158,7 @@ value_spelled : (a : Bool) (t : List ℕ) (o : Operand) → cond a (option_map (
 value_spelled true t o e = number_spelled (numbered 110 t) t o refl e
 value_spelled false t o e = constant_spelled (constant_of t) t o refl e
 
-pub token_spelled : (k : Kind) (t : List ℕ) (o : Operand) → operand_in k t ≡ Some o → Spells o t
+pub token_spelled : (k : OperandKind) (t : List ℕ) (o : Operand) → operand_in k t ≡ Some o → Spells o t
 unfolding operand_in
 token_spelled kind.Nothing t o e = absurd (cc e)
 token_spelled kind.One t o e = one_spelled (pointwise nat_eq t (codes "1")) t o refl e
@@ -183,12 +183,12 @@ none_spelled rest o h =
     let c = chain no_operand rest o h in
     rw (nothing_behind rest, nothing_behind rest, nothing_behind rest, nothing_behind rest) at c.last
 
-pub record OneSpelled (k : Kind) (rest : List ℕ) (o : Operands) : Type 0 where
+pub record OneSpelled (k : OperandKind) (rest : List ℕ) (o : Operands) : Type 0 where
   pub token : List ℕ
   pub whole : rest ≡ operands_text (token ∷ [])
   pub first : Spells o.first token
 
-pub one_taken : (k : Kind) (rest : List ℕ) (o : Operands) → operand_kind_is_nothing k ≡ false → operand_kind_is_text k ≡ false → operands_at (one_operand k) rest ≡ Ok o → OneSpelled k rest o
+pub one_taken : (k : OperandKind) (rest : List ℕ) (o : Operands) → operand_kind_is_nothing k ≡ false → operand_kind_is_text k ≡ false → operands_at (one_operand k) rest ≡ Ok o → OneSpelled k rest o
 one_taken k rest o n q h =
     let c = chain (one_operand k) rest o h in
     let r = after_operand k rest in
@@ -196,14 +196,14 @@ one_taken k rest o n q h =
     let none : r ≡ [] = rw (nothing_behind r, nothing_behind r, nothing_behind r) at c.last in
     record { token = x.token; whole = x.spelled ∙ ap (λ ys. 32 ∷ (x.token ++ ys)) none; first = token_spelled k x.token o.first x.read }
 
-pub record TwoSpelled (k l : Kind) (rest : List ℕ) (o : Operands) : Type 0 where
+pub record TwoSpelled (k l : OperandKind) (rest : List ℕ) (o : Operands) : Type 0 where
   pub one : List ℕ
   pub two : List ℕ
   pub whole : rest ≡ operands_text (one ∷ two ∷ [])
   pub first : Spells o.first one
   pub second : Spells o.second two
 
-pub two_taken : (k l : Kind) (rest : List ℕ) (o : Operands) → operand_kind_is_nothing k ≡ false → operand_kind_is_text k ≡ false → operand_kind_is_nothing l ≡ false → operand_kind_is_text l ≡ false → operands_at (two_operands k l) rest ≡ Ok o → TwoSpelled k l rest o
+pub two_taken : (k l : OperandKind) (rest : List ℕ) (o : Operands) → operand_kind_is_nothing k ≡ false → operand_kind_is_text k ≡ false → operand_kind_is_nothing l ≡ false → operand_kind_is_text l ≡ false → operands_at (two_operands k l) rest ≡ Ok o → TwoSpelled k l rest o
 two_taken k l rest o n q m r h =
     let c = chain (two_operands k l) rest o h in
     let r1 = after_operand k rest in

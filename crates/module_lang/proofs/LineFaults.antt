@@ -18,9 +18,9 @@ use Rattle.module_lang.specs.declared.operand.Operand.{Operand}
 use Rattle.module_lang.specs.declared.operand.Operands.{Operands}
 use Rattle.module_lang.specs.declared.refusal.Code.{Code}
 use Rattle.module_lang.specs.declared.refusal.Code.TheVariants as code
-use Rattle.module_lang.specs.declared.word.Kind.{Kind}
-use Rattle.module_lang.specs.declared.word.Kind.TheVariants as kind
-use Rattle.module_lang.specs.declared.word.Kinds.{Kinds}
+use Rattle.module_lang.specs.declared.word.OperandKind.{OperandKind}
+use Rattle.module_lang.specs.declared.word.OperandKind.TheVariants as kind
+use Rattle.module_lang.specs.declared.word.OperandKinds.{OperandKinds}
 use Rattle.module_lang.specs.declared.word.Word.{Word}
 use Rattle.module_lang.specs.declared.word.Word.TheVariants as word
 use Rattle.module_lang.proofs.InverseLaws.{tokens, word_spelled}
@@ -161,7 +161,7 @@ two_tests x false false = all_tests x false false false false false ⊥ (λ e. a
 abbrev pub said_of : Draft → Said
 said_of d = record { part = d.part; pools = d.pools; brigades = d.brigades; instructions = instruction_count d; texts = length d.texts }
 
-text_stands : (k : Kind) (bytes : List ℕ) (o : Operand) (rest : List ℕ) → Stands k bytes o rest → is_text_operand o ≡ is_text k
+text_stands : (k : OperandKind) (bytes : List ℕ) (o : Operand) (rest : List ℕ) → Stands k bytes o rest → is_text_operand o ≡ is_text k
 text_stands kind.Nothing bytes o rest h = ap is_text_operand h.0
 text_stands kind.One bytes o rest h = ap is_text_operand h.2.0
 text_stands kind.Place bytes o rest h = ap is_text_operand h.2.1
@@ -176,7 +176,7 @@ text_stands kind.Variable bytes o rest (t, e, inr h, b) = ap is_text_operand h.1
 text_stands kind.Number bytes o rest h = ap is_text_operand h.2.1
 text_stands kind.Value bytes o rest h = ap is_text_operand h.2.1
 
-pub text_written : (k : Kinds) (bytes : List ℕ) (o : Operands) → AreWritten k bytes o → has_text o ≡ has_text_kind k
+pub text_written : (k : OperandKinds) (bytes : List ℕ) (o : Operands) → AreWritten k bytes o → has_text o ≡ has_text_kind k
 text_written k bytes o w =
     let a = text_stands k.first bytes o.first w.behind_first w.first in
     let b = text_stands k.second w.behind_first o.second w.behind_second w.second in

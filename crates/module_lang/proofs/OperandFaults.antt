@@ -19,9 +19,9 @@ use Rattle.module_lang.specs.declared.operand.Operand.TheVariants as operand
 use Rattle.module_lang.specs.declared.operand.Operands.{Operands}
 use Rattle.module_lang.specs.declared.refusal.Code.{Code}
 use Rattle.module_lang.specs.declared.refusal.Code.TheVariants as code
-use Rattle.module_lang.specs.declared.word.Kind.{Kind}
-use Rattle.module_lang.specs.declared.word.Kind.TheVariants as kind
-use Rattle.module_lang.specs.declared.word.Kinds.{Kinds}
+use Rattle.module_lang.specs.declared.word.OperandKind.{OperandKind}
+use Rattle.module_lang.specs.declared.word.OperandKind.TheVariants as kind
+use Rattle.module_lang.specs.declared.word.OperandKinds.{OperandKinds}
 use Rattle.module_lang.proofs.InverseLaws.{Reads, Spells, chain, name_spelled, own_is, read_token, token_spelled}
 use Rattle.module_lang.proofs.QuoteFound.{quoted_found}
 use Rattle.module_lang.proofs.QuoteLaws.{quoted_again}
@@ -74,7 +74,7 @@ variable_low : (a : Bool) (t : List ℕ) (o : Operand) → Spells o t → cond a
 variable_low true t o s e = let p = pool_low (numbered 112 t) t o refl e in inl (p.0, p.1, subst (λ x. Spells x t) p.1 s, p.2)
 variable_low false t o s e = let p = brigade_low (numbered 98 t) t o refl e in inr (p.0, p.1, subst (λ x. Spells x t) p.1 s ∙ sym (own_is p.0 p.2), p.2)
 
-spelled_as : (k : Kind) (t : List ℕ) (o : Operand) → operand_in k t ≡ Some o → IsSpelled k o t
+spelled_as : (k : OperandKind) (t : List ℕ) (o : Operand) → operand_in k t ≡ Some o → IsSpelled k o t
 unfolding operand_in
 spelled_as kind.Nothing t o e = absurd (cc e)
 spelled_as kind.One t o e =
@@ -115,7 +115,7 @@ below_or_8 b h = either (cases_lt b 8)
     either (inr g) = let e : b ≡ 8 = omega arith in rw e refl
 
 -- what spells an operand is a token of it
-operand_of : (k : Kind) (t : List ℕ) (o : Operand) → IsSpelled k o t → IsOperand k o t
+operand_of : (k : OperandKind) (t : List ℕ) (o : Operand) → IsSpelled k o t → IsOperand k o t
 unfolding operand_in
 operand_of kind.Nothing t o h = absurd h
 operand_of kind.One t o h = rw (h.0, h.1) (record { some = refl; bare = refl; read = refl; plain = refl })
@@ -132,7 +132,7 @@ operand_of kind.Number t o h = rw (h.1, h.2) (number_again h.0 h.3)
 operand_of kind.Value t o h = rw (h.1, h.2) (value_again h.0 h.3)
 
 -- an operand that was read stands there
-stands_token : (k : Kind) (bytes : List ℕ) (o : Operand) → Reads k bytes o → IsBreak (after_operand k bytes) → (t : List ℕ) × (bytes ≡ 32 ∷ (t ++ after_operand k bytes)) × IsSpelled k o t × IsBreak (after_operand k bytes)
+stands_token : (k : OperandKind) (bytes : List ℕ) (o : Operand) → Reads k bytes o → IsBreak (after_operand k bytes) → (t : List ℕ) × (bytes ≡ 32 ∷ (t ++ after_operand k bytes)) × IsSpelled k o t × IsBreak (after_operand k bytes)
 stands_token k bytes o r b = (r.token, r.spelled, spelled_as k r.token o r.read, b)
 
 text_read : (bytes : List ℕ) (o : Operand) → operand_at kind.Text bytes ≡ Ok o → Stands kind.Text bytes o (after_operand kind.Text bytes)
@@ -156,7 +156,7 @@ text_read (b ∷ bs) o h = space (eqb b 32) refl h
     space false q e = absurd (cc e)
     space true q e = quote (begins 34 bs) (eqb-true b 32 q) e
 
-stands : (k : Kind) (bytes : List ℕ) (o : Operand) → operand_at k bytes ≡ Ok o → Stands k bytes o (after_operand k bytes)
+stands : (k : OperandKind) (bytes : List ℕ) (o : Operand) → operand_at k bytes ≡ Ok o → Stands k bytes o (after_operand k bytes)
 unfolding operand_at after_operand
 stands kind.Nothing bytes o h = (sym (cc h), refl)
 stands kind.One bytes o h = stands_token kind.One bytes o (read_token kind.One bytes o refl refl h) (after_break (tail bytes))
@@ -172,13 +172,13 @@ stands kind.Number bytes o h = stands_token kind.Number bytes o (read_token kind
 stands kind.Value bytes o h = stands_token kind.Value bytes o (read_token kind.Value bytes o refl refl h) (after_break (tail bytes))
 
 -- an operand that stands there is read
-abbrev Again : Kind → List ℕ → Operand → List ℕ → Type 0
+abbrev Again : OperandKind → List ℕ → Operand → List ℕ → Type 0
 Again k bytes o rest = (operand_at k bytes ≡ Ok o) × (after_operand k bytes ≡ rest)
 
-token_read : (k : Kind) (bytes : List ℕ) (o : Operand) (rest t : List ℕ) → bytes ≡ 32 ∷ (t ++ rest) → IsSpelled k o t → IsBreak rest → Again k bytes o rest
+token_read : (k : OperandKind) (bytes : List ℕ) (o : Operand) (rest t : List ℕ) → bytes ≡ 32 ∷ (t ++ rest) → IsSpelled k o t → IsBreak rest → Again k bytes o rest
 token_read k bytes o rest t e s b = rw e (operand_again k o t rest (operand_of k t o s) (stops_of rest b), behind_again k o t rest (operand_of k t o s) (stops_of rest b))
 
-again : (k : Kind) (bytes : List ℕ) (o : Operand) (rest : List ℕ) → Stands k bytes o rest → Again k bytes o rest
+again : (k : OperandKind) (bytes : List ℕ) (o : Operand) (rest : List ℕ) → Stands k bytes o rest → Again k bytes o rest
 unfolding operand_at after_operand
 again kind.Nothing bytes o rest h = (ap Ok (sym h.0), sym h.1)
 again kind.One bytes o rest h = token_read kind.One bytes o rest h.0 h.1 h.2 h.3
@@ -194,7 +194,7 @@ again kind.Number bytes o rest h = token_read kind.Number bytes o rest h.0 h.1 h
 again kind.Value bytes o rest h = token_read kind.Value bytes o rest h.0 h.1 h.2 h.3
 
 -- operands that were read are written there, and the other way round
-pub written : (k : Kinds) (bytes : List ℕ) (o : Operands) → operands_at k bytes ≡ Ok o → AreWritten k bytes o
+pub written : (k : OperandKinds) (bytes : List ℕ) (o : Operands) → operands_at k bytes ≡ Ok o → AreWritten k bytes o
 written k bytes o h =
     let c = chain k bytes o h in
     let r1 = after_operand k.first bytes in
@@ -210,7 +210,7 @@ written k bytes o h =
       fourth = subst (Stands k.fourth r3 o.fourth) c.last (stands k.fourth r3 o.fourth c.fourth);
     }
 
-pub written_again : (k : Kinds) (bytes : List ℕ) (o : Operands) → AreWritten k bytes o → operands_at k bytes ≡ Ok o
+pub written_again : (k : OperandKinds) (bytes : List ℕ) (o : Operands) → AreWritten k bytes o → operands_at k bytes ≡ Ok o
 unfolding operands_at
 written_again k bytes o w =
     let a = again k.first bytes o.first w.behind_first w.first in
@@ -223,10 +223,10 @@ abbrev failed : Code → Result Operand Code
 failed c = Err c
 
 -- an operand is wrong, or a text is faulty
-abbrev IsWrong : Kind → List ℕ → Code → Type 0
+abbrev IsWrong : OperandKind → List ℕ → Code → Type 0
 IsWrong k bytes c = (c ≡ code.WrongOperands) ⊎ ((c ≡ code.FaultyText) × IsFaultyText k bytes)
 
-wrong_token : (k : Kind) (bytes : List ℕ) (x : Bool) (r : Option Operand) (c : Code) → cond x (Err code.WrongOperands) (or_wrong r) ≡ Err c → IsWrong k bytes c
+wrong_token : (k : OperandKind) (bytes : List ℕ) (x : Bool) (r : Option Operand) (c : Code) → cond x (Err code.WrongOperands) (or_wrong r) ≡ Err c → IsWrong k bytes c
 wrong_token k bytes true r c h = inl (sym (cc h))
 wrong_token k bytes false None c h = inl (sym (cc h))
 wrong_token k bytes false (Some o) c h = absurd (cc h)
@@ -264,7 +264,7 @@ wrong_text (b ∷ d ∷ bs) c h = space (eqb b 32) refl h
     space false q e = inl (sym (cc e))
     space true q e = quote (eqb d 34) refl (eqb-true b 32 q) e
 
-wrong : (k : Kind) (bytes : List ℕ) (c : Code) → operand_at k bytes ≡ Err c → IsWrong k bytes c
+wrong : (k : OperandKind) (bytes : List ℕ) (c : Code) → operand_at k bytes ≡ Err c → IsWrong k bytes c
 unfolding operand_at
 wrong kind.Nothing bytes c h = absurd (cc h)
 wrong kind.One bytes c h = wrong_token kind.One bytes (not (begins 32 bytes)) (operand_in kind.One (token (tail bytes))) c h
@@ -279,7 +279,7 @@ wrong kind.Variable bytes c h = wrong_token kind.Variable bytes (not (begins 32 
 wrong kind.Number bytes c h = wrong_token kind.Number bytes (not (begins 32 bytes)) (operand_in kind.Number (token (tail bytes))) c h
 wrong kind.Value bytes c h = wrong_token kind.Value bytes (not (begins 32 bytes)) (operand_in kind.Value (token (tail bytes))) c h
 
-wrong_again : (k : Kind) (bytes : List ℕ) → IsFaultyText k bytes → operand_at k bytes ≡ Err code.FaultyText
+wrong_again : (k : OperandKind) (bytes : List ℕ) → IsFaultyText k bytes → operand_at k bytes ≡ Err code.FaultyText
 unfolding operand_at
 wrong_again kind.Nothing bytes h = absurd h
 wrong_again kind.One bytes h = absurd h
@@ -295,10 +295,10 @@ wrong_again kind.Number bytes h = absurd h
 wrong_again kind.Value bytes h = absurd h
 
 -- operands that were refused are wrong, or have a faulty text
-abbrev pub AreRefused : Kinds → List ℕ → Code → Type 0
+abbrev pub AreRefused : OperandKinds → List ℕ → Code → Type 0
 AreRefused k bytes c = (c ≡ code.WrongOperands) ⊎ ((c ≡ code.FaultyText) × HasFaultyText (kinds_of k) bytes)
 
-pub refused : (k : Kinds) (bytes : List ℕ) (c : Code) → operands_at k bytes ≡ Err c → AreRefused k bytes c
+pub refused : (k : OperandKinds) (bytes : List ℕ) (c : Code) → operands_at k bytes ≡ Err c → AreRefused k bytes c
 unfolding operands_at
 refused k bytes c h = first (operand_at k.first bytes) refl h
   where
@@ -354,7 +354,7 @@ refused k bytes c h = first (operand_at k.first bytes) refl h
     first (Ok w) s e = second w s (operand_at k.second r1) refl e
 
 -- operands with a faulty text are refused by it
-pub refused_again : (k : Kinds) (bytes : List ℕ) → HasFaultyText (kinds_of k) bytes → operands_at k bytes ≡ Err code.FaultyText
+pub refused_again : (k : OperandKinds) (bytes : List ℕ) → HasFaultyText (kinds_of k) bytes → operands_at k bytes ≡ Err code.FaultyText
 unfolding operands_at
 refused_again k bytes (inl f) = rw (wrong_again k.first bytes f) refl
 refused_again k bytes (inr (w, r1, p, inl f)) = let a = again k.first bytes w r1 p in rw (a.0, a.1, wrong_again k.second r1 f) refl

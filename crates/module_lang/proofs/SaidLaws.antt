@@ -23,9 +23,9 @@ use Rattle.module_lang.specs.declared.operand.Operand.{Operand}
 use Rattle.module_lang.specs.declared.operand.Operands.{Operands}
 use Rattle.module_lang.specs.declared.refusal.Code.{Code}
 use Rattle.module_lang.specs.declared.refusal.Code.TheVariants as code
-use Rattle.module_lang.specs.declared.word.Kind.{Kind}
-use Rattle.module_lang.specs.declared.word.Kind.TheVariants as kind
-use Rattle.module_lang.specs.declared.word.Kinds.{Kinds}
+use Rattle.module_lang.specs.declared.word.OperandKind.{OperandKind}
+use Rattle.module_lang.specs.declared.word.OperandKind.TheVariants as kind
+use Rattle.module_lang.specs.declared.word.OperandKinds.{OperandKinds}
 use Rattle.module_lang.specs.declared.word.Op.{Op}
 use Rattle.module_lang.specs.declared.word.Word.{Word}
 use Rattle.module_lang.specs.declared.word.Word.TheVariants as word
@@ -80,7 +80,7 @@ said_push ss s p q w e h g = record {
 }
 
 -- the word of a statement
-stands_break : (k : Kind) (bytes : List ℕ) (o : Operand) (rest : List ℕ) → Stands k bytes o rest → IsBreak rest → IsBreak bytes
+stands_break : (k : OperandKind) (bytes : List ℕ) (o : Operand) (rest : List ℕ) → Stands k bytes o rest → IsBreak rest → IsBreak bytes
 stands_break kind.Nothing bytes o rest h b = subst IsBreak h.1 b
 stands_break kind.One bytes o rest h b = rw h.1 refl
 stands_break kind.Place bytes o rest h b = rw h.1 refl
@@ -94,7 +94,7 @@ stands_break kind.Number bytes o rest h b = rw h.1 refl
 stands_break kind.Value bytes o rest h b = rw h.1 refl
 stands_break kind.Text bytes o rest h b = rw h.2 refl
 
-pub written_break : (k : Kinds) (bytes : List ℕ) (o : Operands) → AreWritten k bytes o → IsBreak bytes
+pub written_break : (k : OperandKinds) (bytes : List ℕ) (o : Operands) → AreWritten k bytes o → IsBreak bytes
 written_break k bytes o w = stands_break k.first bytes o.first w.behind_first w.first (stands_break k.second w.behind_first o.second w.behind_second w.second (stands_break k.third w.behind_second o.third w.behind_third w.third (stands_break k.fourth w.behind_third o.fourth [] w.fourth tt)))
 
 pub item_word : (d : Draft) (s : List ℕ) (w : Word) (o : Operands) → Item d s w o → word_of s ≡ Some w

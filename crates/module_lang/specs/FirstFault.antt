@@ -25,9 +25,9 @@ use Rattle.module_lang.specs.declared.refusal.AsmRefusal.{AsmRefusal}
 use Rattle.module_lang.specs.declared.refusal.AsmRefusal.TheVariants.{Fault, NoMemory}
 use Rattle.module_lang.specs.declared.refusal.Code.{Code}
 use Rattle.module_lang.specs.declared.refusal.Code.TheVariants as code
-use Rattle.module_lang.specs.declared.word.Kind.{Kind}
-use Rattle.module_lang.specs.declared.word.Kind.TheVariants as kind
-use Rattle.module_lang.specs.declared.word.Kinds.{Kinds}
+use Rattle.module_lang.specs.declared.word.OperandKind.{OperandKind}
+use Rattle.module_lang.specs.declared.word.OperandKind.TheVariants as kind
+use Rattle.module_lang.specs.declared.word.OperandKinds.{OperandKinds}
 use Rattle.module_lang.specs.declared.word.Op.{Op}
 use Rattle.module_lang.specs.declared.word.Word.{Word}
 use Rattle.module_lang.specs.declared.word.Word.TheVariants as word
@@ -72,12 +72,12 @@ abbrev pub is_instruction : Option Word → Bool
 is_instruction (Some (word.Op i)) = true
 is_instruction _ = false
 
-abbrev pub is_text : Kind → Bool
+abbrev pub is_text : OperandKind → Bool
 is_text kind.Text = true
 is_text _ = false
 
 -- an instruction with these operands has a text
-abbrev pub has_text_kind : Kinds → Bool
+abbrev pub has_text_kind : OperandKinds → Bool
 has_text_kind k = is_text k.first || is_text k.second || is_text k.third || is_text k.fourth
 
 abbrev pub has_text : Option Word → Bool
@@ -103,7 +103,7 @@ pub record Begins (line : List ℕ) (w : Word) (bytes : List ℕ) : Type 0 where
   pub ends : IsBreak bytes
 
 -- an operand of a kind is written so; texts are not
-abbrev pub IsSpelled : Kind → Operand → List ℕ → Type 0
+abbrev pub IsSpelled : OperandKind → Operand → List ℕ → Type 0
 IsSpelled kind.Nothing o t = ⊥
 IsSpelled kind.One o t = (o ≡ operand.One) × (t ≡ codes "1")
 IsSpelled kind.Place o t = (p : PoolRef) × (o ≡ operand.Place p) × (t ≡ place_text p) × (place_is_declared 8 p ≡ true)
@@ -120,14 +120,14 @@ IsSpelled kind.Number o t = (i : ℕ) × (o ≡ number_operand i) × (t ≡ numb
 IsSpelled kind.Value o t = (v : Value) × (o ≡ operand.Value v) × (t ≡ value_text v) × (is_value v ≡ true)
 
 -- these bytes are a space, an operand of a kind, and the rest
-abbrev pub Stands : Kind → List ℕ → Operand → List ℕ → Type 0
+abbrev pub Stands : OperandKind → List ℕ → Operand → List ℕ → Type 0
 Stands kind.Nothing bytes o rest = (o ≡ operand.Nothing) × (rest ≡ bytes)
 Stands kind.Text bytes o rest =
     (s : List ℕ) × (text : List ℕ) × (bytes ≡ 32 ∷ (s ++ rest)) × Spells s text × (o ≡ operand.Text (length text))
 Stands k bytes o rest = (t : List ℕ) × (bytes ≡ 32 ∷ (t ++ rest)) × IsSpelled k o t × IsBreak rest
 
 -- these bytes are operands of these kinds
-pub record AreWritten (k : Kinds) (bytes : List ℕ) (o : Operands) : Type 0 where
+pub record AreWritten (k : OperandKinds) (bytes : List ℕ) (o : Operands) : Type 0 where
   pub behind_first : List ℕ
   pub behind_second : List ℕ
   pub behind_third : List ℕ
@@ -137,17 +137,17 @@ pub record AreWritten (k : Kinds) (bytes : List ℕ) (o : Operands) : Type 0 whe
   pub fourth : Stands k.fourth behind_third o.fourth []
 
 -- where a text is due there is a quote, and no text
-abbrev pub IsFaultyText : Kind → List ℕ → Type 0
+abbrev pub IsFaultyText : OperandKind → List ℕ → Type 0
 IsFaultyText kind.Text bytes =
     (t : List ℕ) × (bytes ≡ 32 ∷ 34 ∷ t) × ((text : List ℕ) → StandsIn text (34 ∷ t) → ⊥)
 IsFaultyText _ bytes = ⊥
 
 -- operands, and then a faulty text
-abbrev pub HasFaultyText : List Kind → List ℕ → Type 0
+abbrev pub HasFaultyText : List OperandKind → List ℕ → Type 0
 HasFaultyText [] bytes = ⊥
 HasFaultyText (k ∷ ks) bytes = IsFaultyText k bytes ⊎ ((o : Operand) × (rest : List ℕ) × Stands k bytes o rest × HasFaultyText ks rest)
 
-abbrev pub kinds_of : Kinds → List Kind
+abbrev pub kinds_of : OperandKinds → List OperandKind
 kinds_of k = k.first ∷ k.second ∷ k.third ∷ k.fourth ∷ []
 
 -- a word with operands that may not stand together there: a declaration that is not the next one, or one brigade twice

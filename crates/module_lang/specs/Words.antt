@@ -6,21 +6,21 @@ use Rattle.module_lang.specs.declared.word.Op.{Op}
 use Rattle.module_lang.specs.declared.word.Op.TheVariants as op
 use Rattle.module_lang.specs.declared.word.Word.{Word}
 use Rattle.module_lang.specs.declared.word.Word.TheVariants as word
-use Rattle.module_lang.specs.declared.word.Kind.{Kind}
-use Rattle.module_lang.specs.declared.word.Kind.TheVariants as kind
-use Rattle.module_lang.specs.declared.word.Kinds.{Kinds}
+use Rattle.module_lang.specs.declared.word.OperandKind.{OperandKind}
+use Rattle.module_lang.specs.declared.word.OperandKind.TheVariants as kind
+use Rattle.module_lang.specs.declared.word.OperandKinds.{OperandKinds}
 use Rattle.module_lang.specs.declared.word.Signature.{Signature}
 
-abbrev pub three_operands : Kind → Kind → Kind → Kinds
+abbrev pub three_operands : OperandKind → OperandKind → OperandKind → OperandKinds
 three_operands a b c = record { first = a; second = b; third = c; fourth = kind.Nothing }
 
-abbrev pub two_operands : Kind → Kind → Kinds
+abbrev pub two_operands : OperandKind → OperandKind → OperandKinds
 two_operands a b = three_operands a b kind.Nothing
 
-abbrev pub one_operand : Kind → Kinds
+abbrev pub one_operand : OperandKind → OperandKinds
 one_operand a = two_operands a kind.Nothing
 
-abbrev pub no_operand : Kinds
+abbrev pub no_operand : OperandKinds
 no_operand = one_operand kind.Nothing
 
 -- how the word of an instruction is written
@@ -49,10 +49,10 @@ op_text op.Jump = codes "jump"
 op_text op.Ret = codes "ret"
 
 -- the next instruction can follow, or not
-abbrev pub going_on : Kinds → Signature
+abbrev pub going_on : OperandKinds → Signature
 going_on k = record { kinds = k; goes_on = true }
 
-abbrev pub leaving : Kinds → Signature
+abbrev pub leaving : OperandKinds → Signature
 leaving k = record { kinds = k; goes_on = false }
 
 -- the operands of an instruction, and whether the next one can follow
@@ -80,7 +80,7 @@ signature op.JSent = going_on (one_operand kind.Label)
 signature op.Jump = leaving (one_operand kind.Label)
 signature op.Ret = leaving (one_operand kind.Ending)
 
-abbrev pub op_kinds : Op → Kinds
+abbrev pub op_kinds : Op → OperandKinds
 op_kinds o = (signature o).kinds
 
 abbrev pub op_goes_on : Op → Bool
@@ -98,7 +98,7 @@ word_text word.End = codes "end"
 word_text (word.Op o) = op_text o
 
 -- its operands
-unfoldable pub word_kinds : Word → Kinds
+unfoldable pub word_kinds : Word → OperandKinds
 word_kinds word.Module = one_operand kind.One
 word_kinds word.Pool = two_operands kind.Pool kind.Place
 word_kinds word.Brigade = two_operands kind.Brigade kind.Place
