@@ -14,9 +14,9 @@ use Rattle.module_lang.specs.declared.instr.Instr.{Instr}
 use Rattle.module_lang.specs.declared.instr.Instr.TheVariants as instr
 use Rattle.module_lang.specs.declared.instr.VarRef.TheVariants as variable
 use Rattle.module_lang.specs.declared.operand.Operands.{Operands}
-use Rattle.module_lang.specs.declared.word.Kind.{Kind}
-use Rattle.module_lang.specs.declared.word.Kind.TheVariants as kind
-use Rattle.module_lang.specs.declared.word.Kinds.{Kinds}
+use Rattle.module_lang.specs.declared.word.OperandKind.{OperandKind}
+use Rattle.module_lang.specs.declared.word.OperandKind.TheVariants as kind
+use Rattle.module_lang.specs.declared.word.OperandKinds.{OperandKinds}
 use Rattle.module_lang.specs.declared.word.Op.{Op}
 use Rattle.module_lang.specs.declared.word.Op.TheVariants as op
 
@@ -24,7 +24,7 @@ abbrev four : Arg → Arg → Arg → Arg → Args
 four a b c d = record { first = a; second = b; third = c; fourth = d }
 
 -- an operand that its kind knows
-abbrev as_kind : Kind → Arg → Arg
+abbrev as_kind : OperandKind → Arg → Arg
 as_kind kind.Nothing a = arg.Nothing
 as_kind kind.One a = arg.Nothing
 as_kind kind.Place a = arg.Place (arg_place a)
@@ -38,7 +38,7 @@ as_kind kind.Variable a = arg.Variable (arg_variable a)
 as_kind kind.Number a = arg.Number (arg_index a)
 as_kind kind.Value a = arg.Value (arg_value a)
 
-same_kind : (k : Kind) (a : Arg) → is_of k a ≡ true → as_kind k a ≡ a
+same_kind : (k : OperandKind) (a : Arg) → is_of k a ≡ true → as_kind k a ≡ a
 same_kind kind.Nothing arg.Nothing h = refl
 same_kind kind.Place (arg.Place p) h = refl
 same_kind kind.Pool (arg.Pool i) h = refl
@@ -98,16 +98,16 @@ pub formed : (i : Instr) → AreFormed (args i)
 formed instr.ClearBuf = record { targets = refl; first = refl; second = refl; third = refl; fourth = refl; one_two = refl; one_three = refl; two_three = refl }
 formed _ = record { targets = refl; first = refl; second = refl; third = refl; fourth = refl; one_two = refl; one_three = refl; two_three = refl }
 
-abbrev pub is_label : Kind → Bool
+abbrev pub is_label : OperandKind → Bool
 is_label kind.Label = true
 is_label _ = false
 
-abbrev pub is_version : Kind → Bool
+abbrev pub is_version : OperandKind → Bool
 is_version kind.One = true
 is_version _ = false
 
 -- At most one operand of a word is a label, a text is the second, and none is the version.
-pub record AreOpKinds (k : Kinds) : Type 0 where
+pub record AreOpKinds (k : OperandKinds) : Type 0 where
   pub labels : at_most_one (is_label k.first) (is_label k.second) (is_label k.third) (is_label k.fourth) ≡ true
   pub first : operand_kind_is_text k.first ≡ false
   pub third : operand_kind_is_text k.third ≡ false
@@ -152,7 +152,7 @@ label_target (instr.JNull (variable.Pool q) l) n k = refl
 label_target (instr.JNull (variable.Brigade b) l) n k = refl
 label_target _ n k = refl
 
-arg_made : (k : Kind) (a : Arg) (n : List ℕ) (len x t : ℕ) → is_of k a ≡ true → IfSome (names_target a) (λ u. t ≡ u) → IfSome (names_text a) (λ u. x ≡ u) → arg_in k (operand_of a n len) x t ≡ a
+arg_made : (k : OperandKind) (a : Arg) (n : List ℕ) (len x t : ℕ) → is_of k a ≡ true → IfSome (names_target a) (λ u. t ≡ u) → IfSome (names_text a) (λ u. x ≡ u) → arg_in k (operand_of a n len) x t ≡ a
 arg_made kind.Nothing arg.Nothing n len x t h a w = refl
 arg_made kind.Place (arg.Place p) n len x t h a w = refl
 arg_made kind.Pool (arg.Pool q) n len x t h a w = refl

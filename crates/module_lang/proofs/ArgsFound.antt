@@ -21,19 +21,19 @@ use Rattle.module_lang.specs.declared.instr.Value.TheVariants as value
 use Rattle.module_lang.specs.declared.operand.Operand.{Operand}
 use Rattle.module_lang.specs.declared.operand.Operand.TheVariants as operand
 use Rattle.module_lang.specs.declared.operand.Operands.{Operands}
-use Rattle.module_lang.specs.declared.word.Kind.{Kind}
-use Rattle.module_lang.specs.declared.word.Kind.TheVariants as kind
+use Rattle.module_lang.specs.declared.word.OperandKind.{OperandKind}
+use Rattle.module_lang.specs.declared.word.OperandKind.TheVariants as kind
 use Rattle.module_lang.specs.declared.word.Op.{Op}
 use Rattle.module_lang.specs.declared.word.Op.TheVariants as op
 use Rattle.module_lang.proofs.ArgLaws.{is_label, is_version, op_formed, picked}
-use Rattle.module_lang.proofs.InverseLaws.{Spells, chain, own_is, read_token, text_behind, text_taken, token_spelled, token_unquoted}
-use Rattle.module_lang.proofs.OperandLaws.{kinds_read, made, read_kind}
+use Rattle.module_lang.proofs.InverseLaws.{Spells, own_is, read_token, text_behind, text_taken, token_spelled, token_unquoted}
+use Rattle.module_lang.proofs.OperandLaws.{chain, kinds_read, made, read_kind}
 use Rattle.module_lang.proofs.QuoteFound.{quoted_found}
 use Rattle.module_lang.proofs.QuoteLaws.{quote_behind, quoted_again, unquoted}
 use Rattle.module_lang.proofs.SpellingLaws.{padded}
 
 -- An operand that was read is spelled in front of what follows: a label by its name, a text by its spelling.
-pub record Found (k : Kind) (rest : List ℕ) (o : Operand) (x : ℕ) : Type 0 where
+pub record Found (k : OperandKind) (rest : List ℕ) (o : Operand) (x : ℕ) : Type 0 where
   pub name : List ℕ
   pub spelled : List ℕ
   pub text : List ℕ
@@ -45,7 +45,7 @@ pub record Found (k : Kind) (rest : List ℕ) (o : Operand) (x : ℕ) : Type 0 w
   pub bare : operand_kind_is_text k ≡ false → from_quote rest ≡ from_quote (after_operand k rest)
 
 -- a token that was read spells the operand of the instruction
-token_found : (k : Kind) (t : List ℕ) (o : Operand) (x : ℕ) → is_version k ≡ false → of_kind k o ≡ true → Spells o t → (n s : List ℕ) (len : ℕ) → (is_label k ≡ true → n ≡ t) → (arg_texts (arg_in k o x 0) n s ≡ t ∷ []) × (o ≡ operand_of (arg_in k o x 0) (padded n) len)
+token_found : (k : OperandKind) (t : List ℕ) (o : Operand) (x : ℕ) → is_version k ≡ false → of_kind k o ≡ true → Spells o t → (n s : List ℕ) (len : ℕ) → (is_label k ≡ true → n ≡ t) → (arg_texts (arg_in k o x 0) n s ≡ t ∷ []) × (o ≡ operand_of (arg_in k o x 0) (padded n) len)
 token_found kind.One t o x v d h n s len l = absurd (cc v)
 token_found kind.Nothing t operand.Nothing x v d h n s len l = absurd h
 token_found kind.Text t (operand.Text m) x v d h n s len l = absurd h
@@ -61,12 +61,12 @@ token_found kind.Number t (operand.Value (value.Number i)) x v d h n s len l = (
 token_found kind.Value t (operand.Value y) x v d h n s len l = (ap (λ y. y ∷ []) (sym h.0), refl)
 token_found _ t _ x v d h n s len l = absurd (cc d)
 
-label_named : (k : Kind) (t : List ℕ) (o : Operand) → of_kind k o ≡ true → Spells o t → is_label k ≡ true → is_name t ≡ true
+label_named : (k : OperandKind) (t : List ℕ) (o : Operand) → of_kind k o ≡ true → Spells o t → is_label k ≡ true → is_name t ≡ true
 label_named kind.Label t (operand.Label m) d h l = h.0
 label_named kind.Label t _ d h l = absurd (cc d)
 label_named _ t o d h l = absurd (cc l)
 
-bare_found : (k : Kind) (rest : List ℕ) (o : Operand) (x : ℕ) → is_version k ≡ false → operand_kind_is_nothing k ≡ false → operand_kind_is_text k ≡ false → operand_at k rest ≡ Ok o → Found k rest o x
+bare_found : (k : OperandKind) (rest : List ℕ) (o : Operand) (x : ℕ) → is_version k ≡ false → operand_kind_is_nothing k ≡ false → operand_kind_is_text k ≡ false → operand_at k rest ≡ Ok o → Found k rest o x
 bare_found k rest o x v n q h =
     let y = read_token k rest o n q h in
     let d = read_kind k rest o h in
@@ -118,24 +118,24 @@ none_found rest o x h =
       bare = λ e. refl;
     }
 
-pub found : (k : Kind) (rest : List ℕ) (o : Operand) (x : ℕ) → is_version k ≡ false → operand_at k rest ≡ Ok o → Found k rest o x
+pub found : (k : OperandKind) (rest : List ℕ) (o : Operand) (x : ℕ) → is_version k ≡ false → operand_at k rest ≡ Ok o → Found k rest o x
 found kind.Nothing rest o x v h = none_found rest o x h
 found kind.Text rest o x v h = text_found rest o x h
 found kind.One rest o x v h = absurd (cc v)
 found kind.Place rest o x v h = bare_found kind.Place rest o x v refl refl h
 found k rest o x v h = bare_found k rest o x v refl refl h
 
-kind_text : (k : Kind) (o : Operand) → of_kind k o ≡ true → is_text_operand o ≡ operand_kind_is_text k
+kind_text : (k : OperandKind) (o : Operand) → of_kind k o ≡ true → is_text_operand o ≡ operand_kind_is_text k
 kind_text kind.Text (operand.Text n) h = refl
 kind_text kind.Text _ h = absurd (cc h)
 kind_text _ (operand.Text n) h = absurd (cc h)
 kind_text _ _ h = refl
 
-target_if : (k : Kind) (o : Operand) (x t : ℕ) (P : Type 0) → (is_label k ≡ true → P) → IfSome (names_target (arg_in k o x t)) (λ _. P)
+target_if : (k : OperandKind) (o : Operand) (x t : ℕ) (P : Type 0) → (is_label k ≡ true → P) → IfSome (names_target (arg_in k o x t)) (λ _. P)
 target_if kind.Label o x t P h = h refl
 target_if _ o x t P h = tt
 
-text_if : (k : Kind) (o : Operand) (x t : ℕ) (P : Type 0) → (operand_kind_is_text k ≡ true → P) → IfSome (names_text (arg_in k o x t)) (λ _. P)
+text_if : (k : OperandKind) (o : Operand) (x t : ℕ) (P : Type 0) → (operand_kind_is_text k ≡ true → P) → IfSome (names_text (arg_in k o x t)) (λ _. P)
 text_if kind.Text o x t P h = h refl
 text_if _ o x t P h = tt
 

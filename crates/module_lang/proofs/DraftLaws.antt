@@ -30,7 +30,7 @@ use Rattle.module_lang.specs.declared.operand.Operand.{Operand}
 use Rattle.module_lang.specs.declared.operand.Operand.TheVariants as operand
 use Rattle.module_lang.specs.declared.operand.Operands.{Operands}
 use Rattle.module_lang.specs.declared.refusal.Code.TheVariants as code
-use Rattle.module_lang.specs.declared.word.Kind.TheVariants as kind
+use Rattle.module_lang.specs.declared.word.OperandKind.TheVariants as kind
 use Rattle.module_lang.specs.declared.word.Op.{Op}
 use Rattle.module_lang.specs.declared.word.Word.{Word}
 use Rattle.module_lang.specs.declared.word.Word.TheVariants as word
@@ -54,21 +54,11 @@ turned d p a b c x y z = record d {
 
 early_turned : (q : Part) (d : Draft) (p : Part) (a b c : List Label) (x y z : ℕ) → early_steps q (turned d p a b c x y z) ≡ early_steps q d
 early_turned part.Start d p a b c x y z = refl
-early_turned part.Pools d p a b c x y z = refl
-early_turned part.Brigades d p a b c x y z = refl
-early_turned part.Open d p a b c x y z = refl
-early_turned part.Init d p a b c x y z = refl
-early_turned part.Main d p a b c x y z = refl
-early_turned part.End d p a b c x y z = refl
+early_turned _ d p a b c x y z = refl
 
 early_pools : (q : Part) (d : Draft) (pools : List PoolRef) → early_steps q (record d { pools = pools }) ≡ early_steps q d
 early_pools part.Start d ps = refl
-early_pools part.Pools d ps = refl
-early_pools part.Brigades d ps = refl
-early_pools part.Open d ps = refl
-early_pools part.Init d ps = refl
-early_pools part.Main d ps = refl
-early_pools part.End d ps = refl
+early_pools _ d ps = refl
 
 turned_keeps : (d : Draft) (p : Part) (a b c : List Label) (x y z : ℕ) → early_steps p d ≡ 0 → IsDraft d → IsDraft (turned d p a b c x y z)
 turned_keeps d p a b c x y z none s = record {
@@ -101,46 +91,29 @@ early_module : (p : Part) (d : Draft) → is_due p word.Module ≡ true → earl
 early_module part.Start d h = refl
 early_module part.Pools d h = refl
 early_module part.Brigades d h = refl
-early_module part.Open d h = absurd (cc h)
-early_module part.Init d h = absurd (cc h)
-early_module part.Main d h = absurd (cc h)
-early_module part.End d h = absurd (cc h)
+early_module _ d h = absurd (cc h)
 
 early_pool : (p : Part) (d : Draft) → is_due p word.Pool ≡ true → early_steps p d ≡ instruction_count d
 early_pool part.Start d h = refl
 early_pool part.Pools d h = refl
 early_pool part.Brigades d h = refl
-early_pool part.Open d h = absurd (cc h)
-early_pool part.Init d h = absurd (cc h)
-early_pool part.Main d h = absurd (cc h)
-early_pool part.End d h = absurd (cc h)
+early_pool _ d h = absurd (cc h)
 
 early_brigade : (p : Part) (d : Draft) → is_due p word.Brigade ≡ true → early_steps p d ≡ instruction_count d
 early_brigade part.Start d h = refl
 early_brigade part.Pools d h = refl
 early_brigade part.Brigades d h = refl
-early_brigade part.Open d h = absurd (cc h)
-early_brigade part.Init d h = absurd (cc h)
-early_brigade part.Main d h = absurd (cc h)
-early_brigade part.End d h = absurd (cc h)
+early_brigade _ d h = absurd (cc h)
 
 early_open : (p : Part) (d : Draft) → is_due p word.Open ≡ true → early_steps p d ≡ instruction_count d
 early_open part.Start d h = refl
 early_open part.Pools d h = refl
 early_open part.Brigades d h = refl
-early_open part.Open d h = absurd (cc h)
-early_open part.Init d h = absurd (cc h)
-early_open part.Main d h = absurd (cc h)
-early_open part.End d h = absurd (cc h)
+early_open _ d h = absurd (cc h)
 
 early_init : (p : Part) (d : Draft) → is_due p word.Init ≡ true → early_steps p d ≡ length d.init.steps + length d.main.steps
-early_init part.Start d h = absurd (cc h)
-early_init part.Pools d h = absurd (cc h)
-early_init part.Brigades d h = absurd (cc h)
 early_init part.Open d h = refl
-early_init part.Init d h = absurd (cc h)
-early_init part.Main d h = absurd (cc h)
-early_init part.End d h = absurd (cc h)
+early_init _ d h = absurd (cc h)
 
 -- more pools declare what was declared
 more_declared : (n : ℕ) (q : PoolRef) → place_is_declared n q ≡ true → place_is_declared (n + 1) q ≡ true
@@ -280,9 +253,6 @@ main_numbers a b c t n m e f =
 
 -- an instruction in the handler that is being read, with its text
 added_keeps : (p : Part) (i : Op) (d : Draft) (ts : List (List ℕ)) (s : Step) → is_due p (word.Op i) ≡ true → instruction_count d < 1024 → IsDraft d → d.part ≡ p → IsStep d.pools d.brigades p s → IsText d ts s → IsDraft (step_added p (record d { texts = d.texts ++ ts }) s)
-added_keeps part.Start i d ts t due low s e h x = absurd (cc due)
-added_keeps part.Pools i d ts t due low s e h x = absurd (cc due)
-added_keeps part.Brigades i d ts t due low s e h x = absurd (cc due)
 added_keeps part.Open i d ts t due low s e h x =
     let one : length (d.open.steps ++ t ∷ []) ≡ length d.open.steps + 1 = length-append d.open.steps (t ∷ []) in
     let early : early_steps part.Open d ≡ 0 = ap (λ q. early_steps q d) (sym e) ∙ s.none in
@@ -337,7 +307,7 @@ added_keeps part.Main i d ts t due low s e h x =
       init = s.init;
       main = All-push (IsStep d.pools d.brigades part.Main) d.main.steps t s.main h;
     }
-added_keeps part.End i d ts t due low s e h x = absurd (cc due)
+added_keeps _ i d ts t due low s e h x = absurd (cc due)
 
 -- the operands of an instruction have a text where the instruction has
 pub has_text_of : (i : Instr) (n : List ℕ) (k : ℕ) → has_text (operands_of i n k) ≡ is_some (text_of_instr i)

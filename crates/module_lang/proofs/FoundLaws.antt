@@ -27,7 +27,7 @@ use Rattle.module_lang.specs.declared.draft.Step.{Step}
 use Rattle.module_lang.specs.declared.operand.Operand.{Operand}
 use Rattle.module_lang.specs.declared.operand.Operand.TheVariants as operand
 use Rattle.module_lang.specs.declared.operand.Operands.{Operands}
-use Rattle.module_lang.specs.declared.word.Kind.TheVariants as kind
+use Rattle.module_lang.specs.declared.word.OperandKind.TheVariants as kind
 use Rattle.module_lang.specs.declared.word.Op.{Op}
 use Rattle.module_lang.specs.declared.word.Word.{Word}
 use Rattle.module_lang.specs.declared.lines.Line.{Line}
@@ -395,71 +395,35 @@ marked_main d n ss s name t e named =
 
 on_module : (q : Part) (d : Draft) (n : ℕ) (bytes : List ℕ) (ss : List (List ℕ)) (s : List ℕ) (o : Operands) → d.part ≡ q → is_due q (word.Module) ≡ true → Item d s (word.Module) o → Told q d ss → Told (item_entered d n bytes (word.Module) o).part (item_entered d n bytes (word.Module) o) (ss ++ s ∷ [])
 on_module part.Start d n bytes ss s o e due h t = tell_module d n ss s o h t
-on_module part.Pools d n bytes ss s o e due h t = absurd (cc due)
-on_module part.Brigades d n bytes ss s o e due h t = absurd (cc due)
-on_module part.Open d n bytes ss s o e due h t = absurd (cc due)
-on_module part.Init d n bytes ss s o e due h t = absurd (cc due)
-on_module part.Main d n bytes ss s o e due h t = absurd (cc due)
-on_module part.End d n bytes ss s o e due h t = absurd (cc due)
+on_module _ d n bytes ss s o e due h t = absurd (cc due)
 
 on_pool : (q : Part) (d : Draft) (n : ℕ) (bytes : List ℕ) (ss : List (List ℕ)) (s : List ℕ) (o : Operands) → d.part ≡ q → is_due q (word.Pool) ≡ true → Item d s (word.Pool) o → Told q d ss → Told (item_entered d n bytes (word.Pool) o).part (item_entered d n bytes (word.Pool) o) (ss ++ s ∷ [])
-on_pool part.Start d n bytes ss s o e due h t = absurd (cc due)
 on_pool part.Pools d n bytes ss s o e due h t = subst (λ x. Told x (record d { pools = d.pools ++ operand_place o.second ∷ [] }) (ss ++ s ∷ [])) (sym e) (tell_pool d ss s o h t)
-on_pool part.Brigades d n bytes ss s o e due h t = absurd (cc due)
-on_pool part.Open d n bytes ss s o e due h t = absurd (cc due)
-on_pool part.Init d n bytes ss s o e due h t = absurd (cc due)
-on_pool part.Main d n bytes ss s o e due h t = absurd (cc due)
-on_pool part.End d n bytes ss s o e due h t = absurd (cc due)
+on_pool _ d n bytes ss s o e due h t = absurd (cc due)
 
 on_brigade : (q : Part) (d : Draft) (n : ℕ) (bytes : List ℕ) (ss : List (List ℕ)) (s : List ℕ) (o : Operands) → d.part ≡ q → is_due q (word.Brigade) ≡ true → Item d s (word.Brigade) o → Told q d ss → Told (item_entered d n bytes (word.Brigade) o).part (item_entered d n bytes (word.Brigade) o) (ss ++ s ∷ [])
-on_brigade part.Start d n bytes ss s o e due h t = absurd (cc due)
 on_brigade part.Pools d n bytes ss s o e due h t = tell_brigade d ss s o h (all_pools d ss t)
 on_brigade part.Brigades d n bytes ss s o e due h t = tell_brigade d ss s o h t
-on_brigade part.Open d n bytes ss s o e due h t = absurd (cc due)
-on_brigade part.Init d n bytes ss s o e due h t = absurd (cc due)
-on_brigade part.Main d n bytes ss s o e due h t = absurd (cc due)
-on_brigade part.End d n bytes ss s o e due h t = absurd (cc due)
+on_brigade _ d n bytes ss s o e due h t = absurd (cc due)
 
 on_open : (q : Part) (d : Draft) (n : ℕ) (bytes : List ℕ) (ss : List (List ℕ)) (s : List ℕ) (o : Operands) → d.part ≡ q → is_due q (word.Open) ≡ true → Item d s (word.Open) o → Told q d ss → Told (item_entered d n bytes (word.Open) o).part (item_entered d n bytes (word.Open) o) (ss ++ s ∷ [])
-on_open part.Start d n bytes ss s o e due h t = absurd (cc due)
 on_open part.Pools d n bytes ss s o e due h t = tell_open d n ss s o h (all_pools d ss t)
 on_open part.Brigades d n bytes ss s o e due h t = tell_open d n ss s o h t
-on_open part.Open d n bytes ss s o e due h t = absurd (cc due)
-on_open part.Init d n bytes ss s o e due h t = absurd (cc due)
-on_open part.Main d n bytes ss s o e due h t = absurd (cc due)
-on_open part.End d n bytes ss s o e due h t = absurd (cc due)
+on_open _ d n bytes ss s o e due h t = absurd (cc due)
 
 on_init : (q : Part) (d : Draft) (n : ℕ) (bytes : List ℕ) (ss : List (List ℕ)) (s : List ℕ) (o : Operands) → d.part ≡ q → is_due q (word.Init) ≡ true → Item d s (word.Init) o → Told q d ss → Told (item_entered d n bytes (word.Init) o).part (item_entered d n bytes (word.Init) o) (ss ++ s ∷ [])
-on_init part.Start d n bytes ss s o e due h t = absurd (cc due)
-on_init part.Pools d n bytes ss s o e due h t = absurd (cc due)
-on_init part.Brigades d n bytes ss s o e due h t = absurd (cc due)
 on_init part.Open d n bytes ss s o e due h t = tell_init d n ss s o h t
-on_init part.Init d n bytes ss s o e due h t = absurd (cc due)
-on_init part.Main d n bytes ss s o e due h t = absurd (cc due)
-on_init part.End d n bytes ss s o e due h t = absurd (cc due)
+on_init _ d n bytes ss s o e due h t = absurd (cc due)
 
 on_main : (q : Part) (d : Draft) (n : ℕ) (bytes : List ℕ) (ss : List (List ℕ)) (s : List ℕ) (o : Operands) → d.part ≡ q → is_due q (word.Main) ≡ true → Item d s (word.Main) o → Told q d ss → Told (item_entered d n bytes (word.Main) o).part (item_entered d n bytes (word.Main) o) (ss ++ s ∷ [])
-on_main part.Start d n bytes ss s o e due h t = absurd (cc due)
-on_main part.Pools d n bytes ss s o e due h t = absurd (cc due)
-on_main part.Brigades d n bytes ss s o e due h t = absurd (cc due)
-on_main part.Open d n bytes ss s o e due h t = absurd (cc due)
 on_main part.Init d n bytes ss s o e due h t = tell_main d n ss s o h t
-on_main part.Main d n bytes ss s o e due h t = absurd (cc due)
-on_main part.End d n bytes ss s o e due h t = absurd (cc due)
+on_main _ d n bytes ss s o e due h t = absurd (cc due)
 
 on_end : (q : Part) (d : Draft) (n : ℕ) (bytes : List ℕ) (ss : List (List ℕ)) (s : List ℕ) (o : Operands) → d.part ≡ q → is_due q (word.End) ≡ true → Item d s (word.End) o → Told q d ss → Told (item_entered d n bytes (word.End) o).part (item_entered d n bytes (word.End) o) (ss ++ s ∷ [])
-on_end part.Start d n bytes ss s o e due h t = absurd (cc due)
-on_end part.Pools d n bytes ss s o e due h t = absurd (cc due)
-on_end part.Brigades d n bytes ss s o e due h t = absurd (cc due)
-on_end part.Open d n bytes ss s o e due h t = absurd (cc due)
-on_end part.Init d n bytes ss s o e due h t = absurd (cc due)
 on_end part.Main d n bytes ss s o e due h t = tell_end d n ss s o h t
-on_end part.End d n bytes ss s o e due h t = absurd (cc due)
+on_end _ d n bytes ss s o e due h t = absurd (cc due)
 
 on_op : (q : Part) (i : Op) (d : Draft) (n : ℕ) (bytes : List ℕ) (ss : List (List ℕ)) (s : List ℕ) (o : Operands) → d.part ≡ q → is_due q (word.Op i) ≡ true → from_quote bytes ≡ from_quote s → Item d s (word.Op i) o → Told q d ss → Told (step_entered d n bytes i o).part (step_entered d n bytes i o) (ss ++ s ∷ [])
-on_op part.Start i d n bytes ss s o e due u h t = absurd (cc due)
-on_op part.Pools i d n bytes ss s o e due u h t = absurd (cc due)
-on_op part.Brigades i d n bytes ss s o e due u h t = absurd (cc due)
 on_op part.Open i d n bytes ss s o e due u h t =
     let x = op_spelled d s i o (length d.texts) h in
     let texts = d.texts ++ step_texts o bytes in
@@ -481,7 +445,7 @@ on_op part.Main i d n bytes ss s o e due u h t =
     let one = text_last (text_of_instr (op_instr i o (length d.texts) 0)) (length d.texts) d.texts (step_texts o bytes) x.text (modules.own_text i o (length d.texts) 0) refl (x.texted bytes u) in
     let z : Step → Draft = step_added part.Main (record d { texts = texts }) in
     subst (λ y. Told (step_added y (record d { texts = texts }) st).part (step_added y (record d { texts = texts }) st) (ss ++ s ∷ [])) (sym e) (subst (λ y. Told y (z st) (ss ++ s ∷ [])) (sym e) (did_main d (step_texts o bytes) ss s st x.name x.text t x.spelled (x.len, x.same) x.named one))
-on_op part.End i d n bytes ss s o e due u h t = absurd (cc due)
+on_op _ i d n bytes ss s o e due u h t = absurd (cc due)
 
 on_item : (d : Draft) (n : ℕ) (bytes : List ℕ) (ss : List (List ℕ)) (s : List ℕ) (w : Word) (o : Operands) → from_quote bytes ≡ from_quote s → Item d s w o → Told d.part d ss → Told (item_entered d n bytes w o).part (item_entered d n bytes w o) (ss ++ s ∷ [])
 on_item d n bytes ss s word.Module o u h t = on_module d.part d n bytes ss s o refl h.due h t
@@ -494,13 +458,10 @@ on_item d n bytes ss s word.End o u h t = on_end d.part d n bytes ss s o refl h.
 on_item d n bytes ss s (word.Op i) o u h t = on_op d.part i d n bytes ss s o refl h.due u h t
 
 on_label : (q : Part) (d : Draft) (n : ℕ) (ss : List (List ℕ)) (s name : List ℕ) → d.part ≡ q → is_handler q ≡ true → s ≡ 58 ∷ name → is_name name ≡ true → Told q d ss → Told d.part (label_added q d n (padded name)) (ss ++ s ∷ [])
-on_label part.Start d n ss s name e due p v t = absurd (cc due)
-on_label part.Pools d n ss s name e due p v t = absurd (cc due)
-on_label part.Brigades d n ss s name e due p v t = absurd (cc due)
 on_label part.Open d n ss s name e due p v t = subst (λ y. Told y (label_added part.Open d n (padded name)) (ss ++ s ∷ [])) (sym e) (marked_open d n ss s name t p v)
 on_label part.Init d n ss s name e due p v t = subst (λ y. Told y (label_added part.Init d n (padded name)) (ss ++ s ∷ [])) (sym e) (marked_init d n ss s name t p v)
 on_label part.Main d n ss s name e due p v t = subst (λ y. Told y (label_added part.Main d n (padded name)) (ss ++ s ∷ [])) (sym e) (marked_main d n ss s name t p v)
-on_label part.End d n ss s name e due p v t = absurd (cc due)
+on_label _ d n ss s name e due p v t = absurd (cc due)
 
 -- a statement that says something
 pub on_line : (d : Draft) (n : ℕ) (bytes : List ℕ) (ss : List (List ℕ)) (s : List ℕ) (x : Line) → from_quote bytes ≡ from_quote s → Spelled d s x → Told d.part d ss → Told (entered d n bytes x).part (entered d n bytes x) (ss ++ s ∷ [])
@@ -513,10 +474,5 @@ on_line d n bytes ss s (line.Label m) u h t =
       where
         same : (q : Part) (x : Draft) → (label_added q x n (padded h.0)).part ≡ x.part
         same part.Start x = refl
-        same part.Pools x = refl
-        same part.Brigades x = refl
-        same part.Open x = refl
-        same part.Init x = refl
-        same part.Main x = refl
-        same part.End x = refl
+        same _ x = refl
 on_line d n bytes ss s (line.Item w o) u h t = on_item d n bytes ss s w o u h t

@@ -1,5 +1,5 @@
 -- What is read was spelled so: words, operands and lines.
-use Rattle.std.proofs.Common.{◌≡◌, ℕ, zero, suc, ◌+◌, ◌-◌, ◌^◌, ◌<◌, Bool, true, false, ◌&&◌, not, cond, eqb, leb, nat_eq, List, [], ◌∷◌, ◌++◌, length, take, drop, Option, Some, None, Result, Ok, Err, refl, sym, ◌∙◌, ap, subst, arith}
+use Rattle.std.proofs.Common.{◌≡◌, ℕ, zero, suc, ◌+◌, ◌-◌, ◌^◌, ◌<◌, Bool, true, false, ◌&&◌, not, cond, eqb, leb, nat_eq, List, [], ◌∷◌, ◌++◌, length, take, drop, Option, Some, None, Ok, Err, refl, sym, ◌∙◌, ap, subst, arith}
 use Rattle.std.specs.Prelude.{All, slice_index, codes, option_map, find}
 use Rattle.std.specs.Cmp.Lexicographic.{pointwise, same_text}
 use Rattle.std.proofs.lemmas.Bool.{and_parts, leb-true, eqb-true, lt-ltb, ltb-true, ne_eqb}
@@ -23,15 +23,14 @@ use Rattle.module_lang.specs.declared.lines.Line.TheVariants as line
 use Rattle.module_lang.specs.declared.operand.Operand.{Operand}
 use Rattle.module_lang.specs.declared.operand.Operand.TheVariants as operand
 use Rattle.module_lang.specs.declared.operand.Operands.{Operands}
-use Rattle.module_lang.specs.declared.refusal.Code.{Code}
 use Rattle.module_lang.specs.declared.refusal.Code.TheVariants as code
-use Rattle.module_lang.specs.declared.word.Kind.{Kind}
-use Rattle.module_lang.specs.declared.word.Kind.TheVariants as kind
-use Rattle.module_lang.specs.declared.word.Kinds.{Kinds}
+use Rattle.module_lang.specs.declared.word.OperandKind.{OperandKind}
+use Rattle.module_lang.specs.declared.word.OperandKind.TheVariants as kind
 use Rattle.module_lang.specs.declared.word.Word.{Word}
 use Rattle.module_lang.proofs.LineLaws.{bind_ok, unless_ok, not_false}
 use Rattle.module_lang.proofs.NumberLaws.{constant_found, decimal_without}
-use Rattle.module_lang.proofs.OperandLaws.{cond_some, made, numbered_below}
+pub use Rattle.module_lang.proofs.OperandLaws.{chain}
+use Rattle.module_lang.proofs.OperandLaws.{cond_some, numbered_below}
 use Rattle.module_lang.proofs.QuoteLaws.{unquoted, place_unquoted}
 use Rattle.module_lang.proofs.SpellingLaws.{padded}
 
@@ -57,12 +56,12 @@ unfolding word_at
 word_spelled t w h = sym (same_text (word_text w) t (sym (found_passes (λ x. pointwise nat_eq (word_text x) t) all_words w h)))
 
 -- a token was read as an operand
-pub record Reads (k : Kind) (rest : List ℕ) (o : Operand) : Type 0 where
+pub record Reads (k : OperandKind) (rest : List ℕ) (o : Operand) : Type 0 where
   pub token : List ℕ
   pub read : operand_in k token ≡ Some o
   pub spelled : rest ≡ 32 ∷ (token ++ after_operand k rest)
 
-pub read_token : (k : Kind) (rest : List ℕ) (o : Operand) → operand_kind_is_nothing k ≡ false → operand_kind_is_text k ≡ false → operand_at k rest ≡ Ok o → Reads k rest o
+pub read_token : (k : OperandKind) (rest : List ℕ) (o : Operand) → operand_kind_is_nothing k ≡ false → operand_kind_is_text k ≡ false → operand_at k rest ≡ Ok o → Reads k rest o
 unfolding operand_at after_operand
 read_token k [] o n q h = let z = rw n at h in absurd (cc z)
 read_token k (b ∷ bs) o n q h = space (eqb b 32) refl (rw (n, q) at h)
@@ -159,7 +158,7 @@ value_spelled : (a : Bool) (t : List ℕ) (o : Operand) → cond a (option_map (
 value_spelled true t o e = number_spelled (numbered 110 t) t o refl e
 value_spelled false t o e = constant_spelled (constant_of t) t o refl e
 
-pub token_spelled : (k : Kind) (t : List ℕ) (o : Operand) → operand_in k t ≡ Some o → Spells o t
+pub token_spelled : (k : OperandKind) (t : List ℕ) (o : Operand) → operand_in k t ≡ Some o → Spells o t
 unfolding operand_in
 token_spelled kind.Nothing t o e = absurd (cc e)
 token_spelled kind.One t o e = one_spelled (pointwise nat_eq t (codes "1")) t o refl e
@@ -174,42 +173,6 @@ token_spelled kind.Variable t o e = variable_spelled (begins 112 t) t o e
 token_spelled kind.Number t o e = number_spelled (numbered 110 t) t o refl e
 token_spelled kind.Value t o e = value_spelled (begins 110 t) t o e
 
--- the operands of a line, one behind another
-pub record IsChain (k : Kinds) (rest : List ℕ) (o : Operands) : Type 0 where
-  pub first : operand_at k.first rest ≡ Ok o.first
-  pub second : operand_at k.second (after_operand k.first rest) ≡ Ok o.second
-  pub third : operand_at k.third (after_operand k.second (after_operand k.first rest)) ≡ Ok o.third
-  pub fourth : operand_at k.fourth (after_operand k.third (after_operand k.second (after_operand k.first rest))) ≡ Ok o.fourth
-  pub last : after_operand k.fourth (after_operand k.third (after_operand k.second (after_operand k.first rest))) ≡ []
-
-abbrev ready : Operands → Result Operands Code
-ready o = Ok o
-
-empty_is : (xs : List ℕ) → eqb (length xs) 0 ≡ true → xs ≡ []
-empty_is [] h = refl
-empty_is (x ∷ xs) h = let e = eqb-true (length (x ∷ xs)) 0 h in absurd (omega (arith, e))
-
-pub chain : (k : Kinds) (rest : List ℕ) (o : Operands) → operands_at k rest ≡ Ok o → IsChain k rest o
-unfolding operands_at
-chain k rest o h =
-    let r1 = after_operand k.first rest in
-    let r2 = after_operand k.second r1 in
-    let r3 = after_operand k.third r2 in
-    let r4 = after_operand k.fourth r3 in
-    let last = λ (a b c d : Operand) (u : Unit {0}). ready (made a b c d) in
-    let p4 = λ (a b c d : Operand). unless (not (eqb (length r4) 0)) code.WrongOperands >>= last a b c d in
-    let p3 = λ (a b c : Operand). operand_at k.fourth r3 >>= p4 a b c in
-    let p2 = λ (a b : Operand). operand_at k.third r2 >>= p3 a b in
-    let p1 = λ (a : Operand). operand_at k.second r1 >>= p2 a in
-    let a = bind_ok (operand_at k.first rest) p1 o h in
-    let b = bind_ok (operand_at k.second r1) (p2 a.0) o a.2 in
-    let c = bind_ok (operand_at k.third r2) (p3 a.0 b.0) o b.2 in
-    let d = bind_ok (operand_at k.fourth r3) (p4 a.0 b.0 c.0) o c.2 in
-    let u = bind_ok (unless (not (eqb (length r4) 0)) code.WrongOperands) (last a.0 b.0 c.0 d.0) o d.2 in
-    let s : made a.0 b.0 c.0 d.0 ≡ o = cc u.2 in
-    let none = empty_is r4 (not_false (eqb (length r4) 0) (unless_ok (not (eqb (length r4) 0)) code.WrongOperands u.0 u.1)) in
-    subst (λ x. IsChain k rest x) s (record { first = a.1; second = b.1; third = c.1; fourth = d.1; last = none })
-
 nothing_behind : (rest : List ℕ) → after_operand kind.Nothing rest ≡ rest
 unfolding after_operand
 nothing_behind rest = refl
@@ -220,12 +183,12 @@ none_spelled rest o h =
     let c = chain no_operand rest o h in
     rw (nothing_behind rest, nothing_behind rest, nothing_behind rest, nothing_behind rest) at c.last
 
-pub record OneSpelled (k : Kind) (rest : List ℕ) (o : Operands) : Type 0 where
+pub record OneSpelled (k : OperandKind) (rest : List ℕ) (o : Operands) : Type 0 where
   pub token : List ℕ
   pub whole : rest ≡ operands_text (token ∷ [])
   pub first : Spells o.first token
 
-pub one_taken : (k : Kind) (rest : List ℕ) (o : Operands) → operand_kind_is_nothing k ≡ false → operand_kind_is_text k ≡ false → operands_at (one_operand k) rest ≡ Ok o → OneSpelled k rest o
+pub one_taken : (k : OperandKind) (rest : List ℕ) (o : Operands) → operand_kind_is_nothing k ≡ false → operand_kind_is_text k ≡ false → operands_at (one_operand k) rest ≡ Ok o → OneSpelled k rest o
 one_taken k rest o n q h =
     let c = chain (one_operand k) rest o h in
     let r = after_operand k rest in
@@ -233,14 +196,14 @@ one_taken k rest o n q h =
     let none : r ≡ [] = rw (nothing_behind r, nothing_behind r, nothing_behind r) at c.last in
     record { token = x.token; whole = x.spelled ∙ ap (λ ys. 32 ∷ (x.token ++ ys)) none; first = token_spelled k x.token o.first x.read }
 
-pub record TwoSpelled (k l : Kind) (rest : List ℕ) (o : Operands) : Type 0 where
+pub record TwoSpelled (k l : OperandKind) (rest : List ℕ) (o : Operands) : Type 0 where
   pub one : List ℕ
   pub two : List ℕ
   pub whole : rest ≡ operands_text (one ∷ two ∷ [])
   pub first : Spells o.first one
   pub second : Spells o.second two
 
-pub two_taken : (k l : Kind) (rest : List ℕ) (o : Operands) → operand_kind_is_nothing k ≡ false → operand_kind_is_text k ≡ false → operand_kind_is_nothing l ≡ false → operand_kind_is_text l ≡ false → operands_at (two_operands k l) rest ≡ Ok o → TwoSpelled k l rest o
+pub two_taken : (k l : OperandKind) (rest : List ℕ) (o : Operands) → operand_kind_is_nothing k ≡ false → operand_kind_is_text k ≡ false → operand_kind_is_nothing l ≡ false → operand_kind_is_text l ≡ false → operands_at (two_operands k l) rest ≡ Ok o → TwoSpelled k l rest o
 two_taken k l rest o n q m r h =
     let c = chain (two_operands k l) rest o h in
     let r1 = after_operand k rest in

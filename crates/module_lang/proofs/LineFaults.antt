@@ -21,9 +21,9 @@ use Rattle.module_lang.specs.declared.operand.Operands.{Operands}
 use Rattle.module_lang.specs.declared.quoted.Measured.{Measured}
 use Rattle.module_lang.specs.declared.refusal.Code.{Code}
 use Rattle.module_lang.specs.declared.refusal.Code.TheVariants as code
-use Rattle.module_lang.specs.declared.word.Kind.{Kind}
-use Rattle.module_lang.specs.declared.word.Kind.TheVariants as kind
-use Rattle.module_lang.specs.declared.word.Kinds.{Kinds}
+use Rattle.module_lang.specs.declared.word.OperandKind.{OperandKind}
+use Rattle.module_lang.specs.declared.word.OperandKind.TheVariants as kind
+use Rattle.module_lang.specs.declared.word.OperandKinds.{OperandKinds}
 use Rattle.module_lang.specs.declared.word.Word.{Word}
 use Rattle.module_lang.specs.declared.word.Word.TheVariants as word
 use Rattle.module_lang.proofs.OperandLaws.{kinds_read}
@@ -98,7 +98,7 @@ refuses_bind : {A B : Type 0} (r : Result A Code) (f : A → Result B Code) → 
 refuses_bind (Ok x) f h g = g x
 refuses_bind (Err e) f h g = λ c q. h c (cc q)
 
-operand_refuses : (k : Kind) (bytes : List ℕ) → Refuses (operand_at k bytes)
+operand_refuses : (k : OperandKind) (bytes : List ℕ) → Refuses (operand_at k bytes)
 unfolding operand_at
 operand_refuses k bytes =
     refuses_cond (operand_kind_is_nothing k) (Ok operand.Nothing) _ (refuses_none operand.Nothing) (refuses_cond (not (begins 32 bytes)) (Err code.WrongOperands) _ refuses_wrong (refuses_cond (operand_kind_is_text k) (text_operand (tail bytes)) _ (refuses_cond (not (begins 34 (tail bytes))) (Err code.WrongOperands) _ refuses_wrong (measured (measure_of (quoted (tail bytes))))) (wrong (operand_in k (token (tail bytes))))))
@@ -111,7 +111,7 @@ operand_refuses k bytes =
     wrong None = refuses_wrong
     wrong (Some o) = refuses_none o
 
-operands_refuse : (k : Kinds) (bytes : List ℕ) → Refuses (operands_at k bytes)
+operands_refuse : (k : OperandKinds) (bytes : List ℕ) → Refuses (operands_at k bytes)
 unfolding operands_at
 operands_refuse k bytes =
     refuses_bind (operand_at k.first bytes) _ (operand_refuses k.first bytes) (λ a. refuses_bind (operand_at k.second rest1) _ (operand_refuses k.second rest1) (λ b. refuses_bind (operand_at k.third rest2) _ (operand_refuses k.third rest2) (λ c. refuses_bind (operand_at k.fourth rest3) _ (operand_refuses k.fourth rest3) (λ d. refuses_bind (unless (not (eqb (length (after_operand k.fourth rest3)) 0)) code.WrongOperands) _ (end (not (eqb (length (after_operand k.fourth rest3)) 0))) (λ u. refuses_none (record { first = a; second = b; third = c; fourth = d }))))))
@@ -130,13 +130,13 @@ operands_refuse k bytes =
     end false = refuses_none tt
 
 -- operands that were read have a text where one is due
-text_kind : (k : Kind) (o : Operand) → of_kind k o ≡ true → is_text_operand o ≡ operand_kind_is_text k
+text_kind : (k : OperandKind) (o : Operand) → of_kind k o ≡ true → is_text_operand o ≡ operand_kind_is_text k
 text_kind kind.Text (operand.Text n) h = refl
 text_kind kind.Text _ h = absurd (cc h)
 text_kind _ (operand.Text n) h = absurd (cc h)
 text_kind _ _ h = refl
 
-text_read : (k : Kinds) (bytes : List ℕ) (o : Operands) → operands_at k bytes ≡ Ok o → has_text o ≡ (operand_kind_is_text k.first || operand_kind_is_text k.second || operand_kind_is_text k.third || operand_kind_is_text k.fourth)
+text_read : (k : OperandKinds) (bytes : List ℕ) (o : Operands) → operands_at k bytes ≡ Ok o → has_text o ≡ (operand_kind_is_text k.first || operand_kind_is_text k.second || operand_kind_is_text k.third || operand_kind_is_text k.fourth)
 text_read k bytes o q =
     let x = kinds_read k bytes o q in
     rw (text_kind k.first o.first x.first, text_kind k.second o.second x.second, text_kind k.third o.third x.third, text_kind k.fourth o.fourth x.fourth) refl

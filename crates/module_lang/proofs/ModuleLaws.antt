@@ -33,8 +33,8 @@ use Rattle.module_lang.specs.declared.operand.Operand.{Operand}
 use Rattle.module_lang.specs.declared.operand.Operand.TheVariants as operand
 use Rattle.module_lang.specs.declared.operand.Operands.{Operands}
 use Rattle.module_lang.specs.declared.refusal.Code.TheVariants as codes
-use Rattle.module_lang.specs.declared.word.Kind.{Kind}
-use Rattle.module_lang.specs.declared.word.Kind.TheVariants as kind
+use Rattle.module_lang.specs.declared.word.OperandKind.{OperandKind}
+use Rattle.module_lang.specs.declared.word.OperandKind.TheVariants as kind
 use Rattle.module_lang.specs.declared.word.Op.{Op}
 use Rattle.module_lang.specs.declared.word.Op.TheVariants as op
 use Rattle.module_lang.proofs.ArgLaws.{args_of_read, parts_in, target_moved}
@@ -150,13 +150,7 @@ own_brigade n b low h = declared (nat_lt b n) (eqb b 8) (ne_eqb b 8 (λ e. omega
 
 same_brigades : (a b : Operand) → a ≡ operand.Brigade (operand_index a) → b ≡ operand.Brigade (operand_index b) → same_brigade a b ≡ false → eqb (operand_index a) (operand_index b) ≡ false
 same_brigades (operand.Brigade x) (operand.Brigade y) p q h = h
-same_brigades (operand.Brigade x) operand.Nothing p q h = absurd (cc q)
-same_brigades (operand.Brigade x) operand.One p q h = absurd (cc q)
-same_brigades (operand.Brigade x) (operand.Place y) p q h = absurd (cc q)
-same_brigades (operand.Brigade x) (operand.Ending y) p q h = absurd (cc q)
-same_brigades (operand.Brigade x) (operand.Label y) p q h = absurd (cc q)
-same_brigades (operand.Brigade x) (operand.Text y) p q h = absurd (cc q)
-same_brigades (operand.Brigade x) (operand.Value v) p q h = absurd (cc q)
+same_brigades (operand.Brigade x) _ p q h = absurd (cc q)
 same_brigades _ b p q h = absurd (cc p)
 
 pub brigade_below : (x : Operand) → of_kind kind.Brigade x ≡ true → operand_index x < 8
@@ -164,7 +158,7 @@ brigade_below (operand.Brigade b) h = ltb-true b 8 h
 brigade_below _ h = absurd (cc h)
 
 -- the tests of an operand that was read
-one_fits : (p : Program) (k : Kind) (o : Operand) (x t : ℕ) → of_kind k o ≡ true → is_declared (length p.pools) (length p.brigades) o ≡ true → (operand_kind_is_text k ≡ true → x < length p.texts) → Every (tests p (arg_in k o x t))
+one_fits : (p : Program) (k : OperandKind) (o : Operand) (x t : ℕ) → of_kind k o ≡ true → is_declared (length p.pools) (length p.brigades) o ≡ true → (operand_kind_is_text k ≡ true → x < length p.texts) → Every (tests p (arg_in k o x t))
 one_fits p kind.Nothing o x t h d w = tt
 one_fits p kind.One o x t h d w = tt
 one_fits p kind.Ending o x t h d w = tt
@@ -181,14 +175,14 @@ one_fits p kind.Value (operand.Value v) x t h d w = (h, tt)
 one_fits p _ _ x t h d w = absurd (cc h)
 
 -- two operands that were read are not one brigade
-pair_fits : (k l : Kind) (a b : Operand) (x t : ℕ) → of_kind k a ≡ true → of_kind l b ≡ true → same_brigade a b ≡ false → Every (apart (arg_in k a x t) (arg_in l b x t))
+pair_fits : (k l : OperandKind) (a b : Operand) (x t : ℕ) → of_kind k a ≡ true → of_kind l b ≡ true → same_brigade a b ≡ false → Every (apart (arg_in k a x t) (arg_in l b x t))
 pair_fits kind.Brigade kind.Brigade a b x t p q h = (rw (same_brigades a b (brigade_is a p) (brigade_is b q) h) refl, tt)
 pair_fits kind.Brigade kind.Source a b x t p q h = (rw (same_brigades a b (brigade_is a p) (source_is b q) h) refl, tt)
 pair_fits kind.Source kind.Brigade a b x t p q h = (rw (same_brigades a b (source_is a p) (brigade_is b q) h) refl, tt)
 pair_fits kind.Source kind.Source a b x t p q h = (rw (same_brigades a b (source_is a p) (source_is b q) h) refl, tt)
 pair_fits _ _ a b x t p q h = tt
 
-text_there : (k : Kind) (o : Operand) → of_kind k o ≡ true → operand_kind_is_text k ≡ true → is_text_operand o ≡ true
+text_there : (k : OperandKind) (o : Operand) → of_kind k o ≡ true → operand_kind_is_text k ≡ true → is_text_operand o ≡ true
 text_there kind.Text (operand.Text n) h t = refl
 text_there kind.Text _ h t = absurd (cc h)
 text_there _ o h t = absurd (cc t)

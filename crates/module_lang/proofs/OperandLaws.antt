@@ -1,8 +1,8 @@
 -- Operands that were read are of their kinds, and an instruction has them again.
-use Rattle.std.proofs.Common.{◌≡◌, ℕ, ◌-◌, ◌^◌, ◌<◌, Bool, true, false, ◌&&◌, ◌||◌, not, cond, eqb, leb, nat_eq, List, [], length, Option, Some, None, Result, Ok, Err, refl, sym, ◌∙◌, ap, subst, arith}
+use Rattle.std.proofs.Common.{◌≡◌, ℕ, ◌-◌, ◌^◌, ◌<◌, Bool, true, false, ◌&&◌, ◌||◌, not, cond, eqb, leb, nat_eq, List, [], ◌∷◌, length, Option, Some, None, Result, Ok, Err, refl, sym, ◌∙◌, ap, subst, arith}
 use Rattle.std.specs.Prelude.{option_map, slice_index, codes}
 use Rattle.std.specs.Cmp.Lexicographic.{pointwise}
-use Rattle.std.proofs.lemmas.Bool.{and_parts, leb-true, lt-ltb, or_parts}
+use Rattle.std.proofs.lemmas.Bool.{and_parts, eqb-true, leb-true, lt-ltb, or_parts}
 use Rattle.module_lang.specs.Bytes.{begins, tail, token}
 use Rattle.module_lang.specs.Codes.{◌>>=◌, unless}
 use Rattle.module_lang.specs.Handlers.{arg_in, op_instr, operand_index, operand_status, operand_value, operand_variable}
@@ -22,12 +22,12 @@ use Rattle.module_lang.specs.declared.operand.Operands.{Operands}
 use Rattle.module_lang.specs.declared.quoted.Measured.{Measured}
 use Rattle.module_lang.specs.declared.refusal.Code.{Code}
 use Rattle.module_lang.specs.declared.refusal.Code.TheVariants as code
-use Rattle.module_lang.specs.declared.word.Kind.{Kind}
-use Rattle.module_lang.specs.declared.word.Kind.TheVariants as kind
-use Rattle.module_lang.specs.declared.word.Kinds.{Kinds}
+use Rattle.module_lang.specs.declared.word.OperandKind.{OperandKind}
+use Rattle.module_lang.specs.declared.word.OperandKind.TheVariants as kind
+use Rattle.module_lang.specs.declared.word.OperandKinds.{OperandKinds}
 use Rattle.module_lang.specs.declared.word.Op.{Op}
 use Rattle.module_lang.proofs.ArgLaws.{args_of_read, is_label, is_version, op_formed, picked}
-use Rattle.module_lang.proofs.LineLaws.{bind_ok}
+use Rattle.module_lang.proofs.LineLaws.{bind_ok, not_false, unless_ok}
 use Rattle.module_lang.proofs.NumberLaws.{constant_found}
 
 abbrev pub made : Operand → Operand → Operand → Operand → Operands
@@ -47,7 +47,7 @@ numbered_below letter t i h =
     let low = leb-true (slice_index t 1) 55 b.1 in
     omega (arith, a.1)
 
-is_kind : (k : Kind) (x o : Operand) → of_kind k x ≡ true → Some x ≡ Some o → of_kind k o ≡ true
+is_kind : (k : OperandKind) (x o : Operand) → of_kind k x ≡ true → Some x ≡ Some o → of_kind k o ≡ true
 is_kind k x o h e = let s : x ≡ o = cc e in subst (λ y. of_kind k y ≡ true) s h
 
 numbered_pool : (n : Option ℕ) (o : Operand) → ((i : ℕ) → n ≡ Some i → i < 8) → option_map (λ i. operand.Place (pool.Own i)) n ≡ Some o → of_kind kind.Pool o ≡ true
@@ -116,7 +116,7 @@ value_kind : (a : Bool) (t : List ℕ) (o : Operand) → cond a (option_map (λ 
 value_kind true t o e = number_value (numbered 110 t) o (numbered_below 110 t) e
 value_kind false t o e = constant_value (constant_of t) o (λ k h. (constant_found t k h).1) e
 
-pub token_kind : (k : Kind) (t : List ℕ) (o : Operand) → operand_in k t ≡ Some o → of_kind k o ≡ true
+pub token_kind : (k : OperandKind) (t : List ℕ) (o : Operand) → operand_in k t ≡ Some o → of_kind k o ≡ true
 unfolding operand_in
 token_kind kind.Nothing t o e = absurd (cc e)
 token_kind kind.One t o e = one_kind (pointwise nat_eq t (codes "1")) o e
@@ -131,11 +131,11 @@ token_kind kind.Variable t o e = variable_kind (begins 112 t) t o e
 token_kind kind.Number t o e = number_kind (numbered 110 t) o (numbered_below 110 t) e
 token_kind kind.Value t o e = value_kind (begins 110 t) t o e
 
-wrong_or : (k : Kind) (t : List ℕ) (r : Option Operand) (o : Operand) → operand_in k t ≡ r → or_wrong r ≡ Ok o → of_kind k o ≡ true
+wrong_or : (k : OperandKind) (t : List ℕ) (r : Option Operand) (o : Operand) → operand_in k t ≡ r → or_wrong r ≡ Ok o → of_kind k o ≡ true
 wrong_or k t None o q e = absurd (cc e)
 wrong_or k t (Some x) o q e = let s : x ≡ o = cc e in token_kind k t o (q ∙ ap Some s)
 
-word_kind : (k : Kind) (b : Bool) (t : List ℕ) (o : Operand) → cond b (Err code.WrongOperands) (or_wrong (operand_in k t)) ≡ Ok o → of_kind k o ≡ true
+word_kind : (k : OperandKind) (b : Bool) (t : List ℕ) (o : Operand) → cond b (Err code.WrongOperands) (or_wrong (operand_in k t)) ≡ Ok o → of_kind k o ≡ true
 word_kind k true t o e = absurd (cc e)
 word_kind k false t o e = wrong_or k t (operand_in k t) o refl e
 
@@ -151,25 +151,28 @@ text_kind : (b : Bool) (t : List ℕ) (o : Operand) → cond b (Err code.WrongOp
 text_kind true t o e = absurd (cc e)
 text_kind false t o e = quoted_kind (not (begins 34 t)) (measure_of (quoted t)) o e
 
-pub read_kind : (k : Kind) (rest : List ℕ) (o : Operand) → operand_at k rest ≡ Ok o → of_kind k o ≡ true
+pub read_kind : (k : OperandKind) (rest : List ℕ) (o : Operand) → operand_at k rest ≡ Ok o → of_kind k o ≡ true
 unfolding operand_at
 read_kind kind.Nothing rest o e = let s : operand.Nothing ≡ o = cc e in subst (λ y. of_kind kind.Nothing y ≡ true) s refl
-read_kind kind.One rest o e = word_kind kind.One (not (begins 32 rest)) (token (tail rest)) o e
-read_kind kind.Place rest o e = word_kind kind.Place (not (begins 32 rest)) (token (tail rest)) o e
-read_kind kind.Pool rest o e = word_kind kind.Pool (not (begins 32 rest)) (token (tail rest)) o e
-read_kind kind.Brigade rest o e = word_kind kind.Brigade (not (begins 32 rest)) (token (tail rest)) o e
-read_kind kind.Source rest o e = word_kind kind.Source (not (begins 32 rest)) (token (tail rest)) o e
-read_kind kind.Ending rest o e = word_kind kind.Ending (not (begins 32 rest)) (token (tail rest)) o e
-read_kind kind.Label rest o e = word_kind kind.Label (not (begins 32 rest)) (token (tail rest)) o e
 read_kind kind.Text rest o e = text_kind (not (begins 32 rest)) (tail rest) o e
-read_kind kind.Variable rest o e = word_kind kind.Variable (not (begins 32 rest)) (token (tail rest)) o e
-read_kind kind.Number rest o e = word_kind kind.Number (not (begins 32 rest)) (token (tail rest)) o e
-read_kind kind.Value rest o e = word_kind kind.Value (not (begins 32 rest)) (token (tail rest)) o e
+read_kind kind.One rest o e = word_kind kind.One (not (begins 32 rest)) (token (tail rest)) o e
+read_kind k rest o e = word_kind k (not (begins 32 rest)) (token (tail rest)) o e
 
--- the steps by which operands are read
-pub kinds_read : (k : Kinds) (rest : List ℕ) (o : Operands) → operands_at k rest ≡ Ok o → IsOfKinds k o
+-- the operands of a line, one behind another
+pub record IsChain (k : OperandKinds) (rest : List ℕ) (o : Operands) : Type 0 where
+  pub first : operand_at k.first rest ≡ Ok o.first
+  pub second : operand_at k.second (after_operand k.first rest) ≡ Ok o.second
+  pub third : operand_at k.third (after_operand k.second (after_operand k.first rest)) ≡ Ok o.third
+  pub fourth : operand_at k.fourth (after_operand k.third (after_operand k.second (after_operand k.first rest))) ≡ Ok o.fourth
+  pub last : after_operand k.fourth (after_operand k.third (after_operand k.second (after_operand k.first rest))) ≡ []
+
+empty_is : (xs : List ℕ) → eqb (length xs) 0 ≡ true → xs ≡ []
+empty_is [] h = refl
+empty_is (x ∷ xs) h = let e = eqb-true (length (x ∷ xs)) 0 h in absurd (omega (arith, e))
+
+pub chain : (k : OperandKinds) (rest : List ℕ) (o : Operands) → operands_at k rest ≡ Ok o → IsChain k rest o
 unfolding operands_at
-kinds_read k rest o h =
+chain k rest o h =
     let r1 = after_operand k.first rest in
     let r2 = after_operand k.second r1 in
     let r3 = after_operand k.third r2 in
@@ -185,12 +188,13 @@ kinds_read k rest o h =
     let d = bind_ok (operand_at k.fourth r3) (p4 a.0 b.0 c.0) o c.2 in
     let u = bind_ok (unless (not (eqb (length r4) 0)) code.WrongOperands) (last a.0 b.0 c.0 d.0) o d.2 in
     let s : made a.0 b.0 c.0 d.0 ≡ o = cc u.2 in
-    subst (λ x. IsOfKinds k x) s (record {
-      first = read_kind k.first rest a.0 a.1;
-      second = read_kind k.second r1 b.0 b.1;
-      third = read_kind k.third r2 c.0 c.1;
-      fourth = read_kind k.fourth r3 d.0 d.1;
-    })
+    let none = empty_is r4 (not_false (eqb (length r4) 0) (unless_ok (not (eqb (length r4) 0)) code.WrongOperands u.0 u.1)) in
+    subst (λ x. IsChain k rest x) s (record { first = a.1; second = b.1; third = c.1; fourth = d.1; last = none })
+
+pub kinds_read : (k : OperandKinds) (rest : List ℕ) (o : Operands) → operands_at k rest ≡ Ok o → IsOfKinds k o
+kinds_read k rest o h =
+    let c = chain k rest o h in
+    record { first = read_kind k.first rest o.first c.first; second = read_kind k.second _ o.second c.second; third = read_kind k.third _ o.third c.third; fourth = read_kind k.fourth _ o.fourth c.fourth }
 
 nothing_is : (x : Operand) → of_kind kind.Nothing x ≡ true → x ≡ operand.Nothing
 nothing_is operand.Nothing h = refl
@@ -252,7 +256,7 @@ len_in (operand.Text n) = n
 len_in _ = 0
 
 -- an operand that was read is that of the instruction, with its name or its length
-one_shape : (k : Kind) (o : Operand) (x t : ℕ) (n : List ℕ) (len : ℕ) → is_version k ≡ false → of_kind k o ≡ true → (is_label k ≡ true → n ≡ name_in o) → (operand_kind_is_text k ≡ true → len ≡ len_in o) → o ≡ operand_of (arg_in k o x t) n len
+one_shape : (k : OperandKind) (o : Operand) (x t : ℕ) (n : List ℕ) (len : ℕ) → is_version k ≡ false → of_kind k o ≡ true → (is_label k ≡ true → n ≡ name_in o) → (operand_kind_is_text k ≡ true → len ≡ len_in o) → o ≡ operand_of (arg_in k o x t) n len
 one_shape kind.One o x t n len v h l w = absurd (cc v)
 one_shape kind.Nothing operand.Nothing x t n len v h l w = refl
 one_shape kind.Place (operand.Place p) x t n len v h l w = refl

@@ -31,8 +31,8 @@ use Rattle.module_lang.specs.declared.instr.VarRef.TheVariants as variable
 use Rattle.module_lang.specs.declared.operand.Operand.{Operand}
 use Rattle.module_lang.specs.declared.operand.Operand.TheVariants as operand
 use Rattle.module_lang.specs.declared.operand.Operands.{Operands}
-use Rattle.module_lang.specs.declared.word.Kind.{Kind}
-use Rattle.module_lang.specs.declared.word.Kind.TheVariants as kind
+use Rattle.module_lang.specs.declared.word.OperandKind.{OperandKind}
+use Rattle.module_lang.specs.declared.word.OperandKind.TheVariants as kind
 use Rattle.module_lang.specs.declared.word.Op.TheVariants as op
 use Rattle.module_lang.specs.declared.word.Word.{Word}
 use Rattle.module_lang.specs.declared.word.Word.TheVariants as word
@@ -68,17 +68,17 @@ unfolding after_token
 after_again t rest h s = rw (len_again t rest h s) (drop_at t rest (length t) refl)
 
 -- a token that spells an operand of a kind
-pub record IsOperand (k : Kind) (o : Operand) (t : List ℕ) : Type 0 where
+pub record IsOperand (k : OperandKind) (o : Operand) (t : List ℕ) : Type 0 where
   pub some : operand_kind_is_nothing k ≡ false
   pub bare : operand_kind_is_text k ≡ false
   pub read : operand_in k t ≡ Some o
   pub plain : unspaced t ≡ true
 
-pub operand_again : (k : Kind) (o : Operand) (t rest : List ℕ) → IsOperand k o t → Stops rest → operand_at k (32 ∷ (t ++ rest)) ≡ Ok o
+pub operand_again : (k : OperandKind) (o : Operand) (t rest : List ℕ) → IsOperand k o t → Stops rest → operand_at k (32 ∷ (t ++ rest)) ≡ Ok o
 unfolding operand_at
 operand_again k o t rest h s = rw (h.some, h.bare, token_again t rest h.plain s, h.read) refl
 
-pub behind_again : (k : Kind) (o : Operand) (t rest : List ℕ) → IsOperand k o t → Stops rest → after_operand k (32 ∷ (t ++ rest)) ≡ rest
+pub behind_again : (k : OperandKind) (o : Operand) (t rest : List ℕ) → IsOperand k o t → Stops rest → after_operand k (32 ∷ (t ++ rest)) ≡ rest
 unfolding after_operand
 behind_again k o t rest h s = rw (h.some, h.bare) (after_again t rest h.plain s)
 
@@ -101,11 +101,11 @@ pub no_operands : operands_at no_operand (operands_text []) ≡ Ok (operands ope
 unfolding operands_at
 no_operands = rw (none_again [], none_behind [], none_again [], none_behind [], none_again [], none_behind [], none_again [], none_behind []) refl
 
-pub one_again : (k : Kind) (o : Operand) (t : List ℕ) → IsOperand k o t → operands_at (one_operand k) (operands_text (t ∷ [])) ≡ Ok (operands o operand.Nothing)
+pub one_again : (k : OperandKind) (o : Operand) (t : List ℕ) → IsOperand k o t → operands_at (one_operand k) (operands_text (t ∷ [])) ≡ Ok (operands o operand.Nothing)
 unfolding operands_at
 one_again k o t h = rw (operand_again k o t [] h tt, behind_again k o t [] h tt, none_again [], none_behind [], none_again [], none_behind [], none_again [], none_behind []) refl
 
-pub two_again : (k l : Kind) (o q : Operand) (t u : List ℕ) → IsOperand k o t → IsOperand l q u → operands_at (two_operands k l) (operands_text (t ∷ u ∷ [])) ≡ Ok (operands o q)
+pub two_again : (k l : OperandKind) (o q : Operand) (t u : List ℕ) → IsOperand k o t → IsOperand l q u → operands_at (two_operands k l) (operands_text (t ∷ u ∷ [])) ≡ Ok (operands o q)
 unfolding operands_at
 two_again k l o q t u h j = rw (operand_again k o t (operands_text (u ∷ [])) h refl, behind_again k o t (operands_text (u ∷ [])) h refl, operand_again l q u [] j tt, behind_again l q u [] j tt, none_again [], none_behind [], none_again [], none_behind []) refl
 
@@ -220,7 +220,7 @@ text_len p None = 0
 text_len p (Some t) = length (text_at p t)
 
 -- an operand of an instruction, in front of others, is read again
-record IsAgain (k : Kind) (a : Arg) (n s : List ℕ) (len : ℕ) (os : List (List ℕ)) : Type 0 where
+record IsAgain (k : OperandKind) (a : Arg) (n s : List ℕ) (len : ℕ) (os : List (List ℕ)) : Type 0 where
   read : operand_at k (operands_text (arg_texts a n s ++ os)) ≡ Ok (operand_of a (padded n) len)
   behind : after_operand k (operands_text (arg_texts a n s ++ os)) ≡ operands_text os
 
@@ -230,13 +230,13 @@ pub record IsSaid (p : Program) (a : Arg) (n s : List ℕ) (len : ℕ) : Type 0 
   pub name : IfSome (names_target a) (λ _. is_name n ≡ true)
   pub text : IfSome (names_text a) (λ t. Spells s (text_at p t) × (len ≡ length (text_at p t)))
 
-arg_again : (p : Program) (k : Kind) (a : Arg) (n s : List ℕ) (len : ℕ) (os : List (List ℕ)) → length p.pools ≤ 8 → length p.brigades ≤ 8 → is_of k a ≡ true → IsSaid p a n s len → IsAgain k a n s len os
+arg_again : (p : Program) (k : OperandKind) (a : Arg) (n s : List ℕ) (len : ℕ) (os : List (List ℕ)) → length p.pools ≤ 8 → length p.brigades ≤ 8 → is_of k a ≡ true → IsSaid p a n s len → IsAgain k a n s len os
 arg_again p k a n s len os few small = by_kind k a
   where
-    token : (k : Kind) (o : Operand) (t : List ℕ) → IsOperand k o t → (operand_at k (operands_text (t ∷ os)) ≡ Ok o) × (after_operand k (operands_text (t ∷ os)) ≡ operands_text os)
+    token : (k : OperandKind) (o : Operand) (t : List ℕ) → IsOperand k o t → (operand_at k (operands_text (t ∷ os)) ≡ Ok o) × (after_operand k (operands_text (t ∷ os)) ≡ operands_text os)
     token k o t h = (operand_again k o t (operands_text os) h (operands_stop os), behind_again k o t (operands_text os) h (operands_stop os))
 
-    by_kind : (k : Kind) (a : Arg) → is_of k a ≡ true → IsSaid p a n s len → IsAgain k a n s len os
+    by_kind : (k : OperandKind) (a : Arg) → is_of k a ≡ true → IsSaid p a n s len → IsAgain k a n s len os
     by_kind kind.Nothing arg.Nothing h x = record { read = none_again (operands_text os); behind = none_behind (operands_text os) }
     by_kind kind.Place (arg.Place q) h x = let y = token kind.Place _ _ (place_operand q (declared_up (length p.pools) 8 q few x.fit.0)) in record { read = y.0; behind = y.1 }
     by_kind kind.Pool (arg.Pool q) h x = let y = token kind.Pool _ _ (pool_operand q (own_below (length p.pools) q few x.fit.0)) in record { read = y.0; behind = y.1 }

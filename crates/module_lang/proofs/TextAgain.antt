@@ -11,7 +11,7 @@ use Rattle.module_lang.specs.Words.{word_text, word_kinds}
 use Rattle.module_lang.specs.declared.draft.Draft.{Draft}
 use Rattle.module_lang.specs.declared.draft.Part.TheVariants as part
 use Rattle.module_lang.specs.declared.operand.Operand.TheVariants as operand
-use Rattle.module_lang.specs.declared.word.Kind.TheVariants as kind
+use Rattle.module_lang.specs.declared.word.OperandKind.TheVariants as kind
 use Rattle.module_lang.specs.declared.word.Word.TheVariants as word
 use Rattle.module_lang.proofs.AssemblingLaws.{done, read_short}
 use Rattle.module_lang.proofs.BodyLaws.{AreRight, Declares, Holds, Matches, body_goes, brigades_go, homes_from, init_stage, lower_from, main_stage, open_stage, pools_go, texts_of}

@@ -14,9 +14,9 @@ use Rattle.module_lang.specs.declared.instr.Value.{Value}
 use Rattle.module_lang.specs.declared.instr.Value.TheVariants as value
 use Rattle.module_lang.specs.declared.instr.VarRef.{VarRef}
 use Rattle.module_lang.specs.declared.instr.VarRef.TheVariants as variable
-use Rattle.module_lang.specs.declared.word.Kind.{Kind}
-use Rattle.module_lang.specs.declared.word.Kind.TheVariants as kind
-use Rattle.module_lang.specs.declared.word.Kinds.{Kinds}
+use Rattle.module_lang.specs.declared.word.OperandKind.{OperandKind}
+use Rattle.module_lang.specs.declared.word.OperandKind.TheVariants as kind
+use Rattle.module_lang.specs.declared.word.OperandKinds.{OperandKinds}
 use Rattle.module_lang.specs.declared.word.Op.{Op}
 use Rattle.module_lang.specs.declared.word.Op.TheVariants as op
 
@@ -122,7 +122,7 @@ made op.Jump a = instr.Jump (arg_aim a.first)
 made op.Ret a = instr.Ret (arg_status a.first)
 
 -- whether an operand is of a kind
-abbrev pub is_of : Kind → Arg → Bool
+abbrev pub is_of : OperandKind → Arg → Bool
 is_of kind.Nothing arg.Nothing = true
 is_of kind.Place (arg.Place p) = true
 is_of kind.Pool (arg.Pool i) = true
@@ -136,7 +136,7 @@ is_of kind.Number (arg.Number i) = true
 is_of kind.Value (arg.Value v) = true
 is_of _ _ = false
 
-pub record AreOf (k : Kinds) (a : Args) : Type 0 where
+pub record AreOf (k : OperandKinds) (a : Args) : Type 0 where
   pub first : is_of k.first a.first ≡ true
   pub second : is_of k.second a.second ≡ true
   pub third : is_of k.third a.third ≡ true

@@ -31,9 +31,9 @@ use Rattle.module_lang.specs.declared.refusal.AsmRefusal.{AsmRefusal}
 use Rattle.module_lang.specs.declared.refusal.AsmRefusal.TheVariants.{Fault}
 use Rattle.module_lang.specs.declared.refusal.Code.{Code}
 use Rattle.module_lang.specs.declared.refusal.Code.TheVariants as code
-use Rattle.module_lang.specs.declared.word.Kind.{Kind}
-use Rattle.module_lang.specs.declared.word.Kind.TheVariants as kind
-use Rattle.module_lang.specs.declared.word.Kinds.{Kinds}
+use Rattle.module_lang.specs.declared.word.OperandKind.{OperandKind}
+use Rattle.module_lang.specs.declared.word.OperandKind.TheVariants as kind
+use Rattle.module_lang.specs.declared.word.OperandKinds.{OperandKinds}
 use Rattle.module_lang.specs.declared.word.Op.{Op}
 
 -- the map has the places of the labels
@@ -96,7 +96,7 @@ operand_variable (operand.Brigade b) = variable.Brigade b
 operand_variable o = variable.Pool (operand_index o)
 
 -- an operand of an instruction, of a kind, that is written so: a text has this number, and so has a target
-abbrev pub arg_in : Kind → Operand → ℕ → ℕ → Arg
+abbrev pub arg_in : OperandKind → Operand → ℕ → ℕ → Arg
 arg_in kind.Nothing o x t = arg.Nothing
 arg_in kind.One o x t = arg.Nothing
 arg_in kind.Place o x t = arg.Place (operand_place o)
@@ -110,7 +110,7 @@ arg_in kind.Variable o x t = arg.Variable (operand_variable o)
 arg_in kind.Number o x t = arg.Number (operand_index o)
 arg_in kind.Value o x t = arg.Value (operand_value o)
 
-abbrev pub args_in : Kinds → Operands → ℕ → ℕ → Args
+abbrev pub args_in : OperandKinds → Operands → ℕ → ℕ → Args
 args_in k o x t = record {
   first = arg_in k.first o.first x t;
   second = arg_in k.second o.second x t;

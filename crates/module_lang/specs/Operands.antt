@@ -16,9 +16,9 @@ use Rattle.module_lang.specs.declared.operand.Operands.{Operands}
 use Rattle.module_lang.specs.declared.quoted.Measured.{Measured}
 use Rattle.module_lang.specs.declared.refusal.Code.{Code}
 use Rattle.module_lang.specs.declared.refusal.Code.TheVariants as code
-use Rattle.module_lang.specs.declared.word.Kind.{Kind}
-use Rattle.module_lang.specs.declared.word.Kind.TheVariants as kind
-use Rattle.module_lang.specs.declared.word.Kinds.{Kinds}
+use Rattle.module_lang.specs.declared.word.OperandKind.{OperandKind}
+use Rattle.module_lang.specs.declared.word.OperandKind.TheVariants as kind
+use Rattle.module_lang.specs.declared.word.OperandKinds.{OperandKinds}
 
 -- the number of the variable that is written by this letter and a digit from 0 to 7
 abbrev pub numbered : ℕ → List ℕ → Option ℕ
@@ -64,7 +64,7 @@ abbrev pub value_in : List ℕ → Option Operand
 value_in t = if begins 110 t then number_in t else constant_in t
 
 -- the operand of a kind that a token without spaces spells
-unfoldable pub operand_in : Kind → List ℕ → Option Operand
+unfoldable pub operand_in : OperandKind → List ℕ → Option Operand
 operand_in kind.Nothing t = None
 operand_in kind.One t = is_one t
 operand_in kind.Place t = place_in t
@@ -79,7 +79,7 @@ operand_in kind.Number t = number_in t
 operand_in kind.Value t = value_in t
 
 -- whether an operand is of a kind
-abbrev pub of_kind : Kind → Operand → Bool
+abbrev pub of_kind : OperandKind → Operand → Bool
 of_kind kind.Nothing operand.Nothing = true
 of_kind kind.One operand.One = true
 of_kind kind.Place (operand.Place p) = true
@@ -95,7 +95,7 @@ of_kind kind.Number (operand.Value (value.Number i)) = nat_lt i 8
 of_kind kind.Value (operand.Value v) = is_value v
 of_kind _ _ = false
 
-pub record IsOfKinds (k : Kinds) (o : Operands) : Type 0 where
+pub record IsOfKinds (k : OperandKinds) (o : Operands) : Type 0 where
   pub first : of_kind k.first o.first ≡ true
   pub second : of_kind k.second o.second ≡ true
   pub third : of_kind k.third o.third ≡ true
@@ -106,11 +106,11 @@ abbrev pub operand_place : Operand → PoolRef
 operand_place (operand.Place p) = p
 operand_place _ = pool.Conn
 
-abbrev pub operand_kind_is_nothing : Kind → Bool
+abbrev pub operand_kind_is_nothing : OperandKind → Bool
 operand_kind_is_nothing kind.Nothing = true
 operand_kind_is_nothing _ = false
 
-abbrev pub operand_kind_is_text : Kind → Bool
+abbrev pub operand_kind_is_text : OperandKind → Bool
 operand_kind_is_text kind.Text = true
 operand_kind_is_text _ = false
 
@@ -127,7 +127,7 @@ or_wrong None = Err code.WrongOperands
 or_wrong (Some o) = Ok o
 
 -- the operand of a kind that these bytes begin with, after one space
-unfoldable pub operand_at : Kind → List ℕ → Result Operand Code
+unfoldable pub operand_at : OperandKind → List ℕ → Result Operand Code
 operand_at k rest =
     if operand_kind_is_nothing k then Ok operand.Nothing
     else (if not (begins 32 rest) then Err code.WrongOperands
@@ -142,13 +142,13 @@ abbrev pub after_text : List ℕ → List ℕ
 after_text bytes = text_left (measure_of (quoted bytes)) bytes
 
 -- what follows the operand of a kind
-unfoldable pub after_operand : Kind → List ℕ → List ℕ
+unfoldable pub after_operand : OperandKind → List ℕ → List ℕ
 after_operand k rest =
     if operand_kind_is_nothing k then rest
     else (if operand_kind_is_text k then after_text (tail rest) else after_token (tail rest))
 
 -- the operands that follow a word, with nothing behind the last
-unfoldable pub operands_at : Kinds → List ℕ → Result Operands Code
+unfoldable pub operands_at : OperandKinds → List ℕ → Result Operands Code
 operands_at k rest = do
   a ← operand_at k.first rest
   let rest1 = after_operand k.first rest

@@ -6,20 +6,21 @@ use Rattle.module_lang.specs.declared.word.Op.{Op}
 use Rattle.module_lang.specs.declared.word.Op.TheVariants as op
 use Rattle.module_lang.specs.declared.word.Word.{Word}
 use Rattle.module_lang.specs.declared.word.Word.TheVariants as word
-use Rattle.module_lang.specs.declared.word.Kind.{Kind}
-use Rattle.module_lang.specs.declared.word.Kind.TheVariants as kind
-use Rattle.module_lang.specs.declared.word.Kinds.{Kinds}
+use Rattle.module_lang.specs.declared.word.OperandKind.{OperandKind}
+use Rattle.module_lang.specs.declared.word.OperandKind.TheVariants as kind
+use Rattle.module_lang.specs.declared.word.OperandKinds.{OperandKinds}
+use Rattle.module_lang.specs.declared.word.Signature.{Signature}
 
-abbrev pub three_operands : Kind → Kind → Kind → Kinds
+abbrev pub three_operands : OperandKind → OperandKind → OperandKind → OperandKinds
 three_operands a b c = record { first = a; second = b; third = c; fourth = kind.Nothing }
 
-abbrev pub two_operands : Kind → Kind → Kinds
+abbrev pub two_operands : OperandKind → OperandKind → OperandKinds
 two_operands a b = three_operands a b kind.Nothing
 
-abbrev pub one_operand : Kind → Kinds
+abbrev pub one_operand : OperandKind → OperandKinds
 one_operand a = two_operands a kind.Nothing
 
-abbrev pub no_operand : Kinds
+abbrev pub no_operand : OperandKinds
 no_operand = one_operand kind.Nothing
 
 -- how the word of an instruction is written
@@ -47,36 +48,43 @@ op_text op.JSent = codes "jsent"
 op_text op.Jump = codes "jump"
 op_text op.Ret = codes "ret"
 
--- its operands
-abbrev pub op_kinds : Op → Kinds
-op_kinds op.PCreate = one_operand kind.Pool
-op_kinds op.PClear = one_operand kind.Pool
-op_kinds op.PDestroy = one_operand kind.Pool
-op_kinds op.Label = two_operands kind.Place kind.Text
-op_kinds op.Unlabel = two_operands kind.Place kind.Text
-op_kinds op.BCreate = one_operand kind.Brigade
-op_kinds op.BClean = one_operand kind.Source
-op_kinds op.BConcat = two_operands kind.Source kind.Source
-op_kinds op.BSave = two_operands kind.Brigade kind.Source
-op_kinds op.Pass = two_operands kind.Source kind.Label
-op_kinds op.JEmpty = two_operands kind.Source kind.Label
-op_kinds op.Put = two_operands kind.Value kind.Label
-op_kinds op.ClearBuf = no_operand
-op_kinds op.Set = two_operands kind.Number kind.Value
-op_kinds op.Add = two_operands kind.Number kind.Value
-op_kinds op.Sub = two_operands kind.Number kind.Value
-op_kinds op.JLt = three_operands kind.Number kind.Value kind.Label
-op_kinds op.JEq = three_operands kind.Number kind.Value kind.Label
-op_kinds op.JNull = two_operands kind.Variable kind.Label
-op_kinds op.JSent = one_operand kind.Label
-op_kinds op.Jump = one_operand kind.Label
-op_kinds op.Ret = one_operand kind.Ending
+-- the next instruction can follow, or not
+abbrev pub going_on : OperandKinds → Signature
+going_on k = record { kinds = k; goes_on = true }
 
--- the next instruction can follow
+abbrev pub leaving : OperandKinds → Signature
+leaving k = record { kinds = k; goes_on = false }
+
+-- the operands of an instruction, and whether the next one can follow
+abbrev pub signature : Op → Signature
+signature op.PCreate = going_on (one_operand kind.Pool)
+signature op.PClear = going_on (one_operand kind.Pool)
+signature op.PDestroy = going_on (one_operand kind.Pool)
+signature op.Label = going_on (two_operands kind.Place kind.Text)
+signature op.Unlabel = going_on (two_operands kind.Place kind.Text)
+signature op.BCreate = going_on (one_operand kind.Brigade)
+signature op.BClean = going_on (one_operand kind.Source)
+signature op.BConcat = going_on (two_operands kind.Source kind.Source)
+signature op.BSave = going_on (two_operands kind.Brigade kind.Source)
+signature op.Pass = going_on (two_operands kind.Source kind.Label)
+signature op.JEmpty = going_on (two_operands kind.Source kind.Label)
+signature op.Put = going_on (two_operands kind.Value kind.Label)
+signature op.ClearBuf = going_on no_operand
+signature op.Set = going_on (two_operands kind.Number kind.Value)
+signature op.Add = going_on (two_operands kind.Number kind.Value)
+signature op.Sub = going_on (two_operands kind.Number kind.Value)
+signature op.JLt = going_on (three_operands kind.Number kind.Value kind.Label)
+signature op.JEq = going_on (three_operands kind.Number kind.Value kind.Label)
+signature op.JNull = going_on (two_operands kind.Variable kind.Label)
+signature op.JSent = going_on (one_operand kind.Label)
+signature op.Jump = leaving (one_operand kind.Label)
+signature op.Ret = leaving (one_operand kind.Ending)
+
+abbrev pub op_kinds : Op → OperandKinds
+op_kinds o = (signature o).kinds
+
 abbrev pub op_goes_on : Op → Bool
-op_goes_on op.Jump = false
-op_goes_on op.Ret = false
-op_goes_on _ = true
+op_goes_on o = (signature o).goes_on
 
 -- how a first word is written
 unfoldable pub word_text : Word → List ℕ
@@ -90,7 +98,7 @@ word_text word.End = codes "end"
 word_text (word.Op o) = op_text o
 
 -- its operands
-unfoldable pub word_kinds : Word → Kinds
+unfoldable pub word_kinds : Word → OperandKinds
 word_kinds word.Module = one_operand kind.One
 word_kinds word.Pool = two_operands kind.Pool kind.Place
 word_kinds word.Brigade = two_operands kind.Brigade kind.Place

@@ -16,7 +16,7 @@ use crate::operand::{Operand, Operands, operand_place};
 use crate::parts::made;
 use crate::refusal::{AsmRefusal, Code};
 use crate::seq::Seq;
-use crate::word::{Kind, Kinds};
+use crate::word::{OperandKind, OperandKinds};
 use std::alloc::{AllocError, Global};
 use std::collections::{BTreeMap, BTreeSet};
 
@@ -204,25 +204,25 @@ fn operand_status(operand: Operand) -> Status
 }
 
 /// An operand of an instruction, of a kind, that is written so: a text has this number, and so has a target.
-fn arg_in(kind: Kind, operand: Operand, text: u8, target: u16) -> Arg
+fn arg_in(kind: OperandKind, operand: Operand, text: u8, target: u16) -> Arg
     ensures { result ≡ arg_in kind operand text target }
 {
     match kind {
-        Kind::Nothing | Kind::One => Arg::Nothing,
-        Kind::Place => Arg::Place(operand_place(operand)),
-        Kind::Pool => Arg::Pool(operand_index(operand)),
-        Kind::Brigade => Arg::Brigade(operand_index(operand)),
-        Kind::Source => Arg::Source(operand_index(operand)),
-        Kind::Ending => Arg::Ending(operand_status(operand)),
-        Kind::Label => Arg::Target(target),
-        Kind::Text => Arg::Text(text),
-        Kind::Variable => Arg::Variable(operand_variable(operand)),
-        Kind::Number => Arg::Number(operand_index(operand)),
-        Kind::Value => Arg::Value(operand_value(operand)),
+        OperandKind::Nothing | OperandKind::One => Arg::Nothing,
+        OperandKind::Place => Arg::Place(operand_place(operand)),
+        OperandKind::Pool => Arg::Pool(operand_index(operand)),
+        OperandKind::Brigade => Arg::Brigade(operand_index(operand)),
+        OperandKind::Source => Arg::Source(operand_index(operand)),
+        OperandKind::Ending => Arg::Ending(operand_status(operand)),
+        OperandKind::Label => Arg::Target(target),
+        OperandKind::Text => Arg::Text(text),
+        OperandKind::Variable => Arg::Variable(operand_variable(operand)),
+        OperandKind::Number => Arg::Number(operand_index(operand)),
+        OperandKind::Value => Arg::Value(operand_value(operand)),
     }
 }
 
-fn args_in(kinds: Kinds, operands: Operands, text: u8, target: u16) -> Args
+fn args_in(kinds: OperandKinds, operands: Operands, text: u8, target: u16) -> Args
     ensures { result ≡ args_in kinds operands text target }
 {
     Args {

@@ -10,7 +10,7 @@ use crate::name::{Name, name_of};
 use crate::number::constant_of;
 use crate::quoted::measure;
 use crate::refusal::Code;
-use crate::word::{Kind, Kinds};
+use crate::word::{OperandKind, OperandKinds};
 
 /// An operand of a line.
 #[derive(Clone, Copy)]
@@ -146,22 +146,22 @@ fn value_in(token: &[u8]) -> Option<Operand>
 
 /// The operand of a kind that a token without spaces spells.
 #[tactic(auto, unfolding(crate::specs::Operands::operand_in))]
-fn operand_in(kind: Kind, token: &[u8]) -> Option<Operand>
+fn operand_in(kind: OperandKind, token: &[u8]) -> Option<Operand>
     ensures { result ≡ operand_in kind token.now }
 {
     match kind {
-        Kind::Nothing => None,
-        Kind::One => one_in(token),
-        Kind::Place => place_in(token),
-        Kind::Pool => pool_in(token),
-        Kind::Brigade => brigade_in(token),
-        Kind::Source => source_in(token),
-        Kind::Ending => ending_in(token),
-        Kind::Label => label_in(token),
-        Kind::Text => None,
-        Kind::Variable => variable_in(token),
-        Kind::Number => number_in(token),
-        Kind::Value => value_in(token),
+        OperandKind::Nothing => None,
+        OperandKind::One => one_in(token),
+        OperandKind::Place => place_in(token),
+        OperandKind::Pool => pool_in(token),
+        OperandKind::Brigade => brigade_in(token),
+        OperandKind::Source => source_in(token),
+        OperandKind::Ending => ending_in(token),
+        OperandKind::Label => label_in(token),
+        OperandKind::Text => None,
+        OperandKind::Variable => variable_in(token),
+        OperandKind::Number => number_in(token),
+        OperandKind::Value => value_in(token),
     }
 }
 
@@ -175,16 +175,16 @@ pub fn operand_place(operand: Operand) -> PoolRef
     }
 }
 
-fn is_nothing(kind: Kind) -> bool
+fn is_nothing(kind: OperandKind) -> bool
     ensures { result ≡ operand_kind_is_nothing kind }
 {
-    matches!(kind, Kind::Nothing)
+    matches!(kind, OperandKind::Nothing)
 }
 
-fn is_quoted(kind: Kind) -> bool
+fn is_quoted(kind: OperandKind) -> bool
     ensures { result ≡ operand_kind_is_text kind }
 {
-    matches!(kind, Kind::Text)
+    matches!(kind, OperandKind::Text)
 }
 
 fn text_operand(bytes: &[u8]) -> Result<Operand, Code>
@@ -201,7 +201,7 @@ fn text_operand(bytes: &[u8]) -> Result<Operand, Code>
 
 /// The operand of a kind that these bytes begin with, after one space.
 #[tactic(auto, unfolding(crate::specs::Operands::operand_at))]
-fn operand_at(kind: Kind, rest: &[u8]) -> Result<Operand, Code>
+fn operand_at(kind: OperandKind, rest: &[u8]) -> Result<Operand, Code>
     ensures { result ≡ operand_at kind rest.now }
 {
     if is_nothing(kind) {
@@ -230,7 +230,7 @@ fn after_text(bytes: &[u8]) -> &[u8]
 
 /// What follows the operand of a kind.
 #[tactic(auto, unfolding(crate::specs::Operands::after_operand))]
-fn after_operand(kind: Kind, rest: &[u8]) -> &[u8]
+fn after_operand(kind: OperandKind, rest: &[u8]) -> &[u8]
     ensures { result.now ≡ after_operand kind rest.now }
 {
     if is_nothing(kind) {
@@ -245,7 +245,7 @@ fn after_operand(kind: Kind, rest: &[u8]) -> &[u8]
 /// The operands that follow a word. They are wrong where one is not of its kind, where no single space stands before
 /// one, and where more follows the last; a text in quotes may be faulty.
 #[tactic(auto, unfolding(crate::specs::Operands::operands_at))]
-pub fn operands_at(kinds: Kinds, rest: &[u8]) -> Result<Operands, Code>
+pub fn operands_at(kinds: OperandKinds, rest: &[u8]) -> Result<Operands, Code>
     ensures { result ≡ operands_at kinds rest.now }
 {
     let first = operand_at(kinds.first, rest)?;

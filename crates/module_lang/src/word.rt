@@ -1,11 +1,11 @@
 //! The words of module texts, and what operands follow each.
 
 ghost use Rattle.std.specs.Prelude.{◌≡◌};
-ghost use Rattle.module_lang.specs.Words.{op_goes_on, op_text, op_kinds, word_text, word_kinds, word_at, no_operand, one_operand, two_operands, three_operands};
+ghost use Rattle.module_lang.specs.Words.{going_on, leaving, op_goes_on, op_text, op_kinds, signature, word_text, word_kinds, word_at, no_operand, one_operand, two_operands, three_operands};
 
 /// What an operand may be.
 #[derive(Clone, Copy)]
-pub enum Kind {
+pub enum OperandKind {
     /// No operand.
     Nothing,
     /// The version, `1`.
@@ -34,45 +34,72 @@ pub enum Kind {
 
 /// The kinds of the operands that follow a word, `Nothing` behind the last.
 #[derive(Clone, Copy)]
-pub struct Kinds {
-    pub first: Kind,
-    pub second: Kind,
-    pub third: Kind,
-    pub fourth: Kind,
+pub struct OperandKinds {
+    pub first: OperandKind,
+    pub second: OperandKind,
+    pub third: OperandKind,
+    pub fourth: OperandKind,
 }
 
-impl Kinds {
+impl OperandKinds {
     fn none() -> Self
         ensures { result ≡ no_operand }
     {
-        Kinds::one(Kind::Nothing)
+        OperandKinds::one(OperandKind::Nothing)
     }
 
-    fn one(first: Kind) -> Self
+    fn one(first: OperandKind) -> Self
         ensures { result ≡ one_operand first }
     {
-        Kinds::two(first, Kind::Nothing)
+        OperandKinds::two(first, OperandKind::Nothing)
     }
 
-    fn two(first: Kind, second: Kind) -> Self
+    fn two(first: OperandKind, second: OperandKind) -> Self
         ensures { result ≡ two_operands first second }
     {
-        Kinds {
+        OperandKinds {
             first,
             second,
-            third: Kind::Nothing,
-            fourth: Kind::Nothing,
+            third: OperandKind::Nothing,
+            fourth: OperandKind::Nothing,
         }
     }
 
-    fn three(first: Kind, second: Kind, third: Kind) -> Self
+    fn three(first: OperandKind, second: OperandKind, third: OperandKind) -> Self
         ensures { result ≡ three_operands first second third }
     {
-        Kinds {
+        OperandKinds {
             first,
             second,
             third,
-            fourth: Kind::Nothing,
+            fourth: OperandKind::Nothing,
+        }
+    }
+}
+
+/// What is known of an instruction by its word: its operands, and whether the next instruction can follow.
+#[derive(Clone, Copy)]
+pub struct Signature {
+    pub kinds: OperandKinds,
+    pub goes_on: bool,
+}
+
+impl Signature {
+    fn goes_on(kinds: OperandKinds) -> Self
+        ensures { result ≡ going_on kinds }
+    {
+        Signature {
+            kinds,
+            goes_on: true,
+        }
+    }
+
+    fn leaves(kinds: OperandKinds) -> Self
+        ensures { result ≡ leaving kinds }
+    {
+        Signature {
+            kinds,
+            goes_on: false,
         }
     }
 }
@@ -135,41 +162,89 @@ impl Op {
         }
     }
 
+    /// The operands that follow, and whether the next instruction can follow.
+    fn signature(self) -> Signature
+        ensures { result ≡ signature self }
+    {
+        match self {
+            Op::PCreate => Signature::goes_on(OperandKinds::one(OperandKind::Pool)),
+            Op::PClear => Signature::goes_on(OperandKinds::one(OperandKind::Pool)),
+            Op::PDestroy => Signature::goes_on(OperandKinds::one(OperandKind::Pool)),
+            Op::Label => Signature::goes_on(OperandKinds::two(
+                OperandKind::Place,
+                OperandKind::Text,
+            )),
+            Op::Unlabel => Signature::goes_on(OperandKinds::two(
+                OperandKind::Place,
+                OperandKind::Text,
+            )),
+            Op::BCreate => Signature::goes_on(OperandKinds::one(OperandKind::Brigade)),
+            Op::BClean => Signature::goes_on(OperandKinds::one(OperandKind::Source)),
+            Op::BConcat => Signature::goes_on(OperandKinds::two(
+                OperandKind::Source,
+                OperandKind::Source,
+            )),
+            Op::BSave => Signature::goes_on(OperandKinds::two(
+                OperandKind::Brigade,
+                OperandKind::Source,
+            )),
+            Op::Pass => Signature::goes_on(OperandKinds::two(
+                OperandKind::Source,
+                OperandKind::Label,
+            )),
+            Op::JEmpty => Signature::goes_on(OperandKinds::two(
+                OperandKind::Source,
+                OperandKind::Label,
+            )),
+            Op::Put => Signature::goes_on(OperandKinds::two(
+                OperandKind::Value,
+                OperandKind::Label,
+            )),
+            Op::ClearBuf => Signature::goes_on(OperandKinds::none()),
+            Op::Set => Signature::goes_on(OperandKinds::two(
+                OperandKind::Number,
+                OperandKind::Value,
+            )),
+            Op::Add => Signature::goes_on(OperandKinds::two(
+                OperandKind::Number,
+                OperandKind::Value,
+            )),
+            Op::Sub => Signature::goes_on(OperandKinds::two(
+                OperandKind::Number,
+                OperandKind::Value,
+            )),
+            Op::JLt => Signature::goes_on(OperandKinds::three(
+                OperandKind::Number,
+                OperandKind::Value,
+                OperandKind::Label,
+            )),
+            Op::JEq => Signature::goes_on(OperandKinds::three(
+                OperandKind::Number,
+                OperandKind::Value,
+                OperandKind::Label,
+            )),
+            Op::JNull => Signature::goes_on(OperandKinds::two(
+                OperandKind::Variable,
+                OperandKind::Label,
+            )),
+            Op::JSent => Signature::goes_on(OperandKinds::one(OperandKind::Label)),
+            Op::Jump => Signature::leaves(OperandKinds::one(OperandKind::Label)),
+            Op::Ret => Signature::leaves(OperandKinds::one(OperandKind::Ending)),
+        }
+    }
+
+    /// The operands that follow.
+    pub fn kinds(self) -> OperandKinds
+        ensures { result ≡ op_kinds self }
+    {
+        self.signature().kinds
+    }
+
     /// Whether the next instruction can follow.
     pub fn goes_on(self) -> bool
         ensures { result ≡ op_goes_on self }
     {
-        !matches!(self, Op::Jump | Op::Ret)
-    }
-
-    /// The operands that follow.
-    pub fn kinds(self) -> Kinds
-        ensures { result ≡ op_kinds self }
-    {
-        match self {
-            Op::PCreate => Kinds::one(Kind::Pool),
-            Op::PClear => Kinds::one(Kind::Pool),
-            Op::PDestroy => Kinds::one(Kind::Pool),
-            Op::Label => Kinds::two(Kind::Place, Kind::Text),
-            Op::Unlabel => Kinds::two(Kind::Place, Kind::Text),
-            Op::BCreate => Kinds::one(Kind::Brigade),
-            Op::BClean => Kinds::one(Kind::Source),
-            Op::BConcat => Kinds::two(Kind::Source, Kind::Source),
-            Op::BSave => Kinds::two(Kind::Brigade, Kind::Source),
-            Op::Pass => Kinds::two(Kind::Source, Kind::Label),
-            Op::JEmpty => Kinds::two(Kind::Source, Kind::Label),
-            Op::Put => Kinds::two(Kind::Value, Kind::Label),
-            Op::ClearBuf => Kinds::none(),
-            Op::Set => Kinds::two(Kind::Number, Kind::Value),
-            Op::Add => Kinds::two(Kind::Number, Kind::Value),
-            Op::Sub => Kinds::two(Kind::Number, Kind::Value),
-            Op::JLt => Kinds::three(Kind::Number, Kind::Value, Kind::Label),
-            Op::JEq => Kinds::three(Kind::Number, Kind::Value, Kind::Label),
-            Op::JNull => Kinds::two(Kind::Variable, Kind::Label),
-            Op::JSent => Kinds::one(Kind::Label),
-            Op::Jump => Kinds::one(Kind::Label),
-            Op::Ret => Kinds::one(Kind::Ending),
-        }
+        self.signature().goes_on
     }
 }
 
@@ -206,17 +281,17 @@ impl Word {
 
     /// The operands that follow.
     #[tactic(auto, unfolding(crate::specs::Words::word_kinds))]
-    pub fn kinds(self) -> Kinds
+    pub fn kinds(self) -> OperandKinds
         ensures { result ≡ word_kinds self }
     {
         match self {
-            Word::Module => Kinds::one(Kind::One),
-            Word::Pool => Kinds::two(Kind::Pool, Kind::Place),
-            Word::Brigade => Kinds::two(Kind::Brigade, Kind::Place),
-            Word::Open => Kinds::none(),
-            Word::Init => Kinds::none(),
-            Word::Main => Kinds::none(),
-            Word::End => Kinds::none(),
+            Word::Module => OperandKinds::one(OperandKind::One),
+            Word::Pool => OperandKinds::two(OperandKind::Pool, OperandKind::Place),
+            Word::Brigade => OperandKinds::two(OperandKind::Brigade, OperandKind::Place),
+            Word::Open => OperandKinds::none(),
+            Word::Init => OperandKinds::none(),
+            Word::Main => OperandKinds::none(),
+            Word::End => OperandKinds::none(),
             Word::Op(op) => op.kinds(),
         }
     }
