@@ -33,3 +33,4 @@ pub mod FilesRuns
 pub mod InRange
 pub mod StepRanges
 pub mod RangesRuns
+pub mod AsDeclared

@@ -157,7 +157,7 @@ opened_order budget p fs m = record { placed = λ h. m.opens; nothing_brought = 
 order_events : (budget : ℕ) (p : Program) → IsModule p → EventKeeps p Nothing (IsOrderly budget p)
 unfolding takes
 order_events budget p m = record {
-  begin = λ c last sound s. calls_order budget p (begun p c) refl refl m.inits;
+  begin = λ c none idle last sound s. calls_order budget p (begun p c) refl refl m.inits;
   bring = λ req pieces c is idle there last sound s. calls_order budget p (brought_in req p pieces c) refl refl m.mains;
   open_file = λ req name bytes c is found sound s. shared_order budget p c (file_taken req name (length bytes) c).files (file_taken req name (length bytes) c).state.shared s;
   end = λ req c is idle sound s. ended_order budget p req c idle s;

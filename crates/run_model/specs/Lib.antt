@@ -18,3 +18,4 @@ pub mod Examples
 pub mod Laws
 pub mod RefusalOrder
 pub mod Ranges
+pub mod AsDeclared
