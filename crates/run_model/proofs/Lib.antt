@@ -34,3 +34,4 @@ pub mod InRange
 pub mod StepRanges
 pub mod RangesRuns
 pub mod AsDeclared
+pub mod HomesAlive

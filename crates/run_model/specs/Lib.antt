@@ -19,3 +19,4 @@ pub mod Laws
 pub mod RefusalOrder
 pub mod Ranges
 pub mod AsDeclared
+pub mod HomesAlive

@@ -5,6 +5,7 @@ ghost use Rattle.run_model.specs.Laws.{CreatesKeepOthers, KillsTheNewest, KillsO
 ghost use Rattle.run_model.specs.Laws.{StepKeepsNames, StepKeepsBuckets, StepKeepsPools, StepAtEndKeeps, OpenedIsSound, EventKeepsSound, RunIsSound, RunGoesOn, StepsGoOn, StepsAreARun, EndedStepsAreARun, StepChangesOnly, RefusedChangesNothing, RefusedStepBreaks, FaultBreaks, BrokenStaysBroken, EventKeepsOrder, RunIsOrderly, BucketsAsPieces, LateDataIsRefused, BroughtEndsOnce, OutputOfCuts, FaultOfCuts, PassesMark, PassedIsNotUsed, UseAfterPassFaults, StepKeepsPassed, ReturnEndsIn, EventKeepsPassed, CleanedIsUsable, ClearsKeepOthers, ClearsTakeAlong};
 ghost use Rattle.run_model.specs.Laws.{AsideLasts, ReadsGiveTheFile, ReadsDropNothing, FilesCloseLast, StepKeepsFiles, EventKeepsFiles, RunKeepsFiles};
 ghost use Rattle.run_model.specs.AsDeclared.{OpenedAsDeclared, StepKeepsDeclared, StepAtEndKeepsDeclared, EventKeepsDeclared, RunIsDeclared};
+ghost use Rattle.run_model.specs.HomesAlive.{OpenedHomesAlive, StepKeepsHomes, StepAtEndKeepsHomes, EventKeepsHomes, RunKeepsHomes};
 ghost use Rattle.run_model.specs.RefusalOrder.{FirstIsTold, NoConnectionIsTold, StepsTell, BusyDoesNotEnd, OnlyMemoryRefusesClose};
 ghost use Rattle.run_model.specs.Ranges.{OpenedInRange, StepKeepsInRange, EventKeepsInRange, RunIsInRange, StepKeepsRanges, EventKeepsRanges, RunKeepsRanges};
 
@@ -174,4 +175,13 @@ pub fn variables_stand_as_declared()
     ensures at_end { StepAtEndKeepsDeclared }
     ensures event { EventKeepsDeclared }
     ensures run { RunIsDeclared }
+{}
+
+/// In each run a home that has not ended is alive: it is the call that runs, or a live pool.
+pub fn homes_are_alive_or_ended()
+    ensures opened { OpenedHomesAlive }
+    ensures step { StepKeepsHomes }
+    ensures at_end { StepAtEndKeepsHomes }
+    ensures event { EventKeepsHomes }
+    ensures run { RunKeepsHomes }
 {}
