@@ -35,3 +35,4 @@ pub mod StepRanges
 pub mod RangesRuns
 pub mod AsDeclared
 pub mod HomesAlive
+pub mod Handlers

@@ -20,3 +20,4 @@ pub mod RefusalOrder
 pub mod Ranges
 pub mod AsDeclared
 pub mod HomesAlive
+pub mod Handlers

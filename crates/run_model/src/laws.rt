@@ -6,6 +6,7 @@ ghost use Rattle.run_model.specs.Laws.{StepKeepsNames, StepKeepsBuckets, StepKee
 ghost use Rattle.run_model.specs.Laws.{AsideLasts, ReadsGiveTheFile, ReadsDropNothing, FilesCloseLast, StepKeepsFiles, EventKeepsFiles, RunKeepsFiles};
 ghost use Rattle.run_model.specs.AsDeclared.{OpenedAsDeclared, StepKeepsDeclared, StepAtEndKeepsDeclared, EventKeepsDeclared, RunIsDeclared};
 ghost use Rattle.run_model.specs.HomesAlive.{OpenedHomesAlive, StepKeepsHomes, StepAtEndKeepsHomes, EventKeepsHomes, RunKeepsHomes};
+ghost use Rattle.run_model.specs.Handlers.{CallsBegin, StepStaysInHandler, OpenedRunsHandler, EventKeepsHandler, RunKeepsHandler};
 ghost use Rattle.run_model.specs.RefusalOrder.{FirstIsTold, NoConnectionIsTold, StepsTell, BusyDoesNotEnd, OnlyMemoryRefusesClose};
 ghost use Rattle.run_model.specs.Ranges.{OpenedInRange, StepKeepsInRange, EventKeepsInRange, RunIsInRange, StepKeepsRanges, EventKeepsRanges, RunKeepsRanges};
 
@@ -184,4 +185,14 @@ pub fn homes_are_alive_or_ended()
     ensures at_end { StepAtEndKeepsHomes }
     ensures event { EventKeepsHomes }
     ensures run { RunKeepsHomes }
+{}
+
+/// A call begins at the first instruction of its handler and stays in it, and in each run a request is open, while a call runs,
+/// exactly where that handler is not `open`.
+pub fn calls_stay_in_their_handler()
+    ensures begins { CallsBegin }
+    ensures step { StepStaysInHandler }
+    ensures opened { OpenedRunsHandler }
+    ensures event { EventKeepsHandler }
+    ensures run { RunKeepsHandler }
 {}
