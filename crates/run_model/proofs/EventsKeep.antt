@@ -107,7 +107,7 @@ module _ (p : Program) (S R : List (ℕ × ℕ) → Configuration → Type 0) (k
 
 -- A property P of connections that are sound is kept by what each event but a step does where it happens.
 pub record EventKeeps (p : Program) (S P : Connection → Type 0) : Type 0 where
-  pub begin : (c : Connection) → (is_spent c.state.shared.pools.next 1 || is_spent c.state.shared.next 1) ≡ false → S c → P c → P (begun p c)
+  pub begin : (c : Connection) → is_some c.state.shared.req ≡ false → c.busy ≡ false → (is_spent c.state.shared.pools.next 1 || is_spent c.state.shared.next 1) ≡ false → S c → P c → P (begun p c)
   pub bring : (req : ℕ) (pieces : List Piece) (c : Connection) → c.state.shared.req ≡ Some req → c.busy ≡ false → list_any (lacks_file c.files) pieces ≡ false → is_spent c.state.shared.next (2 + length pieces) ≡ false → S c → P c
       → P (brought_in req p pieces c)
   pub open_file : (req : ℕ) (name bytes : List ℕ) (c : Connection) → c.state.shared.req ≡ Some req → c.state.shared.files.named name ≡ Some bytes → S c → P c → P (file_taken req name (length bytes) c)
@@ -123,7 +123,7 @@ module _ (budget : ℕ) (p : Program) (S P : Connection → Type 0) (keeps : Eve
       let b = none_if c.busy refusal.Busy _ a in
       let d = none_if (is_some c.state.shared.req) refusal.InRequest _ b.1 in
       let e = none_if (is_spent c.state.shared.pools.next 1 || is_spent c.state.shared.next 1) refusal.NamesSpent _ d.1 in
-      keeps.begin c e.0 sound s)
+      keeps.begin c d.0 b.0 e.0 sound s)
 
   bringing_keeps : (o : Option ℕ) (pieces : List Piece) (c : Connection) → c.state.shared.req ≡ o → c.busy ≡ false → list_any (lacks_file c.files) pieces ≡ false → is_spent c.state.shared.next (2 + length pieces) ≡ false → S c → P c
       → P (brought o p pieces c)

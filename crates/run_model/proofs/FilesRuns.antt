@@ -187,7 +187,7 @@ files_steps p m = record { at_end = λ files r none last sound s. at_end_files p
 files_events : (p : Program) → IsModule p → EventKeeps p (λ c. Sound c.state) FilesIn
 unfolding takes
 files_events p m = record {
-  begin = λ c last sound s. begun_files p c sound s;
+  begin = λ c none idle last sound s. begun_files p c sound s;
   bring = λ req pieces c is idle there last sound s. brought_files req p pieces c is there s;
   open_file = λ req name bytes c is found sound s. taken_files req (length bytes) name c is (ap is_some found) s;
   end = λ req c is idle sound s. ended_files req c sound s;

@@ -158,7 +158,7 @@ in_range_steps p m = record { at_end = λ files r none last sound s. at_end_rang
 in_range_events : (p : Program) → IsModule p → EventKeeps p Nothing (λ c. InRange c.state)
 unfolding takes set_brigade with_pools run_down
 in_range_events p m = record {
-  begin = λ c last sound s. bare_range c.state _ refl refl s;
+  begin = λ c none idle last sound s. bare_range c.state _ refl refl s;
   bring = λ req pieces c is idle there last sound s. bare_range c.state _ refl refl s;
   open_file = λ req name bytes c is found sound s. same_range c.state _ refl refl s;
   end = λ req c is idle sound s. same_range c.state _ refl refl s;

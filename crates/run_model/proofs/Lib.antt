@@ -33,3 +33,6 @@ pub mod FilesRuns
 pub mod InRange
 pub mod StepRanges
 pub mod RangesRuns
+pub mod AsDeclared
+pub mod HomesAlive
+pub mod Handlers

@@ -1,12 +1,12 @@
 -- Connections stay orderly: calls stay inside their module, nothing is left between calls, and budgets are kept.
-use Rattle.std.proofs.Common.{◌≡◌, ℕ, ◌+◌, ◌<◌, Bool, true, false, ◌||◌, not, cond, List, [], ◌∷◌, map, length, get_or, Option, Some, None, unwrap_or, Result, Ok, Err, nat_le, nat_lt, ◌==◌, refl, sym, ap, subst, arith}
+use Rattle.std.proofs.Common.{◌≡◌, ℕ, ◌+◌, ◌<◌, Bool, true, false, ◌||◌, not, cond, List, [], ◌∷◌, map, length, Option, Some, None, IfSome, slice_get, unwrap_or, Result, Ok, Err, nat_le, nat_lt, ◌==◌, refl, sym, ap, subst, arith}
 use Rattle.std.proofs.lemmas.Bool.Decides.{nat_tests}
 use Rattle.std.proofs.lemmas.Option.{slice_get-get_or}
 use Rattle.module_lang.specs.declared.instr.Status.TheVariants.{Success}
 use Rattle.module_lang.specs.declared.instr.PoolRef.TheVariants as pool
 use Rattle.module_lang.specs.declared.instr.Instr.{Instr}
 use Rattle.module_lang.specs.declared.instr.Instr.TheVariants as instr
-use Rattle.module_lang.specs.Program.{Program, IsModule, IsPlaced, target}
+use Rattle.module_lang.specs.Program.{Program, IsModule, target, goes_on}
 use Rattle.run_model.specs.declared.bucket.BrigadeVar.{BrigadeVar}
 use Rattle.run_model.specs.declared.bucket.BrigadeVar.TheVariants as var
 use Rattle.run_model.specs.declared.fault.FaultKind.{FaultKind}
@@ -17,6 +17,7 @@ use Rattle.run_model.specs.declared.event.Stepped.{Stepped}
 use Rattle.run_model.specs.declared.event.Stepped.TheVariants as stepped
 use Rattle.run_model.specs.declared.event.StepRefusal.{StepRefusal}
 use Rattle.run_model.specs.declared.event.StepRefusal.TheVariants as step_refusal
+use Rattle.run_model.specs.declared.event.Refusal.{Refusal}
 use Rattle.run_model.specs.Files.{Files}
 use Rattle.run_model.specs.Pools.{is_empty, is_under}
 use Rattle.run_model.specs.Buckets.{cleared_bucket}
@@ -31,64 +32,103 @@ use Rattle.run_model.proofs.Runs.{run_keeps}
 use Rattle.run_model.proofs.EventsKeep.{Nothing, nothing_there, EventKeeps, events_keep}
 use Rattle.run_model.proofs.NamedPools.{on_named, made_under_named, put_keeps}
 
--- What an answer says of the run that it leaves: a call goes on inside the module, or ends and leaves nothing, or
--- the run is as before.
-abbrev pub Left : Program → Configuration → Result Stepped StepRefusal → Configuration → Type 0
-Left p old (Ok stepped.Went) new = new.pc < length p.code
-Left p old (Ok (stepped.CallEnded s)) new = (new.instance.brigades 8 ≡ var.Null) × (new.call ≡ fresh_call 0)
-Left p old (Ok (stepped.Fault k m pc)) new = new ≡ old
-Left p old (Err r) new = new ≡ old
+-- where an instruction can lead, and this is true there
+pub record Leads (P : ℕ → Type 0) (pc : ℕ) (i : Instr) : Type 0 where
+  pub jump : IfSome (target i) P
+  pub next : goes_on i ≡ true → P (pc + 1)
+
+-- What an answer says of the run that it leaves: a call goes on at an instruction of which P is true, or ends and leaves
+-- nothing, or the run is as before.
+abbrev pub Left : (ℕ → Type 0) → Configuration → Result Stepped StepRefusal → Configuration → Type 0
+Left P old (Ok stepped.Went) new = P new.pc
+Left P old (Ok (stepped.CallEnded s)) new = (new.instance.brigades 8 ≡ var.Null) × (new.call ≡ fresh_call 0)
+Left P old (Ok (stepped.Fault k m pc)) new = new ≡ old
+Left P old (Err r) new = new ≡ old
 
 -- a jump that is taken or not
-branched : (p : Program) (i : Instr) (l : ℕ) (old r : Configuration) (b : Bool) → l < length p.code → r.pc + 1 < length p.code → unwrap_or (target i) 0 ≡ l
-    → Left p old (Ok (settled i (jumps_if b) r).0) (settled i (jumps_if b) r).1
-branched p i l old r true jump next is = rw is jump
-branched p i l old r false jump next is = next
+branched : (P : ℕ → Type 0) (i : Instr) (l : ℕ) (old r : Configuration) (b : Bool) → P l → P (r.pc + 1) → unwrap_or (target i) 0 ≡ l
+    → Left P old (Ok (settled i (jumps_if b) r).0) (settled i (jumps_if b) r).1
+branched P i l old r true jump next is = subst P (sym is) jump
+branched P i l old r false jump next is = next
 
 -- a step on a pool leaves the number of the next instruction
-pool_left : (p : Program) (r : Configuration) (change : ℕ → Configuration → Configuration) (o : Option ℕ) → ((n : ℕ) → (change n r).pc ≡ r.pc) → r.pc + 1 < length p.code → (on_pool change o r).pc + 1 < length p.code
-pool_left p r change o same next = on_named (λ (x : Configuration). x.pc + 1 < length p.code) change o r next (λ n e. rw (same n) next)
+pool_left : (P : ℕ → Type 0) (r : Configuration) (change : ℕ → Configuration → Configuration) (o : Option ℕ) → ((n : ℕ) → (change n r).pc ≡ r.pc) → P (r.pc + 1) → P ((on_pool change o r).pc + 1)
+pool_left P r change o same next = on_named (λ (x : Configuration). P (x.pc + 1)) change o r next (λ n e. subst (λ (k : ℕ). P (k + 1)) (sym (same n)) next)
 
-settled_left : (p : Program) (i : Instr) (r : Configuration) → IsPlaced p r.pc i → Left p r (Ok (settled i (step_at_end p i r).exit (step_at_end p i r).state).0) (settled i (step_at_end p i r).exit (step_at_end p i r).state).1
+settled_left : (P : ℕ → Type 0) (p : Program) (i : Instr) (r : Configuration) → Leads P r.pc i → Left P r (Ok (settled i (step_at_end p i r).exit (step_at_end p i r).state).0) (settled i (step_at_end p i r).exit (step_at_end p i r).state).1
 unfolding set_pool with_pools run_down set_brigade set_number
-settled_left p (instr.PCreate q) r placed = made_under_named (λ (x : Configuration). x.pc + 1 < length p.code) p q r (placed.next refl) (λ parent e. placed.next refl)
-settled_left p (instr.PClear q) r placed = pool_left p r pool_cleared (pool_named r (pool.Own q)) (λ n. refl) (placed.next refl)
-settled_left p (instr.PDestroy q) r placed = pool_left p r pool_destroyed (pool_named r (pool.Own q)) (λ n. refl) (placed.next refl)
-settled_left p (instr.Label q t) r placed = pool_left p r (label_registered (text_of p t)) (pool_named r q) (λ n. refl) (placed.next refl)
-settled_left p (instr.Unlabel q t) r placed = pool_left p r (label_killed (text_of p t)) (pool_named r q) (λ n. refl) (placed.next refl)
-settled_left p (instr.JNull v l) r placed = branched p (instr.JNull v l) l r r (is_null r v) placed.jump (placed.next refl) refl
-settled_left p (instr.BSave o b) r placed = pool_left p r (saved_into o b) (made_on (r.instance.brigades o)) (λ n. refl) (placed.next refl)
-settled_left p (instr.Pass b l) r placed =
-    branched p (instr.Pass b l) l r (step_at_end p (instr.Pass b l) r).state (is_fail (answer_to (delivered r.out (items_of (r.instance.brigades b)) r.shared.files).well)) placed.jump (placed.next refl) refl
-settled_left p (instr.Put x l) r placed =
-    branched p (instr.Put x l) l r (do_put x r) (is_full r x) placed.jump (put_keeps (λ (y : Configuration). y.pc + 1 < length p.code) x r (placed.next refl) (λ buffer. placed.next refl)) refl
-settled_left p (instr.JLt n x l) r placed = branched p (instr.JLt n x l) l r r (nat_lt (r.instance.numbers n) (value_of r x)) placed.jump (placed.next refl) refl
-settled_left p (instr.JEq n x l) r placed = branched p (instr.JEq n x l) l r r (r.instance.numbers n == value_of r x) placed.jump (placed.next refl) refl
-settled_left p (instr.JEmpty b l) r placed = branched p (instr.JEmpty b l) l r r (is_empty (items_of (r.instance.brigades b))) placed.jump (placed.next refl) refl
-settled_left p (instr.JSent l) r placed = branched p (instr.JSent l) l r r r.instance.sent placed.jump (placed.next refl) refl
-settled_left p (instr.Jump l) r placed = placed.jump
-settled_left p (instr.Ret s) r placed = (refl, refl)
-settled_left p i r placed = placed.next refl
+settled_left P p (instr.PCreate q) r placed = made_under_named (λ (x : Configuration). P (x.pc + 1)) p q r (placed.next refl) (λ parent e. placed.next refl)
+settled_left P p (instr.PClear q) r placed = pool_left P r pool_cleared (pool_named r (pool.Own q)) (λ n. refl) (placed.next refl)
+settled_left P p (instr.PDestroy q) r placed = pool_left P r pool_destroyed (pool_named r (pool.Own q)) (λ n. refl) (placed.next refl)
+settled_left P p (instr.Label q t) r placed = pool_left P r (label_registered (text_of p t)) (pool_named r q) (λ n. refl) (placed.next refl)
+settled_left P p (instr.Unlabel q t) r placed = pool_left P r (label_killed (text_of p t)) (pool_named r q) (λ n. refl) (placed.next refl)
+settled_left P p (instr.JNull v l) r placed = branched P (instr.JNull v l) l r r (is_null r v) placed.jump (placed.next refl) refl
+settled_left P p (instr.BSave o b) r placed = pool_left P r (saved_into o b) (made_on (r.instance.brigades o)) (λ n. refl) (placed.next refl)
+settled_left P p (instr.Pass b l) r placed =
+    branched P (instr.Pass b l) l r (step_at_end p (instr.Pass b l) r).state (is_fail (answer_to (delivered r.out (items_of (r.instance.brigades b)) r.shared.files).well)) placed.jump (placed.next refl) refl
+settled_left P p (instr.Put x l) r placed =
+    branched P (instr.Put x l) l r (do_put x r) (is_full r x) placed.jump (put_keeps (λ (y : Configuration). P (y.pc + 1)) x r (placed.next refl) (λ buffer. placed.next refl)) refl
+settled_left P p (instr.JLt n x l) r placed = branched P (instr.JLt n x l) l r r (nat_lt (r.instance.numbers n) (value_of r x)) placed.jump (placed.next refl) refl
+settled_left P p (instr.JEq n x l) r placed = branched P (instr.JEq n x l) l r r (r.instance.numbers n == value_of r x) placed.jump (placed.next refl) refl
+settled_left P p (instr.JEmpty b l) r placed = branched P (instr.JEmpty b l) l r r (is_empty (items_of (r.instance.brigades b))) placed.jump (placed.next refl) refl
+settled_left P p (instr.JSent l) r placed = branched P (instr.JSent l) l r r r.instance.sent placed.jump (placed.next refl) refl
+settled_left P p (instr.Jump l) r placed = placed.jump
+settled_left P p (instr.Ret s) r placed = (refl, refl)
+settled_left P p i r placed = placed.next refl
 
-watched_left : (memory : Bool) (p : Program) (i : Instr) (r : Configuration) → IsPlaced p r.pc i → Left p r (watched memory p i r).0 (watched memory p i r).1
-watched_left memory p i r placed = by_fault (fault p r i) where
-  by_memory : (b : Bool) → Left p r (cond b (succeeded (settled i (step_at_end p i r).exit (step_at_end p i r).state)) (Err step_refusal.NoMemory, r)).0 (cond b (succeeded (settled i (step_at_end p i r).exit (step_at_end p i r).state)) (Err step_refusal.NoMemory, r)).1
-  by_memory true = settled_left p i r placed
+watched_left : (P : ℕ → Type 0) (memory : Bool) (p : Program) (i : Instr) (r : Configuration) → Leads P r.pc i → Left P r (watched memory p i r).0 (watched memory p i r).1
+watched_left P memory p i r placed = by_fault (fault p r i) where
+  by_memory : (b : Bool) → Left P r (cond b (succeeded (settled i (step_at_end p i r).exit (step_at_end p i r).state)) (Err step_refusal.NoMemory, r)).0 (cond b (succeeded (settled i (step_at_end p i r).exit (step_at_end p i r).state)) (Err step_refusal.NoMemory, r)).1
+  by_memory true = settled_left P p i r placed
   by_memory false = refl
 
-  by_names : (b : Bool) → Left p r (cond b (Err step_refusal.NamesSpent, r) (cond (memory || not (grows i)) (succeeded (settled i (step_at_end p i r).exit (step_at_end p i r).state)) (Err step_refusal.NoMemory, r))).0
+  by_names : (b : Bool) → Left P r (cond b (Err step_refusal.NamesSpent, r) (cond (memory || not (grows i)) (succeeded (settled i (step_at_end p i r).exit (step_at_end p i r).state)) (Err step_refusal.NoMemory, r))).0
       (cond b (Err step_refusal.NamesSpent, r) (cond (memory || not (grows i)) (succeeded (settled i (step_at_end p i r).exit (step_at_end p i r).state)) (Err step_refusal.NoMemory, r))).1
   by_names true = refl
   by_names false = by_memory (memory || not (grows i))
 
-  by_fault : (f : Option FaultKind) → Left p r (unless_fault f r (executed memory p i r)).0 (unless_fault f r (executed memory p i r)).1
+  by_fault : (f : Option FaultKind) → Left P r (unless_fault f r (executed memory p i r)).0 (unless_fault f r (executed memory p i r)).1
   by_fault None = by_names (lacks_names r i)
   by_fault (Some k) = refl
 
 -- the instruction at a place of the code is one of the code
-placed_at : (p : Program) → IsModule p → (pc : ℕ) → pc < length p.code → IsPlaced p pc (current p pc)
+pub current_at : (p : Program) (pc : ℕ) → pc < length p.code → slice_get p.code pc ≡ Some (current p pc)
 unfolding current
-placed_at p m pc lt = m.placed pc (get_or p.code pc (instr.Ret Success)) (slice_get-get_or p.code pc (instr.Ret Success) lt)
+current_at p pc lt = slice_get-get_or p.code pc (instr.Ret Success) lt
+
+abbrev IsIn : Program → ℕ → Type 0
+IsIn p pc = pc < length p.code
+
+placed_at : (p : Program) → IsModule p → (pc : ℕ) → pc < length p.code → Leads (IsIn p) pc (current p pc)
+placed_at p m pc lt = let placed = m.placed pc (current p pc) (current_at p pc lt) in record { jump = placed.jump; next = placed.next }
+
+-- after a step a call that still runs is at an instruction of which P is true
+answered_place : (P : ℕ → Type 0) (c : Connection) (a : Result Stepped StepRefusal) (r : Configuration) → P c.state.pc → Left P c.state a r
+    → (step_answer a (record c { state = r })).1.busy ≡ true → P (step_answer a (record c { state = r })).1.state.pc
+answered_place P c (Ok stepped.Went) r here left busy = left
+answered_place P c (Ok (stepped.CallEnded st)) r here left busy = absurd (cc)
+answered_place P c (Ok (stepped.Fault k m pc)) r here left busy = subst (λ (x : Configuration). P x.pc) (sym left) here
+answered_place P c (Err step_refusal.NamesSpent) r here left busy = subst (λ (x : Configuration). P x.pc) (sym left) here
+answered_place P c (Err step_refusal.NoMemory) r here left busy = subst (λ (x : Configuration). P x.pc) (sym left) here
+
+pub steps_place : (P : ℕ → Type 0) (memory : Bool) (budget : ℕ) (p : Program) (c : Connection) → (c.busy ≡ true → P c.state.pc × Leads P c.state.pc (current p c.state.pc))
+    → (steps memory budget p c).1.busy ≡ true → P (steps memory budget p c).1.state.pc
+unfolding steps
+steps_place P memory budget p c leads = by_refusal (first_refusal (if_broken c.broken ∷ (refused_if (not c.busy) refusal.Idle ∷ []))) (idle c.broken c.busy refl) where
+  by_budget : (b : Bool) → c.busy ≡ true → (cond b (broke cause.OutOfSteps c) (step_from (watched memory p (current p c.state.pc) c.state) c)).1.busy ≡ true
+      → P (cond b (broke cause.OutOfSteps c) (step_from (watched memory p (current p c.state.pc) c.state) c)).1.state.pc
+  by_budget true busy still = (leads busy).0
+  by_budget false busy still =
+      answered_place P c (watched memory p (current p c.state.pc) c.state).0 (watched memory p (current p c.state.pc) c.state).1 (leads busy).0 (watched_left P memory p (current p c.state.pc) c.state (leads busy).1) still
+
+  by_refusal : (o : Option Refusal) → (o ≡ None → c.busy ≡ true) → (step_if o memory budget p c).1.busy ≡ true → P (step_if o memory budget p c).1.state.pc
+  by_refusal None runs still = by_budget (nat_le budget c.count) (runs refl) still
+  by_refusal (Some r) runs still = (leads still).0
+
+  idle : (broken : Option Cause) (b : Bool) → c.busy ≡ b → first_refusal (if_broken broken ∷ (refused_if (not b) refusal.Idle ∷ [])) ≡ None → c.busy ≡ true
+  idle None true is none = is
+  idle None false is none = absurd (cc)
+  idle (Some k) b is none = absurd (cc)
 
 -- a connection that only broke
 unchanged : (budget : ℕ) (p : Program) (c : Connection) (r : Configuration) (b : Option Cause) → r ≡ c.state → IsOrderly budget p c → IsOrderly budget p (record c { state = r; broken = b })
@@ -99,7 +139,7 @@ unchanged budget p c r b same s = record {
   spent = s.spent;
 }
 
-answered_order : (budget : ℕ) (p : Program) (c : Connection) (a : Result Stepped StepRefusal) (r : Configuration) → c.busy ≡ true → c.count < budget → IsOrderly budget p c → Left p c.state a r
+answered_order : (budget : ℕ) (p : Program) (c : Connection) (a : Result Stepped StepRefusal) (r : Configuration) → c.busy ≡ true → c.count < budget → IsOrderly budget p c → Left (IsIn p) c.state a r
     → IsOrderly budget p (step_answer a (record c { state = r })).1
 answered_order budget p c (Ok stepped.Went) r busy few s left = record { placed = λ h. left; nothing_brought = λ h. absurd (cc); no_call = λ h. absurd (cc); spent = omega arith }
 answered_order budget p c (Ok (stepped.CallEnded st)) r busy few s left = record { placed = λ h. absurd (cc); nothing_brought = λ h. left.0; no_call = λ h. left.1; spent = omega arith }
@@ -123,7 +163,7 @@ steps_order memory budget p c m s = by_broken c.broken where
   by_budget true met busy = unchanged budget p c c.state (Some cause.OutOfSteps) refl s
   by_budget false met busy =
       answered_order budget p c (watched memory p (current p c.state.pc) c.state).0 (watched memory p (current p c.state.pc) c.state).1 busy (few budget c.count met) s
-      (watched_left memory p (current p c.state.pc) c.state (placed_at p m c.state.pc (s.placed busy)))
+      (watched_left (IsIn p) memory p (current p c.state.pc) c.state (placed_at p m c.state.pc (s.placed busy)))
 
   by_idle : (b : Bool) → c.busy ≡ b → IsOrderly budget p (step_if (first_refusal (refused_if (not b) refusal.Idle ∷ [])) memory budget p c).1
   by_idle true busy = by_budget (nat_le budget c.count) refl busy
@@ -157,7 +197,7 @@ opened_order budget p fs m = record { placed = λ h. m.opens; nothing_brought = 
 order_events : (budget : ℕ) (p : Program) → IsModule p → EventKeeps p Nothing (IsOrderly budget p)
 unfolding takes
 order_events budget p m = record {
-  begin = λ c last sound s. calls_order budget p (begun p c) refl refl m.inits;
+  begin = λ c none idle last sound s. calls_order budget p (begun p c) refl refl m.inits;
   bring = λ req pieces c is idle there last sound s. calls_order budget p (brought_in req p pieces c) refl refl m.mains;
   open_file = λ req name bytes c is found sound s. shared_order budget p c (file_taken req name (length bytes) c).files (file_taken req name (length bytes) c).state.shared s;
   end = λ req c is idle sound s. ended_order budget p req c idle s;

@@ -197,7 +197,7 @@ module _ (budget : ℕ) (p : Program) (b : ℕ) (c : Connection) (order : IsOrde
   events_stay : EventKeeps p (λ x. x ≡ c) Stays
   unfolding takes
   events_stay = record {
-    begin = λ x last same s. s;
+    begin = λ x none idle last same s. s;
     bring = λ req pieces x is idle there last same s. as_c (λ y. y.busy ≡ false → Stays (brought_in req p pieces y)) x same (brought_stays req pieces) idle;
     open_file = λ req name bytes x is found same s. s;
     end = λ req x is idle same s. as_c (λ y. Stays (ended (Some req) y)) x same (ended_stays req);

@@ -182,7 +182,7 @@ ranges_steps p m = record {
 ranges_events : (p : Program) → IsModule p → EventKeeps p (λ c. Sound c.state × FilesIn c) RangesIn
 unfolding takes
 ranges_events p m = record {
-  begin = λ c last sound s. begun_ranges p c s;
+  begin = λ c none idle last sound s. begun_ranges p c s;
   bring = λ req pieces c is idle there last sound s. brought_ranges req p pieces c is there s;
   open_file = λ req name bytes c is found sound s. taken_ranges req bytes name c is found sound.1 s;
   end = λ req c is idle sound s. ended_ranges req c sound.0 sound.1 s;

@@ -36,7 +36,7 @@ sound_steps p m = record { at_end = λ files r none last sound s. at_end_sound p
 sound_events : (p : Program) → IsModule p → EventKeeps p Nothing (λ c. Sound c.state)
 unfolding takes
 sound_events p m = record {
-  begin = λ c last sound s. begun_sound p c last s;
+  begin = λ c none idle last sound s. begun_sound p c last s;
   bring = λ req pieces c is idle there last sound s. brought_sound req p pieces c last s;
   open_file = λ req name bytes c is found sound s. taken_sound req (length bytes) name c is s;
   end = λ req c is idle sound s. ended_sound req c.state is s;

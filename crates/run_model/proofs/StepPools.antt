@@ -66,13 +66,13 @@ keeps_slots : (r new : Configuration) → new.shared.pools ≡ r.shared.pools �
 keeps_slots r new pools conn req own slots s = keeps_pools r new pools conn req own (λ b n e. s.brigades b n (slots b n e)) s
 
 -- a declared pool that has no fault is live
-wanted_pool : (r : Configuration) (d : PoolRef) (rest : Option FaultKind) → or_else (cond (has_pool r d) None (Some F1)) rest ≡ None → has_pool r d ≡ true
+pub wanted_pool : (r : Configuration) (d : PoolRef) (rest : Option FaultKind) → or_else (cond (has_pool r d) None (Some F1)) rest ≡ None → has_pool r d ≡ true
 wanted_pool r d rest h = by_test (has_pool r d) rest h where
   by_test : (b : Bool) (rest : Option FaultKind) → or_else (cond b None (Some F1)) rest ≡ None → b ≡ true
   by_test true rest h = refl
   by_test false rest h = absurd (cc)
 
-named_lives : (r : Configuration) (d : PoolRef) (n : ℕ) → has_pool r d ≡ true → pool_named r d ≡ Some n → is_live r.shared.pools n ≡ true
+pub named_lives : (r : Configuration) (d : PoolRef) (n : ℕ) → has_pool r d ≡ true → pool_named r d ≡ Some n → is_live r.shared.pools n ≡ true
 unfolding has_pool
 named_lives r d n h e = let named : is_live_named r.shared.pools (pool_named r d) ≡ is_live r.shared.pools n = ap (is_live_named r.shared.pools) e in sym named ∙ h
 
@@ -102,7 +102,7 @@ concat_pools a b r s =
     s
 
 -- references to files are registered on a live pool
-referred_path : (target : ℕ) (files : List ℕ) (ps : Pools Payload) → (all_referred target files ps).path ≡ ps.path
+pub referred_path : (target : ℕ) (files : List ℕ) (ps : Pools Payload) → (all_referred target files ps).path ≡ ps.path
 unfolding all_referred registered
 referred_path target [] ps = refl
 referred_path target (file ∷ files) ps = referred_path target files (registered target (FileRef file) ps)

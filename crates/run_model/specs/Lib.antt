@@ -18,3 +18,6 @@ pub mod Examples
 pub mod Laws
 pub mod RefusalOrder
 pub mod Ranges
+pub mod AsDeclared
+pub mod HomesAlive
+pub mod Handlers

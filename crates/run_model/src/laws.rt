@@ -4,6 +4,9 @@ ghost use Rattle.run_model.specs.Examples.{PassRuns, PoolRuns, PoolEnds, KindRun
 ghost use Rattle.run_model.specs.Laws.{CreatesKeepOthers, KillsTheNewest, KillsOneLabel, EachStandsOnce, DepthDoesNotMatter};
 ghost use Rattle.run_model.specs.Laws.{StepKeepsNames, StepKeepsBuckets, StepKeepsPools, StepAtEndKeeps, OpenedIsSound, EventKeepsSound, RunIsSound, RunGoesOn, StepsGoOn, StepsAreARun, EndedStepsAreARun, StepChangesOnly, RefusedChangesNothing, RefusedStepBreaks, FaultBreaks, BrokenStaysBroken, EventKeepsOrder, RunIsOrderly, BucketsAsPieces, LateDataIsRefused, BroughtEndsOnce, OutputOfCuts, FaultOfCuts, PassesMark, PassedIsNotUsed, UseAfterPassFaults, StepKeepsPassed, ReturnEndsIn, EventKeepsPassed, CleanedIsUsable, ClearsKeepOthers, ClearsTakeAlong};
 ghost use Rattle.run_model.specs.Laws.{AsideLasts, ReadsGiveTheFile, ReadsDropNothing, FilesCloseLast, StepKeepsFiles, EventKeepsFiles, RunKeepsFiles};
+ghost use Rattle.run_model.specs.AsDeclared.{OpenedAsDeclared, StepKeepsDeclared, StepAtEndKeepsDeclared, EventKeepsDeclared, RunIsDeclared};
+ghost use Rattle.run_model.specs.HomesAlive.{OpenedHomesAlive, StepKeepsHomes, StepAtEndKeepsHomes, EventKeepsHomes, RunKeepsHomes};
+ghost use Rattle.run_model.specs.Handlers.{CallsBegin, StepStaysInHandler, OpenedRunsHandler, EventKeepsHandler, RunKeepsHandler};
 ghost use Rattle.run_model.specs.RefusalOrder.{FirstIsTold, NoConnectionIsTold, StepsTell, BusyDoesNotEnd, OnlyMemoryRefusesClose};
 ghost use Rattle.run_model.specs.Ranges.{OpenedInRange, StepKeepsInRange, EventKeepsInRange, RunIsInRange, StepKeepsRanges, EventKeepsRanges, RunKeepsRanges};
 
@@ -162,4 +165,34 @@ pub fn ranges_lie_in_their_files()
     ensures step { StepKeepsRanges }
     ensures event { EventKeepsRanges }
     ensures run { RunKeepsRanges }
+{}
+
+/// In each run pools and brigades stand as the module declares them: a live pool that a variable names lies right under its
+/// declared parent, which is live; no two variables name one pool; a live brigade lies on the pool of its declaration, which is
+/// live, and a brought one on none.
+pub fn variables_stand_as_declared()
+    ensures opened { OpenedAsDeclared }
+    ensures step { StepKeepsDeclared }
+    ensures at_end { StepAtEndKeepsDeclared }
+    ensures event { EventKeepsDeclared }
+    ensures run { RunIsDeclared }
+{}
+
+/// In each run a home that has not ended is alive: it is the call that runs, or a live pool.
+pub fn homes_are_alive_or_ended()
+    ensures opened { OpenedHomesAlive }
+    ensures step { StepKeepsHomes }
+    ensures at_end { StepAtEndKeepsHomes }
+    ensures event { EventKeepsHomes }
+    ensures run { RunKeepsHomes }
+{}
+
+/// A call begins at the first instruction of its handler and stays in it, and in each run a request is open, while a call runs,
+/// exactly where that handler is not `open`.
+pub fn calls_stay_in_their_handler()
+    ensures begins { CallsBegin }
+    ensures step { StepStaysInHandler }
+    ensures opened { OpenedRunsHandler }
+    ensures event { EventKeepsHandler }
+    ensures run { RunKeepsHandler }
 {}

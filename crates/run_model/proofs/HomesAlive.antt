@@ -1,0 +1,292 @@
+-- Steps and events keep homes alive that have not ended.
+use Rattle.std.proofs.Common.{◌≡◌, ℕ, ◌+◌, ◌<◌, ◌≤◌, Bool, true, false, not, ◌==◌, cond, List, [], ◌∷◌, ◌++◌, map, filter_map, length, Some, None, All, refl, sym, ◌∙◌, ap, subst, arith}
+use Rattle.std.specs.List.{list_any}
+use Rattle.std.proofs.lemmas.Bool.{eq-eqb}
+use Rattle.std.proofs.lemmas.List.Elements.{All-nil, All-cons, All-head, All-tail, All-append, All-map}
+use Rattle.module_lang.specs.declared.instr.Status.TheVariants.{Success}
+use Rattle.module_lang.specs.declared.instr.PoolRef.TheVariants as pool
+use Rattle.module_lang.specs.declared.instr.Instr.TheVariants as instr
+use Rattle.module_lang.specs.Program.{Program, IsModule}
+use Rattle.run_model.specs.declared.bucket.Home.{Home}
+use Rattle.run_model.specs.declared.bucket.Home.TheVariants as home
+use Rattle.run_model.specs.declared.bucket.NamedBucket.{NamedBucket}
+use Rattle.run_model.specs.declared.bucket.BrigadeVar.{BrigadeVar}
+use Rattle.run_model.specs.declared.bucket.BrigadeVar.TheVariants as var
+use Rattle.run_model.specs.declared.bucket.PoolVar.TheVariants as poolvar
+use Rattle.run_model.specs.declared.event.Piece.{Piece}
+use Rattle.run_model.specs.declared.event.Piece.TheVariants as piece
+use Rattle.run_model.specs.declared.payload.Payload.{Payload}
+use Rattle.run_model.specs.Indexed.{upd}
+use Rattle.run_model.specs.Pools.{Pools, is_empty, is_live, is_under, created, registered}
+use Rattle.run_model.specs.RunOrder.{killed}
+use Rattle.run_model.specs.Buckets.{cleared_bucket, returned_bucket, end_pools, end_call, is_dead}
+use Rattle.run_model.specs.Cutting.{FitsKind}
+use Rattle.run_model.specs.Clearing.{is_reached, cleared_var, run_down}
+use Rattle.run_model.specs.State.{Call, Configuration, fresh_call, items_of, set_pool, with_pools, set_brigade, set_number, pool_named}
+use Rattle.run_model.specs.Faults.{homes_fault, usable_fault}
+use Rattle.run_model.specs.Steps.{do_create, do_pass, do_return, do_clean, cleaned, handed_over, with_items, returned_var, made_on, new_ref, aside_named, saved_into, pool_cleared, pool_destroyed, label_registered, label_killed, text_of, current}
+use Rattle.run_model.specs.Connection.{Connection, opened, begun, brought_in, bucket_of, named_from, file_taken, ended, takes}
+use Rattle.run_model.specs.Runs.{World, Before, There, Closed, IfThere}
+use Rattle.run_model.specs.Sound.{SoundPools, Sound, brigade_pool}
+use Rattle.run_model.specs.Laws.{SoundWorld, OrderlyWorld, IsOrderly, MatchHome}
+use Rattle.run_model.specs.HomesAlive.{IsAlive, HomesAlive, OpenedHomesAlive, StepKeepsHomes, StepAtEndKeepsHomes, HomesWorld, EventKeepsHomes, RunKeepsHomes}
+use Rattle.run_model.proofs.Runs.{run_keeps}
+use Rattle.run_model.proofs.PoolMap.{created_lives, destroyed_apart, cleared_apart}
+use Rattle.run_model.proofs.Formed.{path_live}
+use Rattle.run_model.proofs.Marks.{first_none, second_none}
+use Rattle.run_model.proofs.NamedPools.{on_named, made_under_named, put_keeps}
+use Rattle.run_model.proofs.StepPools.{referred_path}
+use Rattle.run_model.proofs.StepFiles.{written, no_dead, neither}
+use Rattle.run_model.proofs.Kept.{aside_lasts}
+use Rattle.run_model.proofs.Orderly.{event_order}
+use Rattle.run_model.proofs.SoundRuns.{event_sound}
+use Rattle.run_model.proofs.EventsKeep.{at_end_keeps, may_execute, StepKeeps, steps_keep, EventKeeps, events_keep}
+
+abbrev AliveList : Configuration → List NamedBucket → Type 0
+AliveList r xs = All (λ x. IsAlive r x.bucket.home) xs
+
+none_alive : (r : Configuration) → AliveList r []
+none_alive r = All-nil (λ x. IsAlive r x.bucket.home)
+
+-- what is alive stays so where calls and pools stay
+home_stays : (r new : Configuration) → new.call.name ≡ r.call.name → ((n : ℕ) → is_live r.shared.pools n ≡ true → is_live new.shared.pools n ≡ true) → (h : Home) → IsAlive r h → IsAlive new h
+home_stays r new call lives home.Free a = tt
+home_stays r new call lives (home.Call n) a = (a.0 ∙ sym call, a.1)
+home_stays r new call lives (home.Pool n) a = lives n a
+home_stays r new call lives home.Ended a = tt
+
+mapped : (r new : Configuration) (f : NamedBucket → NamedBucket) → ((x : NamedBucket) → IsAlive r x.bucket.home → IsAlive new (f x).bucket.home) → (xs : List NamedBucket) → AliveList r xs → AliveList new (map f xs)
+mapped r new f keeps xs h = All-map (λ x. IsAlive new x.bucket.home) f xs (λ k d lt. keeps _ (h k d lt))
+
+weaken : (r new : Configuration) → ((h : Home) → IsAlive r h → IsAlive new h) → (xs : List NamedBucket) → AliveList r xs → AliveList new xs
+weaken r new keeps xs h = λ k d lt. keeps _ (h k d lt)
+
+kept : (r new : Configuration) → ((h : Home) → IsAlive r h → IsAlive new h) → ((b : ℕ) → AliveList r (items_of (new.instance.brigades b))) → AliveList r new.call.loose → r.shared.next ≤ new.shared.next → HomesAlive r → HomesAlive new
+kept r new keeps brigades loose next s = record { brigades = λ b. weaken r new keeps _ (brigades b); loose = weaken r new keeps _ loose; names = let old : 0 < r.shared.next = s.names in omega arith }
+
+-- where pools, calls and brigades stay
+same : (r new : Configuration) → new.call.name ≡ r.call.name → new.call.loose ≡ r.call.loose → new.shared.pools.path ≡ r.shared.pools.path → ((b : ℕ) → AliveList r (items_of (new.instance.brigades b))) → r.shared.next ≤ new.shared.next → HomesAlive r → HomesAlive new
+unfolding is_live
+same r new call loose path brigades next s =
+    kept r new (home_stays r new call (λ n live. ap (λ (g : ℕ → List ℕ). not (is_empty (g n))) path ∙ live)) brigades (subst (AliveList r) (sym loose) s.loose) next s
+
+cleaned_alive : (r : Configuration) (v : BrigadeVar) → AliveList r (items_of (cleaned v))
+cleaned_alive r var.Null = none_alive r
+cleaned_alive r var.Gone = none_alive r
+cleaned_alive r (var.Live v) = none_alive r
+
+handed_alive : (r : Configuration) (v : BrigadeVar) → AliveList r (items_of (handed_over v))
+handed_alive r var.Null = none_alive r
+handed_alive r var.Gone = none_alive r
+handed_alive r (var.Live v) = none_alive r
+
+filled_alive : (r : Configuration) (items : List NamedBucket) (v : BrigadeVar) → AliveList r items → AliveList r (items_of (with_items items v))
+filled_alive r items var.Null h = none_alive r
+filled_alive r items var.Gone h = none_alive r
+filled_alive r items (var.Live v) h = h
+
+one_written : (r : Configuration) (i : ℕ) (w : BrigadeVar) → AliveList r (items_of w) → HomesAlive r → (b : ℕ) → AliveList r (items_of (upd r.instance.brigades i w b))
+one_written r i w here s b = written (λ v. AliveList r (items_of v)) r.instance.brigades i w here s.brigades b
+
+-- these items go to the tail of a, and b is empty
+moved : (r : Configuration) (a b : ℕ) (items : List NamedBucket) → AliveList r items → HomesAlive r
+    → (k : ℕ) → AliveList r (items_of (upd (upd r.instance.brigades b (with_items [] (r.instance.brigades b))) a (with_items (items_of (r.instance.brigades a) ++ items) (r.instance.brigades a)) k))
+moved r a b items h s k =
+    written (λ v. AliveList r (items_of v)) (upd r.instance.brigades b (with_items [] (r.instance.brigades b))) a _
+    (filled_alive r _ (r.instance.brigades a) (All-append (λ x. IsAlive r x.bucket.home) (items_of (r.instance.brigades a)) items (s.brigades a) h))
+    (one_written r b (with_items [] (r.instance.brigades b)) (filled_alive r [] (r.instance.brigades b) (none_alive r)) s) k
+
+-- A pool is cleared.
+
+cleared_home : (r new : Configuration) (reached : ℕ → Bool) → new.call.name ≡ r.call.name → ((n : ℕ) → reached n ≡ false → is_live r.shared.pools n ≡ true → is_live new.shared.pools n ≡ true) → (h : Home) → IsAlive r h → IsAlive new (end_pools reached h)
+cleared_home r new reached call apart home.Free a = tt
+cleared_home r new reached call apart (home.Call n) a = (a.0 ∙ sym call, a.1)
+cleared_home r new reached call apart (home.Pool n) a = by_test (reached n) refl where
+  by_test : (b : Bool) → reached n ≡ b → IsAlive new (cond b home.Ended (home.Pool n))
+  by_test true is = tt
+  by_test false is = apart n is a
+cleared_home r new reached call apart home.Ended a = tt
+
+went : (c : ℕ) (r new : Configuration) → new.call.name ≡ r.call.name → ((n : ℕ) → is_under r.shared.pools c n ≡ false → new.shared.pools.path n ≡ r.shared.pools.path n)
+    → ((b : ℕ) → new.instance.brigades b ≡ cleared_var (is_under r.shared.pools c) (r.instance.brigades b)) → new.call.loose ≡ map (cleared_bucket (is_under r.shared.pools c)) r.call.loose → new.shared.next ≡ r.shared.next → HomesAlive r → HomesAlive new
+unfolding is_live
+went c r new call apart brigades loose next s = record {
+  brigades = λ b. subst (λ v. AliveList new (items_of v)) (sym (brigades b)) (in_var (r.instance.brigades b) (s.brigades b));
+  loose = subst (AliveList new) (sym loose) (list r.call.loose s.loose);
+  names = subst (λ (k : ℕ). 0 < k) (sym next) s.names;
+} where
+  one : (x : NamedBucket) → IsAlive r x.bucket.home → IsAlive new (cleared_bucket (is_under r.shared.pools c) x).bucket.home
+  one x a = cleared_home r new (is_under r.shared.pools c) call (λ n off live. ap (λ (path : List ℕ). not (is_empty path)) (apart n off) ∙ live) x.bucket.home a
+
+  list : (xs : List NamedBucket) → AliveList r xs → AliveList new (map (cleared_bucket (is_under r.shared.pools c)) xs)
+  list xs h = mapped r new (cleared_bucket (is_under r.shared.pools c)) one xs h
+
+  in_var : (v : BrigadeVar) → AliveList r (items_of v) → AliveList new (items_of (cleared_var (is_under r.shared.pools c) v))
+  in_var var.Null h = none_alive new
+  in_var var.Gone h = none_alive new
+  in_var (var.Live v) h = by_test (is_reached (is_under r.shared.pools c) v.on) where
+    by_test : (b : Bool) → AliveList new (items_of (cond b var.Gone (var.Live (record v { items = map (cleared_bucket (is_under r.shared.pools c)) v.items }))))
+    by_test true = none_alive new
+    by_test false = list v.items h
+
+cleared_homes : (c : ℕ) (r : Configuration) → HomesAlive r → HomesAlive (pool_cleared c r)
+unfolding run_down with_pools
+cleared_homes c r s = went c r (pool_cleared c r) refl (λ n off. (cleared_apart c r.shared.pools n off).0) (λ b. refl) refl refl s
+
+destroyed_homes : (c : ℕ) (r : Configuration) → HomesAlive r → HomesAlive (pool_destroyed c r)
+unfolding run_down with_pools
+destroyed_homes c r s = went c r (pool_destroyed c r) refl (λ n off. (destroyed_apart c r.shared.pools n off).0) (λ b. refl) refl refl s
+
+ended_homes : (req : ℕ) (c : Connection) → HomesAlive c.state → HomesAlive (ended (Some req) c).state
+unfolding run_down with_pools
+ended_homes req c s = went req c.state (ended (Some req) c).state refl (λ n off. (destroyed_apart req c.state.shared.pools n off).0) (λ b. refl) refl refl s
+
+-- Buckets are set aside, and a call returns.
+
+lasting : (r : Configuration) (h : Home) → MatchHome h (λ call. ⊥) (λ n. is_live r.shared.pools n ≡ true) → IsAlive r h
+lasting r home.Free a = tt
+lasting r (home.Call n) a = absurd a
+lasting r (home.Pool n) a = a
+lasting r home.Ended a = tt
+
+aside_alive : (target : ℕ) (r : Configuration) → SoundPools r → is_live r.shared.pools target ≡ true → (xs : List NamedBucket) → All (λ x. FitsKind x.bucket) xs → list_any is_dead xs ≡ false
+    → AliveList r (map (aside_named r.shared.pools target) xs)
+aside_alive target r sound live [] fits dead = none_alive r
+aside_alive target r sound live (x ∷ xs) fits dead =
+    let parts = neither (is_dead x) (list_any is_dead xs) dead in
+    let aside = aside_lasts r.shared.pools target x (All-head (λ y. FitsKind y.bucket) x xs fits) parts.0 in
+    All-cons (λ y. IsAlive r y.bucket.home) (aside_named r.shared.pools target x) (map (aside_named r.shared.pools target) xs) (lasting r _ (aside.there sound.formed live))
+    (aside_alive target r sound live xs (All-tail (λ y. FitsKind y.bucket) x xs fits) parts.1)
+
+saved_homes : (o b target : ℕ) (r : Configuration) → Sound r → made_on (r.instance.brigades o) ≡ Some target → list_any is_dead (items_of (r.instance.brigades b)) ≡ false → HomesAlive r → HomesAlive (saved_into o b target r)
+unfolding set_brigade with_pools
+saved_homes o b target r sound on dead s =
+    same r (saved_into o b target r) refl refl (referred_path target (filter_map (new_ref r.shared.pools target) (items_of (r.instance.brigades b))) r.shared.pools)
+    (moved r o b _ (aside_alive target r sound.pools (sound.pools.brigades o target (made_pool (r.instance.brigades o) on)) (items_of (r.instance.brigades b)) (sound.buckets.brigades b) dead) s) (omega arith) s where
+      made_pool : (v : BrigadeVar) → made_on v ≡ Some target → brigade_pool v ≡ Some target
+      made_pool var.Null e = e
+      made_pool var.Gone e = e
+      made_pool (var.Live v) e = e
+
+returned_home : (r new : Configuration) → new.shared.pools ≡ r.shared.pools → (h : Home) → IsAlive r h → IsAlive new (end_call r.call.name h)
+returned_home r new pools home.Free a = tt
+returned_home r new pools (home.Call n) a = subst (λ (b : Bool). IsAlive new (cond b home.Ended (home.Call n))) (sym (eq-eqb n r.call.name a.0)) tt
+returned_home r new pools (home.Pool n) a = ap (λ (ps : Pools Payload). is_live ps n) pools ∙ a
+returned_home r new pools home.Ended a = tt
+
+returned_homes : (r : Configuration) → HomesAlive r → HomesAlive (do_return r)
+returned_homes r s = record { brigades = λ b. left b (b == 8); loose = none_alive (do_return r); names = s.names } where
+  in_var : (v : BrigadeVar) → AliveList r (items_of v) → AliveList (do_return r) (items_of (returned_var r.call.name v))
+  in_var var.Null h = none_alive (do_return r)
+  in_var var.Gone h = none_alive (do_return r)
+  in_var (var.Live v) h = mapped r (do_return r) (returned_bucket r.call.name) (λ x a. returned_home r (do_return r) refl x.bucket.home a) v.items h
+
+  left : (b : ℕ) (is_in : Bool) → AliveList (do_return r) (items_of (cond is_in var.Null (returned_var r.call.name (r.instance.brigades b))))
+  left b true = none_alive (do_return r)
+  left b false = in_var (r.instance.brigades b) (s.brigades b)
+
+made_homes : (parent q : ℕ) (r : Configuration) → HomesAlive r → HomesAlive (set_pool q (poolvar.Made r.shared.pools.next) (with_pools (created parent r.shared.pools) r))
+unfolding set_pool with_pools
+made_homes parent q r s =
+    kept r (set_pool q (poolvar.Made r.shared.pools.next) (with_pools (created parent r.shared.pools) r))
+    (home_stays r (set_pool q (poolvar.Made r.shared.pools.next) (with_pools (created parent r.shared.pools) r)) refl (λ n live. created_lives parent r.shared.pools n live)) s.brigades s.loose (omega arith) s
+
+-- Steps.
+
+pub step_homes : StepKeepsHomes
+unfolding set_brigade set_number with_pools registered killed
+step_homes p choice (instr.PCreate q) r may sound s = made_under_named HomesAlive p q r s (λ parent e. made_homes parent q r s)
+step_homes p choice (instr.PClear q) r may sound s = on_named HomesAlive pool_cleared (pool_named r (pool.Own q)) r s (λ n e. cleared_homes n r s)
+step_homes p choice (instr.PDestroy q) r may sound s = on_named HomesAlive pool_destroyed (pool_named r (pool.Own q)) r s (λ n e. destroyed_homes n r s)
+step_homes p choice (instr.Label q t) r may sound s = on_named HomesAlive (label_registered (text_of p t)) (pool_named r q) r s (λ n e. same r _ refl refl refl s.brigades (omega arith) s)
+step_homes p choice (instr.Unlabel q t) r may sound s = on_named HomesAlive (label_killed (text_of p t)) (pool_named r q) r s (λ n e. same r _ refl refl refl s.brigades (omega arith) s)
+step_homes p choice (instr.BCreate o) r may sound s = same r (do_create p o r) refl refl refl (one_written r o _ (none_alive r) s) (omega arith) s
+step_homes p choice (instr.BClean b) r may sound s = same r (do_clean b r) refl refl refl (one_written r b _ (cleaned_alive r (r.instance.brigades b)) s) (omega arith) s
+step_homes p choice (instr.BConcat a b) r may sound s = same r _ refl refl refl (moved r a b (items_of (r.instance.brigades b)) (s.brigades b) s) (omega arith) s
+step_homes p choice (instr.BSave o b) r may sound s = on_named HomesAlive (saved_into o b) (made_on (r.instance.brigades o)) r s (λ target e.
+    saved_homes o b target r sound e
+    (no_dead (items_of (r.instance.brigades b)) (first_none (homes_fault (items_of (r.instance.brigades b))) None (second_none (usable_fault (r.instance.brigades b)) _ (second_none (usable_fault (r.instance.brigades o)) _ may.faultless)))) s)
+step_homes p choice (instr.Pass b l) r may sound s = same r (do_pass b r) refl refl refl (one_written r b _ (handed_alive r (r.instance.brigades b)) s) (omega arith) s
+step_homes p choice (instr.Put x l) r may sound s = put_keeps HomesAlive x r s (λ buffer. same r _ refl refl refl s.brigades (omega arith) s)
+step_homes p choice (instr.Ret st) r may sound s = returned_homes r s
+step_homes p choice i r may sound s = same r _ refl refl refl s.brigades (omega arith) s
+
+pub at_end_homes : StepAtEndKeepsHomes
+at_end_homes p i r may sound s = at_end_keeps HomesAlive p i r (step_homes p (record { answer = Success }) i r may sound s) (λ b passed. same (do_pass b r) _ refl refl refl passed.brigades (omega arith) passed)
+
+-- Events.
+
+pub opened_homes : OpenedHomesAlive
+unfolding opened
+opened_homes fs = record { brigades = λ b. none_alive (opened fs).state; loose = none_alive (opened fs).state; names = omega arith }
+
+-- between calls no home is a call
+idle_home : (r new : Configuration) → r.call.name ≡ 0 → ((n : ℕ) → is_live r.shared.pools n ≡ true → is_live new.shared.pools n ≡ true) → (h : Home) → IsAlive r h → IsAlive new h
+idle_home r new none lives home.Free a = tt
+idle_home r new none lives (home.Call n) a = absurd (let is : n ≡ r.call.name = a.0 in let lt : 0 < n = a.1 in omega arith)
+idle_home r new none lives (home.Pool n) a = lives n a
+idle_home r new none lives home.Ended a = tt
+
+begun_homes : (p : Program) (c : Connection) → c.state.call ≡ fresh_call 0 → HomesAlive c.state → HomesAlive (begun p c).state
+begun_homes p c idle s =
+    kept c.state (begun p c).state (idle_home c.state (begun p c).state (ap (λ (x : Call). x.name) idle) (λ n live. created_lives c.state.shared.conn c.state.shared.pools n live)) s.brigades (none_alive c.state) (omega arith) s
+
+pieces_alive : (r : Configuration) (call req n : ℕ) (xs : List Piece) → call ≡ r.call.name → 0 < call → is_live r.shared.pools req ≡ true → AliveList r (named_from (bucket_of call req) n xs)
+pieces_alive r call req n [] is lt live = none_alive r
+pieces_alive r call req n (x ∷ xs) is lt live = All-cons (λ y. IsAlive r y.bucket.home) _ (named_from (bucket_of call req) (n + 1) xs) (one x) (pieces_alive r call req (n + 1) xs is lt live) where
+  one : (y : Piece) → IsAlive r (bucket_of call req y).home
+  one (piece.Transient bytes) = (is, lt)
+  one (piece.File file start len) = live
+  one y = tt
+
+brought_homes : (p : Program) (req : ℕ) (pieces : List Piece) (c : Connection) → c.state.shared.req ≡ Some req → c.state.call ≡ fresh_call 0 → Sound c.state → HomesAlive c.state → HomesAlive (brought_in req p pieces c).state
+unfolding set_brigade
+brought_homes p req pieces c is idle sound s =
+    let new = (brought_in req p pieces c).state in
+    let live : is_live c.state.shared.pools req ≡ true = path_live c.state.shared.pools req req _ (sound.pools.req req is).0 in
+    let begun : 0 < c.state.shared.next = s.names in
+    record {
+      brigades = λ b. written (λ v. AliveList new (items_of v)) c.state.instance.brigades 8 _ (pieces_alive new c.state.shared.next req (c.state.shared.next + 2) pieces refl begun live)
+          (λ k. weaken c.state new (idle_home c.state new (ap (λ (x : Call). x.name) idle) (λ n there. there)) (items_of (c.state.instance.brigades k)) (s.brigades k)) b;
+      loose = none_alive new;
+      names = omega arith;
+    }
+
+taken_homes : (req len : ℕ) (name : List ℕ) (c : Connection) → HomesAlive c.state → HomesAlive (file_taken req name len c).state
+unfolding registered
+taken_homes req len name c s = same c.state (file_taken req name len c).state refl refl refl s.brigades (omega arith) s
+
+homes_steps : (p : Program) → IsModule p → StepKeeps p (λ files r. Sound r) (λ files r. HomesAlive r)
+homes_steps p m = record {
+  at_end = λ files r none last sound s. at_end_homes p (current p r.pc) r (may_execute p r m none last) sound s;
+  moved = λ pc files r s. same r _ refl refl refl s.brigades (omega arith) s;
+}
+
+abbrev Calm : ℕ → Program → Connection → Type 0
+Calm budget p c = Sound c.state × IsOrderly budget p c
+
+homes_events : (budget : ℕ) (p : Program) → IsModule p → EventKeeps p (Calm budget p) (λ c. HomesAlive c.state)
+unfolding takes
+homes_events budget p m = record {
+  begin = λ c none idle last calm s. begun_homes p c (calm.1.no_call idle) s;
+  bring = λ req pieces c is idle there last calm s. brought_homes p req pieces c is (calm.1.no_call idle) calm.0 s;
+  open_file = λ req name bytes c is found calm s. taken_homes req (length bytes) name c s;
+  end = λ req c is idle calm s. ended_homes req c s;
+  take = λ c s. same c.state _ refl refl refl s.brigades (omega arith) s;
+  add = λ name bytes c s. same c.state _ refl refl refl s.brigades (omega arith) s;
+}
+
+calm_there : (budget : ℕ) (p : Program) (w : World) → SoundWorld w → OrderlyWorld budget p w → IfThere w (Calm budget p)
+calm_there budget p (Before fs) a b = tt
+calm_there budget p (There c) a b = (a, b)
+calm_there budget p (Closed pools fs) a b = tt
+
+pub event_homes : EventKeepsHomes
+event_homes memory budget p e w m sound order s =
+    events_keep budget p (Calm budget p) (λ c. HomesAlive c.state) (homes_events budget p m) opened_homes
+    (λ memory c calm s. steps_keep p (λ files r. Sound r) (λ files r. HomesAlive r) (homes_steps p m) memory budget c calm.0 s) memory e w (calm_there budget p w sound order) s
+
+pub run_homes : RunKeepsHomes
+run_homes budget p fs es answers w m run =
+    (run_keeps budget p (λ v. SoundWorld v × OrderlyWorld budget p v × HomesWorld v)
+    (λ memory e v s. (event_sound memory budget p e v m s.0, event_order memory budget p e v m s.1, event_homes memory budget p e v m s.0 s.1 s.2)) (Before fs) w es answers (tt, tt, tt) run).2
