@@ -20,6 +20,7 @@ use Rattle.module_run.specs.Seen.{labels_handed}
 use Rattle.module_run.specs.Mapped.{mapped}
 use Rattle.module_run.specs.Made.{pool_made}
 use Rattle.module_run.specs.OwnPools.{variables}
+use Rattle.module_run.proofs.LetGo.{let_go_as}
 use Rattle.module_run.proofs.OwnPools.{set_variables}
 use Rattle.run_model.specs.Indexed.{upd}
 use Rattle.run_model.specs.declared.bucket.PoolVar.{PoolVar}
@@ -65,6 +66,19 @@ ran_down r mid p after pools labels files none changed became ran closed =
     ∙ (ap (λ (ls : List (List ℕ)). with_ran after ls files base) ran
     ∙ (ap (λ (fs : Files). with_ran after (r.shared.labels ++ labels_in (run_order r.shared.pools p)) fs base) closed
     ∙ ap (λ (loose : List NamedBucket). record (with_ran after (r.shared.labels ++ labels_in (run_order r.shared.pools p)) left base) { call = record r.call { loose = loose } }) kept)))
+
+-- The same by what each call of a clear or of a destruction answered: which pools were left, and what was handed on.
+pub handed_down : (r mid : Configuration) (p : ℕ) (change : Pools Payload → Pools Payload) (was pools : Pools Payload) (handed ran : List (ℕ × Payload)) (labels : List (List ℕ)) (files : Files)
+    → r.call.loose ≡ [] → mid ≡ mapped (cleared_var (is_under r.shared.pools p)) r → was ≡ r.shared.pools → ran ≡ run_order was p → pools ≡ change was → handed ≡ ran
+    → labels ≡ mid.shared.labels ++ labels_in ran → files ≡ let_go handed pools mid.shared.files
+    → with_ran pools labels files mid ≡ files_let_go p r (with_pools (change r.shared.pools) (run_down p r))
+unfolding mapped
+handed_down r mid p change was pools handed ran labels files none changed same order left value added closed =
+    let after = left ∙ ap change same in
+    let run = order ∙ ap (λ (ps : Pools Payload). run_order ps p) same in
+    ran_down r mid p (change r.shared.pools) pools labels files none changed after
+    (added ∙ (ap (λ (ls : List (List ℕ)). ls ++ labels_in ran) (ap (λ (x : Configuration). x.shared.labels) changed) ∙ ap (λ (ys : List (ℕ × Payload)). r.shared.labels ++ labels_in ys) run))
+    (let_go_as handed (run_order r.shared.pools p) pools (change r.shared.pools) files mid.shared.files r.shared.files closed (value ∙ run) after (ap (λ (x : Configuration). x.shared.files) changed))
 
 -- a run with other pool variables and pools
 abbrev pub with_made : (ℕ → PoolVar) → Pools Payload → Configuration → Configuration

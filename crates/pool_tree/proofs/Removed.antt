@@ -16,6 +16,43 @@ none_there : (o : Option ℕ) → not (is_some o) ≡ true → o ≡ None
 none_there None e = refl
 none_there (Some k) e = cc
 
+same_some : (o : Option ℕ) (a b : ℕ) → o ≡ Some a → o ≡ Some b → a ≡ b
+same_some o a b at at' = (let both : Some a ≡ Some b = sym at ∙ at' in cc)
+
+-- a link to p leads past it, and any other is as it was
+past : (p n : ℕ) (o there same new : Option ℕ) → new ≡ (if n == p then None else if names o n then there else same) → (n ≡ p → ⊥)
+    → ((o ≡ Some n) × (new ≡ there)) ⊎ ((o ≡ Some n → ⊥) × (new ≡ same))
+past p n o there same new is apart =
+    elim (choose (names o n) there same new (is ∙ ap (λ b. if b then None else if names o n then there else same) (ne_eqb n p apart))) [
+      | inl over ↦ inl (named_is o n over.0, over.1)
+      | inr rest ↦ inr ((λ e. both_ways (names o n) rest.0 (names_at o n e)), rest.1)
+    ]
+
+-- Links to one side and back still lead to each other where p is taken out: of younger ones and older ones, and the other way.
+kept_beside : (p : ℕ) (f g new_f new_g : ℕ → Option ℕ) → ((n m : ℕ) → f n ≡ Some m → g m ≡ Some n)
+    → ((n : ℕ) → new_f n ≡ (if n == p then None else if names (g p) n then f p else f n))
+    → ((n : ℕ) → new_g n ≡ (if n == p then None else if names (f p) n then g p else g n))
+    → (f p ≡ Some p → ⊥) → (n m : ℕ) → new_f n ≡ Some m → new_g m ≡ Some n
+kept_beside p f g new_f new_g back by_f by_g not_itself n m at =
+    elim (cases_eq n p) [
+      | inl here ↦
+          let gone : new_f n ≡ None = by_f n ∙ ap (λ b. if b then None else if names (g p) n then f p else f n) (eq-eqb n p here) in
+          (let bad : None ≡ Some m = sym gone ∙ at in cc)
+      | inr apart ↦ elim (past p n (g p) (f p) (f n) (new_f n) (by_f n) apart) [
+        | inl over ↦
+            let was : f p ≡ Some m = sym over.1 ∙ at in
+            let apart' : m ≡ p → ⊥ = λ e. not_itself (was ∙ ap Some e) in
+            elim (past p m (f p) (g p) (g m) (new_g m) (by_g m) apart') [ inl there ↦ there.1 ∙ over.0 | inr rest ↦ absurd (rest.0 was) ]
+        | inr other ↦
+            let was : g m ≡ Some n = back n m (sym other.1 ∙ at) in
+            let apart' : m ≡ p → ⊥ = λ e. other.0 (ap g (sym e) ∙ was) in
+            elim (past p m (f p) (g p) (g m) (new_g m) (by_g m) apart') [
+              | inl there ↦ absurd (apart (same_some (g m) n p was (back p m there.0)))
+              | inr rest ↦ rest.1 ∙ was
+            ]
+      ]
+    ]
+
 module _ {T : Type 0} (root next p q : ℕ) (old new : ℕ → Option (Pool T)) (linked : IsLinked root next old)
     (live : is_some (old p) ≡ true) (above : parent_of old p ≡ Some q) (childless : newest_of old p ≡ None) (removed : IsRemoved p old new) where
   no_child : (n : ℕ) → parent_of old n ≡ Some p → ⊥
@@ -115,34 +152,16 @@ module _ {T : Type 0} (root next p q : ℕ) (old new : ℕ → Option (Pool T)) 
       ]
 
   older_cases : (n : ℕ) → (n ≡ p → ⊥) → (((younger_of old p ≡ Some n) × (older_of new n ≡ older_of old p)) ⊎ ((younger_of old p ≡ Some n → ⊥) × (older_of new n ≡ older_of old n)))
-  older_cases n apart =
-      let at : older_of new n ≡ (if names (younger_of old p) n then older_of old p else older_of old n)
-      = removed.older n ∙ ap (λ b. if b then None else if names (younger_of old p) n then older_of old p else older_of old n) (ne_eqb n p apart) in
-      elim (choose (names (younger_of old p) n) (older_of old p) (older_of old n) (older_of new n) at) [
-        | inl there ↦ inl (named_is (younger_of old p) n there.0, there.1)
-        | inr rest ↦ inr ((λ e. both_ways (names (younger_of old p) n) rest.0 (names_at (younger_of old p) n e)), rest.1)
-      ]
+  older_cases n apart = past p n (younger_of old p) (older_of old p) (older_of old n) (older_of new n) (removed.older n) apart
 
   younger_cases : (n : ℕ) → (n ≡ p → ⊥) → (((older_of old p ≡ Some n) × (younger_of new n ≡ younger_of old p)) ⊎ ((older_of old p ≡ Some n → ⊥) × (younger_of new n ≡ younger_of old n)))
-  younger_cases n apart =
-      let at : younger_of new n ≡ (if names (older_of old p) n then younger_of old p else younger_of old n)
-      = removed.younger n ∙ ap (λ b. if b then None else if names (older_of old p) n then younger_of old p else younger_of old n) (ne_eqb n p apart) in
-      elim (choose (names (older_of old p) n) (younger_of old p) (younger_of old n) (younger_of new n) at) [
-        | inl there ↦ inl (named_is (older_of old p) n there.0, there.1)
-        | inr rest ↦ inr ((λ e. both_ways (names (older_of old p) n) rest.0 (names_at (older_of old p) n e)), rest.1)
-      ]
-
-  gone_newest : (r : ℕ) → r ≡ p → newest_of new r ≡ None
-  gone_newest r here = removed.newest r ∙ ap (λ b. if b then None else if names (parent_of old p) r && not (is_some (younger_of old p)) then older_of old p else newest_of old r) (eq-eqb r p here)
-
-  gone_older : (n : ℕ) → n ≡ p → older_of new n ≡ None
-  gone_older n here = removed.older n ∙ ap (λ b. if b then None else if names (younger_of old p) n then older_of old p else older_of old n) (eq-eqb n p here)
+  younger_cases n apart = past p n (older_of old p) (younger_of old p) (younger_of old n) (younger_of new n) (removed.younger n) apart
 
   gone_younger : (n : ℕ) → n ≡ p → younger_of new n ≡ None
   gone_younger n here = removed.younger n ∙ ap (λ b. if b then None else if names (older_of old p) n then younger_of old p else younger_of old n) (eq-eqb n p here)
 
-  same_some : (o : Option ℕ) (a b : ℕ) → o ≡ Some a → o ≡ Some b → a ≡ b
-  same_some o a b at at' = (let both : Some a ≡ Some b = sym at ∙ at' in cc)
+  gone_newest : (r : ℕ) → r ≡ p → newest_of new r ≡ None
+  gone_newest r here = removed.newest r ∙ ap (λ b. if b then None else if names (parent_of old p) r && not (is_some (younger_of old p)) then older_of old p else newest_of old r) (eq-eqb r p here)
 
   new_newest : (r : ℕ) → newest_of new r ≡ newest_below new r next
   new_newest r =
@@ -172,44 +191,10 @@ module _ {T : Type 0} (root next p q : ℕ) (old new : ℕ → Option (Pool T)) 
       ]
 
   new_younger : (n m : ℕ) → younger_of new n ≡ Some m → older_of new m ≡ Some n
-  new_younger n m at =
-      elim (cases_eq n p) [
-        | inl here ↦ (let bad : None ≡ Some m = sym (gone_younger n here) ∙ at in cc)
-        | inr apart ↦ elim (younger_cases n apart) [
-          | inl past ↦
-              let young : younger_of old p ≡ Some m = sym past.1 ∙ at in
-              let apart' : m ≡ p → ⊥ = λ e. younger_apart (young ∙ ap Some e) in
-              elim (older_cases m apart') [ inl back ↦ back.1 ∙ past.0 | inr rest ↦ absurd (rest.0 young) ]
-          | inr other ↦
-              let young : younger_of old n ≡ Some m = sym other.1 ∙ at in
-              let was = linked.younger n m young in
-              let apart' : m ≡ p → ⊥ = λ e. other.0 (ap (older_of old) (sym e) ∙ was) in
-              elim (older_cases m apart') [
-                | inl back ↦ absurd (apart (same_some (older_of old m) n p was (linked.younger p m back.0)))
-                | inr rest ↦ rest.1 ∙ was
-              ]
-        ]
-      ]
+  new_younger = kept_beside p (younger_of old) (older_of old) (younger_of new) (older_of new) linked.younger removed.younger removed.older younger_apart
 
   new_elder : (n m : ℕ) → older_of new m ≡ Some n → younger_of new n ≡ Some m
-  new_elder n m at =
-      elim (cases_eq m p) [
-        | inl here ↦ (let bad : None ≡ Some n = sym (gone_older m here) ∙ at in cc)
-        | inr apart ↦ elim (older_cases m apart) [
-          | inl past ↦
-              let old_one : older_of old p ≡ Some n = sym past.1 ∙ at in
-              let apart' : n ≡ p → ⊥ = λ e. older_apart (old_one ∙ ap Some e) in
-              elim (younger_cases n apart') [ inl back ↦ back.1 ∙ past.0 | inr rest ↦ absurd (rest.0 old_one) ]
-          | inr other ↦
-              let was : older_of old m ≡ Some n = sym other.1 ∙ at in
-              let young = linked.elder n m was in
-              let apart' : n ≡ p → ⊥ = λ e. other.0 (ap (younger_of old) (sym e) ∙ young) in
-              elim (younger_cases n apart') [
-                | inl back ↦ absurd (apart (same_some (younger_of old n) m p young (linked.elder n p back.0)))
-                | inr rest ↦ rest.1 ∙ young
-              ]
-        ]
-      ]
+  new_elder n m = kept_beside p (older_of old) (younger_of old) (older_of new) (younger_of new) (λ a b. linked.elder b a) removed.older removed.younger older_apart m n
 
   new_youngest : (n r : ℕ) → parent_of new n ≡ Some r → younger_of new n ≡ None → newest_of new r ≡ Some n
   new_youngest n r at none =

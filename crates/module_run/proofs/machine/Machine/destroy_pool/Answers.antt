@@ -1,23 +1,19 @@
 -- The pool goes, with what lay on it and under it.
-use Rattle.std.proofs.Common.{◌≡◌, ℕ, List, ◌++◌, refl, sym, ap, ◌∙◌, subst}
+use Rattle.std.proofs.Common.{◌≡◌, refl, sym, ap, ◌∙◌, subst}
 use Rattle.module_lang.specs.declared.instr.PoolRef.TheVariants as pool
 use Rattle.run_model.specs.declared.payload.Payload.{Payload}
-use Rattle.run_model.specs.Payloads.{labels_in}
 use Rattle.run_model.specs.Pools.{Pools, destroyed}
-use Rattle.run_model.specs.RunOrder.{run_order}
 use Rattle.run_model.specs.State.{Configuration, pool_named}
 use Rattle.run_model.specs.Steps.{pool_destroyed}
 use Rattle.pool_tree.specs.declared.tree.PoolTree.{PoolTree}
 use Rattle.pool_tree.specs.Tree.{map_of}
 use Rattle.pool_tree.proofs.Trees.{tree_formed}
-use Rattle.run_model.specs.Files.{let_go}
 use Rattle.bucket_kinds.specs.MemDevice.{files_of}
-use Rattle.module_run.proofs.LetGo.{let_go_as}
 use Rattle.module_run.specs.Seen.{seen_machine, labels_handed}
 use Rattle.module_run.specs.Mapped.{mapped}
 use Rattle.module_run.specs.OwnPools.{IsStanding}
 use Rattle.module_run.proofs.OwnPools.{owned, standing_destroyed, not_top}
-use Rattle.module_run.proofs.Changed.{with_ran, ran_down}
+use Rattle.module_run.proofs.Changed.{with_ran, handed_down}
 use Rattle.module_run.proofs.PoolNames.{done_to}
 use Rattle.module_run.proofs.machine.Machine.destroy_pool.Goals as goal
 
@@ -45,16 +41,7 @@ pub returns-clause-ok : goal.returns-clause-ok
 unfolding seen_machine mapped
 returns-clause-ok c =
     let r = seen_machine c.args.self.now in
-    let n = c.live_pool-pool.result in
-    let old = labels_handed c.args.self.now.runs.items in
-    let after = destroyed n (map_of c.args.self.now.pools) in
-    let kept = ap (λ (x : Configuration). x.shared.labels) c.in_ok-room.ensures.ok in
-    let same = ap (λ (t : PoolTree Payload). run_order (map_of t) n) c.in_ok-room.ensures.same in
-    let labels : labels_handed c.add.new.runs.items ≡ old ++ labels_in (run_order (map_of c.args.self.now.pools) n)
-    = c.add.ensures ∙ (ap (λ (xs : List (List ℕ)). xs ++ labels_in c.destroy_in-ran.result.items) kept ∙ ap (λ (ys : List (ℕ × Payload)). old ++ labels_in ys) (c.destroy_in-ran.ensures.ran ∙ same)) in
-    let pools : map_of c.destroy_in-ran.new.self ≡ after = c.destroy_in-ran.ensures.ok ∙ ap (λ (t : PoolTree Payload). destroyed n (map_of t)) c.in_ok-room.ensures.same in
-    let gone : files_of c.let_go.new.files ≡ let_go (run_order (map_of c.args.self.now.pools) n) after r.shared.files
-    = let_go_as c.as_slice.result.now (run_order (map_of c.args.self.now.pools) n) (map_of c.destroy_in-ran.new.self) after (files_of c.let_go.new.files) (files_of c.prepare_clear.new.self.files) r.shared.files c.let_go.ensures (c.as_slice.ensures.value ∙ (c.destroy_in-ran.ensures.ran ∙ same)) pools (ap (λ (x : Configuration). x.shared.files) c.in_ok-room.ensures.ok) in
     let new = with_ran (map_of c.destroy_in-ran.new.self) (labels_handed c.add.new.runs.items) (files_of c.let_go.new.files) (seen_machine c.prepare_clear.new.self) in
-    done_to pool_destroyed (pool_named r (pool.Own c.args.q)) n r new c.live_pool-pool.ensures.named
-    (ran_down r (seen_machine c.prepare_clear.new.self) n after (map_of c.destroy_in-ran.new.self) (labels_handed c.add.new.runs.items) (files_of c.let_go.new.files) refl c.in_ok-room.ensures.ok pools labels gone)
+    done_to pool_destroyed (pool_named r (pool.Own c.args.q)) c.live_pool-pool.result r new c.live_pool-pool.ensures.named
+    (handed_down r (seen_machine c.prepare_clear.new.self) c.live_pool-pool.result (destroyed c.live_pool-pool.result) (map_of c.prepare_clear.new.self.pools) (map_of c.destroy_in-ran.new.self) c.as_slice.result.now c.destroy_in-ran.result.items (labels_handed c.add.new.runs.items) (files_of c.let_go.new.files) refl c.in_ok-room.ensures.ok
+    (ap (λ (t : PoolTree Payload). map_of t) c.in_ok-room.ensures.same) c.destroy_in-ran.ensures.ran c.destroy_in-ran.ensures.ok c.as_slice.ensures.value c.add.ensures c.let_go.ensures)
