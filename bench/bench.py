@@ -74,6 +74,8 @@ def name(i):
 
 
 def main():
+    if not os.access(PROGRAM, os.X_OK):
+        raise SystemExit('bench/bench.py: there is no program %s; ./host builds the one of this repository' % PROGRAM)
     n = 20_000_000
     print('watched instructions per second, `jump` to itself: %.2e' % (n / (loop(n) - loop(0))))
     for count in (5_000, 20_000):

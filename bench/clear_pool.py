@@ -117,6 +117,8 @@ def built(folder):
 
 
 def main():
+    if not shutil.which('rt'):
+        raise SystemExit('bench/clear_pool.py: there is no toolchain: no command rt')
     with tempfile.TemporaryDirectory() as folder:
         crate = built(folder)
         done = subprocess.run(['rt', 'run'], cwd=crate, capture_output=True, text=True, stdin=subprocess.DEVNULL)

@@ -12,6 +12,7 @@ counts them and refuses one; it is built with `cc` in a folder of its own.
 """
 import glob
 import os
+import shutil
 import subprocess
 import sys
 import tempfile
@@ -149,6 +150,10 @@ def check(library, name):
 
 
 def main():
+    if not os.access(PROGRAM, os.X_OK):
+        raise SystemExit('bench/refuse_memory.py: there is no program %s; ./host builds it' % PROGRAM)
+    if not shutil.which('cc'):
+        raise SystemExit('bench/refuse_memory.py: there is no compiler cc')
     names = sys.argv[1:] or sorted(glob.glob(os.path.join(TOP, 'examples', '*.script')))
     with tempfile.TemporaryDirectory() as folder:
         source, library = os.path.join(folder, 'refuser.c'), os.path.join(folder, 'refuser.so')

@@ -4,7 +4,7 @@ ghost use Rattle.std.specs.Prelude.{◌≡◌, ◌≤◌, ◌<◌, ◌↔◌, fa
 ghost use Rattle.run_model.specs.Buckets.{is_data_kind};
 ghost use Rattle.run_model.specs.Cutting.{IsBucket, EndsInFile, Form, Memory, form_of, length_of, front_of, rest_of, split_at, set_aside};
 
-use crate::refusal::SplitRefusal;
+use crate::refusal::SplitError;
 use run_model::{Bucket, Content, Home, Kind, Seq};
 use std::alloc::{AllocError, Global};
 
@@ -67,21 +67,21 @@ fn parts(alloc: Global, content: &Content, n: u64) -> Result<(Content, Content),
 /// Splits a bucket after its first `n` bytes and gives the rest, of the same kind and home. Metadata is refused
 /// before a length is looked at. A FILE bucket is split by its range, without a read and without memory. A
 /// refused bucket is as it was.
-pub fn split_bucket(alloc: Global, bucket: &mut Bucket, n: u64) -> Result<Bucket, SplitRefusal>
+pub fn split_bucket(alloc: Global, bucket: &mut Bucket, n: u64) -> Result<Bucket, SplitError>
     requires { EndsInFile bucket.old.content }
     ensures ok { IfOk result (λ rest. (bucket.new, rest) ≡ split_at n bucket.old) }
-    ensures metadata { (result ≡ Err SplitRefusal.Metadata) ↔ (is_data_kind bucket.old.kind ≡ false) }
-    ensures too_long { (result ≡ Err SplitRefusal.TooLong) ↔ ((is_data_kind bucket.old.kind ≡ true) × (length_of bucket.old.content < n)) }
-    ensures no_memory { result ≡ Err SplitRefusal.NoMemory → form_of bucket.old.content ≡ Memory }
+    ensures metadata { (result ≡ Err SplitError.Metadata) ↔ (is_data_kind bucket.old.kind ≡ false) }
+    ensures too_long { (result ≡ Err SplitError.TooLong) ↔ ((is_data_kind bucket.old.kind ≡ true) × (length_of bucket.old.content < n)) }
+    ensures no_memory { result ≡ Err SplitError.NoMemory → form_of bucket.old.content ≡ Memory }
     ensures err { OnErr result (bucket.new ≡ bucket.old) }
     ensures fits { IsBucket bucket.old → IsBucket bucket.new }
     ensures rest_fits { IsBucket bucket.old → IfOk result IsBucket }
 {
     if is_metadata(bucket.kind) {
-        return Err(SplitRefusal::Metadata);
+        return Err(SplitError::Metadata);
     }
     if n > length(&bucket.content) {
-        return Err(SplitRefusal::TooLong);
+        return Err(SplitError::TooLong);
     }
     let (front, rest) = parts(alloc, &bucket.content, n)?;
     bucket.content = front;

@@ -17,5 +17,5 @@ pub use disk_files::DiskFiles;
 pub use files::{FileNo, Files};
 pub use mem_files::MemFiles;
 pub use reading::read_bucket;
-pub use refusal::{AddRefusal, FileFault, ReadFault, ReadRefusal, SplitRefusal};
+pub use refusal::{AddRefusal, FileFault, ReadError, ReadFault, SplitError};
 pub use run_model::{Bucket, Content, Home, Kind, Seq};

@@ -6,22 +6,12 @@ ghost use Rattle.bucket_kinds.specs.Device.{failed, is_there};
 ghost use Rattle.bucket_kinds.specs.Reading.{MayGive, MayEnd, IsOpenFor, GivesFor, EndsWithin};
 
 use crate::files::{FileNo, Files};
-use crate::refusal::ReadRefusal;
+use crate::refusal::ReadError;
 use run_model::{Bucket, Content, Home, Kind, Seq};
-use std::alloc::{AllocError, Global};
+use std::alloc::Global;
 
 /// How many bytes a read takes from a file, at most.
 const READ_LIMIT: u64 = 8000;
-
-fn zeros(alloc: Global, n: usize) -> Result<Seq<u8>, AllocError>
-    ensures { IfOk result (λ bytes. length bytes ≡ n) }
-{
-    let mut bytes = Seq::new(alloc);
-    for _ in 0..n {
-        bytes.push(0)?;
-    }
-    Ok(bytes)
-}
 
 // The next bytes of a file from a place on, as many as are asked for. Memory is got before the file is read.
 fn fetch<F: Files>(
@@ -30,19 +20,20 @@ fn fetch<F: Files>(
     file: FileNo,
     start: u64,
     n: usize,
-) -> Result<Seq<u8>, ReadRefusal>
+) -> Result<Seq<u8>, ReadError>
     requires { is_there ((F.device files.old).numbered file) ≡ true }
     ensures given { IfOk result (MayGive ((F.device files.old).numbered file) start n) }
     ensures same { OnOk result (F.device files.new ≡ F.device files.old) }
-    ensures no_memory { result ≡ Err ReadRefusal.NoMemory → F.device files.new ≡ F.device files.old }
-    ensures fault { result ≡ Err ReadRefusal.ReadFault
+    ensures no_memory { result ≡ Err ReadError.NoMemory → F.device files.new ≡ F.device files.old }
+    ensures fault { result ≡ Err ReadError.ReadFault
         → (F.device files.new ≡ failed (F.device files.old))
         ⊎ ((F.device files.new ≡ F.device files.old) × MayEnd ((F.device files.old).numbered file) start n) }
 {
-    let mut bytes = zeros(alloc, n)?;
+    let mut bytes = Seq::new(alloc);
+    bytes.add_zeros(n)?;
     match files.read_at(file, start, bytes.as_mut_slice()) {
         Ok(count) if count == n => Ok(bytes),
-        _ => Err(ReadRefusal::ReadFault),
+        _ => Err(ReadError::ReadFault),
     }
 }
 
@@ -54,15 +45,15 @@ pub fn read_bucket<F: Files>(
     alloc: Global,
     bucket: &mut Bucket,
     files: &mut F,
-) -> Result<Option<Bucket>, ReadRefusal>
+) -> Result<Option<Bucket>, ReadError>
     requires ends { EndsInFile bucket.old.content }
     requires open { IsOpenFor (F.device files.old) bucket.old.content }
     ensures ok { IfOk result (λ rest. (bytes : List ℕ) × GivesFor (F.device files.old) bucket.old.content bytes
         × ((bucket.new, rest) ≡ read_of bytes bucket.old)) }
     ensures unread { wanted bucket.old.content ≡ 0 → (result ≡ Ok None) × (F.device files.new ≡ F.device files.old) }
     ensures same { OnOk result (F.device files.new ≡ F.device files.old) }
-    ensures no_memory { result ≡ Err ReadRefusal.NoMemory → F.device files.new ≡ F.device files.old }
-    ensures fault { result ≡ Err ReadRefusal.ReadFault
+    ensures no_memory { result ≡ Err ReadError.NoMemory → F.device files.new ≡ F.device files.old }
+    ensures fault { result ≡ Err ReadError.ReadFault
         → (F.device files.new ≡ failed (F.device files.old))
         ⊎ ((F.device files.new ≡ F.device files.old) × EndsWithin (F.device files.old) bucket.old.content) }
     ensures open_files { (F.device files.new).numbered ≡ (F.device files.old).numbered }

@@ -1,6 +1,6 @@
 -- What each line keeps true of a draft.
-use Rattle.std.proofs.Common.{◌≡◌, ℕ, ◌+◌, ◌<◌, true, false, ◌||◌, ◌≤◌, not, ltb, List, [], ◌∷◌, ◌++◌, length, length-append, append-nil, append_assoc, inl, inr, ◌⊎◌, Some, Ok, refl, sym, ◌∙◌, ap, subst, arith}
-use Rattle.std.specs.Prelude.{All, codes, is_some}
+use Rattle.std.proofs.Common.{◌≡◌, ℕ, ◌+◌, ◌<◌, Bool, true, false, ◌||◌, ◌≤◌, not, ltb, List, [], ◌∷◌, ◌++◌, length, length-append, append-nil, append_assoc, inl, inr, ◌⊎◌, Some, Ok, refl, sym, ◌∙◌, ap, subst, arith}
+use Rattle.std.specs.Prelude.{All, is_some}
 use Rattle.std.specs.List.{range_with_len}
 use Rattle.std.proofs.lemmas.Bool.{and_parts, or_parts, eqb-true, ltb-true, ltb-false, lt-ltb, not-false}
 use Rattle.std.proofs.lemmas.List.Elements.{All-push, filter_map-append}
@@ -8,12 +8,11 @@ use Rattle.module_lang.specs.Codes.{◌>>=◌, unless}
 use Rattle.module_lang.specs.Drafts.{with_step, step_added, label_added, with_line}
 use Rattle.module_lang.specs.Entries.{IsDraft, IsStep, early_steps, entered, from_quote, item_entered, step_numbers, step_text, step_texts, step_entered}
 use Rattle.module_lang.specs.Bytes.{unindented}
-use Rattle.module_lang.specs.Handlers.{operand_variable}
-use Rattle.module_lang.specs.Lines.{instruction_count, is_due, judged, op_judged, declaration_judged, is_next, is_declared, place_is_declared, has_equal_brigades, has_long_text, is_long_text, is_text_operand, are_declared, is_misplaced, has_room, has_text}
-use Rattle.module_lang.specs.Operands.{of_kind, operand_place}
+use Rattle.module_lang.specs.Lines.{instruction_count, is_due, judged, op_judged, declaration_judged, is_next, is_declared, place_is_declared, has_equal_brigades, has_long_text, is_long_text, are_declared, is_misplaced, has_room, has_text}
+use Rattle.module_lang.specs.Operands.{of_kind, operand_kind_is_text, operand_place}
 use Rattle.module_lang.specs.Program.{text_of_instr}
 use Rattle.module_lang.specs.Quoted.{quoted, text_of}
-use Rattle.module_lang.specs.Spelling.{operands_of, variable_operand}
+use Rattle.module_lang.specs.Spelling.{operands_of}
 use Rattle.module_lang.specs.Words.{word_kinds, word_text, op_kinds, op_text}
 use Rattle.module_lang.specs.declared.draft.Draft.{Draft}
 use Rattle.module_lang.specs.declared.draft.Label.{Label}
@@ -24,7 +23,6 @@ use Rattle.module_lang.specs.declared.instr.Instr.{Instr}
 use Rattle.module_lang.specs.declared.instr.Instr.TheVariants as instr
 use Rattle.module_lang.specs.declared.instr.PoolRef.{PoolRef}
 use Rattle.module_lang.specs.declared.instr.PoolRef.TheVariants as pool
-use Rattle.module_lang.specs.declared.instr.VarRef.{VarRef}
 use Rattle.module_lang.specs.declared.instr.VarRef.TheVariants as variable
 use Rattle.module_lang.specs.declared.lines.Line.{Line}
 use Rattle.module_lang.specs.declared.lines.Line.TheVariants as line
@@ -34,14 +32,14 @@ use Rattle.module_lang.specs.declared.operand.Operands.{Operands}
 use Rattle.module_lang.specs.declared.refusal.Code.TheVariants as code
 use Rattle.module_lang.specs.declared.word.Kind.TheVariants as kind
 use Rattle.module_lang.specs.declared.word.Op.{Op}
-use Rattle.module_lang.specs.declared.word.Op.TheVariants as op
 use Rattle.module_lang.specs.declared.word.Word.{Word}
 use Rattle.module_lang.specs.declared.word.Word.TheVariants as word
-use Rattle.module_lang.proofs.InverseLaws.{Item, TextFound, text_found}
+use Rattle.module_lang.proofs.ArgsFound.{AreFound, ops_found, word_unquoted}
+use Rattle.module_lang.proofs.InverseLaws.{Item, TextFound}
 use Rattle.module_lang.proofs.LineLaws.{bind_ok, unless_ok}
 use Rattle.module_lang.proofs.ListLaws.{empty_list, range_more}
-use Rattle.module_lang.proofs.OperandLaws.{shape, kinds_read}
-use Rattle.module_lang.proofs.QuoteLaws.{quote_unindented}
+use Rattle.module_lang.proofs.OperandLaws.{kinds_read}
+use Rattle.module_lang.proofs.QuoteLaws.{quote_unindented, spelled_bytes}
 use Rattle.module_lang.proofs.SaysLaws.{Says}
 use Rattle.module_lang.proofs.SliceLaws.{none_of, pushed_item}
 
@@ -152,37 +150,17 @@ more_declared n (pool.Own i) h = let low = ltb-true i n h in lt-ltb i (n + 1) (o
 
 -- the variable that is declared next, where a kind allows eight
 next_pool : (n : ℕ) (x : Operand) → of_kind kind.Pool x ≡ true → is_next n x ≡ true → n < 8
-next_pool n operand.Nothing k h = absurd (cc k)
-next_pool n operand.One k h = absurd (cc k)
-next_pool n (operand.Place pool.Conn) k h = absurd (cc k)
-next_pool n (operand.Place pool.Req) k h = absurd (cc k)
 next_pool n (operand.Place (pool.Own i)) k h = let same = eqb-true i n h in let low = ltb-true i 8 k in omega arith
-next_pool n (operand.Brigade b) k h = absurd (cc k)
-next_pool n (operand.Ending e) k h = absurd (cc k)
-next_pool n (operand.Label l) k h = absurd (cc k)
-next_pool n (operand.Text t) k h = absurd (cc k)
-next_pool n (operand.Value v) k h = absurd (cc k)
+next_pool n _ k h = absurd (cc k)
 
 next_brigade : (n : ℕ) (x : Operand) → of_kind kind.Brigade x ≡ true → is_next n x ≡ true → n < 8
-next_brigade n operand.Nothing k h = absurd (cc k)
-next_brigade n operand.One k h = absurd (cc k)
-next_brigade n (operand.Place p) k h = absurd (cc k)
 next_brigade n (operand.Brigade i) k h = let same = eqb-true i n h in let low = ltb-true i 8 k in omega arith
-next_brigade n (operand.Ending e) k h = absurd (cc k)
-next_brigade n (operand.Label l) k h = absurd (cc k)
-next_brigade n (operand.Text t) k h = absurd (cc k)
-next_brigade n (operand.Value v) k h = absurd (cc k)
+next_brigade n _ k h = absurd (cc k)
 
 -- the second operand of a declaration is a declared pool
 home_declared : (n : ℕ) (x : Operand) → is_declared n 0 x ≡ true → place_is_declared n (operand_place x) ≡ true
-home_declared n operand.Nothing h = refl
-home_declared n operand.One h = refl
 home_declared n (operand.Place p) h = h
-home_declared n (operand.Brigade b) h = refl
-home_declared n (operand.Ending e) h = refl
-home_declared n (operand.Label l) h = refl
-home_declared n (operand.Text t) h = refl
-home_declared n (operand.Value v) h = refl
+home_declared n _ h = refl
 
 pub record IsDeclaration (count pools : ℕ) (o : Operands) : Type 0 where
   pub next : is_next count o.first ≡ true
@@ -361,60 +339,25 @@ added_keeps part.Main i d ts t due low s e h x =
     }
 added_keeps part.End i d ts t due low s e h x = absurd (cc due)
 
-variable_bare : (v : VarRef) → is_text_operand (variable_operand v) ≡ false
-variable_bare (variable.Pool q) = refl
-variable_bare (variable.Brigade b) = refl
-
 -- the operands of an instruction have a text where the instruction has
 pub has_text_of : (i : Instr) (n : List ℕ) (k : ℕ) → has_text (operands_of i n k) ≡ is_some (text_of_instr i)
-has_text_of (instr.PCreate q) n k = refl
-has_text_of (instr.PClear q) n k = refl
-has_text_of (instr.PDestroy q) n k = refl
-has_text_of (instr.Label q t) n k = refl
-has_text_of (instr.Unlabel q t) n k = refl
-has_text_of (instr.BCreate o) n k = refl
-has_text_of (instr.BClean b) n k = refl
-has_text_of (instr.BConcat a b) n k = refl
-has_text_of (instr.BSave o b) n k = refl
-has_text_of (instr.Pass b l) n k = refl
-has_text_of (instr.JEmpty b l) n k = refl
-has_text_of (instr.Put x l) n k = refl
-has_text_of instr.ClearBuf n k = refl
-has_text_of (instr.Set m x) n k = refl
-has_text_of (instr.Add m x) n k = refl
-has_text_of (instr.Sub m x) n k = refl
-has_text_of (instr.JLt m x l) n k = refl
-has_text_of (instr.JEq m x l) n k = refl
-has_text_of (instr.JNull v l) n k = rw (variable_bare v) refl
-has_text_of (instr.JSent l) n k = refl
-has_text_of (instr.Jump l) n k = refl
-has_text_of (instr.Ret s) n k = refl
+has_text_of (instr.JNull (variable.Pool q) l) n k = refl
+has_text_of (instr.JNull (variable.Brigade b) l) n k = refl
+has_text_of _ n k = refl
 
 -- an instruction has a text in its line, or none
 pub text_has : (i : Op) (d : Draft) (s : List ℕ) (o : Operands) → Item d s (word.Op i) o → (has_text o ≡ false) ⊎ ((has_text o ≡ true) × TextFound s o.second)
-unfolding word_kinds op_kinds word_text op_text
-text_has op.PCreate d s o h = inl (ap has_text (shape op.PCreate o 0 0 (kinds_read (op_kinds op.PCreate) h.rest o h.read)).same)
-text_has op.PClear d s o h = inl (ap has_text (shape op.PClear o 0 0 (kinds_read (op_kinds op.PClear) h.rest o h.read)).same)
-text_has op.PDestroy d s o h = inl (ap has_text (shape op.PDestroy o 0 0 (kinds_read (op_kinds op.PDestroy) h.rest o h.read)).same)
-text_has op.Label d s o h = inr (ap has_text (shape op.Label o 0 0 (kinds_read (op_kinds op.Label) h.rest o h.read)).same, subst (λ l. TextFound l o.second) (sym h.spelled) (text_found kind.Place (codes "label") h.rest o refl refl refl h.read))
-text_has op.Unlabel d s o h = inr (ap has_text (shape op.Unlabel o 0 0 (kinds_read (op_kinds op.Unlabel) h.rest o h.read)).same, subst (λ l. TextFound l o.second) (sym h.spelled) (text_found kind.Place (codes "unlabel") h.rest o refl refl refl h.read))
-text_has op.BCreate d s o h = inl (ap has_text (shape op.BCreate o 0 0 (kinds_read (op_kinds op.BCreate) h.rest o h.read)).same)
-text_has op.BClean d s o h = inl (ap has_text (shape op.BClean o 0 0 (kinds_read (op_kinds op.BClean) h.rest o h.read)).same)
-text_has op.BConcat d s o h = inl (ap has_text (shape op.BConcat o 0 0 (kinds_read (op_kinds op.BConcat) h.rest o h.read)).same)
-text_has op.BSave d s o h = inl (ap has_text (shape op.BSave o 0 0 (kinds_read (op_kinds op.BSave) h.rest o h.read)).same)
-text_has op.Pass d s o h = inl (ap has_text (shape op.Pass o 0 0 (kinds_read (op_kinds op.Pass) h.rest o h.read)).same)
-text_has op.JEmpty d s o h = inl (ap has_text (shape op.JEmpty o 0 0 (kinds_read (op_kinds op.JEmpty) h.rest o h.read)).same)
-text_has op.Put d s o h = inl (ap has_text (shape op.Put o 0 0 (kinds_read (op_kinds op.Put) h.rest o h.read)).same)
-text_has op.ClearBuf d s o h = inl (ap has_text (shape op.ClearBuf o 0 0 (kinds_read (op_kinds op.ClearBuf) h.rest o h.read)).same)
-text_has op.Set d s o h = inl (ap has_text (shape op.Set o 0 0 (kinds_read (op_kinds op.Set) h.rest o h.read)).same)
-text_has op.Add d s o h = inl (ap has_text (shape op.Add o 0 0 (kinds_read (op_kinds op.Add) h.rest o h.read)).same)
-text_has op.Sub d s o h = inl (ap has_text (shape op.Sub o 0 0 (kinds_read (op_kinds op.Sub) h.rest o h.read)).same)
-text_has op.JLt d s o h = inl (ap has_text (shape op.JLt o 0 0 (kinds_read (op_kinds op.JLt) h.rest o h.read)).same)
-text_has op.JEq d s o h = inl (ap has_text (shape op.JEq o 0 0 (kinds_read (op_kinds op.JEq) h.rest o h.read)).same)
-text_has op.JNull d s o h = inl (ap has_text (shape op.JNull o 0 0 (kinds_read (op_kinds op.JNull) h.rest o h.read)).same ∙ rw (variable_bare (operand_variable o.first)) refl)
-text_has op.JSent d s o h = inl (ap has_text (shape op.JSent o 0 0 (kinds_read (op_kinds op.JSent) h.rest o h.read)).same)
-text_has op.Jump d s o h = inl (ap has_text (shape op.Jump o 0 0 (kinds_read (op_kinds op.Jump) h.rest o h.read)).same)
-text_has op.Ret d s o h = inl (ap has_text (shape op.Ret o 0 0 (kinds_read (op_kinds op.Ret) h.rest o h.read)).same)
+unfolding word_kinds word_text
+text_has i d s o h = by_kind (operand_kind_is_text (op_kinds i).second) refl
+  where
+    f : AreFound i o 0 h.rest
+    f = ops_found i o 0 h.rest h.read
+
+    by_kind : (b : Bool) → operand_kind_is_text (op_kinds i).second ≡ b → (has_text o ≡ false) ⊎ ((has_text o ≡ true) × TextFound s o.second)
+    by_kind false e = inl (f.has ∙ e)
+    by_kind true e =
+        let at : text_of (quoted (from_quote s)) ≡ Some f.text = ap (λ x. text_of (quoted (from_quote x))) h.spelled ∙ f.behind e (op_text i) (word_unquoted i) in
+        inr (f.has ∙ e, record { text = f.text; found = at; len = (f.right e).1; bytes = spelled_bytes f.spelled f.text (f.right e).0 })
 
 without_text : (d : Draft) (n : ℕ) (i : Op) (o : Operands) → IsDraft d → has_text o ≡ false → IsText d [] (record { line = n; op = i; operands = o; text = length d.texts })
 without_text d n i o s e = record {

@@ -1,20 +1,17 @@
 -- Labels without a fault are distinct, and each target that is not lost has its label.
 use Rattle.std.proofs.Common.{◌≡◌, ◌≢◌, ℕ, ◌+◌, Bool, true, false, not, cond, leb, nat_eq, List, [], ◌∷◌, ◌++◌, Option, Some, None, inl, inr, ◌⊎◌, refl, sym, ◌∙◌, ap, subst, append_assoc, append-nil}
-use Rattle.std.specs.Prelude.{IfSome, is_some, map, unwrap_or}
+use Rattle.std.specs.Prelude.{IfSome, is_some, map, option_map, unwrap_or}
 use Rattle.std.specs.Cmp.Lexicographic.{pointwise, same_text}
-use Rattle.module_lang.specs.Handlers.{is_named, is_lost, is_missing, jump_fault, label_fault, label_of, op_instr, operand_variable, fault, place_from, place_of, step_code, target_place}
+use Rattle.module_lang.specs.Handlers.{is_named, is_lost, is_missing, jump_fault, label_fault, label_of, op_instr, fault, place_from, place_of, step_code, target_place}
 use Rattle.module_lang.specs.Names.{is_name}
 use Rattle.module_lang.specs.Program.{target}
-use Rattle.module_lang.specs.Spelling.{operands_of, two, variable_operand}
+use Rattle.module_lang.specs.Spelling.{operands_of}
 use Rattle.module_lang.specs.Texts.{AreDistinct, IsAimed, IsApart, IsLabel}
 use Rattle.module_lang.specs.declared.draft.Label.{Label}
-use Rattle.module_lang.specs.declared.instr.VarRef.{VarRef}
-use Rattle.module_lang.specs.declared.instr.VarRef.TheVariants as variable
-use Rattle.module_lang.specs.declared.operand.Operand.TheVariants as operand
 use Rattle.module_lang.specs.declared.operand.Operands.{Operands}
 use Rattle.module_lang.specs.declared.refusal.Code.TheVariants as code
 use Rattle.module_lang.specs.declared.word.Op.{Op}
-use Rattle.module_lang.specs.declared.word.Op.TheVariants as op
+use Rattle.module_lang.proofs.ArgLaws.{label_target, target_moved}
 use Rattle.module_lang.proofs.RawLines.{AreBuilt, Raw, marked, did, raw_steps}
 use Rattle.module_lang.proofs.FoundModule.{line_of, unnamed_apart}
 use Rattle.module_lang.proofs.LabelLaws.{AreNamed, Marked, Named, name_stripped, named-append, stripped}
@@ -83,34 +80,13 @@ label_there base name (Some y) ls xs e v m n h = at (place_from None y ls) refl 
     at None q h = absurd (cc h)
     at (Some k) q h = let s : y ≡ padded name = cc e in only k (found_label base name k None ls xs v m n (ap (λ z. place_from None z ls) (sym s) ∙ q))
 
-variable_label : (v : VarRef) (n : List ℕ) → label_of (two (variable_operand v) (operand.Label n)) ≡ Some n
-variable_label (variable.Pool q) n = refl
-variable_label (variable.Brigade b) n = refl
-
 -- an instruction that names no lost label is aimed at a label of that name
 op_aimed : (base : ℕ) (i : Op) (o : Operands) (x k : ℕ) (name : List ℕ) (ls : List Label) (xs : List (List ℕ × ℕ)) → o ≡ operands_of (op_instr i o x 0) (padded name) k → IfSome (target (op_instr i o x 0)) (λ _. is_name name ≡ true) → Marked base ls xs → AreNamed xs → is_lost ls o ≡ false → IfSome (target (op_instr i o x (base + target_place ls (label_of o)))) (λ t. IsLabel name t xs)
-op_aimed base op.PCreate o x k name ls xs e v m n h = tt
-op_aimed base op.PClear o x k name ls xs e v m n h = tt
-op_aimed base op.PDestroy o x k name ls xs e v m n h = tt
-op_aimed base op.Label o x k name ls xs e v m n h = tt
-op_aimed base op.Unlabel o x k name ls xs e v m n h = tt
-op_aimed base op.BCreate o x k name ls xs e v m n h = tt
-op_aimed base op.BClean o x k name ls xs e v m n h = tt
-op_aimed base op.BConcat o x k name ls xs e v m n h = tt
-op_aimed base op.BSave o x k name ls xs e v m n h = tt
-op_aimed base op.Pass o x k name ls xs e v m n h = label_there base name (label_of o) ls xs (ap label_of e) v m n h
-op_aimed base op.JEmpty o x k name ls xs e v m n h = label_there base name (label_of o) ls xs (ap label_of e) v m n h
-op_aimed base op.Put o x k name ls xs e v m n h = label_there base name (label_of o) ls xs (ap label_of e) v m n h
-op_aimed base op.ClearBuf o x k name ls xs e v m n h = tt
-op_aimed base op.Set o x k name ls xs e v m n h = tt
-op_aimed base op.Add o x k name ls xs e v m n h = tt
-op_aimed base op.Sub o x k name ls xs e v m n h = tt
-op_aimed base op.JLt o x k name ls xs e v m n h = label_there base name (label_of o) ls xs (ap label_of e) v m n h
-op_aimed base op.JEq o x k name ls xs e v m n h = label_there base name (label_of o) ls xs (ap label_of e) v m n h
-op_aimed base op.JNull o x k name ls xs e v m n h = label_there base name (label_of o) ls xs (ap label_of e ∙ variable_label (operand_variable o.first) (padded name)) v m n h
-op_aimed base op.JSent o x k name ls xs e v m n h = label_there base name (label_of o) ls xs (ap label_of e) v m n h
-op_aimed base op.Jump o x k name ls xs e v m n h = label_there base name (label_of o) ls xs (ap label_of e) v m n h
-op_aimed base op.Ret o x k name ls xs e v m n h = tt
+op_aimed base i o x k name ls xs e v m n h = subst (λ y. IfSome y (λ t. IsLabel name t xs)) (sym (target_moved i o x (base + target_place ls (label_of o)))) (by_target (target (op_instr i o x 0)) (ap label_of e ∙ label_target (op_instr i o x 0) (padded name) k) v)
+  where
+    by_target : (y : Option ℕ) → label_of o ≡ option_map (λ _. padded name) y → IfSome y (λ _. is_name name ≡ true) → IfSome (option_map (λ _. base + target_place ls (label_of o)) y) (λ t. IsLabel name t xs)
+    by_target None q w = tt
+    by_target (Some u) q w = label_there base name (label_of o) ls xs q w m n h
 
 -- instructions without a lost label are aimed
 pub lines_aimed : (base n : ℕ) (ls : List Label) (xs : List (List ℕ × ℕ)) (rs : List Raw) → Marked base ls xs → AreNamed xs → AreBuilt n rs → jump_fault ls (raw_steps rs) ≡ None → IsAimed xs (map (line_of base ls) rs)

@@ -107,14 +107,8 @@ snoc front word s rs r e =
     append_assoc front (word ∷ map raw_text rs) (s ∷ []) ∙ ap (λ x. front ++ (word ∷ (map raw_text rs ++ x ∷ []))) e ∙ ap (λ xs. front ++ (word ∷ xs)) (sym (map-append raw_text rs (r ∷ [])))
 
 one_is : (x : Operand) → of_kind kind.One x ≡ true → x ≡ operand.One
-one_is operand.Nothing h = absurd (cc h)
 one_is operand.One h = refl
-one_is (operand.Place p) h = absurd (cc h)
-one_is (operand.Brigade b) h = absurd (cc h)
-one_is (operand.Ending s) h = absurd (cc h)
-one_is (operand.Label n) h = absurd (cc h)
-one_is (operand.Text n) h = absurd (cc h)
-one_is (operand.Value v) h = absurd (cc h)
+one_is _ h = absurd (cc h)
 
 -- the lines of the words that stand alone
 module_line : (d : Draft) (s : List ℕ) (o : Operands) → Item d s word.Module o → s ≡ codes "module 1"
@@ -143,36 +137,16 @@ end_line d s o h = h.spelled ∙ ap (λ r. codes "end" ++ r) (none_spelled h.res
 
 -- a declaration, which is the next one
 next_place : (n : ℕ) (x : Operand) (t : List ℕ) → of_kind kind.Pool x ≡ true → is_next n x ≡ true → Spells x t → t ≡ place_text (pool.Own n)
-next_place n operand.Nothing t k h s = absurd (cc k)
-next_place n operand.One t k h s = absurd (cc k)
-next_place n (operand.Place pool.Conn) t k h s = absurd (cc k)
-next_place n (operand.Place pool.Req) t k h s = absurd (cc k)
 next_place n (operand.Place (pool.Own i)) t k h s = s ∙ ap (λ j. place_text (pool.Own j)) (eqb-true i n h)
-next_place n (operand.Brigade b) t k h s = absurd (cc k)
-next_place n (operand.Ending e) t k h s = absurd (cc k)
-next_place n (operand.Label l) t k h s = absurd (cc k)
-next_place n (operand.Text l) t k h s = absurd (cc k)
-next_place n (operand.Value v) t k h s = absurd (cc k)
+next_place n _ t k h s = absurd (cc k)
 
 next_own : (n : ℕ) (x : Operand) (t : List ℕ) → of_kind kind.Brigade x ≡ true → is_next n x ≡ true → Spells x t → t ≡ own_text n
-next_own n operand.Nothing t k h s = absurd (cc k)
-next_own n operand.One t k h s = absurd (cc k)
-next_own n (operand.Place p) t k h s = absurd (cc k)
 next_own n (operand.Brigade i) t k h s = s ∙ sym (own_is i (ltb-true i 8 k)) ∙ ap own_text (eqb-true i n h)
-next_own n (operand.Ending e) t k h s = absurd (cc k)
-next_own n (operand.Label l) t k h s = absurd (cc k)
-next_own n (operand.Text l) t k h s = absurd (cc k)
-next_own n (operand.Value v) t k h s = absurd (cc k)
+next_own n _ t k h s = absurd (cc k)
 
 home_text : (x : Operand) (t : List ℕ) → of_kind kind.Place x ≡ true → Spells x t → t ≡ place_text (operand_place x)
-home_text operand.Nothing t k s = absurd (cc k)
-home_text operand.One t k s = absurd (cc k)
 home_text (operand.Place p) t k s = s
-home_text (operand.Brigade b) t k s = absurd (cc k)
-home_text (operand.Ending e) t k s = absurd (cc k)
-home_text (operand.Label l) t k s = absurd (cc k)
-home_text (operand.Text l) t k s = absurd (cc k)
-home_text (operand.Value v) t k s = absurd (cc k)
+home_text _ t k s = absurd (cc k)
 
 pub pool_line : (d : Draft) (s : List ℕ) (o : Operands) → Item d s word.Pool o → s ≡ line_text (codes "pool") (place_text (pool.Own (length d.pools)) ∷ place_text (operand_place o.second) ∷ [])
 unfolding word_kinds word_text judged

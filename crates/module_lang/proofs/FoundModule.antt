@@ -22,51 +22,11 @@ line_of base ls (did s name w) = step (step_code base ls s) name w
 
 same_text_of : (i : Op) (o : Operands) (x t : ℕ) (n w : List ℕ) → code_text (step (op_instr i o x t) n w) ≡ code_text (step (op_instr i o x 0) n w)
 same_text_of op.PCreate o x t n w = refl
-same_text_of op.PClear o x t n w = refl
-same_text_of op.PDestroy o x t n w = refl
-same_text_of op.Label o x t n w = refl
-same_text_of op.Unlabel o x t n w = refl
-same_text_of op.BCreate o x t n w = refl
-same_text_of op.BClean o x t n w = refl
-same_text_of op.BConcat o x t n w = refl
-same_text_of op.BSave o x t n w = refl
-same_text_of op.Pass o x t n w = refl
-same_text_of op.JEmpty o x t n w = refl
-same_text_of op.Put o x t n w = refl
-same_text_of op.ClearBuf o x t n w = refl
-same_text_of op.Set o x t n w = refl
-same_text_of op.Add o x t n w = refl
-same_text_of op.Sub o x t n w = refl
-same_text_of op.JLt o x t n w = refl
-same_text_of op.JEq o x t n w = refl
-same_text_of op.JNull o x t n w = refl
-same_text_of op.JSent o x t n w = refl
-same_text_of op.Jump o x t n w = refl
-same_text_of op.Ret o x t n w = refl
+same_text_of _ o x t n w = refl
 
 same_number : (i : Op) (o : Operands) (x t : ℕ) → text_of_instr (op_instr i o x 0) ≡ text_of_instr (op_instr i o x t)
 same_number op.PCreate o x t = refl
-same_number op.PClear o x t = refl
-same_number op.PDestroy o x t = refl
-same_number op.Label o x t = refl
-same_number op.Unlabel o x t = refl
-same_number op.BCreate o x t = refl
-same_number op.BClean o x t = refl
-same_number op.BConcat o x t = refl
-same_number op.BSave o x t = refl
-same_number op.Pass o x t = refl
-same_number op.JEmpty o x t = refl
-same_number op.Put o x t = refl
-same_number op.ClearBuf o x t = refl
-same_number op.Set o x t = refl
-same_number op.Add o x t = refl
-same_number op.Sub o x t = refl
-same_number op.JLt o x t = refl
-same_number op.JEq o x t = refl
-same_number op.JNull o x t = refl
-same_number op.JSent o x t = refl
-same_number op.Jump o x t = refl
-same_number op.Ret o x t = refl
+same_number _ o x t = refl
 
 pub texts_same : (base : ℕ) (ls : List Label) (rs : List Raw) → map code_text (map (line_of base ls) rs) ≡ map raw_text rs
 unfolding step_code

@@ -3,7 +3,8 @@ use Rattle.std.proofs.Common.{◌≡◌, ℕ, ◌+◌, ◌<◌, ◌≤◌, Bool,
 use Rattle.module_lang.specs.Assembling.{is_end, program_of}
 use Rattle.module_lang.specs.Codes.{◌>>=◌, code_number}
 use Rattle.module_lang.specs.FirstFault.{DraftHasCode, HandlerHasCode, LabelsHaveCode, StepsHaveCode, header_has_code, label_has_code, step_has_code}
-use Rattle.module_lang.specs.Handlers.{code_or_fault, ends_open, fault, handler_fault, handler_resolved, is_lost, is_named, jump_fault, label_fault, or_else, sooner, step_code}
+use Rattle.module_lang.specs.Args.{or_else}
+use Rattle.module_lang.specs.Handlers.{code_or_fault, ends_open, fault, handler_fault, handler_resolved, is_lost, is_named, jump_fault, label_fault, sooner, step_code}
 use Rattle.module_lang.specs.Program.{Program, program}
 use Rattle.module_lang.specs.declared.draft.Draft.{Draft}
 use Rattle.module_lang.specs.declared.draft.Handler.{Handler}

@@ -3,7 +3,6 @@ use Rattle.std.proofs.Common.{◌≡◌, ℕ, zero, suc, ◌+◌, ◌-◌, ◌^�
 use Rattle.std.specs.Prelude.{All, slice_index, codes, option_map, find}
 use Rattle.std.specs.Cmp.Lexicographic.{pointwise, same_text}
 use Rattle.std.proofs.lemmas.Bool.{and_parts, leb-true, eqb-true, lt-ltb, ltb-true, ne_eqb}
-use Rattle.std.proofs.lemmas.List.{drop_at}
 use Rattle.std.specs.List.{list_all}
 use Rattle.module_lang.specs.Bytes.{begins, tail, token, token_len, after_token}
 use Rattle.module_lang.specs.Codes.{◌>>=◌, unless}
@@ -14,8 +13,7 @@ use Rattle.module_lang.specs.Numbers.{constant_of, is_value}
 use Rattle.module_lang.specs.Operands.{numbered, operand_in, operand_at, after_operand, operands_at, operand_kind_is_nothing, operand_kind_is_text, or_wrong, text_measured, text_operand}
 use Rattle.module_lang.specs.Quoted.{Quoted, quoted, measure_of, text_of}
 use Rattle.module_lang.specs.Texts.{place_text, own_text, brigade_text, status_text, value_text, operands_text}
-use Rattle.module_lang.specs.Texts as grammar
-use Rattle.module_lang.specs.Words.{all_words, word_at, word_text, word_kinds, three_operands, two_operands, one_operand, no_operand}
+use Rattle.module_lang.specs.Words.{all_words, word_at, word_text, word_kinds, two_operands, one_operand, no_operand}
 use Rattle.module_lang.specs.declared.draft.Draft.{Draft}
 use Rattle.module_lang.specs.declared.instr.PoolRef.TheVariants as pool
 use Rattle.module_lang.specs.declared.instr.Status.TheVariants as status
@@ -34,8 +32,7 @@ use Rattle.module_lang.specs.declared.word.Word.{Word}
 use Rattle.module_lang.proofs.LineLaws.{bind_ok, unless_ok, not_false}
 use Rattle.module_lang.proofs.NumberLaws.{constant_found, decimal_without}
 use Rattle.module_lang.proofs.OperandLaws.{cond_some, made, numbered_below}
-use Rattle.module_lang.proofs.QuoteFound.{quoted_found}
-use Rattle.module_lang.proofs.QuoteLaws.{spelled_bytes, unquoted, place_unquoted, quote_behind, quoted_again}
+use Rattle.module_lang.proofs.QuoteLaws.{unquoted, place_unquoted}
 use Rattle.module_lang.proofs.SpellingLaws.{padded}
 
 cut : (n : ℕ) (xs : List ℕ) → take n xs ++ drop n xs ≡ xs
@@ -259,35 +256,6 @@ two_taken k l rest o n q m r h =
       second = token_spelled l y.token o.second y.read;
     }
 
-pub record ThreeSpelled (rest : List ℕ) (o : Operands) : Type 0 where
-  pub one : List ℕ
-  pub two : List ℕ
-  pub three : List ℕ
-  pub whole : rest ≡ operands_text (one ∷ two ∷ three ∷ [])
-  pub first : Spells o.first one
-  pub second : Spells o.second two
-  pub third : Spells o.third three
-
-pub three_taken : (k l m : Kind) (rest : List ℕ) (o : Operands) → (operand_kind_is_nothing k ≡ false) × (operand_kind_is_text k ≡ false) → (operand_kind_is_nothing l ≡ false) × (operand_kind_is_text l ≡ false) → (operand_kind_is_nothing m ≡ false) × (operand_kind_is_text m ≡ false) → operands_at (three_operands k l m) rest ≡ Ok o → ThreeSpelled rest o
-three_taken k l m rest o n q r h =
-    let c = chain (three_operands k l m) rest o h in
-    let r1 = after_operand k rest in
-    let r2 = after_operand l r1 in
-    let r3 = after_operand m r2 in
-    let x = read_token k rest o.first n.0 n.1 c.first in
-    let y = read_token l r1 o.second q.0 q.1 c.second in
-    let z = read_token m r2 o.third r.0 r.1 c.third in
-    let none : r3 ≡ [] = rw (nothing_behind r3) at c.last in
-    record {
-      one = x.token;
-      two = y.token;
-      three = z.token;
-      whole = x.spelled ∙ ap (λ ys. 32 ∷ (x.token ++ ys)) (y.spelled ∙ ap (λ ys. 32 ∷ (y.token ++ ys)) (z.spelled ∙ ap (λ ys. 32 ∷ (z.token ++ ys)) none));
-      first = token_spelled k x.token o.first x.read;
-      second = token_spelled l y.token o.second y.read;
-      third = token_spelled m z.token o.third z.read;
-    }
-
 one_unquoted : (b : ℕ) → is_name_byte b ≡ true → eqb b 34 ≡ false
 one_unquoted b h = ne_eqb b 34 (λ e. absurd (cc (sym h ∙ ap is_name_byte e)))
 
@@ -302,7 +270,7 @@ unfolding is_name all_name_bytes
 all_named n h = (and_parts (leb 1 (length n) && leb (length n) 16 && is_letter (slice_index n 0)) (list_all is_name_byte n) h).1
 
 -- no operand but a text has a quote
-token_unquoted : (o : Operand) (t : List ℕ) → Spells o t → unquoted t ≡ true
+pub token_unquoted : (o : Operand) (t : List ℕ) → Spells o t → unquoted t ≡ true
 token_unquoted operand.Nothing t h = absurd h
 token_unquoted operand.One t h = rw h refl
 token_unquoted (operand.Place p) t h = rw h (place_unquoted p)
@@ -353,54 +321,9 @@ pub record TextFound (line : List ℕ) (o : Operand) : Type 0 where
   pub len : o ≡ operand.Text (length text)
   pub bytes : All (λ b. b < 256) text
 
--- an operand and a text in quotes, as they are spelled
-pub record TextSpelled (rest : List ℕ) (o : Operands) : Type 0 where
-  pub token : List ℕ
-  pub spelled : List ℕ
-  pub text : List ℕ
-  pub whole : rest ≡ operands_text (token ∷ spelled ∷ [])
-  pub first : Spells o.first token
-  pub right : grammar.Spells spelled text
-  pub len : o.second ≡ operand.Text (length text)
-
-text_behind : (r : List ℕ) (q : Quoted) → quoted (tail r) ≡ Some q → after_operand kind.Text r ≡ drop q.used (tail r)
+pub text_behind : (r : List ℕ) (q : Quoted) → quoted (tail r) ≡ Some q → after_operand kind.Text r ≡ drop q.used (tail r)
 unfolding after_operand
 text_behind r q h = rw h refl
-
-pub text_spelled : (k : Kind) (rest : List ℕ) (o : Operands) → operand_kind_is_nothing k ≡ false → operand_kind_is_text k ≡ false → operands_at (two_operands k kind.Text) rest ≡ Ok o → TextSpelled rest o
-text_spelled k rest o n q h =
-    let c = chain (two_operands k kind.Text) rest o h in
-    let x = read_token k rest o.first n q c.first in
-    let r = after_operand k rest in
-    let t = text_taken r o.second c.second in
-    let z = quoted_found (tail r) t.quote t.read in
-    let w = z.0.spelled in
-    let left = after_operand kind.Text r in
-    let none : left ≡ [] = rw (nothing_behind left, nothing_behind left) at c.last in
-    let behind : left ≡ z.0.rest = text_behind r t.quote t.read ∙ ap (λ m. drop m (tail r)) z.1 ∙ ap (drop (length w)) z.0.whole ∙ drop_at w z.0.rest (length w) refl in
-    let last : tail r ≡ w ++ [] = z.0.whole ∙ ap (λ y. w ++ y) (sym behind ∙ none) in
-    record {
-      token = x.token;
-      spelled = w;
-      text = t.quote.text;
-      whole = x.spelled ∙ ap (λ y. 32 ∷ (x.token ++ y)) (t.spaced ∙ ap (λ y. 32 ∷ y) last);
-      first = token_spelled k x.token o.first x.read;
-      right = z.0.right;
-      len = t.len;
-    }
-
--- the text of a line is the one behind its first quote
-pub quote_found : (front rest bytes : List ℕ) (o : Operands) (x : TextSpelled rest o) → unquoted front ≡ true → from_quote bytes ≡ from_quote (front ++ rest) → text_of (quoted (from_quote bytes)) ≡ Some x.text
-quote_found front rest bytes o x u e =
-    let free = token_unquoted o.first x.token x.first in
-    let last : from_quote (x.spelled ++ []) ≡ x.spelled ++ [] = rw x.right.whole refl in
-    let at : from_quote (front ++ rest) ≡ x.spelled ++ [] = quote_behind front rest u ∙ ap from_quote x.whole ∙ quote_behind x.token (32 ∷ (x.spelled ++ [])) free ∙ last in
-    ap (λ b. text_of (quoted b)) (e ∙ at) ∙ ap text_of (quoted_again x.spelled x.text [] x.right)
-
-pub text_found : (k : Kind) (front rest : List ℕ) (o : Operands) → unquoted front ≡ true → operand_kind_is_nothing k ≡ false → operand_kind_is_text k ≡ false → operands_at (two_operands k kind.Text) rest ≡ Ok o → TextFound (front ++ rest) o.second
-text_found k front rest o u n q h =
-    let x = text_spelled k rest o n q h in
-    record { text = x.text; found = quote_found front rest (front ++ rest) o x u refl; len = x.len; bytes = spelled_bytes x.spelled x.text x.right }
 
 -- a line with a word, and what follows the word
 pub record Item (d : Draft) (s : List ℕ) (w : Word) (o : Operands) : Type 0 where

@@ -1,9 +1,12 @@
+pub mod ArgLaws
+pub mod ArgsFound
 pub mod AssemblingLaws
 pub mod BodyLaws
 pub mod CutLaws
 pub mod DraftLaws
 pub mod FirstLaws
 pub mod FirstOf
+pub mod FitLaws
 pub mod FoundLabels
 pub mod FoundLaws
 pub mod FoundModule
@@ -28,6 +31,7 @@ pub mod QuoteFound
 pub mod QuoteLaws
 pub mod QuotedLaws
 pub mod RawLines
+pub mod ReaderLaws
 pub mod RunLaws
 pub mod SaysLaws
 pub mod ShownLaws

@@ -7,13 +7,15 @@ use Rattle.std.proofs.lemmas.List.{length-map}
 use Rattle.std.proofs.lemmas.List.Elements.{filter_map-append}
 use Rattle.std.proofs.lemmas.Option.{slice_get-map, slice_get_within}
 use Rattle.module_lang.specs.Entries.{IsDraft, IsStep, step_numbers, step_text}
-use Rattle.module_lang.specs.Handlers.{handler_fault, handler_resolved, code_or_fault, ends_open, last_goes_on, op_goes_on, sooner, fault, label_fault, jump_fault, is_lost, is_missing, label_of, place_of, place_from, target_place, step_code, op_instr, operand_index, operand_value, operand_variable, is_named}
-use Rattle.module_lang.specs.Lines.{are_declared, has_equal_brigades, is_declared, misplaced, same_brigade, has_text, place_is_declared}
-use Rattle.module_lang.specs.Numbers.{is_value}
-use Rattle.module_lang.specs.Operands.{IsOfKinds, of_kind, operand_place}
-use Rattle.module_lang.specs.Program.{Program, program, IsHandler, IsInside, IsModule, IsPlaced, fits, goes_on, is_variable, target, text_of_instr}
-use Rattle.module_lang.specs.Spelling.{op_of, operands_of}
+use Rattle.module_lang.specs.Handlers.{handler_fault, handler_resolved, code_or_fault, ends_open, last_goes_on, sooner, fault, label_fault, jump_fault, is_lost, is_missing, arg_in, args_in, label_of, place_of, place_from, target_place, step_code, op_instr, operand_index, is_named}
+use Rattle.module_lang.specs.Words.{op_goes_on}
+use Rattle.module_lang.specs.Lines.{are_declared, has_equal_brigades, is_declared, is_text_operand, misplaced, same_brigade, has_text, place_is_declared}
+use Rattle.module_lang.specs.Operands.{IsOfKinds, of_kind, operand_kind_is_text}
+use Rattle.module_lang.specs.Program.{Program, program, IsHandler, IsInside, IsModule, IsPlaced, all_of, apart, fit_tests, fits, goes_on, target, tests, text_of_instr}
+use Rattle.module_lang.specs.Args.{op_of}
+use Rattle.module_lang.specs.Spelling.{operands_of}
 use Rattle.module_lang.specs.Words.{op_kinds}
+use Rattle.module_lang.specs.declared.arg.Args.{Args}
 use Rattle.module_lang.specs.declared.draft.Draft.{Draft}
 use Rattle.module_lang.specs.declared.draft.Handler.{Handler}
 use Rattle.module_lang.specs.declared.draft.Label.{Label}
@@ -30,10 +32,13 @@ use Rattle.module_lang.specs.declared.operand.Operand.{Operand}
 use Rattle.module_lang.specs.declared.operand.Operand.TheVariants as operand
 use Rattle.module_lang.specs.declared.operand.Operands.{Operands}
 use Rattle.module_lang.specs.declared.refusal.Code.TheVariants as codes
+use Rattle.module_lang.specs.declared.word.Kind.{Kind}
 use Rattle.module_lang.specs.declared.word.Kind.TheVariants as kind
 use Rattle.module_lang.specs.declared.word.Op.{Op}
 use Rattle.module_lang.specs.declared.word.Op.TheVariants as op
+use Rattle.module_lang.proofs.ArgLaws.{args_of_read, parts_in, target_moved}
 use Rattle.module_lang.proofs.DraftLaws.{has_text_of}
+use Rattle.module_lang.proofs.FitLaws.{Every, parts_fit}
 use Rattle.module_lang.proofs.HandlerLaws.{place_from-below}
 use Rattle.module_lang.proofs.ListLaws.{AllBelow, all_cons, all_head, all_tail, below_back, below_front, numbers_below, range_below}
 use Rattle.module_lang.proofs.OperandLaws.{shape, brigade_is, source_is}
@@ -105,100 +110,18 @@ found_below ls n (Some name) all some h = found (place_from None name ls) refl h
     found (Some p) q h = place_from-below n None name ls (λ x e. absurd (cc e)) all p q
 
 in_range : (i : Op) (o : Operands) (x t from to : ℕ) → from ≤ t → t < to → IfSome (target (op_instr i o x t)) (λ y. (from ≤ y) × (y < to))
-in_range op.PCreate o x t from to low high = tt
-in_range op.PClear o x t from to low high = tt
-in_range op.PDestroy o x t from to low high = tt
-in_range op.Label o x t from to low high = tt
-in_range op.Unlabel o x t from to low high = tt
-in_range op.BCreate o x t from to low high = tt
-in_range op.BClean o x t from to low high = tt
-in_range op.BConcat o x t from to low high = tt
-in_range op.BSave o x t from to low high = tt
-in_range op.Pass o x t from to low high = (low, high)
-in_range op.JEmpty o x t from to low high = (low, high)
-in_range op.Put o x t from to low high = (low, high)
-in_range op.ClearBuf o x t from to low high = tt
-in_range op.Set o x t from to low high = tt
-in_range op.Add o x t from to low high = tt
-in_range op.Sub o x t from to low high = tt
-in_range op.JLt o x t from to low high = (low, high)
-in_range op.JEq o x t from to low high = (low, high)
-in_range op.JNull o x t from to low high = (low, high)
-in_range op.JSent o x t from to low high = (low, high)
-in_range op.Jump o x t from to low high = (low, high)
-in_range op.Ret o x t from to low high = tt
+in_range i o x t from to low high = subst (λ y. IfSome y (λ u. (from ≤ u) × (u < to))) (sym (target_moved i o x t)) (by_target (target (op_instr i o x 0)))
+  where
+    by_target : (y : Option ℕ) → IfSome (option_map (λ _. t) y) (λ u. (from ≤ u) × (u < to))
+    by_target None = tt
+    by_target (Some u) = (low, high)
 
 same_op : (i : Op) (o : Operands) (x t : ℕ) → i ≡ op_of (op_instr i o x t)
-same_op op.PCreate o x t = refl
-same_op op.PClear o x t = refl
-same_op op.PDestroy o x t = refl
-same_op op.Label o x t = refl
-same_op op.Unlabel o x t = refl
-same_op op.BCreate o x t = refl
-same_op op.BClean o x t = refl
-same_op op.BConcat o x t = refl
-same_op op.BSave o x t = refl
-same_op op.Pass o x t = refl
-same_op op.JEmpty o x t = refl
-same_op op.Put o x t = refl
-same_op op.ClearBuf o x t = refl
-same_op op.Set o x t = refl
-same_op op.Add o x t = refl
-same_op op.Sub o x t = refl
-same_op op.JLt o x t = refl
-same_op op.JEq o x t = refl
-same_op op.JNull o x t = refl
-same_op op.JSent o x t = refl
-same_op op.Jump o x t = refl
-same_op op.Ret o x t = refl
-
-same_end : (i : Op) (o : Operands) (x t : ℕ) → goes_on (op_instr i o x t) ≡ op_goes_on i
-same_end op.PCreate o x t = refl
-same_end op.PClear o x t = refl
-same_end op.PDestroy o x t = refl
-same_end op.Label o x t = refl
-same_end op.Unlabel o x t = refl
-same_end op.BCreate o x t = refl
-same_end op.BClean o x t = refl
-same_end op.BConcat o x t = refl
-same_end op.BSave o x t = refl
-same_end op.Pass o x t = refl
-same_end op.JEmpty o x t = refl
-same_end op.Put o x t = refl
-same_end op.ClearBuf o x t = refl
-same_end op.Set o x t = refl
-same_end op.Add o x t = refl
-same_end op.Sub o x t = refl
-same_end op.JLt o x t = refl
-same_end op.JEq o x t = refl
-same_end op.JNull o x t = refl
-same_end op.JSent o x t = refl
-same_end op.Jump o x t = refl
-same_end op.Ret o x t = refl
+same_op i o x t = ap (λ (z : Op × Args). z.0) (sym (parts_in i o x t))
 
 pub own_text : (i : Op) (o : Operands) (x t : ℕ) → text_of_instr (op_instr i o x t) ≡ cond (is_some (text_of_instr (op_instr i o x t))) (Some x) None
 own_text op.PCreate o x t = refl
-own_text op.PClear o x t = refl
-own_text op.PDestroy o x t = refl
-own_text op.Label o x t = refl
-own_text op.Unlabel o x t = refl
-own_text op.BCreate o x t = refl
-own_text op.BClean o x t = refl
-own_text op.BConcat o x t = refl
-own_text op.BSave o x t = refl
-own_text op.Pass o x t = refl
-own_text op.JEmpty o x t = refl
-own_text op.Put o x t = refl
-own_text op.ClearBuf o x t = refl
-own_text op.Set o x t = refl
-own_text op.Add o x t = refl
-own_text op.Sub o x t = refl
-own_text op.JLt o x t = refl
-own_text op.JEq o x t = refl
-own_text op.JNull o x t = refl
-own_text op.JSent o x t = refl
-own_text op.Jump o x t = refl
-own_text op.Ret o x t = refl
+own_text _ o x t = refl
 
 text_same : (i : Op) (o : Operands) (x t : ℕ) → IsOfKinds (op_kinds i) o → text_of_instr (op_instr i o x t) ≡ cond (has_text o) (Some x) None
 text_same i o x t k =
@@ -208,27 +131,7 @@ text_same i o x t k =
 -- the name of a label and the length of a text matter to no handler
 pub unnamed : (q : Part) (ps bs : List PoolRef) (i : Instr) (n : List ℕ) (k : ℕ) → misplaced q ps bs (op_of i) (operands_of i n k) ≡ misplaced q ps bs (op_of i) (operands_of i [] 0)
 unnamed q ps bs (instr.PCreate x) n k = refl
-unnamed q ps bs (instr.PClear x) n k = refl
-unnamed q ps bs (instr.PDestroy x) n k = refl
-unnamed q ps bs (instr.Label x t) n k = refl
-unnamed q ps bs (instr.Unlabel x t) n k = refl
-unnamed q ps bs (instr.BCreate o) n k = refl
-unnamed q ps bs (instr.BClean b) n k = refl
-unnamed q ps bs (instr.BConcat a b) n k = refl
-unnamed q ps bs (instr.BSave o b) n k = refl
-unnamed q ps bs (instr.Pass b l) n k = refl
-unnamed q ps bs (instr.JEmpty b l) n k = refl
-unnamed q ps bs (instr.Put x l) n k = refl
-unnamed q ps bs instr.ClearBuf n k = refl
-unnamed q ps bs (instr.Set m x) n k = refl
-unnamed q ps bs (instr.Add m x) n k = refl
-unnamed q ps bs (instr.Sub m x) n k = refl
-unnamed q ps bs (instr.JLt m x l) n k = refl
-unnamed q ps bs (instr.JEq m x l) n k = refl
-unnamed q ps bs (instr.JNull v l) n k = refl
-unnamed q ps bs (instr.JSent l) n k = refl
-unnamed q ps bs (instr.Jump l) n k = refl
-unnamed q ps bs (instr.Ret s) n k = refl
+unnamed q ps bs _ n k = refl
 
 is_allowed : (q : Part) (ps bs : List PoolRef) (i : Op) (o : Operands) (x t : ℕ) → IsOfKinds (op_kinds i) o → misplaced q ps bs i o ≡ false → misplaced q ps bs (op_of (op_instr i o x t)) (operands_of (op_instr i o x t) [] 0) ≡ false
 is_allowed q ps bs i o x t k h =
@@ -246,13 +149,6 @@ own_brigade n b low h = declared (nat_lt b n) (eqb b 8) (ne_eqb b 8 (λ e. omega
 
 same_brigades : (a b : Operand) → a ≡ operand.Brigade (operand_index a) → b ≡ operand.Brigade (operand_index b) → same_brigade a b ≡ false → eqb (operand_index a) (operand_index b) ≡ false
 same_brigades (operand.Brigade x) (operand.Brigade y) p q h = h
-same_brigades operand.Nothing b p q h = absurd (cc p)
-same_brigades operand.One b p q h = absurd (cc p)
-same_brigades (operand.Place x) b p q h = absurd (cc p)
-same_brigades (operand.Ending x) b p q h = absurd (cc p)
-same_brigades (operand.Label x) b p q h = absurd (cc p)
-same_brigades (operand.Text x) b p q h = absurd (cc p)
-same_brigades (operand.Value v) b p q h = absurd (cc p)
 same_brigades (operand.Brigade x) operand.Nothing p q h = absurd (cc q)
 same_brigades (operand.Brigade x) operand.One p q h = absurd (cc q)
 same_brigades (operand.Brigade x) (operand.Place y) p q h = absurd (cc q)
@@ -260,132 +156,71 @@ same_brigades (operand.Brigade x) (operand.Ending y) p q h = absurd (cc q)
 same_brigades (operand.Brigade x) (operand.Label y) p q h = absurd (cc q)
 same_brigades (operand.Brigade x) (operand.Text y) p q h = absurd (cc q)
 same_brigades (operand.Brigade x) (operand.Value v) p q h = absurd (cc q)
-
--- a brigade operand that is declared
-declared_as : (m n : ℕ) (x : Operand) → x ≡ operand.Brigade (operand_index x) → is_declared m n x ≡ true → (nat_lt (operand_index x) n || (eqb (operand_index x) 8)) ≡ true
-declared_as m n x e h = subst (λ y. is_declared m n y ≡ true) e h
+same_brigades _ b p q h = absurd (cc p)
 
 pub brigade_below : (x : Operand) → of_kind kind.Brigade x ≡ true → operand_index x < 8
 brigade_below (operand.Brigade b) h = ltb-true b 8 h
-brigade_below operand.Nothing h = absurd (cc h)
-brigade_below operand.One h = absurd (cc h)
-brigade_below (operand.Place x) h = absurd (cc h)
-brigade_below (operand.Ending x) h = absurd (cc h)
-brigade_below (operand.Label x) h = absurd (cc h)
-brigade_below (operand.Text x) h = absurd (cc h)
-brigade_below (operand.Value v) h = absurd (cc h)
+brigade_below _ h = absurd (cc h)
 
-first_declared : (m n : ℕ) (o : Operands) → are_declared m n o ≡ true → is_declared m n o.first ≡ true
-first_declared m n o h =
-    let a = and_parts (is_declared m n o.first && is_declared m n o.second && is_declared m n o.third) (is_declared m n o.fourth) h in
-    let b = and_parts (is_declared m n o.first && is_declared m n o.second) (is_declared m n o.third) a.0 in
-    (and_parts (is_declared m n o.first) (is_declared m n o.second) b.0).0
+-- the tests of an operand that was read
+one_fits : (p : Program) (k : Kind) (o : Operand) (x t : ℕ) → of_kind k o ≡ true → is_declared (length p.pools) (length p.brigades) o ≡ true → (operand_kind_is_text k ≡ true → x < length p.texts) → Every (tests p (arg_in k o x t))
+one_fits p kind.Nothing o x t h d w = tt
+one_fits p kind.One o x t h d w = tt
+one_fits p kind.Ending o x t h d w = tt
+one_fits p kind.Label o x t h d w = tt
+one_fits p kind.Text o x t h d w = (lt-ltb x (length p.texts) (w refl), tt)
+one_fits p kind.Place (operand.Place q) x t h d w = (d, tt)
+one_fits p kind.Pool (operand.Place (pool.Own i)) x t h d w = (d, tt)
+one_fits p kind.Brigade (operand.Brigade b) x t h d w = (own_brigade (length p.brigades) b (ltb-true b 8 h) d, tt)
+one_fits p kind.Source (operand.Brigade b) x t h d w = (d, tt)
+one_fits p kind.Variable (operand.Place (pool.Own i)) x t h d w = (d, tt)
+one_fits p kind.Variable (operand.Brigade b) x t h d w = (own_brigade (length p.brigades) b (ltb-true b 8 h) d, tt)
+one_fits p kind.Number (operand.Value (value.Number i)) x t h d w = (h, tt)
+one_fits p kind.Value (operand.Value v) x t h d w = (h, tt)
+one_fits p _ _ x t h d w = absurd (cc h)
 
-second_declared : (m n : ℕ) (o : Operands) → are_declared m n o ≡ true → is_declared m n o.second ≡ true
-second_declared m n o h =
-    let a = and_parts (is_declared m n o.first && is_declared m n o.second && is_declared m n o.third) (is_declared m n o.fourth) h in
-    let b = and_parts (is_declared m n o.first && is_declared m n o.second) (is_declared m n o.third) a.0 in
-    (and_parts (is_declared m n o.first) (is_declared m n o.second) b.0).1
+-- two operands that were read are not one brigade
+pair_fits : (k l : Kind) (a b : Operand) (x t : ℕ) → of_kind k a ≡ true → of_kind l b ≡ true → same_brigade a b ≡ false → Every (apart (arg_in k a x t) (arg_in l b x t))
+pair_fits kind.Brigade kind.Brigade a b x t p q h = (rw (same_brigades a b (brigade_is a p) (brigade_is b q) h) refl, tt)
+pair_fits kind.Brigade kind.Source a b x t p q h = (rw (same_brigades a b (brigade_is a p) (source_is b q) h) refl, tt)
+pair_fits kind.Source kind.Brigade a b x t p q h = (rw (same_brigades a b (source_is a p) (brigade_is b q) h) refl, tt)
+pair_fits kind.Source kind.Source a b x t p q h = (rw (same_brigades a b (source_is a p) (source_is b q) h) refl, tt)
+pair_fits _ _ a b x t p q h = tt
 
-first_apart : (o : Operands) → has_equal_brigades o ≡ false → same_brigade o.first o.second ≡ false
-first_apart o h =
-    let a = or_parts (same_brigade o.first o.second || same_brigade o.first o.third) (same_brigade o.second o.third) h in
-    (or_parts (same_brigade o.first o.second) (same_brigade o.first o.third) a.0).0
-
-pool_declared : (m n : ℕ) (x : Operand) → of_kind kind.Pool x ≡ true → is_declared m n x ≡ true → nat_lt (operand_index x) m ≡ true
-pool_declared m n (operand.Place (pool.Own i)) k h = h
-pool_declared m n (operand.Place pool.Conn) k h = absurd (cc k)
-pool_declared m n (operand.Place pool.Req) k h = absurd (cc k)
-pool_declared m n operand.Nothing k h = absurd (cc k)
-pool_declared m n operand.One k h = absurd (cc k)
-pool_declared m n (operand.Brigade b) k h = absurd (cc k)
-pool_declared m n (operand.Ending e) k h = absurd (cc k)
-pool_declared m n (operand.Label l) k h = absurd (cc k)
-pool_declared m n (operand.Text t) k h = absurd (cc k)
-pool_declared m n (operand.Value v) k h = absurd (cc k)
-
-place_declared : (m n : ℕ) (x : Operand) → is_declared m n x ≡ true → place_is_declared m (operand_place x) ≡ true
-place_declared m n (operand.Place p) h = h
-place_declared m n operand.Nothing h = refl
-place_declared m n operand.One h = refl
-place_declared m n (operand.Brigade b) h = refl
-place_declared m n (operand.Ending e) h = refl
-place_declared m n (operand.Label l) h = refl
-place_declared m n (operand.Text t) h = refl
-place_declared m n (operand.Value v) h = refl
-
-variable_declared : (p : Program) (x : Operand) → of_kind kind.Variable x ≡ true → is_declared (length p.pools) (length p.brigades) x ≡ true → is_variable p (operand_variable x) ≡ true
-variable_declared p (operand.Place (pool.Own i)) k h = h
-variable_declared p (operand.Brigade b) k h = own_brigade (length p.brigades) b (ltb-true b 8 k) h
-variable_declared p (operand.Place pool.Conn) k h = absurd (cc k)
-variable_declared p (operand.Place pool.Req) k h = absurd (cc k)
-variable_declared p operand.Nothing k h = absurd (cc k)
-variable_declared p operand.One k h = absurd (cc k)
-variable_declared p (operand.Ending e) k h = absurd (cc k)
-variable_declared p (operand.Label l) k h = absurd (cc k)
-variable_declared p (operand.Text t) k h = absurd (cc k)
-variable_declared p (operand.Value v) k h = absurd (cc k)
-
-number_fits : (x : Operand) → of_kind kind.Number x ≡ true → nat_lt (operand_index x) 8 ≡ true
-number_fits (operand.Value (value.Number i)) h = h
-number_fits (operand.Value (value.Constant k)) h = absurd (cc h)
-number_fits operand.Nothing h = absurd (cc h)
-number_fits operand.One h = absurd (cc h)
-number_fits (operand.Place p) h = absurd (cc h)
-number_fits (operand.Brigade b) h = absurd (cc h)
-number_fits (operand.Ending e) h = absurd (cc h)
-number_fits (operand.Label l) h = absurd (cc h)
-number_fits (operand.Text t) h = absurd (cc h)
-
-value_fits : (x : Operand) → of_kind kind.Value x ≡ true → is_value (operand_value x) ≡ true
-value_fits (operand.Value v) h = h
-value_fits operand.Nothing h = absurd (cc h)
-value_fits operand.One h = absurd (cc h)
-value_fits (operand.Place p) h = absurd (cc h)
-value_fits (operand.Brigade b) h = absurd (cc h)
-value_fits (operand.Ending e) h = absurd (cc h)
-value_fits (operand.Label l) h = absurd (cc h)
-value_fits (operand.Text t) h = absurd (cc h)
+text_there : (k : Kind) (o : Operand) → of_kind k o ≡ true → operand_kind_is_text k ≡ true → is_text_operand o ≡ true
+text_there kind.Text (operand.Text n) h t = refl
+text_there kind.Text _ h t = absurd (cc h)
+text_there _ o h t = absurd (cc t)
 
 -- the operands of an instruction that was read are declared, its brigades differ, and its text is one of the module
 fit : (p : Program) (i : Op) (o : Operands) (x t : ℕ) → IsOfKinds (op_kinds i) o → are_declared (length p.pools) (length p.brigades) o ≡ true → has_equal_brigades o ≡ false → (has_text o ≡ true → x < length p.texts) → fits p (op_instr i o x t) ≡ true
-unfolding op_kinds
-fit p op.PCreate o x t k h a w = pool_declared (length p.pools) (length p.brigades) o.first k.first (first_declared (length p.pools) (length p.brigades) o h)
-fit p op.PClear o x t k h a w = pool_declared (length p.pools) (length p.brigades) o.first k.first (first_declared (length p.pools) (length p.brigades) o h)
-fit p op.PDestroy o x t k h a w = pool_declared (length p.pools) (length p.brigades) o.first k.first (first_declared (length p.pools) (length p.brigades) o h)
-fit p op.Label o x t k h a w =
-    let first = place_declared (length p.pools) (length p.brigades) o.first (first_declared (length p.pools) (length p.brigades) o h) in
-    let number = lt-ltb x (length p.texts) (w (ap has_text (shape op.Label o x t k).same)) in
-    rw (first, number) refl
-fit p op.Unlabel o x t k h a w =
-    let first = place_declared (length p.pools) (length p.brigades) o.first (first_declared (length p.pools) (length p.brigades) o h) in
-    let number = lt-ltb x (length p.texts) (w (ap has_text (shape op.Unlabel o x t k).same)) in
-    rw (first, number) refl
-fit p op.BCreate o x t k h a w = own_brigade (length p.brigades) (operand_index o.first) (brigade_below o.first k.first) (declared_as (length p.pools) (length p.brigades) o.first (brigade_is o.first k.first) (first_declared (length p.pools) (length p.brigades) o h))
-fit p op.BClean o x t k h a w = declared_as (length p.pools) (length p.brigades) o.first (source_is o.first k.first) (first_declared (length p.pools) (length p.brigades) o h)
-fit p op.BConcat o x t k h a w =
-    let first = declared_as (length p.pools) (length p.brigades) o.first (source_is o.first k.first) (first_declared (length p.pools) (length p.brigades) o h) in
-    let second = declared_as (length p.pools) (length p.brigades) o.second (source_is o.second k.second) (second_declared (length p.pools) (length p.brigades) o h) in
-    let apart = same_brigades o.first o.second (source_is o.first k.first) (source_is o.second k.second) (first_apart o a) in
-    rw (first, second, apart) refl
-fit p op.BSave o x t k h a w =
-    let first = own_brigade (length p.brigades) (operand_index o.first) (brigade_below o.first k.first) (declared_as (length p.pools) (length p.brigades) o.first (brigade_is o.first k.first) (first_declared (length p.pools) (length p.brigades) o h)) in
-    let second = declared_as (length p.pools) (length p.brigades) o.second (source_is o.second k.second) (second_declared (length p.pools) (length p.brigades) o h) in
-    let apart = same_brigades o.first o.second (brigade_is o.first k.first) (source_is o.second k.second) (first_apart o a) in
-    rw (first, second, apart) refl
-fit p op.Pass o x t k h a w = declared_as (length p.pools) (length p.brigades) o.first (source_is o.first k.first) (first_declared (length p.pools) (length p.brigades) o h)
-fit p op.JEmpty o x t k h a w = declared_as (length p.pools) (length p.brigades) o.first (source_is o.first k.first) (first_declared (length p.pools) (length p.brigades) o h)
-fit p op.Put o x t k h a w = value_fits o.first k.first
-fit p op.ClearBuf o x t k h a w = refl
-fit p op.Set o x t k h a w = rw (number_fits o.first k.first, value_fits o.second k.second) refl
-fit p op.Add o x t k h a w = rw (number_fits o.first k.first, value_fits o.second k.second) refl
-fit p op.Sub o x t k h a w = rw (number_fits o.first k.first, value_fits o.second k.second) refl
-fit p op.JLt o x t k h a w = rw (number_fits o.first k.first, value_fits o.second k.second) refl
-fit p op.JEq o x t k h a w = rw (number_fits o.first k.first, value_fits o.second k.second) refl
-fit p op.JNull o x t k h a w = variable_declared p o.first k.first (first_declared (length p.pools) (length p.brigades) o h)
-fit p op.JSent o x t k h a w = refl
-fit p op.Jump o x t k h a w = refl
-fit p op.Ret o x t k h a w = refl
+fit p i o x t h d a w =
+    let k = op_kinds i in
+    let declared = is_declared (length p.pools) (length p.brigades) in
+    let d1 = and_parts (declared o.first && declared o.second && declared o.third) (declared o.fourth) d in
+    let d2 = and_parts (declared o.first && declared o.second) (declared o.third) d1.0 in
+    let d3 = and_parts (declared o.first) (declared o.second) d2.0 in
+    let a1 = or_parts (same_brigade o.first o.second || same_brigade o.first o.third) (same_brigade o.second o.third) a in
+    let a2 = or_parts (same_brigade o.first o.second) (same_brigade o.first o.third) a1.0 in
+    ap (λ y. all_of (fit_tests p y)) (args_of_read i o x t) ∙ parts_fit p (args_in k o x t) (record {
+      first = one_fits p k.first o.first x t h.first d3.0 (λ e. w (rw (text_there k.first o.first h.first e) refl));
+      second = one_fits p k.second o.second x t h.second d3.1 (λ e. w (second_text (is_text_operand o.first) (is_text_operand o.second) (is_text_operand o.third) (is_text_operand o.fourth) (text_there k.second o.second h.second e)));
+      third = one_fits p k.third o.third x t h.third d2.1 (λ e. w (third_text (is_text_operand o.first || is_text_operand o.second) (is_text_operand o.third) (is_text_operand o.fourth) (text_there k.third o.third h.third e)));
+      fourth = one_fits p k.fourth o.fourth x t h.fourth d1.1 (λ e. w (or_last (is_text_operand o.first || is_text_operand o.second || is_text_operand o.third) (is_text_operand o.fourth) (text_there k.fourth o.fourth h.fourth e)));
+      one_two = pair_fits k.first k.second o.first o.second x t h.first h.second a2.0;
+      one_three = pair_fits k.first k.third o.first o.third x t h.first h.third a2.1;
+      two_three = pair_fits k.second k.third o.second o.third x t h.second h.third a1.1;
+    })
+  where
+    or_last : (a b : Bool) → b ≡ true → (a || b) ≡ true
+    or_last true b e = refl
+    or_last false b e = e
+
+    third_text : (a b c : Bool) → b ≡ true → (a || b || c) ≡ true
+    third_text a b c e = rw (or_last a b e) refl
+
+    second_text : (a b c d : Bool) → b ≡ true → (a || b || c || d) ≡ true
+    second_text a b c d e = rw (or_last a b e) refl
 
 number_low : (b : Bool) (x n : ℕ) → IfSome (cond b (Some x) None) (λ t. t < n) → b ≡ true → x < n
 number_low true x n h e = h
@@ -444,7 +279,7 @@ part_of p q h before code after rest whole r all numbers =
             let s = at (length after - 1) i low high e in
             let k : length after - 1 - length code ≡ n - 1 = omega arith in
             let same : last.0 ≡ s.0 = let a : Some last.0 ≡ Some s.0 = sym last.1 ∙ ap (slice_get h.steps) (sym k) ∙ s.1 in cc a in
-            ap goes_on (sym s.2) ∙ same_end s.0.op s.0.operands s.0.text (length code + target_place h.labels (label_of s.0.operands)) ∙ ap (λ (x : Step). op_goes_on x.op) (sym same) ∙ last.2;
+            ap goes_on (sym s.2) ∙ sym (ap op_goes_on (same_op s.0.op s.0.operands s.0.text (length code + target_place h.labels (label_of s.0.operands)))) ∙ ap (λ (x : Step). op_goes_on x.op) (sym same) ∙ last.2;
         inside = λ pc i low high e.
             let s = at pc i low high e in
             let fine = item_of (IsStep p.pools p.brigades q) h.steps (pc - length code) s.0 all s.1 in

@@ -1,17 +1,18 @@
 -- Operands that were read are of their kinds, and an instruction has them again.
-use Rattle.std.proofs.Common.{◌≡◌, ℕ, ◌-◌, ◌^◌, ◌<◌, Bool, true, false, ◌&&◌, not, cond, eqb, leb, nat_eq, List, [], length, Option, Some, None, Result, Ok, Err, refl, ◌∙◌, ap, subst, arith}
+use Rattle.std.proofs.Common.{◌≡◌, ℕ, ◌-◌, ◌^◌, ◌<◌, Bool, true, false, ◌&&◌, ◌||◌, not, cond, eqb, leb, nat_eq, List, [], length, Option, Some, None, Result, Ok, Err, refl, sym, ◌∙◌, ap, subst, arith}
 use Rattle.std.specs.Prelude.{option_map, slice_index, codes}
 use Rattle.std.specs.Cmp.Lexicographic.{pointwise}
-use Rattle.std.proofs.lemmas.Bool.{and_parts, leb-true, lt-ltb}
+use Rattle.std.proofs.lemmas.Bool.{and_parts, leb-true, lt-ltb, or_parts}
 use Rattle.module_lang.specs.Bytes.{begins, tail, token}
 use Rattle.module_lang.specs.Codes.{◌>>=◌, unless}
-use Rattle.module_lang.specs.Handlers.{op_instr, operand_index, operand_status, operand_value, operand_variable}
+use Rattle.module_lang.specs.Handlers.{arg_in, op_instr, operand_index, operand_status, operand_value, operand_variable}
 use Rattle.module_lang.specs.Names.{name_of}
 use Rattle.module_lang.specs.Numbers.{constant_of}
-use Rattle.module_lang.specs.Operands.{IsOfKinds, numbered, of_kind, operand_in, operand_at, operand_place, or_wrong, text_operand, text_measured, operands_at, after_operand}
+use Rattle.module_lang.specs.Operands.{IsOfKinds, numbered, of_kind, operand_in, operand_at, operand_place, operand_kind_is_text, or_wrong, text_operand, text_measured, operands_at, after_operand}
 use Rattle.module_lang.specs.Quoted.{quoted, measure_of}
-use Rattle.module_lang.specs.Spelling.{number_operand, operands_of, one, two, three, own_pool, variable_operand}
+use Rattle.module_lang.specs.Spelling.{number_operand, operand_of, operands_of, own_pool, variable_operand}
 use Rattle.module_lang.specs.Words.{op_kinds}
+use Rattle.module_lang.specs.declared.arg.Args.{Args}
 use Rattle.module_lang.specs.declared.instr.PoolRef.TheVariants as pool
 use Rattle.module_lang.specs.declared.instr.Status.TheVariants as status
 use Rattle.module_lang.specs.declared.instr.Value.TheVariants as value
@@ -25,7 +26,7 @@ use Rattle.module_lang.specs.declared.word.Kind.{Kind}
 use Rattle.module_lang.specs.declared.word.Kind.TheVariants as kind
 use Rattle.module_lang.specs.declared.word.Kinds.{Kinds}
 use Rattle.module_lang.specs.declared.word.Op.{Op}
-use Rattle.module_lang.specs.declared.word.Op.TheVariants as op
+use Rattle.module_lang.proofs.ArgLaws.{args_of_read, is_label, is_version, op_formed, picked}
 use Rattle.module_lang.proofs.LineLaws.{bind_ok}
 use Rattle.module_lang.proofs.NumberLaws.{constant_found}
 
@@ -193,130 +194,48 @@ kinds_read k rest o h =
 
 nothing_is : (x : Operand) → of_kind kind.Nothing x ≡ true → x ≡ operand.Nothing
 nothing_is operand.Nothing h = refl
-nothing_is operand.One h = absurd (cc h)
-nothing_is (operand.Place p) h = absurd (cc h)
-nothing_is (operand.Brigade b) h = absurd (cc h)
-nothing_is (operand.Ending s) h = absurd (cc h)
-nothing_is (operand.Label n) h = absurd (cc h)
-nothing_is (operand.Text n) h = absurd (cc h)
-nothing_is (operand.Value v) h = absurd (cc h)
+nothing_is _ h = absurd (cc h)
 
 pub brigade_is : (x : Operand) → of_kind kind.Brigade x ≡ true → x ≡ operand.Brigade (operand_index x)
-brigade_is operand.Nothing h = absurd (cc h)
-brigade_is operand.One h = absurd (cc h)
-brigade_is (operand.Place p) h = absurd (cc h)
 brigade_is (operand.Brigade b) h = refl
-brigade_is (operand.Ending s) h = absurd (cc h)
-brigade_is (operand.Label n) h = absurd (cc h)
-brigade_is (operand.Text n) h = absurd (cc h)
-brigade_is (operand.Value v) h = absurd (cc h)
+brigade_is _ h = absurd (cc h)
 
 pub source_is : (x : Operand) → of_kind kind.Source x ≡ true → x ≡ operand.Brigade (operand_index x)
-source_is operand.Nothing h = absurd (cc h)
-source_is operand.One h = absurd (cc h)
-source_is (operand.Place p) h = absurd (cc h)
 source_is (operand.Brigade b) h = refl
-source_is (operand.Ending s) h = absurd (cc h)
-source_is (operand.Label n) h = absurd (cc h)
-source_is (operand.Text n) h = absurd (cc h)
-source_is (operand.Value v) h = absurd (cc h)
+source_is _ h = absurd (cc h)
 
 pub ending_is : (x : Operand) → of_kind kind.Ending x ≡ true → x ≡ operand.Ending (operand_status x)
-ending_is operand.Nothing h = absurd (cc h)
-ending_is operand.One h = absurd (cc h)
-ending_is (operand.Place p) h = absurd (cc h)
-ending_is (operand.Brigade b) h = absurd (cc h)
 ending_is (operand.Ending s) h = refl
-ending_is (operand.Label n) h = absurd (cc h)
-ending_is (operand.Text n) h = absurd (cc h)
-ending_is (operand.Value v) h = absurd (cc h)
+ending_is _ h = absurd (cc h)
 
 pub label_is : (x : Operand) → of_kind kind.Label x ≡ true → (n : List ℕ) × (x ≡ operand.Label n)
-label_is operand.Nothing h = absurd (cc h)
-label_is operand.One h = absurd (cc h)
-label_is (operand.Place p) h = absurd (cc h)
-label_is (operand.Brigade b) h = absurd (cc h)
-label_is (operand.Ending s) h = absurd (cc h)
 label_is (operand.Label n) h = (n, refl)
-label_is (operand.Text n) h = absurd (cc h)
-label_is (operand.Value v) h = absurd (cc h)
+label_is _ h = absurd (cc h)
 
 pub place_is : (x : Operand) → of_kind kind.Place x ≡ true → x ≡ operand.Place (operand_place x)
-place_is operand.Nothing h = absurd (cc h)
-place_is operand.One h = absurd (cc h)
 place_is (operand.Place p) h = refl
-place_is (operand.Brigade b) h = absurd (cc h)
-place_is (operand.Ending s) h = absurd (cc h)
-place_is (operand.Label n) h = absurd (cc h)
-place_is (operand.Text n) h = absurd (cc h)
-place_is (operand.Value v) h = absurd (cc h)
+place_is _ h = absurd (cc h)
 
 pub pool_is : (x : Operand) → of_kind kind.Pool x ≡ true → x ≡ own_pool (operand_index x)
-pool_is operand.Nothing h = absurd (cc h)
-pool_is operand.One h = absurd (cc h)
-pool_is (operand.Place pool.Conn) h = absurd (cc h)
-pool_is (operand.Place pool.Req) h = absurd (cc h)
 pool_is (operand.Place (pool.Own i)) h = refl
-pool_is (operand.Brigade b) h = absurd (cc h)
-pool_is (operand.Ending s) h = absurd (cc h)
-pool_is (operand.Label n) h = absurd (cc h)
-pool_is (operand.Text n) h = absurd (cc h)
-pool_is (operand.Value v) h = absurd (cc h)
+pool_is _ h = absurd (cc h)
 
 pub variable_is : (x : Operand) → of_kind kind.Variable x ≡ true → x ≡ variable_operand (operand_variable x)
-variable_is operand.Nothing h = absurd (cc h)
-variable_is operand.One h = absurd (cc h)
-variable_is (operand.Place pool.Conn) h = absurd (cc h)
-variable_is (operand.Place pool.Req) h = absurd (cc h)
 variable_is (operand.Place (pool.Own i)) h = refl
 variable_is (operand.Brigade b) h = refl
-variable_is (operand.Ending s) h = absurd (cc h)
-variable_is (operand.Label n) h = absurd (cc h)
-variable_is (operand.Text n) h = absurd (cc h)
-variable_is (operand.Value v) h = absurd (cc h)
+variable_is _ h = absurd (cc h)
 
 pub text_is : (x : Operand) → of_kind kind.Text x ≡ true → (k : ℕ) × (x ≡ operand.Text k)
-text_is operand.Nothing h = absurd (cc h)
-text_is operand.One h = absurd (cc h)
-text_is (operand.Place p) h = absurd (cc h)
-text_is (operand.Brigade b) h = absurd (cc h)
-text_is (operand.Ending s) h = absurd (cc h)
-text_is (operand.Label n) h = absurd (cc h)
 text_is (operand.Text k) h = (k, refl)
-text_is (operand.Value v) h = absurd (cc h)
+text_is _ h = absurd (cc h)
 
 pub number_is : (x : Operand) → of_kind kind.Number x ≡ true → x ≡ number_operand (operand_index x)
-number_is operand.Nothing h = absurd (cc h)
-number_is operand.One h = absurd (cc h)
-number_is (operand.Place p) h = absurd (cc h)
-number_is (operand.Brigade b) h = absurd (cc h)
-number_is (operand.Ending s) h = absurd (cc h)
-number_is (operand.Label n) h = absurd (cc h)
-number_is (operand.Text k) h = absurd (cc h)
 number_is (operand.Value (value.Number i)) h = refl
-number_is (operand.Value (value.Constant k)) h = absurd (cc h)
+number_is _ h = absurd (cc h)
 
 pub value_is : (x : Operand) → of_kind kind.Value x ≡ true → x ≡ operand.Value (operand_value x)
-value_is operand.Nothing h = absurd (cc h)
-value_is operand.One h = absurd (cc h)
-value_is (operand.Place p) h = absurd (cc h)
-value_is (operand.Brigade b) h = absurd (cc h)
-value_is (operand.Ending s) h = absurd (cc h)
-value_is (operand.Label n) h = absurd (cc h)
-value_is (operand.Text k) h = absurd (cc h)
 value_is (operand.Value v) h = refl
-
-four : (o : Operands) (a b c d : Operand) → o.first ≡ a → o.second ≡ b → o.third ≡ c → o.fourth ≡ d → o ≡ made a b c d
-four o a b c d p q r s = λ i. made (p i) (q i) (r i) (s i)
-
-one_shape : (o : Operands) (a : Operand) → o.first ≡ a → of_kind kind.Nothing o.second ≡ true → of_kind kind.Nothing o.third ≡ true → of_kind kind.Nothing o.fourth ≡ true → o ≡ one a
-one_shape o a p q r s = four o a operand.Nothing operand.Nothing operand.Nothing p (nothing_is o.second q) (nothing_is o.third r) (nothing_is o.fourth s)
-
-three_shape : (o : Operands) (a b c : Operand) → o.first ≡ a → o.second ≡ b → o.third ≡ c → of_kind kind.Nothing o.fourth ≡ true → o ≡ three a b c
-three_shape o a b c p q r s = four o a b c operand.Nothing p q r (nothing_is o.fourth s)
-
-two_shape : (o : Operands) (a b : Operand) → o.first ≡ a → o.second ≡ b → of_kind kind.Nothing o.third ≡ true → of_kind kind.Nothing o.fourth ≡ true → o ≡ two a b
-two_shape o a b p q r s = four o a b operand.Nothing operand.Nothing p q (nothing_is o.third r) (nothing_is o.fourth s)
+value_is _ h = absurd (cc h)
 
 -- the operands that were read are those of the instruction, with the name of its label and the length of its text
 pub record IsShaped (i : Op) (o : Operands) (x t : ℕ) : Type 0 where
@@ -324,27 +243,47 @@ pub record IsShaped (i : Op) (o : Operands) (x t : ℕ) : Type 0 where
   pub len : ℕ
   pub same : o ≡ operands_of (op_instr i o x t) name len
 
+abbrev name_in : Operand → List ℕ
+name_in (operand.Label n) = n
+name_in _ = []
+
+abbrev len_in : Operand → ℕ
+len_in (operand.Text n) = n
+len_in _ = 0
+
+-- an operand that was read is that of the instruction, with its name or its length
+one_shape : (k : Kind) (o : Operand) (x t : ℕ) (n : List ℕ) (len : ℕ) → is_version k ≡ false → of_kind k o ≡ true → (is_label k ≡ true → n ≡ name_in o) → (operand_kind_is_text k ≡ true → len ≡ len_in o) → o ≡ operand_of (arg_in k o x t) n len
+one_shape kind.One o x t n len v h l w = absurd (cc v)
+one_shape kind.Nothing operand.Nothing x t n len v h l w = refl
+one_shape kind.Place (operand.Place p) x t n len v h l w = refl
+one_shape kind.Pool (operand.Place (pool.Own i)) x t n len v h l w = refl
+one_shape kind.Brigade (operand.Brigade b) x t n len v h l w = refl
+one_shape kind.Source (operand.Brigade b) x t n len v h l w = refl
+one_shape kind.Ending (operand.Ending s) x t n len v h l w = refl
+one_shape kind.Label (operand.Label m) x t n len v h l w = ap operand.Label (sym (l refl))
+one_shape kind.Text (operand.Text m) x t n len v h l w = ap operand.Text (sym (w refl))
+one_shape kind.Variable (operand.Place (pool.Own i)) x t n len v h l w = refl
+one_shape kind.Variable (operand.Brigade b) x t n len v h l w = refl
+one_shape kind.Number (operand.Value (value.Number i)) x t n len v h l w = refl
+one_shape kind.Value (operand.Value y) x t n len v h l w = refl
+one_shape _ _ x t n len v h l w = absurd (cc h)
+
 pub shape : (i : Op) (o : Operands) (x t : ℕ) → IsOfKinds (op_kinds i) o → IsShaped i o x t
-unfolding op_kinds
-shape op.PCreate o x t h = record { name = []; len = 0; same = one_shape o _ (pool_is o.first h.first) h.second h.third h.fourth }
-shape op.PClear o x t h = record { name = []; len = 0; same = one_shape o _ (pool_is o.first h.first) h.second h.third h.fourth }
-shape op.PDestroy o x t h = record { name = []; len = 0; same = one_shape o _ (pool_is o.first h.first) h.second h.third h.fourth }
-shape op.Label o x t h = let k = text_is o.second h.second in record { name = []; len = k.0; same = two_shape o _ _ (place_is o.first h.first) k.1 h.third h.fourth }
-shape op.Unlabel o x t h = let k = text_is o.second h.second in record { name = []; len = k.0; same = two_shape o _ _ (place_is o.first h.first) k.1 h.third h.fourth }
-shape op.BCreate o x t h = record { name = []; len = 0; same = one_shape o _ (brigade_is o.first h.first) h.second h.third h.fourth }
-shape op.BClean o x t h = record { name = []; len = 0; same = one_shape o _ (source_is o.first h.first) h.second h.third h.fourth }
-shape op.BConcat o x t h = record { name = []; len = 0; same = two_shape o _ _ (source_is o.first h.first) (source_is o.second h.second) h.third h.fourth }
-shape op.BSave o x t h = record { name = []; len = 0; same = two_shape o _ _ (brigade_is o.first h.first) (source_is o.second h.second) h.third h.fourth }
-shape op.Pass o x t h = let l = label_is o.second h.second in record { name = l.0; len = 0; same = two_shape o _ _ (source_is o.first h.first) l.1 h.third h.fourth }
-shape op.JEmpty o x t h = let l = label_is o.second h.second in record { name = l.0; len = 0; same = two_shape o _ _ (source_is o.first h.first) l.1 h.third h.fourth }
-shape op.Put o x t h = let l = label_is o.second h.second in record { name = l.0; len = 0; same = two_shape o _ _ (value_is o.first h.first) l.1 h.third h.fourth }
-shape op.ClearBuf o x t h = record { name = []; len = 0; same = one_shape o _ (nothing_is o.first h.first) h.second h.third h.fourth }
-shape op.Set o x t h = record { name = []; len = 0; same = two_shape o _ _ (number_is o.first h.first) (value_is o.second h.second) h.third h.fourth }
-shape op.Add o x t h = record { name = []; len = 0; same = two_shape o _ _ (number_is o.first h.first) (value_is o.second h.second) h.third h.fourth }
-shape op.Sub o x t h = record { name = []; len = 0; same = two_shape o _ _ (number_is o.first h.first) (value_is o.second h.second) h.third h.fourth }
-shape op.JLt o x t h = let l = label_is o.third h.third in record { name = l.0; len = 0; same = three_shape o _ _ _ (number_is o.first h.first) (value_is o.second h.second) l.1 h.fourth }
-shape op.JEq o x t h = let l = label_is o.third h.third in record { name = l.0; len = 0; same = three_shape o _ _ _ (number_is o.first h.first) (value_is o.second h.second) l.1 h.fourth }
-shape op.JNull o x t h = let l = label_is o.second h.second in record { name = l.0; len = 0; same = two_shape o _ _ (variable_is o.first h.first) l.1 h.third h.fourth }
-shape op.JSent o x t h = let l = label_is o.first h.first in record { name = l.0; len = 0; same = one_shape o _ l.1 h.second h.third h.fourth }
-shape op.Jump o x t h = let l = label_is o.first h.first in record { name = l.0; len = 0; same = one_shape o _ l.1 h.second h.third h.fourth }
-shape op.Ret o x t h = record { name = []; len = 0; same = one_shape o _ (ending_is o.first h.first) h.second h.third h.fourth }
+shape i o x t h =
+    let k = op_kinds i in
+    let f = op_formed i in
+    let v1 = or_parts (is_version k.first || is_version k.second || is_version k.third) (is_version k.fourth) f.versions in
+    let v2 = or_parts (is_version k.first || is_version k.second) (is_version k.third) v1.0 in
+    let v3 = or_parts (is_version k.first) (is_version k.second) v2.0 in
+    let n = picked (is_label k.first) (is_label k.second) (is_label k.third) (is_label k.fourth) (name_in o.first) (name_in o.second) (name_in o.third) (name_in o.fourth) f.labels in
+    let len = len_in o.second in
+    let none : (b : Bool) (m : ℕ) → b ≡ false → b ≡ true → len ≡ m = λ b m p q. absurd (cc (sym p ∙ q)) in
+    let a = one_shape k.first o.first x t n.0 len v3.0 h.first n.1 (none (operand_kind_is_text k.first) (len_in o.first) f.first) in
+    let b = one_shape k.second o.second x t n.0 len v3.1 h.second n.2 (λ e. refl) in
+    let c = one_shape k.third o.third x t n.0 len v2.1 h.third n.3 (none (operand_kind_is_text k.third) (len_in o.third) f.third) in
+    let d = one_shape k.fourth o.fourth x t n.0 len v1.1 h.fourth n.4 (none (operand_kind_is_text k.fourth) (len_in o.fourth) f.fourth) in
+    record {
+      name = n.0;
+      len = len;
+      same = (λ j. made (a j) (b j) (c j) (d j)) ∙ ap (λ (y : Args). made (operand_of y.first n.0 len) (operand_of y.second n.0 len) (operand_of y.third n.0 len) (operand_of y.fourth n.0 len)) (sym (args_of_read i o x t));
+    }

@@ -1,29 +1,33 @@
 -- A text whose lines are spelled is read line by line.
-use Rattle.std.proofs.Common.{◌≡◌, ℕ, ◌+◌, ◌<◌, Bool, true, false, ◌&&◌, not, cond, eqb, List, [], ◌∷◌, ◌++◌, length, ltb, ◌||◌, ◌≤◌, Option, Some, None, Ok, refl, sym, ◌∙◌, ap, arith, append_assoc, append-nil}
+use Rattle.std.proofs.Common.{◌≡◌, ℕ, ◌+◌, ◌<◌, Bool, true, false, not, cond, eqb, List, [], ◌∷◌, ◌++◌, length, ltb, ◌||◌, ◌≤◌, Option, Some, None, Ok, refl, sym, ◌∙◌, ap, arith, append_assoc, append-nil}
 use Rattle.std.specs.Prelude.{All, IfSome, is_some}
 use Rattle.std.specs.List.{list_all}
-use Rattle.std.proofs.lemmas.Bool.{and_parts, ne_eqb, lt-ltb, le-ltb}
+use Rattle.std.proofs.lemmas.Bool.{and_parts, ne_eqb, lt-ltb, le-ltb, not-true}
 use Rattle.module_lang.specs.Assembling.{lines_read, lines_ended, is_end}
 use Rattle.module_lang.specs.Bytes.{all_printable, is_printable, unindented}
 use Rattle.module_lang.specs.Codes.{◌>>=◌}
 use Rattle.module_lang.specs.Drafts.{label_added}
 use Rattle.module_lang.specs.Entries.{line_taken, taken, item_entered}
-use Rattle.module_lang.specs.Lines.{line_read, unindented_read, is_due, is_handler, judged, has_equal_brigades, has_long_text, are_declared, misplaced, has_room, instruction_count, place_is_declared}
+use Rattle.module_lang.specs.Lines.{line_read, unindented_read, is_due, is_handler, judged, has_equal_brigades, has_long_text, are_declared, misplaced, has_room, instruction_count, is_declared, is_long_text, same_brigade}
 use Rattle.module_lang.specs.Names.{is_name}
 use Rattle.module_lang.specs.Operands.{operands_at}
-use Rattle.module_lang.specs.Program.{Program, fits, is_brigade, text_of_instr}
-use Rattle.module_lang.specs.Spelling.{op_of, operands_of}
+use Rattle.module_lang.specs.Program.{Program, apart, fits, tests, text_of_instr}
+use Rattle.module_lang.specs.Args.{args, op_of}
+use Rattle.module_lang.specs.Spelling.{operand_of, operands_of}
 use Rattle.module_lang.specs.Texts.{is_skipped, statements, joined, line_text, operands_text}
 use Rattle.module_lang.specs.Words.{word_text, word_kinds}
+use Rattle.module_lang.specs.declared.arg.Arg.{Arg}
+use Rattle.module_lang.specs.declared.arg.Arg.TheVariants as arg
 use Rattle.module_lang.specs.declared.draft.Draft.{Draft}
 use Rattle.module_lang.specs.declared.draft.Part.{Part}
 use Rattle.module_lang.specs.declared.instr.Instr.{Instr}
-use Rattle.module_lang.specs.declared.instr.Instr.TheVariants as instr
 use Rattle.module_lang.specs.declared.instr.VarRef.TheVariants as variable
 use Rattle.module_lang.specs.declared.operand.Operands.{Operands}
 use Rattle.module_lang.specs.declared.word.Word.{Word}
 use Rattle.module_lang.specs.declared.word.Word.TheVariants as word
+use Rattle.module_lang.proofs.ArgLaws.{formed, mixes}
 use Rattle.module_lang.proofs.DraftLaws.{has_text_of}
+use Rattle.module_lang.proofs.FitLaws.{Every, fits_parts}
 use Rattle.module_lang.proofs.ListLaws.{all_head, all_tail}
 use Rattle.module_lang.proofs.ModuleLaws.{unnamed}
 use Rattle.module_lang.proofs.SpellingLaws.{item_again, statement_plain, name_again, padded}
@@ -93,94 +97,55 @@ goes_label d name ss P due named more =
     skip : is_skipped (58 ∷ name) ≡ false
     skip = rw (ne_eqb (length (58 ∷ name)) 0 (λ e. omega arith)) refl
 
-apart_of : (x y : Bool) → (x && not y) ≡ true → y ≡ false
-apart_of x true h = absurd (cc (sym h ∙ and_none x))
-  where
-    and_none : (x : Bool) → (x && false) ≡ false
-    and_none true = refl
-    and_none false = refl
-apart_of x false h = refl
+not_apart : (a b : ℕ) → Every (not (eqb a b) ∷ []) → eqb a b ≡ false
+not_apart a b h = not-true (eqb a b) h.0
+
+-- two operands that differ are not one brigade
+pair_none : (a b : Arg) (n : List ℕ) (k : ℕ) → mixes a b ≡ false → Every (apart a b) → same_brigade (operand_of a n k) (operand_of b n k) ≡ false
+pair_none (arg.Brigade a) (arg.Brigade b) n k m h = not_apart a b h
+pair_none (arg.Brigade a) (arg.Source b) n k m h = not_apart a b h
+pair_none (arg.Brigade a) (arg.Variable v) n k m h = absurd (cc m)
+pair_none (arg.Source a) (arg.Brigade b) n k m h = not_apart a b h
+pair_none (arg.Source a) (arg.Source b) n k m h = not_apart a b h
+pair_none (arg.Source a) (arg.Variable v) n k m h = absurd (cc m)
+pair_none (arg.Variable (variable.Pool q)) b n k m h = refl
+pair_none (arg.Variable (variable.Brigade q)) (arg.Brigade b) n k m h = absurd (cc m)
+pair_none (arg.Variable (variable.Brigade q)) (arg.Source b) n k m h = absurd (cc m)
+pair_none (arg.Variable (variable.Brigade q)) (arg.Variable v) n k m h = absurd (cc m)
+pair_none _ _ n k m h = refl
 
 equal_none : (p : Program) (i : Instr) (n : List ℕ) (k : ℕ) → fits p i ≡ true → has_equal_brigades (operands_of i n k) ≡ false
-equal_none p (instr.PCreate q) n k h = refl
-equal_none p (instr.PClear q) n k h = refl
-equal_none p (instr.PDestroy q) n k h = refl
-equal_none p (instr.Label q t) n k h = refl
-equal_none p (instr.Unlabel q t) n k h = refl
-equal_none p (instr.BCreate o) n k h = refl
-equal_none p (instr.BClean b) n k h = refl
-equal_none p (instr.BConcat a b) n k h = rw (apart_of (is_brigade p a && is_brigade p b) (eqb a b) h) refl
-equal_none p (instr.BSave o b) n k h = rw (apart_of (ltb o (length p.brigades) && is_brigade p b) (eqb o b) h) refl
-equal_none p (instr.Pass b l) n k h = refl
-equal_none p (instr.JEmpty b l) n k h = refl
-equal_none p (instr.Put x l) n k h = refl
-equal_none p instr.ClearBuf n k h = refl
-equal_none p (instr.Set m x) n k h = refl
-equal_none p (instr.Add m x) n k h = refl
-equal_none p (instr.Sub m x) n k h = refl
-equal_none p (instr.JLt m x l) n k h = refl
-equal_none p (instr.JEq m x l) n k h = refl
-equal_none p (instr.JNull (variable.Pool q) l) n k h = refl
-equal_none p (instr.JNull (variable.Brigade b) l) n k h = refl
-equal_none p (instr.JSent l) n k h = refl
-equal_none p (instr.Jump l) n k h = refl
-equal_none p (instr.Ret s) n k h = refl
+equal_none p i n k h =
+    let a = args i in
+    let f = fits_parts p i h in
+    let g = formed i in
+    rw (pair_none a.first a.second n k g.one_two f.one_two, pair_none a.first a.third n k g.one_three f.one_three, pair_none a.second a.third n k g.two_three f.two_three) refl
+
+one_declared : (p : Program) (a : Arg) (n : List ℕ) (k : ℕ) → Every (tests p a) → is_declared (length p.pools) (length p.brigades) (operand_of a n k) ≡ true
+one_declared p (arg.Place q) n k h = h.0
+one_declared p (arg.Pool q) n k h = h.0
+one_declared p (arg.Brigade b) n k h = rw h.0 refl
+one_declared p (arg.Source b) n k h = h.0
+one_declared p (arg.Variable (variable.Pool q)) n k h = h.0
+one_declared p (arg.Variable (variable.Brigade b)) n k h = rw h.0 refl
+one_declared p _ n k h = refl
 
 declared_all : (p : Program) (i : Instr) (n : List ℕ) (k : ℕ) → fits p i ≡ true → are_declared (length p.pools) (length p.brigades) (operands_of i n k) ≡ true
-declared_all p (instr.PCreate q) n k h = rw h refl
-declared_all p (instr.PClear q) n k h = rw h refl
-declared_all p (instr.PDestroy q) n k h = rw h refl
-declared_all p (instr.Label q t) n k h = let x = and_parts (place_is_declared (length p.pools) q) (ltb t (length p.texts)) h in rw x.0 refl
-declared_all p (instr.Unlabel q t) n k h = let x = and_parts (place_is_declared (length p.pools) q) (ltb t (length p.texts)) h in rw x.0 refl
-declared_all p (instr.BCreate o) n k h = rw h refl
-declared_all p (instr.BClean b) n k h = rw h refl
-declared_all p (instr.BConcat a b) n k h =
-    let x = and_parts (is_brigade p a && is_brigade p b) (not (eqb a b)) h in
-    let y = and_parts (is_brigade p a) (is_brigade p b) x.0 in
-    rw (y.0, y.1) refl
-declared_all p (instr.BSave o b) n k h =
-    let x = and_parts (ltb o (length p.brigades) && is_brigade p b) (not (eqb o b)) h in
-    let y = and_parts (ltb o (length p.brigades)) (is_brigade p b) x.0 in
-    rw (y.0, y.1) refl
-declared_all p (instr.Pass b l) n k h = rw h refl
-declared_all p (instr.JEmpty b l) n k h = rw h refl
-declared_all p (instr.Put x l) n k h = refl
-declared_all p instr.ClearBuf n k h = refl
-declared_all p (instr.Set m x) n k h = refl
-declared_all p (instr.Add m x) n k h = refl
-declared_all p (instr.Sub m x) n k h = refl
-declared_all p (instr.JLt m x l) n k h = refl
-declared_all p (instr.JEq m x l) n k h = refl
-declared_all p (instr.JNull (variable.Pool q) l) n k h = rw h refl
-declared_all p (instr.JNull (variable.Brigade b) l) n k h = rw h refl
-declared_all p (instr.JSent l) n k h = refl
-declared_all p (instr.Jump l) n k h = refl
-declared_all p (instr.Ret s) n k h = refl
+declared_all p i n k h =
+    let a = args i in
+    let f = fits_parts p i h in
+    rw (one_declared p a.first n k f.first, one_declared p a.second n k f.second, one_declared p a.third n k f.third, one_declared p a.fourth n k f.fourth) refl
+
+one_short : (a : Arg) (n : List ℕ) (k : ℕ) → k ≤ 255 → is_long_text (operand_of a n k) ≡ false
+one_short (arg.Text t) n k h = le-ltb 255 k h
+one_short (arg.Variable (variable.Pool q)) n k h = refl
+one_short (arg.Variable (variable.Brigade b)) n k h = refl
+one_short _ n k h = refl
 
 short_all : (i : Instr) (n : List ℕ) (k : ℕ) → k ≤ 255 → has_long_text (operands_of i n k) ≡ false
-short_all (instr.PCreate q) n k h = refl
-short_all (instr.PClear q) n k h = refl
-short_all (instr.PDestroy q) n k h = refl
-short_all (instr.Label q t) n k h = rw (le-ltb 255 k h) refl
-short_all (instr.Unlabel q t) n k h = rw (le-ltb 255 k h) refl
-short_all (instr.BCreate o) n k h = refl
-short_all (instr.BClean b) n k h = refl
-short_all (instr.BConcat a b) n k h = refl
-short_all (instr.BSave o b) n k h = refl
-short_all (instr.Pass b l) n k h = refl
-short_all (instr.JEmpty b l) n k h = refl
-short_all (instr.Put x l) n k h = refl
-short_all instr.ClearBuf n k h = refl
-short_all (instr.Set m x) n k h = refl
-short_all (instr.Add m x) n k h = refl
-short_all (instr.Sub m x) n k h = refl
-short_all (instr.JLt m x l) n k h = refl
-short_all (instr.JEq m x l) n k h = refl
-short_all (instr.JNull (variable.Pool q) l) n k h = refl
-short_all (instr.JNull (variable.Brigade b) l) n k h = refl
-short_all (instr.JSent l) n k h = refl
-short_all (instr.Jump l) n k h = refl
-short_all (instr.Ret s) n k h = refl
+short_all i n k h =
+    let a = args i in
+    rw (one_short a.first n k h, one_short a.second n k h, one_short a.third n k h, one_short a.fourth n k h) refl
 
 -- the part, the pools and the brigades of a draft in a handler of a program
 pub record IsAt (p : Program) (q : Part) (d : Draft) : Type 0 where

@@ -2,21 +2,22 @@
 use Rattle.std.proofs.Common.{◌≡◌, ℕ, zero, suc, ◌+◌, ◌-◌, ◌<◌, ◌≤◌, Bool, true, false, cond, List, [], ◌∷◌, ◌++◌, length, map, Option, Some, None, inl, inr, Ok, refl, sym, ◌∙◌, ap, arith}
 use Rattle.std.specs.Prelude.{IfSome, slice_get, option_map}
 use Rattle.std.proofs.lemmas.Option.{slice_get-map, slice_get_within}
-use Rattle.module_lang.specs.Handlers.{handler_fault, handler_resolved, ends_open, last_goes_on, op_goes_on, jump_fault, is_lost, is_missing, label_of, place_of, target_place, step_code, op_instr}
+use Rattle.module_lang.specs.Handlers.{handler_fault, handler_resolved, ends_open, last_goes_on, jump_fault, is_lost, is_missing, label_of, place_of, target_place, step_code, op_instr}
+use Rattle.module_lang.specs.Words.{op_goes_on}
 use Rattle.module_lang.specs.Lines.{has_text, misplaced}
 use Rattle.module_lang.specs.Names.{is_name}
 use Rattle.module_lang.specs.Program.{Program, IsHandler, IsModule, fits, goes_on, target, text_of_instr}
-use Rattle.module_lang.specs.Spelling.{op_of, operands_of}
+use Rattle.module_lang.specs.Args.{op_of}
+use Rattle.module_lang.specs.Spelling.{operands_of}
 use Rattle.module_lang.specs.Texts.{CodeLine, label, step, instrs, labels_from, AreDistinct, AreSpelled, IsAimed, IsCode, IsLabel}
 use Rattle.module_lang.specs.declared.draft.Handler.{Handler}
 use Rattle.module_lang.specs.declared.draft.Label.{Label}
 use Rattle.module_lang.specs.declared.draft.Part.{Part}
 use Rattle.module_lang.specs.declared.draft.Step.{Step}
 use Rattle.module_lang.specs.declared.instr.Instr.{Instr}
-use Rattle.module_lang.specs.declared.instr.Instr.TheVariants as instr
-use Rattle.module_lang.specs.declared.instr.VarRef.TheVariants as variable
 use Rattle.module_lang.specs.declared.operand.Operands.{Operands}
 use Rattle.module_lang.specs.declared.word.Op.{Op}
+use Rattle.module_lang.proofs.ArgLaws.{instr_again, label_target}
 use Rattle.module_lang.proofs.BodyLaws.{AreRight, Matches, bare, bares, steps-length, written}
 use Rattle.module_lang.proofs.LabelLaws.{AreNamed, Marked, Named, labels_right, marked_from, names_of, place_again}
 use Rattle.module_lang.proofs.SliceLaws.{front_item, back_item}
@@ -41,54 +42,21 @@ unfolding place_of
 found_again n labels xs name t h l = let z = place_again None name t n labels xs h.marked h.named h.distinct l in rw z.2 (sym z.1)
 
 step_kept : (n : ℕ) (labels : List Label) (xs : List (List ℕ × ℕ)) (i : Instr) (name : List ℕ) (k : ℕ) → AreHandled n labels xs → IfSome (target i) (λ t. IsLabel name t xs) → is_lost labels (operands_of i (padded name) k) ≡ false
-step_kept n labels xs (instr.PCreate q) name k h a = refl
-step_kept n labels xs (instr.PClear q) name k h a = refl
-step_kept n labels xs (instr.PDestroy q) name k h a = refl
-step_kept n labels xs (instr.Label q t) name k h a = refl
-step_kept n labels xs (instr.Unlabel q t) name k h a = refl
-step_kept n labels xs (instr.BCreate o) name k h a = refl
-step_kept n labels xs (instr.BClean b) name k h a = refl
-step_kept n labels xs (instr.BConcat b c) name k h a = refl
-step_kept n labels xs (instr.BSave o b) name k h a = refl
-step_kept n labels xs (instr.Pass b l) name k h a = lost_none n labels xs name l h a
-step_kept n labels xs (instr.JEmpty b l) name k h a = lost_none n labels xs name l h a
-step_kept n labels xs (instr.Put x l) name k h a = lost_none n labels xs name l h a
-step_kept n labels xs instr.ClearBuf name k h a = refl
-step_kept n labels xs (instr.Set m x) name k h a = refl
-step_kept n labels xs (instr.Add m x) name k h a = refl
-step_kept n labels xs (instr.Sub m x) name k h a = refl
-step_kept n labels xs (instr.JLt m x l) name k h a = lost_none n labels xs name l h a
-step_kept n labels xs (instr.JEq m x l) name k h a = lost_none n labels xs name l h a
-step_kept n labels xs (instr.JNull (variable.Pool q) l) name k h a = lost_none n labels xs name l h a
-step_kept n labels xs (instr.JNull (variable.Brigade b) l) name k h a = lost_none n labels xs name l h a
-step_kept n labels xs (instr.JSent l) name k h a = lost_none n labels xs name l h a
-step_kept n labels xs (instr.Jump l) name k h a = lost_none n labels xs name l h a
-step_kept n labels xs (instr.Ret s) name k h a = refl
+step_kept n labels xs i name k h a = ap (is_missing labels) (label_target i (padded name) k) ∙ by_target (target i) a
+  where
+    by_target : (o : Option ℕ) → IfSome o (λ t. IsLabel name t xs) → is_missing labels (option_map (λ _. padded name) o) ≡ false
+    by_target None h = refl
+    by_target (Some t) l = lost_none n labels xs name t h l
 
 instr_made : (n : ℕ) (labels : List Label) (xs : List (List ℕ × ℕ)) (i : Instr) (name : List ℕ) (k x : ℕ) → AreHandled n labels xs → IfSome (target i) (λ t. IsLabel name t xs) → IfSome (text_of_instr i) (λ t. x ≡ t) → op_instr (op_of i) (operands_of i (padded name) k) x (n + target_place labels (label_of (operands_of i (padded name) k))) ≡ i
-instr_made n labels xs (instr.PCreate q) name k x h a w = refl
-instr_made n labels xs (instr.PClear q) name k x h a w = refl
-instr_made n labels xs (instr.PDestroy q) name k x h a w = refl
-instr_made n labels xs (instr.Label q t) name k x h a w = ap (instr.Label q) w
-instr_made n labels xs (instr.Unlabel q t) name k x h a w = ap (instr.Unlabel q) w
-instr_made n labels xs (instr.BCreate o) name k x h a w = refl
-instr_made n labels xs (instr.BClean b) name k x h a w = refl
-instr_made n labels xs (instr.BConcat b c) name k x h a w = refl
-instr_made n labels xs (instr.BSave o b) name k x h a w = refl
-instr_made n labels xs (instr.Pass b l) name k x h a w = ap (instr.Pass b) (found_again n labels xs name l h a)
-instr_made n labels xs (instr.JEmpty b l) name k x h a w = ap (instr.JEmpty b) (found_again n labels xs name l h a)
-instr_made n labels xs (instr.Put v l) name k x h a w = ap (instr.Put v) (found_again n labels xs name l h a)
-instr_made n labels xs instr.ClearBuf name k x h a w = refl
-instr_made n labels xs (instr.Set m v) name k x h a w = refl
-instr_made n labels xs (instr.Add m v) name k x h a w = refl
-instr_made n labels xs (instr.Sub m v) name k x h a w = refl
-instr_made n labels xs (instr.JLt m v l) name k x h a w = ap (instr.JLt m v) (found_again n labels xs name l h a)
-instr_made n labels xs (instr.JEq m v l) name k x h a w = ap (instr.JEq m v) (found_again n labels xs name l h a)
-instr_made n labels xs (instr.JNull (variable.Pool q) l) name k x h a w = ap (instr.JNull (variable.Pool q)) (found_again n labels xs name l h a)
-instr_made n labels xs (instr.JNull (variable.Brigade b) l) name k x h a w = ap (instr.JNull (variable.Brigade b)) (found_again n labels xs name l h a)
-instr_made n labels xs (instr.JSent l) name k x h a w = ap instr.JSent (found_again n labels xs name l h a)
-instr_made n labels xs (instr.Jump l) name k x h a w = ap instr.Jump (found_again n labels xs name l h a)
-instr_made n labels xs (instr.Ret s) name k x h a w = refl
+instr_made n labels xs i name k x h a w = instr_again i (padded name) k x _ (by_target (target i) (label_target i (padded name) k) a) w
+  where
+    o : Operands
+    o = operands_of i (padded name) k
+
+    by_target : (y : Option ℕ) → label_of o ≡ option_map (λ _. padded name) y → IfSome y (λ t. IsLabel name t xs) → IfSome y (λ t. n + target_place labels (label_of o) ≡ t)
+    by_target None e l = tt
+    by_target (Some t) e l = ap (λ z. n + target_place labels z) e ∙ found_again n labels xs name t h l
 
 number_of : (b : Bool) (x : ℕ) (o : Option ℕ) → cond b (Some x) None ≡ o → IfSome o (λ t. x ≡ t)
 number_of b x None e = tt
@@ -121,30 +89,6 @@ bares-get p (step j x w ∷ body) zero i e =
     ((o, text_of_instr j), ap (λ y. Some (op_of y, o, text_of_instr j)) s)
 bares-get p (step j x w ∷ body) (suc k) i e = bares-get p body k i e
 
-same_goes : (i : Instr) → op_goes_on (op_of i) ≡ goes_on i
-same_goes (instr.PCreate q) = refl
-same_goes (instr.PClear q) = refl
-same_goes (instr.PDestroy q) = refl
-same_goes (instr.Label q t) = refl
-same_goes (instr.Unlabel q t) = refl
-same_goes (instr.BCreate o) = refl
-same_goes (instr.BClean b) = refl
-same_goes (instr.BConcat b c) = refl
-same_goes (instr.BSave o b) = refl
-same_goes (instr.Pass b l) = refl
-same_goes (instr.JEmpty b l) = refl
-same_goes (instr.Put x l) = refl
-same_goes instr.ClearBuf = refl
-same_goes (instr.Set m x) = refl
-same_goes (instr.Add m x) = refl
-same_goes (instr.Sub m x) = refl
-same_goes (instr.JLt m x l) = refl
-same_goes (instr.JEq m x l) = refl
-same_goes (instr.JNull v l) = refl
-same_goes (instr.JSent l) = refl
-same_goes (instr.Jump l) = refl
-same_goes (instr.Ret s) = refl
-
 bare_op : (o : Option Step) (i : Op) (os : Operands) (t : Option ℕ) → option_map bare o ≡ Some (i, os, t) → last_goes_on o ≡ op_goes_on i
 bare_op None i os t e = absurd (cc e)
 bare_op (Some s) i os t e = let first : bare s ≡ (i, os, t) = cc e in ap (λ (z : Op × Operands × Option ℕ). op_goes_on z.0) first
@@ -154,7 +98,7 @@ ends_again p body h i m e g =
     let size = steps-length p body h m in
     let b = bares-get p body (length (instrs body) - 1) i e in
     let at : option_map bare (slice_get h.steps (length h.steps - 1)) ≡ Some (op_of i, b.0.0, b.0.1) = sym (slice_get-map bare h.steps (length h.steps - 1)) ∙ ap (λ x. slice_get x (length h.steps - 1)) m.steps ∙ ap (λ n. slice_get (bares p body) (n - 1)) size ∙ b.1 in
-    bare_op (slice_get h.steps (length h.steps - 1)) (op_of i) b.0.0 b.0.1 at ∙ same_goes i ∙ g
+    bare_op (slice_get h.steps (length h.steps - 1)) (op_of i) b.0.0 b.0.1 at ∙ g
 
 -- a handler that is spelled is resolved as its instructions
 pub resolve_again : (p : Program) (before : List Label) (bs : List (List ℕ × ℕ)) (h : Handler) (code : List Instr) (body : List CodeLine) → Named before bs → AreNamed bs → Matches p body h → IsCode p (length code) body → AreDistinct (bs ++ labels_from (length code) body) → ends_open h.steps ≡ false → handler_resolved before h code ≡ Ok (code ++ instrs body)

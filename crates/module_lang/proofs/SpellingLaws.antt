@@ -1,18 +1,22 @@
 -- What is spelled is read again: words, operands and lines.
-use Rattle.std.proofs.Common.{◌≡◌, ℕ, ◌+◌, ◌-◌, ◌^◌, ◌<◌, ◌≤◌, Bool, true, false, ◌&&◌, ◌||◌, not, cond, eqb, ltb, leb, List, [], ◌∷◌, ◌++◌, length, Option, Some, None, Ok, refl, sym, ◌∙◌, ap, arith}
+use Rattle.std.proofs.Common.{◌≡◌, ℕ, ◌+◌, ◌-◌, ◌^◌, ◌<◌, ◌≤◌, Bool, true, false, ◌&&◌, ◌||◌, not, cond, eqb, ltb, leb, List, [], ◌∷◌, ◌++◌, length, Option, Some, None, Ok, refl, sym, ◌∙◌, ap, append-nil, arith, subst}
 use Rattle.std.specs.Prelude.{slice_index, codes, replicate, IfSome}
 use Rattle.std.specs.List.{list_all}
-use Rattle.std.proofs.lemmas.Bool.{and_parts, le-leb, eq-eqb, ne_eqb, eqb-true, ltb-true, lt-ltb}
+use Rattle.std.proofs.lemmas.Bool.{and_parts, not-true, le-leb, eq-eqb, ne_eqb, eqb-true, ltb-true, lt-ltb}
 use Rattle.std.proofs.lemmas.List.{take_at, drop_at}
 use Rattle.module_lang.specs.Bytes.{token, token_len, after_token, begins}
 use Rattle.module_lang.specs.Lines.{item_read, unindented_read, is_due, judged, place_is_declared}
-use Rattle.module_lang.specs.Program.{Program, fits, is_brigade, target, text_at, text_of_instr}
+use Rattle.module_lang.specs.Program.{Program, fits, target, tests, text_at, text_of_instr}
 use Rattle.module_lang.specs.Names.{is_letter, is_name, is_name_byte, all_name_bytes, name_of}
 use Rattle.module_lang.specs.Numbers.{is_value}
 use Rattle.module_lang.specs.Operands.{numbered, operand_in, operand_at, after_operand, operands_at, operand_kind_is_nothing, operand_kind_is_text}
-use Rattle.module_lang.specs.Spelling.{number_operand, op_of, operands_of, three}
-use Rattle.module_lang.specs.Texts.{Spells, place_text, own_text, brigade_text, number_text, status_text, value_text, operands_text, line_text, operand_texts, instr_word, is_skipped}
-use Rattle.module_lang.specs.Words.{op_text, word_text, word_at, word_kinds, op_kinds, three_operands, two_operands, one_operand, no_operand}
+use Rattle.module_lang.specs.Args.{args, is_of, names_target, names_text, op_of, or_else}
+use Rattle.module_lang.specs.Spelling.{number_operand, operand_of, operands_of}
+use Rattle.module_lang.specs.Texts.{Spells, arg_texts, place_text, own_text, brigade_text, number_text, status_text, value_text, operands_text, line_text, operand_texts, instr_word, is_skipped}
+use Rattle.module_lang.specs.Words.{word_text, word_at, word_kinds, op_kinds, two_operands, one_operand, no_operand}
+use Rattle.module_lang.specs.declared.arg.Arg.{Arg}
+use Rattle.module_lang.specs.declared.arg.Arg.TheVariants as arg
+use Rattle.module_lang.specs.declared.arg.Args.{Args}
 use Rattle.module_lang.specs.declared.draft.Draft.{Draft}
 use Rattle.module_lang.specs.declared.instr.Instr.{Instr}
 use Rattle.module_lang.specs.declared.instr.Instr.TheVariants as instr
@@ -32,6 +36,8 @@ use Rattle.module_lang.specs.declared.word.Kind.TheVariants as kind
 use Rattle.module_lang.specs.declared.word.Op.TheVariants as op
 use Rattle.module_lang.specs.declared.word.Word.{Word}
 use Rattle.module_lang.specs.declared.word.Word.TheVariants as word
+use Rattle.module_lang.proofs.ArgLaws.{formed, split_again}
+use Rattle.module_lang.proofs.FitLaws.{Every, fits_parts}
 use Rattle.module_lang.proofs.NumberLaws.{constant_again, decimal_begins, decimal_without}
 use Rattle.module_lang.proofs.QuoteLaws.{quoted_again}
 
@@ -84,6 +90,10 @@ none_behind : (rest : List ℕ) → after_operand kind.Nothing rest ≡ rest
 unfolding after_operand
 none_behind rest = refl
 
+operands_stop : (os : List (List ℕ)) → Stops (operands_text os)
+operands_stop [] = tt
+operands_stop (o ∷ os) = refl
+
 abbrev pub operands : Operand → Operand → Operands
 operands a b = record { first = a; second = b; third = operand.Nothing; fourth = operand.Nothing }
 
@@ -98,10 +108,6 @@ one_again k o t h = rw (operand_again k o t [] h tt, behind_again k o t [] h tt,
 pub two_again : (k l : Kind) (o q : Operand) (t u : List ℕ) → IsOperand k o t → IsOperand l q u → operands_at (two_operands k l) (operands_text (t ∷ u ∷ [])) ≡ Ok (operands o q)
 unfolding operands_at
 two_again k l o q t u h j = rw (operand_again k o t (operands_text (u ∷ [])) h refl, behind_again k o t (operands_text (u ∷ [])) h refl, operand_again l q u [] j tt, behind_again l q u [] j tt, none_again [], none_behind [], none_again [], none_behind []) refl
-
-pub three_again : (k l m : Kind) (o q r : Operand) (t u v : List ℕ) → IsOperand k o t → IsOperand l q u → IsOperand m r v → operands_at (three_operands k l m) (operands_text (t ∷ u ∷ v ∷ [])) ≡ Ok (three o q r)
-unfolding operands_at
-three_again k l m o q r t u v h i j = rw (operand_again k o t (operands_text (u ∷ v ∷ [])) h refl, behind_again k o t (operands_text (u ∷ v ∷ [])) h refl, operand_again l q u (operands_text (v ∷ [])) i refl, behind_again l q u (operands_text (v ∷ [])) i refl, operand_again m r v [] j tt, behind_again m r v [] j tt, none_again [], none_behind []) refl
 
 numbered_again : (letter i : ℕ) → i < 8 → numbered letter (letter ∷ (48 + i) ∷ []) ≡ Some i
 numbered_again letter i h =
@@ -184,10 +190,6 @@ pub text_behind : (s bytes rest : List ℕ) → Spells s bytes → after_operand
 unfolding after_operand
 text_behind s bytes rest h = rw (quoted_again s bytes rest h) (drop_at s rest (length s) refl)
 
-pub two_text_again : (k : Kind) (o : Operand) (t s bytes : List ℕ) → IsOperand k o t → Spells s bytes → operands_at (two_operands k kind.Text) (operands_text (t ∷ s ∷ [])) ≡ Ok (operands o (operand.Text (length bytes)))
-unfolding operands_at
-two_text_again k o t s bytes h j = rw (operand_again k o t (operands_text (s ∷ [])) h refl, behind_again k o t (operands_text (s ∷ [])) h refl, text_at_again s bytes [] j, text_behind s bytes [] j, none_again [], none_behind [], none_again [], none_behind []) refl
-
 pub own_variable : (i : ℕ) → i < 8 → IsOperand kind.Variable (operand.Place (pool.Own i)) (place_text (pool.Own i))
 unfolding operand_in
 own_variable i h = record { some = refl; bare = refl; read = rw (numbered_again 112 i h) refl; plain = digit_plain 112 i refl }
@@ -217,67 +219,100 @@ abbrev pub text_len : Program → Option ℕ → ℕ
 text_len p None = 0
 text_len p (Some t) = length (text_at p t)
 
+-- an operand of an instruction, in front of others, is read again
+record IsAgain (k : Kind) (a : Arg) (n s : List ℕ) (len : ℕ) (os : List (List ℕ)) : Type 0 where
+  read : operand_at k (operands_text (arg_texts a n s ++ os)) ≡ Ok (operand_of a (padded n) len)
+  behind : after_operand k (operands_text (arg_texts a n s ++ os)) ≡ operands_text os
+
+-- what is known of an operand of an instruction of a program: its tests, the name of a target, and the spelling of a text
+pub record IsSaid (p : Program) (a : Arg) (n s : List ℕ) (len : ℕ) : Type 0 where
+  pub fit : Every (tests p a)
+  pub name : IfSome (names_target a) (λ _. is_name n ≡ true)
+  pub text : IfSome (names_text a) (λ t. Spells s (text_at p t) × (len ≡ length (text_at p t)))
+
+arg_again : (p : Program) (k : Kind) (a : Arg) (n s : List ℕ) (len : ℕ) (os : List (List ℕ)) → length p.pools ≤ 8 → length p.brigades ≤ 8 → is_of k a ≡ true → IsSaid p a n s len → IsAgain k a n s len os
+arg_again p k a n s len os few small = by_kind k a
+  where
+    token : (k : Kind) (o : Operand) (t : List ℕ) → IsOperand k o t → (operand_at k (operands_text (t ∷ os)) ≡ Ok o) × (after_operand k (operands_text (t ∷ os)) ≡ operands_text os)
+    token k o t h = (operand_again k o t (operands_text os) h (operands_stop os), behind_again k o t (operands_text os) h (operands_stop os))
+
+    by_kind : (k : Kind) (a : Arg) → is_of k a ≡ true → IsSaid p a n s len → IsAgain k a n s len os
+    by_kind kind.Nothing arg.Nothing h x = record { read = none_again (operands_text os); behind = none_behind (operands_text os) }
+    by_kind kind.Place (arg.Place q) h x = let y = token kind.Place _ _ (place_operand q (declared_up (length p.pools) 8 q few x.fit.0)) in record { read = y.0; behind = y.1 }
+    by_kind kind.Pool (arg.Pool q) h x = let y = token kind.Pool _ _ (pool_operand q (own_below (length p.pools) q few x.fit.0)) in record { read = y.0; behind = y.1 }
+    by_kind kind.Brigade (arg.Brigade b) h x = let y = token kind.Brigade _ _ (own_operand b (own_below (length p.brigades) b small x.fit.0)) in record { read = y.0; behind = y.1 }
+    by_kind kind.Source (arg.Source b) h x = let y = token kind.Source _ _ (source_operand (length p.brigades) b small x.fit.0) in record { read = y.0; behind = y.1 }
+    by_kind kind.Ending (arg.Ending e) h x = let y = token kind.Ending _ _ (ending_operand e) in record { read = y.0; behind = y.1 }
+    by_kind kind.Label (arg.Target t) h x = let y = token kind.Label _ _ (label_operand n x.name) in record { read = y.0; behind = y.1 }
+    by_kind kind.Text (arg.Text t) h x = record {
+      read = text_at_again s (text_at p t) (operands_text os) x.text.0 ∙ ap (λ m. Ok (operand.Text m)) (sym x.text.1);
+      behind = text_behind s (text_at p t) (operands_text os) x.text.0;
+    }
+    by_kind kind.Variable (arg.Variable (variable.Pool q)) h x = let y = token kind.Variable _ _ (own_variable q (own_below (length p.pools) q few x.fit.0)) in record { read = y.0; behind = y.1 }
+    by_kind kind.Variable (arg.Variable (variable.Brigade b)) h x = let y = token kind.Variable _ _ (brigade_variable b (own_below (length p.brigades) b small x.fit.0)) in record { read = y.0; behind = y.1 }
+    by_kind kind.Number (arg.Number m) h x = let y = token kind.Number _ _ (number_again m (ltb-true m 8 x.fit.0)) in record { read = y.0; behind = y.1 }
+    by_kind kind.Value (arg.Value v) h x = let y = token kind.Value _ _ (value_again v x.fit.0) in record { read = y.0; behind = y.1 }
+    by_kind _ _ h x = absurd (cc h)
+
+or_parts_some : (a b : Option ℕ) (P : Type 0) → IfSome (or_else a b) (λ _. P) → IfSome a (λ _. P) × IfSome b (λ _. P)
+or_parts_some None b P h = (tt, h)
+or_parts_some (Some x) None P h = (h, tt)
+or_parts_some (Some x) (Some y) P h = (h, h)
+
+none_some : (o : Option ℕ) (P : ℕ → Type 0) → o ≡ None → IfSome o P
+none_some o P e = subst (λ x. IfSome x P) (sym e) tt
+
+-- the parts of an instruction of a program
+pub record AreSaid (p : Program) (a : Args) (n s : List ℕ) (len : ℕ) : Type 0 where
+  pub first : IsSaid p a.first n s len
+  pub second : IsSaid p a.second n s len
+  pub third : IsSaid p a.third n s len
+  pub fourth : IsSaid p a.fourth n s len
+
+pub args_said : (p : Program) (i : Instr) (n s : List ℕ) → fits p i ≡ true → IfSome (target i) (λ _. is_name n ≡ true) → IfSome (text_of_instr i) (λ t. Spells s (text_at p t)) → AreSaid p (args i) n s (text_len p (text_of_instr i))
+args_said p i n s h name text =
+    let a = args i in
+    let P = is_name n ≡ true in
+    let len = text_len p (text_of_instr i) in
+    let f = fits_parts p i h in
+    let g = formed i in
+    let x = or_parts_some (or_else (or_else (names_target a.first) (names_target a.second)) (names_target a.third)) (names_target a.fourth) P name in
+    let y = or_parts_some (or_else (names_target a.first) (names_target a.second)) (names_target a.third) P x.0 in
+    let z = or_parts_some (names_target a.first) (names_target a.second) P y.0 in
+    let Q : ℕ → Type 0 = λ t. Spells s (text_at p t) × (len ≡ length (text_at p t)) in
+    record {
+      first = record { fit = f.first; name = z.0; text = none_some (names_text a.first) Q g.first };
+      second = record { fit = f.second; name = z.1; text = subst (λ o. IfSome o Q) g.second (long (text_of_instr i) text) };
+      third = record { fit = f.third; name = y.1; text = none_some (names_text a.third) Q g.third };
+      fourth = record { fit = f.fourth; name = x.1; text = none_some (names_text a.fourth) Q g.fourth };
+    }
+  where
+    long : (o : Option ℕ) → IfSome o (λ t. Spells s (text_at p t)) → IfSome o (λ t. Spells s (text_at p t) × (text_len p o ≡ length (text_at p t)))
+    long None h = tt
+    long (Some t) h = (h, refl)
+
 -- the operands of an instruction are read again
 pub instr_again : (p : Program) (i : Instr) (n s : List ℕ) → length p.pools ≤ 8 → length p.brigades ≤ 8 → fits p i ≡ true → IfSome (target i) (λ _. is_name n ≡ true) → IfSome (text_of_instr i) (λ t. Spells s (text_at p t)) → operands_at (op_kinds (op_of i)) (operands_text (operand_texts i n s)) ≡ Ok (operands_of i (padded n) (text_len p (text_of_instr i)))
-unfolding op_kinds
-instr_again p (instr.PCreate q) n s few small h name text = one_again kind.Pool (operand.Place (pool.Own q)) (place_text (pool.Own q)) (pool_operand q (own_below (length p.pools) q few h))
-instr_again p (instr.PClear q) n s few small h name text = one_again kind.Pool (operand.Place (pool.Own q)) (place_text (pool.Own q)) (pool_operand q (own_below (length p.pools) q few h))
-instr_again p (instr.PDestroy q) n s few small h name text = one_again kind.Pool (operand.Place (pool.Own q)) (place_text (pool.Own q)) (pool_operand q (own_below (length p.pools) q few h))
-instr_again p (instr.Label q t) n s few small h name text =
-    let x = and_parts (place_is_declared (length p.pools) q) (ltb t (length p.texts)) h in
-    two_text_again kind.Place (operand.Place q) (place_text q) s (text_at p t) (place_operand q (declared_up (length p.pools) 8 q few x.0)) text
-instr_again p (instr.Unlabel q t) n s few small h name text =
-    let x = and_parts (place_is_declared (length p.pools) q) (ltb t (length p.texts)) h in
-    two_text_again kind.Place (operand.Place q) (place_text q) s (text_at p t) (place_operand q (declared_up (length p.pools) 8 q few x.0)) text
-instr_again p (instr.BCreate o) n s few small h name text = one_again kind.Brigade (operand.Brigade o) (own_text o) (own_operand o (own_below (length p.brigades) o small h))
-instr_again p (instr.BClean b) n s few small h name text = one_again kind.Source (operand.Brigade b) (brigade_text b) (source_operand (length p.brigades) b small h)
-instr_again p (instr.BConcat a b) n s few small h name text =
-    let x = and_parts (is_brigade p a && is_brigade p b) (not (eqb a b)) h in
-    let y = and_parts (is_brigade p a) (is_brigade p b) x.0 in
-    two_again kind.Source kind.Source (operand.Brigade a) (operand.Brigade b) (brigade_text a) (brigade_text b) (source_operand (length p.brigades) a small y.0) (source_operand (length p.brigades) b small y.1)
-instr_again p (instr.BSave o b) n s few small h name text =
-    let x = and_parts (ltb o (length p.brigades) && is_brigade p b) (not (eqb o b)) h in
-    let y = and_parts (ltb o (length p.brigades)) (is_brigade p b) x.0 in
-    two_again kind.Brigade kind.Source (operand.Brigade o) (operand.Brigade b) (own_text o) (brigade_text b) (own_operand o (own_below (length p.brigades) o small y.0)) (source_operand (length p.brigades) b small y.1)
-instr_again p (instr.Pass b l) n s few small h name text = two_again kind.Source kind.Label (operand.Brigade b) (operand.Label (padded n)) (brigade_text b) n (source_operand (length p.brigades) b small h) (label_operand n name)
-instr_again p (instr.JEmpty b l) n s few small h name text = two_again kind.Source kind.Label (operand.Brigade b) (operand.Label (padded n)) (brigade_text b) n (source_operand (length p.brigades) b small h) (label_operand n name)
-instr_again p (instr.Put x l) n s few small h name text = two_again kind.Value kind.Label (operand.Value x) (operand.Label (padded n)) (value_text x) n (value_again x h) (label_operand n name)
-instr_again p instr.ClearBuf n s few small h name text = no_operands
-instr_again p (instr.Set m x) n s few small h name text = two_again kind.Number kind.Value (number_operand m) (operand.Value x) (number_text m) (value_text x) (number_again m (ltb-true m 8 (and_parts (ltb m 8) (is_value x) h).0)) (value_again x (and_parts (ltb m 8) (is_value x) h).1)
-instr_again p (instr.Add m x) n s few small h name text = two_again kind.Number kind.Value (number_operand m) (operand.Value x) (number_text m) (value_text x) (number_again m (ltb-true m 8 (and_parts (ltb m 8) (is_value x) h).0)) (value_again x (and_parts (ltb m 8) (is_value x) h).1)
-instr_again p (instr.Sub m x) n s few small h name text = two_again kind.Number kind.Value (number_operand m) (operand.Value x) (number_text m) (value_text x) (number_again m (ltb-true m 8 (and_parts (ltb m 8) (is_value x) h).0)) (value_again x (and_parts (ltb m 8) (is_value x) h).1)
-instr_again p (instr.JLt m x l) n s few small h name text = three_again kind.Number kind.Value kind.Label (number_operand m) (operand.Value x) (operand.Label (padded n)) (number_text m) (value_text x) n (number_again m (ltb-true m 8 (and_parts (ltb m 8) (is_value x) h).0)) (value_again x (and_parts (ltb m 8) (is_value x) h).1) (label_operand n name)
-instr_again p (instr.JEq m x l) n s few small h name text = three_again kind.Number kind.Value kind.Label (number_operand m) (operand.Value x) (operand.Label (padded n)) (number_text m) (value_text x) n (number_again m (ltb-true m 8 (and_parts (ltb m 8) (is_value x) h).0)) (value_again x (and_parts (ltb m 8) (is_value x) h).1) (label_operand n name)
-instr_again p (instr.JNull (variable.Pool q) l) n s few small h name text = two_again kind.Variable kind.Label (operand.Place (pool.Own q)) (operand.Label (padded n)) (place_text (pool.Own q)) n (own_variable q (own_below (length p.pools) q few h)) (label_operand n name)
-instr_again p (instr.JNull (variable.Brigade b) l) n s few small h name text = two_again kind.Variable kind.Label (operand.Brigade b) (operand.Label (padded n)) (own_text b) n (brigade_variable b (own_below (length p.brigades) b small h)) (label_operand n name)
-instr_again p (instr.JSent l) n s few small h name text = one_again kind.Label (operand.Label (padded n)) n (label_operand n name)
-instr_again p (instr.Jump l) n s few small h name text = one_again kind.Label (operand.Label (padded n)) n (label_operand n name)
-instr_again p (instr.Ret e) n s few small h name text = one_again kind.Ending (operand.Ending e) (status_text e) (ending_operand e)
+unfolding operands_at
+instr_again p i n s few small h name text =
+    let a = args i in
+    let k = op_kinds (op_of i) in
+    let len = text_len p (text_of_instr i) in
+    let q = (split_again i).kinds in
+    let x = args_said p i n s h name text in
+    let d = arg_texts a.fourth n s ++ [] in
+    let c = arg_texts a.third n s ++ d in
+    let b = arg_texts a.second n s ++ c in
+    let w = arg_again p k.first a.first n s len b few small q.first x.first in
+    let u = arg_again p k.second a.second n s len c few small q.second x.second in
+    let v = arg_again p k.third a.third n s len d few small q.third x.third in
+    let z = arg_again p k.fourth a.fourth n s len [] few small q.fourth x.fourth in
+    ap (λ y. operands_at k (operands_text (arg_texts a.first n s ++ (arg_texts a.second n s ++ (arg_texts a.third n s ++ y))))) (sym (append-nil (arg_texts a.fourth n s))) ∙ rw (w.read, w.behind, u.read, u.behind, v.read, v.behind, z.read, z.behind) refl
 
 pub word_of_instr : (i : Instr) → instr_word i ≡ word_text (word.Op (op_of i))
-unfolding word_text op_text
+unfolding word_text
 word_of_instr (instr.PCreate q) = refl
-word_of_instr (instr.PClear q) = refl
-word_of_instr (instr.PDestroy q) = refl
-word_of_instr (instr.Label q t) = refl
-word_of_instr (instr.Unlabel q t) = refl
-word_of_instr (instr.BCreate o) = refl
-word_of_instr (instr.BClean b) = refl
-word_of_instr (instr.BConcat a b) = refl
-word_of_instr (instr.BSave o b) = refl
-word_of_instr (instr.Pass b l) = refl
-word_of_instr (instr.JEmpty b l) = refl
-word_of_instr (instr.Put x l) = refl
-word_of_instr instr.ClearBuf = refl
-word_of_instr (instr.Set m x) = refl
-word_of_instr (instr.Add m x) = refl
-word_of_instr (instr.Sub m x) = refl
-word_of_instr (instr.JLt m x l) = refl
-word_of_instr (instr.JEq m x l) = refl
-word_of_instr (instr.JNull v l) = refl
-word_of_instr (instr.JSent l) = refl
-word_of_instr (instr.Jump l) = refl
-word_of_instr (instr.Ret s) = refl
+word_of_instr _ = refl
 
 -- a word is found again, has no space, and begins neither a label nor a comment
 pub record IsWord (w : Word) : Type 0 where
@@ -286,41 +321,25 @@ pub record IsWord (w : Word) : Type 0 where
   pub starts : (rest : List ℕ) → is_skipped (word_text w ++ rest) ≡ false
   pub worded : (rest : List ℕ) → begins 58 (word_text w ++ rest) ≡ false
 
-pub word_again : (w : Word) → IsWord w
-unfolding word_at word_text op_text
-word_again word.Module = record { found = refl; plain = refl; starts = λ r. rw (ne_eqb (length (codes "module" ++ r)) 0 (λ e. omega arith)) refl; worded = λ r. refl }
-word_again word.Pool = record { found = refl; plain = refl; starts = λ r. rw (ne_eqb (length (codes "pool" ++ r)) 0 (λ e. omega arith)) refl; worded = λ r. refl }
-word_again word.Brigade = record { found = refl; plain = refl; starts = λ r. rw (ne_eqb (length (codes "brigade" ++ r)) 0 (λ e. omega arith)) refl; worded = λ r. refl }
-word_again word.Open = record { found = refl; plain = refl; starts = λ r. rw (ne_eqb (length (codes "open" ++ r)) 0 (λ e. omega arith)) refl; worded = λ r. refl }
-word_again word.Init = record { found = refl; plain = refl; starts = λ r. rw (ne_eqb (length (codes "init" ++ r)) 0 (λ e. omega arith)) refl; worded = λ r. refl }
-word_again word.Main = record { found = refl; plain = refl; starts = λ r. rw (ne_eqb (length (codes "main" ++ r)) 0 (λ e. omega arith)) refl; worded = λ r. refl }
-word_again word.End = record { found = refl; plain = refl; starts = λ r. rw (ne_eqb (length (codes "end" ++ r)) 0 (λ e. omega arith)) refl; worded = λ r. refl }
-word_again (word.Op op.PCreate) = record { found = refl; plain = refl; starts = λ r. rw (ne_eqb (length (codes "pcreate" ++ r)) 0 (λ e. omega arith)) refl; worded = λ r. refl }
-word_again (word.Op op.PClear) = record { found = refl; plain = refl; starts = λ r. rw (ne_eqb (length (codes "pclear" ++ r)) 0 (λ e. omega arith)) refl; worded = λ r. refl }
-word_again (word.Op op.PDestroy) = record { found = refl; plain = refl; starts = λ r. rw (ne_eqb (length (codes "pdestroy" ++ r)) 0 (λ e. omega arith)) refl; worded = λ r. refl }
-word_again (word.Op op.Label) = record { found = refl; plain = refl; starts = λ r. rw (ne_eqb (length (codes "label" ++ r)) 0 (λ e. omega arith)) refl; worded = λ r. refl }
-word_again (word.Op op.Unlabel) = record { found = refl; plain = refl; starts = λ r. rw (ne_eqb (length (codes "unlabel" ++ r)) 0 (λ e. omega arith)) refl; worded = λ r. refl }
-word_again (word.Op op.BCreate) = record { found = refl; plain = refl; starts = λ r. rw (ne_eqb (length (codes "bcreate" ++ r)) 0 (λ e. omega arith)) refl; worded = λ r. refl }
-word_again (word.Op op.BClean) = record { found = refl; plain = refl; starts = λ r. rw (ne_eqb (length (codes "bclean" ++ r)) 0 (λ e. omega arith)) refl; worded = λ r. refl }
-word_again (word.Op op.BConcat) = record { found = refl; plain = refl; starts = λ r. rw (ne_eqb (length (codes "bconcat" ++ r)) 0 (λ e. omega arith)) refl; worded = λ r. refl }
-word_again (word.Op op.BSave) = record { found = refl; plain = refl; starts = λ r. rw (ne_eqb (length (codes "bsave" ++ r)) 0 (λ e. omega arith)) refl; worded = λ r. refl }
-word_again (word.Op op.Pass) = record { found = refl; plain = refl; starts = λ r. rw (ne_eqb (length (codes "pass" ++ r)) 0 (λ e. omega arith)) refl; worded = λ r. refl }
-word_again (word.Op op.JEmpty) = record { found = refl; plain = refl; starts = λ r. rw (ne_eqb (length (codes "jempty" ++ r)) 0 (λ e. omega arith)) refl; worded = λ r. refl }
-word_again (word.Op op.Put) = record { found = refl; plain = refl; starts = λ r. rw (ne_eqb (length (codes "put" ++ r)) 0 (λ e. omega arith)) refl; worded = λ r. refl }
-word_again (word.Op op.ClearBuf) = record { found = refl; plain = refl; starts = λ r. rw (ne_eqb (length (codes "clearbuf" ++ r)) 0 (λ e. omega arith)) refl; worded = λ r. refl }
-word_again (word.Op op.Set) = record { found = refl; plain = refl; starts = λ r. rw (ne_eqb (length (codes "set" ++ r)) 0 (λ e. omega arith)) refl; worded = λ r. refl }
-word_again (word.Op op.Add) = record { found = refl; plain = refl; starts = λ r. rw (ne_eqb (length (codes "add" ++ r)) 0 (λ e. omega arith)) refl; worded = λ r. refl }
-word_again (word.Op op.Sub) = record { found = refl; plain = refl; starts = λ r. rw (ne_eqb (length (codes "sub" ++ r)) 0 (λ e. omega arith)) refl; worded = λ r. refl }
-word_again (word.Op op.JLt) = record { found = refl; plain = refl; starts = λ r. rw (ne_eqb (length (codes "jlt" ++ r)) 0 (λ e. omega arith)) refl; worded = λ r. refl }
-word_again (word.Op op.JEq) = record { found = refl; plain = refl; starts = λ r. rw (ne_eqb (length (codes "jeq" ++ r)) 0 (λ e. omega arith)) refl; worded = λ r. refl }
-word_again (word.Op op.JNull) = record { found = refl; plain = refl; starts = λ r. rw (ne_eqb (length (codes "jnull" ++ r)) 0 (λ e. omega arith)) refl; worded = λ r. refl }
-word_again (word.Op op.JSent) = record { found = refl; plain = refl; starts = λ r. rw (ne_eqb (length (codes "jsent" ++ r)) 0 (λ e. omega arith)) refl; worded = λ r. refl }
-word_again (word.Op op.Jump) = record { found = refl; plain = refl; starts = λ r. rw (ne_eqb (length (codes "jump" ++ r)) 0 (λ e. omega arith)) refl; worded = λ r. refl }
-word_again (word.Op op.Ret) = record { found = refl; plain = refl; starts = λ r. rw (ne_eqb (length (codes "ret" ++ r)) 0 (λ e. omega arith)) refl; worded = λ r. refl }
+-- no space among these bytes, of which there are some, and the first begins neither a label nor a comment
+abbrev begins_word : List ℕ → Bool
+begins_word [] = false
+begins_word (b ∷ bs) = not (eqb b 35) && not (eqb b 58)
 
-operands_stop : (os : List (List ℕ)) → Stops (operands_text os)
-operands_stop [] = tt
-operands_stop (o ∷ os) = refl
+begun_word : (t : List ℕ) → begins_word t ≡ true → (rest : List ℕ) → (is_skipped (t ++ rest) ≡ false) × (begins 58 (t ++ rest) ≡ false)
+begun_word [] h rest = absurd (cc h)
+begun_word (b ∷ bs) h rest =
+    let x = and_parts (not (eqb b 35)) (not (eqb b 58)) h in
+    (rw (ne_eqb (length (b ∷ (bs ++ rest))) 0 (λ e. omega arith), not-true (eqb b 35) x.0) refl, not-true (eqb b 58) x.1)
+
+as_word : (w : Word) → word_at (word_text w) ≡ Some w → unspaced (word_text w) ≡ true → begins_word (word_text w) ≡ true → IsWord w
+as_word w f p h = record { found = f; plain = p; starts = λ r. (begun_word (word_text w) h r).0; worded = λ r. (begun_word (word_text w) h r).1 }
+
+pub word_again : (w : Word) → IsWord w
+unfolding word_at word_text
+word_again (word.Op op.ClearBuf) = as_word (word.Op op.ClearBuf) refl refl refl
+word_again (word.Op o) = as_word (word.Op o) refl refl refl
+word_again w = as_word w refl refl refl
 
 -- a line with a word is read again
 pub item_again : (d : Draft) (w : Word) (os : List (List ℕ)) (o : Operands) → is_due d.part w ≡ true → operands_at (word_kinds w) (operands_text os) ≡ Ok o → judged d w o ≡ Ok tt → unindented_read d (line_text (word_text w) os) ≡ Ok (line.Item w o)

@@ -5,13 +5,18 @@ use Rattle.std.specs.List.{list_any}
 use Rattle.std.specs.Ordering.{nat_cmp}
 use Rattle.std.specs.BTreeMap.{BTreeMap, get}
 use Rattle.std.specs.BTreeSet.{BTreeSet, contains}
+use Rattle.module_lang.specs.Args.{first_some, made}
 use Rattle.module_lang.specs.Operands.{operand_place}
+pub use Rattle.module_lang.specs.Words.{op_goes_on}
+use Rattle.module_lang.specs.Words.{op_kinds}
+use Rattle.module_lang.specs.declared.arg.Arg.{Arg}
+use Rattle.module_lang.specs.declared.arg.Arg.TheVariants as arg
+use Rattle.module_lang.specs.declared.arg.Args.{Args}
 use Rattle.module_lang.specs.declared.draft.Handler.{Handler}
 use Rattle.module_lang.specs.declared.draft.Label.{Label}
 use Rattle.module_lang.specs.declared.draft.Step.{Step}
 use Rattle.module_lang.specs.declared.handler.LineFault.{LineFault}
 use Rattle.module_lang.specs.declared.instr.Instr.{Instr}
-use Rattle.module_lang.specs.declared.instr.Instr.TheVariants as instr
 use Rattle.module_lang.specs.declared.instr.PoolRef.TheVariants as pool
 use Rattle.module_lang.specs.declared.instr.Status.{Status}
 use Rattle.module_lang.specs.declared.instr.Status.TheVariants as status
@@ -26,8 +31,10 @@ use Rattle.module_lang.specs.declared.refusal.AsmRefusal.{AsmRefusal}
 use Rattle.module_lang.specs.declared.refusal.AsmRefusal.TheVariants.{Fault}
 use Rattle.module_lang.specs.declared.refusal.Code.{Code}
 use Rattle.module_lang.specs.declared.refusal.Code.TheVariants as code
+use Rattle.module_lang.specs.declared.word.Kind.{Kind}
+use Rattle.module_lang.specs.declared.word.Kind.TheVariants as kind
+use Rattle.module_lang.specs.declared.word.Kinds.{Kinds}
 use Rattle.module_lang.specs.declared.word.Op.{Op}
-use Rattle.module_lang.specs.declared.word.Op.TheVariants as op
 
 abbrev pub has_name : List ℕ → Label → Bool
 has_name name l = pointwise nat_eq l.name name
@@ -69,14 +76,10 @@ abbrev pub operand_label : Operand → Option (List ℕ)
 operand_label (operand.Label name) = Some name
 operand_label _ = None
 
-abbrev pub or_else : {X : Type 0} → Option X → Option X → Option X
-or_else None b = b
-or_else (Some x) b = Some x
-
 -- the label that an instruction names
 abbrev pub label_of : Operands → Option (List ℕ)
 label_of o =
-    or_else (or_else (or_else (operand_label o.first) (operand_label o.second)) (operand_label o.third)) (operand_label o.fourth)
+    first_some (operand_label o.first) (operand_label o.second) (operand_label o.third) (operand_label o.fourth)
 
 abbrev pub is_missing : List Label → Option (List ℕ) → Bool
 is_missing labels None = false
@@ -89,12 +92,6 @@ is_lost labels o = is_missing labels (label_of o)
 abbrev pub jump_fault : List Label → List Step → Option LineFault
 jump_fault labels [] = None
 jump_fault labels (s ∷ ss) = if is_lost labels s.operands then fault s.line code.LostLabel else jump_fault labels ss
-
--- the next instruction can follow
-abbrev pub op_goes_on : Op → Bool
-op_goes_on op.Jump = false
-op_goes_on op.Ret = false
-op_goes_on _ = true
 
 abbrev pub last_goes_on : Option Step → Bool
 last_goes_on None = true
@@ -137,30 +134,32 @@ abbrev pub operand_variable : Operand → VarRef
 operand_variable (operand.Brigade b) = variable.Brigade b
 operand_variable o = variable.Pool (operand_index o)
 
+-- an operand of an instruction, of a kind, that is written so: a text has this number, and so has a target
+abbrev pub arg_in : Kind → Operand → ℕ → ℕ → Arg
+arg_in kind.Nothing o x t = arg.Nothing
+arg_in kind.One o x t = arg.Nothing
+arg_in kind.Place o x t = arg.Place (operand_place o)
+arg_in kind.Pool o x t = arg.Pool (operand_index o)
+arg_in kind.Brigade o x t = arg.Brigade (operand_index o)
+arg_in kind.Source o x t = arg.Source (operand_index o)
+arg_in kind.Ending o x t = arg.Ending (operand_status o)
+arg_in kind.Label o x t = arg.Target t
+arg_in kind.Text o x t = arg.Text x
+arg_in kind.Variable o x t = arg.Variable (operand_variable o)
+arg_in kind.Number o x t = arg.Number (operand_index o)
+arg_in kind.Value o x t = arg.Value (operand_value o)
+
+abbrev pub args_in : Kinds → Operands → ℕ → ℕ → Args
+args_in k o x t = record {
+  first = arg_in k.first o.first x t;
+  second = arg_in k.second o.second x t;
+  third = arg_in k.third o.third x t;
+  fourth = arg_in k.fourth o.fourth x t;
+}
+
 -- the instruction that is written so, with the numbers of its text and of its target
 abbrev pub op_instr : Op → Operands → ℕ → ℕ → Instr
-op_instr op.PCreate o x t = instr.PCreate (operand_index o.first)
-op_instr op.PClear o x t = instr.PClear (operand_index o.first)
-op_instr op.PDestroy o x t = instr.PDestroy (operand_index o.first)
-op_instr op.Label o x t = instr.Label (operand_place o.first) x
-op_instr op.Unlabel o x t = instr.Unlabel (operand_place o.first) x
-op_instr op.BCreate o x t = instr.BCreate (operand_index o.first)
-op_instr op.BClean o x t = instr.BClean (operand_index o.first)
-op_instr op.BConcat o x t = instr.BConcat (operand_index o.first) (operand_index o.second)
-op_instr op.BSave o x t = instr.BSave (operand_index o.first) (operand_index o.second)
-op_instr op.Pass o x t = instr.Pass (operand_index o.first) t
-op_instr op.JEmpty o x t = instr.JEmpty (operand_index o.first) t
-op_instr op.Put o x t = instr.Put (operand_value o.first) t
-op_instr op.ClearBuf o x t = instr.ClearBuf
-op_instr op.Set o x t = instr.Set (operand_index o.first) (operand_value o.second)
-op_instr op.Add o x t = instr.Add (operand_index o.first) (operand_value o.second)
-op_instr op.Sub o x t = instr.Sub (operand_index o.first) (operand_value o.second)
-op_instr op.JLt o x t = instr.JLt (operand_index o.first) (operand_value o.second) t
-op_instr op.JEq o x t = instr.JEq (operand_index o.first) (operand_value o.second) t
-op_instr op.JNull o x t = instr.JNull (operand_variable o.first) t
-op_instr op.JSent o x t = instr.JSent t
-op_instr op.Jump o x t = instr.Jump t
-op_instr op.Ret o x t = instr.Ret (operand_status o.first)
+op_instr i o x t = made i (args_in (op_kinds i) o x t)
 
 abbrev pub instr_of : Step → ℕ → Instr
 instr_of s t = op_instr s.op s.operands s.text t

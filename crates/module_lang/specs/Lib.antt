@@ -1,3 +1,4 @@
+pub mod Args
 pub mod Assembling
 pub mod Bytes
 pub mod Codes
@@ -5,6 +6,7 @@ pub mod Drafts
 pub mod Entries
 pub mod FirstFault
 pub mod Handlers
+pub mod LineReading
 pub mod Lines
 pub mod Names
 pub mod Numbers

@@ -1,11 +1,15 @@
 -- Module texts as they are written: the grammar.
 use Rattle.std.specs.Prelude.{◌≡◌, ◌≢◌, ℕ, ◌+◌, ◌*◌, ◌<◌, ◌≤◌, Bool, true, ◌&&◌, ◌||◌, not, nat_lt, ◌==◌, if◌then◌else◌, List, [], ◌∷◌, ◌++◌, length, map, codes, decimal, All, IfSome, ◌⊎◌}
+use Rattle.module_lang.specs.Args.{args, op_of}
 use Rattle.module_lang.specs.Bytes.{all_printable, begins, is_printable, unindented}
 use Rattle.module_lang.specs.Names.{is_name}
 use Rattle.module_lang.specs.Program.{IsModule, Program, target, text_at, text_of_instr}
 use Rattle.module_lang.specs.Quoted.{hex_digit}
+use Rattle.module_lang.specs.Words.{op_text}
+use Rattle.module_lang.specs.declared.arg.Arg.{Arg}
+use Rattle.module_lang.specs.declared.arg.Arg.TheVariants as arg
+use Rattle.module_lang.specs.declared.arg.Args.{Args}
 use Rattle.module_lang.specs.declared.instr.Instr.{Instr}
-use Rattle.module_lang.specs.declared.instr.Instr.TheVariants as instr
 use Rattle.module_lang.specs.declared.instr.PoolRef.{PoolRef}
 use Rattle.module_lang.specs.declared.instr.PoolRef.TheVariants as pool
 use Rattle.module_lang.specs.declared.instr.Value.{Value}
@@ -103,55 +107,31 @@ pub record StandsIn (text bytes : List ℕ) : Type 0 where
   pub right : Spells spelled text
   pub whole : bytes ≡ spelled ++ rest
 
+-- an operand, where a target has this name and a text is spelled so
+abbrev pub arg_texts : Arg → List ℕ → List ℕ → List (List ℕ)
+arg_texts arg.Nothing n s = []
+arg_texts (arg.Place p) n s = place_text p ∷ []
+arg_texts (arg.Pool q) n s = place_text (pool.Own q) ∷ []
+arg_texts (arg.Brigade b) n s = own_text b ∷ []
+arg_texts (arg.Source b) n s = brigade_text b ∷ []
+arg_texts (arg.Ending e) n s = status_text e ∷ []
+arg_texts (arg.Target t) n s = n ∷ []
+arg_texts (arg.Text t) n s = s ∷ []
+arg_texts (arg.Variable v) n s = variable_text v ∷ []
+arg_texts (arg.Number m) n s = number_text m ∷ []
+arg_texts (arg.Value x) n s = value_text x ∷ []
+
+-- operands, where a target has this name and a text is spelled so
+abbrev pub args_texts : Args → List ℕ → List ℕ → List (List ℕ)
+args_texts a n s = arg_texts a.first n s ++ (arg_texts a.second n s ++ (arg_texts a.third n s ++ arg_texts a.fourth n s))
+
 -- the operands of an instruction, where its target has this name and its text is spelled so
 abbrev pub operand_texts : Instr → List ℕ → List ℕ → List (List ℕ)
-operand_texts (instr.PCreate q) n s = place_text (pool.Own q) ∷ []
-operand_texts (instr.PClear q) n s = place_text (pool.Own q) ∷ []
-operand_texts (instr.PDestroy q) n s = place_text (pool.Own q) ∷ []
-operand_texts (instr.Label q t) n s = place_text q ∷ s ∷ []
-operand_texts (instr.Unlabel q t) n s = place_text q ∷ s ∷ []
-operand_texts (instr.BCreate o) n s = own_text o ∷ []
-operand_texts (instr.BClean b) n s = brigade_text b ∷ []
-operand_texts (instr.BConcat a b) n s = brigade_text a ∷ brigade_text b ∷ []
-operand_texts (instr.BSave o b) n s = own_text o ∷ brigade_text b ∷ []
-operand_texts (instr.Pass b l) n s = brigade_text b ∷ n ∷ []
-operand_texts (instr.JEmpty b l) n s = brigade_text b ∷ n ∷ []
-operand_texts (instr.Put x l) n s = value_text x ∷ n ∷ []
-operand_texts instr.ClearBuf n s = []
-operand_texts (instr.Set m x) n s = number_text m ∷ value_text x ∷ []
-operand_texts (instr.Add m x) n s = number_text m ∷ value_text x ∷ []
-operand_texts (instr.Sub m x) n s = number_text m ∷ value_text x ∷ []
-operand_texts (instr.JLt m x l) n s = number_text m ∷ value_text x ∷ n ∷ []
-operand_texts (instr.JEq m x l) n s = number_text m ∷ value_text x ∷ n ∷ []
-operand_texts (instr.JNull v l) n s = variable_text v ∷ n ∷ []
-operand_texts (instr.JSent l) n s = n ∷ []
-operand_texts (instr.Jump l) n s = n ∷ []
-operand_texts (instr.Ret e) n s = status_text e ∷ []
+operand_texts i n s = args_texts (args i) n s
 
 -- the word of an instruction
 abbrev pub instr_word : Instr → List ℕ
-instr_word (instr.PCreate q) = codes "pcreate"
-instr_word (instr.PClear q) = codes "pclear"
-instr_word (instr.PDestroy q) = codes "pdestroy"
-instr_word (instr.Label q t) = codes "label"
-instr_word (instr.Unlabel q t) = codes "unlabel"
-instr_word (instr.BCreate o) = codes "bcreate"
-instr_word (instr.BClean b) = codes "bclean"
-instr_word (instr.BConcat a b) = codes "bconcat"
-instr_word (instr.BSave o b) = codes "bsave"
-instr_word (instr.Pass b l) = codes "pass"
-instr_word (instr.JEmpty b l) = codes "jempty"
-instr_word (instr.Put x l) = codes "put"
-instr_word instr.ClearBuf = codes "clearbuf"
-instr_word (instr.Set m x) = codes "set"
-instr_word (instr.Add m x) = codes "add"
-instr_word (instr.Sub m x) = codes "sub"
-instr_word (instr.JLt m x l) = codes "jlt"
-instr_word (instr.JEq m x l) = codes "jeq"
-instr_word (instr.JNull v l) = codes "jnull"
-instr_word (instr.JSent l) = codes "jsent"
-instr_word (instr.Jump l) = codes "jump"
-instr_word (instr.Ret s) = codes "ret"
+instr_word i = op_text (op_of i)
 
 -- a line of code: a label, or an instruction, the name of its target, and its text as it is spelled
 pub data CodeLine : Type 0 where

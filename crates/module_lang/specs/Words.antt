@@ -1,5 +1,5 @@
 -- The words of module texts.
-use Rattle.std.specs.Prelude.{ℕ, List, [], ◌∷◌, Option, find, codes}
+use Rattle.std.specs.Prelude.{Bool, true, false, ℕ, List, [], ◌∷◌, Option, find, codes}
 use Rattle.std.specs.Cmp.Lexicographic.{pointwise}
 use Rattle.std.specs.Prelude.{nat_eq}
 use Rattle.module_lang.specs.declared.word.Op.{Op}
@@ -23,7 +23,7 @@ abbrev pub no_operand : Kinds
 no_operand = one_operand kind.Nothing
 
 -- how the word of an instruction is written
-unfoldable pub op_text : Op → List ℕ
+abbrev pub op_text : Op → List ℕ
 op_text op.PCreate = codes "pcreate"
 op_text op.PClear = codes "pclear"
 op_text op.PDestroy = codes "pdestroy"
@@ -48,7 +48,7 @@ op_text op.Jump = codes "jump"
 op_text op.Ret = codes "ret"
 
 -- its operands
-unfoldable pub op_kinds : Op → Kinds
+abbrev pub op_kinds : Op → Kinds
 op_kinds op.PCreate = one_operand kind.Pool
 op_kinds op.PClear = one_operand kind.Pool
 op_kinds op.PDestroy = one_operand kind.Pool
@@ -71,6 +71,12 @@ op_kinds op.JNull = two_operands kind.Variable kind.Label
 op_kinds op.JSent = one_operand kind.Label
 op_kinds op.Jump = one_operand kind.Label
 op_kinds op.Ret = one_operand kind.Ending
+
+-- the next instruction can follow
+abbrev pub op_goes_on : Op → Bool
+op_goes_on op.Jump = false
+op_goes_on op.Ret = false
+op_goes_on _ = true
 
 -- how a first word is written
 unfoldable pub word_text : Word → List ℕ

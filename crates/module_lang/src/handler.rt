@@ -6,15 +6,17 @@ ghost use Rattle.std.specs.Cmp.Lexicographic.{slice_cmp};
 ghost use Rattle.std.specs.Ordering.{nat_cmp};
 ghost use Rattle.module_lang.specs.declared.draft.Label.{Label};
 ghost use Rattle.module_lang.specs.Codes.{Tells};
-ghost use Rattle.module_lang.specs.Handlers.{IsPlaces, IsSeen, label_fault, operand_label, label_of, is_lost, jump_fault, op_goes_on, ends_open, sooner, place_of, handler_fault, operand_index, operand_status, operand_variable, operand_value, instr_of, target_place, step_code, handler_resolved, HasPlacesBelow};
+ghost use Rattle.module_lang.specs.Handlers.{IsPlaces, IsSeen, label_fault, operand_label, label_of, is_lost, jump_fault, ends_open, sooner, place_of, handler_fault, operand_index, operand_status, operand_variable, operand_value, arg_in, args_in, instr_of, target_place, step_code, handler_resolved, HasPlacesBelow};
 
+use crate::arg::{Arg, Args};
 use crate::draft::{Handler, Label, Step};
 use crate::instr::{Instr, PoolRef, Status, Value, VarRef};
 use crate::name::Name;
 use crate::operand::{Operand, Operands, operand_place};
+use crate::parts::made;
 use crate::refusal::{AsmRefusal, Code};
 use crate::seq::Seq;
-use crate::word::Op;
+use crate::word::{Kind, Kinds};
 use std::alloc::{AllocError, Global};
 use std::collections::{BTreeMap, BTreeSet};
 
@@ -116,18 +118,12 @@ fn jump_fault(places: &BTreeMap<Name, usize>, steps: &[Step]) -> Option<LineFaul
     None
 }
 
-fn goes_on(op: Op) -> bool
-    ensures { result ≡ op_goes_on op }
-{
-    !matches!(op, Op::Jump | Op::Ret)
-}
-
 /// Whether a handler is empty, or its last instruction is neither `jump` nor `ret`.
 fn ends_open(steps: &[Step]) -> bool
     ensures { result ≡ ends_open steps.now }
 {
     match steps.last() {
-        Some(step) => goes_on(step.op),
+        Some(step) => step.op.goes_on(),
         None => true,
     }
 }
@@ -207,36 +203,42 @@ fn operand_status(operand: Operand) -> Status
     }
 }
 
+/// An operand of an instruction, of a kind, that is written so: a text has this number, and so has a target.
+fn arg_in(kind: Kind, operand: Operand, text: u8, target: u16) -> Arg
+    ensures { result ≡ arg_in kind operand text target }
+{
+    match kind {
+        Kind::Nothing | Kind::One => Arg::Nothing,
+        Kind::Place => Arg::Place(operand_place(operand)),
+        Kind::Pool => Arg::Pool(operand_index(operand)),
+        Kind::Brigade => Arg::Brigade(operand_index(operand)),
+        Kind::Source => Arg::Source(operand_index(operand)),
+        Kind::Ending => Arg::Ending(operand_status(operand)),
+        Kind::Label => Arg::Target(target),
+        Kind::Text => Arg::Text(text),
+        Kind::Variable => Arg::Variable(operand_variable(operand)),
+        Kind::Number => Arg::Number(operand_index(operand)),
+        Kind::Value => Arg::Value(operand_value(operand)),
+    }
+}
+
+fn args_in(kinds: Kinds, operands: Operands, text: u8, target: u16) -> Args
+    ensures { result ≡ args_in kinds operands text target }
+{
+    Args {
+        first: arg_in(kinds.first, operands.first, text, target),
+        second: arg_in(kinds.second, operands.second, text, target),
+        third: arg_in(kinds.third, operands.third, text, target),
+        fourth: arg_in(kinds.fourth, operands.fourth, text, target),
+    }
+}
+
 /// The instruction that is written so, with the number of its target.
 fn instr_of(step: &Step, target: u16) -> Instr
     ensures { result ≡ instr_of step.now target }
 {
-    let first = step.operands.first;
-    let second = step.operands.second;
-    match step.op {
-        Op::PCreate => Instr::PCreate(operand_index(first)),
-        Op::PClear => Instr::PClear(operand_index(first)),
-        Op::PDestroy => Instr::PDestroy(operand_index(first)),
-        Op::Label => Instr::Label(operand_place(first), step.text),
-        Op::Unlabel => Instr::Unlabel(operand_place(first), step.text),
-        Op::BCreate => Instr::BCreate(operand_index(first)),
-        Op::BClean => Instr::BClean(operand_index(first)),
-        Op::BConcat => Instr::BConcat(operand_index(first), operand_index(second)),
-        Op::BSave => Instr::BSave(operand_index(first), operand_index(second)),
-        Op::Pass => Instr::Pass(operand_index(first), target),
-        Op::JEmpty => Instr::JEmpty(operand_index(first), target),
-        Op::Put => Instr::Put(operand_value(first), target),
-        Op::ClearBuf => Instr::ClearBuf,
-        Op::Set => Instr::Set(operand_index(first), operand_value(second)),
-        Op::Add => Instr::Add(operand_index(first), operand_value(second)),
-        Op::Sub => Instr::Sub(operand_index(first), operand_value(second)),
-        Op::JLt => Instr::JLt(operand_index(first), operand_value(second), target),
-        Op::JEq => Instr::JEq(operand_index(first), operand_value(second), target),
-        Op::JNull => Instr::JNull(operand_variable(first), target),
-        Op::JSent => Instr::JSent(target),
-        Op::Jump => Instr::Jump(target),
-        Op::Ret => Instr::Ret(operand_status(first)),
-    }
+    let args = args_in(step.op.kinds(), step.operands, step.text, target);
+    made(step.op, args)
 }
 
 /// The place of the label that an instruction names, where it names none, 0.

@@ -1,23 +1,24 @@
 //! The module language: module texts, the modules that they spell, and their instructions.
 #![tactic(auto)]
 
+mod arg;
 mod assembler;
 mod bytes;
 mod draft;
 mod entry;
 mod handler;
 mod instr;
+mod line_reader;
 mod lines;
 mod module;
 mod name;
 mod number;
 mod operand;
+mod parts;
 mod print;
 mod quoted;
 mod refusal;
 mod seq;
-#[cfg(test)]
-mod tests;
 pub mod text;
 mod text_line;
 mod word;

@@ -1,7 +1,7 @@
 //! The words of module texts, and what operands follow each.
 
 ghost use Rattle.std.specs.Prelude.{◌≡◌};
-ghost use Rattle.module_lang.specs.Words.{op_text, op_kinds, word_text, word_kinds, word_at, no_operand, one_operand, two_operands, three_operands};
+ghost use Rattle.module_lang.specs.Words.{op_goes_on, op_text, op_kinds, word_text, word_kinds, word_at, no_operand, one_operand, two_operands, three_operands};
 
 /// What an operand may be.
 #[derive(Clone, Copy)]
@@ -106,7 +106,6 @@ pub enum Op {
 
 impl Op {
     /// How the word is written.
-    #[tactic(auto, unfolding(crate::specs::Words::op_text))]
     pub fn text(self) -> &'static [u8]
         ensures { result.now ≡ op_text self }
     {
@@ -136,8 +135,14 @@ impl Op {
         }
     }
 
+    /// Whether the next instruction can follow.
+    pub fn goes_on(self) -> bool
+        ensures { result ≡ op_goes_on self }
+    {
+        !matches!(self, Op::Jump | Op::Ret)
+    }
+
     /// The operands that follow.
-    #[tactic(auto, unfolding(crate::specs::Words::op_kinds))]
     pub fn kinds(self) -> Kinds
         ensures { result ≡ op_kinds self }
     {

@@ -4,9 +4,11 @@ ghost use Rattle.std.specs.Prelude.{◌≡◌};
 ghost use Rattle.module_lang.specs.Writes.{Wrote};
 
 use std::io::Write;
+use thiserror::Error;
 
 /// The writer failed: it answered a fault, an interrupted write included, or took no byte.
-#[derive(Clone, Copy)]
+#[derive(Clone, Copy, Debug, Error)]
+#[error("cannot write")]
 pub struct WriteFault;
 
 /// Writes all of a text. Where that fails, a front of it is written.

@@ -3,7 +3,7 @@ use Rattle.std.specs.Prelude.{◌≡◌, ℕ, Bool, true, false, ◌==◌, ◌&&
 use Rattle.std.proofs.Common.{sym, ◌∙◌, ap, subst, inl, inr, arith}
 use Rattle.std.proofs.lemmas.Bool.{eq-eqb, ne_eqb, cases_Bool, both_ways, cases_eq, false_from_ne_true, and_parts, not-true, eqb-false}
 use Rattle.run_model.specs.Pools.{is_live, is_under, is_in, cleared}
-use Rattle.run_model.specs.RunOrderLaws.{under_itself, under_above}
+use Rattle.run_model.proofs.RunOrderLaws.{under_itself, under_above}
 use Rattle.pool_tree.specs.declared.records.Pool.{Pool}
 use Rattle.pool_tree.specs.Records.{names, parent_of, newest_of, older_of, younger_of}
 use Rattle.pool_tree.specs.Links.{newest_below, map_at, IsLinked, IsCleared}

@@ -5,7 +5,7 @@ use Rattle.std.proofs.Common.{sym, ◌∙◌, ap, subst, inl, inr, arith}
 use Rattle.std.proofs.lemmas.Bool.{cases_Bool, cases_eq, eq-eqb, ne_eqb, eqb-true, or_left, or_right}
 use Rattle.run_model.specs.Pools.{Pools, is_live, is_under, is_in, is_empty, cleared, destroyed}
 use Rattle.run_model.specs.RunOrder.{leads_to, is_child, children_below, IsPoolMap}
-use Rattle.run_model.specs.RunOrderLaws.{under_itself, child_path}
+use Rattle.run_model.proofs.RunOrderLaws.{under_itself, child_path}
 use Rattle.pool_tree.proofs.Paths.{pools_same}
 use Rattle.pool_tree.specs.declared.records.Pool.{Pool}
 use Rattle.pool_tree.specs.Links.{IsCleared}

@@ -7,7 +7,7 @@ use Rattle.std.proofs.lemmas.List.Concat.{flat_map-append}
 use Rattle.std.proofs.lemmas.Bool.{cases_Bool}
 use Rattle.run_model.specs.Pools.{Pools, is_live}
 use Rattle.run_model.specs.RunOrder.{is_child, children_below, children, IsPoolMap}
-use Rattle.run_model.specs.RunOrderLaws.{child_above, child_live}
+use Rattle.run_model.proofs.RunOrderLaws.{child_above, child_live}
 use Rattle.pool_tree.specs.declared.tree.PoolTree.{PoolTree}
 use Rattle.pool_tree.specs.Records.{record_of, parent_of, newest_of, older_of, younger_of}
 use Rattle.pool_tree.specs.Printed.{line, printed_within, printed}

@@ -6,8 +6,8 @@ use Rattle.std.proofs.lemmas.List.{append-nil, reverse-append, length-append, le
 use Rattle.std.proofs.lemmas.List.Concat.{flat_map-append}
 use Rattle.std.proofs.lemmas.Bool.{cases_Bool, eq-eqb}
 use Rattle.run_model.specs.Pools.{is_live, is_under, is_in, is_empty}
-use Rattle.run_model.specs.RunOrder.{own_run, run_order}
-use Rattle.run_model.specs.RunOrderLaws.{order_under, order_under_once, once_if, run_order_step}
+use Rattle.run_model.specs.RunOrder.{own_run, run_order, order_under}
+use Rattle.run_model.proofs.RunOrderLaws.{order_under_once, once_if, run_order_step}
 use Rattle.pool_tree.specs.declared.records.Pool.{Pool}
 use Rattle.pool_tree.specs.declared.tree.PoolTree.{PoolTree}
 use Rattle.pool_tree.specs.Records.{record_of, payloads_of}

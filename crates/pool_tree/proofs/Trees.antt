@@ -5,7 +5,7 @@ use Rattle.std.proofs.Common.{sym, ◌∙◌, ap, subst, inl, inr, arith}
 use Rattle.std.proofs.lemmas.Bool.{eq-eqb, ne_eqb, cases_eq, false_from_ne_true}
 use Rattle.run_model.specs.Pools.{is_live, is_under, is_in}
 use Rattle.run_model.specs.RunOrder.{IsPoolMap}
-use Rattle.run_model.specs.RunOrderLaws.{under_itself, under_above}
+use Rattle.run_model.proofs.RunOrderLaws.{under_itself, under_above}
 use Rattle.pool_tree.specs.declared.records.Pool.{Pool}
 use Rattle.pool_tree.specs.declared.tree.PoolTree.{PoolTree}
 use Rattle.pool_tree.specs.Records.{record_of, parent_of, newest_of, payloads_of}

@@ -8,8 +8,8 @@ use Rattle.std.proofs.lemmas.List.Concat.{flat_map-append}
 use Rattle.std.proofs.lemmas.List.Folds.{list_any-append}
 use Rattle.std.proofs.lemmas.Bool.{or_cases, or_left, or_right, eq-eqb}
 use Rattle.run_model.specs.Pools.{is_live, is_in}
-use Rattle.run_model.specs.RunOrder.{children_below, children}
-use Rattle.run_model.specs.RunOrderLaws.{order, order_under, order_step, children_child, child_live}
+use Rattle.run_model.specs.RunOrder.{children_below, children, order, order_under}
+use Rattle.run_model.proofs.RunOrderLaws.{order_step, children_child, child_live}
 use Rattle.pool_tree.specs.declared.tree.PoolTree.{PoolTree}
 use Rattle.pool_tree.specs.Records.{record_of, parent_of, newest_of, older_of}
 use Rattle.pool_tree.specs.Tree.{map_of}

@@ -1,8 +1,7 @@
 -- Memory that was made ready for a clear.
 use Rattle.std.specs.Prelude.{◌≡◌, ℕ, ◌≤◌, [], length, reverse, vec_capacity}
 use Rattle.run_model.specs.Pools.{Pools}
-use Rattle.run_model.specs.RunOrder.{run_order}
-use Rattle.run_model.specs.RunOrderLaws.{order_under}
+use Rattle.run_model.specs.RunOrder.{run_order, order_under}
 use Rattle.pool_tree.specs.declared.tree.clear.Room.{Room}
 
 -- The pools under this one stand in it, and there is room for all that they and it hand on.

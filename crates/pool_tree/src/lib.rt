@@ -11,9 +11,6 @@ mod text;
 mod tree;
 
 pub use module_lang::WriteFault;
-pub use refusal::PoolRefusal;
+pub use refusal::PoolError;
 pub use text::PoolText;
 pub use tree::{PoolId, PoolTree, Room};
-
-#[cfg(test)]
-mod tests;

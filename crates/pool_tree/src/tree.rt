@@ -13,7 +13,7 @@ mod walk;
 use crate::links::add_child;
 use crate::payloads::{push, take_at, take_newest_equal};
 use crate::records::{Pool, Records};
-use crate::refusal::PoolRefusal;
+use crate::refusal::PoolError;
 pub use clear::Room;
 use std::alloc::{AllocError, Global};
 
@@ -38,13 +38,13 @@ impl<T: Drop> PoolTree<T> {
     ghost use Rattle.pool_tree.specs.Tree.{map_of};
 
     /// A tree of the root pool `first`, which must not be `u64::MAX`: `NamesSpent`. `NoMemory`: there is none for the root.
-    pub fn new(alloc: Global, first: PoolId) -> Result<Self, PoolRefusal>
+    pub fn new(alloc: Global, first: PoolId) -> Result<Self, PoolError>
         ensures ok { IfOk result (λ tree. map_of tree ≡ planted first) }
         ensures formed { IfOk result (λ tree. IsPoolMap (map_of tree)) }
-        ensures spent { IsErrOf result PoolRefusal.NamesSpent ↔ (first ≡ u64.MAX) }
+        ensures spent { IsErrOf result PoolError.NamesSpent ↔ (first ≡ u64.MAX) }
     {
         if first == u64::MAX {
-            return Err(PoolRefusal::NamesSpent);
+            return Err(PoolError::NamesSpent);
         }
         let mut records = Records::new(alloc);
         let pool = Pool {
@@ -74,17 +74,17 @@ impl<T: Drop> PoolTree<T> {
 
     /// Makes a pool under another. Its name is the next, which must not be `u64::MAX`: `NamesSpent`.
     /// Refused, nothing is changed.
-    pub fn create(&mut self, parent: PoolId) -> Result<PoolId, PoolRefusal>
+    pub fn create(&mut self, parent: PoolId) -> Result<PoolId, PoolError>
         requires { IsTrue (is_live (map_of self.old) parent) }
         ensures ok { OnOk result (map_of self.new ≡ created parent (map_of self.old)) }
         ensures name { IfOk result (λ name. name ≡ (map_of self.old).next) }
         ensures formed { IsPoolMap (map_of self.new) }
-        ensures spent { IsErrOf result PoolRefusal.NamesSpent ↔ ((map_of self.old).next ≡ u64.MAX) }
+        ensures spent { IsErrOf result PoolError.NamesSpent ↔ ((map_of self.old).next ≡ u64.MAX) }
         ensures err { OnErr result (map_of self.new ≡ map_of self.old) }
     {
         let name = self.next;
         if name == u64::MAX {
-            return Err(PoolRefusal::NamesSpent);
+            return Err(PoolError::NamesSpent);
         }
         add_child(&mut self.records, self.alloc, name, parent)?;
         self.next = name + 1;

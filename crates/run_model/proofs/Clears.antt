@@ -12,7 +12,7 @@ use Rattle.run_model.specs.declared.bucket.BrigadeVar.{BrigadeVar}
 use Rattle.run_model.specs.declared.bucket.BrigadeVar.TheVariants as var
 use Rattle.run_model.specs.declared.payload.Payload.{Payload}
 use Rattle.run_model.specs.Pools.{Pools, is_empty, is_live, is_under, cleared, destroyed}
-use Rattle.run_model.specs.RunOrderLaws.{under_itself}
+use Rattle.run_model.proofs.RunOrderLaws.{under_itself}
 use Rattle.run_model.specs.Buckets.{end_pools, to_heap, cleared_bucket}
 use Rattle.run_model.specs.Clearing.{is_reached, cleared_var, run_down}
 use Rattle.run_model.specs.State.{Configuration, with_pools, items_of}

@@ -3,7 +3,7 @@ use Rattle.std.proofs.Common.{◌≡◌, ◌≢◌, ℕ, ◌+◌, ◌<◌, ◌�
 use Rattle.run_model.specs.Indexed.{upd}
 use Rattle.run_model.specs.Pools.{Pools, is_empty, is_in, is_live, is_under, planted, created, registered, cleared, destroyed}
 use Rattle.run_model.specs.RunOrder.{IsPoolMap, without_last, killed}
-use Rattle.run_model.specs.RunOrderLaws.{under_above}
+use Rattle.run_model.proofs.RunOrderLaws.{under_above}
 use Rattle.run_model.proofs.Updates.{upd_at, upd_off, upd_either}
 use Rattle.run_model.proofs.PoolMap.{live_path, created_next, created_kept, cleared_path, cleared_apart, cleared_next, destroyed_path, destroyed_apart, destroyed_next, not_under}
 

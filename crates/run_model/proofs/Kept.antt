@@ -1,5 +1,5 @@
 -- Buckets that are set aside, read, and let go with their files.
-use Rattle.std.proofs.Common.{◌≡◌, ℕ, zero, suc, ◌+◌, ◌-◌, ◌*◌, ◌/◌, ◌<◌, ◌≤◌, Bool, true, false, ◌&&◌, ◌||◌, not, cond, List, [], ◌∷◌, ◌++◌, append-nil, length, take, drop, ◌⊎◌, inl, inr, Option, Some, None, nat_le, min, ◌==◌, eqb-true, subst, refl, sym, ◌∙◌, ap, arith}
+use Rattle.std.proofs.Common.{◌≡◌, ℕ, zero, suc, ◌+◌, ◌-◌, ◌*◌, ◌/◌, ◌<◌, ◌≤◌, Bool, true, false, ◌&&◌, not, cond, List, [], ◌∷◌, ◌++◌, append-nil, length, take, drop, ◌⊎◌, inl, inr, Option, Some, None, nat_le, min, ◌==◌, eqb-true, subst, refl, sym, ◌∙◌, ap, arith}
 use Rattle.std.proofs.Math.Seq.{take-add}
 use Rattle.std.proofs.lemmas.List.{drop-drop, drop-take, length-drop, length-take, take-append-drop, take_all}
 use Rattle.std.proofs.lemmas.Bool.{cases_lt, or_cases}
@@ -21,28 +21,24 @@ use Rattle.run_model.specs.Files.{Files, is_referred, fails_now, after_read, par
 use Rattle.run_model.specs.Clearing.{run_down}
 use Rattle.run_model.specs.State.{Configuration, with_pools}
 use Rattle.run_model.specs.Steps.{is_above, files_let_go}
-use Rattle.run_model.specs.Sound.{is_free, is_pool, is_range, home_fits, content_fits, is_proper}
-use Rattle.run_model.specs.Laws.{MatchHome, KeptAside, AsideLasts, ReadsGiveTheFile, bytes_in, bytes_of_rest, ReadsDropNothing, hands_on, FilesGo, FilesCloseLast}
+use Rattle.run_model.specs.Cutting.{IsFree, IsOfPool, LivesAs}
+use Rattle.run_model.specs.Laws.{MatchHome, KeptAside, AsideLasts, ReadsGiveTheFile, bytes_in, is_range, bytes_of_rest, ReadsDropNothing, hands_on, FilesGo, FilesCloseLast}
 use Rattle.run_model.proofs.Formed.{path_live}
 
 -- Setting aside.
 
 -- what depends on nothing lasts
-free_lasts : (C P : ℕ → Type 0) (h : Home) → is_free h ≡ true → MatchHome h C P
+free_lasts : (C P : ℕ → Type 0) (h : Home) → IsFree h → MatchHome h C P
 free_lasts C P home.Free e = tt
-free_lasts C P (home.Call n) e = absurd (cc)
-free_lasts C P (home.Pool n) e = absurd (cc)
-free_lasts C P home.Ended e = absurd (cc)
-
-pub first : (x y : Bool) → (x && y) ≡ true → x ≡ true
-first true y h = refl
-first false y h = absurd (cc)
+free_lasts C P (home.Call n) e = absurd e
+free_lasts C P (home.Pool n) e = absurd e
+free_lasts C P home.Ended e = absurd e
 
 -- a FILE bucket that stays as it is has its home at the target or above it
-above_lasts : (ps : Pools Payload) (target : ℕ) (h : Home) → is_ended h ≡ false → (is_pool h || is_ended h) ≡ true → is_above ps target h ≡ true
+above_lasts : (ps : Pools Payload) (target : ℕ) (h : Home) → is_ended h ≡ false → IsOfPool h → is_above ps target h ≡ true
     → MatchHome h (λ call. ⊥) (λ p. (p ≡ target) ⊎ (is_under ps p target ≡ true))
 above_lasts ps target home.Free live fit above = tt
-above_lasts ps target (home.Call n) live fit above = absurd (cc)
+above_lasts ps target (home.Call n) live fit above = absurd fit
 above_lasts ps target (home.Pool n) live fit above = inr above
 above_lasts ps target home.Ended live fit above = tt
 
@@ -75,7 +71,7 @@ kept_as ps target old new lasts alive name content =
     record { lasts = lasts; alive = alive; there = λ formed live. home_lives ps target formed live new.bucket.home lasts; name = name; content = content }
 
 aside_parts : (ps : Pools Payload) (target name : ℕ) (k : Kind) (c : Content) (h : Home) (above : Bool) → is_above ps target h ≡ above
-    → home_fits k h ≡ true → is_ended h ≡ false
+    → LivesAs k h → is_ended h ≡ false
     → KeptAside ps target (record { name = name; bucket = record { kind = k; content = c; home = h } }) (record { name = name; bucket = set_aside target above (record { kind = k; content = c; home = h }) })
 aside_parts ps target name kind.Heap c h above is fit live = kept_as ps target _ _ (free_lasts _ _ h fit) live refl refl
 aside_parts ps target name kind.Transient c h above is fit live = kept_as ps target _ _ tt refl refl refl
@@ -87,9 +83,8 @@ aside_parts ps target name kind.Flush c h above is fit live = kept_as ps target 
 aside_parts ps target name kind.Eos c h above is fit live = kept_as ps target _ _ (free_lasts _ _ h fit) live refl refl
 
 pub aside_lasts : AsideLasts
-unfolding is_proper
 aside_lasts ps target x proper live =
-    aside_parts ps target x.name x.bucket.kind x.bucket.content x.bucket.home (is_above ps target x.bucket.home) refl (first (home_fits x.bucket.kind x.bucket.home) (content_fits x.bucket.kind x.bucket.content) proper) live
+    aside_parts ps target x.name x.bucket.kind x.bucket.content x.bucket.home (is_above ps target x.bucket.home) refl proper.lives live
 
 -- Files that close.
 

@@ -1,4 +1,5 @@
 pub mod Updates
+pub mod RunOrderLaws
 pub mod Examples
 pub mod Sums
 pub mod Operands
@@ -13,10 +14,12 @@ pub mod StepPools
 pub mod Events
 pub mod Runs
 pub mod EventAnswers
+pub mod EventsKeep
 pub mod Brought
 pub mod SoundRuns
 pub mod Unchanged
 pub mod Refusals
+pub mod RefusalOrder
 pub mod Orderly
 pub mod Cuts
 pub mod Filled

@@ -1,8 +1,7 @@
 -- Steps and events keep the home and the content of each bucket as its kind has them.
-use Rattle.std.proofs.Common.{◌≡◌, ℕ, ◌+◌, Bool, true, false, ◌&&◌, ◌||◌, ◌==◌, cond, List, [], ◌∷◌, ◌++◌, map, refl, sym, subst, All}
+use Rattle.std.proofs.Common.{◌≡◌, ◌≢◌, ℕ, ◌+◌, Bool, true, false, ◌==◌, cond, List, [], ◌∷◌, ◌++◌, map, refl, sym, subst, All}
 use Rattle.std.proofs.lemmas.List.Elements.{All-nil, All-cons, All-append, All-map}
 use Rattle.module_lang.specs.declared.instr.PoolRef.TheVariants as pool
-use Rattle.module_lang.specs.declared.instr.Value.{Value}
 use Rattle.module_lang.specs.declared.instr.Instr.TheVariants as instr
 use Rattle.module_lang.specs.Program.{Program}
 use Rattle.run_model.specs.declared.bucket.Kind.{Kind}
@@ -17,143 +16,85 @@ use Rattle.run_model.specs.declared.bucket.BrigadeVar.TheVariants as var
 use Rattle.run_model.specs.declared.event.Piece.{Piece}
 use Rattle.run_model.specs.declared.event.Piece.TheVariants as piece
 use Rattle.run_model.specs.Indexed.{upd}
-use Rattle.run_model.specs.Buckets.{is_ended, end_call, end_pools, to_heap, returned_bucket, cleared_bucket}
+use Rattle.run_model.specs.Buckets.{end_call, end_pools, to_heap, returned_bucket, cleared_bucket}
 use Rattle.run_model.specs.declared.payload.Payload.{Payload}
 use Rattle.run_model.specs.Cutting.{set_aside}
 use Rattle.run_model.specs.Pools.{Pools, is_under, created}
 use Rattle.run_model.specs.State.{Call, Configuration, items_of, set_pool, with_pools, set_brigade, set_number, pool_named}
-use Rattle.run_model.specs.Steps.{do_create, do_clean, do_concat, do_pass, do_return, cleaned, with_items, handed_over, returned_var, do_pcreate, pool_cleared, pool_destroyed, label_registered, label_killed, text_of, is_above, aside_named, saved_into, made_on, value_of, do_put, do_clearbuf}
+use Rattle.run_model.specs.Steps.{do_create, do_clean, do_concat, do_pass, do_return, cleaned, with_items, handed_over, returned_var, do_pcreate, pool_cleared, pool_destroyed, label_registered, label_killed, text_of, is_above, aside_named, saved_into, made_on}
 use Rattle.run_model.specs.Clearing.{cleared_var, is_reached, run_down}
 use Rattle.run_model.specs.Connection.{bucket_of, named_from}
-use Rattle.run_model.specs.Sound.{is_free, is_call, is_pool, is_bytes, is_range, home_fits, content_fits, is_proper, SoundBuckets}
+use Rattle.run_model.specs.Sound.{SoundBuckets}
+use Rattle.run_model.specs.Cutting.{LivesAs, FitsKind, form_of, form_of_kind}
 use Rattle.run_model.specs.Laws.{StepKeepsBuckets}
 use Rattle.run_model.proofs.Names.{at_each, at_two}
-use Rattle.run_model.proofs.NamedPools.{on_named, made_under_named, with_buffer, put_keeps}
+use Rattle.run_model.proofs.NamedPools.{on_named, made_under_named, put_keeps}
 
 -- One bucket.
 
-both : (x y : Bool) → x ≡ true → y ≡ true → (x && y) ≡ true
-both true true a b = refl
-both true false a b = b
-both false y a b = a
+-- a home that is not free may end
+ends_too : (k : Kind) (h : Home) → h ≢ home.Free → LivesAs k h → LivesAs k home.Ended
+ends_too kind.Transient h ne e = tt
+ends_too kind.File h ne e = tt
+ends_too k home.Free ne e = absurd (ne refl)
+ends_too k h ne e = absurd e
 
-each : (x y : Bool) → (x && y) ≡ true → (x ≡ true) × (y ≡ true)
-each true true h = (refl, refl)
-each true false h = absurd (cc)
-each false y h = absurd (cc)
-
-free_call : (call : ℕ) (h : Home) → is_free h ≡ true → is_free (end_call call h) ≡ true
-free_call call home.Free e = refl
-free_call call (home.Call n) e = absurd (cc)
-free_call call (home.Pool n) e = absurd (cc)
-free_call call home.Ended e = absurd (cc)
-
-call_call : (call : ℕ) (h : Home) → (is_call h || is_ended h) ≡ true → (is_call (end_call call h) || is_ended (end_call call h)) ≡ true
-call_call call home.Free e = e
-call_call call (home.Call n) e = by_test (n == call) where
-  by_test : (b : Bool) → (is_call (cond b home.Ended (home.Call n)) || is_ended (cond b home.Ended (home.Call n))) ≡ true
-  by_test true = refl
-  by_test false = refl
-call_call call (home.Pool n) e = e
-call_call call home.Ended e = refl
-
-pool_call : (call : ℕ) (h : Home) → (is_pool h || is_ended h) ≡ true → (is_pool (end_call call h) || is_ended (end_call call h)) ≡ true
-pool_call call home.Free e = e
-pool_call call (home.Call n) e = absurd (cc)
-pool_call call (home.Pool n) e = e
-pool_call call home.Ended e = refl
-
-home_call : (call : ℕ) (k : Kind) (h : Home) → home_fits k h ≡ true → home_fits k (end_call call h) ≡ true
-home_call call kind.Heap h e = free_call call h e
-home_call call kind.Transient h e = call_call call h e
-home_call call kind.Immortal h e = free_call call h e
-home_call call (kind.Pool p) h e = free_call call h e
-home_call call kind.File h e = pool_call call h e
-home_call call kind.Flush h e = free_call call h e
-home_call call kind.Eos h e = free_call call h e
-
-pub returned_proper : (call : ℕ) (b : NamedBucket) → is_proper b ≡ true → is_proper (returned_bucket call b) ≡ true
-unfolding is_proper
-returned_proper call b e =
-    let parts = each (home_fits b.bucket.kind b.bucket.home) (content_fits b.bucket.kind b.bucket.content) e in
-    both _ _ (home_call call b.bucket.kind b.bucket.home parts.0) parts.1
-
-free_pools : (reached : ℕ → Bool) (h : Home) → is_free h ≡ true → is_free (end_pools reached h) ≡ true
-free_pools reached home.Free e = refl
-free_pools reached (home.Call n) e = absurd (cc)
-free_pools reached (home.Pool n) e = absurd (cc)
-free_pools reached home.Ended e = absurd (cc)
-
-call_pools : (reached : ℕ → Bool) (h : Home) → (is_call h || is_ended h) ≡ true → (is_call (end_pools reached h) || is_ended (end_pools reached h)) ≡ true
-call_pools reached home.Free e = e
-call_pools reached (home.Call n) e = e
-call_pools reached (home.Pool n) e = absurd (cc)
-call_pools reached home.Ended e = refl
-
-pool_pools : (reached : ℕ → Bool) (h : Home) → (is_pool h || is_ended h) ≡ true → (is_pool (end_pools reached h) || is_ended (end_pools reached h)) ≡ true
-pool_pools reached home.Free e = e
-pool_pools reached (home.Call n) e = absurd (cc)
-pool_pools reached (home.Pool n) e = by_test (reached n) where
-  by_test : (b : Bool) → (is_pool (cond b home.Ended (home.Pool n)) || is_ended (cond b home.Ended (home.Pool n))) ≡ true
-  by_test true = refl
-  by_test false = refl
-pool_pools reached home.Ended e = refl
-
-home_pools : (reached : ℕ → Bool) (k : Kind) (h : Home) → home_fits k h ≡ true → home_fits (to_heap reached k) (end_pools reached h) ≡ true
-home_pools reached kind.Heap h e = free_pools reached h e
-home_pools reached kind.Transient h e = call_pools reached h e
-home_pools reached kind.Immortal h e = free_pools reached h e
-home_pools reached (kind.Pool p) h e = by_test (reached p) where
-  by_test : (b : Bool) → home_fits (cond b kind.Heap (kind.Pool p)) (end_pools reached h) ≡ true
-  by_test true = free_pools reached h e
-  by_test false = free_pools reached h e
-home_pools reached kind.File h e = pool_pools reached h e
-home_pools reached kind.Flush h e = free_pools reached h e
-home_pools reached kind.Eos h e = free_pools reached h e
-
-content_pools : (reached : ℕ → Bool) (k : Kind) (c : Content) → content_fits k c ≡ true → content_fits (to_heap reached k) c ≡ true
-content_pools reached kind.Heap c e = e
-content_pools reached kind.Transient c e = e
-content_pools reached kind.Immortal c e = e
-content_pools reached (kind.Pool p) c e = by_test (reached p) where
-  by_test : (b : Bool) → content_fits (cond b kind.Heap (kind.Pool p)) c ≡ true
-  by_test true = e
+home_call : (call : ℕ) (k : Kind) (h : Home) → LivesAs k h → LivesAs k (end_call call h)
+home_call call k (home.Call n) e = by_test (n == call) where
+  by_test : (b : Bool) → LivesAs k (cond b home.Ended (home.Call n))
+  by_test true = ends_too k (home.Call n) (λ q. cc) e
   by_test false = e
-content_pools reached kind.File c e = e
-content_pools reached kind.Flush c e = e
-content_pools reached kind.Eos c e = e
+home_call call k h e = e
 
-pub cleared_proper : (reached : ℕ → Bool) (b : NamedBucket) → is_proper b ≡ true → is_proper (cleared_bucket reached b) ≡ true
-unfolding is_proper
-cleared_proper reached b e =
-    let parts = each (home_fits b.bucket.kind b.bucket.home) (content_fits b.bucket.kind b.bucket.content) e in
-    both _ _ (home_pools reached b.bucket.kind b.bucket.home parts.0) (content_pools reached b.bucket.kind b.bucket.content parts.1)
+home_pools : (reached : ℕ → Bool) (k : Kind) (h : Home) → LivesAs k h → LivesAs k (end_pools reached h)
+home_pools reached k (home.Pool n) e = by_test (reached n) where
+  by_test : (b : Bool) → LivesAs k (cond b home.Ended (home.Pool n))
+  by_test true = ends_too k (home.Pool n) (λ q. cc) e
+  by_test false = e
+home_pools reached k h e = e
+
+-- a POOL bucket that becomes HEAP lies in memory as before, and depends on nothing
+heap_fits : (reached : ℕ → Bool) (k : Kind) (c : Content) (h : Home) → FitsKind (record { kind = k; content = c; home = h }) → FitsKind (record { kind = to_heap reached k; content = c; home = h })
+heap_fits reached (kind.Pool p) c h e = by_test (reached p) where
+  by_test : (b : Bool) → FitsKind (record { kind = cond b kind.Heap (kind.Pool p); content = c; home = h })
+  by_test true = record { holds = e.holds; lives = e.lives }
+  by_test false = e
+heap_fits reached k c h e = e
+
+abbrev pub IsProper : NamedBucket → Type 0
+IsProper x = FitsKind x.bucket
+
+pub returned_proper : (call : ℕ) (b : NamedBucket) → IsProper b → IsProper (returned_bucket call b)
+returned_proper call b e = record { holds = e.holds; lives = home_call call b.bucket.kind b.bucket.home e.lives }
+
+pub cleared_proper : (reached : ℕ → Bool) (b : NamedBucket) → IsProper b → IsProper (cleared_bucket reached b)
+cleared_proper reached b e = heap_fits reached b.bucket.kind b.bucket.content (end_pools reached b.bucket.home) (record { holds = e.holds; lives = home_pools reached b.bucket.kind b.bucket.home e.lives })
 
 -- Lists and variables.
 
 abbrev pub ProperList : List NamedBucket → Type 0
-ProperList xs = All (λ x. is_proper x ≡ true) xs
+ProperList xs = All IsProper xs
 
-pub mapped_proper : (f : NamedBucket → NamedBucket) → ((b : NamedBucket) → is_proper b ≡ true → is_proper (f b) ≡ true) → (xs : List NamedBucket) → ProperList xs → ProperList (map f xs)
-mapped_proper f keeps xs h = All-map (λ x. is_proper x ≡ true) f xs (λ k d lt. keeps _ (h k d lt))
+pub mapped_proper : (f : NamedBucket → NamedBucket) → ((b : NamedBucket) → IsProper b → IsProper (f b)) → (xs : List NamedBucket) → ProperList xs → ProperList (map f xs)
+mapped_proper f keeps xs h = All-map IsProper f xs (λ k d lt. keeps _ (h k d lt))
 
 pub none_proper : ProperList []
-none_proper = All-nil (λ x. is_proper x ≡ true)
+none_proper = All-nil IsProper
 
 -- the buckets of brought pieces
-piece_proper : (call req n : ℕ) (x : Piece) → is_proper (record { name = n; bucket = bucket_of call req x }) ≡ true
-unfolding is_proper
-piece_proper call req n (piece.Heap bytes) = refl
-piece_proper call req n (piece.Transient bytes) = refl
-piece_proper call req n (piece.Immortal bytes) = refl
-piece_proper call req n (piece.Pool bytes) = refl
-piece_proper call req n (piece.File file start len) = refl
-piece_proper call req n piece.Flush = refl
-piece_proper call req n piece.Eos = refl
+piece_proper : (call req : ℕ) (x : Piece) → FitsKind (bucket_of call req x)
+piece_proper call req x = record { holds = holds x; lives = lives x } where
+  holds : (x : Piece) → form_of (bucket_of call req x).content ≡ form_of_kind (bucket_of call req x).kind
+  holds (piece.File file start len) = refl
+  holds x = refl
+
+  lives : (x : Piece) → LivesAs (bucket_of call req x).kind (bucket_of call req x).home
+  lives (piece.File file start len) = tt
+  lives x = tt
 
 pub named_proper : (call req n : ℕ) (xs : List Piece) → ProperList (named_from (bucket_of call req) n xs)
-named_proper call req n [] = All-nil (λ x. is_proper x ≡ true)
-named_proper call req n (x ∷ xs) = All-cons (λ x. is_proper x ≡ true) _ (named_from (bucket_of call req) (n + 1) xs) (piece_proper call req n x) (named_proper call req (n + 1) xs)
+named_proper call req n [] = All-nil IsProper
+named_proper call req n (x ∷ xs) = All-cons IsProper _ (named_from (bucket_of call req) (n + 1) xs) (piece_proper call req x) (named_proper call req (n + 1) xs)
 
 -- what a change of a variable does to its buckets
 abbrev pub KeepsProper : BrigadeVar → BrigadeVar → Type 0
@@ -228,7 +169,7 @@ moved_buckets items a b r new proper brigades call s =
     (λ k. subst (λ (g : ℕ → BrigadeVar). KeepsProper (r.instance.brigades k) (g k)) (sym brigades)
     (at_two KeepsProper r.instance.brigades b a (with_items [] (r.instance.brigades b)) (with_items (items_of (r.instance.brigades a) ++ items) (r.instance.brigades a))
     (λ h. filled_proper [] (r.instance.brigades b) none_proper)
-    (λ h. filled_proper _ (r.instance.brigades a) (All-append (λ x. is_proper x ≡ true) (items_of (r.instance.brigades a)) items h (proper (s.brigades b))))
+    (λ h. filled_proper _ (r.instance.brigades a) (All-append IsProper (items_of (r.instance.brigades a)) items h (proper (s.brigades b))))
     same_proper k))
     (λ h. subst (λ (c : Call). ProperList c.loose) (sym call) h) s
 
@@ -237,20 +178,14 @@ unfolding set_brigade
 concat_buckets a b r s = moved_buckets (items_of (r.instance.brigades b)) a b r (do_concat a b r) (λ h. h) refl refl s
 
 -- a bucket that is set aside, of its parts
-aside_parts : (target name : ℕ) (above : Bool) (k : Kind) (c : Content) (h : Home) → is_proper (record { name = name; bucket = record { kind = k; content = c; home = h } }) ≡ true
-    → is_proper (record { name = name; bucket = set_aside target above (record { kind = k; content = c; home = h }) }) ≡ true
-unfolding is_proper
-aside_parts target name above kind.Heap c h e = e
-aside_parts target name above kind.Transient c h e = (each (is_call h || is_ended h) (is_bytes c) e).1
-aside_parts target name above kind.Immortal c h e = e
-aside_parts target name above (kind.Pool p) c h e = e
-aside_parts target name true kind.File c h e = e
-aside_parts target name false kind.File c h e = (each (is_pool h || is_ended h) (is_range c) e).1
-aside_parts target name above kind.Flush c h e = e
-aside_parts target name above kind.Eos c h e = e
+aside_parts : (target : ℕ) (above : Bool) (k : Kind) (c : Content) (h : Home) → FitsKind (record { kind = k; content = c; home = h }) → FitsKind (set_aside target above (record { kind = k; content = c; home = h }))
+aside_parts target above kind.Transient c h e = record { holds = e.holds; lives = tt }
+aside_parts target true kind.File c h e = e
+aside_parts target false kind.File c h e = record { holds = e.holds; lives = tt }
+aside_parts target above k c h e = e
 
-pub aside_proper : (ps : Pools Payload) (target : ℕ) (x : NamedBucket) → is_proper x ≡ true → is_proper (aside_named ps target x) ≡ true
-aside_proper ps target x e = aside_parts target x.name (is_above ps target x.bucket.home) x.bucket.kind x.bucket.content x.bucket.home e
+pub aside_proper : (ps : Pools Payload) (target : ℕ) (x : NamedBucket) → IsProper x → IsProper (aside_named ps target x)
+aside_proper ps target x e = aside_parts target (is_above ps target x.bucket.home) x.bucket.kind x.bucket.content x.bucket.home e
 
 save_buckets : (o b target : ℕ) (r : Configuration) → SoundBuckets r → SoundBuckets (saved_into o b target r)
 unfolding set_brigade with_pools
@@ -268,13 +203,6 @@ pub same_buckets : (r new : Configuration) → new.instance.brigades ≡ r.insta
 same_buckets r new brigades loose s =
     keeps_buckets r new (λ b. subst (λ (g : ℕ → BrigadeVar). KeepsProper (r.instance.brigades b) (g b)) (sym brigades) (same_proper (r.instance.brigades b))) (λ h. subst ProperList (sym loose) h) s
 
-number_buckets : (n v : ℕ) (r : Configuration) → SoundBuckets r → SoundBuckets (set_number n v r)
-unfolding set_number
-number_buckets n v r s = same_buckets r (set_number n v r) refl refl s
-
-put_buckets : (x : Value) (r : Configuration) → SoundBuckets r → SoundBuckets (do_put x r)
-put_buckets x r s = put_keeps SoundBuckets x r s (λ buffer. same_buckets r (with_buffer buffer r) refl refl s)
-
 pcreate_buckets : (p : Program) (q : ℕ) (r : Configuration) → SoundBuckets r → SoundBuckets (do_pcreate p q r)
 unfolding set_pool with_pools
 pcreate_buckets p q r s = made_under_named SoundBuckets p q r s (λ parent e. same_buckets r (set_pool q (poolvar.Made r.shared.pools.next) (with_pools (created parent r.shared.pools) r)) refl refl s)
@@ -287,34 +215,18 @@ destroyed_buckets : (n : ℕ) (r : Configuration) → SoundBuckets r → SoundBu
 unfolding run_down with_pools
 destroyed_buckets n r s = went_buckets (is_under r.shared.pools n) r (pool_destroyed n r) (λ b. refl) refl s
 
-labelled_buckets : (text : List ℕ) (n : ℕ) (r : Configuration) → SoundBuckets r → SoundBuckets (label_registered text n r)
-unfolding with_pools
-labelled_buckets text n r s = same_buckets r (label_registered text n r) refl refl s
-
-unlabelled_buckets : (text : List ℕ) (n : ℕ) (r : Configuration) → SoundBuckets r → SoundBuckets (label_killed text n r)
-unfolding with_pools
-unlabelled_buckets text n r s = same_buckets r (label_killed text n r) refl refl s
-
 pub step_buckets : StepKeepsBuckets
+unfolding set_number with_pools
 step_buckets p choice (instr.PCreate q) r may s = pcreate_buckets p q r s
 step_buckets p choice (instr.PClear q) r may s = on_named SoundBuckets pool_cleared (pool_named r (pool.Own q)) r s (λ n e. cleared_buckets n r s)
 step_buckets p choice (instr.PDestroy q) r may s = on_named SoundBuckets pool_destroyed (pool_named r (pool.Own q)) r s (λ n e. destroyed_buckets n r s)
-step_buckets p choice (instr.Label q t) r may s = on_named SoundBuckets (label_registered (text_of p t)) (pool_named r q) r s (λ n e. labelled_buckets (text_of p t) n r s)
-step_buckets p choice (instr.Unlabel q t) r may s = on_named SoundBuckets (label_killed (text_of p t)) (pool_named r q) r s (λ n e. unlabelled_buckets (text_of p t) n r s)
-step_buckets p choice (instr.JNull v l) r may s = s
+step_buckets p choice (instr.Label q t) r may s = on_named SoundBuckets (label_registered (text_of p t)) (pool_named r q) r s (λ n e. same_buckets r _ refl refl s)
+step_buckets p choice (instr.Unlabel q t) r may s = on_named SoundBuckets (label_killed (text_of p t)) (pool_named r q) r s (λ n e. same_buckets r _ refl refl s)
 step_buckets p choice (instr.BCreate o) r may s = create_buckets p o r s
 step_buckets p choice (instr.BClean b) r may s = clean_buckets b r s
 step_buckets p choice (instr.BConcat a b) r may s = concat_buckets a b r s
 step_buckets p choice (instr.BSave o b) r may s = on_named SoundBuckets (saved_into o b) (made_on (r.instance.brigades o)) r s (λ target e. save_buckets o b target r s)
 step_buckets p choice (instr.Pass b l) r may s = pass_buckets b r s
-step_buckets p choice (instr.Put x l) r may s = put_buckets x r s
-step_buckets p choice instr.ClearBuf r may s = same_buckets r (do_clearbuf r) refl refl s
-step_buckets p choice (instr.Set n x) r may s = number_buckets n (value_of r x) r s
-step_buckets p choice (instr.Add n x) r may s = number_buckets n _ r s
-step_buckets p choice (instr.Sub n x) r may s = number_buckets n _ r s
-step_buckets p choice (instr.JLt n x l) r may s = s
-step_buckets p choice (instr.JEq n x l) r may s = s
-step_buckets p choice (instr.JEmpty b l) r may s = s
-step_buckets p choice (instr.JSent l) r may s = s
-step_buckets p choice (instr.Jump l) r may s = s
+step_buckets p choice (instr.Put x l) r may s = put_keeps SoundBuckets x r s (λ buffer. same_buckets r _ refl refl s)
 step_buckets p choice (instr.Ret st) r may s = return_buckets r s
+step_buckets p choice i r may s = same_buckets r _ refl refl s

@@ -27,14 +27,15 @@ use Rattle.run_model.specs.State.{Configuration, items_of, set_pool, with_pools,
 use Rattle.run_model.specs.Faults.{usable_fault, homes_fault}
 use Rattle.run_model.specs.Steps.{do_create, do_clean, do_concat, do_pass, do_return, cleaned, with_items, handed_over, returned_var, pool_cleared, pool_destroyed, files_let_go, label_registered, label_killed, text_of, aside_named, new_ref, saved_into, made_on}
 use Rattle.run_model.specs.Connection.{has_range}
-use Rattle.run_model.specs.Sound.{home_fits, content_fits, is_proper, SoundPools, SoundBuckets}
+use Rattle.run_model.specs.Sound.{SoundPools, SoundBuckets}
+use Rattle.run_model.specs.Cutting.{FitsKind, LivesAs, OpenFile, form_of, form_of_kind}
 use Rattle.run_model.specs.Laws.{refers, IsHeld, KeptAside, SoundFiles}
 use Rattle.run_model.specs.Ranges.{LiesInFile, HasLength, SoundRanges, StepKeepsRanges}
-use Rattle.run_model.proofs.NamedPools.{on_named, made_under_named, with_buffer, put_keeps}
+use Rattle.run_model.proofs.NamedPools.{on_named, made_under_named, put_keeps}
 use Rattle.run_model.proofs.Marks.{first_none, second_none}
 use Rattle.run_model.proofs.Kept.{aside_lasts, files_go}
 use Rattle.run_model.proofs.References.{or_left, or_right, refers_given, referred_at, created_back, registered_back, all_back, killed_refers, Emptied, emptied_back}
-use Rattle.run_model.proofs.StepFiles.{left_home, spared_home, written, cleared_emptied, destroyed_emptied, fits_home, neither, refs_open, no_dead, step_files}
+use Rattle.run_model.proofs.StepFiles.{left_home, spared_home, written, cleared_emptied, destroyed_emptied, neither, refs_open, no_dead, step_files}
 
 -- Lists and variables.
 
@@ -151,41 +152,28 @@ unlabelled_ranges files text n r s =
 -- Setting aside.
 
 -- a range whose home has not ended has a pool for its home
-homed : (k : Kind) (c : Content) (h : Home) (file start len : ℕ) → home_fits k h ≡ true → content_fits k c ≡ true → is_ended h ≡ false → c ≡ content.Range file start len
+homed : (k : Kind) (c : Content) (h : Home) (file start len : ℕ) → LivesAs k h → form_of c ≡ form_of_kind k → is_ended h ≡ false → c ≡ content.Range file start len
     → (p : ℕ) × (h ≡ home.Pool p)
-homed kind.File c home.Free file start len fit holds live e = absurd (cc)
-homed kind.File c (home.Call n) file start len fit holds live e = absurd (cc)
+homed kind.File c home.Free file start len fit holds live e = absurd fit
+homed kind.File c (home.Call n) file start len fit holds live e = absurd fit
 homed kind.File c (home.Pool n) file start len fit holds live e = (n, refl)
 homed kind.File c home.Ended file start len fit holds live e = absurd (cc)
-homed kind.Heap c h file start len fit holds live e = absurd (let no : false ≡ true = sym (ap (content_fits kind.Heap) e) ∙ holds in cc)
-homed kind.Transient c h file start len fit holds live e = absurd (let no : false ≡ true = sym (ap (content_fits kind.Transient) e) ∙ holds in cc)
-homed kind.Immortal c h file start len fit holds live e = absurd (let no : false ≡ true = sym (ap (content_fits kind.Immortal) e) ∙ holds in cc)
-homed (kind.Pool p) c h file start len fit holds live e = absurd (let no : false ≡ true = sym (ap (content_fits (kind.Pool p)) e) ∙ holds in cc)
-homed kind.Flush c h file start len fit holds live e = absurd (let no : false ≡ true = sym (ap (content_fits kind.Flush) e) ∙ holds in cc)
-homed kind.Eos c h file start len fit holds live e = absurd (let no : false ≡ true = sym (ap (content_fits kind.Eos) e) ∙ holds in cc)
+homed k c h file start len fit holds live e = absurd (let no : OpenFile ≡ form_of_kind k = sym (ap form_of e) ∙ holds in cc)
 
-second : (a b : Bool) → (a && b) ≡ true → b ≡ true
-second true b h = h
-second false b h = absurd (cc)
-
-fits_content : (x : NamedBucket) → is_proper x ≡ true → content_fits x.bucket.kind x.bucket.content ≡ true
-unfolding is_proper
-fits_content x h = second (home_fits x.bucket.kind x.bucket.home) (content_fits x.bucket.kind x.bucket.content) h
-
-aside_lies : (fs : Files) (ps : Pools Payload) (target : ℕ) (x : NamedBucket) → is_proper x ≡ true → is_dead x ≡ false → LiesInFile fs x → LiesInFile fs (aside_named ps target x)
+aside_lies : (fs : Files) (ps : Pools Payload) (target : ℕ) (x : NamedBucket) → FitsKind x.bucket → is_dead x ≡ false → LiesInFile fs x → LiesInFile fs (aside_named ps target x)
 aside_lies fs ps target x proper live lies file start len p e at =
     let kept : KeptAside ps target x (aside_named ps target x) = aside_lasts ps target x proper live in
     let was : x.bucket.content ≡ content.Range file start len = sym kept.content ∙ e in
-    let old = homed x.bucket.kind x.bucket.content x.bucket.home file start len (fits_home x proper) (fits_content x proper) live was in
+    let old = homed x.bucket.kind x.bucket.content x.bucket.home file start len proper.lives proper.holds live was in
     lies file start len old.0 was old.1
 
-aside_lie : (fs : Files) (ps : Pools Payload) (target : ℕ) (xs : List NamedBucket) → All (λ x. is_proper x ≡ true) xs → list_any is_dead xs ≡ false → LieList fs xs → LieList fs (map (aside_named ps target) xs)
+aside_lie : (fs : Files) (ps : Pools Payload) (target : ℕ) (xs : List NamedBucket) → All (λ x. FitsKind x.bucket) xs → list_any is_dead xs ≡ false → LieList fs xs → LieList fs (map (aside_named ps target) xs)
 aside_lie fs ps target [] proper live h = none_lie fs
 aside_lie fs ps target (x ∷ xs) proper live h =
     let alive = neither (is_dead x) (list_any is_dead xs) live in
     All-cons (LiesInFile fs) (aside_named ps target x) (map (aside_named ps target) xs)
-    (aside_lies fs ps target x (All-head (λ x. is_proper x ≡ true) x xs proper) alive.0 (All-head (LiesInFile fs) x xs h))
-    (aside_lie fs ps target xs (All-tail (λ x. is_proper x ≡ true) x xs proper) alive.1 (All-tail (LiesInFile fs) x xs h))
+    (aside_lies fs ps target x (All-head (λ x. FitsKind x.bucket) x xs proper) alive.0 (All-head (LiesInFile fs) x xs h))
+    (aside_lie fs ps target xs (All-tail (λ x. FitsKind x.bucket) x xs proper) alive.1 (All-tail (LiesInFile fs) x xs h))
 
 save_ranges : (files : List (ℕ × ℕ)) (o b target : ℕ) (r : Configuration) → SoundBuckets r → list_any is_dead (items_of (r.instance.brigades b)) ≡ false → SoundFiles files r → SoundRanges files r
     → SoundRanges files (saved_into o b target r)
@@ -244,18 +232,12 @@ return_ranges files r s = record { brigades = λ b. left b (b == 8); loose = non
   left b true = none_lie r.shared.files
   left b false = returned_lie r.shared.files r.call.name (r.instance.brigades b) (s.brigades b)
 
-number_ranges : (files : List (ℕ × ℕ)) (n v : ℕ) (r : Configuration) → SoundRanges files r → SoundRanges files (set_number n v r)
-unfolding set_number
-number_ranges files n v r s = record { brigades = s.brigades; loose = s.loose; told = s.told; given = s.given }
-
-buffer_ranges : (files : List (ℕ × ℕ)) (buffer : List ℕ) (r : Configuration) → SoundRanges files r → SoundRanges files (with_buffer buffer r)
-buffer_ranges files buffer r s = record { brigades = s.brigades; loose = s.loose; told = s.told; given = s.given }
-
 -- what a clear of an own pool leaves, where files are kept
 abbrev IfHeld : List (ℕ × ℕ) → Configuration → Type 0
 IfHeld files new = SoundFiles files new → SoundRanges files new
 
 pub step_ranges : StepKeepsRanges
+unfolding set_number
 step_ranges p choice (instr.PCreate q) files r may sound held s = made_under_named (SoundRanges files) p q r s (λ parent e. made_ranges files parent q r s)
 step_ranges p choice (instr.PClear q) files r may sound held s =
     on_named (IfHeld files) pool_cleared (pool_named r (pool.Own q)) r (λ h. s) (λ n e. went_ranges files n r (cleared n r.shared.pools) (cleared_emptied n r.shared.pools) sound.pools s)
@@ -272,15 +254,6 @@ step_ranges p choice (instr.BSave o b) files r may sound held s = on_named (Soun
     save_ranges files o b target r sound.buckets
     (no_dead (items_of (r.instance.brigades b)) (first_none (homes_fault (items_of (r.instance.brigades b))) None (second_none (usable_fault (r.instance.brigades b)) _ (second_none (usable_fault (r.instance.brigades o)) _ may.faultless)))) held s)
 step_ranges p choice (instr.Pass b l) files r may sound held s = pass_ranges files b r s
-step_ranges p choice (instr.JEmpty b l) files r may sound held s = s
-step_ranges p choice (instr.JNull v l) files r may sound held s = s
-step_ranges p choice (instr.Put x l) files r may sound held s = put_keeps (SoundRanges files) x r s (λ buffer. buffer_ranges files buffer r s)
-step_ranges p choice instr.ClearBuf files r may sound held s = buffer_ranges files [] r s
-step_ranges p choice (instr.Set n x) files r may sound held s = number_ranges files n _ r s
-step_ranges p choice (instr.Add n x) files r may sound held s = number_ranges files n _ r s
-step_ranges p choice (instr.Sub n x) files r may sound held s = number_ranges files n _ r s
-step_ranges p choice (instr.JLt n x l) files r may sound held s = s
-step_ranges p choice (instr.JEq n x l) files r may sound held s = s
-step_ranges p choice (instr.JSent l) files r may sound held s = s
-step_ranges p choice (instr.Jump l) files r may sound held s = s
+step_ranges p choice (instr.Put x l) files r may sound held s = put_keeps (SoundRanges files) x r s (λ buffer. record { brigades = s.brigades; loose = s.loose; told = s.told; given = s.given })
 step_ranges p choice (instr.Ret st) files r may sound held s = return_ranges files r s
+step_ranges p choice i files r may sound held s = record { brigades = s.brigades; loose = s.loose; told = s.told; given = s.given }

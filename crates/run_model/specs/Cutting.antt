@@ -64,10 +64,14 @@ LivesAs kind.Flush h = IsFree h
 LivesAs kind.Eos h = IsFree h
 
 -- Content and home fit the kind.
-pub record IsBucket (b : Bucket) : Type 0 where
+pub record FitsKind (b : Bucket) : Type 0 where
   pub holds : form_of b.content ≡ form_of_kind b.kind
-  pub ends : EndsInFile b.content
   pub lives : LivesAs b.kind b.home
+
+-- They do, and a range ends below 2 ^ 64.
+pub record IsBucket (b : Bucket) : Type 0 where
+  pub fits : FitsKind b
+  pub ends : EndsInFile b.content
 
 -- how many bytes a content stands for
 abbrev pub length_of : Content → ℕ

@@ -25,13 +25,13 @@ use Rattle.run_model.specs.declared.event.Stepped.{Stepped}
 use Rattle.run_model.specs.declared.event.Stepped.TheVariants as stepped
 use Rattle.run_model.specs.Buckets.{has_eos, data_after_eos, is_dead}
 use Rattle.run_model.specs.Files.{Files, all_taken, range_taken, parts_of, is_referred}
-use Rattle.run_model.specs.Cutting.{wanted, read_of}
+use Rattle.run_model.specs.Cutting.{FitsKind, wanted, read_of}
 use Rattle.run_model.specs.State.{Configuration, Out, fresh_call, items_of}
 use Rattle.run_model.specs.Faults.{WUsable, brigade_fault, fault_want, fault, send_fault, or_else}
 use Rattle.run_model.specs.Steps.{Choice, step, step_at_end, current, aside_named, delivered, lacks_names, names_of, pool_cleared, pool_destroyed}
 use Rattle.run_model.specs.Connection.{Connection, opened, bucket_of, named_from, data_behind_eos, has_range, brings, breaks, steps}
-use Rattle.run_model.specs.Runs.{Answer, Refused, Step, World, Before, There, Closed, happens, IsDue, step_of, IsRun, GoesOn, EndsRun}
-use Rattle.run_model.specs.Sound.{SoundNames, SoundBuckets, SoundPools, Sound, brigade_name, brigade_pool, is_range, is_proper}
+use Rattle.run_model.specs.Runs.{Answer, Refused, Step, World, Before, There, Closed, IfThere, happens, IsDue, step_of, IsRun, GoesOn, EndsRun}
+use Rattle.run_model.specs.Sound.{SoundNames, SoundBuckets, SoundPools, Sound, brigade_name, brigade_pool}
 use Rattle.run_model.specs.declared.bucket.Kind.TheVariants as kind
 use Rattle.run_model.specs.declared.bucket.Home.{Home}
 use Rattle.run_model.specs.declared.bucket.Home.TheVariants as home
@@ -71,11 +71,8 @@ StepAtEndKeeps = (p : Program) (i : Instr) (r : Configuration) → MayExecute p 
 abbrev pub OpenedIsSound : Type 0
 OpenedIsSound = (fs : Files) → Sound (opened fs).state
 
--- what is true of a connection, where it is there
 abbrev pub SoundWorld : World → Type 0
-SoundWorld (Before fs) = Unit {0}
-SoundWorld (There c) = Sound c.state
-SoundWorld (Closed pools fs) = Unit {0}
+SoundWorld w = IfThere w (λ c. Sound c.state)
 
 -- Each event keeps it, and so it is true of each world that a run reaches.
 abbrev pub EventKeepsSound : Type 0
@@ -205,9 +202,7 @@ pub record IsOrderly (budget : ℕ) (p : Program) (c : Connection) : Type 0 wher
   pub spent : c.count ≤ budget
 
 abbrev pub OrderlyWorld : ℕ → Program → World → Type 0
-OrderlyWorld budget p (Before fs) = Unit {0}
-OrderlyWorld budget p (There c) = IsOrderly budget p c
-OrderlyWorld budget p (Closed pools fs) = Unit {0}
+OrderlyWorld budget p w = IfThere w (IsOrderly budget p)
 
 abbrev pub EventKeepsOrder : Type 0
 EventKeepsOrder = (memory : Bool) (budget : ℕ) (p : Program) (e : Event) (w : World) → IsModule p → OrderlyWorld budget p w → OrderlyWorld budget p (happens memory budget p e w).1
@@ -442,7 +437,7 @@ pub record KeptAside (ps : Pools Payload) (target : ℕ) (old new : NamedBucket)
   pub content : new.bucket.content ≡ old.bucket.content
 
 abbrev pub AsideLasts : Type 0
-AsideLasts = (ps : Pools Payload) (target : ℕ) (x : NamedBucket) → is_proper x ≡ true → is_dead x ≡ false → KeptAside ps target x (aside_named ps target x)
+AsideLasts = (ps : Pools Payload) (target : ℕ) (x : NamedBucket) → FitsKind x.bucket → is_dead x ≡ false → KeptAside ps target x (aside_named ps target x)
 
 -- Where no read fails, all bytes of a range are taken from the file.
 abbrev pub ReadsGiveTheFile : Type 0
@@ -462,6 +457,11 @@ bytes_of_rest file (Some b) = bytes_in file b.content
 -- the bytes that a read takes from the file of a bucket
 abbrev pub bytes_read : List ℕ → Bucket → List ℕ
 bytes_read file b = take (wanted b.content) (bytes_in file b.content)
+
+abbrev pub is_range : Content → Bool
+is_range (content.Bytes bs) = false
+is_range (content.Range file start len) = true
+is_range content.Nothing = false
 
 -- A read leaves the bucket in memory, and drops no byte: its bytes and those of the rest are what it stood for.
 abbrev pub ReadsDropNothing : Type 0
@@ -506,9 +506,7 @@ abbrev pub StepKeepsFiles : Type 0
 StepKeepsFiles = (p : Program) (choice : Choice) (i : Instr) (files : List (ℕ × ℕ)) (r : Configuration) → MayExecute p r i → Sound r → SoundFiles files r → SoundFiles files (step p choice i r).state
 
 abbrev pub FilesWorld : World → Type 0
-FilesWorld (Before fs) = Unit {0}
-FilesWorld (There c) = SoundFiles c.files c.state
-FilesWorld (Closed pools fs) = Unit {0}
+FilesWorld w = IfThere w (λ c. SoundFiles c.files c.state)
 
 -- Each event keeps it, and so it is true of each world that a run reaches.
 abbrev pub EventKeepsFiles : Type 0

@@ -2,7 +2,6 @@ pub use Rattle.module_lang.specs.Program
 pub mod Indexed
 pub mod Pools
 pub mod RunOrder
-pub mod RunOrderLaws
 pub mod Payloads
 pub mod SamePayload
 pub mod Buckets
@@ -17,4 +16,5 @@ pub mod Runs
 pub mod Sound
 pub mod Examples
 pub mod Laws
+pub mod RefusalOrder
 pub mod Ranges

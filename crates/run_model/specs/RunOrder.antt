@@ -38,6 +38,19 @@ runs_within (suc depth) ps p = flat_map (runs_within depth ps) (children ps p) +
 unfoldable pub run_order : {T : Type 0} → Pools T → ℕ → List (ℕ × T)
 run_order ps p = runs_within ps.next ps p
 
+-- the pools of the run order down to a depth
+unfoldable pub order_within : {T : Type 0} → ℕ → Pools T → ℕ → List ℕ
+order_within zero ps p = []
+order_within (suc depth) ps p = flat_map (order_within depth ps) (children ps p) ++ p ∷ []
+
+-- the pools of the run order of p
+unfoldable pub order : {T : Type 0} → Pools T → ℕ → List ℕ
+order ps p = order_within ps.next ps p
+
+-- the pools of the run order of p, without p itself
+unfoldable pub order_under : {T : Type 0} → Pools T → ℕ → List ℕ
+order_under ps p = flat_map (order ps) (children ps p)
+
 -- the last item that passes a test
 unfoldable pub last_that : {X : Type 0} → (X → Bool) → List X → Option X
 last_that test [] = None

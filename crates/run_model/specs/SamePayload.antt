@@ -1,4 +1,4 @@
--- Equality of payloads.
+-- Equality of payloads is symmetric and transitive: the law of `PartialEq`, whose proof an impl takes from here.
 use Rattle.std.proofs.Common.{◌≡◌, true, nat_eq, refl}
 use Rattle.std.specs.Cmp.{IsPartialEquivalence, partial_equiv_from_equiv, nat_eq_equiv}
 use Rattle.std.specs.Cmp.Lexicographic.{pointwise, lists_per}

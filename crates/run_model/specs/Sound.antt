@@ -1,18 +1,12 @@
 -- What is true of each run: every name once, new names new, buckets as their kinds have them, brigades on live pools.
-use Rattle.std.specs.Prelude.{◌≡◌, ◌≢◌, ◌∷◌, ℕ, zero, suc, ◌+◌, ◌^◌, ◌<◌, ◌≤◌, Bool, true, false, ◌&&◌, ◌||◌, ◌==◌, List, Option, Some, None, All, count_by}
-use Rattle.run_model.specs.declared.bucket.Kind.{Kind}
-use Rattle.run_model.specs.declared.bucket.Kind.TheVariants as kind
-use Rattle.run_model.specs.declared.bucket.Content.{Content}
-use Rattle.run_model.specs.declared.bucket.Content.TheVariants as content
-use Rattle.run_model.specs.declared.bucket.Home.{Home}
-use Rattle.run_model.specs.declared.bucket.Home.TheVariants as home
+use Rattle.std.specs.Prelude.{◌≡◌, ◌≢◌, ◌∷◌, ℕ, zero, suc, ◌+◌, ◌^◌, ◌<◌, ◌≤◌, true, ◌==◌, List, Option, Some, None, All, count_by}
 use Rattle.run_model.specs.declared.bucket.NamedBucket.{NamedBucket}
 use Rattle.run_model.specs.declared.bucket.BrigadeVar.{BrigadeVar}
 use Rattle.run_model.specs.declared.bucket.BrigadeVar.TheVariants as var
 use Rattle.run_model.specs.declared.bucket.PoolVar.TheVariants as poolvar
 use Rattle.run_model.specs.Pools.{is_live}
 use Rattle.run_model.specs.RunOrder.{IsPoolMap}
-use Rattle.run_model.specs.Buckets.{is_ended}
+use Rattle.run_model.specs.Cutting.{FitsKind}
 use Rattle.run_model.specs.State.{Configuration, items_of}
 
 -- the sum of f over the numbers below n
@@ -27,39 +21,6 @@ count_named n items = count_by (λ b. b.name == n) items
 -- how many buckets have this name: in the brigades and among the loose ones
 abbrev pub count : Configuration → ℕ → ℕ
 count r n = count_named n r.call.loose + sum_below 9 (λ b. count_named n (items_of (r.instance.brigades b)))
-
-abbrev pub is_free : Home → Bool
-is_free home.Free = true
-is_free (home.Call n) = false
-is_free (home.Pool n) = false
-is_free home.Ended = false
-
-abbrev pub is_call : Home → Bool
-is_call home.Free = false
-is_call (home.Call n) = true
-is_call (home.Pool n) = false
-is_call home.Ended = false
-
-abbrev pub is_pool : Home → Bool
-is_pool home.Free = false
-is_pool (home.Call n) = false
-is_pool (home.Pool n) = true
-is_pool home.Ended = false
-
-abbrev pub is_bytes : Content → Bool
-is_bytes (content.Bytes bs) = true
-is_bytes (content.Range file start len) = false
-is_bytes content.Nothing = false
-
-abbrev pub is_range : Content → Bool
-is_range (content.Bytes bs) = false
-is_range (content.Range file start len) = true
-is_range content.Nothing = false
-
-abbrev pub is_nothing : Content → Bool
-is_nothing (content.Bytes bs) = false
-is_nothing (content.Range file start len) = false
-is_nothing content.Nothing = true
 
 -- the name of the brigade in a variable, and the pool that it is made on
 abbrev pub brigade_name : BrigadeVar → Option ℕ
@@ -82,33 +43,10 @@ pub record SoundNames (r : Configuration) : Type 0 where
   pub limit : r.shared.next < 2 ^ 64
   pub slots : (b : ℕ) → 9 ≤ b → r.instance.brigades b ≡ var.Null
 
--- The home of a TRANSIENT bucket is a call, that of a FILE a pool, unless it ended; all others have none.
-abbrev pub home_fits : Kind → Home → Bool
-home_fits kind.Heap h = is_free h
-home_fits kind.Transient h = is_call h || is_ended h
-home_fits kind.Immortal h = is_free h
-home_fits (kind.Pool p) h = is_free h
-home_fits kind.File h = is_pool h || is_ended h
-home_fits kind.Flush h = is_free h
-home_fits kind.Eos h = is_free h
-
--- Bytes lie in memory but those of a FILE bucket, which is a range; metadata holds nothing.
-abbrev pub content_fits : Kind → Content → Bool
-content_fits kind.Heap c = is_bytes c
-content_fits kind.Transient c = is_bytes c
-content_fits kind.Immortal c = is_bytes c
-content_fits (kind.Pool p) c = is_bytes c
-content_fits kind.File c = is_range c
-content_fits kind.Flush c = is_nothing c
-content_fits kind.Eos c = is_nothing c
-
--- whether home and content of a bucket are as its kind has them
-unfoldable pub is_proper : NamedBucket → Bool
-is_proper b = home_fits b.bucket.kind b.bucket.home && content_fits b.bucket.kind b.bucket.content
-
+-- Content and home of each bucket fit its kind.
 pub record SoundBuckets (r : Configuration) : Type 0 where
-  pub brigades : (b : ℕ) → All (λ x. is_proper x ≡ true) (items_of (r.instance.brigades b))
-  pub loose : All (λ x. is_proper x ≡ true) r.call.loose
+  pub brigades : (b : ℕ) → All (λ x. FitsKind x.bucket) (items_of (r.instance.brigades b))
+  pub loose : All (λ x. FitsKind x.bucket) r.call.loose
 
 -- Pools. formed: the pools are a tree, in which what stands above a pool is older, and names that were not given out are no
 -- pool's. conn, req: the connection's pool is live, and an open request's is a child of it. own: a pool that the module

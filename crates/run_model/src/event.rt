@@ -2,6 +2,7 @@
 
 use crate::fault::FaultKind;
 use module_lang::{Seq, Status};
+use thiserror::Error;
 
 /// A part of a brought brigade.
 #[derive(Drop)]
@@ -23,40 +24,54 @@ pub enum Piece {
 }
 
 /// Why a connection serves nothing but its output, its labels and its close any more.
-#[derive(Clone, Copy)]
+#[derive(Clone, Copy, Debug, Error)]
 pub enum Cause {
     /// An instruction had a fault.
+    #[error("an instruction had a fault")]
     Faulted,
     /// A step found no memory.
+    #[error("no memory")]
     NoMemory,
     /// A step would have had to give out the name 2^64 - 1.
+    #[error("no name is left")]
     NamesSpent,
     /// The steps of a call met the budget.
+    #[error("the budget of steps was met")]
     OutOfSteps,
 }
 
 /// Why an event was refused, in the order in which the tests are made.
-#[derive(Clone, Copy)]
+#[derive(Clone, Copy, Debug, Error)]
 pub enum Refusal {
     /// There is no such connection.
+    #[error("no such connection")]
     NoSuchConn,
     /// The connection is broken.
+    #[error("the connection is broken: {0}")]
     Broken(Cause),
     /// A call is running.
+    #[error("a call is running")]
     Busy,
     /// No call is running.
+    #[error("no call is running")]
     Idle,
     /// A request is open.
+    #[error("a request is open")]
     InRequest,
     /// No request is open.
+    #[error("no request is open")]
     NotInRequest,
     /// Data stands after an EOS among the pieces.
+    #[error("data after an EOS")]
     DataAfterEos,
     /// A file is not there, was not opened in this request, or is shorter than the range.
+    #[error("no such file, or a range that it does not have")]
     NoFile,
     /// A name that would have to be given out is 2^64 - 1.
+    #[error("no name is left")]
     NamesSpent,
     /// There is no memory.
+    #[error("no memory")]
     NoMemory,
 }
 
@@ -87,11 +102,13 @@ pub enum Exit {
 }
 
 /// Why an instruction that has no fault was not executed.
-#[derive(Clone, Copy)]
+#[derive(Clone, Copy, Debug, Error)]
 pub enum StepRefusal {
     /// A name that it would have to give out is 2^64 - 1.
+    #[error("no name is left")]
     NamesSpent,
     /// There is no memory.
+    #[error("no memory")]
     NoMemory,
 }
 

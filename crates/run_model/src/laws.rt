@@ -4,6 +4,7 @@ ghost use Rattle.run_model.specs.Examples.{PassRuns, PoolRuns, PoolEnds, KindRun
 ghost use Rattle.run_model.specs.Laws.{CreatesKeepOthers, KillsTheNewest, KillsOneLabel, EachStandsOnce, DepthDoesNotMatter};
 ghost use Rattle.run_model.specs.Laws.{StepKeepsNames, StepKeepsBuckets, StepKeepsPools, StepAtEndKeeps, OpenedIsSound, EventKeepsSound, RunIsSound, RunGoesOn, StepsGoOn, StepsAreARun, EndedStepsAreARun, StepChangesOnly, RefusedChangesNothing, RefusedStepBreaks, FaultBreaks, BrokenStaysBroken, EventKeepsOrder, RunIsOrderly, BucketsAsPieces, LateDataIsRefused, BroughtEndsOnce, OutputOfCuts, FaultOfCuts, PassesMark, PassedIsNotUsed, UseAfterPassFaults, StepKeepsPassed, ReturnEndsIn, EventKeepsPassed, CleanedIsUsable, ClearsKeepOthers, ClearsTakeAlong};
 ghost use Rattle.run_model.specs.Laws.{AsideLasts, ReadsGiveTheFile, ReadsDropNothing, FilesCloseLast, StepKeepsFiles, EventKeepsFiles, RunKeepsFiles};
+ghost use Rattle.run_model.specs.RefusalOrder.{FirstIsTold, NoConnectionIsTold, StepsTell, BusyDoesNotEnd, OnlyMemoryRefusesClose};
 ghost use Rattle.run_model.specs.Ranges.{OpenedInRange, StepKeepsInRange, EventKeepsInRange, RunIsInRange, StepKeepsRanges, EventKeepsRanges, RunKeepsRanges};
 
 /// Small runs answer as they are worked out by hand, and so do faults and changes of small states.
@@ -56,6 +57,17 @@ pub fn refusals_change_nothing()
     ensures step { RefusedStepBreaks }
     ensures fault { FaultBreaks }
     ensures broken { BrokenStaysBroken }
+{}
+
+/// Where several tests refuse an event, the first refusal of one fixed order is told, and no event is refused without a test.
+/// So an end while a call runs is refused, and a close by want of memory alone. A step that none refuses breaks the connection
+/// because its budget is met, tells its fault, breaks for want of a name or of memory, or is made: the first of these.
+pub fn first_refusals_are_told()
+    ensures told { FirstIsTold }
+    ensures connection { NoConnectionIsTold }
+    ensures step { StepsTell }
+    ensures end { BusyDoesNotEnd }
+    ensures close { OnlyMemoryRefusesClose }
 {}
 
 /// In each run calls stay inside their module, nothing is left between calls, and budgets are kept.

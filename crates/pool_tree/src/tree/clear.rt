@@ -2,8 +2,7 @@
 
 ghost use Rattle.std.specs.Prelude.{◌≡◌, ◌≢◌, ◌≤◌, IsTrue, IfOk, OnOk, OnErr, reverse, length, vec_capacity, [], ◌∷◌};
 ghost use Rattle.run_model.specs.Pools.{is_live, cleared, destroyed};
-ghost use Rattle.run_model.specs.RunOrder.{children, run_order, IsPoolMap};
-ghost use Rattle.run_model.specs.RunOrderLaws.{order_under};
+ghost use Rattle.run_model.specs.RunOrder.{children, run_order, IsPoolMap, order_under};
 ghost use Rattle.pool_tree.specs.Room.{IsRoomFor};
 ghost use Rattle.pool_tree.specs.Tree.{map_of};
 
@@ -30,10 +29,7 @@ impl<T: Drop> PoolTree<T> {
     {
         let mut count = self.records.payload_count(pool);
         for name in names {
-            count = match count.checked_add(self.records.payload_count(*name)) {
-                Some(sum) => sum,
-                None => return Err(AllocError),
-            };
+            count = count.saturating_add(self.records.payload_count(*name));
         }
         Vec::with_capacity(self.alloc, count)
     }

@@ -2,8 +2,7 @@
 
 ghost use Rattle.std.specs.Prelude.{◌≡◌, ◌≤◌, IsTrue, IfOk, OnOk, IfSome, [], ◌++◌, reverse, length, vec_capacity, sum_by};
 ghost use Rattle.run_model.specs.Pools.{is_live};
-ghost use Rattle.run_model.specs.RunOrder.{children, run_order};
-ghost use Rattle.run_model.specs.RunOrderLaws.{order_under};
+ghost use Rattle.run_model.specs.RunOrder.{children, run_order, order_under};
 ghost use Rattle.pool_tree.specs.Tree.{map_of};
 
 use super::{PoolId, PoolTree};

@@ -1,5 +1,5 @@
 use Rattle.run_model.specs.RunOrder.{own_run}
-use Rattle.run_model.specs.RunOrderLaws.{run_order_once, run_deep}
+use Rattle.run_model.proofs.RunOrderLaws.{run_order_once, run_deep}
 use Rattle.run_model.proofs.laws.run_orders_hold_each_payload_once.Goals as goal
 
 pub returns-clause-once : goal.returns-clause-once

@@ -2,8 +2,7 @@ use Rattle.std.proofs.Common.{◌≡◌, ◌∙◌, ◌++◌, ℕ, true, reverse
 use Rattle.std.specs.List.{flat_map}
 use Rattle.std.proofs.lemmas.List.{append-nil}
 use Rattle.run_model.specs.Pools.{is_in, is_live}
-use Rattle.run_model.specs.RunOrder.{children}
-use Rattle.run_model.specs.RunOrderLaws.{order, order_under}
+use Rattle.run_model.specs.RunOrder.{children, order, order_under}
 use Rattle.pool_tree.specs.Tree.{map_of}
 use Rattle.pool_tree.proofs.Walks.{children_live, found_step, waiting_left, last_waits, waits_on}
 use Rattle.pool_tree.proofs.tree.PoolTree.pools_under.Goals as goal

@@ -1,7 +1,7 @@
 use Rattle.std.proofs.Common.{◌≡◌, ℕ, true, ◌++◌, reverse, length}
 use Rattle.std.specs.List.{flat_map}
 use Rattle.run_model.specs.Pools.{is_in, is_live}
-use Rattle.run_model.specs.RunOrderLaws.{order, order_under}
+use Rattle.run_model.specs.RunOrder.{order, order_under}
 use Rattle.pool_tree.specs.Tree.{map_of}
 use Rattle.pool_tree.proofs.tree.PoolTree.pools_under.Given as goal
 

@@ -1,4 +1,5 @@
-use Rattle.std.proofs.Common.{◌≡◌, ◌≤◌, ◌∙◌, ◌+◌, IfOk, sym, ap, subst, arith, length, take, vec_capacity}
+use Rattle.std.proofs.Common.{◌≡◌, ◌≤◌, ◌+◌, subst, arith, length, take, vec_capacity}
+use Rattle.std.proofs.lemmas.Result.{IfOk-weaker}
 use Rattle.std.specs.List.{flat_map}
 use Rattle.std.proofs.lemmas.List.{take_all}
 use Rattle.run_model.specs.RunOrder.{run_order}
@@ -12,12 +13,14 @@ pub loop-name-init : goal.loop-name-init
 loop-name-init g c = omega (arith, c.payload_count-count.ensures, own_length (record_of c.args.self.now.records) c.args.pool)
 
 pub loop-name-preserved : goal.loop-name-preserved
-loop-name-preserved g c =
+loop-name-preserved g c small =
+    let before = c.loop-name.invariant (omega (arith, small, c.saturating_add-count.ensures)) in
     omega (
       arith,
-      c.in-Some.ensures,
+      small,
+      before,
+      c.saturating_add-count.ensures,
       c.payload_count.ensures,
-      c.loop-name.invariant,
       counted_more (record_of c.args.self.now.records) c.args.names.now c.loop-name.name-index c.loop-name-test.true,
     )
 
@@ -25,7 +28,7 @@ pub returns-clause-room : goal.returns-clause-room
 returns-clause-room g c =
     let records = record_of c.args.self.now.records in
     let all : take c.loop-name.name-index c.args.names.now ≡ c.args.names.now = take_all c.loop-name.name-index c.args.names.now c.loop-name-test.false in
-    let count : c.loop-name.count ≡ length (run_order (map_of c.args.self.now) c.args.pool)
-    = c.loop-name.invariant ∙ ap (λ xs. length (own_of records c.args.pool) + length (flat_map (own_of records) xs)) all
-    ∙ sym (run_length c.args.self.now c.args.pool c.args.names.now c.requires.live c.requires.under) in
-    subst (λ k. IfOk c.with_capacity.result (λ ran. k ≤ vec_capacity ran)) count c.with_capacity.ensures.capacity
+    let run = run_length c.args.self.now c.args.pool c.args.names.now c.requires.live c.requires.under in
+    IfOk-weaker c.with_capacity.result (λ ran. vec_capacity ran ≡ c.loop-name.count) (λ ran. length (run_order (map_of c.args.self.now) c.args.pool) ≤ vec_capacity ran)
+    (λ ran exact. let counted = c.loop-name.invariant (omega (arith, exact, ran.small)) in omega (arith, exact, run, subst (λ names. c.loop-name.count ≡ length (own_of records c.args.pool) + length (flat_map (own_of records) names)) all counted))
+    c.with_capacity.ensures.exact

@@ -1,0 +1,444 @@
+"""Random scripts.
+
+A script is written beside the reading: the generator plays each command and each instruction on it as it writes them, so that
+it knows what is live, empty, passed or dead, and rarely writes what is a fault by accident. Each call of a handler has code of
+its own; counters in n6 and n7 lead to it. What a test did can be told from the labels of the connection's pool.
+"""
+from odd import NUMBERS, ODD_COMMANDS, change, odd_line, quote, some_bytes
+from reading.counts import uncounted
+from reading.events import Host
+from reading.pools import DEAD
+from reading.scripts import BadLine, answer
+from reading.steps import BUFFER
+from reading.texts import HANDLERS, MOST_TEXTS, OPERANDS, TEXT_LIMIT, U32, Module, number_or_constant
+
+MOST = 2 ** 64 - 1
+FILE_NAMES = ['a', 'b', 'c', 'f1', 'abcdefghij012345']
+COUNTERS = {'init': 6, 'main': 7}
+# How often each instruction is taken; what is not named is taken once.
+OFTEN = {'pcreate': 5, 'pclear': 2, 'label': 2, 'bcreate': 5, 'bclean': 4, 'bconcat': 6, 'bsave': 7, 'pass': 5, 'jempty': 2,
+         'add': 2, 'sub': 2, 'jump': .3, 'ret': 0}
+# Faults that seldom come about are written so many times as often.
+SELDOM = {'F2': .5, 'F5': 1000, 'F6': 200, 'F7': 5, 'F8': 100}
+
+
+class Writer:
+    """Writes one script that is right as a text."""
+
+    def __init__(self, rng):
+        self.rng = rng
+        self.module = self.declarations()
+        self.host = Host(self.module)
+        self.handler = 'open'
+        self.calls = {handler: [] for handler in HANDLERS}      # the code of each call
+        self.lines = []                                         # the code of the call that is written
+        self.labels = self.texts = 0
+        self.wrong = rng.choice([0, .001, .005, .02, .1])       # the chance that a fault is written
+        self.length = rng.choice([1, 3, 6, 6, 12, 25])
+        self.kinds = rng.choice([['heap', 'transient', 'immortal', 'pool'], ['pool', 'heap'], ['pool'], ['heap', 'transient'],
+                                 ['immortal', 'pool']])
+        self.file_chance = rng.choice([0, .3, .7, .9])
+        self.is_endless = False
+        self.keeps = rng.random() < .5                          # brigades are rarely cleaned and passed
+        self.keeps_files = rng.random() < .25                   # what comes are files, which are kept past their requests
+        if self.keeps_files:
+            self.keeps, self.file_chance, self.kinds, self.wrong = True, .9, ['pool'], .003
+        self.commands = []
+
+    def declarations(self):
+        """A module of pools and brigades, whose handlers are not there yet."""
+        rng, module = self.rng, Module()
+        for _ in range(rng.choice([0, 1, 2, 3, 3, 4, 5, 8])):
+            module.pools.append(rng.choice(['conn', 'conn', 'req'] + 2 * list(range(len(module.pools)))))
+        for _ in range(rng.choice([0, 1, 2, 3, 3, 4, 6, 8])):
+            module.brigades.append(rng.choice(['conn', 'conn', 'req'] + 2 * list(range(len(module.pools)))))
+        module.start = {handler: 0 for handler in HANDLERS}
+        return module
+
+    # Operands, each as its word and as the reading has it.
+
+    def under_request(self, pool):
+        while pool not in ('conn', 'req'):
+            pool = self.module.pools[pool]
+        return pool == 'req'
+
+    def may_name(self, pool):
+        return self.handler != 'open' or not self.under_request(pool)
+
+    def operands_of(self, kind):
+        """The operands of a kind that the handler may name."""
+        pools = [('p%d' % i, i) for i in range(len(self.module.pools)) if self.may_name(i)]
+        brigades = [('b%d' % i, i) for i, pool in enumerate(self.module.brigades) if self.may_name(pool)]
+        roots = [('conn', 'conn')] + [('req', 'req')] * (self.handler != 'open')
+        brought = [('in', 'in')] * (self.handler == 'main')
+        if kind == 'V':
+            return [(word, (word[0], number)) for word, number in pools + brigades]
+        return {'P': roots + pools, 'Q': pools, 'B': brigades + 2 * brought, 'O': brigades}[kind]
+
+    def operand(self, kind):
+        """A random operand of a kind, or None where there is none."""
+        rng = self.rng
+        if kind in 'PQBOV':
+            choices = self.operands_of(kind)
+            return rng.choice(choices) if choices else None
+        if kind == 'N':
+            number = rng.randrange(6)
+            return 'n%d' % number, number
+        if kind == 'X':
+            near = min(U32, max(0, rng.choice(self.host.numbers) + rng.choice([-1, 0, 0, 1])))
+            word = rng.choice(['n%d' % rng.randrange(8), str(rng.choice(NUMBERS)), str(near)])
+            return word, number_or_constant(word)
+        if kind == 'T':
+            data = rng.choice([b'1', b'2', b'a\n', b'', some_bytes(rng)])
+            return quote(rng, data), data
+        self.labels += 1
+        return 'l%d' % self.labels, 'taken'
+
+    def instruction(self, word=None):
+        """A random instruction of this word, or of any: its line, and as the reading has it; None where an operand is
+        wanting."""
+        if word is None:
+            words = [word for word in OPERANDS if word != 'pass' or self.handler == 'main']
+            word = self.rng.choices(words, [OFTEN.get(word, 1) for word in words])[0]
+        if 'T' in OPERANDS[word] and self.texts >= MOST_TEXTS - 1:
+            return None
+        operands = [self.operand(kind) for kind in OPERANDS[word]]
+        if None in operands or word in ('bconcat', 'bsave') and operands[0] == operands[1]:
+            return None
+        return ' '.join([word] + [text for text, _ in operands]), (word, *[value for _, value in operands])
+
+    # The code of a call.
+
+    def do(self, instruction):
+        """Does an instruction on the reading. A jump that is taken leaves the place 'taken'."""
+        self.host.call.pc = 0
+        self.host.do(instruction)
+
+    def pointless(self, instruction):
+        """Whether an instruction would do next to nothing: such are written rarely."""
+        word, *operands = instruction
+        if word in ('bconcat', 'bsave'):
+            return not self.host.brigade_of(operands[1]).buckets
+        if word == 'bclean':
+            return not self.host.brigade_of(operands[0]).passed
+        if word == 'pass':
+            return self.keeps or not self.host.brigade_of(operands[0]).buckets
+        if word == 'pdestroy':
+            return len(self.host.children(self.host.pool_of(operands[0]))) == 0
+        return False
+
+    def step(self, word=None):
+        """Writes an instruction and does it; gives whether the call goes on."""
+        for _ in range(12):
+            found = self.instruction(word)
+            if found is None:
+                continue
+            line, instruction = found
+            fault = self.host.fault_of(instruction)
+            if fault and self.rng.random() >= self.wrong * SELDOM.get(fault, 1):
+                continue
+            if not fault and self.pointless(instruction) and self.rng.random() < .8:
+                continue
+            self.lines.append(line)
+            self.texts += 'T' in OPERANDS[instruction[0]]
+            if fault:
+                self.lines += [':' + line.split(' ')[-1]] * ('L' in OPERANDS[instruction[0]])
+                return False
+            self.do(instruction)
+            if 'L' in OPERANDS[instruction[0]]:
+                self.after_jump(line.split(' ')[-1])
+            return True
+        return True
+
+    def after_jump(self, label):
+        """What stands between a jump and its label: something that is skipped, or a label that tells it was not."""
+        if self.host.call.pc == 'taken':
+            found = self.instruction() if self.rng.random() < .5 else None
+            if found:
+                line = found[0]
+                self.texts += ' "' in line
+                self.lines.append(line)
+                if found[1][-1] == 'taken':
+                    self.lines.append(':' + line.split(' ')[-1])
+        elif self.texts < MOST_TEXTS - 1 and self.rng.random() < .8:
+            self.texts += 1
+            self.lines.append('label conn "%d"' % self.texts)
+            self.do(('label', 'conn', b'%d' % self.texts))
+        self.lines.append(':' + label)
+
+    def fill_buffer(self):
+        """A loop that fills the buffer, or nearly."""
+        rng = self.rng
+        self.labels += 2
+        again, full = 'l%d' % (self.labels - 1), 'l%d' % self.labels
+        count = rng.choice([3, 4000, 7999, 8000, 8001])
+        self.lines += ['set n5 0', ':' + again, 'put %s %s' % (rng.choice(['0', '255']), full), 'add n5 1',
+                       'jlt n5 %d %s' % (count, again), ':' + full]
+        self.host.numbers[5] = min(count, BUFFER - self.host.call.buffered)
+        self.host.call.buffered += self.host.numbers[5]
+
+    def write_call(self):
+        """Writes the code of the call that runs, up to its end or its fault."""
+        rng, host = self.rng, self.host
+        self.lines = []
+        if self.handler in COUNTERS:
+            host.numbers[COUNTERS[self.handler]] += 1
+        if rng.random() < .01:
+            self.lines += [':again%d' % self.labels, 'jump again%d' % self.labels]
+            self.labels += 1
+            self.is_endless = True
+            host.broken = 'OutOfSteps'
+        elif all(self.some_step() for _ in range(rng.randint(0, 2 * self.length))):
+            self.end_call()
+        else:
+            self.lines.append('ret ok')
+            host.broken = 'Faulted'
+        self.calls[self.handler].append(self.lines)
+
+    def some_step(self):
+        """A step; often one that does something about what was brought."""
+        chance = self.rng.random()
+        if chance < .01:
+            self.fill_buffer()
+            return True
+        brought = self.host.brought
+        if brought and brought.buckets and chance < .4:
+            return self.step(self.rng.choice(['bconcat', 'bsave'] if self.keeps_files else ['bconcat', 'bsave', 'bsave', 'pass']))
+        homes = [bucket.home for bucket in self.host.all_buckets()]
+        if DEAD in homes and chance < .3 and self.handler == 'main':
+            return self.step(self.rng.choice(['bsave', 'pass', 'bconcat']))
+        if any(kind == 'pool' for kind, _ in homes) and chance < .1:
+            return self.step(self.rng.choice(['pclear', 'pdestroy']))
+        return self.step()
+
+    def end_call(self):
+        """Cleans what may not be kept, mostly, and returns."""
+        host = self.host
+        for i, name in enumerate(host.brigade_variables):
+            brigade = host.brigades.get(name)
+            kept = brigade and any(bucket.home[0] == 'call' for bucket in brigade.buckets)
+            if brigade and self.may_name(self.module.brigades[i]) and (
+                    brigade.passed and self.rng.random() < .7 or
+                    kept and not brigade.passed and self.rng.random() >= self.wrong * SELDOM['F6']):
+                self.lines.append('bclean b%d' % i)
+                self.do(('bclean', i))
+        status = 'fail' if self.handler == 'main' and self.rng.random() < .1 else 'ok'
+        self.lines.append('ret ' + status)
+        if host.fault_of(('ret', status)):
+            host.broken = 'Faulted'
+        else:
+            self.do(('ret', status))
+
+    # Commands.
+
+    def command(self, line):
+        """Writes a command and plays it; a call that is to run gets its code."""
+        host = self.host
+        self.commands.append(line)
+        if line == 'run 1' and host.there and host.call and not host.broken:
+            self.write_call()
+            return
+        try:
+            told = answer(host, line)
+        except BadLine:
+            return
+        word = line.split(' ')[0]
+        if word in ('open', 'begin', 'bring') and not told.startswith('refused'):
+            self.handler = {'open': 'open', 'begin': 'init', 'bring': 'main'}[word]
+
+    def file(self):
+        """A new file."""
+        rng = self.rng
+        names = [name for name in FILE_NAMES if name not in self.host.files]
+        if names:
+            data, count = some_bytes(rng, 2), rng.choice([0, 1, 2, 10, 1000, 7999, 8000, 8001, 16001])
+            if rng.random() < .03:
+                data, count = b'', U32
+            self.command('file %s %d %s' % (rng.choice(names), count, quote(rng, data)))
+
+    def piece(self):
+        rng, files = self.rng, self.host.files
+        if files and rng.random() < self.file_chance:
+            name = rng.choice(sorted(files))
+            most = len(files[name])
+            start = rng.choice([0, 0, 1, most // 2, most, min(most, 8000)])
+            start = min(start, most)
+            length = rng.choice([most - start, most - start, 0, min(most - start, 8000), min(most - start, 8001)])
+            if rng.random() < .04:
+                name = rng.choice([name, 'zz'])
+                start, length = rng.choice([0, 1, most, most + 1, MOST]), rng.choice([0, 1, most, most + 1, MOST])
+            return 'file %s %d %d' % (name, start, length)
+        return 'flush' if rng.random() < .1 else '%s %s' % (rng.choice(self.kinds), quote(rng, some_bytes(rng)))
+
+    def bring(self):
+        """A brigade; now and then with an EOS, and rarely with data behind it."""
+        rng = self.rng
+        pieces = [self.piece() for _ in range(rng.choice([0, 1, 1, 2, 2, 3, 6]))]
+        if rng.random() < .25:
+            pieces.append('eos')
+            if rng.random() < .2:
+                pieces.append(rng.choice(['flush', 'eos', self.piece()]))
+        self.command(' '.join(['bring 1'] + pieces))
+
+    def stray(self):
+        """A command that may be refused."""
+        rng = self.rng
+        word = rng.choice(['begin', 'end', 'run', 'run', 'output', 'labels', 'pools', 'bring', 'file', 'close'])
+        if word == 'pools':
+            self.command(word)
+        elif word == 'file':
+            self.file()
+        elif word == 'bring' and rng.random() < .8:
+            self.bring()
+        elif word != 'close' or rng.random() < .2:
+            self.command('%s %s' % (word, 1 if rng.random() < .93 else rng.choice([0, 2, 9, MOST])))
+
+    def in_order(self):
+        """Commands in the order that a connection allows, now and then with a stray one."""
+        rng = self.rng
+        stray = rng.choice([0, 0, .05, .2])
+
+        def between():
+            if rng.random() < stray:
+                self.stray()
+
+        for _ in range(2 if self.keeps_files else rng.choice([0, 1, 2])):
+            self.file()
+        for line in ('open', 'run 1'):
+            self.command(line)
+            between()
+        for _ in range(rng.choice([1, 2, 2, 3])):
+            for line in ('begin 1', 'run 1'):
+                self.command(line)
+                between()
+            for _ in range(rng.choice([0, 1, 2, 3, 4])):
+                self.bring()
+                between()
+                self.command('run 1')
+                if rng.random() < .3:
+                    self.command(rng.choice(['output 1', 'output 1', 'pools', 'labels 1']))
+            self.command('end 1')
+        for line in ('output 1', 'labels 1', 'pools', 'close 1', 'pools'):
+            self.command(line)
+
+    def script(self):
+        """The module's lines and the commands."""
+        if self.rng.random() < .85:
+            self.in_order()
+        else:
+            for _ in range(self.rng.randint(0, 3)):
+                self.stray()
+            self.command('open')
+            for _ in range(self.rng.randint(1, 30)):
+                self.stray()
+        return self.module_lines(), self.budget() + self.commands
+
+    def budget(self):
+        """Mostly none, but always one for a module with a loop that does not end."""
+        chance = self.rng.random()
+        if chance < .08:
+            return ['budget %d' % self.rng.choice([0, 1, 2, 3, 5, 8, 13, 20, 50, 100])]
+        if self.is_endless:
+            return ['budget 1000']
+        return ['budget %d' % self.rng.choice([60000, MOST])] if chance < .2 else []
+
+    def module_lines(self):
+        def pool(name):
+            return name if name in ('conn', 'req') else 'p%d' % name
+
+        lines = ['module 1']
+        lines += ['pool p%d %s' % (i, pool(name)) for i, name in enumerate(self.module.pools)]
+        lines += ['brigade b%d %s' % (i, pool(name)) for i, name in enumerate(self.module.brigades)]
+        for handler in HANDLERS:
+            lines += [handler] + self.dispatch(handler)
+        return lines + ['end']
+
+    def dispatch(self, handler):
+        """The code of a handler: it counts its calls, and goes to the code of the one that runs."""
+        calls = self.calls[handler] or [['ret ok']]
+        if handler == 'open':
+            return calls[0]
+        counter = COUNTERS[handler]
+        lines = ['add n%d 1' % counter]
+        lines += ['jeq n%d %d %sat%d' % (counter, k + 1, handler[0], k) for k in range(1, len(calls))]
+        for k, code in enumerate(calls):
+            lines += [':%sat%d' % (handler[0], k)] * (k > 0) + code
+        return lines
+
+
+# The kinds of scripts, as lists of lines.
+
+def played(rng):
+    """A script that is right as a text; of some, the module or the commands are changed."""
+    module, commands = Writer(rng).script()
+    chance = rng.random()
+    if chance < .13:
+        module = change(rng, module)
+    elif chance < .18:
+        commands = change(rng, commands)
+    elif chance < .22:
+        commands.insert(rng.randrange(len(commands) + 1), rng.choice(ODD_COMMANDS))
+    elif chance < .24:
+        commands.insert(0, rng.choice(['', '# x', 'module 1', 'checked', 'cert 1'] + ODD_COMMANDS))
+    return module + commands
+
+
+def odd_module(rng):
+    """A small module with odd lines."""
+    lines = ['module 1']
+    pools = rng.choice([0, 1, 2, 3])
+    lines += ['pool p%d %s' % (i, rng.choice(['conn', 'req'] + ['p%d' % j for j in range(i)])) for i in range(pools)]
+    lines += ['brigade b%d %s' % (i, rng.choice(['conn', 'req'] + ['p%d' % j for j in range(pools)]))
+              for i in range(rng.choice([0, 1, 2, 3]))]
+    for handler in HANDLERS:
+        label = rng.choice([handler, handler, handler, 'main'])
+        lines += [handler, ':' + handler] + [odd_line(rng, label) for _ in range(rng.choice([0, 0, 1, 2]))]
+        lines.append(rng.choice(['ret ok'] * 7 + ['clearbuf', 'ret fail']))
+    return lines + ['end', 'open', 'run 1', 'pools']
+
+
+def odd_labels(rng):
+    """Few names of labels in all handlers: doubled ones, missing ones, and such as nothing follows."""
+    lines, names = ['module 1'], ['a', 'b', 'c', 'd'][:rng.choice([1, 2, 3, 4])]
+    for handler in HANDLERS:
+        lines.append(handler)
+        for _ in range(rng.choice([0, 1, 2, 3, 5])):
+            lines.append(rng.choice([':%s', ':%s', 'jump %s', 'jsent %s', 'put 1 %s', 'jeq n0 1 %s', 'ret ok'])
+                         .replace('%s', rng.choice(names)))
+        lines += ['ret ok'] * (rng.random() < .8) + [':' + rng.choice(names)] * (rng.random() < .1)
+    return lines + ['end', 'budget 50', 'open', 'run 1', 'begin 1', 'run 1', 'bring 1 heap "a" eos', 'run 1', 'close 1']
+
+
+def at_limits(rng):
+    """About as many instructions, texts or bytes of a text, and a command about as long, as may be."""
+    kind = rng.randrange(4)
+    code = []
+    if kind == 0:
+        code = ['clearbuf'] * rng.choice([1020, 1021, 1022])
+    elif kind == 1:
+        code = ['%s conn "%d"' % (rng.choice(['label', 'unlabel']), i % 9) for i in range(rng.choice([63, 64, 65]))]
+    elif kind == 2:
+        code = ['label conn ' + quote(rng, b'a"' * 127 + b'b' * rng.choice([0, 1, 2]))]
+    lines = ['module 1', 'open'] + code + ['ret ok', 'init', 'ret ok', 'main', 'pass in x', ':x', 'ret ok', 'end']
+    if kind == 2 and rng.random() < .3:
+        lines = ['#' * rng.choice([TEXT_LIMIT - 100, TEXT_LIMIT - 1, TEXT_LIMIT])] + lines
+    lines += ['open', 'run 1', 'pools', 'begin 1', 'run 1']
+    if kind == 3:
+        lines.append('bring 1 heap "%s" eos' % ('z' * (rng.choice([65535, 65536, 65537]) - len('bring 1 heap "" eos'))))
+    return lines + ['bring 1', 'run 1', 'output 1', 'close 1']
+
+
+KINDS = [(.83, played), (.95, odd_module), (.992, odd_labels), (1, at_limits)]
+
+
+def random_script(rng):
+    """The bytes of a random script."""
+    chance = rng.random()
+    kind = next(kind for limit, kind in KINDS if chance < limit)
+    with uncounted():
+        lines = kind(rng)
+    text = '\n'.join(lines).encode('latin-1') + b'\n'
+    chance = rng.random()
+    if chance < .01:
+        return text[:-1]
+    return text[:rng.randrange(len(text) + 1)] if chance < .02 else text
