@@ -7,11 +7,13 @@ use Rattle.std.specs.Io.KnownBytes.{Appends, Consumes, IsAtEnd}
 use Rattle.module_lang.specs.Program.{Program}
 use Rattle.module_lang.specs.declared.refusal.Code.{Code}
 use Rattle.module_lang.specs.Codes.{code_number}
-use Rattle.module_lang.specs.FirstFault.{IsFirstFault}
+use Rattle.module_lang.specs.FirstFault.{Reads}
+use Rattle.module_lang.specs.declared.refusal.AsmRefusal.TheVariants as asm
+use Rattle.module_lang.specs.TextLines.{Line, lines_of}
 use Rattle.host_cli.specs.declared.ended.Ended.{Ended}
 use Rattle.host_cli.specs.declared.ended.Ended.TheVariants as ended
 use Rattle.host_cli.specs.declared.lines.ModuleCut.{ModuleCut}
-use Rattle.host_cli.specs.Lines.{Line, lines_of, module_cut}
+use Rattle.host_cli.specs.Lines.{module_cut}
 use Rattle.host_cli.specs.Replies.{reply_line, asm_line}
 use Rattle.host_cli.specs.Plays.{IsPlayed, IsPlayedSoFar, IsWrittenFor, IsFrontOf, IsCutOf, Writes, lines_of_replies, last_line, ended_at}
 
@@ -27,10 +29,10 @@ played_on budget p first lines text f =
     }
 
 -- The first fault of the module text is told, as code cuts the script and holds the fault.
-pub tells_fault : (script text old : List ℕ) (cut : ModuleCut) (n m k : ℕ) (c : Code) → cut ≡ module_cut (lines_of script) → IsFirstFault (take cut.size script) n c → m ≡ n → k ≡ code_number c → old ≡ [] → text ≡ old ++ asm_line m k → IsWrittenFor script text ended.Refused
-tells_fault script text old cut n m k c e first same number none written =
-    let P : ModuleCut → Type 0 = λ x. IsFirstFault (take x.size script) n c in
-    inr (n, c, subst P e first, written ∙ ap (λ l. l ++ asm_line m k) none ∙ ap (λ x. asm_line x k) same ∙ ap (asm_line n) number, refl)
+pub tells_fault : (script text old : List ℕ) (cut : ModuleCut) (n m k : ℕ) (c : Code) → cut ≡ module_cut (lines_of script) → Reads (take cut.size script) (Err (asm.Fault n c)) → m ≡ n → k ≡ code_number c → old ≡ [] → text ≡ old ++ asm_line m k → IsWrittenFor script text ended.Refused
+tells_fault script text old cut n m k c e reads same number none written =
+    let P : ModuleCut → Type 0 = λ x. Reads (take x.size script) (Err (asm.Fault n c)) in
+    (Err (asm.Fault n c), subst P e reads, (written ∙ ap (λ l. l ++ asm_line m k) none ∙ ap (λ x. asm_line x k) same ∙ ap (asm_line n) number, refl))
 
 cut_of_text : (script text : List ℕ) (e : Ended) → IsWrittenFor script text e → IsCutOf script text
 cut_of_text script text e w =
@@ -39,7 +41,7 @@ cut_of_text script text e w =
 
 cut_of_front : (script text : List ℕ) → IsFrontOf script text → IsCutOf script text
 cut_of_front script text (inl e) = inl e
-cut_of_front script text (inr (p, is, f)) = inr (lines_of_replies f.left ++ last_line f.fault, ended_at f.fault, inl (p, is, played_on _ p _ _ text f))
+cut_of_front script text (inr (p, is, f)) = inr (lines_of_replies f.left ++ last_line f.fault, ended_at f.fault, (Ok p, is, played_on _ p _ _ text f))
 
 pub cut_of_played : {E : Type 0} (r : Result Ended E) (script text : List ℕ) → IfOk r (λ e. IsWrittenFor script text e) → OnErr r (IsFrontOf script text) → IsCutOf script text
 cut_of_played (Ok e) script text w f = cut_of_text script text e w

@@ -18,7 +18,7 @@ use Rattle.host_cli.specs.declared.command.Command.{Command}
 use Rattle.host_cli.specs.declared.reply.Reply.{Reply}
 use Rattle.host_cli.specs.declared.reply.Reply.TheVariants as reply
 use Rattle.host_cli.specs.Actions.{Action, Opening, Adding, Happening, Bringing, Running, action_of, is_for_first, opens}
-use Rattle.host_cli.specs.Lines.{Line}
+use Rattle.module_lang.specs.TextLines.{Line}
 use Rattle.host_cli.specs.Plays.{told, told_open, ran, run_of, if_opened, IfOpened, brought_after, bring_of, answered, served, Brings, MayBring, MayRun, MayAnswer, Serves, due_at, Plays, unless_none, and_then, played, refusal_names_memory, names_memory}
 use Rattle.host_cli.proofs.StepLaws.{lost, same_step, ran_ends, ran_only, goes_below}
 

@@ -1,5 +1,5 @@
 -- The play of commands, line by line.
-use Rattle.std.proofs.Common.{◌≡◌, ℕ, ◌+◌, ◌<◌, ◌≤◌, Bool, true, false, ◌||◌, not, cond, List, [], ◌∷◌, ◌++◌, length, drop, Option, Some, None, Result, Ok, Err, OnErr, refl, ap, sym, ◌∙◌, subst, append_assoc, is_some}
+use Rattle.std.proofs.Common.{◌≡◌, ℕ, ◌+◌, Bool, true, false, ◌||◌, not, cond, List, [], ◌∷◌, ◌++◌, length, Option, Some, None, Result, Ok, Err, OnErr, refl, ap, sym, ◌∙◌, subst, append_assoc, is_some}
 use Rattle.std.proofs.lemmas.List.{append-nil}
 use Rattle.std.proofs.lemmas.Grind.{flat_map-append}
 use Rattle.module_lang.specs.Program.{Program}
@@ -10,11 +10,11 @@ use Rattle.host_cli.specs.declared.reply.Reply.{Reply}
 use Rattle.host_cli.specs.declared.ended.Ended.TheVariants as ended
 use Rattle.host_cli.specs.Actions.{Action, Opening, Adding, Happening, Bringing, Running, action_of, opens}
 use Rattle.host_cli.specs.Replies.{reply_line, script_line}
-use Rattle.host_cli.specs.Lines.{Line, lines_of, first_line, width}
+use Rattle.module_lang.specs.TextLines.{Line, lines_of}
 use Rattle.host_cli.specs.Plays.{Serves, is_due, if_due, due_at, Plays, played, IsPlay, IsPlayed, IsPlayedSoFar, lines_of_replies, last_line, ended_at}
 use Rattle.host_cli.specs.Host.{IsDue, is_before}
 use Rattle.host_cli.proofs.PlayLaws.{plays_only, ends_only, plays_so}
-use Rattle.host_cli.proofs.LineLaws.{rest_at, rest_is, lines_at, lines_end, same_line}
+use Rattle.host_cli.proofs.LineLaws.{lines_none}
 
 -- The text is the lines of the answers so far, which a play of these lines from this world on makes a play of all.
 pub record IsUnder (budget : ℕ) (p : Program) (first : ℕ) (all : List Line) (is_open : Bool) (number : ℕ) (rest : List Line) (w : World) (text : List ℕ) : Type 0 where
@@ -78,38 +78,26 @@ turn_goes budget p first all is_open number l ls w new text c r u due s =
           subst P (sym (append_assoc u.answered (r ∷ []) rs)) (u.goes (r ∷ rs) f (c, new, due, s, plays));
     }
 
--- the line at a place of the script, as code reads it
-abbrev pub is_line : List ℕ → ℕ → List ℕ → Bool → Type 0
-is_line script at text ended = (text ≡ (first_line (rest_at script at)).text) × (ended ≡ (first_line (rest_at script at)).ended)
-
-line_is : (script : List ℕ) (at : ℕ) (text : List ℕ) (ended : Bool) → is_line script at text ended → (record { text = text; ended = ended }) ≡ first_line (drop at script)
-line_is script at text ended h = same_line (rest_at script at) text ended h.0 h.1 ∙ ap first_line (rest_is script at)
-
-under_at : (budget : ℕ) (p : Program) (first : ℕ) (all : List Line) (is_open : Bool) (number at : ℕ) (script : List ℕ) (w : World) (text : List ℕ) → at < length script → IsUnder budget p first all is_open number (lines_of (drop at script)) w text → IsUnder budget p first all is_open number (first_line (drop at script) ∷ lines_of (drop (at + width (first_line (drop at script))) script)) w text
-under_at budget p first all is_open number at script w text h u =
-    let P : List Line → Type 0 = λ ls. IsUnder budget p first all is_open number ls w text in
-    subst P (lines_at script at h) u
-
-pub fault_at : (budget : ℕ) (p : Program) (first : ℕ) (all : List Line) (is_open : Bool) (number at : ℕ) (script : List ℕ) (w : World) (text out : List ℕ) (line : List ℕ) (has_lf : Bool) (o : Option Command) → IsUnder budget p first all is_open number (lines_of (drop at script)) w text → at < length script → is_line script at line has_lf → o ≡ due_at is_open w (record { text = line; ended = has_lf }) → o ≡ None → out ≡ text ++ script_line number → IsPlayed budget p first all out ended.Refused
-fault_at budget p first all is_open number at script w text out line has_lf o u h l d e t =
+-- The same at the front of a text, as code reads its first line.
+pub fault_at : (budget : ℕ) (p : Program) (first : ℕ) (all : List Line) (is_open : Bool) (number : ℕ) (rest : List Line) (l m : Line) (ls : List Line) (w : World) (text out : List ℕ) (o : Option Command) → IsUnder budget p first all is_open number rest w text → rest ≡ l ∷ ls → m ≡ l → o ≡ due_at is_open w m → o ≡ None → out ≡ text ++ script_line number → IsPlayed budget p first all out ended.Refused
+fault_at budget p first all is_open number rest l m ls w text out o u begins same d e t =
     let P : List ℕ → Type 0 = λ b. IsPlayed budget p first all b ended.Refused in
-    let none = ap (due_at is_open w) (sym (line_is script at line has_lf l)) ∙ sym d ∙ e in
-    subst P (sym t) (turn_fault budget p first all is_open number _ _ w text (under_at budget p first all is_open number at script w text h u) none)
+    let Q : List Line → Type 0 = λ x. IsUnder budget p first all is_open number x w text in
+    subst P (sym t) (turn_fault budget p first all is_open number l ls w text (subst Q begins u) (ap (due_at is_open w) (sym same) ∙ sym d ∙ e))
 
-pub goes_at : (budget : ℕ) (p : Program) (first : ℕ) (all : List Line) (is_open then_open : Bool) (number at wide : ℕ) (script : List ℕ) (w new : World) (text out : List ℕ) (line : List ℕ) (has_lf : Bool) (o : Option Command) (c : Command) → IsUnder budget p first all is_open number (lines_of (drop at script)) w text → at < length script → is_line script at line has_lf → wide ≡ width (first_line (rest_at script at)) → o ≡ due_at is_open w (record { text = line; ended = has_lf }) → o ≡ Some c → then_open ≡ is_open || opens c → ((r : Reply) × Serves budget p c w r new × (out ≡ text ++ reply_line r)) → IsUnder budget p first all then_open (number + 1) (lines_of (drop (at + wide) script)) new out
-goes_at budget p first all is_open then_open number at wide script w new text out line has_lf o c u h l z d e f (r, s, t) =
-    let some = ap (due_at is_open w) (sym (line_is script at line has_lf l)) ∙ sym d ∙ e in
-    let turned = turn_goes budget p first all is_open number _ _ w new text c r (under_at budget p first all is_open number at script w text h u) some s in
-    let wider = z ∙ ap (λ b. width (first_line b)) (rest_is script at) in
-    let P : List ℕ → Type 0 = λ b. IsUnder budget p first all then_open (number + 1) (lines_of (drop (at + wide) script)) new b in
-    let Q : Bool → Type 0 = λ b. IsUnder budget p first all b (number + 1) (lines_of (drop (at + wide) script)) new (text ++ reply_line r) in
-    let R : ℕ → Type 0 = λ n. IsUnder budget p first all (is_open || opens c) (number + 1) (lines_of (drop (at + n) script)) new (text ++ reply_line r) in
-    subst P (sym t) (subst Q (sym f) (subst R (sym wider) turned))
+pub goes_at : (budget : ℕ) (p : Program) (first : ℕ) (all : List Line) (is_open then_open : Bool) (number : ℕ) (rest : List Line) (l m : Line) (ls left : List Line) (w new : World) (text out : List ℕ) (o : Option Command) (c : Command) → IsUnder budget p first all is_open number rest w text → rest ≡ l ∷ ls → m ≡ l → left ≡ ls → o ≡ due_at is_open w m → o ≡ Some c → then_open ≡ is_open || opens c → ((r : Reply) × Serves budget p c w r new × (out ≡ text ++ reply_line r)) → IsUnder budget p first all then_open (number + 1) left new out
+goes_at budget p first all is_open then_open number rest l m ls left w new text out o c u begins same others d e f (r, s, t) =
+    let Q : List Line → Type 0 = λ x. IsUnder budget p first all is_open number x w text in
+    let turned = turn_goes budget p first all is_open number l ls w new text c r (subst Q begins u) (ap (due_at is_open w) (sym same) ∙ sym d ∙ e) s in
+    let P : List ℕ → Type 0 = λ b. IsUnder budget p first all then_open (number + 1) left new b in
+    let R : Bool → Type 0 = λ b. IsUnder budget p first all b (number + 1) left new (text ++ reply_line r) in
+    let S : List Line → Type 0 = λ x. IsUnder budget p first all (is_open || opens c) (number + 1) x new (text ++ reply_line r) in
+    subst P (sym t) (subst R (sym f) (subst S (sym others) turned))
 
-pub end_at : (budget : ℕ) (p : Program) (first : ℕ) (all : List Line) (is_open : Bool) (number at : ℕ) (script : List ℕ) (w : World) (text : List ℕ) → length script ≤ at → IsUnder budget p first all is_open number (lines_of (drop at script)) w text → IsPlayed budget p first all text ended.Done
-end_at budget p first all is_open number at script w text h u =
+pub end_at : (budget : ℕ) (p : Program) (first : ℕ) (all : List Line) (is_open : Bool) (number : ℕ) (rest : List ℕ) (w : World) (text : List ℕ) → length rest ≡ 0 → IsUnder budget p first all is_open number (lines_of rest) w text → IsPlayed budget p first all text ended.Done
+end_at budget p first all is_open number rest w text h u =
     let P : List Line → Type 0 = λ ls. IsUnder budget p first all is_open number ls w text in
-    turn_end budget p first all is_open number w text (subst P (lines_end script at h) u)
+    turn_end budget p first all is_open number w text (subst P (lines_none rest h) u)
 
 pub front_at : (budget : ℕ) (p : Program) (first : ℕ) (all : List Line) (is_open : Bool) (number : ℕ) (rest : List Line) (w : World) (text out : List ℕ) → IsUnder budget p first all is_open number rest w text → out ≡ text → IsPlayedSoFar budget p first all out
 front_at budget p first all is_open number rest w text out u e =

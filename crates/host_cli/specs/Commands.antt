@@ -10,7 +10,7 @@ use Rattle.host_cli.specs.declared.command.Takes.TheVariants as takes
 use Rattle.host_cli.specs.declared.command.Command.{Command}
 use Rattle.host_cli.specs.declared.command.Command.TheVariants as command
 use Rattle.host_cli.specs.declared.operands.Operands.{Operands}
-use Rattle.host_cli.specs.Words.{first_word, after_word}
+use Rattle.module_lang.specs.Bytes.{token, after_token}
 use Rattle.host_cli.specs.Operands.{operands_at}
 use Rattle.host_cli.specs.FileLines.{file_line_of}
 
@@ -55,12 +55,12 @@ words = word.Open ∷ word.Begin ∷ word.End ∷ word.Bring ∷ word.Run ∷ wo
 
 -- the word that is written so
 unfoldable pub word_at : List ℕ → Option Word
-word_at token = find (λ w. pointwise nat_eq (word_text w) token) words
+word_at text = find (λ w. pointwise nat_eq (word_text w) text) words
 
 -- a command other than `file`
 abbrev pub word_command_of : List ℕ → Option Command
 word_command_of line =
-    option_and_then (λ w. option_map (command_with w) (operands_at (takes_of w) (after_word line))) (word_at (first_word line))
+    option_and_then (λ w. option_map (command_with w) (operands_at (takes_of w) (after_token line))) (word_at (token line))
 
 -- the command that a line says
 unfoldable pub command_of : List ℕ → Option Command

@@ -3,7 +3,8 @@ use Rattle.std.specs.Prelude.{ℕ, ◌^◌, nat_lt, ◌==◌, if◌then◌else�
 use Rattle.module_lang.specs.Names.{is_name}
 use Rattle.module_lang.specs.Quoted.{Quoted, quoted}
 use Rattle.host_cli.specs.declared.file_line.FileLine.{FileLine}
-use Rattle.host_cli.specs.Words.{first_word, after_word, number_at, after_number}
+use Rattle.module_lang.specs.Bytes.{token, after_token}
+use Rattle.host_cli.specs.Words.{number_at, after_number}
 
 -- a number below 2^32
 abbrev pub count_in : Option ℕ → Option ℕ
@@ -28,6 +29,6 @@ file_with name (Some count) (Some text) = Some (record { name = name; count = co
 -- what follows `file` and a space: a name, a number and a text
 unfoldable pub file_line_of : List ℕ → Option FileLine
 file_line_of bytes =
-    if is_name (first_word bytes)
-    then file_with (first_word bytes) (count_in (number_at (after_word bytes))) (last_text (after_number (after_word bytes)))
+    if is_name (token bytes)
+    then file_with (token bytes) (count_in (number_at (after_token bytes))) (last_text (after_number (after_token bytes)))
     else None

@@ -5,7 +5,6 @@ pub mod Pieces
 pub mod Operands
 pub mod FileLines
 pub mod Commands
-pub mod Numbers
 pub mod Actions
 pub mod Host
 pub mod Replies

@@ -11,7 +11,8 @@ use Rattle.host_cli.specs.declared.pieces.TextKind.TheVariants as kind
 use Rattle.host_cli.specs.declared.pieces.ScriptPiece.{ScriptPiece}
 use Rattle.host_cli.specs.declared.pieces.ScriptPiece.TheVariants as script_piece
 use Rattle.host_cli.specs.declared.pieces.PieceRead.{PieceRead}
-use Rattle.host_cli.specs.Words.{first_word, after_word, number_at, after_number, is_parted, is_empty}
+use Rattle.module_lang.specs.Bytes.{token, after_token}
+use Rattle.host_cli.specs.Words.{number_at, after_number, is_parted, is_empty}
 
 -- the word before a text, with the spaces around it
 unfoldable pub word_of : TextKind → List ℕ
@@ -64,12 +65,12 @@ range_of name (Some start) (Some len) used = Some (record { piece = script_piece
 
 -- what follows a name and the first number
 abbrev pub after_start : List ℕ → List ℕ
-after_start bytes = after_number (after_word bytes)
+after_start bytes = after_number (after_token bytes)
 
 abbrev pub range_from : List ℕ → Option PieceRead
 range_from bytes =
-    if is_name (first_word bytes)
-    then range_of (first_word bytes) (number_at (after_word bytes)) (number_at (after_start bytes)) (6 + (length bytes - length (after_number (after_start bytes))))
+    if is_name (token bytes)
+    then range_of (token bytes) (number_at (after_token bytes)) (number_at (after_start bytes)) (6 + (length bytes - length (after_number (after_start bytes))))
     else None
 
 -- the piece `file`, a name, and where the range begins and how long it is

@@ -4,9 +4,10 @@ use Rattle.std.specs.List.{list_any}
 use Rattle.std.specs.Io.KnownBytes.{Appends}
 use Rattle.module_lang.specs.Program.{Program}
 use Rattle.module_lang.specs.Codes.{code_number}
-use Rattle.module_lang.specs.Texts.{IsTextOf}
-use Rattle.module_lang.specs.FirstFault.{IsFirstFault}
-use Rattle.module_lang.specs.declared.refusal.Code.{Code}
+use Rattle.module_lang.specs.TextLines.{Line, lines_of}
+use Rattle.module_lang.specs.FirstFault.{Reads}
+use Rattle.module_lang.specs.declared.refusal.AsmRefusal.{AsmRefusal}
+use Rattle.module_lang.specs.declared.refusal.AsmRefusal.TheVariants as asm
 use Rattle.run_model.specs.declared.event.Cause.TheVariants as cause
 use Rattle.run_model.specs.declared.event.Event.TheVariants as event
 use Rattle.run_model.specs.declared.event.Refusal.{Refusal}
@@ -30,7 +31,7 @@ use Rattle.host_cli.specs.declared.script.Header.{Header}
 use Rattle.host_cli.specs.Actions.{Action, Opening, Adding, Happening, Bringing, Running, action_of, is_for_first, opens}
 use Rattle.host_cli.specs.Host.{is_had}
 use Rattle.host_cli.specs.Replies.{reply_line, asm_line, script_line}
-use Rattle.host_cli.specs.Lines.{Line, lines_of, module_cut}
+use Rattle.host_cli.specs.Lines.{module_cut}
 use Rattle.host_cli.specs.Scripts.{command_at, header_of}
 
 -- how an answer of the connection is told; the root of its pools is 1
@@ -245,18 +246,21 @@ first_command script = (module_cut (lines_of script)).lines + (script_header scr
 abbrev pub command_lines : List ℕ → List Line
 command_lines script = lines_of (drop (script_header script).size (after_module script))
 
--- What a play of a script may write, and how it ends: the module text is that of a module, on which the commands are
--- played; or it has a first faulty line, which is told.
-abbrev pub IsWrittenFor : List ℕ → List ℕ → Ended → Type 0
-IsWrittenFor script text e =
-    ((p : Program) × IsTextOf (module_text script) p × IsPlayed (script_header script).budget p (first_command script) (command_lines script) text e)
-    ⊎ ((n : ℕ) × (c : Code) × IsFirstFault (module_text script) n c × (text ≡ asm_line n (code_number c)) × (e ≡ ended.Refused))
+-- What is written of a module, on which the commands are played, or of a text that is none, whose fault is told.
+abbrev pub IsPlayOf : Result Program AsmRefusal → List ℕ → List ℕ → Ended → Type 0
+IsPlayOf (Ok p) script text e = IsPlayed (script_header script).budget p (first_command script) (command_lines script) text e
+IsPlayOf (Err (asm.Fault n c)) script text e = (text ≡ asm_line n (code_number c)) × (e ≡ ended.Refused)
+IsPlayOf (Err asm.NoMemory) script text e = ⊥
 
--- What is written where memory was wanting: nothing, or the lines of the first answers.
+-- What a play of a script may write, and how it ends: the module text is a module by the grammar, or has a first fault.
+abbrev pub IsWrittenFor : List ℕ → List ℕ → Ended → Type 0
+IsWrittenFor script text e = (m : Result Program AsmRefusal) × Reads (module_text script) m × IsPlayOf m script text e
+
+-- What is written where memory was wanting: nothing, or the lines of the first answers of a play.
 abbrev pub IsFrontOf : List ℕ → List ℕ → Type 0
 IsFrontOf script text =
     (text ≡ [])
-    ⊎ ((p : Program) × IsTextOf (module_text script) p × IsPlayedSoFar (script_header script).budget p (first_command script) (command_lines script) text)
+    ⊎ ((p : Program) × Reads (module_text script) (Ok p) × IsPlayedSoFar (script_header script).budget p (first_command script) (command_lines script) text)
 
 -- What is written where the writer failed: nothing, or the front of what a play of the script may write.
 abbrev pub IsCutOf : List ℕ → List ℕ → Type 0

@@ -1,15 +1,15 @@
 -- What a script says behind its module text: its budget, and a command on each line.
-use Rattle.std.specs.Prelude.{ℕ, ◌&&◌, nat_eq, nat_le, if◌then◌else◌, List, [], ◌∷◌, length, drop, Option, Some, None, codes}
+use Rattle.std.specs.Prelude.{ℕ, ◌^◌, ◌&&◌, nat_eq, nat_le, if◌then◌else◌, List, [], ◌∷◌, length, drop, Option, Some, None, codes}
 use Rattle.std.specs.List.{starts_with}
 use Rattle.host_cli.specs.declared.command.Command.{Command}
 use Rattle.host_cli.specs.declared.script.Header.{Header}
-use Rattle.host_cli.specs.Numbers.{number_of}
-use Rattle.host_cli.specs.Lines.{Line, width}
+use Rattle.module_lang.specs.Numbers.{decimal_below}
+use Rattle.module_lang.specs.TextLines.{Line, width}
 use Rattle.host_cli.specs.Commands.{command_of}
 
 -- the line `budget` and a number
 unfoldable pub budget_at : Line → Option ℕ
-budget_at l = if l.ended && starts_with nat_eq l.text (codes "budget ") then number_of (drop 7 l.text) else None
+budget_at l = if l.ended && starts_with nat_eq l.text (codes "budget ") then decimal_below (2 ^ 64) (drop 7 l.text) else None
 
 -- Such a line may stand behind the module text; without it the budget is 1000000.
 abbrev pub header_from : Option ℕ → Line → Header

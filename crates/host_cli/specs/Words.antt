@@ -1,27 +1,16 @@
--- The words of a command line, and the numbers among them.
-use Rattle.std.specs.Prelude.{ℕ, Bool, true, false, ◌==◌, if◌then◌else◌, List, [], ◌∷◌, take, drop, Option, None}
-use Rattle.std.specs.List.{position_or_len}
-use Rattle.host_cli.specs.Numbers.{number_of}
+-- The numbers among the words of a command line.
+use Rattle.std.specs.Prelude.{ℕ, ◌^◌, Bool, true, false, ◌==◌, if◌then◌else◌, List, [], ◌∷◌, Option, None}
+use Rattle.module_lang.specs.Bytes.{token, after_token}
+use Rattle.module_lang.specs.Numbers.{decimal_below}
 
--- how many bytes stand before the first space
-abbrev pub word_len : List ℕ → ℕ
-word_len bytes = position_or_len (λ b. b == 32) bytes
-
--- the bytes before the first space, and those from it on
-abbrev pub first_word : List ℕ → List ℕ
-first_word bytes = take (word_len bytes) bytes
-
-abbrev pub after_word : List ℕ → List ℕ
-after_word bytes = drop (word_len bytes) bytes
-
--- the number that stands after a space, and what follows it
+-- the number below 2^64 that stands after a space, and what follows it
 abbrev pub number_at : List ℕ → Option ℕ
 number_at [] = None
-number_at (b ∷ bs) = if b == 32 then number_of (first_word bs) else None
+number_at (b ∷ bs) = if b == 32 then decimal_below (2 ^ 64) (token bs) else None
 
 abbrev pub after_number : List ℕ → List ℕ
 after_number [] = []
-after_number (b ∷ bs) = after_word bs
+after_number (b ∷ bs) = after_token bs
 
 -- nothing follows, or a space does
 abbrev pub is_parted : List ℕ → Bool

@@ -6,7 +6,7 @@ ghost use Rattle.host_cli.specs.Commands.{word_text, takes_of, word_at, command_
 use crate::file_line::{FileLine, file_line_of};
 use crate::operands::{Operands, operands_of};
 use crate::pieces::ScriptPiece;
-use crate::words::{after_word, first_word};
+use module_lang::text::{after_token, token};
 use run_model::Seq;
 use std::alloc::{AllocError, Global};
 
@@ -121,10 +121,10 @@ impl Word {
 }
 
 #[tactic(auto, unfolding(crate::specs::Commands::word_at))]
-fn word_at(token: &[u8]) -> Option<Word>
-    ensures { result ≡ word_at token.now }
+fn word_at(text: &[u8]) -> Option<Word>
+    ensures { result ≡ word_at text.now }
 {
-    WORDS.iter().copied().find(|word| word.text() == token)
+    WORDS.iter().copied().find(|word| word.text() == text)
 }
 
 /// A command other than `file`.
@@ -132,10 +132,10 @@ fn word_at(token: &[u8]) -> Option<Word>
 fn word_command_of(alloc: Global, line: &[u8]) -> Result<Option<Command>, AllocError>
     ensures { IfOk result (λ c. c ≡ word_command_of line.now) }
 {
-    let Some(word) = word_at(first_word(line)) else {
+    let Some(word) = word_at(token(line)) else {
         return Ok(None);
     };
-    match operands_of(alloc, word.takes(), after_word(line))? {
+    match operands_of(alloc, word.takes(), after_token(line))? {
         Some(operands) => Ok(Some(word.with(operands))),
         None => Ok(None),
     }

@@ -5,7 +5,8 @@ ghost use Rattle.std.specs.List.{repeat};
 ghost use Rattle.host_cli.specs.Words.{number_at};
 ghost use Rattle.host_cli.specs.FileLines.{count_in, last_text, file_line_of};
 
-use crate::words::{after_number, after_word, copied, first_word, number_at};
+use crate::words::{after_number, copied, number_at};
+use module_lang::text::{after_token, token};
 use module_lang::{is_name, measure, unquote};
 use run_model::Seq;
 use std::alloc::{AllocError, Global};
@@ -66,11 +67,11 @@ fn last_text(alloc: Global, bytes: &[u8]) -> Result<Option<Seq<u8>>, AllocError>
 pub fn file_line_of(alloc: Global, bytes: &[u8]) -> Result<Option<FileLine>, AllocError>
     ensures { IfOk result (λ f. f ≡ file_line_of bytes.now) }
 {
-    let name = first_word(bytes);
+    let name = token(bytes);
     if !is_name(name) {
         return Ok(None);
     }
-    let rest = after_word(bytes);
+    let rest = after_token(bytes);
     let Some(count) = count_at(rest) else {
         return Ok(None);
     };

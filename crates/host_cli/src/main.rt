@@ -9,7 +9,6 @@ mod file_line;
 mod host;
 mod labels;
 mod lines;
-mod number;
 mod operands;
 mod pieces;
 mod play;

@@ -4,7 +4,8 @@ ghost use Rattle.std.specs.Prelude.{◌≡◌, ◌<◌, ◌≤◌, ◌+◌, ◌^
 ghost use Rattle.std.specs.List.{starts_with};
 ghost use Rattle.host_cli.specs.Pieces.{word_of, piece_of, kind_at, text_of_kind, text_at, eos_at, flush_at, range_at, range_from, or_else, piece_at, pieces_of, IsWithin};
 
-use crate::words::{after_number, after_word, copied, first_word, is_parted, number_at};
+use crate::words::{after_number, copied, is_parted, number_at};
+use module_lang::text::{after_token, token};
 use module_lang::{is_name, measure, unquote};
 use run_model::{Piece, Seq};
 use std::alloc::{AllocError, Global};
@@ -154,11 +155,11 @@ fn range_from(alloc: Global, bytes: &[u8]) -> Result<Option<PieceRead>, AllocErr
     ensures value { IfOk result (λ r. r ≡ range_from bytes.now) }
     ensures within { IfOk result (λ r. IfSome r (λ r. (0 < r.used) × (r.used ≤ length bytes.now + 6))) }
 {
-    let name = first_word(bytes);
+    let name = token(bytes);
     if !is_name(name) {
         return Ok(None);
     }
-    let numbers = after_word(bytes);
+    let numbers = after_token(bytes);
     let Some(start) = number_at(numbers) else {
         return Ok(None);
     };

@@ -1,11 +1,10 @@
 //! Playing a script.
 
 ghost use Rattle.std.specs.Prelude.{◌≡◌, ℕ, ◌+◌, ◌<◌, ◌^◌, ◌++◌, [], length, drop, true, false, IfOk, OnOk, OnErr};
-ghost use Rattle.module_lang.specs.Texts.{IsTextOf};
+ghost use Rattle.module_lang.specs.TextLines.{lines_of};
 ghost use Rattle.host_cli.specs.declared.reply.Reply.{Reply};
 ghost use Rattle.host_cli.specs.Actions.{action_of, opens};
 ghost use Rattle.host_cli.specs.Replies.{reply_line};
-ghost use Rattle.host_cli.specs.Lines.{lines_of};
 ghost use Rattle.host_cli.specs.Scripts.{header_of};
 ghost use Rattle.host_cli.specs.Plays.{Serves, IsPlayed, IsPlayedSoFar, IsWrittenFor, IsFrontOf};
 ghost use Rattle.host_cli.specs.Host.{world_of, is_before, IsDue, IsReady};
@@ -13,9 +12,10 @@ ghost use Rattle.host_cli.specs.Host.{world_of, is_before, IsDue, IsReady};
 use crate::command::Command;
 use crate::ended::Ended;
 use crate::host::{Host, no_conn, serve};
-use crate::lines::{first_line, module_cut};
+use crate::lines::module_cut;
 use crate::reply::{put_asm_fault, put_reply, put_script_fault};
 use crate::script::{due_command, header_of, opens};
+use module_lang::text::first_line;
 use module_lang::{AsmRefusal, assemble};
 use run_model::Module;
 use std::alloc::{AllocError, Global};
@@ -57,10 +57,10 @@ pub fn play_commands(
 {
     let mut host = no_conn(alloc, code);
     let mut is_open = false;
-    let mut at = 0;
+    let mut rest = commands;
     let mut number = first;
-    while at < commands.len() {
-        let line = first_line(&commands[at..]);
+    while !rest.is_empty() {
+        let line = first_line(rest);
         let Some(command) = due_command(alloc, line.text, line.ended, is_open, &host)? else {
             put_script_fault(alloc, out, number)?;
             return Ok(Ended::Refused);
@@ -68,7 +68,7 @@ pub fn play_commands(
         let opening = opens(&command);
         answer(alloc, code, budget, &mut host, command, out)?;
         is_open |= opening;
-        at += line.width;
+        rest = &rest[line.width..];
         number += 1;
     }
     Ok(Ended::Done)

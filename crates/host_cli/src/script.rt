@@ -1,7 +1,7 @@
 //! What the lines of a script say behind its module text.
 
 ghost use Rattle.std.specs.Prelude.{◌≡◌, ◌≤◌, length, IfOk};
-ghost use Rattle.host_cli.specs.Lines.{first_line, lines_of};
+ghost use Rattle.module_lang.specs.TextLines.{lines_of};
 ghost use Rattle.host_cli.specs.Scripts.{budget_at, header_of, command_at};
 ghost use Rattle.host_cli.specs.Actions.{action_of, opens};
 ghost use Rattle.host_cli.specs.Host.{world_of};
@@ -9,8 +9,7 @@ ghost use Rattle.host_cli.specs.Plays.{is_due, due_at};
 
 use crate::command::{Command, command_of};
 use crate::host::{Host, has_file};
-use crate::lines::first_line;
-use crate::number::number_of;
+use module_lang::text::{decimal_u64, first_line};
 use std::alloc::{AllocError, Global};
 
 /// How many bytes a command line has at most, without its LF.
@@ -37,11 +36,11 @@ fn budget_at(text: &[u8], ended: bool) -> Option<u64>
     if !ended || !text.starts_with(b"budget ") {
         return None;
     }
-    number_of(&text[7..])
+    decimal_u64(&text[7..])
 }
 
 /// The line `budget`, if the text begins with it.
-#[tactic(auto, using(crate::proofs::LineLaws::lines_whole, crate::proofs::LineLaws::lines_none), unfolding(crate::specs::Scripts::header_of))]
+#[tactic(auto, using(crate::proofs::LineLaws::lines_none), unfolding(crate::specs::Scripts::header_of))]
 pub fn header_of(text: &[u8]) -> Header
     ensures value { result ≡ header_of (lines_of text.now) }
     ensures within { result.size ≤ length text.now }

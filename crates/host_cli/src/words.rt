@@ -1,27 +1,11 @@
-//! The words of a command line, and the numbers among them.
+//! The numbers among the words of a command line.
 
 ghost use Rattle.std.specs.Prelude.{◌≡◌, ◌≤◌, length, IfOk};
-ghost use Rattle.host_cli.specs.Words.{first_word, after_word, number_at, after_number, is_parted};
+ghost use Rattle.host_cli.specs.Words.{number_at, after_number, is_parted};
 
-use crate::lines::len_before;
-use crate::number::number_of;
+use module_lang::text::{after_token, decimal_u64, token};
 use run_model::Seq;
 use std::alloc::{AllocError, Global};
-
-/// The bytes before the first space.
-pub fn first_word(bytes: &[u8]) -> &[u8]
-    ensures { result.now ≡ first_word bytes.now }
-{
-    &bytes[..len_before(bytes, b' ')]
-}
-
-/// The bytes from the first space on.
-pub fn after_word(bytes: &[u8]) -> &[u8]
-    ensures value { result.now ≡ after_word bytes.now }
-    ensures within { length result.now ≤ length bytes.now }
-{
-    &bytes[len_before(bytes, b' ')..]
-}
 
 /// The number that stands after a space.
 pub fn number_at(bytes: &[u8]) -> Option<u64>
@@ -30,7 +14,7 @@ pub fn number_at(bytes: &[u8]) -> Option<u64>
     if bytes.is_empty() || bytes[0] != b' ' {
         return None;
     }
-    number_of(first_word(&bytes[1..]))
+    decimal_u64(token(&bytes[1..]))
 }
 
 /// What stands behind a space and the bytes up to the next space.
@@ -41,7 +25,7 @@ pub fn after_number(bytes: &[u8]) -> &[u8]
     if bytes.is_empty() {
         return bytes;
     }
-    after_word(&bytes[1..])
+    after_token(&bytes[1..])
 }
 
 /// Whether nothing follows, or a space does.

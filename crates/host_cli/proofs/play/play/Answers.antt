@@ -11,5 +11,5 @@ play_module-requires-clause-small c =
 pub returns-in_ok-put_asm_fault-in-Err-Fault-clause-ok :
     goal.returns-in_ok-put_asm_fault-in-Err-Fault-clause-ok
 returns-in_ok-put_asm_fault-in-Err-Fault-clause-ok c =
-    let told = rw c.in-Err-Fault.field-0-is at c.in-Err-Fault.ensures.first in
+    let told = rw c.in-Err-Fault.field-0-is at (c.in-Err-Fault.ensures.reads (λ h. absurd (cc))) in
     tells_fault c.args.script.now _ c.args.out.now.items c.module_cut-cut.result c.in-Err-Fault.line _ _ c.in-Err-Fault.code c.module_cut-cut.ensures.value told c.in-Err-Fault.line-is (c.number.ensures ∙ ap code_number c.in-Err-Fault.code-is) c.requires.fresh c.in_ok-put_asm_fault-in-Err-Fault.ensures.ok
