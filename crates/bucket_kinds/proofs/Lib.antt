@@ -1,3 +1,4 @@
+pub mod FarReads
 pub mod InMemoryLemmas
 pub mod MemDeviceLemmas
 pub mod OpenNumbers

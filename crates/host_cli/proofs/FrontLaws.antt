@@ -1,75 +1,73 @@
 -- Fronts of what a play of a script may write.
-use Rattle.std.proofs.Common.{◌≡◌, ℕ, List, [], ◌++◌, take, drop, false, Option, Some, None, IfSome, Result, Ok, Err, IfOk, OnErr, refl, ap, sym, ◌∙◌, subst, append_assoc}
+use Rattle.std.proofs.Common.{◌≡◌, ℕ, List, [], ◌++◌, take, drop, Option, Some, None, inl, inr, Result, Ok, Err, IfOk, OnErr, refl, ap, sym, ◌∙◌, subst, append_assoc}
 use Rattle.std.proofs.lemmas.List.{take-append-drop, append-nil}
+use Rattle.std.proofs.lemmas.Grind.{flat_map-append}
+use Rattle.std.proofs.Math.Seq.{take-nil}
 use Rattle.std.specs.Io.KnownBytes.{Appends, Consumes, IsAtEnd}
 use Rattle.module_lang.specs.Program.{Program}
-use Rattle.module_lang.specs.Assembling.{assembling}
-use Rattle.run_model.specs.Files.{no_files}
-use Rattle.run_model.specs.Runs.{Before}
-use Rattle.module_lang.specs.declared.refusal.AsmRefusal.{AsmRefusal}
+use Rattle.module_lang.specs.declared.refusal.Code.{Code}
+use Rattle.module_lang.specs.Codes.{code_number}
+use Rattle.module_lang.specs.FirstFault.{IsFirstFault}
 use Rattle.host_cli.specs.declared.ended.Ended.{Ended}
 use Rattle.host_cli.specs.declared.ended.Ended.TheVariants as ended
 use Rattle.host_cli.specs.declared.lines.ModuleCut.{ModuleCut}
-use Rattle.host_cli.specs.Lines.{lines_of, module_cut}
-use Rattle.host_cli.specs.Scripts.{header_of, script_of}
-use Rattle.host_cli.specs.Plays.{IsPlayedSoFar, IsPlayOf, IsWrittenFor, IsFrontOf, Writes, module_text, after_module, refusal_line}
-use Rattle.host_cli.proofs.PlayTurns.{under_first, turn_front}
+use Rattle.host_cli.specs.Lines.{Line, lines_of, module_cut}
+use Rattle.host_cli.specs.Replies.{reply_line, asm_line}
+use Rattle.host_cli.specs.Plays.{IsPlayed, IsPlayedSoFar, IsWrittenFor, IsFrontOf, IsCutOf, Writes, lines_of_replies, last_line, ended_at}
 
-pub front_of_play : (script text : List ℕ) (p : Program) → assembling (module_text script) ≡ Ok p → IsPlayedSoFar (header_of (lines_of (after_module script))).budget p (script_of (module_cut (lines_of script)).lines (after_module script)) text → IsFrontOf script text
-front_of_play script text p e front =
-    let P : Result Program AsmRefusal → Type 0 = λ r. IsPlayOf r (module_cut (lines_of script)).lines (after_module script) (text ++ front.more) front.end in
-    record { more = front.more; end = front.end; whole = record { play = subst P (sym e) front.whole } }
-
-starts : (r : Result Program AsmRefusal) (script : List ℕ) → assembling (module_text script) ≡ r → IsFrontOf script []
-starts (Ok p) script e = front_of_play script [] p e (turn_front _ p _ false _ _ (Before no_files) [] (under_first _ p _ _))
-starts (Err fault) script e =
-    let P : Result Program AsmRefusal → Type 0 = λ r. IsPlayOf r (module_cut (lines_of script)).lines (after_module script) (refusal_line fault) ended.Refused in
-    record { more = refusal_line fault; end = ended.Refused; whole = record { play = subst P (sym e) (refl, refl) } }
-
--- Nothing is the front of what each script may write.
-pub front_empty : (script text : List ℕ) → text ≡ [] → IsFrontOf script text
-front_empty script text e =
-    let P : List ℕ → Type 0 = λ t. IsFrontOf script t in
-    subst P (sym e) (starts (assembling (module_text script)) script refl)
-
--- the same, as code cuts the script
-pub front_at_cut : (script text head rest : List ℕ) (cut : ModuleCut) (p : Program) → cut ≡ module_cut (lines_of script) → head ≡ take cut.size script → rest ≡ drop cut.size script → assembling head ≡ Ok p → IsPlayedSoFar (header_of (lines_of rest)).budget p (script_of cut.lines rest) text → IsFrontOf script text
-front_at_cut script text head rest cut p e h r a front =
-    let text_is : module_text script ≡ head = ap (λ x. take x.size script) (sym e) ∙ sym h in
-    let after_is : rest ≡ after_module script = r ∙ ap (λ x. drop x.size script) e in
-    let P : List ℕ → Type 0 = λ l. IsPlayedSoFar (header_of (lines_of l)).budget p (script_of cut.lines l) text in
-    let Q : ModuleCut → Type 0 = λ x. IsPlayedSoFar (header_of (lines_of (after_module script))).budget p (script_of x.lines (after_module script)) text in
-    front_of_play script text p (ap assembling text_is ∙ a) (subst Q e (subst P after_is front))
-
--- A front of a front, or of the whole, is one.
-pub front_take : (script text : List ℕ) (n : ℕ) → IsFrontOf script text → IsFrontOf script (take n text)
-front_take script text n f =
-    let P : List ℕ → Type 0 = λ t. IsWrittenFor script t f.end in
+-- The lines of the first answers go on to the text of a play.
+played_on : (budget : ℕ) (p : Program) (first : ℕ) (lines : List Line) (text : List ℕ) (f : IsPlayedSoFar budget p first lines text) → IsPlayed budget p first lines (text ++ (lines_of_replies f.left ++ last_line f.fault)) (ended_at f.fault)
+played_on budget p first lines text f =
     record {
-      more = drop n text ++ f.more;
-      end = f.end;
-      whole = subst P (ap (λ t. t ++ f.more) (sym (take-append-drop n text)) ∙ append_assoc (take n text) (drop n text) f.more) f.whole;
+      replies = f.answered ++ f.left;
+      fault = f.fault;
+      play = f.play;
+      written = ap (λ t. t ++ (lines_of_replies f.left ++ last_line f.fault)) f.written ∙ sym (append_assoc (lines_of_replies f.answered) (lines_of_replies f.left) (last_line f.fault)) ∙ ap (λ t. t ++ last_line f.fault) (sym (flat_map-append reply_line f.answered f.left));
+      ended = refl;
     }
 
-pub front_of_text : (script text : List ℕ) (e : Ended) → IsWrittenFor script text e → IsFrontOf script text
-front_of_text script text e w =
+-- The first fault of the module text is told, as code cuts the script and holds the fault.
+pub tells_fault : (script text old : List ℕ) (cut : ModuleCut) (n m k : ℕ) (c : Code) → cut ≡ module_cut (lines_of script) → IsFirstFault (take cut.size script) n c → m ≡ n → k ≡ code_number c → old ≡ [] → text ≡ old ++ asm_line m k → IsWrittenFor script text ended.Refused
+tells_fault script text old cut n m k c e first same number none written =
+    let P : ModuleCut → Type 0 = λ x. IsFirstFault (take x.size script) n c in
+    inr (n, c, subst P e first, written ∙ ap (λ l. l ++ asm_line m k) none ∙ ap (λ x. asm_line x k) same ∙ ap (asm_line n) number, refl)
+
+cut_of_text : (script text : List ℕ) (e : Ended) → IsWrittenFor script text e → IsCutOf script text
+cut_of_text script text e w =
     let P : List ℕ → Type 0 = λ t. IsWrittenFor script t e in
-    record { more = []; end = e; whole = subst P (sym (append-nil text)) w }
+    inr ([], e, subst P (sym (append-nil text)) w)
+
+cut_of_front : (script text : List ℕ) → IsFrontOf script text → IsCutOf script text
+cut_of_front script text (inl e) = inl e
+cut_of_front script text (inr (p, is, f)) = inr (lines_of_replies f.left ++ last_line f.fault, ended_at f.fault, inl (p, is, played_on _ p _ _ text f))
+
+pub cut_of_played : {E : Type 0} (r : Result Ended E) (script text : List ℕ) → IfOk r (λ e. IsWrittenFor script text e) → OnErr r (IsFrontOf script text) → IsCutOf script text
+cut_of_played (Ok e) script text w f = cut_of_text script text e w
+cut_of_played (Err x) script text w f = cut_of_front script text f
+
+-- A front of a front is one.
+pub cut_take : (script text : List ℕ) (n : ℕ) → IsCutOf script text → IsCutOf script (take n text)
+cut_take script text n (inl e) = inl (ap (take n) e ∙ take-nil n)
+cut_take script text n (inr (more, e, w)) =
+    let P : List ℕ → Type 0 = λ t. IsWrittenFor script t e in
+    inr (drop n text ++ more, e, subst P (ap (λ t. t ++ more) (sym (take-append-drop n text)) ∙ append_assoc (take n text) (drop n text) more) w)
 
 -- What a reader gave up to its end is all that it had.
-pub taken_all : (old new : Option (List ℕ)) (text : List ℕ) → Consumes old new text → IsAtEnd new → IfSome old (λ input. input ≡ text)
-taken_all None new text c e = tt
-taken_all (Some xs) None text c e = absurd c
-taken_all (Some xs) (Some ys) text c e = c ∙ ap (λ l. text ++ l) e ∙ append-nil text
+pub writes_all : (P : List ℕ → List ℕ → Type 0) (old rest w v : Option (List ℕ)) (script read : List ℕ) → Consumes old rest read → IsAtEnd rest → script ≡ read → ((text : List ℕ) × P script text × Appends w v text) → Writes old w v P
+writes_all P None rest w v script read c e same t = tt
+writes_all P (Some xs) None w v script read c e same t = absurd c
+writes_all P (Some xs) (Some ys) w v script read c e same (text, is, appends) =
+    let Q : List ℕ → Type 0 = λ s. P s text in
+    (text, subst Q (same ∙ sym (append-nil read) ∙ ap (λ l. read ++ l) (sym e) ∙ sym c) is, appends)
+
+pub writes_ok : {E : Type 0} (r : Result Ended E) (old rest w v : Option (List ℕ)) (script read : List ℕ) → Consumes old rest read → IsAtEnd rest → script ≡ read → IfOk r (λ e. (text : List ℕ) × IsWrittenFor script text e × Appends w v text) → IfOk r (λ e. Writes old w v (λ script text. IsWrittenFor script text e))
+writes_ok (Ok e) old rest w v script read c f same t = writes_all (λ script text. IsWrittenFor script text e) old rest w v script read c f same t
+writes_ok (Err x) old rest w v script read c f same t = tt
 
 pub appends_nothing : (w : Option (List ℕ)) → Appends w w []
 appends_nothing None = tt
 appends_nothing (Some xs) = sym (append-nil xs)
 
-pub front_of_played : {E : Type 0} (r : Result Ended E) (script text : List ℕ) → IfOk r (λ e. IsWrittenFor script text e) → OnErr r (IsFrontOf script text) → IsFrontOf script text
-front_of_played (Ok e) script text w f = front_of_text script text e w
-front_of_played (Err x) script text w f = f
-
 pub writes_nothing : (input w : Option (List ℕ)) → Writes input w w IsFrontOf
 writes_nothing None w = tt
-writes_nothing (Some script) w = ([], front_empty script [] refl, appends_nothing w)
+writes_nothing (Some script) w = ([], inl refl, appends_nothing w)

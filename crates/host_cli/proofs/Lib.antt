@@ -3,8 +3,6 @@ pub mod FrontLaws
 pub mod HostLaws
 pub mod LabelLaws
 pub mod LineLaws
-pub mod NamedFiles
-pub mod NameLaws
 pub mod PieceLaws
 pub mod PlayLaws
 pub mod PlayTurns

@@ -1,5 +1,5 @@
 -- Runs of commands: there is one where memory lasts, and where no answer says otherwise it is the only one.
-use Rattle.std.proofs.Common.{◌≡◌, ℕ, ◌+◌, Bool, true, false, ◌||◌, not, cond, List, [], ◌∷◌, ◌++◌, Option, Some, None, Result, Ok, Err, refl, ap, sym, ◌∙◌, arith, is_some, length, MatchBool}
+use Rattle.std.proofs.Common.{◌≡◌, ℕ, zero, suc, ◌+◌, Bool, true, false, ◌||◌, not, cond, List, [], ◌∷◌, ◌++◌, Option, Some, None, Result, Ok, Err, refl, ap, sym, ◌∙◌, arith, is_some, length, take, MatchBool}
 use Rattle.std.specs.List.{list_any}
 use Rattle.module_lang.specs.Program.{Program}
 use Rattle.run_model.specs.declared.event.Event.{Event}
@@ -15,10 +15,11 @@ use Rattle.run_model.specs.Runs.{World, Before, There, Closed, happens, step_of,
 use Rattle.host_cli.specs.declared.pieces.ScriptPiece.{ScriptPiece}
 use Rattle.host_cli.specs.declared.pieces.ScriptPiece.TheVariants as script_piece
 use Rattle.host_cli.specs.declared.command.Command.{Command}
-use Rattle.host_cli.specs.declared.command.Command.TheVariants as command
 use Rattle.host_cli.specs.declared.reply.Reply.{Reply}
 use Rattle.host_cli.specs.declared.reply.Reply.TheVariants as reply
-use Rattle.host_cli.specs.Plays.{told, told_open, is_for_first, ran, run_of, if_opened, IfOpened, brought_after, bring_of, answered, served, Brings, MayBring, MayRun, MayAnswer, Serves, Plays, replies_of, refusal_names_memory, names_memory}
+use Rattle.host_cli.specs.Actions.{Action, Opening, Adding, Happening, Bringing, Running, action_of, is_for_first, opens}
+use Rattle.host_cli.specs.Lines.{Line}
+use Rattle.host_cli.specs.Plays.{told, told_open, ran, run_of, if_opened, IfOpened, brought_after, bring_of, answered, served, Brings, MayBring, MayRun, MayAnswer, Serves, due_at, Plays, unless_none, and_then, played, refusal_names_memory, names_memory}
 use Rattle.host_cli.proofs.StepLaws.{lost, same_step, ran_ends, ran_only, goes_below}
 
 true≢false : true ≡ false → ⊥
@@ -103,44 +104,14 @@ happens_same : (budget : ℕ) (p : Program) (e : Event) (w : World) → names_me
 happens_same budget p e (There c) h = there_same budget p e c h
 happens_same budget p event.Open (Before fs) h = absurd (true≢false h)
 happens_same budget p (event.AddFile name bytes) (Before fs) h = absurd (true≢false h)
-happens_same budget p (event.OpenFile name) (Before fs) h = refl
-happens_same budget p event.Begin (Before fs) h = refl
-happens_same budget p (event.Bring ps) (Before fs) h = refl
-happens_same budget p event.Step (Before fs) h = refl
-happens_same budget p event.End (Before fs) h = refl
-happens_same budget p event.TakeOutput (Before fs) h = refl
-happens_same budget p event.TellLabels (Before fs) h = refl
-happens_same budget p event.Close (Before fs) h = refl
-happens_same budget p event.TellPools (Before fs) h = refl
-happens_same budget p event.Open (Closed ps fs) h = refl
+happens_same budget p _ (Before fs) h = refl
 happens_same budget p (event.AddFile name bytes) (Closed ps fs) h = absurd (true≢false h)
-happens_same budget p (event.OpenFile name) (Closed ps fs) h = refl
-happens_same budget p event.Begin (Closed ps fs) h = refl
-happens_same budget p (event.Bring pieces) (Closed ps fs) h = refl
-happens_same budget p event.Step (Closed ps fs) h = refl
-happens_same budget p event.End (Closed ps fs) h = refl
-happens_same budget p event.TakeOutput (Closed ps fs) h = refl
-happens_same budget p event.TellLabels (Closed ps fs) h = refl
-happens_same budget p event.Close (Closed ps fs) h = refl
-happens_same budget p event.TellPools (Closed ps fs) h = refl
+happens_same budget p _ (Closed ps fs) h = refl
 
 open_same : (budget : ℕ) (p : Program) (w : World) → names_memory (told_open (happens false budget p event.Open w)).0 ≡ false → happens false budget p event.Open w ≡ happens true budget p event.Open w
 open_same budget p (Before fs) h = absurd (true≢false h)
 open_same budget p (There c) h = refl
 open_same budget p (Closed ps fs) h = refl
-
-answered_same : (m : Bool) (budget : ℕ) (p : Program) (c : Command) (w : World) → names_memory (answered m budget p c w).0 ≡ false → answered m budget p c w ≡ answered true budget p c w
-answered_same true budget p c w h = refl
-answered_same false budget p command.Open w h = ap told_open (open_same budget p w h)
-answered_same false budget p (command.Begin c) w h = ap told (happens_same budget p event.Begin w h)
-answered_same false budget p (command.End c) w h = ap told (happens_same budget p event.End w h)
-answered_same false budget p (command.File f) w h = refl
-answered_same false budget p (command.Bring c ps) w h = refl
-answered_same false budget p (command.Run c) w h = refl
-answered_same false budget p (command.Output c) w h = ap told (happens_same budget p event.TakeOutput w h)
-answered_same false budget p (command.Labels c) w h = ap told (happens_same budget p event.TellLabels w h)
-answered_same false budget p (command.Close c) w h = ap told (happens_same budget p event.Close w h)
-answered_same false budget p command.Pools w h = ap told (happens_same budget p event.TellPools w h)
 
 -- A run of steps that does not answer that there was no memory is the run with memory.
 run_is : (budget : ℕ) (p : Program) (w new : World) (r : Reply) → MayRun budget p w r new → names_memory r ≡ false → (r, new) ≡ run_of budget p w
@@ -178,45 +149,70 @@ bring_is p xs (There c) new r (answer, d, b, t) h =
     let kept : names_it answer ≡ false = sym (named (answer, d)) ∙ sym (ap (λ x. names_memory x.0) t) ∙ h in
     t ∙ ap (λ x. told (answer_of x)) (brings_is p [] xs c d answer b kept)
 
-answers_is : (budget : ℕ) (p : Program) (c : Command) (w new : World) (r : Reply) → MayAnswer budget p c w r new → names_memory r ≡ false → (r, new) ≡ answered true budget p c w
+answers_is : (budget : ℕ) (p : Program) (a : Action) (w new : World) (r : Reply) → MayAnswer budget p a w r new → names_memory r ≡ false → (r, new) ≡ answered budget p a w
 unfolding MayAnswer
-answers_is budget p command.Open w new r (m, e) h = sym e ∙ answered_same m budget p command.Open w (ap (λ x. names_memory x.0) e ∙ h)
-answers_is budget p (command.Begin c) w new r (m, e) h = sym e ∙ answered_same m budget p (command.Begin c) w (ap (λ x. names_memory x.0) e ∙ h)
-answers_is budget p (command.End c) w new r (m, e) h = sym e ∙ answered_same m budget p (command.End c) w (ap (λ x. names_memory x.0) e ∙ h)
-answers_is budget p (command.File f) w new r e h = sym e
-answers_is budget p (command.Bring c ps) w new r m h = bring_is p ps w new r m h
-answers_is budget p (command.Run c) w new r m h = run_is budget p w new r m h
-answers_is budget p (command.Output c) w new r (m, e) h = sym e ∙ answered_same m budget p (command.Output c) w (ap (λ x. names_memory x.0) e ∙ h)
-answers_is budget p (command.Labels c) w new r (m, e) h = sym e ∙ answered_same m budget p (command.Labels c) w (ap (λ x. names_memory x.0) e ∙ h)
-answers_is budget p (command.Close c) w new r (m, e) h = sym e ∙ answered_same m budget p (command.Close c) w (ap (λ x. names_memory x.0) e ∙ h)
-answers_is budget p command.Pools w new r (m, e) h = sym e ∙ answered_same m budget p command.Pools w (ap (λ x. names_memory x.0) e ∙ h)
+answers_is budget p Opening w new r (true, e) h = sym e
+answers_is budget p Opening w new r (false, e) h = sym e ∙ ap told_open (open_same budget p w (ap (λ x. names_memory x.0) e ∙ h))
+answers_is budget p (Adding name bytes) w new r e h = sym e
+answers_is budget p (Happening v) w new r (true, e) h = sym e
+answers_is budget p (Happening v) w new r (false, e) h = sym e ∙ ap told (happens_same budget p v w (ap (λ x. names_memory x.0) e ∙ h))
+answers_is budget p (Bringing ps) w new r m h = bring_is p ps w new r m h
+answers_is budget p Running w new r m h = run_is budget p w new r m h
 
-match_is : (b : Bool) (budget : ℕ) (p : Program) (c : Command) (w new : World) (r : Reply) → MatchBool b (MayAnswer budget p c w r new) ((r ≡ reply.Refused refusal.NoSuchConn) × (new ≡ w)) → names_memory r ≡ false → (r, new) ≡ cond b (answered true budget p c w) (reply.Refused refusal.NoSuchConn, w)
-match_is true budget p c w new r m h = answers_is budget p c w new r m h
-match_is false budget p c w new r m h = let a = m.0 in let b = m.1 in cc
+match_is : (b : Bool) (budget : ℕ) (p : Program) (a : Action) (w new : World) (r : Reply) → MatchBool b (MayAnswer budget p a w r new) ((r ≡ reply.Refused refusal.NoSuchConn) × (new ≡ w)) → names_memory r ≡ false → (r, new) ≡ cond b (answered budget p a w) (reply.Refused refusal.NoSuchConn, w)
+match_is true budget p a w new r m h = answers_is budget p a w new r m h
+match_is false budget p a w new r m h = let e = m.0 in let f = m.1 in cc
 
-serves_is : (budget : ℕ) (p : Program) (c : Command) (w new : World) (r : Reply) → Serves budget p c w r new → names_memory r ≡ false → (r, new) ≡ served true budget p c w
+serves_is : (budget : ℕ) (p : Program) (c : Command) (w new : World) (r : Reply) → Serves budget p c w r new → names_memory r ≡ false → (r, new) ≡ served budget p c w
 unfolding Serves served
-serves_is budget p c w new r s h = match_is (is_for_first c) budget p c w new r s h
+serves_is budget p c w new r s h = match_is (is_for_first c) budget p (action_of c) w new r s h
 
-or_left : (a b : Bool) → a || b ≡ false → a ≡ false
+pub or_left : (a b : Bool) → a || b ≡ false → a ≡ false
 or_left false b h = refl
 or_left true b h = h
 
-or_right : (a b : Bool) → a || b ≡ false → b ≡ false
+pub or_right : (a b : Bool) → a || b ≡ false → b ≡ false
 or_right false b h = h
 or_right true b h = absurd (true≢false h)
 
--- Where no answer says that there was no memory, the answers are those with memory.
-pub plays_only : (budget : ℕ) (p : Program) (cs : List Command) (w : World) (rs : List Reply) → Plays budget p cs w rs → list_any names_memory rs ≡ false → rs ≡ replies_of budget p cs w
-unfolding Plays replies_of
-plays_only budget p [] w [] plays h = refl
-plays_only budget p [] w (r ∷ rs) plays h = absurd plays
-plays_only budget p (c ∷ cs) w [] plays h = absurd plays
-plays_only budget p (c ∷ cs) w (r ∷ rs) (mid, serves, plays) h =
-    let here = serves_is budget p c w mid r serves (or_left (names_memory r) (list_any names_memory rs) h) in
-    let rest = plays_only budget p cs mid rs plays (or_right (names_memory r) (list_any names_memory rs) h) in
-    ap (λ x. x.0 ∷ rs) here ∙ ap (λ l. (served true budget p c w).0 ∷ l) (rest ∙ ap (λ x. replies_of budget p cs x.1) here)
+-- A line that is answered without a word of memory is the first of the play with memory, and the others are the play's rest.
+played_turn : (budget : ℕ) (p : Program) (is_open : Bool) (number : ℕ) (l : Line) (ls : List Line) (w mid : World) (c : Command) (r : Reply) → due_at is_open w l ≡ Some c → Serves budget p c w r mid → names_memory r ≡ false → played budget p is_open number (l ∷ ls) w ≡ and_then (r, mid) (λ x. played budget p (is_open || opens c) (number + 1) ls x)
+unfolding played
+played_turn budget p is_open number l ls w mid c r due s h =
+    ap (λ o. unless_none number o (λ c. and_then (served budget p c w) (λ x. played budget p (is_open || opens c) (number + 1) ls x))) due
+    ∙ ap (λ y. and_then y (λ x. played budget p (is_open || opens c) (number + 1) ls x)) (sym (serves_is budget p c w mid r s h))
+
+played_none : (budget : ℕ) (p : Program) (is_open : Bool) (number : ℕ) (l : Line) (ls : List Line) (w : World) → due_at is_open w l ≡ None → played budget p is_open number (l ∷ ls) w ≡ record { replies = []; fault = Some number }
+unfolding played
+played_none budget p is_open number l ls w due =
+    ap (λ o. unless_none number o (λ c. and_then (served budget p c w) (λ x. played budget p (is_open || opens c) (number + 1) ls x))) due
+
+played_end : (budget : ℕ) (p : Program) (is_open : Bool) (number : ℕ) (w : World) → played budget p is_open number [] w ≡ record { replies = []; fault = None }
+unfolding played
+played_end budget p is_open number w = refl
+
+-- As far as no answer says that there was no memory, the answers are those with memory.
+pub plays_only : (budget : ℕ) (p : Program) (is_open : Bool) (number : ℕ) (ls : List Line) (w : World) (rs : List Reply) (f : Option ℕ) → Plays budget p is_open number ls w rs f → (n : ℕ) → list_any names_memory (take n rs) ≡ false → take n rs ≡ take n (played budget p is_open number ls w).replies
+unfolding Plays
+plays_only budget p is_open number ls w rs f plays zero h = refl
+plays_only budget p is_open number [] w [] f plays (suc n) h = ap (λ x. take (suc n) x.replies) (sym (played_end budget p is_open number w))
+plays_only budget p is_open number [] w (r ∷ rs) f plays (suc n) h = absurd plays
+plays_only budget p is_open number (l ∷ ls) w [] f plays (suc n) h = ap (λ x. take (suc n) x.replies) (sym (played_none budget p is_open number l ls w plays.0))
+plays_only budget p is_open number (l ∷ ls) w (r ∷ rs) f plays (suc n) h =
+    let turn = played_turn budget p is_open number l ls w plays.1 plays.0 r plays.2 plays.3 (or_left (names_memory r) (list_any names_memory (take n rs)) h) in
+    let rest = plays_only budget p (is_open || opens plays.0) (number + 1) ls plays.1 rs f plays.4 n (or_right (names_memory r) (list_any names_memory (take n rs)) h) in
+    ap (λ l. r ∷ l) rest ∙ ap (λ x. take (suc n) x.replies) (sym turn)
+
+-- Where none says so, the play ends at the same line.
+pub ends_only : (budget : ℕ) (p : Program) (is_open : Bool) (number : ℕ) (ls : List Line) (w : World) (rs : List Reply) (f : Option ℕ) → Plays budget p is_open number ls w rs f → list_any names_memory rs ≡ false → f ≡ (played budget p is_open number ls w).fault
+unfolding Plays played
+ends_only budget p is_open number [] w [] f plays h = plays
+ends_only budget p is_open number [] w (r ∷ rs) f plays h = absurd plays
+ends_only budget p is_open number (l ∷ ls) w [] f plays h = plays.1 ∙ ap (λ x. x.fault) (sym (played_none budget p is_open number l ls w plays.0))
+ends_only budget p is_open number (l ∷ ls) w (r ∷ rs) f plays h =
+    let turn = played_turn budget p is_open number l ls w plays.1 plays.0 r plays.2 plays.3 (or_left (names_memory r) (list_any names_memory rs) h) in
+    let rest = ends_only budget p (is_open || opens plays.0) (number + 1) ls plays.1 rs f plays.4 (or_right (names_memory r) (list_any names_memory rs) h) in
+    rest ∙ ap (λ x. x.fault) (sym turn)
 
 run_may : (budget : ℕ) (p : Program) (w : World) → MayRun budget p w (run_of budget p w).0 (run_of budget p w).1
 run_may budget p (Before fs) = (refl, refl)
@@ -239,30 +235,31 @@ bring_may p xs (Before fs) = (refl, refl)
 bring_may p xs (Closed ps fs) = (refl, refl)
 bring_may p xs (There c) = ((brought_after p [] xs c).0, (brought_after p [] xs c).1, brings_so p [] xs c, refl)
 
-answers_so : (budget : ℕ) (p : Program) (c : Command) (w : World) → MayAnswer budget p c w (answered true budget p c w).0 (answered true budget p c w).1
+answers_so : (budget : ℕ) (p : Program) (a : Action) (w : World) → MayAnswer budget p a w (answered budget p a w).0 (answered budget p a w).1
 unfolding MayAnswer
-answers_so budget p command.Open w = (true, refl)
-answers_so budget p (command.Begin c) w = (true, refl)
-answers_so budget p (command.End c) w = (true, refl)
-answers_so budget p (command.File f) w = refl
-answers_so budget p (command.Bring c ps) w = bring_may p ps w
-answers_so budget p (command.Run c) w = run_may budget p w
-answers_so budget p (command.Output c) w = (true, refl)
-answers_so budget p (command.Labels c) w = (true, refl)
-answers_so budget p (command.Close c) w = (true, refl)
-answers_so budget p command.Pools w = (true, refl)
+answers_so budget p Opening w = (true, refl)
+answers_so budget p (Adding name bytes) w = refl
+answers_so budget p (Happening e) w = (true, refl)
+answers_so budget p (Bringing ps) w = bring_may p ps w
+answers_so budget p Running w = run_may budget p w
 
-match_so : (b : Bool) (budget : ℕ) (p : Program) (c : Command) (w : World) → MatchBool b (MayAnswer budget p c w (cond b (answered true budget p c w) (reply.Refused refusal.NoSuchConn, w)).0 (cond b (answered true budget p c w) (reply.Refused refusal.NoSuchConn, w)).1) (((cond b (answered true budget p c w) (reply.Refused refusal.NoSuchConn, w)).0 ≡ reply.Refused refusal.NoSuchConn) × ((cond b (answered true budget p c w) (reply.Refused refusal.NoSuchConn, w)).1 ≡ w))
-match_so true budget p c w = answers_so budget p c w
-match_so false budget p c w = (refl, refl)
+match_so : (b : Bool) (budget : ℕ) (p : Program) (a : Action) (w : World) → MatchBool b (MayAnswer budget p a w (cond b (answered budget p a w) (reply.Refused refusal.NoSuchConn, w)).0 (cond b (answered budget p a w) (reply.Refused refusal.NoSuchConn, w)).1) (((cond b (answered budget p a w) (reply.Refused refusal.NoSuchConn, w)).0 ≡ reply.Refused refusal.NoSuchConn) × ((cond b (answered budget p a w) (reply.Refused refusal.NoSuchConn, w)).1 ≡ w))
+match_so true budget p a w = answers_so budget p a w
+match_so false budget p a w = (refl, refl)
 
-serves_so : (budget : ℕ) (p : Program) (c : Command) (w : World) → Serves budget p c w (served true budget p c w).0 (served true budget p c w).1
+serves_so : (budget : ℕ) (p : Program) (c : Command) (w : World) → Serves budget p c w (served budget p c w).0 (served budget p c w).1
 unfolding Serves served
-serves_so budget p c w = match_so (is_for_first c) budget p c w
+serves_so budget p c w = match_so (is_for_first c) budget p (action_of c) w
 
--- The commands can be played, from each world on.
-pub plays_so : (budget : ℕ) (p : Program) (cs : List Command) (w : World) → Plays budget p cs w (replies_of budget p cs w)
-unfolding Plays replies_of
-plays_so budget p [] w = tt
-plays_so budget p (c ∷ cs) w =
-    ((served true budget p c w).1, serves_so budget p c w, plays_so budget p cs (served true budget p c w).1)
+so_by : (budget : ℕ) (p : Program) (is_open : Bool) (number : ℕ) (l : Line) (ls : List Line) (w : World) (o : Option Command) → due_at is_open w l ≡ o → ((b : Bool) (x : World) → Plays budget p b (number + 1) ls x (played budget p b (number + 1) ls x).replies (played budget p b (number + 1) ls x).fault) → (let all = unless_none number o (λ c. and_then (served budget p c w) (λ x. played budget p (is_open || opens c) (number + 1) ls x)) in Plays budget p is_open number (l ∷ ls) w all.replies all.fault)
+unfolding Plays
+so_by budget p is_open number l ls w None due rest = (due, refl)
+so_by budget p is_open number l ls w (Some c) due rest =
+    (c, (served budget p c w).1, due, serves_so budget p c w, rest (is_open || opens c) (served budget p c w).1)
+
+-- The lines can be played, from each world on.
+pub plays_so : (budget : ℕ) (p : Program) (is_open : Bool) (number : ℕ) (ls : List Line) (w : World) → Plays budget p is_open number ls w (played budget p is_open number ls w).replies (played budget p is_open number ls w).fault
+unfolding Plays played
+plays_so budget p is_open number [] w = refl
+plays_so budget p is_open number (l ∷ ls) w =
+    so_by budget p is_open number l ls w (due_at is_open w l) refl (λ b x. plays_so budget p b (number + 1) ls x)

@@ -1,5 +1,5 @@
 -- What of the model a connection that may not be open yet, or was closed, stands for.
-use Rattle.std.specs.Prelude.{ℕ, ◌≡◌, ◌<◌, Bool, true, false, List, length, None, is_some, Result, Ok, Err, IfSome}
+use Rattle.std.specs.Prelude.{ℕ, ◌≡◌, ◌<◌, Bool, true, false, List, length, None, is_some, Result, Ok, Err}
 use Rattle.module_lang.specs.Program.{Program}
 use Rattle.run_model.specs.declared.event.Refusal.{Refusal}
 use Rattle.run_model.specs.Runs.{World, Before, There, Closed, with_file, files_of as world_files}
@@ -7,8 +7,7 @@ use Rattle.module_run.specs.Seen.{seen, pools_left, files_left, refusal_lasted}
 use Rattle.bucket_kinds.specs.MemDevice.{files_of}
 use Rattle.bucket_kinds.specs.declared.refusal.AddRefusal.{AddRefusal}
 use Rattle.bucket_kinds.specs.declared.refusal.AddRefusal.TheVariants as added
-use Rattle.host_cli.specs.declared.command.Command.{Command}
-use Rattle.host_cli.specs.Scripts.{name_given}
+use Rattle.host_cli.specs.Actions.{Action, Opening, Adding, Happening, Bringing, Running}
 use Rattle.host_cli.specs.declared.host.Host.{Host}
 use Rattle.host_cli.specs.declared.host.Host.TheVariants as host
 use Rattle.host_cli.specs.declared.reply.Reply.{Reply}
@@ -35,12 +34,17 @@ is_before (Closed pools fs) = false
 abbrev pub is_had : World → List ℕ → Bool
 is_had w q = is_some ((world_files w).named q)
 
--- No file has this name; no file has the name that a command gives.
+-- no file has this name
 abbrev pub IsFree : List ℕ → World → Type 0
 IsFree name w = (world_files w).named name ≡ None
 
-abbrev pub IsFreeFor : Command → World → Type 0
-IsFreeFor c w = IfSome (name_given c) (λ name. IsFree name w)
+-- A connection is opened once, and a file of a name is added once.
+abbrev pub IsDue : Action → World → Type 0
+IsDue Opening w = is_before w ≡ true
+IsDue (Adding name bytes) w = IsFree name w
+IsDue (Happening e) w = Unit {0}
+IsDue (Bringing pieces) w = Unit {0}
+IsDue Running w = Unit {0}
 
 -- what the adding of a file answers and leaves
 abbrev pub IsAddingTo : World → List ℕ → List ℕ → Result (Unit {0}) AddRefusal → World → Type 0

@@ -6,7 +6,8 @@ pub mod Operands
 pub mod FileLines
 pub mod Commands
 pub mod Numbers
+pub mod Actions
+pub mod Host
 pub mod Replies
 pub mod Scripts
 pub mod Plays
-pub mod Host

@@ -1,12 +1,12 @@
 -- The play of a script: what its commands may answer, and what is written of that.
-use Rattle.std.specs.Prelude.{◌≡◌, ℕ, zero, suc, Bool, true, false, ◌==◌, if◌then◌else◌, List, [], ◌∷◌, ◌++◌, take, drop, Option, Some, None, Result, Ok, Err, flat_map, MatchBool, IfSome}
-use Rattle.std.specs.List.{list_any, repeat}
+use Rattle.std.specs.Prelude.{◌≡◌, ℕ, zero, suc, ◌+◌, Bool, true, false, ◌||◌, not, if◌then◌else◌, List, [], ◌∷◌, ◌++◌, take, drop, Option, Some, None, Result, Ok, Err, ◌⊎◌, flat_map, MatchBool, IfSome}
+use Rattle.std.specs.List.{list_any}
 use Rattle.std.specs.Io.KnownBytes.{Appends}
 use Rattle.module_lang.specs.Program.{Program}
 use Rattle.module_lang.specs.Codes.{code_number}
-use Rattle.module_lang.specs.Assembling.{assembling}
-use Rattle.module_lang.specs.declared.refusal.AsmRefusal.{AsmRefusal}
-use Rattle.module_lang.specs.declared.refusal.AsmRefusal.TheVariants as asm
+use Rattle.module_lang.specs.Texts.{IsTextOf}
+use Rattle.module_lang.specs.FirstFault.{IsFirstFault}
+use Rattle.module_lang.specs.declared.refusal.Code.{Code}
 use Rattle.run_model.specs.declared.event.Cause.TheVariants as cause
 use Rattle.run_model.specs.declared.event.Event.TheVariants as event
 use Rattle.run_model.specs.declared.event.Refusal.{Refusal}
@@ -19,18 +19,19 @@ use Rattle.run_model.specs.Files.{no_files}
 use Rattle.run_model.specs.Connection.{Connection, steps, brings, opens_file}
 use Rattle.run_model.specs.Runs.{Answer, Done, Refused, Step, Output, Opened, Labels, Tree, World, Before, There, happens, EndsRun, step_of, answer_of}
 use Rattle.pool_tree.specs.Printed.{payload_text, printed}
-use Rattle.host_cli.specs.declared.file_line.FileLine.{FileLine}
 use Rattle.host_cli.specs.declared.command.Command.{Command}
-use Rattle.host_cli.specs.declared.command.Command.TheVariants as command
 use Rattle.host_cli.specs.declared.pieces.ScriptPiece.{ScriptPiece}
 use Rattle.host_cli.specs.declared.pieces.ScriptPiece.TheVariants as script_piece
 use Rattle.host_cli.specs.declared.reply.Reply.{Reply}
 use Rattle.host_cli.specs.declared.reply.Reply.TheVariants as reply
 use Rattle.host_cli.specs.declared.ended.Ended.{Ended}
 use Rattle.host_cli.specs.declared.ended.Ended.TheVariants as ended
+use Rattle.host_cli.specs.declared.script.Header.{Header}
+use Rattle.host_cli.specs.Actions.{Action, Opening, Adding, Happening, Bringing, Running, action_of, is_for_first, opens}
+use Rattle.host_cli.specs.Host.{is_had}
 use Rattle.host_cli.specs.Replies.{reply_line, asm_line, script_line}
-use Rattle.host_cli.specs.Lines.{lines_of, module_cut}
-use Rattle.host_cli.specs.Scripts.{Commands, header_of, script_of}
+use Rattle.host_cli.specs.Lines.{Line, lines_of, module_cut}
+use Rattle.host_cli.specs.Scripts.{command_at, header_of}
 
 -- how an answer of the connection is told; the root of its pools is 1
 abbrev pub reply_of : Answer → Reply
@@ -52,19 +53,6 @@ opened_reply a = reply_of a
 
 abbrev pub told_open : Answer × World → Reply × World
 told_open (a, w) = (opened_reply a, w)
-
--- Connection 1 is the only one that there can be. (The commands `open`, `file` and `pools` name none.)
-abbrev pub is_for_first : Command → Bool
-is_for_first command.Open = true
-is_for_first (command.File f) = true
-is_for_first (command.Begin c) = c == 1
-is_for_first (command.End c) = c == 1
-is_for_first (command.Bring c pieces) = c == 1
-is_for_first (command.Run c) = c == 1
-is_for_first (command.Output c) = c == 1
-is_for_first (command.Labels c) = c == 1
-is_for_first (command.Close c) = c == 1
-is_for_first command.Pools = true
 
 -- the steps of a call, where memory lasts: at most n go on, and one more is made
 abbrev pub unless_went : Result Stepped Refusal × Connection → (Connection → Result Stepped Refusal × Connection) → Result Stepped Refusal × Connection
@@ -101,27 +89,17 @@ abbrev pub bring_of : Program → List ScriptPiece → World → Reply × World
 bring_of p xs (There c) = told (answer_of (brought_after p [] xs c))
 bring_of p xs w = (reply.Refused refusal.NoSuchConn, w)
 
--- the bytes of the file that a line adds
-abbrev pub file_bytes : FileLine → List ℕ
-file_bytes f = repeat f.count f.text
+-- what an action answers and leaves where memory lasts
+abbrev pub answered : ℕ → Program → Action → World → Reply × World
+answered budget p Opening w = told_open (happens true budget p event.Open w)
+answered budget p (Adding name bytes) w = told (happens true budget p (event.AddFile name bytes) w)
+answered budget p (Happening e) w = told (happens true budget p e w)
+answered budget p (Bringing pieces) w = bring_of p pieces w
+answered budget p Running w = run_of budget p w
 
--- What a command for connection 1 answers and leaves; memory says whether a growth would succeed. (It always does in
--- a run of steps, in a bring and where a file is added.)
-abbrev pub answered : Bool → ℕ → Program → Command → World → Reply × World
-answered memory budget p command.Open w = told_open (happens memory budget p event.Open w)
-answered memory budget p (command.File f) w = told (happens true budget p (event.AddFile f.name (file_bytes f)) w)
-answered memory budget p (command.Begin c) w = told (happens memory budget p event.Begin w)
-answered memory budget p (command.End c) w = told (happens memory budget p event.End w)
-answered memory budget p (command.Bring c pieces) w = bring_of p pieces w
-answered memory budget p (command.Run c) w = run_of budget p w
-answered memory budget p (command.Output c) w = told (happens memory budget p event.TakeOutput w)
-answered memory budget p (command.Labels c) w = told (happens memory budget p event.TellLabels w)
-answered memory budget p (command.Close c) w = told (happens memory budget p event.Close w)
-answered memory budget p command.Pools w = told (happens memory budget p event.TellPools w)
-
-unfoldable pub served : Bool → ℕ → Program → Command → World → Reply × World
-served memory budget p c w =
-    if is_for_first c then answered memory budget p c w else (reply.Refused refusal.NoSuchConn, w)
+-- the same of a command
+unfoldable pub served : ℕ → Program → Command → World → Reply × World
+served budget p c w = if is_for_first c then answered budget p (action_of c) w else (reply.Refused refusal.NoSuchConn, w)
 
 -- How the steps of a call may end.
 abbrev pub MayRun : ℕ → Program → World → Reply → World → Type 0
@@ -145,35 +123,61 @@ abbrev pub MayBring : Program → List ScriptPiece → World → Reply → World
 MayBring p xs (There c) r new = (answer : Option Refusal) × (d : Connection) × Brings p [] xs c answer d × ((r, new) ≡ told (answer_of (answer, d)))
 MayBring p xs w r new = (r ≡ reply.Refused refusal.NoSuchConn) × (new ≡ w)
 
--- What a command for connection 1 may answer and leave. Each growth may find no memory. (Want of memory for a file that
--- is added ends the play.)
-unfoldable pub MayAnswer : ℕ → Program → Command → World → Reply → World → Type 0
-MayAnswer budget p command.Open old r new = (memory : Bool) × (answered memory budget p command.Open old ≡ (r, new))
-MayAnswer budget p (command.File f) old r new = answered true budget p (command.File f) old ≡ (r, new)
-MayAnswer budget p (command.Begin c) old r new = (memory : Bool) × (answered memory budget p (command.Begin c) old ≡ (r, new))
-MayAnswer budget p (command.End c) old r new = (memory : Bool) × (answered memory budget p (command.End c) old ≡ (r, new))
-MayAnswer budget p (command.Bring c pieces) old r new = MayBring p pieces old r new
-MayAnswer budget p (command.Run c) old r new = MayRun budget p old r new
-MayAnswer budget p (command.Output c) old r new = (memory : Bool) × (answered memory budget p (command.Output c) old ≡ (r, new))
-MayAnswer budget p (command.Labels c) old r new = (memory : Bool) × (answered memory budget p (command.Labels c) old ≡ (r, new))
-MayAnswer budget p (command.Close c) old r new = (memory : Bool) × (answered memory budget p (command.Close c) old ≡ (r, new))
-MayAnswer budget p command.Pools old r new = (memory : Bool) × (answered memory budget p command.Pools old ≡ (r, new))
+-- What an action may answer and leave. Each growth may find no memory. (Want of memory for a file that is added ends the
+-- play.)
+unfoldable pub MayAnswer : ℕ → Program → Action → World → Reply → World → Type 0
+MayAnswer budget p Opening old r new = (memory : Bool) × (told_open (happens memory budget p event.Open old) ≡ (r, new))
+MayAnswer budget p (Adding name bytes) old r new = told (happens true budget p (event.AddFile name bytes) old) ≡ (r, new)
+MayAnswer budget p (Happening e) old r new = (memory : Bool) × (told (happens memory budget p e old) ≡ (r, new))
+MayAnswer budget p (Bringing pieces) old r new = MayBring p pieces old r new
+MayAnswer budget p Running old r new = MayRun budget p old r new
 
 -- From one world to another a command may answer so.
 unfoldable pub Serves : ℕ → Program → Command → World → Reply → World → Type 0
-Serves budget p c old r new = MatchBool (is_for_first c) (MayAnswer budget p c old r new) ((r ≡ reply.Refused refusal.NoSuchConn) × (new ≡ old))
+Serves budget p c old r new = MatchBool (is_for_first c) (MayAnswer budget p (action_of c) old r new) ((r ≡ reply.Refused refusal.NoSuchConn) × (new ≡ old))
 
--- The commands may answer so, one after another.
-unfoldable pub Plays : ℕ → Program → List Command → World → List Reply → Type 0
-Plays budget p [] old [] = Unit {0}
-Plays budget p (c ∷ cs) old (r ∷ rs) = (mid : World) × Serves budget p c old r mid × Plays budget p cs mid rs
-Plays budget p [] old (r ∷ rs) = ⊥
-Plays budget p (c ∷ cs) old [] = ⊥
+-- Whether an action may stand in a script here: a second connection is not opened, and no name is given to a second file.
+abbrev pub is_due : Bool → World → Action → Bool
+is_due is_open w Opening = not is_open
+is_due is_open w (Adding name bytes) = not (is_had w name)
+is_due is_open w (Happening e) = true
+is_due is_open w (Bringing pieces) = true
+is_due is_open w Running = true
 
--- the answers of the commands where memory lasts
-unfoldable pub replies_of : ℕ → Program → List Command → World → List Reply
-replies_of budget p [] old = []
-replies_of budget p (c ∷ cs) old = (served true budget p c old).0 ∷ replies_of budget p cs (served true budget p c old).1
+abbrev pub if_due : Bool → World → Option Command → Option Command
+if_due is_open w None = None
+if_due is_open w (Some c) = if is_due is_open w (action_of c) then Some c else None
+
+-- The command of a line, where it may stand there: a line before it has said `open`, or none has, and this is the world.
+abbrev pub due_at : Bool → World → Line → Option Command
+due_at is_open w l = if_due is_open w (command_at l)
+
+-- These lines, of which the first has this number, may be answered so, one after another. The play ends behind the last
+-- line, or at the first that says no command which may stand there: fault is its number.
+unfoldable pub Plays : ℕ → Program → Bool → ℕ → List Line → World → List Reply → Option ℕ → Type 0
+Plays budget p is_open number [] old [] fault = fault ≡ None
+Plays budget p is_open number [] old (r ∷ rs) fault = ⊥
+Plays budget p is_open number (l ∷ ls) old [] fault = (due_at is_open old l ≡ None) × (fault ≡ Some number)
+Plays budget p is_open number (l ∷ ls) old (r ∷ rs) fault =
+    (c : Command) × (mid : World) × (due_at is_open old l ≡ Some c) × Serves budget p c old r mid × Plays budget p (is_open || opens c) (number + 1) ls mid rs fault
+
+-- the answers of a play, and where it ends
+pub record Played : Type 0 where
+  pub replies : List Reply
+  pub fault : Option ℕ
+
+abbrev pub unless_none : ℕ → Option Command → (Command → Played) → Played
+unless_none number None rest = record { replies = []; fault = Some number }
+unless_none number (Some c) rest = rest c
+
+abbrev pub and_then : Reply × World → (World → Played) → Played
+and_then (r, w) rest = record { replies = r ∷ (rest w).replies; fault = (rest w).fault }
+
+-- the play in which memory lasts
+unfoldable pub played : ℕ → Program → Bool → ℕ → List Line → World → Played
+played budget p is_open number [] w = record { replies = []; fault = None }
+played budget p is_open number (l ∷ ls) w =
+    unless_none number (due_at is_open w l) (λ c. and_then (served budget p c w) (λ mid. played budget p (is_open || opens c) (number + 1) ls mid))
 
 -- whether an answer says that there was no memory
 abbrev pub refusal_names_memory : Refusal → Bool
@@ -190,6 +194,13 @@ names_memory (reply.Output bytes) = false
 names_memory (reply.Labels labels) = false
 names_memory (reply.Pools text) = false
 
+-- A play of the commands on these lines, from the empty world on. As far as no answer says that there was no memory, it is
+-- the play in which memory lasts.
+pub record IsPlay (budget : ℕ) (p : Program) (first : ℕ) (lines : List Line) (replies : List Reply) (fault : Option ℕ) : Type 0 where
+  pub plays : Plays budget p false first lines (Before no_files) replies fault
+  pub only : (n : ℕ) → list_any names_memory (take n replies) ≡ false → take n replies ≡ take n (played budget p false first lines (Before no_files)).replies
+  pub end : list_any names_memory replies ≡ false → fault ≡ (played budget p false first lines (Before no_files)).fault
+
 -- the line that ends the play at a line that is no command
 abbrev pub last_line : Option ℕ → List ℕ
 last_line None = []
@@ -199,52 +210,57 @@ abbrev pub ended_at : Option ℕ → Ended
 ended_at None = ended.Done
 ended_at (Some n) = ended.Refused
 
--- What is written where the commands answer so, and how the play ends.
 abbrev pub lines_of_replies : List Reply → List ℕ
 lines_of_replies rs = flat_map reply_line rs
 
--- Commands of a module under a budget are played so: their answers are a run, what is written are the lines of the
--- answers and the line of the first line that is no command, and where no answer says that there was no memory, the
--- answers are those of the run in which memory lasts.
-pub record IsPlayed (budget : ℕ) (p : Program) (script : Commands) (text : List ℕ) (e : Ended) : Type 0 where
+-- The text is that of a play: the lines of its answers, and the line of the fault that ends it.
+pub record IsPlayed (budget : ℕ) (p : Program) (first : ℕ) (lines : List Line) (text : List ℕ) (e : Ended) : Type 0 where
   pub replies : List Reply
-  pub run : Plays budget p script.commands (Before no_files) replies
-  pub lines : text ≡ lines_of_replies replies ++ last_line script.fault
-  pub ended : e ≡ ended_at script.fault
-  pub only : list_any names_memory replies ≡ false → replies ≡ replies_of budget p script.commands (Before no_files)
+  pub fault : Option ℕ
+  pub play : IsPlay budget p first lines replies fault
+  pub written : text ≡ lines_of_replies replies ++ last_line fault
+  pub ended : e ≡ ended_at fault
 
--- The text is the front of one that a play writes.
-pub record IsPlayedSoFar (budget : ℕ) (p : Program) (script : Commands) (text : List ℕ) : Type 0 where
-  pub more : List ℕ
-  pub end : Ended
-  pub whole : IsPlayed budget p script (text ++ more) end
+-- The text is the lines of the first answers of a play.
+pub record IsPlayedSoFar (budget : ℕ) (p : Program) (first : ℕ) (lines : List Line) (text : List ℕ) : Type 0 where
+  pub answered : List Reply
+  pub left : List Reply
+  pub fault : Option ℕ
+  pub play : IsPlay budget p first lines (answered ++ left) fault
+  pub written : text ≡ lines_of_replies answered
 
--- The module text and the rest of a script.
+-- The parts of a script: its module text, the budget, and the lines of commands with the number of the first.
 abbrev pub module_text : List ℕ → List ℕ
 module_text script = take (module_cut (lines_of script)).size script
 
 abbrev pub after_module : List ℕ → List ℕ
 after_module script = drop (module_cut (lines_of script)).size script
 
--- The line that tells why a text is no module. (None is refused for memory.)
-abbrev pub refusal_line : AsmRefusal → List ℕ
-refusal_line (asm.Fault l code) = asm_line l (code_number code)
-refusal_line asm.NoMemory = []
+abbrev pub script_header : List ℕ → Header
+script_header script = header_of (lines_of (after_module script))
 
--- What a play of a script may write, and how it ends: the commands of a module are played; where the text is none, a
--- line tells its first faulty line.
-abbrev pub IsPlayOf : Result Program AsmRefusal → ℕ → List ℕ → List ℕ → Ended → Type 0
-IsPlayOf (Ok p) lines rest text e = IsPlayed (header_of (lines_of rest)).budget p (script_of lines rest) text e
-IsPlayOf (Err fault) lines rest text e = (text ≡ refusal_line fault) × (e ≡ ended.Refused)
+abbrev pub first_command : List ℕ → ℕ
+first_command script = (module_cut (lines_of script)).lines + (script_header script).lines + 1
 
-pub record IsWrittenFor (script text : List ℕ) (e : Ended) : Type 0 where
-  pub play : IsPlayOf (assembling (module_text script)) (module_cut (lines_of script)).lines (after_module script) text e
+abbrev pub command_lines : List ℕ → List Line
+command_lines script = lines_of (drop (script_header script).size (after_module script))
 
--- The text is the front of one that a play of the script may write.
-pub record IsFrontOf (script text : List ℕ) : Type 0 where
-  pub more : List ℕ
-  pub end : Ended
-  pub whole : IsWrittenFor script (text ++ more) end
+-- What a play of a script may write, and how it ends: the module text is that of a module, on which the commands are
+-- played; or it has a first faulty line, which is told.
+abbrev pub IsWrittenFor : List ℕ → List ℕ → Ended → Type 0
+IsWrittenFor script text e =
+    ((p : Program) × IsTextOf (module_text script) p × IsPlayed (script_header script).budget p (first_command script) (command_lines script) text e)
+    ⊎ ((n : ℕ) × (c : Code) × IsFirstFault (module_text script) n c × (text ≡ asm_line n (code_number c)) × (e ≡ ended.Refused))
+
+-- What is written where memory was wanting: nothing, or the lines of the first answers.
+abbrev pub IsFrontOf : List ℕ → List ℕ → Type 0
+IsFrontOf script text =
+    (text ≡ [])
+    ⊎ ((p : Program) × IsTextOf (module_text script) p × IsPlayedSoFar (script_header script).budget p (first_command script) (command_lines script) text)
+
+-- What is written where the writer failed: nothing, or the front of what a play of the script may write.
+abbrev pub IsCutOf : List ℕ → List ℕ → Type 0
+IsCutOf script text = (text ≡ []) ⊎ ((more : List ℕ) × (e : Ended) × IsWrittenFor script (text ++ more) e)
 
 -- Where the input of a call is known, what it wrote is such a text of that input.
 abbrev pub Writes : Option (List ℕ) → Option (List ℕ) → Option (List ℕ) → (List ℕ → List ℕ → Type 0) → Type 0

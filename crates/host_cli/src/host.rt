@@ -5,9 +5,9 @@ ghost use Rattle.module_lang.specs.Program.{Program};
 ghost use Rattle.run_model.specs.Files.{no_files};
 ghost use Rattle.run_model.specs.Runs.{happens, Before, There, files_of};
 ghost use Rattle.module_run.specs.Seen.{lasted};
-ghost use Rattle.host_cli.specs.Scripts.{opens};
-ghost use Rattle.host_cli.specs.Plays.{told, told_open, is_for_first, file_bytes, MayBring, MayRun, MayAnswer, Serves};
-ghost use Rattle.host_cli.specs.Host.{world_of, is_before, IsFree, IsFreeFor, IsAddingTo, IsReady, lasted_by, done};
+ghost use Rattle.host_cli.specs.Actions.{action_of, opens, is_for_first, file_bytes};
+ghost use Rattle.host_cli.specs.Plays.{told, told_open, MayBring, MayRun, MayAnswer, Serves};
+ghost use Rattle.host_cli.specs.Host.{world_of, is_before, IsFree, IsDue, IsAddingTo, IsReady, lasted_by, done};
 
 use crate::bringing::bring_pieces;
 use crate::command::Command;
@@ -248,9 +248,8 @@ fn answer(
     command: Command,
 ) -> Result<Reply, AllocError>
     requires ready { IsReady code.now (world_of host.old) }
-    requires once { opens command ≡ true → is_before (world_of host.old) ≡ true }
-    requires free { IsFreeFor command (world_of host.old) }
-    ensures answers { IfOk result (λ r. MayAnswer budget code.now command (world_of host.old) r (world_of host.new)) }
+    requires due { IsDue (action_of command) (world_of host.old) }
+    ensures answers { IfOk result (λ r. MayAnswer budget code.now (action_of command) (world_of host.old) r (world_of host.new)) }
     ensures ready { IsReady code.now (world_of host.new) }
     ensures before { opens command ≡ false → is_before (world_of host.new) ≡ is_before (world_of host.old) }
 {
@@ -278,8 +277,7 @@ pub fn serve(
     command: Command,
 ) -> Result<Reply, AllocError>
     requires ready { IsReady code.now (world_of host.old) }
-    requires once { opens command ≡ true → is_before (world_of host.old) ≡ true }
-    requires free { IsFreeFor command (world_of host.old) }
+    requires due { IsDue (action_of command) (world_of host.old) }
     ensures serves { IfOk result (λ r. Serves budget code.now command (world_of host.old) r (world_of host.new)) }
     ensures ready { IsReady code.now (world_of host.new) }
     ensures before { opens command ≡ false → is_before (world_of host.new) ≡ is_before (world_of host.old) }

@@ -1,12 +1,14 @@
 //! Playing a script.
 
-ghost use Rattle.std.specs.Prelude.{◌≡◌, ℕ, ◌+◌, ◌<◌, ◌≤◌, ◌^◌, ◌++◌, [], length, true, false, IfOk, OnOk, OnErr};
+ghost use Rattle.std.specs.Prelude.{◌≡◌, ℕ, ◌+◌, ◌<◌, ◌^◌, ◌++◌, [], length, drop, true, false, IfOk, OnOk, OnErr};
+ghost use Rattle.module_lang.specs.Texts.{IsTextOf};
 ghost use Rattle.host_cli.specs.declared.reply.Reply.{Reply};
+ghost use Rattle.host_cli.specs.Actions.{action_of, opens};
 ghost use Rattle.host_cli.specs.Replies.{reply_line};
 ghost use Rattle.host_cli.specs.Lines.{lines_of};
-ghost use Rattle.host_cli.specs.Scripts.{opens, commands_of, header_of, script_of};
+ghost use Rattle.host_cli.specs.Scripts.{header_of};
 ghost use Rattle.host_cli.specs.Plays.{Serves, IsPlayed, IsPlayedSoFar, IsWrittenFor, IsFrontOf};
-ghost use Rattle.host_cli.specs.Host.{world_of, is_before, IsFreeFor, IsReady};
+ghost use Rattle.host_cli.specs.Host.{world_of, is_before, IsDue, IsReady};
 
 use crate::command::Command;
 use crate::ended::Ended;
@@ -28,8 +30,7 @@ fn answer(
     out: &mut Vec<u8>,
 ) -> Result<(), AllocError>
     requires ready { IsReady code.now (world_of host.old) }
-    requires once { opens command ≡ true → is_before (world_of host.old) ≡ true }
-    requires free { IsFreeFor command (world_of host.old) }
+    requires due { IsDue (action_of command) (world_of host.old) }
     ensures ok { OnOk result ((r : Reply) × Serves budget code.now command (world_of host.old) r (world_of host.new) × (out.new.items ≡ out.old.items ++ reply_line r)) }
     ensures err { OnErr result (out.new.items ≡ out.old.items) }
     ensures ready { IsReady code.now (world_of host.new) }
@@ -51,8 +52,8 @@ pub fn play_commands(
 ) -> Result<Ended, AllocError>
     requires small { first + length commands.now < 2 ^ 64 }
     requires fresh { out.old.items ≡ [] }
-    ensures ok { IfOk result (λ e. IsPlayed budget code.now (commands_of false [] first (lines_of commands.now)) out.new.items e) }
-    ensures err { OnErr result (IsPlayedSoFar budget code.now (commands_of false [] first (lines_of commands.now)) out.new.items) }
+    ensures ok { IfOk result (λ e. IsPlayed budget code.now first (lines_of commands.now) out.new.items e) }
+    ensures err { OnErr result (IsPlayedSoFar budget code.now first (lines_of commands.now) out.new.items) }
 {
     let mut host = no_conn(alloc, code);
     let mut is_open = false;
@@ -83,8 +84,8 @@ fn play_module(
 ) -> Result<Ended, AllocError>
     requires small { lines + length rest.now + 2 < 2 ^ 64 }
     requires fresh { out.old.items ≡ [] }
-    ensures ok { IfOk result (λ e. IsPlayed (header_of (lines_of rest.now)).budget code.now (script_of lines rest.now) out.new.items e) }
-    ensures err { OnErr result (IsPlayedSoFar (header_of (lines_of rest.now)).budget code.now (script_of lines rest.now) out.new.items) }
+    ensures ok { IfOk result (λ e. let header = header_of (lines_of rest.now) in IsPlayed header.budget code.now (lines + header.lines + 1) (lines_of (drop header.size rest.now)) out.new.items e) }
+    ensures err { OnErr result (let header = header_of (lines_of rest.now) in IsPlayedSoFar header.budget code.now (lines + header.lines + 1) (lines_of (drop header.size rest.now)) out.new.items) }
 {
     let header = header_of(rest);
     let first = lines + header.lines + 1;

@@ -1,9 +1,11 @@
 //! What the lines of a script say behind its module text.
 
-ghost use Rattle.std.specs.Prelude.{◌≡◌, ◌≤◌, length, IfOk, Some};
+ghost use Rattle.std.specs.Prelude.{◌≡◌, ◌≤◌, length, IfOk};
 ghost use Rattle.host_cli.specs.Lines.{first_line, lines_of};
-ghost use Rattle.host_cli.specs.Scripts.{budget_at, header_of, command_at, opens, name_given, is_taken, due};
-ghost use Rattle.host_cli.specs.Host.{is_had, world_of};
+ghost use Rattle.host_cli.specs.Scripts.{budget_at, header_of, command_at};
+ghost use Rattle.host_cli.specs.Actions.{action_of, opens};
+ghost use Rattle.host_cli.specs.Host.{world_of};
+ghost use Rattle.host_cli.specs.Plays.{is_due, due_at};
 
 use crate::command::{Command, command_of};
 use crate::host::{Host, has_file};
@@ -81,17 +83,18 @@ pub fn opens(command: &Command) -> bool
     matches!(command, Command::Open)
 }
 
-/// Whether a command gives a file a name that a file has.
-fn is_taken(command: &Command, host: &Host) -> bool
-    ensures { result ≡ is_taken (is_had (world_of host.now)) (name_given command.now) }
+/// Whether a command may stand here: a second connection is not opened, and no name is given to a second file.
+fn is_due(command: &Command, is_open: bool, host: &Host) -> bool
+    ensures { result ≡ is_due is_open (world_of host.now) (action_of command.now) }
 {
     match command {
-        Command::File(line) => has_file(host, line.name.as_slice()),
-        _ => false,
+        Command::Open => !is_open,
+        Command::File(line) => !has_file(host, line.name.as_slice()),
+        _ => true,
     }
 }
 
-/// The command of a line, where it may stand: a second connection is not opened, and no name is given to a second file.
+/// The command of a line, where it may stand there: a line before it has opened the connection, or none has.
 pub fn due_command(
     alloc: Global,
     text: &[u8],
@@ -99,19 +102,14 @@ pub fn due_command(
     is_open: bool,
     host: &Host,
 ) -> Result<Option<Command>, AllocError>
-    ensures { IfOk result (λ c. c ≡ due is_open (is_had (world_of host.now)) (command_at (record { text = text.now; ended = ended }))) }
+    ensures { IfOk result (λ c. c ≡ due_at is_open (world_of host.now) (record { text = text.now; ended = ended })) }
 {
-    match command_at(alloc, text, ended)? {
-        Some(command) => Ok(due(command, is_open, host)),
-        None => Ok(None),
+    let Some(command) = command_at(alloc, text, ended)? else {
+        return Ok(None);
+    };
+    if is_due(&command, is_open, host) {
+        Ok(Some(command))
+    } else {
+        Ok(None)
     }
-}
-
-fn due(command: Command, is_open: bool, host: &Host) -> Option<Command>
-    ensures { result ≡ due is_open (is_had (world_of host.now)) (Some command) }
-{
-    if is_open && opens(&command) || is_taken(&command, host) {
-        return None;
-    }
-    Some(command)
 }

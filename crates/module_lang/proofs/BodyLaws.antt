@@ -1,6 +1,6 @@
 -- The lines of handlers and of declarations, in the order in which they are spelled.
 use Rattle.std.proofs.Common.{◌≡◌, ℕ, suc, ◌+◌, ◌<◌, ◌≤◌, Bool, true, false, cond, List, [], ◌∷◌, ◌++◌, length, map, Option, Some, None, refl, sym, ◌∙◌, ap, subst, arith, append_assoc, append-nil, length-append}
-use Rattle.std.specs.Prelude.{IfSome, codes, filter_map, is_some, slice_get}
+use Rattle.std.specs.Prelude.{IfSome, filter_map, is_some, option_to_list, slice_get}
 use Rattle.std.proofs.lemmas.Bool.{eq-eqb}
 use Rattle.std.specs.List.{cons_option, range_with_len}
 use Rattle.std.proofs.lemmas.List.{length-map, map-append}
@@ -11,10 +11,13 @@ use Rattle.module_lang.specs.Entries.{from_quote, step_text, step_texts}
 use Rattle.module_lang.specs.Lines.{has_text, is_due, is_handler, judged, misplaced, instruction_count, place_is_declared}
 use Rattle.module_lang.specs.Names.{is_name}
 use Rattle.module_lang.specs.Program.{Program, IsModule, fits, target, text_at, text_of_instr}
-use Rattle.module_lang.specs.Args.{op_of}
+use Rattle.module_lang.specs.Args.{args, names_text, op_of}
+use Rattle.module_lang.specs.Quoted.{quoted, text_of}
 use Rattle.module_lang.specs.Spelling.{operands_of}
-use Rattle.module_lang.specs.Texts.{CodeLine, Spells, label, step, code_text, instr_word, line_text, instrs, operand_texts, pool_texts, brigade_texts, place_text, own_text}
+use Rattle.module_lang.specs.Texts.{CodeLine, Spells, label, step, arg_texts, brigade_text, number_text, operands_text, status_text, value_text, code_text, instr_word, line_text, instrs, operand_texts, pool_texts, brigade_texts, place_text, own_text}
 use Rattle.module_lang.specs.Words.{word_text, word_kinds}
+use Rattle.module_lang.specs.declared.arg.Arg.{Arg}
+use Rattle.module_lang.specs.declared.arg.Arg.TheVariants as arg
 use Rattle.module_lang.specs.declared.draft.Draft.{Draft}
 use Rattle.module_lang.specs.declared.draft.Handler.{Handler}
 use Rattle.module_lang.specs.declared.draft.Label.{Label}
@@ -24,18 +27,20 @@ use Rattle.module_lang.specs.declared.draft.Step.{Step}
 use Rattle.module_lang.specs.declared.instr.Instr.{Instr}
 use Rattle.module_lang.specs.declared.instr.PoolRef.{PoolRef}
 use Rattle.module_lang.specs.declared.instr.PoolRef.TheVariants as pool
-use Rattle.module_lang.specs.declared.instr.Instr.TheVariants as instr
 use Rattle.module_lang.specs.declared.instr.VarRef.TheVariants as variable
 use Rattle.module_lang.specs.declared.operand.Operand.TheVariants as operand
 use Rattle.module_lang.specs.declared.operand.Operands.{Operands}
 use Rattle.module_lang.specs.declared.word.Op.{Op}
 use Rattle.module_lang.specs.declared.word.Kind.TheVariants as kind
 use Rattle.module_lang.specs.declared.word.Word.TheVariants as word
+use Rattle.module_lang.proofs.ArgLaws.{formed}
+use Rattle.module_lang.proofs.ArgsFound.{word_unquoted}
 use Rattle.module_lang.proofs.DraftLaws.{has_text_of}
+use Rattle.module_lang.proofs.InverseLaws.{token_unquoted}
 use Rattle.module_lang.proofs.ListLaws.{number_at, some_both}
-use Rattle.module_lang.proofs.QuoteLaws.{quote_at, quote_unindented, quoted_again}
+use Rattle.module_lang.proofs.QuoteLaws.{place_unquoted, quote_behind, quote_unindented, quoted_again}
 use Rattle.module_lang.proofs.RunLaws.{Goes, IsAt, goes_item, goes_label, instr_judged}
-use Rattle.module_lang.proofs.SpellingLaws.{instr_again, word_of_instr, padded, operands, pool_operand, place_operand, own_operand, two_again, declared_up, text_len}
+use Rattle.module_lang.proofs.SpellingLaws.{AreSaid, IsSaid, args_said, instr_again, word_of_instr, padded, operands, pool_operand, place_operand, own_operand, two_again, declared_up, text_len}
 
 -- the labels of lines of code with their padded names, and the instructions as they are written
 abbrev pub marks_from : ℕ → List CodeLine → List (List ℕ × ℕ)
@@ -185,17 +190,42 @@ text_is : (o : Option ℕ) (b : Bool) (m : ℕ) → b ≡ is_some o → IfSome o
 text_is None b m e h = rw e refl
 text_is (Some t) b m e h = rw e (ap Some (sym h))
 
+-- no operand but a text has a quote
+arg_bare : (p : Program) (a : Arg) (n s : List ℕ) (len : ℕ) (os : List (List ℕ)) → IsSaid p a n s len → names_text a ≡ None → from_quote (operands_text (arg_texts a n s ++ os)) ≡ from_quote (operands_text os)
+arg_bare p a n s len os x e = by_kind a x e
+  where
+    by_kind : (a : Arg) → IsSaid p a n s len → names_text a ≡ None → from_quote (operands_text (arg_texts a n s ++ os)) ≡ from_quote (operands_text os)
+    by_kind arg.Nothing x e = refl
+    by_kind (arg.Place q) x e = quote_behind (place_text q) (operands_text os) (place_unquoted q)
+    by_kind (arg.Pool q) x e = quote_behind (place_text (pool.Own q)) (operands_text os) (place_unquoted (pool.Own q))
+    by_kind (arg.Brigade b) x e = quote_behind (own_text b) (operands_text os) (place_unquoted (pool.Own b))
+    by_kind (arg.Source b) x e = quote_behind (brigade_text b) (operands_text os) (token_unquoted (operand.Brigade b) (brigade_text b) refl)
+    by_kind (arg.Ending y) x e = quote_behind (status_text y) (operands_text os) (token_unquoted (operand.Ending y) (status_text y) refl)
+    by_kind (arg.Target t) x e = quote_behind n (operands_text os) (token_unquoted (operand.Label (padded n)) n (x.name, refl))
+    by_kind (arg.Text t) x e = absurd (cc e)
+    by_kind (arg.Variable (variable.Pool q)) x e = quote_behind (place_text (pool.Own q)) (operands_text os) (place_unquoted (pool.Own q))
+    by_kind (arg.Variable (variable.Brigade b)) x e = quote_behind (own_text b) (operands_text os) (place_unquoted (pool.Own b))
+    by_kind (arg.Number m) x e = quote_behind (number_text m) (operands_text os) (place_unquoted (pool.Own m))
+    by_kind (arg.Value v) x e = quote_behind (value_text v) (operands_text os) (token_unquoted (operand.Value v) (value_text v) (refl, x.fit.0))
+
+text_first : (p : Program) (a : Arg) (n s : List ℕ) (os : List (List ℕ)) (t : ℕ) → names_text a ≡ Some t → Spells s (text_at p t) → from_quote (operands_text (arg_texts a n s ++ os)) ≡ s ++ operands_text os
+text_first p (arg.Text u) n s os t e h = rw h.whole refl
+text_first p _ n s os t e h = absurd (cc e)
+
 -- the text that stands in the line of an instruction
-pub text_entered : (p : Program) (i : Instr) (name s bytes : List ℕ) (k : ℕ) → IfSome (text_of_instr i) (λ t. Spells s (text_at p t)) → unindented bytes ≡ line_text (instr_word i) (operand_texts i name s) → step_texts (operands_of i (padded name) k) bytes ≡ text_list p (text_of_instr i)
-text_entered p (instr.Label q t) name s bytes k h e =
-    let at = quote_unindented bytes ∙ ap from_quote e ∙ quote_at (codes "label") q s (text_at p t) refl h in
-    rw (at, quoted_again s (text_at p t) [] h) refl
-text_entered p (instr.Unlabel q t) name s bytes k h e =
-    let at = quote_unindented bytes ∙ ap from_quote e ∙ quote_at (codes "unlabel") q s (text_at p t) refl h in
-    rw (at, quoted_again s (text_at p t) [] h) refl
-text_entered p (instr.JNull (variable.Pool q) l) name s bytes k h e = refl
-text_entered p (instr.JNull (variable.Brigade b) l) name s bytes k h e = refl
-text_entered p _ name s bytes k h e = refl
+pub text_entered : (p : Program) (i : Instr) (name s bytes : List ℕ) (k : ℕ) → AreSaid p (args i) name s k → IfSome (text_of_instr i) (λ t. Spells s (text_at p t)) → unindented bytes ≡ line_text (instr_word i) (operand_texts i name s) → step_texts (operands_of i (padded name) k) bytes ≡ text_list p (text_of_instr i)
+text_entered p i name s bytes k x h e = rw (has_text_of i (padded name) k) (by_text (text_of_instr i) (sym (formed i).second) h)
+  where
+    os : List (List ℕ)
+    os = arg_texts (args i).third name s ++ arg_texts (args i).fourth name s
+
+    by_text : (o : Option ℕ) → names_text (args i).second ≡ o → IfSome o (λ t. Spells s (text_at p t)) → cond (is_some o) (option_to_list (text_of (quoted (from_quote bytes)))) [] ≡ text_list p o
+    by_text None q w = refl
+    by_text (Some t) q w =
+        let second = text_first p (args i).second name s os t q w in
+        let first = arg_bare p (args i).first name s k (arg_texts (args i).second name s ++ os) x.first (formed i).first in
+        let at = quote_unindented bytes ∙ ap from_quote e ∙ quote_behind (instr_word i) (operands_text (operand_texts i name s)) (word_unquoted (op_of i)) ∙ first ∙ second in
+        rw (at, quoted_again s (text_at p t) (operands_text os) w) refl
 
 text_short : (p : Program) (o : Option ℕ) → IsModule p → IfSome o (λ t. t < length p.texts) → text_len p o ≤ 255
 unfolding text_at
@@ -230,7 +260,7 @@ body_goes p q front back H stage s (step i name w ∷ ls) done d ss P h right wh
     let read = instr_again p i name w s.pools s.brigades right.0.0 right.0.2 right.0.3 in
     let sound = instr_judged p q d i (padded name) k at low right.0.0 right.0.1 short few in
     let t = λ (n : ℕ). step_of n (op_of i) o d in
-    rw (word_of_instr i) (goes_item d (word.Op (op_of i)) (operand_texts i name w) o (λ n. step_with p d.part i d (t n)) (map code_text ls ++ ss) P due read sound (λ n bytes e. rw (text_entered p i name w bytes k right.0.3 (e ∙ ap (λ x. line_text x (operand_texts i name w)) (sym (word_of_instr i)))) refl) (λ n.
+    rw (word_of_instr i) (goes_item d (word.Op (op_of i)) (operand_texts i name w) o (λ n. step_with p d.part i d (t n)) (map code_text ls ++ ss) P due read sound (λ n bytes e. rw (text_entered p i name w bytes k (args_said p i name w right.0.0 right.0.2 right.0.3) right.0.3 (e ∙ ap (λ x. line_text x (operand_texts i name w)) (sym (word_of_instr i)))) refl) (λ n.
     subst (λ x. Goes (step_with p x i d (t n)) (map code_text ls ++ ss) P) (sym at.part) (body_goes p q front back H stage s ls (done ++ step i name w ∷ []) (step_with p q i d (t n)) ss P (stage.steps done d (t n) i name w (bare_is n) h) right.1 (rw same whole) (λ e x. more e (subst (λ c. H c e) same x)))))
 
 module _ (p : Program) where

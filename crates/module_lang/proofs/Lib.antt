@@ -31,6 +31,7 @@ pub mod QuoteFound
 pub mod QuoteLaws
 pub mod QuotedLaws
 pub mod RawLines
+pub mod ReaderLaws
 pub mod RunLaws
 pub mod SaysLaws
 pub mod ShownLaws

@@ -1,15 +1,18 @@
 -- The lines of a printed module: each says something and begins with no space, and together they are short.
-use Rattle.std.proofs.Common.{◌≡◌, ℕ, ◌+◌, ◌*◌, ◌%◌, ◌^◌, ◌||◌, ltb, ◌<◌, ◌≤◌, Bool, true, false, ◌&&◌, not, cond, eqb, List, [], ◌∷◌, ◌++◌, length, map, Option, Some, None, refl, ◌∙◌, ap, arith, length-append}
+use Rattle.std.proofs.Common.{◌≡◌, ℕ, ◌+◌, ◌*◌, ◌%◌, ◌^◌, ◌||◌, ltb, ◌<◌, ◌≤◌, Bool, true, false, cond, eqb, List, [], ◌∷◌, ◌++◌, length, map, Option, Some, None, refl, sym, ◌∙◌, ap, subst, arith, length-append}
 use Rattle.std.specs.Prelude.{All, IfSome, codes, filter_map}
 use Rattle.std.specs.List.{cons_option, list_all}
-use Rattle.std.proofs.lemmas.Bool.{and_parts, ne_eqb, ltb-true}
+use Rattle.std.proofs.lemmas.Bool.{ne_eqb, ltb-true}
 use Rattle.std.proofs.lemmas.Fmt.{decimal_by_steps, length-decimal-le}
 use Rattle.std.proofs.lemmas.List.Folds.{list_all-append}
+use Rattle.module_lang.specs.Args.{args, names_text}
 use Rattle.module_lang.specs.Bytes.{all_printable, is_printable, unindented}
 use Rattle.module_lang.specs.Printing.{target_name, aim, is_target, printed_code, quoted_text}
-use Rattle.module_lang.specs.Program.{Program, fits, is_brigade, target, text_of_instr}
+use Rattle.module_lang.specs.Program.{Program, fits, target, tests, text_of_instr}
 use Rattle.module_lang.specs.Lines.{place_is_declared}
-use Rattle.module_lang.specs.Texts.{CodeLine, label, step, brigade_text, brigade_texts, code_text, instr_word, is_skipped, joined, line_text, operand_texts, number_text, operands_text, own_text, place_text, pool_texts, statements, status_text, value_text}
+use Rattle.module_lang.specs.Texts.{CodeLine, label, step, arg_texts, brigade_text, brigade_texts, code_text, instr_word, is_skipped, joined, line_text, operand_texts, number_text, operands_text, own_text, place_text, pool_texts, statements, status_text, value_text}
+use Rattle.module_lang.specs.declared.arg.Arg.{Arg}
+use Rattle.module_lang.specs.declared.arg.Arg.TheVariants as arg
 use Rattle.module_lang.specs.declared.instr.Instr.{Instr}
 use Rattle.module_lang.specs.declared.instr.Instr.TheVariants as instr
 use Rattle.module_lang.specs.declared.instr.PoolRef.{PoolRef}
@@ -20,7 +23,10 @@ use Rattle.module_lang.specs.declared.instr.Value.TheVariants as value
 use Rattle.module_lang.specs.declared.instr.VarRef.TheVariants as variable
 use Rattle.module_lang.specs.declared.instr.Status.{Status}
 use Rattle.module_lang.specs.declared.instr.Status.TheVariants as status
+use Rattle.module_lang.proofs.ArgLaws.{formed}
+use Rattle.module_lang.proofs.FitLaws.{Every, fits_parts}
 use Rattle.module_lang.proofs.PrintedLabels.{all_joined}
+use Rattle.module_lang.proofs.ShownLaws.{operands_text-append}
 use Rattle.module_lang.proofs.ListLaws.{all_cons, all_head, all_tail}
 
 -- printable bytes, of which the first is neither a space nor `#`
@@ -67,19 +73,19 @@ operands_short : (os : List (List ℕ)) → AreShown os → length (operands_tex
 operands_short [] h = omega arith
 operands_short (o ∷ os) h = omega (arith, h.1, operands_short os h.2, length-append o (operands_text os))
 
--- operands of printable bytes, and so many bytes more than three short ones have
+-- operands of printable bytes, and so many bytes more than four short ones have
 record StepShown (os : List (List ℕ)) (more : ℕ) : Type 0 where
   clean : list_all is_printable (operands_text os) ≡ true
-  short : length (operands_text os) ≤ 33 + more
+  short : length (operands_text os) ≤ 44 + more
 
-all_short : (os : List (List ℕ)) (more : ℕ) → length os ≤ 3 → AreShown os → StepShown os more
+all_short : (os : List (List ℕ)) (more : ℕ) → length os ≤ 4 → AreShown os → StepShown os more
 all_short os more few s = record { clean = operands_printable os s; short = omega (arith, operands_short os s) }
 
 line_plain : (w : List ℕ) (os : List (List ℕ)) (more : ℕ) → IsPlain w → StepShown os more → IsPlain (line_text w os)
 line_plain [] os more h s = absurd h
 line_plain (b ∷ bs) os more h s = (h.0, h.1, list_all-append is_printable (b ∷ bs) (operands_text os) ∙ rw (h.2, s.clean) refl)
 
-line_short : (w : List ℕ) (os : List (List ℕ)) (more : ℕ) → length w ≤ 10 → StepShown os more → length (line_text w os) ≤ 44 + more
+line_short : (w : List ℕ) (os : List (List ℕ)) (more : ℕ) → length w ≤ 10 → StepShown os more → length (line_text w os) ≤ 55 + more
 line_short w os more low s = omega (arith, s.short, length-append w (operands_text os))
 
 -- operands
@@ -137,73 +143,47 @@ abbrev pub QuotedShown : Option ℕ → List ℕ → Type 0
 QuotedShown None s = Unit {0}
 QuotedShown (Some t) s = (list_all is_printable s ≡ true) × (length s ≤ 1022)
 
-text_operands : (q : PoolRef) (s : List ℕ) → (list_all is_printable (place_text q) ≡ true) × (length (place_text q) ≤ 8) → (list_all is_printable s ≡ true) × (length s ≤ 1022) → StepShown (place_text q ∷ s ∷ []) 1022
-text_operands q s a b =
-    let last = list_all-append is_printable s [] in
-    let one = list_all-append is_printable (place_text q) (32 ∷ (s ++ [])) in
-    let size = length-append (place_text q) (32 ∷ (s ++ [])) in
-    let end = length-append s [] in
-    record { clean = one ∙ rw (a.0, last, b.0) refl; short = omega (arith, size, end, a.1, b.1) }
+-- operands of printable bytes, of so many bytes at most in a line
+record AreWritten (os : List (List ℕ)) (most : ℕ) : Type 0 where
+  clean : list_all is_printable (operands_text os) ≡ true
+  short : length (operands_text os) ≤ most
+
+written_both : (xs ys : List (List ℕ)) (m n : ℕ) → AreWritten xs m → AreWritten ys n → AreWritten (xs ++ ys) (m + n)
+written_both xs ys m n a b =
+    let e = operands_text-append xs ys in
+    let size = length-append (operands_text xs) (operands_text ys) in
+    record { clean = ap (list_all is_printable) e ∙ list_all-append is_printable (operands_text xs) (operands_text ys) ∙ rw (a.clean, b.clean) refl; short = omega (arith, ap length e, size, a.short, b.short) }
+
+token_written : (t : List ℕ) (n : ℕ) → n ≤ 10 → (list_all is_printable t ≡ true) × (length t ≤ n) → AreWritten (t ∷ []) 11
+token_written t n low h = record { clean = operands_printable (t ∷ []) (h.0, omega (arith, h.1), tt); short = omega (arith, operands_short (t ∷ []) (h.0, omega (arith, h.1), tt)) }
+
+-- an operand of an instruction of a program
+arg_written : (p : Program) (a : Arg) (n s : List ℕ) → length p.pools ≤ 8 → length p.brigades ≤ 8 → Every (tests p a) → (list_all is_printable n ≡ true) × (length n ≤ 8) → QuotedShown (names_text a) s → AreWritten (arg_texts a n s) (11 + text_room (names_text a))
+arg_written p arg.Nothing n s few small f t w = record { clean = refl; short = omega arith }
+arg_written p (arg.Place q) n s few small f t w = token_written _ 8 (omega arith) (place_shown (length p.pools) q few f.0)
+arg_written p (arg.Pool q) n s few small f t w = token_written _ 8 (omega arith) (own_pool_shown q (let low = ltb-true q (length p.pools) f.0 in omega arith))
+arg_written p (arg.Brigade b) n s few small f t w = token_written _ 8 (omega arith) (own_shown b (let low = ltb-true b (length p.brigades) f.0 in omega arith))
+arg_written p (arg.Source b) n s few small f t w = token_written _ 8 (omega arith) (brigade_shown (length p.brigades) b small f.0)
+arg_written p (arg.Ending e) n s few small f t w = token_written _ 8 (omega arith) (status_shown e)
+arg_written p (arg.Target l) n s few small f t w = token_written _ 8 (omega arith) t
+arg_written p (arg.Text l) n s few small f t w = record { clean = list_all-append is_printable s [] ∙ rw w.0 refl; short = omega (arith, length-append s [], w.1) }
+arg_written p (arg.Variable (variable.Pool q)) n s few small f t w = token_written _ 8 (omega arith) (own_pool_shown q (let low = ltb-true q (length p.pools) f.0 in omega arith))
+arg_written p (arg.Variable (variable.Brigade b)) n s few small f t w = token_written _ 8 (omega arith) (own_shown b (let low = ltb-true b (length p.brigades) f.0 in omega arith))
+arg_written p (arg.Number m) n s few small f t w = token_written _ 10 (omega arith) (number_shown m f.0)
+arg_written p (arg.Value v) n s few small f t w = token_written _ 10 (omega arith) (value_shown v f.0)
 
 instr_shown : (p : Program) (i : Instr) (n s : List ℕ) → length p.pools ≤ 8 → length p.brigades ≤ 8 → fits p i ≡ true → (list_all is_printable n ≡ true) × (length n ≤ 8) → QuotedShown (text_of_instr i) s → StepShown (operand_texts i n s) (text_room (text_of_instr i))
-instr_shown p (instr.PCreate q) n s few small h t w = let low = ltb-true q (length p.pools) h in let a = own_pool_shown q (omega arith) in all_short (place_text (pool.Own q) ∷ []) 0 (omega arith) (a.0, omega (arith, a.1), tt)
-instr_shown p (instr.PClear q) n s few small h t w = let low = ltb-true q (length p.pools) h in let a = own_pool_shown q (omega arith) in all_short (place_text (pool.Own q) ∷ []) 0 (omega arith) (a.0, omega (arith, a.1), tt)
-instr_shown p (instr.PDestroy q) n s few small h t w = let low = ltb-true q (length p.pools) h in let a = own_pool_shown q (omega arith) in all_short (place_text (pool.Own q) ∷ []) 0 (omega arith) (a.0, omega (arith, a.1), tt)
-instr_shown p (instr.Label q t) n s few small h v w =
-    let x = and_parts (place_is_declared (length p.pools) q) (ltb t (length p.texts)) h in
-    text_operands q s (place_shown (length p.pools) q few x.0) w
-instr_shown p (instr.Unlabel q t) n s few small h v w =
-    let x = and_parts (place_is_declared (length p.pools) q) (ltb t (length p.texts)) h in
-    text_operands q s (place_shown (length p.pools) q few x.0) w
-instr_shown p (instr.BCreate o) n s few small h t w = let low = ltb-true o (length p.brigades) h in let a = own_shown o (omega arith) in all_short (own_text o ∷ []) 0 (omega arith) (a.0, omega (arith, a.1), tt)
-instr_shown p (instr.BClean b) n s few small h t w = let a = brigade_shown (length p.brigades) b small h in all_short (brigade_text b ∷ []) 0 (omega arith) (a.0, omega (arith, a.1), tt)
-instr_shown p (instr.BConcat b c) n s few small h t w =
-    let both = and_parts (is_brigade p b && is_brigade p c) (not (eqb b c)) h in
-    let each = and_parts (is_brigade p b) (is_brigade p c) both.0 in
-    let x = brigade_shown (length p.brigades) b small each.0 in
-    let y = brigade_shown (length p.brigades) c small each.1 in
-    all_short (brigade_text b ∷ brigade_text c ∷ []) 0 (omega arith) (x.0, omega (arith, x.1), (y.0, omega (arith, y.1), tt))
-instr_shown p (instr.BSave o b) n s few small h t w =
-    let both = and_parts (ltb o (length p.brigades) && is_brigade p b) (not (eqb o b)) h in
-    let each = and_parts (ltb o (length p.brigades)) (is_brigade p b) both.0 in
-    let low = ltb-true o (length p.brigades) each.0 in
-    let x = own_shown o (omega arith) in
-    let y = brigade_shown (length p.brigades) b small each.1 in
-    all_short (own_text o ∷ brigade_text b ∷ []) 0 (omega arith) (x.0, omega (arith, x.1), (y.0, omega (arith, y.1), tt))
-instr_shown p (instr.Pass b l) n s few small h t w = let a = brigade_shown (length p.brigades) b small h in all_short (brigade_text b ∷ n ∷ []) 0 (omega arith) (a.0, omega (arith, a.1), (t.0, omega (arith, t.1), tt))
-instr_shown p (instr.JEmpty b l) n s few small h t w = let a = brigade_shown (length p.brigades) b small h in all_short (brigade_text b ∷ n ∷ []) 0 (omega arith) (a.0, omega (arith, a.1), (t.0, omega (arith, t.1), tt))
-instr_shown p (instr.Put x l) n s few small h t w = let a = value_shown x h in all_short (value_text x ∷ n ∷ []) 0 (omega arith) (a.0, omega (arith, a.1), (t.0, omega (arith, t.1), tt))
-instr_shown p instr.ClearBuf n s few small h t w = all_short [] 0 (omega arith) tt
-instr_shown p (instr.Set m x) n s few small h t w =
-    let y = and_parts (ltb m 8) (is_value x) h in
-    let a = number_shown m y.0 in
-    let b = value_shown x y.1 in
-    all_short (number_text m ∷ value_text x ∷ []) 0 (omega arith) (a.0, omega (arith, a.1), (b.0, b.1, tt))
-instr_shown p (instr.Add m x) n s few small h t w =
-    let y = and_parts (ltb m 8) (is_value x) h in
-    let a = number_shown m y.0 in
-    let b = value_shown x y.1 in
-    all_short (number_text m ∷ value_text x ∷ []) 0 (omega arith) (a.0, omega (arith, a.1), (b.0, b.1, tt))
-instr_shown p (instr.Sub m x) n s few small h t w =
-    let y = and_parts (ltb m 8) (is_value x) h in
-    let a = number_shown m y.0 in
-    let b = value_shown x y.1 in
-    all_short (number_text m ∷ value_text x ∷ []) 0 (omega arith) (a.0, omega (arith, a.1), (b.0, b.1, tt))
-instr_shown p (instr.JLt m x l) n s few small h t w =
-    let y = and_parts (ltb m 8) (is_value x) h in
-    let a = number_shown m y.0 in
-    let b = value_shown x y.1 in
-    all_short (number_text m ∷ value_text x ∷ n ∷ []) 0 (omega arith) (a.0, omega (arith, a.1), (b.0, b.1, (t.0, omega (arith, t.1), tt)))
-instr_shown p (instr.JEq m x l) n s few small h t w =
-    let y = and_parts (ltb m 8) (is_value x) h in
-    let a = number_shown m y.0 in
-    let b = value_shown x y.1 in
-    all_short (number_text m ∷ value_text x ∷ n ∷ []) 0 (omega arith) (a.0, omega (arith, a.1), (b.0, b.1, (t.0, omega (arith, t.1), tt)))
-instr_shown p (instr.JNull (variable.Pool q) l) n s few small h t w = let low = ltb-true q (length p.pools) h in let a = own_pool_shown q (omega arith) in all_short (place_text (pool.Own q) ∷ n ∷ []) 0 (omega arith) (a.0, omega (arith, a.1), (t.0, omega (arith, t.1), tt))
-instr_shown p (instr.JNull (variable.Brigade b) l) n s few small h t w = let low = ltb-true b (length p.brigades) h in let a = own_shown b (omega arith) in all_short (own_text b ∷ n ∷ []) 0 (omega arith) (a.0, omega (arith, a.1), (t.0, omega (arith, t.1), tt))
-instr_shown p (instr.JSent l) n s few small h t w = all_short (n ∷ []) 0 (omega arith) (t.0, omega (arith, t.1), tt)
-instr_shown p (instr.Jump l) n s few small h t w = all_short (n ∷ []) 0 (omega arith) (t.0, omega (arith, t.1), tt)
-instr_shown p (instr.Ret e) n s few small h t w = let a = status_shown e in all_short (status_text e ∷ []) 0 (omega arith) (a.0, omega (arith, a.1), tt)
+instr_shown p i n s few small h t w =
+    let a = args i in
+    let f = fits_parts p i h in
+    let g = formed i in
+    let none : (o : Option ℕ) → o ≡ None → QuotedShown o s = λ o e. subst (λ x. QuotedShown x s) (sym e) tt in
+    let one = arg_written p a.first n s few small f.first t (none (names_text a.first) g.first) in
+    let two = arg_written p a.second n s few small f.second t (subst (λ x. QuotedShown x s) g.second w) in
+    let three = arg_written p a.third n s few small f.third t (none (names_text a.third) g.third) in
+    let four = arg_written p a.fourth n s few small f.fourth t (none (names_text a.fourth) g.fourth) in
+    let all = written_both _ _ _ _ one (written_both _ _ _ _ two (written_both _ _ _ _ three four)) in
+    record { clean = all.clean; short = omega (arith, all.short, ap text_room g.first, ap text_room g.second, ap text_room g.third, ap text_room g.fourth) }
 
 instr_worded : (i : Instr) → IsPlain (instr_word i) × (length (instr_word i) ≤ 10)
 instr_worded (instr.PCreate q) = ((refl, refl, refl), omega arith)
@@ -219,7 +199,7 @@ pub record IsPrintable (p : Program) (i : Instr) : Type 0 where
   pub low : IfSome (target i) (λ t. t < 1024)
   pub text : QuotedShown (text_of_instr i) (quoted_text p.texts (text_of_instr i))
 
-step_plain : (p : Program) (i : Instr) → length p.pools ≤ 8 → length p.brigades ≤ 8 → IsPrintable p i → IsPlain (code_text (step i (aim (target i)) (quoted_text p.texts (text_of_instr i)))) × (length (code_text (step i (aim (target i)) (quoted_text p.texts (text_of_instr i)))) ≤ 44 + text_room (text_of_instr i))
+step_plain : (p : Program) (i : Instr) → length p.pools ≤ 8 → length p.brigades ≤ 8 → IsPrintable p i → IsPlain (code_text (step i (aim (target i)) (quoted_text p.texts (text_of_instr i)))) × (length (code_text (step i (aim (target i)) (quoted_text p.texts (text_of_instr i)))) ≤ 55 + text_room (text_of_instr i))
 step_plain p i few small h =
     let name = aim (target i) in
     let s = quoted_text p.texts (text_of_instr i) in
@@ -235,7 +215,7 @@ label_plain n low = ((refl, refl, name_printable n low), omega (arith, name_shor
 abbrev pub IsFew : ℕ → List (List ℕ) → Type 0
 IsFew n ls = ArePlain ls × (length (joined ls) ≤ n)
 
-printed_line : (b : Bool) (l : List ℕ) (i : Instr) (y s : List ℕ) (ls : List CodeLine) (k m : ℕ) → IsPlain (58 ∷ l) × (length (58 ∷ l) ≤ 40) → IsPlain (code_text (step i y s)) × (length (code_text (step i y s)) ≤ 44 + k) → IsFew m (map code_text ls) → IsFew (86 + k + m) (map code_text (cond b (label l ∷ []) [] ++ step i y s ∷ ls))
+printed_line : (b : Bool) (l : List ℕ) (i : Instr) (y s : List ℕ) (ls : List CodeLine) (k m : ℕ) → IsPlain (58 ∷ l) × (length (58 ∷ l) ≤ 40) → IsPlain (code_text (step i y s)) × (length (code_text (step i y s)) ≤ 55 + k) → IsFew m (map code_text ls) → IsFew (97 + k + m) (map code_text (cond b (label l ∷ []) [] ++ step i y s ∷ ls))
 printed_line true l i y s ls k m a c h =
     let rest = joined (map code_text ls) in
     let one = length-append (code_text (step i y s)) (10 ∷ rest) in
@@ -251,37 +231,37 @@ more_room None ts = omega arith
 more_room (Some t) ts = omega arith
 
 -- the lines of code
-pub code_plain : (p : Program) (n : ℕ) (is : List Instr) → length p.pools ≤ 8 → length p.brigades ≤ 8 → n + length is ≤ 1024 → All (IsPrintable p) is → IsFew (86 * length is + 1022 * length (filter_map text_of_instr is)) (map code_text (printed_code p.texts p.code n is))
+pub code_plain : (p : Program) (n : ℕ) (is : List Instr) → length p.pools ≤ 8 → length p.brigades ≤ 8 → n + length is ≤ 1024 → All (IsPrintable p) is → IsFew (97 * length is + 1022 * length (filter_map text_of_instr is)) (map code_text (printed_code p.texts p.code n is))
 code_plain p n [] few small low h = (tt, omega arith)
 code_plain p n (i ∷ is) few small low h =
     let k = text_room (text_of_instr i) in
     let more = filter_map text_of_instr is in
     let rest = code_plain p (n + 1) is few small (omega arith) (all_tail (IsPrintable p) i is h) in
-    let x = printed_line (is_target p.code n) (target_name n) i (aim (target i)) (quoted_text p.texts (text_of_instr i)) (printed_code p.texts p.code (n + 1) is) k (86 * length is + 1022 * length more) (label_plain n (omega arith)) (step_plain p i few small (all_head (IsPrintable p) i is h)) rest in
+    let x = printed_line (is_target p.code n) (target_name n) i (aim (target i)) (quoted_text p.texts (text_of_instr i)) (printed_code p.texts p.code (n + 1) is) k (97 * length is + 1022 * length more) (label_plain n (omega arith)) (step_plain p i few small (all_head (IsPrintable p) i is h)) rest in
     (x.0, omega (arith, x.1, more_room (text_of_instr i) more))
 
 -- the declarations
-declared_line : (w : List ℕ) (os ls : List (List ℕ)) (n : ℕ) → IsPlain w → length w ≤ 10 → length os ≤ 3 → AreShown os → IsFew n ls → IsFew (45 + n) (line_text w os ∷ ls)
+declared_line : (w : List ℕ) (os ls : List (List ℕ)) (n : ℕ) → IsPlain w → length w ≤ 10 → length os ≤ 4 → AreShown os → IsFew n ls → IsFew (56 + n) (line_text w os ∷ ls)
 declared_line w os ls n h low few s r =
     let x = all_short os 0 few s in
     let size = line_short w os 0 low x in
     let one = length-append (line_text w os) (10 ∷ joined ls) in
     ((line_plain w os 0 h x, r.0), omega (arith, one, size, r.1))
 
-pub pools_plain : (k : ℕ) (ps : List PoolRef) → k + length ps ≤ 8 → All (λ q. place_is_declared 8 q ≡ true) ps → IsFew (45 * length ps) (pool_texts k ps)
+pub pools_plain : (k : ℕ) (ps : List PoolRef) → k + length ps ≤ 8 → All (λ q. place_is_declared 8 q ≡ true) ps → IsFew (56 * length ps) (pool_texts k ps)
 pools_plain k [] few h = (tt, omega arith)
 pools_plain k (q ∷ qs) few h =
     let own = own_pool_shown k (omega arith) in
     let place = place_shown 8 q (omega arith) (all_head (λ q. place_is_declared 8 q ≡ true) q qs h) in
     let rest = pools_plain (k + 1) qs (omega arith) (all_tail (λ q. place_is_declared 8 q ≡ true) q qs h) in
-    let x = declared_line (codes "pool") (place_text (pool.Own k) ∷ place_text q ∷ []) (pool_texts (k + 1) qs) (45 * length qs) (refl, refl, refl) (omega arith) (omega arith) (own.0, omega (arith, own.1), (place.0, omega (arith, place.1), tt)) rest in
+    let x = declared_line (codes "pool") (place_text (pool.Own k) ∷ place_text q ∷ []) (pool_texts (k + 1) qs) (56 * length qs) (refl, refl, refl) (omega arith) (omega arith) (own.0, omega (arith, own.1), (place.0, omega (arith, place.1), tt)) rest in
     (x.0, omega (arith, x.1))
 
-pub brigades_plain : (k : ℕ) (ps : List PoolRef) → k + length ps ≤ 8 → All (λ q. place_is_declared 8 q ≡ true) ps → IsFew (45 * length ps) (brigade_texts k ps)
+pub brigades_plain : (k : ℕ) (ps : List PoolRef) → k + length ps ≤ 8 → All (λ q. place_is_declared 8 q ≡ true) ps → IsFew (56 * length ps) (brigade_texts k ps)
 brigades_plain k [] few h = (tt, omega arith)
 brigades_plain k (q ∷ qs) few h =
     let own = own_shown k (omega arith) in
     let place = place_shown 8 q (omega arith) (all_head (λ q. place_is_declared 8 q ≡ true) q qs h) in
     let rest = brigades_plain (k + 1) qs (omega arith) (all_tail (λ q. place_is_declared 8 q ≡ true) q qs h) in
-    let x = declared_line (codes "brigade") (own_text k ∷ place_text q ∷ []) (brigade_texts (k + 1) qs) (45 * length qs) (refl, refl, refl) (omega arith) (omega arith) (own.0, omega (arith, own.1), (place.0, omega (arith, place.1), tt)) rest in
+    let x = declared_line (codes "brigade") (own_text k ∷ place_text q ∷ []) (brigade_texts (k + 1) qs) (56 * length qs) (refl, refl, refl) (omega arith) (omega arith) (own.0, omega (arith, own.1), (place.0, omega (arith, place.1), tt)) rest in
     (x.0, omega (arith, x.1))

@@ -118,7 +118,7 @@ few-append m n xs ys h j =
 few_word : (l : List ℕ) → IsPlain l → length l ≤ 40 → IsFew 41 (l ∷ [])
 few_word l h low = let size = length-append l (10 ∷ []) in ((h, tt), omega (arith, size))
 
-module_few : (m : Program) (first second third : List CodeLine) (i j k : ℕ) → IsFew 360 (pool_texts 0 m.pools) → IsFew 360 (brigade_texts 0 m.brigades) → IsFew i (map code_text first) → IsFew j (map code_text second) → IsFew k (map code_text third) → IsFew (925 + i + j + k) (module_texts m first second third)
+module_few : (m : Program) (first second third : List CodeLine) (i j k : ℕ) → IsFew 448 (pool_texts 0 m.pools) → IsFew 448 (brigade_texts 0 m.brigades) → IsFew i (map code_text first) → IsFew j (map code_text second) → IsFew k (map code_text third) → IsFew (1101 + i + j + k) (module_texts m first second third)
 module_few m first second third i j k ps bs x y z =
     let end = few_word (codes "end") (refl, refl, refl) (omega arith) in
     let main = few_word (codes "main") (refl, refl, refl) (omega arith) in
@@ -138,7 +138,7 @@ module_few m first second third i j k ps bs x y z =
     let initial = few-append 41 (j + (41 + (k + 41))) (codes "init" ∷ []) (bs1 ++ third_l) init (few-append j (41 + (k + 41)) bs1 third_l y serving) in
     let opening = few-append 41 (i + (41 + (j + (41 + (k + 41))))) (codes "open" ∷ []) (as1 ++ second_l) begin (few-append i (41 + (j + (41 + (k + 41)))) as1 second_l x initial) in
     let code = 41 + (i + (41 + (j + (41 + (k + 41))))) in
-    let all = few-append 41 (360 + (360 + code)) (codes "module 1" ∷ []) (pools ++ (brigades ++ first_l)) head (few-append 360 (360 + code) pools (brigades ++ first_l) ps (few-append 360 code brigades first_l bs opening)) in
+    let all = few-append 41 (448 + (448 + code)) (codes "module 1" ∷ []) (pools ++ (brigades ++ first_l)) head (few-append 448 (448 + code) pools (brigades ++ first_l) ps (few-append 448 code brigades first_l bs opening)) in
     (all.0, omega (arith, all.1))
 
 -- the whole
@@ -161,7 +161,7 @@ below_1024 n None few h = tt
 below_1024 n (Some t) few h = omega arith
 
 abbrev room_of : List Instr → ℕ
-room_of is = 86 * length is + 1022 * length (filter_map text_of_instr is)
+room_of is = 97 * length is + 1022 * length (filter_map text_of_instr is)
 
 handler_plain : (m : Program) (from : ℕ) (is : List Instr) → IsModule m → from + length is ≤ length m.code → ((k : ℕ) (i : Instr) → slice_get is k ≡ Some i → slice_get m.code (from + k) ≡ Some i) → IsFew (room_of is) (map code_text (printed_code m.texts m.code from is))
 handler_plain m from is s low at =
@@ -203,8 +203,8 @@ printed_is_text m s =
     let homes = homes_declared m s in
     let ps = pools_plain 0 m.pools (omega (arith, s.pools)) pools in
     let bs = brigades_plain 0 m.brigades (omega (arith, s.brigades)) homes in
-    let few_pools : IsFew 360 (pool_texts 0 m.pools) = (ps.0, omega (arith, ps.1, s.pools)) in
-    let few_brigades : IsFew 360 (brigade_texts 0 m.brigades) = (bs.0, omega (arith, bs.1, s.brigades)) in
+    let few_pools : IsFew 448 (pool_texts 0 m.pools) = (ps.0, omega (arith, ps.1, s.pools)) in
+    let few_brigades : IsFew 448 (brigade_texts 0 m.brigades) = (bs.0, omega (arith, bs.1, s.brigades)) in
     let plain = module_few m first second third (room_of as1) (room_of bs1) (room_of cs1) few_pools few_brigades plain_a plain_b plain_c in
     let numbers : List Instr → List ℕ = λ is. filter_map text_of_instr is in
     let cut : numbers code ≡ (numbers as1 ++ numbers bs1) ++ numbers cs1 = ap numbers (sym all) ∙ filter_map-append text_of_instr (as1 ++ bs1) cs1 ∙ ap (λ x. x ++ numbers cs1) (filter_map-append text_of_instr as1 bs1) in

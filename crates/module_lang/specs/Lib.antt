@@ -6,6 +6,7 @@ pub mod Drafts
 pub mod Entries
 pub mod FirstFault
 pub mod Handlers
+pub mod LineReading
 pub mod Lines
 pub mod Names
 pub mod Numbers

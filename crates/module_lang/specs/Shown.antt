@@ -1,54 +1,56 @@
 -- The parts of a printed line.
-use Rattle.std.specs.Prelude.{◌≡◌, ◌<◌, ℕ, true, ◌||◌, nat_lt, ◌==◌, List, [], ◌∷◌, ◌++◌, Option, Some, None, codes, map, slice_range}
+use Rattle.std.specs.Prelude.{◌≡◌, ◌<◌, ℕ, true, ◌||◌, nat_lt, ◌==◌, List, [], ◌∷◌, ◌++◌, codes, length, map, slice_range}
+use Rattle.module_lang.specs.Args.{names_target, names_text, no_arg}
 use Rattle.module_lang.specs.Lines.{place_is_declared}
 use Rattle.module_lang.specs.Numbers.{is_value}
-use Rattle.module_lang.specs.Printing.{aim, printed_code, quoted_text, target_name}
+use Rattle.module_lang.specs.Printing.{aim, printed_code, quoted_text}
 use Rattle.module_lang.specs.Program.{Program, target, text_of_instr}
-use Rattle.module_lang.specs.Quoted.{spelling}
-use Rattle.module_lang.specs.Texts.{brigade_text, brigade_texts, code_text, joined, own_text, place_text, pool_texts, status_text, step, value_text}
+use Rattle.module_lang.specs.Texts.{arg_texts, brigade_texts, code_text, joined, operands_text, pool_texts, step}
+use Rattle.module_lang.specs.declared.arg.Arg.{Arg}
+use Rattle.module_lang.specs.declared.arg.Arg.TheVariants as arg
+use Rattle.module_lang.specs.declared.arg.Args.{Args}
 use Rattle.module_lang.specs.declared.instr.Instr.{Instr}
-use Rattle.module_lang.specs.declared.instr.PoolRef.TheVariants as pool
 use Rattle.module_lang.specs.declared.instr.VarRef.{VarRef}
 use Rattle.module_lang.specs.declared.instr.VarRef.TheVariants as variable
-use Rattle.module_lang.specs.declared.print.Shown.{Shown}
-use Rattle.module_lang.specs.declared.print.Shown.TheVariants as shown
+
+-- an operand of a module with these texts
+abbrev pub own_texts : List (List ℕ) → Arg → List (List ℕ)
+own_texts ts a = arg_texts a (aim (names_target a)) (quoted_text ts (names_text a))
 
 -- an operand with the space before it
-abbrev pub shown_text : Shown → List ℕ
-shown_text shown.Nothing = []
-shown_text (shown.Place p) = 32 ∷ place_text p
-shown_text (shown.Own b) = 32 ∷ own_text b
-shown_text (shown.Brigade b) = 32 ∷ brigade_text b
-shown_text (shown.Target t) = 32 ∷ target_name t
-shown_text (shown.Ending s) = 32 ∷ status_text s
-shown_text (shown.Value v) = 32 ∷ value_text v
+abbrev pub shown_arg : List (List ℕ) → Arg → List ℕ
+shown_arg ts a = operands_text (own_texts ts a)
 
-abbrev pub shown_variable : VarRef → Shown
-shown_variable (variable.Pool q) = shown.Place (pool.Own q)
-shown_variable (variable.Brigade b) = shown.Own b
+abbrev pub shown_args : List (List ℕ) → Args → List ℕ
+shown_args ts a = shown_arg ts a.first ++ (shown_arg ts a.second ++ (shown_arg ts a.third ++ shown_arg ts a.fourth))
 
--- a text that is spelled so, with the space before it, where an instruction has one
-abbrev pub text_shown : List ℕ → Option ℕ → List ℕ
-text_shown s None = []
-text_shown s (Some t) = 32 ∷ s
+abbrev pub HasDigit : VarRef → Type 0
+HasDigit (variable.Pool q) = q < 8
+HasDigit (variable.Brigade b) = b < 8
 
--- the number of a variable has one digit, and a constant is below 2^32
-abbrev pub IsShort : Shown → Type 0
-IsShort shown.Nothing = Unit {0}
-IsShort (shown.Place p) = place_is_declared 8 p ≡ true
-IsShort (shown.Own b) = b < 8
-IsShort (shown.Brigade b) = (nat_lt b 8 || (b == 8)) ≡ true
-IsShort (shown.Target t) = Unit {0}
-IsShort (shown.Ending s) = Unit {0}
-IsShort (shown.Value v) = is_value v ≡ true
+-- the number of a variable has one digit, a constant is below 2^32, and a text is one of these
+abbrev pub IsShort : List (List ℕ) → Arg → Type 0
+IsShort ts arg.Nothing = Unit {0}
+IsShort ts (arg.Place p) = place_is_declared 8 p ≡ true
+IsShort ts (arg.Pool q) = q < 8
+IsShort ts (arg.Brigade b) = b < 8
+IsShort ts (arg.Source b) = (nat_lt b 8 || (b == 8)) ≡ true
+IsShort ts (arg.Ending s) = Unit {0}
+IsShort ts (arg.Target t) = Unit {0}
+IsShort ts (arg.Text t) = t < length ts
+IsShort ts (arg.Variable v) = HasDigit v
+IsShort ts (arg.Number m) = m < 8
+IsShort ts (arg.Value v) = is_value v ≡ true
 
--- a line of a word and three operands, with its LF
-abbrev pub shown_line : List ℕ → Shown → Shown → Shown → List ℕ
-shown_line word a b c = word ++ (shown_text a ++ (shown_text b ++ (shown_text c ++ 10 ∷ [])))
+pub record AreShort (ts : List (List ℕ)) (a : Args) : Type 0 where
+  pub first : IsShort ts a.first
+  pub second : IsShort ts a.second
+  pub third : IsShort ts a.third
+  pub fourth : IsShort ts a.fourth
 
--- a line of a word, an operand and a text, with its LF
-abbrev pub text_line : List ℕ → Shown → List ℕ → List ℕ
-text_line word a text = word ++ (shown_text a ++ (32 ∷ (spelling text ++ 10 ∷ [])))
+-- a line of a word and its operands, with its LF
+abbrev pub shown_line : List (List ℕ) → List ℕ → Args → List ℕ
+shown_line ts word a = word ++ (shown_args ts a ++ 10 ∷ [])
 
 -- the line of an instruction of a module with these texts
 abbrev pub shown_step : List (List ℕ) → Instr → List ℕ
@@ -60,7 +62,7 @@ shown_code ts code from to = joined (map code_text (printed_code ts code from (s
 
 -- the lines of a handler, behind its word
 unfoldable pub shown_handler : List ℕ → List (List ℕ) → List Instr → ℕ → ℕ → List ℕ
-shown_handler word ts code from to = shown_line word shown.Nothing shown.Nothing shown.Nothing ++ shown_code ts code from to
+shown_handler word ts code from to = shown_line ts word no_arg ++ shown_code ts code from to
 
 -- the lines of the declarations
 unfoldable pub shown_declarations : Program → List ℕ

@@ -12,6 +12,7 @@ ghost use Rattle.module_lang.specs.declared.refusal.AsmRefusal.TheVariants.{NoMe
 
 use crate::draft::{Draft, Part};
 use crate::handler::resolve_handler;
+use crate::line_reader::take_lines;
 use crate::module::Module;
 use crate::refusal::{AsmRefusal, Code};
 use crate::seq::Seq;
@@ -54,16 +55,8 @@ fn read_lines(alloc: Global, text: &[u8], long: bool) -> Result<Draft, AsmRefusa
     ensures sound { IfOk result (λ d. IsDraft d) }
 {
     let mut draft = Draft::new(alloc);
-    let mut number = 1;
-    let mut start = 0;
-    for (i, byte) in text.iter().enumerate() {
-        if *byte == b'\n' {
-            draft.take_line(alloc, number, &text[start..i])?;
-            number += 1;
-            start = i + 1;
-        }
-    }
-    end_lines(draft.part, number, &text[start..], long)?;
+    let last = take_lines(alloc, &mut draft, text)?;
+    end_lines(draft.part, last.number, &text[last.start..], long)?;
     Ok(draft)
 }
 

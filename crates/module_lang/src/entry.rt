@@ -4,6 +4,7 @@ ghost use Rattle.std.specs.Prelude.{◌≡◌, ◌++◌, [], OnOk, option_to_lis
 ghost use Rattle.module_lang.specs.Entries.{from_quote, step_texts};
 
 use crate::draft::{Draft, Part, Step};
+use crate::line_reader::TakesLines;
 use crate::lines::{Line, has_text, read_line};
 use crate::operand::{Operands, operand_place};
 use crate::quoted::unquote;
@@ -123,14 +124,20 @@ impl Draft {
             Line::Item(word, operands) => self.enter_item(alloc, number, bytes, word, operands),
         }
     }
+}
 
-    /// Takes the next line, without its LF.
+impl TakesLines for Draft {
+    ghost use Rattle.module_lang.specs.Codes.{Gives};
+    ghost use Rattle.module_lang.specs.Entries.{line_taken, IsDraft};
+
+    type Refusal = AsmRefusal;
+
+    ghost can_take = { λ draft. IsDraft draft };
+
+    ghost takes = { λ draft number line answer next. Gives (λ _. next) answer (line_taken draft number line) };
+
     #[tactic(auto, unfolding(crate::specs::Entries::line_taken))]
-    pub fn take_line(&mut self, alloc: Global, number: usize, line: &[u8]) -> Result<(), AsmRefusal>
-        requires { IsDraft self.old }
-        ensures taken { Gives (λ _. self.new) result (line_taken self.old number line.now) }
-        ensures sound { OnOk result (IsDraft self.new) }
-    {
+    fn take_line(&mut self, alloc: Global, number: usize, line: &[u8]) -> Result<(), AsmRefusal> {
         match read_line(self, line) {
             Ok(said) => Ok(self.enter(alloc, number, line, said)?),
             Err(code) => Err(AsmRefusal::Fault { line: number, code }),

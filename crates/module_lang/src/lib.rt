@@ -8,6 +8,7 @@ mod draft;
 mod entry;
 mod handler;
 mod instr;
+mod line_reader;
 mod lines;
 mod module;
 mod name;
@@ -18,8 +19,6 @@ mod print;
 mod quoted;
 mod refusal;
 mod seq;
-#[cfg(test)]
-mod tests;
 pub mod text;
 mod text_line;
 mod word;

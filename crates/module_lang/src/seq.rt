@@ -1,6 +1,6 @@
 //! A list that grows at its end.
 
-ghost use Rattle.std.specs.Prelude.{◌≡◌, ◌<◌, ◌==◌, [], ◌∷◌, ◌++◌, length, take, replicate, slice_index_or, slice_set, OnOk, OnErr};
+ghost use Rattle.std.specs.Prelude.{◌≡◌, ◌<◌, ◌^◌, ◌==◌, [], ◌∷◌, ◌++◌, length, take, replicate, slice_index_or, slice_set, OnOk, OnErr};
 
 use std::alloc::{AllocError, Global};
 use std::marker::Model;
@@ -137,14 +137,13 @@ impl<T> Seq<T> {
 }
 
 impl Seq<u8> {
-    /// Adds zeros at the end. Without memory nothing is changed.
+    /// Adds zeros at the end. Without memory nothing is changed. A list holds fewer than 2^63 bytes, so more are refused.
     pub fn add_zeros(&mut self, count: usize) -> Result<(), AllocError>
         ensures ok { OnOk result (self.new ≡ self.old ++ replicate count 0) }
+        ensures small { OnOk result (length self.new < 2 ^ 63) }
         ensures err { OnErr result (self.new ≡ self.old) }
     {
-        let Some(len) = self.len().checked_add(count) else {
-            return Err(AllocError);
-        };
+        let len = self.len().saturating_add(count);
         self.items.resize(len, 0)
     }
 }

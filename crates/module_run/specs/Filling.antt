@@ -1,8 +1,8 @@
 -- What is taken of buckets into a list of bytes that was made ready.
-use Rattle.std.specs.Prelude.{ℕ, List, take, All, sum_by}
+use Rattle.std.specs.Prelude.{ℕ, List, take, sum_by}
 use Rattle.run_model.specs.declared.bucket.NamedBucket.{NamedBucket}
 use Rattle.run_model.specs.Files.{Files, BytesTaken}
-use Rattle.run_model.specs.Cutting.{EndsInFile, length_of}
+use Rattle.run_model.specs.Cutting.{length_of}
 use Rattle.module_run.specs.declared.output.Filled.{Filled}
 
 -- the bytes that stand at the front
@@ -12,7 +12,3 @@ filled_in f out fs = record { bytes = take f.count out; whole = f.whole; files =
 -- how many bytes the contents stand for
 abbrev pub sum_of : List NamedBucket → ℕ
 sum_of items = sum_by (λ b. length_of b.bucket.content) items
-
--- each range ends below 2 ^ 64
-abbrev pub AllEnd : List NamedBucket → Type 0
-AllEnd items = All (λ b. EndsInFile b.bucket.content) items

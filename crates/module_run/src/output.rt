@@ -1,10 +1,10 @@
 //! The output filter.
 
-ghost use Rattle.std.specs.Prelude.{◌≡◌, ◌+◌, ◌<◌, ◌≤◌, ◌^◌, ◌++◌, length, IfOk, IfSome, OnOk, OnErr};
+ghost use Rattle.std.specs.Prelude.{◌≡◌, ◌-◌, ◌≤◌, ◌^◌, ◌++◌, min, length, IfOk, OnOk, OnErr};
 ghost use Rattle.run_model.specs.Files.{range_taken, parts_of, content_taken, taken_of};
-ghost use Rattle.run_model.specs.Cutting.{EndsInFile, length_of};
+ghost use Rattle.run_model.specs.Cutting.{length_of};
 ghost use Rattle.bucket_kinds.specs.MemDevice.{files_of};
-ghost use Rattle.module_run.specs.Filling.{filled_in, sum_of, AllEnd};
+ghost use Rattle.module_run.specs.Filling.{filled_in, sum_of};
 
 use crate::buckets::is_eos_kind;
 use bucket_kinds::MemFiles;
@@ -21,37 +21,30 @@ struct Filled {
     whole: bool,
 }
 
-/// How many bytes a content stands for, unless its range ends beyond 2^64.
-fn length_of(content: &Content) -> Option<usize>
-    ensures len { IfSome result (λ n. n ≡ length_of content.now) }
-    ensures ends { IfSome result (λ _. EndsInFile content.now) }
+/// How many bytes a content stands for.
+fn length_of(content: &Content) -> usize
+    ensures { result ≡ length_of content.now }
 {
     match content {
-        Content::Bytes(bytes) => Some(bytes.len()),
-        Content::Range { start, len, .. } => {
-            start.checked_add(*len)?;
-            Some(*len as usize)
-        }
-        Content::Nothing => Some(0),
+        Content::Bytes(bytes) => bytes.len(),
+        Content::Range { len, .. } => *len as usize,
+        Content::Nothing => 0,
     }
 }
 
-/// How many bytes the buckets stand for.
-fn sum_of(items: &[NamedBucket]) -> Option<usize>
-    ensures sum { IfSome result (λ n. n ≡ sum_of items.now) }
-    ensures ends { IfSome result (λ _. AllEnd items.now) }
+/// How many bytes the buckets stand for; a sum that is too large for a `usize` stays at its greatest.
+fn sum_of(items: &[NamedBucket]) -> usize
+    ensures { result ≡ min (sum_of items.now) (2 ^ 64 - 1) }
 {
     let mut sum: usize = 0;
     for b in items {
-        let len = length_of(&b.bucket.content)?;
-        sum = sum.checked_add(len)?;
+        sum = sum.saturating_add(length_of(&b.bucket.content));
     }
-    Some(sum)
+    sum
 }
 
 /// Reads a range into a list of its length, in parts of 8000 bytes, up to a read that fails.
 fn fill_range(out: &mut [u8], files: &mut MemFiles, file: u64, start: u64) -> Filled
-    requires { start + length out.old < 2 ^ 64 }
     ensures taken { let len = length out.old in range_taken (parts_of len) file start len (files_of files.old) ≡ filled_in result out.new (files_of files.new) }
     ensures within { result.count ≤ length out.old }
     ensures len { length out.new ≡ length out.old }
@@ -60,7 +53,7 @@ fn fill_range(out: &mut [u8], files: &mut MemFiles, file: u64, start: u64) -> Fi
     let mut count = 0;
     while count < len {
         let end = count + READ_LIMIT.min(len - count);
-        let at = start + count as u64;
+        let at = start.saturating_add(count as u64);
         if files.read_part(file, at, &mut out[count..end]).is_err() {
             return Filled {
                 count,
@@ -74,8 +67,7 @@ fn fill_range(out: &mut [u8], files: &mut MemFiles, file: u64, start: u64) -> Fi
 
 /// Takes the bytes of a content to the front of a list that is long enough.
 fn fill(out: &mut [u8], files: &mut MemFiles, content: &Content) -> Filled
-    requires room { length_of content.now ≤ length out.old }
-    requires ends { EndsInFile content.now }
+    requires { length_of content.now ≤ length out.old }
     ensures taken { content_taken content.now (files_of files.old) ≡ filled_in result out.new (files_of files.new) }
     ensures within { result.count ≤ length_of content.now }
     ensures len { length out.new ≡ length out.old }
@@ -98,8 +90,7 @@ fn fill(out: &mut [u8], files: &mut MemFiles, content: &Content) -> Filled
 
 /// Takes the bytes of the buckets before the first EOS to the front of a list that is long enough, up to a read that fails.
 fn fill_all(out: &mut [u8], files: &mut MemFiles, items: &[NamedBucket]) -> Filled
-    requires room { sum_of items.now ≤ length out.old }
-    requires ends { AllEnd items.now }
+    requires { sum_of items.now ≤ length out.old }
     ensures taken { taken_of items.now (files_of files.old) ≡ filled_in result out.new (files_of files.new) }
     ensures within { result.count ≤ length out.old }
     ensures len { length out.new ≡ length out.old }
@@ -134,10 +125,8 @@ pub(crate) fn deliver(
     ensures err { OnErr result (output.new ≡ output.old) }
     ensures kept { OnErr result (files_of files.new ≡ files_of files.old) }
 {
-    let Some(sum) = sum_of(items) else {
-        return Err(AllocError);
-    };
     let len = output.len();
+    let sum = sum_of(items);
     output.add_zeros(sum)?;
     let filled = fill_all(&mut output.as_mut_slice()[len..], files, items);
     output.truncate(len + filled.count);

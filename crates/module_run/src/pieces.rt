@@ -97,11 +97,15 @@ fn covers(f: &OpenFile, file: u64, start: u64, len: u64) -> bool
     f.number == file && start <= f.len && len <= f.len - start
 }
 
-/// Whether one of the files is that of a number and reaches so far.
+/// Whether one of the files is that of a number and reaches so far. Their numbers rise, so halving finds it; all of them are
+/// looked through only before a range is refused.
 fn has_range(files: &[OpenFile], file: u64, start: u64, len: u64) -> bool
     ensures { result ≡ list_any (λ f. f.number == file && nat_le (start + len) f.len) files.now }
 {
-    files.iter().any(|f| covers(f, file, start, len))
+    match files.binary_search_by_key(&file, |f| f.number) {
+        Ok(index) if covers(&files[index], file, start, len) => true,
+        _ => files.iter().any(|f| covers(f, file, start, len)),
+    }
 }
 
 #[tactic(auto, using(crate::proofs::Ranges::any_lengths))]

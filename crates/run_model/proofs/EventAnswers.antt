@@ -10,7 +10,7 @@ use Rattle.run_model.specs.declared.event.Stepped.{Stepped}
 use Rattle.run_model.specs.Pools.{Pools}
 use Rattle.run_model.specs.Files.{Files}
 use Rattle.run_model.specs.Connection.{Connection, first_refusal, refused_if, unless_refused}
-use Rattle.run_model.specs.Runs.{World, Before, There, Closed, answer_of, step_of, file_of, adds_file, happens}
+use Rattle.run_model.specs.Runs.{World, Before, There, Closed, IfThere, answer_of, step_of, file_of, adds_file, happens}
 
 pub none_first : (t : Option Refusal) (ts : List (Option Refusal)) → first_refusal (t ∷ ts) ≡ None → first_refusal ts ≡ None
 none_first None ts h = h
@@ -24,21 +24,26 @@ pub happened : (P : Connection → Type 0) (o : Option Refusal) (old new : Conne
 happened P None old new s h = h refl
 happened P (Some r) old new s h = s
 
--- what is true of a connection, where it is there
-abbrev pub IfThere : World → (Connection → Type 0) → Type 0
-IfThere (Before fs) P = Unit {0}
-IfThere (There c) P = P c
-IfThere (Closed pools fs) P = Unit {0}
+-- what is true of a connection that was there before: it is there and this is true of it, or it was closed
+abbrev pub After : World → (Connection → Type 0) → Type 0
+After (Before fs) P = ⊥
+After (There c) P = P c
+After (Closed pools fs) P = Unit {0}
 
-pub told : (P : Connection → Type 0) (a : Option Refusal × Connection) → P a.1 → IfThere (answer_of a).1 P
+pub as_there : (P : Connection → Type 0) (w : World) → After w P → IfThere w P
+as_there P (Before fs) s = absurd s
+as_there P (There c) s = s
+as_there P (Closed pools fs) s = s
+
+pub told : (P : Connection → Type 0) (a : Option Refusal × Connection) → P a.1 → After (answer_of a).1 P
 told P (None, c) s = s
 told P (Some r, c) s = s
 
-pub stepped_told : (P : Connection → Type 0) (a : Result Stepped Refusal × Connection) → P a.1 → IfThere (step_of a).1 P
+pub stepped_told : (P : Connection → Type 0) (a : Result Stepped Refusal × Connection) → P a.1 → After (step_of a).1 P
 stepped_told P (Ok x, c) s = s
 stepped_told P (Err r, c) s = s
 
-pub opening_told : (P : Connection → Type 0) (a : Result (ℕ × ℕ) Refusal × Connection) → P a.1 → IfThere (file_of a).1 P
+pub opening_told : (P : Connection → Type 0) (a : Result (ℕ × ℕ) Refusal × Connection) → P a.1 → After (file_of a).1 P
 opening_told P (Ok f, c) s = s
 opening_told P (Err r, c) s = s
 
@@ -53,14 +58,5 @@ added_closed P true name bytes pools fs = tt
 added_closed P false name bytes pools fs = tt
 
 pub closed_stays : (P : Connection → Type 0) (memory : Bool) (budget : ℕ) (p : Program) (e : Event) (pools : Pools Payload) (fs : Files) → IfThere (happens memory budget p e (Closed pools fs)).1 P
-closed_stays P memory budget p event.Open pools fs = tt
 closed_stays P memory budget p (event.AddFile name bytes) pools fs = added_closed P memory name bytes pools fs
-closed_stays P memory budget p event.Begin pools fs = tt
-closed_stays P memory budget p (event.OpenFile name) pools fs = tt
-closed_stays P memory budget p (event.Bring pieces) pools fs = tt
-closed_stays P memory budget p event.Step pools fs = tt
-closed_stays P memory budget p event.End pools fs = tt
-closed_stays P memory budget p event.TakeOutput pools fs = tt
-closed_stays P memory budget p event.TellLabels pools fs = tt
-closed_stays P memory budget p event.Close pools fs = tt
-closed_stays P memory budget p event.TellPools pools fs = tt
+closed_stays P memory budget p e pools fs = tt

@@ -1,5 +1,5 @@
 -- Numbers and the buffer stay in range: by steps, by events, and so by runs.
-use Rattle.std.proofs.Common.{◌≡◌, ℕ, ◌+◌, ◌^◌, ◌<◌, ◌≤◌, Bool, true, false, ◌&&◌, ◌||◌, not, cond, nat_lt, nat_le, min, List, [], ◌∷◌, ◌++◌, length, Option, Some, None, Result, Ok, Err, All, inl, inr, refl, sym, subst, arith}
+use Rattle.std.proofs.Common.{◌≡◌, ℕ, ◌+◌, ◌^◌, ◌<◌, ◌≤◌, Bool, true, false, ◌&&◌, ◌||◌, cond, nat_lt, nat_le, min, List, [], ◌∷◌, ◌++◌, length, All, inl, inr, refl, sym, subst, arith}
 use Rattle.std.proofs.lemmas.Bool.Decides.{nat_tests}
 use Rattle.std.proofs.lemmas.List.Elements.{All-nil, All-cons, All-append}
 use Rattle.std.proofs.lemmas.List.{length-append}
@@ -12,31 +12,17 @@ use Rattle.module_lang.specs.declared.instr.Instr.{Instr}
 use Rattle.module_lang.specs.declared.instr.Instr.TheVariants as instr
 use Rattle.module_lang.specs.Program.{Program, IsModule, fits}
 use Rattle.run_model.specs.declared.bucket.PoolVar.TheVariants as poolvar
-use Rattle.run_model.specs.declared.event.Piece.{Piece}
-use Rattle.run_model.specs.declared.event.Event.TheVariants as event
-use Rattle.run_model.specs.declared.event.Exit.{Exit}
-use Rattle.run_model.specs.declared.event.Exit.TheVariants.{GoOn, Jump, Return}
-use Rattle.run_model.specs.declared.event.Cause.TheVariants as cause
-use Rattle.run_model.specs.declared.event.Stepped.{Stepped}
-use Rattle.run_model.specs.declared.event.Stepped.TheVariants as stepped
-use Rattle.run_model.specs.declared.event.StepRefusal.{StepRefusal}
-use Rattle.run_model.specs.declared.event.StepRefusal.TheVariants as step_refusal
-use Rattle.run_model.specs.declared.event.Refusal.{Refusal}
-use Rattle.run_model.specs.declared.fault.FaultKind.{FaultKind}
 use Rattle.run_model.specs.Pools.{created}
-use Rattle.run_model.specs.Files.{Files}
 use Rattle.run_model.specs.Clearing.{run_down}
 use Rattle.run_model.specs.State.{Configuration, set_pool, with_pools, set_brigade, set_number, pool_named}
-use Rattle.run_model.specs.Faults.{fault}
-use Rattle.run_model.specs.Steps.{step_at_end, do_create, do_clean, do_concat, do_pass, do_return, do_put, do_clearbuf, pool_cleared, pool_destroyed, label_registered, label_killed, text_of, value_of, is_full, last_value, saved_into, made_on, settled, grows, lacks_names, current, succeeded, executed, unless_fault, watched}
-use Rattle.run_model.specs.Connection.{Connection, opened, begins, brings, opens_file, file_answer, ends, takes, steps, begun, brought, ended, step_answer, step_from, step_if, after_step, broke}
-use Rattle.run_model.specs.Runs.{World, Before, There, Closed, adds_file, opens, closes}
+use Rattle.run_model.specs.Steps.{current, step_at_end, do_create, do_clean, do_concat, do_pass, do_return, do_put, do_clearbuf, pool_cleared, pool_destroyed, label_registered, label_killed, text_of, value_of, is_full, last_value, saved_into, made_on}
+use Rattle.run_model.specs.Connection.{opened, takes}
+use Rattle.run_model.specs.Runs.{Before}
 use Rattle.run_model.specs.Ranges.{InRange, OpenedInRange, StepKeepsInRange, InRangeWorld, EventKeepsInRange, RunIsInRange}
 use Rattle.run_model.proofs.Updates.{upd_either}
 use Rattle.run_model.proofs.NamedPools.{on_named, made_under_named, with_buffer}
 use Rattle.run_model.proofs.Runs.{run_keeps}
-use Rattle.run_model.proofs.EventAnswers.{IfThere, happened, told, stepped_told, opening_told, added_before, closed_stays}
-use Rattle.run_model.proofs.SoundRuns.{current_fits}
+use Rattle.run_model.proofs.EventsKeep.{current_fits, Nothing, nothing_there, at_end_keeps, StepKeeps, steps_keep, EventKeeps, events_keep}
 
 -- where numbers and buffer are as they were
 same_range : (r new : Configuration) → new.instance.numbers ≡ r.instance.numbers → new.call.buffer ≡ r.call.buffer → InRange r → InRange new
@@ -149,143 +135,39 @@ step_in_range p choice (instr.BClean b) r fit s = clean_range b r s
 step_in_range p choice (instr.BConcat a b) r fit s = concat_range a b r s
 step_in_range p choice (instr.BSave o b) r fit s = on_named InRange (saved_into o b) (made_on (r.instance.brigades o)) r s (λ target e. save_range o b target r s)
 step_in_range p choice (instr.Pass b l) r fit s = pass_range b r s
-step_in_range p choice (instr.JEmpty b l) r fit s = s
-step_in_range p choice (instr.JNull v l) r fit s = s
 step_in_range p choice (instr.Put x l) r fit s = put_range x r s
 step_in_range p choice instr.ClearBuf r fit s = bare_range r (do_clearbuf r) refl refl s
 step_in_range p choice (instr.Set n x) r fit s = number_range n (value_of r x) r (value_range x r (second (nat_lt n 8) (is_value x) fit) s) s
 step_in_range p choice (instr.Add n x) r fit s = number_range n _ r (least (r.instance.numbers n + value_of r x)) s
 step_in_range p choice (instr.Sub n x) r fit s = number_range n _ r (let le : r.instance.numbers n ≤ 4294967295 = s.numbers n in omega arith) s
-step_in_range p choice (instr.JLt n x l) r fit s = s
-step_in_range p choice (instr.JEq n x l) r fit s = s
-step_in_range p choice (instr.JSent l) r fit s = s
-step_in_range p choice (instr.Jump l) r fit s = s
 step_in_range p choice (instr.Ret st) r fit s = bare_range r (do_return r) refl refl s
+step_in_range p choice i r fit s = s
 
 at_end_range : (p : Program) (i : Instr) (r : Configuration) → fits p i ≡ true → InRange r → InRange (step_at_end p i r).state
-at_end_range p (instr.Pass b l) r fit s = let passed = pass_range b r s in same_range (do_pass b r) (step_at_end p (instr.Pass b l) r).state refl refl passed
-at_end_range p i r fit s = step_in_range p (record { answer = Success }) i r fit s
-
-settled_range : (i : Instr) (exit : Exit) (r : Configuration) → InRange r → InRange (settled i exit r).1
-settled_range i GoOn r s = same_range r (settled i GoOn r).1 refl refl s
-settled_range i Jump r s = same_range r (settled i Jump r).1 refl refl s
-settled_range i Return r s = s
-
-watched_range : (memory : Bool) (p : Program) (i : Instr) (r : Configuration) → fits p i ≡ true → InRange r → InRange (watched memory p i r).1
-watched_range memory p i r fit s = by_fault (fault p r i) where
-  by_memory : (b : Bool) → InRange (cond b (succeeded (settled i (step_at_end p i r).exit (step_at_end p i r).state)) (Err step_refusal.NoMemory, r)).1
-  by_memory true = settled_range i (step_at_end p i r).exit (step_at_end p i r).state (at_end_range p i r fit s)
-  by_memory false = s
-
-  by_names : (b c : Bool) → InRange (cond b (Err step_refusal.NamesSpent, r) (cond c (succeeded (settled i (step_at_end p i r).exit (step_at_end p i r).state)) (Err step_refusal.NoMemory, r))).1
-  by_names true c = s
-  by_names false c = by_memory c
-
-  by_fault : (f : Option FaultKind) → InRange (unless_fault f r (executed memory p i r)).1
-  by_fault None = by_names (lacks_names r i) (memory || not (grows i))
-  by_fault (Some k) = s
+at_end_range p i r fit s = at_end_keeps InRange p i r (step_in_range p (record { answer = Success }) i r fit s) (λ b passed. same_range (do_pass b r) _ refl refl passed)
 
 -- Connections.
-
-abbrev RangeIn : Connection → Type 0
-RangeIn c = InRange c.state
-
-after_range : (a : Stepped) (c : Connection) → RangeIn c → RangeIn (after_step a c)
-after_range stepped.Went c s = s
-after_range (stepped.CallEnded status) c s = s
-after_range (stepped.Fault k m pc) c s = s
-
-answer_range : (a : Result Stepped StepRefusal) (c : Connection) → RangeIn c → RangeIn (step_answer a c).1
-answer_range (Ok a) c s = after_range a c s
-answer_range (Err step_refusal.NamesSpent) c s = s
-answer_range (Err step_refusal.NoMemory) c s = s
-
-step_if_range : (o : Option Refusal) (memory : Bool) (budget : ℕ) (p : Program) (c : Connection) → IsModule p → RangeIn c → RangeIn (step_if o memory budget p c).1
-step_if_range (Some r) memory budget p c m s = s
-step_if_range None memory budget p c m s = by_budget (nat_le budget c.count) where
-  by_budget : (b : Bool) → RangeIn (cond b (broke cause.OutOfSteps c) (step_from (watched memory p (current p c.state.pc) c.state) c)).1
-  by_budget true = s
-  by_budget false = answer_range (watched memory p (current p c.state.pc) c.state).0 (record c { state = (watched memory p (current p c.state.pc) c.state).1 }) (watched_range memory p (current p c.state.pc) c.state (current_fits p m c.state.pc) s)
-
-steps_range : (memory : Bool) (budget : ℕ) (p : Program) (c : Connection) → IsModule p → RangeIn c → RangeIn (steps memory budget p c).1
-unfolding steps
-steps_range memory budget p c m s = step_if_range _ memory budget p c m s
-
-begins_range : (memory : Bool) (p : Program) (c : Connection) → RangeIn c → RangeIn (begins memory p c).1
-unfolding begins
-begins_range memory p c s = happened RangeIn _ c (begun p c) s (λ none. bare_range c.state (begun p c).state refl refl s)
-
-bringing_range : (o : Option ℕ) (p : Program) (pieces : List Piece) (c : Connection) → RangeIn c → RangeIn (brought o p pieces c)
-unfolding set_brigade
-bringing_range None p pieces c s = s
-bringing_range (Some req) p pieces c s = bare_range c.state (brought (Some req) p pieces c).state refl refl s
-
-brings_range : (memory : Bool) (p : Program) (pieces : List Piece) (c : Connection) → RangeIn c → RangeIn (brings memory p pieces c).1
-unfolding brings
-brings_range memory p pieces c s = happened RangeIn _ c (brought c.state.shared.req p pieces c) s (λ none. bringing_range c.state.shared.req p pieces c s)
-
-opening_range : (o : Option Refusal) (req : Option ℕ) (found : Option (List ℕ)) (name : List ℕ) (c : Connection) → RangeIn c → RangeIn (file_answer o req found name c).1
-opening_range (Some r) req found name c s = s
-opening_range None None found name c s = s
-opening_range None (Some req) None name c s = s
-opening_range None (Some req) (Some bytes) name c s = same_range c.state _ refl refl s
-
-opens_file_range : (memory : Bool) (name : List ℕ) (c : Connection) → RangeIn c → RangeIn (opens_file memory name c).1
-unfolding opens_file
-opens_file_range memory name c s = opening_range _ c.state.shared.req (c.state.shared.files.named name) name c s
-
-ended_range : (o : Option ℕ) (c : Connection) → RangeIn c → RangeIn (ended o c)
-unfolding with_pools run_down
-ended_range None c s = s
-ended_range (Some req) c s = same_range c.state (ended (Some req) c).state refl refl s
-
-ends_range : (memory : Bool) (c : Connection) → RangeIn c → RangeIn (ends memory c).1
-unfolding ends
-ends_range memory c s = happened RangeIn _ c (ended c.state.shared.req c) s (λ none. ended_range c.state.shared.req c s)
-
-takes_range : (c : Connection) → RangeIn c → RangeIn (takes c).1
-unfolding takes
-takes_range c s = same_range c.state (takes c).1.state refl refl s
 
 pub opened_in_range : OpenedInRange
 unfolding opened
 opened_in_range fs = record { numbers = λ n. omega arith; bytes = All-nil (λ b. b ≤ 255); size = omega arith }
 
-opens_range : (memory : Bool) (fs : Files) → InRangeWorld (opens memory fs).1
-opens_range true fs = opened_in_range fs
-opens_range false fs = tt
+in_range_steps : (p : Program) → IsModule p → StepKeeps p (λ files r. Unit {0}) (λ files r. InRange r)
+in_range_steps p m = record { at_end = λ files r none last sound s. at_end_range p (current p r.pc) r (current_fits p m r.pc) s; moved = λ pc files r s. same_range r _ refl refl s }
 
-adds_range : (memory : Bool) (name bytes : List ℕ) (c : Connection) → RangeIn c → InRangeWorld (adds_file memory name bytes (There c)).1
-adds_range true name bytes c s = same_range c.state _ refl refl s
-adds_range false name bytes c s = s
-
-closes_range : (memory : Bool) (c : Connection) → RangeIn c → InRangeWorld (closes memory c).1
-closes_range true c s = tt
-closes_range false c s = s
-
--- All events.
-
-range_world : (w : World) → IfThere w RangeIn → InRangeWorld w
-range_world (Before fs) s = s
-range_world (There c) s = s
-range_world (Closed pools fs) s = s
+in_range_events : (p : Program) → IsModule p → EventKeeps p Nothing (λ c. InRange c.state)
+unfolding takes set_brigade with_pools run_down
+in_range_events p m = record {
+  begin = λ c last sound s. bare_range c.state _ refl refl s;
+  bring = λ req pieces c is idle there last sound s. bare_range c.state _ refl refl s;
+  open_file = λ req name bytes c is found sound s. same_range c.state _ refl refl s;
+  end = λ req c is idle sound s. same_range c.state _ refl refl s;
+  take = λ c s. same_range c.state _ refl refl s;
+  add = λ name bytes c s. same_range c.state _ refl refl s;
+}
 
 pub event_in_range : EventKeepsInRange
-event_in_range memory budget p event.Open (Before fs) m s = opens_range memory fs
-event_in_range memory budget p event.Open (There c) m s = s
-event_in_range memory budget p (event.AddFile name bytes) (There c) m s = adds_range memory name bytes c s
-event_in_range memory budget p (event.OpenFile name) (There c) m s = range_world _ (opening_told RangeIn (opens_file memory name c) (opens_file_range memory name c s))
-event_in_range memory budget p event.Begin (There c) m s = range_world _ (told RangeIn (begins memory p c) (begins_range memory p c s))
-event_in_range memory budget p (event.Bring pieces) (There c) m s = range_world _ (told RangeIn (brings memory p pieces c) (brings_range memory p pieces c s))
-event_in_range memory budget p event.Step (There c) m s = range_world _ (stepped_told RangeIn (steps memory budget p c) (steps_range memory budget p c m s))
-event_in_range memory budget p event.End (There c) m s = range_world _ (told RangeIn (ends memory c) (ends_range memory c s))
-event_in_range memory budget p event.TakeOutput (There c) m s = takes_range c s
-event_in_range memory budget p event.TellLabels (There c) m s = s
-event_in_range memory budget p event.Close (There c) m s = closes_range memory c s
-event_in_range memory budget p event.TellPools (There c) m s = s
-event_in_range memory budget p (event.AddFile name bytes) (Before fs) m s = range_world _ (added_before RangeIn memory name bytes fs)
-event_in_range memory budget p e (Before fs) m s = s
-event_in_range memory budget p e (Closed pools fs) m s = range_world _ (closed_stays RangeIn memory budget p e pools fs)
+event_in_range memory budget p e w m s = events_keep budget p Nothing (λ c. InRange c.state) (in_range_events p m) opened_in_range (λ memory c sound s. steps_keep p (λ files r. Unit {0}) (λ files r. InRange r) (in_range_steps p m) memory budget c sound s) memory e w (nothing_there w) s
 
 -- Runs.
 

@@ -14,6 +14,7 @@ pub mod StepPools
 pub mod Events
 pub mod Runs
 pub mod EventAnswers
+pub mod EventsKeep
 pub mod Brought
 pub mod SoundRuns
 pub mod Unchanged

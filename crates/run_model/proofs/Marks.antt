@@ -37,21 +37,6 @@ not_usable : (b c : ℕ) (r : Configuration) → (c == b) ≡ true → usable_fa
 not_usable b c r same e = handed_fault (r.instance.brigades b) (sym (ap usable_fault (passed_var b c r same)) ∙ e)
 
 pub use_after_pass : UseAfterPassFaults
-use_after_pass p choice b l r (instr.PCreate q) used none = absurd (cc)
-use_after_pass p choice b l r (instr.PClear q) used none = absurd (cc)
-use_after_pass p choice b l r (instr.PDestroy q) used none = absurd (cc)
-use_after_pass p choice b l r (instr.Label q t) used none = absurd (cc)
-use_after_pass p choice b l r (instr.Unlabel q t) used none = absurd (cc)
-use_after_pass p choice b l r (instr.JNull v k) used none = absurd (cc)
-use_after_pass p choice b l r (instr.BCreate o) used none = absurd (cc)
-use_after_pass p choice b l r (instr.BClean c) used none = absurd (cc)
-use_after_pass p choice b l r (instr.Put x k) used none = absurd (cc)
-use_after_pass p choice b l r instr.ClearBuf used none = absurd (cc)
-use_after_pass p choice b l r (instr.Set n x) used none = absurd (cc)
-use_after_pass p choice b l r (instr.Add n x) used none = absurd (cc)
-use_after_pass p choice b l r (instr.Sub n x) used none = absurd (cc)
-use_after_pass p choice b l r (instr.JLt n x k) used none = absurd (cc)
-use_after_pass p choice b l r (instr.JEq n x k) used none = absurd (cc)
 use_after_pass p choice b l r (instr.BSave a c) used none = elim (one_of (a == b) (c == b) used) [
   | inl first ↦ not_usable b a r first (first_none (usable_fault ((do_pass b r).instance.brigades a)) _ none)
   | inr second ↦ not_usable b c r second (first_none (usable_fault ((do_pass b r).instance.brigades c)) _ (second_none (usable_fault ((do_pass b r).instance.brigades a)) _ none))
@@ -62,9 +47,7 @@ use_after_pass p choice b l r (instr.BConcat a c) used none = elim (one_of (a ==
 ]
 use_after_pass p choice b l r (instr.Pass c k) used none = not_usable b c r used (first_none (usable_fault ((do_pass b r).instance.brigades c)) _ none)
 use_after_pass p choice b l r (instr.JEmpty c k) used none = not_usable b c r used (first_none (usable_fault ((do_pass b r).instance.brigades c)) _ none)
-use_after_pass p choice b l r (instr.JSent k) used none = absurd (cc)
-use_after_pass p choice b l r (instr.Jump k) used none = absurd (cc)
-use_after_pass p choice b l r (instr.Ret s) used none = absurd (cc)
+use_after_pass p choice b l r i used none = absurd (cc)
 
 cleaned_usable : (v : BrigadeVar) → brigade_fault v ≡ None → usable_fault (cleaned v) ≡ None
 cleaned_usable var.Null e = e

@@ -10,8 +10,6 @@ use Rattle.module_lang.specs.Program.{Program, IsModule, IsPlaced, target}
 use Rattle.run_model.specs.declared.bucket.BrigadeVar.{BrigadeVar}
 use Rattle.run_model.specs.declared.bucket.BrigadeVar.TheVariants as var
 use Rattle.run_model.specs.declared.fault.FaultKind.{FaultKind}
-use Rattle.run_model.specs.declared.event.Piece.{Piece}
-use Rattle.run_model.specs.declared.event.Event.TheVariants as event
 use Rattle.run_model.specs.declared.event.Cause.{Cause}
 use Rattle.run_model.specs.declared.event.Cause.TheVariants as cause
 use Rattle.run_model.specs.declared.event.Refusal.TheVariants as refusal
@@ -19,19 +17,18 @@ use Rattle.run_model.specs.declared.event.Stepped.{Stepped}
 use Rattle.run_model.specs.declared.event.Stepped.TheVariants as stepped
 use Rattle.run_model.specs.declared.event.StepRefusal.{StepRefusal}
 use Rattle.run_model.specs.declared.event.StepRefusal.TheVariants as step_refusal
-use Rattle.run_model.specs.declared.event.Refusal.{Refusal}
-use Rattle.run_model.specs.Files.{Files, file_added}
+use Rattle.run_model.specs.Files.{Files}
 use Rattle.run_model.specs.Pools.{is_empty, is_under}
 use Rattle.run_model.specs.Buckets.{cleared_bucket}
 use Rattle.run_model.specs.Clearing.{cleared_var, run_down}
 use Rattle.run_model.specs.State.{Call, Shared, Configuration, fresh_call, items_of, set_pool, with_pools, set_brigade, set_number, pool_named}
 use Rattle.run_model.specs.Faults.{fault}
 use Rattle.run_model.specs.Steps.{step_at_end, settled, jumps_if, is_null, is_fail, answer_to, delivered, made_on, saved_into, value_of, is_full, do_put, on_pool, pool_cleared, pool_destroyed, label_registered, label_killed, text_of, grows, lacks_names, current, succeeded, executed, unless_fault, watched}
-use Rattle.run_model.specs.Connection.{Connection, opened, begins, brings, ends, takes, steps, begun, brought_in, brought, file_answer, file_taken, opens_file, ended, first_refusal, refused_if, if_broken, broke, step_answer, step_from, step_if}
-use Rattle.run_model.specs.Runs.{World, Before, There, Closed, adds_file, opens, closes}
+use Rattle.run_model.specs.Connection.{Connection, opened, takes, steps, begun, brought_in, file_taken, ended, first_refusal, refused_if, if_broken, broke, step_answer, step_from, step_if}
+use Rattle.run_model.specs.Runs.{Before}
 use Rattle.run_model.specs.Laws.{IsOrderly, OrderlyWorld, EventKeepsOrder, RunIsOrderly}
 use Rattle.run_model.proofs.Runs.{run_keeps}
-use Rattle.run_model.proofs.EventAnswers.{IfThere, none_first, none_if, happened, told, stepped_told, opening_told, added_before, closed_stays}
+use Rattle.run_model.proofs.EventsKeep.{Nothing, nothing_there, EventKeeps, events_keep}
 use Rattle.run_model.proofs.NamedPools.{on_named, made_under_named, put_keeps}
 
 -- What an answer says of the run that it leaves: a call goes on inside the module, or ends and leaves nothing, or
@@ -60,24 +57,18 @@ settled_left p (instr.PDestroy q) r placed = pool_left p r pool_destroyed (pool_
 settled_left p (instr.Label q t) r placed = pool_left p r (label_registered (text_of p t)) (pool_named r q) (λ n. refl) (placed.next refl)
 settled_left p (instr.Unlabel q t) r placed = pool_left p r (label_killed (text_of p t)) (pool_named r q) (λ n. refl) (placed.next refl)
 settled_left p (instr.JNull v l) r placed = branched p (instr.JNull v l) l r r (is_null r v) placed.jump (placed.next refl) refl
-settled_left p (instr.BCreate o) r placed = placed.next refl
-settled_left p (instr.BClean b) r placed = placed.next refl
-settled_left p (instr.BConcat a b) r placed = placed.next refl
 settled_left p (instr.BSave o b) r placed = pool_left p r (saved_into o b) (made_on (r.instance.brigades o)) (λ n. refl) (placed.next refl)
 settled_left p (instr.Pass b l) r placed =
     branched p (instr.Pass b l) l r (step_at_end p (instr.Pass b l) r).state (is_fail (answer_to (delivered r.out (items_of (r.instance.brigades b)) r.shared.files).well)) placed.jump (placed.next refl) refl
 settled_left p (instr.Put x l) r placed =
     branched p (instr.Put x l) l r (do_put x r) (is_full r x) placed.jump (put_keeps (λ (y : Configuration). y.pc + 1 < length p.code) x r (placed.next refl) (λ buffer. placed.next refl)) refl
-settled_left p instr.ClearBuf r placed = placed.next refl
-settled_left p (instr.Set n x) r placed = placed.next refl
-settled_left p (instr.Add n x) r placed = placed.next refl
-settled_left p (instr.Sub n x) r placed = placed.next refl
 settled_left p (instr.JLt n x l) r placed = branched p (instr.JLt n x l) l r r (nat_lt (r.instance.numbers n) (value_of r x)) placed.jump (placed.next refl) refl
 settled_left p (instr.JEq n x l) r placed = branched p (instr.JEq n x l) l r r (r.instance.numbers n == value_of r x) placed.jump (placed.next refl) refl
 settled_left p (instr.JEmpty b l) r placed = branched p (instr.JEmpty b l) l r r (is_empty (items_of (r.instance.brigades b))) placed.jump (placed.next refl) refl
 settled_left p (instr.JSent l) r placed = branched p (instr.JSent l) l r r r.instance.sent placed.jump (placed.next refl) refl
 settled_left p (instr.Jump l) r placed = placed.jump
 settled_left p (instr.Ret s) r placed = (refl, refl)
+settled_left p i r placed = placed.next refl
 
 watched_left : (memory : Bool) (p : Program) (i : Instr) (r : Configuration) → IsPlaced p r.pc i → Left p r (watched memory p i r).0 (watched memory p i r).1
 watched_left memory p i r placed = by_fault (fault p r i) where
@@ -142,92 +133,40 @@ steps_order memory budget p c m s = by_broken c.broken where
   by_broken None = by_idle c.busy refl
   by_broken (Some k) = s
 
-begins_order : (memory : Bool) (budget : ℕ) (p : Program) (c : Connection) → IsModule p → IsOrderly budget p c → IsOrderly budget p (begins memory p c).1
-unfolding begins
-begins_order memory budget p c m s = happened (λ x. IsOrderly budget p x) _ c (begun p c) s (λ none. calls_order budget p (begun p c) refl refl m.inits)
-
-bringing_order : (budget : ℕ) (p : Program) (o : Option ℕ) (pieces : List Piece) (c : Connection) → IsModule p → IsOrderly budget p c → IsOrderly budget p (brought o p pieces c)
-bringing_order budget p None pieces c m s = s
-bringing_order budget p (Some req) pieces c m s = calls_order budget p (brought_in req p pieces c) refl refl m.mains
-
-brings_order : (memory : Bool) (budget : ℕ) (p : Program) (pieces : List Piece) (c : Connection) → IsModule p → IsOrderly budget p c → IsOrderly budget p (brings memory p pieces c).1
-unfolding brings
-brings_order memory budget p pieces c m s = happened (λ x. IsOrderly budget p x) _ c (brought c.state.shared.req p pieces c) s (λ none. bringing_order budget p c.state.shared.req pieces c m s)
-
 -- where only what is shared changes
 shared_order : (budget : ℕ) (p : Program) (c : Connection) (files : List (ℕ × ℕ)) (shared : Shared) → IsOrderly budget p c → IsOrderly budget p (record c { files = files; state = record c.state { shared = shared } })
 shared_order budget p c files shared s = record { placed = λ h. s.placed h; nothing_brought = λ h. s.nothing_brought h; no_call = λ h. s.no_call h; spent = s.spent }
-
-opening_order : (budget : ℕ) (p : Program) (o : Option Refusal) (req : Option ℕ) (found : Option (List ℕ)) (name : List ℕ) (c : Connection) → IsOrderly budget p c → IsOrderly budget p (file_answer o req found name c).1
-opening_order budget p (Some r) req found name c s = s
-opening_order budget p None None found name c s = s
-opening_order budget p None (Some req) None name c s = s
-opening_order budget p None (Some req) (Some bytes) name c s = shared_order budget p c (file_taken req name (length bytes) c).files (file_taken req name (length bytes) c).state.shared s
-
-opens_file_order : (memory : Bool) (budget : ℕ) (p : Program) (name : List ℕ) (c : Connection) → IsOrderly budget p c → IsOrderly budget p (opens_file memory name c).1
-unfolding opens_file
-opens_file_order memory budget p name c s = opening_order budget p _ c.state.shared.req (c.state.shared.files.named name) name c s
-
-adds_file_order : (memory : Bool) (budget : ℕ) (p : Program) (name bytes : List ℕ) (c : Connection) → IsOrderly budget p c → OrderlyWorld budget p (adds_file memory name bytes (There c)).1
-adds_file_order true budget p name bytes c s = shared_order budget p c c.files (record c.state.shared { files = file_added name bytes c.state.shared.files }) s
-adds_file_order false budget p name bytes c s = s
 
 -- a clear leaves what is null
 null_cleared : (reached : ℕ → Bool) (v : BrigadeVar) → v ≡ var.Null → cleared_var reached v ≡ var.Null
 null_cleared reached v is = ap (cleared_var reached) is
 
-ended_order : (budget : ℕ) (p : Program) (o : Option ℕ) (c : Connection) → c.busy ≡ false → IsOrderly budget p c → IsOrderly budget p (ended o c)
+ended_order : (budget : ℕ) (p : Program) (req : ℕ) (c : Connection) → c.busy ≡ false → IsOrderly budget p c → IsOrderly budget p (ended (Some req) c)
 unfolding with_pools run_down
-ended_order budget p None c idle s = s
-ended_order budget p (Some req) c idle s = record {
+ended_order budget p req c idle s = record {
   placed = λ h. absurd (cc);
   nothing_brought = λ h. null_cleared (is_under c.state.shared.pools req) (c.state.instance.brigades 8) (s.nothing_brought h);
   no_call = λ h. ap (λ (x : Call). record x { loose = map (cleared_bucket (is_under c.state.shared.pools req)) x.loose }) (s.no_call h);
   spent = s.spent;
 }
 
-ends_order : (memory : Bool) (budget : ℕ) (p : Program) (c : Connection) → IsOrderly budget p c → IsOrderly budget p (ends memory c).1
-unfolding ends
-ends_order memory budget p c s = happened (λ x. IsOrderly budget p x) _ c (ended c.state.shared.req c) s (λ none.
-    ended_order budget p c.state.shared.req c (none_if c.busy refusal.Busy _ (none_first (if_broken c.broken) _ none)).0 s)
-
-takes_order : (budget : ℕ) (p : Program) (c : Connection) → IsOrderly budget p c → IsOrderly budget p (takes c).1
-unfolding takes
-takes_order budget p c s = record { placed = λ h. s.placed h; nothing_brought = λ h. s.nothing_brought h; no_call = λ h. s.no_call h; spent = s.spent }
-
 opened_order : (budget : ℕ) (p : Program) (fs : Files) → IsModule p → IsOrderly budget p (opened fs)
 unfolding opened
 opened_order budget p fs m = record { placed = λ h. m.opens; nothing_brought = λ h. absurd (cc); no_call = λ h. absurd (cc); spent = omega arith }
 
-opens_order : (memory : Bool) (budget : ℕ) (p : Program) (fs : Files) → IsModule p → OrderlyWorld budget p (opens memory fs).1
-opens_order true budget p fs m = opened_order budget p fs m
-opens_order false budget p fs m = tt
-
-closes_order : (memory : Bool) (budget : ℕ) (p : Program) (c : Connection) → IsOrderly budget p c → OrderlyWorld budget p (closes memory c).1
-closes_order true budget p c s = tt
-closes_order false budget p c s = s
-
-orderly_world : (budget : ℕ) (p : Program) (w : World) → IfThere w (λ x. IsOrderly budget p x) → OrderlyWorld budget p w
-orderly_world budget p (Before fs) s = s
-orderly_world budget p (There c) s = s
-orderly_world budget p (Closed pools fs) s = s
+order_events : (budget : ℕ) (p : Program) → IsModule p → EventKeeps p Nothing (IsOrderly budget p)
+unfolding takes
+order_events budget p m = record {
+  begin = λ c last sound s. calls_order budget p (begun p c) refl refl m.inits;
+  bring = λ req pieces c is idle there last sound s. calls_order budget p (brought_in req p pieces c) refl refl m.mains;
+  open_file = λ req name bytes c is found sound s. shared_order budget p c (file_taken req name (length bytes) c).files (file_taken req name (length bytes) c).state.shared s;
+  end = λ req c is idle sound s. ended_order budget p req c idle s;
+  take = λ c s. record { placed = λ h. s.placed h; nothing_brought = λ h. s.nothing_brought h; no_call = λ h. s.no_call h; spent = s.spent };
+  add = λ name bytes c s. shared_order budget p c c.files _ s;
+}
 
 pub event_order : EventKeepsOrder
-event_order memory budget p event.Open (Before fs) m s = opens_order memory budget p fs m
-event_order memory budget p event.Open (There c) m s = s
-event_order memory budget p (event.AddFile name bytes) (There c) m s = adds_file_order memory budget p name bytes c s
-event_order memory budget p (event.OpenFile name) (There c) m s = orderly_world budget p _ (opening_told (λ x. IsOrderly budget p x) (opens_file memory name c) (opens_file_order memory budget p name c s))
-event_order memory budget p event.Begin (There c) m s = orderly_world budget p _ (told (λ x. IsOrderly budget p x) (begins memory p c) (begins_order memory budget p c m s))
-event_order memory budget p (event.Bring pieces) (There c) m s = orderly_world budget p _ (told (λ x. IsOrderly budget p x) (brings memory p pieces c) (brings_order memory budget p pieces c m s))
-event_order memory budget p event.Step (There c) m s = orderly_world budget p _ (stepped_told (λ x. IsOrderly budget p x) (steps memory budget p c) (steps_order memory budget p c m s))
-event_order memory budget p event.End (There c) m s = orderly_world budget p _ (told (λ x. IsOrderly budget p x) (ends memory c) (ends_order memory budget p c s))
-event_order memory budget p event.TakeOutput (There c) m s = takes_order budget p c s
-event_order memory budget p event.TellLabels (There c) m s = s
-event_order memory budget p event.Close (There c) m s = closes_order memory budget p c s
-event_order memory budget p event.TellPools (There c) m s = s
-event_order memory budget p (event.AddFile name bytes) (Before fs) m s = orderly_world budget p _ (added_before (λ x. IsOrderly budget p x) memory name bytes fs)
-event_order memory budget p e (Before fs) m s = s
-event_order memory budget p e (Closed pools fs) m s = orderly_world budget p _ (closed_stays (λ x. IsOrderly budget p x) memory budget p e pools fs)
+event_order memory budget p e w m s = events_keep budget p Nothing (IsOrderly budget p) (order_events budget p m) (λ fs. opened_order budget p fs m) (λ memory c sound s. steps_order memory budget p c m s) memory e w (nothing_there w) s
 
 pub run_order : RunIsOrderly
 run_order budget p fs es answers w m run = run_keeps budget p (OrderlyWorld budget p) (λ memory e v s. event_order memory budget p e v m s) (Before fs) w es answers tt run

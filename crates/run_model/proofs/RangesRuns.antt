@@ -1,81 +1,53 @@
 -- Events keep ranges in their files, and so do runs.
-use Rattle.std.proofs.Common.{◌≡◌, ◌≢◌, ℕ, ◌+◌, ◌<◌, ◌≤◌, Bool, true, false, ◌&&◌, ◌||◌, not, ◌==◌, cond, List, [], ◌∷◌, length, nat_le, Option, Some, None, is_some, Result, Ok, Err, inl, inr, All, refl, sym, ◌∙◌, ap, subst, eqb-true, arith}
+use Rattle.std.proofs.Common.{◌≡◌, ◌≢◌, ℕ, ◌+◌, ◌<◌, ◌≤◌, Bool, true, false, ◌&&◌, not, ◌==◌, List, [], ◌∷◌, length, nat_le, Option, Some, inl, inr, All, refl, sym, ◌∙◌, ap, subst, eqb-true, arith}
 use Rattle.std.specs.List.{list_any}
 use Rattle.std.proofs.lemmas.Bool.Decides.{nat_tests}
 use Rattle.std.proofs.lemmas.List.Elements.{All-nil, All-cons, All-head, All-tail, All-append}
 use Rattle.module_lang.specs.declared.instr.Status.TheVariants.{Success}
 use Rattle.module_lang.specs.declared.instr.Instr.{Instr}
-use Rattle.module_lang.specs.declared.instr.Instr.TheVariants as instr
-use Rattle.module_lang.specs.Program.{Program, IsModule, fits}
+use Rattle.module_lang.specs.Program.{Program, IsModule}
 use Rattle.run_model.specs.declared.bucket.NamedBucket.{NamedBucket}
 use Rattle.run_model.specs.declared.event.Piece.{Piece}
 use Rattle.run_model.specs.declared.event.Piece.TheVariants as piece
-use Rattle.run_model.specs.declared.event.Event.TheVariants as event
-use Rattle.run_model.specs.declared.event.Exit.{Exit}
-use Rattle.run_model.specs.declared.event.Exit.TheVariants.{GoOn, Jump, Return}
-use Rattle.run_model.specs.declared.event.Cause.TheVariants as cause
-use Rattle.run_model.specs.declared.event.Stepped.{Stepped}
-use Rattle.run_model.specs.declared.event.Stepped.TheVariants as stepped
-use Rattle.run_model.specs.declared.event.StepRefusal.{StepRefusal}
-use Rattle.run_model.specs.declared.event.StepRefusal.TheVariants as step_refusal
-use Rattle.run_model.specs.declared.event.Refusal.{Refusal}
-use Rattle.run_model.specs.declared.event.Refusal.TheVariants as refusal
-use Rattle.run_model.specs.declared.fault.FaultKind.{FaultKind}
 use Rattle.run_model.specs.declared.payload.Payload.{Payload}
 use Rattle.run_model.specs.declared.payload.Payload.TheVariants.{FileRef}
 use Rattle.run_model.specs.Pools.{planted, created, destroyed}
 use Rattle.run_model.specs.Files.{Files, file_opened}
 use Rattle.run_model.specs.Clearing.{run_down}
 use Rattle.run_model.specs.State.{Configuration, items_of, set_brigade, with_pools}
-use Rattle.run_model.specs.Faults.{fault}
-use Rattle.run_model.specs.Steps.{step_at_end, do_pass, settled, grows, lacks_names, current, succeeded, executed, unless_fault, watched}
-use Rattle.run_model.specs.Connection.{Connection, opened, begins, brings, opens_file, file_answer, file_taken, lacks_file, has_range, ends, takes, steps, begun, brought, bucket_of, named_from, ended, if_broken, data_behind_eos, step_answer, step_from, step_if, after_step, broke}
-use Rattle.run_model.specs.Runs.{World, Before, There, Closed, adds_file, opens, closes}
+use Rattle.run_model.specs.Steps.{current, with_delivered, delivered, step_at_end, do_pass}
+use Rattle.run_model.specs.Connection.{Connection, brought_in, opened, file_taken, lacks_file, has_range, takes, begun, bucket_of, named_from, ended}
+use Rattle.run_model.specs.Runs.{IfThere, World, Before, There, Closed}
 use Rattle.run_model.specs.Sound.{Sound}
 use Rattle.run_model.specs.Laws.{MayExecute, SoundWorld, refers, SoundFiles, FilesWorld}
 use Rattle.run_model.specs.Ranges.{Reaches, LiesInFile, HasLength, SoundRanges, RangesWorld, EventKeepsRanges, RunKeepsRanges}
 use Rattle.run_model.proofs.Updates.{upd_at, upd_off}
 use Rattle.run_model.proofs.Runs.{run_keeps}
-use Rattle.run_model.proofs.EventAnswers.{IfThere, none_first, none_if, happened, told, stepped_told, opening_told, added_before, closed_stays}
-use Rattle.run_model.proofs.SoundRuns.{current_fits, event_sound}
+use Rattle.run_model.proofs.EventsKeep.{may_execute, at_end_keeps, StepKeeps, steps_keep, EventKeeps, events_keep}
+use Rattle.run_model.proofs.SoundRuns.{event_sound}
 use Rattle.run_model.proofs.References.{one_of, created_back, registered_back, emptied_back}
-use Rattle.run_model.proofs.StepFiles.{went_and, destroyed_emptied, neither, written}
-use Rattle.run_model.proofs.FilesRuns.{delivered_unread, at_end_files, event_files}
+use Rattle.run_model.proofs.StepFiles.{step_files, same_files, went_and, destroyed_emptied, neither, written}
+use Rattle.run_model.proofs.FilesRuns.{delivered_unread, event_files}
 use Rattle.run_model.proofs.StepRanges.{LieList, none_lie, SameWhere, still_lie, still_told, kept_ranges, spared_lie, spared_var_lie, went_same, step_ranges}
 
 -- Steps.
 
 at_end_ranges : (p : Program) (i : Instr) (files : List (ℕ × ℕ)) (r : Configuration) → MayExecute p r i → Sound r → SoundFiles files r → SoundRanges files r → SoundRanges files (step_at_end p i r).state
 unfolding set_brigade
-at_end_ranges p (instr.Pass b l) files r may sound held s =
-    let passed : SoundRanges files (do_pass b r) = step_ranges p (record { answer = Success }) (instr.Pass b l) files r may sound held s in
-    let xs : List NamedBucket = items_of (r.instance.brigades b) in
-    let next = delivered_unread (λ (fs : Files). fs.next) (λ fs. refl) r.out xs r.shared.files in
-    let open_files = delivered_unread (λ (fs : Files). fs.opened) (λ fs. refl) r.out xs r.shared.files in
-    kept_ranges files (do_pass b r) (step_at_end p (instr.Pass b l) r).state (at_end_files p (instr.Pass b l) files r may sound held)
-    (λ q file h. ap (λ (g : ℕ → Option (List ℕ)). g file) open_files) passed.brigades passed.loose (λ q file h. subst (λ (k : ℕ). file < k) (sym next) (s.given q file h)) refl passed
-at_end_ranges p i files r may sound held s = step_ranges p (record { answer = Success }) i files r may sound held s
-
-settled_ranges : (i : Instr) (exit : Exit) (files : List (ℕ × ℕ)) (r : Configuration) → SoundRanges files r → SoundRanges files (settled i exit r).1
-settled_ranges i GoOn files r s = record { brigades = s.brigades; loose = s.loose; told = s.told; given = s.given }
-settled_ranges i Jump files r s = record { brigades = s.brigades; loose = s.loose; told = s.told; given = s.given }
-settled_ranges i Return files r s = s
-
-watched_ranges : (memory : Bool) (p : Program) (i : Instr) (files : List (ℕ × ℕ)) (r : Configuration) → IsModule p → fits p i ≡ true → Sound r → SoundFiles files r → SoundRanges files r
-    → SoundRanges files (watched memory p i r).1
-watched_ranges memory p i files r m fit sound held s = by_fault (fault p r i) refl where
-  by_memory : (b : Bool) → MayExecute p r i → SoundRanges files (cond b (succeeded (settled i (step_at_end p i r).exit (step_at_end p i r).state)) (Err step_refusal.NoMemory, r)).1
-  by_memory true may = settled_ranges i (step_at_end p i r).exit files (step_at_end p i r).state (at_end_ranges p i files r may sound held s)
-  by_memory false may = s
-
-  by_names : (b c : Bool) → lacks_names r i ≡ b → fault p r i ≡ None
-      → SoundRanges files (cond b (Err step_refusal.NamesSpent, r) (cond c (succeeded (settled i (step_at_end p i r).exit (step_at_end p i r).state)) (Err step_refusal.NoMemory, r))).1
-  by_names true c spent none = s
-  by_names false c spent none = by_memory c (record { proper = m; fit = fit; faultless = none; names_last = spent })
-
-  by_fault : (f : Option FaultKind) → fault p r i ≡ f → SoundRanges files (unless_fault f r (executed memory p i r)).1
-  by_fault None none = by_names (lacks_names r i) (memory || not (grows i)) refl none
-  by_fault (Some k) none = s
+at_end_ranges p i files r may sound held s =
+    (at_end_keeps (λ x. SoundFiles files x × SoundRanges files x) p i r (step_files p (record { answer = Success }) i files r may sound held, step_ranges p (record { answer = Success }) i files r may sound held s)
+    (λ b passed. put b passed.0 passed.1)).1 where
+      put : (b : ℕ) → SoundFiles files (do_pass b r) → SoundRanges files (do_pass b r)
+          → (let new = with_delivered (delivered r.out (items_of (r.instance.brigades b)) r.shared.files) (do_pass b r) in SoundFiles files new × SoundRanges files new)
+      put b passed_files passed =
+          let xs : List NamedBucket = items_of (r.instance.brigades b) in
+          let next = delivered_unread (λ (fs : Files). fs.next) (λ fs. refl) r.out xs r.shared.files in
+          let open_files = delivered_unread (λ (fs : Files). fs.opened) (λ fs. refl) r.out xs r.shared.files in
+          let there : SoundFiles files (with_delivered (delivered r.out xs r.shared.files) (do_pass b r)) = same_files files (do_pass b r) _ refl open_files refl passed_files.brigades passed_files.loose passed_files in (
+            there,
+            kept_ranges files (do_pass b r) _ there (λ q file h. ap (λ (g : ℕ → Option (List ℕ)). g file) open_files) passed.brigades passed.loose
+                (λ q file h. subst (λ (k : ℕ). file < k) (sym next) (passed.given q file h)) refl passed,
+          )
 
 -- Connections.
 
@@ -85,29 +57,6 @@ FilesIn c = SoundFiles c.files c.state
 abbrev RangesIn : Connection → Type 0
 RangesIn c = SoundRanges c.files c.state
 
-after_ranges : (a : Stepped) (c : Connection) → RangesIn c → RangesIn (after_step a c)
-after_ranges stepped.Went c s = s
-after_ranges (stepped.CallEnded status) c s = s
-after_ranges (stepped.Fault k m pc) c s = s
-
-answer_ranges : (a : Result Stepped StepRefusal) (c : Connection) → RangesIn c → RangesIn (step_answer a c).1
-answer_ranges (Ok a) c s = after_ranges a c s
-answer_ranges (Err step_refusal.NamesSpent) c s = s
-answer_ranges (Err step_refusal.NoMemory) c s = s
-
-step_if_ranges : (o : Option Refusal) (memory : Bool) (budget : ℕ) (p : Program) (c : Connection) → IsModule p → Sound c.state → FilesIn c → RangesIn c → RangesIn (step_if o memory budget p c).1
-step_if_ranges (Some r) memory budget p c m sound held s = s
-step_if_ranges None memory budget p c m sound held s = by_budget (nat_le budget c.count) where
-  by_budget : (b : Bool) → RangesIn (cond b (broke cause.OutOfSteps c) (step_from (watched memory p (current p c.state.pc) c.state) c)).1
-  by_budget true = s
-  by_budget false =
-      answer_ranges (watched memory p (current p c.state.pc) c.state).0 (record c { state = (watched memory p (current p c.state.pc) c.state).1 })
-      (watched_ranges memory p (current p c.state.pc) c.files c.state m (current_fits p m c.state.pc) sound held s)
-
-steps_ranges : (memory : Bool) (budget : ℕ) (p : Program) (c : Connection) → IsModule p → Sound c.state → FilesIn c → RangesIn c → RangesIn (steps memory budget p c).1
-unfolding steps
-steps_ranges memory budget p c m sound held s = step_if_ranges _ memory budget p c m sound held s
-
 begun_ranges : (p : Program) (c : Connection) → RangesIn c → RangesIn (begun p c)
 begun_ranges p c s = record {
   brigades = s.brigades;
@@ -115,10 +64,6 @@ begun_ranges p c s = record {
   told = λ q is. All-nil (HasLength c.state.shared.files);
   given = λ q file h. s.given q file (created_back c.state.shared.conn c.state.shared.pools q file h);
 }
-
-begins_ranges : (memory : Bool) (p : Program) (c : Connection) → RangesIn c → RangesIn (begins memory p c).1
-unfolding begins
-begins_ranges memory p c s = happened RangesIn _ c (begun p c) s (λ none. begun_ranges p c s)
 
 -- a told file reaches as far as it was told
 reach_told : (fs : Files) (files : List (ℕ × ℕ)) (file end : ℕ) → All (HasLength fs) files → has_range files file end ≡ true → Reaches fs file end
@@ -159,10 +104,9 @@ pieces_lie fs files call req n (x ∷ xs) there lengths =
       one piece.Flush lacks = λ file start len p e at. absurd (cc)
       one piece.Eos lacks = λ file start len p e at. absurd (cc)
 
-bringing_ranges : (o : Option ℕ) (p : Program) (pieces : List Piece) (c : Connection) → c.state.shared.req ≡ o → list_any (lacks_file c.files) pieces ≡ false → RangesIn c → RangesIn (brought o p pieces c)
+brought_ranges : (req : ℕ) (p : Program) (pieces : List Piece) (c : Connection) → c.state.shared.req ≡ Some req → list_any (lacks_file c.files) pieces ≡ false → RangesIn c → RangesIn (brought_in req p pieces c)
 unfolding set_brigade
-bringing_ranges None p pieces c is there s = s
-bringing_ranges (Some req) p pieces c is there s =
+brought_ranges req p pieces c is there s =
     let fs = c.state.shared.files in
     record {
       brigades = λ k. written (λ v. LieList fs (items_of v)) c.state.instance.brigades 8 _
@@ -171,16 +115,6 @@ bringing_ranges (Some req) p pieces c is there s =
       told = s.told;
       given = s.given;
     }
-
-brings_ranges : (memory : Bool) (p : Program) (pieces : List Piece) (c : Connection) → RangesIn c → RangesIn (brings memory p pieces c).1
-unfolding brings
-brings_ranges memory p pieces c s = happened RangesIn _ c (brought c.state.shared.req p pieces c) s (λ none.
-    let a = none_first (if_broken c.broken) _ none in
-    let b = none_if c.busy refusal.Busy _ a in
-    let d = none_if (not (is_some c.state.shared.req)) refusal.NotInRequest _ b.1 in
-    let e = none_if (data_behind_eos pieces) refusal.DataAfterEos _ d.1 in
-    let g = none_if (list_any (lacks_file c.files) pieces) refusal.NoFile _ e.1 in
-    bringing_ranges c.state.shared.req p pieces c refl g.0 s)
 
 -- A file is opened: those that have a reference have other numbers.
 
@@ -210,23 +144,11 @@ taken_ranges req bytes name c is found held s =
       ];
     }
 
-opening_ranges : (o : Option Refusal) (req : Option ℕ) (found : Option (List ℕ)) (name : List ℕ) (c : Connection) → c.state.shared.req ≡ req → c.state.shared.files.named name ≡ found
-    → FilesIn c → RangesIn c → RangesIn (file_answer o req found name c).1
-opening_ranges (Some r) req found name c is there held s = s
-opening_ranges None None found name c is there held s = s
-opening_ranges None (Some req) None name c is there held s = s
-opening_ranges None (Some req) (Some bytes) name c is there held s = taken_ranges req bytes name c is there held s
-
-opens_file_ranges : (memory : Bool) (name : List ℕ) (c : Connection) → FilesIn c → RangesIn c → RangesIn (opens_file memory name c).1
-unfolding opens_file
-opens_file_ranges memory name c held s = opening_ranges _ c.state.shared.req (c.state.shared.files.named name) name c refl refl held s
-
 -- A request ends.
 
-ended_ranges : (o : Option ℕ) (c : Connection) → Sound c.state → FilesIn c → RangesIn c → RangesIn (ended o c)
+ended_ranges : (req : ℕ) (c : Connection) → Sound c.state → FilesIn c → RangesIn c → RangesIn (ended (Some req) c)
 unfolding with_pools run_down
-ended_ranges None c sound held s = s
-ended_ranges (Some req) c sound held s =
+ended_ranges req c sound held s =
     let r = c.state in
     let ps = destroyed req r.shared.pools in
     let emptied = destroyed_emptied req r.shared.pools in
@@ -240,14 +162,6 @@ ended_ranges (Some req) c sound held s =
       given = λ p file h. s.given p file (emptied_back req r.shared.pools ps emptied p file h).1;
     }
 
-ends_ranges : (memory : Bool) (c : Connection) → Sound c.state → FilesIn c → RangesIn c → RangesIn (ends memory c).1
-unfolding ends
-ends_ranges memory c sound held s = happened RangesIn _ c (ended c.state.shared.req c) s (λ none. ended_ranges c.state.shared.req c sound held s)
-
-takes_ranges : (c : Connection) → RangesIn c → RangesIn (takes c).1
-unfolding takes
-takes_ranges c s = record { brigades = s.brigades; loose = s.loose; told = s.told; given = s.given }
-
 opened_ranges : (fs : Files) → RangesIn (opened fs)
 unfolding opened created planted
 opened_ranges fs = record {
@@ -257,41 +171,33 @@ opened_ranges fs = record {
   given = λ p file h. absurd (let none : false ≡ true = created_back 1 (planted {T = Payload} 1) p file h in cc);
 }
 
-opens_ranges : (memory : Bool) (fs : Files) → RangesWorld (opens memory fs).1
-opens_ranges true fs = opened_ranges fs
-opens_ranges false fs = tt
-
-adds_ranges : (memory : Bool) (name bytes : List ℕ) (c : Connection) → RangesIn c → RangesWorld (adds_file memory name bytes (There c)).1
-adds_ranges true name bytes c s = record { brigades = s.brigades; loose = s.loose; told = s.told; given = s.given }
-adds_ranges false name bytes c s = s
-
-closes_ranges : (memory : Bool) (c : Connection) → RangesIn c → RangesWorld (closes memory c).1
-closes_ranges true c s = tt
-closes_ranges false c s = s
-
 -- All events.
 
-ranges_world : (w : World) → IfThere w RangesIn → RangesWorld w
-ranges_world (Before fs) s = s
-ranges_world (There c) s = s
-ranges_world (Closed pools fs) s = s
+ranges_steps : (p : Program) → IsModule p → StepKeeps p (λ files r. Sound r × SoundFiles files r) SoundRanges
+ranges_steps p m = record {
+  at_end = λ files r none last sound s. at_end_ranges p (current p r.pc) files r (may_execute p r m none last) sound.0 sound.1 s;
+  moved = λ pc files r s. record { brigades = s.brigades; loose = s.loose; told = s.told; given = s.given };
+}
+
+ranges_events : (p : Program) → IsModule p → EventKeeps p (λ c. Sound c.state × FilesIn c) RangesIn
+unfolding takes
+ranges_events p m = record {
+  begin = λ c last sound s. begun_ranges p c s;
+  bring = λ req pieces c is idle there last sound s. brought_ranges req p pieces c is there s;
+  open_file = λ req name bytes c is found sound s. taken_ranges req bytes name c is found sound.1 s;
+  end = λ req c is idle sound s. ended_ranges req c sound.0 sound.1 s;
+  take = λ c s. record { brigades = s.brigades; loose = s.loose; told = s.told; given = s.given };
+  add = λ name bytes c s. record { brigades = s.brigades; loose = s.loose; told = s.told; given = s.given };
+}
+
+both_there : (S P : Connection → Type 0) (w : World) → IfThere w S → IfThere w P → IfThere w (λ c. S c × P c)
+both_there S P (Before fs) a b = tt
+both_there S P (There c) a b = (a, b)
+both_there S P (Closed pools fs) a b = tt
 
 pub event_ranges : EventKeepsRanges
-event_ranges memory budget p event.Open (Before fs) m sound held s = opens_ranges memory fs
-event_ranges memory budget p event.Open (There c) m sound held s = s
-event_ranges memory budget p (event.AddFile name bytes) (There c) m sound held s = adds_ranges memory name bytes c s
-event_ranges memory budget p (event.OpenFile name) (There c) m sound held s = ranges_world _ (opening_told RangesIn (opens_file memory name c) (opens_file_ranges memory name c held s))
-event_ranges memory budget p event.Begin (There c) m sound held s = ranges_world _ (told RangesIn (begins memory p c) (begins_ranges memory p c s))
-event_ranges memory budget p (event.Bring pieces) (There c) m sound held s = ranges_world _ (told RangesIn (brings memory p pieces c) (brings_ranges memory p pieces c s))
-event_ranges memory budget p event.Step (There c) m sound held s = ranges_world _ (stepped_told RangesIn (steps memory budget p c) (steps_ranges memory budget p c m sound held s))
-event_ranges memory budget p event.End (There c) m sound held s = ranges_world _ (told RangesIn (ends memory c) (ends_ranges memory c sound held s))
-event_ranges memory budget p event.TakeOutput (There c) m sound held s = takes_ranges c s
-event_ranges memory budget p event.TellLabels (There c) m sound held s = s
-event_ranges memory budget p event.Close (There c) m sound held s = closes_ranges memory c s
-event_ranges memory budget p event.TellPools (There c) m sound held s = s
-event_ranges memory budget p (event.AddFile name bytes) (Before fs) m sound held s = ranges_world _ (added_before RangesIn memory name bytes fs)
-event_ranges memory budget p e (Before fs) m sound held s = s
-event_ranges memory budget p e (Closed pools fs) m sound held s = ranges_world _ (closed_stays RangesIn memory budget p e pools fs)
+event_ranges memory budget p e w m sound held s =
+    events_keep budget p (λ c. Sound c.state × FilesIn c) RangesIn (ranges_events p m) opened_ranges (λ memory c sound s. steps_keep p (λ files r. Sound r × SoundFiles files r) SoundRanges (ranges_steps p m) memory budget c sound s) memory e w (both_there (λ c. Sound c.state) FilesIn w sound held) s
 
 -- Runs.
 

@@ -2,7 +2,6 @@
 use Rattle.std.proofs.Common.{◌≡◌, ◌≢◌, ℕ, ◌+◌, Bool, true, false, ◌==◌, cond, List, [], ◌∷◌, ◌++◌, map, refl, sym, subst, All}
 use Rattle.std.proofs.lemmas.List.Elements.{All-nil, All-cons, All-append, All-map}
 use Rattle.module_lang.specs.declared.instr.PoolRef.TheVariants as pool
-use Rattle.module_lang.specs.declared.instr.Value.{Value}
 use Rattle.module_lang.specs.declared.instr.Instr.TheVariants as instr
 use Rattle.module_lang.specs.Program.{Program}
 use Rattle.run_model.specs.declared.bucket.Kind.{Kind}
@@ -22,14 +21,14 @@ use Rattle.run_model.specs.declared.payload.Payload.{Payload}
 use Rattle.run_model.specs.Cutting.{set_aside}
 use Rattle.run_model.specs.Pools.{Pools, is_under, created}
 use Rattle.run_model.specs.State.{Call, Configuration, items_of, set_pool, with_pools, set_brigade, set_number, pool_named}
-use Rattle.run_model.specs.Steps.{do_create, do_clean, do_concat, do_pass, do_return, cleaned, with_items, handed_over, returned_var, do_pcreate, pool_cleared, pool_destroyed, label_registered, label_killed, text_of, is_above, aside_named, saved_into, made_on, value_of, do_put, do_clearbuf}
+use Rattle.run_model.specs.Steps.{do_create, do_clean, do_concat, do_pass, do_return, cleaned, with_items, handed_over, returned_var, do_pcreate, pool_cleared, pool_destroyed, label_registered, label_killed, text_of, is_above, aside_named, saved_into, made_on}
 use Rattle.run_model.specs.Clearing.{cleared_var, is_reached, run_down}
 use Rattle.run_model.specs.Connection.{bucket_of, named_from}
 use Rattle.run_model.specs.Sound.{SoundBuckets}
 use Rattle.run_model.specs.Cutting.{LivesAs, FitsKind, form_of, form_of_kind}
 use Rattle.run_model.specs.Laws.{StepKeepsBuckets}
 use Rattle.run_model.proofs.Names.{at_each, at_two}
-use Rattle.run_model.proofs.NamedPools.{on_named, made_under_named, with_buffer, put_keeps}
+use Rattle.run_model.proofs.NamedPools.{on_named, made_under_named, put_keeps}
 
 -- One bucket.
 
@@ -204,13 +203,6 @@ pub same_buckets : (r new : Configuration) → new.instance.brigades ≡ r.insta
 same_buckets r new brigades loose s =
     keeps_buckets r new (λ b. subst (λ (g : ℕ → BrigadeVar). KeepsProper (r.instance.brigades b) (g b)) (sym brigades) (same_proper (r.instance.brigades b))) (λ h. subst ProperList (sym loose) h) s
 
-number_buckets : (n v : ℕ) (r : Configuration) → SoundBuckets r → SoundBuckets (set_number n v r)
-unfolding set_number
-number_buckets n v r s = same_buckets r (set_number n v r) refl refl s
-
-put_buckets : (x : Value) (r : Configuration) → SoundBuckets r → SoundBuckets (do_put x r)
-put_buckets x r s = put_keeps SoundBuckets x r s (λ buffer. same_buckets r (with_buffer buffer r) refl refl s)
-
 pcreate_buckets : (p : Program) (q : ℕ) (r : Configuration) → SoundBuckets r → SoundBuckets (do_pcreate p q r)
 unfolding set_pool with_pools
 pcreate_buckets p q r s = made_under_named SoundBuckets p q r s (λ parent e. same_buckets r (set_pool q (poolvar.Made r.shared.pools.next) (with_pools (created parent r.shared.pools) r)) refl refl s)
@@ -223,34 +215,18 @@ destroyed_buckets : (n : ℕ) (r : Configuration) → SoundBuckets r → SoundBu
 unfolding run_down with_pools
 destroyed_buckets n r s = went_buckets (is_under r.shared.pools n) r (pool_destroyed n r) (λ b. refl) refl s
 
-labelled_buckets : (text : List ℕ) (n : ℕ) (r : Configuration) → SoundBuckets r → SoundBuckets (label_registered text n r)
-unfolding with_pools
-labelled_buckets text n r s = same_buckets r (label_registered text n r) refl refl s
-
-unlabelled_buckets : (text : List ℕ) (n : ℕ) (r : Configuration) → SoundBuckets r → SoundBuckets (label_killed text n r)
-unfolding with_pools
-unlabelled_buckets text n r s = same_buckets r (label_killed text n r) refl refl s
-
 pub step_buckets : StepKeepsBuckets
+unfolding set_number with_pools
 step_buckets p choice (instr.PCreate q) r may s = pcreate_buckets p q r s
 step_buckets p choice (instr.PClear q) r may s = on_named SoundBuckets pool_cleared (pool_named r (pool.Own q)) r s (λ n e. cleared_buckets n r s)
 step_buckets p choice (instr.PDestroy q) r may s = on_named SoundBuckets pool_destroyed (pool_named r (pool.Own q)) r s (λ n e. destroyed_buckets n r s)
-step_buckets p choice (instr.Label q t) r may s = on_named SoundBuckets (label_registered (text_of p t)) (pool_named r q) r s (λ n e. labelled_buckets (text_of p t) n r s)
-step_buckets p choice (instr.Unlabel q t) r may s = on_named SoundBuckets (label_killed (text_of p t)) (pool_named r q) r s (λ n e. unlabelled_buckets (text_of p t) n r s)
-step_buckets p choice (instr.JNull v l) r may s = s
+step_buckets p choice (instr.Label q t) r may s = on_named SoundBuckets (label_registered (text_of p t)) (pool_named r q) r s (λ n e. same_buckets r _ refl refl s)
+step_buckets p choice (instr.Unlabel q t) r may s = on_named SoundBuckets (label_killed (text_of p t)) (pool_named r q) r s (λ n e. same_buckets r _ refl refl s)
 step_buckets p choice (instr.BCreate o) r may s = create_buckets p o r s
 step_buckets p choice (instr.BClean b) r may s = clean_buckets b r s
 step_buckets p choice (instr.BConcat a b) r may s = concat_buckets a b r s
 step_buckets p choice (instr.BSave o b) r may s = on_named SoundBuckets (saved_into o b) (made_on (r.instance.brigades o)) r s (λ target e. save_buckets o b target r s)
 step_buckets p choice (instr.Pass b l) r may s = pass_buckets b r s
-step_buckets p choice (instr.Put x l) r may s = put_buckets x r s
-step_buckets p choice instr.ClearBuf r may s = same_buckets r (do_clearbuf r) refl refl s
-step_buckets p choice (instr.Set n x) r may s = number_buckets n (value_of r x) r s
-step_buckets p choice (instr.Add n x) r may s = number_buckets n _ r s
-step_buckets p choice (instr.Sub n x) r may s = number_buckets n _ r s
-step_buckets p choice (instr.JLt n x l) r may s = s
-step_buckets p choice (instr.JEq n x l) r may s = s
-step_buckets p choice (instr.JEmpty b l) r may s = s
-step_buckets p choice (instr.JSent l) r may s = s
-step_buckets p choice (instr.Jump l) r may s = s
+step_buckets p choice (instr.Put x l) r may s = put_keeps SoundBuckets x r s (λ buffer. same_buckets r _ refl refl s)
 step_buckets p choice (instr.Ret st) r may s = return_buckets r s
+step_buckets p choice i r may s = same_buckets r _ refl refl s

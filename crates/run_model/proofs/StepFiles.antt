@@ -4,7 +4,6 @@ use Rattle.std.specs.List.{cons_option}
 use Rattle.std.specs.List.{list_any}
 use Rattle.std.proofs.lemmas.Bool.Decides.{nat_tests}
 use Rattle.std.proofs.lemmas.List.Elements.{All-nil, All-cons, All-head, All-tail, All-append, All-map}
-use Rattle.module_lang.specs.declared.instr.Value.{Value}
 use Rattle.module_lang.specs.declared.instr.PoolRef.TheVariants as pool
 use Rattle.module_lang.specs.declared.instr.Instr.TheVariants as instr
 use Rattle.module_lang.specs.Program.{Program}
@@ -29,14 +28,14 @@ use Rattle.run_model.specs.Files.{Files}
 use Rattle.run_model.specs.Clearing.{is_reached, cleared_var, run_down}
 use Rattle.run_model.specs.State.{Configuration, items_of, set_pool, with_pools, set_brigade, set_number, pool_named}
 use Rattle.run_model.specs.Faults.{usable_fault, homes_fault}
-use Rattle.run_model.specs.Steps.{do_create, do_clean, do_concat, do_pass, do_return, do_put, do_clearbuf, cleaned, with_items, handed_over, returned_var, pool_cleared, pool_destroyed, files_let_go, label_registered, label_killed, text_of, value_of, is_above, aside_named, file_of, new_ref, all_referred, saved_into, made_on}
+use Rattle.run_model.specs.Steps.{do_create, do_clean, do_concat, do_pass, do_return, cleaned, with_items, handed_over, returned_var, pool_cleared, pool_destroyed, files_let_go, label_registered, label_killed, text_of, is_above, aside_named, file_of, new_ref, all_referred, saved_into, made_on}
 use Rattle.run_model.specs.Connection.{has_range}
 use Rattle.run_model.specs.Sound.{SoundPools, SoundBuckets}
 use Rattle.run_model.specs.Cutting.{FitsKind, LivesAs}
 use Rattle.run_model.specs.Laws.{refers, IsHeld, SoundFiles, StepKeepsFiles}
 use Rattle.run_model.proofs.Updates.{upd_either}
 use Rattle.run_model.proofs.PoolMap.{cleared_apart, cleared_payloads, cleared_next, destroyed_apart, destroyed_under, destroyed_next}
-use Rattle.run_model.proofs.NamedPools.{on_named, made_under_named, own_named, with_buffer, put_keeps}
+use Rattle.run_model.proofs.NamedPools.{on_named, made_under_named, own_named, put_keeps}
 use Rattle.run_model.proofs.PoolsKept.{req_apart}
 use Rattle.run_model.proofs.Marks.{first_none, second_none}
 use Rattle.run_model.proofs.Kept.{files_go}
@@ -206,14 +205,7 @@ ref_open ps target file Q lasts name kind.File (content.Range f start len) (home
 ref_open ps target file Q lasts name kind.File (content.Range f start len) home.Free fit live held ref = absurd fit
 ref_open ps target file Q lasts name kind.File (content.Range f start len) (home.Call n) fit live held ref = absurd fit
 ref_open ps target file Q lasts name kind.File (content.Range f start len) home.Ended fit live held ref = absurd (cc)
-ref_open ps target file Q lasts name kind.File (content.Bytes bs) h fit live held ref = absurd (no_ref (is_above ps target h) file ref)
-ref_open ps target file Q lasts name kind.File content.Nothing h fit live held ref = absurd (no_ref (is_above ps target h) file ref)
-ref_open ps target file Q lasts name kind.Heap c h fit live held ref = absurd (no_ref (is_above ps target h) file ref)
-ref_open ps target file Q lasts name kind.Transient c h fit live held ref = absurd (no_ref (is_above ps target h) file ref)
-ref_open ps target file Q lasts name kind.Immortal c h fit live held ref = absurd (no_ref (is_above ps target h) file ref)
-ref_open ps target file Q lasts name (kind.Pool p) c h fit live held ref = absurd (no_ref (is_above ps target h) file ref)
-ref_open ps target file Q lasts name kind.Flush c h fit live held ref = absurd (no_ref (is_above ps target h) file ref)
-ref_open ps target file Q lasts name kind.Eos c h fit live held ref = absurd (no_ref (is_above ps target h) file ref)
+ref_open ps target file Q lasts name k c h fit live held ref = absurd (no_ref (is_above ps target h) file ref)
 
 -- among what the buckets give
 any_cons : (o : Option ℕ) (rest : List ℕ) (file : ℕ) → list_any (λ g. g == file) (cons_option o rest) ≡ true → (o ≡ Some file) ⊎ (list_any (λ g. g == file) rest ≡ true)
@@ -253,18 +245,13 @@ aside_one : (ps new : Pools Payload) (target name : ℕ) → ((p file : ℕ) →
     → IsHeld ps (record { name = name; bucket = record { kind = k; content = c; home = h } })
     → ((file : ℕ) → cond (is_above ps target h) None (file_of k c) ≡ Some file → refers new target file ≡ true)
     → IsHeld new (record { name = name; bucket = set_aside target above (record { kind = k; content = c; home = h }) })
-aside_one ps new target name grow kind.Heap c h above is held asked = λ file start len p e at. grow p file (held file start len p e at)
 aside_one ps new target name grow kind.Transient c h above is held asked = λ file start len p e at. absurd (cc)
-aside_one ps new target name grow kind.Immortal c h above is held asked = λ file start len p e at. grow p file (held file start len p e at)
-aside_one ps new target name grow (kind.Pool q) c h above is held asked = λ file start len p e at. grow p file (held file start len p e at)
-aside_one ps new target name grow kind.File c h true is held asked = λ file start len p e at. grow p file (held file start len p e at)
 aside_one ps new target name grow kind.File c h false is held asked = λ file start len p e at.
     let same : target ≡ p = pool_same target p at in
     subst (λ (q : ℕ). refers new q file ≡ true) same (asked file (ap (λ (b : Bool). cond b None (file_of kind.File c)) is ∙ ap (file_of kind.File) e)) where
       pool_same : (n m : ℕ) → home.Pool n ≡ home.Pool m → n ≡ m
       pool_same n m e = cc
-aside_one ps new target name grow kind.Flush c h above is held asked = λ file start len p e at. grow p file (held file start len p e at)
-aside_one ps new target name grow kind.Eos c h above is held asked = λ file start len p e at. grow p file (held file start len p e at)
+aside_one ps new target name grow k c h above is held asked = λ file start len p e at. grow p file (held file start len p e at)
 
 aside_held : (ps new : Pools Payload) (target : ℕ) → ((p file : ℕ) → refers ps p file ≡ true → refers new p file ≡ true) → (xs : List NamedBucket) → HeldList ps xs
     → ((file : ℕ) → list_any (λ g. g == file) (filter_map (new_ref ps target) xs) ≡ true → refers new target file ≡ true) → HeldList new (map (aside_named ps target) xs)
@@ -332,13 +319,6 @@ return_files files r s = same_files files r (do_return r) refl refl refl (λ b. 
   left b true = none_held r.shared.pools
   left b false = returned_held r.shared.pools r.call.name (r.instance.brigades b) (s.brigades b)
 
-number_files : (files : List (ℕ × ℕ)) (n v : ℕ) (r : Configuration) → SoundFiles files r → SoundFiles files (set_number n v r)
-unfolding set_number
-number_files files n v r s = same_files files r (set_number n v r) refl refl refl s.brigades s.loose s
-
-put_files : (files : List (ℕ × ℕ)) (x : Value) (r : Configuration) → SoundFiles files r → SoundFiles files (do_put x r)
-put_files files x r s = put_keeps (SoundFiles files) x r s (λ buffer. same_files files r (with_buffer buffer r) refl refl refl s.brigades s.loose s)
-
 pub no_dead : (items : List NamedBucket) → homes_fault items ≡ None → list_any is_dead items ≡ false
 no_dead items h = by_test (list_any is_dead items) h where
   by_test : (b : Bool) → cond b (Some F5) None ≡ None → b ≡ false
@@ -346,6 +326,7 @@ no_dead items h = by_test (list_any is_dead items) h where
   by_test false e = refl
 
 pub step_files : StepKeepsFiles
+unfolding set_number
 step_files p choice (instr.PCreate q) files r may s held = made_under_named (SoundFiles files) p q r held (λ parent e. made_files files parent q r s.pools held)
 step_files p choice (instr.PClear q) files r may s held = on_named (SoundFiles files) pool_cleared (pool_named r (pool.Own q)) r held (λ n e.
     went_files files n r (cleared n r.shared.pools) (cleared_emptied n r.shared.pools) s.pools (own_apart q n r (own_named q n r e) s.pools) held)
@@ -360,15 +341,6 @@ step_files p choice (instr.BSave o b) files r may s held = on_named (SoundFiles 
     save_files files o b target r s.buckets
     (no_dead (items_of (r.instance.brigades b)) (first_none (homes_fault (items_of (r.instance.brigades b))) None (second_none (usable_fault (r.instance.brigades b)) _ (second_none (usable_fault (r.instance.brigades o)) _ may.faultless)))) held)
 step_files p choice (instr.Pass b l) files r may s held = pass_files files b r held
-step_files p choice (instr.JEmpty b l) files r may s held = held
-step_files p choice (instr.JNull v l) files r may s held = held
-step_files p choice (instr.Put x l) files r may s held = put_files files x r held
-step_files p choice instr.ClearBuf files r may s held = same_files files r (do_clearbuf r) refl refl refl held.brigades held.loose held
-step_files p choice (instr.Set n x) files r may s held = number_files files n (value_of r x) r held
-step_files p choice (instr.Add n x) files r may s held = number_files files n _ r held
-step_files p choice (instr.Sub n x) files r may s held = number_files files n _ r held
-step_files p choice (instr.JLt n x l) files r may s held = held
-step_files p choice (instr.JEq n x l) files r may s held = held
-step_files p choice (instr.JSent l) files r may s held = held
-step_files p choice (instr.Jump l) files r may s held = held
+step_files p choice (instr.Put x l) files r may s held = put_keeps (SoundFiles files) x r held (λ buffer. same_files files r _ refl refl refl held.brigades held.loose held)
 step_files p choice (instr.Ret st) files r may s held = return_files files r held
+step_files p choice i files r may s held = same_files files r _ refl refl refl held.brigades held.loose held

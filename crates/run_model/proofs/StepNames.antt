@@ -5,7 +5,6 @@ use Rattle.module_lang.specs.declared.instr.PoolRef.TheVariants as pool
 use Rattle.module_lang.specs.declared.instr.Instr.{Instr}
 use Rattle.module_lang.specs.declared.instr.Instr.TheVariants as instr
 use Rattle.module_lang.specs.Program.{Program, pool_of_brigade}
-use Rattle.module_lang.specs.declared.instr.Value.{Value}
 use Rattle.run_model.specs.declared.bucket.NamedBucket.{NamedBucket}
 use Rattle.run_model.specs.declared.bucket.Mark.TheVariants.{Usable}
 use Rattle.run_model.specs.declared.bucket.PoolVar.TheVariants as poolvar
@@ -15,14 +14,14 @@ use Rattle.run_model.specs.Indexed.{upd}
 use Rattle.run_model.specs.Pools.{is_under, created}
 use Rattle.run_model.specs.State.{Configuration, items_of, set_pool, with_pools, set_brigade, set_number, pool_named}
 use Rattle.run_model.specs.Clearing.{run_down}
-use Rattle.run_model.specs.Steps.{do_create, do_clean, do_concat, do_pass, do_return, cleaned, with_items, handed_over, returned_var, do_pcreate, pool_cleared, pool_destroyed, label_registered, label_killed, text_of, aside_named, saved_into, made_on, value_of, do_put, do_clearbuf, names_of, pool_names_of, is_spent, lacks_names}
+use Rattle.run_model.specs.Steps.{do_create, do_clean, do_concat, do_pass, do_return, cleaned, with_items, handed_over, returned_var, do_pcreate, pool_cleared, pool_destroyed, label_registered, label_killed, text_of, aside_named, saved_into, made_on, names_of, pool_names_of, is_spent, lacks_names}
 use Rattle.run_model.specs.Sound.{sum_below, count_named, SoundNames}
 use Rattle.run_model.specs.Laws.{StepKeepsNames}
 use Rattle.run_model.proofs.Updates.{upd_off}
 use Rattle.run_model.proofs.Sums.{sum_below_upd}
 use Rattle.run_model.proofs.Operands.{created_below, TwoBrigades, two_brigades, saved_brigades}
 use Rattle.run_model.proofs.Names.{count_none, count_append, count_map, Carried, Fewer, carried_same, fewer_same, fewer_none, cleaned_fewer, handed_fewer, returned_fewer, filled_carried, filled_items, at_each, at_two, keeps_names, keeps_slots, went_names, placed_names}
-use Rattle.run_model.proofs.NamedPools.{on_named, made_under_named, with_buffer, put_keeps}
+use Rattle.run_model.proofs.NamedPools.{on_named, made_under_named, put_keeps}
 
 -- names that are not spent stay below the limit
 pub not_spent : (next names : ℕ) → is_spent next names ≡ false → next + names < 2 ^ 64
@@ -111,41 +110,18 @@ destroyed_names : (n : ℕ) (r : Configuration) → SoundNames r → SoundNames 
 unfolding run_down with_pools
 destroyed_names n r s = went_names (is_under r.shared.pools n) r (pool_destroyed n r) (λ b. refl) refl refl s
 
-labelled_names : (text : List ℕ) (n : ℕ) (r : Configuration) → SoundNames r → SoundNames (label_registered text n r)
-unfolding with_pools
-labelled_names text n r s = same_slots r (label_registered text n r) refl refl refl s
-
-unlabelled_names : (text : List ℕ) (n : ℕ) (r : Configuration) → SoundNames r → SoundNames (label_killed text n r)
-unfolding with_pools
-unlabelled_names text n r s = same_slots r (label_killed text n r) refl refl refl s
-
-number_names : (n v : ℕ) (r : Configuration) → SoundNames r → SoundNames (set_number n v r)
-unfolding set_number
-number_names n v r s = same_slots r (set_number n v r) refl refl refl s
-
-put_names : (x : Value) (r : Configuration) → SoundNames r → SoundNames (do_put x r)
-put_names x r s = put_keeps SoundNames x r s (λ buffer. same_slots r (with_buffer buffer r) refl refl refl s)
-
 pub step_names : StepKeepsNames
+unfolding set_number with_pools
 step_names p choice (instr.PCreate q) r may s = pcreate_names p q r s
 step_names p choice (instr.PClear q) r may s = on_named SoundNames pool_cleared (pool_named r (pool.Own q)) r s (λ n e. cleared_names n r s)
 step_names p choice (instr.PDestroy q) r may s = on_named SoundNames pool_destroyed (pool_named r (pool.Own q)) r s (λ n e. destroyed_names n r s)
-step_names p choice (instr.Label q t) r may s = on_named SoundNames (label_registered (text_of p t)) (pool_named r q) r s (λ n e. labelled_names (text_of p t) n r s)
-step_names p choice (instr.Unlabel q t) r may s = on_named SoundNames (label_killed (text_of p t)) (pool_named r q) r s (λ n e. unlabelled_names (text_of p t) n r s)
-step_names p choice (instr.JNull v l) r may s = s
+step_names p choice (instr.Label q t) r may s = on_named SoundNames (label_registered (text_of p t)) (pool_named r q) r s (λ n e. same_slots r _ refl refl refl s)
+step_names p choice (instr.Unlabel q t) r may s = on_named SoundNames (label_killed (text_of p t)) (pool_named r q) r s (λ n e. same_slots r _ refl refl refl s)
 step_names p choice (instr.BCreate o) r may s = create_names p o r (created_below p may.proper o may.fit) (lasting r (instr.BCreate o) may.names_last) s
 step_names p choice (instr.BClean b) r may s = clean_names b r s
 step_names p choice (instr.BConcat a b) r may s = concat_names a b r (two_brigades p may.proper a b may.fit) s
 step_names p choice (instr.BSave o b) r may s = on_named SoundNames (saved_into o b) (made_on (r.instance.brigades o)) r s (λ target e. save_names o b target r (saved_brigades p may.proper o b may.fit) s)
 step_names p choice (instr.Pass b l) r may s = pass_names b r s
-step_names p choice (instr.Put x l) r may s = put_names x r s
-step_names p choice instr.ClearBuf r may s = same_slots r (do_clearbuf r) refl refl refl s
-step_names p choice (instr.Set n x) r may s = number_names n (value_of r x) r s
-step_names p choice (instr.Add n x) r may s = number_names n _ r s
-step_names p choice (instr.Sub n x) r may s = number_names n _ r s
-step_names p choice (instr.JLt n x l) r may s = s
-step_names p choice (instr.JEq n x l) r may s = s
-step_names p choice (instr.JEmpty b l) r may s = s
-step_names p choice (instr.JSent l) r may s = s
-step_names p choice (instr.Jump l) r may s = s
+step_names p choice (instr.Put x l) r may s = put_keeps SoundNames x r s (λ buffer. same_slots r _ refl refl refl s)
 step_names p choice (instr.Ret st) r may s = return_names r s
+step_names p choice i r may s = same_slots r _ refl refl refl s

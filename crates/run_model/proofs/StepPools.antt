@@ -2,7 +2,6 @@
 use Rattle.std.proofs.Common.{◌≡◌, ℕ, ◌+◌, ◌^◌, ◌<◌, inl, inr, Bool, true, false, ◌||◌, ◌==◌, cond, List, [], ◌∷◌, ◌++◌, filter_map, Option, Some, None, refl, sym, ◌∙◌, ap, subst, arith}
 use Rattle.module_lang.specs.declared.instr.PoolRef.{PoolRef}
 use Rattle.module_lang.specs.declared.instr.PoolRef.TheVariants as pool
-use Rattle.module_lang.specs.declared.instr.Value.{Value}
 use Rattle.module_lang.specs.declared.instr.Instr.{Instr}
 use Rattle.module_lang.specs.declared.instr.Instr.TheVariants as instr
 use Rattle.module_lang.specs.Program.{Program, pool_of_brigade, pool_of_pool}
@@ -22,7 +21,7 @@ use Rattle.run_model.specs.RunOrder.{IsPoolMap, killed}
 use Rattle.run_model.specs.State.{Configuration, items_of, set_pool, with_pools, set_brigade, set_number, pool_named}
 use Rattle.run_model.specs.Clearing.{run_down}
 use Rattle.run_model.specs.Faults.{has_pool, is_live_named, or_else}
-use Rattle.run_model.specs.Steps.{do_create, do_clean, do_concat, do_pass, do_return, cleaned, with_items, handed_over, returned_var, do_pcreate, pool_cleared, pool_destroyed, label_registered, label_killed, text_of, new_ref, all_referred, saved_into, made_on, value_of, do_put, do_clearbuf, names_of, pool_names_of, is_spent, lacks_names}
+use Rattle.run_model.specs.Steps.{do_create, do_clean, do_concat, do_pass, do_return, cleaned, with_items, handed_over, returned_var, do_pcreate, pool_cleared, pool_destroyed, label_registered, label_killed, text_of, new_ref, all_referred, saved_into, made_on, names_of, pool_names_of, is_spent, lacks_names}
 use Rattle.run_model.specs.Sound.{brigade_pool, SoundPools}
 use Rattle.run_model.specs.Laws.{StepKeepsPools}
 use Rattle.run_model.proofs.Updates.{upd_either}
@@ -30,7 +29,7 @@ use Rattle.run_model.proofs.PoolMap.{created_lives, created_next, created_kept, 
 use Rattle.run_model.proofs.Names.{at_each, at_two}
 use Rattle.run_model.proofs.StepNames.{not_spent}
 use Rattle.run_model.proofs.Formed.{created_formed, cleared_formed, destroyed_formed, registered_formed, killed_formed}
-use Rattle.run_model.proofs.NamedPools.{on_named, made_under_named, with_buffer, put_keeps, own_named, conn_given, req_given}
+use Rattle.run_model.proofs.NamedPools.{on_named, made_under_named, put_keeps, own_named, conn_given, req_given}
 use Rattle.run_model.proofs.PoolsKept.{keeps_paths, keeps_pools, went_pools}
 
 -- What a change of a variable does to the pool of its brigade: it stays, or the brigade goes.
@@ -135,13 +134,6 @@ save_pools o b target r on s =
       made_pool var.Gone n e = e
       made_pool (var.Live v) n e = e
 
-number_pools : (n v : ℕ) (r : Configuration) → SoundPools r → SoundPools (set_number n v r)
-unfolding set_number
-number_pools n v r s = keeps_pools r (set_number n v r) refl refl refl refl s.brigades s
-
-put_pools : (x : Value) (r : Configuration) → SoundPools r → SoundPools (do_put x r)
-put_pools x r s = put_keeps SoundPools x r s (λ buffer. keeps_pools r (with_buffer buffer r) refl refl refl refl s.brigades s)
-
 return_pools : (r : Configuration) → SoundPools r → SoundPools (do_return r)
 return_pools r s = keeps_slots r (do_return r) refl refl refl refl (λ b. left b (b == 8)) s where
   left : (b : ℕ) (is_in : Bool) → KeepsPool (r.instance.brigades b) (cond is_in var.Null (returned_var r.call.name (r.instance.brigades b)))
@@ -203,6 +195,7 @@ unfolding killed with_pools
 unlabelled_pools text n r s = keeps_paths r (label_killed text n r) (killed_formed n (is_label text) r.shared.pools s.formed) refl refl refl refl refl s.brigades s
 
 pub step_pools : StepKeepsPools
+unfolding set_number
 step_pools p choice (instr.PCreate q) r may s = pcreate_pools p q r (lasting_pool r (instr.PCreate q) may.names_last) (wanted_pool r (pool_of_pool p q) _ may.faultless) s
 step_pools p choice (instr.PClear q) r may s = on_named SoundPools pool_cleared (pool_named r (pool.Own q)) r s (λ n e. cleared_pools q n r (own_named q n r e) s)
 step_pools p choice (instr.PDestroy q) r may s = on_named SoundPools pool_destroyed (pool_named r (pool.Own q)) r s (λ n e. destroyed_pools q n r (own_named q n r e) s)
@@ -213,15 +206,6 @@ step_pools p choice (instr.BClean b) r may s = clean_pools b r s
 step_pools p choice (instr.BConcat a b) r may s = concat_pools a b r s
 step_pools p choice (instr.BSave o b) r may s = on_named SoundPools (saved_into o b) (made_on (r.instance.brigades o)) r s (λ target e. save_pools o b target r e s)
 step_pools p choice (instr.Pass b l) r may s = pass_pools b r s
-step_pools p choice (instr.Put x l) r may s = put_pools x r s
-step_pools p choice instr.ClearBuf r may s = keeps_pools r (do_clearbuf r) refl refl refl refl s.brigades s
-step_pools p choice (instr.Set n x) r may s = number_pools n (value_of r x) r s
-step_pools p choice (instr.Add n x) r may s = number_pools n _ r s
-step_pools p choice (instr.Sub n x) r may s = number_pools n _ r s
-step_pools p choice (instr.JLt n x l) r may s = s
-step_pools p choice (instr.JEq n x l) r may s = s
-step_pools p choice (instr.JEmpty b l) r may s = s
-step_pools p choice (instr.JNull v l) r may s = s
-step_pools p choice (instr.JSent l) r may s = s
-step_pools p choice (instr.Jump l) r may s = s
+step_pools p choice (instr.Put x l) r may s = put_keeps SoundPools x r s (λ buffer. keeps_pools r _ refl refl refl refl s.brigades s)
 step_pools p choice (instr.Ret st) r may s = return_pools r s
+step_pools p choice i r may s = keeps_pools r _ refl refl refl refl s.brigades s

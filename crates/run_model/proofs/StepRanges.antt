@@ -31,7 +31,7 @@ use Rattle.run_model.specs.Sound.{SoundPools, SoundBuckets}
 use Rattle.run_model.specs.Cutting.{FitsKind, LivesAs, OpenFile, form_of, form_of_kind}
 use Rattle.run_model.specs.Laws.{refers, IsHeld, KeptAside, SoundFiles}
 use Rattle.run_model.specs.Ranges.{LiesInFile, HasLength, SoundRanges, StepKeepsRanges}
-use Rattle.run_model.proofs.NamedPools.{on_named, made_under_named, with_buffer, put_keeps}
+use Rattle.run_model.proofs.NamedPools.{on_named, made_under_named, put_keeps}
 use Rattle.run_model.proofs.Marks.{first_none, second_none}
 use Rattle.run_model.proofs.Kept.{aside_lasts, files_go}
 use Rattle.run_model.proofs.References.{or_left, or_right, refers_given, referred_at, created_back, registered_back, all_back, killed_refers, Emptied, emptied_back}
@@ -232,18 +232,12 @@ return_ranges files r s = record { brigades = λ b. left b (b == 8); loose = non
   left b true = none_lie r.shared.files
   left b false = returned_lie r.shared.files r.call.name (r.instance.brigades b) (s.brigades b)
 
-number_ranges : (files : List (ℕ × ℕ)) (n v : ℕ) (r : Configuration) → SoundRanges files r → SoundRanges files (set_number n v r)
-unfolding set_number
-number_ranges files n v r s = record { brigades = s.brigades; loose = s.loose; told = s.told; given = s.given }
-
-buffer_ranges : (files : List (ℕ × ℕ)) (buffer : List ℕ) (r : Configuration) → SoundRanges files r → SoundRanges files (with_buffer buffer r)
-buffer_ranges files buffer r s = record { brigades = s.brigades; loose = s.loose; told = s.told; given = s.given }
-
 -- what a clear of an own pool leaves, where files are kept
 abbrev IfHeld : List (ℕ × ℕ) → Configuration → Type 0
 IfHeld files new = SoundFiles files new → SoundRanges files new
 
 pub step_ranges : StepKeepsRanges
+unfolding set_number
 step_ranges p choice (instr.PCreate q) files r may sound held s = made_under_named (SoundRanges files) p q r s (λ parent e. made_ranges files parent q r s)
 step_ranges p choice (instr.PClear q) files r may sound held s =
     on_named (IfHeld files) pool_cleared (pool_named r (pool.Own q)) r (λ h. s) (λ n e. went_ranges files n r (cleared n r.shared.pools) (cleared_emptied n r.shared.pools) sound.pools s)
@@ -260,15 +254,6 @@ step_ranges p choice (instr.BSave o b) files r may sound held s = on_named (Soun
     save_ranges files o b target r sound.buckets
     (no_dead (items_of (r.instance.brigades b)) (first_none (homes_fault (items_of (r.instance.brigades b))) None (second_none (usable_fault (r.instance.brigades b)) _ (second_none (usable_fault (r.instance.brigades o)) _ may.faultless)))) held s)
 step_ranges p choice (instr.Pass b l) files r may sound held s = pass_ranges files b r s
-step_ranges p choice (instr.JEmpty b l) files r may sound held s = s
-step_ranges p choice (instr.JNull v l) files r may sound held s = s
-step_ranges p choice (instr.Put x l) files r may sound held s = put_keeps (SoundRanges files) x r s (λ buffer. buffer_ranges files buffer r s)
-step_ranges p choice instr.ClearBuf files r may sound held s = buffer_ranges files [] r s
-step_ranges p choice (instr.Set n x) files r may sound held s = number_ranges files n _ r s
-step_ranges p choice (instr.Add n x) files r may sound held s = number_ranges files n _ r s
-step_ranges p choice (instr.Sub n x) files r may sound held s = number_ranges files n _ r s
-step_ranges p choice (instr.JLt n x l) files r may sound held s = s
-step_ranges p choice (instr.JEq n x l) files r may sound held s = s
-step_ranges p choice (instr.JSent l) files r may sound held s = s
-step_ranges p choice (instr.Jump l) files r may sound held s = s
+step_ranges p choice (instr.Put x l) files r may sound held s = put_keeps (SoundRanges files) x r s (λ buffer. record { brigades = s.brigades; loose = s.loose; told = s.told; given = s.given })
 step_ranges p choice (instr.Ret st) files r may sound held s = return_ranges files r s
+step_ranges p choice i files r may sound held s = record { brigades = s.brigades; loose = s.loose; told = s.told; given = s.given }

@@ -127,7 +127,6 @@ step_changes_only p choice (instr.PClear q) r = on_named (ChangesOnly (instr.PCl
 step_changes_only p choice (instr.PDestroy q) r = on_named (ChangesOnly (instr.PDestroy q) r) pool_destroyed (pool_named r (pool.Own q)) r (nothing (instr.PDestroy q) r refl) (λ n e. destroyed_changes q n r)
 step_changes_only p choice (instr.Label q t) r = on_named (ChangesOnly (instr.Label q t) r) (label_registered (text_of p t)) (pool_named r q) r (nothing (instr.Label q t) r refl) (λ n e. labelled_changes q t n (text_of p t) r)
 step_changes_only p choice (instr.Unlabel q t) r = on_named (ChangesOnly (instr.Unlabel q t) r) (label_killed (text_of p t)) (pool_named r q) r (nothing (instr.Unlabel q t) r refl) (λ n e. unlabelled_changes q t n (text_of p t) r)
-step_changes_only p choice (instr.JNull v l) r = nothing (instr.JNull v l) r refl
 step_changes_only p choice (instr.BCreate o) r = record { brigades = λ k h. off r.instance.brigades o k _ h; pools = λ k h. refl; numbers = λ k h. refl; sent = λ h. refl; call = λ h k g. refl; filled = λ h. refl; tree = λ h. refl; conn = refl; req = refl; labels = λ h. refl; files = λ h. refl; names = refl; output = refl }
 step_changes_only p choice (instr.BClean b) r = record { brigades = λ k h. off r.instance.brigades b k _ h; pools = λ k h. refl; numbers = λ k h. refl; sent = λ h. refl; call = λ h k g. refl; filled = λ h. refl; tree = λ h. refl; conn = refl; req = refl; labels = λ h. refl; files = λ h. refl; names = no_name r; output = refl }
 step_changes_only p choice (instr.BConcat a b) r = record { brigades = λ k h. (let apart = neither (k == a) (k == b) h in off (upd r.instance.brigades b _) a k _ apart.0 ∙ off r.instance.brigades b k _ apart.1); pools = λ k h. refl; numbers = λ k h. refl; sent = λ h. refl; call = λ h k g. refl; filled = λ h. refl; tree = λ h. refl; conn = refl; req = refl; labels = λ h. refl; files = λ h. refl; names = no_name r; output = refl }
@@ -138,9 +137,5 @@ step_changes_only p choice instr.ClearBuf r = record { brigades = λ k h. refl; 
 step_changes_only p choice (instr.Set n x) r = number_changes (instr.Set n x) n (value_of r x) r (λ k h. other k n h) refl
 step_changes_only p choice (instr.Add n x) r = number_changes (instr.Add n x) n _ r (λ k h. other k n h) refl
 step_changes_only p choice (instr.Sub n x) r = number_changes (instr.Sub n x) n _ r (λ k h. other k n h) refl
-step_changes_only p choice (instr.JLt n x l) r = nothing (instr.JLt n x l) r refl
-step_changes_only p choice (instr.JEq n x l) r = nothing (instr.JEq n x l) r refl
-step_changes_only p choice (instr.JEmpty b l) r = nothing (instr.JEmpty b l) r refl
-step_changes_only p choice (instr.JSent l) r = nothing (instr.JSent l) r refl
-step_changes_only p choice (instr.Jump l) r = nothing (instr.Jump l) r refl
 step_changes_only p choice (instr.Ret st) r = record { brigades = λ k h. absurd (cc); pools = λ k h. refl; numbers = λ k h. refl; sent = λ h. refl; call = λ h g k. absurd (cc); filled = λ h. absurd (cc); tree = λ h. refl; conn = refl; req = refl; labels = λ h. refl; files = λ h. refl; names = no_name r; output = refl }
+step_changes_only p choice i r = nothing i r refl

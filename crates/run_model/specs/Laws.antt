@@ -30,7 +30,7 @@ use Rattle.run_model.specs.State.{Configuration, Out, fresh_call, items_of}
 use Rattle.run_model.specs.Faults.{WUsable, brigade_fault, fault_want, fault, send_fault, or_else}
 use Rattle.run_model.specs.Steps.{Choice, step, step_at_end, current, aside_named, delivered, lacks_names, names_of, pool_cleared, pool_destroyed}
 use Rattle.run_model.specs.Connection.{Connection, opened, bucket_of, named_from, data_behind_eos, has_range, brings, breaks, steps}
-use Rattle.run_model.specs.Runs.{Answer, Refused, Step, World, Before, There, Closed, happens, IsDue, step_of, IsRun, GoesOn, EndsRun}
+use Rattle.run_model.specs.Runs.{Answer, Refused, Step, World, Before, There, Closed, IfThere, happens, IsDue, step_of, IsRun, GoesOn, EndsRun}
 use Rattle.run_model.specs.Sound.{SoundNames, SoundBuckets, SoundPools, Sound, brigade_name, brigade_pool}
 use Rattle.run_model.specs.declared.bucket.Kind.TheVariants as kind
 use Rattle.run_model.specs.declared.bucket.Home.{Home}
@@ -71,11 +71,8 @@ StepAtEndKeeps = (p : Program) (i : Instr) (r : Configuration) → MayExecute p 
 abbrev pub OpenedIsSound : Type 0
 OpenedIsSound = (fs : Files) → Sound (opened fs).state
 
--- what is true of a connection, where it is there
 abbrev pub SoundWorld : World → Type 0
-SoundWorld (Before fs) = Unit {0}
-SoundWorld (There c) = Sound c.state
-SoundWorld (Closed pools fs) = Unit {0}
+SoundWorld w = IfThere w (λ c. Sound c.state)
 
 -- Each event keeps it, and so it is true of each world that a run reaches.
 abbrev pub EventKeepsSound : Type 0
@@ -205,9 +202,7 @@ pub record IsOrderly (budget : ℕ) (p : Program) (c : Connection) : Type 0 wher
   pub spent : c.count ≤ budget
 
 abbrev pub OrderlyWorld : ℕ → Program → World → Type 0
-OrderlyWorld budget p (Before fs) = Unit {0}
-OrderlyWorld budget p (There c) = IsOrderly budget p c
-OrderlyWorld budget p (Closed pools fs) = Unit {0}
+OrderlyWorld budget p w = IfThere w (IsOrderly budget p)
 
 abbrev pub EventKeepsOrder : Type 0
 EventKeepsOrder = (memory : Bool) (budget : ℕ) (p : Program) (e : Event) (w : World) → IsModule p → OrderlyWorld budget p w → OrderlyWorld budget p (happens memory budget p e w).1
@@ -511,9 +506,7 @@ abbrev pub StepKeepsFiles : Type 0
 StepKeepsFiles = (p : Program) (choice : Choice) (i : Instr) (files : List (ℕ × ℕ)) (r : Configuration) → MayExecute p r i → Sound r → SoundFiles files r → SoundFiles files (step p choice i r).state
 
 abbrev pub FilesWorld : World → Type 0
-FilesWorld (Before fs) = Unit {0}
-FilesWorld (There c) = SoundFiles c.files c.state
-FilesWorld (Closed pools fs) = Unit {0}
+FilesWorld w = IfThere w (λ c. SoundFiles c.files c.state)
 
 -- Each event keeps it, and so it is true of each world that a run reaches.
 abbrev pub EventKeepsFiles : Type 0

@@ -10,7 +10,7 @@ use Rattle.run_model.specs.Files.{Files}
 use Rattle.run_model.specs.State.{Configuration, items_of}
 use Rattle.run_model.specs.Steps.{Choice, step}
 use Rattle.run_model.specs.Connection.{opened}
-use Rattle.run_model.specs.Runs.{Answer, World, Before, There, Closed, happens, IsRun}
+use Rattle.run_model.specs.Runs.{Answer, World, Before, IfThere, happens, IsRun}
 use Rattle.run_model.specs.Sound.{Sound}
 use Rattle.run_model.specs.Laws.{MayExecute, SoundWorld, refers, SoundFiles, FilesWorld}
 
@@ -30,9 +30,7 @@ abbrev pub StepKeepsInRange : Type 0
 StepKeepsInRange = (p : Program) (choice : Choice) (i : Instr) (r : Configuration) → fits p i ≡ true → InRange r → InRange (step p choice i r).state
 
 abbrev pub InRangeWorld : World → Type 0
-InRangeWorld (Before fs) = Unit {0}
-InRangeWorld (There c) = InRange c.state
-InRangeWorld (Closed pools fs) = Unit {0}
+InRangeWorld w = IfThere w (λ c. InRange c.state)
 
 -- Each event keeps it, and so it is true of each world that a run reaches.
 abbrev pub EventKeepsInRange : Type 0
@@ -68,9 +66,7 @@ StepKeepsRanges = (p : Program) (choice : Choice) (i : Instr) (files : List (ℕ
     → MayExecute p r i → Sound r → SoundFiles files r → SoundRanges files r → SoundRanges files (step p choice i r).state
 
 abbrev pub RangesWorld : World → Type 0
-RangesWorld (Before fs) = Unit {0}
-RangesWorld (There c) = SoundRanges c.files c.state
-RangesWorld (Closed pools fs) = Unit {0}
+RangesWorld w = IfThere w (λ c. SoundRanges c.files c.state)
 
 -- Each event keeps it, and so it is true of each world that a run reaches.
 abbrev pub EventKeepsRanges : Type 0

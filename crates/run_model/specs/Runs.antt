@@ -35,6 +35,12 @@ pub data World : Type 0 where
   There : Connection → World
   Closed : Pools Payload → Files → World
 
+-- what is true of a connection, where it is there
+abbrev pub IfThere : World → (Connection → Type 0) → Type 0
+IfThere (Before fs) P = Unit {0}
+IfThere (There c) P = P c
+IfThere (Closed pools fs) P = Unit {0}
+
 abbrev pub answer_of : Option Refusal × Connection → Answer × World
 answer_of (None, c) = (Done, There c)
 answer_of (Some r, c) = (Refused r, There c)

@@ -3,17 +3,19 @@
 ghost use Rattle.std.specs.Prelude.{◌≡◌, IfOk};
 ghost use Rattle.host_cli.specs.Host.{world_of, IsReady};
 
-use super::rows::SAVES;
 use crate::command::{Command, command_of};
 use crate::host::{Host, serve};
 use crate::reply::put_reply;
-use crate::run::run_play;
 use bucket_kinds::MemFiles;
 use module_lang::assemble;
 use module_run::Conn;
 use run_model::Module;
 use std::alloc::Global;
 use std::test::Fail;
+
+/// Keeps bodies from call to call: what comes is set aside, and sent where an empty brigade comes.
+const SAVES: &str =
+    "module 1\nbrigade b0 conn\nopen\nbcreate b0\nret ok\ninit\nret ok\nmain\njempty in send\nbsave b0 in\nret ok\n:send\npass b0 bad\nbclean b0\nret ok\n:bad\nbclean b0\nret fail\nend\n";
 
 /// Two requests of a filter that keeps what comes and sends it when an empty brigade comes. The first sending reads a
 /// file four times, the second twice.
@@ -156,29 +158,6 @@ fn refuses_each_read(rt: HostRuntime) -> Result<(), Fail> {
             let due = due(rt.alloc(), well.as_slice(), command, *read)?;
             assert!(rt; *line == due, "read {number}, command {command}");
         }
-    }
-    Ok(())
-}
-
-#[test]
-fn sends_a_saved_file(rt: HostRuntime) -> Result<(), Fail> {
-    let mut sent = Vec::new(rt.alloc());
-    sent.extend_from_slice(b"output \"")?;
-    sent.extend_from_slice(b"x".as_slice().repeat(rt.alloc(), 9_000)?.as_slice())?;
-    sent.extend_from_slice(b"\"\n")?;
-    // In the request that brought it, and in the next one.
-    for between in ["", "end 1\nbegin 1\nrun 1\n"] {
-        let mut script = Vec::new(rt.alloc());
-        script.extend_from_slice(SAVES.as_bytes())?;
-        script.extend_from_slice(
-            b"file a 9000 \"x\"\nopen\nrun 1\nbegin 1\nrun 1\nbring 1 file a 0 9000\nrun 1\n",
-        )?;
-        script.extend_from_slice(between.as_bytes())?;
-        script.extend_from_slice(b"bring 1\nrun 1\noutput 1\n")?;
-        let mut reader = script.as_slice();
-        let mut written = Vec::new(rt.alloc());
-        let _ended = run_play(rt.alloc(), &mut reader, &mut written)?;
-        assert!(rt; written.as_slice().ends_with(sent.as_slice()), "{between}");
     }
     Ok(())
 }

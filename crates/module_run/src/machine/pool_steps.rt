@@ -54,7 +54,7 @@ impl Machine {
         ensures err { OnErr result (seen_machine self.new ≡ seen_machine self.old) }
     {
         let pool = self.live_pool(PoolRef::Own(q));
-        let room = self.run_down(pool)?;
+        let room = self.prepare_clear(pool)?;
         let ran = self.pools.clear_in(pool, room);
         file_refs::let_go(&mut self.files, &self.pools, ran.as_slice());
         add(&mut self.runs, ran);
@@ -68,7 +68,7 @@ impl Machine {
         ensures err { OnErr result (seen_machine self.new ≡ seen_machine self.old) }
     {
         let pool = self.live_pool(PoolRef::Own(q));
-        let room = self.run_down(pool)?;
+        let room = self.prepare_clear(pool)?;
         let ran = self.pools.destroy_in(pool, room);
         file_refs::let_go(&mut self.files, &self.pools, ran.as_slice());
         add(&mut self.runs, ran);

@@ -175,9 +175,9 @@ impl Machine {
         }
     }
 
-    /// Finds the memory that a clear of a pool takes, and clears the brigades that it reaches. Without memory nothing is
-    /// changed.
-    pub(super) fn run_down(&mut self, pool: u64) -> Result<Room<Payload>, AllocError>
+    /// Makes ready for a clear of a pool: finds the memory that it takes, and ends what the clear reaches in brigades. No label
+    /// runs yet. Without memory nothing is changed.
+    pub(super) fn prepare_clear(&mut self, pool: u64) -> Result<Room<Payload>, AllocError>
         requires { IsTrue (is_live (map_of self.old.pools) pool) }
         ensures room { IfOk result (IsRoomFor (map_of self.old.pools) pool) }
         ensures place { OnOk result (vec_len self.new.runs < vec_capacity self.new.runs) }
@@ -198,7 +198,7 @@ impl Machine {
         ensures ok { OnOk result (seen_machine self.new ≡ request_ended pool (seen_machine self.old)) }
         ensures err { OnErr result (seen_machine self.new ≡ seen_machine self.old) }
     {
-        let room = self.run_down(pool)?;
+        let room = self.prepare_clear(pool)?;
         let ran = self.pools.destroy_in(pool, room);
         file_refs::let_go(&mut self.files, &self.pools, ran.as_slice());
         add(&mut self.runs, ran);
@@ -215,7 +215,7 @@ impl Machine {
         ensures files { IfOk result (λ d. files_left d ≡ (pool_destroyed (seen_machine self).shared.conn (seen_machine self)).shared.files) }
         ensures back { IfErr result (λ e. seen_machine e ≡ seen_machine self) }
     {
-        let Ok(room) = self.run_down(CONN_POOL) else {
+        let Ok(room) = self.prepare_clear(CONN_POOL) else {
             return Err(self);
         };
         let mut pools = self.pools;

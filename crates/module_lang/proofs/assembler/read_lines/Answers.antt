@@ -1,27 +1,24 @@
--- A turn reads one byte: it ends the line, or the line grows by it.
-use Rattle.std.proofs.Common.{sym, subst, ◌∙◌, arith}
-use Rattle.std.proofs.lemmas.Bool.{eq-eqb, ne_eqb}
-use Rattle.module_lang.specs.Entries.{IsDraft}
-use Rattle.module_lang.proofs.TextLaws.{read_on, read_line}
+-- The lines are taken in turn, and then what follows them is judged.
+use Rattle.std.proofs.Common.{Ok, ap, ◌∙◌}
+use Rattle.std.proofs.lemmas.Result.{err_from_is_err_and}
+use Rattle.module_lang.specs.Codes.{◌>>=◌}
+use Rattle.module_lang.specs.Drafts.{empty_draft}
+use Rattle.module_lang.proofs.TextLaws.{text_end_refused, text_ends, text_refused}
 use Rattle.module_lang.proofs.assembler.read_lines.Goals as goal
-use Rattle.module_lang.proofs.assembler.read_lines.Goals.{then-byte-eq10+in_ok-take_line, else-byte-eq10}
 
-pub loop-i-preserved : goal.loop-i-preserved
-loop-i-preserved c =
-    let i = c.loop-i.i in
-    let text = c.args.text.now in
-    let inv = c.loop-i.invariant in
-    elim c.if-byte-eq10.branch [
-      | then-byte-eq10+in_ok-take_line w ↦ record {
-        within = omega (arith, w.start-is);
-        few = omega (arith, w.number-is, inv.few);
-        sound = subst IsDraft (sym w.draft-is) w.in_ok-take_line.ensures.sound;
-        read = rw (w.draft-is, w.number-is, w.start-is) (read_line c.args.long c.loop-i.draft w.take_line.new.self c.loop-i.number c.loop-i.start i text inv.within (omega arith) (eq-eqb _ _ w.if-byte-eq10.true) w.in_ok-take_line.ensures.taken ∙ inv.read);
-      }
-      | else-byte-eq10 w ↦ record {
-        within = omega (arith, w.start-is, inv.within);
-        few = omega (arith, w.number-is, inv.few);
-        sound = subst IsDraft (sym w.draft-is) inv.sound;
-        read = rw (w.draft-is, w.number-is, w.start-is) (read_on c.args.long c.loop-i.draft c.loop-i.number c.loop-i.start i text inv.within (omega arith) (ne_eqb _ _ w.if-byte-eq10.false) ∙ inv.read);
-      }
-    ]
+pub returns-in_err-last-clause-draft : goal.returns-in_err-last-clause-draft
+returns-in_err-last-clause-draft c =
+    let p = err_from_is_err_and c.from_residual.result c.from_residual.ensures.1 in
+    rw (p.1, p.2) (text_refused c.args.text.now c.args.long empty_draft c.new-draft.result c.take_lines.new.reader c.in_err-last.field-0.0 c.new-draft.ensures c.in_err-last.ensures.refused)
+
+pub returns-in_err-end_lines-clause-draft : goal.returns-in_err-end_lines-clause-draft
+returns-in_err-end_lines-clause-draft c =
+    let p = err_from_is_err_and c.from_residual-in_err-end_lines.result c.from_residual-in_err-end_lines.ensures.1 in
+    let l = c.in_ok-last.ensures in
+    rw (p.1, p.2) (text_end_refused c.args.text.now c.args.long empty_draft c.new-draft.result c.take_lines.new.reader c.in_ok-last.last.number c.in_ok-last.last.start c.in_err-end_lines.field-0.0 c.new-draft.ensures l.last.0 l.last.1 l.taken c.in_err-end_lines.ensures)
+
+pub returns-clause-draft : goal.returns-clause-draft
+returns-clause-draft c =
+    let l = c.in_ok-last.ensures in
+    text_ends c.args.text.now c.args.long empty_draft c.new-draft.result c.take_lines.new.reader c.in_ok-last.last.number c.in_ok-last.last.start c.new-draft.ensures l.last.0 l.last.1 l.taken
+    ∙ ap (λ r. r >>= λ _. Ok c.take_lines.new.reader) c.in_ok-end_lines.ensures

@@ -2,11 +2,10 @@
 use Rattle.std.proofs.Common.{◌≡◌, ℕ, ◌+◌, ◌-◌, ◌≤◌, Bool, true, false, List, ◌∷◌, length, take, drop, get_or, sym, ap, ◌∙◌, arith, rules}
 use Rattle.std.proofs.lemmas.List.{drop_more, at_drop_all, append-nil}
 use Rattle.std.proofs.lemmas.List.Sums.{sum_by-drop_more}
-use Rattle.std.proofs.lemmas.List.Elements.{All-drop}
 use Rattle.run_model.specs.declared.bucket.NamedBucket.{NamedBucket}
 use Rattle.run_model.specs.Buckets.{is_eos}
 use Rattle.run_model.specs.Files.{and_then, taken_of}
-use Rattle.run_model.specs.Cutting.{EndsInFile, length_of}
+use Rattle.run_model.specs.Cutting.{length_of}
 use Rattle.bucket_kinds.specs.MemDevice.{files_of}
 use Rattle.module_run.proofs.Filling.{both, put_len, put_front, at_eos, at_failed, at_more, at_end, tail_len}
 use Rattle.module_run.specs.Filling.{sum_of}
@@ -71,7 +70,6 @@ loop-b-preserved c =
     record {
       len = all ∙ l.invariant.len;
       room = omega (arith, all, sum, within, room);
-      ends = All-drop (λ b. EndsInFile b.bucket.content) (l.b-index + 1) c.args.items.now c.requires.ends;
       taken =
           l.invariant.taken
           ∙ (ap (and_then (take l.count l.out)) (ap (λ (xs : List NamedBucket). taken_of xs (files_of l.files)) front ∙ at_more c.b-item.result rest (files_of l.files) (files_of f.new.files) bytes plain taken)

@@ -16,12 +16,12 @@ use Rattle.pool_tree.proofs.Trees.{tree_formed}
 use Rattle.module_run.proofs.OwnPools.{conn_live, root_path, root_left}
 use Rattle.module_run.proofs.machine.Machine.close.Goals as goal
 
-pub run_down-requires : goal.run_down-requires
-run_down-requires c = conn_live (map_of c.args.self.pools) c.args.self.req c.args.self.pool_vars c.args.self.standing
+pub prepare_clear-requires : goal.prepare_clear-requires
+prepare_clear-requires c = conn_live (map_of c.args.self.pools) c.args.self.req c.args.self.pool_vars c.args.self.standing
 
 pub destroy_in-ran-requires-clause-live : goal.destroy_in-ran-requires-clause-live
 destroy_in-ran-requires-clause-live c =
-    let m = c.run_down.new.self in
+    let m = c.prepare_clear.new.self in
     conn_live (map_of m.pools) m.req m.pool_vars m.standing
 
 pub returns-clause-labels : goal.returns-clause-labels
@@ -40,7 +40,7 @@ returns-clause-pools c = c.destroy_in-ran.ensures.ok ∙ ap (λ (t : PoolTree Pa
 
 pub invariant_of-result : goal.invariant_of-result
 invariant_of-result c =
-    let m = c.run_down.new.self in
+    let m = c.prepare_clear.new.self in
     record {
       rooted = ap (λ (ps : Pools Payload). ps.path 1) c.destroy_in-ran.ensures.ok
           ∙ root_left (map_of m.pools) (root_path (map_of m.pools) m.req m.pool_vars (tree_formed m.pools) m.standing);
@@ -53,4 +53,4 @@ returns-clause-files c =
     let same = ap (λ (t : PoolTree Payload). run_order (map_of t) 2) c.in-Ok.ensures.same in
     let pools = c.destroy_in-ran.ensures.ok ∙ ap (λ (t : PoolTree Payload). destroyed 2 (map_of t)) c.in-Ok.ensures.same in
     let kept = ap (λ (r : Configuration). r.shared.files) c.in-Ok.ensures.ok in
-    let_go_as c.as_slice.result.now (run_order old 2) (map_of c.destroy_in-ran.new.self) (destroyed 2 old) (files_of c.let_go.new.files) (files_of c.run_down.new.self.files) (files_of c.args.self.files) c.let_go.ensures (c.as_slice.ensures.value ∙ (c.destroy_in-ran.ensures.ran ∙ same)) pools kept
+    let_go_as c.as_slice.result.now (run_order old 2) (map_of c.destroy_in-ran.new.self) (destroyed 2 old) (files_of c.let_go.new.files) (files_of c.prepare_clear.new.self.files) (files_of c.args.self.files) c.let_go.ensures (c.as_slice.ensures.value ∙ (c.destroy_in-ran.ensures.ran ∙ same)) pools kept

@@ -25,7 +25,7 @@ pub destroy_in-ran-requires-clause-below : goal.destroy_in-ran-requires-clause-b
 unfolding seen_machine mapped pool_named
 destroy_in-ran-requires-clause-below c =
     let m = c.args.self.now in
-    let mid = c.run_down.new.self in
+    let mid = c.prepare_clear.new.self in
     let own = owned (map_of m.pools) m.req m.pool_vars c.args.q c.live_pool-pool.result m.standing c.live_pool-pool.ensures.named in
     not_top (map_of mid.pools) mid.req mid.pool_vars c.live_pool-pool.result (tree_formed mid.pools) mid.standing own.0
 
@@ -33,7 +33,7 @@ pub invariant_of-self : goal.invariant_of-self
 unfolding seen_machine mapped pool_named
 invariant_of-self c =
     let m = c.args.self.now in
-    let mid = c.run_down.new.self in
+    let mid = c.prepare_clear.new.self in
     let own = owned (map_of m.pools) m.req m.pool_vars c.args.q c.live_pool-pool.result m.standing c.live_pool-pool.ensures.named in
     let same : mid.req ≡ m.req = ap (λ (r : Configuration). r.shared.req) c.in_ok-room.ensures.ok in
     record {
@@ -54,7 +54,7 @@ returns-clause-ok c =
     = c.add.ensures ∙ (ap (λ (xs : List (List ℕ)). xs ++ labels_in c.destroy_in-ran.result.items) kept ∙ ap (λ (ys : List (ℕ × Payload)). old ++ labels_in ys) (c.destroy_in-ran.ensures.ran ∙ same)) in
     let pools : map_of c.destroy_in-ran.new.self ≡ after = c.destroy_in-ran.ensures.ok ∙ ap (λ (t : PoolTree Payload). destroyed n (map_of t)) c.in_ok-room.ensures.same in
     let gone : files_of c.let_go.new.files ≡ let_go (run_order (map_of c.args.self.now.pools) n) after r.shared.files
-    = let_go_as c.as_slice.result.now (run_order (map_of c.args.self.now.pools) n) (map_of c.destroy_in-ran.new.self) after (files_of c.let_go.new.files) (files_of c.run_down.new.self.files) r.shared.files c.let_go.ensures (c.as_slice.ensures.value ∙ (c.destroy_in-ran.ensures.ran ∙ same)) pools (ap (λ (x : Configuration). x.shared.files) c.in_ok-room.ensures.ok) in
-    let new = with_ran (map_of c.destroy_in-ran.new.self) (labels_handed c.add.new.runs.items) (files_of c.let_go.new.files) (seen_machine c.run_down.new.self) in
+    = let_go_as c.as_slice.result.now (run_order (map_of c.args.self.now.pools) n) (map_of c.destroy_in-ran.new.self) after (files_of c.let_go.new.files) (files_of c.prepare_clear.new.self.files) r.shared.files c.let_go.ensures (c.as_slice.ensures.value ∙ (c.destroy_in-ran.ensures.ran ∙ same)) pools (ap (λ (x : Configuration). x.shared.files) c.in_ok-room.ensures.ok) in
+    let new = with_ran (map_of c.destroy_in-ran.new.self) (labels_handed c.add.new.runs.items) (files_of c.let_go.new.files) (seen_machine c.prepare_clear.new.self) in
     done_to pool_destroyed (pool_named r (pool.Own c.args.q)) n r new c.live_pool-pool.ensures.named
-    (ran_down r (seen_machine c.run_down.new.self) n after (map_of c.destroy_in-ran.new.self) (labels_handed c.add.new.runs.items) (files_of c.let_go.new.files) refl c.in_ok-room.ensures.ok pools labels gone)
+    (ran_down r (seen_machine c.prepare_clear.new.self) n after (map_of c.destroy_in-ran.new.self) (labels_handed c.add.new.runs.items) (files_of c.let_go.new.files) refl c.in_ok-room.ensures.ok pools labels gone)

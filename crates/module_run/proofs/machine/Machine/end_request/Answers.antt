@@ -18,23 +18,23 @@ use Rattle.module_run.proofs.OwnPools.{request_live, standing_ended}
 use Rattle.module_run.proofs.Changed.{ran_down}
 use Rattle.module_run.proofs.machine.Machine.end_request.Goals as goal
 
-pub run_down-requires : goal.run_down-requires
+pub prepare_clear-requires : goal.prepare_clear-requires
 unfolding seen_machine
-run_down-requires c =
+prepare_clear-requires c =
     let m = c.args.self.now in
     request_live (map_of m.pools) m.req m.pool_vars c.args.pool m.standing c.requires
 
 pub destroy_in-ran-requires-clause-live : goal.destroy_in-ran-requires-clause-live
 unfolding seen_machine mapped
 destroy_in-ran-requires-clause-live c =
-    let m = c.run_down.new.self in
+    let m = c.prepare_clear.new.self in
     let open_still = ap (λ (r : Configuration). r.shared.req) c.in_ok-room.ensures.ok ∙ c.requires in
     request_live (map_of m.pools) m.req m.pool_vars c.args.pool m.standing open_still
 
 pub invariant_of-self : goal.invariant_of-self
 unfolding seen_machine mapped
 invariant_of-self c =
-    let m = c.run_down.new.self in
+    let m = c.prepare_clear.new.self in
     let open_still = ap (λ (r : Configuration). r.shared.req) c.in_ok-room.ensures.ok ∙ c.requires in
     record {
       standing = subst (λ (ps : Pools Payload). IsStanding ps None m.pool_vars) (sym c.destroy_in-ran.ensures.ok)
@@ -56,5 +56,5 @@ returns-clause-ok c =
     = c.add.ensures ∙ (ap (λ (xs : List (List ℕ)). xs ++ labels_in c.destroy_in-ran.result.items) kept ∙ ap (λ (ys : List (ℕ × Payload)). old ++ labels_in ys) (c.destroy_in-ran.ensures.ran ∙ same)) in
     let pools : map_of c.destroy_in-ran.new.self ≡ after = c.destroy_in-ran.ensures.ok ∙ ap (λ (t : PoolTree Payload). destroyed c.args.pool (map_of t)) c.in_ok-room.ensures.same in
     let gone : files_of c.let_go.new.files ≡ let_go (run_order (map_of c.args.self.now.pools) c.args.pool) after r.shared.files
-    = let_go_as c.as_slice.result.now (run_order (map_of c.args.self.now.pools) c.args.pool) (map_of c.destroy_in-ran.new.self) after (files_of c.let_go.new.files) (files_of c.run_down.new.self.files) r.shared.files c.let_go.ensures (c.as_slice.ensures.value ∙ (c.destroy_in-ran.ensures.ran ∙ same)) pools (ap (λ (x : Configuration). x.shared.files) c.in_ok-room.ensures.ok) in
-    ap closed (ran_down r (seen_machine c.run_down.new.self) c.args.pool after (map_of c.destroy_in-ran.new.self) (labels_handed c.add.new.runs.items) (files_of c.let_go.new.files) refl c.in_ok-room.ensures.ok pools labels gone)
+    = let_go_as c.as_slice.result.now (run_order (map_of c.args.self.now.pools) c.args.pool) (map_of c.destroy_in-ran.new.self) after (files_of c.let_go.new.files) (files_of c.prepare_clear.new.self.files) r.shared.files c.let_go.ensures (c.as_slice.ensures.value ∙ (c.destroy_in-ran.ensures.ran ∙ same)) pools (ap (λ (x : Configuration). x.shared.files) c.in_ok-room.ensures.ok) in
+    ap closed (ran_down r (seen_machine c.prepare_clear.new.self) c.args.pool after (map_of c.destroy_in-ran.new.self) (labels_handed c.add.new.runs.items) (files_of c.let_go.new.files) refl c.in_ok-room.ensures.ok pools labels gone)

@@ -1,0 +1,3 @@
+pub mod Counts
+pub mod Counted
+pub mod Changes

@@ -1,0 +1,170 @@
+//! The list of one ring.
+
+ghost use Rattle.std.specs.Prelude.{◌≡◌, ◌≤◌, ◌<◌, ◌+◌, ◌^◌, ◌++◌, take, drop, length, Option, None, Some, IsSome};
+ghost use Rattle.std.specs.Option.{option_copied};
+ghost use Rattle.bucket_ring.specs.Lists.{same, front, rest, without, first_of, found, with_payload};
+ghost use Rattle.bucket_ring.specs.Spots.{placed, picked};
+
+use crate::names::BucketId;
+use std::alloc::{AllocError, Global};
+use std::collections::LinkedList;
+use std::collections::linked_list::Iter;
+use std::mem::replace;
+
+/// The buckets of a ring, in order, each with its payload.
+pub(crate) type Entries<T> = LinkedList<(BucketId, T), Global>;
+
+/// Where buckets are put in a ring.
+#[derive(Clone, Copy)]
+pub(crate) enum Spot {
+    Tail,
+    Head,
+    Before(BucketId),
+    After(BucketId),
+}
+
+/// Whether two names are of one bucket.
+pub(crate) fn is_same(a: BucketId, b: BucketId) -> bool
+    ensures { result ≡ same a b }
+{
+    a.slot == b.slot && a.birth == b.birth
+}
+
+/// A bucket and those behind it.
+pub(crate) fn seek<T>(entries: &Entries<T>, id: BucketId) -> Iter<'_, (BucketId, T)>
+    ensures { result ≡ rest id entries.now }
+{
+    let mut here = entries.iter();
+    let mut ahead = entries.iter();
+    while let Some(entry) = ahead.next() {
+        if is_same(entry.0, id) {
+            return here;
+        }
+        here.next();
+    }
+    here
+}
+
+/// Cuts off all from an index on.
+fn cut_off<T>(entries: &mut Entries<T>, at: usize) -> Entries<T>
+    requires { at ≤ length entries.old }
+    ensures kept { entries.new ≡ take at entries.old }
+    ensures cut_off { result ≡ drop at entries.old }
+{
+    match entries.split_off(at) {
+        Ok(tail) => tail,
+        Err(_) => unreachable!(),
+    }
+}
+
+/// Cuts off a bucket and those behind it.
+#[tactic(auto, using(crate::proofs::Counts::parts))]
+pub(crate) fn cut<T>(entries: &mut Entries<T>, id: BucketId) -> Entries<T>
+    ensures kept { entries.new ≡ front id entries.old }
+    ensures cut_off { result ≡ rest id entries.old }
+    ensures sizes { length entries.new + length result ≡ length entries.old }
+    ensures fits { length entries.old < 2 ^ 63 }
+{
+    let at = entries.len() - seek(entries, id).len();
+    cut_off(entries, at)
+}
+
+/// Takes a bucket out, as a list of its own.
+pub(crate) fn take<T: Drop>(entries: &mut Entries<T>, id: BucketId) -> Entries<T>
+    ensures kept { entries.new ≡ without id entries.old }
+    ensures taken { result ≡ picked id entries.old }
+{
+    let mut taken = cut(entries, id);
+    let tail = cut_first(&mut taken);
+    join(entries, tail);
+    taken
+}
+
+/// Cuts off all but the first bucket.
+fn cut_first<T>(entries: &mut Entries<T>) -> Entries<T>
+    ensures kept { entries.new ≡ take 1 entries.old }
+    ensures cut_off { result ≡ drop 1 entries.old }
+    ensures sizes { length entries.new + length result ≡ length entries.old }
+{
+    let at = if entries.is_empty() { 0 } else { 1 };
+    cut_off(entries, at)
+}
+
+/// Puts more behind the last bucket.
+pub(crate) fn join<T: Drop>(entries: &mut Entries<T>, more: Entries<T>)
+    requires { length entries.old + length more < 2 ^ 63 }
+    ensures { entries.new ≡ entries.old ++ more }
+{
+    let mut more = more;
+    match entries.append(&mut more) {
+        Ok(()) => {}
+        Err(_) => unreachable!(),
+    }
+}
+
+/// Puts more at a spot.
+pub(crate) fn put<T: Drop>(entries: &mut Entries<T>, spot: Spot, more: Entries<T>)
+    requires { length entries.old + length more < 2 ^ 63 }
+    ensures { entries.new ≡ placed spot more entries.old }
+{
+    match spot {
+        Spot::Tail => join(entries, more),
+        Spot::Head => {
+            let tail = cut_off(entries, 0);
+            join(entries, more);
+            join(entries, tail);
+        }
+        Spot::Before(id) => {
+            let tail = cut(entries, id);
+            join(entries, more);
+            join(entries, tail);
+        }
+        Spot::After(id) => {
+            let mut here = cut(entries, id);
+            let tail = cut_first(&mut here);
+            join(entries, here);
+            join(entries, more);
+            join(entries, tail);
+        }
+    }
+}
+
+/// The first bucket.
+pub(crate) fn first<T>(entries: &Entries<T>) -> Option<BucketId>
+    ensures { result ≡ first_of entries.now }
+{
+    let mut here = entries.iter();
+    here.next().map(|entry| entry.0)
+}
+
+/// The bucket behind another.
+pub(crate) fn next<T>(entries: &Entries<T>, id: BucketId) -> Option<BucketId>
+    ensures { result ≡ first_of (drop 1 (rest id entries.now)) }
+{
+    let mut here = seek(entries, id);
+    here.next();
+    here.next().map(|entry| entry.0)
+}
+
+/// The payload of a bucket.
+pub(crate) fn payload<T>(entries: &Entries<T>, id: BucketId) -> Option<&T>
+    ensures { option_copied result ≡ found id entries.now }
+{
+    let mut here = seek(entries, id);
+    here.next().map(|entry| &entry.1)
+}
+
+/// Gives a bucket another payload; without the bucket, the payload comes back.
+pub(crate) fn set_payload<T: Drop>(entries: &mut Entries<T>, id: BucketId, payload: T) -> T
+    requires { IsSome (found id entries.old) }
+    ensures had { found id entries.old ≡ Some result }
+    ensures kept { entries.new ≡ with_payload id payload entries.old }
+{
+    let mut tail = cut(entries, id);
+    let had = match tail.front_mut() {
+        Some(entry) => replace(&mut entry.1, payload),
+        None => unreachable!(),
+    };
+    join(entries, tail);
+    had
+}

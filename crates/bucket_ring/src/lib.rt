@@ -1,0 +1,13 @@
+//! Rings of buckets, as in `apr_buckets.h`: many lists of named payloads.
+#![tactic(auto)]
+
+mod entries;
+mod lists;
+mod names;
+mod places;
+mod plain;
+mod rings;
+
+pub use names::{BucketId, RingId, RingRefusal};
+pub use plain::PlainRings;
+pub use rings::Rings;

@@ -1,0 +1,13 @@
+-- All brigade variables were changed.
+use Rattle.std.proofs.Common.{refl}
+use Rattle.run_model.specs.Pools.{is_under}
+use Rattle.pool_tree.specs.Tree.{map_of}
+use Rattle.module_run.specs.Seen.{seen_machine}
+use Rattle.module_run.proofs.Changed.{mapped_by}
+use Rattle.module_run.proofs.machine.Machine.prepare_clear.Goals as goal
+
+pub returns-clause-ok : goal.returns-clause-ok
+unfolding seen_machine
+returns-clause-ok c =
+    let m = c.args.self.now in
+    mapped_by (seen_machine m) (is_under (map_of m.pools) c.args.pool) m.brigades c.clear_all.new.vars m.runs.items c.reserve.new.self.items refl c.clear_all.ensures refl c.reserve.ensures.items
