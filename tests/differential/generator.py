@@ -351,14 +351,14 @@ class Writer:
             self.command('open')
             for _ in range(self.rng.randint(1, 30)):
                 self.stray()
-        return self.module_lines(), self.budget() + self.commands
+        return self.module_lines(), self.commands
 
-    def budget(self):
-        """Mostly none, but always one for a module with a loop that does not end."""
+    def budget(self, is_changed):
+        """Mostly none, but always one for a module with a loop that may not end."""
         chance = self.rng.random()
         if chance < .08:
             return ['budget %d' % self.rng.choice([0, 1, 2, 3, 5, 8, 13, 20, 50, 100])]
-        if self.is_endless:
+        if self.is_endless or is_changed:
             return ['budget 1000']
         return ['budget %d' % self.rng.choice([60000, MOST])] if chance < .2 else []
 
@@ -390,8 +390,10 @@ class Writer:
 
 def played(rng):
     """A script that is right as a text; of some, the module or the commands are changed."""
-    module, commands = Writer(rng).script()
+    writer = Writer(rng)
+    module, commands = writer.script()
     chance = rng.random()
+    commands = writer.budget(is_changed=chance < .13) + commands
     if chance < .13:
         module = change(rng, module)
     elif chance < .18:
