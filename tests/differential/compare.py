@@ -36,12 +36,12 @@ def answer_of(program):
 
 
 def read_answer(script):
-    """The answer that the reading gives. Raises TooBig where it is a matter of memory."""
+    """The answer that the reading gives. Raises TooBig where it is a matter of memory or time."""
     return (*play(script), b'')
 
 
 def differs(players, script):
-    """Whether two players answer a script otherwise; never where the answer is a matter of memory."""
+    """Whether two players answer a script otherwise; never where the answer is a matter of memory or time."""
     try:
         first, second = [player(script) for player in players]
     except TooBig:
@@ -100,8 +100,8 @@ def main():
         printed, status = play(sys.stdin.buffer.read())
         sys.stdout.buffer.write(printed)
         return status
-    names = ('program', options.other or 'reading')
-    players = (answer_of(options.program), answer_of(options.other) if options.other else read_answer)
+    names = (options.other or 'reading', 'program')
+    players = (answer_of(options.other) if options.other else read_answer, answer_of(options.program))
     start = time.monotonic()
     for number in range(options.n):
         script = random_script(random.Random('%s/%d' % (options.seed, number)))
@@ -112,7 +112,8 @@ def main():
     took = time.monotonic() - start
     if options.counts and not options.other:
         print(table())
-    print('%d scripts of seed %s: no difference, %.0f s, %.0f a second' % (options.n, options.seed, took, options.n / max(took, .001)))
+    print('%d scripts of seed %s: no difference, %.0f s, %.0f a second'
+          % (options.n, options.seed, took, options.n / max(took, .001)))
     return 0
 
 

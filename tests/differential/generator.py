@@ -202,6 +202,8 @@ class Writer:
             self.fill_buffer()
             return True
         brought = self.host.brought
+        if brought and brought.buckets and chance < .04:
+            return self.carry()
         if brought and brought.buckets and chance < .4:
             return self.step(self.rng.choice(['bconcat', 'bsave'] if self.keeps_files else ['bconcat', 'bsave', 'bsave', 'pass']))
         homes = [bucket.home for bucket in self.host.all_buckets()]
@@ -210,6 +212,24 @@ class Writer:
         if any(kind == 'pool' for kind, _ in homes) and chance < .1:
             return self.step(self.rng.choice(['pclear', 'pdestroy']))
         return self.step()
+
+    def carry(self):
+        """Saves what was brought into a brigade on a pool, moves it on, clears that pool, and uses it."""
+        rng, host = self.rng, self.host
+        usable = [i for i in range(len(self.module.brigades)) if host.fault_of(('jempty', i, 0)) is None]
+        pairs = [(i, j) for i in usable for j in usable if self.module.brigades[i] not in ('conn', 'req') and not host.lies_under(
+            host.brigade_of(j).pool, host.brigade_of(i).pool)]
+        if not pairs:
+            return self.step()
+        between, last = rng.choice(pairs)
+        pool = self.module.brigades[between]
+        for line, instruction in (
+                ('bsave b%d in' % between, ('bsave', between, 'in')),
+                ('bconcat b%d b%d' % (last, between), ('bconcat', last, between)), ('pclear p%d' % pool, ('pclear', pool))):
+            if host.fault_of(instruction) is None:
+                self.lines.append(line)
+                self.do(instruction)
+        return self.step(rng.choice(['pass', 'bsave']))
 
     def end_call(self):
         """Cleans what may not be kept, mostly, and returns."""
@@ -331,14 +351,14 @@ class Writer:
             self.command('open')
             for _ in range(self.rng.randint(1, 30)):
                 self.stray()
-        return self.module_lines(), self.budget() + self.commands
+        return self.module_lines(), self.commands
 
-    def budget(self):
-        """Mostly none, but always one for a module with a loop that does not end."""
+    def budget(self, is_changed):
+        """Mostly none, but always one for a module with a loop that may not end."""
         chance = self.rng.random()
         if chance < .08:
             return ['budget %d' % self.rng.choice([0, 1, 2, 3, 5, 8, 13, 20, 50, 100])]
-        if self.is_endless:
+        if self.is_endless or is_changed:
             return ['budget 1000']
         return ['budget %d' % self.rng.choice([60000, MOST])] if chance < .2 else []
 
@@ -370,8 +390,10 @@ class Writer:
 
 def played(rng):
     """A script that is right as a text; of some, the module or the commands are changed."""
-    module, commands = Writer(rng).script()
+    writer = Writer(rng)
+    module, commands = writer.script()
     chance = rng.random()
+    commands = writer.budget(is_changed=chance < .13) + commands
     if chance < .13:
         module = change(rng, module)
     elif chance < .18:

@@ -10,6 +10,7 @@ from .texts import NAME, PRINTABLE, U32, FaultyText, assemble, decimal, read_tex
 LINE_LIMIT = 65536
 U64 = 2 ** 64 - 1
 MOST_FILE = 20000000
+MOST_STEPS = 3000000
 
 
 class BadLine(Exception):
@@ -17,12 +18,12 @@ class BadLine(Exception):
 
 
 class TooBig(Exception):
-    """A file so large that what is answered is a matter of memory."""
+    """A file so large that what is answered is a matter of memory, or a run so long that it is one of time."""
 
 
 def play(script):
     """The bytes that the program must print for a script, and its exit status. Raises TooBig where that is a matter of
-    memory."""
+    memory or time."""
     try:
         module, at, line = assemble(script)
     except FaultyText as fault:
@@ -153,8 +154,10 @@ def make_file(host, rest):
 
 def run(host, conn):
     """Steps until the call ends."""
-    result = None
+    result = host.step(conn)
     while result is None:
+        if host.count > MOST_STEPS:
+            raise TooBig
         result = host.step(conn)
     if result[0] == 'ended':
         arose('call ended ' + result[1])
