@@ -193,9 +193,9 @@ impl<T: Drop> Rings<T> for PlainRings<T> {
         if self.lists.len(ring) + self.lists.len(from) >= LIMIT {
             return Err(AllocError);
         }
-        let moved = self.lists.cut(self.alloc, from, id);
-        self.places.move_all(&moved, ring);
-        self.lists.put(ring, Spot::Tail, moved);
+        let tail = self.lists.cut(self.alloc, from, id);
+        self.places.move_all(&tail, ring);
+        self.lists.put(ring, Spot::Tail, tail);
         Ok(())
     }
 
