@@ -1,10 +1,10 @@
 -- What a bucket that is in a ring, and a ring that has a bucket, say of each other.
-use Rattle.std.specs.Prelude.{◌≡◌, ℕ, suc, ◌<◌, Bool, true, false, if◌then◌else◌, Option, None, Some, is_some, List, [], ◌∷◌, refl}
+use Rattle.std.specs.Prelude.{◌≡◌, ℕ, suc, ◌<◌, Bool, true, false, if◌then◌else◌, Option, None, Some, Ok, is_some, drop, List, [], ◌∷◌, refl}
 use Rattle.std.specs.Option.{option_map_or}
-use Rattle.std.proofs.Common.{ap, arith, inl, inr}
+use Rattle.std.proofs.Common.{◌∙◌, ap, arith, inl, inr}
 use Rattle.std.proofs.lemmas.Bool.{cases_eq, eq-eqb, ne_eqb}
 use Rattle.bucket_ring.specs.declared.names.BucketId.{BucketId}
-use Rattle.bucket_ring.specs.Lists.{same, times, rest, found, list_at, payload_of}
+use Rattle.bucket_ring.specs.Lists.{same, times, rest, found, list_at, payload_of, first_of, next_in, or_end}
 use Rattle.bucket_ring.specs.Kept.{once_in, IsKept}
 
 pub once_here : (r : ℕ) → once_in r (Some r) ≡ 1
@@ -55,3 +55,37 @@ module _ {T : Type 0} where
     -- the ring that a bucket is in is there
     pub ring_there : at id ≡ Some r → is_some (lists r) ≡ true
     ring_there e = listed_some id (lists r) (found_in e)
+
+same_self : (id : BucketId) → same id id ≡ true
+same_self id = rw (eq-eqb id.slot id.slot refl, eq-eqb id.birth id.birth refl) refl
+
+one_more : (s : Bool) (n : ℕ) → 0 < n → 0 < (if s then suc n else n)
+one_more true n h = omega arith
+one_more false n h = h
+
+ended : (r : ℕ) (o : Option BucketId) (j : BucketId) → or_end r o ≡ Ok j → o ≡ Some j
+ended r None j e = cc
+ended r (Some i) j e = cc
+
+module _ {T : Type 0} where
+  first_times : (id : BucketId) (bs : List (BucketId × T)) → first_of bs ≡ Some id → 0 < times id bs
+  first_times id [] e = cc
+  first_times id (b ∷ bs) e =
+      let here : b.0 ≡ id = cc in
+      rw (ap (λ i. same i id) here ∙ same_self id) (omega arith)
+
+  behind_first : (s : Bool) (b : BucketId × T) (id : BucketId) (bs cs : List (BucketId × T)) → (first_of (drop 1 cs) ≡ Some id → 0 < times id bs) → first_of (drop 1 (if s then b ∷ bs else cs)) ≡ Some id → 0 < times id bs
+  behind_first true b id bs cs later e = first_times id bs e
+  behind_first false b id bs cs later e = later e
+
+  behind_times : (id j : BucketId) (bs : List (BucketId × T)) → first_of (drop 1 (rest id bs)) ≡ Some j → 0 < times j bs
+  behind_times id j [] e = cc
+  behind_times id j (b ∷ bs) e = one_more (same b.0 j) (times j bs) (behind_first (same b.0 id) b j bs (rest id bs) (behind_times id j bs) e)
+
+  -- what is first in a list is found there
+  pub first_found : (id : BucketId) (bs : List (BucketId × T)) → first_of bs ≡ Some id → is_some (found id bs) ≡ true
+  first_found id bs e = times_found id bs (first_times id bs e)
+
+  -- what is next in a list is found there
+  pub next_found : (r : ℕ) (id j : BucketId) (bs : List (BucketId × T)) → next_in r id bs ≡ Ok j → is_some (found j bs) ≡ true
+  next_found r id j bs e = times_found j bs (behind_times id j bs (ended r (first_of (drop 1 (rest id bs))) j e))

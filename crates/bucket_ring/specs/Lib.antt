@@ -4,3 +4,4 @@ pub mod Names
 pub mod Map
 pub mod Kept
 pub mod Laws
+pub mod Rows

@@ -23,13 +23,6 @@ pub(crate) enum Spot {
     After(BucketId),
 }
 
-/// Whether two names are of one bucket.
-pub(crate) fn is_same(a: BucketId, b: BucketId) -> bool
-    ensures { result ≡ same a b }
-{
-    a.slot == b.slot && a.birth == b.birth
-}
-
 /// A bucket and those behind it.
 pub(crate) fn seek<T>(entries: &Entries<T>, id: BucketId) -> Iter<'_, (BucketId, T)>
     ensures { result ≡ rest id entries.now }
@@ -37,7 +30,7 @@ pub(crate) fn seek<T>(entries: &Entries<T>, id: BucketId) -> Iter<'_, (BucketId,
     let mut here = entries.iter();
     let mut ahead = entries.iter();
     while let Some(entry) = ahead.next() {
-        if is_same(entry.0, id) {
+        if entry.0 == id {
             return here;
         }
         here.next();

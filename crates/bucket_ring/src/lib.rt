@@ -2,12 +2,14 @@
 #![tactic(auto)]
 
 mod entries;
+mod laws;
 mod lists;
 mod names;
 mod places;
 mod plain;
 mod rings;
 
+pub use laws::{names_run_out, worked_moves};
 pub use names::{BucketId, RingId, RingRefusal};
 pub use plain::PlainRings;
 pub use rings::Rings;

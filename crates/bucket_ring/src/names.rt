@@ -9,7 +9,7 @@ use std::alloc::AllocError;
 pub type RingId = u64;
 
 /// The name of a bucket: the slot that it lies in, and its birth, which is never given out again. A slot is used again.
-#[derive(Clone, Copy)]
+#[derive(Clone, Copy, PartialEq, Eq)]
 pub struct BucketId {
     /// Where the bucket lies.
     pub slot: usize,

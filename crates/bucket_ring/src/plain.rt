@@ -1,13 +1,13 @@
 //! Rings as plain lists.
 
-ghost use Rattle.std.specs.Prelude.{◌≡◌, ℕ, ◌+◌, ◌<◌, ◌≤◌, ◌↔◌, IsTrue, List, [], ◌∷◌, Option, Some, None, true, false, is_some, is_ok, if◌then◌else◌, IsOk, IfOk, IfErr, OnOk, OnErr, IsErrOf};
+ghost use Rattle.std.specs.Prelude.{◌≡◌, ℕ, ◌+◌, ◌<◌, ◌^◌, length, [], ◌∷◌, Some, true, is_some, is_ok, if◌then◌else◌, IsOk, IfOk, IfErr, OnOk, OnErr};
 ghost use Rattle.bucket_ring.specs.Lists.{upd, on, list_at, found, without};
 ghost use Rattle.bucket_ring.specs.Spots.{placed};
 ghost use Rattle.bucket_ring.specs.Names.{ring_at};
 ghost use Rattle.bucket_ring.specs.Map.{lists_of};
 ghost use Rattle.bucket_ring.specs.Kept.{IsKept};
 
-use crate::entries::{Spot, is_same};
+use crate::entries::Spot;
 use crate::lists::Lists;
 use crate::names::{BucketId, RingId, RingRefusal};
 use crate::places::Places;
@@ -81,6 +81,7 @@ impl<T: Drop> PlainRings<T> {
         requires ring { is_some (lists_of self.old.lists ring) ≡ true }
         requires bucket { is_some (ring_at self.old.places id) ≡ true }
         ensures ok { OnOk result ((q n : ℕ) (x : T) → ring_at self.old.places id ≡ Some q → found id (list_at (lists_of self.old.lists) q) ≡ Some x → lists_of self.new.lists n ≡ on ring (placed spot ((id, x) ∷ [])) (on q (without id) (lists_of self.old.lists)) n) }
+        ensures sure { length (list_at (lists_of self.old.lists) ring) + 1 < 2 ^ 63 → IsOk result }
         ensures next { self.new.next ≡ self.old.next }
         ensures err { OnErr result ((n : ℕ) → lists_of self.new.lists n ≡ lists_of self.old.lists n) }
     {
@@ -164,7 +165,7 @@ impl<T: Drop> Rings<T> for PlainRings<T> {
     }
 
     fn move_before(&mut self, at: BucketId, id: BucketId) -> Result<(), AllocError> {
-        if is_same(at, id) {
+        if at == id {
             return Ok(());
         }
         let ring = self.ring_with(at);
@@ -192,9 +193,9 @@ impl<T: Drop> Rings<T> for PlainRings<T> {
         if self.lists.len(ring) + self.lists.len(from) >= LIMIT {
             return Err(AllocError);
         }
-        let moved = self.lists.cut(self.alloc, from, id);
-        self.places.move_all(&moved, ring);
-        self.lists.put(ring, Spot::Tail, moved);
+        let tail = self.lists.cut(self.alloc, from, id);
+        self.places.move_all(&tail, ring);
+        self.lists.put(ring, Spot::Tail, tail);
         Ok(())
     }
 

@@ -1,6 +1,6 @@
 //! What rings are to those who use them.
 
-ghost use Rattle.std.specs.Prelude.{◌≡◌, ℕ, ◌+◌, ◌<◌, ◌≤◌, ◌↔◌, IsTrue, List, [], ◌++◌, Option, Some, None, true, false, is_some, is_ok, if◌then◌else◌, IsOk, IfOk, IfErr, OnOk, OnErr, IsErrOf};
+ghost use Rattle.std.specs.Prelude.{◌≡◌, ℕ, ◌+◌, ◌<◌, ◌^◌, ◌↔◌, length, List, [], ◌++◌, Option, Some, None, true, false, is_some, is_ok, if◌then◌else◌, IsOk, IfOk, IfErr, OnOk, OnErr, IsErrOf};
 ghost use Rattle.bucket_ring.specs.declared.names.BucketId.{BucketId};
 ghost use Rattle.bucket_ring.specs.Lists.{upd, on, list_at, times, same, front, rest, first_of, next_in, found, put_tail, put_head, put_before, put_after, without, with_payload};
 ghost use Rattle.bucket_ring.specs.Kept.{once_in};
@@ -84,6 +84,7 @@ pub trait Rings<T> {
         requires ring { is_some (lists self.old ring) ≡ true }
         requires bucket { is_some (ring_at self.old id) ≡ true }
         ensures ok { OnOk result ((q n : ℕ) (x : T) → ring_at self.old id ≡ Some q → found id (list_at (lists self.old) q) ≡ Some x → lists self.new n ≡ on ring (put_tail (id, x)) (on q (without id) (lists self.old)) n) }
+        ensures sure { length (list_at (lists self.old) ring) + 1 < 2 ^ 63 → IsOk result }
         ensures next { next_name self.new ≡ next_name self.old }
         ensures err { OnErr result ((n : ℕ) → lists self.new n ≡ lists self.old n) };
 
@@ -92,6 +93,7 @@ pub trait Rings<T> {
         requires ring { is_some (lists self.old ring) ≡ true }
         requires bucket { is_some (ring_at self.old id) ≡ true }
         ensures ok { OnOk result ((q n : ℕ) (x : T) → ring_at self.old id ≡ Some q → found id (list_at (lists self.old) q) ≡ Some x → lists self.new n ≡ on ring (put_head (id, x)) (on q (without id) (lists self.old)) n) }
+        ensures sure { length (list_at (lists self.old) ring) + 1 < 2 ^ 63 → IsOk result }
         ensures next { next_name self.new ≡ next_name self.old }
         ensures err { OnErr result ((n : ℕ) → lists self.new n ≡ lists self.old n) };
 
@@ -100,6 +102,7 @@ pub trait Rings<T> {
         requires place { is_some (ring_at self.old at) ≡ true }
         requires bucket { is_some (ring_at self.old id) ≡ true }
         ensures ok { OnOk result ((r q n : ℕ) (x : T) → ring_at self.old at ≡ Some r → ring_at self.old id ≡ Some q → found id (list_at (lists self.old) q) ≡ Some x → lists self.new n ≡ (if same at id then lists self.old n else on r (put_before at (id, x)) (on q (without id) (lists self.old)) n)) }
+        ensures sure { (r : ℕ) → ring_at self.old at ≡ Some r → length (list_at (lists self.old) r) + 1 < 2 ^ 63 → IsOk result }
         ensures next { next_name self.new ≡ next_name self.old }
         ensures err { OnErr result ((n : ℕ) → lists self.new n ≡ lists self.old n) };
 
@@ -108,7 +111,8 @@ pub trait Rings<T> {
         requires ring { is_some (lists self.old ring) ≡ true }
         requires from { is_some (lists self.old from) ≡ true }
         ensures ok { OnOk result ((n : ℕ) → lists self.new n ≡ on ring (λ bs. bs ++ list_at (lists self.old) from) (on from (λ bs. []) (lists self.old)) n) }
-        ensures sure { list_at (lists self.old) ring ≡ [] → IsOk result }
+        ensures sure { length (list_at (lists self.old) ring) + length (list_at (lists self.old) from) < 2 ^ 63 → IsOk result }
+        ensures empty { list_at (lists self.old) ring ≡ [] → IsOk result }
         ensures next { next_name self.new ≡ next_name self.old }
         ensures err { OnErr result ((n : ℕ) → lists self.new n ≡ lists self.old n) };
 
@@ -117,6 +121,7 @@ pub trait Rings<T> {
         requires bucket { is_some (ring_at self.old id) ≡ true }
         requires ring { is_some (lists self.old ring) ≡ true }
         ensures ok { OnOk result ((q n : ℕ) → ring_at self.old id ≡ Some q → lists self.new n ≡ on ring (λ bs. bs ++ rest id (list_at (lists self.old) q)) (on q (front id) (lists self.old)) n) }
+        ensures sure { (q : ℕ) → ring_at self.old id ≡ Some q → length (list_at (lists self.old) ring) + length (list_at (lists self.old) q) < 2 ^ 63 → IsOk result }
         ensures next { next_name self.new ≡ next_name self.old }
         ensures err { OnErr result ((n : ℕ) → lists self.new n ≡ lists self.old n) };
 

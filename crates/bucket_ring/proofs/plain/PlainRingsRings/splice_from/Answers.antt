@@ -17,15 +17,15 @@ pub put-requires : goal.put-requires
 put-requires g c =
     let lists = lists_of c.args.self.now.lists in
     let from = c.ring_with-from.result in
-    let less : length (list_at (lists_of c.cut-moved.new.self) c.args.ring) ≤ length (list_at lists c.args.ring) =
-    on_shorter lists (lists_of c.cut-moved.new.self) from c.args.ring (front c.args.id) c.cut-moved.ensures.kept (λ bs. omega (arith, front_less c.args.id bs)) in
-    omega (arith, ap length c.cut-moved.ensures.taken, front_less c.args.id (list_at lists from), c.len.ensures.value, c.len-2.ensures.value)
+    let less : length (list_at (lists_of c.cut-tail.new.self) c.args.ring) ≤ length (list_at lists c.args.ring) =
+    on_shorter lists (lists_of c.cut-tail.new.self) from c.args.ring (front c.args.id) c.cut-tail.ensures.kept (λ bs. omega (arith, front_less c.args.id bs)) in
+    omega (arith, ap length c.cut-tail.ensures.taken, front_less c.args.id (list_at lists from), c.len.ensures.value, c.len-2.ensures.value)
 
 pub invariant_of-self : goal.invariant_of-self
 invariant_of-self g c =
     let s = c.args.self.now in
     let from = c.ring_with-from.result in
     record {
-      kept = kept_moved (ring_at s.places) (ring_at c.move_all.new.self) (lists_of s.lists) (lists_of c.cut-moved.new.self) (lists_of c.put.new.self) s.next from c.args.ring (front c.args.id) Tail c.cut-moved.result
-          c.cut-moved.ensures.kept c.put.ensures c.requires.ring (λ j. rw c.cut-moved.ensures.taken (cut_count j c.args.id (lists_of s.lists from))) c.move_all.ensures s.kept;
+      kept = kept_moved (ring_at s.places) (ring_at c.move_all.new.self) (lists_of s.lists) (lists_of c.cut-tail.new.self) (lists_of c.put.new.self) s.next from c.args.ring (front c.args.id) Tail c.cut-tail.result
+          c.cut-tail.ensures.kept c.put.ensures c.requires.ring (λ j. rw c.cut-tail.ensures.taken (cut_count j c.args.id (lists_of s.lists from))) c.move_all.ensures s.kept;
     }
