@@ -31,7 +31,7 @@ use Rattle.run_model.specs.Faults.{WUsable, brigade_fault, fault_want, fault, se
 use Rattle.run_model.specs.Steps.{Choice, step, step_at_end, current, aside_named, delivered, lacks_names, names_of, pool_cleared, pool_destroyed}
 use Rattle.run_model.specs.Connection.{Connection, opened, bucket_of, named_from, data_behind_eos, has_range, brings, breaks, steps}
 use Rattle.run_model.specs.Runs.{Answer, Refused, Step, World, Before, There, Closed, IfThere, happens, IsDue, step_of, IsRun, GoesOn, EndsRun}
-use Rattle.run_model.specs.Sound.{SoundNames, SoundBuckets, SoundPools, Sound, brigade_name, brigade_pool}
+use Rattle.run_model.specs.Sound.{NamesStep, SoundNames, SoundBuckets, SoundPools, Sound, brigade_name, brigade_pool}
 use Rattle.run_model.specs.declared.bucket.Kind.TheVariants as kind
 use Rattle.run_model.specs.declared.bucket.Home.{Home}
 use Rattle.run_model.specs.declared.bucket.Home.TheVariants as home
@@ -51,7 +51,16 @@ pub record MayExecute (p : Program) (r : Configuration) (i : Instr) : Type 0 whe
   pub faultless : fault p r i ≡ None
   pub names_last : lacks_names r i ≡ false
 
--- A step without a fault keeps each name one bucket's, and new names new.
+-- A step without a fault leaves of each name that was given out no more buckets than there were, and gives each new name
+-- once.
+abbrev pub StepGivesNames : Type 0
+StepGivesNames = (p : Program) (choice : Choice) (i : Instr) (r : Configuration) → MayExecute p r i → NamesStep r (step p choice i r).state
+
+-- Such a change keeps each name one bucket's, and new names new.
+abbrev pub NamesStaySingle : Type 0
+NamesStaySingle = (r new : Configuration) → NamesStep r new → SoundNames r → SoundNames new
+
+-- So does a step without a fault.
 abbrev pub StepKeepsNames : Type 0
 StepKeepsNames = (p : Program) (choice : Choice) (i : Instr) (r : Configuration) → MayExecute p r i → SoundNames r → SoundNames (step p choice i r).state
 
