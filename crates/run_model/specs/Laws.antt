@@ -153,7 +153,8 @@ changes_pools i = is_clear i
 
 -- What an instruction does not name is as before: other brigades, pool variables and numbers, and but for a pass or a
 -- return also whether an EOS was passed, and the call. Pools change by their own instructions and by a save; labels are
--- run and files closed by clears alone; else only names are given out.
+-- run and files closed by clears alone; else only names are given out. The place in the code is as before (the host sets
+-- it), and so is the call's name, but for a return.
 pub record ChangesOnly (i : Instr) (r new : Configuration) : Type 0 where
   pub brigades : (k : ℕ) → may_change i k ≡ false → new.instance.brigades k ≡ r.instance.brigades k
   pub pools : (k : ℕ) → may_change_pool i k ≡ false → new.instance.pools k ≡ r.instance.pools k
@@ -168,6 +169,8 @@ pub record ChangesOnly (i : Instr) (r new : Configuration) : Type 0 where
   pub files : is_clear i ≡ false → new.shared.files ≡ r.shared.files
   pub names : new.shared.next ≡ r.shared.next + names_of i
   pub output : new.out ≡ r.out
+  pub pc : new.pc ≡ r.pc
+  pub call_name : is_return i ≡ false → new.call.name ≡ r.call.name
 
 abbrev pub StepChangesOnly : Type 0
 StepChangesOnly = (p : Program) (choice : Choice) (i : Instr) (r : Configuration) → ChangesOnly i r (step p choice i r).state
