@@ -19,7 +19,7 @@ use Rattle.run_model.specs.Connection.{Connection, opened, begun, bucket_of, bro
 use Rattle.run_model.specs.Sound.{sum_below, count_named, brigade_pool, SoundPools, Sound}
 use Rattle.run_model.proofs.Updates.{upd_either}
 use Rattle.run_model.proofs.PoolMap.{created_lives, created_kept, created_at, new_lives, destroyed_apart, destroyed_next}
-use Rattle.run_model.proofs.Names.{count_none, count_before, count_once, count_behind, Fewer, fewer_same, keeps_slots, went_names, placed_names}
+use Rattle.run_model.proofs.Names.{names_stay, count_none, count_before, count_once, count_behind, Fewer, fewer_same, keeps_slots, went_names, placed_names}
 use Rattle.run_model.proofs.StepNames.{not_spent, same_slots}
 use Rattle.run_model.proofs.StepBuckets.{ProperList, none_proper, named_proper, keeps_buckets, went_buckets, written_buckets, same_buckets}
 use Rattle.run_model.proofs.Formed.{path_live, planted_live, planted_formed, created_formed, registered_formed, destroyed_formed}
@@ -32,8 +32,8 @@ pub same_sound : (r new : Configuration) → new.instance.brigades ≡ r.instanc
     → ((n : ℕ) → count_named n new.call.loose ≤ count_named n r.call.loose) → (ProperList r.call.loose → ProperList new.call.loose)
     → Sound r → Sound new
 same_sound r new brigades own pools conn req next fewer proper s = record {
-  names = keeps_slots r new fewer (λ b. subst (λ (g : ℕ → BrigadeVar). Fewer (r.instance.brigades b) (g b)) (sym brigades) (fewer_same (r.instance.brigades b)))
-      (omega (arith, next)) (subst (λ (k : ℕ). k < 2 ^ 64) (sym next) s.names.limit) s.names;
+  names = names_stay r new (keeps_slots r new fewer (λ b. subst (λ (g : ℕ → BrigadeVar). Fewer (r.instance.brigades b) (g b)) (sym brigades) (fewer_same (r.instance.brigades b)))
+      (omega (arith, next)) (subst (λ (k : ℕ). k < 2 ^ 64) (sym next) s.names.limit)) s.names;
   buckets = keeps_buckets r new (λ b h. subst (λ (g : ℕ → BrigadeVar). ProperList (items_of (g b))) (sym brigades) h) proper s.buckets;
   pools = keeps_pools r new pools conn req own (λ b n e. s.pools.brigades b n (sym (ap (λ (g : ℕ → BrigadeVar). brigade_pool (g b)) brigades) ∙ e)) s.pools;
 }
@@ -62,7 +62,7 @@ referred_pools req x r new pools instance conn same is s =
 
 pub taken_sound : (req len : ℕ) (name : List ℕ) (c : Connection) → c.state.shared.req ≡ Some req → Sound c.state → Sound (file_taken req name len c).state
 taken_sound req len name c is s = record {
-  names = same_slots c.state (file_taken req name len c).state refl refl refl s.names;
+  names = names_stay c.state (file_taken req name len c).state (same_slots c.state (file_taken req name len c).state refl refl refl s.names.limit) s.names;
   buckets = same_buckets c.state (file_taken req name len c).state refl refl s.buckets;
   pools = referred_pools req (FileRef c.state.shared.files.next) c.state (file_taken req name len c).state refl refl refl refl is s.pools;
 }
@@ -96,7 +96,7 @@ pub begun_sound : (p : Program) (c : Connection) → (is_spent c.state.shared.po
 begun_sound p c last s =
     let tests = neither (is_spent c.state.shared.pools.next 1) (is_spent c.state.shared.next 1) last in
     record {
-      names = keeps_slots c.state (begun p c).state (λ n. rw (count_none n) (omega arith)) (λ b. fewer_same (c.state.instance.brigades b)) (omega arith) (not_spent c.state.shared.next 1 tests.1) s.names;
+      names = names_stay c.state (begun p c).state (keeps_slots c.state (begun p c).state (λ n. rw (count_none n) (omega arith)) (λ b. fewer_same (c.state.instance.brigades b)) (omega arith) (not_spent c.state.shared.next 1 tests.1)) s.names;
       buckets = keeps_buckets c.state (begun p c).state (λ b h. h) (λ h. none_proper) s.buckets;
       pools = begun_pools p c (not_spent c.state.shared.pools.next 1 tests.0) s.pools;
     }
@@ -113,8 +113,8 @@ brought_sound req p pieces c last s =
     let make : Piece → Bucket = bucket_of n req in
     let limit : n + (2 + length pieces) < 2 ^ 64 = not_spent n (2 + length pieces) last in
     record {
-      names = placed_names c.state (brought_in req p pieces c).state 8 (brought_brigade n req pieces) (omega arith) refl (λ k. rw (count_none k) (omega arith)) (omega arith) (omega arith) (omega arith)
-          (λ k lt. count_before make k (n + 2) pieces (omega arith)) (λ k. count_once make k (n + 2) pieces) (λ k le. count_behind make k (n + 2) pieces (omega arith)) s.names;
+      names = names_stay c.state (brought_in req p pieces c).state (placed_names c.state (brought_in req p pieces c).state 8 (brought_brigade n req pieces) (omega arith) refl (λ k. rw (count_none k) (omega arith)) (omega arith) (omega arith) (omega arith)
+          (λ k lt. count_before make k (n + 2) pieces (omega arith)) (λ k. count_once make k (n + 2) pieces) (λ k le. count_behind make k (n + 2) pieces (omega arith))) s.names;
       buckets = written_buckets c.state (brought_in req p pieces c).state 8 (var.Live (brought_brigade n req pieces)) refl (named_proper n req (n + 2) pieces) (λ h. none_proper) s.buckets;
       pools = keeps_pools c.state (brought_in req p pieces c).state refl refl refl refl (λ b k e. elim (upd_either c.state.instance.brigades 8 b (var.Live (brought_brigade n req pieces))) [
         | inl q ↦ absurd (let none : None ≡ Some k = sym (ap brigade_pool q.1) ∙ e in cc)
@@ -133,7 +133,7 @@ ended_pools req r is s =
 pub ended_sound : (req : ℕ) (r : Configuration) → r.shared.req ≡ Some req → Sound r → Sound (request_ended req r)
 unfolding run_down with_pools
 ended_sound req r is s = record {
-  names = went_names (is_under r.shared.pools req) r (request_ended req r) (λ b. refl) refl refl s.names;
+  names = names_stay r (request_ended req r) (went_names (is_under r.shared.pools req) r (request_ended req r) (λ b. refl) refl refl s.names.limit) s.names;
   buckets = went_buckets (is_under r.shared.pools req) r (request_ended req r) (λ b. refl) refl s.buckets;
   pools = ended_pools req r is s.pools;
 }

@@ -15,7 +15,8 @@ use Rattle.run_model.specs.State.{Configuration, items_of}
 use Rattle.run_model.specs.Steps.{cleaned, with_items, handed_over, returned_var}
 use Rattle.run_model.specs.Clearing.{cleared_var, is_reached}
 use Rattle.run_model.specs.Connection.{named_from}
-use Rattle.run_model.specs.Sound.{sum_below, count_named, count, brigade_name, SoundNames}
+use Rattle.run_model.specs.Laws.{NamesStaySingle}
+use Rattle.run_model.specs.Sound.{NamesStep, sum_below, count_named, count, brigade_name}
 use Rattle.run_model.proofs.Updates.{upd_off, upd_either}
 use Rattle.run_model.proofs.Sums.{sum_below_le, sum_below_upd}
 
@@ -143,44 +144,63 @@ at_two P g i j v w here there same k = elim (upd_either (upd g i v) j k w) [
   | inr p ↦ subst (λ x. P (g k) x) (sym p.1) (at_each P g i v here same k)
 ]
 
--- Where buckets do not grow in number and brigades keep their names, names stay sound.
-pub keeps_names : (r new : Configuration)
-    → ((n : ℕ) → count new n ≤ count r n)
-    → ((b : ℕ) → Carried (r.instance.brigades b) (new.instance.brigades b))
-    → r.shared.next ≤ new.shared.next → new.shared.next < 2 ^ 64
-    → SoundNames r → SoundNames new
-keeps_names r new fewer carried rises limit s = record {
-  once = λ n. let h : count new n ≤ count r n = fewer n in let o : count r n ≤ 1 = s.once n in omega arith;
-  fresh = λ n le. let h : count new n ≤ count r n = fewer n in let o : count r n ≡ 0 = s.fresh n (omega arith) in omega arith;
-  apart = λ b c n hb hc. s.apart b c n ((carried b).name n hb) ((carried c).name n hc);
-  given = λ b n h. let lt : n < r.shared.next = s.given b n ((carried b).name n h) in omega arith;
+-- Names stay single.
+pub names_stay : NamesStaySingle
+names_stay r new t s = record {
+  once = λ n. elim (cases_lt n r.shared.next) [
+    | inl lt ↦ (let h : count new n ≤ count r n = t.old n lt in let o : count r n ≤ 1 = s.once n in omega arith)
+    | inr le ↦ t.born n le (s.fresh n le)
+  ];
+  fresh = λ n le. t.fresh n le (s.fresh n (let up : r.shared.next ≤ new.shared.next = t.rises in omega arith));
+  apart = λ b c n hb hc. elim (t.apart b c n hb hc) [
+    | inl was ↦ (let lt : n < r.shared.next = s.given b n was in elim (t.named c n hc) [ inl too ↦ s.apart b c n was too | inr new_one ↦ absurd (omega (arith, new_one.0)) ])
+    | inr other ↦ elim other [
+      | inl was ↦ (let lt : n < r.shared.next = s.given c n was in elim (t.named b n hb) [ inl too ↦ s.apart b c n too was | inr new_one ↦ absurd (omega (arith, new_one.0)) ])
+      | inr one ↦ one
+    ]
+  ];
+  given = λ b n h. elim (t.named b n h) [
+    | inl was ↦ (let lt : n < r.shared.next = s.given b n was in let up : r.shared.next ≤ new.shared.next = t.rises in omega arith)
+    | inr new_one ↦ new_one.1
+  ];
+  limit = t.limit;
+  slots = λ b le. t.slots b le (s.slots b le);
+}
+
+-- Where buckets do not grow in number and brigades keep their names.
+pub keeps_names : (r new : Configuration) → ((n : ℕ) → count new n ≤ count r n) → ((b : ℕ) → Carried (r.instance.brigades b) (new.instance.brigades b)) → r.shared.next ≤ new.shared.next → new.shared.next < 2 ^ 64 → NamesStep r new
+keeps_names r new fewer carried rises limit = record {
+  rises = rises;
   limit = limit;
-  slots = λ b le. (carried b).null (s.slots b le);
+  old = λ n lt. fewer n;
+  born = λ n le none. (let h : count new n ≤ count r n = fewer n in omega arith);
+  fresh = λ n le none. (let h : count new n ≤ count r n = fewer n in omega arith);
+  named = λ b n h. inl ((carried b).name n h);
+  apart = λ b c n hb hc. inl ((carried b).name n hb);
+  slots = λ b le none. (carried b).null none;
 }
 
 -- the same, slot for slot
 pub keeps_slots : (r new : Configuration)
     → ((n : ℕ) → count_named n new.call.loose ≤ count_named n r.call.loose)
     → ((b : ℕ) → Fewer (r.instance.brigades b) (new.instance.brigades b))
-    → r.shared.next ≤ new.shared.next → new.shared.next < 2 ^ 64
-    → SoundNames r → SoundNames new
-keeps_slots r new loose slots rises limit s =
+    → r.shared.next ≤ new.shared.next → new.shared.next < 2 ^ 64 → NamesStep r new
+keeps_slots r new loose slots rises limit =
     keeps_names r new (λ n.
     let l : count_named n new.call.loose ≤ count_named n r.call.loose = loose n in
     let b : sum_below 9 (λ k. count_named n (items_of (new.instance.brigades k))) ≤ sum_below 9 (λ k. count_named n (items_of (r.instance.brigades k))) = sum_below_le 9 _ _ (λ k. (slots k).items n) in
     omega arith)
-    (λ k. (slots k).carried) rises limit s
+    (λ k. (slots k).carried) rises limit
 
 -- What a clear leaves of the brigades and of the loose buckets.
 pub went_names : (reached : ℕ → Bool) (r new : Configuration)
     → ((b : ℕ) → new.instance.brigades b ≡ cleared_var reached (r.instance.brigades b))
-    → new.call.loose ≡ map (cleared_bucket reached) r.call.loose → new.shared.next ≡ r.shared.next
-    → SoundNames r → SoundNames new
-went_names reached r new brigades loose next s =
+    → new.call.loose ≡ map (cleared_bucket reached) r.call.loose → new.shared.next ≡ r.shared.next → r.shared.next < 2 ^ 64 → NamesStep r new
+went_names reached r new brigades loose next limit =
     keeps_slots r new
     (λ n. let same : count_named n new.call.loose ≡ count_named n r.call.loose = ap (count_named n) loose ∙ count_map n (cleared_bucket reached) (λ b. refl) r.call.loose in omega arith)
     (λ b. subst (λ v. Fewer (r.instance.brigades b) v) (sym (brigades b)) (cleared_fewer reached (r.instance.brigades b)))
-    (omega arith) (subst (λ (k : ℕ). k < 2 ^ 64) (sym next) s.limit) s
+    (omega arith) (subst (λ (k : ℕ). k < 2 ^ 64) (sym next) limit)
 
 some_is : (a b : ℕ) → Some a ≡ Some b → a ≡ b
 some_is a b e = cc
@@ -194,34 +214,22 @@ pub placed_names : (r new : Configuration) (o : ℕ) (v : Brigade)
     → ((n : ℕ) → n < r.shared.next → count_named n v.items ≡ 0)
     → ((n : ℕ) → count_named n v.items ≤ 1)
     → ((n : ℕ) → new.shared.next ≤ n → count_named n v.items ≡ 0)
-    → SoundNames r → SoundNames new
-placed_names r new o v in_range is loose above below limit old_names once behind s = record {
-  once = λ n. let h : count new n ≤ count r n + count_named n v.items = counted n in
-      elim (cases_lt n r.shared.next) [
-        | inl lt ↦ (let z : count_named n v.items ≡ 0 = old_names n lt in let c : count r n ≤ 1 = s.once n in omega arith)
-        | inr le ↦ (let z : count_named n v.items ≤ 1 = once n in let c : count r n ≡ 0 = s.fresh n le in omega arith)
-      ];
-  fresh = λ n le.
-      let h : count new n ≤ count r n + count_named n v.items = counted n in
-      let z : count_named n v.items ≡ 0 = behind n le in
-      let c : count r n ≡ 0 = s.fresh n (omega arith) in
-      omega arith;
-  apart = λ b c n hb hc. elim (named b n hb) [
-    | inl p ↦ (elim (named c n hc) [
-      | inl q ↦ p.0 ∙ sym q.0
-      | inr q ↦ absurd (let lt : n < r.shared.next = s.given c n q in omega (arith, p.1))
-    ])
-    | inr p ↦ (elim (named c n hc) [
-      | inl q ↦ absurd (let lt : n < r.shared.next = s.given b n p in omega (arith, q.1))
-      | inr q ↦ s.apart b c n p q
-    ])
-  ];
-  given = λ b n h. elim (named b n h) [
-    | inl p ↦ omega (arith, p.1)
-    | inr p ↦ (let lt : n < r.shared.next = s.given b n p in omega arith)
-  ];
+    → NamesStep r new
+placed_names r new o v in_range is loose above below limit old_names once behind = record {
+  rises = omega arith;
   limit = limit;
-  slots = λ b le. ap (λ (g : ℕ → BrigadeVar). g b) is ∙ (upd_off r.instance.brigades o b (var.Live v) (λ e. absurd (omega (arith, e))) ∙ s.slots b le);
+  old = λ n lt. (let h : count new n ≤ count r n + count_named n v.items = counted n in let z : count_named n v.items ≡ 0 = old_names n lt in omega arith);
+  born = λ n le none. (let h : count new n ≤ count r n + count_named n v.items = counted n in let z : count_named n v.items ≤ 1 = once n in omega arith);
+  fresh = λ n le none. (let h : count new n ≤ count r n + count_named n v.items = counted n in let z : count_named n v.items ≡ 0 = behind n le in omega arith);
+  named = λ b n h. elim (named b n h) [
+    | inl p ↦ inr (omega (arith, p.1), omega (arith, p.1))
+    | inr was ↦ inl was
+  ];
+  apart = λ b c n hb hc. elim (named b n hb) [
+    | inl p ↦ elim (named c n hc) [ inl q ↦ inr (inr (p.0 ∙ sym q.0)) | inr was ↦ inr (inl was) ]
+    | inr was ↦ inl was
+  ];
+  slots = λ b le none. ap (λ (g : ℕ → BrigadeVar). g b) is ∙ (upd_off r.instance.brigades o b (var.Live v) (λ e. absurd (omega (arith, e))) ∙ none);
 } where
   counted : (n : ℕ) → count new n ≤ count r n + count_named n v.items
   counted n =

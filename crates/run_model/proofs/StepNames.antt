@@ -14,13 +14,13 @@ use Rattle.run_model.specs.Indexed.{upd}
 use Rattle.run_model.specs.Pools.{is_under, created}
 use Rattle.run_model.specs.State.{Configuration, items_of, set_pool, with_pools, set_brigade, set_number, pool_named}
 use Rattle.run_model.specs.Clearing.{run_down}
-use Rattle.run_model.specs.Steps.{do_create, do_clean, do_concat, do_pass, do_return, cleaned, with_items, handed_over, returned_var, do_pcreate, pool_cleared, pool_destroyed, label_registered, label_killed, text_of, aside_named, saved_into, made_on, names_of, pool_names_of, is_spent, lacks_names}
-use Rattle.run_model.specs.Sound.{sum_below, count_named, SoundNames}
-use Rattle.run_model.specs.Laws.{StepKeepsNames}
+use Rattle.run_model.specs.Steps.{step, do_create, do_clean, do_concat, do_pass, do_return, cleaned, with_items, handed_over, returned_var, do_pcreate, pool_cleared, pool_destroyed, label_registered, label_killed, text_of, aside_named, saved_into, made_on, names_of, pool_names_of, is_spent, lacks_names}
+use Rattle.run_model.specs.Sound.{NamesStep, sum_below, count_named}
+use Rattle.run_model.specs.Laws.{StepGivesNames, StepKeepsNames}
 use Rattle.run_model.proofs.Updates.{upd_off}
 use Rattle.run_model.proofs.Sums.{sum_below_upd}
 use Rattle.run_model.proofs.Operands.{created_below, TwoBrigades, two_brigades, saved_brigades}
-use Rattle.run_model.proofs.Names.{count_none, count_append, count_map, Carried, Fewer, carried_same, fewer_same, fewer_none, cleaned_fewer, handed_fewer, returned_fewer, filled_carried, filled_items, at_each, at_two, keeps_names, keeps_slots, went_names, placed_names}
+use Rattle.run_model.proofs.Names.{names_stay, count_none, count_append, count_map, Carried, Fewer, carried_same, fewer_same, fewer_none, cleaned_fewer, handed_fewer, returned_fewer, filled_carried, filled_items, at_each, at_two, keeps_names, keeps_slots, went_names, placed_names}
 use Rattle.run_model.proofs.NamedPools.{on_named, made_under_named, put_keeps}
 
 -- names that are not spent stay below the limit
@@ -36,25 +36,28 @@ lasting r i h = not_spent r.shared.next (names_of i) (first (is_spent r.shared.n
   first true b h = absurd (cc)
   first false b h = refl
 
-create_names : (p : Program) (o : ℕ) (r : Configuration) → o < 9 → r.shared.next + 1 < 2 ^ 64 → SoundNames r → SoundNames (do_create p o r)
+below_limit : (r : Configuration) (i : Instr) → lacks_names r i ≡ false → r.shared.next < 2 ^ 64
+below_limit r i last = let all : r.shared.next + names_of i < 2 ^ 64 = lasting r i last in omega arith
+
+create_names : (p : Program) (o : ℕ) (r : Configuration) → o < 9 → r.shared.next + 1 < 2 ^ 64 → NamesStep r (do_create p o r)
 unfolding set_brigade
-create_names p o r lt limit s =
+create_names p o r lt limit =
     placed_names r (do_create p o r) o (record { name = r.shared.next; on = pool_named r (pool_of_brigade p o); mark = Usable; items = [] }) lt refl
-    (λ n. omega arith) (omega arith) (omega arith) limit (λ n h. count_none n) (λ n. rw (count_none n) (omega arith)) (λ n h. count_none n) s
+    (λ n. omega arith) (omega arith) (omega arith) limit (λ n h. count_none n) (λ n. rw (count_none n) (omega arith)) (λ n h. count_none n)
 
-clean_names : (b : ℕ) (r : Configuration) → SoundNames r → SoundNames (do_clean b r)
+clean_names : (b : ℕ) (r : Configuration) → r.shared.next < 2 ^ 64 → NamesStep r (do_clean b r)
 unfolding set_brigade
-clean_names b r s =
-    keeps_slots r (do_clean b r) (λ n. omega arith) (at_each Fewer r.instance.brigades b (cleaned (r.instance.brigades b)) (cleaned_fewer (r.instance.brigades b)) fewer_same) (omega arith) s.limit s
+clean_names b r limit =
+    keeps_slots r (do_clean b r) (λ n. omega arith) (at_each Fewer r.instance.brigades b (cleaned (r.instance.brigades b)) (cleaned_fewer (r.instance.brigades b)) fewer_same) (omega arith) limit
 
-pass_names : (b : ℕ) (r : Configuration) → SoundNames r → SoundNames (do_pass b r)
+pass_names : (b : ℕ) (r : Configuration) → r.shared.next < 2 ^ 64 → NamesStep r (do_pass b r)
 unfolding set_brigade
-pass_names b r s =
-    keeps_slots r (do_pass b r) (λ n. omega arith) (at_each Fewer r.instance.brigades b (handed_over (r.instance.brigades b)) (handed_fewer (r.instance.brigades b)) fewer_same) (omega arith) s.limit s
+pass_names b r limit =
+    keeps_slots r (do_pass b r) (λ n. omega arith) (at_each Fewer r.instance.brigades b (handed_over (r.instance.brigades b)) (handed_fewer (r.instance.brigades b)) fewer_same) (omega arith) limit
 
-return_names : (r : Configuration) → SoundNames r → SoundNames (do_return r)
-return_names r s =
-    keeps_slots r (do_return r) (λ n. rw (count_none n) (omega arith)) (λ b. left b (b == 8)) (omega arith) s.limit s where
+return_names : (r : Configuration) → r.shared.next < 2 ^ 64 → NamesStep r (do_return r)
+return_names r limit =
+    keeps_slots r (do_return r) (λ n. rw (count_none n) (omega arith)) (λ b. left b (b == 8)) (omega arith) limit where
       left : (b : ℕ) (is_in : Bool) → Fewer (r.instance.brigades b) (cond is_in var.Null (returned_var r.call.name (r.instance.brigades b)))
       left b true = fewer_none _ _ (record { name = λ n h. absurd (cc); null = λ h. refl }) refl
       left b false = returned_fewer r.call.name (r.instance.brigades b)
@@ -75,53 +78,68 @@ moved g a b n items two same =
 -- these items, of the names of those of b, go to the tail of a
 moved_names : (items : List NamedBucket) (a b : ℕ) (r new : Configuration) → ((n : ℕ) → count_named n items ≡ count_named n (items_of (r.instance.brigades b))) → TwoBrigades a b
     → new.instance.brigades ≡ upd (upd r.instance.brigades b (with_items [] (r.instance.brigades b))) a (with_items (items_of (r.instance.brigades a) ++ items) (r.instance.brigades a))
-    → new.call ≡ r.call → new.shared.next ≡ r.shared.next → SoundNames r → SoundNames new
-moved_names items a b r new same two brigades call next s =
+    → new.call ≡ r.call → new.shared.next ≡ r.shared.next → r.shared.next < 2 ^ 64 → NamesStep r new
+moved_names items a b r new same two brigades call next limit =
     keeps_names r new
     (λ n. rw (call, brigades) (let m = moved r.instance.brigades a b n items two (same n) in omega arith))
     (λ k. rw brigades (at_two Carried r.instance.brigades b a (with_items [] (r.instance.brigades b)) (with_items (items_of (r.instance.brigades a) ++ items) (r.instance.brigades a))
     (filled_carried [] (r.instance.brigades b)) (filled_carried (items_of (r.instance.brigades a) ++ items) (r.instance.brigades a)) carried_same k))
-    (omega arith) (subst (λ (k : ℕ). k < 2 ^ 64) (sym next) s.limit) s
+    (omega arith) (subst (λ (k : ℕ). k < 2 ^ 64) (sym next) limit)
 
-concat_names : (a b : ℕ) (r : Configuration) → TwoBrigades a b → SoundNames r → SoundNames (do_concat a b r)
+concat_names : (a b : ℕ) (r : Configuration) → TwoBrigades a b → r.shared.next < 2 ^ 64 → NamesStep r (do_concat a b r)
 unfolding set_brigade
-concat_names a b r two s = moved_names (items_of (r.instance.brigades b)) a b r (do_concat a b r) (λ n. refl) two refl refl refl s
+concat_names a b r two limit = moved_names (items_of (r.instance.brigades b)) a b r (do_concat a b r) (λ n. refl) two refl refl refl limit
 
-save_names : (o b target : ℕ) (r : Configuration) → TwoBrigades o b → SoundNames r → SoundNames (saved_into o b target r)
+save_names : (o b target : ℕ) (r : Configuration) → TwoBrigades o b → r.shared.next < 2 ^ 64 → NamesStep r (saved_into o b target r)
 unfolding set_brigade with_pools
-save_names o b target r two s =
+save_names o b target r two limit =
     moved_names (map (aside_named r.shared.pools target) (items_of (r.instance.brigades b))) o b r (saved_into o b target r)
-    (λ n. count_map n (aside_named r.shared.pools target) (λ x. refl) (items_of (r.instance.brigades b))) two refl refl refl s
+    (λ n. count_map n (aside_named r.shared.pools target) (λ x. refl) (items_of (r.instance.brigades b))) two refl refl refl limit
 
 -- where no brigade and no bucket changes, and no name is given out
-pub same_slots : (r new : Configuration) → new.instance.brigades ≡ r.instance.brigades → new.call.loose ≡ r.call.loose → new.shared.next ≡ r.shared.next → SoundNames r → SoundNames new
-same_slots r new brigades loose next s =
-    keeps_slots r new (λ n. rw loose (omega arith)) (λ b. subst (λ (g : ℕ → BrigadeVar). Fewer (r.instance.brigades b) (g b)) (sym brigades) (fewer_same (r.instance.brigades b))) (omega arith) (subst (λ (k : ℕ). k < 2 ^ 64) (sym next) s.limit) s
+pub same_slots : (r new : Configuration) → new.instance.brigades ≡ r.instance.brigades → new.call.loose ≡ r.call.loose → new.shared.next ≡ r.shared.next → r.shared.next < 2 ^ 64 → NamesStep r new
+same_slots r new brigades loose next limit =
+    keeps_slots r new (λ n. rw loose (omega arith)) (λ b. subst (λ (g : ℕ → BrigadeVar). Fewer (r.instance.brigades b) (g b)) (sym brigades) (fewer_same (r.instance.brigades b))) (omega arith) (subst (λ (k : ℕ). k < 2 ^ 64) (sym next) limit)
 
-pcreate_names : (p : Program) (q : ℕ) (r : Configuration) → SoundNames r → SoundNames (do_pcreate p q r)
+pcreate_names : (p : Program) (q : ℕ) (r : Configuration) → r.shared.next < 2 ^ 64 → NamesStep r (do_pcreate p q r)
 unfolding set_pool with_pools
-pcreate_names p q r s = made_under_named SoundNames p q r s (λ parent e. same_slots r (set_pool q (poolvar.Made r.shared.pools.next) (with_pools (created parent r.shared.pools) r)) refl refl refl s)
+pcreate_names p q r limit = made_under_named (NamesStep r) p q r (same_slots r r refl refl refl limit) (λ parent e. same_slots r (set_pool q (poolvar.Made r.shared.pools.next) (with_pools (created parent r.shared.pools) r)) refl refl refl limit)
 
-cleared_names : (n : ℕ) (r : Configuration) → SoundNames r → SoundNames (pool_cleared n r)
+cleared_names : (n : ℕ) (r : Configuration) → r.shared.next < 2 ^ 64 → NamesStep r (pool_cleared n r)
 unfolding run_down with_pools
-cleared_names n r s = went_names (is_under r.shared.pools n) r (pool_cleared n r) (λ b. refl) refl refl s
+cleared_names n r limit = went_names (is_under r.shared.pools n) r (pool_cleared n r) (λ b. refl) refl refl limit
 
-destroyed_names : (n : ℕ) (r : Configuration) → SoundNames r → SoundNames (pool_destroyed n r)
+destroyed_names : (n : ℕ) (r : Configuration) → r.shared.next < 2 ^ 64 → NamesStep r (pool_destroyed n r)
 unfolding run_down with_pools
-destroyed_names n r s = went_names (is_under r.shared.pools n) r (pool_destroyed n r) (λ b. refl) refl refl s
+destroyed_names n r limit = went_names (is_under r.shared.pools n) r (pool_destroyed n r) (λ b. refl) refl refl limit
+
+pub step_gives : StepGivesNames
+unfolding set_number with_pools
+step_gives p choice (instr.BCreate o) r may = create_names p o r (created_below p may.proper o may.fit) (lasting r (instr.BCreate o) may.names_last)
+step_gives p choice (instr.PCreate q) r may = pcreate_names p q r (below_limit r (instr.PCreate q) may.names_last)
+step_gives p choice (instr.PClear q) r may =
+    let limit = below_limit r (instr.PClear q) may.names_last in
+    on_named (NamesStep r) pool_cleared (pool_named r (pool.Own q)) r (same_slots r r refl refl refl limit) (λ n e. cleared_names n r limit)
+step_gives p choice (instr.PDestroy q) r may =
+    let limit = below_limit r (instr.PDestroy q) may.names_last in
+    on_named (NamesStep r) pool_destroyed (pool_named r (pool.Own q)) r (same_slots r r refl refl refl limit) (λ n e. destroyed_names n r limit)
+step_gives p choice (instr.Label q t) r may =
+    let limit = below_limit r (instr.Label q t) may.names_last in
+    on_named (NamesStep r) (label_registered (text_of p t)) (pool_named r q) r (same_slots r r refl refl refl limit) (λ n e. same_slots r _ refl refl refl limit)
+step_gives p choice (instr.Unlabel q t) r may =
+    let limit = below_limit r (instr.Unlabel q t) may.names_last in
+    on_named (NamesStep r) (label_killed (text_of p t)) (pool_named r q) r (same_slots r r refl refl refl limit) (λ n e. same_slots r _ refl refl refl limit)
+step_gives p choice (instr.BClean b) r may = clean_names b r (below_limit r (instr.BClean b) may.names_last)
+step_gives p choice (instr.BConcat a b) r may = concat_names a b r (two_brigades p may.proper a b may.fit) (below_limit r (instr.BConcat a b) may.names_last)
+step_gives p choice (instr.BSave o b) r may =
+    let limit = below_limit r (instr.BSave o b) may.names_last in
+    on_named (NamesStep r) (saved_into o b) (made_on (r.instance.brigades o)) r (same_slots r r refl refl refl limit) (λ target e. save_names o b target r (saved_brigades p may.proper o b may.fit) limit)
+step_gives p choice (instr.Pass b l) r may = pass_names b r (below_limit r (instr.Pass b l) may.names_last)
+step_gives p choice (instr.Put x l) r may =
+    let limit = below_limit r (instr.Put x l) may.names_last in
+    put_keeps (NamesStep r) x r (same_slots r r refl refl refl limit) (λ buffer. same_slots r _ refl refl refl limit)
+step_gives p choice (instr.Ret st) r may = return_names r (below_limit r (instr.Ret st) may.names_last)
+step_gives p choice i r may = same_slots r _ refl refl refl (below_limit r i may.names_last)
 
 pub step_names : StepKeepsNames
-unfolding set_number with_pools
-step_names p choice (instr.PCreate q) r may s = pcreate_names p q r s
-step_names p choice (instr.PClear q) r may s = on_named SoundNames pool_cleared (pool_named r (pool.Own q)) r s (λ n e. cleared_names n r s)
-step_names p choice (instr.PDestroy q) r may s = on_named SoundNames pool_destroyed (pool_named r (pool.Own q)) r s (λ n e. destroyed_names n r s)
-step_names p choice (instr.Label q t) r may s = on_named SoundNames (label_registered (text_of p t)) (pool_named r q) r s (λ n e. same_slots r _ refl refl refl s)
-step_names p choice (instr.Unlabel q t) r may s = on_named SoundNames (label_killed (text_of p t)) (pool_named r q) r s (λ n e. same_slots r _ refl refl refl s)
-step_names p choice (instr.BCreate o) r may s = create_names p o r (created_below p may.proper o may.fit) (lasting r (instr.BCreate o) may.names_last) s
-step_names p choice (instr.BClean b) r may s = clean_names b r s
-step_names p choice (instr.BConcat a b) r may s = concat_names a b r (two_brigades p may.proper a b may.fit) s
-step_names p choice (instr.BSave o b) r may s = on_named SoundNames (saved_into o b) (made_on (r.instance.brigades o)) r s (λ target e. save_names o b target r (saved_brigades p may.proper o b may.fit) s)
-step_names p choice (instr.Pass b l) r may s = pass_names b r s
-step_names p choice (instr.Put x l) r may s = put_keeps SoundNames x r s (λ buffer. same_slots r _ refl refl refl s)
-step_names p choice (instr.Ret st) r may s = return_names r s
-step_names p choice i r may s = same_slots r _ refl refl refl s
+step_names p choice i r may s = names_stay r (step p choice i r).state (step_gives p choice i r may) s

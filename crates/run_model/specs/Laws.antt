@@ -31,7 +31,7 @@ use Rattle.run_model.specs.Faults.{WUsable, brigade_fault, fault_want, fault, se
 use Rattle.run_model.specs.Steps.{Choice, step, step_at_end, current, aside_named, delivered, lacks_names, names_of, pool_cleared, pool_destroyed}
 use Rattle.run_model.specs.Connection.{Connection, opened, bucket_of, named_from, data_behind_eos, has_range, brings, breaks, steps}
 use Rattle.run_model.specs.Runs.{Answer, Refused, Step, World, Before, There, Closed, IfThere, happens, IsDue, step_of, IsRun, GoesOn, EndsRun}
-use Rattle.run_model.specs.Sound.{SoundNames, SoundBuckets, SoundPools, Sound, brigade_name, brigade_pool}
+use Rattle.run_model.specs.Sound.{NamesStep, SoundNames, SoundBuckets, SoundPools, Sound, brigade_name, brigade_pool}
 use Rattle.run_model.specs.declared.bucket.Kind.TheVariants as kind
 use Rattle.run_model.specs.declared.bucket.Home.{Home}
 use Rattle.run_model.specs.declared.bucket.Home.TheVariants as home
@@ -51,7 +51,16 @@ pub record MayExecute (p : Program) (r : Configuration) (i : Instr) : Type 0 whe
   pub faultless : fault p r i ≡ None
   pub names_last : lacks_names r i ≡ false
 
--- A step without a fault keeps each name one bucket's, and new names new.
+-- A step without a fault leaves of each name that was given out no more buckets than there were, and gives each new name
+-- once.
+abbrev pub StepGivesNames : Type 0
+StepGivesNames = (p : Program) (choice : Choice) (i : Instr) (r : Configuration) → MayExecute p r i → NamesStep r (step p choice i r).state
+
+-- Such a change keeps each name one bucket's, and new names new.
+abbrev pub NamesStaySingle : Type 0
+NamesStaySingle = (r new : Configuration) → NamesStep r new → SoundNames r → SoundNames new
+
+-- So does a step without a fault.
 abbrev pub StepKeepsNames : Type 0
 StepKeepsNames = (p : Program) (choice : Choice) (i : Instr) (r : Configuration) → MayExecute p r i → SoundNames r → SoundNames (step p choice i r).state
 
@@ -144,7 +153,8 @@ changes_pools i = is_clear i
 
 -- What an instruction does not name is as before: other brigades, pool variables and numbers, and but for a pass or a
 -- return also whether an EOS was passed, and the call. Pools change by their own instructions and by a save; labels are
--- run and files closed by clears alone; else only names are given out.
+-- run and files closed by clears alone; else only names are given out. The place in the code is as before (the host sets
+-- it), and so is the call's name, but for a return.
 pub record ChangesOnly (i : Instr) (r new : Configuration) : Type 0 where
   pub brigades : (k : ℕ) → may_change i k ≡ false → new.instance.brigades k ≡ r.instance.brigades k
   pub pools : (k : ℕ) → may_change_pool i k ≡ false → new.instance.pools k ≡ r.instance.pools k
@@ -159,6 +169,8 @@ pub record ChangesOnly (i : Instr) (r new : Configuration) : Type 0 where
   pub files : is_clear i ≡ false → new.shared.files ≡ r.shared.files
   pub names : new.shared.next ≡ r.shared.next + names_of i
   pub output : new.out ≡ r.out
+  pub pc : new.pc ≡ r.pc
+  pub call_name : is_return i ≡ false → new.call.name ≡ r.call.name
 
 abbrev pub StepChangesOnly : Type 0
 StepChangesOnly = (p : Program) (choice : Choice) (i : Instr) (r : Configuration) → ChangesOnly i r (step p choice i r).state

@@ -1,5 +1,5 @@
 -- What is true of each run: every name once, new names new, buckets as their kinds have them, brigades on live pools.
-use Rattle.std.specs.Prelude.{◌≡◌, ◌≢◌, ◌∷◌, ℕ, zero, suc, ◌+◌, ◌^◌, ◌<◌, ◌≤◌, true, ◌==◌, List, Option, Some, None, All, count_by}
+use Rattle.std.specs.Prelude.{◌⊎◌, ◌≡◌, ◌≢◌, ◌∷◌, ℕ, zero, suc, ◌+◌, ◌^◌, ◌<◌, ◌≤◌, true, ◌==◌, List, Option, Some, None, All, count_by}
 use Rattle.run_model.specs.declared.bucket.NamedBucket.{NamedBucket}
 use Rattle.run_model.specs.declared.bucket.BrigadeVar.{BrigadeVar}
 use Rattle.run_model.specs.declared.bucket.BrigadeVar.TheVariants as var
@@ -42,6 +42,21 @@ pub record SoundNames (r : Configuration) : Type 0 where
   pub given : (b n : ℕ) → brigade_name (r.instance.brigades b) ≡ Some n → n < r.shared.next
   pub limit : r.shared.next < 2 ^ 64
   pub slots : (b : ℕ) → 9 ≤ b → r.instance.brigades b ≡ var.Null
+
+-- What a change does to names, said of what was there and of what is new. rises, limit: names rise, and stay below 2^64.
+-- old: a name that was given out has no more buckets than before. born: one that was not, and was no bucket's, has one at
+-- most. fresh: one that is still not given out has none. named: a brigade's name was in that variable before, or is new.
+-- apart: of two variables that hold one name, one held it before, or they are one. slots: a variable from 9 on stays null.
+pub record NamesStep (r new : Configuration) : Type 0 where
+  pub rises : r.shared.next ≤ new.shared.next
+  pub limit : new.shared.next < 2 ^ 64
+  pub old : (n : ℕ) → n < r.shared.next → count new n ≤ count r n
+  pub born : (n : ℕ) → r.shared.next ≤ n → count r n ≡ 0 → count new n ≤ 1
+  pub fresh : (n : ℕ) → new.shared.next ≤ n → count r n ≡ 0 → count new n ≡ 0
+  pub named : (b n : ℕ) → brigade_name (new.instance.brigades b) ≡ Some n → (brigade_name (r.instance.brigades b) ≡ Some n) ⊎ ((r.shared.next ≤ n) × (n < new.shared.next))
+  pub apart : (b c n : ℕ) → brigade_name (new.instance.brigades b) ≡ Some n → brigade_name (new.instance.brigades c) ≡ Some n
+      → (brigade_name (r.instance.brigades b) ≡ Some n) ⊎ ((brigade_name (r.instance.brigades c) ≡ Some n) ⊎ (b ≡ c))
+  pub slots : (b : ℕ) → 9 ≤ b → r.instance.brigades b ≡ var.Null → new.instance.brigades b ≡ var.Null
 
 -- Content and home of each bucket fit its kind.
 pub record SoundBuckets (r : Configuration) : Type 0 where

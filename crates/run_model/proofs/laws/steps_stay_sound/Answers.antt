@@ -1,8 +1,15 @@
-use Rattle.run_model.proofs.StepNames.{step_names}
+use Rattle.run_model.proofs.Names.{names_stay}
+use Rattle.run_model.proofs.StepNames.{step_gives, step_names}
 use Rattle.run_model.proofs.StepBuckets.{step_buckets}
 use Rattle.run_model.proofs.StepPools.{step_pools}
 use Rattle.run_model.proofs.SoundRuns.{at_end_sound}
 use Rattle.run_model.proofs.laws.steps_stay_sound.Goals as goal
+
+pub returns-clause-new_names : goal.returns-clause-new_names
+returns-clause-new_names c = step_gives
+
+pub returns-clause-single : goal.returns-clause-single
+returns-clause-single c = names_stay
 
 pub returns-clause-names : goal.returns-clause-names
 returns-clause-names c = step_names
