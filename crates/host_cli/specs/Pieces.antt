@@ -47,15 +47,9 @@ unfoldable pub text_at : List ℕ → Option PieceRead
 text_at bytes = option_and_then (λ k. text_of_kind k bytes) (kind_at bytes)
 
 -- a piece that is a word alone
-abbrev pub word_piece : List ℕ → Piece → List ℕ → Option PieceRead
+unfoldable pub word_piece : List ℕ → Piece → List ℕ → Option PieceRead
 word_piece word p bytes =
     if starts_with nat_eq bytes word && is_parted (drop (length word) bytes) then Some (record { piece = script_piece.Ready p; used = length word }) else None
-
-unfoldable pub eos_at : List ℕ → Option PieceRead
-eos_at bytes = word_piece (codes " eos") piece.Eos bytes
-
-unfoldable pub flush_at : List ℕ → Option PieceRead
-flush_at bytes = word_piece (codes " flush") piece.Flush bytes
 
 -- a range of a file, where the name and both numbers are there
 abbrev pub range_of : List ℕ → Option ℕ → Option ℕ → ℕ → Option PieceRead
@@ -83,7 +77,7 @@ or_else (Some r) second = Some r
 
 -- the piece that stands after a space
 unfoldable pub piece_at : List ℕ → Option PieceRead
-piece_at bytes = or_else (eos_at bytes) (or_else (flush_at bytes) (or_else (range_at bytes) (text_at bytes)))
+piece_at bytes = or_else (word_piece (codes " eos") piece.Eos bytes) (or_else (word_piece (codes " flush") piece.Flush bytes) (or_else (range_at bytes) (text_at bytes)))
 
 -- a piece takes at least a byte, and no more than there are
 pub record IsWithin (r : PieceRead) (bytes : List ℕ) : Type 0 where

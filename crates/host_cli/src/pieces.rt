@@ -2,7 +2,7 @@
 
 ghost use Rattle.std.specs.Prelude.{◌≡◌, ◌<◌, ◌≤◌, ◌+◌, ◌^◌, true, nat_eq, length, IfOk, IfSome};
 ghost use Rattle.std.specs.List.{starts_with};
-ghost use Rattle.host_cli.specs.Pieces.{word_of, piece_of, kind_at, text_of_kind, text_at, eos_at, flush_at, range_at, range_from, or_else, piece_at, pieces_of, IsWithin};
+ghost use Rattle.host_cli.specs.Pieces.{word_of, piece_of, kind_at, text_of_kind, text_at, word_piece, range_at, range_from, or_else, piece_at, pieces_of, IsWithin};
 
 use crate::words::{after_number, copied, is_parted, number_at};
 use module_lang::text::{after_token, token};
@@ -121,31 +121,19 @@ fn text_at(alloc: Global, bytes: &[u8]) -> Result<Option<PieceRead>, AllocError>
     }
 }
 
-#[tactic(auto, unfolding(crate::specs::Pieces::eos_at))]
-fn eos_at(bytes: &[u8]) -> Option<PieceRead>
-    ensures value { result ≡ eos_at bytes.now }
+/// A piece that is a word alone.
+#[tactic(auto, unfolding(crate::specs::Pieces::word_piece))]
+fn word_piece(bytes: &[u8], word: &[u8], piece: Piece) -> Option<PieceRead>
+    requires { 0 < length word.now }
+    ensures value { result ≡ word_piece word.now piece bytes.now }
     ensures within { IfSome result (λ r. IsWithin r bytes.now) }
 {
-    if !bytes.starts_with(b" eos") || !is_parted(&bytes[4..]) {
+    if !bytes.starts_with(word) || !is_parted(&bytes[word.len()..]) {
         return None;
     }
     Some(PieceRead {
-        piece: ScriptPiece::Ready(Piece::Eos),
-        used: 4,
-    })
-}
-
-#[tactic(auto, unfolding(crate::specs::Pieces::flush_at))]
-fn flush_at(bytes: &[u8]) -> Option<PieceRead>
-    ensures value { result ≡ flush_at bytes.now }
-    ensures within { IfSome result (λ r. IsWithin r bytes.now) }
-{
-    if !bytes.starts_with(b" flush") || !is_parted(&bytes[6..]) {
-        return None;
-    }
-    Some(PieceRead {
-        piece: ScriptPiece::Ready(Piece::Flush),
-        used: 6,
+        piece: ScriptPiece::Ready(piece),
+        used: word.len(),
     })
 }
 
@@ -202,10 +190,10 @@ fn piece_at(alloc: Global, bytes: &[u8]) -> Result<Option<PieceRead>, AllocError
     ensures value { IfOk result (λ r. r ≡ piece_at bytes.now) }
     ensures within { IfOk result (λ r. IfSome r (λ r. IsWithin r bytes.now)) }
 {
-    if let Some(read) = eos_at(bytes) {
+    if let Some(read) = word_piece(bytes, b" eos", Piece::Eos) {
         return Ok(Some(read));
     }
-    if let Some(read) = flush_at(bytes) {
+    if let Some(read) = word_piece(bytes, b" flush", Piece::Flush) {
         return Ok(Some(read));
     }
     named_at(alloc, bytes)
