@@ -1,5 +1,5 @@
 -- What is true of the rings between two calls is true after each.
-use Rattle.std.proofs.Common.{◌≡◌, ℕ, suc, ◌+◌, ◌<◌, ◌≤◌, ◌==◌, ◌⊎◌, Bool, true, false, ◌||◌, if◌then◌else◌, Option, None, Some, is_some, List, [], ◌∷◌, ◌++◌, take, drop, length, refl, ap, sym, ◌∙◌, arith, inl, inr, get_or, append_assoc, zero-add}
+use Rattle.std.proofs.Common.{◌≡◌, ℕ, suc, ◌+◌, ◌-◌, ◌^◌, ◌<◌, ◌≤◌, ◌==◌, ◌⊎◌, Bool, true, false, ◌||◌, if◌then◌else◌, Option, None, Some, is_some, List, [], ◌∷◌, ◌++◌, take, drop, length, refl, ap, sym, ◌∙◌, arith, inl, inr, get_or, append_assoc, zero-add}
 use Rattle.std.proofs.lemmas.Bool.{cases_eq, cases_Bool, eqb-true, and_parts}
 use Rattle.std.specs.Option.{option_map}
 use Rattle.bucket_ring.specs.declared.names.BucketId.{BucketId}
@@ -49,6 +49,7 @@ module _ {T : Type 0} where
     young = λ j h. kept.young j (was_there j h);
     births = λ i j hi hj e. kept.births i j (was_there i hi) (was_there j hj) e;
     rings = λ r h. kept.rings r (was_ring r h);
+    limit = kept.limit;
   }
 
   upd_some : (lists new : ℕ → Option (List (BucketId × T))) (q : ℕ) (w : Option (List (BucketId × T))) → ((n : ℕ) → new n ≡ upd lists q w n) → (is_some w ≡ true → is_some (lists q) ≡ true) → (r : ℕ) → is_some (new r) ≡ true → is_some (lists r) ≡ true
@@ -112,7 +113,7 @@ module _ {T : Type 0} where
             ]
 
   module _ (at new_at : BucketId → Option ℕ) (lists new : ℕ → Option (List (BucketId × T))) (r : ℕ) (spot : Spot) (id : BucketId) (x : T) (alone : List (BucketId × T)) (alone_is : alone ≡ (id, x) ∷ []) (lists_as : (n : ℕ) → new n ≡ on r (placed spot alone) lists n) (there : is_some (lists r) ≡ true)
-      (at_new : (j : BucketId) → new_at j ≡ (if same id j then Some r else at j)) (kept : IsKept at lists id.birth) where
+      (at_new : (j : BucketId) → new_at j ≡ (if same id j then Some r else at j)) (kept : IsKept at lists id.birth) (unspent : id.birth < 2 ^ 64 - 1) where
     lists_new : (n : ℕ) → new n ≡ on r (placed spot ((id, x) ∷ [])) lists n
     lists_new n = lists_as n ∙ ap (λ a. on r (placed spot a) lists n) alone_is
 
@@ -172,11 +173,12 @@ module _ {T : Type 0} where
       young = still_young;
       births = still_births;
       rings = λ n h. let named : n < id.birth = kept.rings n (upd_some lists new r (option_map (placed spot ((id, x) ∷ [])) (lists r)) lists_new (λ h. there) n h) in omega arith;
+      limit = omega (arith, unspent);
     }
 
   -- a ring is new
-  pub kept_ring : (at : BucketId → Option ℕ) (lists new : ℕ → Option (List (BucketId × T))) (next : ℕ) → ((n : ℕ) → new n ≡ upd lists next (Some []) n) → IsKept at lists next → IsKept at new (suc next)
-  kept_ring at lists new next lists_new kept = record {
+  pub kept_ring : (at : BucketId → Option ℕ) (lists new : ℕ → Option (List (BucketId × T))) (next : ℕ) → ((n : ℕ) → new n ≡ upd lists next (Some []) n) → next < 2 ^ 64 - 1 → IsKept at lists next → IsKept at new (suc next)
+  kept_ring at lists new next lists_new unspent kept = record {
     counted = λ j r. count j r;
     young = λ j h. let young : j.birth < next = kept.young j h in omega arith;
     births = kept.births;
@@ -184,6 +186,7 @@ module _ {T : Type 0} where
       | inl e ↦ omega arith
       | inr ne ↦ let named : r < next = kept.rings r (sym (ap is_some (lists_new r ∙ upd_off lists next (Some []) r ne)) ∙ h) in omega arith
     ];
+    limit = omega (arith, unspent);
   } where
     empty : (j : BucketId) → times j (list_at lists next) ≡ 0
     empty j =

@@ -1,5 +1,5 @@
 -- What is true of rings between two calls, and what follows from it.
-use Rattle.std.specs.Prelude.{◌≡◌, ℕ, ◌<◌, ◌==◌, true, if◌then◌else◌, Option, None, Some, is_some, List}
+use Rattle.std.specs.Prelude.{◌≡◌, ℕ, ◌<◌, ◌^◌, ◌==◌, true, if◌then◌else◌, Option, None, Some, is_some, List}
 use Rattle.bucket_ring.specs.declared.names.BucketId.{BucketId}
 use Rattle.bucket_ring.specs.Lists.{times, list_at}
 
@@ -14,3 +14,4 @@ pub record IsKept {T : Type 0} (at : BucketId → Option ℕ) (lists : ℕ → O
   pub young : (id : BucketId) → is_some (at id) ≡ true → id.birth < next
   pub births : (i j : BucketId) → is_some (at i) ≡ true → is_some (at j) ≡ true → i.birth ≡ j.birth → i.slot ≡ j.slot
   pub rings : (r : ℕ) → is_some (lists r) ≡ true → r < next
+  pub limit : next < 2 ^ 64

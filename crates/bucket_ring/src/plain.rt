@@ -119,6 +119,8 @@ impl<T: Drop> Rings<T> for PlainRings<T> {
 
     ghost rings = { λ s. s.kept.rings };
 
+    ghost limit = { λ s. s.kept.limit };
+
     fn new(alloc: Global, first: u64) -> Self {
         PlainRings {
             alloc,

@@ -189,4 +189,7 @@ pub trait Rings<T> {
 
     /// A ring was named before.
     ghost rings: { (s : Self) (r : ℕ) → is_some (lists s r) ≡ true → r < next_name s };
+
+    /// No name is past `u64::MAX`.
+    ghost limit: { (s : Self) → next_name s < 2 ^ 64 };
 }
