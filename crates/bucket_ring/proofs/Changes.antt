@@ -1,6 +1,6 @@
 -- What is true of the rings between two calls is true after each.
 use Rattle.std.proofs.Common.{◌≡◌, ℕ, suc, ◌+◌, ◌-◌, ◌^◌, ◌<◌, ◌≤◌, ◌==◌, ◌⊎◌, Bool, true, false, ◌||◌, if◌then◌else◌, Option, None, Some, is_some, List, [], ◌∷◌, ◌++◌, take, drop, length, refl, ap, sym, ◌∙◌, arith, inl, inr, get_or, append_assoc, zero-add}
-use Rattle.std.proofs.lemmas.Bool.{cases_eq, cases_Bool, eqb-true, and_parts}
+use Rattle.std.proofs.lemmas.Bool.{cases_eq, cases_Bool}
 use Rattle.std.specs.Option.{option_map}
 use Rattle.bucket_ring.specs.declared.names.BucketId.{BucketId}
 use Rattle.bucket_ring.specs.declared.entries.Spot.{Spot}
@@ -8,7 +8,7 @@ use Rattle.bucket_ring.specs.Lists.{upd, on, list_at, same, times, front, rest, 
 use Rattle.bucket_ring.specs.Spots.{placed, picked}
 use Rattle.bucket_ring.specs.Names.{has, forgotten, moved}
 use Rattle.bucket_ring.specs.Kept.{once_in, IsKept}
-use Rattle.bucket_ring.specs.Laws.{once_some}
+use Rattle.bucket_ring.specs.Laws.{once_some, same_slot, same_birth, same_name}
 use Rattle.std.proofs.lemmas.List.{take-append-drop, length-append}
 use Rattle.std.proofs.Math.ListN.{set}
 use Rattle.std.proofs.lemmas.Option.{same_Some}
@@ -26,16 +26,6 @@ option_cases (Some x) = inr (x, refl)
 pub mapped_some : {X : Type 0} (f : X → X) (o : Option X) → is_some (option_map f o) ≡ is_some o
 mapped_some f None = refl
 mapped_some f (Some x) = refl
-
--- two names of one bucket are equal
-pub same_slot : (i j : BucketId) → same i j ≡ true → i.slot ≡ j.slot
-same_slot i j e = eqb-true i.slot j.slot (and_parts (i.slot == j.slot) (i.birth == j.birth) e).0
-
-pub same_birth : (i j : BucketId) → same i j ≡ true → i.birth ≡ j.birth
-same_birth i j e = eqb-true i.birth j.birth (and_parts (i.slot == j.slot) (i.birth == j.birth) e).1
-
-pub same_name : (i j : BucketId) → same i j ≡ true → i ≡ j
-same_name i j e = ap (λ n. let id : BucketId = record { slot = n; birth = i.birth } in id) (same_slot i j e) ∙ ap (λ n. let id : BucketId = record { slot = j.slot; birth = n } in id) (same_birth i j e)
 
 pair_is : {T : Type 0} (b : BucketId × T) (id : BucketId) (x : T) → b.0 ≡ id → b.1 ≡ x → b ≡ (id, x)
 pair_is b id x e f = ap (λ i. (i, b.1)) e ∙ ap (λ y. (id, y)) f

@@ -1,11 +1,21 @@
 -- What a bucket that is in a ring, and a ring that has a bucket, say of each other.
-use Rattle.std.specs.Prelude.{◌≡◌, ℕ, suc, ◌<◌, Bool, true, false, if◌then◌else◌, Option, None, Some, Ok, is_some, drop, List, [], ◌∷◌, refl}
+use Rattle.std.specs.Prelude.{◌≡◌, ℕ, suc, ◌<◌, Bool, true, false, if◌then◌else◌, Option, None, Some, Ok, is_some, drop, ◌==◌, List, [], ◌∷◌, refl}
 use Rattle.std.specs.Option.{option_map_or}
 use Rattle.std.proofs.Common.{◌∙◌, ap, arith, inl, inr}
-use Rattle.std.proofs.lemmas.Bool.{cases_eq, eq-eqb, ne_eqb}
+use Rattle.std.proofs.lemmas.Bool.{cases_eq, eq-eqb, ne_eqb, eqb-true, and_parts}
 use Rattle.bucket_ring.specs.declared.names.BucketId.{BucketId}
 use Rattle.bucket_ring.specs.Lists.{same, times, rest, found, list_at, payload_of, first_of, next_in, or_end}
 use Rattle.bucket_ring.specs.Kept.{once_in, IsKept}
+
+-- two names of one bucket are equal
+pub same_slot : (i j : BucketId) → same i j ≡ true → i.slot ≡ j.slot
+same_slot i j e = eqb-true i.slot j.slot (and_parts (i.slot == j.slot) (i.birth == j.birth) e).0
+
+pub same_birth : (i j : BucketId) → same i j ≡ true → i.birth ≡ j.birth
+same_birth i j e = eqb-true i.birth j.birth (and_parts (i.slot == j.slot) (i.birth == j.birth) e).1
+
+pub same_name : (i j : BucketId) → same i j ≡ true → i ≡ j
+same_name i j e = ap (λ n. let id : BucketId = record { slot = n; birth = i.birth } in id) (same_slot i j e) ∙ ap (λ n. let id : BucketId = record { slot = j.slot; birth = n } in id) (same_birth i j e)
 
 pub once_here : (r : ℕ) → once_in r (Some r) ≡ 1
 once_here r = rw (eq-eqb r r refl) refl
@@ -56,7 +66,8 @@ module _ {T : Type 0} where
     pub ring_there : at id ≡ Some r → is_some (lists r) ≡ true
     ring_there e = listed_some id (lists r) (found_in e)
 
-same_self : (id : BucketId) → same id id ≡ true
+-- each name is that of its bucket
+pub same_self : (id : BucketId) → same id id ≡ true
 same_self id = rw (eq-eqb id.slot id.slot refl, eq-eqb id.birth id.birth refl) refl
 
 one_more : (s : Bool) (n : ℕ) → 0 < n → 0 < (if s then suc n else n)
