@@ -9,16 +9,16 @@ use Rattle.run_model.specs.declared.fault.FaultKind.{FaultKind}
 use Rattle.run_model.specs.declared.fault.FaultKind.TheVariants.{F1}
 use Rattle.run_model.specs.Pools.{created, is_live}
 use Rattle.run_model.specs.State.{Configuration, set_pool, with_pools, pool_named, name_in}
-use Rattle.run_model.specs.Faults.{has_pool, is_live_named, or_else}
+use Rattle.run_model.specs.Faults.{has_pool_at, has_pool, is_live_named, or_else}
 use Rattle.run_model.specs.Steps.{on_pool, do_pcreate}
 use Rattle.module_run.specs.Made.{pool_made}
 
 pub named_live : (r : Configuration) (p : PoolRef) (n : ℕ) → has_pool r p ≡ true → pool_named r p ≡ Some n → is_live r.shared.pools n ≡ true
-unfolding has_pool
+unfolding has_pool_at
 named_live r p n live e = ap (is_live_named r.shared.pools) (sym e) ∙ live
 
 pub none_dead : (r : Configuration) (p : PoolRef) → has_pool r p ≡ true → pool_named r p ≡ None → ⊥
-unfolding has_pool
+unfolding has_pool_at
 none_dead r p live e = false≢true (ap (is_live_named r.shared.pools) (sym e) ∙ live)
 
 wanted : (b : Bool) (rest : Option FaultKind) → or_else (cond b None (Some F1)) rest ≡ None → b ≡ true

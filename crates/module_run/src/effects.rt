@@ -56,7 +56,7 @@ pub(crate) fn unlabel(code: &Module, machine: &mut Machine, pool: PoolRef, text:
 }
 
 /// Makes an empty brigade on its declared pool.
-#[tactic(auto, unfolding(run_model::specs::State::pool_named))]
+#[tactic(auto, unfolding(run_model::specs::State::named_at))]
 pub(crate) fn create(alloc: Global, code: &Module, machine: &mut Machine, o: u8)
     requires slot { o < 8 }
     requires declared { o < length code.now.brigades }

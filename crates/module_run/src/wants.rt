@@ -99,7 +99,7 @@ fn want_send(machine: &Machine, b: u8) -> Option<FaultKind>
     }
 }
 
-#[tactic(auto, unfolding(run_model::specs::Faults::is_stray, run_model::specs::State::is_own, crate::specs::Seen::seen_machine))]
+#[tactic(auto, unfolding(run_model::specs::Faults::is_stray, run_model::specs::State::is_own_at, crate::specs::Seen::seen_machine))]
 fn is_stray(machine: &Machine, home: Home) -> bool
     ensures { result ≡ is_stray (seen_machine machine.now) home }
 {

@@ -22,8 +22,8 @@ use Rattle.run_model.specs.Pools.{Pools, is_empty, is_live, is_in, is_under, cre
 use Rattle.run_model.specs.RunOrder.{IsPoolMap, killed}
 use Rattle.run_model.specs.Buckets.{cleared_bucket}
 use Rattle.run_model.specs.Clearing.{is_reached, cleared_var, run_down}
-use Rattle.run_model.specs.State.{Configuration, items_of, set_pool, with_pools, set_brigade, set_number, name_in, pool_named}
-use Rattle.run_model.specs.Faults.{is_live_named, has_pool, or_else}
+use Rattle.run_model.specs.State.{named_at, Configuration, items_of, set_pool, with_pools, set_brigade, set_number, name_in, pool_named}
+use Rattle.run_model.specs.Faults.{has_pool_at, is_live_named, has_pool, or_else}
 use Rattle.run_model.specs.Steps.{do_create, do_pass, do_return, do_clean, cleaned, handed_over, with_items, returned_var, made_on, new_ref, saved_into, pool_cleared, pool_destroyed, label_registered, label_killed, text_of, current}
 use Rattle.run_model.specs.Connection.{Connection, opened, begun, brought_in, file_taken, ended, takes}
 use Rattle.run_model.specs.Runs.{Before}
@@ -49,7 +49,7 @@ unfolding is_live
 same_live ps new n same = ap (λ (path : List ℕ). not (is_empty path)) same
 
 named_same : (r new : Configuration) → new.instance.pools ≡ r.instance.pools → new.shared.conn ≡ r.shared.conn → new.shared.req ≡ r.shared.req → (d : PoolRef) → pool_named new d ≡ pool_named r d
-unfolding pool_named
+unfolding named_at
 named_same r new own conn req pool.Conn = ap (λ (n : ℕ). Some n) conn
 named_same r new own conn req pool.Req = req
 named_same r new own conn req (pool.Own q) = ap (λ (g : ℕ → PoolVar). name_in (g q)) own
@@ -217,7 +217,7 @@ some_same : (a b : ℕ) → Some a ≡ Some b → a ≡ b
 some_same a b e = cc
 
 ended_declared : (p : Program) (c : Connection) (req : ℕ) → c.state.shared.req ≡ Some req → Sound c.state → AsDeclared p c.state → AsDeclared p (ended (Some req) c).state
-unfolding run_down with_pools pool_named
+unfolding run_down with_pools named_at
 ended_declared p c req is sound s =
     went p req c.state (ended (Some req) c).state sound.pools.formed refl (λ k off. (destroyed_apart req c.state.shared.pools k off).0)
     (λ k under live. absurd (not_live (destroyed req c.state.shared.pools) k (destroyed_under req c.state.shared.pools k under).0 live))
@@ -237,7 +237,7 @@ ended_declared p c req is sound s =
 -- names of what is live stay where the variable q, which names no live pool, is written
 named_beside : (r new : Configuration) (q next : ℕ) → has_pool r (pool.Own q) ≡ false → new.instance.pools ≡ upd r.instance.pools q (poolvar.Made next) → new.shared.conn ≡ r.shared.conn → new.shared.req ≡ r.shared.req
     → (d : PoolRef) (m : ℕ) → pool_named r d ≡ Some m → is_live r.shared.pools m ≡ true → pool_named new d ≡ Some m
-unfolding pool_named has_pool
+unfolding named_at has_pool_at
 named_beside r new q next none own conn req pool.Conn m e live = ap (λ (n : ℕ). Some n) conn ∙ e
 named_beside r new q next none own conn req pool.Req m e live = req ∙ e
 named_beside r new q next none own conn req (pool.Own k) m e live = elim (cases_eq k q) [
@@ -351,7 +351,7 @@ saved_declared p o b target r s =
     (at_two KeepsPool r.instance.brigades b o (with_items [] (r.instance.brigades b)) (with_items _ (r.instance.brigades o)) (filled_on [] (r.instance.brigades b)) (filled_on _ (r.instance.brigades o)) same_on) s
 
 created_declared : (p : Program) (o : ℕ) (r : Configuration) → o ≢ 8 → has_pool r (pool_of_brigade p o) ≡ true → AsDeclared p r → AsDeclared p (do_create p o r)
-unfolding has_pool
+unfolding has_pool_at
 created_declared p o r ne lives s =
     let next : Configuration = record r { shared = record r.shared { next = r.shared.next + 1 } } in
     written_declared p o (record { name = r.shared.next; on = pool_named r (pool_of_brigade p o); mark = Usable; items = [] }) next
@@ -401,7 +401,7 @@ opened_declared p fs = record {
 }
 
 begun_declared : (p : Program) (c : Connection) → is_some c.state.shared.req ≡ false → Sound c.state → AsDeclared p c.state → AsDeclared p (begun p c).state
-unfolding pool_named
+unfolding named_at
 begun_declared p c none sound s =
     let ps = c.state.shared.pools in
     let stays = λ (n : ℕ) (lt : n < ps.next). created_kept c.state.shared.conn ps n lt in

@@ -6,7 +6,7 @@ use Rattle.module_lang.specs.Program.{Program, pool_of_pool}
 use Rattle.run_model.specs.declared.bucket.PoolVar.{PoolVar}
 use Rattle.run_model.specs.declared.bucket.PoolVar.TheVariants as poolvar
 use Rattle.run_model.specs.Pools.{created}
-use Rattle.run_model.specs.State.{Configuration, set_pool, with_pools, name_in, pool_named}
+use Rattle.run_model.specs.State.{named_at, Configuration, set_pool, with_pools, name_in, pool_named}
 use Rattle.run_model.specs.Steps.{on_pool, do_pcreate, value_of, is_full, do_put}
 use Rattle.run_model.specs.Sound.{SoundPools}
 use Rattle.run_model.proofs.Formed.{path_live}
@@ -42,7 +42,7 @@ made_under_named P p q r none some = by_parent (pool_named r (pool_of_pool p q))
 
 -- the variable of a pool that is named
 pub own_named : (q n : ℕ) (r : Configuration) → pool_named r (pool.Own q) ≡ Some n → r.instance.pools q ≡ poolvar.Made n
-unfolding pool_named
+unfolding named_at
 own_named q n r e = in_var (r.instance.pools q) e where
   in_var : (v : PoolVar) → name_in v ≡ Some n → v ≡ poolvar.Made n
   in_var poolvar.Null e = absurd (cc)

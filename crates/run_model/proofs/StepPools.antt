@@ -20,7 +20,7 @@ use Rattle.run_model.specs.Pools.{Pools, is_live, created, registered}
 use Rattle.run_model.specs.RunOrder.{IsPoolMap, killed}
 use Rattle.run_model.specs.State.{Configuration, items_of, set_pool, with_pools, set_brigade, set_number, pool_named}
 use Rattle.run_model.specs.Clearing.{run_down}
-use Rattle.run_model.specs.Faults.{has_pool, is_live_named, or_else}
+use Rattle.run_model.specs.Faults.{has_pool_at, has_pool, is_live_named, or_else}
 use Rattle.run_model.specs.Steps.{do_create, do_clean, do_concat, do_pass, do_return, cleaned, with_items, handed_over, returned_var, do_pcreate, pool_cleared, pool_destroyed, label_registered, label_killed, text_of, new_ref, all_referred, saved_into, made_on, names_of, pool_names_of, is_spent, lacks_names}
 use Rattle.run_model.specs.Sound.{brigade_pool, SoundPools}
 use Rattle.run_model.specs.Laws.{StepKeepsPools}
@@ -73,7 +73,7 @@ wanted_pool r d rest h = by_test (has_pool r d) rest h where
   by_test false rest h = absurd (cc)
 
 pub named_lives : (r : Configuration) (d : PoolRef) (n : ℕ) → has_pool r d ≡ true → pool_named r d ≡ Some n → is_live r.shared.pools n ≡ true
-unfolding has_pool
+unfolding has_pool_at
 named_lives r d n h e = let named : is_live_named r.shared.pools (pool_named r d) ≡ is_live r.shared.pools n = ap (is_live_named r.shared.pools) e in sym named ∙ h
 
 create_pools : (p : Program) (o : ℕ) (r : Configuration) → has_pool r (pool_of_brigade p o) ≡ true → SoundPools r → SoundPools (do_create p o r)

@@ -18,7 +18,6 @@ use std::alloc::AllocError;
 #[tactic(auto, unfolding(crate::specs::Seen::seen_machine))]
 impl Machine {
     /// The live pool that an operand names.
-    #[tactic(auto, using(crate::proofs::PoolNames::none_dead), unfolding(crate::specs::Seen::seen_machine))]
     fn live_pool(&self, pool: PoolRef) -> u64
         requires { has_pool (seen_machine self.now) pool ≡ true }
         ensures named { pool_named (seen_machine self.now) pool ≡ Some result }

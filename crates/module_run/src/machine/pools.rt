@@ -114,7 +114,7 @@ impl Machine {
     }
 
     /// The pool that an operand or a declaration names.
-    #[tactic(auto, unfolding(crate::specs::Seen::seen_machine, run_model::specs::State::pool_named))]
+    #[tactic(auto, unfolding(crate::specs::Seen::seen_machine, run_model::specs::State::named_at))]
     pub(crate) fn pool_named(&self, pool: PoolRef) -> Option<u64>
         ensures { result ≡ pool_named (seen_machine self.now) pool }
     {
@@ -126,7 +126,7 @@ impl Machine {
     }
 
     /// Whether an operand names a live pool.
-    #[tactic(auto, unfolding(crate::specs::Seen::seen_machine, run_model::specs::Faults::has_pool))]
+    #[tactic(auto, unfolding(crate::specs::Seen::seen_machine, run_model::specs::Faults::has_pool_at))]
     pub(crate) fn has_pool(&self, pool: PoolRef) -> bool
         ensures { result ≡ has_pool (seen_machine self.now) pool }
     {
@@ -137,7 +137,7 @@ impl Machine {
     }
 
     /// Whether a pool is one that a pool variable names, the connection's or the open request's.
-    #[tactic(auto, unfolding(crate::specs::Seen::seen_machine, run_model::specs::State::is_own))]
+    #[tactic(auto, unfolding(crate::specs::Seen::seen_machine, run_model::specs::State::is_own_at))]
     pub(crate) fn is_own(&self, name: u64) -> bool
         ensures { result ≡ is_own (seen_machine self.now) name }
     {

@@ -3,7 +3,7 @@ use Rattle.std.proofs.Common.{◌≡◌, refl, sym, ap, ◌∙◌, subst}
 use Rattle.module_lang.specs.declared.instr.PoolRef.TheVariants as pool
 use Rattle.run_model.specs.declared.payload.Payload.{Payload}
 use Rattle.run_model.specs.Pools.{Pools, destroyed}
-use Rattle.run_model.specs.State.{Configuration, pool_named}
+use Rattle.run_model.specs.State.{named_at, Configuration, pool_named}
 use Rattle.run_model.specs.Steps.{pool_destroyed}
 use Rattle.pool_tree.specs.declared.tree.PoolTree.{PoolTree}
 use Rattle.pool_tree.specs.Tree.{map_of}
@@ -18,7 +18,7 @@ use Rattle.module_run.proofs.PoolNames.{done_to}
 use Rattle.module_run.proofs.machine.Machine.destroy_pool.Goals as goal
 
 pub destroy_in-ran-requires-clause-below : goal.destroy_in-ran-requires-clause-below
-unfolding seen_machine mapped pool_named
+unfolding seen_machine mapped named_at
 destroy_in-ran-requires-clause-below c =
     let m = c.args.self.now in
     let mid = c.prepare_clear.new.self in
@@ -26,7 +26,7 @@ destroy_in-ran-requires-clause-below c =
     not_top (map_of mid.pools) mid.req mid.pool_vars c.live_pool-pool.result (tree_formed mid.pools) mid.standing own.0
 
 pub invariant_of-self : goal.invariant_of-self
-unfolding seen_machine mapped pool_named
+unfolding seen_machine mapped named_at
 invariant_of-self c =
     let m = c.args.self.now in
     let mid = c.prepare_clear.new.self in
