@@ -29,7 +29,7 @@ use Rattle.module_lang.specs.declared.word.OperandKind.TheVariants as kind
 use Rattle.module_lang.specs.declared.word.Word.{Word}
 use Rattle.module_lang.proofs.LineLaws.{bind_ok, unless_ok, not_false}
 use Rattle.module_lang.proofs.NumberLaws.{constant_found, decimal_without}
-pub use Rattle.module_lang.proofs.OperandLaws.{chain}
+use Rattle.module_lang.proofs.OperandLaws.{chain}
 use Rattle.module_lang.proofs.OperandLaws.{cond_some, numbered_below}
 use Rattle.module_lang.proofs.QuoteLaws.{unquoted, place_unquoted}
 use Rattle.module_lang.proofs.SpellingLaws.{padded}

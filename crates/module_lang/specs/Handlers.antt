@@ -7,7 +7,6 @@ use Rattle.std.specs.BTreeSet.{BTreeSet, contains}
 use Rattle.module_lang.specs.Args.{made}
 pub use Rattle.module_lang.specs.Labels.{ends_open, has_name, is_lost, is_missing, is_named, label_of, last_goes_on, operand_label, place_from, place_of}
 use Rattle.module_lang.specs.Operands.{operand_place}
-pub use Rattle.module_lang.specs.Words.{op_goes_on}
 use Rattle.module_lang.specs.Words.{op_kinds}
 use Rattle.module_lang.specs.declared.arg.Arg.{Arg}
 use Rattle.module_lang.specs.declared.arg.Arg.TheVariants as arg
