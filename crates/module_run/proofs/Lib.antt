@@ -13,3 +13,4 @@ pub mod Opened
 pub mod Filling
 pub mod Ranges
 pub mod Referred
+pub mod OnLive

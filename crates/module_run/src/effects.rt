@@ -55,11 +55,12 @@ pub(crate) fn unlabel(code: &Module, machine: &mut Machine, pool: PoolRef, text:
     machine.remove_label(pool, code.text(text));
 }
 
-/// Makes an empty brigade on its declared pool.
+/// Makes an empty brigade on its declared pool, which is live.
 #[tactic(auto, unfolding(run_model::specs::State::named_at))]
 pub(crate) fn create(alloc: Global, code: &Module, machine: &mut Machine, o: u8)
     requires slot { o < 8 }
     requires declared { o < length code.now.brigades }
+    requires live { has_pool (seen_machine machine.old) (pool_of_brigade code.now o) ≡ true }
     requires unspent { is_spent (seen_machine machine.old).shared.next 1 ≡ false }
     ensures { seen_machine machine.new ≡ do_create code.now o (seen_machine machine.old) }
 {
@@ -80,7 +81,7 @@ pub(crate) fn clean(machine: &mut Machine, b: u8)
     requires { b < 9 }
     ensures { seen_machine machine.new ≡ do_clean b (seen_machine machine.old) }
 {
-    let mut var = machine.put(b, BrigadeVar::Null);
+    let mut var = machine.take(b);
     vars::clean(&mut var);
     machine.put(b, var);
 }
@@ -94,8 +95,8 @@ pub(crate) fn concat(machine: &mut Machine, a: u8, b: u8) -> Result<(), AllocErr
     ensures ok { OnOk result (seen_machine machine.new ≡ do_concat a b (seen_machine machine.old)) }
     ensures err { OnErr result (seen_machine machine.new ≡ seen_machine machine.old) }
 {
-    let mut from = machine.put(b, BrigadeVar::Null);
-    let mut to = machine.put(a, BrigadeVar::Null);
+    let mut from = machine.take(b);
+    let mut to = machine.take(a);
     let joined = vars::join(&mut to, &mut from);
     machine.put(b, from);
     machine.put(a, to);
@@ -116,7 +117,7 @@ pub(crate) fn pass(machine: &mut Machine, b: u8) -> Result<Status, AllocError>
     ensures ok { let r = seen_machine machine.old in OnOk result (seen_machine machine.new ≡ with_delivered (delivered r.out (items_of (r.instance.brigades b)) r.shared.files) (do_pass b r)) }
     ensures err { OnErr result (seen_machine machine.new ≡ seen_machine machine.old) }
 {
-    let mut var = machine.put(b, BrigadeVar::Null);
+    let mut var = machine.take(b);
     let ends = buckets::has_eos(vars::items(&var));
     let Ok(well) = machine.deliver(vars::items(&var)) else {
         machine.put(b, var);
@@ -133,7 +134,7 @@ fn end_homes(machine: &mut Machine, call: u64)
     ensures { seen_machine machine.new ≡ mapped (returned_var call) (seen_machine machine.old) }
 {
     for b in 0..9u8 {
-        let mut var = machine.put(b, BrigadeVar::Null);
+        let mut var = machine.take(b);
         vars::end_homes(&mut var, call);
         machine.put(b, var);
     }
@@ -145,7 +146,7 @@ pub(crate) fn end_call(machine: &mut Machine)
 {
     let call = machine.call();
     end_homes(machine, call);
-    machine.put(IN, BrigadeVar::Null);
+    machine.take(IN);
     machine.set_call(0);
 }
 

@@ -1,10 +1,10 @@
 //! What a step sees and changes of a connection.
 
-ghost use Rattle.std.specs.Prelude.{◌≡◌, ◌+◌, ◌<◌, [], false, slice_index_or, slice_set};
+ghost use Rattle.std.specs.Prelude.{◌≡◌, ◌+◌, ◌<◌, [], true, false};
 ghost use Rattle.run_model.specs.State.{set_brigade, fresh_call};
-ghost use Rattle.run_model.specs.Steps.{is_spent};
+ghost use Rattle.run_model.specs.Steps.{is_spent, made_on};
 ghost use Rattle.pool_tree.specs.Tree.{map_of};
-ghost use Rattle.module_run.specs.OwnPools.{IsStanding};
+ghost use Rattle.module_run.specs.OwnPools.{IsStanding, LieOnLive, on_live};
 
 mod files;
 mod numbers;
@@ -41,6 +41,7 @@ pub(crate) struct Machine {
     output: Seq<u8>,
     ended: bool,
     ghost standing: { IsStanding (map_of pools) req pool_vars },
+    ghost lying: { LieOnLive (map_of pools) brigades },
 }
 
 #[tactic(auto, unfolding(crate::specs::Seen::seen_machine, run_model::specs::State::set_brigade, run_model::specs::Steps::is_spent))]
@@ -55,22 +56,37 @@ impl Machine {
         &self.brigades[usize::from(b)]
     }
 
+    #[tactic(auto, using(crate::proofs::OnLive::lying_set), unfolding(crate::specs::Seen::seen_machine, run_model::specs::State::set_brigade, run_model::specs::Indexed::upd))]
     fn swap(&mut self, b: usize, var: BrigadeVar) -> BrigadeVar
-        requires { b < 9 }
-        ensures old { result ≡ slice_index_or self.old.brigades b BrigadeVar.Null }
-        ensures new { self.new ≡ record self.old { brigades = slice_set self.old.brigades b var } }
+        requires slot { b < 9 }
+        requires live { on_live (map_of self.old.pools) (made_on var) ≡ true }
+        ensures old { result ≡ (seen_machine self.old).instance.brigades b }
+        ensures new { seen_machine self.new ≡ set_brigade b var (seen_machine self.old) }
     {
         mem::replace(&mut self.brigades[b], var)
     }
 
-    /// Sets a brigade variable, and gives back what was in it.
+    /// Takes out what is in a brigade variable, which is null then.
     #[tactic(auto, unfolding(crate::specs::Seen::seen_machine, run_model::specs::State::set_brigade, run_model::specs::Indexed::upd))]
-    pub(crate) fn put(&mut self, b: u8, var: BrigadeVar) -> BrigadeVar
+    pub(crate) fn take(&mut self, b: u8) -> BrigadeVar
         requires { b < 9 }
         ensures old { result ≡ (seen_machine self.old).instance.brigades b }
-        ensures new { seen_machine self.new ≡ set_brigade b var (seen_machine self.old) }
+        ensures new { seen_machine self.new ≡ set_brigade b BrigadeVar.Null (seen_machine self.old) }
+        ensures pools { (seen_machine self.new).shared.pools ≡ (seen_machine self.old).shared.pools }
+        ensures live { on_live (seen_machine self.old).shared.pools (made_on result) ≡ true }
     {
-        self.swap(usize::from(b), var)
+        self.swap(usize::from(b), BrigadeVar::Null)
+    }
+
+    /// Sets a brigade variable. A brigade in it lies on a live pool, or on none.
+    #[tactic(auto, unfolding(crate::specs::Seen::seen_machine, run_model::specs::State::set_brigade, run_model::specs::Indexed::upd))]
+    pub(crate) fn put(&mut self, b: u8, var: BrigadeVar)
+        requires slot { b < 9 }
+        requires live { on_live (seen_machine self.old).shared.pools (made_on var) ≡ true }
+        ensures new { seen_machine self.new ≡ set_brigade b var (seen_machine self.old) }
+        ensures pools { (seen_machine self.new).shared.pools ≡ (seen_machine self.old).shared.pools }
+    {
+        self.swap(usize::from(b), var);
     }
 
     /// The number of the next instruction.

@@ -1,12 +1,13 @@
 //! Setting buckets aside.
 
-ghost use Rattle.std.specs.Prelude.{◌≡◌, ◌≢◌, ◌<◌, ◌++◌, [], ◌∷◌, map, filter_map, Some, IsTrue, IfOk, OnOk, OnErr};
+ghost use Rattle.std.specs.Prelude.{◌≡◌, ◌≢◌, ◌<◌, ◌++◌, [], ◌∷◌, true, map, filter_map, Some, IsTrue, IfOk, OnOk, OnErr};
 ghost use Rattle.run_model.specs.Pools.{Pools, is_live, registered};
 ghost use Rattle.run_model.specs.RunOrder.{killed};
 ghost use Rattle.run_model.specs.Payloads.{payload_eq};
 ghost use Rattle.run_model.specs.Steps.{is_above, aside_named, file_of, new_ref, all_referred, with_items, made_on, do_save};
 ghost use Rattle.run_model.specs.State.{items_of};
 ghost use Rattle.pool_tree.specs.Tree.{map_of};
+ghost use Rattle.module_run.specs.OwnPools.{on_live};
 ghost use Rattle.module_run.specs.Saved.{pools_saved, var_saved, var_emptied};
 ghost use Rattle.module_run.specs.Seen.{seen_machine};
 
@@ -234,6 +235,7 @@ pub(crate) fn save_vars(
     to: &mut BrigadeVar,
     from: &mut BrigadeVar,
 ) -> Result<(), AllocError>
+    requires { on_live (map_of pools.old) (made_on to.old) ≡ true }
     ensures ok { OnOk result (map_of pools.new ≡ pools_saved (made_on to.old) (items_of from.old) (map_of pools.old)) }
     ensures moved { OnOk result (to.new ≡ var_saved (made_on to.old) (items_of from.old) (map_of pools.old) to.old) }
     ensures emptied { OnOk result (from.new ≡ var_emptied (made_on to.old) from.old) }
@@ -247,10 +249,6 @@ pub(crate) fn save_vars(
     let Some(target) = brigade.on else {
         return Ok(());
     };
-    // A live brigade's pool is live.
-    if !pools.is_live(target) {
-        return Err(AllocError);
-    }
     save_brigade(alloc, pools, target, brigade, from)
 }
 
@@ -262,8 +260,8 @@ pub(crate) fn save(alloc: Global, machine: &mut Machine, o: u8, b: u8) -> Result
     ensures ok { OnOk result (seen_machine machine.new ≡ do_save o b (seen_machine machine.old)) }
     ensures err { OnErr result (seen_machine machine.new ≡ seen_machine machine.old) }
 {
-    let mut from = machine.put(b, BrigadeVar::Null);
-    let mut to = machine.put(o, BrigadeVar::Null);
+    let mut from = machine.take(b);
+    let mut to = machine.take(o);
     let saved = machine.save(alloc, &mut to, &mut from);
     machine.put(b, from);
     machine.put(o, to);

@@ -55,7 +55,7 @@ pub(super) fn add(runs: &mut Vec<Vec<(PoolId, Payload)>>, ran: Vec<(PoolId, Payl
 #[tactic(auto, unfolding(crate::specs::Seen::seen_machine))]
 impl Machine {
     /// A machine with these files before its first call. Without memory the files come back.
-    #[tactic(auto, using(crate::proofs::OwnPools::standing_first), unfolding(crate::specs::Seen::seen_machine))]
+    #[tactic(auto, using(crate::proofs::OwnPools::standing_first, crate::proofs::OnLive::lying_first), unfolding(crate::specs::Seen::seen_machine))]
     pub(crate) fn new(alloc: Global, files: MemFiles) -> Result<Machine, MemFiles>
         ensures ok { IfOk result (λ machine. seen_machine machine ≡ before_open (files_of files)) }
         ensures back { IfErr result (λ back. back ≡ files) }

@@ -1,9 +1,10 @@
 //! Saving a brigade of a machine.
 
-ghost use Rattle.std.specs.Prelude.{◌≡◌, OnOk, OnErr};
+ghost use Rattle.std.specs.Prelude.{◌≡◌, true, OnOk, OnErr};
 ghost use Rattle.run_model.specs.State.{items_of, with_pools};
 ghost use Rattle.run_model.specs.Steps.{made_on};
 ghost use Rattle.module_run.specs.Seen.{seen_machine};
+ghost use Rattle.module_run.specs.OwnPools.{on_live};
 ghost use Rattle.module_run.specs.Saved.{pools_saved, var_saved, var_emptied};
 
 use super::Machine;
@@ -20,12 +21,14 @@ impl Machine {
         to: &mut BrigadeVar,
         from: &mut BrigadeVar,
     ) -> Result<(), AllocError>
+        requires { on_live (seen_machine self.old).shared.pools (made_on to.old) ≡ true }
         ensures ok { let r = seen_machine self.old in OnOk result (seen_machine self.new ≡ with_pools (pools_saved (made_on to.old) (items_of from.old) r.shared.pools) r) }
         ensures moved { OnOk result (to.new ≡ var_saved (made_on to.old) (items_of from.old) (seen_machine self.old).shared.pools to.old) }
         ensures emptied { OnOk result (from.new ≡ var_emptied (made_on to.old) from.old) }
         ensures err { OnErr result (seen_machine self.new ≡ seen_machine self.old) }
         ensures same { OnErr result (to.new ≡ to.old) }
         ensures kept { OnErr result (from.new ≡ from.old) }
+        ensures paths { (seen_machine self.new).shared.pools.path ≡ (seen_machine self.old).shared.pools.path }
     {
         saves::save_vars(alloc, &mut self.pools, to, from)
     }

@@ -9,10 +9,10 @@ returns-clause-err c =
     let r = seen_machine c.args.machine.now in
     on_err c.join-joined.result _ _ _
     (λ to from.
-    let taken = c.put-from.ensures.new in
-    let old = c.put-from.ensures.old in
-    let taken_too = c.put-to.ensures.new in
-    let old_too = c.put-to.ensures.old in
+    let taken = c.take-from.ensures.new in
+    let old = c.take-from.ensures.old in
+    let taken_too = c.take-to.ensures.new in
+    let old_too = c.take-to.ensures.old in
     let put = c.put.ensures.new in
     let put_too = c.put-2.ensures.new in
     let other = read_other c.args.a c.args.b var.Null r c.requires.apart in

@@ -7,7 +7,7 @@ pub returns : goal.returns
 returns c =
     let name = c.call-call.ensures in
     let done = c.end_homes.ensures in
-    let gone = c.put.ensures.new in
+    let gone = c.take.ensures.new in
     let forgot = c.set_call.ensures in
     let all = returned_all (seen_machine c.args.machine.now) in
     cc

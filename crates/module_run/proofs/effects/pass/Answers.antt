@@ -11,6 +11,6 @@ pub returns-in_default-clause-err : goal.returns-in_default-clause-err
 returns-in_default-clause-err c =
     let r = seen_machine c.args.machine.now in
     c.put.ensures.new
-    ∙ (ap (set_brigade c.args.b c.put-var.result) (c.in_default.ensures.err ∙ c.put-var.ensures.new)
-    ∙ (set_twice c.args.b var.Null c.put-var.result r
-    ∙ (ap (λ (v : BrigadeVar). set_brigade c.args.b v r) c.put-var.ensures.old ∙ set_same c.args.b r)))
+    ∙ (ap (set_brigade c.args.b c.take-var.result) (c.in_default.ensures.err ∙ c.take-var.ensures.new)
+    ∙ (set_twice c.args.b var.Null c.take-var.result r
+    ∙ (ap (λ (v : BrigadeVar). set_brigade c.args.b v r) c.take-var.ensures.old ∙ set_same c.args.b r)))

@@ -7,9 +7,10 @@ use Rattle.run_model.specs.State.{with_pools, pool_named}
 use Rattle.run_model.specs.Steps.{label_registered}
 use Rattle.pool_tree.specs.Tree.{map_of}
 use Rattle.module_run.specs.Seen.{seen_machine}
-use Rattle.module_run.specs.OwnPools.{IsStanding}
+use Rattle.module_run.specs.OwnPools.{IsStanding, LieOnLive}
 use Rattle.module_run.proofs.OwnPools.{standing_same, either_way}
 use Rattle.module_run.proofs.PoolNames.{done_to}
+use Rattle.module_run.proofs.OnLive.{lying_same}
 use Rattle.module_run.proofs.machine.Machine.add_label.Goals as goal
 
 pub invariant_of-self : goal.invariant_of-self
@@ -20,7 +21,12 @@ invariant_of-self c =
     let added = registered c.live_pool-name.result (Label c.args.text) (map_of m.pools) in
     let by : (ps : Pools Payload) → ps.path ≡ (map_of m.pools).path → ps.next ≡ (map_of m.pools).next → new ≡ ps → IsStanding new m.req m.pool_vars
     = λ ps path next is. standing_same (map_of m.pools) new m.req m.pool_vars (ap (λ (x : Pools Payload). x.path) is ∙ path) (ap (λ (x : Pools Payload). x.next) is ∙ next) m.standing in
-    record { standing = either_way c.register.result (new ≡ added) (new ≡ map_of m.pools) (IsStanding new m.req m.pool_vars) (by added refl refl) (by (map_of m.pools) refl refl) c.register.ensures.ok c.register.ensures.err }
+    let placed : (ps : Pools Payload) → ps.path ≡ (map_of m.pools).path → new ≡ ps → LieOnLive new m.brigades
+    = λ ps path is. lying_same (map_of m.pools) new m.brigades (ap (λ (x : Pools Payload). x.path) is ∙ path) m.lying in
+    record {
+      standing = either_way c.register.result (new ≡ added) (new ≡ map_of m.pools) (IsStanding new m.req m.pool_vars) (by added refl refl) (by (map_of m.pools) refl refl) c.register.ensures.ok c.register.ensures.err;
+      lying = either_way c.register.result (new ≡ added) (new ≡ map_of m.pools) (LieOnLive new m.brigades) (placed added refl) (placed (map_of m.pools) refl) c.register.ensures.ok c.register.ensures.err;
+    }
 
 pub returns-clause-ok : goal.returns-clause-ok
 unfolding seen_machine with_pools

@@ -8,10 +8,11 @@ use Rattle.pool_tree.specs.Tree.{map_of}
 use Rattle.pool_tree.proofs.Trees.{tree_formed}
 use Rattle.module_run.specs.Seen.{seen_machine}
 use Rattle.module_run.specs.Made.{pool_made}
-use Rattle.module_run.specs.OwnPools.{IsStanding, variables}
+use Rattle.module_run.specs.OwnPools.{IsStanding, LieOnLive, variables}
 use Rattle.module_run.proofs.OwnPools.{standing_made}
 use Rattle.module_run.proofs.Changed.{with_made, made_by}
 use Rattle.module_run.proofs.PoolNames.{done_to}
+use Rattle.module_run.proofs.OnLive.{lying_created}
 use Rattle.module_run.proofs.machine.Machine.create_pool.Goals as goal
 
 pub invariant_of-self : goal.invariant_of-self
@@ -20,7 +21,10 @@ invariant_of-self c =
     let within : c.from.result < length m.pool_vars = omega arith in
     let stood = standing_made (map_of m.pools) m.req m.pool_vars c.live_pool-above.result c.from.result (tree_formed m.pools) m.standing within in
     let named = subst (λ (n : ℕ). IsStanding (created c.live_pool-above.result (map_of m.pools)) m.req (set m.pool_vars c.from.result (poolvar.Made n))) (sym c.in-Ok.ensures.name) stood in
-    record { standing = subst (λ (ps : Pools Payload). IsStanding ps m.req (set m.pool_vars c.from.result (poolvar.Made c.in-Ok.name))) (sym c.in-Ok.ensures.ok) named }
+    record {
+      standing = subst (λ (ps : Pools Payload). IsStanding ps m.req (set m.pool_vars c.from.result (poolvar.Made c.in-Ok.name))) (sym c.in-Ok.ensures.ok) named;
+      lying = subst (λ (ps : Pools Payload). LieOnLive ps m.brigades) (sym c.in-Ok.ensures.ok) (lying_created (map_of m.pools) c.live_pool-above.result m.brigades m.lying);
+    }
 
 pub returns-in-Ok-clause-ok : goal.returns-in-Ok-clause-ok
 unfolding seen_machine

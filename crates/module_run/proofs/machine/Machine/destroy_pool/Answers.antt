@@ -11,10 +11,11 @@ use Rattle.pool_tree.proofs.Trees.{tree_formed}
 use Rattle.bucket_kinds.specs.MemDevice.{files_of}
 use Rattle.module_run.specs.Seen.{seen_machine, labels_handed}
 use Rattle.module_run.specs.Mapped.{mapped}
-use Rattle.module_run.specs.OwnPools.{IsStanding}
+use Rattle.module_run.specs.OwnPools.{IsStanding, LieOnLive}
 use Rattle.module_run.proofs.OwnPools.{owned, standing_destroyed, not_top}
 use Rattle.module_run.proofs.Changed.{with_ran, handed_down}
 use Rattle.module_run.proofs.PoolNames.{done_to}
+use Rattle.module_run.proofs.OnLive.{lying_destroyed}
 use Rattle.module_run.proofs.machine.Machine.destroy_pool.Goals as goal
 
 pub destroy_in-ran-requires-clause-below : goal.destroy_in-ran-requires-clause-below
@@ -35,6 +36,9 @@ invariant_of-self c =
     record {
       standing = subst (λ (ps : Pools Payload). IsStanding ps mid.req mid.pool_vars) (sym c.destroy_in-ran.ensures.ok)
           (standing_destroyed (map_of mid.pools) mid.req mid.pool_vars c.live_pool-pool.result mid.standing own.0 (λ at. own.2 (sym same ∙ at)));
+      lying =
+          let left = lying_destroyed (map_of m.pools) c.live_pool-pool.result m.brigades mid.brigades (λ b. ap (λ (r : Configuration). r.instance.brigades b) c.in_ok-room.ensures.ok) m.lying in
+          subst (λ (ps : Pools Payload). LieOnLive ps mid.brigades) (sym (c.destroy_in-ran.ensures.ok ∙ ap (λ (t : PoolTree Payload). destroyed c.live_pool-pool.result (map_of t)) c.in_ok-room.ensures.same)) left;
     }
 
 pub returns-clause-ok : goal.returns-clause-ok

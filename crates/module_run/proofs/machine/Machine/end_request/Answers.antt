@@ -9,9 +9,10 @@ use Rattle.pool_tree.proofs.Trees.{tree_formed}
 use Rattle.bucket_kinds.specs.MemDevice.{files_of}
 use Rattle.module_run.specs.Seen.{seen_machine, labels_handed}
 use Rattle.module_run.specs.Mapped.{mapped}
-use Rattle.module_run.specs.OwnPools.{IsStanding}
+use Rattle.module_run.specs.OwnPools.{IsStanding, LieOnLive}
 use Rattle.module_run.proofs.OwnPools.{request_live, standing_ended}
 use Rattle.module_run.proofs.Changed.{handed_down}
+use Rattle.module_run.proofs.OnLive.{lying_destroyed}
 use Rattle.module_run.proofs.machine.Machine.end_request.Goals as goal
 
 pub prepare_clear-requires : goal.prepare_clear-requires
@@ -35,6 +36,10 @@ invariant_of-self c =
     record {
       standing = subst (λ (ps : Pools Payload). IsStanding ps None m.pool_vars) (sym c.destroy_in-ran.ensures.ok)
           (standing_ended (map_of m.pools) m.req m.pool_vars c.args.pool (tree_formed m.pools) m.standing open_still);
+      lying =
+          let old = c.args.self.now in
+          let left = lying_destroyed (map_of old.pools) c.args.pool old.brigades m.brigades (λ b. ap (λ (r : Configuration). r.instance.brigades b) c.in_ok-room.ensures.ok) old.lying in
+          subst (λ (ps : Pools Payload). LieOnLive ps m.brigades) (sym (c.destroy_in-ran.ensures.ok ∙ ap (λ (t : PoolTree Payload). destroyed c.args.pool (map_of t)) c.in_ok-room.ensures.same)) left;
     }
 
 abbrev closed : Configuration → Configuration

@@ -13,6 +13,7 @@ use Rattle.run_model.specs.Files.{Files}
 use Rattle.bucket_kinds.specs.MemDevice.{files_of}
 use Rattle.run_model.specs.Pools.{is_live}
 use Rattle.run_model.specs.Payloads.{payload_eq}
+use Rattle.module_run.proofs.OnLive.{lying_same}
 use Rattle.module_run.proofs.machine.Machine.open_file.Goals as goal
 use Rattle.module_run.proofs.machine.Machine.open_file.Goals.{After-kill-killed}
 
@@ -35,7 +36,10 @@ unfolding registered
 invariant_of-self-in-Ok-open c =
     let m = c.args.self.now in
     let same = c.in-Ok.ensures.ok in
-    record { standing = standing_same (map_of m.pools) (map_of c.register.new.self) m.req m.pool_vars (ap (λ (x : Pools Payload). x.path) same) (ap (λ (x : Pools Payload). x.next) same) m.standing }
+    record {
+      standing = standing_same (map_of m.pools) (map_of c.register.new.self) m.req m.pool_vars (ap (λ (x : Pools Payload). x.path) same) (ap (λ (x : Pools Payload). x.next) same) m.standing;
+      lying = lying_same (map_of m.pools) (map_of c.register.new.self) m.brigades (ap (λ (x : Pools Payload). x.path) same) m.lying;
+    }
 
 pub kill-killed-requires : goal.kill-killed-requires
 unfolding seen_machine registered
@@ -48,7 +52,10 @@ pub invariant_of-self-2 : goal.invariant_of-self-2
 invariant_of-self-2 c =
     let m = c.args.self.now in
     let same : map_of c.kill-killed.new.self ≡ map_of m.pools = back (goal.at.invariant_of-self-2 c).After-kill-killed in
-    record { standing = standing_same (map_of m.pools) (map_of c.kill-killed.new.self) m.req m.pool_vars (ap (λ (x : Pools Payload). x.path) same) (ap (λ (x : Pools Payload). x.next) same) m.standing }
+    record {
+      standing = standing_same (map_of m.pools) (map_of c.kill-killed.new.self) m.req m.pool_vars (ap (λ (x : Pools Payload). x.path) same) (ap (λ (x : Pools Payload). x.next) same) m.standing;
+      lying = lying_same (map_of m.pools) (map_of c.kill-killed.new.self) m.brigades (ap (λ (x : Pools Payload). x.path) same) m.lying;
+    }
 
 pub returns-clause-err : goal.returns-clause-err
 unfolding seen_machine

@@ -11,6 +11,7 @@ use Rattle.pool_tree.specs.Payloads.{IsLastAt}
 use Rattle.module_run.specs.Seen.{seen_machine}
 use Rattle.module_run.proofs.PoolNames.{done_to}
 use Rattle.module_run.proofs.Killed.{killed_at, killed_none}
+use Rattle.module_run.proofs.OnLive.{lying_same}
 use Rattle.module_run.proofs.machine.Machine.remove_label.Goals as goal
 
 pub returns-in-Some : goal.returns-in-Some
@@ -34,3 +35,9 @@ returns-in-None c =
     let none = subst (λ (xs : List Payload). list_any test xs ≡ false) c.payloads.ensures c.in-None.ensures in
     done_to (label_killed c.args.text.now) (pool_named r c.args.pool) n r r c.live_pool-name.ensures.named
     (ap (λ (x : Pools Payload). with_pools x r) (killed_none ps n test none))
+
+-- a label less changes no path
+pub invariant_of-self-clause-lying : goal.invariant_of-self-clause-lying
+invariant_of-self-clause-lying c =
+    let m = c.args.self.now in
+    lying_same (map_of m.pools) (map_of c.take_out.new.self) m.brigades (ap (λ (x : Pools Payload). x.path) c.take_out.ensures.rest) m.lying
