@@ -5,7 +5,8 @@ use Rattle.std.proofs.lemmas.Bool.{eqb-true}
 use Rattle.module_lang.specs.Assembling.{lines_read, lines_ended, is_end}
 use Rattle.module_lang.specs.Bytes.{all_printable, begins, tail, unindented}
 use Rattle.module_lang.specs.Codes.{◌>>=◌}
-use Rattle.module_lang.specs.Entries.{entered, line_taken, taken}
+use Rattle.module_lang.specs.Entries.{entered}
+use Rattle.module_lang.specs.Lines.{line_taken, taken}
 use Rattle.module_lang.specs.Lines.{line_read, unindented_read, label_read, item_read}
 use Rattle.module_lang.specs.Texts.{is_skipped, joined, statements}
 use Rattle.module_lang.specs.declared.draft.Draft.{Draft}

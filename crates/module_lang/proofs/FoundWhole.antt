@@ -7,7 +7,8 @@ use Rattle.module_lang.specs.Assembling.{assembling, draft_read, program_of, is_
 use Rattle.module_lang.specs.Bytes.{all_printable}
 use Rattle.module_lang.specs.Drafts.{empty_draft}
 use Rattle.module_lang.specs.Codes.{◌>>=◌}
-use Rattle.module_lang.specs.Entries.{IsDraft, entered, line_taken, taken}
+use Rattle.module_lang.specs.Entries.{IsDraft, entered}
+use Rattle.module_lang.specs.Lines.{line_taken, taken}
 use Rattle.module_lang.specs.Handlers.{handler_resolved, jump_fault, step_code}
 use Rattle.module_lang.specs.Lines.{line_read}
 use Rattle.module_lang.specs.Program.{Program, program}

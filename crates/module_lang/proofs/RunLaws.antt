@@ -7,7 +7,8 @@ use Rattle.module_lang.specs.Assembling.{lines_read, lines_ended, is_end}
 use Rattle.module_lang.specs.Bytes.{all_printable, is_printable, unindented}
 use Rattle.module_lang.specs.Codes.{◌>>=◌}
 use Rattle.module_lang.specs.Drafts.{label_added}
-use Rattle.module_lang.specs.Entries.{line_taken, taken, item_entered}
+use Rattle.module_lang.specs.Entries.{item_entered}
+use Rattle.module_lang.specs.Lines.{line_taken, taken}
 use Rattle.module_lang.specs.Lines.{line_read, unindented_read, is_due, is_handler, judged, has_equal_brigades, has_long_text, are_declared, misplaced, has_room, instruction_count, is_declared, is_long_text, same_brigade}
 use Rattle.module_lang.specs.Names.{is_name}
 use Rattle.module_lang.specs.Operands.{operands_at}

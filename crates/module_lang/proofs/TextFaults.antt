@@ -2,7 +2,7 @@
 use Rattle.std.proofs.Common.{◌≡◌, ℕ, ◌+◌, ◌≤◌, Bool, true, false, ◌||◌, not, cond, eqb, List, [], ◌∷◌, ◌++◌, length, Option, Some, None, inl, inr, Result, Ok, Err, refl, ◌∙◌, ap, arith}
 use Rattle.module_lang.specs.Assembling.{is_end, lines_ended, lines_read}
 use Rattle.module_lang.specs.Codes.{◌>>=◌}
-use Rattle.module_lang.specs.Entries.{line_taken, taken}
+use Rattle.module_lang.specs.Lines.{line_taken, taken}
 use Rattle.module_lang.specs.FirstFault.{LinesHaveCode, all_left, end_has_code, has_code, left, line_of, statement}
 use Rattle.module_lang.specs.Lines.{line_read}
 use Rattle.module_lang.specs.TextLines.{lines_from, rest_from}

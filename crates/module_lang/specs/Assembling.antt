@@ -2,7 +2,7 @@
 use Rattle.std.specs.Prelude.{ℕ, ◌+◌, Bool, ◌||◌, not, nat_lt, ◌==◌, if◌then◌else◌, List, [], ◌∷◌, ◌++◌, length, take, Result, Ok, Err}
 use Rattle.module_lang.specs.Codes.{◌>>=◌}
 use Rattle.module_lang.specs.Drafts.{empty_draft}
-use Rattle.module_lang.specs.Entries.{line_taken}
+use Rattle.module_lang.specs.Lines.{line_taken}
 use Rattle.module_lang.specs.Handlers.{handler_resolved}
 use Rattle.module_lang.specs.Program.{Program}
 pub use Rattle.module_lang.specs.Tables.{is_end}

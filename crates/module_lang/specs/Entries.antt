@@ -1,8 +1,8 @@
 -- Lines that are taken into a draft.
-use Rattle.std.specs.Prelude.{◌≡◌, All, true, false, slice_get, Option, Some, None, filter_map, ℕ, ◌+◌, ◌<◌, ◌≤◌, ◌==◌, if◌then◌else◌, List, [], ◌∷◌, ◌++◌, length, option_to_list, Result, Ok, Err}
+use Rattle.std.specs.Prelude.{◌≡◌, All, true, false, slice_get, Option, Some, None, filter_map, ℕ, ◌+◌, ◌<◌, ◌≤◌, ◌==◌, if◌then◌else◌, List, [], ◌∷◌, ◌++◌, length, option_to_list}
 use Rattle.std.specs.List.{range_with_len}
 use Rattle.module_lang.specs.Drafts.{with_label, with_part, with_step}
-use Rattle.module_lang.specs.Lines.{are_declared, has_equal_brigades, has_text, instruction_count, line_read, misplaced, place_is_declared}
+use Rattle.module_lang.specs.Tables.{are_declared, has_equal_brigades, has_text, instruction_count, misplaced, place_is_declared}
 use Rattle.module_lang.specs.Operands.{IsOfKinds, operand_place}
 use Rattle.module_lang.specs.Quoted.{quoted, text_of}
 use Rattle.module_lang.specs.Words.{op_kinds}
@@ -14,9 +14,6 @@ use Rattle.module_lang.specs.declared.instr.PoolRef.{PoolRef}
 use Rattle.module_lang.specs.declared.lines.Line.{Line}
 use Rattle.module_lang.specs.declared.lines.Line.TheVariants as line
 use Rattle.module_lang.specs.declared.operand.Operands.{Operands}
-use Rattle.module_lang.specs.declared.refusal.AsmRefusal.{AsmRefusal}
-use Rattle.module_lang.specs.declared.refusal.AsmRefusal.TheVariants.{Fault}
-use Rattle.module_lang.specs.declared.refusal.Code.{Code}
 use Rattle.module_lang.specs.declared.word.Op.{Op}
 use Rattle.module_lang.specs.declared.word.Word.{Word}
 use Rattle.module_lang.specs.declared.word.Word.TheVariants as word
@@ -50,14 +47,6 @@ abbrev pub entered : Draft → ℕ → List ℕ → Line → Draft
 entered d n bytes line.Skipped = d
 entered d n bytes (line.Label name) = with_label d n name
 entered d n bytes (line.Item w o) = item_entered d n bytes w o
-
-abbrev pub taken : Draft → ℕ → List ℕ → Result Line Code → Result Draft AsmRefusal
-taken d n bytes (Ok l) = Ok (entered d n bytes l)
-taken d n bytes (Err c) = Err (Fault n c)
-
--- the next line, which has this number
-unfoldable pub line_taken : Draft → ℕ → List ℕ → Result Draft AsmRefusal
-line_taken d n bytes = taken d n bytes (line_read d bytes)
 
 -- what is true of an instruction that was taken in a handler
 pub record IsStep (pools brigades : List PoolRef) (p : Part) (s : Step) : Type 0 where

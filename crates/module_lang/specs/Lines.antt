@@ -3,6 +3,7 @@ pub use Rattle.module_lang.specs.Tables.{any_touches_req, are_declared, has_equa
 use Rattle.std.specs.Prelude.{ℕ, Bool, ◌&&◌, ◌||◌, not, nat_lt, ◌==◌, if◌then◌else◌, List, length, Option, Some, None, Result, Ok, Err}
 use Rattle.module_lang.specs.Bytes.{all_printable, begins, tail, token, after_token, unindented}
 use Rattle.module_lang.specs.Codes.{◌>>=◌, unless}
+use Rattle.module_lang.specs.Entries.{entered}
 use Rattle.module_lang.specs.Names.{name_of}
 use Rattle.module_lang.specs.Operands.{operands_at}
 use Rattle.module_lang.specs.Words.{word_at, word_kinds}
@@ -10,6 +11,8 @@ use Rattle.module_lang.specs.declared.draft.Draft.{Draft}
 use Rattle.module_lang.specs.declared.lines.Line.{Line}
 use Rattle.module_lang.specs.declared.lines.Line.TheVariants as line
 use Rattle.module_lang.specs.declared.operand.Operands.{Operands}
+use Rattle.module_lang.specs.declared.refusal.AsmRefusal.{AsmRefusal}
+use Rattle.module_lang.specs.declared.refusal.AsmRefusal.TheVariants.{Fault}
 use Rattle.module_lang.specs.declared.refusal.Code.{Code}
 use Rattle.module_lang.specs.declared.refusal.Code.TheVariants as code
 use Rattle.module_lang.specs.declared.word.Op.{Op}
@@ -82,3 +85,11 @@ unindented_read d bytes =
 -- what a line says where these lines came before it, or the lowest code of those that fit it
 unfoldable pub line_read : Draft → List ℕ → Result Line Code
 line_read d l = if not (all_printable l) then Err code.BadByte else unindented_read d (unindented l)
+
+abbrev pub taken : Draft → ℕ → List ℕ → Result Line Code → Result Draft AsmRefusal
+taken d n bytes (Ok l) = Ok (entered d n bytes l)
+taken d n bytes (Err c) = Err (Fault n c)
+
+-- the next line, which has this number
+unfoldable pub line_taken : Draft → ℕ → List ℕ → Result Draft AsmRefusal
+line_taken d n bytes = taken d n bytes (line_read d bytes)

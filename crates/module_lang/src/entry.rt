@@ -53,7 +53,8 @@ fn add_texts(
 impl Draft {
     ghost use Rattle.std.specs.Prelude.{◌≡◌, ◌≤◌, OnOk, length};
     ghost use Rattle.module_lang.specs.Codes.{Gives};
-    ghost use Rattle.module_lang.specs.Entries.{step_entered, item_entered, entered, line_taken, IsDraft};
+    ghost use Rattle.module_lang.specs.Entries.{step_entered, item_entered, entered, IsDraft};
+    ghost use Rattle.module_lang.specs.Lines.{line_taken};
 
     fn enter_step(
         &mut self,
@@ -128,7 +129,8 @@ impl Draft {
 
 impl TakesLines for Draft {
     ghost use Rattle.module_lang.specs.Codes.{Gives};
-    ghost use Rattle.module_lang.specs.Entries.{line_taken, IsDraft};
+    ghost use Rattle.module_lang.specs.Entries.{IsDraft};
+    ghost use Rattle.module_lang.specs.Lines.{line_taken};
 
     type Refusal = AsmRefusal;
 
@@ -136,7 +138,7 @@ impl TakesLines for Draft {
 
     ghost takes = { λ draft number line answer next. Gives (λ _. next) answer (line_taken draft number line) };
 
-    #[tactic(auto, unfolding(crate::specs::Entries::line_taken))]
+    #[tactic(auto, unfolding(crate::specs::Lines::line_taken))]
     fn take_line(&mut self, alloc: Global, number: usize, line: &[u8]) -> Result<(), AsmRefusal> {
         match read_line(self, line) {
             Ok(said) => Ok(self.enter(alloc, number, line, said)?),
