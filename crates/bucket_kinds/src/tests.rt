@@ -1,14 +1,14 @@
-//! Splits and copies of bytes, and files of a real disk.
+//! Splits, copies and reads that no script reaches, and files of a real disk.
 
-ghost use Rattle.std.specs.Prelude.{◌≡◌, true};
+ghost use Rattle.std.specs.Prelude.{◌≡◌, IfOk, true};
 ghost use Rattle.run_model.specs.Cutting.{EndsInFile};
 ghost use Rattle.bucket_kinds.specs.Device.{is_there};
 
 use crate::{
-    Bucket, Content, DiskFiles, FileFault, Files, Home, Kind, ReadError, Seq, copy_bucket,
-    read_bucket, split_bucket,
+    Bucket, Content, DiskFiles, FileFault, Files, Home, Kind, MemFiles, ReadError, Seq, SplitError,
+    copy_bucket, read_bucket, split_bucket,
 };
-use std::alloc::Global;
+use std::alloc::{AllocError, Global};
 use std::path::{Path, PathBuf};
 use std::test::Fail;
 use std::{env, fs, io, process};
@@ -20,26 +20,88 @@ fn holds(bucket: &Bucket, text: &[u8]) -> bool {
     }
 }
 
-// The copy of a bucket is split after its first byte.
-fn split(alloc: Global, bucket: &Bucket) -> Option<(Bucket, Bucket)>
+fn in_memory(alloc: Global, kind: Kind, text: &[u8]) -> Result<Bucket, AllocError>
+    ensures bytes { IfOk result (λ b. b.content ≡ Content.Bytes text.now) }
+    ensures ends { IfOk result (λ b. EndsInFile b.content) }
+{
+    let mut bytes = Seq::new(alloc);
+    bytes.extend(text)?;
+    Ok(Bucket {
+        kind,
+        content: Content::Bytes(bytes),
+        home: Home::Free,
+    })
+}
+
+fn eos() -> Bucket
+    ensures { EndsInFile result.content }
+{
+    Bucket {
+        kind: Kind::Eos,
+        content: Content::Nothing,
+        home: Home::Free,
+    }
+}
+
+// The copy of a bucket is split at a place.
+fn split(alloc: Global, bucket: &Bucket, at: u64) -> Result<(Bucket, Bucket), SplitError>
     requires { EndsInFile bucket.now.content }
 {
-    let mut copy = copy_bucket(alloc, bucket).ok()?;
-    let rest = split_bucket(alloc, &mut copy, 1).ok()?;
-    Some((copy, rest))
+    let mut copy = copy_bucket(alloc, bucket)?;
+    let rest = split_bucket(alloc, &mut copy, at)?;
+    Ok((copy, rest))
+}
+
+// Whether a split of `abc` at a place gives these two texts.
+fn splits(alloc: Global, at: u64, front: &[u8], rest: &[u8]) -> Result<bool, Fail> {
+    let bucket = in_memory(alloc, Kind::Heap, b"abc")?;
+    match split(alloc, &bucket, at) {
+        Ok((first, second)) => Ok(holds(&first, front) && holds(&second, rest)),
+        Err(_) => Ok(false),
+    }
 }
 
 #[test]
-fn splits_a_copy(rt: HostRuntime) -> Result<(), Fail> {
-    let mut text = Seq::new(rt.alloc());
-    text.extend(b"abc")?;
-    let bucket = Bucket {
-        kind: Kind::Heap,
-        content: Content::Bytes(text),
-        home: Home::Free,
-    };
-    let (front, rest) = split(rt.alloc(), &bucket).ok_or("split")?;
-    assert!(rt; holds(&front, b"a") && holds(&rest, b"bc"));
+fn splits_copies(rt: HostRuntime) -> Result<(), Fail> {
+    assert!(rt; splits(rt.alloc(), 0, b"", b"abc")?);
+    assert!(rt; splits(rt.alloc(), 1, b"a", b"bc")?);
+    assert!(rt; splits(rt.alloc(), 3, b"abc", b"")?);
+    let bucket = in_memory(rt.alloc(), Kind::Heap, b"abc")?;
+    assert!(rt; matches!(split(rt.alloc(), &bucket, 4), Err(SplitError::TooLong)));
+    assert!(rt; matches!(split(rt.alloc(), &eos(), 0), Err(SplitError::Metadata)));
+    Ok(())
+}
+
+#[test]
+fn copies_and_reads_what_is_in_memory(rt: HostRuntime) -> Result<(), Fail> {
+    let pool = in_memory(rt.alloc(), Kind::Pool(7), b"ab")?;
+    let mut copy = copy_bucket(rt.alloc(), &pool)?;
+    let mut files = MemFiles::new(rt.alloc());
+    let rest = read_bucket(rt.alloc(), &mut copy, &mut files).ok().ok_or("read")?;
+    assert!(rt; rest.is_none());
+    assert!(rt; matches!(copy.kind, Kind::Pool(7)) && holds(&copy, b"ab"));
+    let metadata = copy_bucket(rt.alloc(), &eos())?;
+    assert!(rt; matches!(metadata.kind, Kind::Eos));
+    Ok(())
+}
+
+// Whether a read of ten bytes of a file of so many succeeds.
+fn reads_ten(alloc: Global, len: usize) -> Result<bool, Fail> {
+    let mut files = MemFiles::new(alloc);
+    let text = vec![in alloc; b'x'; len]?;
+    if files.add(b"f", text).is_err() {
+        return Ok(false);
+    }
+    match files.open_file(b"f") {
+        Ok((file, _)) => Ok(read(alloc, &mut files, file).is_ok()),
+        Err(_) => Ok(false),
+    }
+}
+
+#[test]
+fn reads_no_more_than_the_file_has(rt: HostRuntime) -> Result<(), Fail> {
+    assert!(rt; reads_ten(rt.alloc(), 10)?);
+    assert!(rt; !reads_ten(rt.alloc(), 9)?);
     Ok(())
 }
 
