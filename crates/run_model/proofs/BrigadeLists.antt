@@ -2,14 +2,18 @@
 use Rattle.std.proofs.Common.{◌≡◌, ℕ, zero, suc, ◌+◌, ◌-◌, ◌<◌, ◌≤◌, Bool, true, false, ◌==◌, cond, nat_lt, nat_le, List, [], ◌∷◌, ◌++◌, append_assoc, append-nil, length, take, drop, inl, inr, Option, Some, None, refl, sym, ◌∙◌, ap, subst, arith, ne_eqb, eq-eqb}
 use Rattle.std.proofs.Math.Seq.{take-add}
 use Rattle.std.proofs.lemmas.List.{drop-drop, length-drop, length-take-le, take-append-drop}
+use Rattle.std.proofs.lemmas.List.Elements.{All-head, All-tail}
 use Rattle.std.proofs.lemmas.Bool.Decides.{nat_tests, eqb_tells}
 use Rattle.run_model.specs.declared.bucket.Content.{Content}
 use Rattle.run_model.specs.declared.bucket.Content.TheVariants as content
+use Rattle.run_model.specs.declared.bucket.Kind.{Kind}
+use Rattle.run_model.specs.declared.bucket.Kind.TheVariants as kind
+use Rattle.run_model.specs.declared.bucket.Bucket.{Bucket}
 use Rattle.run_model.specs.declared.bucket.NamedBucket.{NamedBucket}
-use Rattle.run_model.specs.Buckets.{is_data}
-use Rattle.run_model.specs.Cutting.{length_of, front_of, rest_of}
+use Rattle.run_model.specs.Buckets.{is_data_kind, is_data}
+use Rattle.run_model.specs.Cutting.{FitsKind, form_of, form_of_kind, length_of, front_of, rest_of}
 use Rattle.run_model.specs.Sound.{count_named}
-use Rattle.run_model.specs.BrigadeLists.{buckets_before, buckets_from, first_bucket, stays, moves, SplitRefusal, Metadata, TooLong, split_refusal, first_bytes, rest_as, first_split, bucket_split, length_in, bytes_of, all_bytes, Cut, Incomplete, front_to, back_from, is_short, place_before, partitioned, place_of, BrigadeSplitsInOrder, SplitBytes, BucketSplitsInOrder, SameBytes, may_split, SplitKeepsBytes, PartedAt, PartsAtPoint, ShortIsIncomplete, PartitionKeepsBytes, PlaceIsBehindFront, PartitionRows, BrigadeSplitRows, BucketSplitRows, MoveRows}
+use Rattle.run_model.specs.BrigadeLists.{buckets_before, buckets_from, first_bucket, stays, moves, SplitRefusal, Metadata, TooLong, split_refusal, first_bytes, rest_as, first_split, bucket_split, length_in, bytes_of, all_bytes, Cut, Incomplete, front_to, back_from, bucket_across, is_short, place_before, partitioned, place_of, BrigadeSplitsInOrder, MovesKeepNames, SplitBytes, BucketSplitsInOrder, SameBytes, may_split, SplitKeepsBytes, PartedAt, PartsAtPoint, ShortIsIncomplete, PartitionKeepsBytes, UnsplitIsUnchanged, MetadataIsNotSplit, PlaceIsBehindFront, PartitionRows, BrigadeSplitRows, BucketSplitRows, MoveRows}
 use Rattle.run_model.proofs.Names.{count_append, count_cons}
 
 -- What the tests tell.
@@ -42,6 +46,24 @@ before_and_from n (b ∷ bs) = by_name (b.name == n) (before_and_from n bs) wher
 pub brigade_splits_in_order : BrigadeSplitsInOrder
 brigade_splits_in_order None bs = append-nil bs
 brigade_splits_in_order (Some n) bs = before_and_from n bs
+
+-- Buckets that are put in and taken out.
+
+put_in : (b : NamedBucket) (xs ys : List NamedBucket) (n : ℕ) → count_named n (xs ++ b ∷ ys) ≡ count_named n (b ∷ xs ++ ys)
+put_in b xs ys n = omega (arith, count_append n xs (b ∷ ys), count_cons n b ys, count_cons n b (xs ++ ys), count_append n xs ys)
+
+taken_from : (b : NamedBucket) (xs ys : List NamedBucket) (n : ℕ) → first_bucket ys ≡ Some b → count_named n (b ∷ xs ++ drop 1 ys) ≡ count_named n (xs ++ ys)
+taken_from b xs [] n is = absurd (cc)
+taken_from b xs (y ∷ ys) n is =
+    let same : y ≡ b = cc in
+    subst (λ (z : NamedBucket). count_named n (z ∷ xs ++ ys) ≡ count_named n (xs ++ y ∷ ys)) same (sym (put_in y xs ys n))
+
+pub moves_keep_names : MovesKeepNames
+moves_keep_names = record {
+  tail = λ b bs n. put_in b bs [] n ∙ ap (λ (xs : List NamedBucket). count_named n (b ∷ xs)) (append-nil bs);
+  before = λ at b bs n. put_in b (buckets_before at bs) (buckets_from at bs) n ∙ ap (λ (xs : List NamedBucket). count_named n (b ∷ xs)) (before_and_from at bs);
+  taken = λ at b bs n is. taken_from b (buckets_before at bs) (buckets_from at bs) n is ∙ ap (count_named n) (before_and_from at bs);
+}
 
 -- Splits of a bucket.
 
@@ -196,6 +218,50 @@ short_is_incomplete new point bs = record {
   only true tells is = short_told (length_in bs) point tells
   only false tells is = absurd (is_a_place (back_from new point bs) is)
 
+-- The bucket that is split.
+
+unsplit : (new point : ℕ) (bs : List NamedBucket) → bucket_across point bs ≡ None → front_to point bs ++ back_from new point bs ≡ bs
+unfolding front_to back_from bucket_across
+unsplit new zero bs none = refl
+unsplit new (suc p) [] none = refl
+unsplit new (suc p) (b ∷ bs) none = by_length (nat_le (length_of b.bucket.content) (suc p)) (unsplit new (suc p - length_of b.bucket.content) bs) none where
+  by_length : (c : Bool)
+      → (bucket_across (suc p - length_of b.bucket.content) bs ≡ None → front_to (suc p - length_of b.bucket.content) bs ++ back_from new (suc p - length_of b.bucket.content) bs ≡ bs)
+      → cond c (bucket_across (suc p - length_of b.bucket.content) bs) (Some b) ≡ None
+      → cond c (b ∷ front_to (suc p - length_of b.bucket.content) bs) (first_bytes (suc p) b ∷ []) ++ cond c (back_from new (suc p - length_of b.bucket.content) bs) (rest_as new (suc p) b ∷ bs) ≡ b ∷ bs
+  by_length true rest none = ap (λ (xs : List NamedBucket). b ∷ xs) (rest none)
+  by_length false rest none = absurd (cc)
+
+pub unsplit_is_unchanged : UnsplitIsUnchanged
+unsplit_is_unchanged new point bs none = by_test (is_short point bs) where
+  by_test : (c : Bool) → cond c bs (front_to point bs ++ back_from new point bs) ≡ bs
+  by_test true = refl
+  by_test false = unsplit new point bs none
+
+-- a bucket that has bytes is data
+bytes_are_data : (p : ℕ) (b : Bucket) → FitsKind b → p < length_of b.content → is_data_kind b.kind ≡ true
+bytes_are_data p b fits more = of_kind b.kind b.content fits.holds more where
+  of_kind : (k : Kind) (c : Content) → form_of c ≡ form_of_kind k → p < length_of c → is_data_kind k ≡ true
+  of_kind kind.Flush (content.Bytes bs) holds more = absurd (cc)
+  of_kind kind.Flush (content.Range f start len) holds more = absurd (cc)
+  of_kind kind.Flush content.Nothing holds more = absurd (omega arith)
+  of_kind kind.Eos (content.Bytes bs) holds more = absurd (cc)
+  of_kind kind.Eos (content.Range f start len) holds more = absurd (cc)
+  of_kind kind.Eos content.Nothing holds more = absurd (omega arith)
+  of_kind k c holds more = refl
+
+pub metadata_is_not_split : MetadataIsNotSplit
+unfolding bucket_across
+metadata_is_not_split zero bs b fits is = absurd (cc)
+metadata_is_not_split (suc p) [] b fits is = absurd (cc)
+metadata_is_not_split (suc p) (x ∷ bs) b fits is = by_length (nat_le (length_of x.bucket.content) (suc p)) refl (metadata_is_not_split (suc p - length_of x.bucket.content) bs b (All-tail (λ (y : NamedBucket). FitsKind y.bucket) x bs fits)) is where
+  by_length : (c : Bool) → nat_le (length_of x.bucket.content) (suc p) ≡ c → (bucket_across (suc p - length_of x.bucket.content) bs ≡ Some b → is_data b ≡ true)
+      → cond c (bucket_across (suc p - length_of x.bucket.content) bs) (Some x) ≡ Some b → is_data b ≡ true
+  by_length true tells rest is = rest is
+  by_length false tells rest is =
+      let same : x ≡ b = cc in
+      subst (λ (y : NamedBucket). is_data y ≡ true) same (bytes_are_data (suc p) x.bucket (All-head (λ (y : NamedBucket). FitsKind y.bucket) x bs fits) (more_told (length_of x.bucket.content) (suc p) tells))
+
 -- The place of a partition.
 
 -- a bucket whose name does not stand before it is found where it stands
@@ -243,8 +309,8 @@ place_is_behind_front new point bs le once fresh =
 -- Worked rows.
 
 pub partition_rows : PartitionRows
-unfolding length_in front_to back_from
-partition_rows = record { first = refl; inside = refl; left = refl; between = refl; short = refl; whole = refl; empty = refl; empty_short = refl }
+unfolding length_in front_to back_from bucket_across
+partition_rows = record { first = refl; inside = refl; across = refl; across_none = refl; left = refl; between = refl; short = refl; whole = refl; empty = refl; empty_short = refl }
 
 pub brigade_split_rows : BrigadeSplitRows
 unfolding buckets_before buckets_from

@@ -1,6 +1,6 @@
 -- Brigades as lists of named buckets, and what is done to them (apr_buckets.h). A place in a brigade is the name of a
 -- bucket, or None for its end, which is the sentinel. To move all buckets to a tail is `++` (APR_BRIGADE_CONCAT).
-use Rattle.std.specs.Prelude.{◌≡◌, ◌≢◌, ℕ, zero, suc, ◌+◌, ◌-◌, ◌<◌, ◌≤◌, Bool, true, false, ◌==◌, nat_lt, nat_le, if◌then◌else◌, List, [], ◌∷◌, ◌++◌, length, take, drop, Option, Some, None}
+use Rattle.std.specs.Prelude.{◌≡◌, ◌≢◌, ℕ, zero, suc, ◌+◌, ◌-◌, ◌<◌, ◌≤◌, Bool, true, false, ◌==◌, nat_lt, nat_le, if◌then◌else◌, List, [], ◌∷◌, ◌++◌, length, take, drop, Option, Some, None, All}
 use Rattle.std.specs.List.{list_any}
 use Rattle.run_model.specs.declared.bucket.Kind.TheVariants as kind
 use Rattle.run_model.specs.declared.bucket.Content.{Content}
@@ -8,7 +8,7 @@ use Rattle.run_model.specs.declared.bucket.Content.TheVariants as content
 use Rattle.run_model.specs.declared.bucket.Home.TheVariants as home
 use Rattle.run_model.specs.declared.bucket.NamedBucket.{NamedBucket}
 use Rattle.run_model.specs.Buckets.{is_data}
-use Rattle.run_model.specs.Cutting.{length_of, split_at}
+use Rattle.run_model.specs.Cutting.{FitsKind, length_of, split_at}
 use Rattle.run_model.specs.Sound.{count_named}
 
 -- Buckets by their names.
@@ -136,6 +136,13 @@ back_from new (suc p) [] = []
 back_from new (suc p) (b ∷ bs) =
     if nat_le (length_of b.bucket.content) (suc p) then back_from new (suc p - length_of b.bucket.content) bs else rest_as new (suc p) b ∷ bs
 
+-- the bucket that the point lies inside, which is split; none where the point lies between two
+unfoldable pub bucket_across : ℕ → List NamedBucket → Option NamedBucket
+bucket_across zero bs = None
+bucket_across (suc p) [] = None
+bucket_across (suc p) (b ∷ bs) =
+    if nat_le (length_of b.bucket.content) (suc p) then bucket_across (suc p - length_of b.bucket.content) bs else Some b
+
 -- All lengths together are less than the point.
 abbrev pub is_short : ℕ → List NamedBucket → Bool
 is_short point bs = nat_lt (length_in bs) point
@@ -163,6 +170,12 @@ place_of Incomplete = None
 -- What stays and what moves are the whole, in order.
 abbrev pub BrigadeSplitsInOrder : Type 0
 BrigadeSplitsInOrder = (at : Option ℕ) (bs : List NamedBucket) → stays at bs ++ moves at bs ≡ bs
+
+-- A bucket that is put in comes to the names that were there, and one that is taken out goes from them.
+pub record MovesKeepNames : Type 0 where
+  pub tail : (b : NamedBucket) (bs : List NamedBucket) (n : ℕ) → count_named n (put_tail b bs) ≡ count_named n (b ∷ bs)
+  pub before : (at : ℕ) (b : NamedBucket) (bs : List NamedBucket) (n : ℕ) → count_named n (put_before at b bs) ≡ count_named n (b ∷ bs)
+  pub taken : (at : ℕ) (b : NamedBucket) (bs : List NamedBucket) (n : ℕ) → bucket_named at bs ≡ Some b → count_named n (b ∷ taken_out at bs) ≡ count_named n bs
 
 -- A bucket that is not too short is split into its first n bytes and the others, in order.
 pub record SplitBytes (n : ℕ) (c : Content) (front rest : Content) : Type 0 where
@@ -209,6 +222,14 @@ ShortIsIncomplete = (new point : ℕ) (bs : List NamedBucket) → IncompleteWher
 abbrev pub PartitionKeepsBytes : Type 0
 PartitionKeepsBytes = (new point : ℕ) (bs : List NamedBucket) → SameBytes new bs (partitioned new point bs)
 
+-- Where the point lies inside no bucket, nothing changes, and no name is needed. What is split is data, where each
+-- bucket's content fits its kind.
+abbrev pub UnsplitIsUnchanged : Type 0
+UnsplitIsUnchanged = (new point : ℕ) (bs : List NamedBucket) → bucket_across point bs ≡ None → partitioned new point bs ≡ bs
+
+abbrev pub MetadataIsNotSplit : Type 0
+MetadataIsNotSplit = (point : ℕ) (bs : List NamedBucket) (b : NamedBucket) → All (λ (x : NamedBucket). FitsKind x.bucket) bs → bucket_across point bs ≡ Some b → is_data b ≡ true
+
 -- Where each name is one bucket's and the new name is none's, a split at the place that is answered gives that front.
 pub record SplitsThere (new point : ℕ) (bs : List NamedBucket) : Type 0 where
   pub front : stays (place_of (partition_answer new point bs)) (partitioned new point bs) ≡ front_to point bs
@@ -236,6 +257,8 @@ pooled n bytes = record { name = n; bucket = record { kind = kind.Pool 2; conten
 pub record PartitionRows : Type 0 where
   pub first : partition_answer 9 0 (heap 1 (97 ∷ 98 ∷ []) ∷ eos 2 ∷ []) ≡ Found 1
   pub inside : partition_answer 9 1 (heap 1 (97 ∷ 98 ∷ []) ∷ eos 2 ∷ []) ≡ Found 9
+  pub across : bucket_across 1 (heap 1 (97 ∷ 98 ∷ []) ∷ eos 2 ∷ []) ≡ Some (heap 1 (97 ∷ 98 ∷ []))
+  pub across_none : bucket_across 2 (heap 1 (97 ∷ 98 ∷ []) ∷ eos 2 ∷ []) ≡ None
   pub left : partitioned 9 1 (heap 1 (97 ∷ 98 ∷ []) ∷ eos 2 ∷ []) ≡ heap 1 (97 ∷ []) ∷ heap 9 (98 ∷ []) ∷ eos 2 ∷ []
   pub between : partition_answer 9 2 (heap 1 (97 ∷ 98 ∷ []) ∷ eos 2 ∷ []) ≡ Found 2
   pub short : partition_answer 9 3 (heap 1 (97 ∷ 98 ∷ []) ∷ eos 2 ∷ []) ≡ Incomplete
