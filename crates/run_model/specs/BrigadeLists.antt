@@ -62,7 +62,7 @@ put_before at b bs = buckets_before at bs ++ b ∷ buckets_from at bs
 abbrev pub copied : ℕ → NamedBucket → NamedBucket
 copied new b = record b { name = new }
 
--- A split of a brigade at a place (apr_brigade_split_ex): what stays, and what moves.
+-- A split of a brigade at a place (apr_brigade_split_ex): what stays, and what moves into another, which is cleaned before.
 
 abbrev pub stays : Option ℕ → List NamedBucket → List NamedBucket
 stays None bs = bs
@@ -74,7 +74,7 @@ moves (Some n) bs = buckets_from n bs
 
 -- A split of a bucket (apr_bucket_split): its first n bytes keep its name, the rest follows under a new one.
 
--- why a bucket is not split
+-- why a bucket is not split (APR_ENOTIMPL, APR_EINVAL)
 pub data SplitRefusal : Type 0 where
   Metadata : SplitRefusal
   TooLong : SplitRefusal
@@ -116,7 +116,7 @@ all_bytes file (b ∷ bs) = bytes_of file b.bucket.content ++ all_bytes file bs
 
 -- A partition at a point (apr_brigade_partition).
 
--- what it answers
+-- what it answers; Incomplete is APR_INCOMPLETE
 pub data Cut : Type 0 where
   Found : ℕ → Cut
   AtEnd : Cut
