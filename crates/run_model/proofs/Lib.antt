@@ -36,3 +36,4 @@ pub mod RangesRuns
 pub mod AsDeclared
 pub mod HomesAlive
 pub mod Handlers
+pub mod BrigadeLists

@@ -21,3 +21,4 @@ pub mod Ranges
 pub mod AsDeclared
 pub mod HomesAlive
 pub mod Handlers
+pub mod BrigadeLists

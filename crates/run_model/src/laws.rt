@@ -9,6 +9,7 @@ ghost use Rattle.run_model.specs.HomesAlive.{OpenedHomesAlive, StepKeepsHomes, S
 ghost use Rattle.run_model.specs.Handlers.{CallsBegin, StepStaysInHandler, OpenedRunsHandler, EventKeepsHandler, RunKeepsHandler};
 ghost use Rattle.run_model.specs.RefusalOrder.{FirstIsTold, NoConnectionIsTold, StepsTell, BusyDoesNotEnd, OnlyMemoryRefusesClose};
 ghost use Rattle.run_model.specs.Ranges.{OpenedInRange, StepKeepsInRange, EventKeepsInRange, RunIsInRange, StepKeepsRanges, EventKeepsRanges, RunKeepsRanges};
+ghost use Rattle.run_model.specs.BrigadeLists.{BrigadeSplitsInOrder, MovesKeepNames, BucketSplitsInOrder, SplitKeepsBytes, PartsAtPoint, ShortIsIncomplete, PartitionKeepsBytes, UnsplitIsUnchanged, MetadataIsNotSplit, PlaceIsBehindFront, PartitionRows, BrigadeSplitRows, BucketSplitRows, MoveRows};
 
 /// Small runs answer as they are worked out by hand, and so do faults and changes of small states.
 pub fn worked_runs()
@@ -198,4 +199,30 @@ pub fn calls_stay_in_their_handler()
     ensures opened { OpenedRunsHandler }
     ensures event { EventKeepsHandler }
     ensures run { RunKeepsHandler }
+{}
+
+/// A split of a brigade gives both parts in order, and a split of a bucket its bytes in order. A partition at a point that is not
+/// past the end gives a front whose lengths add up to it, the shortest such one, and the bytes in order; one past the end is
+/// incomplete, and then nothing changes. A split and a partition add the new name at most once, and keep all others.
+/// What a partition splits is data, and where it splits nothing, it changes nothing. What is put into a list adds its name, and
+/// what is taken out takes it away.
+pub fn brigades_are_cut_in_order()
+    ensures brigade_split { BrigadeSplitsInOrder }
+    ensures moves { MovesKeepNames }
+    ensures bucket_split { BucketSplitsInOrder }
+    ensures split_list { SplitKeepsBytes }
+    ensures partition { PartsAtPoint }
+    ensures incomplete { ShortIsIncomplete }
+    ensures parts { PartitionKeepsBytes }
+    ensures unsplit { UnsplitIsUnchanged }
+    ensures metadata { MetadataIsNotSplit }
+    ensures place { PlaceIsBehindFront }
+{}
+
+/// Small brigades are parted, split and changed as it is worked out by hand.
+pub fn worked_brigades()
+    ensures partitions { PartitionRows }
+    ensures brigade_splits { BrigadeSplitRows }
+    ensures bucket_splits { BucketSplitRows }
+    ensures moves { MoveRows }
 {}
