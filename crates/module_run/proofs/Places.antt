@@ -1,7 +1,8 @@
 -- Where a step leads, there is an instruction.
-use Rattle.std.proofs.Common.{◌≡◌, ℕ, ◌+◌, ◌<◌, Bool, true, false, ◌||◌, not, length, nat_lt, ◌==◌, Option, Some, None, refl, sym, ap, ◌∙◌, subst, Result, Ok, Err, cond, unwrap_or, slice_get, arith}
+use Rattle.std.proofs.Common.{◌≡◌, ℕ, ◌+◌, ◌<◌, Bool, true, false, ◌||◌, not, length, Option, Some, None, refl, sym, ap, ◌∙◌, subst, Result, Ok, Err, cond, unwrap_or, slice_get, IfSome, arith}
 use Rattle.std.proofs.lemmas.Option.{get_or_from_slice_get}
 use Rattle.run_model.specs.declared.event.Exit.{Exit}
+use Rattle.run_model.specs.declared.event.Exit.TheVariants.{GoOn, Jump, Return}
 use Rattle.run_model.specs.declared.event.Stepped.{Stepped}
 use Rattle.run_model.specs.declared.event.Stepped.TheVariants as stepped
 use Rattle.run_model.specs.declared.event.StepRefusal.TheVariants as refusal
@@ -13,13 +14,11 @@ use Rattle.module_lang.specs.declared.instr.Instr.{Instr}
 use Rattle.module_lang.specs.declared.instr.Instr.TheVariants as instr
 use Rattle.module_lang.specs.declared.instr.Status.TheVariants.{Success}
 use Rattle.module_lang.specs.Program.{Program, IsPlaced, target}
-use Rattle.run_model.specs.Pools.{is_empty}
-use Rattle.module_lang.specs.declared.instr.PoolRef.TheVariants as pool
-use Rattle.run_model.specs.Clearing.{run_down}
-use Rattle.run_model.specs.State.{Configuration, set_brigade, set_number, set_pool, with_pools, pool_named, items_of}
-use Rattle.run_model.proofs.NamedPools.{on_named, made_under_named, put_keeps}
+use Rattle.run_model.specs.State.{Configuration}
+use Rattle.run_model.proofs.EventsKeep.{at_end_keeps}
+use Rattle.run_model.proofs.Unchanged.{step_changes_only}
 use Rattle.run_model.specs.Faults.{fault}
-use Rattle.run_model.specs.Steps.{saved_into, made_on, do_put, is_full, value_of, Delivered, delivered, with_delivered, do_pass, is_fail, answer_to, pool_cleared, pool_destroyed, label_registered, label_killed, text_of, is_null, Outcome, step_at_end, settled, watched, executed, succeeded, unless_fault, current, jumps_if, lacks_names, is_spent, names_of, pool_names_of, grows}
+use Rattle.run_model.specs.Steps.{Outcome, step_at_end, settled, watched, executed, succeeded, unless_fault, current, lacks_names, is_spent, names_of, pool_names_of, grows}
 
 -- the instruction that is executed next is the one that stands there
 pub current_is : (p : Program) (pc : ℕ) (i : Instr) → slice_get p.code pc ≡ Some i → current p pc ≡ i
@@ -31,64 +30,25 @@ current_at p pc at i same found = current_is p pc i (subst (λ (n : ℕ). slice_
 
 -- an instruction leaves the place to its settling
 pub pc_kept : (p : Program) (i : Instr) (r : Configuration) → (step_at_end p i r).state.pc ≡ r.pc
-unfolding set_brigade set_number set_pool with_pools run_down
-pc_kept p (instr.PCreate q) r = made_under_named (λ (x : Configuration). x.pc ≡ r.pc) p q r refl (λ parent e. refl)
-pc_kept p (instr.PClear q) r = on_named (λ (x : Configuration). x.pc ≡ r.pc) pool_cleared (pool_named r (pool.Own q)) r refl (λ n e. refl)
-pc_kept p (instr.PDestroy q) r = on_named (λ (x : Configuration). x.pc ≡ r.pc) pool_destroyed (pool_named r (pool.Own q)) r refl (λ n e. refl)
-pc_kept p (instr.Label q t) r = on_named (λ (x : Configuration). x.pc ≡ r.pc) (label_registered (text_of p t)) (pool_named r q) r refl (λ n e. refl)
-pc_kept p (instr.Unlabel q t) r = on_named (λ (x : Configuration). x.pc ≡ r.pc) (label_killed (text_of p t)) (pool_named r q) r refl (λ n e. refl)
-pc_kept p (instr.BSave o b) r = on_named (λ (x : Configuration). x.pc ≡ r.pc) (saved_into o b) (made_on (r.instance.brigades o)) r refl (λ n e. refl)
-pc_kept p (instr.Put x l) r = put_keeps (λ (y : Configuration). y.pc ≡ r.pc) x r refl (λ buffer. refl)
-pc_kept p instr.ClearBuf r = refl
-pc_kept p (instr.Set n x) r = refl
-pc_kept p (instr.Add n x) r = refl
-pc_kept p (instr.Sub n x) r = refl
-pc_kept p (instr.JLt n x l) r = refl
-pc_kept p (instr.JEq n x l) r = refl
-pc_kept p (instr.JNull v l) r = refl
-pc_kept p (instr.BCreate o) r = refl
-pc_kept p (instr.BClean b) r = refl
-pc_kept p (instr.BConcat a b) r = refl
-pc_kept p (instr.Pass b l) r = refl
-pc_kept p (instr.JEmpty b l) r = refl
-pc_kept p (instr.JSent l) r = refl
-pc_kept p (instr.Jump l) r = refl
-pc_kept p (instr.Ret s) r = refl
+pc_kept p i r = at_end_keeps (λ (x : Configuration). x.pc ≡ r.pc) p i r (step_changes_only p (record { answer = Success }) i r).pc (λ b passed. passed)
 
 pub pc_kept_by : (p : Program) (i : Instr) (r new : Configuration) (e : Exit) → step_at_end p i r ≡ record { exit = e; state = new } → new.pc ≡ r.pc
 pc_kept_by p i r new e went = sym (ap (λ (w : Outcome). w.state.pc) went) ∙ pc_kept p i r
 
--- the next place, where an instruction jumps or goes on
-after_jump : (p : Program) (l pc : ℕ) (i : Instr) (r : Configuration) (test : Bool) → r.pc ≡ pc → target i ≡ Some l → l < length p.code → pc + 1 < length p.code → (settled i (jumps_if test) r).1.pc < length p.code
-after_jump p l pc i r true same names inside next = subst (λ (o : Option ℕ). unwrap_or o 0 < length p.code) (sym names) inside
-after_jump p l pc i r false same names inside next = omega arith
+-- the next place, whether an instruction goes on, jumps or returns
+aimed : (o : Option ℕ) (n : ℕ) → 0 < n → IfSome o (λ t. t < n) → unwrap_or o 0 < n
+aimed None n some inside = some
+aimed (Some t) n some inside = inside
+
+next_inside : (n : ℕ) (i : Instr) (r : Configuration) (e : Exit) → r.pc + 1 < n → IfSome (target i) (λ t. t < n) → (settled i e r).1.pc < n
+next_inside n i r GoOn next jump = next
+next_inside n i r Jump next jump = aimed (target i) n (omega arith) jump
+next_inside n i r Return next jump = omega arith
 
 pub stays_inside : (p : Program) (i : Instr) (r : Configuration) → IsPlaced p r.pc i → r.pc < length p.code → (settled i (step_at_end p i r).exit (step_at_end p i r).state).1.pc < length p.code
-unfolding set_brigade set_number set_pool with_pools run_down
-stays_inside p (instr.PCreate q) r placed inside = made_under_named (λ (x : Configuration). x.pc + 1 < length p.code) p q r (placed.next refl) (λ parent e. placed.next refl)
-stays_inside p (instr.PClear q) r placed inside = on_named (λ (x : Configuration). x.pc + 1 < length p.code) pool_cleared (pool_named r (pool.Own q)) r (placed.next refl) (λ n e. placed.next refl)
-stays_inside p (instr.PDestroy q) r placed inside = on_named (λ (x : Configuration). x.pc + 1 < length p.code) pool_destroyed (pool_named r (pool.Own q)) r (placed.next refl) (λ n e. placed.next refl)
-stays_inside p (instr.Label q t) r placed inside = on_named (λ (x : Configuration). x.pc + 1 < length p.code) (label_registered (text_of p t)) (pool_named r q) r (placed.next refl) (λ n e. placed.next refl)
-stays_inside p (instr.Unlabel q t) r placed inside = on_named (λ (x : Configuration). x.pc + 1 < length p.code) (label_killed (text_of p t)) (pool_named r q) r (placed.next refl) (λ n e. placed.next refl)
-stays_inside p (instr.BSave o b) r placed inside = on_named (λ (x : Configuration). x.pc + 1 < length p.code) (saved_into o b) (made_on (r.instance.brigades o)) r (placed.next refl) (λ n e. placed.next refl)
-stays_inside p (instr.Put x l) r placed inside = after_jump p l r.pc (instr.Put x l) (do_put x r) (is_full r x) (pc_kept p (instr.Put x l) r) refl placed.jump (placed.next refl)
-stays_inside p instr.ClearBuf r placed inside = placed.next refl
-stays_inside p (instr.Set n x) r placed inside = placed.next refl
-stays_inside p (instr.Add n x) r placed inside = placed.next refl
-stays_inside p (instr.Sub n x) r placed inside = placed.next refl
-stays_inside p (instr.JLt n x l) r placed inside = after_jump p l r.pc (instr.JLt n x l) r (nat_lt (r.instance.numbers n) (value_of r x)) refl refl placed.jump (placed.next refl)
-stays_inside p (instr.JEq n x l) r placed inside = after_jump p l r.pc (instr.JEq n x l) r (r.instance.numbers n == value_of r x) refl refl placed.jump (placed.next refl)
-stays_inside p (instr.JNull v l) r placed inside = after_jump p l r.pc (instr.JNull v l) r (is_null r v) refl refl placed.jump (placed.next refl)
-stays_inside p (instr.BCreate o) r placed inside = placed.next refl
-stays_inside p (instr.BClean b) r placed inside = placed.next refl
-stays_inside p (instr.BConcat a b) r placed inside = placed.next refl
-stays_inside p (instr.Pass b l) r placed inside =
-    let d : Delivered = delivered r.out (items_of (r.instance.brigades b)) r.shared.files in
-    after_jump p l r.pc (instr.Pass b l) (with_delivered d (do_pass b r)) (is_fail (answer_to d.well)) refl refl placed.jump (placed.next refl)
-stays_inside p (instr.JEmpty b l) r placed inside = after_jump p l r.pc (instr.JEmpty b l) r (is_empty (items_of (r.instance.brigades b))) refl refl placed.jump (placed.next refl)
-stays_inside p (instr.JSent l) r placed inside = after_jump p l r.pc (instr.JSent l) r r.instance.sent refl refl placed.jump (placed.next refl)
 stays_inside p (instr.Jump l) r placed inside = placed.jump
 stays_inside p (instr.Ret s) r placed inside = inside
+stays_inside p i r placed inside = next_inside (length p.code) i (step_at_end p i r).state (step_at_end p i r).exit (subst (λ (n : ℕ). n + 1 < length p.code) (sym (pc_kept p i r)) (placed.next refl)) placed.jump
 
 -- whatever a watched step answers
 chosen : (p : Program) (x y : Result Stepped StepRefusal × Configuration) (b : Bool) → x.1.pc < length p.code → y.1.pc < length p.code → (cond b x y).1.pc < length p.code
