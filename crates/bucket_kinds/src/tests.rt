@@ -77,7 +77,9 @@ fn copies_and_reads_what_is_in_memory(rt: HostRuntime) -> Result<(), Fail> {
     let pool = in_memory(rt.alloc(), Kind::Pool(7), b"ab")?;
     let mut copy = copy_bucket(rt.alloc(), &pool)?;
     let mut files = MemFiles::new(rt.alloc());
-    let rest = read_bucket(rt.alloc(), &mut copy, &mut files).ok().ok_or("read")?;
+    let rest = read_bucket(rt.alloc(), &mut copy, &mut files)
+        .ok()
+        .ok_or("read")?;
     assert!(rt; rest.is_none());
     assert!(rt; matches!(copy.kind, Kind::Pool(7)) && holds(&copy, b"ab"));
     let metadata = copy_bucket(rt.alloc(), &eos())?;
