@@ -2,6 +2,7 @@
 """Plays random scripts with a program and with the reading of its rules, or with two programs, and compares the answers.
 
     python3 tests/differential/compare.py [N] [SEED] [--program PATH] [--with PATH] [--keep FOLDER]
+    python3 tests/differential/compare.py --alone [N] [SEED]
     python3 tests/differential/compare.py --answer < SCRIPT
 """
 import argparse
@@ -86,6 +87,21 @@ def report(players, names, script, path):
         print('  %s: %s' % (name, shown(player(small))))
 
 
+def generator_of(seed, number):
+    """The random numbers from which the script of this number is made."""
+    return random.Random('%s/%d' % (seed, number))
+
+
+def count_alone(scripts):
+    """Plays scripts with the reading alone, and tells how often what arose."""
+    for script in scripts:
+        try:
+            read_answer(script)
+        except TooBig:
+            pass
+    print(table())
+
+
 def main():
     parser = argparse.ArgumentParser(description='Compares a program with a reading of its rules, or with another program.')
     parser.add_argument('n', nargs='?', type=int, default=20000, metavar='N', help='how many scripts')
@@ -94,17 +110,20 @@ def main():
     parser.add_argument('--with', dest='other', help='another program, in place of the reading')
     parser.add_argument('--keep', default=tempfile.gettempdir(), help='the folder for a script with a difference')
     parser.add_argument('--counts', action='store_true', help='tell how often what arose')
+    parser.add_argument('--alone', action='store_true', help='play the reading alone, and tell how often what arose')
     parser.add_argument('--answer', action='store_true', help='only print what the reading answers to standard input')
     options = parser.parse_args()
     if options.answer:
         printed, status = play(sys.stdin.buffer.read())
         sys.stdout.buffer.write(printed)
         return status
+    if options.alone:
+        return count_alone(random_script(generator_of(options.seed, number)) for number in range(options.n))
     names = (options.other or 'reading', 'program')
     players = (answer_of(options.other) if options.other else read_answer, answer_of(options.program))
     start = time.monotonic()
     for number in range(options.n):
-        script = random_script(random.Random('%s/%d' % (options.seed, number)))
+        script = random_script(generator_of(options.seed, number))
         if differs(players, script):
             path = os.path.join(options.keep, 'difference_%s_%d' % (options.seed.replace('/', '_'), number))
             report(players, names, script, path)

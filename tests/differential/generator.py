@@ -10,16 +10,21 @@ from reading.events import Host
 from reading.pools import DEAD
 from reading.scripts import BadLine, answer
 from reading.steps import BUFFER
-from reading.texts import HANDLERS, MOST_TEXTS, OPERANDS, TEXT_LIMIT, U32, Module, number_or_constant
+from reading.texts import (HANDLERS, KINDS, MOST_TEXTS, OPERANDS, TEXT_LIMIT, U32, Handler, Module, Reader, are_one_brigade,
+                           number_or_constant)
+from walks import CHANGES_OF_ONE, CLEARED, WALKS, audit, lines_of
 
 MOST = 2 ** 64 - 1
 FILE_NAMES = ['a', 'b', 'c', 'f1', 'abcdefghij012345']
 COUNTERS = {'init': 6, 'main': 7}
 # How often each instruction is taken; what is not named is taken once.
 OFTEN = {'pcreate': 5, 'pclear': 2, 'label': 2, 'bcreate': 5, 'bclean': 4, 'bconcat': 6, 'bsave': 7, 'pass': 5, 'jempty': 2,
-         'add': 2, 'sub': 2, 'jump': .3, 'ret': 0}
+         'add': 2, 'sub': 2, 'jump': .3, 'ret': 0,
+         'first': 6, 'next': 4, 'jkind': 3, 'unlink': 3, 'tail': 5, 'head': 4, 'before': 4, 'heap': 2, 'split': 4, 'copy': 3,
+         'aside': 4, 'read': 5, 'len': 3, 'get': 4, 'bpart': 4, 'bsplit': 4, 'eos': .5}
 # Faults that seldom come about are written so many times as often.
-SELDOM = {'F2': .5, 'F5': 1000, 'F6': 200, 'F7': 5, 'F8': 100}
+SELDOM = {'F1': 2, 'F2': .5, 'F4': 6, 'F5': 1000, 'F6': 300, 'F7': 12, 'F8': 200, 'F9': 2, 'F10': 4}
+LONGEST_WALK = 5000                      # instructions of a walk; none with so many is written
 
 
 class Writer:
@@ -38,9 +43,10 @@ class Writer:
         self.kinds = rng.choice([['heap', 'transient', 'immortal', 'pool'], ['pool', 'heap'], ['pool'], ['heap', 'transient'],
                                  ['immortal', 'pool']])
         self.file_chance = rng.choice([0, .3, .7, .9])
+        self.walks = rng.choice([0, .1, .3, .6])                # how often a walk is taken in place of an instruction
         self.is_endless = False
         self.keeps = rng.random() < .5                          # brigades are rarely cleaned and passed
-        self.keeps_files = rng.random() < .25                   # what comes are files, which are kept past their requests
+        self.keeps_files = rng.random() < .3                    # what comes are files, which are kept past their requests
         if self.keeps_files:
             self.keeps, self.file_chance, self.kinds, self.wrong = True, .9, ['pool'], .003
         self.commands = []
@@ -81,6 +87,12 @@ class Writer:
         if kind in 'PQBOV':
             choices = self.operands_of(kind)
             return rng.choice(choices) if choices else None
+        if kind == 'C':
+            cursor = self.cursor()
+            return 'c%d' % cursor, cursor
+        if kind == 'K':
+            word = rng.choice(KINDS)
+            return word, word
         if kind == 'N':
             number = rng.randrange(6)
             return 'n%d' % number, number
@@ -94,6 +106,12 @@ class Writer:
         self.labels += 1
         return 'l%d' % self.labels, 'taken'
 
+    def cursor(self):
+        """A cursor, mostly one that names something that is there."""
+        call, rng = self.host.call, self.rng
+        there = [i for i, named in enumerate(call.cursors) if self.host.place_of(named)] if call else []
+        return rng.choice(there) if there and rng.random() < .8 else rng.randrange(8)
+
     def instruction(self, word=None):
         """A random instruction of this word, or of any: its line, and as the reading has it; None where an operand is
         wanting."""
@@ -103,7 +121,7 @@ class Writer:
         if 'T' in OPERANDS[word] and self.texts >= MOST_TEXTS - 1:
             return None
         operands = [self.operand(kind) for kind in OPERANDS[word]]
-        if None in operands or word in ('bconcat', 'bsave') and operands[0] == operands[1]:
+        if None in operands or are_one_brigade(OPERANDS[word], operands):
             return None
         return ' '.join([word] + [text for text, _ in operands]), (word, *[value for _, value in operands])
 
@@ -166,16 +184,82 @@ class Writer:
             self.do(('label', 'conn', b'%d' % self.texts))
         self.lines.append(':' + label)
 
+    def block(self, lines):
+        """Writes code with jumps of its own and does it; gives whether the call goes on. Code that takes long is left out."""
+        reader = Reader(b'')
+        reader.module.pools, reader.module.brigades = self.module.pools, self.module.brigades
+        reader.handlers = [Handler(0, 0)]
+        for line in lines:
+            first, rest = (':', line[1:]) if line[0] == ':' else (line.split(' ')[0], line.partition(' ')[2] or None)
+            reader.take_code(first, rest, self.handler)
+        code, places = reader.module.code, {name: place for name, _, place in reader.handlers[0].labels}
+        code = [(*part[:-1], places[part[-1]]) if 'L' in OPERANDS[part[0]] else part for part in code]
+        self.lines += lines
+        self.texts += reader.texts
+        self.host.call.pc = 0
+        while self.host.call.pc < len(code):
+            instruction = code[self.host.call.pc]
+            if self.host.fault_of(instruction):
+                return False
+            self.host.do(instruction)
+        return True
+
+    def words(self):
+        """Words for a block, or None where no usable brigade has buckets or no other one is there."""
+        rng, host = self.rng, self.host
+        brigades = [(word, brigade) for word, brigade in dict(self.operands_of('B')).items()
+                    if host.fault_of(('jempty', brigade, 0)) is None]
+        filled = [word for word, brigade in brigades if host.brigade_of(brigade).buckets]
+        if not filled or len(brigades) < 2 or self.texts >= MOST_TEXTS - 3:
+            return None
+        chosen = rng.choice(filled)
+        pools = [word for word, pool in self.operands_of('P') if host.pool_of(pool) is not None]
+        c, d = rng.sample(range(8), 2)
+        n, m = rng.sample(range(5), 2)
+        self.labels += 1
+        return {'B': chosen, 'O': rng.choice([word for word, _ in brigades if word != chosen]), 'c': 'c%d' % c, 'd': 'c%d' % d,
+                'n': 'n%d' % n, 'm': 'n%d' % m, 'P': rng.choice(pools), 'x': str(rng.choice([0, 1, 1, 2, 3, 5, 8, 8000, 20000])),
+                'T': self.operand('T')[0], 'U': self.operand('T')[0], 'l': 'w%dx' % self.labels}
+
+    def walk(self):
+        """A walk along a brigade, a change of one bucket, or both, and what then stands where is told."""
+        rng, words = self.rng, self.words()
+        if not words:
+            return self.step()
+        brigade = self.host.brigade_of(dict(self.operands_of('B'))[words['B']])
+        template = rng.choice(rng.choice([WALKS, CHANGES_OF_ONE, CHANGES_OF_ONE]))
+        pools = [word for word, pool in self.operands_of('Q') if self.host.pool_of(pool) is not None]
+        if pools and rng.random() < .05:
+            template, words['Q'] = CLEARED, rng.choice(pools)
+        if sum(map(self.host.length, brigade.buckets)) > LONGEST_WALK and 'get {m}' in template:
+            template = CHANGES_OF_ONE[0]
+        if not self.block(lines_of(template, words)):
+            return False
+        return rng.random() < .6 or self.audit()
+
+    def audit(self):
+        """Tells of a brigade whether all in it is as the reading has it."""
+        words = self.words()
+        if not words:
+            return True
+        buckets = self.host.brigade_of(dict(self.operands_of('B'))[words['B']]).buckets
+        number = self.host.numbers[int(words['m'][1])]
+        if len(buckets) > 12:
+            return True
+        end = words['l'] + 'z'
+        return self.block(audit(buckets, self.host.length, words)
+                          + ['jeq %s %d %s' % (words['m'], number, end), 'label conn "audit"', ':' + end])
+
     def fill_buffer(self):
         """A loop that fills the buffer, or nearly."""
         rng = self.rng
         self.labels += 2
         again, full = 'l%d' % (self.labels - 1), 'l%d' % self.labels
-        count = rng.choice([3, 4000, 7999, 8000, 8001])
-        self.lines += ['set n5 0', ':' + again, 'put %s %s' % (rng.choice(['0', '255']), full), 'add n5 1',
+        count, byte = rng.choice([3, 4000, 7999, 8000, 8001]), rng.choice([0, 255])
+        self.lines += ['set n5 0', ':' + again, 'put %d %s' % (byte, full), 'add n5 1',
                        'jlt n5 %d %s' % (count, again), ':' + full]
-        self.host.numbers[5] = min(count, BUFFER - self.host.call.buffered)
-        self.host.call.buffered += self.host.numbers[5]
+        self.host.numbers[5] = min(count, BUFFER - len(self.host.call.buffer))
+        self.host.call.buffer += bytes([byte]) * self.host.numbers[5]
 
     def write_call(self):
         """Writes the code of the call that runs, up to its end or its fault."""
@@ -198,20 +282,38 @@ class Writer:
     def some_step(self):
         """A step; often one that does something about what was brought."""
         chance = self.rng.random()
-        if chance < .01:
+        if chance < .004:
             self.fill_buffer()
             return True
+        homes = [bucket.home for bucket in self.host.all_buckets()]
+        if DEAD in homes and self.handler == 'main' and self.rng.random() < .6:
+            return self.use_of_dead()
+        if self.rng.random() < self.walks:
+            return self.walk()
         brought = self.host.brought
         if brought and brought.buckets and chance < .04:
             return self.carry()
         if brought and brought.buckets and chance < .4:
             return self.step(self.rng.choice(['bconcat', 'bsave'] if self.keeps_files else ['bconcat', 'bsave', 'bsave', 'pass']))
-        homes = [bucket.home for bucket in self.host.all_buckets()]
-        if DEAD in homes and chance < .3 and self.handler == 'main':
-            return self.step(self.rng.choice(['bsave', 'pass', 'bconcat']))
         if any(kind == 'pool' for kind, _ in homes) and chance < .1:
             return self.step(self.rng.choice(['pclear', 'pdestroy']))
         return self.step()
+
+    def use_of_dead(self):
+        """A use of a bucket whose home is dead, or something near it."""
+        rng, host = self.rng, self.host
+        dead = [(word, place) for word, brigade in dict(self.operands_of('O')).items() if host.brigade_of(brigade)
+                for place, bucket in enumerate(host.brigade_of(brigade).buckets) if bucket.home == DEAD]
+        if not dead or rng.random() < .5:
+            return self.step(rng.choice(['bsave', 'pass', 'bconcat', 'read', 'copy', 'aside', 'split', 'bpart']))
+        word, place = rng.choice(dead)
+        buckets = host.brigade_of(dict(self.operands_of('O'))[word]).buckets
+        point = sum(map(host.length, buckets[:place])) + rng.choice([0, 1, 1, host.length(buckets[place])])
+        self.labels += 1
+        use = rng.choice(['read c0 {l}', 'copy c1 c0', 'aside c0 conn', 'split c0 1 {l}', 'bpart {b} {x} c1 {l}', 'pass {b} {l}',
+                          'unlink c0', 'bdelete c0', 'len n0 c0'])
+        lines = ['first c0 ' + word] + ['next c0 c0'] * place + [use, ':{l}']
+        return self.block([line.format(b=word, x=point, l='d%d' % self.labels) for line in lines])
 
     def carry(self):
         """Saves what was brought into a brigade on a pool, moves it on, clears that pool, and uses it."""
@@ -234,6 +336,10 @@ class Writer:
     def end_call(self):
         """Cleans what may not be kept, mostly, and returns."""
         host = self.host
+        if self.keeps_files and host.brought and host.brought.buckets and not self.step(self.rng.choice(['bconcat', 'bconcat', 'bsave'])):
+            self.lines.append('ret ok')
+            host.broken = 'Faulted'
+            return
         for i, name in enumerate(host.brigade_variables):
             brigade = host.brigades.get(name)
             kept = brigade and any(bucket.home[0] == 'call' for bucket in brigade.buckets)
@@ -327,11 +433,11 @@ class Writer:
         for line in ('open', 'run 1'):
             self.command(line)
             between()
-        for _ in range(rng.choice([1, 2, 2, 3])):
+        for _ in range(rng.choice([2, 3, 4] if self.keeps_files else [1, 2, 2, 3])):
             for line in ('begin 1', 'run 1'):
                 self.command(line)
                 between()
-            for _ in range(rng.choice([0, 1, 2, 3, 4])):
+            for _ in range(rng.choice([1, 2] if self.keeps_files else [0, 1, 2, 3, 4])):
                 self.bring()
                 between()
                 self.command('run 1')
@@ -386,7 +492,7 @@ class Writer:
         return lines
 
 
-# The kinds of scripts, as lists of lines.
+# The ways to make a script, as a list of lines.
 
 def played(rng):
     """A script that is right as a text; of some, the module or the commands are changed."""
@@ -450,15 +556,15 @@ def at_limits(rng):
     return lines + ['bring 1', 'run 1', 'output 1', 'close 1']
 
 
-KINDS = [(.83, played), (.95, odd_module), (.992, odd_labels), (1, at_limits)]
+WAYS = [(.83, played), (.95, odd_module), (.992, odd_labels), (1, at_limits)]
 
 
 def random_script(rng):
     """The bytes of a random script."""
     chance = rng.random()
-    kind = next(kind for limit, kind in KINDS if chance < limit)
+    way = next(way for limit, way in WAYS if chance < limit)
     with uncounted():
-        lines = kind(rng)
+        lines = way(rng)
     text = '\n'.join(lines).encode('latin-1') + b'\n'
     chance = rng.random()
     if chance < .01:

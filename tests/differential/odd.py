@@ -1,9 +1,8 @@
 """Words and lines that are right, nearly right or wrong, and changes of a script's lines."""
-from reading.texts import OPERANDS, U32
+from reading.texts import KINDS, OPERANDS, U32
 
-# Words of instructions that are not there yet, and of none.
-UNKNOWN = ['bsplit', 'bpart', 'first', 'next', 'jend', 'jkind', 'unlink', 'bdelete', 'tail', 'head', 'before', 'heap',
-           'immortal', 'frombuf', 'transient', 'poolb', 'flush', 'eos', 'split', 'copy', 'aside', 'read', 'len', 'get', 'frob']
+# Words that begin no line of a module.
+UNKNOWN = ['frob', 'file', 'data', 'metadata', 'insert', 'bhead', 'btail', 'poolb0', 'reads', 'jkin', 'Heap', 'EOS']
 NUMBERS = [0, 1, 2, 3, 255, 256, 257, 7999, 8000, 8001, 2 ** 31 - 1, 2 ** 31, U32 - 1, U32]
 
 # Words that are often right where an operand of the kind is due.
@@ -11,11 +10,12 @@ LIKELY = {
     'P': ['p0', 'p1', 'conn', 'req', 'p2', 'p5'], 'Q': ['p0', 'p1', 'p2', 'p6'],
     'B': ['b0', 'b1', 'in', 'b2', 'b5'], 'O': ['b0', 'b1', 'b2', 'b6'], 'V': ['p0', 'b0', 'p3', 'b3', 'p1'],
     'N': ['n0', 'n7'], 'X': ['n1', '0', '4294967295'], 'T': ['"a"', '""', '"\\x00"'],
-    'L': ['aa', 'aa', 'aa', 'bb'], 'S': ['ok', 'fail'],
+    'C': ['c0', 'c1', 'c7'], 'K': list(KINDS), 'L': ['aa', 'aa', 'aa', 'bb'], 'S': ['ok', 'fail'],
 }
 ODD_OPERANDS = [
     'p0', 'p1', 'p7', 'p8', 'p', 'p00', 'p10', 'b0', 'b1', 'b7', 'b8', 'b-1', 'in', 'In', 'conn', 'req', 'n0', 'n7', 'n8', 'n',
-    '0', '00', '1', '01', '255', '4294967295', '4294967296', '99999999999', '-1', '+1', '1e3', '0x1', 'c0', 'ok', 'fail', 'l1',
+    '0', '00', '1', '01', '255', '4294967295', '4294967296', '99999999999', '-1', '+1', '1e3', '0x1', 'ok', 'fail', 'l1',
+    'c0', 'c1', 'c7', 'c8', 'c', 'c01', 'C0', 'heap', 'file', 'eos', 'Eos', 'data', 'metadata',
     'L', 'x', 'abcdefghijklmnop', 'abcdefghijklmnopq', '9a', 'a-b', '""', '"a"', '"', '"\\q"', '"\\x1"', '"\\xAB"', '"\\xab"',
     '"a"b', '"a', '"a b"', '"\\"', '"\\""', '"a" "b"', "'a'", '\\', ':', '', ' ', '#', 'p1 ',
     '"%s"' % ('y' * 254), '"%s"' % ('y' * 255), '"%s"' % ('y' * 256), '"%s"' % ('\\x41' * 255), '"%s"' % ('\\x41' * 256),
@@ -158,7 +158,7 @@ def without_end_of_handler(rng, lines, _):
 
 
 def other_label(rng, lines, _):
-    places = [i for i, line in enumerate(lines) if line.startswith(('j', 'put', 'pass'))]
+    places = [i for i, line in enumerate(lines) if 'L' in OPERANDS.get(line.split(' ')[0], '')]
     if places:
         place = rng.choice(places)
         lines[place] = ' '.join(lines[place].split(' ')[:-1] + [rng.choice(['nolabel', 'l1', 'l2', 'zz0'])])

@@ -1,7 +1,7 @@
 -- An instruction is made again from its word and its operands.
 use Rattle.std.proofs.Common.{◌≡◌, ℕ, Bool, true, false, ◌&&◌, ◌||◌, not, List, Option, Some, None, refl, sym, ◌∙◌, ap, subst}
 use Rattle.std.specs.Prelude.{IfSome, is_some, option_map}
-use Rattle.module_lang.specs.Args.{AreOf, IsSplit, arg_aim, arg_index, arg_place, arg_status, arg_text, arg_value, arg_variable, args, first_some, is_of, made, names_target, names_text, op_of, parts}
+use Rattle.module_lang.specs.Args.{AreOf, IsSplit, arg_aim, arg_index, arg_kind_test, arg_place, arg_status, arg_text, arg_value, arg_variable, args, first_some, four_args, is_of, made, names_target, names_text, op_of, parts}
 use Rattle.module_lang.specs.Handlers.{arg_in, args_in, label_of, op_instr}
 use Rattle.module_lang.specs.Operands.{operand_kind_is_text}
 use Rattle.module_lang.specs.Program.{target, text_of_instr}
@@ -20,9 +20,6 @@ use Rattle.module_lang.specs.declared.word.OperandKinds.{OperandKinds}
 use Rattle.module_lang.specs.declared.word.Op.{Op}
 use Rattle.module_lang.specs.declared.word.Op.TheVariants as op
 
-abbrev four : Arg → Arg → Arg → Arg → Args
-four a b c d = record { first = a; second = b; third = c; fourth = d }
-
 -- an operand that its kind knows
 abbrev as_kind : OperandKind → Arg → Arg
 as_kind kind.Nothing a = arg.Nothing
@@ -37,6 +34,8 @@ as_kind kind.Text a = arg.Text (arg_text a)
 as_kind kind.Variable a = arg.Variable (arg_variable a)
 as_kind kind.Number a = arg.Number (arg_index a)
 as_kind kind.Value a = arg.Value (arg_value a)
+as_kind kind.Cursor a = arg.Cursor (arg_index a)
+as_kind kind.KindTest a = arg.KindTest (arg_kind_test a)
 
 same_kind : (k : OperandKind) (a : Arg) → is_of k a ≡ true → as_kind k a ≡ a
 same_kind kind.Nothing arg.Nothing h = refl
@@ -50,10 +49,12 @@ same_kind kind.Text (arg.Text t) h = refl
 same_kind kind.Variable (arg.Variable v) h = refl
 same_kind kind.Number (arg.Number i) h = refl
 same_kind kind.Value (arg.Value v) h = refl
+same_kind kind.Cursor (arg.Cursor i) h = refl
+same_kind kind.KindTest (arg.KindTest k) h = refl
 same_kind _ _ h = absurd (cc h)
 
 -- the table is the same read from either side
-made_kinds : (o : Op) (a : Args) → parts (made o a) ≡ (o, four (as_kind (op_kinds o).first a.first) (as_kind (op_kinds o).second a.second) (as_kind (op_kinds o).third a.third) (as_kind (op_kinds o).fourth a.fourth))
+made_kinds : (o : Op) (a : Args) → parts (made o a) ≡ (o, four_args (as_kind (op_kinds o).first a.first) (as_kind (op_kinds o).second a.second) (as_kind (op_kinds o).third a.third) (as_kind (op_kinds o).fourth a.fourth))
 made_kinds op.ClearBuf a = refl
 made_kinds _ a = refl
 
@@ -64,7 +65,7 @@ split_again _ = record { again = refl; kinds = record { first = refl; second = r
 pub made_again : (o : Op) (a : Args) → AreOf (op_kinds o) a → parts (made o a) ≡ (o, a)
 made_again o a h =
     let k = op_kinds o in
-    made_kinds o a ∙ (λ i. (o, four (same_kind k.first a.first h.first i) (same_kind k.second a.second h.second i) (same_kind k.third a.third h.third i) (same_kind k.fourth a.fourth h.fourth i)))
+    made_kinds o a ∙ (λ i. (o, four_args (same_kind k.first a.first h.first i) (same_kind k.second a.second h.second i) (same_kind k.third a.third h.third i) (same_kind k.fourth a.fourth h.fourth i)))
 
 -- operands that are read by their kinds are of them
 pub args_are : (i : Op) (o : Operands) (x t : ℕ) → AreOf (op_kinds i) (args_in (op_kinds i) o x t)
@@ -165,6 +166,8 @@ arg_made kind.Variable (arg.Variable (variable.Pool q)) n len x t h a w = refl
 arg_made kind.Variable (arg.Variable (variable.Brigade b)) n len x t h a w = refl
 arg_made kind.Number (arg.Number m) n len x t h a w = refl
 arg_made kind.Value (arg.Value v) n len x t h a w = refl
+arg_made kind.Cursor (arg.Cursor c) n len x t h a w = refl
+arg_made kind.KindTest (arg.KindTest k) n len x t h a w = refl
 arg_made _ _ n len x t h a w = absurd (cc h)
 
 -- an instruction is made again from its operands as they are written, with its target and the number of its text
@@ -179,4 +182,4 @@ instr_again i n len x t a w =
     let q = arg_made (op_kinds (op_of i)).second y.second n len x t z.kinds.second e.1 (subst (λ v. IfSome v (λ u. x ≡ u)) f.second w) in
     let r = arg_made (op_kinds (op_of i)).third y.third n len x t z.kinds.third e.2 (none (names_text y.third) f.third) in
     let s = arg_made (op_kinds (op_of i)).fourth y.fourth n len x t z.kinds.fourth e.3 (none (names_text y.fourth) f.fourth) in
-    (λ j. made (op_of i) (four (p j) (q j) (r j) (s j))) ∙ z.again
+    (λ j. made (op_of i) (four_args (p j) (q j) (r j) (s j))) ∙ z.again

@@ -59,6 +59,8 @@ token_found kind.Variable t (operand.Place (pool.Own i)) x v d h n s len l = (ap
 token_found kind.Variable t (operand.Brigade b) x v d h n s len l = (ap (λ y. y ∷ []) (own_is b (ltb-true b 8 d) ∙ sym h), refl)
 token_found kind.Number t (operand.Value (value.Number i)) x v d h n s len l = (ap (λ y. y ∷ []) (sym h.0), refl)
 token_found kind.Value t (operand.Value y) x v d h n s len l = (ap (λ y. y ∷ []) (sym h.0), refl)
+token_found kind.Cursor t (operand.Cursor i) x v d h n s len l = (ap (λ y. y ∷ []) (sym h.0), refl)
+token_found kind.KindTest t (operand.KindTest k) x v d h n s len l = (ap (λ y. y ∷ []) (sym h), refl)
 token_found _ t _ x v d h n s len l = absurd (cc d)
 
 label_named : (k : OperandKind) (t : List ℕ) (o : Operand) → of_kind k o ≡ true → Spells o t → is_label k ≡ true → is_name t ≡ true

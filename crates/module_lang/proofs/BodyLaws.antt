@@ -14,8 +14,8 @@ use Rattle.module_lang.specs.Program.{Program, IsModule, fits, target, text_at, 
 use Rattle.module_lang.specs.Args.{args, names_text, op_of}
 use Rattle.module_lang.specs.Quoted.{quoted, text_of}
 use Rattle.module_lang.specs.Spelling.{operands_of}
-use Rattle.module_lang.specs.Texts.{CodeLine, Spells, label, step, arg_texts, brigade_text, number_text, operands_text, status_text, value_text, code_text, instr_word, line_text, instrs, operand_texts, pool_texts, brigade_texts, place_text, own_text}
-use Rattle.module_lang.specs.Words.{word_text, word_kinds}
+use Rattle.module_lang.specs.Texts.{CodeLine, Spells, label, step, arg_texts, brigade_text, cursor_text, number_text, operands_text, status_text, value_text, code_text, instr_word, line_text, instrs, operand_texts, pool_texts, brigade_texts, place_text, own_text}
+use Rattle.module_lang.specs.Words.{kind_test_text, word_text, word_kinds}
 use Rattle.module_lang.specs.declared.arg.Arg.{Arg}
 use Rattle.module_lang.specs.declared.arg.Arg.TheVariants as arg
 use Rattle.module_lang.specs.declared.draft.Draft.{Draft}
@@ -207,6 +207,8 @@ arg_bare p a n s len os x e = by_kind a x e
     by_kind (arg.Variable (variable.Brigade b)) x e = quote_behind (own_text b) (operands_text os) (place_unquoted (pool.Own b))
     by_kind (arg.Number m) x e = quote_behind (number_text m) (operands_text os) (place_unquoted (pool.Own m))
     by_kind (arg.Value v) x e = quote_behind (value_text v) (operands_text os) (token_unquoted (operand.Value v) (value_text v) (refl, x.fit.0))
+    by_kind (arg.Cursor c) x e = quote_behind (cursor_text c) (operands_text os) (token_unquoted (operand.Cursor c) (cursor_text c) (refl, x.fit.0))
+    by_kind (arg.KindTest k) x e = quote_behind (kind_test_text k) (operands_text os) (token_unquoted (operand.KindTest k) (kind_test_text k) refl)
 
 text_first : (p : Program) (a : Arg) (n s : List ℕ) (os : List (List ℕ)) (t : ℕ) → names_text a ≡ Some t → Spells s (text_at p t) → from_quote (operands_text (arg_texts a n s ++ os)) ≡ s ++ operands_text os
 text_first p (arg.Text u) n s os t e h = rw h.whole refl

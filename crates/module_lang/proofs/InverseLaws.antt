@@ -1,5 +1,5 @@
 -- What is read was spelled so: words, operands and lines.
-use Rattle.std.proofs.Common.{◌≡◌, ℕ, zero, suc, ◌+◌, ◌-◌, ◌^◌, ◌<◌, Bool, true, false, ◌&&◌, not, cond, eqb, leb, nat_eq, List, [], ◌∷◌, ◌++◌, length, take, drop, Option, Some, None, Ok, Err, refl, sym, ◌∙◌, ap, subst, arith}
+use Rattle.std.proofs.Common.{◌≡◌, ℕ, zero, suc, ◌+◌, ◌-◌, ◌^◌, ◌<◌, Bool, true, false, ◌&&◌, not, cond, eqb, leb, ltb, nat_eq, List, [], ◌∷◌, ◌++◌, length, take, drop, Option, Some, None, Ok, Err, refl, sym, ◌∙◌, ap, subst, arith}
 use Rattle.std.specs.Prelude.{All, slice_index, codes, option_map, find}
 use Rattle.std.specs.Cmp.Lexicographic.{pointwise, same_text}
 use Rattle.std.proofs.lemmas.Bool.{and_parts, leb-true, eqb-true, lt-ltb, ltb-true, ne_eqb}
@@ -10,11 +10,13 @@ use Rattle.module_lang.specs.Lines.{is_due, judged, known_word, or_unknown, labe
 use Rattle.module_lang.specs.Entries.{from_quote}
 use Rattle.module_lang.specs.Names.{all_name_bytes, is_letter, is_name, is_name_byte, name_of}
 use Rattle.module_lang.specs.Numbers.{constant_of, is_value}
-use Rattle.module_lang.specs.Operands.{numbered, operand_in, operand_at, after_operand, operands_at, operand_kind_is_nothing, operand_kind_is_text, or_wrong, text_measured, text_operand}
+use Rattle.module_lang.specs.Operands.{kind_test_at, numbered, operand_in, operand_at, after_operand, operands_at, operand_kind_is_nothing, operand_kind_is_text, or_wrong, text_measured, text_operand}
 use Rattle.module_lang.specs.Quoted.{Quoted, quoted, measure_of, text_of}
-use Rattle.module_lang.specs.Texts.{place_text, own_text, brigade_text, status_text, value_text, operands_text}
-use Rattle.module_lang.specs.Words.{all_words, word_at, word_text, word_kinds, two_operands, one_operand, no_operand}
+use Rattle.module_lang.specs.Texts.{place_text, own_text, brigade_text, cursor_text, status_text, value_text, operands_text}
+use Rattle.module_lang.specs.Words.{all_kind_tests, all_words, kind_test_text, word_at, word_text, word_kinds, two_operands, one_operand, no_operand}
 use Rattle.module_lang.specs.declared.draft.Draft.{Draft}
+use Rattle.module_lang.specs.declared.instr.KindTest.{KindTest}
+use Rattle.module_lang.specs.declared.instr.KindTest.TheVariants as kind_test
 use Rattle.module_lang.specs.declared.instr.PoolRef.TheVariants as pool
 use Rattle.module_lang.specs.declared.instr.Status.TheVariants as status
 use Rattle.module_lang.specs.declared.instr.Value.TheVariants as value
@@ -101,6 +103,8 @@ Spells (operand.Ending s) t = t ≡ status_text s
 Spells (operand.Label n) t = (is_name t ≡ true) × (n ≡ padded t)
 Spells (operand.Text n) t = ⊥
 Spells (operand.Value v) t = (t ≡ value_text v) × (is_value v ≡ true)
+Spells (operand.Cursor c) t = (t ≡ cursor_text c) × (ltb c 8 ≡ true)
+Spells (operand.KindTest k) t = t ≡ kind_test_text k
 
 to : (o x : Operand) (t : List ℕ) → Some x ≡ Some o → Spells x t → Spells o t
 to o x t e h = let s : x ≡ o = cc e in subst (λ y. Spells y t) s h
@@ -158,6 +162,14 @@ value_spelled : (a : Bool) (t : List ℕ) (o : Operand) → cond a (option_map (
 value_spelled true t o e = number_spelled (numbered 110 t) t o refl e
 value_spelled false t o e = constant_spelled (constant_of t) t o refl e
 
+cursor_spelled : (n : Option ℕ) (t : List ℕ) (o : Operand) → numbered 99 t ≡ n → option_map (λ i. operand.Cursor i) n ≡ Some o → Spells o t
+cursor_spelled None t o q e = absurd (cc e)
+cursor_spelled (Some i) t o q e = to o (operand.Cursor i) t e (numbered_spelled 99 t i q, lt-ltb i 8 (numbered_below 99 t i q))
+
+kind_test_spelled : (r : Option KindTest) (t : List ℕ) (o : Operand) → kind_test_at t ≡ r → option_map (λ k. operand.KindTest k) r ≡ Some o → Spells o t
+kind_test_spelled None t o q e = absurd (cc e)
+kind_test_spelled (Some k) t o q e = to o (operand.KindTest k) t e (sym (same_text (kind_test_text k) t (sym (found_passes (λ x. pointwise nat_eq (kind_test_text x) t) all_kind_tests k q))))
+
 pub token_spelled : (k : OperandKind) (t : List ℕ) (o : Operand) → operand_in k t ≡ Some o → Spells o t
 unfolding operand_in
 token_spelled kind.Nothing t o e = absurd (cc e)
@@ -172,6 +184,8 @@ token_spelled kind.Text t o e = absurd (cc e)
 token_spelled kind.Variable t o e = variable_spelled (begins 112 t) t o e
 token_spelled kind.Number t o e = number_spelled (numbered 110 t) t o refl e
 token_spelled kind.Value t o e = value_spelled (begins 110 t) t o e
+token_spelled kind.Cursor t o e = cursor_spelled (numbered 99 t) t o refl e
+token_spelled kind.KindTest t o e = kind_test_spelled (kind_test_at t) t o refl e
 
 nothing_behind : (rest : List ℕ) → after_operand kind.Nothing rest ≡ rest
 unfolding after_operand
@@ -232,6 +246,10 @@ all_named : (n : List ℕ) → is_name n ≡ true → list_all is_name_byte n �
 unfolding is_name all_name_bytes
 all_named n h = (and_parts (leb 1 (length n) && leb (length n) 16 && is_letter (slice_index n 0)) (list_all is_name_byte n) h).1
 
+kind_test_unquoted : (k : KindTest) → unquoted (kind_test_text k) ≡ true
+kind_test_unquoted kind_test.Data = refl
+kind_test_unquoted _ = refl
+
 -- no operand but a text has a quote
 pub token_unquoted : (o : Operand) (t : List ℕ) → Spells o t → unquoted t ≡ true
 token_unquoted operand.Nothing t h = absurd h
@@ -248,6 +266,8 @@ token_unquoted (operand.Label n) t h = name_unquoted t (all_named t h.0)
 token_unquoted (operand.Text n) t h = absurd h
 token_unquoted (operand.Value (value.Number i)) t h = rw h.0 (let apart : eqb (48 + i) 34 ≡ false = ne_eqb (48 + i) 34 (λ e. omega arith) in rw apart refl)
 token_unquoted (operand.Value (value.Constant k)) t h = rw h.0 (decimal_without 34 k refl (ltb-true k (2 ^ 32) h.1))
+token_unquoted (operand.Cursor i) t h = rw h.0 (let apart : eqb (48 + i) 34 ≡ false = ne_eqb (48 + i) 34 (λ e. omega arith) in rw apart refl)
+token_unquoted (operand.KindTest k) t h = rw h (kind_test_unquoted k)
 
 -- a text that was read
 pub record TextRead (rest : List ℕ) (o : Operand) : Type 0 where

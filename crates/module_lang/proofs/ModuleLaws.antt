@@ -172,6 +172,8 @@ one_fits p kind.Variable (operand.Place (pool.Own i)) x t h d w = (d, tt)
 one_fits p kind.Variable (operand.Brigade b) x t h d w = (own_brigade (length p.brigades) b (ltb-true b 8 h) d, tt)
 one_fits p kind.Number (operand.Value (value.Number i)) x t h d w = (h, tt)
 one_fits p kind.Value (operand.Value v) x t h d w = (h, tt)
+one_fits p kind.Cursor (operand.Cursor i) x t h d w = (h, tt)
+one_fits p kind.KindTest (operand.KindTest k) x t h d w = tt
 one_fits p _ _ x t h d w = absurd (cc h)
 
 -- two operands that were read are not one brigade

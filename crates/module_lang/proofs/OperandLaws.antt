@@ -8,11 +8,12 @@ use Rattle.module_lang.specs.Codes.{◌>>=◌, unless}
 use Rattle.module_lang.specs.Handlers.{arg_in, op_instr, operand_index, operand_status, operand_value, operand_variable}
 use Rattle.module_lang.specs.Names.{name_of}
 use Rattle.module_lang.specs.Numbers.{constant_of}
-use Rattle.module_lang.specs.Operands.{IsOfKinds, numbered, of_kind, operand_in, operand_at, operand_place, operand_kind_is_text, or_wrong, text_operand, text_measured, operands_at, after_operand}
+use Rattle.module_lang.specs.Operands.{IsOfKinds, kind_test_at, numbered, of_kind, operand_in, operand_at, operand_place, operand_kind_is_text, or_wrong, text_operand, text_measured, operands_at, after_operand}
 use Rattle.module_lang.specs.Quoted.{quoted, measure_of}
 use Rattle.module_lang.specs.Spelling.{number_operand, operand_of, operands_of, own_pool, variable_operand}
 use Rattle.module_lang.specs.Words.{op_kinds}
 use Rattle.module_lang.specs.declared.arg.Args.{Args}
+use Rattle.module_lang.specs.declared.instr.KindTest.{KindTest}
 use Rattle.module_lang.specs.declared.instr.PoolRef.TheVariants as pool
 use Rattle.module_lang.specs.declared.instr.Status.TheVariants as status
 use Rattle.module_lang.specs.declared.instr.Value.TheVariants as value
@@ -116,6 +117,14 @@ value_kind : (a : Bool) (t : List ℕ) (o : Operand) → cond a (option_map (λ 
 value_kind true t o e = number_value (numbered 110 t) o (numbered_below 110 t) e
 value_kind false t o e = constant_value (constant_of t) o (λ k h. (constant_found t k h).1) e
 
+cursor_kind : (n : Option ℕ) (o : Operand) → ((i : ℕ) → n ≡ Some i → i < 8) → option_map (λ i. operand.Cursor i) n ≡ Some o → of_kind kind.Cursor o ≡ true
+cursor_kind None o h e = absurd (cc e)
+cursor_kind (Some i) o h e = is_kind kind.Cursor (operand.Cursor i) o (lt-ltb i 8 (h i refl)) e
+
+kind_test_kind : (r : Option KindTest) (o : Operand) → option_map (λ k. operand.KindTest k) r ≡ Some o → of_kind kind.KindTest o ≡ true
+kind_test_kind None o e = absurd (cc e)
+kind_test_kind (Some k) o e = is_kind kind.KindTest (operand.KindTest k) o refl e
+
 pub token_kind : (k : OperandKind) (t : List ℕ) (o : Operand) → operand_in k t ≡ Some o → of_kind k o ≡ true
 unfolding operand_in
 token_kind kind.Nothing t o e = absurd (cc e)
@@ -130,6 +139,8 @@ token_kind kind.Text t o e = absurd (cc e)
 token_kind kind.Variable t o e = variable_kind (begins 112 t) t o e
 token_kind kind.Number t o e = number_kind (numbered 110 t) o (numbered_below 110 t) e
 token_kind kind.Value t o e = value_kind (begins 110 t) t o e
+token_kind kind.Cursor t o e = cursor_kind (numbered 99 t) o (numbered_below 99 t) e
+token_kind kind.KindTest t o e = kind_test_kind (kind_test_at t) o e
 
 wrong_or : (k : OperandKind) (t : List ℕ) (r : Option Operand) (o : Operand) → operand_in k t ≡ r → or_wrong r ≡ Ok o → of_kind k o ≡ true
 wrong_or k t None o q e = absurd (cc e)
@@ -270,6 +281,8 @@ one_shape kind.Variable (operand.Place (pool.Own i)) x t n len v h l w = refl
 one_shape kind.Variable (operand.Brigade b) x t n len v h l w = refl
 one_shape kind.Number (operand.Value (value.Number i)) x t n len v h l w = refl
 one_shape kind.Value (operand.Value y) x t n len v h l w = refl
+one_shape kind.Cursor (operand.Cursor i) x t n len v h l w = refl
+one_shape kind.KindTest (operand.KindTest y) x t n len v h l w = refl
 one_shape _ _ x t n len v h l w = absurd (cc h)
 
 pub shape : (i : Op) (o : Operands) (x t : ℕ) → IsOfKinds (op_kinds i) o → IsShaped i o x t

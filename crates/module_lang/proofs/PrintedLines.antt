@@ -10,11 +10,14 @@ use Rattle.module_lang.specs.Bytes.{all_printable, is_printable, unindented}
 use Rattle.module_lang.specs.Printing.{target_name, aim, is_target, printed_code, quoted_text}
 use Rattle.module_lang.specs.Program.{Program, fits, target, tests, text_of_instr}
 use Rattle.module_lang.specs.Lines.{place_is_declared}
-use Rattle.module_lang.specs.Texts.{CodeLine, label, step, arg_texts, brigade_text, brigade_texts, code_text, instr_word, is_skipped, joined, line_text, operand_texts, number_text, operands_text, own_text, place_text, pool_texts, statements, status_text, value_text}
+use Rattle.module_lang.specs.Texts.{CodeLine, label, step, arg_texts, brigade_text, brigade_texts, code_text, cursor_text, instr_word, is_skipped, joined, line_text, operand_texts, number_text, operands_text, own_text, place_text, pool_texts, statements, status_text, value_text}
+use Rattle.module_lang.specs.Words.{kind_test_text}
 use Rattle.module_lang.specs.declared.arg.Arg.{Arg}
 use Rattle.module_lang.specs.declared.arg.Arg.TheVariants as arg
 use Rattle.module_lang.specs.declared.instr.Instr.{Instr}
 use Rattle.module_lang.specs.declared.instr.Instr.TheVariants as instr
+use Rattle.module_lang.specs.declared.instr.KindTest.{KindTest}
+use Rattle.module_lang.specs.declared.instr.KindTest.TheVariants as kind_test
 use Rattle.module_lang.specs.declared.instr.PoolRef.{PoolRef}
 use Rattle.module_lang.specs.declared.instr.PoolRef.TheVariants as pool
 use Rattle.module_lang.specs.Numbers.{is_value}
@@ -129,6 +132,13 @@ value_shown (value.Constant k) h =
     let low = ltb-true k (2 ^ 32) h in
     (decimal_by_steps (λ m ds. list_all is_printable ds ≡ true) digit_printable (λ m ds high e. all_joined is_printable ds ((48 + m % 10) ∷ []) e (digit_printable (m % 10) (omega arith))) k (omega arith), length-decimal-le 10 k (omega arith) (omega arith) (omega arith))
 
+cursor_shown : (c : ℕ) → ltb c 8 ≡ true → (list_all is_printable (cursor_text c) ≡ true) × (length (cursor_text c) ≤ 10)
+cursor_shown c h = let low = ltb-true c 8 h in (rw (digit_printable c (omega arith)) refl, omega arith)
+
+kind_test_shown : (k : KindTest) → (list_all is_printable (kind_test_text k) ≡ true) × (length (kind_test_text k) ≤ 10)
+kind_test_shown kind_test.Data = (refl, omega arith)
+kind_test_shown _ = (refl, omega arith)
+
 number_shown : (n : ℕ) → ltb n 8 ≡ true → (list_all is_printable (number_text n) ≡ true) × (length (number_text n) ≤ 10)
 number_shown n h = let low = ltb-true n 8 h in (rw (digit_printable n (omega arith)) refl, omega arith)
 
@@ -171,6 +181,8 @@ arg_written p (arg.Variable (variable.Pool q)) n s few small f t w = token_writt
 arg_written p (arg.Variable (variable.Brigade b)) n s few small f t w = token_written _ 8 (omega arith) (own_shown b (let low = ltb-true b (length p.brigades) f.0 in omega arith))
 arg_written p (arg.Number m) n s few small f t w = token_written _ 10 (omega arith) (number_shown m f.0)
 arg_written p (arg.Value v) n s few small f t w = token_written _ 10 (omega arith) (value_shown v f.0)
+arg_written p (arg.Cursor c) n s few small f t w = token_written _ 10 (omega arith) (cursor_shown c f.0)
+arg_written p (arg.KindTest k) n s few small f t w = token_written _ 10 (omega arith) (kind_test_shown k)
 
 instr_shown : (p : Program) (i : Instr) (n s : List ℕ) → length p.pools ≤ 8 → length p.brigades ≤ 8 → fits p i ≡ true → (list_all is_printable n ≡ true) × (length n ≤ 8) → QuotedShown (text_of_instr i) s → StepShown (operand_texts i n s) (text_room (text_of_instr i))
 instr_shown p i n s few small h t w =

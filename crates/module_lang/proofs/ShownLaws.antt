@@ -75,6 +75,8 @@ one_short p (arg.Variable (variable.Pool q)) few small h = let low = ltb-true q 
 one_short p (arg.Variable (variable.Brigade b)) few small h = let low = ltb-true b (length p.brigades) h.0 in omega arith
 one_short p (arg.Number m) few small h = ltb-true m 8 h.0
 one_short p (arg.Value v) few small h = h.0
+one_short p (arg.Cursor c) few small h = ltb-true c 8 h.0
+one_short p (arg.KindTest k) few small h = tt
 
 pub args_short : (p : Program) (i : Instr) → length p.pools ≤ 8 → length p.brigades ≤ 8 → fits p i ≡ true → AreShort p.texts (args i)
 args_short p i few small h =

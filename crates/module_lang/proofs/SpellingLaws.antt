@@ -12,14 +12,16 @@ use Rattle.module_lang.specs.Numbers.{is_value}
 use Rattle.module_lang.specs.Operands.{numbered, operand_in, operand_at, after_operand, operands_at, operand_kind_is_nothing, operand_kind_is_text}
 use Rattle.module_lang.specs.Args.{args, is_of, names_target, names_text, op_of, or_else}
 use Rattle.module_lang.specs.Spelling.{number_operand, operand_of, operands_of}
-use Rattle.module_lang.specs.Texts.{Spells, arg_texts, place_text, own_text, brigade_text, number_text, status_text, value_text, operands_text, line_text, operand_texts, instr_word, is_skipped}
-use Rattle.module_lang.specs.Words.{word_text, word_at, word_kinds, op_kinds, two_operands, one_operand, no_operand}
+use Rattle.module_lang.specs.Texts.{Spells, arg_texts, place_text, own_text, brigade_text, cursor_text, number_text, status_text, value_text, operands_text, line_text, operand_texts, instr_word, is_skipped}
+use Rattle.module_lang.specs.Words.{kind_test_text, word_text, word_at, word_kinds, op_kinds, two_operands, one_operand, no_operand}
 use Rattle.module_lang.specs.declared.arg.Arg.{Arg}
 use Rattle.module_lang.specs.declared.arg.Arg.TheVariants as arg
 use Rattle.module_lang.specs.declared.arg.Args.{Args}
 use Rattle.module_lang.specs.declared.draft.Draft.{Draft}
 use Rattle.module_lang.specs.declared.instr.Instr.{Instr}
 use Rattle.module_lang.specs.declared.instr.Instr.TheVariants as instr
+use Rattle.module_lang.specs.declared.instr.KindTest.{KindTest}
+use Rattle.module_lang.specs.declared.instr.KindTest.TheVariants as kind_test
 use Rattle.module_lang.specs.declared.instr.PoolRef.{PoolRef}
 use Rattle.module_lang.specs.declared.instr.PoolRef.TheVariants as pool
 use Rattle.module_lang.specs.declared.instr.Status.{Status}
@@ -209,6 +211,15 @@ value_again (value.Constant k) h =
     let low = ltb-true k (2 ^ 32) h in
     record { some = refl; bare = refl; read = rw (decimal_begins 110 k refl low, constant_again k low) refl; plain = decimal_without 32 k refl low }
 
+pub cursor_again : (i : ℕ) → i < 8 → IsOperand kind.Cursor (operand.Cursor i) (cursor_text i)
+unfolding operand_in
+cursor_again i h = record { some = refl; bare = refl; read = rw (numbered_again 99 i h) refl; plain = digit_plain 99 i refl }
+
+pub kind_test_again : (k : KindTest) → IsOperand kind.KindTest (operand.KindTest k) (kind_test_text k)
+unfolding operand_in
+kind_test_again kind_test.Data = record { some = refl; bare = refl; read = refl; plain = refl }
+kind_test_again _ = record { some = refl; bare = refl; read = refl; plain = refl }
+
 pub declared_up : (k n : ℕ) (q : PoolRef) → k ≤ n → place_is_declared k q ≡ true → place_is_declared n q ≡ true
 declared_up k n pool.Conn le h = refl
 declared_up k n pool.Req le h = refl
@@ -252,6 +263,8 @@ arg_again p k a n s len os few small = by_kind k a
     by_kind kind.Variable (arg.Variable (variable.Brigade b)) h x = let y = token kind.Variable _ _ (brigade_variable b (own_below (length p.brigades) b small x.fit.0)) in record { read = y.0; behind = y.1 }
     by_kind kind.Number (arg.Number m) h x = let y = token kind.Number _ _ (number_again m (ltb-true m 8 x.fit.0)) in record { read = y.0; behind = y.1 }
     by_kind kind.Value (arg.Value v) h x = let y = token kind.Value _ _ (value_again v x.fit.0) in record { read = y.0; behind = y.1 }
+    by_kind kind.Cursor (arg.Cursor c) h x = let y = token kind.Cursor _ _ (cursor_again c (ltb-true c 8 x.fit.0)) in record { read = y.0; behind = y.1 }
+    by_kind kind.KindTest (arg.KindTest k) h x = let y = token kind.KindTest _ _ (kind_test_again k) in record { read = y.0; behind = y.1 }
     by_kind _ _ h x = absurd (cc h)
 
 or_parts_some : (a b : Option ℕ) (P : Type 0) → IfSome (or_else a b) (λ _. P) → IfSome a (λ _. P) × IfSome b (λ _. P)

@@ -6,6 +6,8 @@ use Rattle.module_lang.specs.declared.arg.Arg.TheVariants as arg
 use Rattle.module_lang.specs.declared.arg.Args.{Args}
 use Rattle.module_lang.specs.declared.instr.Instr.{Instr}
 use Rattle.module_lang.specs.declared.instr.Instr.TheVariants as instr
+use Rattle.module_lang.specs.declared.instr.KindTest.{KindTest}
+use Rattle.module_lang.specs.declared.instr.KindTest.TheVariants as kind_test
 use Rattle.module_lang.specs.declared.instr.PoolRef.{PoolRef}
 use Rattle.module_lang.specs.declared.instr.PoolRef.TheVariants as pool
 use Rattle.module_lang.specs.declared.instr.Status.{Status}
@@ -20,8 +22,11 @@ use Rattle.module_lang.specs.declared.word.OperandKinds.{OperandKinds}
 use Rattle.module_lang.specs.declared.word.Op.{Op}
 use Rattle.module_lang.specs.declared.word.Op.TheVariants as op
 
+abbrev pub four_args : Arg → Arg → Arg → Arg → Args
+four_args a b c d = record { first = a; second = b; third = c; fourth = d }
+
 abbrev pub three_args : Arg → Arg → Arg → Args
-three_args a b c = record { first = a; second = b; third = c; fourth = arg.Nothing }
+three_args a b c = four_args a b c arg.Nothing
 
 abbrev pub two_args : Arg → Arg → Args
 two_args a b = three_args a b arg.Nothing
@@ -42,9 +47,33 @@ parts (instr.Unlabel q t) = (op.Unlabel, two_args (arg.Place q) (arg.Text t))
 parts (instr.BCreate o) = (op.BCreate, one_arg (arg.Brigade o))
 parts (instr.BClean b) = (op.BClean, one_arg (arg.Source b))
 parts (instr.BConcat a b) = (op.BConcat, two_args (arg.Source a) (arg.Source b))
+parts (instr.BSplit b c d) = (op.BSplit, three_args (arg.Source b) (arg.Cursor c) (arg.Source d))
+parts (instr.BPart b x c l) = (op.BPart, four_args (arg.Source b) (arg.Value x) (arg.Cursor c) (arg.Target l))
 parts (instr.BSave o b) = (op.BSave, two_args (arg.Brigade o) (arg.Source b))
 parts (instr.Pass b l) = (op.Pass, two_args (arg.Source b) (arg.Target l))
 parts (instr.JEmpty b l) = (op.JEmpty, two_args (arg.Source b) (arg.Target l))
+parts (instr.First c b) = (op.First, two_args (arg.Cursor c) (arg.Source b))
+parts (instr.Next d c) = (op.Next, two_args (arg.Cursor d) (arg.Cursor c))
+parts (instr.JEnd c l) = (op.JEnd, two_args (arg.Cursor c) (arg.Target l))
+parts (instr.JKind c k l) = (op.JKind, three_args (arg.Cursor c) (arg.KindTest k) (arg.Target l))
+parts (instr.Unlink c) = (op.Unlink, one_arg (arg.Cursor c))
+parts (instr.BDelete c) = (op.BDelete, one_arg (arg.Cursor c))
+parts (instr.Tail b c) = (op.Tail, two_args (arg.Source b) (arg.Cursor c))
+parts (instr.Head b c) = (op.Head, two_args (arg.Source b) (arg.Cursor c))
+parts (instr.Before c d) = (op.Before, two_args (arg.Cursor c) (arg.Cursor d))
+parts (instr.Heap c t) = (op.Heap, two_args (arg.Cursor c) (arg.Text t))
+parts (instr.Immortal c t) = (op.Immortal, two_args (arg.Cursor c) (arg.Text t))
+parts (instr.FromBuf c) = (op.FromBuf, one_arg (arg.Cursor c))
+parts (instr.Transient c) = (op.Transient, one_arg (arg.Cursor c))
+parts (instr.PoolB c q) = (op.PoolB, two_args (arg.Cursor c) (arg.Place q))
+parts (instr.Flush c) = (op.Flush, one_arg (arg.Cursor c))
+parts (instr.Eos c) = (op.Eos, one_arg (arg.Cursor c))
+parts (instr.Split c x l) = (op.Split, three_args (arg.Cursor c) (arg.Value x) (arg.Target l))
+parts (instr.Copy d c) = (op.Copy, two_args (arg.Cursor d) (arg.Cursor c))
+parts (instr.Aside c q) = (op.Aside, two_args (arg.Cursor c) (arg.Place q))
+parts (instr.Read c l) = (op.Read, two_args (arg.Cursor c) (arg.Target l))
+parts (instr.Len n c) = (op.Len, two_args (arg.Number n) (arg.Cursor c))
+parts (instr.Get n x l) = (op.Get, three_args (arg.Number n) (arg.Value x) (arg.Target l))
 parts (instr.Put x l) = (op.Put, two_args (arg.Value x) (arg.Target l))
 parts instr.ClearBuf = (op.ClearBuf, no_arg)
 parts (instr.Set n x) = (op.Set, two_args (arg.Number n) (arg.Value x))
@@ -63,12 +92,13 @@ op_of i = (parts i).0
 abbrev pub args : Instr → Args
 args i = (parts i).1
 
--- the number of the variable that an operand names
+-- the number of the variable or cursor that an operand names
 abbrev pub arg_index : Arg → ℕ
 arg_index (arg.Pool i) = i
 arg_index (arg.Brigade i) = i
 arg_index (arg.Source i) = i
 arg_index (arg.Number i) = i
+arg_index (arg.Cursor i) = i
 arg_index _ = 0
 
 abbrev pub arg_place : Arg → PoolRef
@@ -86,6 +116,10 @@ arg_variable _ = variable.Pool 0
 abbrev pub arg_value : Arg → Value
 arg_value (arg.Value v) = v
 arg_value _ = value.Constant 0
+
+abbrev pub arg_kind_test : Arg → KindTest
+arg_kind_test (arg.KindTest k) = k
+arg_kind_test _ = kind_test.Data
 
 -- the number of the instruction that an operand names, and that of a text
 abbrev pub arg_aim : Arg → ℕ
@@ -106,9 +140,33 @@ made op.Unlabel a = instr.Unlabel (arg_place a.first) (arg_text a.second)
 made op.BCreate a = instr.BCreate (arg_index a.first)
 made op.BClean a = instr.BClean (arg_index a.first)
 made op.BConcat a = instr.BConcat (arg_index a.first) (arg_index a.second)
+made op.BSplit a = instr.BSplit (arg_index a.first) (arg_index a.second) (arg_index a.third)
+made op.BPart a = instr.BPart (arg_index a.first) (arg_value a.second) (arg_index a.third) (arg_aim a.fourth)
 made op.BSave a = instr.BSave (arg_index a.first) (arg_index a.second)
 made op.Pass a = instr.Pass (arg_index a.first) (arg_aim a.second)
 made op.JEmpty a = instr.JEmpty (arg_index a.first) (arg_aim a.second)
+made op.First a = instr.First (arg_index a.first) (arg_index a.second)
+made op.Next a = instr.Next (arg_index a.first) (arg_index a.second)
+made op.JEnd a = instr.JEnd (arg_index a.first) (arg_aim a.second)
+made op.JKind a = instr.JKind (arg_index a.first) (arg_kind_test a.second) (arg_aim a.third)
+made op.Unlink a = instr.Unlink (arg_index a.first)
+made op.BDelete a = instr.BDelete (arg_index a.first)
+made op.Tail a = instr.Tail (arg_index a.first) (arg_index a.second)
+made op.Head a = instr.Head (arg_index a.first) (arg_index a.second)
+made op.Before a = instr.Before (arg_index a.first) (arg_index a.second)
+made op.Heap a = instr.Heap (arg_index a.first) (arg_text a.second)
+made op.Immortal a = instr.Immortal (arg_index a.first) (arg_text a.second)
+made op.FromBuf a = instr.FromBuf (arg_index a.first)
+made op.Transient a = instr.Transient (arg_index a.first)
+made op.PoolB a = instr.PoolB (arg_index a.first) (arg_place a.second)
+made op.Flush a = instr.Flush (arg_index a.first)
+made op.Eos a = instr.Eos (arg_index a.first)
+made op.Split a = instr.Split (arg_index a.first) (arg_value a.second) (arg_aim a.third)
+made op.Copy a = instr.Copy (arg_index a.first) (arg_index a.second)
+made op.Aside a = instr.Aside (arg_index a.first) (arg_place a.second)
+made op.Read a = instr.Read (arg_index a.first) (arg_aim a.second)
+made op.Len a = instr.Len (arg_index a.first) (arg_index a.second)
+made op.Get a = instr.Get (arg_index a.first) (arg_value a.second) (arg_aim a.third)
 made op.Put a = instr.Put (arg_value a.first) (arg_aim a.second)
 made op.ClearBuf a = instr.ClearBuf
 made op.Set a = instr.Set (arg_index a.first) (arg_value a.second)
@@ -134,6 +192,8 @@ is_of kind.Text (arg.Text t) = true
 is_of kind.Variable (arg.Variable v) = true
 is_of kind.Number (arg.Number i) = true
 is_of kind.Value (arg.Value v) = true
+is_of kind.Cursor (arg.Cursor i) = true
+is_of kind.KindTest (arg.KindTest k) = true
 is_of _ _ = false
 
 pub record AreOf (k : OperandKinds) (a : Args) : Type 0 where

@@ -16,6 +16,8 @@ use Rattle.module_lang.specs.declared.draft.Label.{Label}
 use Rattle.module_lang.specs.declared.draft.Step.{Step}
 use Rattle.module_lang.specs.declared.handler.LineFault.{LineFault}
 use Rattle.module_lang.specs.declared.instr.Instr.{Instr}
+use Rattle.module_lang.specs.declared.instr.KindTest.{KindTest}
+use Rattle.module_lang.specs.declared.instr.KindTest.TheVariants as kind_test
 use Rattle.module_lang.specs.declared.instr.PoolRef.TheVariants as pool
 use Rattle.module_lang.specs.declared.instr.Status.{Status}
 use Rattle.module_lang.specs.declared.instr.Status.TheVariants as status
@@ -73,16 +75,21 @@ handler_fault before h =
     if ends_open h.steps then fault h.line code.OpenEnd
     else sooner (label_fault before (length h.steps) h.labels) (jump_fault h.labels h.steps)
 
--- the number of the variable that an operand names
+-- the number of the variable or cursor that an operand names
 abbrev pub operand_index : Operand → ℕ
 operand_index (operand.Place (pool.Own i)) = i
 operand_index (operand.Brigade b) = b
 operand_index (operand.Value (value.Number i)) = i
+operand_index (operand.Cursor i) = i
 operand_index _ = 0
 
 abbrev pub operand_status : Operand → Status
 operand_status (operand.Ending s) = s
 operand_status _ = status.Success
+
+abbrev pub operand_kind_test : Operand → KindTest
+operand_kind_test (operand.KindTest k) = k
+operand_kind_test _ = kind_test.Data
 
 -- the number that an operand is
 abbrev pub operand_value : Operand → Value
@@ -108,6 +115,8 @@ arg_in kind.Text o x t = arg.Text x
 arg_in kind.Variable o x t = arg.Variable (operand_variable o)
 arg_in kind.Number o x t = arg.Number (operand_index o)
 arg_in kind.Value o x t = arg.Value (operand_value o)
+arg_in kind.Cursor o x t = arg.Cursor (operand_index o)
+arg_in kind.KindTest o x t = arg.KindTest (operand_kind_test o)
 
 abbrev pub args_in : OperandKinds → Operands → ℕ → ℕ → Args
 args_in k o x t = record {

@@ -1,11 +1,13 @@
 -- The operands of a line.
-use Rattle.std.specs.Prelude.{◌≡◌, ℕ, ◌-◌, nat_lt, Bool, true, false, ◌&&◌, not, nat_eq, nat_le, ◌==◌, if◌then◌else◌, List, length, drop, slice_index, codes, Option, Some, None, option_map, Result, Ok, Err}
+use Rattle.std.specs.Prelude.{◌≡◌, ℕ, ◌-◌, nat_lt, Bool, true, false, ◌&&◌, not, nat_eq, nat_le, ◌==◌, if◌then◌else◌, List, length, drop, slice_index, codes, find, Option, Some, None, option_map, Result, Ok, Err}
 use Rattle.std.specs.Cmp.Lexicographic.{pointwise}
 use Rattle.module_lang.specs.Bytes.{begins, tail, token, after_token}
 use Rattle.module_lang.specs.Codes.{◌>>=◌, unless}
 use Rattle.module_lang.specs.Names.{name_of}
 use Rattle.module_lang.specs.Numbers.{constant_of, is_value}
 use Rattle.module_lang.specs.Quoted.{quoted, measure_of}
+use Rattle.module_lang.specs.Words.{all_kind_tests, kind_test_text}
+use Rattle.module_lang.specs.declared.instr.KindTest.{KindTest}
 use Rattle.module_lang.specs.declared.instr.PoolRef.{PoolRef}
 use Rattle.module_lang.specs.declared.instr.PoolRef.TheVariants as pool
 use Rattle.module_lang.specs.declared.instr.Status.TheVariants as status
@@ -63,6 +65,15 @@ constant_in t = option_map (λ k. operand.Value (value.Constant k)) (constant_of
 abbrev pub value_in : List ℕ → Option Operand
 value_in t = if begins 110 t then number_in t else constant_in t
 
+abbrev pub cursor_in : List ℕ → Option Operand
+cursor_in t = option_map (λ i. operand.Cursor i) (numbered 99 t)
+
+abbrev pub kind_test_at : List ℕ → Option KindTest
+kind_test_at t = find (λ k. pointwise nat_eq (kind_test_text k) t) all_kind_tests
+
+abbrev pub kind_test_in : List ℕ → Option Operand
+kind_test_in t = option_map (λ k. operand.KindTest k) (kind_test_at t)
+
 -- the operand of a kind that a token without spaces spells
 unfoldable pub operand_in : OperandKind → List ℕ → Option Operand
 operand_in kind.Nothing t = None
@@ -77,6 +88,8 @@ operand_in kind.Text t = None
 operand_in kind.Variable t = variable_in t
 operand_in kind.Number t = number_in t
 operand_in kind.Value t = value_in t
+operand_in kind.Cursor t = cursor_in t
+operand_in kind.KindTest t = kind_test_in t
 
 -- whether an operand is of a kind
 abbrev pub of_kind : OperandKind → Operand → Bool
@@ -93,6 +106,8 @@ of_kind kind.Variable (operand.Place (pool.Own i)) = nat_lt i 8
 of_kind kind.Variable (operand.Brigade b) = nat_lt b 8
 of_kind kind.Number (operand.Value (value.Number i)) = nat_lt i 8
 of_kind kind.Value (operand.Value v) = is_value v
+of_kind kind.Cursor (operand.Cursor i) = nat_lt i 8
+of_kind kind.KindTest (operand.KindTest k) = true
 of_kind _ _ = false
 
 pub record IsOfKinds (k : OperandKinds) (o : Operands) : Type 0 where

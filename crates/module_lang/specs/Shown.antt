@@ -28,7 +28,7 @@ abbrev pub HasDigit : VarRef → Type 0
 HasDigit (variable.Pool q) = q < 8
 HasDigit (variable.Brigade b) = b < 8
 
--- the number of a variable has one digit, a constant is below 2^32, and a text is one of these
+-- the number of a variable or cursor has one digit, a constant is below 2^32, and a text is one of these
 abbrev pub IsShort : List (List ℕ) → Arg → Type 0
 IsShort ts arg.Nothing = Unit {0}
 IsShort ts (arg.Place p) = place_is_declared 8 p ≡ true
@@ -41,6 +41,8 @@ IsShort ts (arg.Text t) = t < length ts
 IsShort ts (arg.Variable v) = HasDigit v
 IsShort ts (arg.Number m) = m < 8
 IsShort ts (arg.Value v) = is_value v ≡ true
+IsShort ts (arg.Cursor c) = c < 8
+IsShort ts (arg.KindTest k) = Unit {0}
 
 pub record AreShort (ts : List (List ℕ)) (a : Args) : Type 0 where
   pub first : IsShort ts a.first

@@ -45,6 +45,8 @@ operand_of (arg.Text t) n k = operand.Text k
 operand_of (arg.Variable v) n k = variable_operand v
 operand_of (arg.Number m) n k = number_operand m
 operand_of (arg.Value x) n k = operand.Value x
+operand_of (arg.Cursor c) n k = operand.Cursor c
+operand_of (arg.KindTest t) n k = operand.KindTest t
 
 -- the operands of an instruction, where its target has this name and its text so many bytes
 abbrev pub operands_of : Instr → List ℕ → ℕ → Operands

@@ -5,7 +5,7 @@ use Rattle.module_lang.specs.Bytes.{all_printable, begins, is_printable, uninden
 use Rattle.module_lang.specs.Names.{is_name}
 use Rattle.module_lang.specs.Program.{IsModule, Program, target, text_at, text_of_instr}
 use Rattle.module_lang.specs.Quoted.{hex_digit}
-use Rattle.module_lang.specs.Words.{op_text}
+use Rattle.module_lang.specs.Words.{kind_test_text, op_text}
 use Rattle.module_lang.specs.declared.arg.Arg.{Arg}
 use Rattle.module_lang.specs.declared.arg.Arg.TheVariants as arg
 use Rattle.module_lang.specs.declared.arg.Args.{Args}
@@ -45,6 +45,10 @@ number_text n = 110 ∷ (48 + n) ∷ []
 abbrev pub value_text : Value → List ℕ
 value_text (value.Number n) = number_text n
 value_text (value.Constant k) = decimal k
+
+-- `c0` to `c7`
+abbrev pub cursor_text : ℕ → List ℕ
+cursor_text c = 99 ∷ (48 + c) ∷ []
 
 abbrev pub status_text : Status → List ℕ
 status_text status.Success = codes "ok"
@@ -120,6 +124,8 @@ arg_texts (arg.Text t) n s = s ∷ []
 arg_texts (arg.Variable v) n s = variable_text v ∷ []
 arg_texts (arg.Number m) n s = number_text m ∷ []
 arg_texts (arg.Value x) n s = value_text x ∷ []
+arg_texts (arg.Cursor c) n s = cursor_text c ∷ []
+arg_texts (arg.KindTest k) n s = kind_test_text k ∷ []
 
 -- operands, where a target has this name and a text is spelled so
 abbrev pub args_texts : Args → List ℕ → List ℕ → List (List ℕ)

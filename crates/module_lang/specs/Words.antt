@@ -2,6 +2,8 @@
 use Rattle.std.specs.Prelude.{Bool, true, false, ℕ, List, [], ◌∷◌, Option, find, codes}
 use Rattle.std.specs.Cmp.Lexicographic.{pointwise}
 use Rattle.std.specs.Prelude.{nat_eq}
+use Rattle.module_lang.specs.declared.instr.KindTest.{KindTest}
+use Rattle.module_lang.specs.declared.instr.KindTest.TheVariants as kind_test
 use Rattle.module_lang.specs.declared.word.Op.{Op}
 use Rattle.module_lang.specs.declared.word.Op.TheVariants as op
 use Rattle.module_lang.specs.declared.word.Word.{Word}
@@ -11,8 +13,11 @@ use Rattle.module_lang.specs.declared.word.OperandKind.TheVariants as kind
 use Rattle.module_lang.specs.declared.word.OperandKinds.{OperandKinds}
 use Rattle.module_lang.specs.declared.word.Signature.{Signature}
 
+abbrev pub four_operands : OperandKind → OperandKind → OperandKind → OperandKind → OperandKinds
+four_operands a b c d = record { first = a; second = b; third = c; fourth = d }
+
 abbrev pub three_operands : OperandKind → OperandKind → OperandKind → OperandKinds
-three_operands a b c = record { first = a; second = b; third = c; fourth = kind.Nothing }
+three_operands a b c = four_operands a b c kind.Nothing
 
 abbrev pub two_operands : OperandKind → OperandKind → OperandKinds
 two_operands a b = three_operands a b kind.Nothing
@@ -33,9 +38,33 @@ op_text op.Unlabel = codes "unlabel"
 op_text op.BCreate = codes "bcreate"
 op_text op.BClean = codes "bclean"
 op_text op.BConcat = codes "bconcat"
+op_text op.BSplit = codes "bsplit"
+op_text op.BPart = codes "bpart"
 op_text op.BSave = codes "bsave"
 op_text op.Pass = codes "pass"
 op_text op.JEmpty = codes "jempty"
+op_text op.First = codes "first"
+op_text op.Next = codes "next"
+op_text op.JEnd = codes "jend"
+op_text op.JKind = codes "jkind"
+op_text op.Unlink = codes "unlink"
+op_text op.BDelete = codes "bdelete"
+op_text op.Tail = codes "tail"
+op_text op.Head = codes "head"
+op_text op.Before = codes "before"
+op_text op.Heap = codes "heap"
+op_text op.Immortal = codes "immortal"
+op_text op.FromBuf = codes "frombuf"
+op_text op.Transient = codes "transient"
+op_text op.PoolB = codes "poolb"
+op_text op.Flush = codes "flush"
+op_text op.Eos = codes "eos"
+op_text op.Split = codes "split"
+op_text op.Copy = codes "copy"
+op_text op.Aside = codes "aside"
+op_text op.Read = codes "read"
+op_text op.Len = codes "len"
+op_text op.Get = codes "get"
 op_text op.Put = codes "put"
 op_text op.ClearBuf = codes "clearbuf"
 op_text op.Set = codes "set"
@@ -47,6 +76,22 @@ op_text op.JNull = codes "jnull"
 op_text op.JSent = codes "jsent"
 op_text op.Jump = codes "jump"
 op_text op.Ret = codes "ret"
+
+-- how it is written what is asked of a bucket's kind
+abbrev pub kind_test_text : KindTest → List ℕ
+kind_test_text kind_test.Heap = codes "heap"
+kind_test_text kind_test.Transient = codes "transient"
+kind_test_text kind_test.Immortal = codes "immortal"
+kind_test_text kind_test.Pool = codes "pool"
+kind_test_text kind_test.File = codes "file"
+kind_test_text kind_test.Flush = codes "flush"
+kind_test_text kind_test.Eos = codes "eos"
+kind_test_text kind_test.Data = codes "data"
+
+abbrev pub all_kind_tests : List KindTest
+all_kind_tests =
+    kind_test.Heap ∷ kind_test.Transient ∷ kind_test.Immortal ∷ kind_test.Pool ∷ kind_test.File ∷ kind_test.Flush
+    ∷ kind_test.Eos ∷ kind_test.Data ∷ []
 
 -- the next instruction can follow, or not
 abbrev pub going_on : OperandKinds → Signature
@@ -65,9 +110,33 @@ signature op.Unlabel = going_on (two_operands kind.Place kind.Text)
 signature op.BCreate = going_on (one_operand kind.Brigade)
 signature op.BClean = going_on (one_operand kind.Source)
 signature op.BConcat = going_on (two_operands kind.Source kind.Source)
+signature op.BSplit = going_on (three_operands kind.Source kind.Cursor kind.Source)
+signature op.BPart = going_on (four_operands kind.Source kind.Value kind.Cursor kind.Label)
 signature op.BSave = going_on (two_operands kind.Brigade kind.Source)
 signature op.Pass = going_on (two_operands kind.Source kind.Label)
 signature op.JEmpty = going_on (two_operands kind.Source kind.Label)
+signature op.First = going_on (two_operands kind.Cursor kind.Source)
+signature op.Next = going_on (two_operands kind.Cursor kind.Cursor)
+signature op.JEnd = going_on (two_operands kind.Cursor kind.Label)
+signature op.JKind = going_on (three_operands kind.Cursor kind.KindTest kind.Label)
+signature op.Unlink = going_on (one_operand kind.Cursor)
+signature op.BDelete = going_on (one_operand kind.Cursor)
+signature op.Tail = going_on (two_operands kind.Source kind.Cursor)
+signature op.Head = going_on (two_operands kind.Source kind.Cursor)
+signature op.Before = going_on (two_operands kind.Cursor kind.Cursor)
+signature op.Heap = going_on (two_operands kind.Cursor kind.Text)
+signature op.Immortal = going_on (two_operands kind.Cursor kind.Text)
+signature op.FromBuf = going_on (one_operand kind.Cursor)
+signature op.Transient = going_on (one_operand kind.Cursor)
+signature op.PoolB = going_on (two_operands kind.Cursor kind.Place)
+signature op.Flush = going_on (one_operand kind.Cursor)
+signature op.Eos = going_on (one_operand kind.Cursor)
+signature op.Split = going_on (three_operands kind.Cursor kind.Value kind.Label)
+signature op.Copy = going_on (two_operands kind.Cursor kind.Cursor)
+signature op.Aside = going_on (two_operands kind.Cursor kind.Place)
+signature op.Read = going_on (two_operands kind.Cursor kind.Label)
+signature op.Len = going_on (two_operands kind.Number kind.Cursor)
+signature op.Get = going_on (three_operands kind.Number kind.Value kind.Label)
 signature op.Put = going_on (two_operands kind.Value kind.Label)
 signature op.ClearBuf = going_on no_operand
 signature op.Set = going_on (two_operands kind.Number kind.Value)
@@ -112,9 +181,14 @@ abbrev pub all_words : List Word
 all_words =
     word.Module ∷ word.Pool ∷ word.Brigade ∷ word.Open ∷ word.Init ∷ word.Main ∷ word.End
     ∷ word.Op op.PCreate ∷ word.Op op.PClear ∷ word.Op op.PDestroy ∷ word.Op op.Label ∷ word.Op op.Unlabel
-    ∷ word.Op op.BCreate ∷ word.Op op.BClean ∷ word.Op op.BConcat ∷ word.Op op.BSave ∷ word.Op op.Pass ∷ word.Op op.JEmpty
-    ∷ word.Op op.Put ∷ word.Op op.ClearBuf ∷ word.Op op.Set ∷ word.Op op.Add ∷ word.Op op.Sub ∷ word.Op op.JLt ∷ word.Op op.JEq
-    ∷ word.Op op.JNull ∷ word.Op op.JSent ∷ word.Op op.Jump ∷ word.Op op.Ret ∷ []
+    ∷ word.Op op.BCreate ∷ word.Op op.BClean ∷ word.Op op.BConcat ∷ word.Op op.BSplit ∷ word.Op op.BPart
+    ∷ word.Op op.BSave ∷ word.Op op.Pass ∷ word.Op op.JEmpty ∷ word.Op op.First ∷ word.Op op.Next ∷ word.Op op.JEnd
+    ∷ word.Op op.JKind ∷ word.Op op.Unlink ∷ word.Op op.BDelete ∷ word.Op op.Tail ∷ word.Op op.Head ∷ word.Op op.Before
+    ∷ word.Op op.Heap ∷ word.Op op.Immortal ∷ word.Op op.FromBuf ∷ word.Op op.Transient ∷ word.Op op.PoolB
+    ∷ word.Op op.Flush ∷ word.Op op.Eos ∷ word.Op op.Split ∷ word.Op op.Copy ∷ word.Op op.Aside ∷ word.Op op.Read
+    ∷ word.Op op.Len ∷ word.Op op.Get ∷ word.Op op.Put ∷ word.Op op.ClearBuf ∷ word.Op op.Set ∷ word.Op op.Add
+    ∷ word.Op op.Sub ∷ word.Op op.JLt ∷ word.Op op.JEq ∷ word.Op op.JNull ∷ word.Op op.JSent ∷ word.Op op.Jump
+    ∷ word.Op op.Ret ∷ []
 
 -- the word that is written so
 unfoldable pub word_at : List ℕ → Option Word

@@ -1,9 +1,9 @@
 //! The operands of an instruction, by their kinds.
 
 ghost use Rattle.std.specs.Prelude.{◌≡◌};
-ghost use Rattle.module_lang.specs.Args.{arg_aim, arg_index, arg_place, arg_status, arg_text, arg_value, arg_variable, first_some, no_arg, one_arg, names_target, three_args, two_args};
+ghost use Rattle.module_lang.specs.Args.{arg_aim, arg_index, arg_kind_test, arg_place, arg_status, arg_text, arg_value, arg_variable, first_some, no_arg, one_arg, names_target, four_args, three_args, two_args};
 
-use crate::instr::{PoolRef, Status, Value, VarRef};
+use crate::instr::{KindTest, PoolRef, Status, Value, VarRef};
 
 /// An operand of an instruction.
 #[derive(Clone, Copy)]
@@ -30,6 +30,10 @@ pub enum Arg {
     Number(u8),
     /// A number variable or a constant.
     Value(Value),
+    /// A cursor.
+    Cursor(u8),
+    /// What is asked of a bucket's kind.
+    KindTest(KindTest),
 }
 
 /// The operands of an instruction, `Nothing` behind the last.
@@ -63,11 +67,17 @@ impl Args {
     pub fn three(first: Arg, second: Arg, third: Arg) -> Self
         ensures { result ≡ three_args first second third }
     {
+        Args::four(first, second, third, Arg::Nothing)
+    }
+
+    pub fn four(first: Arg, second: Arg, third: Arg, fourth: Arg) -> Self
+        ensures { result ≡ four_args first second third fourth }
+    {
         Args {
             first,
             second,
             third,
-            fourth: Arg::Nothing,
+            fourth,
         }
     }
 
@@ -83,12 +93,12 @@ impl Args {
 }
 
 impl Arg {
-    /// The number of the variable that it names.
+    /// The number of the variable or cursor that it names.
     pub fn index(self) -> u8
         ensures { result ≡ arg_index self }
     {
         match self {
-            Arg::Pool(i) | Arg::Brigade(i) | Arg::Source(i) | Arg::Number(i) => i,
+            Arg::Pool(i) | Arg::Brigade(i) | Arg::Source(i) | Arg::Number(i) | Arg::Cursor(i) => i,
             _ => 0,
         }
     }
@@ -126,6 +136,15 @@ impl Arg {
         match self {
             Arg::Value(value) => value,
             _ => Value::Constant(0),
+        }
+    }
+
+    pub fn kind_test(self) -> KindTest
+        ensures { result ≡ arg_kind_test self }
+    {
+        match self {
+            Arg::KindTest(kind) => kind,
+            _ => KindTest::Data,
         }
     }
 

@@ -6,11 +6,11 @@ ghost use Rattle.std.specs.Cmp.Lexicographic.{slice_cmp};
 ghost use Rattle.std.specs.Ordering.{nat_cmp};
 ghost use Rattle.module_lang.specs.declared.draft.Label.{Label};
 ghost use Rattle.module_lang.specs.Codes.{Tells};
-ghost use Rattle.module_lang.specs.Handlers.{IsPlaces, IsSeen, label_fault, operand_label, label_of, is_lost, jump_fault, ends_open, sooner, place_of, handler_fault, operand_index, operand_status, operand_variable, operand_value, arg_in, args_in, instr_of, target_place, step_code, handler_resolved, HasPlacesBelow};
+ghost use Rattle.module_lang.specs.Handlers.{IsPlaces, IsSeen, label_fault, operand_label, label_of, is_lost, jump_fault, ends_open, sooner, place_of, handler_fault, operand_index, operand_kind_test, operand_status, operand_variable, operand_value, arg_in, args_in, instr_of, target_place, step_code, handler_resolved, HasPlacesBelow};
 
 use crate::arg::{Arg, Args};
 use crate::draft::{Handler, Label, Step};
-use crate::instr::{Instr, PoolRef, Status, Value, VarRef};
+use crate::instr::{Instr, KindTest, PoolRef, Status, Value, VarRef};
 use crate::name::Name;
 use crate::operand::{Operand, Operands, operand_place};
 use crate::parts::made;
@@ -172,6 +172,7 @@ fn operand_index(operand: Operand) -> u8
         Operand::Place(PoolRef::Own(i)) => i,
         Operand::Brigade(b) => b,
         Operand::Value(Value::Number(i)) => i,
+        Operand::Cursor(i) => i,
         _ => 0,
     }
 }
@@ -203,6 +204,15 @@ fn operand_status(operand: Operand) -> Status
     }
 }
 
+fn operand_kind_test(operand: Operand) -> KindTest
+    ensures { result ≡ operand_kind_test operand }
+{
+    match operand {
+        Operand::KindTest(kind) => kind,
+        _ => KindTest::Data,
+    }
+}
+
 /// An operand of an instruction, of a kind, that is written so: a text has this number, and so has a target.
 fn arg_in(kind: OperandKind, operand: Operand, text: u8, target: u16) -> Arg
     ensures { result ≡ arg_in kind operand text target }
@@ -219,6 +229,8 @@ fn arg_in(kind: OperandKind, operand: Operand, text: u8, target: u16) -> Arg
         OperandKind::Variable => Arg::Variable(operand_variable(operand)),
         OperandKind::Number => Arg::Number(operand_index(operand)),
         OperandKind::Value => Arg::Value(operand_value(operand)),
+        OperandKind::Cursor => Arg::Cursor(operand_index(operand)),
+        OperandKind::KindTest => Arg::KindTest(operand_kind_test(operand)),
     }
 }
 

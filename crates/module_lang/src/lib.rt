@@ -25,7 +25,7 @@ mod word;
 mod writer;
 
 pub use assembler::assemble;
-pub use instr::{Instr, PoolRef, Status, Value, VarRef};
+pub use instr::{Instr, KindTest, PoolRef, Status, Value, VarRef};
 pub use module::Module;
 pub use name::is_name;
 pub use print::print_module;

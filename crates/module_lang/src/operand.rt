@@ -2,10 +2,10 @@
 
 ghost use Rattle.std.specs.Prelude.{◌≡◌, ◌<◌, ◌≤◌, length, IsTrue};
 ghost use Rattle.module_lang.specs.Bytes.{begins, tail};
-ghost use Rattle.module_lang.specs.Operands.{numbered, is_one, place_in, pool_in, brigade_in, source_in, ending_in, label_in, variable_in, number_in, constant_in, value_in, operand_place, operand_in, text_operand, operand_at, after_text, after_operand, operands_at, operand_kind_is_nothing, operand_kind_is_text};
+ghost use Rattle.module_lang.specs.Operands.{numbered, is_one, place_in, pool_in, brigade_in, source_in, ending_in, label_in, variable_in, number_in, constant_in, value_in, cursor_in, kind_test_at, kind_test_in, operand_place, operand_in, text_operand, operand_at, after_text, after_operand, operands_at, operand_kind_is_nothing, operand_kind_is_text};
 
 use crate::bytes::{after_token, begins, is_text, tail, token};
-use crate::instr::{PoolRef, Status, Value};
+use crate::instr::{KindTest, PoolRef, Status, Value};
 use crate::name::{Name, name_of};
 use crate::number::constant_of;
 use crate::quoted::measure;
@@ -31,6 +31,10 @@ pub enum Operand {
     Text(usize),
     /// A number variable or a constant.
     Value(Value),
+    /// A cursor.
+    Cursor(u8),
+    /// What is asked of a bucket's kind.
+    KindTest(KindTest),
 }
 
 /// The operands of a line, `Nothing` behind the last.
@@ -144,6 +148,35 @@ fn value_in(token: &[u8]) -> Option<Operand>
     constant_in(token)
 }
 
+fn cursor_in(token: &[u8]) -> Option<Operand>
+    ensures { result ≡ cursor_in token.now }
+{
+    Some(Operand::Cursor(numbered(b'c', token)?))
+}
+
+const KIND_TESTS: [KindTest; 8] = [
+    KindTest::Heap,
+    KindTest::Transient,
+    KindTest::Immortal,
+    KindTest::Pool,
+    KindTest::File,
+    KindTest::Flush,
+    KindTest::Eos,
+    KindTest::Data,
+];
+
+fn kind_test_of(token: &[u8]) -> Option<KindTest>
+    ensures { result ≡ kind_test_at token.now }
+{
+    KIND_TESTS.iter().copied().find(|kind| kind.text() == token)
+}
+
+fn kind_test_in(token: &[u8]) -> Option<Operand>
+    ensures { result ≡ kind_test_in token.now }
+{
+    Some(Operand::KindTest(kind_test_of(token)?))
+}
+
 /// The operand of a kind that a token without spaces spells.
 #[tactic(auto, unfolding(crate::specs::Operands::operand_in))]
 fn operand_in(kind: OperandKind, token: &[u8]) -> Option<Operand>
@@ -162,6 +195,8 @@ fn operand_in(kind: OperandKind, token: &[u8]) -> Option<Operand>
         OperandKind::Variable => variable_in(token),
         OperandKind::Number => number_in(token),
         OperandKind::Value => value_in(token),
+        OperandKind::Cursor => cursor_in(token),
+        OperandKind::KindTest => kind_test_in(token),
     }
 }
 

@@ -7,11 +7,12 @@ ghost use Rattle.module_lang.specs.Printing.{is_number, label_line, is_target, p
 ghost use Rattle.module_lang.specs.Program.{IsModule, fits, target};
 ghost use Rattle.module_lang.specs.Quoted.{spelling};
 ghost use Rattle.module_lang.specs.Shown.{shown_arg, shown_args, AreShort, HasDigit, IsShort, shown_line, shown_step, shown_code, shown_declarations, shown_handler};
-ghost use Rattle.module_lang.specs.Texts.{brigade_text, brigade_texts, code_text, joined, operands_text, own_text, place_text, pool_texts, status_text, value_text, variable_text, IsTextOf};
+ghost use Rattle.module_lang.specs.Texts.{brigade_text, brigade_texts, code_text, cursor_text, joined, operands_text, own_text, place_text, pool_texts, status_text, value_text, variable_text, IsTextOf};
+ghost use Rattle.module_lang.specs.Words.{kind_test_text};
 ghost use Rattle.module_lang.specs.Writes.{Wrote};
 
 use crate::arg::{Arg, Args};
-use crate::instr::{Instr, PoolRef, Status, Value, VarRef};
+use crate::instr::{Instr, KindTest, PoolRef, Status, Value, VarRef};
 use crate::module::Module;
 use crate::parts::parts;
 use crate::quoted::print_text;
@@ -125,6 +126,20 @@ fn put_value<W: Write>(out: &mut W, value: Value) -> Result<(), WriteFault>
     }
 }
 
+fn put_cursor<W: Write>(out: &mut W, cursor: u8) -> Result<(), WriteFault>
+    requires { cursor < 8 }
+    ensures { Wrote result (W.contents out.old) (W.contents out.new) (operands_text (cursor_text cursor ∷ [])) }
+{
+    put_all(out, &[b' ', b'c', b'0' + cursor])
+}
+
+fn put_kind_test<W: Write>(out: &mut W, kind: KindTest) -> Result<(), WriteFault>
+    ensures { Wrote result (W.contents out.old) (W.contents out.new) (operands_text (kind_test_text kind ∷ [])) }
+{
+    put_all(out, b" ")?;
+    put_all(out, kind.text())
+}
+
 fn put_text<W: Write>(out: &mut W, text: &[u8]) -> Result<(), WriteFault>
     ensures { Wrote result (W.contents out.old) (W.contents out.new) (operands_text (spelling text.now ∷ [])) }
 {
@@ -150,6 +165,8 @@ fn put_arg<W: Write>(out: &mut W, module: &Module, arg: Arg) -> Result<(), Write
         Arg::Variable(variable) => put_variable(out, variable),
         Arg::Number(number) => put_value(out, Value::Number(number)),
         Arg::Value(value) => put_value(out, value),
+        Arg::Cursor(cursor) => put_cursor(out, cursor),
+        Arg::KindTest(kind) => put_kind_test(out, kind),
     }
 }
 

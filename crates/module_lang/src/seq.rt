@@ -1,6 +1,6 @@
 //! A list that grows at its end.
 
-ghost use Rattle.std.specs.Prelude.{◌≡◌, ◌<◌, ◌^◌, ◌==◌, [], ◌∷◌, ◌++◌, length, take, replicate, slice_index_or, slice_set, OnOk, OnErr};
+ghost use Rattle.std.specs.Prelude.{◌≡◌, ◌+◌, ◌<◌, ◌≤◌, ◌^◌, ◌==◌, [], ◌∷◌, ◌++◌, length, take, drop, replicate, slice_index_or, slice_set, IfOk, OnOk, OnErr};
 
 use std::alloc::{AllocError, Global};
 use std::marker::Model;
@@ -115,6 +115,38 @@ impl<T> Seq<T> {
         ensures kept { OnErr result (other.new ≡ other.old) }
     {
         self.items.append(&mut other.items)
+    }
+
+    /// Puts an item before that at an index, or at the end. Without memory nothing is changed.
+    pub fn insert(&mut self, index: usize, item: T) -> Result<(), AllocError>
+    where
+        T: Drop,
+        requires { index ≤ length self.old }
+        ensures ok { OnOk result (self.new ≡ take index self.old ++ item ∷ drop index self.old) }
+        ensures err { OnErr result (self.new ≡ self.old) }
+    {
+        self.items.insert(index, item)?;
+        Ok(())
+    }
+
+    /// Takes out the item at an index.
+    pub fn remove(&mut self, index: usize) -> T
+        requires { index < length self.old }
+        ensures item { result ≡ slice_index_or self.old index result }
+        ensures rest { self.new ≡ take index self.old ++ drop (index + 1) self.old }
+    {
+        self.items.remove(index)
+    }
+
+    /// Takes out the items from an index on. Without memory nothing is changed.
+    pub fn split_off(&mut self, index: usize) -> Result<Seq<T>, AllocError>
+        requires { index ≤ length self.old }
+        ensures moved { IfOk result (λ moved. moved ≡ drop index self.old) }
+        ensures ok { OnOk result (self.new ≡ take index self.old) }
+        ensures err { OnErr result (self.new ≡ self.old) }
+    {
+        let items = self.items.split_off(index)?;
+        Ok(Seq { items })
     }
 
     /// Drops every item.

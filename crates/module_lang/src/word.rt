@@ -1,7 +1,7 @@
 //! The words of module texts, and what operands follow each.
 
 ghost use Rattle.std.specs.Prelude.{◌≡◌};
-ghost use Rattle.module_lang.specs.Words.{going_on, leaving, op_goes_on, op_text, op_kinds, signature, word_text, word_kinds, word_at, no_operand, one_operand, two_operands, three_operands};
+ghost use Rattle.module_lang.specs.Words.{going_on, leaving, op_goes_on, op_text, op_kinds, signature, word_text, word_kinds, word_at, no_operand, one_operand, two_operands, three_operands, four_operands};
 
 /// What an operand may be.
 #[derive(Clone, Copy)]
@@ -30,6 +30,10 @@ pub enum OperandKind {
     Number,
     /// A number variable or a constant.
     Value,
+    /// A cursor.
+    Cursor,
+    /// What is asked of a bucket's kind.
+    KindTest,
 }
 
 /// The kinds of the operands that follow a word, `Nothing` behind the last.
@@ -57,22 +61,28 @@ impl OperandKinds {
     fn two(first: OperandKind, second: OperandKind) -> Self
         ensures { result ≡ two_operands first second }
     {
-        OperandKinds {
-            first,
-            second,
-            third: OperandKind::Nothing,
-            fourth: OperandKind::Nothing,
-        }
+        OperandKinds::three(first, second, OperandKind::Nothing)
     }
 
     fn three(first: OperandKind, second: OperandKind, third: OperandKind) -> Self
         ensures { result ≡ three_operands first second third }
     {
+        OperandKinds::four(first, second, third, OperandKind::Nothing)
+    }
+
+    fn four(
+        first: OperandKind,
+        second: OperandKind,
+        third: OperandKind,
+        fourth: OperandKind,
+    ) -> Self
+        ensures { result ≡ four_operands first second third fourth }
+    {
         OperandKinds {
             first,
             second,
             third,
-            fourth: OperandKind::Nothing,
+            fourth,
         }
     }
 }
@@ -115,9 +125,33 @@ pub enum Op {
     BCreate,
     BClean,
     BConcat,
+    BSplit,
+    BPart,
     BSave,
     Pass,
     JEmpty,
+    First,
+    Next,
+    JEnd,
+    JKind,
+    Unlink,
+    BDelete,
+    Tail,
+    Head,
+    Before,
+    Heap,
+    Immortal,
+    FromBuf,
+    Transient,
+    PoolB,
+    Flush,
+    Eos,
+    Split,
+    Copy,
+    Aside,
+    Read,
+    Len,
+    Get,
     Put,
     ClearBuf,
     Set,
@@ -145,9 +179,33 @@ impl Op {
             Op::BCreate => b"bcreate",
             Op::BClean => b"bclean",
             Op::BConcat => b"bconcat",
+            Op::BSplit => b"bsplit",
+            Op::BPart => b"bpart",
             Op::BSave => b"bsave",
             Op::Pass => b"pass",
             Op::JEmpty => b"jempty",
+            Op::First => b"first",
+            Op::Next => b"next",
+            Op::JEnd => b"jend",
+            Op::JKind => b"jkind",
+            Op::Unlink => b"unlink",
+            Op::BDelete => b"bdelete",
+            Op::Tail => b"tail",
+            Op::Head => b"head",
+            Op::Before => b"before",
+            Op::Heap => b"heap",
+            Op::Immortal => b"immortal",
+            Op::FromBuf => b"frombuf",
+            Op::Transient => b"transient",
+            Op::PoolB => b"poolb",
+            Op::Flush => b"flush",
+            Op::Eos => b"eos",
+            Op::Split => b"split",
+            Op::Copy => b"copy",
+            Op::Aside => b"aside",
+            Op::Read => b"read",
+            Op::Len => b"len",
+            Op::Get => b"get",
             Op::Put => b"put",
             Op::ClearBuf => b"clearbuf",
             Op::Set => b"set",
@@ -184,6 +242,17 @@ impl Op {
                 OperandKind::Source,
                 OperandKind::Source,
             )),
+            Op::BSplit => Signature::goes_on(OperandKinds::three(
+                OperandKind::Source,
+                OperandKind::Cursor,
+                OperandKind::Source,
+            )),
+            Op::BPart => Signature::goes_on(OperandKinds::four(
+                OperandKind::Source,
+                OperandKind::Value,
+                OperandKind::Cursor,
+                OperandKind::Label,
+            )),
             Op::BSave => Signature::goes_on(OperandKinds::two(
                 OperandKind::Brigade,
                 OperandKind::Source,
@@ -194,6 +263,79 @@ impl Op {
             )),
             Op::JEmpty => Signature::goes_on(OperandKinds::two(
                 OperandKind::Source,
+                OperandKind::Label,
+            )),
+            Op::First => Signature::goes_on(OperandKinds::two(
+                OperandKind::Cursor,
+                OperandKind::Source,
+            )),
+            Op::Next => Signature::goes_on(OperandKinds::two(
+                OperandKind::Cursor,
+                OperandKind::Cursor,
+            )),
+            Op::JEnd => Signature::goes_on(OperandKinds::two(
+                OperandKind::Cursor,
+                OperandKind::Label,
+            )),
+            Op::JKind => Signature::goes_on(OperandKinds::three(
+                OperandKind::Cursor,
+                OperandKind::KindTest,
+                OperandKind::Label,
+            )),
+            Op::Unlink => Signature::goes_on(OperandKinds::one(OperandKind::Cursor)),
+            Op::BDelete => Signature::goes_on(OperandKinds::one(OperandKind::Cursor)),
+            Op::Tail => Signature::goes_on(OperandKinds::two(
+                OperandKind::Source,
+                OperandKind::Cursor,
+            )),
+            Op::Head => Signature::goes_on(OperandKinds::two(
+                OperandKind::Source,
+                OperandKind::Cursor,
+            )),
+            Op::Before => Signature::goes_on(OperandKinds::two(
+                OperandKind::Cursor,
+                OperandKind::Cursor,
+            )),
+            Op::Heap => Signature::goes_on(OperandKinds::two(
+                OperandKind::Cursor,
+                OperandKind::Text,
+            )),
+            Op::Immortal => Signature::goes_on(OperandKinds::two(
+                OperandKind::Cursor,
+                OperandKind::Text,
+            )),
+            Op::FromBuf => Signature::goes_on(OperandKinds::one(OperandKind::Cursor)),
+            Op::Transient => Signature::goes_on(OperandKinds::one(OperandKind::Cursor)),
+            Op::PoolB => Signature::goes_on(OperandKinds::two(
+                OperandKind::Cursor,
+                OperandKind::Place,
+            )),
+            Op::Flush => Signature::goes_on(OperandKinds::one(OperandKind::Cursor)),
+            Op::Eos => Signature::goes_on(OperandKinds::one(OperandKind::Cursor)),
+            Op::Split => Signature::goes_on(OperandKinds::three(
+                OperandKind::Cursor,
+                OperandKind::Value,
+                OperandKind::Label,
+            )),
+            Op::Copy => Signature::goes_on(OperandKinds::two(
+                OperandKind::Cursor,
+                OperandKind::Cursor,
+            )),
+            Op::Aside => Signature::goes_on(OperandKinds::two(
+                OperandKind::Cursor,
+                OperandKind::Place,
+            )),
+            Op::Read => Signature::goes_on(OperandKinds::two(
+                OperandKind::Cursor,
+                OperandKind::Label,
+            )),
+            Op::Len => Signature::goes_on(OperandKinds::two(
+                OperandKind::Number,
+                OperandKind::Cursor,
+            )),
+            Op::Get => Signature::goes_on(OperandKinds::three(
+                OperandKind::Number,
+                OperandKind::Value,
                 OperandKind::Label,
             )),
             Op::Put => Signature::goes_on(OperandKinds::two(
@@ -297,7 +439,7 @@ impl Word {
     }
 }
 
-const WORDS: [Word; 29] = [
+const WORDS: [Word; 53] = [
     Word::Module,
     Word::Pool,
     Word::Brigade,
@@ -313,9 +455,33 @@ const WORDS: [Word; 29] = [
     Word::Op(Op::BCreate),
     Word::Op(Op::BClean),
     Word::Op(Op::BConcat),
+    Word::Op(Op::BSplit),
+    Word::Op(Op::BPart),
     Word::Op(Op::BSave),
     Word::Op(Op::Pass),
     Word::Op(Op::JEmpty),
+    Word::Op(Op::First),
+    Word::Op(Op::Next),
+    Word::Op(Op::JEnd),
+    Word::Op(Op::JKind),
+    Word::Op(Op::Unlink),
+    Word::Op(Op::BDelete),
+    Word::Op(Op::Tail),
+    Word::Op(Op::Head),
+    Word::Op(Op::Before),
+    Word::Op(Op::Heap),
+    Word::Op(Op::Immortal),
+    Word::Op(Op::FromBuf),
+    Word::Op(Op::Transient),
+    Word::Op(Op::PoolB),
+    Word::Op(Op::Flush),
+    Word::Op(Op::Eos),
+    Word::Op(Op::Split),
+    Word::Op(Op::Copy),
+    Word::Op(Op::Aside),
+    Word::Op(Op::Read),
+    Word::Op(Op::Len),
+    Word::Op(Op::Get),
     Word::Op(Op::Put),
     Word::Op(Op::ClearBuf),
     Word::Op(Op::Set),

@@ -15,9 +15,9 @@ use Rattle.run_model.specs.RunOrder.{run_order}
 use Rattle.run_model.specs.Clearing.{cleared_var, run_down}
 use Rattle.run_model.specs.Files.{Files, let_go}
 use Rattle.run_model.specs.Steps.{files_let_go}
-use Rattle.run_model.specs.State.{Configuration, with_pools, set_pool}
+use Rattle.run_model.specs.State.{Configuration, set_loose, with_pools, set_pool}
 use Rattle.module_run.specs.Seen.{labels_handed}
-use Rattle.module_run.specs.Mapped.{mapped}
+use Rattle.module_run.specs.Mapped.{mapped, emptied}
 use Rattle.module_run.specs.Made.{pool_made}
 use Rattle.module_run.specs.OwnPools.{variables}
 use Rattle.module_run.proofs.LetGo.{let_go_as}
@@ -26,19 +26,20 @@ use Rattle.run_model.specs.Indexed.{upd}
 use Rattle.run_model.specs.declared.bucket.PoolVar.{PoolVar}
 use Rattle.run_model.specs.declared.bucket.PoolVar.TheVariants as poolvar
 
-abbrev with_parts : Configuration → (ℕ → BrigadeVar) → List (List ℕ) → Configuration
-with_parts r brigades labels = record r { instance = record r.instance { brigades = brigades }; shared = record r.shared { labels = labels } }
+abbrev with_parts : Configuration → (ℕ → BrigadeVar) → List NamedBucket → List (List ℕ) → Configuration
+with_parts r brigades loose labels = record r { instance = record r.instance { brigades = brigades }; call = record r.call { loose = loose }; shared = record r.shared { labels = labels } }
 
--- the brigades of a list that was cleared
-pub mapped_by : (r : Configuration) (reached : ℕ → Bool) (old new : List BrigadeVar) (runs later : List (Vec (ℕ × Payload)))
-    → (λ b. get_or old b var.Null) ≡ r.instance.brigades → new ≡ map (cleared_var reached) old → labels_handed runs ≡ r.shared.labels → later ≡ runs
-    → with_parts r (λ b. get_or new b var.Null) (labels_handed later) ≡ mapped (cleared_var reached) r
-unfolding mapped
-mapped_by r reached old new runs later brigades changed labels same =
-    ap (λ (vs : List BrigadeVar). with_parts r (λ b. get_or vs b var.Null) (labels_handed later)) changed
-    ∙ (ap (λ (f : ℕ → BrigadeVar). with_parts r f (labels_handed later)) (fun_ext (λ b. get_or-map (cleared_var reached) old b var.Null))
-    ∙ (ap (λ (f : ℕ → BrigadeVar). with_parts r (λ b. cleared_var reached (f b)) (labels_handed later)) brigades
-    ∙ ap (with_parts r (λ b. cleared_var reached (r.instance.brigades b))) (ap labels_handed same ∙ labels)))
+-- the brigades of a list that was cleared, and the loose buckets
+pub emptied_by : (r : Configuration) (reached : ℕ → Bool) (old new : List BrigadeVar) (loose : List NamedBucket) (runs later : List (Vec (ℕ × Payload)))
+    → (λ b. get_or old b var.Null) ≡ r.instance.brigades → new ≡ map (cleared_var reached) old → loose ≡ map (cleared_bucket reached) r.call.loose → labels_handed runs ≡ r.shared.labels → later ≡ runs
+    → with_parts r (λ b. get_or new b var.Null) loose (labels_handed later) ≡ emptied reached r
+unfolding emptied mapped set_loose
+emptied_by r reached old new loose runs later brigades changed left labels same =
+    ap (λ (vs : List BrigadeVar). with_parts r (λ b. get_or vs b var.Null) loose (labels_handed later)) changed
+    ∙ (ap (λ (f : ℕ → BrigadeVar). with_parts r f loose (labels_handed later)) (fun_ext (λ b. get_or-map (cleared_var reached) old b var.Null))
+    ∙ (ap (λ (f : ℕ → BrigadeVar). with_parts r (λ b. cleared_var reached (f b)) loose (labels_handed later)) brigades
+    ∙ (ap (λ (xs : List NamedBucket). with_parts r (λ b. cleared_var reached (r.instance.brigades b)) xs (labels_handed later)) left
+    ∙ ap (with_parts r (λ b. cleared_var reached (r.instance.brigades b)) (map (cleared_bucket reached) r.call.loose)) (ap labels_handed same ∙ labels))))
 
 -- the labels of one more clear
 pub labels_more : (runs : List (Vec (ℕ × Payload))) (ran : Vec (ℕ × Payload)) → labels_handed (runs ++ ran ∷ []) ≡ labels_handed runs ++ labels_in ran.items
@@ -50,33 +51,29 @@ abbrev pub with_ran : Pools Payload → List (List ℕ) → Files → Configurat
 with_ran pools labels files r = record r { shared = record r.shared { pools = pools; labels = labels; files = files } }
 
 -- the brigades were cleared, the pools changed, labels ran, and files closed
-pub ran_down : (r mid : Configuration) (p : ℕ) (after pools : Pools Payload) (labels : List (List ℕ)) (files : Files) → r.call.loose ≡ []
-    → mid ≡ mapped (cleared_var (is_under r.shared.pools p)) r → pools ≡ after → labels ≡ r.shared.labels ++ labels_in (run_order r.shared.pools p)
+pub ran_down : (r mid : Configuration) (p : ℕ) (after pools : Pools Payload) (labels : List (List ℕ)) (files : Files)
+    → mid ≡ emptied (is_under r.shared.pools p) r → pools ≡ after → labels ≡ r.shared.labels ++ labels_in (run_order r.shared.pools p)
     → files ≡ let_go (run_order r.shared.pools p) after r.shared.files
     → with_ran pools labels files mid ≡ files_let_go p r (with_pools after (run_down p r))
-unfolding mapped with_pools run_down
-ran_down r mid p after pools labels files none changed became ran closed =
+unfolding emptied mapped set_loose with_pools run_down
+ran_down r mid p after pools labels files changed became ran closed =
     let reached : ℕ → Bool = is_under r.shared.pools p in
-    let clear : List NamedBucket → List NamedBucket = map (cleared_bucket reached) in
-    let kept : r.call.loose ≡ clear r.call.loose = none ∙ sym (ap clear none) in
-    let base : Configuration = mapped (cleared_var reached) r in
-    let left : Files = let_go (run_order r.shared.pools p) after r.shared.files in
+    let base : Configuration = emptied reached r in
     ap (with_ran pools labels files) changed
     ∙ (ap (λ (ps : Pools Payload). with_ran ps labels files base) became
     ∙ (ap (λ (ls : List (List ℕ)). with_ran after ls files base) ran
-    ∙ (ap (λ (fs : Files). with_ran after (r.shared.labels ++ labels_in (run_order r.shared.pools p)) fs base) closed
-    ∙ ap (λ (loose : List NamedBucket). record (with_ran after (r.shared.labels ++ labels_in (run_order r.shared.pools p)) left base) { call = record r.call { loose = loose } }) kept)))
+    ∙ ap (λ (fs : Files). with_ran after (r.shared.labels ++ labels_in (run_order r.shared.pools p)) fs base) closed))
 
 -- The same by what each call of a clear or of a destruction answered: which pools were left, and what was handed on.
 pub handed_down : (r mid : Configuration) (p : ℕ) (change : Pools Payload → Pools Payload) (was pools : Pools Payload) (handed ran : List (ℕ × Payload)) (labels : List (List ℕ)) (files : Files)
-    → r.call.loose ≡ [] → mid ≡ mapped (cleared_var (is_under r.shared.pools p)) r → was ≡ r.shared.pools → ran ≡ run_order was p → pools ≡ change was → handed ≡ ran
+    → mid ≡ emptied (is_under r.shared.pools p) r → was ≡ r.shared.pools → ran ≡ run_order was p → pools ≡ change was → handed ≡ ran
     → labels ≡ mid.shared.labels ++ labels_in ran → files ≡ let_go handed pools mid.shared.files
     → with_ran pools labels files mid ≡ files_let_go p r (with_pools (change r.shared.pools) (run_down p r))
-unfolding mapped
-handed_down r mid p change was pools handed ran labels files none changed same order left value added closed =
+unfolding emptied mapped set_loose
+handed_down r mid p change was pools handed ran labels files changed same order left value added closed =
     let after = left ∙ ap change same in
     let run = order ∙ ap (λ (ps : Pools Payload). run_order ps p) same in
-    ran_down r mid p (change r.shared.pools) pools labels files none changed after
+    ran_down r mid p (change r.shared.pools) pools labels files changed after
     (added ∙ (ap (λ (ls : List (List ℕ)). ls ++ labels_in ran) (ap (λ (x : Configuration). x.shared.labels) changed) ∙ ap (λ (ys : List (ℕ × Payload)). r.shared.labels ++ labels_in ys) run))
     (let_go_as handed (run_order r.shared.pools p) pools (change r.shared.pools) files mid.shared.files r.shared.files closed (value ∙ run) after (ap (λ (x : Configuration). x.shared.files) changed))
 

@@ -15,10 +15,10 @@ use Rattle.module_lang.specs.declared.instr.Instr.TheVariants as instr
 use Rattle.module_lang.specs.declared.instr.Status.TheVariants.{Success}
 use Rattle.module_lang.specs.Program.{Program, IsPlaced, target}
 use Rattle.run_model.specs.State.{Configuration}
-use Rattle.run_model.proofs.EventsKeep.{at_end_keeps}
+use Rattle.run_model.proofs.AtEnd.{at_end_keeps}
 use Rattle.run_model.proofs.Unchanged.{step_changes_only}
 use Rattle.run_model.specs.Faults.{fault}
-use Rattle.run_model.specs.Steps.{Outcome, step_at_end, settled, watched, executed, succeeded, unless_fault, current, lacks_names, is_spent, names_of, pool_names_of, grows}
+use Rattle.run_model.specs.Steps.{choice_at_end, Outcome, step_at_end, settled, watched, executed, succeeded, unless_fault, current, lacks_names, grows}
 
 -- the instruction that is executed next is the one that stands there
 pub current_is : (p : Program) (pc : ℕ) (i : Instr) → slice_get p.code pc ≡ Some i → current p pc ≡ i
@@ -30,7 +30,7 @@ current_at p pc at i same found = current_is p pc i (subst (λ (n : ℕ). slice_
 
 -- an instruction leaves the place to its settling
 pub pc_kept : (p : Program) (i : Instr) (r : Configuration) → (step_at_end p i r).state.pc ≡ r.pc
-pc_kept p i r = at_end_keeps (λ (x : Configuration). x.pc ≡ r.pc) p i r (step_changes_only p (record { answer = Success }) i r).pc (λ b passed. passed)
+pc_kept p i r = at_end_keeps (λ (x : Configuration). x.pc ≡ r.pc) p i r (step_changes_only p (choice_at_end i r) i r).pc (λ out fs x reads stepped. stepped)
 
 pub pc_kept_by : (p : Program) (i : Instr) (r new : Configuration) (e : Exit) → step_at_end p i r ≡ record { exit = e; state = new } → new.pc ≡ r.pc
 pc_kept_by p i r new e went = sym (ap (λ (w : Outcome). w.state.pc) went) ∙ pc_kept p i r
@@ -86,20 +86,3 @@ went_on p i r x new e s none spent step settle =
 pub must_grow : (b : Bool) {X E : Type 0} (x : Result X E) (e : E) → (b ≡ false → IsOk x) → x ≡ Err e → b ≡ true
 must_grow true x e sure is = refl
 must_grow false {X = X} {E = E} x e sure is = absurd (false≢true (subst (λ (y : Result X E). is_ok y ≡ true) is (sure refl)))
-
-left_false : (a b : Bool) → (a || b) ≡ false → a ≡ false
-left_false true b none = none
-left_false false b none = refl
-
-right_false : (a b : Bool) → (a || b) ≡ false → b ≡ false
-right_false true b none = absurd (false≢true (sym none))
-right_false false b none = none
-
--- the names that an instruction gives out are there
-pub names_there : (r : Configuration) (i : Instr) (names : ℕ) → lacks_names r i ≡ false → names_of i ≡ names → is_spent r.shared.next names ≡ false
-unfolding lacks_names
-names_there r i names there are = ap (is_spent r.shared.next) (sym are) ∙ left_false (is_spent r.shared.next (names_of i)) (is_spent r.shared.pools.next (pool_names_of i)) there
-
-pub pool_names_there : (r : Configuration) (i : Instr) (names : ℕ) → lacks_names r i ≡ false → pool_names_of i ≡ names → is_spent r.shared.pools.next names ≡ false
-unfolding lacks_names
-pool_names_there r i names there are = ap (is_spent r.shared.pools.next) (sym are) ∙ right_false (is_spent r.shared.next (names_of i)) (is_spent r.shared.pools.next (pool_names_of i)) there

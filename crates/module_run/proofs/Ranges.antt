@@ -1,7 +1,7 @@
 -- Ranges of the files that were opened.
 use Rattle.std.proofs.Common.{◌≡◌, ℕ, ◌||◌, ◌&&◌, eqb, leb, List, [], ◌∷◌, refl, ap}
 use Rattle.std.specs.List.{list_any}
-use Rattle.module_run.specs.declared.pieces.OpenFile.{OpenFile}
+use Rattle.module_run.specs.declared.open_file.OpenFile.{OpenFile}
 use Rattle.module_run.specs.OpenFiles.{lengths}
 use Rattle.run_model.specs.Connection.{has_range}
 

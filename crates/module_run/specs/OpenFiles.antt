@@ -4,7 +4,7 @@ use Rattle.run_model.specs.declared.payload.Payload.TheVariants.{FileRef}
 use Rattle.run_model.specs.Files.{file_opened}
 use Rattle.run_model.specs.Pools.{registered}
 use Rattle.run_model.specs.State.{Configuration}
-use Rattle.module_run.specs.declared.pieces.OpenFile.{OpenFile}
+use Rattle.module_run.specs.declared.open_file.OpenFile.{OpenFile}
 
 -- each file's number with its length
 abbrev pub lengths : List OpenFile → List (ℕ × ℕ)

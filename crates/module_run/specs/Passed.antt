@@ -1,8 +1,9 @@
--- The brigade that an instruction passes.
-use Rattle.std.specs.Prelude.{ℕ, Option, Some, None}
+-- Instructions that lead where their effect says: what the next filter or a file answers.
+use Rattle.std.specs.Prelude.{Bool, true, false}
 use Rattle.module_lang.specs.declared.instr.Instr.{Instr}
 use Rattle.module_lang.specs.declared.instr.Instr.TheVariants as instr
 
-abbrev pub passed_by : Instr → Option ℕ
-passed_by (instr.Pass b l) = Some b
-passed_by i = None
+abbrev pub is_answered : Instr → Bool
+is_answered (instr.Pass b l) = true
+is_answered (instr.Read c l) = true
+is_answered i = false

@@ -8,7 +8,7 @@ ghost use Rattle.pool_tree.specs.Tree.{map_of};
 ghost use Rattle.module_run.specs.Tests.{late_data};
 
 use pool_tree::PoolTree;
-use run_model::{Home, Kind, NamedBucket, Payload};
+use run_model::{Home, Kind, NamedBucket, Payload, Seq};
 
 /// Whether buckets of this kind are data.
 pub(crate) fn is_data_kind(kind: Kind) -> bool
@@ -46,7 +46,8 @@ pub(crate) fn has_late_data(sent: bool, items: &[NamedBucket]) -> bool
     false
 }
 
-fn is_ended(home: Home) -> bool
+/// Whether it is a dead home.
+pub(crate) fn is_ended(home: Home) -> bool
     ensures { result ≡ is_ended home }
 {
     matches!(home, Home::Ended)
@@ -116,4 +117,12 @@ pub(crate) fn clear(items: &mut [NamedBucket], pools: &PoolTree<Payload>, cleare
         b.bucket.kind = to_heap(pools, cleared, b.bucket.kind);
         b.bucket.home = end_pools(pools, cleared, b.bucket.home);
     }
+}
+
+/// The same of all buckets of a list.
+pub(crate) fn clear_all(items: &mut Seq<NamedBucket>, pools: &PoolTree<Payload>, cleared: u64)
+    requires { IsTrue (is_live (map_of pools.now) cleared) }
+    ensures { items.new ≡ map (cleared_bucket (is_under (map_of pools.now) cleared)) items.old }
+{
+    clear(items.as_mut_slice(), pools, cleared);
 }

@@ -2,21 +2,25 @@
 
 ghost use Rattle.std.specs.Prelude.{◌≡◌, ◌↔◌, IsTrue, ◌+◌, ◌<◌, ◌-◌, ◌^◌, [], ◌∷◌, length, Ok, IfOk, IfErr};
 ghost use Rattle.run_model.specs.Connection.{opened, calling, begins, brings, ends, takes, steps, breaks, after_step, closing_labels, closing_pools, closing_files, opens_file};
-ghost use Rattle.run_model.specs.Steps.{watched, current};
+ghost use Rattle.run_model.specs.RangesEnd.{RangesEnd};
 ghost use Rattle.run_model.specs.Runs.{EndsRun};
 ghost use Rattle.pool_tree.specs.Tree.{map_of};
-ghost use Rattle.module_run.specs.Seen.{seen, seen_machine, step_lasted, lasted, refusal_of, labels_handed, labels_of, pools_left, files_left};
+ghost use Rattle.module_run.specs.SeenMachine.{seen_machine};
+ghost use Rattle.module_run.specs.Ending.{RangesEnd-prop};
 ghost use Rattle.bucket_kinds.specs.MemDevice.{files_of};
 ghost use Rattle.bucket_kinds.specs.MemAnswers.{IsAdding};
 
+mod watched;
+
 use crate::closed::Closed;
 use crate::machine::Machine;
-use crate::pieces::OpenFile;
+use crate::open_file::OpenFile;
 use crate::{effects, pieces, step};
 use bucket_kinds::{AddRefusal, FileNo, MemFiles};
 use pool_tree::{PoolId, PoolTree};
 use run_model::{Cause, Module, Payload, Piece, Refusal, Seq, StepRefusal, Stepped};
 use std::alloc::Global;
+pub use watched::step_watched;
 
 /// A connection on which one module runs.
 #[derive(Drop)]
@@ -26,23 +30,13 @@ pub struct Conn {
     busy: bool,
     count: u64,
     broken: Option<Cause>,
-}
-
-/// One watched step of a connection's next instruction. The answer is `Fault` exactly where that instruction has a
-/// fault, whether or not there is memory; `NamesSpent` where it would have to give out the name 2^64 - 1; `NoMemory`
-/// where a growth was refused. A fault and a refusal change nothing.
-#[tactic(auto, unfolding(crate::specs::Seen::seen))]
-pub fn step_watched(alloc: Global, code: &Module, conn: &mut Conn) -> Result<Stepped, StepRefusal>
-    requires { (seen conn.old).state.pc < length code.now.code }
-    ensures step { let r = (seen conn.old).state in watched (step_lasted result) code.now (current code.now r.pc) r ≡ (result, (seen conn.new).state) }
-    ensures rest { seen conn.new ≡ record (seen conn.old) { state = (seen conn.new).state } }
-    ensures inside { (seen conn.new).state.pc < length code.now.code }
-{
-    step::step(alloc, code, &mut conn.machine)
+    ghost ending: { RangesEnd (seen_machine machine) } by { RangesEnd-prop (seen_machine machine) },
 }
 
 #[tactic(auto, unfolding(crate::specs::Seen::seen))]
 impl Conn {
+    ghost use Rattle.module_run.specs.Seen.{seen, lasted, refusal_of, labels_handed, labels_of, pools_left, files_left};
+
     fn break_by(&mut self, cause: Cause)
         ensures { seen self.new ≡ breaks cause (seen self.old) }
     {

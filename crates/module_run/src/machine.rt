@@ -6,15 +6,18 @@ ghost use Rattle.run_model.specs.Steps.{is_spent, made_on};
 ghost use Rattle.pool_tree.specs.Tree.{map_of};
 ghost use Rattle.module_run.specs.OwnPools.{IsStanding, LieOnLive, on_live};
 
+mod cursors;
 mod files;
+mod lists;
 mod numbers;
 mod pool_steps;
 mod pools;
 mod saves;
 
 use bucket_kinds::MemFiles;
+pub(crate) use cursors::RD;
 use pool_tree::{PoolId, PoolTree};
-use run_model::{BrigadeVar, Payload, PoolVar, Seq};
+use run_model::{BrigadeVar, Cursor, NamedBucket, Payload, PoolVar, Seq};
 use std::alloc::Global;
 use std::mem;
 
@@ -31,7 +34,9 @@ pub(crate) struct Machine {
     numbers: [u32; 8],
     sent: bool,
     call: u64,
+    cursors: [Cursor; 9],
     buffer: Seq<u8>,
+    loose: Seq<NamedBucket>,
     pools: PoolTree<Payload>,
     req: Option<u64>,
     runs: Vec<Vec<(PoolId, Payload)>>,
@@ -155,7 +160,9 @@ impl Machine {
         ensures { seen_machine self.new ≡ record (seen_machine self.old) { call = fresh_call name } }
     {
         self.call = name;
+        self.cursors = [Cursor::Unset; 9];
         self.buffer.clear();
+        self.loose.clear();
     }
 
     /// The output that was not taken yet.

@@ -6,6 +6,7 @@ ghost use Rattle.run_model.specs.Connection.{bucket_of, named_from, is_data_piec
 ghost use Rattle.module_run.specs.Tests.{late_piece};
 ghost use Rattle.module_run.specs.OpenFiles.{lengths};
 
+use crate::open_file::OpenFile;
 use run_model::{Bucket, Content, Home, Kind, NamedBucket, Piece, Seq};
 use std::alloc::{AllocError, Global};
 
@@ -81,13 +82,6 @@ pub(crate) fn has_data_behind_eos(pieces: &[Piece]) -> bool
     ensures { result ≡ data_behind_eos pieces.now }
 {
     has_late_data(pieces)
-}
-
-/// A file that was opened in the open request.
-#[derive(Clone, Copy)]
-pub(crate) struct OpenFile {
-    pub(crate) number: u64,
-    pub(crate) len: u64,
 }
 
 /// Whether this is the file of a number and reaches so far.

@@ -6,13 +6,18 @@ ghost use Rattle.run_model.specs.RunOrder.{killed};
 ghost use Rattle.run_model.specs.Payloads.{payload_eq};
 ghost use Rattle.run_model.specs.Steps.{is_above, aside_named, file_of, new_ref, all_referred, with_items, made_on, do_save};
 ghost use Rattle.run_model.specs.State.{items_of};
+ghost use Rattle.run_model.specs.BrigadeLists.{is_there, bucket_named};
+ghost use Rattle.run_model.specs.BucketSteps.{changed_at};
+ghost use Rattle.run_model.specs.declared.bucket.NamedBucket.{NamedBucket};
 ghost use Rattle.pool_tree.specs.Tree.{map_of};
 ghost use Rattle.module_run.specs.OwnPools.{on_live};
 ghost use Rattle.module_run.specs.Saved.{pools_saved, var_saved, var_emptied};
 ghost use Rattle.module_run.specs.Seen.{seen_machine};
 
 use crate::buckets::reaches;
+use crate::lists::find;
 use crate::machine::Machine;
+use crate::reads::aside_at;
 use bucket_kinds::aside_bucket;
 use pool_tree::PoolTree;
 use run_model::{Brigade, BrigadeVar, Content, Home, Kind, NamedBucket, Payload, Seq};
@@ -20,7 +25,7 @@ use std::alloc::{AllocError, Global};
 
 /// Whether the pool of a home is the target or stands above it.
 #[tactic(auto, using(crate::proofs::Referred::dead_above, pool_tree::proofs::Trees::tree_formed))]
-fn is_above(pools: &PoolTree<Payload>, target: u64, home: Home) -> bool
+pub(crate) fn is_above(pools: &PoolTree<Payload>, target: u64, home: Home) -> bool
     requires { IsTrue (is_live (map_of pools.now) target) }
     ensures { result ≡ is_above (map_of pools.now) target home }
 {
@@ -266,4 +271,44 @@ pub(crate) fn save(alloc: Global, machine: &mut Machine, o: u8, b: u8) -> Result
     machine.put(b, from);
     machine.put(o, to);
     saved
+}
+
+/// Registers a reference to the file of a bucket, where setting it aside takes one. Without memory nothing is changed.
+#[tactic(auto, using(crate::proofs::SetAside::one_referred, crate::proofs::SetAside::none_referred))]
+fn refer_for(
+    pools: &mut PoolTree<Payload>,
+    target: u64,
+    item: &NamedBucket,
+) -> Result<(), AllocError>
+    requires { IsTrue (is_live (map_of pools.old) target) }
+    ensures ok { OnOk result (map_of pools.new ≡ all_referred target (filter_map (new_ref (map_of pools.old) target) (item.now ∷ [])) (map_of pools.old)) }
+    ensures err { OnErr result (map_of pools.new ≡ map_of pools.old) }
+    ensures live { IsTrue (is_live (map_of pools.new) target) }
+{
+    match new_ref(pools, target, item) {
+        Some(file) => refer_one(pools, target, file),
+        None => Ok(()),
+    }
+}
+
+/// Sets the bucket of a name aside into the pool `target`. Without memory nothing is changed.
+pub(crate) fn aside_one(
+    pools: &mut PoolTree<Payload>,
+    target: u64,
+    items: &mut Seq<NamedBucket>,
+    name: u64,
+) -> Result<(), AllocError>
+    requires live { IsTrue (is_live (map_of pools.old) target) }
+    requires there { is_there name items.old ≡ true }
+    ensures ok { (x : NamedBucket) → bucket_named name items.old ≡ Some x → OnOk result (map_of pools.new ≡ all_referred target (filter_map (new_ref (map_of pools.old) target) (x ∷ [])) (map_of pools.old)) }
+    ensures set { OnOk result (items.new ≡ changed_at name (aside_named (map_of pools.old) target) items.old) }
+    ensures err { OnErr result (map_of pools.new ≡ map_of pools.old) }
+    ensures same { OnErr result (items.new ≡ items.old) }
+    ensures paths { (map_of pools.new).path ≡ (map_of pools.old).path }
+    ensures next { (map_of pools.new).next ≡ (map_of pools.old).next }
+{
+    let index = find(items.as_slice(), name);
+    refer_for(pools, target, items.at(index))?;
+    aside_at(pools, target, items, name);
+    Ok(())
 }

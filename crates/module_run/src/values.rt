@@ -1,12 +1,17 @@
 //! What instructions do to numbers and to a call's buffer.
 
 ghost use Rattle.std.specs.Prelude.{◌≡◌, ◌==◌, ◌<◌, ◌-◌, ◌+◌, min, nat_lt, OnOk, OnErr};
+ghost use Rattle.run_model.specs.BucketSteps.{byte_of, content_at, do_len, got};
+ghost use Rattle.run_model.specs.Cursors.{spot, read_cursor};
+ghost use Rattle.run_model.specs.Cutting.{length_of};
 ghost use Rattle.run_model.specs.State.{set_number};
 ghost use Rattle.run_model.specs.Steps.{value_of, is_full, do_put, last_value};
 ghost use Rattle.module_run.specs.Seen.{seen_machine};
 
-use crate::machine::Machine;
-use run_model::Value;
+use crate::cuts::length_of;
+use crate::machine::{Machine, RD};
+use crate::spots;
+use run_model::{Content, Value};
 use std::alloc::AllocError;
 
 /// How many bytes a call's buffer holds at most.
@@ -80,4 +85,55 @@ pub(crate) fn is_equal(machine: &Machine, n: u8, x: Value) -> bool
     ensures { let r = seen_machine machine.now in result ≡ (r.instance.numbers n == value_of r x) }
 {
     machine.number(n) == value_of(machine, x)
+}
+
+/// The length of the bucket at a cursor; 0 where there is none.
+fn length_at(machine: &Machine, c: u8) -> u64
+    requires { c < 9 }
+    ensures { result ≡ length_of (content_at (spot (seen_machine machine.now) c)) }
+{
+    match spots::bucket(machine, c) {
+        Some(b) => length_of(&b.bucket.content),
+        None => 0,
+    }
+}
+
+/// Sets a number to the length of the bucket at a cursor, at most 4294967295.
+pub(crate) fn len(machine: &mut Machine, n: u8, c: u8)
+    requires number { n < 8 }
+    requires cursor { c < 9 }
+    ensures { let r = seen_machine machine.old in seen_machine machine.new ≡ do_len n (spot r c) r }
+{
+    let len = length_at(machine, c).min(u64::from(u32::MAX));
+    machine.set_number(n, len as u32);
+}
+
+/// A byte of a content in memory.
+fn byte_of(content: &Content, k: u32) -> Option<u8>
+    ensures { result ≡ byte_of k content.now }
+{
+    match content {
+        Content::Bytes(bytes) => bytes.as_slice().get(k as usize).copied(),
+        Content::Range { .. } | Content::Nothing => None,
+    }
+}
+
+/// A byte of the bucket at the read cursor.
+pub(crate) fn byte_read(machine: &Machine, x: Value) -> Option<u8>
+    ensures { let r = seen_machine machine.now in result ≡ byte_of (value_of r x) (content_at (spot r read_cursor)) }
+{
+    match spots::bucket(machine, RD) {
+        Some(b) => byte_of(&b.bucket.content, value_of(machine, x)),
+        None => None,
+    }
+}
+
+/// Sets a number to a byte of the bucket at the read cursor, where there is that byte.
+pub(crate) fn get(machine: &mut Machine, n: u8, x: Value)
+    requires { n < 8 }
+    ensures { let r = seen_machine machine.old in seen_machine machine.new ≡ got n (byte_of (value_of r x) (content_at (spot r read_cursor))) r }
+{
+    if let Some(byte) = byte_read(machine, x) {
+        machine.set_number(n, u32::from(byte));
+    }
 }

@@ -6,12 +6,13 @@ ghost use Rattle.run_model.specs.Buckets.{cleared_bucket};
 ghost use Rattle.run_model.specs.Pools.{is_live, is_under};
 ghost use Rattle.run_model.specs.Clearing.{is_reached, cleared_var};
 ghost use Rattle.pool_tree.specs.Tree.{map_of};
-ghost use Rattle.run_model.specs.Steps.{cleaned, with_items, handed_over, returned_var};
+ghost use Rattle.run_model.specs.Steps.{cleaned, made_on, with_items, handed_over, returned_var};
 
 use crate::buckets;
 use pool_tree::PoolTree;
 use run_model::{Brigade, BrigadeVar, Mark, NamedBucket, Payload, Seq};
-use std::alloc::AllocError;
+use std::alloc::{AllocError, Global};
+use std::mem;
 
 /// The buckets in a brigade variable.
 pub(crate) fn items(var: &BrigadeVar) -> &[NamedBucket]
@@ -120,5 +121,27 @@ pub(crate) fn join(to: &mut BrigadeVar, from: &mut BrigadeVar) -> Result<(), All
     match from {
         BrigadeVar::Live(brigade) => take_in(to, &mut brigade.items),
         BrigadeVar::Null | BrigadeVar::Gone => Ok(()),
+    }
+}
+
+/// Takes out the buckets.
+pub(crate) fn take_items(alloc: Global, var: &mut BrigadeVar) -> Seq<NamedBucket>
+    ensures items { result ≡ items_of var.old }
+    ensures rest { var.new ≡ with_items [] var.old }
+    ensures on { made_on var.new ≡ made_on var.old }
+{
+    match var {
+        BrigadeVar::Live(brigade) => mem::replace(&mut brigade.items, Seq::new(alloc)),
+        BrigadeVar::Null | BrigadeVar::Gone => Seq::new(alloc),
+    }
+}
+
+/// A brigade has these buckets.
+pub(crate) fn put_items(var: &mut BrigadeVar, items: Seq<NamedBucket>)
+    ensures rest { var.new ≡ with_items items var.old }
+    ensures on { made_on var.new ≡ made_on var.old }
+{
+    if let BrigadeVar::Live(brigade) = var {
+        brigade.items = items;
     }
 }

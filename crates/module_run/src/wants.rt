@@ -8,10 +8,12 @@ ghost use Rattle.module_lang.specs.Program.{fits};
 ghost use Rattle.module_run.specs.Seen.{seen_machine};
 
 use crate::buckets;
-use crate::machine::Machine;
+use crate::cursor_wants::{Footing, want_cursor, want_home, want_home_across};
+use crate::machine::{Machine, RD};
 use run_model::{BrigadeVar, FaultKind, Home, Instr, Mark, Module, NamedBucket, PoolRef};
 
-fn or_else(first: Option<FaultKind>, second: Option<FaultKind>) -> Option<FaultKind>
+/// The fault of the first want, or else of those behind it.
+pub(crate) fn or_else(first: Option<FaultKind>, second: Option<FaultKind>) -> Option<FaultKind>
     ensures { result ≡ or_else first second }
 {
     match first {
@@ -152,23 +154,68 @@ pub(crate) fn fault(code: &Module, machine: &Machine, instr: Instr) -> Option<Fa
             want_new_pool(machine, q),
         ),
         Instr::PClear(q) | Instr::PDestroy(q) => want_pool(machine, PoolRef::Own(q)),
-        Instr::Label(pool, _) | Instr::Unlabel(pool, _) => want_pool(machine, pool),
+        Instr::Label(pool, _) | Instr::Unlabel(pool, _) | Instr::PoolB(_, pool) => {
+            want_pool(machine, pool)
+        }
         Instr::BCreate(o) => or_else(
             want_pool(machine, code.brigade_pool(o)),
             want_new(machine, o),
         ),
         Instr::BClean(b) => want_brigade(machine, b),
         Instr::BConcat(a, b) => or_else(want_usable(machine, a), want_usable(machine, b)),
-        Instr::Pass(b, _) => or_else(
+        Instr::BSplit(b, c, a) => or_else(
             want_usable(machine, b),
-            or_else(want_homes(machine, b), want_send(machine, b)),
+            or_else(
+                want_cursor(machine, c, Footing::InThis(b)),
+                want_usable(machine, a),
+            ),
         ),
-        Instr::JEmpty(b, _) => want_usable(machine, b),
+        Instr::BPart(b, x, _, _) => or_else(
+            want_usable(machine, b),
+            want_home_across(machine, b, x),
+        ),
         Instr::BSave(o, b) => or_else(
             want_usable(machine, o),
             or_else(want_usable(machine, b), want_homes(machine, b)),
         ),
-        Instr::Put(_, _)
+        Instr::JEmpty(b, _) | Instr::First(_, b) => want_usable(machine, b),
+        Instr::Pass(b, _) => or_else(
+            want_usable(machine, b),
+            or_else(want_homes(machine, b), want_send(machine, b)),
+        ),
+        Instr::Next(_, c) | Instr::Unlink(c) => want_cursor(machine, c, Footing::InBrigade),
+        Instr::JEnd(c, _) => want_cursor(machine, c, Footing::Anywhere),
+        Instr::JKind(c, _, _) | Instr::BDelete(c) | Instr::Len(_, c) => {
+            want_cursor(machine, c, Footing::OnBucket)
+        }
+        Instr::Tail(b, c) | Instr::Head(b, c) => or_else(
+            want_usable(machine, b),
+            want_cursor(machine, c, Footing::OnLoose),
+        ),
+        Instr::Before(c, d) => or_else(
+            want_cursor(machine, c, Footing::OnLoose),
+            want_cursor(machine, d, Footing::InBrigade),
+        ),
+        Instr::Split(c, _, _) | Instr::Read(c, _) => or_else(
+            want_cursor(machine, c, Footing::InBrigade),
+            want_home(machine, c),
+        ),
+        Instr::Copy(_, c) => or_else(
+            want_cursor(machine, c, Footing::OnBucket),
+            want_home(machine, c),
+        ),
+        Instr::Aside(c, pool) => or_else(
+            want_cursor(machine, c, Footing::OnBucket),
+            or_else(want_pool(machine, pool), want_home(machine, c)),
+        ),
+        Instr::Get(_, _, _) => want_cursor(machine, RD, Footing::OnBucket),
+        Instr::Heap(_, _)
+        | Instr::Immortal(_, _)
+        | Instr::FromBuf(_)
+        | Instr::Transient(_)
+        | Instr::Flush(_)
+        | Instr::Eos(_)
+        | Instr::Put(_, _)
         | Instr::ClearBuf
         | Instr::Set(_, _)
         | Instr::Add(_, _)

@@ -2,7 +2,6 @@
 use Rattle.std.proofs.Common.{◌≡◌, ◌≢◌, ℕ, ◌+◌, ◌<◌, ◌≤◌, Bool, true, false, ◌||◌, not, ◌==◌, nat_lt, cond, List, [], ◌∷◌, ◌++◌, map, filter_map, length, Option, Some, None, is_some, ◌⊎◌, inl, inr, refl, sym, ◌∙◌, ap, subst, arith}
 use Rattle.std.proofs.lemmas.Bool.{cases_Bool, cases_eq}
 use Rattle.std.proofs.lemmas.Bool.Decides.{nat_tests}
-use Rattle.module_lang.specs.declared.instr.Status.TheVariants.{Success}
 use Rattle.module_lang.specs.declared.instr.PoolRef.{PoolRef}
 use Rattle.module_lang.specs.declared.instr.PoolRef.TheVariants as pool
 use Rattle.module_lang.specs.declared.instr.Instr.TheVariants as instr
@@ -14,6 +13,7 @@ use Rattle.run_model.specs.declared.bucket.BrigadeVar.{BrigadeVar}
 use Rattle.run_model.specs.declared.bucket.BrigadeVar.TheVariants as var
 use Rattle.run_model.specs.declared.bucket.PoolVar.{PoolVar}
 use Rattle.run_model.specs.declared.bucket.PoolVar.TheVariants as poolvar
+use Rattle.run_model.specs.declared.bucket.Cursor.{Cursor}
 use Rattle.run_model.specs.declared.event.Piece.{Piece}
 use Rattle.run_model.specs.declared.fault.FaultKind.TheVariants.{F1, F10}
 use Rattle.run_model.specs.declared.payload.Payload.{Payload}
@@ -22,14 +22,15 @@ use Rattle.run_model.specs.Pools.{Pools, is_empty, is_live, is_in, is_under, cre
 use Rattle.run_model.specs.RunOrder.{IsPoolMap, killed}
 use Rattle.run_model.specs.Buckets.{cleared_bucket}
 use Rattle.run_model.specs.Clearing.{is_reached, cleared_var, run_down}
-use Rattle.run_model.specs.State.{named_at, Configuration, items_of, set_pool, with_pools, set_brigade, set_number, name_in, pool_named}
+use Rattle.run_model.specs.State.{named_at, Configuration, items_of, set_pool, with_pools, set_brigade, set_loose, set_cursor, set_number, name_in, pool_named}
 use Rattle.run_model.specs.Faults.{has_pool_at, is_live_named, has_pool, or_else}
-use Rattle.run_model.specs.Steps.{do_create, do_pass, do_return, do_clean, cleaned, handed_over, with_items, returned_var, made_on, new_ref, saved_into, pool_cleared, pool_destroyed, label_registered, label_killed, text_of, current}
+use Rattle.run_model.specs.Steps.{choice_at_end, do_create, do_pass, do_return, do_clean, cleaned, handed_over, with_items, returned_var, made_on, new_ref, saved_into, pool_cleared, pool_destroyed, label_registered, label_killed, text_of, current}
 use Rattle.run_model.specs.Connection.{Connection, opened, begun, brought_in, file_taken, ended, takes}
 use Rattle.run_model.specs.Runs.{Before}
 use Rattle.run_model.specs.Sound.{brigade_pool, SoundPools, Sound}
 use Rattle.run_model.specs.Laws.{SoundWorld}
 use Rattle.run_model.specs.AsDeclared.{AsDeclared, OpenedAsDeclared, StepKeepsDeclared, StepAtEndKeepsDeclared, DeclaredWorld, EventKeepsDeclared, RunIsDeclared}
+use Rattle.run_model.proofs.AtEnd.{at_end_keeps}
 use Rattle.run_model.proofs.Updates.{upd_off, upd_either}
 use Rattle.run_model.proofs.Marks.{first_none, second_none}
 use Rattle.run_model.proofs.Names.{at_each, at_two}
@@ -37,10 +38,11 @@ use Rattle.run_model.proofs.Runs.{run_keeps}
 use Rattle.run_model.proofs.PoolMap.{live_path, created_lives, created_kept, created_at, destroyed_apart, destroyed_under, cleared_apart, cleared_itself, cleared_under, not_under}
 use Rattle.run_model.proofs.Formed.{path_live, formed_older}
 use Rattle.run_model.proofs.RunOrderLaws.{under_itself}
-use Rattle.run_model.proofs.NamedPools.{on_named, made_under_named, put_keeps}
+use Rattle.run_model.proofs.NamedPools.{on_named, made_under_named}
+use Rattle.run_model.proofs.BucketFrame.{IsFrame, placed_step}
 use Rattle.run_model.proofs.StepPools.{wanted_pool, named_lives, referred_path}
 use Rattle.run_model.proofs.SoundRuns.{event_sound}
-use Rattle.run_model.proofs.EventsKeep.{at_end_keeps, may_execute, StepKeeps, steps_keep, EventKeeps, events_keep}
+use Rattle.run_model.proofs.EventsKeep.{may_execute, StepKeeps, steps_keep, EventKeeps, events_keep}
 
 -- Names and paths.
 
@@ -363,8 +365,23 @@ returned_declared p r s = kept p r (do_return r) refl refl refl refl (λ b. left
   left b true w e = absurd (cc)
   left b false w e = returned_on r.call.name (r.instance.brigades b) w e
 
+declared_frame : (p : Program) → IsFrame (AsDeclared p)
+unfolding set_brigade set_loose set_number with_pools
+declared_frame p = record {
+  items = λ b xs r s. kept p r _ refl refl refl refl (at_each KeepsPool r.instance.brigades b (with_items xs (r.instance.brigades b)) (filled_on xs (r.instance.brigades b)) same_on) s;
+  loose = λ xs r s. kept p r _ refl refl refl refl (same_vars r) s;
+  numbers = λ n v r s. kept p r _ refl refl refl refl (same_vars r) s;
+  buffer = λ bytes r s. kept p r _ refl refl refl refl (same_vars r) s;
+  names = λ n r s. kept p r _ refl refl refl refl (same_vars r) s;
+  refs = λ target files r lives s. kept p r _ refl refl refl (referred_path target files r.shared.pools) (same_vars r) s;
+}
+
+declared_placed : (p : Program) (c : ℕ) (v : Cursor) (r : Configuration) → AsDeclared p r → AsDeclared p (set_cursor c v r)
+unfolding set_cursor
+declared_placed p c v r s = kept p r _ refl refl refl refl (same_vars r) s
+
 pub step_declared : StepKeepsDeclared
-unfolding set_brigade set_number with_pools registered killed
+unfolding set_brigade with_pools registered killed
 step_declared p choice (instr.PCreate q) r may sound s =
     made_under_named (AsDeclared p) p q r s
     (λ parent e. made_declared p parent q r (pool_below p may.proper q may.fit) (no_live_pool r (pool_of_pool p q) q may.faultless) e (named_lives r (pool_of_pool p q) parent (wanted_pool r (pool_of_pool p q) _ may.faultless) e) sound.pools s)
@@ -380,13 +397,12 @@ step_declared p choice (instr.BConcat a b) r may sound s =
     (filled_on (items_of (r.instance.brigades a) ++ items_of (r.instance.brigades b)) (r.instance.brigades a)) same_on) s
 step_declared p choice (instr.BSave o b) r may sound s = on_named (AsDeclared p) (saved_into o b) (made_on (r.instance.brigades o)) r s (λ target e. saved_declared p o b target r s)
 step_declared p choice (instr.Pass b l) r may sound s = kept p r (do_pass b r) refl refl refl refl (at_each KeepsPool r.instance.brigades b (handed_over (r.instance.brigades b)) (handed_on (r.instance.brigades b)) same_on) s
-step_declared p choice (instr.Put x l) r may sound s = put_keeps (AsDeclared p) x r s (λ buffer. kept p r _ refl refl refl refl (same_vars r) s)
 step_declared p choice (instr.Ret st) r may sound s = returned_declared p r s
-step_declared p choice i r may sound s = kept p r _ refl refl refl refl (same_vars r) s
+step_declared p choice i r may sound s = placed_step (AsDeclared p) (declared_frame p) (declared_placed p) p choice i r refl may s
 
 pub at_end_declared : StepAtEndKeepsDeclared
 unfolding set_brigade
-at_end_declared p i r may sound s = at_end_keeps (AsDeclared p) p i r (step_declared p (record { answer = Success }) i r may sound s) (λ b passed. kept p (do_pass b r) _ refl refl refl refl (same_vars (do_pass b r)) passed)
+at_end_declared p i r may sound s = at_end_keeps (AsDeclared p) p i r (step_declared p (choice_at_end i r) i r may sound s) (λ out fs x reads stepped. kept p x _ refl refl refl refl (same_vars x) stepped)
 
 -- Events.
 

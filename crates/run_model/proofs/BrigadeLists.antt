@@ -35,7 +35,7 @@ short_told a b is = grind (arith, nat_tests)
 
 -- Splits of a brigade.
 
-before_and_from : (n : ℕ) (bs : List NamedBucket) → buckets_before n bs ++ buckets_from n bs ≡ bs
+pub before_and_from : (n : ℕ) (bs : List NamedBucket) → buckets_before n bs ++ buckets_from n bs ≡ bs
 unfolding buckets_before buckets_from
 before_and_from n [] = refl
 before_and_from n (b ∷ bs) = by_name (b.name == n) (before_and_from n bs) where
@@ -108,7 +108,7 @@ bucket_splits_in_order n b may = halves n b.bucket.content (reaches n b may)
 
 -- Bytes and names.
 
-bytes_append : (file : ℕ → List ℕ) (xs ys : List NamedBucket) → all_bytes file (xs ++ ys) ≡ all_bytes file xs ++ all_bytes file ys
+pub bytes_append : (file : ℕ → List ℕ) (xs ys : List NamedBucket) → all_bytes file (xs ++ ys) ≡ all_bytes file xs ++ all_bytes file ys
 unfolding all_bytes
 bytes_append file [] ys = refl
 bytes_append file (x ∷ xs) ys =
@@ -265,7 +265,7 @@ metadata_is_not_split (suc p) (x ∷ bs) b fits is = by_length (nat_le (length_o
 -- The place of a partition.
 
 -- a bucket whose name does not stand before it is found where it stands
-at_seam : (xs : List NamedBucket) (y : NamedBucket) (ys : List NamedBucket) → count_named y.name xs ≡ 0 → (buckets_before y.name (xs ++ y ∷ ys) ≡ xs) × (buckets_from y.name (xs ++ y ∷ ys) ≡ y ∷ ys)
+pub at_seam : (xs : List NamedBucket) (y : NamedBucket) (ys : List NamedBucket) → count_named y.name xs ≡ 0 → (buckets_before y.name (xs ++ y ∷ ys) ≡ xs) × (buckets_from y.name (xs ++ y ∷ ys) ≡ y ∷ ys)
 unfolding buckets_before buckets_from
 at_seam [] y ys none = (
   ap (λ (c : Bool). cond c [] (y ∷ buckets_before y.name ys)) (eq-eqb y.name y.name refl),

@@ -22,21 +22,15 @@ use Rattle.run_model.specs.declared.event.StepRefusal.TheVariants as step_refusa
 use Rattle.run_model.specs.declared.event.Refusal.{Refusal}
 use Rattle.run_model.specs.declared.event.Refusal.TheVariants as refusal
 use Rattle.run_model.specs.Files.{Files, file_added}
-use Rattle.run_model.specs.State.{Configuration, items_of}
+use Rattle.run_model.specs.State.{Configuration}
 use Rattle.run_model.specs.Faults.{fault}
-use Rattle.run_model.specs.Steps.{with_delivered, delivered, do_pass, step, step_at_end, settled, grows, is_spent, lacks_names, current, succeeded, executed, unless_fault, watched}
+use Rattle.run_model.specs.Steps.{step_at_end, settled, grows, is_spent, lacks_names, current, succeeded, executed, unless_fault, watched}
 use Rattle.run_model.specs.Connection.{Connection, opened, begins, brings, opens_file, file_answer, file_taken, lacks_file, data_behind_eos, ends, takes, steps, begun, brought, brought_in, ended, if_broken, step_answer, step_from, step_if, after_step, broke}
 use Rattle.run_model.specs.Runs.{World, Before, There, Closed, IfThere, adds_file, opens, closes, happens}
 use Rattle.run_model.specs.Laws.{MayExecute}
 use Rattle.run_model.proofs.EventAnswers.{none_first, none_if, happened, After, as_there, told, stepped_told, opening_told, added_before, closed_stays}
 
 -- Steps.
-
--- a step at the end of the chain, where what it puts out is kept too
-pub at_end_keeps : (P : Configuration → Type 0) (p : Program) (i : Instr) (r : Configuration) → P (step p (record { answer = Success }) i r).state
-    → ((b : ℕ) → P (do_pass b r) → P (with_delivered (delivered r.out (items_of (r.instance.brigades b)) r.shared.files) (do_pass b r))) → P (step_at_end p i r).state
-at_end_keeps P p (instr.Pass b l) r stepped put = put b stepped
-at_end_keeps P p i r stepped put = stepped
 
 -- the instruction at a place fits the module, and so does the return that stands for none
 pub current_fits : (p : Program) → IsModule p → (pc : ℕ) → fits p (current p pc) ≡ true
@@ -105,17 +99,18 @@ module _ (p : Program) (S R : List (ℕ × ℕ) → Configuration → Type 0) (k
 
 -- The other events.
 
--- A property P of connections that are sound is kept by what each event but a step does where it happens.
-pub record EventKeeps (p : Program) (S P : Connection → Type 0) : Type 0 where
+-- A property P of connections that are sound is kept by what each event but a step does where it happens, of the events of
+-- which E is true.
+pub record EventKeepsOf (p : Program) (E : Event → Type 0) (S P : Connection → Type 0) : Type 0 where
   pub begin : (c : Connection) → is_some c.state.shared.req ≡ false → c.busy ≡ false → (is_spent c.state.shared.pools.next 1 || is_spent c.state.shared.next 1) ≡ false → S c → P c → P (begun p c)
-  pub bring : (req : ℕ) (pieces : List Piece) (c : Connection) → c.state.shared.req ≡ Some req → c.busy ≡ false → list_any (lacks_file c.files) pieces ≡ false → is_spent c.state.shared.next (2 + length pieces) ≡ false → S c → P c
+  pub bring : (req : ℕ) (pieces : List Piece) (c : Connection) → E (event.Bring pieces) → c.state.shared.req ≡ Some req → c.busy ≡ false → list_any (lacks_file c.files) pieces ≡ false → is_spent c.state.shared.next (2 + length pieces) ≡ false → S c → P c
       → P (brought_in req p pieces c)
   pub open_file : (req : ℕ) (name bytes : List ℕ) (c : Connection) → c.state.shared.req ≡ Some req → c.state.shared.files.named name ≡ Some bytes → S c → P c → P (file_taken req name (length bytes) c)
   pub end : (req : ℕ) (c : Connection) → c.state.shared.req ≡ Some req → c.busy ≡ false → S c → P c → P (ended (Some req) c)
   pub take : (c : Connection) → P c → P (takes c).1
-  pub add : (name bytes : List ℕ) (c : Connection) → P c → P (record c { state = record c.state { shared = record c.state.shared { files = file_added name bytes c.state.shared.files } } })
+  pub add : (name bytes : List ℕ) (c : Connection) → E (event.AddFile name bytes) → P c → P (record c { state = record c.state { shared = record c.state.shared { files = file_added name bytes c.state.shared.files } } })
 
-module _ (budget : ℕ) (p : Program) (S P : Connection → Type 0) (keeps : EventKeeps p S P) where
+module _ (budget : ℕ) (p : Program) (E : Event → Type 0) (S P : Connection → Type 0) (keeps : EventKeepsOf p E S P) where
   begins_keep : (memory : Bool) (c : Connection) → S c → P c → P (begins memory p c).1
   unfolding begins
   begins_keep memory c sound s = happened P _ c (begun p c) s (λ none.
@@ -125,21 +120,21 @@ module _ (budget : ℕ) (p : Program) (S P : Connection → Type 0) (keeps : Eve
       let e = none_if (is_spent c.state.shared.pools.next 1 || is_spent c.state.shared.next 1) refusal.NamesSpent _ d.1 in
       keeps.begin c d.0 b.0 e.0 sound s)
 
-  bringing_keeps : (o : Option ℕ) (pieces : List Piece) (c : Connection) → c.state.shared.req ≡ o → c.busy ≡ false → list_any (lacks_file c.files) pieces ≡ false → is_spent c.state.shared.next (2 + length pieces) ≡ false → S c → P c
+  bringing_keeps : (o : Option ℕ) (pieces : List Piece) (c : Connection) → E (event.Bring pieces) → c.state.shared.req ≡ o → c.busy ≡ false → list_any (lacks_file c.files) pieces ≡ false → is_spent c.state.shared.next (2 + length pieces) ≡ false → S c → P c
       → P (brought o p pieces c)
-  bringing_keeps None pieces c is idle there last sound s = s
-  bringing_keeps (Some req) pieces c is idle there last sound s = keeps.bring req pieces c is idle there last sound s
+  bringing_keeps None pieces c of is idle there last sound s = s
+  bringing_keeps (Some req) pieces c of is idle there last sound s = keeps.bring req pieces c of is idle there last sound s
 
-  brings_keep : (memory : Bool) (pieces : List Piece) (c : Connection) → S c → P c → P (brings memory p pieces c).1
+  brings_keep : (memory : Bool) (pieces : List Piece) (c : Connection) → E (event.Bring pieces) → S c → P c → P (brings memory p pieces c).1
   unfolding brings
-  brings_keep memory pieces c sound s = happened P _ c (brought c.state.shared.req p pieces c) s (λ none.
+  brings_keep memory pieces c of sound s = happened P _ c (brought c.state.shared.req p pieces c) s (λ none.
       let a = none_first (if_broken c.broken) _ none in
       let b = none_if c.busy refusal.Busy _ a in
       let d = none_if (not (is_some c.state.shared.req)) refusal.NotInRequest _ b.1 in
       let e = none_if (data_behind_eos pieces) refusal.DataAfterEos _ d.1 in
       let g = none_if (list_any (lacks_file c.files) pieces) refusal.NoFile _ e.1 in
       let f = none_if (is_spent c.state.shared.next (2 + length pieces)) refusal.NamesSpent _ g.1 in
-      bringing_keeps c.state.shared.req pieces c refl b.0 g.0 f.0 sound s)
+      bringing_keeps c.state.shared.req pieces c of refl b.0 g.0 f.0 sound s)
 
   opening_keeps : (o : Option Refusal) (req : Option ℕ) (found : Option (List ℕ)) (name : List ℕ) (c : Connection) → c.state.shared.req ≡ req → c.state.shared.files.named name ≡ found → S c → P c
       → P (file_answer o req found name c).1
@@ -161,24 +156,52 @@ module _ (budget : ℕ) (p : Program) (S P : Connection → Type 0) (keeps : Eve
   ends_keep memory c sound s = happened P _ c (ended c.state.shared.req c) s (λ none.
       ending_keeps c.state.shared.req c refl (none_if c.busy refusal.Busy _ (none_first (if_broken c.broken) _ none)).0 sound s)
 
-  adds_keep : (memory : Bool) (name bytes : List ℕ) (c : Connection) → P c → After (adds_file memory name bytes (There c)).1 P
-  adds_keep true name bytes c s = keeps.add name bytes c s
-  adds_keep false name bytes c s = s
+  adds_keep : (memory : Bool) (name bytes : List ℕ) (c : Connection) → E (event.AddFile name bytes) → P c → After (adds_file memory name bytes (There c)).1 P
+  adds_keep true name bytes c of s = keeps.add name bytes c of s
+  adds_keep false name bytes c of s = s
 
   closes_keep : (memory : Bool) (c : Connection) → P c → After (closes memory c).1 P
   closes_keep true c s = tt
   closes_keep false c s = s
 
+  pub event_keeps_of : (memory : Bool) (e : Event) (c : Connection) → E e → (e ≡ event.Step → P (steps memory budget p c).1) → S c → P c → After (happens memory budget p e (There c)).1 P
+  event_keeps_of memory (event.AddFile name bytes) c of stepped sound s = adds_keep memory name bytes c of s
+  event_keeps_of memory (event.OpenFile name) c of stepped sound s = opening_told P (opens_file memory name c) (opens_file_keeps memory name c sound s)
+  event_keeps_of memory event.Begin c of stepped sound s = told P (begins memory p c) (begins_keep memory c sound s)
+  event_keeps_of memory (event.Bring pieces) c of stepped sound s = told P (brings memory p pieces c) (brings_keep memory pieces c of sound s)
+  event_keeps_of memory event.Step c of stepped sound s = stepped_told P (steps memory budget p c) (stepped refl)
+  event_keeps_of memory event.End c of stepped sound s = told P (ends memory c) (ends_keep memory c sound s)
+  event_keeps_of memory event.TakeOutput c of stepped sound s = keeps.take c s
+  event_keeps_of memory event.Close c of stepped sound s = closes_keep memory c s
+  event_keeps_of memory e c of stepped sound s = s
+
+-- The same of all events.
+pub record EventKeeps (p : Program) (S P : Connection → Type 0) : Type 0 where
+  pub begin : (c : Connection) → is_some c.state.shared.req ≡ false → c.busy ≡ false → (is_spent c.state.shared.pools.next 1 || is_spent c.state.shared.next 1) ≡ false → S c → P c → P (begun p c)
+  pub bring : (req : ℕ) (pieces : List Piece) (c : Connection) → c.state.shared.req ≡ Some req → c.busy ≡ false → list_any (lacks_file c.files) pieces ≡ false → is_spent c.state.shared.next (2 + length pieces) ≡ false → S c → P c
+      → P (brought_in req p pieces c)
+  pub open_file : (req : ℕ) (name bytes : List ℕ) (c : Connection) → c.state.shared.req ≡ Some req → c.state.shared.files.named name ≡ Some bytes → S c → P c → P (file_taken req name (length bytes) c)
+  pub end : (req : ℕ) (c : Connection) → c.state.shared.req ≡ Some req → c.busy ≡ false → S c → P c → P (ended (Some req) c)
+  pub take : (c : Connection) → P c → P (takes c).1
+  pub add : (name bytes : List ℕ) (c : Connection) → P c → P (record c { state = record c.state { shared = record c.state.shared { files = file_added name bytes c.state.shared.files } } })
+
+-- all events
+abbrev AnyEvent : Event → Type 0
+AnyEvent e = Unit {0}
+
+module _ (budget : ℕ) (p : Program) (S P : Connection → Type 0) (keeps : EventKeeps p S P) where
+  of_any : EventKeepsOf p AnyEvent S P
+  of_any = record {
+    begin = keeps.begin;
+    bring = λ req pieces c of. keeps.bring req pieces c;
+    open_file = keeps.open_file;
+    end = keeps.end;
+    take = keeps.take;
+    add = λ name bytes c of. keeps.add name bytes c;
+  }
+
   pub event_keeps : (memory : Bool) (e : Event) (c : Connection) → (e ≡ event.Step → P (steps memory budget p c).1) → S c → P c → After (happens memory budget p e (There c)).1 P
-  event_keeps memory (event.AddFile name bytes) c stepped sound s = adds_keep memory name bytes c s
-  event_keeps memory (event.OpenFile name) c stepped sound s = opening_told P (opens_file memory name c) (opens_file_keeps memory name c sound s)
-  event_keeps memory event.Begin c stepped sound s = told P (begins memory p c) (begins_keep memory c sound s)
-  event_keeps memory (event.Bring pieces) c stepped sound s = told P (brings memory p pieces c) (brings_keep memory pieces c sound s)
-  event_keeps memory event.Step c stepped sound s = stepped_told P (steps memory budget p c) (stepped refl)
-  event_keeps memory event.End c stepped sound s = told P (ends memory c) (ends_keep memory c sound s)
-  event_keeps memory event.TakeOutput c stepped sound s = keeps.take c s
-  event_keeps memory event.Close c stepped sound s = closes_keep memory c s
-  event_keeps memory e c stepped sound s = s
+  event_keeps memory e c stepped sound s = event_keeps_of budget p AnyEvent S P of_any memory e c tt stepped sound s
 
   opens_keep : ((fs : Files) → P (opened fs)) → (memory : Bool) (fs : Files) → IfThere (opens memory fs).1 P
   opens_keep opening true fs = opening fs

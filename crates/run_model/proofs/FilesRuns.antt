@@ -1,84 +1,37 @@
 -- Events keep the files of FILE buckets open, and so do runs.
-use Rattle.std.proofs.Common.{◌≡◌, ℕ, zero, suc, ◌+◌, Bool, true, false, ◌&&◌, ◌||◌, not, ◌==◌, cond, List, [], ◌∷◌, ◌++◌, length, min, ◌-◌, nat_le, Option, Some, None, is_some, ◌⊎◌, inl, inr, refl, sym, ◌∙◌, ap, subst, eqb-true}
+use Rattle.std.proofs.Common.{◌≡◌, ℕ, ◌+◌, Bool, true, false, ◌&&◌, ◌||◌, not, ◌==◌, List, [], ◌∷◌, length, nat_le, Some, is_some, ◌⊎◌, inl, inr, refl, sym, ◌∙◌, ap, subst, eqb-true}
 use Rattle.std.specs.List.{list_any}
 use Rattle.std.proofs.lemmas.List.Elements.{All-cons}
 use Rattle.std.proofs.lemmas.List.Folds.{list_any-append}
-use Rattle.module_lang.specs.declared.instr.Status.TheVariants.{Success}
 use Rattle.module_lang.specs.declared.instr.Instr.{Instr}
 use Rattle.module_lang.specs.Program.{Program, IsModule}
-use Rattle.run_model.specs.declared.bucket.Content.{Content}
-use Rattle.run_model.specs.declared.bucket.Content.TheVariants as content
-use Rattle.run_model.specs.declared.bucket.NamedBucket.{NamedBucket}
 use Rattle.run_model.specs.declared.event.Piece.{Piece}
 use Rattle.run_model.specs.declared.event.Piece.TheVariants as piece
 use Rattle.run_model.specs.declared.payload.Payload.{Payload}
 use Rattle.run_model.specs.declared.payload.Payload.TheVariants.{FileRef}
 use Rattle.run_model.specs.Pools.{Pools, planted, created, registered, destroyed}
-use Rattle.run_model.specs.Buckets.{is_eos}
-use Rattle.run_model.specs.Cutting.{read_limit}
-use Rattle.run_model.specs.Files.{Files, BytesTaken, read_part, read_done, all_taken, unless_failed, range_taken, parts_of, content_taken, followed_by, taken_of, file_opened}
-use Rattle.run_model.specs.State.{Configuration, Out, items_of, set_brigade}
-use Rattle.run_model.specs.Steps.{current, step_at_end, delivered, do_pass}
+use Rattle.run_model.specs.Files.{Files, file_opened}
+use Rattle.run_model.specs.State.{Configuration, items_of, set_brigade}
+use Rattle.run_model.specs.Steps.{choice_at_end, current, step_at_end}
 use Rattle.run_model.specs.Connection.{Connection, opened, file_taken, lacks_file, has_range, takes, begun, brought_in, bucket_of, named_from, ended}
 use Rattle.run_model.specs.Runs.{Before}
 use Rattle.run_model.specs.Sound.{Sound}
 use Rattle.run_model.specs.Laws.{MayExecute, SoundWorld, refers, IsHeld, SoundFiles, FilesWorld, EventKeepsFiles, RunKeepsFiles}
+use Rattle.run_model.proofs.AtEnd.{at_end_keeps}
 use Rattle.run_model.proofs.Updates.{upd_either}
 use Rattle.run_model.proofs.Runs.{run_keeps}
-use Rattle.run_model.proofs.EventsKeep.{may_execute, at_end_keeps, StepKeeps, steps_keep, EventKeeps, events_keep}
+use Rattle.run_model.proofs.EventsKeep.{may_execute, StepKeeps, steps_keep, EventKeeps, events_keep}
 use Rattle.run_model.proofs.SoundRuns.{event_sound}
 use Rattle.run_model.proofs.References.{one_of, created_refers, created_back, registered_refers, registered_back, registered_itself}
 use Rattle.run_model.proofs.StepFiles.{HeldList, none_held, weaker, same_files, went_and, destroyed_emptied, written_files, step_files}
-
--- What no read changes is as before where buckets are taken and put out.
-
-abbrev IsUnread : {X : Type 0} → (Files → X) → Type 0
-IsUnread g = (fs : Files) → g (read_done fs) ≡ g fs
-
-range_unread : {X : Type 0} (g : Files → X) → IsUnread g → (parts file start len : ℕ) (fs : Files) → g (range_taken parts file start len fs).files ≡ g fs
-unfolding range_taken
-range_unread g same zero file start len fs = refl
-range_unread g same (suc parts) file start len fs = by_read (read_part file start (min len read_limit) fs) (range_unread g same parts file (start + read_limit) (len - read_limit) (read_done fs)) where
-  by_read : (o : Option (List ℕ)) → g (range_taken parts file (start + read_limit) (len - read_limit) (read_done fs)).files ≡ g (read_done fs)
-      → g (unless_failed o (read_done fs) (range_taken parts file (start + read_limit) (len - read_limit))).files ≡ g fs
-  by_read None rest = same fs
-  by_read (Some bytes) rest = rest ∙ same fs
-
-content_unread : {X : Type 0} (g : Files → X) → IsUnread g → (c : Content) (fs : Files) → g (content_taken c fs).files ≡ g fs
-content_unread g same (content.Bytes bs) fs = refl
-content_unread g same (content.Range file start len) fs = range_unread g same (parts_of len) file start len fs
-content_unread g same content.Nothing fs = refl
-
-taken_unread : {X : Type 0} (g : Files → X) → IsUnread g → (xs : List NamedBucket) (fs : Files) → g (taken_of xs fs).files ≡ g fs
-unfolding taken_of
-taken_unread g same [] fs = refl
-taken_unread g same (x ∷ xs) fs = by_eos (is_eos x) (content_taken x.bucket.content fs) (content_unread g same x.bucket.content fs) (taken_unread g same xs (content_taken x.bucket.content fs).files) where
-  by_whole : (b : Bool) (t : BytesTaken) → g t.files ≡ g fs → g (taken_of xs t.files).files ≡ g t.files
-      → g (cond b (record (taken_of xs t.files) { bytes = t.bytes ++ (taken_of xs t.files).bytes }) t).files ≡ g fs
-  by_whole true t here rest = rest ∙ here
-  by_whole false t here rest = here
-
-  by_eos : (eos : Bool) (t : BytesTaken) → g t.files ≡ g fs → g (taken_of xs t.files).files ≡ g t.files → g (cond eos (all_taken [] fs) (followed_by t (taken_of xs))).files ≡ g fs
-  by_eos true t here rest = refl
-  by_eos false t here rest = by_whole t.whole t here rest
-
-pub delivered_unread : {X : Type 0} (g : Files → X) → ((fs : Files) → g (read_done fs) ≡ g fs) → (out : Out) (xs : List NamedBucket) (fs : Files) → g (delivered out xs fs).files ≡ g fs
-unfolding delivered
-delivered_unread g same out xs fs = by_ended out.bytes out.ended where
-  by_ended : (bs : List ℕ) (b : Bool) → g (delivered (record { bytes = bs; ended = b }) xs fs).files ≡ g fs
-  by_ended bs true = refl
-  by_ended bs false = taken_unread g same xs fs
-
-delivered_opened : (out : Out) (xs : List NamedBucket) (fs : Files) → (delivered out xs fs).files.opened ≡ fs.opened
-delivered_opened out xs fs = delivered_unread (λ (f : Files). f.opened) (λ f. refl) out xs fs
 
 -- Steps.
 
 pub at_end_files : (p : Program) (i : Instr) (files : List (ℕ × ℕ)) (r : Configuration) → MayExecute p r i → Sound r → SoundFiles files r → SoundFiles files (step_at_end p i r).state
 unfolding set_brigade
 at_end_files p i files r may sound held =
-    at_end_keeps (SoundFiles files) p i r (step_files p (record { answer = Success }) i files r may sound held)
-    (λ b passed. same_files files (do_pass b r) _ refl (delivered_opened r.out (items_of (r.instance.brigades b)) r.shared.files) refl passed.brigades passed.loose passed)
+    at_end_keeps (SoundFiles files) p i r (step_files p (choice_at_end i r) i files r may sound held)
+    (λ out fs x reads stepped. same_files files x _ refl reads.opened refl stepped.brigades stepped.loose stepped)
 
 -- the same run, but for what no file hangs on
 again : (files : List (ℕ × ℕ)) (r new : Configuration) → new.shared.pools ≡ r.shared.pools → new.shared.files.opened ≡ r.shared.files.opened → new.shared.req ≡ r.shared.req

@@ -3,16 +3,16 @@ use Rattle.std.proofs.Common.{◌≡◌, ℕ, ◌+◌, ◌-◌, ◌<◌, ◌≤�
 use Rattle.std.proofs.lemmas.Bool.{cases_Bool, cases_lt}
 use Rattle.module_lang.specs.declared.draft.Part.{Part}
 use Rattle.module_lang.specs.declared.draft.Part.TheVariants as part
-use Rattle.module_lang.specs.declared.instr.Status.TheVariants.{Success}
 use Rattle.module_lang.specs.Program.{Program, IsModule, IsHandler, goes_on}
 use Rattle.run_model.specs.State.{Configuration, set_brigade}
-use Rattle.run_model.specs.Steps.{step_at_end, current}
+use Rattle.run_model.specs.Steps.{choice_at_end, step_at_end, current}
 use Rattle.run_model.specs.Connection.{Connection, opened, takes, steps}
 use Rattle.run_model.specs.Runs.{Before}
 use Rattle.run_model.specs.Laws.{IsOrderly, OrderlyWorld}
 use Rattle.run_model.specs.Handlers.{IsHandlerCode, StandsIn, CallsBegin, StepStaysInHandler, RunsHandler, OpenedRunsHandler, HandlerWorld, EventKeepsHandler, RunKeepsHandler}
+use Rattle.run_model.proofs.AtEnd.{at_end_keeps}
 use Rattle.run_model.proofs.Runs.{run_keeps}
-use Rattle.run_model.proofs.EventsKeep.{at_end_keeps, steps_keep, EventKeeps, events_keep}
+use Rattle.run_model.proofs.EventsKeep.{steps_keep, EventKeeps, events_keep}
 use Rattle.run_model.proofs.Unchanged.{step_changes_only}
 use Rattle.run_model.proofs.Orderly.{Leads, current_at, steps_place, event_order}
 
@@ -52,7 +52,7 @@ same_request memory budget p c =
     steps_keep p (λ files r. Unit {0}) (λ files r. r.shared.req ≡ c.state.shared.req) (record { at_end = λ files r none last sound s. at_end r s; moved = λ pc files r s. s }) memory budget c tt refl where
       at_end : (r : Configuration) → r.shared.req ≡ c.state.shared.req → (step_at_end p (current p r.pc) r).state.shared.req ≡ c.state.shared.req
       at_end r s =
-          at_end_keeps (λ (x : Configuration). x.shared.req ≡ c.state.shared.req) p (current p r.pc) r ((step_changes_only p (record { answer = Success }) (current p r.pc) r).req ∙ s) (λ b passed. passed)
+          at_end_keeps (λ (x : Configuration). x.shared.req ≡ c.state.shared.req) p (current p r.pc) r ((step_changes_only p (choice_at_end (current p r.pc) r) (current p r.pc) r).req ∙ s) (λ out fs x reads stepped. stepped)
 
 -- where a call that runs stands
 side : (p : Program) → IsModule p → (pc : ℕ) → pc < length p.code → StandsIn 0 p.init pc ⊎ (StandsIn p.init p.main pc ⊎ StandsIn p.main (length p.code) pc)

@@ -1,18 +1,30 @@
 -- Steps and events keep homes alive that have not ended.
-use Rattle.std.proofs.Common.{◌≡◌, ℕ, ◌+◌, ◌<◌, ◌≤◌, Bool, true, false, not, ◌==◌, cond, List, [], ◌∷◌, ◌++◌, map, filter_map, length, Some, None, All, refl, sym, ◌∙◌, ap, subst, arith}
+use Rattle.std.proofs.Common.{◌≡◌, ℕ, ◌+◌, ◌<◌, ◌≤◌, Bool, true, false, ◌||◌, not, ◌==◌, nat_le, cond, List, [], ◌∷◌, ◌++◌, map, filter_map, length, Option, Some, None, Result, Ok, Err, inl, inr, All, refl, sym, ◌∙◌, ap, subst, arith}
 use Rattle.std.specs.List.{list_any}
 use Rattle.std.proofs.lemmas.Bool.{eq-eqb}
 use Rattle.std.proofs.lemmas.List.Elements.{All-nil, All-cons, All-head, All-tail, All-append, All-map}
-use Rattle.module_lang.specs.declared.instr.Status.TheVariants.{Success}
+use Rattle.module_lang.specs.declared.instr.Instr.{Instr}
 use Rattle.module_lang.specs.declared.instr.PoolRef.TheVariants as pool
 use Rattle.module_lang.specs.declared.instr.Instr.TheVariants as instr
 use Rattle.module_lang.specs.Program.{Program, IsModule}
 use Rattle.run_model.specs.declared.bucket.Home.{Home}
 use Rattle.run_model.specs.declared.bucket.Home.TheVariants as home
+use Rattle.run_model.specs.declared.bucket.Bucket.{Bucket}
 use Rattle.run_model.specs.declared.bucket.NamedBucket.{NamedBucket}
 use Rattle.run_model.specs.declared.bucket.BrigadeVar.{BrigadeVar}
 use Rattle.run_model.specs.declared.bucket.BrigadeVar.TheVariants as var
 use Rattle.run_model.specs.declared.bucket.PoolVar.TheVariants as poolvar
+use Rattle.run_model.specs.declared.fault.FaultKind.{FaultKind}
+use Rattle.run_model.specs.declared.event.Exit.{Exit}
+use Rattle.run_model.specs.declared.event.Exit.TheVariants.{GoOn, Jump, Return}
+use Rattle.run_model.specs.declared.event.Cause.{Cause}
+use Rattle.run_model.specs.declared.event.Cause.TheVariants as cause
+use Rattle.run_model.specs.declared.event.Stepped.{Stepped}
+use Rattle.run_model.specs.declared.event.Stepped.TheVariants as stepped
+use Rattle.run_model.specs.declared.event.StepRefusal.{StepRefusal}
+use Rattle.run_model.specs.declared.event.StepRefusal.TheVariants as step_refusal
+use Rattle.run_model.specs.declared.event.Refusal.{Refusal}
+use Rattle.run_model.specs.declared.event.Refusal.TheVariants as refusal
 use Rattle.run_model.specs.declared.event.Piece.{Piece}
 use Rattle.run_model.specs.declared.event.Piece.TheVariants as piece
 use Rattle.run_model.specs.declared.payload.Payload.{Payload}
@@ -22,25 +34,33 @@ use Rattle.run_model.specs.RunOrder.{killed}
 use Rattle.run_model.specs.Buckets.{cleared_bucket, returned_bucket, end_pools, end_call, is_dead}
 use Rattle.run_model.specs.Cutting.{FitsKind}
 use Rattle.run_model.specs.Clearing.{is_reached, cleared_var, run_down}
-use Rattle.run_model.specs.State.{Call, Configuration, fresh_call, items_of, set_pool, with_pools, set_brigade, set_number, pool_named}
-use Rattle.run_model.specs.Faults.{homes_fault, usable_fault}
-use Rattle.run_model.specs.Steps.{do_create, do_pass, do_return, do_clean, cleaned, handed_over, with_items, returned_var, made_on, new_ref, aside_named, saved_into, pool_cleared, pool_destroyed, label_registered, label_killed, text_of, current}
-use Rattle.run_model.specs.Connection.{Connection, opened, begun, brought_in, bucket_of, named_from, file_taken, ended, takes}
+use Rattle.run_model.specs.State.{Call, Configuration, fresh_call, items_of, set_pool, with_pools, set_brigade, set_loose, pool_named}
+use Rattle.run_model.specs.Faults.{WCursor, OnBucket, fault, fault_want, homes_fault, home_fault, usable_fault}
+use Rattle.run_model.specs.BrigadeLists.{bucket_named}
+use Rattle.run_model.specs.Cursors.{Spot, Nowhere, AtLoose, Within, AtEndOf, bucket_at, spot}
+use Rattle.run_model.specs.BucketSteps.{items_at, changed_at, aside_into}
+use Rattle.run_model.specs.Steps.{all_referred, choice_at_end, step_at_end, settled, grows, lacks_names, succeeded, executed, unless_fault, watched, do_create, do_pass, do_return, do_clean, cleaned, handed_over, with_items, returned_var, made_on, new_ref, aside_named, saved_into, pool_cleared, pool_destroyed, label_registered, label_killed, text_of, current}
+use Rattle.run_model.specs.Connection.{Connection, opened, begun, brought_in, bucket_of, named_from, file_taken, ended, takes, steps, step_if, step_from, step_answer, broke, first_refusal, if_broken, refused_if}
 use Rattle.run_model.specs.Runs.{World, Before, There, Closed, IfThere}
-use Rattle.run_model.specs.Sound.{SoundPools, Sound, brigade_pool}
-use Rattle.run_model.specs.Laws.{SoundWorld, OrderlyWorld, IsOrderly, MatchHome}
-use Rattle.run_model.specs.HomesAlive.{IsAlive, HomesAlive, OpenedHomesAlive, StepKeepsHomes, StepAtEndKeepsHomes, HomesWorld, EventKeepsHomes, RunKeepsHomes}
+use Rattle.run_model.specs.Sound.{SoundPools, Sound, brigade_pool, count_named}
+use Rattle.run_model.specs.Laws.{SoundWorld, OrderlyWorld, IsOrderly, MatchHome, is_return, changes_pools, ChangesOnly}
+use Rattle.run_model.specs.HomesAlive.{IsAlive, HomesAlive, OpenedHomesAlive, StepKeepsHomes, StepAtEndKeepsHomes, HomesIn, HomesWorld, EventKeepsHomes, RunKeepsHomes}
+use Rattle.run_model.proofs.AtEnd.{at_end_keeps}
 use Rattle.run_model.proofs.Runs.{run_keeps}
 use Rattle.run_model.proofs.PoolMap.{created_lives, destroyed_apart, cleared_apart}
 use Rattle.run_model.proofs.Formed.{path_live}
 use Rattle.run_model.proofs.Marks.{first_none, second_none}
-use Rattle.run_model.proofs.NamedPools.{on_named, made_under_named, put_keeps}
-use Rattle.run_model.proofs.StepPools.{referred_path}
-use Rattle.run_model.proofs.StepFiles.{written, no_dead, neither}
+use Rattle.run_model.proofs.NamedPools.{on_named, made_under_named}
+use Rattle.run_model.proofs.StepPools.{referred_path, wanted_pool, named_lives}
+use Rattle.run_model.proofs.Spots.{Stands, stands}
+use Rattle.run_model.proofs.EachBucket.{of_named, each_changed, only_one, loose_once, brigade_once}
+use Rattle.run_model.proofs.Origins.{PassesOn, Holds, quiet_leaves}
+use Rattle.run_model.proofs.Unchanged.{step_changes_only}
+use Rattle.run_model.proofs.StepFiles.{written, no_dead, not_dead, aside_live, neither}
 use Rattle.run_model.proofs.Kept.{aside_lasts}
 use Rattle.run_model.proofs.Orderly.{event_order}
 use Rattle.run_model.proofs.SoundRuns.{event_sound}
-use Rattle.run_model.proofs.EventsKeep.{at_end_keeps, may_execute, StepKeeps, steps_keep, EventKeeps, events_keep}
+use Rattle.run_model.proofs.EventsKeep.{may_execute, StepKeeps, steps_keep, EventKeeps, events_keep}
 
 abbrev AliveList : Configuration → List NamedBucket → Type 0
 AliveList r xs = All (λ x. IsAlive r x.bucket.home) xs
@@ -191,34 +211,153 @@ made_homes parent q r s =
     kept r (set_pool q (poolvar.Made r.shared.pools.next) (with_pools (created parent r.shared.pools) r))
     (home_stays r (set_pool q (poolvar.Made r.shared.pools.next) (with_pools (created parent r.shared.pools) r)) refl (λ n live. created_lives parent r.shared.pools n live)) s.brigades s.loose (omega arith) s
 
+-- A bucket is set aside.
+
+-- references to files are registered, and pools stay
+referred_lives : (target : ℕ) (files : List ℕ) (ps : Pools Payload) (n : ℕ) → is_live ps n ≡ true → is_live (all_referred target files ps) n ≡ true
+unfolding is_live
+referred_lives target files ps n live = ap (λ (g : ℕ → List ℕ). not (is_empty (g n))) (referred_path target files ps) ∙ live
+
+aside_in : (r : Configuration) (target : ℕ) (x : NamedBucket) (xs : List NamedBucket) → bucket_named x.name xs ≡ Some x → count_named x.name xs ≤ 1 → All (λ y. FitsKind y.bucket) xs → is_dead x ≡ false
+    → is_live r.shared.pools target ≡ true → SoundPools r → AliveList r xs → AliveList r (changed_at x.name (aside_named r.shared.pools target) xs)
+aside_in r target x xs there once proper live target_lives sound h =
+    let aside = aside_lasts r.shared.pools target x (of_named (λ y. FitsKind y.bucket) x.name x xs there proper) live in
+    each_changed (λ y. IsAlive r y.bucket.home) (λ y. IsAlive r y.bucket.home) x.name (aside_named r.shared.pools target) xs (λ y e. e)
+    (λ k d lt. λ same e. subst (λ (y : NamedBucket). IsAlive r (aside_named r.shared.pools target y).bucket.home) (sym (only_one x.name x xs there once k d lt same)) (lasting r _ (aside.there sound.formed target_lives))) h
+
+aside_homes : (t : Spot) (target : ℕ) (r : Configuration) → Stands r t → home_fault (bucket_at t) ≡ None → is_live r.shared.pools target ≡ true → Sound r → HomesAlive r → HomesAlive (aside_into t target r)
+unfolding set_brigade set_loose with_pools
+aside_homes Nowhere target r there live target_lives sound s = s
+aside_homes (AtLoose x) target r there live target_lives sound s =
+    kept r (aside_into (AtLoose x) target r) (home_stays r (aside_into (AtLoose x) target r) refl (referred_lives target (filter_map (new_ref r.shared.pools target) (x ∷ [])) r.shared.pools)) s.brigades
+    (aside_in r target x r.call.loose there (loose_once r x.name sound.names) sound.buckets.loose (not_dead x live) target_lives sound.pools s.loose) (omega arith) s
+aside_homes (Within b x) target r there live target_lives sound s =
+    kept r (aside_into (Within b x) target r) (home_stays r (aside_into (Within b x) target r) refl (referred_lives target (filter_map (new_ref r.shared.pools target) (x ∷ [])) r.shared.pools))
+    (one_written r b _ (filled_alive r (changed_at x.name (aside_named r.shared.pools target) (items_at r b)) (r.instance.brigades b)
+    (aside_in r target x (items_at r b) there.1 (brigade_once r b x.name there.0 sound.names) (sound.buckets.brigades b) (not_dead x live) target_lives sound.pools (s.brigades b))) s)
+    s.loose (omega arith) s
+aside_homes (AtEndOf b) target r there live target_lives sound s = s
+
+-- Parts of a bucket have its home, and one that is made has none but the call.
+
+abbrev AliveBucket : Configuration → Bucket → Type 0
+AliveBucket r b = IsAlive r b.home
+
+alive_on : (r : Configuration) → 0 < r.call.name → PassesOn r (AliveBucket r)
+alive_on r named = record {
+  made = λ b new. elim new.lives [
+    | inl free ↦ subst (IsAlive r) (sym free) tt
+    | inr call ↦ subst (IsAlive r) (sym call) (refl, named)
+  ];
+  parts = record {
+    front = λ n b le a. a;
+    rest = λ n b le a. a;
+  };
+}
+
+quiet_homes : (i : Instr) (r new : Configuration) → changes_pools i ≡ false → is_return i ≡ false → ChangesOnly i r new → Holds (AliveBucket r) new → HomesAlive r → HomesAlive new
+quiet_homes i r new tree on only h s =
+    kept r new (home_stays r new (only.call_name on) (λ n live. subst (λ (ps : Pools Payload). is_live ps n ≡ true) (sym (only.tree tree)) live)) h.brigades h.loose only.names s
+
 -- Steps.
 
 pub step_homes : StepKeepsHomes
-unfolding set_brigade set_number with_pools registered killed
-step_homes p choice (instr.PCreate q) r may sound s = made_under_named HomesAlive p q r s (λ parent e. made_homes parent q r s)
-step_homes p choice (instr.PClear q) r may sound s = on_named HomesAlive pool_cleared (pool_named r (pool.Own q)) r s (λ n e. cleared_homes n r s)
-step_homes p choice (instr.PDestroy q) r may sound s = on_named HomesAlive pool_destroyed (pool_named r (pool.Own q)) r s (λ n e. destroyed_homes n r s)
-step_homes p choice (instr.Label q t) r may sound s = on_named HomesAlive (label_registered (text_of p t)) (pool_named r q) r s (λ n e. same r _ refl refl refl s.brigades (omega arith) s)
-step_homes p choice (instr.Unlabel q t) r may sound s = on_named HomesAlive (label_killed (text_of p t)) (pool_named r q) r s (λ n e. same r _ refl refl refl s.brigades (omega arith) s)
-step_homes p choice (instr.BCreate o) r may sound s = same r (do_create p o r) refl refl refl (one_written r o _ (none_alive r) s) (omega arith) s
-step_homes p choice (instr.BClean b) r may sound s = same r (do_clean b r) refl refl refl (one_written r b _ (cleaned_alive r (r.instance.brigades b)) s) (omega arith) s
-step_homes p choice (instr.BConcat a b) r may sound s = same r _ refl refl refl (moved r a b (items_of (r.instance.brigades b)) (s.brigades b) s) (omega arith) s
-step_homes p choice (instr.BSave o b) r may sound s = on_named HomesAlive (saved_into o b) (made_on (r.instance.brigades o)) r s (λ target e.
+unfolding set_brigade with_pools registered killed
+step_homes p choice (instr.PCreate q) r may sound named s = made_under_named HomesAlive p q r s (λ parent e. made_homes parent q r s)
+step_homes p choice (instr.PClear q) r may sound named s = on_named HomesAlive pool_cleared (pool_named r (pool.Own q)) r s (λ n e. cleared_homes n r s)
+step_homes p choice (instr.PDestroy q) r may sound named s = on_named HomesAlive pool_destroyed (pool_named r (pool.Own q)) r s (λ n e. destroyed_homes n r s)
+step_homes p choice (instr.Label q t) r may sound named s = on_named HomesAlive (label_registered (text_of p t)) (pool_named r q) r s (λ n e. same r _ refl refl refl s.brigades (omega arith) s)
+step_homes p choice (instr.Unlabel q t) r may sound named s = on_named HomesAlive (label_killed (text_of p t)) (pool_named r q) r s (λ n e. same r _ refl refl refl s.brigades (omega arith) s)
+step_homes p choice (instr.BCreate o) r may sound named s = same r (do_create p o r) refl refl refl (one_written r o _ (none_alive r) s) (omega arith) s
+step_homes p choice (instr.BClean b) r may sound named s = same r (do_clean b r) refl refl refl (one_written r b _ (cleaned_alive r (r.instance.brigades b)) s) (omega arith) s
+step_homes p choice (instr.BConcat a b) r may sound named s = same r _ refl refl refl (moved r a b (items_of (r.instance.brigades b)) (s.brigades b) s) (omega arith) s
+step_homes p choice (instr.BSave o b) r may sound named s = on_named HomesAlive (saved_into o b) (made_on (r.instance.brigades o)) r s (λ target e.
     saved_homes o b target r sound e
     (no_dead (items_of (r.instance.brigades b)) (first_none (homes_fault (items_of (r.instance.brigades b))) None (second_none (usable_fault (r.instance.brigades b)) _ (second_none (usable_fault (r.instance.brigades o)) _ may.faultless)))) s)
-step_homes p choice (instr.Pass b l) r may sound s = same r (do_pass b r) refl refl refl (one_written r b _ (handed_alive r (r.instance.brigades b)) s) (omega arith) s
-step_homes p choice (instr.Put x l) r may sound s = put_keeps HomesAlive x r s (λ buffer. same r _ refl refl refl s.brigades (omega arith) s)
-step_homes p choice (instr.Ret st) r may sound s = returned_homes r s
-step_homes p choice i r may sound s = same r _ refl refl refl s.brigades (omega arith) s
+step_homes p choice (instr.Pass b l) r may sound named s = same r (do_pass b r) refl refl refl (one_written r b _ (handed_alive r (r.instance.brigades b)) s) (omega arith) s
+step_homes p choice (instr.Aside c q) r may sound named s = on_named HomesAlive (aside_into (spot r c)) (pool_named r q) r s (λ target e.
+    aside_homes (spot r c) target r (stands r (r.call.cursors c)) (aside_live r c q may.faultless) (named_lives r q target (wanted_pool r q _ (second_none (fault_want r (WCursor c OnBucket)) _ may.faultless)) e) sound s)
+step_homes p choice (instr.Ret st) r may sound named s = returned_homes r s
+step_homes p choice i r may sound named s =
+    quiet_homes i r _ refl refl (step_changes_only p choice i r) (quiet_leaves (AliveBucket r) p choice i r refl (alive_on r named) (record { brigades = s.brigades; loose = s.loose })) s
 
 pub at_end_homes : StepAtEndKeepsHomes
-at_end_homes p i r may sound s = at_end_keeps HomesAlive p i r (step_homes p (record { answer = Success }) i r may sound s) (λ b passed. same (do_pass b r) _ refl refl refl passed.brigades (omega arith) passed)
+at_end_homes p i r may sound named s = at_end_keeps HomesAlive p i r (step_homes p (choice_at_end i r) i r may sound named s) (λ out fs x reads stepped. same x _ refl refl refl stepped.brigades (omega arith) stepped)
+
+-- The call that runs.
+
+-- after a step a call that still runs has its name
+abbrev Named : Configuration → Result Stepped StepRefusal → Configuration → Type 0
+Named old (Ok stepped.Went) new = new.call.name ≡ old.call.name
+Named old (Ok (stepped.CallEnded st)) new = Unit {0}
+Named old (Ok (stepped.Fault k m pc)) new = new.call.name ≡ old.call.name
+Named old (Err e) new = new.call.name ≡ old.call.name
+
+name_stays : (p : Program) (i : Instr) (r : Configuration) → is_return i ≡ false → (step_at_end p i r).state.call.name ≡ r.call.name
+name_stays p i r on = at_end_keeps (λ x. x.call.name ≡ r.call.name) p i r ((step_changes_only p (choice_at_end i r) i r).call_name on) (λ out fs x reads stepped. stepped)
+
+settled_named : (p : Program) (i : Instr) (r : Configuration) → Named r (Ok (settled i (step_at_end p i r).exit (step_at_end p i r).state).0) (settled i (step_at_end p i r).exit (step_at_end p i r).state).1
+settled_named p (instr.Ret st) r = tt
+settled_named p i r = by_exit (step_at_end p i r).exit where
+  by_exit : (exit : Exit) → Named r (Ok (settled i exit (step_at_end p i r).state).0) (settled i exit (step_at_end p i r).state).1
+  by_exit GoOn = name_stays p i r refl
+  by_exit Jump = name_stays p i r refl
+  by_exit Return = tt
+
+watched_named : (memory : Bool) (p : Program) (i : Instr) (r : Configuration) → Named r (watched memory p i r).0 (watched memory p i r).1
+watched_named memory p i r = by_fault (fault p r i) where
+  by_memory : (b : Bool) → (let went = cond b (succeeded (settled i (step_at_end p i r).exit (step_at_end p i r).state)) (Err step_refusal.NoMemory, r) in Named r went.0 went.1)
+  by_memory true = settled_named p i r
+  by_memory false = refl
+
+  by_names : (b : Bool) → (let went = cond b (Err step_refusal.NamesSpent, r) (cond (memory || not (grows i)) (succeeded (settled i (step_at_end p i r).exit (step_at_end p i r).state)) (Err step_refusal.NoMemory, r)) in Named r went.0 went.1)
+  by_names true = refl
+  by_names false = by_memory (memory || not (grows i))
+
+  by_fault : (f : Option FaultKind) → Named r (unless_fault f r (executed memory p i r)).0 (unless_fault f r (executed memory p i r)).1
+  by_fault None = by_names (lacks_names r i)
+  by_fault (Some k) = refl
+
+abbrev HasName : Connection → Type 0
+HasName c = c.busy ≡ true → 0 < c.state.call.name
+
+answered_named : (c : Connection) (a : Result Stepped StepRefusal) (r : Configuration) → 0 < c.state.call.name → Named c.state a r → HasName (step_answer a (record c { state = r })).1
+answered_named c (Ok stepped.Went) r lt left busy = subst (λ (k : ℕ). 0 < k) (sym left) lt
+answered_named c (Ok (stepped.CallEnded st)) r lt left busy = absurd (cc)
+answered_named c (Ok (stepped.Fault k m pc)) r lt left busy = subst (λ (k : ℕ). 0 < k) (sym left) lt
+answered_named c (Err step_refusal.NamesSpent) r lt left busy = subst (λ (k : ℕ). 0 < k) (sym left) lt
+answered_named c (Err step_refusal.NoMemory) r lt left busy = subst (λ (k : ℕ). 0 < k) (sym left) lt
+
+-- a step that is asked for between calls is refused
+runs_or_refuses : (P : Connection → Type 0) (memory : Bool) (budget : ℕ) (p : Program) (c : Connection) → P c → (c.busy ≡ true → P (steps memory budget p c).1) → P (steps memory budget p c).1
+unfolding steps
+runs_or_refuses P memory budget p c s runs = by_busy c.busy refl where
+  refused : (o : Option Cause) (b : Bool) → b ≡ false → P (step_if (first_refusal (if_broken o ∷ (refused_if (not b) refusal.Idle ∷ []))) memory budget p c).1
+  refused None false idle = s
+  refused (Some k) b idle = s
+  refused None true idle = absurd (cc)
+
+  by_busy : (b : Bool) → c.busy ≡ b → P (steps memory budget p c).1
+  by_busy true busy = runs busy
+  by_busy false idle = refused c.broken c.busy idle
+
+stepped_named : (memory : Bool) (budget : ℕ) (p : Program) (c : Connection) → HasName c → HasName (steps memory budget p c).1
+unfolding steps
+stepped_named memory budget p c named = runs_or_refuses HasName memory budget p c named (λ busy. by_refusal busy (first_refusal (if_broken c.broken ∷ (refused_if (not c.busy) refusal.Idle ∷ [])))) where
+  by_budget : (b : Bool) → c.busy ≡ true → HasName (cond b (broke cause.OutOfSteps c) (step_from (watched memory p (current p c.state.pc) c.state) c)).1
+  by_budget true busy = named
+  by_budget false busy =
+      answered_named c (watched memory p (current p c.state.pc) c.state).0 (watched memory p (current p c.state.pc) c.state).1 (named busy) (watched_named memory p (current p c.state.pc) c.state)
+
+  by_refusal : c.busy ≡ true → (o : Option Refusal) → HasName (step_if o memory budget p c).1
+  by_refusal busy None = by_budget (nat_le budget c.count) busy
+  by_refusal busy (Some r) = named
 
 -- Events.
 
 pub opened_homes : OpenedHomesAlive
 unfolding opened
-opened_homes fs = record { brigades = λ b. none_alive (opened fs).state; loose = none_alive (opened fs).state; names = omega arith }
+opened_homes fs = record { alive = record { brigades = λ b. none_alive (opened fs).state; loose = none_alive (opened fs).state; names = omega arith }; named = λ busy. omega arith }
 
 -- between calls no home is a call
 idle_home : (r new : Configuration) → r.call.name ≡ 0 → ((n : ℕ) → is_live r.shared.pools n ≡ true → is_live new.shared.pools n ≡ true) → (h : Home) → IsAlive r h → IsAlive new h
@@ -256,24 +395,31 @@ taken_homes : (req len : ℕ) (name : List ℕ) (c : Connection) → HomesAlive 
 unfolding registered
 taken_homes req len name c s = same c.state (file_taken req name len c).state refl refl refl s.brigades (omega arith) s
 
-homes_steps : (p : Program) → IsModule p → StepKeeps p (λ files r. Sound r) (λ files r. HomesAlive r)
+homes_steps : (p : Program) → IsModule p → StepKeeps p (λ files r. Sound r × (0 < r.call.name)) (λ files r. HomesAlive r)
 homes_steps p m = record {
-  at_end = λ files r none last sound s. at_end_homes p (current p r.pc) r (may_execute p r m none last) sound s;
+  at_end = λ files r none last sound s. at_end_homes p (current p r.pc) r (may_execute p r m none last) sound.0 sound.1 s;
   moved = λ pc files r s. same r _ refl refl refl s.brigades (omega arith) s;
+}
+
+stepped_homes : (memory : Bool) (budget : ℕ) (p : Program) → IsModule p → (c : Connection) → Sound c.state → HomesIn c → HomesIn (steps memory budget p c).1
+stepped_homes memory budget p m c sound s = record {
+  alive = runs_or_refuses (λ d. HomesAlive d.state) memory budget p c s.alive (λ busy.
+      steps_keep p (λ files r. Sound r × (0 < r.call.name)) (λ files r. HomesAlive r) (homes_steps p m) memory budget c (sound, s.named busy) s.alive);
+  named = stepped_named memory budget p c s.named;
 }
 
 abbrev Calm : ℕ → Program → Connection → Type 0
 Calm budget p c = Sound c.state × IsOrderly budget p c
 
-homes_events : (budget : ℕ) (p : Program) → IsModule p → EventKeeps p (Calm budget p) (λ c. HomesAlive c.state)
+homes_events : (budget : ℕ) (p : Program) → IsModule p → EventKeeps p (Calm budget p) HomesIn
 unfolding takes
 homes_events budget p m = record {
-  begin = λ c none idle last calm s. begun_homes p c (calm.1.no_call idle) s;
-  bring = λ req pieces c is idle there last calm s. brought_homes p req pieces c is (calm.1.no_call idle) calm.0 s;
-  open_file = λ req name bytes c is found calm s. taken_homes req (length bytes) name c s;
-  end = λ req c is idle calm s. ended_homes req c s;
-  take = λ c s. same c.state _ refl refl refl s.brigades (omega arith) s;
-  add = λ name bytes c s. same c.state _ refl refl refl s.brigades (omega arith) s;
+  begin = λ c none idle last calm s. record { alive = begun_homes p c (calm.1.no_call idle) s.alive; named = λ busy. s.alive.names };
+  bring = λ req pieces c is idle there last calm s. record { alive = brought_homes p req pieces c is (calm.1.no_call idle) calm.0 s.alive; named = λ busy. s.alive.names };
+  open_file = λ req name bytes c is found calm s. record { alive = taken_homes req (length bytes) name c s.alive; named = s.named };
+  end = λ req c is idle calm s. record { alive = ended_homes req c s.alive; named = λ busy. absurd (let no : false ≡ true = sym idle ∙ busy in cc) };
+  take = λ c s. record { alive = same c.state _ refl refl refl s.alive.brigades (omega arith) s.alive; named = s.named };
+  add = λ name bytes c s. record { alive = same c.state _ refl refl refl s.alive.brigades (omega arith) s.alive; named = s.named };
 }
 
 calm_there : (budget : ℕ) (p : Program) (w : World) → SoundWorld w → OrderlyWorld budget p w → IfThere w (Calm budget p)
@@ -283,8 +429,7 @@ calm_there budget p (Closed pools fs) a b = tt
 
 pub event_homes : EventKeepsHomes
 event_homes memory budget p e w m sound order s =
-    events_keep budget p (Calm budget p) (λ c. HomesAlive c.state) (homes_events budget p m) opened_homes
-    (λ memory c calm s. steps_keep p (λ files r. Sound r) (λ files r. HomesAlive r) (homes_steps p m) memory budget c calm.0 s) memory e w (calm_there budget p w sound order) s
+    events_keep budget p (Calm budget p) HomesIn (homes_events budget p m) opened_homes (λ memory c calm s. stepped_homes memory budget p m c calm.0 s) memory e w (calm_there budget p w sound order) s
 
 pub run_homes : RunKeepsHomes
 run_homes budget p fs es answers w m run =

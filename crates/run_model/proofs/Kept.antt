@@ -112,7 +112,7 @@ both_true : (n k : ℕ) → n ≤ k → nat_le n k ≡ true
 both_true n k le = grind (arith, nat_tests)
 
 -- what one read gives
-one_read : (file at n : ℕ) (bytes : List ℕ) (fs : Files) → fs.fails_in ≡ None → fs.opened file ≡ Some bytes → n ≤ length bytes - at → read_part file at n fs ≡ Some (take n (drop at bytes))
+pub one_read : (file at n : ℕ) (bytes : List ℕ) (fs : Files) → fs.fails_in ≡ None → fs.opened file ≡ Some bytes → n ≤ length bytes - at → read_part file at n fs ≡ Some (take n (drop at bytes))
 unfolding read_part
 one_read file at n bytes fs sound is le =
     let reaches : nat_le n (length (drop at bytes)) ≡ true = both_true n (length (drop at bytes)) (omega (arith, length-drop at bytes)) in

@@ -1,7 +1,10 @@
 -- What an instruction that fits its module says of its operands.
 use Rattle.std.proofs.Common.{◌≡◌, ◌≢◌, ℕ, ◌<◌, ◌≤◌, Bool, true, false, ◌&&◌, ◌||◌, not, ◌==◌, nat_lt, length, arith}
+use Rattle.std.proofs.lemmas.Bool.{and_parts}
 use Rattle.std.proofs.lemmas.Bool.Decides.{nat_tests}
 use Rattle.module_lang.specs.declared.instr.Instr.TheVariants as instr
+use Rattle.module_lang.specs.declared.instr.Value.{Value}
+use Rattle.module_lang.specs.Numbers.{is_value}
 use Rattle.module_lang.specs.Program.{Program, IsModule, fits, is_brigade}
 
 -- a brigade operand is one of nine
@@ -44,3 +47,18 @@ saved_brigades p m o b h = record {
   second = brigade_below p m b (parts (nat_lt o (length p.brigades)) (is_brigade p b) (not (o == b)) h).1;
   differ = λ e. unequal o b (parts (nat_lt o (length p.brigades)) (is_brigade p b) (not (o == b)) h).2 e;
 }
+
+-- the two brigades of a split, which names a cursor between them
+pub split_brigades : (p : Program) → IsModule p → (b c a : ℕ) → fits p (instr.BSplit b c a) ≡ true → TwoBrigades b a
+split_brigades p m b c a h =
+    let all = and_parts (is_brigade p b && nat_lt c 8 && is_brigade p a) (not (b == a)) h in
+    let three = and_parts (is_brigade p b && nat_lt c 8) (is_brigade p a) all.0 in
+    record { first = brigade_below p m b (and_parts (is_brigade p b) (nat_lt c 8) three.0).0; second = brigade_below p m a three.1; differ = λ e. unequal b a all.1 e }
+
+-- the brigade of a partition, before a point and a cursor
+pub parted_below : (p : Program) → IsModule p → (b : ℕ) (x : Value) (c l : ℕ) → fits p (instr.BPart b x c l) ≡ true → b < 9
+parted_below p m b x c l h = brigade_below p m b (and_parts (is_brigade p b) (is_value x) (and_parts (is_brigade p b && is_value x) (nat_lt c 8) h).0).0
+
+-- a brigade before one other operand
+pub source_below : (p : Program) → IsModule p → (b : ℕ) (rest : Bool) → (is_brigade p b && rest) ≡ true → b < 9
+source_below p m b rest h = brigade_below p m b (and_parts (is_brigade p b) rest h).0

@@ -1,9 +1,8 @@
 -- Connections stay orderly: calls stay inside their module, nothing is left between calls, and budgets are kept.
-use Rattle.std.proofs.Common.{◌≡◌, ℕ, ◌+◌, ◌<◌, Bool, true, false, ◌||◌, not, cond, List, [], ◌∷◌, map, length, Option, Some, None, IfSome, slice_get, unwrap_or, Result, Ok, Err, nat_le, nat_lt, ◌==◌, refl, sym, ap, subst, arith}
+use Rattle.std.proofs.Common.{◌≡◌, ℕ, ◌+◌, ◌<◌, Bool, true, false, ◌||◌, not, cond, List, [], ◌∷◌, map, length, Option, Some, None, is_none, IfSome, slice_get, unwrap_or, Result, Ok, Err, nat_le, nat_lt, ◌==◌, refl, sym, ap, subst, arith}
 use Rattle.std.proofs.lemmas.Bool.Decides.{nat_tests}
 use Rattle.std.proofs.lemmas.Option.{slice_get-get_or}
 use Rattle.module_lang.specs.declared.instr.Status.TheVariants.{Success}
-use Rattle.module_lang.specs.declared.instr.PoolRef.TheVariants as pool
 use Rattle.module_lang.specs.declared.instr.Instr.{Instr}
 use Rattle.module_lang.specs.declared.instr.Instr.TheVariants as instr
 use Rattle.module_lang.specs.Program.{Program, IsModule, target, goes_on}
@@ -22,15 +21,19 @@ use Rattle.run_model.specs.Files.{Files}
 use Rattle.run_model.specs.Pools.{is_empty, is_under}
 use Rattle.run_model.specs.Buckets.{cleared_bucket}
 use Rattle.run_model.specs.Clearing.{cleared_var, run_down}
-use Rattle.run_model.specs.State.{Call, Shared, Configuration, fresh_call, items_of, set_pool, with_pools, set_brigade, set_number, pool_named}
+use Rattle.run_model.specs.State.{Call, Shared, Configuration, fresh_call, items_of, with_pools}
 use Rattle.run_model.specs.Faults.{fault}
-use Rattle.run_model.specs.Steps.{step_at_end, settled, jumps_if, is_null, is_fail, answer_to, delivered, made_on, saved_into, value_of, is_full, do_put, on_pool, pool_cleared, pool_destroyed, label_registered, label_killed, text_of, grows, lacks_names, current, succeeded, executed, unless_fault, watched}
+use Rattle.run_model.specs.BrigadeLists.{partition_answer}
+use Rattle.run_model.specs.Cursors.{spot, bucket_at, is_end, read_cursor}
+use Rattle.run_model.specs.BucketSteps.{byte_of, content_at, is_incomplete, is_unread, is_unsplit, items_at, kind_is}
+use Rattle.run_model.specs.Steps.{choice_at_end, step_at_end, settled, jumps_if, is_null, is_fail, answer_to, delivered, value_of, is_full, grows, lacks_names, current, succeeded, executed, unless_fault, watched}
 use Rattle.run_model.specs.Connection.{Connection, opened, takes, steps, begun, brought_in, file_taken, ended, first_refusal, refused_if, if_broken, broke, step_answer, step_from, step_if}
 use Rattle.run_model.specs.Runs.{Before}
 use Rattle.run_model.specs.Laws.{IsOrderly, OrderlyWorld, EventKeepsOrder, RunIsOrderly}
 use Rattle.run_model.proofs.Runs.{run_keeps}
 use Rattle.run_model.proofs.EventsKeep.{Nothing, nothing_there, EventKeeps, events_keep}
-use Rattle.run_model.proofs.NamedPools.{on_named, made_under_named, put_keeps}
+use Rattle.run_model.proofs.AtEnd.{at_end_keeps}
+use Rattle.run_model.proofs.Unchanged.{step_changes_only}
 
 -- where an instruction can lead, and this is true there
 pub record Leads (P : ℕ → Type 0) (pc : ℕ) (i : Instr) : Type 0 where
@@ -51,30 +54,35 @@ branched : (P : ℕ → Type 0) (i : Instr) (l : ℕ) (old r : Configuration) (b
 branched P i l old r true jump next is = subst P (sym is) jump
 branched P i l old r false jump next is = next
 
--- a step on a pool leaves the number of the next instruction
-pool_left : (P : ℕ → Type 0) (r : Configuration) (change : ℕ → Configuration → Configuration) (o : Option ℕ) → ((n : ℕ) → (change n r).pc ≡ r.pc) → P (r.pc + 1) → P ((on_pool change o r).pc + 1)
-pool_left P r change o same next = on_named (λ (x : Configuration). P (x.pc + 1)) change o r next (λ n e. subst (λ (k : ℕ). P (k + 1)) (sym (same n)) next)
+-- a step at the end of the chain leaves the number of the next instruction
+pc_left : (p : Program) (i : Instr) (r : Configuration) → (step_at_end p i r).state.pc ≡ r.pc
+pc_left p i r = at_end_keeps (λ (x : Configuration). x.pc ≡ r.pc) p i r (step_changes_only p (choice_at_end i r) i r).pc (λ out fs x reads stepped. stepped)
+
+-- where it goes on, or jumps
+went_left : (P : ℕ → Type 0) (p : Program) (i : Instr) (r : Configuration) → goes_on i ≡ true → Leads P r.pc i → P ((step_at_end p i r).state.pc + 1)
+went_left P p i r on placed = subst (λ (k : ℕ). P (k + 1)) (sym (pc_left p i r)) (placed.next on)
+
+jump_left : (P : ℕ → Type 0) (p : Program) (i : Instr) (l : ℕ) (r : Configuration) (b : Bool) → goes_on i ≡ true → Leads P r.pc i → P l → unwrap_or (target i) 0 ≡ l
+    → Left P r (Ok (settled i (jumps_if b) (step_at_end p i r).state).0) (settled i (jumps_if b) (step_at_end p i r).state).1
+jump_left P p i l r b on placed jump is = branched P i l r (step_at_end p i r).state b jump (went_left P p i r on placed) is
 
 settled_left : (P : ℕ → Type 0) (p : Program) (i : Instr) (r : Configuration) → Leads P r.pc i → Left P r (Ok (settled i (step_at_end p i r).exit (step_at_end p i r).state).0) (settled i (step_at_end p i r).exit (step_at_end p i r).state).1
-unfolding set_pool with_pools run_down set_brigade set_number
-settled_left P p (instr.PCreate q) r placed = made_under_named (λ (x : Configuration). P (x.pc + 1)) p q r (placed.next refl) (λ parent e. placed.next refl)
-settled_left P p (instr.PClear q) r placed = pool_left P r pool_cleared (pool_named r (pool.Own q)) (λ n. refl) (placed.next refl)
-settled_left P p (instr.PDestroy q) r placed = pool_left P r pool_destroyed (pool_named r (pool.Own q)) (λ n. refl) (placed.next refl)
-settled_left P p (instr.Label q t) r placed = pool_left P r (label_registered (text_of p t)) (pool_named r q) (λ n. refl) (placed.next refl)
-settled_left P p (instr.Unlabel q t) r placed = pool_left P r (label_killed (text_of p t)) (pool_named r q) (λ n. refl) (placed.next refl)
-settled_left P p (instr.JNull v l) r placed = branched P (instr.JNull v l) l r r (is_null r v) placed.jump (placed.next refl) refl
-settled_left P p (instr.BSave o b) r placed = pool_left P r (saved_into o b) (made_on (r.instance.brigades o)) (λ n. refl) (placed.next refl)
-settled_left P p (instr.Pass b l) r placed =
-    branched P (instr.Pass b l) l r (step_at_end p (instr.Pass b l) r).state (is_fail (answer_to (delivered r.out (items_of (r.instance.brigades b)) r.shared.files).well)) placed.jump (placed.next refl) refl
-settled_left P p (instr.Put x l) r placed =
-    branched P (instr.Put x l) l r (do_put x r) (is_full r x) placed.jump (put_keeps (λ (y : Configuration). P (y.pc + 1)) x r (placed.next refl) (λ buffer. placed.next refl)) refl
-settled_left P p (instr.JLt n x l) r placed = branched P (instr.JLt n x l) l r r (nat_lt (r.instance.numbers n) (value_of r x)) placed.jump (placed.next refl) refl
-settled_left P p (instr.JEq n x l) r placed = branched P (instr.JEq n x l) l r r (r.instance.numbers n == value_of r x) placed.jump (placed.next refl) refl
-settled_left P p (instr.JEmpty b l) r placed = branched P (instr.JEmpty b l) l r r (is_empty (items_of (r.instance.brigades b))) placed.jump (placed.next refl) refl
-settled_left P p (instr.JSent l) r placed = branched P (instr.JSent l) l r r r.instance.sent placed.jump (placed.next refl) refl
+settled_left P p (instr.BPart b x c l) r placed = jump_left P p (instr.BPart b x c l) l r (is_incomplete (partition_answer r.shared.next (value_of r x) (items_at r b))) refl placed placed.jump refl
+settled_left P p (instr.JEmpty b l) r placed = jump_left P p (instr.JEmpty b l) l r (is_empty (items_of (r.instance.brigades b))) refl placed placed.jump refl
+settled_left P p (instr.Pass b l) r placed = jump_left P p (instr.Pass b l) l r (is_fail (answer_to (delivered r.out (items_of (r.instance.brigades b)) r.shared.files).well)) refl placed placed.jump refl
+settled_left P p (instr.JEnd c l) r placed = jump_left P p (instr.JEnd c l) l r (is_end (spot r c)) refl placed placed.jump refl
+settled_left P p (instr.JKind c k l) r placed = jump_left P p (instr.JKind c k l) l r (kind_is k (bucket_at (spot r c))) refl placed placed.jump refl
+settled_left P p (instr.Split c x l) r placed = jump_left P p (instr.Split c x l) l r (is_unsplit (value_of r x) (spot r c)) refl placed placed.jump refl
+settled_left P p (instr.Read c l) r placed = jump_left P p (instr.Read c l) l r (is_unread (choice_at_end (instr.Read c l) r).given (spot r c)) refl placed placed.jump refl
+settled_left P p (instr.Get n x l) r placed = jump_left P p (instr.Get n x l) l r (is_none (byte_of (value_of r x) (content_at (spot r read_cursor)))) refl placed placed.jump refl
+settled_left P p (instr.Put x l) r placed = jump_left P p (instr.Put x l) l r (is_full r x) refl placed placed.jump refl
+settled_left P p (instr.JLt n x l) r placed = jump_left P p (instr.JLt n x l) l r (nat_lt (r.instance.numbers n) (value_of r x)) refl placed placed.jump refl
+settled_left P p (instr.JEq n x l) r placed = jump_left P p (instr.JEq n x l) l r (r.instance.numbers n == value_of r x) refl placed placed.jump refl
+settled_left P p (instr.JNull v l) r placed = jump_left P p (instr.JNull v l) l r (is_null r v) refl placed placed.jump refl
+settled_left P p (instr.JSent l) r placed = jump_left P p (instr.JSent l) l r r.instance.sent refl placed placed.jump refl
 settled_left P p (instr.Jump l) r placed = placed.jump
 settled_left P p (instr.Ret s) r placed = (refl, refl)
-settled_left P p i r placed = placed.next refl
+settled_left P p i r placed = went_left P p i r refl placed
 
 watched_left : (P : ℕ → Type 0) (memory : Bool) (p : Program) (i : Instr) (r : Configuration) → Leads P r.pc i → Left P r (watched memory p i r).0 (watched memory p i r).1
 watched_left P memory p i r placed = by_fault (fault p r i) where

@@ -3,10 +3,8 @@ use Rattle.std.proofs.Common.{◌≡◌, ◌≢◌, ℕ, ◌+◌, ◌<◌, ◌�
 use Rattle.std.specs.List.{list_any}
 use Rattle.std.proofs.lemmas.Bool.Decides.{nat_tests}
 use Rattle.std.proofs.lemmas.List.Elements.{All-nil, All-cons, All-head, All-tail, All-append}
-use Rattle.module_lang.specs.declared.instr.Status.TheVariants.{Success}
 use Rattle.module_lang.specs.declared.instr.Instr.{Instr}
 use Rattle.module_lang.specs.Program.{Program, IsModule}
-use Rattle.run_model.specs.declared.bucket.NamedBucket.{NamedBucket}
 use Rattle.run_model.specs.declared.event.Piece.{Piece}
 use Rattle.run_model.specs.declared.event.Piece.TheVariants as piece
 use Rattle.run_model.specs.declared.payload.Payload.{Payload}
@@ -14,20 +12,21 @@ use Rattle.run_model.specs.declared.payload.Payload.TheVariants.{FileRef}
 use Rattle.run_model.specs.Pools.{planted, created, destroyed}
 use Rattle.run_model.specs.Files.{Files, file_opened}
 use Rattle.run_model.specs.Clearing.{run_down}
-use Rattle.run_model.specs.State.{Configuration, items_of, set_brigade, with_pools}
-use Rattle.run_model.specs.Steps.{current, with_delivered, delivered, step_at_end, do_pass}
+use Rattle.run_model.specs.State.{Configuration, Out, items_of, set_brigade, with_pools}
+use Rattle.run_model.specs.Steps.{current, choice_at_end, step_at_end}
 use Rattle.run_model.specs.Connection.{Connection, brought_in, opened, file_taken, lacks_file, has_range, takes, begun, bucket_of, named_from, ended}
 use Rattle.run_model.specs.Runs.{IfThere, World, Before, There, Closed}
 use Rattle.run_model.specs.Sound.{Sound}
 use Rattle.run_model.specs.Laws.{MayExecute, SoundWorld, refers, SoundFiles, FilesWorld}
 use Rattle.run_model.specs.Ranges.{Reaches, LiesInFile, HasLength, SoundRanges, RangesWorld, EventKeepsRanges, RunKeepsRanges}
+use Rattle.run_model.proofs.AtEnd.{ReadsOn, put_out_and_read, at_end_keeps}
 use Rattle.run_model.proofs.Updates.{upd_at, upd_off}
 use Rattle.run_model.proofs.Runs.{run_keeps}
-use Rattle.run_model.proofs.EventsKeep.{may_execute, at_end_keeps, StepKeeps, steps_keep, EventKeeps, events_keep}
+use Rattle.run_model.proofs.EventsKeep.{may_execute, StepKeeps, steps_keep, EventKeeps, events_keep}
 use Rattle.run_model.proofs.SoundRuns.{event_sound}
 use Rattle.run_model.proofs.References.{one_of, created_back, registered_back, emptied_back}
 use Rattle.run_model.proofs.StepFiles.{step_files, same_files, went_and, destroyed_emptied, neither, written}
-use Rattle.run_model.proofs.FilesRuns.{delivered_unread, event_files}
+use Rattle.run_model.proofs.FilesRuns.{event_files}
 use Rattle.run_model.proofs.StepRanges.{LieList, none_lie, SameWhere, still_lie, still_told, kept_ranges, spared_lie, spared_var_lie, went_same, step_ranges}
 
 -- Steps.
@@ -35,18 +34,15 @@ use Rattle.run_model.proofs.StepRanges.{LieList, none_lie, SameWhere, still_lie,
 at_end_ranges : (p : Program) (i : Instr) (files : List (ℕ × ℕ)) (r : Configuration) → MayExecute p r i → Sound r → SoundFiles files r → SoundRanges files r → SoundRanges files (step_at_end p i r).state
 unfolding set_brigade
 at_end_ranges p i files r may sound held s =
-    (at_end_keeps (λ x. SoundFiles files x × SoundRanges files x) p i r (step_files p (record { answer = Success }) i files r may sound held, step_ranges p (record { answer = Success }) i files r may sound held s)
-    (λ b passed. put b passed.0 passed.1)).1 where
-      put : (b : ℕ) → SoundFiles files (do_pass b r) → SoundRanges files (do_pass b r)
-          → (let new = with_delivered (delivered r.out (items_of (r.instance.brigades b)) r.shared.files) (do_pass b r) in SoundFiles files new × SoundRanges files new)
-      put b passed_files passed =
-          let xs : List NamedBucket = items_of (r.instance.brigades b) in
-          let next = delivered_unread (λ (fs : Files). fs.next) (λ fs. refl) r.out xs r.shared.files in
-          let open_files = delivered_unread (λ (fs : Files). fs.opened) (λ fs. refl) r.out xs r.shared.files in
-          let there : SoundFiles files (with_delivered (delivered r.out xs r.shared.files) (do_pass b r)) = same_files files (do_pass b r) _ refl open_files refl passed_files.brigades passed_files.loose passed_files in (
+    (at_end_keeps (λ x. SoundFiles files x × SoundRanges files x) p i r (step_files p (choice_at_end i r) i files r may sound held, step_ranges p (choice_at_end i r) i files r may sound held s)
+    (λ out fs x reads stepped. put out fs x reads stepped.0 stepped.1)).1 where
+      put : (out : Out) (fs : Files) (x : Configuration) → ReadsOn x.shared.files fs → SoundFiles files x → SoundRanges files x
+          → SoundFiles files (put_out_and_read out fs x) × SoundRanges files (put_out_and_read out fs x)
+      put out fs x reads stepped_files stepped =
+          let there : SoundFiles files (put_out_and_read out fs x) = same_files files x _ refl reads.opened refl stepped_files.brigades stepped_files.loose stepped_files in (
             there,
-            kept_ranges files (do_pass b r) _ there (λ q file h. ap (λ (g : ℕ → Option (List ℕ)). g file) open_files) passed.brigades passed.loose
-                (λ q file h. subst (λ (k : ℕ). file < k) (sym next) (passed.given q file h)) refl passed,
+            kept_ranges files x _ there (λ q file h. ap (λ (g : ℕ → Option (List ℕ)). g file) reads.opened) stepped.brigades stepped.loose
+                (λ q file h. subst (λ (k : ℕ). file < k) (sym reads.next) (stepped.given q file h)) refl stepped,
           )
 
 -- Connections.

@@ -4,13 +4,14 @@ use Rattle.module_lang.specs.declared.instr.Status.TheVariants.{Success}
 use Rattle.module_lang.specs.declared.instr.Instr.{Instr}
 use Rattle.module_lang.specs.Program.{Program, IsModule}
 use Rattle.run_model.specs.State.{Configuration}
-use Rattle.run_model.specs.Steps.{current, do_pass, step}
+use Rattle.run_model.specs.Steps.{current, choice_at_end, step}
 use Rattle.run_model.specs.Connection.{takes}
 use Rattle.run_model.specs.Runs.{Before}
 use Rattle.run_model.specs.Sound.{Sound}
 use Rattle.run_model.specs.Laws.{MayExecute, StepAtEndKeeps, SoundWorld, EventKeepsSound, RunIsSound}
+use Rattle.run_model.proofs.AtEnd.{at_end_keeps}
 use Rattle.run_model.proofs.Runs.{run_keeps}
-use Rattle.run_model.proofs.EventsKeep.{may_execute, Nothing, nothing_there, at_end_keeps, StepKeeps, steps_keep, EventKeeps, events_keep}
+use Rattle.run_model.proofs.EventsKeep.{may_execute, Nothing, nothing_there, StepKeeps, steps_keep, EventKeeps, events_keep}
 use Rattle.run_model.proofs.StepNames.{step_names}
 use Rattle.run_model.proofs.StepBuckets.{step_buckets}
 use Rattle.run_model.proofs.StepPools.{step_pools}
@@ -18,15 +19,15 @@ use Rattle.run_model.proofs.Events.{untouched_sound, added_sound, taken_sound, b
 
 -- Steps.
 
-succeeds : (p : Program) (i : Instr) (r : Configuration) → MayExecute p r i → Sound r → Sound (step p (record { answer = Success }) i r).state
+succeeds : (p : Program) (i : Instr) (r : Configuration) → MayExecute p r i → Sound r → Sound (step p (choice_at_end i r) i r).state
 succeeds p i r may s = record {
-  names = step_names p (record { answer = Success }) i r may s.names;
-  buckets = step_buckets p (record { answer = Success }) i r may s.buckets;
-  pools = step_pools p (record { answer = Success }) i r may s.pools;
+  names = step_names p (choice_at_end i r) i r may s.names;
+  buckets = step_buckets p (choice_at_end i r) i r may s.buckets;
+  pools = step_pools p (choice_at_end i r) i r may s.pools;
 }
 
 pub at_end_sound : StepAtEndKeeps
-at_end_sound p i r may s = at_end_keeps Sound p i r (succeeds p i r may s) (λ b passed. untouched_sound (do_pass b r) _ refl refl refl refl refl refl refl passed)
+at_end_sound p i r may s = at_end_keeps Sound p i r (succeeds p i r may s) (λ out fs x reads stepped. untouched_sound x _ refl refl refl refl refl refl refl stepped)
 
 sound_steps : (p : Program) → IsModule p → StepKeeps p (λ files r. Unit {0}) (λ files r. Sound r)
 sound_steps p m = record { at_end = λ files r none last sound s. at_end_sound p (current p r.pc) r (may_execute p r m none last) s; moved = λ pc files r s. untouched_sound r _ refl refl refl refl refl refl refl s }

@@ -1,5 +1,5 @@
 -- Steps and events keep the home and the content of each bucket as its kind has them.
-use Rattle.std.proofs.Common.{◌≡◌, ◌≢◌, ℕ, ◌+◌, Bool, true, false, ◌==◌, cond, List, [], ◌∷◌, ◌++◌, map, refl, sym, subst, All}
+use Rattle.std.proofs.Common.{◌≡◌, ◌≢◌, ℕ, ◌+◌, Bool, true, false, ◌==◌, cond, List, [], ◌∷◌, ◌++◌, map, get_or, refl, sym, ◌∙◌, subst, All}
 use Rattle.std.proofs.lemmas.List.Elements.{All-nil, All-cons, All-append, All-map}
 use Rattle.module_lang.specs.declared.instr.PoolRef.TheVariants as pool
 use Rattle.module_lang.specs.declared.instr.Instr.TheVariants as instr
@@ -7,6 +7,7 @@ use Rattle.module_lang.specs.Program.{Program}
 use Rattle.run_model.specs.declared.bucket.Kind.{Kind}
 use Rattle.run_model.specs.declared.bucket.Kind.TheVariants as kind
 use Rattle.run_model.specs.declared.bucket.Content.{Content}
+use Rattle.run_model.specs.declared.bucket.Content.TheVariants as content
 use Rattle.run_model.specs.declared.bucket.Home.{Home}
 use Rattle.run_model.specs.declared.bucket.Home.TheVariants as home
 use Rattle.run_model.specs.declared.bucket.NamedBucket.{NamedBucket}
@@ -20,15 +21,19 @@ use Rattle.run_model.specs.Buckets.{end_call, end_pools, to_heap, returned_bucke
 use Rattle.run_model.specs.declared.payload.Payload.{Payload}
 use Rattle.run_model.specs.Cutting.{set_aside}
 use Rattle.run_model.specs.Pools.{Pools, is_under, created}
-use Rattle.run_model.specs.State.{Call, Configuration, items_of, set_pool, with_pools, set_brigade, set_number, pool_named}
+use Rattle.run_model.specs.State.{Call, Configuration, items_of, set_pool, with_pools, set_brigade, set_loose, pool_named}
 use Rattle.run_model.specs.Steps.{do_create, do_clean, do_concat, do_pass, do_return, cleaned, with_items, handed_over, returned_var, do_pcreate, pool_cleared, pool_destroyed, label_registered, label_killed, text_of, is_above, aside_named, saved_into, made_on}
 use Rattle.run_model.specs.Clearing.{cleared_var, is_reached, run_down}
 use Rattle.run_model.specs.Connection.{bucket_of, named_from}
 use Rattle.run_model.specs.Sound.{SoundBuckets}
-use Rattle.run_model.specs.Cutting.{LivesAs, FitsKind, form_of, form_of_kind}
+use Rattle.run_model.specs.Cutting.{LivesAs, FitsKind, form_of, form_of_kind, front_of, rest_of}
+use Rattle.run_model.specs.Cursors.{Spot, Nowhere, AtLoose, Within, AtEndOf, spot}
+use Rattle.run_model.specs.BucketSteps.{changed_at, aside_into}
 use Rattle.run_model.specs.Laws.{StepKeepsBuckets}
 use Rattle.run_model.proofs.Names.{at_each, at_two}
-use Rattle.run_model.proofs.NamedPools.{on_named, made_under_named, put_keeps}
+use Rattle.run_model.proofs.NamedPools.{on_named, made_under_named}
+use Rattle.run_model.proofs.EachBucket.{each_changed}
+use Rattle.run_model.proofs.Origins.{PassesOn, Holds, quiet_leaves}
 
 -- One bucket.
 
@@ -187,6 +192,9 @@ aside_parts target above k c h e = e
 pub aside_proper : (ps : Pools Payload) (target : ℕ) (x : NamedBucket) → IsProper x → IsProper (aside_named ps target x)
 aside_proper ps target x e = aside_parts target (is_above ps target x.bucket.home) x.bucket.kind x.bucket.content x.bucket.home e
 
+aside_list : (ps : Pools Payload) (target n : ℕ) (xs : List NamedBucket) → ProperList xs → ProperList (changed_at n (aside_named ps target) xs)
+aside_list ps target n xs h = each_changed IsProper IsProper n (aside_named ps target) xs (λ y e. e) (λ k d lt. λ same e. aside_proper ps target (get_or xs k d) e) h
+
 save_buckets : (o b target : ℕ) (r : Configuration) → SoundBuckets r → SoundBuckets (saved_into o b target r)
 unfolding set_brigade with_pools
 save_buckets o b target r s =
@@ -215,8 +223,42 @@ destroyed_buckets : (n : ℕ) (r : Configuration) → SoundBuckets r → SoundBu
 unfolding run_down with_pools
 destroyed_buckets n r s = went_buckets (is_under r.shared.pools n) r (pool_destroyed n r) (λ b. refl) refl s
 
+-- a bucket is set aside, and so is what has its name
+aside_buckets : (s : Spot) (target : ℕ) (r : Configuration) → SoundBuckets r → SoundBuckets (aside_into s target r)
+unfolding set_brigade set_loose with_pools
+aside_buckets Nowhere target r s = s
+aside_buckets (AtLoose x) target r s = record { brigades = s.brigades; loose = aside_list r.shared.pools target x.name r.call.loose s.loose }
+aside_buckets (Within b x) target r s =
+    written_buckets r (aside_into (Within b x) target r) b _ refl
+    (filled_proper (changed_at x.name (aside_named r.shared.pools target) (items_of (r.instance.brigades b))) (r.instance.brigades b) (aside_list r.shared.pools target x.name (items_of (r.instance.brigades b)) (s.brigades b))) (λ h. h) s
+aside_buckets (AtEndOf b) target r s = s
+
+-- Content and home fit the kind of each part of a bucket, and of those that are made.
+
+front_form : (n : ℕ) (c : Content) → form_of (front_of n c) ≡ form_of c
+front_form n (content.Bytes bs) = refl
+front_form n (content.Range file start len) = refl
+front_form n content.Nothing = refl
+
+rest_form : (n : ℕ) (c : Content) → form_of (rest_of n c) ≡ form_of c
+rest_form n (content.Bytes bs) = refl
+rest_form n (content.Range file start len) = refl
+rest_form n content.Nothing = refl
+
+proper_on : (r : Configuration) → PassesOn r FitsKind
+proper_on r = record {
+  made = λ b new. new.fits;
+  parts = record {
+    front = λ n b le e. record { holds = front_form n b.content ∙ e.holds; lives = e.lives };
+    rest = λ n b le e. record { holds = rest_form n b.content ∙ e.holds; lives = e.lives };
+  };
+}
+
+held_buckets : (r : Configuration) → Holds FitsKind r → SoundBuckets r
+held_buckets r h = record { brigades = h.brigades; loose = h.loose }
+
 pub step_buckets : StepKeepsBuckets
-unfolding set_number with_pools
+unfolding with_pools
 step_buckets p choice (instr.PCreate q) r may s = pcreate_buckets p q r s
 step_buckets p choice (instr.PClear q) r may s = on_named SoundBuckets pool_cleared (pool_named r (pool.Own q)) r s (λ n e. cleared_buckets n r s)
 step_buckets p choice (instr.PDestroy q) r may s = on_named SoundBuckets pool_destroyed (pool_named r (pool.Own q)) r s (λ n e. destroyed_buckets n r s)
@@ -227,6 +269,6 @@ step_buckets p choice (instr.BClean b) r may s = clean_buckets b r s
 step_buckets p choice (instr.BConcat a b) r may s = concat_buckets a b r s
 step_buckets p choice (instr.BSave o b) r may s = on_named SoundBuckets (saved_into o b) (made_on (r.instance.brigades o)) r s (λ target e. save_buckets o b target r s)
 step_buckets p choice (instr.Pass b l) r may s = pass_buckets b r s
-step_buckets p choice (instr.Put x l) r may s = put_keeps SoundBuckets x r s (λ buffer. same_buckets r _ refl refl s)
+step_buckets p choice (instr.Aside c q) r may s = on_named SoundBuckets (aside_into (spot r c)) (pool_named r q) r s (λ target e. aside_buckets (spot r c) target r s)
 step_buckets p choice (instr.Ret st) r may s = return_buckets r s
-step_buckets p choice i r may s = same_buckets r _ refl refl s
+step_buckets p choice i r may s = held_buckets _ (quiet_leaves FitsKind p choice i r refl (proper_on r) (record { brigades = s.brigades; loose = s.loose }))

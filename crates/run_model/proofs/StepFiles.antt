@@ -1,10 +1,12 @@
 -- A step keeps the files of FILE buckets open.
-use Rattle.std.proofs.Common.{◌≡◌, ℕ, ◌<◌, ◌⊎◌, arith, eqb-true, Bool, true, false, ◌||◌, ◌==◌, cond, List, [], ◌∷◌, ◌++◌, map, filter_map, Option, Some, None, is_some, All, inl, inr, refl, sym, ◌∙◌, ap, subst}
+use Rattle.std.proofs.Common.{◌≡◌, ℕ, ◌<◌, ◌⊎◌, arith, eqb-true, Bool, true, false, ◌||◌, ◌==◌, cond, List, [], ◌≤◌, ◌∷◌, ◌++◌, map, filter_map, Option, Some, None, is_some, All, inl, inr, refl, sym, ◌∙◌, ap, subst}
 use Rattle.std.specs.List.{cons_option}
 use Rattle.std.specs.List.{list_any}
 use Rattle.std.proofs.lemmas.Bool.Decides.{nat_tests}
 use Rattle.std.proofs.lemmas.List.Elements.{All-nil, All-cons, All-head, All-tail, All-append, All-map}
+use Rattle.module_lang.specs.declared.instr.PoolRef.{PoolRef}
 use Rattle.module_lang.specs.declared.instr.PoolRef.TheVariants as pool
+use Rattle.module_lang.specs.declared.instr.Instr.{Instr}
 use Rattle.module_lang.specs.declared.instr.Instr.TheVariants as instr
 use Rattle.module_lang.specs.Program.{Program}
 use Rattle.run_model.specs.declared.fault.FaultKind.TheVariants.{F5}
@@ -14,6 +16,7 @@ use Rattle.run_model.specs.declared.bucket.Content.{Content}
 use Rattle.run_model.specs.declared.bucket.Content.TheVariants as content
 use Rattle.run_model.specs.declared.bucket.Home.{Home}
 use Rattle.run_model.specs.declared.bucket.Home.TheVariants as home
+use Rattle.run_model.specs.declared.bucket.Bucket.{Bucket}
 use Rattle.run_model.specs.declared.bucket.NamedBucket.{NamedBucket}
 use Rattle.run_model.specs.declared.bucket.PoolVar.TheVariants as poolvar
 use Rattle.run_model.specs.declared.bucket.BrigadeVar.{BrigadeVar}
@@ -26,16 +29,23 @@ use Rattle.run_model.specs.Buckets.{is_dead, is_ended, end_call, end_pools, retu
 use Rattle.run_model.specs.Cutting.{set_aside}
 use Rattle.run_model.specs.Files.{Files}
 use Rattle.run_model.specs.Clearing.{is_reached, cleared_var, run_down}
-use Rattle.run_model.specs.State.{Configuration, items_of, set_pool, with_pools, set_brigade, set_number, pool_named}
-use Rattle.run_model.specs.Faults.{usable_fault, homes_fault}
+use Rattle.run_model.specs.State.{Configuration, items_of, set_pool, with_pools, set_brigade, set_loose, pool_named}
+use Rattle.run_model.specs.Faults.{WPool, WCursor, OnBucket, usable_fault, homes_fault, home_fault, or_else, fault_want}
 use Rattle.run_model.specs.Steps.{do_create, do_clean, do_concat, do_pass, do_return, cleaned, with_items, handed_over, returned_var, pool_cleared, pool_destroyed, files_let_go, label_registered, label_killed, text_of, is_above, aside_named, file_of, new_ref, all_referred, saved_into, made_on}
 use Rattle.run_model.specs.Connection.{has_range}
-use Rattle.run_model.specs.Sound.{SoundPools, SoundBuckets}
+use Rattle.run_model.specs.Sound.{SoundPools, SoundBuckets, Sound, count_named}
+use Rattle.run_model.specs.BrigadeLists.{bucket_named}
+use Rattle.run_model.specs.Cursors.{Spot, Nowhere, AtLoose, Within, AtEndOf, bucket_at, spot}
+use Rattle.run_model.specs.BucketSteps.{items_at, changed_at, aside_into}
 use Rattle.run_model.specs.Cutting.{FitsKind, LivesAs}
-use Rattle.run_model.specs.Laws.{refers, IsHeld, SoundFiles, StepKeepsFiles}
+use Rattle.run_model.specs.Laws.{changes_pools, is_clear, ChangesOnly, refers, IsHeld, SoundFiles, StepKeepsFiles}
 use Rattle.run_model.proofs.Updates.{upd_either}
 use Rattle.run_model.proofs.PoolMap.{cleared_apart, cleared_payloads, cleared_next, destroyed_apart, destroyed_under, destroyed_next}
-use Rattle.run_model.proofs.NamedPools.{on_named, made_under_named, own_named, put_keeps}
+use Rattle.run_model.proofs.NamedPools.{on_named, made_under_named, own_named}
+use Rattle.run_model.proofs.Spots.{Stands, stands}
+use Rattle.run_model.proofs.EachBucket.{of_named, each_changed, only_one, loose_once, brigade_once}
+use Rattle.run_model.proofs.Origins.{PassesOn, Holds, front_back, rest_back, made_apart, quiet_leaves}
+use Rattle.run_model.proofs.Unchanged.{step_changes_only}
 use Rattle.run_model.proofs.PoolsKept.{req_apart}
 use Rattle.run_model.proofs.Marks.{first_none, second_none}
 use Rattle.run_model.proofs.Kept.{files_go}
@@ -325,8 +335,88 @@ no_dead items h = by_test (list_any is_dead items) h where
   by_test true e = absurd (cc)
   by_test false e = refl
 
+-- A bucket is set aside.
+
+-- its home was not dead
+pub not_dead : (x : NamedBucket) → home_fault (Some x) ≡ None → is_dead x ≡ false
+not_dead x h = by_test (is_dead x) h where
+  by_test : (b : Bool) → cond b (Some F5) None ≡ None → b ≡ false
+  by_test true e = absurd (cc)
+  by_test false e = refl
+
+pub one_dead : (x : NamedBucket) → is_dead x ≡ false → list_any is_dead (x ∷ []) ≡ false
+one_dead x h = ap (λ (b : Bool). b || false) h
+
+abbrev pub refs_with : (ps : Pools Payload) → ℕ → NamedBucket → Pools Payload
+refs_with ps target x = all_referred target (filter_map (new_ref ps target) (x ∷ [])) ps
+
+-- the list of the bucket, and the others
+pub aside_in : (ps : Pools Payload) (target : ℕ) (x : NamedBucket) (xs : List NamedBucket) → bucket_named x.name xs ≡ Some x → count_named x.name xs ≤ 1 → HeldList ps xs
+    → HeldList (refs_with ps target x) (changed_at x.name (aside_named ps target) xs)
+aside_in ps target x xs there once held =
+    let refs : List ℕ = filter_map (new_ref ps target) (x ∷ []) in
+    let new : Pools Payload = refs_with ps target x in
+    let grow : ((p file : ℕ) → refers ps p file ≡ true → refers new p file ≡ true) = λ p file h. all_grow target refs ps p file h in
+    let old : IsHeld ps x = of_named (IsHeld ps) x.name x xs there held in
+    let kept : HeldList new (map (aside_named ps target) (x ∷ [])) = aside_held ps new target grow (x ∷ []) (All-cons (IsHeld ps) x [] old (none_held ps)) (λ file h. all_there target refs ps file h) in
+    each_changed (IsHeld ps) (IsHeld new) x.name (aside_named ps target) xs (λ y h. λ file start len p c at. grow p file (h file start len p c at))
+    (λ k d lt. λ same h. subst (λ (y : NamedBucket). IsHeld new (aside_named ps target y)) (sym (only_one x.name x xs there once k d lt same)) (All-head (IsHeld new) (aside_named ps target x) [] kept)) held
+
+-- what is true of each file that has a reference is true of each that has one then
+pub aside_refs : (ps : Pools Payload) (target : ℕ) (x : NamedBucket) (Q : ℕ → Type 0) → ((p file : ℕ) → refers ps p file ≡ true → Q file) → FitsKind x.bucket → is_dead x ≡ false → IsHeld ps x
+    → (p file : ℕ) → refers (refs_with ps target x) p file ≡ true → Q file
+aside_refs ps target x Q each fit live held p file h = elim (all_back target (filter_map (new_ref ps target) (x ∷ [])) ps p file h) [
+  | inl old ↦ each p file old
+  | inr asked ↦ refs_open ps target file Q each (x ∷ []) (All-cons (λ y. FitsKind y.bucket) x [] fit (All-nil (λ y. FitsKind y.bucket))) (one_dead x live) (All-cons (IsHeld ps) x [] held (none_held ps)) asked
+]
+
+aside_files : (files : List (ℕ × ℕ)) (s : Spot) (target : ℕ) (r : Configuration) → Stands r s → home_fault (bucket_at s) ≡ None → Sound r → SoundFiles files r → SoundFiles files (aside_into s target r)
+unfolding set_brigade set_loose with_pools
+aside_files files Nowhere target r there live sound held = held
+aside_files files (AtLoose x) target r there live sound held =
+    let ps = r.shared.pools in
+    let new : Pools Payload = refs_with ps target x in
+    let grow : ((p file : ℕ) → refers ps p file ≡ true → refers new p file ≡ true) = λ p file h. all_grow target (filter_map (new_ref ps target) (x ∷ [])) ps p file h in
+    kept_files files r (aside_into (AtLoose x) target r) grow
+    (λ p file h. aside_refs ps target x (λ (n : ℕ). is_some (r.shared.files.opened n) ≡ true) held.lasts (of_named (λ y. FitsKind y.bucket) x.name x r.call.loose there sound.buckets.loose) (not_dead x live)
+    (of_named (IsHeld ps) x.name x r.call.loose there held.loose) p file h)
+    (λ b. weaker ps new grow (items_at r b) (held.brigades b)) (aside_in ps target x r.call.loose there (loose_once r x.name sound.names) held.loose) refl held
+aside_files files (Within b x) target r there live sound held =
+    let ps = r.shared.pools in
+    let new : Pools Payload = refs_with ps target x in
+    let grow : ((p file : ℕ) → refers ps p file ≡ true → refers new p file ≡ true) = λ p file h. all_grow target (filter_map (new_ref ps target) (x ∷ [])) ps p file h in
+    kept_files files r (aside_into (Within b x) target r) grow
+    (λ p file h. aside_refs ps target x (λ (n : ℕ). is_some (r.shared.files.opened n) ≡ true) held.lasts (of_named (λ y. FitsKind y.bucket) x.name x (items_at r b) there.1 (sound.buckets.brigades b)) (not_dead x live)
+    (of_named (IsHeld ps) x.name x (items_at r b) there.1 (held.brigades b)) p file h)
+    (λ k. written (λ v. HeldList new (items_of v)) r.instance.brigades b (with_items (changed_at x.name (aside_named ps target) (items_at r b)) (r.instance.brigades b))
+    (filled_held new (changed_at x.name (aside_named ps target) (items_at r b)) (r.instance.brigades b) (aside_in ps target x (items_at r b) there.1 (brigade_once r b x.name there.0 sound.names) (held.brigades b)))
+    (λ j. weaker ps new grow (items_at r j) (held.brigades j)) k)
+    (weaker ps new grow r.call.loose held.loose) refl held
+aside_files files (AtEndOf b) target r there live sound held = held
+
+-- what the wants of an instruction that sets aside leave
+pub aside_live : (r : Configuration) (c : ℕ) (q : PoolRef) → or_else (fault_want r (WCursor c OnBucket)) (or_else (fault_want r (WPool q)) (or_else (home_fault (bucket_at (spot r c))) None)) ≡ None
+    → home_fault (bucket_at (spot r c)) ≡ None
+aside_live r c q h = first_none (home_fault (bucket_at (spot r c))) None (second_none (fault_want r (WPool q)) _ (second_none (fault_want r (WCursor c OnBucket)) _ h))
+
+-- Parts of ranges are held, and no bucket that is made is a range.
+
+abbrev HeldBucket : Pools Payload → Bucket → Type 0
+HeldBucket ps b = (file start len p : ℕ) → b.content ≡ content.Range file start len → b.home ≡ home.Pool p → refers ps p file ≡ true
+
+held_on : (ps : Pools Payload) (r : Configuration) → PassesOn r (HeldBucket ps)
+held_on ps r = record {
+  made = λ b new. λ file start len p e at. absurd (made_apart r b p new at);
+  parts = record {
+    front = λ n b le h. λ file start len p e at. let whole = front_back n b.content file start len e in h file start whole.0 p whole.1 at;
+    rest = λ n b le h. λ file start len p e at. let whole = rest_back n b.content file start len e in h file whole.0 whole.1.0 p whole.1.1 at;
+  };
+}
+
+quiet_files : (files : List (ℕ × ℕ)) (i : Instr) (r new : Configuration) → changes_pools i ≡ false → is_clear i ≡ false → ChangesOnly i r new → Holds (HeldBucket r.shared.pools) new → SoundFiles files r → SoundFiles files new
+quiet_files files i r new tree clear only h s = same_files files r new (only.tree tree) (ap (λ (fs : Files). fs.opened) (only.files clear)) only.req h.brigades h.loose s
+
 pub step_files : StepKeepsFiles
-unfolding set_number
 step_files p choice (instr.PCreate q) files r may s held = made_under_named (SoundFiles files) p q r held (λ parent e. made_files files parent q r s.pools held)
 step_files p choice (instr.PClear q) files r may s held = on_named (SoundFiles files) pool_cleared (pool_named r (pool.Own q)) r held (λ n e.
     went_files files n r (cleared n r.shared.pools) (cleared_emptied n r.shared.pools) s.pools (own_apart q n r (own_named q n r e) s.pools) held)
@@ -341,6 +431,7 @@ step_files p choice (instr.BSave o b) files r may s held = on_named (SoundFiles 
     save_files files o b target r s.buckets
     (no_dead (items_of (r.instance.brigades b)) (first_none (homes_fault (items_of (r.instance.brigades b))) None (second_none (usable_fault (r.instance.brigades b)) _ (second_none (usable_fault (r.instance.brigades o)) _ may.faultless)))) held)
 step_files p choice (instr.Pass b l) files r may s held = pass_files files b r held
-step_files p choice (instr.Put x l) files r may s held = put_keeps (SoundFiles files) x r held (λ buffer. same_files files r _ refl refl refl held.brigades held.loose held)
+step_files p choice (instr.Aside c q) files r may s held = on_named (SoundFiles files) (aside_into (spot r c)) (pool_named r q) r held (λ target e. aside_files files (spot r c) target r (stands r (r.call.cursors c)) (aside_live r c q may.faultless) s held)
 step_files p choice (instr.Ret st) files r may s held = return_files files r held
-step_files p choice i files r may s held = same_files files r _ refl refl refl held.brigades held.loose held
+step_files p choice i files r may s held =
+    quiet_files files i r _ refl refl (step_changes_only p choice i r) (quiet_leaves (HeldBucket r.shared.pools) p choice i r refl (held_on r.shared.pools r) (record { brigades = held.brigades; loose = held.loose })) held

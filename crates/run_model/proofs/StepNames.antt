@@ -1,5 +1,5 @@
 -- A step without a fault keeps names.
-use Rattle.std.proofs.Common.{◌≡◌, ℕ, ◌+◌, ◌^◌, ◌<◌, ◌≤◌, Bool, true, false, ◌||◌, ◌==◌, cond, List, [], ◌++◌, map, refl, sym, ap, subst, arith}
+use Rattle.std.proofs.Common.{◌≡◌, ℕ, ◌+◌, ◌^◌, ◌<◌, ◌≤◌, Bool, true, false, ◌||◌, ◌==◌, cond, List, [], ◌++◌, map, Option, Some, None, refl, sym, ap, subst, arith}
 use Rattle.std.proofs.lemmas.Bool.Decides.{nat_tests}
 use Rattle.module_lang.specs.declared.instr.PoolRef.TheVariants as pool
 use Rattle.module_lang.specs.declared.instr.Instr.{Instr}
@@ -14,13 +14,17 @@ use Rattle.run_model.specs.Indexed.{upd}
 use Rattle.run_model.specs.Pools.{is_under, created}
 use Rattle.run_model.specs.State.{Configuration, items_of, set_pool, with_pools, set_brigade, set_number, pool_named}
 use Rattle.run_model.specs.Clearing.{run_down}
-use Rattle.run_model.specs.Steps.{step, do_create, do_clean, do_concat, do_pass, do_return, cleaned, with_items, handed_over, returned_var, do_pcreate, pool_cleared, pool_destroyed, label_registered, label_killed, text_of, aside_named, saved_into, made_on, names_of, pool_names_of, is_spent, lacks_names}
+use Rattle.run_model.specs.Cursors.{Spot, Within, spot, read_cursor}
+use Rattle.run_model.specs.BucketSteps.{do_next, new_loose, pool_bucket, aside_into, byte_of, content_at, got}
+use Rattle.run_model.specs.Steps.{value_of, step, do_create, do_clean, do_concat, do_pass, do_return, cleaned, with_items, handed_over, returned_var, do_pcreate, pool_cleared, pool_destroyed, label_registered, label_killed, text_of, aside_named, saved_into, made_on, names_of, pool_names_of, is_spent, lacks_names}
 use Rattle.run_model.specs.Sound.{NamesStep, sum_below, count_named}
 use Rattle.run_model.specs.Laws.{StepGivesNames, StepKeepsNames}
 use Rattle.run_model.proofs.Updates.{upd_off}
 use Rattle.run_model.proofs.Sums.{sum_below_upd}
-use Rattle.run_model.proofs.Operands.{created_below, TwoBrigades, two_brigades, saved_brigades}
+use Rattle.run_model.proofs.Operands.{created_below, TwoBrigades, two_brigades, saved_brigades, split_brigades, parted_below, source_below}
 use Rattle.run_model.proofs.Names.{names_stay, count_none, count_append, count_map, Carried, Fewer, carried_same, fewer_same, fewer_none, cleaned_fewer, handed_fewer, returned_fewer, filled_carried, filled_items, at_each, at_two, keeps_names, keeps_slots, went_names, placed_names}
+use Rattle.run_model.proofs.Spots.{stands}
+use Rattle.run_model.proofs.SlotNames.{cursor_names, unlink_names, delete_names, tail_names, head_names, before_names, bsplit_names, bpart_names, split_names, read_names, new_names, copy_names, aside_names}
 use Rattle.run_model.proofs.NamedPools.{on_named, made_under_named, put_keeps}
 
 -- names that are not spent stay below the limit
@@ -29,15 +33,15 @@ unfolding is_spent
 not_spent next names h = grind (arith, nat_tests)
 
 -- the names that an instruction gives out are there
-lasting : (r : Configuration) (i : Instr) → lacks_names r i ≡ false → r.shared.next + names_of i < 2 ^ 64
+lasting : (r : Configuration) (i : Instr) → lacks_names r i ≡ false → r.shared.next + names_of r i < 2 ^ 64
 unfolding lacks_names
-lasting r i h = not_spent r.shared.next (names_of i) (first (is_spent r.shared.next (names_of i)) (is_spent r.shared.pools.next (pool_names_of i)) h) where
+lasting r i h = not_spent r.shared.next (names_of r i) (first (is_spent r.shared.next (names_of r i)) (is_spent r.shared.pools.next (pool_names_of i)) h) where
   first : (a b : Bool) → (a || b) ≡ false → a ≡ false
   first true b h = absurd (cc)
   first false b h = refl
 
 below_limit : (r : Configuration) (i : Instr) → lacks_names r i ≡ false → r.shared.next < 2 ^ 64
-below_limit r i last = let all : r.shared.next + names_of i < 2 ^ 64 = lasting r i last in omega arith
+below_limit r i last = let all : r.shared.next + names_of r i < 2 ^ 64 = lasting r i last in omega arith
 
 create_names : (p : Program) (o : ℕ) (r : Configuration) → o < 9 → r.shared.next + 1 < 2 ^ 64 → NamesStep r (do_create p o r)
 unfolding set_brigade
@@ -113,6 +117,15 @@ destroyed_names : (n : ℕ) (r : Configuration) → r.shared.next < 2 ^ 64 → N
 unfolding run_down with_pools
 destroyed_names n r limit = went_names (is_under r.shared.pools n) r (pool_destroyed n r) (λ b. refl) refl refl limit
 
+next_names : (d : ℕ) (s : Spot) (r : Configuration) → r.shared.next < 2 ^ 64 → NamesStep r (do_next d s r)
+next_names d (Within b x) r limit = cursor_names d _ r r (same_slots r r refl refl refl limit)
+next_names d s r limit = same_slots r r refl refl refl limit
+
+got_names : (n : ℕ) (o : Option ℕ) (r : Configuration) → r.shared.next < 2 ^ 64 → NamesStep r (got n o r)
+unfolding set_number
+got_names n None r limit = same_slots r r refl refl refl limit
+got_names n (Some byte) r limit = same_slots r (set_number n byte r) refl refl refl limit
+
 pub step_gives : StepGivesNames
 unfolding set_number with_pools
 step_gives p choice (instr.BCreate o) r may = create_names p o r (created_below p may.proper o may.fit) (lasting r (instr.BCreate o) may.names_last)
@@ -134,6 +147,30 @@ step_gives p choice (instr.BConcat a b) r may = concat_names a b r (two_brigades
 step_gives p choice (instr.BSave o b) r may =
     let limit = below_limit r (instr.BSave o b) may.names_last in
     on_named (NamesStep r) (saved_into o b) (made_on (r.instance.brigades o)) r (same_slots r r refl refl refl limit) (λ target e. save_names o b target r (saved_brigades p may.proper o b may.fit) limit)
+step_gives p choice (instr.BSplit b c a) r may = (let two = split_brigades p may.proper b c a may.fit in bsplit_names b (spot r c) a r two.first two.second (below_limit r (instr.BSplit b c a) may.names_last))
+step_gives p choice (instr.BPart b x c l) r may = bpart_names b (value_of r x) c r (parted_below p may.proper b x c l may.fit) (lasting r (instr.BPart b x c l) may.names_last)
+step_gives p choice (instr.First c b) r may = cursor_names c _ r r (same_slots r r refl refl refl (below_limit r (instr.First c b) may.names_last))
+step_gives p choice (instr.Next d c) r may = next_names d (spot r c) r (below_limit r (instr.Next d c) may.names_last)
+step_gives p choice (instr.Unlink c) r may = unlink_names (spot r c) r (stands r (r.call.cursors c)) (below_limit r (instr.Unlink c) may.names_last)
+step_gives p choice (instr.BDelete c) r may = delete_names (spot r c) r (stands r (r.call.cursors c)) (below_limit r (instr.BDelete c) may.names_last)
+step_gives p choice (instr.Tail b c) r may = tail_names b (spot r c) r (source_below p may.proper b _ may.fit) (stands r (r.call.cursors c)) (below_limit r (instr.Tail b c) may.names_last)
+step_gives p choice (instr.Head b c) r may = head_names b (spot r c) r (source_below p may.proper b _ may.fit) (stands r (r.call.cursors c)) (below_limit r (instr.Head b c) may.names_last)
+step_gives p choice (instr.Before c d) r may = before_names (spot r c) (spot r d) r (stands r (r.call.cursors c)) (stands r (r.call.cursors d)) (below_limit r (instr.Before c d) may.names_last)
+step_gives p choice (instr.Heap c t) r may = new_names c _ r (lasting r (instr.Heap c t) may.names_last)
+step_gives p choice (instr.Immortal c t) r may = new_names c _ r (lasting r (instr.Immortal c t) may.names_last)
+step_gives p choice (instr.FromBuf c) r may = new_names c _ r (lasting r (instr.FromBuf c) may.names_last)
+step_gives p choice (instr.Transient c) r may = new_names c _ r (lasting r (instr.Transient c) may.names_last)
+step_gives p choice (instr.PoolB c q) r may =
+    on_named (NamesStep r) (λ n. new_loose c (pool_bucket r.call.buffer n)) (pool_named r q) r (same_slots r r refl refl refl (below_limit r (instr.PoolB c q) may.names_last)) (λ n e. new_names c _ r (lasting r (instr.PoolB c q) may.names_last))
+step_gives p choice (instr.Flush c) r may = new_names c _ r (lasting r (instr.Flush c) may.names_last)
+step_gives p choice (instr.Eos c) r may = new_names c _ r (lasting r (instr.Eos c) may.names_last)
+step_gives p choice (instr.Split c x l) r may = split_names (value_of r x) (spot r c) r (stands r (r.call.cursors c)) (lasting r (instr.Split c x l) may.names_last)
+step_gives p choice (instr.Copy d c) r may = copy_names d (spot r c) r (lasting r (instr.Copy d c) may.names_last)
+step_gives p choice (instr.Aside c q) r may =
+    let limit = below_limit r (instr.Aside c q) may.names_last in
+    on_named (NamesStep r) (aside_into (spot r c)) (pool_named r q) r (same_slots r r refl refl refl limit) (λ n e. aside_names (spot r c) n r (stands r (r.call.cursors c)) limit)
+step_gives p choice (instr.Read c l) r may = read_names choice.given (spot r c) r (stands r (r.call.cursors c)) (lasting r (instr.Read c l) may.names_last)
+step_gives p choice (instr.Get n x l) r may = got_names n (byte_of (value_of r x) (content_at (spot r read_cursor))) r (below_limit r (instr.Get n x l) may.names_last)
 step_gives p choice (instr.Pass b l) r may = pass_names b r (below_limit r (instr.Pass b l) may.names_last)
 step_gives p choice (instr.Put x l) r may =
     let limit = below_limit r (instr.Put x l) may.names_last in

@@ -10,6 +10,7 @@ use Rattle.run_model.specs.declared.fault.FaultKind.TheVariants.{F1}
 use Rattle.run_model.specs.declared.bucket.NamedBucket.{NamedBucket}
 use Rattle.run_model.specs.declared.bucket.Mark.TheVariants.{Usable}
 use Rattle.run_model.specs.declared.bucket.PoolVar.TheVariants as poolvar
+use Rattle.run_model.specs.declared.bucket.Cursor.{Cursor}
 use Rattle.run_model.specs.declared.bucket.BrigadeVar.{BrigadeVar}
 use Rattle.run_model.specs.declared.bucket.BrigadeVar.TheVariants as var
 use Rattle.run_model.specs.declared.payload.Payload.{Payload}
@@ -18,7 +19,7 @@ use Rattle.run_model.specs.Payloads.{is_label}
 use Rattle.run_model.specs.Indexed.{upd}
 use Rattle.run_model.specs.Pools.{Pools, is_live, created, registered}
 use Rattle.run_model.specs.RunOrder.{IsPoolMap, killed}
-use Rattle.run_model.specs.State.{Configuration, items_of, set_pool, with_pools, set_brigade, set_number, pool_named}
+use Rattle.run_model.specs.State.{Configuration, items_of, set_pool, with_pools, set_brigade, set_loose, set_cursor, set_number, pool_named}
 use Rattle.run_model.specs.Clearing.{run_down}
 use Rattle.run_model.specs.Faults.{has_pool_at, has_pool, is_live_named, or_else}
 use Rattle.run_model.specs.Steps.{do_create, do_clean, do_concat, do_pass, do_return, cleaned, with_items, handed_over, returned_var, do_pcreate, pool_cleared, pool_destroyed, label_registered, label_killed, text_of, new_ref, all_referred, saved_into, made_on, names_of, pool_names_of, is_spent, lacks_names}
@@ -29,7 +30,8 @@ use Rattle.run_model.proofs.PoolMap.{created_lives, created_next, created_kept, 
 use Rattle.run_model.proofs.Names.{at_each, at_two}
 use Rattle.run_model.proofs.StepNames.{not_spent}
 use Rattle.run_model.proofs.Formed.{created_formed, cleared_formed, destroyed_formed, registered_formed, killed_formed}
-use Rattle.run_model.proofs.NamedPools.{on_named, made_under_named, put_keeps, own_named, conn_given, req_given}
+use Rattle.run_model.proofs.NamedPools.{on_named, made_under_named, own_named, conn_given, req_given}
+use Rattle.run_model.proofs.BucketFrame.{IsFrame, placed_step}
 use Rattle.run_model.proofs.PoolsKept.{keeps_paths, keeps_pools, went_pools}
 
 -- What a change of a variable does to the pool of its brigade: it stays, or the brigade goes.
@@ -144,7 +146,7 @@ return_pools r s = keeps_slots r (do_return r) refl refl refl refl (λ b. left b
 
 lasting_pool : (r : Configuration) (i : Instr) → lacks_names r i ≡ false → r.shared.pools.next + pool_names_of i < 2 ^ 64
 unfolding lacks_names
-lasting_pool r i h = not_spent r.shared.pools.next (pool_names_of i) (second (is_spent r.shared.next (names_of i)) (is_spent r.shared.pools.next (pool_names_of i)) h) where
+lasting_pool r i h = not_spent r.shared.pools.next (pool_names_of i) (second (is_spent r.shared.next (names_of r i)) (is_spent r.shared.pools.next (pool_names_of i)) h) where
   second : (a b : Bool) → (a || b) ≡ false → b ≡ false
   second true b h = absurd (cc)
   second false b h = h
@@ -194,8 +196,23 @@ unlabelled_pools : (text : List ℕ) (n : ℕ) (r : Configuration) → SoundPool
 unfolding killed with_pools
 unlabelled_pools text n r s = keeps_paths r (label_killed text n r) (killed_formed n (is_label text) r.shared.pools s.formed) refl refl refl refl refl s.brigades s
 
+-- Buckets, cursors, numbers and the buffer have no part in it.
+pools_frame : IsFrame SoundPools
+unfolding set_brigade set_loose set_number with_pools
+pools_frame = record {
+  items = λ b xs r s. keeps_slots r _ refl refl refl refl (at_each KeepsPool r.instance.brigades b (with_items xs (r.instance.brigades b)) (filled_pool xs (r.instance.brigades b)) same_pool) s;
+  loose = λ xs r s. keeps_pools r _ refl refl refl refl s.brigades s;
+  numbers = λ n v r s. keeps_pools r _ refl refl refl refl s.brigades s;
+  buffer = λ bytes r s. keeps_pools r _ refl refl refl refl s.brigades s;
+  names = λ n r s. keeps_pools r _ refl refl refl refl s.brigades s;
+  refs = λ target files r lives s. keeps_paths r _ (referred_formed target files r.shared.pools lives s.formed) (referred_path target files r.shared.pools) (referred_next target files r.shared.pools) refl refl refl s.brigades s;
+}
+
+pools_placed : (c : ℕ) (v : Cursor) (r : Configuration) → SoundPools r → SoundPools (set_cursor c v r)
+unfolding set_cursor
+pools_placed c v r s = keeps_pools r _ refl refl refl refl s.brigades s
+
 pub step_pools : StepKeepsPools
-unfolding set_number
 step_pools p choice (instr.PCreate q) r may s = pcreate_pools p q r (lasting_pool r (instr.PCreate q) may.names_last) (wanted_pool r (pool_of_pool p q) _ may.faultless) s
 step_pools p choice (instr.PClear q) r may s = on_named SoundPools pool_cleared (pool_named r (pool.Own q)) r s (λ n e. cleared_pools q n r (own_named q n r e) s)
 step_pools p choice (instr.PDestroy q) r may s = on_named SoundPools pool_destroyed (pool_named r (pool.Own q)) r s (λ n e. destroyed_pools q n r (own_named q n r e) s)
@@ -206,6 +223,5 @@ step_pools p choice (instr.BClean b) r may s = clean_pools b r s
 step_pools p choice (instr.BConcat a b) r may s = concat_pools a b r s
 step_pools p choice (instr.BSave o b) r may s = on_named SoundPools (saved_into o b) (made_on (r.instance.brigades o)) r s (λ target e. save_pools o b target r e s)
 step_pools p choice (instr.Pass b l) r may s = pass_pools b r s
-step_pools p choice (instr.Put x l) r may s = put_keeps SoundPools x r s (λ buffer. keeps_pools r _ refl refl refl refl s.brigades s)
 step_pools p choice (instr.Ret st) r may s = return_pools r s
-step_pools p choice i r may s = keeps_pools r _ refl refl refl refl s.brigades s
+step_pools p choice i r may s = placed_step SoundPools pools_frame pools_placed p choice i r refl may s

@@ -1,9 +1,10 @@
 -- A step keeps ranges in their files.
-use Rattle.std.proofs.Common.{◌≡◌, ℕ, ◌<◌, ◌⊎◌, arith, Bool, true, false, ◌&&◌, ◌==◌, nat_le, cond, List, [], ◌∷◌, ◌++◌, map, filter_map, None, All, inl, inr, refl, sym, ◌∙◌, ap, subst}
+use Rattle.std.proofs.Common.{◌≡◌, ℕ, ◌+◌, ◌-◌, ◌<◌, ◌≤◌, ◌⊎◌, arith, Bool, true, false, ◌&&◌, ◌==◌, nat_le, cond, List, [], ◌∷◌, ◌++◌, map, filter_map, length, Some, None, All, inl, inr, refl, sym, ◌∙◌, ap, subst}
 use Rattle.std.specs.List.{list_any}
 use Rattle.std.proofs.lemmas.Bool.Decides.{nat_tests}
 use Rattle.std.proofs.lemmas.List.Elements.{All-nil, All-cons, All-head, All-tail, All-append, All-map}
 use Rattle.module_lang.specs.declared.instr.PoolRef.TheVariants as pool
+use Rattle.module_lang.specs.declared.instr.Instr.{Instr}
 use Rattle.module_lang.specs.declared.instr.Instr.TheVariants as instr
 use Rattle.module_lang.specs.Program.{Program}
 use Rattle.run_model.specs.declared.bucket.Kind.{Kind}
@@ -12,6 +13,7 @@ use Rattle.run_model.specs.declared.bucket.Content.{Content}
 use Rattle.run_model.specs.declared.bucket.Content.TheVariants as content
 use Rattle.run_model.specs.declared.bucket.Home.{Home}
 use Rattle.run_model.specs.declared.bucket.Home.TheVariants as home
+use Rattle.run_model.specs.declared.bucket.Bucket.{Bucket}
 use Rattle.run_model.specs.declared.bucket.NamedBucket.{NamedBucket}
 use Rattle.run_model.specs.declared.bucket.PoolVar.TheVariants as poolvar
 use Rattle.run_model.specs.declared.bucket.BrigadeVar.{BrigadeVar}
@@ -23,19 +25,26 @@ use Rattle.run_model.specs.Pools.{Pools, is_under, created, cleared, destroyed}
 use Rattle.run_model.specs.Buckets.{is_dead, is_ended, returned_bucket, cleared_bucket}
 use Rattle.run_model.specs.Files.{Files}
 use Rattle.run_model.specs.Clearing.{is_reached, cleared_var, run_down}
-use Rattle.run_model.specs.State.{Configuration, items_of, set_pool, with_pools, set_brigade, set_number, pool_named}
-use Rattle.run_model.specs.Faults.{usable_fault, homes_fault}
+use Rattle.run_model.specs.State.{Configuration, items_of, set_pool, with_pools, set_brigade, set_loose, pool_named}
+use Rattle.run_model.specs.Faults.{usable_fault, homes_fault, home_fault}
 use Rattle.run_model.specs.Steps.{do_create, do_clean, do_concat, do_pass, do_return, cleaned, with_items, handed_over, returned_var, pool_cleared, pool_destroyed, files_let_go, label_registered, label_killed, text_of, aside_named, new_ref, saved_into, made_on}
 use Rattle.run_model.specs.Connection.{has_range}
-use Rattle.run_model.specs.Sound.{SoundPools, SoundBuckets}
-use Rattle.run_model.specs.Cutting.{FitsKind, LivesAs, OpenFile, form_of, form_of_kind}
-use Rattle.run_model.specs.Laws.{refers, IsHeld, KeptAside, SoundFiles}
-use Rattle.run_model.specs.Ranges.{LiesInFile, HasLength, SoundRanges, StepKeepsRanges}
-use Rattle.run_model.proofs.NamedPools.{on_named, made_under_named, put_keeps}
+use Rattle.run_model.specs.Sound.{SoundPools, SoundBuckets, Sound, count_named}
+use Rattle.run_model.specs.BrigadeLists.{bucket_named}
+use Rattle.run_model.specs.Cursors.{Spot, Nowhere, AtLoose, Within, AtEndOf, bucket_at, spot}
+use Rattle.run_model.specs.BucketSteps.{items_at, changed_at, aside_into}
+use Rattle.run_model.specs.Cutting.{FitsKind, LivesAs, length_of, OpenFile, form_of, form_of_kind}
+use Rattle.run_model.specs.Laws.{changes_pools, is_clear, ChangesOnly, refers, IsHeld, KeptAside, SoundFiles}
+use Rattle.run_model.specs.Ranges.{Reaches, LiesInFile, HasLength, SoundRanges, StepKeepsRanges}
+use Rattle.run_model.proofs.NamedPools.{on_named, made_under_named}
+use Rattle.run_model.proofs.Spots.{Stands, stands}
+use Rattle.run_model.proofs.EachBucket.{of_named, each_changed, only_one, loose_once, brigade_once}
+use Rattle.run_model.proofs.Origins.{PassesOn, Holds, front_back, rest_back, made_apart, quiet_leaves}
+use Rattle.run_model.proofs.Unchanged.{step_changes_only}
 use Rattle.run_model.proofs.Marks.{first_none, second_none}
 use Rattle.run_model.proofs.Kept.{aside_lasts, files_go}
 use Rattle.run_model.proofs.References.{or_left, or_right, refers_given, referred_at, created_back, registered_back, all_back, killed_refers, Emptied, emptied_back}
-use Rattle.run_model.proofs.StepFiles.{left_home, spared_home, written, cleared_emptied, destroyed_emptied, neither, refs_open, no_dead, step_files}
+use Rattle.run_model.proofs.StepFiles.{left_home, spared_home, written, cleared_emptied, destroyed_emptied, neither, refs_open, no_dead, not_dead, aside_refs, aside_live, step_files}
 
 -- Lists and variables.
 
@@ -152,7 +161,7 @@ unlabelled_ranges files text n r s =
 -- Setting aside.
 
 -- a range whose home has not ended has a pool for its home
-homed : (k : Kind) (c : Content) (h : Home) (file start len : ℕ) → LivesAs k h → form_of c ≡ form_of_kind k → is_ended h ≡ false → c ≡ content.Range file start len
+pub homed : (k : Kind) (c : Content) (h : Home) (file start len : ℕ) → LivesAs k h → form_of c ≡ form_of_kind k → is_ended h ≡ false → c ≡ content.Range file start len
     → (p : ℕ) × (h ≡ home.Pool p)
 homed kind.File c home.Free file start len fit holds live e = absurd fit
 homed kind.File c (home.Call n) file start len fit holds live e = absurd fit
@@ -232,12 +241,82 @@ return_ranges files r s = record { brigades = λ b. left b (b == 8); loose = non
   left b true = none_lie r.shared.files
   left b false = returned_lie r.shared.files r.call.name (r.instance.brigades b) (s.brigades b)
 
+-- A bucket is set aside.
+
+aside_lie_in : (fs : Files) (ps : Pools Payload) (target : ℕ) (x : NamedBucket) (xs : List NamedBucket) → bucket_named x.name xs ≡ Some x → count_named x.name xs ≤ 1
+    → All (λ y. FitsKind y.bucket) xs → is_dead x ≡ false → LieList fs xs → LieList fs (changed_at x.name (aside_named ps target) xs)
+aside_lie_in fs ps target x xs there once proper live h =
+    let lies : LiesInFile fs (aside_named ps target x) = aside_lies fs ps target x (of_named (λ y. FitsKind y.bucket) x.name x xs there proper) live (of_named (LiesInFile fs) x.name x xs there h) in
+    each_changed (LiesInFile fs) (LiesInFile fs) x.name (aside_named ps target) xs (λ y e. e)
+    (λ k d lt. λ same e. subst (λ (y : NamedBucket). LiesInFile fs (aside_named ps target y)) (sym (only_one x.name x xs there once k d lt same)) lies) h
+
+aside_ranges : (files : List (ℕ × ℕ)) (s : Spot) (target : ℕ) (r : Configuration) → Stands r s → home_fault (bucket_at s) ≡ None → Sound r → SoundFiles files r → SoundRanges files r → SoundRanges files (aside_into s target r)
+unfolding set_brigade set_loose with_pools
+aside_ranges files Nowhere target r there live sound held s = s
+aside_ranges files (AtLoose x) target r there live sound held s =
+    let ps = r.shared.pools in
+    let fs = r.shared.files in
+    record {
+      brigades = s.brigades;
+      loose = aside_lie_in fs ps target x r.call.loose there (loose_once r x.name sound.names) sound.buckets.loose (not_dead x live) s.loose;
+      told = s.told;
+      given = λ p file h. aside_refs ps target x (λ (k : ℕ). k < fs.next) s.given (of_named (λ y. FitsKind y.bucket) x.name x r.call.loose there sound.buckets.loose) (not_dead x live)
+          (of_named (IsHeld ps) x.name x r.call.loose there held.loose) p file h;
+    }
+aside_ranges files (Within b x) target r there live sound held s =
+    let ps = r.shared.pools in
+    let fs = r.shared.files in
+    record {
+      brigades = one_written fs r b (with_items (changed_at x.name (aside_named ps target) (items_at r b)) (r.instance.brigades b))
+          (filled_lie fs (changed_at x.name (aside_named ps target) (items_at r b)) (r.instance.brigades b)
+          (aside_lie_in fs ps target x (items_at r b) there.1 (brigade_once r b x.name there.0 sound.names) (sound.buckets.brigades b) (not_dead x live) (s.brigades b))) s.brigades;
+      loose = s.loose;
+      told = s.told;
+      given = λ p file h. aside_refs ps target x (λ (k : ℕ). k < fs.next) s.given (of_named (λ y. FitsKind y.bucket) x.name x (items_at r b) there.1 (sound.buckets.brigades b)) (not_dead x live)
+          (of_named (IsHeld ps) x.name x (items_at r b) there.1 (held.brigades b)) p file h;
+    }
+aside_ranges files (AtEndOf b) target r there live sound held s = s
+
+-- Parts of a range lie in its file.
+
+abbrev LiesBucket : Files → Bucket → Type 0
+LiesBucket fs b = (file start len p : ℕ) → b.content ≡ content.Range file start len → b.home ≡ home.Pool p → Reaches fs file (start + len)
+
+less_far : (fs : Files) (file near far : ℕ) → near ≤ far → Reaches fs file far → Reaches fs file near
+less_far fs file near far le reach = let end : far ≤ length reach.0 = reach.2 in (reach.0, reach.1, omega arith)
+
+front_within : (n whole len start : ℕ) → len ≡ n → n ≤ whole → start + len ≤ start + whole
+front_within n whole len start is le = omega arith
+
+rest_within : (n first whole start len : ℕ) → start ≡ first + n → len ≡ whole - n → n ≤ whole → start + len ≤ first + whole
+rest_within n first whole start len at is le = omega arith
+
+lies_on : (fs : Files) (r : Configuration) → PassesOn r (LiesBucket fs)
+lies_on fs r = record {
+  made = λ b new. λ file start len p e at. absurd (made_apart r b p new at);
+  parts = record {
+    front = λ n b le h. λ file start len p e at.
+        let whole = front_back n b.content file start len e in
+        less_far fs file (start + len) (start + whole.0) (front_within n whole.0 len start whole.2 (long n b.content file start whole.0 whole.1 le)) (h file start whole.0 p whole.1 at);
+    rest = λ n b le h. λ file start len p e at.
+        let whole = rest_back n b.content file start len e in
+        less_far fs file (start + len) (whole.0 + whole.1.0) (rest_within n whole.0 whole.1.0 start len whole.1.2 whole.1.3 (long n b.content file whole.0 whole.1.0 whole.1.1 le)) (h file whole.0 whole.1.0 p whole.1.1 at);
+  };
+} where
+  long : (n : ℕ) (c : Content) (file start len : ℕ) → c ≡ content.Range file start len → n ≤ length_of c → n ≤ len
+  long n c file start len is le = subst (λ (k : Content). n ≤ length_of k) is le
+
+quiet_ranges : (files : List (ℕ × ℕ)) (i : Instr) (r new : Configuration) → changes_pools i ≡ false → is_clear i ≡ false → ChangesOnly i r new → Holds (LiesBucket r.shared.files) new
+    → SoundFiles files new → SoundRanges files r → SoundRanges files new
+quiet_ranges files i r new tree clear only h held s =
+    kept_ranges files r new held (λ p file h. ap (λ (fs : Files). fs.opened file) (only.files clear)) h.brigades h.loose
+    (λ p file h. subst (λ (fs : Files). file < fs.next) (sym (only.files clear)) (s.given p file (subst (λ (ps : Pools Payload). refers ps p file ≡ true) (only.tree tree) h))) only.req s
+
 -- what a clear of an own pool leaves, where files are kept
 abbrev IfHeld : List (ℕ × ℕ) → Configuration → Type 0
 IfHeld files new = SoundFiles files new → SoundRanges files new
 
 pub step_ranges : StepKeepsRanges
-unfolding set_number
 step_ranges p choice (instr.PCreate q) files r may sound held s = made_under_named (SoundRanges files) p q r s (λ parent e. made_ranges files parent q r s)
 step_ranges p choice (instr.PClear q) files r may sound held s =
     on_named (IfHeld files) pool_cleared (pool_named r (pool.Own q)) r (λ h. s) (λ n e. went_ranges files n r (cleared n r.shared.pools) (cleared_emptied n r.shared.pools) sound.pools s)
@@ -254,6 +333,8 @@ step_ranges p choice (instr.BSave o b) files r may sound held s = on_named (Soun
     save_ranges files o b target r sound.buckets
     (no_dead (items_of (r.instance.brigades b)) (first_none (homes_fault (items_of (r.instance.brigades b))) None (second_none (usable_fault (r.instance.brigades b)) _ (second_none (usable_fault (r.instance.brigades o)) _ may.faultless)))) held s)
 step_ranges p choice (instr.Pass b l) files r may sound held s = pass_ranges files b r s
-step_ranges p choice (instr.Put x l) files r may sound held s = put_keeps (SoundRanges files) x r s (λ buffer. record { brigades = s.brigades; loose = s.loose; told = s.told; given = s.given })
+step_ranges p choice (instr.Aside c q) files r may sound held s = on_named (SoundRanges files) (aside_into (spot r c)) (pool_named r q) r s (λ target e.
+    aside_ranges files (spot r c) target r (stands r (r.call.cursors c)) (aside_live r c q may.faultless) sound held s)
 step_ranges p choice (instr.Ret st) files r may sound held s = return_ranges files r s
-step_ranges p choice i files r may sound held s = record { brigades = s.brigades; loose = s.loose; told = s.told; given = s.given }
+step_ranges p choice i files r may sound held s =
+    quiet_ranges files i r _ refl refl (step_changes_only p choice i r) (quiet_leaves (LiesBucket r.shared.files) p choice i r refl (lies_on r.shared.files r) (record { brigades = s.brigades; loose = s.loose })) (step_files p choice i files r may sound held) s

@@ -1,5 +1,6 @@
--- Sums below a number: where the terms are the same or fewer, and where one index is written.
-use Rattle.std.proofs.Common.{◌≡◌, ℕ, zero, suc, ◌+◌, ◌<◌, ◌≤◌, inl, inr, refl, ap, arith}
+-- Sums below a number: where the terms are the same or fewer, where one index is written, and against some of the terms.
+use Rattle.std.proofs.Common.{◌≡◌, ◌≢◌, ℕ, zero, suc, ◌+◌, ◌<◌, ◌≤◌, inl, inr, refl, sym, ◌∙◌, ap, arith}
+use Rattle.std.proofs.lemmas.Bool.{cases_lt}
 use Rattle.run_model.specs.Indexed.{upd}
 use Rattle.run_model.specs.Sound.{sum_below}
 use Rattle.run_model.proofs.Updates.{upd_off, upd_either}
@@ -36,3 +37,33 @@ sum_below_upd (suc n) i g v f h = elim (upd_either g i n v) [
       let same : f (upd g i v n) ≡ f (g n) = ap f p.1 in
       omega arith)
 ]
+
+-- one of the terms
+pub term_below : (n i : ℕ) (f : ℕ → ℕ) → i < n → f i ≤ sum_below n f
+unfolding sum_below
+term_below zero i f lt = absurd (omega arith)
+term_below (suc n) i f lt = elim (cases_lt i n) [
+  | inl less ↦ (let below : f i ≤ sum_below n f = term_below n i f less in omega arith)
+  | inr le ↦ (let is : i ≡ n = omega arith in let here : f i ≡ f n = ap f is in omega arith)
+]
+
+-- Two of the terms of a sum are together no more than it.
+pub two_below : (n i j : ℕ) (f : ℕ → ℕ) → i < n → j < n → i ≢ j → f i + f j ≤ sum_below n f
+unfolding sum_below
+two_below zero i j f lt below ne = absurd (omega arith)
+two_below (suc n) i j f lt below ne = elim (cases_lt i n) [
+  | inl i_less ↦ elim (cases_lt j n) [
+    | inl j_less ↦ (let rest : f i + f j ≤ sum_below n f = two_below n i j f i_less j_less ne in omega arith)
+    | inr j_last ↦ (let is : j ≡ n = omega arith in let here : f j ≡ f n = ap f is in let rest : f i ≤ sum_below n f = term_below n i f i_less in omega arith)
+  ]
+  | inr i_last ↦ (let is : i ≡ n = omega arith in
+      let here : f i ≡ f n = ap f is in
+      let rest : f j ≤ sum_below n f = term_below n j f (omega (arith, λ (e : j ≡ n). ne (is ∙ sym e))) in
+      omega arith)
+]
+
+-- where all terms are 0
+pub all_none : (n : ℕ) (f : ℕ → ℕ) → ((k : ℕ) → k < n → f k ≡ 0) → sum_below n f ≡ 0
+unfolding sum_below
+all_none zero f none = refl
+all_none (suc n) f none = (let rest : sum_below n f ≡ 0 = all_none n f (λ k lt. none k (omega arith)) in let here : f n ≡ 0 = none n (omega arith) in omega arith)

@@ -8,7 +8,7 @@ use Rattle.run_model.specs.Pools.{is_live}
 use Rattle.run_model.specs.Files.{Files}
 use Rattle.run_model.specs.State.{Configuration, items_of}
 use Rattle.run_model.specs.Steps.{Choice, step, step_at_end}
-use Rattle.run_model.specs.Connection.{opened}
+use Rattle.run_model.specs.Connection.{Connection, opened}
 use Rattle.run_model.specs.Runs.{Answer, World, Before, IfThere, happens, IsRun}
 use Rattle.run_model.specs.Sound.{Sound}
 use Rattle.run_model.specs.Laws.{MayExecute, MatchHome, SoundWorld, OrderlyWorld}
@@ -23,18 +23,23 @@ pub record HomesAlive (r : Configuration) : Type 0 where
   pub loose : All (λ x. IsAlive r x.bucket.home) r.call.loose
   pub names : 0 < r.shared.next
 
-abbrev pub OpenedHomesAlive : Type 0
-OpenedHomesAlive = (fs : Files) → HomesAlive (opened fs).state
+-- Of a connection. named: a call that runs has a name, which is not 0.
+pub record HomesIn (c : Connection) : Type 0 where
+  pub alive : HomesAlive c.state
+  pub named : c.busy ≡ true → 0 < c.state.call.name
 
--- A step without a fault keeps it, also at the end of the chain.
+abbrev pub OpenedHomesAlive : Type 0
+OpenedHomesAlive = (fs : Files) → HomesIn (opened fs)
+
+-- A step of a call keeps it where it has no fault, also at the end of the chain. (A call has a name, which is not 0.)
 abbrev pub StepKeepsHomes : Type 0
-StepKeepsHomes = (p : Program) (choice : Choice) (i : Instr) (r : Configuration) → MayExecute p r i → Sound r → HomesAlive r → HomesAlive (step p choice i r).state
+StepKeepsHomes = (p : Program) (choice : Choice) (i : Instr) (r : Configuration) → MayExecute p r i → Sound r → 0 < r.call.name → HomesAlive r → HomesAlive (step p choice i r).state
 
 abbrev pub StepAtEndKeepsHomes : Type 0
-StepAtEndKeepsHomes = (p : Program) (i : Instr) (r : Configuration) → MayExecute p r i → Sound r → HomesAlive r → HomesAlive (step_at_end p i r).state
+StepAtEndKeepsHomes = (p : Program) (i : Instr) (r : Configuration) → MayExecute p r i → Sound r → 0 < r.call.name → HomesAlive r → HomesAlive (step_at_end p i r).state
 
 abbrev pub HomesWorld : World → Type 0
-HomesWorld w = IfThere w (λ c. HomesAlive c.state)
+HomesWorld w = IfThere w HomesIn
 
 -- Each event keeps it, and so it is true of each world that a run reaches.
 abbrev pub EventKeepsHomes : Type 0

@@ -1,6 +1,5 @@
 -- The laws of the definitions, as statements.
 use Rattle.std.specs.Prelude.{◌≡◌, ◌≢◌, ℕ, ◌+◌, ◌<◌, ◌≤◌, Bool, true, false, ◌==◌, ◌||◌, if◌then◌else◌, ◌⊎◌, List, [], ◌∷◌, ◌++◌, map, filter, reverse, length, take, drop, replicate, Option, is_some, Some, None, Result, Ok, Err, All}
-use Rattle.module_lang.specs.declared.instr.Status.{Status}
 use Rattle.module_lang.specs.declared.instr.Instr.{Instr}
 use Rattle.module_lang.specs.declared.instr.Instr.TheVariants as instr
 use Rattle.module_lang.specs.Program.{Program, IsModule, fits}
@@ -8,12 +7,10 @@ use Rattle.run_model.specs.declared.bucket.Brigade.{Brigade}
 use Rattle.run_model.specs.declared.bucket.Bucket.{Bucket}
 use Rattle.run_model.specs.declared.bucket.Content.{Content}
 use Rattle.run_model.specs.declared.bucket.Content.TheVariants as content
-use Rattle.run_model.specs.declared.bucket.Mark.TheVariants.{Passed}
 use Rattle.run_model.specs.declared.bucket.NamedBucket.{NamedBucket}
 use Rattle.run_model.specs.declared.bucket.BrigadeVar.{BrigadeVar}
 use Rattle.run_model.specs.declared.bucket.BrigadeVar.TheVariants as var
 use Rattle.run_model.specs.declared.fault.FaultKind.{FaultKind}
-use Rattle.run_model.specs.declared.fault.FaultKind.TheVariants as fault_kind
 use Rattle.run_model.specs.declared.event.Piece.{Piece}
 use Rattle.run_model.specs.declared.event.Cause.{Cause}
 use Rattle.run_model.specs.declared.event.Cause.TheVariants as cause
@@ -27,11 +24,12 @@ use Rattle.run_model.specs.Buckets.{has_eos, data_after_eos, is_dead}
 use Rattle.run_model.specs.Files.{Files, all_taken, range_taken, parts_of, is_referred}
 use Rattle.run_model.specs.Cutting.{FitsKind, wanted, read_of}
 use Rattle.run_model.specs.State.{Configuration, Out, fresh_call, items_of}
-use Rattle.run_model.specs.Faults.{WUsable, brigade_fault, fault_want, fault, send_fault, or_else}
-use Rattle.run_model.specs.Steps.{Choice, step, step_at_end, current, aside_named, delivered, lacks_names, names_of, pool_cleared, pool_destroyed}
+use Rattle.run_model.specs.Cursors.{Spot, Nowhere, AtLoose, Within, AtEndOf, spot, read_cursor}
+use Rattle.run_model.specs.Faults.{fault, send_fault, or_else}
+use Rattle.run_model.specs.Steps.{Choice, step, step_at_end, aside_named, delivered, lacks_names, names_of, pool_cleared, pool_destroyed}
 use Rattle.run_model.specs.Connection.{Connection, opened, bucket_of, named_from, data_behind_eos, has_range, brings, breaks, steps}
-use Rattle.run_model.specs.Runs.{Answer, Refused, Step, World, Before, There, Closed, IfThere, happens, IsDue, step_of, IsRun, GoesOn, EndsRun}
-use Rattle.run_model.specs.Sound.{NamesStep, SoundNames, SoundBuckets, SoundPools, Sound, brigade_name, brigade_pool}
+use Rattle.run_model.specs.Runs.{Answer, Refused, Step, World, Before, There, IfThere, happens, IsDue, step_of, IsRun, GoesOn, EndsRun}
+use Rattle.run_model.specs.Sound.{NamesStep, SoundNames, SoundBuckets, SoundPools, Sound, brigade_pool}
 use Rattle.run_model.specs.declared.bucket.Kind.TheVariants as kind
 use Rattle.run_model.specs.declared.bucket.Home.{Home}
 use Rattle.run_model.specs.declared.bucket.Home.TheVariants as home
@@ -100,17 +98,40 @@ abbrev pub StepsGoOn : Type 0
 StepsGoOn = (n budget : ℕ) (p : Program) (old mid new : Connection)
     → GoesOn n budget p old mid → steps true budget p mid ≡ (Ok stepped.Went, new) → GoesOn (n + 1) budget p old new
 
+-- whether a cursor stands at a bucket of the brigade in this variable
+abbrev pub is_within : Spot → ℕ → Bool
+is_within Nowhere k = false
+is_within (AtLoose x) k = false
+is_within (Within b x) k = k == b
+is_within (AtEndOf b) k = false
+
+abbrev pub is_loose : Spot → Bool
+is_loose Nowhere = false
+is_loose (AtLoose x) = true
+is_loose (Within b x) = false
+is_loose (AtEndOf b) = false
+
 -- the brigade variables that an instruction may change
-abbrev pub may_change : Instr → ℕ → Bool
-may_change (instr.PClear q) k = true
-may_change (instr.PDestroy q) k = true
-may_change (instr.BCreate o) k = k == o
-may_change (instr.BClean b) k = k == b
-may_change (instr.BConcat a b) k = k == a || k == b
-may_change (instr.BSave o b) k = k == o || k == b
-may_change (instr.Pass b l) k = k == b
-may_change (instr.Ret s) k = true
-may_change i k = false
+abbrev pub may_change : Configuration → Instr → ℕ → Bool
+may_change r (instr.PClear q) k = true
+may_change r (instr.PDestroy q) k = true
+may_change r (instr.BCreate o) k = k == o
+may_change r (instr.BClean b) k = k == b
+may_change r (instr.BConcat a b) k = k == a || k == b
+may_change r (instr.BSplit b c a) k = k == b || k == a
+may_change r (instr.BPart b x c l) k = k == b
+may_change r (instr.BSave o b) k = k == o || k == b
+may_change r (instr.Pass b l) k = k == b
+may_change r (instr.Unlink c) k = is_within (spot r c) k
+may_change r (instr.BDelete c) k = is_within (spot r c) k
+may_change r (instr.Tail b c) k = k == b
+may_change r (instr.Head b c) k = k == b
+may_change r (instr.Before c d) k = is_within (spot r d) k
+may_change r (instr.Split c x l) k = is_within (spot r c) k
+may_change r (instr.Aside c q) k = is_within (spot r c) k
+may_change r (instr.Read c l) k = is_within (spot r c) k
+may_change r (instr.Ret s) k = true
+may_change r i k = false
 
 -- the pool variables that it may change
 abbrev pub may_change_pool : Instr → ℕ → Bool
@@ -119,16 +140,57 @@ may_change_pool i k = false
 
 -- the number variables that it may change
 abbrev pub may_change_number : Instr → ℕ → Bool
+may_change_number (instr.Len n c) k = k == n
+may_change_number (instr.Get n x l) k = k == n
 may_change_number (instr.Set n x) k = k == n
 may_change_number (instr.Add n x) k = k == n
 may_change_number (instr.Sub n x) k = k == n
 may_change_number i k = false
 
+-- the cursors that it may change
+abbrev pub may_change_cursor : Instr → ℕ → Bool
+may_change_cursor (instr.BPart b x c l) k = k == c
+may_change_cursor (instr.First c b) k = k == c
+may_change_cursor (instr.Next d c) k = k == d
+may_change_cursor (instr.Heap c t) k = k == c
+may_change_cursor (instr.Immortal c t) k = k == c
+may_change_cursor (instr.FromBuf c) k = k == c
+may_change_cursor (instr.Transient c) k = k == c
+may_change_cursor (instr.PoolB c q) k = k == c
+may_change_cursor (instr.Flush c) k = k == c
+may_change_cursor (instr.Eos c) k = k == c
+may_change_cursor (instr.Copy d c) k = k == d
+may_change_cursor (instr.Read c l) k = k == read_cursor
+may_change_cursor (instr.Ret s) k = true
+may_change_cursor i k = false
+
+-- whether it may change which buckets are loose, or one of them
+abbrev pub may_change_loose : Configuration → Instr → Bool
+may_change_loose r (instr.PClear q) = true
+may_change_loose r (instr.PDestroy q) = true
+may_change_loose r (instr.Unlink c) = true
+may_change_loose r (instr.BDelete c) = is_loose (spot r c)
+may_change_loose r (instr.Tail b c) = true
+may_change_loose r (instr.Head b c) = true
+may_change_loose r (instr.Before c d) = true
+may_change_loose r (instr.Heap c t) = true
+may_change_loose r (instr.Immortal c t) = true
+may_change_loose r (instr.FromBuf c) = true
+may_change_loose r (instr.Transient c) = true
+may_change_loose r (instr.PoolB c q) = true
+may_change_loose r (instr.Flush c) = true
+may_change_loose r (instr.Eos c) = true
+may_change_loose r (instr.Copy d c) = true
+may_change_loose r (instr.Aside c q) = is_loose (spot r c)
+may_change_loose r (instr.Ret s) = true
+may_change_loose r i = false
+
 -- whether it may change the call's buffer
-abbrev pub fills : Instr → Bool
-fills (instr.Put x l) = true
-fills instr.ClearBuf = true
-fills i = false
+abbrev pub may_change_buffer : Instr → Bool
+may_change_buffer (instr.Put x l) = true
+may_change_buffer instr.ClearBuf = true
+may_change_buffer (instr.Ret s) = true
+may_change_buffer i = false
 
 abbrev pub is_pass : Instr → Bool
 is_pass (instr.Pass b l) = true
@@ -149,25 +211,28 @@ changes_pools (instr.PCreate q) = true
 changes_pools (instr.Label q t) = true
 changes_pools (instr.Unlabel q t) = true
 changes_pools (instr.BSave o b) = true
+changes_pools (instr.Aside c q) = true
 changes_pools i = is_clear i
 
--- What an instruction does not name is as before: other brigades, pool variables and numbers, and but for a pass or a
--- return also whether an EOS was passed, and the call. Pools change by their own instructions and by a save; labels are
--- run and files closed by clears alone; else only names are given out. The place in the code is as before (the host sets
--- it), and so is the call's name, but for a return.
+-- What an instruction does not name, or stand at by a cursor, is as before: other brigades, pool variables, numbers and
+-- cursors, the loose buckets and the buffer, and but for a pass whether an EOS was passed. Pools change by their own
+-- instructions and where a file gets a reference; labels are run and files closed by clears alone; no more names are given
+-- out than it wants. The place in the code is as before (the host sets it), and so is the call's name, but for a return.
 pub record ChangesOnly (i : Instr) (r new : Configuration) : Type 0 where
-  pub brigades : (k : ℕ) → may_change i k ≡ false → new.instance.brigades k ≡ r.instance.brigades k
+  pub brigades : (k : ℕ) → may_change r i k ≡ false → new.instance.brigades k ≡ r.instance.brigades k
   pub pools : (k : ℕ) → may_change_pool i k ≡ false → new.instance.pools k ≡ r.instance.pools k
   pub numbers : (k : ℕ) → may_change_number i k ≡ false → new.instance.numbers k ≡ r.instance.numbers k
   pub sent : is_pass i ≡ false → new.instance.sent ≡ r.instance.sent
-  pub call : is_return i ≡ false → is_clear i ≡ false → fills i ≡ false → new.call ≡ r.call
-  pub filled : fills i ≡ true → new.call ≡ record r.call { buffer = new.call.buffer }
+  pub cursors : (k : ℕ) → may_change_cursor i k ≡ false → new.call.cursors k ≡ r.call.cursors k
+  pub loose : may_change_loose r i ≡ false → new.call.loose ≡ r.call.loose
+  pub buffer : may_change_buffer i ≡ false → new.call.buffer ≡ r.call.buffer
   pub tree : changes_pools i ≡ false → new.shared.pools ≡ r.shared.pools
   pub conn : new.shared.conn ≡ r.shared.conn
   pub req : new.shared.req ≡ r.shared.req
   pub labels : is_clear i ≡ false → new.shared.labels ≡ r.shared.labels
   pub files : is_clear i ≡ false → new.shared.files ≡ r.shared.files
-  pub names : new.shared.next ≡ r.shared.next + names_of i
+  pub names : r.shared.next ≤ new.shared.next
+  pub names_last : new.shared.next ≤ r.shared.next + names_of r i
   pub output : new.out ≡ r.out
   pub pc : new.pc ≡ r.pc
   pub call_name : is_return i ≡ false → new.call.name ≡ r.call.name
@@ -252,76 +317,6 @@ StepsAreARun = (n budget : ℕ) (p : Program) (old new : Connection)
 abbrev pub EndedStepsAreARun : Type 0
 EndedStepsAreARun = (memory : Bool) (budget : ℕ) (p : Program) (old new : Connection) (answer : Result Stepped Refusal) → (ended : EndsRun memory budget p old answer new)
     → IsRun budget p (There old) (replicate ended.count event.Step ++ event.Step ∷ []) (replicate ended.count (Step stepped.Went) ++ (step_of (answer, new)).0 ∷ []) (There new)
-
--- whether an instruction wants this brigade usable
-abbrev pub uses : Instr → ℕ → Bool
-uses (instr.BConcat a c) b = a == b || c == b
-uses (instr.BSave a c) b = a == b || c == b
-uses (instr.Pass c l) b = c == b
-uses (instr.JEmpty c l) b = c == b
-uses i b = false
-
--- A variable holds a brigade that was passed.
-abbrev pub HoldsPassed : BrigadeVar → Type 0
-HoldsPassed var.Null = ⊥
-HoldsPassed var.Gone = ⊥
-HoldsPassed (var.Live v) = v.mark ≡ Passed
-
--- The same brigade is still in the variable and passed, or it is gone.
-abbrev pub StaysPassed : BrigadeVar → BrigadeVar → Type 0
-StaysPassed old var.Null = ⊥
-StaysPassed old var.Gone = Unit {0}
-StaysPassed old (var.Live v) = (brigade_name old ≡ Some v.name) × (v.mark ≡ Passed)
-
--- After a pass without a fault its variable holds the same brigade, which was passed.
-abbrev pub PassesMark : Type 0
-PassesMark = (p : Program) (choice : Choice) (b l : ℕ) (r : Configuration) → fault p r (instr.Pass b l) ≡ None
-    → HoldsPassed ((step p choice (instr.Pass b l) r).state.instance.brigades b) × (brigade_name ((step p choice (instr.Pass b l) r).state.instance.brigades b) ≡ brigade_name (r.instance.brigades b))
-
--- An instruction that uses a brigade that was passed has the fault F7, or F2 where a brigade that it uses is null or dead.
-abbrev pub PassedIsNotUsed : Type 0
-PassedIsNotUsed = (p : Program) (b : ℕ) (r : Configuration) (i : Instr) → uses i b ≡ true → HoldsPassed (r.instance.brigades b)
-    → (fault p r i ≡ Some fault_kind.F7) ⊎ ((fault p r i ≡ Some fault_kind.F2) × (c : ℕ) × (uses i c ≡ true) × (brigade_fault (r.instance.brigades c) ≡ Some fault_kind.F2))
-
--- So after a pass no instruction that uses the brigade goes on.
-abbrev pub UseAfterPassFaults : Type 0
-UseAfterPassFaults = (p : Program) (choice : Choice) (b l : ℕ) (r : Configuration) (i : Instr) → uses i b ≡ true → fault p (step p choice (instr.Pass b l) r).state i ≡ None → ⊥
-
--- whether an instruction lets go of a passed brigade: a clean of it, and of `in` a return
-abbrev pub lets_go : Instr → ℕ → Bool
-lets_go (instr.BClean c) b = b == c
-lets_go (instr.Ret s) b = b == 8
-lets_go i b = false
-
--- Each other step without a fault leaves it passed, or it is gone.
-abbrev pub StepKeepsPassed : Type 0
-StepKeepsPassed = (p : Program) (choice : Choice) (i : Instr) (b : ℕ) (r : Configuration) → fault p r i ≡ None → lets_go i b ≡ false → HoldsPassed (r.instance.brigades b)
-    → StaysPassed (r.instance.brigades b) ((step p choice i r).state.instance.brigades b)
-
--- A return ends `in`.
-abbrev pub ReturnEndsIn : Type 0
-ReturnEndsIn = (p : Program) (choice : Choice) (s : Status) (r : Configuration) → (step p choice (instr.Ret s) r).state.instance.brigades 8 ≡ var.Null
-
--- whether an event lets go of it: a step whose instruction does
-abbrev pub event_lets_go : Program → Connection → Event → ℕ → Bool
-event_lets_go p c event.Step b = lets_go (current p c.state.pc) b
-event_lets_go p c e b = false
-
--- the same of a variable in a world, in which the connection may be closed
-abbrev pub StaysPassedIn : BrigadeVar → ℕ → World → Type 0
-StaysPassedIn old b (Before fs) = ⊥
-StaysPassedIn old b (There c) = StaysPassed old (c.state.instance.brigades b)
-StaysPassedIn old b (Closed pools fs) = Unit {0}
-
--- Each other event of an orderly connection leaves it passed, or it is gone; or the connection is closed.
-abbrev pub EventKeepsPassed : Type 0
-EventKeepsPassed = (memory : Bool) (budget : ℕ) (p : Program) (e : Event) (b : ℕ) (c : Connection) → IsOrderly budget p c → event_lets_go p c e b ≡ false → HoldsPassed (c.state.instance.brigades b)
-    → StaysPassedIn (c.state.instance.brigades b) b (happens memory budget p e (There c)).1
-
--- A brigade that was cleaned is usable and empty.
-abbrev pub CleanedIsUsable : Type 0
-CleanedIsUsable = (p : Program) (choice : Choice) (b : ℕ) (r : Configuration) → fault p r (instr.BClean b) ≡ None
-    → (fault_want (step p choice (instr.BClean b) r).state (WUsable b) ≡ None) × (items_of ((step p choice (instr.BClean b) r).state.instance.brigades b) ≡ [])
 
 -- Where a pool is made under a parent: its name was no pool's, it has nothing to hand on, and the others are as they were.
 pub record CreateKeeps {T : Type 0} (parent : ℕ) (ps new : Pools T) : Type 0 where

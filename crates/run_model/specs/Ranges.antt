@@ -2,42 +2,102 @@
 use Rattle.std.specs.Prelude.{◌≡◌, ℕ, ◌+◌, ◌<◌, ◌≤◌, Bool, true, List, length, Some, All}
 use Rattle.module_lang.specs.declared.instr.Instr.{Instr}
 use Rattle.module_lang.specs.Program.{Program, IsModule, fits}
+use Rattle.run_model.specs.declared.bucket.Content.{Content}
 use Rattle.run_model.specs.declared.bucket.Content.TheVariants as content
 use Rattle.run_model.specs.declared.bucket.Home.TheVariants as home
 use Rattle.run_model.specs.declared.bucket.NamedBucket.{NamedBucket}
 use Rattle.run_model.specs.declared.event.Event.{Event}
+use Rattle.run_model.specs.declared.event.Event.TheVariants as event
+use Rattle.run_model.specs.declared.event.Piece.{Piece}
+use Rattle.run_model.specs.declared.event.Piece.TheVariants as piece
 use Rattle.run_model.specs.Files.{Files}
 use Rattle.run_model.specs.State.{Configuration, items_of}
 use Rattle.run_model.specs.Steps.{Choice, step}
 use Rattle.run_model.specs.Connection.{opened}
-use Rattle.run_model.specs.Runs.{Answer, World, Before, IfThere, happens, IsRun}
+use Rattle.run_model.specs.Runs.{Answer, World, Before, There, Closed, IfThere, happens, IsRun}
 use Rattle.run_model.specs.Sound.{Sound}
 use Rattle.run_model.specs.Laws.{MayExecute, SoundWorld, refers, SoundFiles, FilesWorld}
 
--- Numbers, and the buffer of a call. numbers: each number is below 2^32. bytes: what is in the buffer are bytes. size: there
--- are no more of them than the buffer holds.
-pub record InRange (r : Configuration) : Type 0 where
-  pub numbers : (n : ℕ) → r.instance.numbers n ≤ 4294967295
-  pub bytes : All (λ b. b ≤ 255) r.call.buffer
+-- These are bytes.
+abbrev pub AreBytes : List ℕ → Type 0
+AreBytes bs = All (λ b. b ≤ 255) bs
+
+-- What of a content lies in memory are bytes.
+abbrev pub HoldsBytes : Content → Type 0
+HoldsBytes (content.Bytes bs) = AreBytes bs
+HoldsBytes (content.Range file start len) = Unit {0}
+HoldsBytes content.Nothing = Unit {0}
+
+-- Files hold bytes.
+pub record FileBytes (fs : Files) : Type 0 where
+  pub named : (name bytes : List ℕ) → fs.named name ≡ Some bytes → AreBytes bytes
+  pub opened : (file : ℕ) (bytes : List ℕ) → fs.opened file ≡ Some bytes → AreBytes bytes
+
+-- The buffer of a call. bytes: what is in it are bytes. size: there are no more of them than it holds.
+pub record BufferInRange (r : Configuration) : Type 0 where
+  pub bytes : AreBytes r.call.buffer
   pub size : length r.call.buffer ≤ 8000
 
--- A connection that has just been opened is so.
-abbrev pub OpenedInRange : Type 0
-OpenedInRange = (fs : Files) → InRange (opened fs).state
+-- Numbers, and what they come from. numbers: each number is below 2^32. buffer: the buffer is in range. brigades, loose, files:
+-- what buckets and files hold are bytes.
+pub record InRange (r : Configuration) : Type 0 where
+  pub numbers : (n : ℕ) → r.instance.numbers n ≤ 4294967295
+  pub buffer : BufferInRange r
+  pub brigades : (b : ℕ) → All (λ x. HoldsBytes x.bucket.content) (items_of (r.instance.brigades b))
+  pub loose : All (λ x. HoldsBytes x.bucket.content) r.call.loose
+  pub files : FileBytes r.shared.files
 
--- A step of an instruction that fits its module keeps it.
+-- A connection that has just been opened is so, where its files hold bytes.
+abbrev pub OpenedInRange : Type 0
+OpenedInRange = (fs : Files) → FileBytes fs → InRange (opened fs).state
+
+-- What the surroundings give to a read are bytes.
+abbrev pub GivesBytes : Choice → Type 0
+GivesBytes choice = (bytes : List ℕ) → choice.given ≡ Some bytes → AreBytes bytes
+
+-- A step of an instruction that fits its module keeps it, where a read is given bytes.
 abbrev pub StepKeepsInRange : Type 0
-StepKeepsInRange = (p : Program) (choice : Choice) (i : Instr) (r : Configuration) → fits p i ≡ true → InRange r → InRange (step p choice i r).state
+StepKeepsInRange = (p : Program) (choice : Choice) (i : Instr) (r : Configuration) → IsModule p → fits p i ≡ true → GivesBytes choice → InRange r → InRange (step p choice i r).state
+
+-- What is brought and added are bytes. (In the code they are of the type `u8`.)
+abbrev pub IsOfBytes : Piece → Type 0
+IsOfBytes (piece.Heap bytes) = AreBytes bytes
+IsOfBytes (piece.Transient bytes) = AreBytes bytes
+IsOfBytes (piece.Immortal bytes) = AreBytes bytes
+IsOfBytes (piece.Pool bytes) = AreBytes bytes
+IsOfBytes (piece.File file start len) = Unit {0}
+IsOfBytes piece.Flush = Unit {0}
+IsOfBytes piece.Eos = Unit {0}
+
+abbrev pub BringsBytes : Event → Type 0
+BringsBytes (event.AddFile name bytes) = AreBytes bytes
+BringsBytes (event.Bring pieces) = All IsOfBytes pieces
+BringsBytes e = Unit {0}
 
 abbrev pub InRangeWorld : World → Type 0
-InRangeWorld w = IfThere w (λ c. InRange c.state)
+InRangeWorld (Before fs) = FileBytes fs
+InRangeWorld (There c) = InRange c.state
+InRangeWorld (Closed pools fs) = Unit {0}
 
--- Each event keeps it, and so it is true of each world that a run reaches.
+-- Each event that brings bytes keeps it, and so it is true of each world that a run of such events reaches.
 abbrev pub EventKeepsInRange : Type 0
-EventKeepsInRange = (memory : Bool) (budget : ℕ) (p : Program) (e : Event) (w : World) → IsModule p → InRangeWorld w → InRangeWorld (happens memory budget p e w).1
+EventKeepsInRange = (memory : Bool) (budget : ℕ) (p : Program) (e : Event) (w : World) → IsModule p → BringsBytes e → InRangeWorld w → InRangeWorld (happens memory budget p e w).1
 
 abbrev pub RunIsInRange : Type 0
-RunIsInRange = (budget : ℕ) (p : Program) (fs : Files) (es : List Event) (answers : List Answer) (w : World) → IsModule p → IsRun budget p (Before fs) es answers w → InRangeWorld w
+RunIsInRange = (budget : ℕ) (p : Program) (fs : Files) (es : List Event) (answers : List Answer) (w : World) → IsModule p → FileBytes fs → All BringsBytes es → IsRun budget p (Before fs) es answers w → InRangeWorld w
+
+-- The buffer is in range whatever is brought and read.
+abbrev pub StepKeepsBuffer : Type 0
+StepKeepsBuffer = (p : Program) (choice : Choice) (i : Instr) (r : Configuration) → BufferInRange r → BufferInRange (step p choice i r).state
+
+abbrev pub BufferWorld : World → Type 0
+BufferWorld w = IfThere w (λ c. BufferInRange c.state)
+
+abbrev pub EventKeepsBuffer : Type 0
+EventKeepsBuffer = (memory : Bool) (budget : ℕ) (p : Program) (e : Event) (w : World) → BufferWorld w → BufferWorld (happens memory budget p e w).1
+
+abbrev pub RunKeepsBuffer : Type 0
+RunKeepsBuffer = (budget : ℕ) (p : Program) (fs : Files) (es : List Event) (answers : List Answer) (w : World) → IsRun budget p (Before fs) es answers w → BufferWorld w
 
 -- The file is open, and reaches so far.
 abbrev pub Reaches : Files → ℕ → ℕ → Type 0

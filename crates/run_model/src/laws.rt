@@ -2,14 +2,19 @@
 
 ghost use Rattle.run_model.specs.Examples.{PassRuns, PoolRuns, PoolEnds, KindRuns, FaultRuns, BreakRuns, RefusedRuns, NameRuns, HeldFaults, HeldChanges};
 ghost use Rattle.run_model.specs.Laws.{CreatesKeepOthers, KillsTheNewest, KillsOneLabel, EachStandsOnce, DepthDoesNotMatter};
-ghost use Rattle.run_model.specs.Laws.{StepGivesNames, NamesStaySingle, StepKeepsNames, StepKeepsBuckets, StepKeepsPools, StepAtEndKeeps, OpenedIsSound, EventKeepsSound, RunIsSound, RunGoesOn, StepsGoOn, StepsAreARun, EndedStepsAreARun, StepChangesOnly, RefusedChangesNothing, RefusedStepBreaks, FaultBreaks, BrokenStaysBroken, EventKeepsOrder, RunIsOrderly, BucketsAsPieces, LateDataIsRefused, BroughtEndsOnce, OutputOfCuts, FaultOfCuts, PassesMark, PassedIsNotUsed, UseAfterPassFaults, StepKeepsPassed, ReturnEndsIn, EventKeepsPassed, CleanedIsUsable, ClearsKeepOthers, ClearsTakeAlong};
+ghost use Rattle.run_model.specs.Laws.{StepGivesNames, NamesStaySingle, StepKeepsNames, StepKeepsBuckets, StepKeepsPools, StepAtEndKeeps, OpenedIsSound, EventKeepsSound, RunIsSound, RunGoesOn, StepsGoOn, StepsAreARun, EndedStepsAreARun, StepChangesOnly, RefusedChangesNothing, RefusedStepBreaks, FaultBreaks, BrokenStaysBroken, EventKeepsOrder, RunIsOrderly, BucketsAsPieces, LateDataIsRefused, BroughtEndsOnce, OutputOfCuts, FaultOfCuts, ClearsKeepOthers, ClearsTakeAlong};
 ghost use Rattle.run_model.specs.Laws.{AsideLasts, ReadsGiveTheFile, ReadsDropNothing, FilesCloseLast, StepKeepsFiles, EventKeepsFiles, RunKeepsFiles};
 ghost use Rattle.run_model.specs.AsDeclared.{OpenedAsDeclared, StepKeepsDeclared, StepAtEndKeepsDeclared, EventKeepsDeclared, RunIsDeclared};
 ghost use Rattle.run_model.specs.HomesAlive.{OpenedHomesAlive, StepKeepsHomes, StepAtEndKeepsHomes, EventKeepsHomes, RunKeepsHomes};
+ghost use Rattle.run_model.specs.BucketReads.{ReadKeepsBytes, ReadAtEndGivesTheFile};
 ghost use Rattle.run_model.specs.Handlers.{CallsBegin, StepStaysInHandler, OpenedRunsHandler, EventKeepsHandler, RunKeepsHandler};
 ghost use Rattle.run_model.specs.RefusalOrder.{FirstIsTold, NoConnectionIsTold, StepsTell, BusyDoesNotEnd, OnlyMemoryRefusesClose};
-ghost use Rattle.run_model.specs.Ranges.{OpenedInRange, StepKeepsInRange, EventKeepsInRange, RunIsInRange, StepKeepsRanges, EventKeepsRanges, RunKeepsRanges};
+ghost use Rattle.run_model.specs.Marks.{PassesMark, PassedIsNotUsed, UseAfterPassFaults, StepKeepsPassed, ReturnEndsIn, EventKeepsPassed, CleanedIsUsable};
+ghost use Rattle.run_model.specs.BucketExamples.{CursorRows, MovingRows, MakerRows, CutRows, BrigadeCutRows, CursorFaults, FirstFaults, CursorRuns};
+ghost use Rattle.run_model.specs.Ranges.{OpenedInRange, StepKeepsInRange, EventKeepsInRange, RunIsInRange, StepKeepsBuffer, EventKeepsBuffer, RunKeepsBuffer, StepKeepsRanges, EventKeepsRanges, RunKeepsRanges};
+ghost use Rattle.run_model.specs.RangesEnd.{OpenedEnds, StepKeepsEnds, StepAtEndKeepsEnds, StepsKeepEnds, EndedStepsKeepEnds, BringKeepsEnds, EventKeepsEnds, RunEnds};
 ghost use Rattle.run_model.specs.BrigadeLists.{BrigadeSplitsInOrder, MovesKeepNames, BucketSplitsInOrder, SplitKeepsBytes, PartsAtPoint, ShortIsIncomplete, PartitionKeepsBytes, UnsplitIsUnchanged, MetadataIsNotSplit, PlaceIsBehindFront, PartitionRows, BrigadeSplitRows, BucketSplitRows, MoveRows};
+ghost use Rattle.run_model.specs.CursorLaws.{OpenedCursors, StepKeepsCursors, StepAtEndKeepsCursors, EventKeepsCursors, RunKeepsCursors, CursorsStandOnce, RunStandsOnce, MadeAreNew, CopiesAreNew, SplitsInOrder, RefusedSplitJumps, BrigadesSplitInOrder, PartitionsInOrder, PastEndJumps};
 
 /// Small runs answer as they are worked out by hand, and so do faults and changes of small states.
 pub fn worked_runs()
@@ -52,7 +57,7 @@ pub fn runs_go_on()
     ensures ended { EndedStepsAreARun }
 {}
 
-/// A step changes nothing but what its instruction names.
+/// A step changes nothing but what its instruction names, and what the cursors that it names stand at.
 pub fn steps_change_only_what_they_name()
     ensures { StepChangesOnly }
 {}
@@ -155,12 +160,16 @@ pub fn kept_files_stay_open()
     ensures run { RunKeepsFiles }
 {}
 
-/// In each run numbers are at most 4294967295, and the buffer of a call holds at most 8000 bytes, each of them at most 255.
+/// In each run the buffer of a call holds at most 8000 bytes, each of them at most 255. Where all that is brought, and the files
+/// that are added, are bytes, what buckets hold are bytes, and numbers are at most 4294967295.
 pub fn numbers_stay_in_range()
     ensures opened { OpenedInRange }
     ensures step { StepKeepsInRange }
     ensures event { EventKeepsInRange }
     ensures run { RunIsInRange }
+    ensures buffer_step { StepKeepsBuffer }
+    ensures buffer_event { EventKeepsBuffer }
+    ensures buffer_run { RunKeepsBuffer }
 {}
 
 /// In each run a FILE bucket whose home is alive is a range that lies inside its open file, and the files of the request have
@@ -169,6 +178,19 @@ pub fn ranges_lie_in_their_files()
     ensures step { StepKeepsRanges }
     ensures event { EventKeepsRanges }
     ensures run { RunKeepsRanges }
+{}
+
+/// In each run whose files have fewer than 2^64 bytes each range ends below 2^64. Steps keep it, and so does each event of a
+/// connection where the files of its request have such lengths, and each brigade that is brought, where the ranges of its pieces end so.
+pub fn ranges_end_below_2_64()
+    ensures opened { OpenedEnds }
+    ensures step { StepKeepsEnds }
+    ensures at_end { StepAtEndKeepsEnds }
+    ensures steps { StepsKeepEnds }
+    ensures ended { EndedStepsKeepEnds }
+    ensures bring { BringKeepsEnds }
+    ensures event { EventKeepsEnds }
+    ensures run { RunEnds }
 {}
 
 /// In each run pools and brigades stand as the module declares them: a live pool that a variable names lies right under its
@@ -182,13 +204,20 @@ pub fn variables_stand_as_declared()
     ensures run { RunIsDeclared }
 {}
 
-/// In each run a home that has not ended is alive: it is the call that runs, or a live pool.
+/// In each run a home that has not ended is alive: it is the call that runs, which has a name, or a live pool.
 pub fn homes_are_alive_or_ended()
     ensures opened { OpenedHomesAlive }
     ensures step { StepKeepsHomes }
     ensures at_end { StepAtEndKeepsHomes }
     ensures event { EventKeepsHomes }
     ensures run { RunKeepsHomes }
+{}
+
+/// A read of a bucket leaves the bytes of its brigade as they were: of a longer range the rest follows. Where no read of a file
+/// fails, the last filter's read is given the bytes of the file and goes on, unless it has a fault.
+pub fn reads_drop_no_byte()
+    ensures list { ReadKeepsBytes }
+    ensures at_end { ReadAtEndGivesTheFile }
 {}
 
 /// A call begins at the first instruction of its handler and stays in it, and in each run a request is open, while a call runs,
@@ -219,10 +248,54 @@ pub fn brigades_are_cut_in_order()
     ensures place { PlaceIsBehindFront }
 {}
 
+/// In each run a cursor that is set holds a name that was given out. Where names are single, the bucket of a cursor is in exactly
+/// one list, once: in one brigade, or loose; and it is nowhere only where no list has it. The same is true of the brigade at whose
+/// end a cursor is. So it is in each run.
+pub fn cursors_stand_at_one_place()
+    ensures opened { OpenedCursors }
+    ensures step { StepKeepsCursors }
+    ensures at_end { StepAtEndKeepsCursors }
+    ensures event { EventKeepsCursors }
+    ensures run { RunKeepsCursors }
+    ensures once { CursorsStandOnce }
+    ensures run_once { RunStandsOnce }
+{}
+
+/// A bucket that is made is loose, under a name that no bucket had, and its cursor stands at it. So is a copy, of the same kind,
+/// content and home.
+pub fn made_buckets_are_new()
+    ensures made { MadeAreNew }
+    ensures copied { CopiesAreNew }
+{}
+
+/// A step that splits a bucket gives its bytes in order, in two buckets of which the second has a name that no bucket had, and one
+/// that is refused jumps and changes nothing. A step that splits a brigade gives both parts in order. After a partition at a point
+/// that is not past the end the lengths of what stands before its cursor add up to the point, and the bytes are in order; one past
+/// the end jumps, its cursor is at the end, the buckets are as before, and no name is given out.
+pub fn steps_cut_in_order()
+    ensures bucket { SplitsInOrder }
+    ensures refused { RefusedSplitJumps }
+    ensures brigade { BrigadesSplitInOrder }
+    ensures partition { PartitionsInOrder }
+    ensures past_end { PastEndJumps }
+{}
+
 /// Small brigades are parted, split and changed as it is worked out by hand.
 pub fn worked_brigades()
     ensures partitions { PartitionRows }
     ensures brigade_splits { BrigadeSplitRows }
     ensures bucket_splits { BucketSplitRows }
     ensures moves { MoveRows }
+{}
+
+/// Small states with cursors and buckets go on as it is worked out by hand, and have the faults that are due, in their order.
+pub fn worked_buckets()
+    ensures cursors { CursorRows }
+    ensures moves { MovingRows }
+    ensures makers { MakerRows }
+    ensures cuts { CutRows }
+    ensures brigade_cuts { BrigadeCutRows }
+    ensures faults { CursorFaults }
+    ensures first_faults { FirstFaults }
+    ensures runs { CursorRuns }
 {}

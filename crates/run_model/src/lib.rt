@@ -13,5 +13,5 @@ pub use bucket::{
 };
 pub use event::{Cause, Event, Exit, Piece, Refusal, StepRefusal, Stepped};
 pub use fault::FaultKind;
-pub use module_lang::{Instr, Module, PoolRef, Seq, Status, Value, VarRef};
+pub use module_lang::{Instr, KindTest, Module, PoolRef, Seq, Status, Value, VarRef};
 pub use payload::Payload;

@@ -3,8 +3,9 @@
 Part of the reading that scripts.py plays.
 """
 from .counts import arose
+from .cursors import CursorSteps
 from .pools import ROOT, Brigade, Bucket
-from .steps import Call, Steps
+from .steps import Call
 
 BUDGET = 1000000
 
@@ -13,7 +14,7 @@ class Refused(Exception):
     """The name of why the state does not allow an event; nothing changes but the files that were opened before."""
 
 
-class Host(Steps):
+class Host(CursorSteps):
     """The host of one module: its pools, files and, from `open` to `close`, connection 1."""
 
     def __init__(self, module):
@@ -136,6 +137,7 @@ class Host(Steps):
         if self.call:
             arose('close while a call runs')
         self.call = self.brought = None
+        self.loose = Brigade()
         self.clear(self.conn_pool, destroy=True)
         self.there = False
         assert not self.brigades and not self.open_files and list(self.pools) == [ROOT]

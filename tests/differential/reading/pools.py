@@ -61,6 +61,7 @@ class Pools:
         self.open_files = {}
         self.next_file = 1
         self.brought = None              # the brigade `in` of the call that runs
+        self.loose = Brigade()           # the loose buckets of the call that runs
         self.labels = []                 # the labels that ran
 
     def make_pool(self, parent):
@@ -112,12 +113,13 @@ class Pools:
             order += self.run_order(child)
         return order + self.pools[pool].payloads[::-1]
 
+    def all_brigades(self):
+        """Each brigade that is there."""
+        return list(self.brigades.values()) + ([] if self.brought is None else [self.brought])
+
     def all_buckets(self):
-        """Each bucket that stands in a brigade."""
-        brigades = list(self.brigades.values())
-        if self.brought is not None:
-            brigades.append(self.brought)
-        return [bucket for brigade in brigades for bucket in brigade.buckets]
+        """Each bucket that stands in a brigade or is loose."""
+        return [bucket for brigade in self.all_brigades() + [self.loose] for bucket in brigade.buckets]
 
     def clear(self, pool, destroy):
         """Runs the cleanups at and under a pool, and takes away what lies there; the pool itself only on `destroy`."""

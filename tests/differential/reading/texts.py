@@ -12,18 +12,28 @@ MOST_TEXT_BYTES = 255
 U32 = 2 ** 32 - 1
 
 # The operands of each instruction: P a pool, Q a declared pool, B a brigade, O a declared brigade, V a declared pool or
-# brigade, N a number variable, X one or a constant, T a text, L a label, S a status.
+# brigade, C a cursor, K a kind, N a number variable, X one or a constant, T a text, L a label, S a status.
 OPERANDS = {
     'pcreate': 'Q', 'pclear': 'Q', 'pdestroy': 'Q',
     'label': 'PT', 'unlabel': 'PT',
     'jnull': 'VL',
     'bcreate': 'O', 'bclean': 'B', 'bconcat': 'BB', 'bsave': 'OB',
+    'bsplit': 'BCB', 'bpart': 'BXCL',
     'jempty': 'BL', 'pass': 'BL', 'jsent': 'L',
+    'first': 'CB', 'next': 'CC', 'jend': 'CL', 'jkind': 'CKL',
+    'unlink': 'C', 'bdelete': 'C',
+    'tail': 'BC', 'head': 'BC', 'before': 'CC',
+    'heap': 'CT', 'immortal': 'CT',
+    'frombuf': 'C', 'transient': 'C', 'poolb': 'CP',
+    'flush': 'C', 'eos': 'C',
+    'split': 'CXL', 'copy': 'CC', 'aside': 'CP',
+    'read': 'CL', 'len': 'NC', 'get': 'NXL',
     'jlt': 'NXL', 'jeq': 'NXL',
     'put': 'XL', 'clearbuf': '',
     'set': 'NX', 'add': 'NX', 'sub': 'NX',
     'jump': 'L', 'ret': 'S',
 }
+KINDS = ('heap', 'transient', 'immortal', 'pool', 'file', 'flush', 'eos', 'data')
 HANDLERS = ('open', 'init', 'main')
 STRUCTURE = {'module', 'pool', 'brigade', 'end', ':'}.union(HANDLERS)
 # The words of structure that are due after what was read last; within a handler labels and instructions are too.
@@ -202,7 +212,7 @@ class Reader:
             return
         codes = set()
         if 'T' in OPERANDS[first]:
-            operands = self.pool_and_text(rest, handler, codes)
+            operands = self.operand_and_text(first, rest, handler, codes)
         else:
             operands = self.operands(first, rest, handler, codes)
         if len(self.module.code) >= MOST_INSTRUCTIONS:
@@ -212,8 +222,8 @@ class Reader:
         self.module.code.append((first, *operands))
         self.line_of.append(self.line)
 
-    def pool_and_text(self, rest, handler, codes):
-        """The operands of `label` and `unlabel`; what is wrong with them goes to `codes`."""
+    def operand_and_text(self, first, rest, handler, codes):
+        """The operands of an instruction with a text; what is wrong with them goes to `codes`."""
         self.texts += 1
         if self.texts > MOST_TEXTS:
             codes.add(11)
@@ -221,7 +231,7 @@ class Reader:
             codes.add(4)
             return ()
         word, _, text = rest.partition(' ')
-        pool = self.operand('P', word, handler, codes)
+        operand = self.operand(OPERANDS[first][0], word, handler, codes)
         if not text.startswith('"'):
             codes.add(4)
             return ()
@@ -234,7 +244,7 @@ class Reader:
             codes.add(4)
         if len(data) > MOST_TEXT_BYTES:
             codes.add(5)
-        return pool, data
+        return operand, data
 
     def operands(self, first, rest, handler, codes):
         """The operands of any other instruction, likewise."""
@@ -242,7 +252,7 @@ class Reader:
         words = rest.split(' ') if rest is not None else []
         if len(words) != len(kinds):
             codes.add(4)
-        if first in ('bconcat', 'bsave') and len(words) == 2 and words[0] == words[1]:
+        if are_one_brigade(kinds, words):
             codes.add(4)
         if first == 'pass' and handler != 'main':
             codes.add(9)
@@ -267,7 +277,11 @@ class Reader:
             return letter, self.declared(letter, word, handler, codes)
         if kind == 'S' and word == 'fail' and handler != 'main':
             codes.add(9)
-        if kind == 'N':
+        if kind == 'C':
+            value = variable(word, 'c')
+        elif kind == 'K':
+            value = word if word in KINDS else None
+        elif kind == 'N':
             value = variable(word, 'n')
         elif kind == 'X':
             value = number_or_constant(word)
@@ -321,6 +335,12 @@ class Reader:
                     faults.append((self.line_of[i], 8))
         if faults:
             raise FaultyText(*min(faults))
+
+
+def are_one_brigade(kinds, words):
+    """Whether two words where brigades are due are the same."""
+    brigades = [word for kind, word in zip(kinds, words) if kind in 'BO']
+    return len(brigades) == 2 and brigades[0] == brigades[1]
 
 
 def number_or_constant(word):

@@ -3,17 +3,21 @@
 ghost use Rattle.std.specs.Prelude.{◌≡◌, true, false, is_some, length, Some, IfOk, OnOk, OnErr};
 ghost use Rattle.run_model.specs.Files.{file_opened};
 ghost use Rattle.run_model.specs.Pools.{registered};
-ghost use Rattle.run_model.specs.Steps.{is_spent, delivered, with_delivered};
+ghost use Rattle.run_model.specs.BrigadeLists.{is_there, bucket_named};
+ghost use Rattle.run_model.specs.BucketSteps.{given_by, files_after};
+ghost use Rattle.run_model.specs.Steps.{is_spent, delivered, with_delivered, with_files};
+ghost use Rattle.run_model.specs.declared.bucket.NamedBucket.{NamedBucket};
 ghost use Rattle.bucket_kinds.specs.MemDevice.{files_of};
 ghost use Rattle.bucket_kinds.specs.MemAnswers.{IsAdding};
 ghost use Rattle.module_run.specs.Seen.{seen_machine};
+ghost use Rattle.module_run.specs.Lists.{IsRead};
 ghost use Rattle.module_run.specs.OpenFiles.{IsOpened};
 
 use super::Machine;
-use crate::{buckets, output};
+use crate::{buckets, output, reads};
 use bucket_kinds::{AddRefusal, FileNo, MemFiles};
-use run_model::{NamedBucket, Payload};
-use std::alloc::AllocError;
+use run_model::{NamedBucket, Payload, Seq};
+use std::alloc::{AllocError, Global};
 
 #[tactic(auto, unfolding(crate::specs::Seen::seen_machine))]
 impl Machine {
@@ -80,5 +84,24 @@ impl Machine {
         let well = output::deliver(&mut self.output, &mut self.files, items)?;
         self.ended = buckets::has_eos(items);
         Ok(well)
+    }
+
+    /// Reads the bucket of a name, and tells whether that went well. Without memory nothing is changed, and nothing is read.
+    pub(crate) fn read(
+        &mut self,
+        alloc: Global,
+        items: &mut Seq<NamedBucket>,
+        name: u64,
+        new: u64,
+    ) -> Result<bool, AllocError>
+        requires { is_there name items.old ≡ true }
+        ensures list { let r = seen_machine self.old in (x : NamedBucket) → bucket_named name items.old ≡ Some x
+            → IfOk result (λ well. IsRead new name (given_by x.bucket.content r.shared.files) items.old well items.new) }
+        ensures ok { let r = seen_machine self.old in (x : NamedBucket) → bucket_named name items.old ≡ Some x → OnOk result (seen_machine self.new ≡ with_files (files_after x.bucket.content r.shared.files) r) }
+        ensures err { OnErr result (seen_machine self.new ≡ seen_machine self.old) }
+        ensures same { OnErr result (items.new ≡ items.old) }
+        ensures next { (seen_machine self.new).shared.next ≡ (seen_machine self.old).shared.next }
+    {
+        reads::read(alloc, items, name, new, &mut self.files)
     }
 }

@@ -42,6 +42,13 @@ impl Machine {
         self.buffer.len()
     }
 
+    /// The bytes of the call's buffer.
+    pub(crate) fn buffer(&self) -> &[u8]
+        ensures { result.now ≡ (seen_machine self.now).call.buffer }
+    {
+        self.buffer.as_slice()
+    }
+
     /// Appends a byte to the call's buffer. Without memory nothing is changed.
     pub(crate) fn buffer_byte(&mut self, byte: u8) -> Result<(), AllocError>
         ensures ok { let r = seen_machine self.old in OnOk result (seen_machine self.new ≡ record r { call = record r.call { buffer = r.call.buffer ++ byte ∷ [] } }) }

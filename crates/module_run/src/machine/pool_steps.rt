@@ -18,7 +18,7 @@ use std::alloc::AllocError;
 #[tactic(auto, unfolding(crate::specs::Seen::seen_machine))]
 impl Machine {
     /// The live pool that an operand names.
-    fn live_pool(&self, pool: PoolRef) -> u64
+    pub(crate) fn live_pool(&self, pool: PoolRef) -> u64
         requires { has_pool (seen_machine self.now) pool ≡ true }
         ensures named { pool_named (seen_machine self.now) pool ≡ Some result }
         ensures live { IsTrue (is_live (map_of self.now.pools) result) }

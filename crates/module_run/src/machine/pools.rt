@@ -5,22 +5,21 @@ ghost use Rattle.run_model.specs.Payloads.{labels_in};
 ghost use Rattle.run_model.specs.Pools.{planted, created, destroyed, is_live, is_under};
 ghost use Rattle.run_model.specs.State.{pool_named, is_own};
 ghost use Rattle.run_model.specs.Faults.{has_pool};
-ghost use Rattle.run_model.specs.Clearing.{cleared_var};
 ghost use Rattle.run_model.specs.Steps.{is_spent, pool_destroyed};
 ghost use Rattle.run_model.specs.Connection.{request_ended};
 ghost use Rattle.pool_tree.specs.Tree.{map_of};
 ghost use Rattle.pool_tree.specs.Room.{IsRoomFor};
 ghost use Rattle.module_run.specs.Seen.{seen_machine, labels_handed, labels_of, pools_left, files_left};
 ghost use Rattle.bucket_kinds.specs.MemDevice.{files_of};
-ghost use Rattle.module_run.specs.Mapped.{mapped};
+ghost use Rattle.module_run.specs.Mapped.{emptied};
 ghost use Rattle.module_run.specs.Starts.{before_open};
 
 use super::Machine;
 use crate::closed::Closed;
-use crate::{file_refs, pool_vars, vars};
+use crate::{buckets, file_refs, pool_vars, vars};
 use bucket_kinds::MemFiles;
 use pool_tree::{PoolId, PoolTree, Room};
-use run_model::{BrigadeVar, Payload, PoolRef, PoolVar, Seq};
+use run_model::{BrigadeVar, Cursor, Payload, PoolRef, PoolVar, Seq};
 use std::alloc::{AllocError, Global};
 
 /// The root of the pools.
@@ -79,7 +78,9 @@ impl Machine {
             numbers: [0; 8],
             sent: false,
             call: 0,
+            cursors: [Cursor::Unset; 9],
             buffer: Seq::new(alloc),
+            loose: Seq::new(alloc),
             pools,
             req: None,
             runs: Vec::new(alloc),
@@ -181,13 +182,14 @@ impl Machine {
         requires { IsTrue (is_live (map_of self.old.pools) pool) }
         ensures room { IfOk result (IsRoomFor (map_of self.old.pools) pool) }
         ensures place { OnOk result (vec_len self.new.runs < vec_capacity self.new.runs) }
-        ensures ok { OnOk result (seen_machine self.new ≡ mapped (cleared_var (is_under (map_of self.old.pools) pool)) (seen_machine self.old)) }
+        ensures ok { OnOk result (seen_machine self.new ≡ emptied (is_under (map_of self.old.pools) pool) (seen_machine self.old)) }
         ensures same { self.new.pools ≡ self.old.pools }
         ensures err { OnErr result (seen_machine self.new ≡ seen_machine self.old) }
     {
         self.runs.reserve(1)?;
         let room = self.pools.room_to_clear(pool)?;
         vars::clear_all(&mut self.brigades, &self.pools, pool);
+        buckets::clear_all(&mut self.loose, &self.pools, pool);
         Ok(room)
     }
 

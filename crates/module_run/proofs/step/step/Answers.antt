@@ -63,5 +63,5 @@ returns-clause-inside c =
     let r = seen_machine c.args.machine.now in
     let none : fault c.args.code.now r c.at-instr.result ≡ None = sym c.fault.ensures ∙ c.in_default.is in
     let spent : lacks_names r c.at-instr.result ≡ false = search rules in
-    inside_by true c.args.code.now c.at-instr.result r (seen_machine c.settle.new.machine) (Ok c.settle.result) (is_placed (goal.at.returns-clause-inside c).After-at-instr) c.requires
+    inside_by true c.args.code.now c.at-instr.result r (seen_machine c.settle.new.machine) (Ok c.settle.result) (is_placed (goal.at.returns-clause-inside c).After-at-instr) c.requires.inside
     (went_on c.args.code.now c.at-instr.result r (seen_machine c.execute.new.machine) (seen_machine c.settle.new.machine) c.in-Ok.exit c.settle.result none spent c.in-Ok.ensures.step c.settle.ensures)

@@ -5,13 +5,13 @@ use Rattle.run_model.specs.Payloads.{labels_in}
 use Rattle.run_model.specs.Pools.{Pools, destroyed}
 use Rattle.run_model.specs.RunOrder.{run_order}
 use Rattle.run_model.specs.Clearing.{run_down}
-use Rattle.run_model.specs.State.{Configuration, with_pools}
+use Rattle.run_model.specs.State.{set_loose, Configuration, with_pools}
 use Rattle.pool_tree.specs.declared.tree.PoolTree.{PoolTree}
 use Rattle.pool_tree.specs.Tree.{map_of}
 use Rattle.bucket_kinds.specs.MemDevice.{files_of}
 use Rattle.module_run.proofs.LetGo.{let_go_as}
 use Rattle.module_run.specs.Seen.{seen_machine, labels_handed, labels_of, pools_left, files_left}
-use Rattle.module_run.specs.Mapped.{mapped}
+use Rattle.module_run.specs.Mapped.{mapped, emptied}
 use Rattle.pool_tree.proofs.Trees.{tree_formed}
 use Rattle.module_run.proofs.OwnPools.{conn_live, root_path, root_left}
 use Rattle.module_run.proofs.machine.Machine.close.Goals as goal
@@ -25,7 +25,7 @@ destroy_in-ran-requires-clause-live c =
     conn_live (map_of m.pools) m.req m.pool_vars m.standing
 
 pub returns-clause-labels : goal.returns-clause-labels
-unfolding labels_of seen_machine mapped with_pools run_down
+unfolding labels_of seen_machine emptied mapped set_loose with_pools run_down
 returns-clause-labels c =
     let old = labels_handed c.args.self.runs.items in
     let kept = ap (λ (r : Configuration). r.shared.labels) c.in-Ok.ensures.ok in
@@ -47,7 +47,7 @@ invariant_of-result c =
     }
 
 pub returns-clause-files : goal.returns-clause-files
-unfolding files_left seen_machine with_pools run_down mapped
+unfolding files_left seen_machine with_pools run_down emptied mapped set_loose
 returns-clause-files c =
     let old = map_of c.args.self.pools in
     let same = ap (λ (t : PoolTree Payload). run_order (map_of t) 2) c.in-Ok.ensures.same in

@@ -3,14 +3,14 @@ use Rattle.std.proofs.Common.{◌≡◌, refl, sym, ap, ◌∙◌, subst}
 use Rattle.module_lang.specs.declared.instr.PoolRef.TheVariants as pool
 use Rattle.run_model.specs.declared.payload.Payload.{Payload}
 use Rattle.run_model.specs.Pools.{Pools, destroyed}
-use Rattle.run_model.specs.State.{named_at, Configuration, pool_named}
+use Rattle.run_model.specs.State.{set_loose, named_at, Configuration, pool_named}
 use Rattle.run_model.specs.Steps.{pool_destroyed}
 use Rattle.pool_tree.specs.declared.tree.PoolTree.{PoolTree}
 use Rattle.pool_tree.specs.Tree.{map_of}
 use Rattle.pool_tree.proofs.Trees.{tree_formed}
 use Rattle.bucket_kinds.specs.MemDevice.{files_of}
 use Rattle.module_run.specs.Seen.{seen_machine, labels_handed}
-use Rattle.module_run.specs.Mapped.{mapped}
+use Rattle.module_run.specs.Mapped.{mapped, emptied}
 use Rattle.module_run.specs.OwnPools.{IsStanding, LieOnLive}
 use Rattle.module_run.proofs.OwnPools.{owned, standing_destroyed, not_top}
 use Rattle.module_run.proofs.Changed.{with_ran, handed_down}
@@ -19,7 +19,7 @@ use Rattle.module_run.proofs.OnLive.{lying_destroyed}
 use Rattle.module_run.proofs.machine.Machine.destroy_pool.Goals as goal
 
 pub destroy_in-ran-requires-clause-below : goal.destroy_in-ran-requires-clause-below
-unfolding seen_machine mapped named_at
+unfolding seen_machine emptied mapped set_loose named_at
 destroy_in-ran-requires-clause-below c =
     let m = c.args.self.now in
     let mid = c.prepare_clear.new.self in
@@ -27,7 +27,7 @@ destroy_in-ran-requires-clause-below c =
     not_top (map_of mid.pools) mid.req mid.pool_vars c.live_pool-pool.result (tree_formed mid.pools) mid.standing own.0
 
 pub invariant_of-self : goal.invariant_of-self
-unfolding seen_machine mapped named_at
+unfolding seen_machine emptied mapped set_loose named_at
 invariant_of-self c =
     let m = c.args.self.now in
     let mid = c.prepare_clear.new.self in
@@ -42,10 +42,10 @@ invariant_of-self c =
     }
 
 pub returns-clause-ok : goal.returns-clause-ok
-unfolding seen_machine mapped
+unfolding seen_machine emptied mapped set_loose
 returns-clause-ok c =
     let r = seen_machine c.args.self.now in
     let new = with_ran (map_of c.destroy_in-ran.new.self) (labels_handed c.add.new.runs.items) (files_of c.let_go.new.files) (seen_machine c.prepare_clear.new.self) in
     done_to pool_destroyed (pool_named r (pool.Own c.args.q)) c.live_pool-pool.result r new c.live_pool-pool.ensures.named
-    (handed_down r (seen_machine c.prepare_clear.new.self) c.live_pool-pool.result (destroyed c.live_pool-pool.result) (map_of c.prepare_clear.new.self.pools) (map_of c.destroy_in-ran.new.self) c.as_slice.result.now c.destroy_in-ran.result.items (labels_handed c.add.new.runs.items) (files_of c.let_go.new.files) refl c.in_ok-room.ensures.ok
+    (handed_down r (seen_machine c.prepare_clear.new.self) c.live_pool-pool.result (destroyed c.live_pool-pool.result) (map_of c.prepare_clear.new.self.pools) (map_of c.destroy_in-ran.new.self) c.as_slice.result.now c.destroy_in-ran.result.items (labels_handed c.add.new.runs.items) (files_of c.let_go.new.files) c.in_ok-room.ensures.ok
     (ap (λ (t : PoolTree Payload). map_of t) c.in_ok-room.ensures.same) c.destroy_in-ran.ensures.ran c.destroy_in-ran.ensures.ok c.as_slice.ensures.value c.add.ensures c.let_go.ensures)
