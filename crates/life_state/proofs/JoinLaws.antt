@@ -1,0 +1,41 @@
+-- What stands in beyond the last variable or cursor is joined to itself.
+use Rattle.std.proofs.Common.{◌≡◌, ℕ, ◌≤◌, Bool, true, false, ◌||◌, length, slice_index_or, refl, ap, ◌∙◌}
+use Rattle.std.proofs.Math.Path.{fun_ext}
+use Rattle.std.proofs.lemmas.List.{get_or_past}
+use Rattle.life_state.specs.declared.state.State as code
+use Rattle.life_state.specs.States.{only_null, Unset}
+use Rattle.life_state.specs.Order.{both_pools, both_brigades, both_cursors, kept_cursor, joined_pools, joined_brigades, joined_cursors}
+use Rattle.life_state.specs.Seen.{unmade, seen_brigade, seen_brigades, seen}
+use Rattle.life_state.proofs.MotionLaws.{cursor_past}
+
+or_same : (a : Bool) → (a || a) ≡ a
+or_same true = refl
+or_same false = refl
+
+both_unmade : both_brigades (seen_brigade unmade) (seen_brigade unmade) ≡ seen_brigade unmade
+unfolding both_brigades
+both_unmade =
+    let homes = (seen_brigade unmade).homes in
+    ap (λ f. record (seen_brigade unmade) { homes = record homes { at = f } }) (fun_ext (λ k. or_same (homes.at k)))
+
+pub joined_pools_past : (a b : code.State) (q : ℕ) → length a.pools ≤ q → length b.pools ≤ q → joined_pools (seen a) (seen b) q ≡ only_null
+unfolding seen
+joined_pools_past a b q ha hb =
+    ap (λ v. both_pools v (slice_index_or b.pools q only_null)) (get_or_past a.pools q only_null ha) ∙ ap (both_pools only_null) (get_or_past b.pools q only_null hb)
+
+pub joined_brigades_past : (a b : code.State) (v : ℕ) → length a.brigades ≤ v → length b.brigades ≤ v → joined_brigades (seen a) (seen b) v ≡ seen_brigade unmade
+unfolding seen
+joined_brigades_past a b v ha hb =
+    ap (λ x. both_brigades (seen_brigade x) (seen_brigades b.brigades v)) (get_or_past a.brigades v unmade ha)
+    ∙ (ap (λ x. both_brigades (seen_brigade unmade) (seen_brigade x)) (get_or_past b.brigades v unmade hb) ∙ both_unmade)
+
+both_unset : both_cursors Unset Unset ≡ Unset
+unfolding both_cursors
+both_unset = refl
+
+pub joined_cursors_past : (a b : code.State) (c : ℕ) → length a.cursors ≤ c → length b.cursors ≤ c → joined_cursors (seen a) (seen b) c ≡ Unset
+unfolding seen
+joined_cursors_past a b c ha hb =
+    ap (λ x. kept_cursor (joined_brigades (seen a) (seen b)) (both_cursors x ((seen b).cursors c))) (cursor_past a.cursors c ha)
+    ∙ (ap (λ x. kept_cursor (joined_brigades (seen a) (seen b)) (both_cursors Unset x)) (cursor_past b.cursors c hb)
+    ∙ ap (kept_cursor (joined_brigades (seen a) (seen b))) both_unset)

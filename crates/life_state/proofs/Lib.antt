@@ -1,0 +1,15 @@
+pub mod Arrays
+pub mod Below
+pub mod ClearLaws
+pub mod FactLaws
+pub mod JoinAbove
+pub mod JoinLaws
+pub mod JoinLeast
+pub mod MotionLaws
+pub mod OpeningLaws
+pub mod OrderLaws
+pub mod PartsOrder
+pub mod Picks
+pub mod Sets
+pub mod Tests
+pub mod UnderLaws

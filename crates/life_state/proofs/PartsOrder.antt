@@ -1,0 +1,207 @@
+-- The parts of the order: each is reflexive and transitive, and what is joined is above both.
+use Rattle.std.proofs.Common.{◌≡◌, ℕ, ◌+◌, ◌≤◌, Bool, true, ◌&&◌, ◌||◌, not, ◌==◌, refl, ap, ◌∙◌, ⊎_elim, arith}
+use Rattle.std.proofs.lemmas.Bool.{leb-true, le-leb, eqb-true, eq-eqb}
+use Rattle.module_lang.specs.declared.instr.PoolRef.{PoolRef}
+use Rattle.module_lang.specs.declared.instr.PoolRef.TheVariants as pool
+use Rattle.life_state.specs.declared.parts.Contents.{Contents}
+use Rattle.life_state.specs.declared.parts.Classes.{Classes}
+use Rattle.life_state.specs.declared.parts.PoolState.{PoolState}
+use Rattle.life_state.specs.States.{Homes, BrigadeKnown, CursorKnown, Unset, Loose, In, End, InOrEnd}
+use Rattle.life_state.specs.Facts.{is_set, is_end, place_of, is_apart}
+use Rattle.life_state.specs.Order.{implies, all_below, rank, content_le, classes_le, both_classes, pool_le, both_pools, places_le, homes_le, variable_le, marks_le, brigade_le, cursor_le}
+use Rattle.life_state.proofs.Below.{all_below_holds}
+use Rattle.life_state.proofs.Tests.{split2, and2, split3, and3, or_either, or_left, or_right, implies_same, implies_trans, implies_left, implies_right, all_at}
+
+pub classes_same : (v : Classes) → classes_le v v ≡ true
+classes_same v =
+    and3 (implies v.bytes v.bytes) (implies v.flush v.flush) (implies v.eos v.eos)
+    (implies_same v.bytes) (implies_same v.flush) (implies_same v.eos)
+
+pub pool_same : (v : PoolState) → pool_le v v ≡ true
+pool_same v =
+    and3 (implies v.null v.null) (implies v.gone v.gone) (implies v.live v.live)
+    (implies_same v.null) (implies_same v.gone) (implies_same v.live)
+
+pub classes_trans : (a b c : Classes) → classes_le a b ≡ true → classes_le b c ≡ true → classes_le a c ≡ true
+classes_trans a b c p q =
+    let p3 = split3 (implies a.bytes b.bytes) (implies a.flush b.flush) (implies a.eos b.eos) p in
+    let q3 = split3 (implies b.bytes c.bytes) (implies b.flush c.flush) (implies b.eos c.eos) q in
+    and3 (implies a.bytes c.bytes) (implies a.flush c.flush) (implies a.eos c.eos)
+    (implies_trans a.bytes b.bytes c.bytes (p3.0) (q3.0)) (implies_trans a.flush b.flush c.flush (p3.1) (q3.1)) (implies_trans a.eos b.eos c.eos (p3.2) (q3.2))
+
+pub pool_trans : (a b c : PoolState) → pool_le a b ≡ true → pool_le b c ≡ true → pool_le a c ≡ true
+pool_trans a b c p q =
+    let p3 = split3 (implies a.null b.null) (implies a.gone b.gone) (implies a.live b.live) p in
+    let q3 = split3 (implies b.null c.null) (implies b.gone c.gone) (implies b.live c.live) q in
+    and3 (implies a.null c.null) (implies a.gone c.gone) (implies a.live c.live)
+    (implies_trans a.null b.null c.null (p3.0) (q3.0)) (implies_trans a.gone b.gone c.gone (p3.1) (q3.1)) (implies_trans a.live b.live c.live (p3.2) (q3.2))
+
+pub classes_left : (a b : Classes) → classes_le a (both_classes a b) ≡ true
+classes_left a b =
+    and3 (implies a.bytes (a.bytes || b.bytes)) (implies a.flush (a.flush || b.flush)) (implies a.eos (a.eos || b.eos))
+    (implies_left a.bytes b.bytes) (implies_left a.flush b.flush) (implies_left a.eos b.eos)
+
+pub pool_left : (a b : PoolState) → pool_le a (both_pools a b) ≡ true
+pool_left a b =
+    and3 (implies a.null (a.null || b.null)) (implies a.gone (a.gone || b.gone)) (implies a.live (a.live || b.live))
+    (implies_left a.null b.null) (implies_left a.gone b.gone) (implies_left a.live b.live)
+
+pub classes_right : (a b : Classes) → classes_le b (both_classes a b) ≡ true
+classes_right a b =
+    and3 (implies b.bytes (a.bytes || b.bytes)) (implies b.flush (a.flush || b.flush)) (implies b.eos (a.eos || b.eos))
+    (implies_right a.bytes b.bytes) (implies_right a.flush b.flush) (implies_right a.eos b.eos)
+
+pub pool_right : (a b : PoolState) → pool_le b (both_pools a b) ≡ true
+pool_right a b =
+    and3 (implies b.null (a.null || b.null)) (implies b.gone (a.gone || b.gone)) (implies b.live (a.live || b.live))
+    (implies_right a.null b.null) (implies_right a.gone b.gone) (implies_right a.live b.live)
+
+pub variable_same : (v : BrigadeKnown) → variable_le v v ≡ true
+variable_same v =
+    and3 (implies v.null v.null) (implies v.gone v.gone) (implies v.live v.live)
+    (implies_same v.null) (implies_same v.gone) (implies_same v.live)
+
+pub variable_trans : (a b c : BrigadeKnown) → variable_le a b ≡ true → variable_le b c ≡ true → variable_le a c ≡ true
+variable_trans a b c p q =
+    let p3 = split3 (implies a.null b.null) (implies a.gone b.gone) (implies a.live b.live) p in
+    let q3 = split3 (implies b.null c.null) (implies b.gone c.gone) (implies b.live c.live) q in
+    and3 (implies a.null c.null) (implies a.gone c.gone) (implies a.live c.live)
+    (implies_trans a.null b.null c.null (p3.0) (q3.0)) (implies_trans a.gone b.gone c.gone (p3.1) (q3.1)) (implies_trans a.live b.live c.live (p3.2) (q3.2))
+
+pub content_same : (a : Contents) → content_le a a ≡ true
+content_same a = le-leb (rank a) (rank a) (omega arith)
+
+pub content_trans : (a b c : Contents) → content_le a b ≡ true → content_le b c ≡ true → content_le a c ≡ true
+content_trans a b c p q =
+    let first : rank a ≤ rank b = leb-true (rank a) (rank b) p in
+    let second : rank b ≤ rank c = leb-true (rank b) (rank c) q in
+    le-leb (rank a) (rank c) (omega arith)
+
+places_same : (f : PoolRef → Bool) → places_le f f ≡ true
+places_same f =
+    and2 (implies (f pool.Req) (f pool.Req)) (all_below 8 (λ i. implies (f (pool.Own i)) (f (pool.Own i)))) (implies_same (f pool.Req))
+    (all_below_holds 8 (λ i. implies (f (pool.Own i)) (f (pool.Own i))) (λ k h. implies_same (f (pool.Own k))))
+
+places_trans : (f g h : PoolRef → Bool) → places_le f g ≡ true → places_le g h ≡ true → places_le f h ≡ true
+places_trans f g h p q =
+    let p2 = split2 (implies (f pool.Req) (g pool.Req)) (all_below 8 (λ i. implies (f (pool.Own i)) (g (pool.Own i)))) p in
+    let q2 = split2 (implies (g pool.Req) (h pool.Req)) (all_below 8 (λ i. implies (g (pool.Own i)) (h (pool.Own i)))) q in
+    and2 (implies (f pool.Req) (h pool.Req)) (all_below 8 (λ i. implies (f (pool.Own i)) (h (pool.Own i)))) (implies_trans (f pool.Req) (g pool.Req) (h pool.Req) (p2.0) (q2.0))
+    (all_below_holds 8 (λ i. implies (f (pool.Own i)) (h (pool.Own i)))
+    (λ k below. implies_trans (f (pool.Own k)) (g (pool.Own k)) (h (pool.Own k)) (all_at 8 k (λ i. implies (f (pool.Own i)) (g (pool.Own i))) (p2.1) below) (all_at 8 k (λ i. implies (g (pool.Own i)) (h (pool.Own i))) (q2.1) below)))
+
+pub homes_same : (h : Homes) → homes_le h h ≡ true
+homes_same h = and3 (implies h.call h.call) (implies h.dead h.dead) (places_le h.at h.at) (implies_same h.call) (implies_same h.dead) (places_same h.at)
+
+pub homes_trans : (a b c : Homes) → homes_le a b ≡ true → homes_le b c ≡ true → homes_le a c ≡ true
+homes_trans a b c p q =
+    let p3 = split3 (implies a.call b.call) (implies a.dead b.dead) (places_le a.at b.at) p in
+    let q3 = split3 (implies b.call c.call) (implies b.dead c.dead) (places_le b.at c.at) q in
+    and3 (implies a.call c.call) (implies a.dead c.dead) (places_le a.at c.at) (implies_trans a.call b.call c.call (p3.0) (q3.0)) (implies_trans a.dead b.dead c.dead (p3.1) (q3.1)) (places_trans a.at b.at c.at (p3.2) (q3.2))
+
+marks_same : (v : BrigadeKnown) → marks_le v v ≡ true
+marks_same v = and2 (implies v.usable v.usable) (implies v.passed v.passed) (implies_same v.usable) (implies_same v.passed)
+
+marks_trans : (a b c : BrigadeKnown) → marks_le a b ≡ true → marks_le b c ≡ true → marks_le a c ≡ true
+marks_trans a b c p q =
+    let p2 = split2 (implies a.usable b.usable) (implies a.passed b.passed) p in
+    let q2 = split2 (implies b.usable c.usable) (implies b.passed c.passed) q in
+    and2 (implies a.usable c.usable) (implies a.passed c.passed) (implies_trans a.usable b.usable c.usable (p2.0) (q2.0)) (implies_trans a.passed b.passed c.passed (p2.1) (q2.1))
+
+pub brigade_same : (v : BrigadeKnown) → brigade_le v v ≡ true
+unfolding brigade_le
+brigade_same v =
+    and2 (variable_le v v && marks_le v v && content_le v.content v.content) (homes_le v.homes v.homes)
+    (and3 (variable_le v v) (marks_le v v) (content_le v.content v.content) (variable_same v) (marks_same v) (content_same v.content)) (homes_same v.homes)
+
+pub brigade_trans : (a b c : BrigadeKnown) → brigade_le a b ≡ true → brigade_le b c ≡ true → brigade_le a c ≡ true
+unfolding brigade_le
+brigade_trans a b c p q =
+    let p2 = split2 (variable_le a b && marks_le a b && content_le a.content b.content) (homes_le a.homes b.homes) p in
+    let q2 = split2 (variable_le b c && marks_le b c && content_le b.content c.content) (homes_le b.homes c.homes) q in
+    let p3 = split3 (variable_le a b) (marks_le a b) (content_le a.content b.content) (p2.0) in
+    let q3 = split3 (variable_le b c) (marks_le b c) (content_le b.content c.content) (q2.0) in
+    and2 (variable_le a c && marks_le a c && content_le a.content c.content) (homes_le a.homes c.homes)
+    (and3 (variable_le a c) (marks_le a c) (content_le a.content c.content) (variable_trans a b c (p3.0) (q3.0)) (marks_trans a b c (p3.1) (q3.1)) (content_trans a.content b.content c.content (p3.2) (q3.2)))
+    (homes_trans a.homes b.homes c.homes (p2.1) (q2.1))
+
+same_number : (b : ℕ) → (b == b) ≡ true
+same_number b = eq-eqb b b refl
+
+number_trans : (b c d : ℕ) → (b == c) ≡ true → (c == d) ≡ true → (b == d) ≡ true
+number_trans b c d p q = eq-eqb b d (eqb-true b c p ∙ eqb-true c d q)
+
+at_trans : (b c d : ℕ) (s t u : Classes) → (b == c && classes_le s t) ≡ true → (c == d && classes_le t u) ≡ true → (b == d && classes_le s u) ≡ true
+at_trans b c d s t u p q =
+    let p2 = split2 (b == c) (classes_le s t) p in
+    let q2 = split2 (c == d) (classes_le t u) q in
+    and2 (b == d) (classes_le s u) (number_trans b c d (p2.0) (q2.0)) (classes_trans s t u (p2.1) (q2.1))
+
+pub cursor_same : (v : CursorKnown) → cursor_le v v ≡ true
+cursor_same Unset = refl
+cursor_same (Loose s h) = and2 (classes_le s s) (homes_le h h) (classes_same s) (homes_same h)
+cursor_same (In b s) = and2 (b == b) (classes_le s s) (same_number b) (classes_same s)
+cursor_same (End b) = same_number b
+cursor_same (InOrEnd b s) = and2 (b == b) (classes_le s s) (same_number b) (classes_same s)
+
+first_number : (b c : ℕ) (s t : Classes) → (b == c && classes_le s t) ≡ true → (b == c) ≡ true
+first_number b c s t p = (split2 (b == c) (classes_le s t) p).0
+
+pub cursor_trans : (a b c : CursorKnown) → cursor_le a b ≡ true → cursor_le b c ≡ true → cursor_le a c ≡ true
+cursor_trans a b Unset p q = refl
+cursor_trans (Loose s h) (Loose t k) (Loose u l) p q =
+    let p2 = split2 (classes_le s t) (homes_le h k) p in
+    let q2 = split2 (classes_le t u) (homes_le k l) q in
+    and2 (classes_le s u) (homes_le h l) (classes_trans s t u (p2.0) (q2.0)) (homes_trans h k l (p2.1) (q2.1))
+cursor_trans (In b s) (In c t) (In d u) p q = at_trans b c d s t u p q
+cursor_trans (In b s) (In c t) (InOrEnd d u) p q = at_trans b c d s t u p q
+cursor_trans (In b s) (InOrEnd c t) (InOrEnd d u) p q = at_trans b c d s t u p q
+cursor_trans (InOrEnd b s) (InOrEnd c t) (InOrEnd d u) p q = at_trans b c d s t u p q
+cursor_trans (End b) (End c) (End d) p q = number_trans b c d p q
+cursor_trans (End b) (End c) (InOrEnd d u) p q = number_trans b c d p q
+cursor_trans (End b) (InOrEnd c t) (InOrEnd d u) p q = number_trans b c d p (first_number c d t u q)
+cursor_trans a Unset c p q = cc
+cursor_trans a (Loose t k) c p q = cc
+cursor_trans a (In m t) c p q = cc
+cursor_trans a (End m) c p q = cc
+cursor_trans a (InOrEnd m t) c p q = cc
+
+-- a cursor below one that is set is set, at the same place, and an end where that is one
+pub le_set : (x y : CursorKnown) → cursor_le x y ≡ true → is_set y ≡ true → is_set x ≡ true
+le_set x Unset p q = cc
+le_set Unset y p q = cc
+le_set (Loose s h) y p q = refl
+le_set (In b s) y p q = refl
+le_set (End b) y p q = refl
+le_set (InOrEnd b s) y p q = refl
+
+le_end : (x y : CursorKnown) → cursor_le x y ≡ true → is_end y ≡ true → is_end x ≡ true
+le_end (End b) y p q = refl
+le_end x Unset p q = cc
+le_end x (Loose t k) p q = cc
+le_end x (In c t) p q = cc
+le_end x (End c) p q = cc
+le_end x (InOrEnd c t) p q = cc
+
+pub le_place : (x y : CursorKnown) → cursor_le x y ≡ true → is_set y ≡ true → place_of x ≡ place_of y
+le_place x Unset p q = cc
+le_place (Loose s h) (Loose t k) p q = refl
+le_place (In b s) (In c t) p q = ap (λ (n : ℕ). n + 1) (eqb-true b c (first_number b c s t p))
+le_place (In b s) (InOrEnd c t) p q = ap (λ (n : ℕ). n + 1) (eqb-true b c (first_number b c s t p))
+le_place (InOrEnd b s) (InOrEnd c t) p q = ap (λ (n : ℕ). n + 1) (eqb-true b c (first_number b c s t p))
+le_place (End b) (End c) p q = ap (λ (n : ℕ). n + 1) (eqb-true b c p)
+le_place (End b) (InOrEnd c t) p q = ap (λ (n : ℕ). n + 1) (eqb-true b c p)
+le_place x y p q = cc
+
+-- what is apart in the greater state is apart in the smaller one
+pub apart_below : (x y u v : CursorKnown) → cursor_le x u ≡ true → cursor_le y v ≡ true → is_apart u v ≡ true → is_apart x y ≡ true
+apart_below x y u v p q h =
+    let h3 = split3 (is_set u) (is_set v) (is_end u || is_end v || not (place_of u == place_of v)) h in
+    let elsewhere : (is_end x || is_end y || not (place_of x == place_of y)) ≡ true =
+    ⊎_elim
+    (λ (ends : (is_end u || is_end v) ≡ true). or_left (is_end x || is_end y) (not (place_of x == place_of y))
+    (⊎_elim (λ (e : is_end u ≡ true). or_left (is_end x) (is_end y) (le_end x u p e)) (λ (e : is_end v ≡ true). or_right (is_end x) (is_end y) (le_end y v q e)) (or_either (is_end u) (is_end v) ends)))
+    (λ (far : not (place_of u == place_of v) ≡ true). or_right (is_end x || is_end y) (not (place_of x == place_of y))
+    (ap (λ (n : ℕ). not (n == place_of y)) (le_place x u p (h3.0)) ∙ (ap (λ (n : ℕ). not (place_of u == n)) (le_place y v q (h3.1)) ∙ far)))
+    (or_either (is_end u || is_end v) (not (place_of u == place_of v)) (h3.2)) in
+    and3 (is_set x) (is_set y) (is_end x || is_end y || not (place_of x == place_of y)) (le_set x u p (h3.0)) (le_set y v q (h3.1)) elsewhere

@@ -1,0 +1,10 @@
+-- The place, or the end.
+use Rattle.std.proofs.Common.{ap}
+use Rattle.std.specs.Prelude.{Some}
+use Rattle.life_state.specs.States.{State}
+use Rattle.life_state.specs.declared.successors.Successors.{Successors}
+use Rattle.life_state.proofs.Picks.{edges_are}
+use Rattle.life_state.proofs.state.State.bpart.Goals as goal
+
+pub returns : goal.returns
+returns c = let e : Successors = record { next = Some c.first.result; jump = Some c.placed.result } in edges_are e _ _ (ap (λ (s : State). Some s) c.first.ensures) (ap (λ (s : State). Some s) c.placed.ensures)

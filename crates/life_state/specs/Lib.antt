@@ -1,0 +1,11 @@
+pub use Rattle.module_lang.specs.Program
+pub use Rattle.run_model.specs.Faults
+pub mod States
+pub mod Facts
+pub mod Order
+pub mod PoolOrder
+pub mod Rules
+pub mod Seen
+pub mod Examples
+pub mod Form
+pub mod Laws

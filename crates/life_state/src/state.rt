@@ -1,0 +1,133 @@
+//! A state: what is known of an instance and its call before an instruction.
+
+ghost use Rattle.std.specs.Prelude.{◌≡◌, ◌<◌, slice_index_or, false};
+ghost use Rattle.life_state.specs.States.{set_pool, set_brigade};
+ghost use Rattle.life_state.specs.Seen.{seen, seen_homes, seen_brigade, seen_cursor};
+
+use crate::parts::{BrigadeState, Contents, CursorState, HomeSet, PoolState};
+
+/// What is known of an instance and its call. Pools are numbered 0 to 7, brigades 0 to 7 and `in` as 8, cursors 0 to 7 and the
+/// read cursor as 8.
+#[derive(Clone, Copy)]
+pub struct State {
+    pub(crate) pool_count: u8,
+    pub(crate) brigade_count: u8,
+    pub(crate) sent: bool,
+    pub(crate) pools: [PoolState; 8],
+    pub(crate) brigades: [BrigadeState; 9],
+    pub(crate) cursors: [CursorState; 9],
+    pub(crate) facts: [[bool; 9]; 9],
+}
+
+fn fact_in(row: &[bool; 9], d: u8) -> bool
+    ensures { result ≡ slice_index_or row.now d false }
+{
+    let d = usize::from(d);
+    if d < 9 { row[d] } else { false }
+}
+
+#[tactic(auto, unfolding(crate::specs::Seen::seen, run_model::specs::Indexed::upd))]
+impl State {
+    /// Whether an EOS of this request may have been passed.
+    pub fn sent(&self) -> bool
+        ensures { result ≡ (seen self.now).sent }
+    {
+        self.sent
+    }
+
+    /// What a pool variable may be.
+    pub fn pool(&self, q: u8) -> PoolState
+        ensures { result ≡ (seen self.now).pools q }
+    {
+        let q = usize::from(q);
+        if q < 8 {
+            self.pools[q]
+        } else {
+            PoolState::NULL
+        }
+    }
+
+    /// What a brigade variable may be.
+    pub fn brigade(&self, b: u8) -> BrigadeState
+        ensures { seen_brigade result ≡ (seen self.now).brigades b }
+    {
+        let b = usize::from(b);
+        if b < 9 {
+            self.brigades[b]
+        } else {
+            BrigadeState::UNMADE
+        }
+    }
+
+    /// Whether a brigade variable may be live.
+    pub(crate) fn may_be_live(&self, b: u8) -> bool
+        ensures { result ≡ ((seen self.now).brigades b).live }
+    {
+        let b = usize::from(b);
+        if b < 9 { self.brigades[b].live } else { false }
+    }
+
+    /// What may stand in a usable brigade.
+    pub(crate) fn content(&self, b: u8) -> Contents
+        ensures { result ≡ ((seen self.now).brigades b).content }
+    {
+        let b = usize::from(b);
+        if b < 9 {
+            self.brigades[b].content
+        } else {
+            Contents::Empty
+        }
+    }
+
+    /// What the buckets of a usable brigade live as long as.
+    pub(crate) fn homes(&self, b: u8) -> HomeSet
+        ensures { seen_homes result ≡ ((seen self.now).brigades b).homes }
+    {
+        let b = usize::from(b);
+        if b < 9 {
+            self.brigades[b].homes
+        } else {
+            HomeSet::NONE
+        }
+    }
+
+    /// What is known of a cursor.
+    pub fn cursor(&self, c: u8) -> CursorState
+        ensures { seen_cursor result ≡ (seen self.now).cursors c }
+    {
+        let c = usize::from(c);
+        if c < 9 {
+            self.cursors[c]
+        } else {
+            CursorState::Unset
+        }
+    }
+
+    /// Whether it is written that two cursors are at different buckets.
+    pub fn fact(&self, c: u8, d: u8) -> bool
+        ensures { result ≡ (seen self.now).facts c d }
+    {
+        let c = usize::from(c);
+        if c < 9 {
+            fact_in(&self.facts[c], d)
+        } else {
+            false
+        }
+    }
+
+    /// Says what a pool variable is.
+    pub(crate) fn set_pool(&mut self, q: u8, pool: PoolState)
+        requires { q < 8 }
+        ensures { seen self.new ≡ set_pool q pool (seen self.old) }
+    {
+        self.pools[usize::from(q)] = pool;
+    }
+
+    /// Says what a brigade variable is.
+    pub(crate) fn set_brigade(&mut self, b: u8, brigade: BrigadeState)
+        requires { b < 9 }
+        ensures { seen self.new ≡ set_brigade b (seen_brigade brigade) (seen self.old) }
+    {
+        self.brigades[usize::from(b)] = brigade;
+    }
+}
