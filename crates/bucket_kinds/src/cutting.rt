@@ -22,7 +22,8 @@ fn is_metadata(kind: Kind) -> bool
     matches!(kind, Kind::Flush | Kind::Eos)
 }
 
-fn length(content: &Content) -> u64
+/// How many bytes a content stands for.
+pub fn length(content: &Content) -> u64
     ensures { result ≡ length_of content.now }
 {
     match content {
@@ -64,6 +65,35 @@ fn parts(alloc: Global, content: &Content, n: u64) -> Result<(Content, Content),
     }
 }
 
+/// The first `n` bytes of a bucket and the rest, as two buckets of its kind and home. It is refused as `split_bucket` is.
+pub fn halves(alloc: Global, bucket: &Bucket, n: u64) -> Result<(Bucket, Bucket), SplitError>
+    requires { EndsInFile bucket.now.content }
+    ensures ok { IfOk result (λ p. p ≡ split_at n bucket.now) }
+    ensures metadata { (result ≡ Err SplitError.Metadata) ↔ (is_data_kind bucket.now.kind ≡ false) }
+    ensures too_long { (result ≡ Err SplitError.TooLong) ↔ ((is_data_kind bucket.now.kind ≡ true) × (length_of bucket.now.content < n)) }
+    ensures no_memory { result ≡ Err SplitError.NoMemory → form_of bucket.now.content ≡ Memory }
+{
+    if is_metadata(bucket.kind) {
+        return Err(SplitError::Metadata);
+    }
+    if n > length(&bucket.content) {
+        return Err(SplitError::TooLong);
+    }
+    let (kind, home) = (bucket.kind, bucket.home);
+    let (front, rest) = parts(alloc, &bucket.content, n)?;
+    let front = Bucket {
+        kind,
+        content: front,
+        home,
+    };
+    let rest = Bucket {
+        kind,
+        content: rest,
+        home,
+    };
+    Ok((front, rest))
+}
+
 /// Splits a bucket after its first `n` bytes and gives the rest, of the same kind and home. Metadata is refused
 /// before a length is looked at. A FILE bucket is split by its range, without a read and without memory. A
 /// refused bucket is as it was.
@@ -77,19 +107,9 @@ pub fn split_bucket(alloc: Global, bucket: &mut Bucket, n: u64) -> Result<Bucket
     ensures fits { IsBucket bucket.old → IsBucket bucket.new }
     ensures rest_fits { IsBucket bucket.old → IfOk result IsBucket }
 {
-    if is_metadata(bucket.kind) {
-        return Err(SplitError::Metadata);
-    }
-    if n > length(&bucket.content) {
-        return Err(SplitError::TooLong);
-    }
-    let (front, rest) = parts(alloc, &bucket.content, n)?;
-    bucket.content = front;
-    Ok(Bucket {
-        kind: bucket.kind,
-        content: rest,
-        home: bucket.home,
-    })
+    let (front, rest) = halves(alloc, bucket, n)?;
+    *bucket = front;
+    Ok(rest)
 }
 
 /// A bucket of the same kind, content and home.

@@ -12,10 +12,10 @@ mod refusal;
 #[cfg(test)]
 mod tests;
 
-pub use cutting::{aside_bucket, copy_bucket, split_bucket};
+pub use cutting::{aside_bucket, copy_bucket, halves, length, split_bucket};
 pub use disk_files::DiskFiles;
 pub use files::{FileNo, Files};
 pub use mem_files::MemFiles;
-pub use reading::read_bucket;
+pub use reading::{read_bucket, read_into, rest_of_read, room_to_read};
 pub use refusal::{AddRefusal, FileFault, ReadError, ReadFault, SplitError};
 pub use run_model::{Bucket, Content, Home, Kind, Seq};

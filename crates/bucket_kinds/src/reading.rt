@@ -1,40 +1,114 @@
 //! Reading one bucket.
 
-ghost use Rattle.std.specs.Prelude.{◌≡◌, ◌≤◌, ◌<◌, ◌⊎◌, ℕ, List, Ok, None, true, length, IfOk, OnOk, OnErr, IfSome};
+ghost use Rattle.std.specs.Prelude.{◌≡◌, ◌≤◌, ◌<◌, ◌⊎◌, ℕ, List, [], Ok, None, true, length, IsOk, IfOk, OnOk, OnErr, IfSome};
 ghost use Rattle.run_model.specs.Cutting.{IsBucket, EndsInFile, wanted, read_of};
 ghost use Rattle.bucket_kinds.specs.Device.{failed, is_there};
 ghost use Rattle.bucket_kinds.specs.Reading.{MayGive, MayEnd, IsOpenFor, GivesFor, EndsWithin};
 
 use crate::files::{FileNo, Files};
-use crate::refusal::ReadError;
+use crate::refusal::{ReadError, ReadFault};
 use run_model::{Bucket, Content, Home, Kind, Seq};
-use std::alloc::Global;
+use std::alloc::{AllocError, Global};
 
 /// How many bytes a read takes from a file, at most.
 const READ_LIMIT: u64 = 8000;
 
-// The next bytes of a file from a place on, as many as are asked for. Memory is got before the file is read.
+/// Room for the bytes that a read of a bucket takes from its file.
+pub fn room_to_read(alloc: Global, bucket: &Bucket) -> Result<Seq<u8>, AllocError>
+    ensures ok { IfOk result (λ room. length room ≡ wanted bucket.now.content) }
+    ensures none { wanted bucket.now.content ≡ 0 → IsOk result }
+{
+    let mut room = Seq::new(alloc);
+    if let Content::Range { len, .. } = &bucket.content {
+        let count = (*len).min(READ_LIMIT) as usize;
+        if count > 0 {
+            room.add_zeros(count)?;
+        }
+    }
+    Ok(room)
+}
+
+// The next bytes of a file from a place on, as many as there is room for.
 fn fetch<F: Files>(
-    alloc: Global,
     files: &mut F,
     file: FileNo,
     start: u64,
-    n: usize,
-) -> Result<Seq<u8>, ReadError>
+    mut room: Seq<u8>,
+) -> Result<Seq<u8>, ReadFault>
     requires { is_there ((F.device files.old).numbered file) ≡ true }
-    ensures given { IfOk result (MayGive ((F.device files.old).numbered file) start n) }
+    ensures given { IfOk result (MayGive ((F.device files.old).numbered file) start (length room)) }
     ensures same { OnOk result (F.device files.new ≡ F.device files.old) }
-    ensures no_memory { result ≡ Err ReadError.NoMemory → F.device files.new ≡ F.device files.old }
-    ensures fault { result ≡ Err ReadError.ReadFault
-        → (F.device files.new ≡ failed (F.device files.old))
-        ⊎ ((F.device files.new ≡ F.device files.old) × MayEnd ((F.device files.old).numbered file) start n) }
+    ensures fault { OnErr result
+        ((F.device files.new ≡ failed (F.device files.old))
+        ⊎ ((F.device files.new ≡ F.device files.old) × MayEnd ((F.device files.old).numbered file) start (length room))) }
 {
-    let mut bytes = Seq::new(alloc);
-    bytes.add_zeros(n)?;
-    match files.read_at(file, start, bytes.as_mut_slice()) {
-        Ok(count) if count == n => Ok(bytes),
-        _ => Err(ReadError::ReadFault),
+    let count = room.len();
+    match files.read_at(file, start, room.as_mut_slice()) {
+        Ok(filled) if filled == count => Ok(room),
+        _ => Err(ReadFault),
     }
+}
+
+/// What a read leaves of a range that is longer than it takes, as a bucket of the same kind and home.
+pub fn rest_of_read(bucket: &Bucket) -> Option<Bucket>
+    requires { EndsInFile bucket.now.content }
+    ensures { result ≡ (read_of [] bucket.now).1 }
+{
+    let Content::Range { file, start, len } = &bucket.content else {
+        return None;
+    };
+    if *len <= READ_LIMIT {
+        return None;
+    }
+    let content = Content::Range {
+        file: *file,
+        start: *start + READ_LIMIT,
+        len: *len - READ_LIMIT,
+    };
+    Some(Bucket {
+        kind: bucket.kind,
+        content,
+        home: bucket.home,
+    })
+}
+
+/// Reads a bucket as `read_bucket` does, into room that was made ready for it. It takes no memory.
+pub fn read_into<F: Files>(
+    bucket: &mut Bucket,
+    room: Seq<u8>,
+    files: &mut F,
+) -> Result<Option<Bucket>, ReadFault>
+    requires ends { EndsInFile bucket.old.content }
+    requires open { IsOpenFor (F.device files.old) bucket.old.content }
+    requires room { length room ≡ wanted bucket.old.content }
+    ensures ok { IfOk result (λ rest. (bytes : List ℕ) × GivesFor (F.device files.old) bucket.old.content bytes
+        × ((bucket.new, rest) ≡ read_of bytes bucket.old)) }
+    ensures unread { wanted bucket.old.content ≡ 0 → (result ≡ Ok None) × (F.device files.new ≡ F.device files.old) }
+    ensures same { OnOk result (F.device files.new ≡ F.device files.old) }
+    ensures fault { OnErr result
+        ((F.device files.new ≡ failed (F.device files.old))
+        ⊎ ((F.device files.new ≡ F.device files.old) × EndsWithin (F.device files.old) bucket.old.content)) }
+    ensures open_files { (F.device files.new).numbered ≡ (F.device files.old).numbered }
+    ensures err { OnErr result (bucket.new ≡ bucket.old) }
+    ensures new_fits { IsBucket bucket.old → IsBucket bucket.new }
+    ensures rest_fits { IsBucket bucket.old → IfOk result (λ rest. IfSome rest IsBucket) }
+{
+    let Content::Range { file, start, len } = &bucket.content else {
+        return Ok(None);
+    };
+    let (file, start, len) = (*file, *start, *len);
+    let bytes = if len == 0 {
+        room
+    } else {
+        fetch(files, file, start, room)?
+    };
+    let rest = rest_of_read(bucket);
+    *bucket = Bucket {
+        kind: Kind::Heap,
+        content: Content::Bytes(bytes),
+        home: Home::Free,
+    };
+    Ok(rest)
 }
 
 /// Reads a bucket. FILE of length at most 8000 becomes HEAP; a longer one becomes HEAP of its first 8000 bytes, and
@@ -61,34 +135,6 @@ pub fn read_bucket<F: Files>(
     ensures new_fits { IsBucket bucket.old → IsBucket bucket.new }
     ensures rest_fits { IsBucket bucket.old → IfOk result (λ rest. IfSome rest IsBucket) }
 {
-    let Content::Range { file, start, len } = &bucket.content else {
-        return Ok(None);
-    };
-    let (file, start, len) = (*file, *start, *len);
-    let count = len.min(READ_LIMIT);
-    let bytes = if count == 0 {
-        Seq::new(alloc)
-    } else {
-        fetch(alloc, files, file, start, count as usize)?
-    };
-    let rest = if len <= READ_LIMIT {
-        None
-    } else {
-        let content = Content::Range {
-            file,
-            start: start + READ_LIMIT,
-            len: len - READ_LIMIT,
-        };
-        Some(Bucket {
-            kind: bucket.kind,
-            content,
-            home: bucket.home,
-        })
-    };
-    *bucket = Bucket {
-        kind: Kind::Heap,
-        content: Content::Bytes(bytes),
-        home: Home::Free,
-    };
-    Ok(rest)
+    let room = room_to_read(alloc, bucket)?;
+    read_into(bucket, room, files).map_err(|_| ReadError::ReadFault)
 }

@@ -37,7 +37,8 @@ module _ {T : Type 0} where
   found_first true b bs cs n later h = refl
   found_first false b bs cs n later h = later h
 
-  times_found : (id : BucketId) (bs : List (BucketId × T)) → 0 < times id bs → is_some (found id bs) ≡ true
+  -- a bucket is found where it stands
+  pub times_found : (id : BucketId) (bs : List (BucketId × T)) → 0 < times id bs → is_some (found id bs) ≡ true
   times_found id [] h = absurd (omega arith)
   times_found id (b ∷ bs) h = found_first (same b.0 id) b bs (rest id bs) (times id bs) (times_found id bs) h
 
@@ -45,7 +46,7 @@ module _ {T : Type 0} where
   times_first true b bs cs n later h = omega arith
   times_first false b bs cs n later h = later h
 
-  found_times : (id : BucketId) (bs : List (BucketId × T)) → is_some (found id bs) ≡ true → 0 < times id bs
+  pub found_times : (id : BucketId) (bs : List (BucketId × T)) → is_some (found id bs) ≡ true → 0 < times id bs
   found_times id [] h = cc
   found_times id (b ∷ bs) h = times_first (same b.0 id) b bs (rest id bs) (times id bs) (found_times id bs) h
 
@@ -79,7 +80,8 @@ ended r None j e = cc
 ended r (Some i) j e = cc
 
 module _ {T : Type 0} where
-  first_times : (id : BucketId) (bs : List (BucketId × T)) → first_of bs ≡ Some id → 0 < times id bs
+  -- what is first or behind a bucket stands in the list
+  pub first_times : (id : BucketId) (bs : List (BucketId × T)) → first_of bs ≡ Some id → 0 < times id bs
   first_times id [] e = cc
   first_times id (b ∷ bs) e =
       let here : b.0 ≡ id = cc in
@@ -89,7 +91,7 @@ module _ {T : Type 0} where
   behind_first true b id bs cs later e = first_times id bs e
   behind_first false b id bs cs later e = later e
 
-  behind_times : (id j : BucketId) (bs : List (BucketId × T)) → first_of (drop 1 (rest id bs)) ≡ Some j → 0 < times j bs
+  pub behind_times : (id j : BucketId) (bs : List (BucketId × T)) → first_of (drop 1 (rest id bs)) ≡ Some j → 0 < times j bs
   behind_times id j [] e = cc
   behind_times id j (b ∷ bs) e = one_more (same b.0 j) (times j bs) (behind_first (same b.0 id) b j bs (rest id bs) (behind_times id j bs) e)
 

@@ -1,6 +1,6 @@
 //! The lists of all rings.
 
-ghost use Rattle.std.specs.Prelude.{◌≡◌, ℕ, ◌<◌, ◌≤◌, ◌+◌, ◌^◌, ◌↔◌, IsTrue, [], length, drop, IsSome, Some, None, OnOk, OnErr};
+ghost use Rattle.std.specs.Prelude.{◌≡◌, ℕ, ◌<◌, ◌≤◌, ◌+◌, ◌^◌, ◌↔◌, IsTrue, [], length, drop, IsSome, is_some, Some, None, OnOk, OnErr};
 ghost use Rattle.std.specs.Option.{option_copied};
 ghost use Rattle.bucket_ring.specs.Lists.{upd, on, list_at, front, rest, without, with_payload, found, first_of};
 ghost use Rattle.bucket_ring.specs.Spots.{placed, picked};
@@ -28,6 +28,13 @@ impl<T: Drop> Lists<T> {
         Lists {
             by_name: HashMap::new(alloc),
         }
+    }
+
+    /// Whether there is such a ring.
+    pub(crate) fn has(&self, ring: RingId) -> bool
+        ensures { result ≡ is_some (lists_of self.now ring) }
+    {
+        self.by_name.get(&ring).is_some()
     }
 
     /// How many buckets a ring has.

@@ -218,6 +218,14 @@ impl<T: Drop> Rings<T> for PlainRings<T> {
         }
     }
 
+    fn next_name(&self) -> u64 {
+        self.next
+    }
+
+    fn has_ring(&self, ring: RingId) -> bool {
+        self.lists.has(ring)
+    }
+
     fn first(&self, ring: RingId) -> Option<BucketId> {
         self.lists.first(ring)
     }

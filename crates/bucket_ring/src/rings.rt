@@ -10,7 +10,7 @@ use std::alloc::{AllocError, Global};
 
 /// Many rings of buckets, as in `apr_buckets.h`: each a list of named payloads, from its first bucket to its sentinel.
 ///
-/// Rings and buckets share one count of names, which rises by one and gives no name twice. Each call but `ring_of` is made for
+/// Rings and buckets share one count of names, which rises by one and gives no name twice. Each call but `ring_of` and `has_ring` is made for
 /// rings and buckets that are there. What is refused changes nothing. `NoMemory` comes only where a growth was refused.
 pub trait Rings<T> {
     /// What stands in each ring, by its name.
@@ -142,6 +142,14 @@ pub trait Rings<T> {
         requires { is_some (lists self.old ring) ≡ true }
         ensures out { (n : ℕ) → lists self.new n ≡ upd (lists self.old) ring None n }
         ensures next { next_name self.new ≡ next_name self.old };
+
+    /// The next name, which no ring and no bucket has yet.
+    fn next_name(&self) -> u64
+        ensures { result ≡ next_name self.now };
+
+    /// Whether there is such a ring.
+    fn has_ring(&self, ring: RingId) -> bool
+        ensures { result ≡ is_some (lists self.now ring) };
 
     /// The first bucket of a ring; `None` where its sentinel is first.
     fn first(&self, ring: RingId) -> Option<BucketId>

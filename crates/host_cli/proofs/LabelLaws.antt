@@ -3,13 +3,14 @@ use Rattle.std.proofs.Common.{◌≡◌, ℕ, suc, ◌+◌, ◌<◌, ◌≤◌, 
 use Rattle.std.proofs.lemmas.List.{drop_all, append-nil}
 use Rattle.std.specs.Global.{Vec}
 use Rattle.run_model.specs.declared.payload.Payload.{Payload}
-use Rattle.run_model.specs.declared.payload.Payload.TheVariants.{Label, FileRef}
+use Rattle.run_model.specs.declared.payload.Payload.TheVariants.{Label, FileRef, Brigade}
 use Rattle.run_model.specs.Payloads.{labels_in}
 use Rattle.module_run.specs.Seen.{labels_handed}
 
 in_turn : (x : ℕ × Payload) (xs : List (ℕ × Payload)) → labels_in (x ∷ xs) ≡ labels_in (x ∷ []) ++ labels_in xs
 in_turn (p, Label text) xs = refl
 in_turn (p, FileRef file) xs = refl
+in_turn (p, Brigade name) xs = refl
 
 rest_is : {A : Type 0} (xs : List A) (i : ℕ) (x : A) → i < length xs → x ≡ get_or xs i x → drop i xs ≡ x ∷ drop (i + 1) xs
 rest_is xs i x within at = rw add-one (drop-cons xs i x within ∙ ap (λ y. y ∷ drop (suc i) xs) (sym at))

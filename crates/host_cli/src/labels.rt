@@ -15,7 +15,7 @@ fn push_label(alloc: Global, labels: &mut Seq<Seq<u8>>, payload: &Payload) -> Re
 {
     match payload {
         Payload::Label(text) => labels.push(copied(alloc, text.as_slice())?),
-        Payload::FileRef(_) => Ok(()),
+        Payload::FileRef(_) | Payload::Brigade(_) => Ok(()),
     }
 }
 

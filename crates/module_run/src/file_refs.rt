@@ -16,7 +16,7 @@ fn let_go_of(files: &mut MemFiles, pools: &PoolTree<Payload>, payload: &Payload)
 {
     match payload {
         Payload::FileRef(file) if !pools.is_held(payload) => files.close(*file),
-        Payload::FileRef(_) | Payload::Label(_) => {}
+        Payload::FileRef(_) | Payload::Label(_) | Payload::Brigade(_) => {}
     }
 }
 

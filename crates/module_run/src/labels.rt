@@ -12,7 +12,7 @@ fn is_label(payload: &Payload, text: &[u8]) -> bool
 {
     match payload {
         Payload::Label(other) => other.as_slice() == text,
-        Payload::FileRef(_) => false,
+        Payload::FileRef(_) | Payload::Brigade(_) => false,
     }
 }
 

@@ -4,7 +4,7 @@ use Rattle.std.specs.Prelude.{ℕ, zero, suc, ◌+◌, List, [], ◌∷◌, ◌+
 use Rattle.std.specs.List.{flat_map}
 use Rattle.module_lang.specs.Quoted.{spelling}
 use Rattle.run_model.specs.declared.payload.Payload.{Payload}
-use Rattle.run_model.specs.declared.payload.Payload.TheVariants.{Label, FileRef}
+use Rattle.run_model.specs.declared.payload.Payload.TheVariants.{Label, FileRef, Brigade}
 use Rattle.run_model.specs.Pools.{Pools}
 use Rattle.run_model.specs.RunOrder.{children}
 
@@ -35,7 +35,8 @@ printed_within (suc below) text ps depth p = line text ps depth p ++ flat_map (p
 unfoldable pub printed : {T : Type 0} → (T → List ℕ) → Pools T → ℕ → ℕ → List ℕ
 printed text ps depth p = printed_within ps.next text ps depth p
 
--- a label is shown as its text in quotes, a reference to a file is not shown
+-- a label is shown as its text in quotes; references to files and brigades are not shown
 abbrev pub payload_text : Payload → List ℕ
 payload_text (Label text) = spelling text
 payload_text (FileRef file) = []
+payload_text (Brigade name) = []

@@ -35,7 +35,7 @@ impl PoolText for Payload {
     fn put<W: Write>(&self, out: &mut W) -> Result<(), WriteFault> {
         match self {
             Payload::Label(text) => print_text(out, text.as_slice()),
-            Payload::FileRef(_) => Ok(()),
+            Payload::FileRef(_) | Payload::Brigade(_) => Ok(()),
         }
     }
 }

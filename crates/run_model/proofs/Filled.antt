@@ -5,7 +5,7 @@ use Rattle.std.proofs.lemmas.List.Elements.{All-head, All-tail}
 use Rattle.std.specs.List.{list_any}
 use Rattle.std.specs.Cmp.Lexicographic.{bytes_decides}
 use Rattle.run_model.specs.declared.payload.Payload.{Payload}
-use Rattle.run_model.specs.declared.payload.Payload.TheVariants.{Label, FileRef}
+use Rattle.run_model.specs.declared.payload.Payload.TheVariants.{Label, FileRef, Brigade}
 use Rattle.run_model.specs.Indexed.{upd}
 use Rattle.run_model.specs.Pools.{Pools, is_empty, is_live, created, registered}
 use Rattle.run_model.specs.RunOrder.{IsPoolMap, without_last, killed}
@@ -69,6 +69,7 @@ none_goes test (x ∷ xs) h =
 same_label : (text : List ℕ) (y : Payload) → is_label text y ≡ true → y ≡ Label text
 same_label text (Label other) h = ap (λ (t : List ℕ). Label t) ((bytes_decides other text).0 h)
 same_label text (FileRef file) h = absurd (cc)
+same_label text (Brigade name) h = absurd (cc)
 
 no_label : (text : List ℕ) (ys : List Payload) → All (λ y. y ≢ Label text) ys → list_any (is_label text) ys ≡ false
 no_label text [] apart = refl

@@ -5,7 +5,7 @@ use Rattle.std.proofs.lemmas.Bool.{cases_lt}
 use Rattle.std.proofs.lemmas.Bool.Decides.{eqb_tells, nat_tests}
 use Rattle.std.proofs.lemmas.List.Folds.{list_any-append}
 use Rattle.run_model.specs.declared.payload.Payload.{Payload}
-use Rattle.run_model.specs.declared.payload.Payload.TheVariants.{Label, FileRef}
+use Rattle.run_model.specs.declared.payload.Payload.TheVariants.{Label, FileRef, Brigade}
 use Rattle.run_model.specs.Indexed.{any_below}
 use Rattle.run_model.specs.Pools.{Pools, is_under, created, registered}
 use Rattle.run_model.specs.RunOrder.{IsPoolMap, without_last, killed}
@@ -139,6 +139,11 @@ thinned_refers text file (FileRef other ∷ xs) = by_tests (list_any (is_label t
   by_tests : (later : Bool) → list_any (is_file_ref file) (without_last (is_label text) xs) ≡ list_any (is_file_ref file) xs
       → list_any (is_file_ref file) (cond later (FileRef other ∷ without_last (is_label text) xs) (FileRef other ∷ xs)) ≡ list_any (is_file_ref file) (FileRef other ∷ xs)
   by_tests true rest = ap (λ (b : Bool). (other == file) || b) rest
+  by_tests false rest = refl
+thinned_refers text file (Brigade name ∷ xs) = by_tests (list_any (is_label text) xs) (thinned_refers text file xs) where
+  by_tests : (later : Bool) → list_any (is_file_ref file) (without_last (is_label text) xs) ≡ list_any (is_file_ref file) xs
+      → list_any (is_file_ref file) (cond later (Brigade name ∷ without_last (is_label text) xs) (Brigade name ∷ xs)) ≡ list_any (is_file_ref file) (Brigade name ∷ xs)
+  by_tests true rest = rest
   by_tests false rest = refl
 
 pub killed_refers : (n : ℕ) (text : List ℕ) (ps : Pools Payload) (p file : ℕ) → refers (killed n (is_label text) ps) p file ≡ refers ps p file

@@ -6,14 +6,16 @@ ghost use Rattle.run_model.specs.SamePayload.{payload_per};
 
 use module_lang::Seq;
 
-/// What a pool hands on when it is cleared (apr_pools.h, 'cleanups'). Which brigades go with a pool is read off the
-/// brigades: each knows its pool.
+/// What a pool hands on when it is cleared (apr_pools.h, 'cleanups'). The model reads off the brigades which of them go with a
+/// pool, since each knows its pool, and registers none.
 #[derive(Drop)]
 pub enum Payload {
     /// A cleanup: a label that is run.
     Label(Seq<u8>),
     /// A reference to the open file of this number.
     FileRef(u64),
+    /// The brigade of this name, which ends with the pool.
+    Brigade(u64),
 }
 
 impl PartialEq for Payload {
@@ -25,9 +27,10 @@ impl PartialEq for Payload {
         match (self, other) {
             (Payload::Label(a), Payload::Label(b)) => a.as_slice() == b.as_slice(),
             (Payload::FileRef(a), Payload::FileRef(b)) => a == b,
-            (Payload::Label(_), Payload::FileRef(_)) | (Payload::FileRef(_), Payload::Label(_)) => {
-                false
-            }
+            (Payload::Brigade(a), Payload::Brigade(b)) => a == b,
+            (Payload::Label(_), Payload::FileRef(_) | Payload::Brigade(_))
+            | (Payload::FileRef(_), Payload::Label(_) | Payload::Brigade(_))
+            | (Payload::Brigade(_), Payload::Label(_) | Payload::FileRef(_)) => false,
         }
     }
 }

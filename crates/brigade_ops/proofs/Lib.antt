@@ -1,0 +1,9 @@
+pub mod Undone
+pub mod Lists
+pub mod Walks
+pub mod Points
+pub mod Ended
+pub mod Above
+pub mod Unread
+pub mod Models
+pub mod Parts

@@ -1,0 +1,35 @@
+-- What contracts see of a store of brigades.
+use Rattle.std.specs.Prelude.{ℕ, Option}
+use Rattle.std.specs.Option.{option_and_then, option_map_or}
+use Rattle.bucket_ring.specs.declared.names.BucketId.{BucketId}
+use Rattle.bucket_ring.specs.declared.rings.Rings.{Ghosts}
+use Rattle.bucket_ring.specs.Lists.{list_at, found}
+use Rattle.run_model.specs.declared.bucket.Bucket.{Bucket}
+use Rattle.brigade_ops.specs.declared.store.Brigades.{Brigades}
+use Rattle.brigade_ops.specs.Items.{Items}
+use Rattle.brigade_ops.specs.Numbers.{number_at}
+
+module _ {R : Type 0} {g : Ghosts R Bucket} where
+  -- the buckets of each brigade, by its name; None where there is no such brigade
+  unfoldable pub lists : Brigades R g → ℕ → Option Items
+  lists store = g.lists store.held.rings
+
+  -- the brigade that a bucket is in
+  unfoldable pub brigade_of : Brigades R g → BucketId → Option ℕ
+  brigade_of store = g.ring_at store.held.rings
+
+  -- the bucket of a name
+  unfoldable pub bucket_at : Brigades R g → BucketId → Option Bucket
+  bucket_at store id = option_and_then (λ b. found id (list_at (g.lists store.held.rings) b)) (g.ring_at store.held.rings id)
+
+  -- the pool that a brigade is on; None where it is on none
+  unfoldable pub pool_of : Brigades R g → ℕ → Option ℕ
+  pool_of store = number_at store.pools
+
+  -- how many references to a file there are
+  unfoldable pub references : Brigades R g → ℕ → ℕ
+  references store file = option_map_or (λ n. n) (number_at store.references file) 0
+
+  -- the next name
+  unfoldable pub next_name : Brigades R g → ℕ
+  next_name store = g.next_name store.held.rings

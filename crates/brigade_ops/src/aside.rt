@@ -1,0 +1,110 @@
+//! A bucket of the store is set aside.
+
+ghost use Rattle.std.specs.Prelude.{◌≡◌, ℕ, Some, None, true, is_some, IsTrue, OnOk, OnErr};
+ghost use Rattle.run_model.specs.Pools.{is_live};
+ghost use Rattle.run_model.specs.RunOrder.{IsPoolMap};
+ghost use Rattle.run_model.specs.Cutting.{set_aside};
+ghost use Rattle.run_model.specs.Steps.{is_above, file_of};
+ghost use Rattle.pool_tree.specs.Tree.{map_of};
+ghost use Rattle.bucket_ring.specs.Lists.{on, with_payload};
+ghost use Rattle.brigade_ops.specs.Items.{file_for, pools_for, count_for};
+
+use crate::store::Brigades;
+use bucket_kinds::{FileNo, aside_bucket};
+use bucket_ring::{BucketId, Rings};
+use pool_tree::{PoolId, PoolTree};
+use run_model::{Bucket, Content, Home, Kind, Payload};
+use std::alloc::AllocError;
+
+/// Stands in a bucket's place while that is changed.
+const NOTHING: Bucket = Bucket {
+    kind: Kind::Eos,
+    content: Content::Nothing,
+    home: Home::Free,
+};
+
+/// Whether the pool of a home is the target or stands above it.
+#[tactic(auto, using(crate::proofs::Above::dead_above, pool_tree::proofs::Trees::tree_formed))]
+fn is_above(pools: &PoolTree<Payload>, target: PoolId, home: Home) -> bool
+    requires { IsTrue (is_live (map_of pools.now) target) }
+    ensures { result ≡ is_above (map_of pools.now) target home }
+{
+    match home {
+        Home::Pool(name) => pools.is_live(name) && pools.is_ancestor(name, target),
+        Home::Free | Home::Call(_) | Home::Ended => false,
+    }
+}
+
+/// The file of a FILE bucket.
+fn file_of(bucket: &Bucket) -> Option<FileNo>
+    ensures { result ≡ file_of bucket.now.kind bucket.now.content }
+{
+    match (bucket.kind, &bucket.content) {
+        (Kind::File, Content::Range { file, .. }) => Some(*file),
+        _ => None,
+    }
+}
+
+#[tactic(auto, unfolding(crate::specs::Store::lists, crate::specs::Store::brigade_of, crate::specs::Store::pool_of, crate::specs::Store::next_name, crate::specs::Store::references))]
+impl<R: Rings<Bucket> + Drop> Brigades<R> {
+    ghost use Rattle.brigade_ops.specs.Store.{lists, brigade_of, bucket_at, pool_of, next_name, references};
+
+    /// The file of which setting a bucket aside takes a further reference, and whether its home is the target or above it.
+    fn file_for(
+        &self,
+        tree: &PoolTree<Payload>,
+        id: BucketId,
+        pool: PoolId,
+    ) -> (Option<FileNo>, bool)
+        requires there { is_some (brigade_of self.now id) ≡ true }
+        requires live { IsTrue (is_live (map_of tree.now) pool) }
+        ensures { (x : Bucket) → bucket_at self.now id ≡ Some x → result ≡ (file_for (map_of tree.now) pool x, is_above (map_of tree.now) pool x.home) }
+    {
+        let bucket = self.payload(id);
+        if is_above(tree, pool, bucket.home) {
+            (None, true)
+        } else {
+            (file_of(bucket), false)
+        }
+    }
+
+    /// Sets a bucket aside, where its file has a reference.
+    fn put_aside(&mut self, id: BucketId, pool: PoolId, above: bool)
+        requires { is_some (brigade_of self.old id) ≡ true }
+        ensures out { (b m : ℕ) (x : Bucket) → brigade_of self.old id ≡ Some b → bucket_at self.old id ≡ Some x → lists self.new m ≡ on b (with_payload id (set_aside pool above x)) (lists self.old) m }
+        ensures next { next_name self.new ≡ next_name self.old }
+        ensures pools { pool_of self.new ≡ pool_of self.old }
+        ensures references { references self.new ≡ references self.old }
+    {
+        let mut bucket = self.held.rings.set_payload(id, NOTHING);
+        aside_bucket(&mut bucket, pool, above);
+        let _nothing = self.held.rings.set_payload(id, bucket);
+    }
+
+    /// Sets a bucket aside into a pool (`apr_bucket_setaside`). A FILE bucket whose home is not above the pool gets a reference to its
+    /// file there. Refused, nothing is changed.
+    pub fn aside(
+        &mut self,
+        tree: &mut PoolTree<Payload>,
+        id: BucketId,
+        pool: PoolId,
+    ) -> Result<(), AllocError>
+        requires there { is_some (brigade_of self.old id) ≡ true }
+        requires live { IsTrue (is_live (map_of tree.old) pool) }
+        ensures ok { OnOk result ((b m : ℕ) (x : Bucket) → brigade_of self.old id ≡ Some b → bucket_at self.old id ≡ Some x
+            → lists self.new m ≡ on b (with_payload id (set_aside pool (is_above (map_of tree.old) pool x.home) x)) (lists self.old) m) }
+        ensures registered { OnOk result ((x : Bucket) → bucket_at self.old id ≡ Some x → map_of tree.new ≡ pools_for pool (file_for (map_of tree.old) pool x) (map_of tree.old)) }
+        ensures counted { OnOk result ((x : Bucket) (f : ℕ) → bucket_at self.old id ≡ Some x → references self.new f ≡ count_for f (file_for (map_of tree.old) pool x) (references self.old f)) }
+        ensures next { next_name self.new ≡ next_name self.old }
+        ensures pools { pool_of self.new ≡ pool_of self.old }
+        ensures formed { IsPoolMap (map_of tree.new) }
+        ensures err { OnErr result ((m : ℕ) → lists self.new m ≡ lists self.old m) }
+        ensures kept { OnErr result (map_of tree.new ≡ map_of tree.old) }
+        ensures uncounted { OnErr result ((f : ℕ) → references self.new f ≡ references self.old f) }
+    {
+        let (file, above) = self.file_for(tree, id, pool);
+        self.refer_for(tree, pool, file)?;
+        self.put_aside(id, pool, above);
+        Ok(())
+    }
+}

@@ -1,0 +1,106 @@
+//! Brigades of the store: made, ended, cleaned and joined.
+
+ghost use Rattle.std.specs.Prelude.{◌≡◌, ◌≢◌, ◌↔◌, ℕ, ◌+◌, ◌<◌, ◌^◌, ◌++◌, [], length, Some, None, true, is_some, is_ok, if◌then◌else◌, IsTrue, IsOk, IfOk, OnOk, OnErr, IsErrOf};
+ghost use Rattle.run_model.specs.Pools.{is_live, registered};
+ghost use Rattle.run_model.specs.RunOrder.{IsPoolMap};
+ghost use Rattle.pool_tree.specs.Tree.{map_of};
+ghost use Rattle.bucket_ring.specs.Lists.{upd, on, list_at};
+
+use crate::store::{BrigadeId, Brigades};
+use bucket_ring::{RingRefusal, Rings};
+use pool_tree::{PoolId, PoolTree};
+use run_model::{Bucket, Payload};
+use std::alloc::AllocError;
+
+#[tactic(auto, unfolding(crate::specs::Store::lists, crate::specs::Store::brigade_of, crate::specs::Store::pool_of, crate::specs::Store::next_name), using(pool_tree::proofs::Trees::tree_formed))]
+impl<R: Rings<Bucket> + Drop> Brigades<R> {
+    ghost use Rattle.brigade_ops.specs.Store.{lists, pool_of, next_name};
+
+    /// Makes an empty brigade on a pool (`apr_brigade_create`), which it ends with: it is registered there. `NamesSpent`: the next
+    /// name is `u64::MAX`. Refused, nothing is changed.
+    pub fn create(
+        &mut self,
+        tree: &mut PoolTree<Payload>,
+        pool: PoolId,
+    ) -> Result<BrigadeId, RingRefusal>
+        requires { IsTrue (is_live (map_of tree.old) pool) }
+        ensures ok { IfOk result (λ b. (n : ℕ) → lists self.new n ≡ upd (lists self.old) b (Some []) n) }
+        ensures on { IfOk result (λ b. (n : ℕ) → pool_of self.new n ≡ upd (pool_of self.old) b (Some pool) n) }
+        ensures name { IfOk result (λ b. b ≡ next_name self.old) }
+        ensures next { next_name self.new ≡ (if is_ok result then next_name self.old + 1 else next_name self.old) }
+        ensures registered { IfOk result (λ b. map_of tree.new ≡ registered pool (Payload.Brigade b) (map_of tree.old)) }
+        ensures formed { IsPoolMap (map_of tree.new) }
+        ensures spent { IsErrOf result RingRefusal.NamesSpent ↔ (next_name self.old ≡ u64.MAX) }
+        ensures err { OnErr result ((n : ℕ) → lists self.new n ≡ lists self.old n) }
+        ensures off { OnErr result ((n : ℕ) → pool_of self.new n ≡ pool_of self.old n) }
+        ensures kept { OnErr result (map_of tree.new ≡ map_of tree.old) }
+    {
+        let name = self.held.rings.next_name();
+        if name == u64::MAX {
+            return Err(RingRefusal::NamesSpent);
+        }
+        self.pools.reserve()?;
+        let Ok(()) = tree.register(pool, Payload::Brigade(name)) else {
+            return Err(RingRefusal::NoMemory);
+        };
+        match self.held.rings.new_ring() {
+            Ok(b) => {
+                self.pools.put(b, pool);
+                Ok(b)
+            }
+            Err(why) => {
+                let _killed = tree.kill(pool, &Payload::Brigade(name));
+                Err(why)
+            }
+        }
+    }
+
+    /// Makes an empty brigade on no pool, else as `create`.
+    pub fn loose(&mut self) -> Result<BrigadeId, RingRefusal>
+        ensures ok { IfOk result (λ b. (n : ℕ) → lists self.new n ≡ upd (lists self.old) b (Some []) n) }
+        ensures name { IfOk result (λ b. b ≡ next_name self.old) }
+        ensures next { next_name self.new ≡ (if is_ok result then next_name self.old + 1 else next_name self.old) }
+        ensures pools { pool_of self.new ≡ pool_of self.old }
+        ensures spent { IsErrOf result RingRefusal.NamesSpent ↔ (next_name self.old ≡ u64.MAX) }
+        ensures err { OnErr result ((n : ℕ) → lists self.new n ≡ lists self.old n) }
+    {
+        self.held.rings.new_ring()
+    }
+
+    /// Ends a brigade that is on no pool, with its buckets.
+    pub fn end_loose(&mut self, b: BrigadeId)
+        requires there { is_some (lists self.old b) ≡ true }
+        requires loose { pool_of self.old b ≡ None }
+        ensures out { (n : ℕ) → lists self.new n ≡ upd (lists self.old) b None n }
+        ensures next { next_name self.new ≡ next_name self.old }
+        ensures pools { pool_of self.new ≡ pool_of self.old }
+    {
+        self.held.rings.end_ring(b);
+    }
+
+    /// Destroys the buckets of a brigade, which stays (`apr_brigade_cleanup`).
+    pub fn clean(&mut self, b: BrigadeId)
+        requires { is_some (lists self.old b) ≡ true }
+        ensures out { (n : ℕ) → lists self.new n ≡ on b (λ xs. []) (lists self.old) n }
+        ensures next { next_name self.new ≡ next_name self.old }
+        ensures pools { pool_of self.new ≡ pool_of self.old }
+    {
+        self.held.rings.drop_all(b);
+    }
+
+    /// Moves all buckets of `b` to the tail of `a` (`APR_BRIGADE_CONCAT`). Onto an empty brigade it is never refused. Refused,
+    /// nothing is changed.
+    pub fn concat(&mut self, a: BrigadeId, b: BrigadeId) -> Result<(), AllocError>
+        requires onto { is_some (lists self.old a) ≡ true }
+        requires from { is_some (lists self.old b) ≡ true }
+        requires apart { a ≢ b }
+        ensures ok { OnOk result ((n : ℕ) → lists self.new n ≡ on a (λ xs. xs ++ list_at (lists self.old) b) (on b (λ xs. []) (lists self.old)) n) }
+        ensures sure { length (list_at (lists self.old) a) + length (list_at (lists self.old) b) < 2 ^ 63 → IsOk result }
+        ensures empty { list_at (lists self.old) a ≡ [] → IsOk result }
+        ensures next { next_name self.new ≡ next_name self.old }
+        ensures pools { pool_of self.new ≡ pool_of self.old }
+        ensures err { OnErr result ((n : ℕ) → lists self.new n ≡ lists self.old n) }
+    {
+        self.held.rings.splice_tail(a, b)
+    }
+}

@@ -1,0 +1,184 @@
+//! One bucket of the store at a time: put in, moved, found and destroyed.
+
+ghost use Rattle.std.specs.Prelude.{◌≡◌, ℕ, ◌+◌, ◌<◌, ◌^◌, length, Some, true, is_some, is_ok, if◌then◌else◌, IsOk, IfOk, IfErr, OnOk, OnErr};
+ghost use Rattle.bucket_ring.specs.Lists.{on, list_at, same, first_of, next_in, found, put_tail, put_head, put_before, put_after, without};
+ghost use Rattle.brigade_ops.specs.Items.{bytes_in};
+
+use crate::store::{BrigadeId, Brigades};
+use bucket_ring::{BucketId, RingRefusal, Rings};
+use run_model::{Bucket, Content};
+use std::alloc::AllocError;
+
+#[tactic(auto, unfolding(crate::specs::Store::lists, crate::specs::Store::brigade_of, crate::specs::Store::pool_of, crate::specs::Store::next_name))]
+impl<R: Rings<Bucket> + Drop> Brigades<R> {
+    ghost use Rattle.brigade_ops.specs.Store.{lists, brigade_of, bucket_at, pool_of, next_name};
+
+    /// Puts a new bucket at the tail of a brigade (`APR_BRIGADE_INSERT_TAIL`). `NamesSpent`: the next name is `u64::MAX`. Refused,
+    /// nothing is changed, and the bucket comes back.
+    pub fn add_tail(
+        &mut self,
+        b: BrigadeId,
+        bucket: Bucket,
+    ) -> Result<BucketId, (RingRefusal, Bucket)>
+        requires { is_some (lists self.old b) ≡ true }
+        ensures ok { IfOk result (λ id. (n : ℕ) → lists self.new n ≡ on b (put_tail (id, bucket)) (lists self.old) n) }
+        ensures name { IfOk result (λ id. id.birth ≡ next_name self.old) }
+        ensures next { next_name self.new ≡ (if is_ok result then next_name self.old + 1 else next_name self.old) }
+        ensures pools { pool_of self.new ≡ pool_of self.old }
+        ensures spent { next_name self.old ≡ u64.MAX → result ≡ Err (RingRefusal.NamesSpent, bucket) }
+        ensures unspent { IfErr result (λ why. why.0 ≡ RingRefusal.NamesSpent → next_name self.old ≡ u64.MAX) }
+        ensures err { OnErr result ((n : ℕ) → lists self.new n ≡ lists self.old n) }
+        ensures back { IfErr result (λ why. why.1 ≡ bucket) }
+    {
+        self.held.rings.add_tail(b, bucket)
+    }
+
+    /// Puts a new bucket at the head of a brigade (`APR_BRIGADE_INSERT_HEAD`), else as `add_tail`.
+    pub fn add_head(
+        &mut self,
+        b: BrigadeId,
+        bucket: Bucket,
+    ) -> Result<BucketId, (RingRefusal, Bucket)>
+        requires { is_some (lists self.old b) ≡ true }
+        ensures ok { IfOk result (λ id. (n : ℕ) → lists self.new n ≡ on b (put_head (id, bucket)) (lists self.old) n) }
+        ensures name { IfOk result (λ id. id.birth ≡ next_name self.old) }
+        ensures next { next_name self.new ≡ (if is_ok result then next_name self.old + 1 else next_name self.old) }
+        ensures pools { pool_of self.new ≡ pool_of self.old }
+        ensures spent { next_name self.old ≡ u64.MAX → result ≡ Err (RingRefusal.NamesSpent, bucket) }
+        ensures unspent { IfErr result (λ why. why.0 ≡ RingRefusal.NamesSpent → next_name self.old ≡ u64.MAX) }
+        ensures err { OnErr result ((n : ℕ) → lists self.new n ≡ lists self.old n) }
+        ensures back { IfErr result (λ why. why.1 ≡ bucket) }
+    {
+        self.held.rings.add_head(b, bucket)
+    }
+
+    /// Puts a new bucket before another (`APR_BUCKET_INSERT_BEFORE`), else as `add_tail`.
+    pub fn add_before(
+        &mut self,
+        at: BucketId,
+        bucket: Bucket,
+    ) -> Result<BucketId, (RingRefusal, Bucket)>
+        requires { is_some (brigade_of self.old at) ≡ true }
+        ensures ok { IfOk result (λ id. (b n : ℕ) → brigade_of self.old at ≡ Some b → lists self.new n ≡ on b (put_before at (id, bucket)) (lists self.old) n) }
+        ensures name { IfOk result (λ id. id.birth ≡ next_name self.old) }
+        ensures next { next_name self.new ≡ (if is_ok result then next_name self.old + 1 else next_name self.old) }
+        ensures pools { pool_of self.new ≡ pool_of self.old }
+        ensures spent { next_name self.old ≡ u64.MAX → result ≡ Err (RingRefusal.NamesSpent, bucket) }
+        ensures unspent { IfErr result (λ why. why.0 ≡ RingRefusal.NamesSpent → next_name self.old ≡ u64.MAX) }
+        ensures err { OnErr result ((n : ℕ) → lists self.new n ≡ lists self.old n) }
+        ensures back { IfErr result (λ why. why.1 ≡ bucket) }
+    {
+        self.held.rings.add_before(at, bucket)
+    }
+
+    /// Puts a new bucket behind another (`APR_BUCKET_INSERT_AFTER`), else as `add_tail`.
+    pub fn add_after(
+        &mut self,
+        at: BucketId,
+        bucket: Bucket,
+    ) -> Result<BucketId, (RingRefusal, Bucket)>
+        requires { is_some (brigade_of self.old at) ≡ true }
+        ensures ok { IfOk result (λ id. (b n : ℕ) → brigade_of self.old at ≡ Some b → lists self.new n ≡ on b (put_after at (id, bucket)) (lists self.old) n) }
+        ensures name { IfOk result (λ id. id.birth ≡ next_name self.old) }
+        ensures next { next_name self.new ≡ (if is_ok result then next_name self.old + 1 else next_name self.old) }
+        ensures pools { pool_of self.new ≡ pool_of self.old }
+        ensures spent { next_name self.old ≡ u64.MAX → result ≡ Err (RingRefusal.NamesSpent, bucket) }
+        ensures unspent { IfErr result (λ why. why.0 ≡ RingRefusal.NamesSpent → next_name self.old ≡ u64.MAX) }
+        ensures err { OnErr result ((n : ℕ) → lists self.new n ≡ lists self.old n) }
+        ensures back { IfErr result (λ why. why.1 ≡ bucket) }
+    {
+        self.held.rings.add_after(at, bucket)
+    }
+
+    /// Moves a bucket to the tail of a brigade, which may be its own. It gets no new name. Refused, nothing is changed.
+    pub fn move_tail(&mut self, b: BrigadeId, id: BucketId) -> Result<(), AllocError>
+        requires brigade { is_some (lists self.old b) ≡ true }
+        requires bucket { is_some (brigade_of self.old id) ≡ true }
+        ensures ok { OnOk result ((q n : ℕ) (x : Bucket) → brigade_of self.old id ≡ Some q → found id (list_at (lists self.old) q) ≡ Some x → lists self.new n ≡ on b (put_tail (id, x)) (on q (without id) (lists self.old)) n) }
+        ensures sure { length (list_at (lists self.old) b) + 1 < 2 ^ 63 → IsOk result }
+        ensures next { next_name self.new ≡ next_name self.old }
+        ensures pools { pool_of self.new ≡ pool_of self.old }
+        ensures err { OnErr result ((n : ℕ) → lists self.new n ≡ lists self.old n) }
+    {
+        self.held.rings.move_tail(b, id)
+    }
+
+    /// Moves a bucket to the head of a brigade, else as `move_tail`.
+    pub fn move_head(&mut self, b: BrigadeId, id: BucketId) -> Result<(), AllocError>
+        requires brigade { is_some (lists self.old b) ≡ true }
+        requires bucket { is_some (brigade_of self.old id) ≡ true }
+        ensures ok { OnOk result ((q n : ℕ) (x : Bucket) → brigade_of self.old id ≡ Some q → found id (list_at (lists self.old) q) ≡ Some x → lists self.new n ≡ on b (put_head (id, x)) (on q (without id) (lists self.old)) n) }
+        ensures sure { length (list_at (lists self.old) b) + 1 < 2 ^ 63 → IsOk result }
+        ensures next { next_name self.new ≡ next_name self.old }
+        ensures pools { pool_of self.new ≡ pool_of self.old }
+        ensures err { OnErr result ((n : ℕ) → lists self.new n ≡ lists self.old n) }
+    {
+        self.held.rings.move_head(b, id)
+    }
+
+    /// Moves a bucket before another, else as `move_tail`; before itself, nothing is changed.
+    pub fn move_before(&mut self, at: BucketId, id: BucketId) -> Result<(), AllocError>
+        requires place { is_some (brigade_of self.old at) ≡ true }
+        requires bucket { is_some (brigade_of self.old id) ≡ true }
+        ensures ok { OnOk result ((b q n : ℕ) (x : Bucket) → brigade_of self.old at ≡ Some b → brigade_of self.old id ≡ Some q → found id (list_at (lists self.old) q) ≡ Some x → lists self.new n ≡ (if same at id then lists self.old n else on b (put_before at (id, x)) (on q (without id) (lists self.old)) n)) }
+        ensures sure { (b : ℕ) → brigade_of self.old at ≡ Some b → length (list_at (lists self.old) b) + 1 < 2 ^ 63 → IsOk result }
+        ensures next { next_name self.new ≡ next_name self.old }
+        ensures pools { pool_of self.new ≡ pool_of self.old }
+        ensures err { OnErr result ((n : ℕ) → lists self.new n ≡ lists self.old n) }
+    {
+        self.held.rings.move_before(at, id)
+    }
+
+    /// Destroys a bucket (`apr_bucket_delete`).
+    pub fn drop_bucket(&mut self, id: BucketId)
+        requires { is_some (brigade_of self.old id) ≡ true }
+        ensures out { (b n : ℕ) → brigade_of self.old id ≡ Some b → lists self.new n ≡ on b (without id) (lists self.old) n }
+        ensures next { next_name self.new ≡ next_name self.old }
+        ensures pools { pool_of self.new ≡ pool_of self.old }
+    {
+        self.held.rings.drop_bucket(id);
+    }
+
+    /// The first bucket of a brigade (`APR_BRIGADE_FIRST`); `None` where its sentinel is first.
+    pub fn first(&self, b: BrigadeId) -> Option<BucketId>
+        requires { is_some (lists self.now b) ≡ true }
+        ensures { result ≡ first_of (list_at (lists self.now) b) }
+    {
+        self.held.rings.first(b)
+    }
+
+    /// The bucket behind another (`APR_BUCKET_NEXT`); the brigade where its sentinel is behind it.
+    pub fn next(&self, id: BucketId) -> Result<BucketId, BrigadeId>
+        requires { is_some (brigade_of self.now id) ≡ true }
+        ensures { (b : ℕ) → brigade_of self.now id ≡ Some b → result ≡ next_in b id (list_at (lists self.now) b) }
+    {
+        self.held.rings.next(id)
+    }
+
+    /// The brigade that a bucket is in; `None` where it was destroyed.
+    pub fn ring_of(&self, id: BucketId) -> Option<BrigadeId>
+        ensures { result ≡ brigade_of self.now id }
+    {
+        self.held.rings.ring_of(id)
+    }
+
+    /// A bucket.
+    #[tactic(auto, unfolding(crate::specs::Store::brigade_of, crate::specs::Store::bucket_at))]
+    pub fn payload(&self, id: BucketId) -> &Bucket
+        requires { is_some (brigade_of self.now id) ≡ true }
+        ensures { bucket_at self.now id ≡ Some result.now }
+    {
+        self.held.rings.payload(id)
+    }
+
+    /// The bytes of a bucket that lie in memory: none of a FILE bucket, and none of metadata.
+    pub fn bytes(&self, id: BucketId) -> &[u8]
+        requires { is_some (brigade_of self.now id) ≡ true }
+        ensures { (x : Bucket) → bucket_at self.now id ≡ Some x → result.now ≡ bytes_in x.content }
+    {
+        match &self.payload(id).content {
+            Content::Bytes(bytes) => bytes.as_slice(),
+            Content::Range { .. } | Content::Nothing => &[],
+        }
+    }
+}

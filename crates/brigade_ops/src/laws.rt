@@ -1,0 +1,13 @@
+//! What the words of this crate are in the model.
+
+ghost use Rattle.brigade_ops.specs.Laws.{ListsAreTheModels, PointsAreTheModels};
+
+/// Lists of named buckets, as the model has them, are changed as the model's brigades.
+pub fn lists_are_the_models()
+    ensures { ListsAreTheModels }
+{}
+
+/// A partition finds and leaves what it does in the model.
+pub fn points_are_the_models()
+    ensures { PointsAreTheModels }
+{}

@@ -1,0 +1,23 @@
+//! Brigades on pools, over a store of rings (apr_buckets.h).
+#![tactic(auto)]
+
+mod aside;
+mod brigades;
+mod buckets;
+mod cutting;
+mod files;
+mod laws;
+mod numbers;
+mod reading;
+mod refusal;
+mod store;
+mod walking;
+
+pub use bucket_kinds::{FileNo, Files};
+pub use bucket_ring::{BucketId, PlainRings, RingRefusal, Rings};
+pub use laws::{lists_are_the_models, points_are_the_models};
+pub use pool_tree::{PoolId, PoolTree};
+pub use refusal::{ReadRefusal, SplitRefusal};
+pub use run_model::{Bucket, Content, Home, Kind, Payload, Seq};
+pub use store::{BrigadeId, Brigades};
+pub use walking::Cut;

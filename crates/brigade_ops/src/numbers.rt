@@ -1,0 +1,66 @@
+//! Numbers by number.
+
+ghost use Rattle.std.specs.Prelude.{◌≡◌, ℕ, None, Some, true, is_some, OnOk};
+ghost use Rattle.bucket_ring.specs.Lists.{upd};
+ghost use Rattle.brigade_ops.specs.Numbers.{number_at, HasRoom};
+
+use std::alloc::{AllocError, Global};
+use std::collections::HashMap;
+
+/// Numbers by number: pools by their brigades, and counts by their files.
+#[derive(Drop)]
+pub(crate) struct Numbers {
+    pub(crate) by_number: HashMap<u64, u64>,
+}
+
+#[tactic(auto, unfolding(crate::specs::Numbers::number_at, crate::specs::Numbers::HasRoom, bucket_ring::specs::Lists::upd))]
+impl Numbers {
+    pub(crate) fn new(alloc: Global) -> Self
+        ensures { (n : ℕ) → number_at result n ≡ None }
+    {
+        Numbers {
+            by_number: HashMap::new(alloc),
+        }
+    }
+
+    pub(crate) fn get(&self, key: u64) -> Option<u64>
+        ensures { result ≡ number_at self.now key }
+    {
+        self.by_number.get(&key).copied()
+    }
+
+    /// Makes room for one more.
+    pub(crate) fn reserve(&mut self) -> Result<(), AllocError>
+        ensures room { OnOk result (HasRoom self.new) }
+        ensures same { (n : ℕ) → number_at self.new n ≡ number_at self.old n }
+    {
+        self.by_number.reserve(1)
+    }
+
+    /// Puts a number where there is room.
+    pub(crate) fn put(&mut self, key: u64, number: u64)
+        requires { HasRoom self.old }
+        ensures { (n : ℕ) → number_at self.new n ≡ upd (number_at self.old) key (Some number) n }
+    {
+        match self.by_number.insert(key, number) {
+            Ok(_) => {}
+            Err(_) => unreachable!(),
+        }
+    }
+
+    /// Puts another number where there is one.
+    pub(crate) fn set(&mut self, key: u64, number: u64)
+        requires { is_some (number_at self.old key) ≡ true }
+        ensures { (n : ℕ) → number_at self.new n ≡ upd (number_at self.old) key (Some number) n }
+    {
+        if let Some(place) = self.by_number.get_mut(&key) {
+            *place = number;
+        }
+    }
+
+    pub(crate) fn take(&mut self, key: u64)
+        ensures { (n : ℕ) → number_at self.new n ≡ upd (number_at self.old) key None n }
+    {
+        let _ = self.by_number.remove(&key);
+    }
+}

@@ -1,0 +1,177 @@
+//! A bucket of the store is read.
+
+ghost use Rattle.std.specs.Prelude.{◌≡◌, ◌≢◌, ◌⊎◌, ◌&&◌, ℕ, ◌+◌, List, [], ◌∷◌, length, Ok, Some, None, Err, true, is_some, if◌then◌else◌, IfOk, IfSome, OnOk, OnErr};
+ghost use Rattle.bucket_ring.specs.Lists.{on, with_payload};
+ghost use Rattle.run_model.specs.Cutting.{EndsInFile, wanted, read_of};
+ghost use Rattle.bucket_kinds.specs.Device.{failed};
+ghost use Rattle.bucket_kinds.specs.Reading.{IsOpenFor, GivesFor, EndsWithin};
+ghost use Rattle.brigade_ops.specs.Items.{replaced, rest_item, range_in};
+ghost use Rattle.brigade_ops.specs.Refusals.{took_name};
+ghost use Rattle.brigade_ops.specs.Reads.{IsRead};
+
+use crate::refusal::ReadRefusal;
+use crate::store::Brigades;
+use bucket_kinds::{Files, ReadFault, read_into, rest_of_read, room_to_read};
+use bucket_ring::{BucketId, Rings};
+use run_model::{Bucket, Content, Seq};
+
+#[tactic(auto, unfolding(crate::specs::Store::lists, crate::specs::Store::brigade_of, crate::specs::Store::pool_of, crate::specs::Store::next_name))]
+impl<R: Rings<Bucket> + Drop> Brigades<R> {
+    ghost use Rattle.brigade_ops.specs.Store.{lists, brigade_of, bucket_at, pool_of, next_name};
+
+    /// A bucket that is a range of a file.
+    fn range_at(&self, id: BucketId) -> Option<Bucket>
+        requires { is_some (brigade_of self.now id) ≡ true }
+        ensures here { IfSome result (λ bucket. bucket_at self.now id ≡ Some bucket) }
+        ensures range { (x : Bucket) → bucket_at self.now id ≡ Some x → result ≡ range_in x }
+    {
+        let bucket = self.payload(id);
+        let Content::Range { file, start, len } = &bucket.content else {
+            return None;
+        };
+        let content = Content::Range {
+            file: *file,
+            start: *start,
+            len: *len,
+        };
+        Some(Bucket {
+            kind: bucket.kind,
+            content,
+            home: bucket.home,
+        })
+    }
+
+    /// Reads a bucket of which a read leaves nothing.
+    fn read_whole<F: Files>(
+        &mut self,
+        files: &mut F,
+        id: BucketId,
+        mut bucket: Bucket,
+        room: Seq<u8>,
+    ) -> Result<(), ReadFault>
+        requires there { is_some (brigade_of self.old id) ≡ true }
+        requires ends { EndsInFile bucket.content }
+        requires open { IsOpenFor (F.device files.old) bucket.content }
+        requires room { length room ≡ wanted bucket.content }
+        ensures ok { OnOk result ((b : ℕ) → brigade_of self.old id ≡ Some b → (bytes : List ℕ) × GivesFor (F.device files.old) bucket.content bytes
+            × ((m : ℕ) → lists self.new m ≡ on b (with_payload id (read_of bytes bucket).0) (lists self.old) m)) }
+        ensures next { next_name self.new ≡ next_name self.old }
+        ensures pools { pool_of self.new ≡ pool_of self.old }
+        ensures unread { wanted bucket.content ≡ 0 → (result ≡ Ok tt) × (F.device files.new ≡ F.device files.old) }
+        ensures same { OnOk result (F.device files.new ≡ F.device files.old) }
+        ensures fault { OnErr result
+            ((F.device files.new ≡ failed (F.device files.old))
+            ⊎ ((F.device files.new ≡ F.device files.old) × EndsWithin (F.device files.old) bucket.content)) }
+        ensures open_files { (F.device files.new).numbered ≡ (F.device files.old).numbered }
+        ensures err { OnErr result ((m : ℕ) → lists self.new m ≡ lists self.old m) }
+    {
+        let _rest = read_into(&mut bucket, room, files)?;
+        let _unread = self.held.rings.set_payload(id, bucket);
+        Ok(())
+    }
+
+    /// Reads a bucket of which a read leaves this rest, which gets its name before the file is read.
+    fn read_front<F: Files>(
+        &mut self,
+        files: &mut F,
+        id: BucketId,
+        bucket: Bucket,
+        room: Seq<u8>,
+        rest: Bucket,
+    ) -> Result<BucketId, ReadRefusal>
+        requires there { is_some (brigade_of self.old id) ≡ true }
+        requires ends { EndsInFile bucket.content }
+        requires open { IsOpenFor (F.device files.old) bucket.content }
+        requires room { length room ≡ wanted bucket.content }
+        requires long { wanted bucket.content ≢ 0 }
+        ensures ok { IfOk result (λ new. (b : ℕ) → brigade_of self.old id ≡ Some b → (bytes : List ℕ) × GivesFor (F.device files.old) bucket.content bytes
+            × ((m : ℕ) → lists self.new m ≡ on b (replaced id (read_of bytes bucket).0 ((new, rest) ∷ [])) (lists self.old) m)) }
+        ensures name { IfOk result (λ new. new.birth ≡ next_name self.old) }
+        ensures next { next_name self.new ≡ (if took_name result then next_name self.old + 1 else next_name self.old) }
+        ensures pools { pool_of self.new ≡ pool_of self.old }
+        ensures same { OnOk result (F.device files.new ≡ F.device files.old) }
+        ensures fault { result ≡ Err ReadRefusal.ReadFault
+            → (F.device files.new ≡ failed (F.device files.old))
+            ⊎ ((F.device files.new ≡ F.device files.old) × EndsWithin (F.device files.old) bucket.content) }
+        ensures no_memory { result ≡ Err ReadRefusal.NoMemory → F.device files.new ≡ F.device files.old }
+        ensures spent { next_name self.old ≡ u64.MAX → result ≡ Err ReadRefusal.NamesSpent }
+        ensures unspent { result ≡ Err ReadRefusal.NamesSpent → (next_name self.old ≡ u64.MAX) × (F.device files.new ≡ F.device files.old) }
+        ensures open_files { (F.device files.new).numbered ≡ (F.device files.old).numbered }
+        ensures err { OnErr result ((m : ℕ) → lists self.new m ≡ lists self.old m) }
+    {
+        let new = self.put_behind(id, rest)?;
+        match self.read_whole(files, id, bucket, room) {
+            Ok(()) => Ok(new),
+            Err(_) => {
+                self.held.rings.drop_bucket(new);
+                Err(ReadRefusal::ReadFault)
+            }
+        }
+    }
+
+    /// Reads a bucket that is a range of a file.
+    fn read_range<F: Files>(
+        &mut self,
+        files: &mut F,
+        id: BucketId,
+        bucket: Bucket,
+    ) -> Result<Option<BucketId>, ReadRefusal>
+        requires there { is_some (brigade_of self.old id) ≡ true }
+        requires ends { EndsInFile bucket.content }
+        requires open { IsOpenFor (F.device files.old) bucket.content }
+        ensures ok { IfOk result (λ rest. (b : ℕ) → brigade_of self.old id ≡ Some b → (bytes : List ℕ) × GivesFor (F.device files.old) bucket.content bytes
+            × ((m : ℕ) → lists self.new m ≡ on b (replaced id (read_of bytes bucket).0 (rest_item rest (read_of bytes bucket).1)) (lists self.old) m)) }
+        ensures rest { IfOk result (λ rest. is_some rest ≡ is_some (read_of [] bucket).1) }
+        ensures name { IfOk result (λ rest. IfSome rest (λ new. new.birth ≡ next_name self.old)) }
+        ensures names { next_name self.new ≡ (if took_name result && is_some (read_of [] bucket).1 then next_name self.old + 1 else next_name self.old) }
+        ensures pools { pool_of self.new ≡ pool_of self.old }
+        ensures unread { wanted bucket.content ≡ 0 → (result ≡ Ok None) × (F.device files.new ≡ F.device files.old) }
+        ensures same { OnOk result (F.device files.new ≡ F.device files.old) }
+        ensures fault { result ≡ Err ReadRefusal.ReadFault
+            → (F.device files.new ≡ failed (F.device files.old))
+            ⊎ ((F.device files.new ≡ F.device files.old) × EndsWithin (F.device files.old) bucket.content) }
+        ensures no_memory { result ≡ Err ReadRefusal.NoMemory → F.device files.new ≡ F.device files.old }
+        ensures unspent { result ≡ Err ReadRefusal.NamesSpent → (next_name self.old ≡ u64.MAX) × (F.device files.new ≡ F.device files.old) }
+        ensures open_files { (F.device files.new).numbered ≡ (F.device files.old).numbered }
+        ensures err { OnErr result ((m : ℕ) → lists self.new m ≡ lists self.old m) }
+    {
+        let room = room_to_read(self.alloc, &bucket)?;
+        let Some(rest) = rest_of_read(&bucket) else {
+            return match self.read_whole(files, id, bucket, room) {
+                Ok(()) => Ok(None),
+                Err(_) => Err(ReadRefusal::ReadFault),
+            };
+        };
+        match self.read_front(files, id, bucket, room, rest) {
+            Ok(new) => Ok(Some(new)),
+            Err(why) => Err(why),
+        }
+    }
+
+    /// Reads a bucket (`apr_bucket_read`), as `read_bucket` does. The rest of a longer FILE bucket stands behind it under the name that
+    /// is answered; it takes that name before the file is read, so a read that fails has spent it. Refused, nothing else is
+    /// changed.
+    pub fn read<F: Files>(
+        &mut self,
+        files: &mut F,
+        id: BucketId,
+    ) -> Result<Option<BucketId>, ReadRefusal>
+        requires there { is_some (brigade_of self.old id) ≡ true }
+        requires ends { (x : Bucket) → bucket_at self.old id ≡ Some x → EndsInFile x.content }
+        requires open { (x : Bucket) → bucket_at self.old id ≡ Some x → IsOpenFor (F.device files.old) x.content }
+        ensures read { (x : Bucket) → bucket_at self.old id ≡ Some x
+            → IsRead id x (brigade_of self.old id) (F.device files.old) (F.device files.new) (lists self.old) (lists self.new) (next_name self.old) (next_name self.new) result }
+        ensures name { IfOk result (λ rest. IfSome rest (λ new. new.birth ≡ next_name self.old)) }
+        ensures pools { pool_of self.new ≡ pool_of self.old }
+        ensures same { OnOk result (F.device files.new ≡ F.device files.old) }
+        ensures no_memory { result ≡ Err ReadRefusal.NoMemory → F.device files.new ≡ F.device files.old }
+        ensures unspent { result ≡ Err ReadRefusal.NamesSpent → (next_name self.old ≡ u64.MAX) × (F.device files.new ≡ F.device files.old) }
+        ensures open_files { (F.device files.new).numbered ≡ (F.device files.old).numbered }
+        ensures err { OnErr result ((m : ℕ) → lists self.new m ≡ lists self.old m) }
+    {
+        match self.range_at(id) {
+            Some(bucket) => self.read_range(files, id, bucket),
+            None => Ok(None),
+        }
+    }
+}

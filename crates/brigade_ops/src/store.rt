@@ -1,0 +1,50 @@
+//! The store of brigades.
+
+ghost use Rattle.std.specs.Prelude.{◌≡◌, ◌<◌, ◌^◌, ℕ, None};
+
+use crate::numbers::Numbers;
+use bucket_ring::{RingId, Rings};
+use run_model::Bucket;
+use std::alloc::Global;
+
+/// The name of a brigade, which is never given again.
+pub type BrigadeId = RingId;
+
+/// Rings of buckets. The ghost field is a law of all rings. By it the type of a store knows its rings, so that what contracts see of a
+/// store takes no argument but the store.
+#[derive(Drop)]
+pub(crate) struct Held<R: Rings<Bucket>> {
+    pub(crate) rings: R,
+    ghost limit: { R.next_name rings < 2 ^ 64 },
+}
+
+/// Brigades (apr_buckets.h, `apr_bucket_brigade`): rings of buckets, each on a pool or on none.
+#[derive(Drop)]
+pub struct Brigades<R: Rings<Bucket>> {
+    pub(crate) alloc: Global,
+    pub(crate) held: Held<R>,
+    pub(crate) pools: Numbers,
+    pub(crate) references: Numbers,
+}
+
+#[tactic(auto, unfolding(crate::specs::Store::lists, crate::specs::Store::pool_of, crate::specs::Store::next_name, crate::specs::Store::references))]
+impl<R: Rings<Bucket> + Drop> Brigades<R> {
+    ghost use Rattle.brigade_ops.specs.Store.{lists, pool_of, next_name, references};
+
+    /// No brigades; the first name is `first`.
+    pub fn new(alloc: Global, first: u64) -> Self
+        ensures empty { (n : ℕ) → lists result n ≡ None }
+        ensures loose { (n : ℕ) → pool_of result n ≡ None }
+        ensures unreferred { (f : ℕ) → references result f ≡ 0 }
+        ensures next { next_name result ≡ first }
+    {
+        Brigades {
+            alloc,
+            held: Held {
+                rings: R::new(alloc, first),
+            },
+            pools: Numbers::new(alloc),
+            references: Numbers::new(alloc),
+        }
+    }
+}

@@ -1,0 +1,182 @@
+//! A brigade is walked along: measured, split and parted.
+
+ghost use Rattle.std.specs.Prelude.{◌≡◌, ◌≢◌, ◌&&◌, ℕ, ◌+◌, ◌<◌, ◌^◌, [], ◌∷◌, drop, length, Some, None, Ok, Err, true, false, is_some, is_ok, if◌then◌else◌, IfOk, IfSome, OnOk, OnErr};
+ghost use Rattle.bucket_ring.specs.Lists.{on, list_at, rest};
+ghost use Rattle.run_model.specs.BrigadeLists.{length_in};
+ghost use Rattle.run_model.specs.Cutting.{EndsInFile, length_of, split_at};
+ghost use Rattle.brigade_ops.specs.Items.{named, replaced, before_place, from_place};
+ghost use Rattle.brigade_ops.specs.Points.{point_in, is_inside, cut_at};
+
+use crate::refusal::SplitRefusal;
+use crate::store::{BrigadeId, Brigades};
+use bucket_kinds::length;
+use bucket_ring::{BucketId, RingRefusal, Rings};
+use run_model::Bucket;
+use std::alloc::AllocError;
+
+/// What a partition answers (`apr_brigade_partition`).
+#[derive(Clone, Copy)]
+pub enum Cut {
+    /// The place before this bucket.
+    Found(BucketId),
+    /// The end of the brigade.
+    AtEnd,
+    /// The brigade is shorter (`APR_INCOMPLETE`).
+    Incomplete,
+}
+
+/// Where a point of a brigade lies.
+#[derive(Clone, Copy)]
+pub(crate) enum Point {
+    /// Past the end.
+    Short,
+    /// At a place.
+    At(Option<BucketId>),
+    /// Inside a bucket, behind so many of its bytes.
+    Inside(BucketId, u64),
+}
+
+/// Destroys the buckets of a ring before one of them.
+fn drop_before<R: Rings<Bucket>>(rings: &mut R, b: BrigadeId, id: BucketId)
+    requires { R.ring_at rings.old id ≡ Some b }
+    ensures out { (n : ℕ) → R.lists rings.new n ≡ on b (rest id) (R.lists rings.old) n }
+    ensures next { R.next_name rings.new ≡ R.next_name rings.old }
+{
+    while let Some(first) = rings.first(b) {
+        if first == id {
+            return;
+        }
+        rings.drop_bucket(first);
+    }
+}
+
+#[tactic(auto, unfolding(crate::specs::Store::lists, crate::specs::Store::brigade_of, crate::specs::Store::pool_of, crate::specs::Store::next_name))]
+impl<R: Rings<Bucket> + Drop> Brigades<R> {
+    ghost use Rattle.brigade_ops.specs.Store.{lists, brigade_of, bucket_at, pool_of, next_name};
+
+    /// Where a walk along a brigade begins.
+    pub(crate) fn start(&self, b: BrigadeId) -> Option<BucketId>
+        requires { is_some (lists self.now b) ≡ true }
+        ensures whole { from_place result (list_at (lists self.now) b) ≡ list_at (lists self.now) b }
+        ensures inside { IfSome result (λ id. brigade_of self.now id ≡ Some b) }
+        ensures few { length (list_at (lists self.now) b) < 2 ^ 64 }
+    {
+        self.held.rings.first(b)
+    }
+
+    /// Where a walk along a brigade goes on behind a bucket.
+    pub(crate) fn behind(&self, id: BucketId) -> Option<BucketId>
+        requires { is_some (brigade_of self.now id) ≡ true }
+        ensures others { (b : ℕ) → brigade_of self.now id ≡ Some b → from_place result (list_at (lists self.now) b) ≡ drop 1 (rest id (list_at (lists self.now) b)) }
+        ensures inside { (b : ℕ) → brigade_of self.now id ≡ Some b → IfSome result (λ j. brigade_of self.now j ≡ Some b) }
+    {
+        match self.held.rings.next(id) {
+            Ok(next) => Some(next),
+            Err(_) => None,
+        }
+    }
+
+    /// The length of a bucket, where a walk along its brigade comes to it.
+    pub(crate) fn length_at(&self, id: BucketId) -> u64
+        requires { is_some (brigade_of self.now id) ≡ true }
+        ensures head { (b : ℕ) → brigade_of self.now id ≡ Some b → (x : Bucket) × (rest id (list_at (lists self.now) b) ≡ (id, x) ∷ drop 1 (rest id (list_at (lists self.now) b))) × (result ≡ length_of x.content) }
+        ensures one { (b : ℕ) → brigade_of self.now id ≡ Some b → length (rest id (list_at (lists self.now) b)) ≡ length (drop 1 (rest id (list_at (lists self.now) b))) + 1 }
+        ensures sum { (b : ℕ) → brigade_of self.now id ≡ Some b → length_in (named (rest id (list_at (lists self.now) b))) ≡ result + length_in (named (drop 1 (rest id (list_at (lists self.now) b)))) }
+    {
+        let bucket = self.payload(id);
+        length(&bucket.content)
+    }
+
+    /// Where a point of a brigade lies.
+    fn find(&self, b: BrigadeId, point: u64) -> Point
+        requires { is_some (lists self.now b) ≡ true }
+        ensures value { result ≡ point_in point (list_at (lists self.now) b) }
+        ensures inside { (id : BucketId) (n : ℕ) → result ≡ Point.Inside id n → brigade_of self.now id ≡ Some b }
+    {
+        let mut left = point;
+        let mut place = self.start(b);
+        while let Some(id) = place {
+            let len = self.length_at(id);
+            if left == 0 {
+                return Point::At(Some(id));
+            }
+            if len > left {
+                return Point::Inside(id, left);
+            }
+            left -= len;
+            place = self.behind(id);
+        }
+        if left == 0 {
+            Point::At(None)
+        } else {
+            Point::Short
+        }
+    }
+
+    /// Finds the place behind the shortest front of a brigade whose lengths add up to a point (`apr_brigade_partition`). A bucket that
+    /// the point lies inside is split. `Incomplete`: the brigade is shorter, and nothing is changed. Refused, nothing is changed.
+    pub fn partition(&mut self, b: BrigadeId, point: u64) -> Result<Cut, RingRefusal>
+        requires there { is_some (lists self.old b) ≡ true }
+        requires ends { (id : BucketId) (x : Bucket) → brigade_of self.old id ≡ Some b → bucket_at self.old id ≡ Some x → EndsInFile x.content }
+        ensures between { is_inside (point_in point (list_at (lists self.old) b)) ≡ false → (result ≡ Ok (cut_at (point_in point (list_at (lists self.old) b)))) × ((m : ℕ) → lists self.new m ≡ lists self.old m) }
+        ensures inside { (id : BucketId) (n : ℕ) (x : Bucket) → point_in point (list_at (lists self.old) b) ≡ Point.Inside id n → bucket_at self.old id ≡ Some x
+            → IfOk result (λ cut. (new : BucketId) × (cut ≡ Cut.Found new) × (new.birth ≡ next_name self.old)
+            × ((m : ℕ) → lists self.new m ≡ on b (replaced id (split_at n x).0 ((new, (split_at n x).1) ∷ [])) (lists self.old) m)) }
+        ensures next { next_name self.new ≡ (if is_ok result && is_inside (point_in point (list_at (lists self.old) b)) then next_name self.old + 1 else next_name self.old) }
+        ensures pools { pool_of self.new ≡ pool_of self.old }
+        ensures unspent { result ≡ Err RingRefusal.NamesSpent → next_name self.old ≡ u64.MAX }
+        ensures err { OnErr result ((m : ℕ) → lists self.new m ≡ lists self.old m) }
+    {
+        let (id, n) = match self.find(b, point) {
+            Point::Short => return Ok(Cut::Incomplete),
+            Point::At(None) => return Ok(Cut::AtEnd),
+            Point::At(Some(id)) => return Ok(Cut::Found(id)),
+            Point::Inside(id, n) => (id, n),
+        };
+        match self.split(id, n) {
+            Ok(new) => Ok(Cut::Found(new)),
+            Err(SplitRefusal::NamesSpent) => Err(RingRefusal::NamesSpent),
+            Err(_) => Err(RingRefusal::NoMemory),
+        }
+    }
+
+    /// Splits a brigade at a place (`apr_brigade_split_ex`): `a` is cleaned, and what stands from the place on moves into it; at the end,
+    /// which is no bucket, nothing moves. Refused, nothing is changed.
+    pub fn split_at(
+        &mut self,
+        b: BrigadeId,
+        place: Option<BucketId>,
+        a: BrigadeId,
+    ) -> Result<(), AllocError>
+        requires from { is_some (lists self.old b) ≡ true }
+        requires into { is_some (lists self.old a) ≡ true }
+        requires apart { a ≢ b }
+        requires inside { IfSome place (λ id. brigade_of self.old id ≡ Some b) }
+        ensures ok { OnOk result ((n : ℕ) → lists self.new n ≡ on a (λ xs. from_place place (list_at (lists self.old) b)) (on b (before_place place) (lists self.old)) n) }
+        ensures next { next_name self.new ≡ next_name self.old }
+        ensures pools { pool_of self.new ≡ pool_of self.old }
+        ensures err { OnErr result ((n : ℕ) → lists self.new n ≡ lists self.old n) }
+    {
+        let Some(id) = place else {
+            self.held.rings.drop_all(a);
+            return Ok(());
+        };
+        self.held.rings.splice_from(id, a)?;
+        drop_before(&mut self.held.rings, a, id);
+        Ok(())
+    }
+
+    /// How many bytes the buckets of a brigade stand for (`apr_brigade_length`).
+    pub fn length(&self, b: BrigadeId) -> u128
+        requires { is_some (lists self.now b) ≡ true }
+        ensures { result ≡ length_in (named (list_at (lists self.now) b)) }
+    {
+        let mut total = 0;
+        let mut place = self.start(b);
+        while let Some(id) = place {
+            total += self.length_at(id) as u128;
+            place = self.behind(id);
+        }
+        total
+    }
+}
