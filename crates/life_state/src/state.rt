@@ -28,6 +28,20 @@ fn fact_in(row: &[bool; 9], d: u8) -> bool
 
 #[tactic(auto, unfolding(crate::specs::Seen::seen, run_model::specs::Indexed::upd))]
 impl State {
+    /// How many pool variables are declared.
+    pub fn pool_count(&self) -> u8
+        ensures { result ≡ (seen self.now).pool_count }
+    {
+        self.pool_count
+    }
+
+    /// How many brigade variables are declared.
+    pub fn brigade_count(&self) -> u8
+        ensures { result ≡ (seen self.now).brigade_count }
+    {
+        self.brigade_count
+    }
+
     /// Whether an EOS of this request may have been passed.
     pub fn sent(&self) -> bool
         ensures { result ≡ (seen self.now).sent }

@@ -116,6 +116,22 @@ impl Module {
         *self.brigades.at(usize::from(brigade))
     }
 
+    /// How many pool variables are declared, 8 at most.
+    pub fn pool_count(&self) -> u8
+        ensures count { result ≡ length self.now.pools }
+        ensures few { result ≤ 8 }
+    {
+        self.pools.len() as u8
+    }
+
+    /// How many brigade variables are declared, 8 at most.
+    pub fn brigade_count(&self) -> u8
+        ensures count { result ≡ length self.now.brigades }
+        ensures few { result ≤ 8 }
+    {
+        self.brigades.len() as u8
+    }
+
     /// The parent that a pool variable is declared with.
     #[tactic(auto, unfolding(crate::specs::Program::pool_of_pool))]
     pub fn pool_parent(&self, pool: u8) -> PoolRef

@@ -1,0 +1,33 @@
+-- Worked certificates, by hand, of the module that passes on what it gets until an EOS was passed, and drops it from then on.
+use Rattle.std.specs.Prelude.{◌≡◌, ℕ, true, false, List, [], ◌∷◌, Option, Some, None, slice_index_or, length}
+use Rattle.life_state.specs.declared.parts.Contents.TheVariants.{Empty}
+use Rattle.life_state.specs.States.{no_homes, holds, passed_on, State}
+use Rattle.life_state.specs.Examples.{identity, resting, serving, brought}
+use Rattle.life_check.specs.declared.refusal.Rule.TheVariants.{Entry, Flow, Exit, Request}
+use Rattle.life_check.specs.Certificates.{Certificate}
+use Rattle.life_check.specs.Typed.{refusal, first_refusal}
+
+abbrev pub given : State → List (Option State) → Certificate
+given ready at = record { idle = Some (resting false); ready = Some ready; at = λ pc. slice_index_or at pc None; lines = length at }
+
+-- open, init, and main up to its `pass`
+abbrev pub begun : List (Option State) → List (Option State)
+begun rest = Some (resting false) ∷ (Some (resting false) ∷ (Some (serving true brought) ∷ (Some (serving false brought) ∷ rest)))
+
+-- main from line 5 on
+abbrev pub ended : List (Option State)
+ended = Some (serving true brought) ∷ (Some (serving true (holds Empty no_homes)) ∷ (Some (serving true passed_on) ∷ []))
+
+abbrev pub whole : List (Option State)
+whole = begun (Some (serving true passed_on) ∷ ended)
+
+pub record IdentityAnswers : Type 0 where
+  pub accepted : first_refusal identity (given (resting true) whole) ≡ None
+  -- the `pass` leads to line 4
+  pub unreached : first_refusal identity (given (resting true) (begun (None ∷ ended))) ≡ Some (refusal 3 Flow)
+  -- after the `pass` an EOS may have been passed
+  pub no_eos : first_refusal identity (given (resting false) whole) ≡ Some (refusal 4 Exit)
+  -- `open` begins somewhere
+  pub empty : first_refusal identity (given (resting true) []) ≡ Some (refusal 0 Entry)
+  -- and its `ret` ends somewhere
+  pub nowhere : first_refusal identity (record (given (resting true) whole) { idle = None }) ≡ Some (refusal 0 Exit)

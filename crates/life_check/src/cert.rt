@@ -1,0 +1,30 @@
+//! Certificates.
+
+ghost use Rattle.std.specs.Prelude.{◌≡◌};
+ghost use Rattle.life_state.specs.Seen.{seen_some};
+ghost use Rattle.life_check.specs.Seen.{seen_cert};
+
+use life_state::State;
+
+/// States for a module: what is known between calls, and before each instruction that can be reached. Anybody may have made it.
+pub struct Cert {
+    /// Between calls, before `init`. None says that no call ends there.
+    pub idle: Option<State>,
+    /// Between calls, from `init` on to the end of the request. None says that no call ends there.
+    pub ready: Option<State>,
+    /// Before each instruction; one that is not there is never reached.
+    pub at: Vec<Option<State>>,
+}
+
+impl Cert {
+    /// The state before an instruction.
+    pub(crate) fn state(&self, pc: usize) -> Option<State>
+        ensures { seen_some result ≡ (seen_cert self.now).at pc }
+    {
+        if pc < self.at.len() {
+            self.at[pc]
+        } else {
+            None
+        }
+    }
+}

@@ -1,0 +1,48 @@
+//! The check of a certificate.
+
+ghost use Rattle.std.specs.Prelude.{◌≤◌, ◌↔◌, length, IsOk};
+ghost use Rattle.life_check.specs.Seen.{seen_cert};
+ghost use Rattle.life_check.specs.Typed.{entry_refusal, first_refusal, IsAnswer, IsTyped};
+
+use crate::cert::Cert;
+use crate::entries::{inits, opens, requests, serves};
+use crate::lines::{check_lines, unless};
+use crate::refusal::{CheckRefusal, Rule};
+use crate::shape::has_shape;
+use module_lang::Module;
+
+fn check_entries(code: &Module, cert: &Cert) -> Result<(), CheckRefusal>
+    ensures first { IsAnswer (entry_refusal code.now (seen_cert cert.now)) result }
+    ensures few { length code.now.pools ≤ 8 }
+{
+    unless(opens(code, cert), 0, Rule::Entry)?;
+    unless(inits(code, cert), code.init(), Rule::Entry)?;
+    unless(serves(code, cert), code.main(), Rule::Entry)
+}
+
+#[tactic(auto, unfolding(crate::specs::Typed::first_refusal))]
+fn check_all(code: &Module, cert: &Cert) -> Result<(), CheckRefusal>
+    ensures { IsAnswer (first_refusal code.now (seen_cert cert.now)) result }
+{
+    let shaped = has_shape(code, cert);
+    if !shaped {
+        return Err(CheckRefusal {
+            pc: 0,
+            rule: Rule::Shape,
+        });
+    }
+    check_entries(code, cert)?;
+    check_lines(code, cert)?;
+    unless(requests(code, cert), 0, Rule::Request)
+}
+
+/// Whether the states of a certificate follow from one another by the rules, so that no instruction has a fault: Ok exactly where
+/// no rule refuses. Else the first refusal: by the shape of the states; where a handler begins; at the lowest instruction with a
+/// state by a fault that it may have, by where it leads, or by what it leaves where it returns; at the end of the request. It
+/// takes no memory.
+pub fn check(code: &Module, cert: &Cert) -> Result<(), CheckRefusal>
+    ensures first { IsAnswer (first_refusal code.now (seen_cert cert.now)) result }
+    ensures accepts { IsOk result ↔ IsTyped code.now (seen_cert cert.now) }
+{
+    check_all(code, cert)
+}

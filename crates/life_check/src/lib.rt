@@ -1,0 +1,14 @@
+//! The checker of certificates: it accepts a module whose states, handed in with it, follow from one another by the rules.
+#![tactic(auto)]
+
+mod cert;
+mod checked;
+mod entries;
+pub mod laws;
+mod lines;
+mod refusal;
+mod shape;
+
+pub use cert::Cert;
+pub use checked::check;
+pub use refusal::{CheckRefusal, Rule};

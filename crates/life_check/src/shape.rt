@@ -1,0 +1,95 @@
+//! Whether states are those of a module's variables, and stand where they may.
+
+ghost use Rattle.std.specs.Prelude.{◌≡◌, nat_le, not, if◌then◌else◌};
+ghost use Rattle.life_state.specs.Facts.{is_set};
+ghost use Rattle.life_state.specs.Seen.{seen, seen_cursor, seen_some};
+ghost use Rattle.life_check.specs.Seen.{seen_cert};
+ghost use Rattle.life_check.specs.Typed.{declares, has_in, has_no_cursor, fits_between, fits_line, fits_lines, has_shape};
+
+use crate::cert::Cert;
+use life_state::{CursorState, State};
+use module_lang::Module;
+
+fn declares(code: &Module, state: &State) -> bool
+    ensures { result ≡ declares code.now (seen state.now) }
+{
+    (state.pool_count() == code.pool_count()) & (state.brigade_count() == code.brigade_count())
+}
+
+fn has_in(state: &State) -> bool
+    ensures { result ≡ has_in (seen state.now) }
+{
+    !state.brigade(8).null
+}
+
+fn is_set(cursor: CursorState) -> bool
+    ensures { result ≡ is_set (seen_cursor cursor) }
+{
+    match cursor {
+        CursorState::Unset => false,
+        CursorState::Loose(_, _)
+        | CursorState::In(_, _)
+        | CursorState::End(_)
+        | CursorState::InOrEnd(_, _) => true,
+    }
+}
+
+fn has_no_cursor(state: &State) -> bool
+    ensures { result ≡ has_no_cursor (seen state.now) }
+{
+    for c in 0..9u8 {
+        let is_free = !is_set(state.cursor(c));
+        if !is_free {
+            return false;
+        }
+    }
+    true
+}
+
+fn fits_between(code: &Module, state: Option<State>) -> bool
+    ensures { result ≡ fits_between code.now (seen_some state) }
+{
+    match state {
+        None => true,
+        Some(state) => declares(code, &state) & !has_in(&state) & has_no_cursor(&state),
+    }
+}
+
+fn stands_in_part(code: &Module, pc: usize, state: &State) -> bool
+    ensures { result ≡ (if nat_le code.now.main pc then has_in (seen state.now) else not (has_in (seen state.now))) }
+{
+    if code.main() <= pc {
+        has_in(state)
+    } else {
+        !has_in(state)
+    }
+}
+
+fn fits_line(code: &Module, pc: usize, state: Option<State>) -> bool
+    ensures { result ≡ fits_line code.now pc (seen_some state) }
+{
+    match state {
+        None => true,
+        Some(state) => {
+            declares(code, &state) & (pc < code.len()) & stands_in_part(code, pc, &state)
+        }
+    }
+}
+
+fn fits_lines(code: &Module, cert: &Cert) -> bool
+    ensures { result ≡ fits_lines code.now (seen_cert cert.now) }
+{
+    for pc in 0..cert.at.len() {
+        let fits = fits_line(code, pc, cert.state(pc));
+        if !fits {
+            return false;
+        }
+    }
+    true
+}
+
+pub(crate) fn has_shape(code: &Module, cert: &Cert) -> bool
+    ensures { result ≡ has_shape code.now (seen_cert cert.now) }
+{
+    fits_between(code, cert.idle) & fits_between(code, cert.ready) & fits_lines(code, cert)
+}
