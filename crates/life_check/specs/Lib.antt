@@ -4,3 +4,6 @@ pub mod Certificates
 pub mod Seen
 pub mod Typed
 pub mod Examples
+pub mod Meaning
+pub mod Soundness
+pub mod Theorem

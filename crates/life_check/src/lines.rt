@@ -2,7 +2,7 @@
 
 ghost use Rattle.std.specs.Prelude.{◌≡◌, ◌<◌, ◌+◌, true, length, Some, slice_get, unwrap_or};
 ghost use Rattle.module_lang.specs.declared.instr.Instr as instr;
-ghost use Rattle.module_lang.specs.Program.{target};
+ghost use Rattle.module_lang.specs.Program.{IsModule, target};
 ghost use Rattle.life_state.specs.Rules.{rule};
 ghost use Rattle.life_state.specs.Seen.{seen, seen_some, seen_edges, seen_answer};
 ghost use Rattle.life_check.specs.Seen.{seen_cert};
@@ -119,7 +119,8 @@ fn check_line(code: &Module, cert: &Cert, pc: usize) -> Result<(), CheckRefusal>
 /// The first refusal of an instruction that has a state.
 pub(crate) fn check_lines(code: &Module, cert: &Cert) -> Result<(), CheckRefusal>
     requires { has_shape code.now (seen_cert cert.now) ≡ true }
-    ensures { IsAnswer (first_below (length code.now.code) (refusal_at code.now (seen_cert cert.now))) result }
+    ensures first { IsAnswer (first_below (length code.now.code) (refusal_at code.now (seen_cert cert.now))) result }
+    ensures proper { IsModule code.now }
 {
     for pc in 0..code.len() {
         check_line(code, cert, pc)?;

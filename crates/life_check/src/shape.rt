@@ -1,14 +1,21 @@
 //! Whether states are those of a module's variables, and stand where they may.
 
-ghost use Rattle.std.specs.Prelude.{◌≡◌, nat_le, not, if◌then◌else◌};
+ghost use Rattle.std.specs.Prelude.{◌≡◌, ℕ, true, nat_le, not, if◌then◌else◌};
 ghost use Rattle.life_state.specs.Facts.{is_set};
 ghost use Rattle.life_state.specs.Seen.{seen, seen_cursor, seen_some};
+ghost use Rattle.life_check.specs.Meaning.{IsBounded};
 ghost use Rattle.life_check.specs.Seen.{seen_cert};
+ghost use Rattle.life_check.specs.Theorem.{AllBounded, IsBoundedSome};
 ghost use Rattle.life_check.specs.Typed.{declares, has_in, has_no_cursor, fits_between, fits_line, fits_lines, has_shape};
 
 use crate::cert::Cert;
 use life_state::{CursorState, State};
 use module_lang::Module;
+
+/// What a state says is of variables and cursors that there are: its arrays have no more. It does nothing.
+fn is_bounded(_state: State)
+    ensures { IsBounded (seen _state) }
+{}
 
 fn declares(code: &Module, state: &State) -> bool
     ensures { result ≡ declares code.now (seen state.now) }
@@ -47,11 +54,15 @@ fn has_no_cursor(state: &State) -> bool
 }
 
 fn fits_between(code: &Module, state: Option<State>) -> bool
-    ensures { result ≡ fits_between code.now (seen_some state) }
+    ensures value { result ≡ fits_between code.now (seen_some state) }
+    ensures bounded { IsBoundedSome (seen_some state) }
 {
     match state {
         None => true,
-        Some(state) => declares(code, &state) & !has_in(&state) & has_no_cursor(&state),
+        Some(state) => {
+            is_bounded(state);
+            declares(code, &state) & !has_in(&state) & has_no_cursor(&state)
+        }
     }
 }
 
@@ -66,18 +77,21 @@ fn stands_in_part(code: &Module, pc: usize, state: &State) -> bool
 }
 
 fn fits_line(code: &Module, pc: usize, state: Option<State>) -> bool
-    ensures { result ≡ fits_line code.now pc (seen_some state) }
+    ensures value { result ≡ fits_line code.now pc (seen_some state) }
+    ensures bounded { IsBoundedSome (seen_some state) }
 {
     match state {
         None => true,
         Some(state) => {
+            is_bounded(state);
             declares(code, &state) & (pc < code.len()) & stands_in_part(code, pc, &state)
         }
     }
 }
 
 fn fits_lines(code: &Module, cert: &Cert) -> bool
-    ensures { result ≡ fits_lines code.now (seen_cert cert.now) }
+    ensures value { result ≡ fits_lines code.now (seen_cert cert.now) }
+    ensures bounded { result ≡ true → (pc : ℕ) → IsBoundedSome ((seen_cert cert.now).at pc) }
 {
     for pc in 0..cert.at.len() {
         let fits = fits_line(code, pc, cert.state(pc));
@@ -89,7 +103,8 @@ fn fits_lines(code: &Module, cert: &Cert) -> bool
 }
 
 pub(crate) fn has_shape(code: &Module, cert: &Cert) -> bool
-    ensures { result ≡ has_shape code.now (seen_cert cert.now) }
+    ensures value { result ≡ has_shape code.now (seen_cert cert.now) }
+    ensures bounded { result ≡ true → AllBounded (seen_cert cert.now) }
 {
     fits_between(code, cert.idle) & fits_between(code, cert.ready) & fits_lines(code, cert)
 }

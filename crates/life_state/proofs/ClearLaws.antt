@@ -44,7 +44,7 @@ none_in (pool.Own i) =
 pub unmade_homes : seen_homes unmade.homes ≡ no_homes
 unmade_homes = ap (λ f. record no_homes { at = f }) (fun_ext none_in)
 
-none_dead : (under : PoolRef → Bool) → dead_where under no_homes ≡ no_homes
+pub none_dead : (under : PoolRef → Bool) → dead_where under no_homes ≡ no_homes
 none_dead under =
     ap (λ d. record no_homes { dead = d })
     (ap (λ a. a || any_below 8 (λ i. under (pool.Own i) && false)) (and_false (under pool.Req))

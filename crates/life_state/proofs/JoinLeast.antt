@@ -72,16 +72,16 @@ content_least a b u p q = pick (content_le a b)
     pick false = p
 
 -- the parts of what the order says of a brigade
-record Parts (a u : BrigadeKnown) : Type 0 where
-  null : implies a.null u.null ≡ true
-  gone : implies a.gone u.gone ≡ true
-  live : implies a.live u.live ≡ true
-  usable : implies a.usable u.usable ≡ true
-  passed : implies a.passed u.passed ≡ true
-  content : content_le a.content u.content ≡ true
-  homes : homes_le a.homes u.homes ≡ true
+pub record Parts (a u : BrigadeKnown) : Type 0 where
+  pub null : implies a.null u.null ≡ true
+  pub gone : implies a.gone u.gone ≡ true
+  pub live : implies a.live u.live ≡ true
+  pub usable : implies a.usable u.usable ≡ true
+  pub passed : implies a.passed u.passed ≡ true
+  pub content : content_le a.content u.content ≡ true
+  pub homes : homes_le a.homes u.homes ≡ true
 
-parts : (a u : BrigadeKnown) → brigade_le a u ≡ true → Parts a u
+pub parts : (a u : BrigadeKnown) → brigade_le a u ≡ true → Parts a u
 unfolding brigade_le
 parts a u p =
     let p2 = split2 (variable_le a u && marks_le a u && content_le a.content u.content) (homes_le a.homes u.homes) p in
@@ -213,7 +213,7 @@ both_least x y (InOrEnd d u) p q = pick x y (InOrEnd d u) p q refl
 module _ (a b u : State) (of_a : IsFormed a) (of_u : IsFormed u) (au : Below a u) (bu : Below b u) where
   hand : (n : ℕ) → AtHand u n → is_at_hand (joined_brigades a b n) ≡ true
   hand n at =
-      hand_joined (a.brigades n) (b.brigades n) (u.brigades n) (of_a.brigades n) (parts (a.brigades n) (u.brigades n) (au.brigades n at.number)) (parts (b.brigades n) (u.brigades n) (bu.brigades n at.number)) at.usable
+      hand_joined (a.brigades n) (b.brigades n) (u.brigades n) (of_a.brigades n) (parts (a.brigades n) (u.brigades n) (au.brigades n (at.0))) (parts (b.brigades n) (u.brigades n) (bu.brigades n (at.0))) (at.1)
 
   hands : (v : CursorKnown) → FormedCursor u v → Hand (joined_brigades a b) v
   unfolding Hand

@@ -2,6 +2,16 @@ pub mod Arrays
 pub mod Below
 pub mod ClearLaws
 pub mod FactLaws
+pub mod FormClears
+pub mod FormEntries
+pub mod FormFacts
+pub mod FormJoins
+pub mod FormMoves
+pub mod FormNeeds
+pub mod FormOrder
+pub mod FormParts
+pub mod FormRules
+pub mod FormSteps
 pub mod JoinAbove
 pub mod JoinLaws
 pub mod JoinLeast

@@ -29,6 +29,10 @@ pub or_right : (x y : Bool) → y ≡ true → (x || y) ≡ true
 or_right true y p = refl
 or_right false y p = p
 
+pub or_false : (x y : Bool) → (x || y) ≡ false → (x ≡ false) × (y ≡ false)
+or_false true y h = cc
+or_false false y h = (refl, h)
+
 pub not_true : (x : Bool) → not x ≡ true → x ≡ false
 not_true true h = cc
 not_true false h = refl

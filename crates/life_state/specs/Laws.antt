@@ -27,6 +27,10 @@ LeqIsReflexive = (s : State) → ((c : ℕ) → s.facts c c ≡ false) → leq s
 abbrev pub LeqIsTransitive : Type 0
 LeqIsTransitive = (a b c : State) → leq a b ≡ true → leq b c ≡ true → leq a c ≡ true
 
+-- Of two states in form, each below the other, both say the same.
+abbrev pub LeqIsAntisymmetric : Type 0
+LeqIsAntisymmetric = (a b : State) → IsFormed a → IsFormed b → leq a b ≡ true → leq b a ≡ true → a ≡ b
+
 -- Two states of the same variables are below their join.
 abbrev pub JoinIsAbove : Type 0
 JoinIsAbove = (a b : State) → same_variables a b ≡ true → (leq a (join a b) ≡ true) × (leq b (join a b) ≡ true)

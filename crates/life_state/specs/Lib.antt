@@ -9,3 +9,4 @@ pub mod Seen
 pub mod Examples
 pub mod Form
 pub mod Laws
+pub mod FormLaws

@@ -1,7 +1,8 @@
 //! Laws of the definitions. Each function does nothing: what its contract says holds of the definitions alone.
 
 ghost use Rattle.life_state.specs.Examples.{IdentityRows, OtherRows};
-ghost use Rattle.life_state.specs.Laws.{LeqSays, LeqHolds, LeqIsReflexive, LeqIsTransitive, JoinIsAbove, JoinIsLeast};
+ghost use Rattle.life_state.specs.FormLaws.{RulesKeepForm, JoinsKeepForm, JoinsAbsorb, EntriesAreFormed};
+ghost use Rattle.life_state.specs.Laws.{LeqSays, LeqHolds, LeqIsReflexive, LeqIsTransitive, LeqIsAntisymmetric, JoinIsAbove, JoinIsLeast};
 
 /// States worked out by hand: those of a module that passes on what it gets, and small ones for single rules.
 pub fn worked_states()
@@ -10,12 +11,13 @@ pub fn worked_states()
 {}
 
 /// The order says each part of what it is, and no more; it is reflexive, where no cursor is written to differ from itself, and
-/// transitive.
+/// transitive; of two states in form, each below the other, both say the same.
 pub fn states_are_ordered()
     ensures says { LeqSays }
     ensures holds { LeqHolds }
     ensures reflexive { LeqIsReflexive }
     ensures transitive { LeqIsTransitive }
+    ensures antisymmetric { LeqIsAntisymmetric }
 {}
 
 /// Two states of the same variables are below their join, and their join is below each state that is above both, where these
@@ -23,4 +25,13 @@ pub fn states_are_ordered()
 pub fn joins_are_least()
     ensures above { JoinIsAbove }
     ensures least { JoinIsLeast }
+{}
+
+/// States in form lead to states in form, of the same variables: by the rules, by joins, and where handlers begin and end. A state
+/// that is joined with one below it stays as it is.
+pub fn states_stay_in_form()
+    ensures rules { RulesKeepForm }
+    ensures joins { JoinsKeepForm }
+    ensures absorb { JoinsAbsorb }
+    ensures entries { EntriesAreFormed }
 {}

@@ -69,6 +69,7 @@ impl Module {
     pub fn len(&self) -> usize
         ensures count { result ≡ length self.now.code }
         ensures small { result ≤ 1024 }
+        ensures sound { IsModule self.now }
     {
         self.code.len()
     }

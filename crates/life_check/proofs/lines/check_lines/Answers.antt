@@ -6,8 +6,8 @@ use Rattle.life_check.specs.Typed.{refusal_at, IsAnswer}
 use Rattle.life_check.proofs.Firsts.{none_below, some_below}
 use Rattle.life_check.proofs.lines.check_lines.Goals as goal
 
-pub returns-in_err-check_line : goal.returns-in_err-check_line
-returns-in_err-check_line c =
+pub returns-in_err-check_line-clause-first : goal.returns-in_err-check_line-clause-first
+returns-in_err-check_line-clause-first c =
     let f : ℕ → Option CheckRefusal = refusal_at c.args.code.now (seen_cert c.args.cert.now) in
     let here : f c.loop-pc.pc ≡ Some c.in_err-check_line.field-0.0 = search rules in
     let first = some_below (length c.args.code.now.code) c.loop-pc.pc f c.in_err-check_line.field-0.0 (omega arith) c.loop-pc.invariant here in
@@ -19,7 +19,7 @@ loop-pc-preserved c =
     let here : f c.loop-pc.pc ≡ None = search rules in
     below_more (λ k. f k ≡ None) c.loop-pc.pc c.loop-pc.invariant here
 
-pub returns : goal.returns
-returns c =
+pub returns-clause-first : goal.returns-clause-first
+returns-clause-first c =
     let f : ℕ → Option CheckRefusal = refusal_at c.args.code.now (seen_cert c.args.cert.now) in
     none_below (length c.args.code.now.code) f (λ k below. c.loop-pc.invariant k (omega arith))

@@ -1,8 +1,9 @@
--- Each line so far fits.
+-- Each line so far fits, and is bounded.
 use Rattle.std.proofs.Common.{◌≡◌, ℕ, ◌<◌, true}
 use Rattle.life_check.specs.Seen.{seen_cert}
+use Rattle.life_check.specs.Theorem.{IsBoundedSome}
 use Rattle.life_check.specs.Typed.{fits_line}
 use Rattle.life_check.proofs.shape.fits_lines.Given as goal
 
 abbrev pub invariant-loop-pc : goal.invariant-loop-pc
-invariant-loop-pc l = (k : ℕ) → k < l.pc → fits_line l.code k ((seen_cert l.cert).at k) ≡ true
+invariant-loop-pc l = (k : ℕ) → k < l.pc → (fits_line l.code k ((seen_cert l.cert).at k) ≡ true) × IsBoundedSome ((seen_cert l.cert).at k)

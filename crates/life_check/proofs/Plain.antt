@@ -1,0 +1,334 @@
+-- Laws of the instructions that leave brigades and pools as they are: jumps, numbers, the buffer, and tests of one variable or
+-- bucket.
+use Rattle.std.proofs.Common.{◌≡◌, ℕ, Bool, true, false, ◌||◌, ◌==◌, nat_lt, min, not, cond, List, [], ◌∷◌, ◌++◌, ◌+◌, ◌-◌, is_none, Option, Some, None, inl, inr, refl, ap, sym, ◌∙◌, subst}
+use Rattle.module_lang.specs.declared.instr.Instr.TheVariants as instr
+use Rattle.module_lang.specs.declared.instr.KindTest.{KindTest}
+use Rattle.module_lang.specs.declared.instr.KindTest.TheVariants as test
+use Rattle.module_lang.specs.declared.instr.Value.{Value}
+use Rattle.module_lang.specs.declared.instr.VarRef.{VarRef}
+use Rattle.module_lang.specs.declared.instr.VarRef.TheVariants as variable
+use Rattle.module_lang.specs.Program.{Program}
+use Rattle.run_model.specs.declared.bucket.BrigadeVar.{BrigadeVar}
+use Rattle.run_model.specs.declared.bucket.BrigadeVar.TheVariants as var
+use Rattle.run_model.specs.declared.bucket.Cursor.{Cursor}
+use Rattle.run_model.specs.declared.bucket.Home.{Home}
+use Rattle.run_model.specs.declared.bucket.Kind.{Kind}
+use Rattle.run_model.specs.declared.bucket.Kind.TheVariants as kind
+use Rattle.run_model.specs.declared.bucket.Mark.{Mark}
+use Rattle.run_model.specs.declared.bucket.Mark.TheVariants.{Usable, Passed}
+use Rattle.run_model.specs.declared.bucket.NamedBucket.{NamedBucket}
+use Rattle.run_model.specs.declared.bucket.PoolVar.{PoolVar}
+use Rattle.run_model.specs.declared.bucket.PoolVar.TheVariants as poolvar
+use Rattle.run_model.specs.declared.payload.Payload.{Payload}
+use Rattle.run_model.specs.declared.fault.FaultKind.TheVariants.{F7}
+use Rattle.run_model.specs.Indexed.{upd}
+use Rattle.run_model.specs.BrigadeLists.{bucket_named}
+use Rattle.run_model.specs.BucketSteps.{items_at, is_of_kind, kind_is, got, byte_of, content_at}
+use Rattle.run_model.specs.Cutting.{length_of}
+use Rattle.run_model.specs.Cursors.{spot, is_end, bucket_at, read_cursor}
+use Rattle.run_model.specs.Faults.{Anywhere, OnBucket, usable_fault}
+use Rattle.run_model.specs.Pools.{Pools, is_live, is_empty}
+use Rattle.run_model.specs.Sound.{SoundNames, Sound, brigade_name}
+use Rattle.run_model.specs.State.{Configuration, pool_view, set_number, items_of, is_passed}
+use Rattle.run_model.specs.Steps.{jumps_if, value_of, last_value, do_clearbuf, is_full, is_null_pool, is_null_brigade}
+use Rattle.life_state.specs.declared.parts.Classes.{Classes}
+use Rattle.life_state.specs.declared.parts.Contents.{Contents}
+use Rattle.life_state.specs.declared.parts.Contents.TheVariants.{Empty}
+use Rattle.life_state.specs.declared.parts.PoolState.{PoolState}
+use Rattle.life_state.specs.Facts.{moved}
+use Rattle.life_state.specs.Rules.{Edges, cursor_need, told, of_kind, not_of_kind, some_class, with_classes, classes_of, edges_jend, pool_not_null, brigade_not_null, edges_jsent, edges_jnull, edges_jempty, both_with, goes_on_with, some_if, is_empty as holds_none}
+use Rattle.life_state.proofs.Tests.{or_left, or_right}
+use Rattle.life_state.specs.States.{Homes, no_homes, only_null, BrigadeKnown, never_made, holds, CursorKnown, Unset, Loose, In, End, InOrEnd, State, set_pool, set_brigade}
+use Rattle.life_check.proofs.Orders.{never}
+use Rattle.life_check.proofs.Lists.{each_none}
+use Rattle.life_check.proofs.Standing.{cursor_stays, finds_same, upd_first, moved_facts, spot_loose, spot_in, spot_end}
+use Rattle.life_check.proofs.Wants.{both_none, usable_items}
+use Rattle.life_check.specs.Meaning.{Differ, class_has, Covers, Holds, FitsPool, FitsMark, FitsBrigade, FitsCursor, Fits}
+use Rattle.life_check.specs.Soundness.{FitsSome, Lands, LawOf}
+
+-- What a state says of is as it was.
+pub record SameSeen (r new : Configuration) : Type 0 where
+  pub sent : new.instance.sent ≡ r.instance.sent
+  pub vars : new.instance.pools ≡ r.instance.pools
+  pub pools : new.shared.pools ≡ r.shared.pools
+  pub brigades : new.instance.brigades ≡ r.instance.brigades
+  pub loose : new.call.loose ≡ r.call.loose
+  pub cursors : new.call.cursors ≡ r.call.cursors
+
+cursor_same : (C : Homes → Home → Type 0) (r new : Configuration) (k : CursorKnown) (v : Cursor) → SameSeen r new → FitsCursor C r k v → FitsCursor C new k v
+cursor_same C r new k v same e =
+    cursor_stays C C r new v (record {
+      loose = λ n at. finds_same C C n r.call.loose new.call.loose (λ h x c. c) (ap (bucket_named n) same.loose);
+      within = λ b n at. finds_same C C n (items_at r b) (items_at new b) (λ h x c. c) (ap (λ (g : ℕ → BrigadeVar). bucket_named n (items_of (g b))) same.brigades);
+      names = λ b. ap (λ (g : ℕ → BrigadeVar). brigade_name (g b)) same.brigades;
+      usable = λ b h. ap (λ (g : ℕ → BrigadeVar). usable_fault (g b)) same.brigades ∙ h;
+    }) k e
+
+fits_same : (C : Homes → Home → Type 0) (s : State) (r new : Configuration) → SameSeen r new → Fits C s r → Fits C s new
+fits_same C s r new same f = record {
+  sent = λ h. f.sent (sym same.sent ∙ h);
+  pools = λ q. subst (λ (ps : Pools Payload). FitsPool ps (s.pools q) (new.instance.pools q)) (sym same.pools)
+      (subst (λ (g : ℕ → PoolVar). FitsPool r.shared.pools (s.pools q) (g q)) (sym same.vars) (f.pools q));
+  brigades = λ b. subst (λ (g : ℕ → BrigadeVar). FitsBrigade C (s.brigades b) (g b)) (sym same.brigades) (f.brigades b);
+  cursors = λ c. subst (λ (g : ℕ → Cursor). FitsCursor C new (s.cursors c) (g c)) (sym same.cursors) (cursor_same C r new (s.cursors c) (r.call.cursors c) same (f.cursors c));
+  facts = λ c d h. subst (λ (g : ℕ → Cursor). Differ (g c) (g d)) (sym same.cursors) (f.facts c d h);
+}
+
+-- Both edges lead on with one state.
+pub lands_both : (lives : Home → Type 0) (p : Program) (s t : State) (r : Configuration) (jumps : Bool) → Fits (Covers p (pool_view r) lives) t r → Lands lives p (both_with t) s (jumps_if jumps) r
+lands_both lives p s t r true f = f
+lands_both lives p s t r false f = f
+
+-- Jumps.
+
+pub law_jlt : {lives : Home → Type 0} (n : ℕ) (x : Value) (l : ℕ) → LawOf lives (instr.JLt n x l)
+law_jlt {lives = lives} n x l p choice r s ready = lands_both lives p s s r (nat_lt (r.instance.numbers n) (value_of r x)) ready.fits
+
+pub law_jeq : {lives : Home → Type 0} (n : ℕ) (x : Value) (l : ℕ) → LawOf lives (instr.JEq n x l)
+law_jeq {lives = lives} n x l p choice r s ready = lands_both lives p s s r (r.instance.numbers n == value_of r x) ready.fits
+
+pub law_jump : {lives : Home → Type 0} (l : ℕ) → LawOf lives (instr.Jump l)
+law_jump l p choice r s ready = ready.fits
+
+-- whether an EOS was passed
+pub law_jsent : {lives : Home → Type 0} (l : ℕ) → LawOf lives (instr.JSent l)
+law_jsent {lives = lives} l p choice r s ready = by_sent r.instance.sent refl where
+  by_sent : (b : Bool) → r.instance.sent ≡ b → Lands lives p (edges_jsent s) s (jumps_if b) r
+  by_sent true is = subst (λ (b : Bool). FitsSome (Covers p (pool_view r) lives) (some_if b s) r) (sym (ready.fits.sent is)) ready.fits
+  by_sent false is = record {
+    sent = λ h. absurd (never h is);
+    pools = ready.fits.pools;
+    brigades = ready.fits.brigades;
+    cursors = ready.fits.cursors;
+    facts = ready.fits.facts;
+  }
+
+-- Numbers and the buffer.
+
+same_numbers : (n v : ℕ) (r : Configuration) → SameSeen r (set_number n v r)
+unfolding set_number
+same_numbers n v r = record { sent = refl; vars = refl; pools = refl; brigades = refl; loose = refl; cursors = refl }
+
+number_law : (lives : Home → Type 0) (p : Program) (s : State) (n v : ℕ) (r : Configuration) → Fits (Covers p (pool_view r) lives) s r
+    → Fits (Covers p (pool_view (set_number n v r)) lives) s (set_number n v r)
+unfolding set_number
+number_law lives p s n v r f = fits_same (Covers p (pool_view r) lives) s r (set_number n v r) (same_numbers n v r) f
+
+pub law_set : {lives : Home → Type 0} (n : ℕ) (x : Value) → LawOf lives (instr.Set n x)
+law_set {lives = lives} n x p choice r s ready = number_law lives p s n (value_of r x) r ready.fits
+
+pub law_add : {lives : Home → Type 0} (n : ℕ) (x : Value) → LawOf lives (instr.Add n x)
+law_add {lives = lives} n x p choice r s ready = number_law lives p s n (min last_value (r.instance.numbers n + value_of r x)) r ready.fits
+
+pub law_sub : {lives : Home → Type 0} (n : ℕ) (x : Value) → LawOf lives (instr.Sub n x)
+law_sub {lives = lives} n x p choice r s ready = number_law lives p s n (r.instance.numbers n - value_of r x) r ready.fits
+
+pub law_len : {lives : Home → Type 0} (n c : ℕ) → LawOf lives (instr.Len n c)
+law_len {lives = lives} n c p choice r s ready = number_law lives p s n (min last_value (length_of (content_at (spot r c)))) r ready.fits
+
+pub law_get : {lives : Home → Type 0} (n : ℕ) (x : Value) (l : ℕ) → LawOf lives (instr.Get n x l)
+law_get {lives = lives} n x l p choice r s ready = by_byte (byte_of (value_of r x) (content_at (spot r read_cursor))) where
+  by_byte : (o : Option ℕ) → Lands lives p (both_with s) s (jumps_if (is_none o)) (got n o r)
+  by_byte None = ready.fits
+  by_byte (Some b) = number_law lives p s n b r ready.fits
+
+-- one more byte in the buffer
+abbrev with_byte : Value → Configuration → Configuration
+with_byte x r = record r { call = record r.call { buffer = r.call.buffer ++ value_of r x ∷ [] } }
+
+pub law_put : {lives : Home → Type 0} (x : Value) (l : ℕ) → LawOf lives (instr.Put x l)
+law_put {lives = lives} x l p choice r s ready = by_room (is_full r x) where
+  by_room : (b : Bool) → Lands lives p (both_with s) s (jumps_if b) (cond b r (with_byte x r))
+  by_room true = ready.fits
+  by_room false = fits_same (Covers p (pool_view r) lives) s r (with_byte x r) (record { sent = refl; vars = refl; pools = refl; brigades = refl; loose = refl; cursors = refl }) ready.fits
+
+pub law_clearbuf : {lives : Home → Type 0} → LawOf lives instr.ClearBuf
+law_clearbuf {lives = lives} p choice r s ready =
+    fits_same (Covers p (pool_view r) lives) s r (do_clearbuf r) (record { sent = refl; vars = refl; pools = refl; brigades = refl; loose = refl; cursors = refl }) ready.fits
+
+-- Tests of one variable.
+
+-- one variable is told more of
+pool_told : (C : Homes → Home → Type 0) (s : State) (r : Configuration) (q : ℕ) (v : PoolState) → Fits C s r → FitsPool r.shared.pools v (r.instance.pools q) → Fits C (set_pool q v s) r
+pool_told C s r q v f e = record {
+  sent = f.sent;
+  pools = upd_first (FitsPool r.shared.pools) s.pools r.instance.pools q v e (λ k ne. f.pools k);
+  brigades = f.brigades;
+  cursors = f.cursors;
+  facts = f.facts;
+}
+
+brigade_told : (C : Homes → Home → Type 0) (s : State) (r : Configuration) (b : ℕ) (v : BrigadeKnown) → Fits C s r → FitsBrigade C v (r.instance.brigades b) → Fits C (set_brigade b v s) r
+brigade_told C s r b v f e = record {
+  sent = f.sent;
+  pools = f.pools;
+  brigades = upd_first (FitsBrigade C) s.brigades r.instance.brigades b v e (λ k ne. f.brigades k);
+  cursors = f.cursors;
+  facts = f.facts;
+}
+
+-- an edge that is there
+lands_if : (C : Homes → Home → Type 0) (b : Bool) (s : State) (r : Configuration) → b ≡ true → Fits C s r → FitsSome C (some_if b s) r
+lands_if C b s r h f = subst (λ (x : Bool). FitsSome C (some_if x s) r) (sym h) f
+
+null_pool : (lives : Home → Type 0) (p : Program) (s : State) (r : Configuration) (q : ℕ) (x : PoolVar) → r.instance.pools q ≡ x → FitsPool r.shared.pools (s.pools q) x
+    → Fits (Covers p (pool_view r) lives) s r → Lands lives p (edges_jnull (variable.Pool q) s) s (jumps_if (is_null_pool x)) r
+null_pool lives p s r q poolvar.Null is e f =
+    lands_if (Covers p (pool_view r) lives) (s.pools q).null (set_pool q only_null s) r e
+    (pool_told (Covers p (pool_view r) lives) s r q only_null f (subst (λ (x : PoolVar). FitsPool r.shared.pools only_null x) (sym is) refl))
+null_pool lives p s r q (poolvar.Made n) is e f =
+    lands_if (Covers p (pool_view r) lives) ((s.pools q).gone || (s.pools q).live) (set_pool q (pool_not_null (s.pools q)) s) r (by_life (is_live r.shared.pools n) e)
+    (pool_told (Covers p (pool_view r) lives) s r q (pool_not_null (s.pools q)) f (subst (λ (x : PoolVar). FitsPool r.shared.pools (pool_not_null (s.pools q)) x) (sym is) e)) where
+      by_life : (l : Bool) → cond l (s.pools q).live (s.pools q).gone ≡ true → ((s.pools q).gone || (s.pools q).live) ≡ true
+      by_life true h = or_right (s.pools q).gone (s.pools q).live h
+      by_life false h = or_left (s.pools q).gone (s.pools q).live h
+
+-- a mark says nothing of whether the variable may be null
+mark_not_null : (C : Homes → Home → Type 0) (v : BrigadeKnown) (m : Mark) (xs : List NamedBucket) → FitsMark C v m xs → FitsMark C (brigade_not_null v) m xs
+mark_not_null C v Usable xs e = e
+mark_not_null C v Passed xs e = e
+
+null_brigade : (lives : Home → Type 0) (p : Program) (s : State) (r : Configuration) (b : ℕ) (x : BrigadeVar) → r.instance.brigades b ≡ x → FitsBrigade (Covers p (pool_view r) lives) (s.brigades b) x
+    → Fits (Covers p (pool_view r) lives) s r → Lands lives p (edges_jnull (variable.Brigade b) s) s (jumps_if (is_null_brigade x)) r
+null_brigade lives p s r b var.Null is e f =
+    lands_if (Covers p (pool_view r) lives) (s.brigades b).null (set_brigade b never_made s) r e
+    (brigade_told (Covers p (pool_view r) lives) s r b never_made f (subst (λ (x : BrigadeVar). FitsBrigade (Covers p (pool_view r) lives) never_made x) (sym is) refl))
+null_brigade lives p s r b var.Gone is e f =
+    lands_if (Covers p (pool_view r) lives) ((s.brigades b).gone || (s.brigades b).live) (set_brigade b (brigade_not_null (s.brigades b)) s) r (or_left (s.brigades b).gone (s.brigades b).live e)
+    (brigade_told (Covers p (pool_view r) lives) s r b (brigade_not_null (s.brigades b)) f (subst (λ (x : BrigadeVar). FitsBrigade (Covers p (pool_view r) lives) (brigade_not_null (s.brigades b)) x) (sym is) e))
+null_brigade lives p s r b (var.Live v) is e f =
+    lands_if (Covers p (pool_view r) lives) ((s.brigades b).gone || (s.brigades b).live) (set_brigade b (brigade_not_null (s.brigades b)) s) r (or_right (s.brigades b).gone (s.brigades b).live (e.0))
+    (brigade_told (Covers p (pool_view r) lives) s r b (brigade_not_null (s.brigades b)) f
+    (subst (λ (x : BrigadeVar). FitsBrigade (Covers p (pool_view r) lives) (brigade_not_null (s.brigades b)) x) (sym is) (e.0, mark_not_null (Covers p (pool_view r) lives) (s.brigades b) v.mark v.items (e.1))))
+
+pub law_jnull : {lives : Home → Type 0} (v : VarRef) (l : ℕ) → LawOf lives (instr.JNull v l)
+law_jnull {lives = lives} (variable.Pool q) l p choice r s ready = null_pool lives p s r q (r.instance.pools q) refl (ready.fits.pools q) ready.fits
+law_jnull {lives = lives} (variable.Brigade b) l p choice r s ready = null_brigade lives p s r b (r.instance.brigades b) refl (ready.fits.brigades b) ready.fits
+
+-- Whether a brigade is empty.
+
+some_there : (C : Homes → Home → Type 0) (k : Contents) (x : NamedBucket) (xs : List NamedBucket) → Holds k (x ∷ xs) → not (holds_none k) ≡ true
+some_there C Empty x xs e = cc
+some_there C k x xs e = refl
+
+mark_empty : (C : Homes → Home → Type 0) (m : Mark) → cond (is_passed m) (Some F7) None ≡ None → FitsMark C (holds Empty no_homes) m []
+mark_empty C Usable h = (refl, refl, each_none (λ x. C no_homes x.bucket.home))
+mark_empty C Passed h = cc
+
+empty_brigade : (lives : Home → Type 0) (p : Program) (s : State) (r : Configuration) (b : ℕ) (x : BrigadeVar) → r.instance.brigades b ≡ x → usable_fault x ≡ None
+    → FitsBrigade (Covers p (pool_view r) lives) (s.brigades b) x → Fits (Covers p (pool_view r) lives) s r → Lands lives p (edges_jempty b s) s (jumps_if (is_empty (items_of x))) r
+empty_brigade lives p s r b var.Null is h e f = cc
+empty_brigade lives p s r b var.Gone is h e f = cc
+empty_brigade lives p s r b (var.Live v) is h e f = by_items v.items refl (usable_items (Covers p (pool_view r) lives) (s.brigades b) (var.Live v) e h).0 where
+  by_items : (xs : List NamedBucket) → v.items ≡ xs → Holds (s.brigades b).content xs → Lands lives p (edges_jempty b s) s (jumps_if (is_empty xs)) r
+  by_items [] none has =
+      brigade_told (Covers p (pool_view r) lives) s r b (holds Empty no_homes) f
+      (subst (λ (y : BrigadeVar). FitsBrigade (Covers p (pool_view r) lives) (holds Empty no_homes) y) (sym is)
+      (refl, subst (λ (ys : List NamedBucket). FitsMark (Covers p (pool_view r) lives) (holds Empty no_homes) v.mark ys) (sym none) (mark_empty (Covers p (pool_view r) lives) v.mark h)))
+  by_items (x ∷ xs) some has =
+      lands_if (Covers p (pool_view r) lives) (not (holds_none (s.brigades b).content)) s r (some_there (Covers p (pool_view r) lives) (s.brigades b).content x xs has) f
+
+pub law_jempty : {lives : Home → Type 0} (b l : ℕ) → LawOf lives (instr.JEmpty b l)
+law_jempty {lives = lives} b l p choice r s ready =
+    empty_brigade lives p s r b (r.instance.brigades b) refl ((both_none (usable_fault (r.instance.brigades b)) None ready.may.faultless).0) (ready.fits.brigades b) ready.fits
+
+-- Where a cursor stands.
+
+-- one cursor is told more of
+pub told_fits : (C : Homes → Home → Type 0) (r : Configuration) (s : State) (c : ℕ) (k : CursorKnown) → SoundNames r → Fits C s r → FitsCursor C r k (r.call.cursors c) → Fits C (told c k s) r
+unfolding moved
+told_fits C r s c k names f e = record {
+  sent = f.sent;
+  pools = f.pools;
+  brigades = f.brigades;
+  cursors = upd_first (FitsCursor C r) s.cursors r.call.cursors c k e (λ d ne. f.cursors d);
+  facts = moved_facts C r s names f (upd s.cursors c k);
+}
+
+end_lands : (lives : Home → Type 0) (p : Program) (r : Configuration) (s : State) (c : ℕ) (k : CursorKnown) → Sound r → Fits (Covers p (pool_view r) lives) s r → cursor_need Anywhere k ≡ None
+    → FitsCursor (Covers p (pool_view r) lives) r k (r.call.cursors c) → Lands lives p (edges_jend c k s) s (jumps_if (is_end (spot r c))) r
+end_lands lives p r s c Unset sound f h e = cc
+end_lands lives p r s c (Loose t homes) sound f h e =
+    subst (λ at. Lands lives p (goes_on_with s) s (jumps_if (is_end at)) r) (sym (spot_loose (Covers p (pool_view r) lives) r (r.call.cursors c) t homes sound.names e)) f
+end_lands lives p r s c (In b t) sound f h e =
+    subst (λ at. Lands lives p (goes_on_with s) s (jumps_if (is_end at)) r) (sym (spot_in r (r.call.cursors c) b t sound.names e)) f
+end_lands lives p r s c (End b) sound f h e =
+    subst (λ at. Lands lives p (edges_jend c (End b) s) s (jumps_if (is_end at)) r) (sym (spot_end r (r.call.cursors c) b sound.names e)) f
+end_lands lives p r s c (InOrEnd b t) sound f h (inl e) =
+    subst (λ at. Lands lives p (edges_jend c (InOrEnd b t) s) s (jumps_if (is_end at)) r) (sym (spot_in r (r.call.cursors c) b t sound.names e))
+    (told_fits (Covers p (pool_view r) lives) r s c (In b t) sound.names f e)
+end_lands lives p r s c (InOrEnd b t) sound f h (inr e) =
+    subst (λ at. Lands lives p (edges_jend c (InOrEnd b t) s) s (jumps_if (is_end at)) r) (sym (spot_end r (r.call.cursors c) b sound.names e))
+    (told_fits (Covers p (pool_view r) lives) r s c (End b) sound.names f e)
+
+pub law_jend : {lives : Home → Type 0} (c l : ℕ) → LawOf lives (instr.JEnd c l)
+law_jend {lives = lives} c l p choice r s ready =
+    end_lands lives p r s c (s.cursors c) ready.sound ready.fits ((both_none (cursor_need Anywhere (s.cursors c)) None ready.met).0) (ready.fits.cursors c)
+
+-- Kinds of buckets.
+
+class_of_kind : (k : KindTest) (t : Classes) (x : Kind) → is_of_kind k x ≡ true → class_has t x ≡ true → class_has (of_kind k t) x ≡ true
+class_of_kind test.Flush t kind.Flush is h = h
+class_of_kind test.Eos t kind.Eos is h = h
+class_of_kind test.Data t kind.Flush is h = cc
+class_of_kind test.Data t kind.Eos is h = cc
+class_of_kind test.Data t x is h = h
+class_of_kind test.Heap t kind.Heap is h = h
+class_of_kind test.Transient t kind.Transient is h = h
+class_of_kind test.Immortal t kind.Immortal is h = h
+class_of_kind test.Pool t (kind.Pool q) is h = h
+class_of_kind test.File t kind.File is h = h
+class_of_kind k t x is h = cc
+
+class_not_of_kind : (k : KindTest) (t : Classes) (x : Kind) → is_of_kind k x ≡ false → class_has t x ≡ true → class_has (not_of_kind k t) x ≡ true
+class_not_of_kind test.Flush t kind.Flush is h = cc
+class_not_of_kind test.Eos t kind.Eos is h = cc
+class_not_of_kind test.Data t kind.Flush is h = h
+class_not_of_kind test.Data t kind.Eos is h = h
+class_not_of_kind test.Data t x is h = cc
+class_not_of_kind k t x is h = h
+
+some_classes : (t : Classes) (x : Kind) → class_has t x ≡ true → some_class t ≡ true
+some_classes t kind.Flush h = or_left (t.bytes || t.flush) t.eos (or_right t.bytes t.flush h)
+some_classes t kind.Eos h = or_right (t.bytes || t.flush) t.eos h
+some_classes t x h = or_left (t.bytes || t.flush) t.eos (or_left t.bytes t.flush h)
+
+-- the edges by what is known of the cursor
+abbrev kind_edges : ℕ → KindTest → CursorKnown → State → Edges
+kind_edges c k known s = record {
+  next = some_if (some_class (not_of_kind k (classes_of known))) (told c (with_classes (not_of_kind k (classes_of known)) known) s);
+  jump = some_if (some_class (of_kind k (classes_of known))) (told c (with_classes (of_kind k (classes_of known)) known) s);
+}
+
+-- c is at a bucket of this kind, and what is known of it fits it with any classes that have the kind
+kind_lands : (lives : Home → Type 0) (p : Program) (r : Configuration) (s : State) (c : ℕ) (k : KindTest) (x : Kind) (known : CursorKnown)
+    → SoundNames r → Fits (Covers p (pool_view r) lives) s r → class_has (classes_of known) x ≡ true
+    → ((t : Classes) → class_has t x ≡ true → FitsCursor (Covers p (pool_view r) lives) r (with_classes t known) (r.call.cursors c))
+    → Lands lives p (kind_edges c k known s) s (jumps_if (is_of_kind k x)) r
+kind_lands lives p r s c k x known names f h fitting = by_test (is_of_kind k x) refl where
+  by_test : (b : Bool) → is_of_kind k x ≡ b → Lands lives p (kind_edges c k known s) s (jumps_if b) r
+  by_test true is =
+      let has = class_of_kind k (classes_of known) x is h in
+      lands_if (Covers p (pool_view r) lives) (some_class (of_kind k (classes_of known))) (told c (with_classes (of_kind k (classes_of known)) known) s) r (some_classes (of_kind k (classes_of known)) x has)
+      (told_fits (Covers p (pool_view r) lives) r s c (with_classes (of_kind k (classes_of known)) known) names f (fitting (of_kind k (classes_of known)) has))
+  by_test false is =
+      let has = class_not_of_kind k (classes_of known) x is h in
+      lands_if (Covers p (pool_view r) lives) (some_class (not_of_kind k (classes_of known))) (told c (with_classes (not_of_kind k (classes_of known)) known) s) r (some_classes (not_of_kind k (classes_of known)) x has)
+      (told_fits (Covers p (pool_view r) lives) r s c (with_classes (not_of_kind k (classes_of known)) known) names f (fitting (not_of_kind k (classes_of known)) has))
+
+known_lands : (lives : Home → Type 0) (p : Program) (r : Configuration) (s : State) (c : ℕ) (k : KindTest) (known : CursorKnown)
+    → SoundNames r → Fits (Covers p (pool_view r) lives) s r → cursor_need OnBucket known ≡ None → FitsCursor (Covers p (pool_view r) lives) r known (r.call.cursors c)
+    → Lands lives p (kind_edges c k known s) s (jumps_if (kind_is k (bucket_at (spot r c)))) r
+known_lands lives p r s c k Unset names f h e = cc
+known_lands lives p r s c k (Loose t homes) names f h e =
+    subst (λ at. Lands lives p (kind_edges c k (Loose t homes) s) s (jumps_if (kind_is k (bucket_at at))) r) (sym (spot_loose (Covers p (pool_view r) lives) r (r.call.cursors c) t homes names e))
+    (kind_lands lives p r s c k e.bucket.bucket.kind (Loose t homes) names f e.classed (λ u has. record { bucket = e.bucket; at = e.at; there = e.there; classed = has; covered = e.covered }))
+known_lands lives p r s c k (In b t) names f h e =
+    subst (λ at. Lands lives p (kind_edges c k (In b t) s) s (jumps_if (kind_is k (bucket_at at))) r) (sym (spot_in r (r.call.cursors c) b t names e))
+    (kind_lands lives p r s c k e.bucket.bucket.kind (In b t) names f e.classed (λ u has. record { bucket = e.bucket; at = e.at; there = e.there; classed = has; usable = e.usable }))
+known_lands lives p r s c k (End b) names f h e = cc
+known_lands lives p r s c k (InOrEnd b t) names f h e = cc
+
+pub law_jkind : {lives : Home → Type 0} (c : ℕ) (k : KindTest) (l : ℕ) → LawOf lives (instr.JKind c k l)
+law_jkind {lives = lives} c k l p choice r s ready =
+    known_lands lives p r s c k (s.cursors c) ready.sound.names ready.fits ((both_none (cursor_need OnBucket (s.cursors c)) None ready.met).0) (ready.fits.cursors c)

@@ -1,0 +1,178 @@
+-- The rules, instruction by instruction.
+use Rattle.std.proofs.Common.{◌≡◌, ℕ, ◌<◌, ◌≤◌, Bool, true, false, ◌||◌, not, nat_lt, length, List, [], ◌∷◌, Option, Some, None, IfSome, IfOk, refl, ap, sym, subst, ◌∙◌, inl, ⊎_elim, arith, slice_index_or}
+use Rattle.std.proofs.lemmas.Option.{slice_get-get_or}
+use Rattle.std.proofs.lemmas.Bool.{ltb-true, lt-ltb, cases_lt}
+use Rattle.module_lang.specs.declared.instr.Instr.{Instr}
+use Rattle.module_lang.specs.declared.instr.Instr.TheVariants as instr
+use Rattle.module_lang.specs.declared.instr.PoolRef.TheVariants as pool
+use Rattle.module_lang.specs.declared.instr.VarRef.{VarRef}
+use Rattle.module_lang.specs.declared.instr.VarRef.TheVariants as variable
+use Rattle.module_lang.specs.Args.{args}
+use Rattle.module_lang.specs.Tables.{place_is_declared}
+use Rattle.module_lang.specs.Program.{Program, IsModule, is_variable, pool_of_brigade}
+use Rattle.module_lang.proofs.FitLaws.{AreFit, fits_parts}
+use Rattle.run_model.specs.declared.fault.FaultKind.{FaultKind}
+use Rattle.run_model.specs.Faults.{Want, WUsable, wants}
+use Rattle.life_state.specs.declared.parts.Classes.{Classes}
+use Rattle.life_state.specs.States.{no_homes, only_call, home_in, both_homes, only_null, only_live, ended_pool, BrigadeKnown, never_made, is_live_brigade, CursorKnown, Unset, Loose, In, End, InOrEnd, State, set_pool, set_brigade}
+use Rattle.life_state.specs.Facts.{known}
+use Rattle.life_state.specs.Rules.{need, first_need, Edges, goes_on_with, some_if, some_class, told, with_classes, classes_of, told_classes, no_other, only_bytes, only_flush, only_eos, tail_content, head_content, edges_jend, edges_jnull, edges, need_or, made, is_empty, after_pclear, after_pdestroy, pool_not_null, brigade_not_null, of_kind, not_of_kind}
+use Rattle.life_state.specs.Form.{NamesDeclared, AtHand, FormedCursor}
+use Rattle.life_state.specs.FormLaws.{IsFormedIn, RulesKeepForm}
+use Rattle.life_state.proofs.FormParts.{no_named, call_named, both_named, home_named, ended_some, never_formed, not_null_formed, hand_not_null}
+use Rattle.life_state.proofs.FormMoves.{live_not_null, set_cursor_formed, told_formed, brigade_formed, pool_formed}
+use Rattle.life_state.proofs.FormNeeds.{or_none, live_there, hand_there, place_there, on_bucket, on_loose, in_brigade}
+use Rattle.life_state.proofs.FormSteps.{hand_live, classes_formed, emptied_at, bcreate_formed, bclean_formed, join_formed, bsplit_formed, pass_formed, sent_formed, first_formed, next_formed, made_formed, copy_formed, unlink_formed, bdelete_formed, put_formed, before_formed, aside_formed}
+use Rattle.life_state.proofs.FormClears.{cleared_formed}
+use Rattle.life_state.proofs.UnderLaws.{brigade_past}
+
+cursor_number : (c : ℕ) → nat_lt c 8 ≡ true → c < 9
+cursor_number c h = let below : c < 8 = ltb-true c 8 h in omega arith
+
+-- a brigade's pool is declared; beyond the last it is the connection's
+brigade_declared : (p : Program) (o : ℕ) → IsModule p → place_is_declared (length p.pools) (pool_of_brigade p o) ≡ true
+unfolding pool_of_brigade
+brigade_declared p o m =
+    ⊎_elim (λ (low : o < length p.brigades). m.homes o (slice_index_or p.brigades o pool.Conn) (slice_get-get_or p.brigades o pool.Conn low))
+    (λ (high : length p.brigades ≤ o). ap (place_is_declared (length p.pools)) (brigade_past p o high))
+    (cases_lt o (length p.brigades))
+
+not_null : (v : BrigadeKnown) → v.null ≡ true → not v.null ≡ true → ⊥
+not_null v e h = clash (sym (ap not e) ∙ h)
+  where
+    clash : false ≡ true → ⊥
+    clash x = cc
+
+module _ (p : Program) (call : Bool) (s : State) (m : IsModule p) (f : IsFormedIn p call s) where
+  abbrev AreFormed : Edges → Type 0
+  AreFormed e = IfSome e.next (IsFormedIn p call) × IfSome e.jump (IsFormedIn p call)
+
+  if_reached : (e : Bool) (t : State) → (e ≡ true → IsFormedIn p call t) → IfSome (some_if e t) (IsFormedIn p call)
+  if_reached true t g = g refl
+  if_reached false t g = tt
+
+  -- each need is met
+  Met : List Want → Type 0
+  Met [] = Unit {0}
+  Met (w ∷ ws) = (need s w ≡ None) × Met ws
+
+  met : (ws : List Want) → first_need s ws ≡ None → Met ws
+  unfolding Met
+  met [] h = tt
+  met (w ∷ ws) h = let both = or_none (need s w) (first_need s ws) h in (both.0, met ws (both.1))
+
+  hand : (b : ℕ) → need s (WUsable b) ≡ None → AtHand s b
+  hand b h = hand_there s b f.formed h
+
+  live : (b : ℕ) → need s (WUsable b) ≡ None → is_live_brigade (s.brigades b) ≡ true
+  live b h = hand_live (s.brigades b) ((hand b h).1)
+
+  own_pool : (t : State) (q : ℕ) → IsFormedIn p call t → nat_lt q (length p.pools) ≡ true → q < t.pool_count
+  own_pool t q g h = subst (λ (n : ℕ). q < n) (sym g.pools) (ltb-true q (length p.pools) h)
+
+  own_brigade : (b : ℕ) → nat_lt b (length p.brigades) ≡ true → b < s.brigade_count
+  own_brigade b h = subst (λ (n : ℕ). b < n) (sym f.brigades) (ltb-true b (length p.brigades) h)
+
+  -- a pool variable that is cleared, and then destroyed
+  cleared_own : (q : ℕ) → nat_lt q (length p.pools) ≡ true → IsFormedIn p call (after_pclear p q s)
+  cleared_own q h = cleared_formed p call (pool.Own q) s m (lt-ltb q 8 (let below : q < length p.pools = ltb-true q (length p.pools) h in omega (arith, m.pools))) f
+
+  destroyed : (q : ℕ) → nat_lt q (length p.pools) ≡ true → IsFormedIn p call (after_pdestroy p q s)
+  destroyed q h =
+      let g = cleared_own q h in
+      pool_formed p call (after_pclear p q s) q (ended_pool (s.pools q)) g (own_pool (after_pclear p q s) q g h) (ended_some (s.pools q) (f.formed.pools q))
+
+  brigades_home : (o : ℕ) → NamesDeclared s (home_in (pool_of_brigade p o))
+  brigades_home o = home_named s (pool_of_brigade p o) (subst (λ (n : ℕ). place_is_declared n (pool_of_brigade p o) ≡ true) (sym f.pools) (brigade_declared p o m))
+
+  -- a new bucket without a home
+  fresh : (c : ℕ) (t : Classes) → some_class t ≡ true → nat_lt c 8 ≡ true → AreFormed (goes_on_with (made c t no_homes s))
+  fresh c t some h = (made_formed p call s c t no_homes f (cursor_number c h) some (no_named s), tt)
+
+  end_edges : (c : ℕ) (x : CursorKnown) → c < 9 → FormedCursor s x → AreFormed (edges_jend c x s)
+  end_edges c (End b) inside here = (tt, f)
+  end_edges c (InOrEnd b t) inside here = (told_formed p call s c (In b t) f inside here, told_formed p call s c (End b) f inside (here.1))
+  end_edges c Unset inside here = (f, tt)
+  end_edges c (Loose t h) inside here = (f, tt)
+  end_edges c (In b t) inside here = (f, tt)
+
+  told_of : (c : ℕ) (t : Classes) → c < 9 → IfSome (told_classes c t s) (IsFormedIn p call)
+  told_of c t inside =
+      if_reached (some_class t) (told c (with_classes t (s.cursors c)) s)
+      (λ e. told_formed p call s c (with_classes t (s.cursors c)) f inside (classes_formed s t (s.cursors c) e (f.formed.cursors c)))
+
+  null_edges : (v : VarRef) → is_variable p v ≡ true → AreFormed (edges_jnull v s)
+  null_edges (variable.Pool q) h = (
+    if_reached ((s.pools q).gone || (s.pools q).live) (set_pool q (pool_not_null (s.pools q)) s) (λ e. pool_formed p call s q (pool_not_null (s.pools q)) f (own_pool s q f h) e),
+    if_reached (s.pools q).null (set_pool q only_null s) (λ e. pool_formed p call s q only_null f (own_pool s q f h) refl),
+  )
+  null_edges (variable.Brigade b) h =
+      let v = s.brigades b in (
+        if_reached (v.gone || v.live) (set_brigade b (brigade_not_null v) s)
+            (λ e. brigade_formed p call s b (brigade_not_null v) f (inl (own_brigade b h)) (not_null_formed v e (f.formed.brigades b)) (f.formed.homes b) (hand_not_null v)),
+        if_reached v.null (set_brigade b never_made s)
+            (λ e. brigade_formed p call s b never_made f (inl (own_brigade b h)) never_formed (no_named s) (λ k. absurd (not_null v e (live_not_null v (hand_live v k))))),
+      )
+
+  edges_formed : (i : Instr) → AreFit p (args i) → Met (wants p i) → AreFormed (edges p i s)
+  unfolding Met
+  edges_formed (instr.PCreate q) a h = (pool_formed p call s q only_live f (own_pool s q f (a.first.0)) refl, tt)
+  edges_formed (instr.PClear q) a h = (cleared_own q (a.first.0), tt)
+  edges_formed (instr.PDestroy q) a h = (destroyed q (a.first.0), tt)
+  edges_formed (instr.Label q t) a h = (f, tt)
+  edges_formed (instr.Unlabel q t) a h = (f, tt)
+  edges_formed (instr.BCreate o) a h = (bcreate_formed p call s o f (own_brigade o (a.first.0)), tt)
+  edges_formed (instr.BClean b) a h = (bclean_formed p call s b f (live_there (s.brigades b) (h.0)), tt)
+  edges_formed (instr.BConcat b d) a h =
+      (join_formed p call s b d (both_homes (s.brigades b).homes (s.brigades d).homes) f (hand b (h.0)) (live d (h.1.0)) (both_named s (s.brigades b).homes (s.brigades d).homes (f.formed.homes b) (f.formed.homes d)), tt)
+  edges_formed (instr.BSplit b c d) a h = (bsplit_formed p call s b c d f (hand d (h.1.1.0)), tt)
+  edges_formed (instr.BPart b x c l) a h =
+      (first_formed p call s c b f (cursor_number c (a.third.0)) (hand b (h.0)), set_cursor_formed p call s c (End b) no_other f (cursor_number c (a.third.0)) (hand b (h.0)))
+  edges_formed (instr.BSave o b) a h = (
+    join_formed p call s o b (both_homes (s.brigades o).homes (home_in (pool_of_brigade p o))) f (hand o (h.0)) (live b (h.1.0))
+        (both_named s (s.brigades o).homes (home_in (pool_of_brigade p o)) (f.formed.homes o) (brigades_home o)),
+    tt,
+  )
+  edges_formed (instr.JEmpty b l) a h = (if_reached (not (is_empty (s.brigades b).content)) s (λ e. f), emptied_at p call s b f (live b (h.0)))
+  edges_formed (instr.Pass b l) a h = let g = pass_formed p call s b f (live b (h.0)) in (g, g)
+  edges_formed (instr.First c b) a h = (first_formed p call s c b f (cursor_number c (a.first.0)) (hand b (h.0)), tt)
+  edges_formed (instr.Next d c) a h = (next_formed p call s d c (s.cursors c) f (cursor_number d (a.first.0)) (f.formed.cursors c), tt)
+  edges_formed (instr.JEnd c l) a h = end_edges c (s.cursors c) (cursor_number c (a.first.0)) (f.formed.cursors c)
+  edges_formed (instr.JKind c k l) a h = (told_of c (not_of_kind k (classes_of (s.cursors c))) (cursor_number c (a.first.0)), told_of c (of_kind k (classes_of (s.cursors c))) (cursor_number c (a.first.0)))
+  edges_formed (instr.Unlink c) a h = (unlink_formed p call s c f (cursor_number c (a.first.0)) (in_brigade (s.cursors c) (h.0)), tt)
+  edges_formed (instr.BDelete c) a h = (bdelete_formed p call s c f (cursor_number c (a.first.0)), tt)
+  edges_formed (instr.Tail b c) a h = (put_formed p call tail_content s b c f (cursor_number c (a.second.0)) (hand b (h.0)) (on_loose (s.cursors c) (h.1.0)), tt)
+  edges_formed (instr.Head b c) a h = (put_formed p call head_content s b c f (cursor_number c (a.second.0)) (hand b (h.0)) (on_loose (s.cursors c) (h.1.0)), tt)
+  edges_formed (instr.Before c d) a h = (before_formed p call s c (s.cursors d) f (cursor_number c (a.first.0)) (on_loose (s.cursors c) (h.0)) (f.formed.cursors d), tt)
+  edges_formed (instr.Heap c t) a h = fresh c only_bytes refl (a.first.0)
+  edges_formed (instr.Immortal c t) a h = fresh c only_bytes refl (a.first.0)
+  edges_formed (instr.FromBuf c) a h = fresh c only_bytes refl (a.first.0)
+  edges_formed (instr.Transient c) a h = (made_formed p call s c only_bytes only_call f (cursor_number c (a.first.0)) refl (call_named s), tt)
+  edges_formed (instr.PoolB c q) a h = fresh c only_bytes refl (a.first.0)
+  edges_formed (instr.Flush c) a h = fresh c only_flush refl (a.first.0)
+  edges_formed (instr.Eos c) a h = fresh c only_eos refl (a.first.0)
+  edges_formed (instr.Split c x l) a h = (f, f)
+  edges_formed (instr.Copy d c) a h = (copy_formed p call s d c f (cursor_number d (a.first.0)) (on_bucket (s.cursors c) (h.0)), tt)
+  edges_formed (instr.Aside c q) a h = (aside_formed p call s c q (s.cursors c) f (cursor_number c (a.first.0)) (home_named s q (place_there s q f.formed (h.1.0))) (f.formed.cursors c), tt)
+  edges_formed (instr.Read c l) a h =
+      (set_cursor_formed p call s 8 (s.cursors c) (known s c) f (omega arith) (f.formed.cursors c), set_cursor_formed p call s 8 Unset no_other f (omega arith) tt)
+  edges_formed (instr.Len n c) a h = (f, tt)
+  edges_formed (instr.Get n x l) a h = (f, f)
+  edges_formed (instr.Put x l) a h = (f, f)
+  edges_formed instr.ClearBuf a h = (f, tt)
+  edges_formed (instr.Set n x) a h = (f, tt)
+  edges_formed (instr.Add n x) a h = (f, tt)
+  edges_formed (instr.Sub n x) a h = (f, tt)
+  edges_formed (instr.JLt n x l) a h = (f, f)
+  edges_formed (instr.JEq n x l) a h = (f, f)
+  edges_formed (instr.JNull v l) a h = null_edges v (a.first.0)
+  edges_formed (instr.JSent l) a h = (sent_formed p call s false f, if_reached s.sent s (λ e. f))
+  edges_formed (instr.Jump l) a h = (tt, f)
+  edges_formed (instr.Ret t) a h = (tt, tt)
+
+pub rules_keep_form : RulesKeepForm
+rules_keep_form p call i s e m fit f h = subst (λ r. IfOk r (AreFormed p call s m f)) h (answered (first_need s (wants p i)) refl)
+  where
+    answered : (k : Option FaultKind) → first_need s (wants p i) ≡ k → IfOk (need_or k (edges p i s)) (AreFormed p call s m f)
+    answered None none = edges_formed p call s m f i (fits_parts p i fit) (met p call s m f (wants p i) none)
+    answered (Some k) none = tt
