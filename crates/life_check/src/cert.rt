@@ -7,6 +7,7 @@ ghost use Rattle.life_check.specs.Seen.{seen_cert};
 use life_state::State;
 
 /// States for a module: what is known between calls, and before each instruction that can be reached. Anybody may have made it.
+#[derive(Drop)]
 pub struct Cert {
     /// Between calls, before `init`. None says that no call ends there.
     pub idle: Option<State>,
@@ -17,8 +18,8 @@ pub struct Cert {
 }
 
 impl Cert {
-    /// The state before an instruction.
-    pub(crate) fn state(&self, pc: usize) -> Option<State>
+    /// The state before an instruction; none beyond the last.
+    pub fn state(&self, pc: usize) -> Option<State>
         ensures { seen_some result ≡ (seen_cert self.now).at pc }
     {
         if pc < self.at.len() {

@@ -11,4 +11,5 @@ mod shape;
 
 pub use cert::Cert;
 pub use checked::check;
+pub use lines::target;
 pub use refusal::{CheckRefusal, Rule};

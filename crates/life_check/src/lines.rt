@@ -15,7 +15,8 @@ use life_state::{State, Successors, after, at_return};
 use module_lang::{Instr, Module};
 use run_model::FaultKind;
 
-fn target(instr: Instr) -> usize
+/// The instruction that an instruction names as its target; 0 where it names none.
+pub fn target(instr: Instr) -> usize
     ensures { result ≡ unwrap_or (target instr) 0 }
 {
     match instr {

@@ -1,3 +1,4 @@
+pub mod FormLaws
 pub mod Arrays
 pub mod Below
 pub mod ClearLaws

@@ -7,6 +7,8 @@ pub mod PoolOrder
 pub mod Rules
 pub mod Seen
 pub mod Examples
+pub mod Build
 pub mod Form
+pub mod FormTests
 pub mod Laws
 pub mod FormLaws

@@ -1,11 +1,13 @@
 //! Abstract states of a filter instance, their order, and the rules by which each instruction leads from one to the next.
 #![tactic(auto)]
 
+mod build;
 mod clears;
 mod compared;
 mod contents;
 mod cursors;
 mod facts;
+mod form;
 mod handlers;
 mod homes;
 mod joins;

@@ -130,7 +130,7 @@ impl State {
     }
 
     /// Says what a pool variable is.
-    pub(crate) fn set_pool(&mut self, q: u8, pool: PoolState)
+    pub fn set_pool(&mut self, q: u8, pool: PoolState)
         requires { q < 8 }
         ensures { seen self.new ≡ set_pool q pool (seen self.old) }
     {
@@ -138,7 +138,7 @@ impl State {
     }
 
     /// Says what a brigade variable is.
-    pub(crate) fn set_brigade(&mut self, b: u8, brigade: BrigadeState)
+    pub fn set_brigade(&mut self, b: u8, brigade: BrigadeState)
         requires { b < 9 }
         ensures { seen self.new ≡ set_brigade b (seen_brigade brigade) (seen self.old) }
     {

@@ -1,0 +1,16 @@
+pub mod Homes
+pub mod Lines
+pub mod Writing
+pub mod DraftLaws
+pub mod ReadLaws
+pub mod Growing
+pub mod EdgeLaws
+pub mod Handed
+pub mod Arriving
+pub mod Settled
+pub mod RoundsFit
+pub mod Rises
+pub mod Weights
+pub mod Enough
+pub mod RoundsFormed
+pub mod Closed

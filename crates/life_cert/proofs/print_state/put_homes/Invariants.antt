@@ -1,0 +1,8 @@
+-- The homes from this one on are left.
+use Rattle.life_state.specs.Seen.{seen_homes}
+use Rattle.life_cert.proofs.Homes.{LeavesHomes}
+use Rattle.life_cert.proofs.print_state.put_homes.Given as goal
+
+abbrev pub invariant-loop-home : goal.invariant-loop-home
+invariant-loop-home g l =
+    LeavesHomes (g.W.Write.contents l.fn.out) (g.W.Write.contents l.out) l.any (seen_homes l.homes) l.home-index

@@ -1,0 +1,13 @@
+-- A text that is not too long is read as it is.
+use Rattle.std.proofs.Common.{length-take, arith}
+use Rattle.life_cert.proofs.ReadLaws.{all_told}
+use Rattle.life_cert.proofs.read.read_cert.Goals as goal
+
+pub slice_bounds-read_lines-end : goal.slice_bounds-read_lines-end
+slice_bounds-read_lines-end c = omega (arith, length-take 4194304 c.args.text.now)
+
+pub read_lines-requires : goal.read_lines-requires
+read_lines-requires c = omega (arith, length-take 4194304 c.args.text.now)
+
+pub returns-else-text-gt-MAX_LEN-clause-told : goal.returns-else-text-gt-MAX_LEN-clause-told
+returns-else-text-gt-MAX_LEN-clause-told c = all_told c.args.text.now c.read_lines-else-text-gt-MAX_LEN.result c.if-text-gt-MAX_LEN.false c.read_lines-else-text-gt-MAX_LEN.ensures.told

@@ -1,0 +1,14 @@
+pub use Rattle.life_check.specs.Certificates
+pub mod Codes
+pub mod StateText
+pub mod CertText
+pub mod Reading
+pub mod Drafts
+pub mod Examples
+pub use Rattle.module_lang.specs.Program
+pub use Rattle.life_check.specs.Typed
+pub mod Rounds
+pub mod SeenGrowth
+pub mod Fitting
+pub mod Made
+pub mod Laws

@@ -1,0 +1,15 @@
+-- What the maker answers.
+use Rattle.std.specs.Prelude.{◌≡◌, Some, Result, Ok, Err}
+use Rattle.module_lang.specs.Program.{Program}
+use Rattle.life_check.specs.declared.cert.Cert.{Cert}
+use Rattle.life_check.specs.Seen.{seen_cert}
+use Rattle.life_check.specs.Typed.{refusal, first_refusal}
+use Rattle.life_cert.specs.declared.refusal.MakeRefusal.{MakeRefusal}
+use Rattle.life_cert.specs.declared.refusal.MakeRefusal.TheVariants.{At, NoMemory}
+use Rattle.life_cert.specs.Rounds.{made}
+
+-- the certificate is that of the rounds; a refusal is the first that the check finds in it
+abbrev pub IsMade : Program → Result Cert MakeRefusal → Type 0
+IsMade p (Ok c) = seen_cert c ≡ made p
+IsMade p (Err (At pc rule)) = first_refusal p (made p) ≡ Some (refusal pc rule)
+IsMade p (Err NoMemory) = Unit {0}

@@ -1,0 +1,154 @@
+-- What a text is: a certificate's, or one with a first faulty line.
+use Rattle.std.specs.Prelude.{◌≡◌, ℕ, ◌+◌, ◌^◌, ◌≤◌, Bool, true, false, ◌&&◌, ◌||◌, not, nat_lt, nat_le, nat_eq, ◌==◌, if◌then◌else◌, List, [], ◌∷◌, ◌++◌, length, take, codes, Option, Some, None, Result, Ok, Err, IfSome, IsSome, ◌⊎◌}
+use Rattle.std.specs.Cmp.Lexicographic.{pointwise}
+use Rattle.module_lang.specs.Bytes.{after_token, all_printable, token}
+use Rattle.module_lang.specs.Numbers.{decimal_below}
+use Rattle.module_lang.specs.TextLines.{lines_from, rest_from}
+use Rattle.life_state.specs.States.{State}
+use Rattle.life_state.specs.Form.{IsFormed}
+use Rattle.life_check.specs.Certificates.{Certificate}
+use Rattle.life_cert.specs.declared.due.Due.{Due}
+use Rattle.life_cert.specs.declared.due.Due.TheVariants as due
+use Rattle.life_cert.specs.declared.due.Line.{Line}
+use Rattle.life_cert.specs.declared.due.Line.TheVariants as line
+use Rattle.life_cert.specs.declared.refusal.CertCode.{CertCode}
+use Rattle.life_cert.specs.declared.refusal.CertCode.TheVariants as code
+use Rattle.life_cert.specs.declared.refusal.CertRefusal.{CertRefusal}
+use Rattle.life_cert.specs.declared.refusal.CertRefusal.TheVariants.{Fault, NoMemory}
+use Rattle.life_cert.specs.Codes.{code_number}
+use Rattle.life_cert.specs.StateText.{state_text}
+use Rattle.life_cert.specs.CertText.{cert_text, state_or_none}
+
+-- A certificate whose states are in form, with lines for instructions up to 1023, the last of which has a state.
+pub record IsCertificate (c : Certificate) : Type 0 where
+  pub idle : IfSome c.idle IsFormed
+  pub ready : IfSome c.ready IsFormed
+  pub at : (pc : ℕ) → IfSome (c.at pc) IsFormed
+  pub few : c.lines ≤ 1024
+  pub last : (pc : ℕ) → c.lines ≡ pc + 1 → IsSome (c.at pc)
+
+pub record IsTextOf (text : List ℕ) (c : Certificate) : Type 0 where
+  pub sound : IsCertificate c
+  pub whole : text ≡ cert_text c
+  pub small : length text ≤ 4194304
+
+-- Lines.
+
+abbrev pub where_due : Bool → Line → Option Line
+where_due b l = if b then Some l else None
+
+-- the number of an instruction may stand there
+abbrev pub pc_due : ℕ → Option ℕ → Option Line
+pc_due next None = None
+pc_due next (Some pc) = where_due (nat_le next pc && nat_le pc 1023) (line.Instruction pc)
+
+-- `end`, or the number of an instruction, which is no lower than this one
+abbrev pub end_or_pc : ℕ → List ℕ → Option Line
+end_or_pc next l = if pointwise nat_eq l (codes "end") then Some line.End else pc_due next (decimal_below (2 ^ 32) (token l))
+
+-- which line stands there, if it is due
+unfoldable pub due_line : Due → List ℕ → Option Line
+due_line due.Header l = where_due (pointwise nat_eq l (codes "cert 1")) line.Header
+due_line due.Idle l = where_due (pointwise nat_eq (token l) (codes "idle")) line.Idle
+due_line due.Ready l = where_due (pointwise nat_eq (token l) (codes "ready")) line.Ready
+due_line (due.States next) l = end_or_pc next l
+due_line due.Nothing l = None
+
+-- which line is due behind it
+abbrev pub due_after : Line → Due
+due_after line.Header = due.Idle
+due_after line.Idle = due.Ready
+due_after line.Ready = due.States 0
+due_after (line.Instruction pc) = due.States (pc + 1)
+due_after line.End = due.Nothing
+
+-- what stands behind the first word is the text of a state, or of one or none
+abbrev pub IsState : List ℕ → State → Type 0
+IsState rest s = IsFormed s × (rest ≡ codes " " ++ state_text s)
+
+abbrev pub IsStateOrNone : List ℕ → Option State → Type 0
+IsStateOrNone rest o = IfSome o IsFormed × (rest ≡ codes " " ++ state_or_none o)
+
+abbrev pub HasState : Line → List ℕ → Type 0
+HasState line.Header rest = Unit {0}
+HasState line.Idle rest = (o : Option State) × IsStateOrNone rest o
+HasState line.Ready rest = (o : Option State) × IsStateOrNone rest o
+HasState (line.Instruction pc) rest = (s : State) × IsState rest s
+HasState line.End rest = Unit {0}
+
+-- Faults: each code fits a line by itself, where the lines before it leave this line due.
+
+abbrev pub LacksState : Option Line → List ℕ → Type 0
+LacksState None rest = ⊥
+LacksState (Some l) rest = HasState l rest → ⊥
+
+abbrev pub HasCode : Due → List ℕ → CertCode → Type 0
+HasCode d l code.BadByte = all_printable l ≡ false
+HasCode d l code.NotDue = due_line d l ≡ None
+HasCode d l code.NotState = LacksState (due_line d l) (after_token l)
+
+-- what a line leaves due; it is not asked what follows a faulty one
+abbrev pub left_by : Due → Option Line → Due
+left_by d None = d
+left_by d (Some l) = due_after l
+
+abbrev pub left : Due → List ℕ → Due
+left d l = left_by d (due_line d l)
+
+abbrev pub is_over : Due → Bool
+is_over due.Nothing = true
+is_over _ = false
+
+-- what is wrong behind the last LF: bytes stand there, or the text goes on past its limit; a line is missing
+abbrev pub EndHasCode : Bool → Due → CertCode → Type 0
+EndHasCode more d code.BadByte = more ≡ true
+EndHasCode more d code.NotDue = is_over d ≡ false
+EndHasCode more d code.NotState = ⊥
+
+-- Line m of these lines has this code, where the first is line n; what stands behind the last LF is a line too.
+abbrev pub LinesHaveCode : Bool → Due → ℕ → List (List ℕ) → ℕ → CertCode → Type 0
+LinesHaveCode more d n [] m c = (m ≡ n) × EndHasCode more d c
+LinesHaveCode more d n (l ∷ ls) m c = ((m ≡ n) × HasCode d l c) ⊎ LinesHaveCode more (left d l) (n + 1) ls m c
+
+-- a text as far as its length is allowed: its lines that end with an LF, and whether more stands behind them
+abbrev pub lines_of : List ℕ → List (List ℕ)
+lines_of text = lines_from [] (take 4194304 text)
+
+abbrev pub goes_on : List ℕ → Bool
+goes_on text = nat_lt 4194304 (length text) || not (length (rest_from [] (take 4194304 text)) == 0)
+
+abbrev pub HasLineCode : List ℕ → ℕ → CertCode → Type 0
+HasLineCode text n c = LinesHaveCode (goes_on text) due.Header 1 (lines_of text) n c
+
+-- where a code is told, it fits; of `NotState` this is not said yet
+abbrev pub Fits : CertCode → Type 0 → Type 0
+Fits code.BadByte P = P
+Fits code.NotDue P = P
+Fits code.NotState P = Unit {0}
+
+-- no line before this one has a code, and none that is lower fits it
+pub record IsToldFirst (P : ℕ → CertCode → Type 0) (n : ℕ) (c : CertCode) : Type 0 where
+  pub fits : Fits c (P n c)
+  pub line : (m : ℕ) (d : CertCode) → P m d → n ≤ m
+  pub lowest : (d : CertCode) → P n d → code_number c ≤ code_number d
+
+-- a fault that is told is the first; want of memory says nothing
+abbrev pub IsToldBy : (ℕ → CertCode → Type 0) → CertRefusal → Type 0
+IsToldBy P (Fault n c) = IsToldFirst P n c
+IsToldBy P NoMemory = Unit {0}
+
+abbrev pub IsTold : List ℕ → CertRefusal → Type 0
+IsTold text e = IsToldBy (HasLineCode text) e
+
+-- the same of a text that is short enough, and goes on where it is `long`
+abbrev pub more_than : Bool → List ℕ → Bool
+more_than long rest = long || not (length rest == 0)
+
+abbrev pub IsToldOf : Bool → List ℕ → CertRefusal → Type 0
+IsToldOf long text e = IsToldBy (LinesHaveCode (more_than long (rest_from [] text)) due.Header 1 (lines_from [] text)) e
+
+-- what is told of what stands behind the last LF
+abbrev pub EndTold : Bool → Due → ℕ → Result (Unit {0}) CertRefusal → Type 0
+EndTold more d n (Ok u) = (more ≡ false) × (is_over d ≡ true)
+EndTold more d n (Err NoMemory) = ⊥
+EndTold more d n (Err (Fault m c)) = (m ≡ n) × EndHasCode more d c × ((e : CertCode) → EndHasCode more d e → code_number c ≤ code_number e)

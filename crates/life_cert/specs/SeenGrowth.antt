@@ -1,0 +1,16 @@
+-- What the maker's values stand for.
+use Rattle.std.specs.Prelude.{List, map}
+use Rattle.life_state.specs.Seen.{seen}
+use Rattle.life_check.specs.Seen.{seen_cert}
+use Rattle.life_cert.specs.declared.growth.Arrival as code
+use Rattle.life_cert.specs.declared.growth.Growth.{Growth}
+use Rattle.life_cert.specs.Rounds.{Arrival, Grown}
+
+abbrev pub seen_arrival : code.Arrival → Arrival
+seen_arrival a = record { place = a.place; state = seen a.state }
+
+unfoldable pub seen_arrivals : List code.Arrival → List Arrival
+seen_arrivals = map seen_arrival
+
+abbrev pub seen_growth : Growth → Grown
+seen_growth g = record { states = seen_cert g.cert; grown = g.grown.items }

@@ -1,0 +1,180 @@
+//! What the lines of a certificate text say, taken one after another.
+
+ghost use Rattle.std.specs.Prelude.{◌≡◌, ◌<◌, ◌≤◌, ◌++◌, ◌∷◌, ◌-◌, [], true, IfOk, IfErr, IfSome, OnOk, MatchResult, Some, None, length, replicate, codes};
+ghost use Rattle.module_lang.specs.Bytes.{after_token};
+ghost use Rattle.life_state.specs.Form.{IsFormed};
+ghost use Rattle.life_state.specs.Seen.{seen, seen_some};
+ghost use Rattle.life_cert.specs.StateText.{state_text};
+ghost use Rattle.life_cert.specs.Drafts.{IsNoState};
+ghost use Rattle.life_cert.specs.Reading.{IsState, IsStateOrNone};
+ghost use Rattle.life_cert.specs.declared.refusal.CertRefusal.TheVariants.{NoMemory};
+
+use crate::due::{Due, Line, due_line};
+use crate::print_state::put_state;
+use crate::refusal::{CertCode, CertRefusal};
+use crate::state_text::told_state;
+use life_state::State;
+use module_lang::text::{TakesLines, after_token, all_printable, begins, is_text, tail};
+use std::alloc::{AllocError, Global};
+
+/// What the lines so far say.
+#[derive(Drop)]
+pub(crate) struct Draft {
+    pub(crate) due: Due,
+    pub(crate) idle: Option<State>,
+    pub(crate) ready: Option<State>,
+    pub(crate) at: Vec<Option<State>>,
+}
+
+fn is_state_text(alloc: Global, state: &State, text: &[u8]) -> Result<bool, CertRefusal>
+    ensures right { IfOk result (λ b. b ≡ true → text.now ≡ state_text (seen state.now)) }
+    ensures err { IfErr result (λ e. e ≡ NoMemory) }
+{
+    let mut printed = Vec::new(alloc);
+    match put_state(&mut printed, state) {
+        Ok(()) => Ok(is_text(text, printed.as_slice())),
+        Err(_) => Err(CertRefusal::NoMemory),
+    }
+}
+
+/// The state that is written so.
+fn read_state(alloc: Global, text: &[u8]) -> Result<Option<State>, CertRefusal>
+    ensures right { IfOk result (λ o. IfSome o (λ s. IsFormed (seen s) × (text.now ≡ state_text (seen s)))) }
+    ensures err { IfErr result (λ e. e ≡ NoMemory) }
+{
+    let state = told_state(text);
+    let is_formed = state.is_formed();
+    let is_written = is_state_text(alloc, &state, text)?;
+    if is_formed & is_written {
+        Ok(Some(state))
+    } else {
+        Ok(None)
+    }
+}
+
+fn no_state(number: usize) -> CertRefusal
+    ensures { IsNoState number result }
+{
+    CertRefusal::Fault {
+        line: number,
+        code: CertCode::NotState,
+    }
+}
+
+/// The state that stands behind the first word of a line.
+fn state_behind(alloc: Global, number: usize, line: &[u8]) -> Result<State, CertRefusal>
+    ensures { MatchResult result (λ s. IsState (after_token line.now) (seen s)) (λ e. IsNoState number e) }
+{
+    let rest = after_token(line);
+    if !begins(rest, b' ') {
+        return Err(no_state(number));
+    }
+    match read_state(alloc, tail(rest)) {
+        Ok(Some(state)) => Ok(state),
+        Ok(None) => Err(no_state(number)),
+        Err(error) => Err(error),
+    }
+}
+
+fn state_or_none(alloc: Global, number: usize, line: &[u8]) -> Result<Option<State>, CertRefusal>
+    ensures { MatchResult result (λ o. IsStateOrNone (after_token line.now) (seen_some o)) (λ e. IsNoState number e) }
+{
+    if is_text(after_token(line), b" none") {
+        return Ok(None);
+    }
+    match state_behind(alloc, number, line) {
+        Ok(state) => Ok(Some(state)),
+        Err(error) => Err(error),
+    }
+}
+
+impl Draft {
+    ghost use Rattle.module_lang.specs.Bytes.{all_printable};
+    ghost use Rattle.life_cert.specs.Drafts.{IsAdded, IsDraft};
+    ghost use Rattle.life_cert.specs.Reading.{due_line, due_after};
+
+    pub(crate) fn new(alloc: Global) -> Draft
+        ensures draft { IsDraft result }
+        ensures due { result.due ≡ Due.Header }
+    {
+        Draft {
+            due: Due::Header,
+            idle: None,
+            ready: None,
+            at: Vec::new(alloc),
+        }
+    }
+
+    /// Gives an instruction its state; those before it that have no line have none.
+    fn add_state(&mut self, pc: usize, state: State) -> Result<(), AllocError>
+        requires after { length self.old.at.items ≤ pc }
+        requires few { pc < 1024 }
+        ensures others { OnOk result (self.new ≡ record (self.old) { due = due_after (Line.Instruction pc); at = self.new.at }) }
+        ensures items { OnOk result (self.new.at.items ≡ (self.old.at.items ++ replicate (pc - length self.old.at.items) None) ++ Some state ∷ []) }
+    {
+        self.at.resize(pc, None)?;
+        self.at.push(Some(state))?;
+        self.due = Due::States(pc + 1);
+        Ok(())
+    }
+
+    /// Adds what the line that stands there says.
+    fn add(
+        &mut self,
+        alloc: Global,
+        number: usize,
+        bytes: &[u8],
+        line: Line,
+    ) -> Result<(), CertRefusal>
+        requires draft { IsDraft self.old }
+        requires printable { all_printable bytes.now ≡ true }
+        requires due { due_line self.old.due bytes.now ≡ Some line }
+        ensures draft { OnOk result (IsDraft self.new) }
+        ensures added { OnOk result (IsAdded self.old bytes.now self.new) }
+        ensures refused { IfErr result (λ e. IsNoState number e) }
+    {
+        match line {
+            Line::Header => self.due = Due::Idle,
+            Line::Idle => {
+                self.idle = state_or_none(alloc, number, bytes)?;
+                self.due = Due::Ready;
+            }
+            Line::Ready => {
+                self.ready = state_or_none(alloc, number, bytes)?;
+                self.due = Due::States(0);
+            }
+            Line::Instruction(pc) => {
+                let state = state_behind(alloc, number, bytes)?;
+                self.add_state(pc, state)?;
+            }
+            Line::End => self.due = Due::Nothing,
+        }
+        Ok(())
+    }
+}
+
+impl TakesLines for Draft {
+    ghost use Rattle.life_cert.specs.Drafts.{IsDraft, LineAdded};
+
+    type Refusal = CertRefusal;
+
+    ghost can_take = { λ draft. IsDraft draft };
+
+    ghost takes = { λ draft number line answer next. LineAdded draft number line answer next };
+
+    fn take_line(&mut self, alloc: Global, number: usize, line: &[u8]) -> Result<(), CertRefusal> {
+        if !all_printable(line) {
+            return Err(CertRefusal::Fault {
+                line: number,
+                code: CertCode::BadByte,
+            });
+        }
+        match due_line(self.due, line) {
+            Some(due) => self.add(alloc, number, line, due),
+            None => Err(CertRefusal::Fault {
+                line: number,
+                code: CertCode::NotDue,
+            }),
+        }
+    }
+}

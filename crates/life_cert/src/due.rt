@@ -1,0 +1,68 @@
+//! Which line of a certificate text stands where.
+
+ghost use Rattle.std.specs.Prelude.{◌≡◌};
+ghost use Rattle.life_cert.specs.Reading.{where_due, due_line, end_or_pc, is_over};
+
+use module_lang::text::{decimal_u32, is_text, token};
+
+/// Which line is due.
+#[derive(Clone, Copy)]
+pub(crate) enum Due {
+    /// That of the version.
+    Header,
+    /// The state between calls before `init`.
+    Idle,
+    /// The state between calls from `init` on.
+    Ready,
+    /// The state of an instruction, of this number or a higher one; or the end.
+    States(usize),
+    /// None.
+    Nothing,
+}
+
+/// A line, by its first word.
+#[derive(Clone, Copy)]
+pub(crate) enum Line {
+    Header,
+    Idle,
+    Ready,
+    Instruction(usize),
+    End,
+}
+
+fn where_due(holds: bool, line: Line) -> Option<Line>
+    ensures { result ≡ where_due holds line }
+{
+    if holds { Some(line) } else { None }
+}
+
+fn end_or_pc(next: usize, bytes: &[u8]) -> Option<Line>
+    ensures { result ≡ end_or_pc next bytes.now }
+{
+    if is_text(bytes, b"end") {
+        return Some(Line::End);
+    }
+    let pc = decimal_u32(token(bytes))? as usize;
+    where_due((next <= pc) & (pc <= 1023), Line::Instruction(pc))
+}
+
+/// Which line stands there, if it is due.
+#[tactic(auto, unfolding(crate::specs::Reading::due_line))]
+pub(crate) fn due_line(due: Due, bytes: &[u8]) -> Option<Line>
+    ensures { result ≡ due_line due bytes.now }
+{
+    match due {
+        Due::Header => where_due(is_text(bytes, b"cert 1"), Line::Header),
+        Due::Idle => where_due(is_text(token(bytes), b"idle"), Line::Idle),
+        Due::Ready => where_due(is_text(token(bytes), b"ready"), Line::Ready),
+        Due::States(next) => end_or_pc(next, bytes),
+        Due::Nothing => None,
+    }
+}
+
+/// Whether the last line was the end.
+pub(crate) fn is_over(due: Due) -> bool
+    ensures { result ≡ is_over due }
+{
+    matches!(due, Due::Nothing)
+}

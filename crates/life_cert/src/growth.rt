@@ -1,0 +1,111 @@
+//! States that grow.
+
+ghost use Rattle.std.specs.Prelude.{◌≡◌, ◌<◌, ◌≤◌, true, length, Some, OnOk, IfOk};
+ghost use Rattle.life_state.specs.States.{State as known};
+ghost use Rattle.life_state.specs.Seen.{seen, seen_some};
+ghost use Rattle.life_check.specs.Seen.{seen_cert};
+ghost use Rattle.life_cert.specs.Rounds.{state_at, with_state, grow, arrive, begun};
+ghost use Rattle.life_cert.specs.Fitting.{is_inside};
+ghost use Rattle.life_cert.specs.SeenGrowth.{seen_arrival, seen_growth};
+
+use life_check::Cert;
+use life_state::{State, at_open, join, leq};
+use module_lang::Module;
+use std::alloc::{AllocError, Global};
+
+/// What has a state: what lies between calls, before `init` or from then on, and each instruction.
+#[derive(Clone, Copy)]
+pub(crate) enum Place {
+    /// Between calls, before `init`.
+    Idle,
+    /// Between calls, from `init` on.
+    Ready,
+    /// Before the instruction.
+    At(usize),
+}
+
+/// A state that is handed on to a place.
+#[derive(Clone, Copy)]
+pub(crate) struct Arrival {
+    pub(crate) place: Place,
+    pub(crate) state: State,
+}
+
+/// The states so far, and the places whose states grew in the last round.
+#[derive(Drop)]
+pub(crate) struct Growth {
+    pub(crate) cert: Cert,
+    pub(crate) grown: Vec<Place>,
+}
+
+fn put(cert: &mut Cert, place: Place, state: State)
+    requires { is_inside (length cert.old.at.items) place ≡ true }
+    ensures { seen_cert cert.new ≡ with_state place (seen state) (seen_cert cert.old) }
+{
+    match place {
+        Place::Idle => cert.idle = Some(state),
+        Place::Ready => cert.ready = Some(state),
+        Place::At(pc) => cert.at[pc] = Some(state),
+    }
+}
+
+impl Growth {
+    /// There are no states, but for that in which `open` begins.
+    pub(crate) fn new(alloc: Global, code: &Module) -> Result<Growth, AllocError>
+        ensures begun { IfOk result (λ g. seen_growth g ≡ begun code.now) }
+        ensures some { 0 < length code.now.code }
+        ensures few { length code.now.pools ≤ 8 }
+    {
+        let has_code = code.init() < code.len();
+        prove!(has_code);
+        let first = at_open(code.pool_count(), code.brigade_count());
+        let mut cert = Cert {
+            idle: None,
+            ready: None,
+            at: vec![in alloc; None; code.len()]?,
+        };
+        put(&mut cert, Place::At(0), first);
+        let grown = vec![in alloc; Place::At(0)]?;
+        Ok(Growth { cert, grown })
+    }
+
+    /// The state of a place.
+    pub(crate) fn state(&self, place: Place) -> Option<State>
+        ensures { seen_some result ≡ state_at (seen_cert self.now.cert) place }
+    {
+        match place {
+            Place::Idle => self.cert.idle,
+            Place::Ready => self.cert.ready,
+            Place::At(pc) => self.cert.state(pc),
+        }
+    }
+
+    fn grow(&mut self, place: Place, state: State) -> Result<(), AllocError>
+        requires { is_inside (length self.old.cert.at.items) place ≡ true }
+        ensures { OnOk result (seen_growth self.new ≡ grow place (seen state) (seen_growth self.old)) }
+    {
+        put(&mut self.cert, place, state);
+        self.grown.push(place)?;
+        Ok(())
+    }
+
+    /// A state arrives: the one that is there grows, where it does not already stand above.
+    pub(crate) fn arrive(&mut self, arrival: &Arrival) -> Result<(), AllocError>
+        requires inside { is_inside (length self.old.cert.at.items) arrival.now.place ≡ true }
+        requires pools { (t : known) → state_at (seen_cert self.old.cert) arrival.now.place ≡ Some t → t.pool_count ≡ (seen arrival.now.state).pool_count }
+        requires brigades { (t : known) → state_at (seen_cert self.old.cert) arrival.now.place ≡ Some t → t.brigade_count ≡ (seen arrival.now.state).brigade_count }
+        ensures { OnOk result (seen_growth self.new ≡ arrive (seen_arrival arrival.now) (seen_growth self.old)) }
+    {
+        let Arrival { place, state } = *arrival;
+        match self.state(place) {
+            None => self.grow(place, state),
+            Some(there) => {
+                if leq(&state, &there) {
+                    Ok(())
+                } else {
+                    self.grow(place, join(&there, &state))
+                }
+            }
+        }
+    }
+}

@@ -1,0 +1,20 @@
+//! Certificates: their maker, and their text.
+#![tactic(auto)]
+
+mod draft;
+mod due;
+mod growth;
+mod handing;
+pub mod laws;
+mod maker;
+mod print;
+mod print_state;
+mod read;
+mod refusal;
+mod state_text;
+mod words;
+
+pub use maker::make;
+pub use print::print_cert;
+pub use read::read_cert;
+pub use refusal::{CertCode, CertRefusal, MakeRefusal};

@@ -1,0 +1,66 @@
+//! The maker of certificates.
+
+ghost use Rattle.std.specs.Prelude.{◌≡◌, OnOk, IfOk};
+ghost use Rattle.life_check.specs.Seen.{seen_cert};
+ghost use Rattle.life_check.specs.Typed.{IsTyped};
+ghost use Rattle.life_cert.specs.Rounds.{round, enough, made};
+ghost use Rattle.life_cert.specs.Fitting.{IsOf};
+ghost use Rattle.life_cert.specs.SeenGrowth.{seen_growth};
+ghost use Rattle.life_cert.specs.Made.{IsMade};
+
+use crate::growth::Growth;
+use crate::handing::handed_on;
+use crate::refusal::MakeRefusal;
+use life_check::{Cert, check};
+use module_lang::Module;
+use std::alloc::{AllocError, Global};
+
+// So many rounds that no state grows in the last. Each growth of a state adds to what it says may be: `sent`; 3 of a pool; 5, 4 steps
+// of contents and 11 homes of a brigade; 20 steps of a cursor; and the pairs of cursors of which it says nothing. That are at most
+// 510 growths of one state behind its first (`laws::rounds_grow_and_end`).
+#[tactic(auto, unfolding(crate::specs::Rounds::enough))]
+fn enough(code: &Module) -> usize
+    ensures { result ≡ enough code.now }
+{
+    512 * (code.len() + 2)
+}
+
+fn round(alloc: Global, code: &Module, growth: &mut Growth) -> Result<(), AllocError>
+    requires { IsOf code.now (seen_growth growth.old) }
+    ensures round { OnOk result (seen_growth growth.new ≡ round code.now (seen_growth growth.old)) }
+    ensures growing { OnOk result (IsOf code.now (seen_growth growth.new)) }
+{
+    let arrivals = handed_on(alloc, code, growth)?;
+    growth.grown.clear();
+    for arrival in &arrivals {
+        growth.arrive(arrival)?;
+    }
+    Ok(())
+}
+
+// The states after so many rounds that none grows any more.
+fn grown(alloc: Global, code: &Module) -> Result<Cert, AllocError>
+    ensures { IfOk result (λ c. seen_cert c ≡ made code.now) }
+{
+    let mut growth = Growth::new(alloc, code)?;
+    for _ in 0..enough(code) {
+        if growth.grown.is_empty() {
+            break;
+        }
+        round(alloc, code, &mut growth)?;
+    }
+    Ok(growth.cert)
+}
+
+/// Makes a certificate. The states grow from none, in rounds over all instructions at once: each hands on what it leads to, where its
+/// state grew in the round before, and one that may have a fault hands on nothing. The certificate is accepted by `check`; where it
+/// is not, the refusal is the first of `check`, which is at the lowest instruction that may have a fault. It takes a line for each
+/// instruction, and `NoMemory` comes where these or what is handed on cannot be held.
+pub fn make(alloc: Global, code: &Module) -> Result<Cert, MakeRefusal>
+    ensures typed { IfOk result (λ c. IsTyped code.now (seen_cert c)) }
+    ensures made { IsMade code.now result }
+{
+    let cert = grown(alloc, code)?;
+    check(code, &cert)?;
+    Ok(cert)
+}

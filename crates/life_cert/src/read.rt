@@ -1,0 +1,66 @@
+//! Certificates from their texts.
+
+ghost use Rattle.std.specs.Prelude.{◌≡◌, ◌≤◌, ◌<◌, ◌++◌, IfOk, IfErr, OnOk, Result, length, take, not, ◌||◌, ◌==◌, true, false};
+ghost use Rattle.life_check.specs.Seen.{seen_cert};
+ghost use Rattle.life_cert.specs.Reading.{IsTextOf, IsTold, IsToldOf, EndTold, more_than};
+ghost use Rattle.life_cert.specs.declared.refusal.CertRefusal.TheVariants.{NoMemory};
+
+use crate::draft::Draft;
+use crate::due::{Due, is_over};
+use crate::refusal::{CertCode, CertRefusal};
+use life_check::Cert;
+use module_lang::text::take_lines;
+use std::alloc::Global;
+
+/// How many bytes a certificate text has at most.
+const MAX_LEN: usize = 4_194_304;
+
+/// Judges what follows the last LF: nothing may, and the last line must have been `end`.
+fn end_lines(due: Due, number: usize, rest: &[u8], long: bool) -> Result<(), CertRefusal>
+    ensures { EndTold (more_than long rest.now) due number result }
+{
+    if long || !rest.is_empty() {
+        return Err(CertRefusal::Fault {
+            line: number,
+            code: CertCode::BadByte,
+        });
+    }
+    if !is_over(due) {
+        return Err(CertRefusal::Fault {
+            line: number,
+            code: CertCode::NotDue,
+        });
+    }
+    Ok(())
+}
+
+/// What the lines of a text say, of which more follows where it is `long`.
+fn read_lines(alloc: Global, text: &[u8], long: bool) -> Result<Cert, CertRefusal>
+    requires { length text.now ≤ 4194304 }
+    ensures right { IfOk result (λ c. (long ≡ false) × IsTextOf text.now (seen_cert c)) }
+    ensures told { IfErr result (λ e. IsToldOf long text.now e) }
+{
+    let mut draft = Draft::new(alloc);
+    let last = take_lines(alloc, &mut draft, text)?;
+    end_lines(draft.due, last.number, &text[last.start..], long)?;
+    let Draft {
+        due: _,
+        idle,
+        ready,
+        at,
+    } = draft;
+    Ok(Cert { idle, ready, at })
+}
+
+/// The certificate that a text spells, or its first faulty line, from 1, with the lowest code that fits it. A text has at
+/// most 4,194,304 bytes; `NoMemory` is the answer where memory was wanting.
+pub fn read_cert(alloc: Global, text: &[u8]) -> Result<Cert, CertRefusal>
+    ensures right { IfOk result (λ c. IsTextOf text.now (seen_cert c)) }
+    ensures told { IfErr result (λ e. IsTold text.now e) }
+{
+    if MAX_LEN < text.len() {
+        read_lines(alloc, &text[..MAX_LEN], true)
+    } else {
+        read_lines(alloc, text, false)
+    }
+}

@@ -1,0 +1,6 @@
+use Rattle.life_state.specs.Seen.{seen_brigade}
+use Rattle.life_state.proofs.FormLaws.{formed_brigade}
+use Rattle.life_state.proofs.form.is_formed_brigade.Goals as goal
+
+pub returns : goal.returns
+returns c = λ h. formed_brigade (seen_brigade c.args.brigade.now) c.is_free.result c.is_free.ensures (rw c.is_empty.ensures at h)

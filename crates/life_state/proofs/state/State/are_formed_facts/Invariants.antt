@@ -1,0 +1,8 @@
+-- Those so far are in form.
+use Rattle.std.proofs.Common.{ℕ, ◌<◌}
+use Rattle.life_state.specs.FormTests.{FormedFact}
+use Rattle.life_state.specs.Seen.{seen}
+use Rattle.life_state.proofs.state.State.are_formed_facts.Given as goal
+
+abbrev pub invariant-loop-d : goal.invariant-loop-d
+invariant-loop-d l = (k : ℕ) → k < l.d → FormedFact (seen l.self) l.c k

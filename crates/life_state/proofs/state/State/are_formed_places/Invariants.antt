@@ -1,0 +1,8 @@
+-- Those so far are in form.
+use Rattle.std.proofs.Common.{ℕ, ◌<◌}
+use Rattle.life_state.specs.FormTests.{FormedAt}
+use Rattle.life_state.specs.Seen.{seen}
+use Rattle.life_state.proofs.state.State.are_formed_places.Given as goal
+
+abbrev pub invariant-loop-k : goal.invariant-loop-k
+invariant-loop-k l = (i : ℕ) → i < l.k → FormedAt (seen l.self) i

@@ -1,0 +1,8 @@
+-- Those so far are in form.
+use Rattle.std.proofs.Common.{ℕ, ◌<◌}
+use Rattle.life_state.specs.FormTests.{FormedPool}
+use Rattle.life_state.specs.Seen.{seen}
+use Rattle.life_state.proofs.state.State.are_formed_pools.Given as goal
+
+abbrev pub invariant-loop-q : goal.invariant-loop-q
+invariant-loop-q l = (k : ℕ) → k < l.q → FormedPool (seen l.self) k

@@ -1,0 +1,178 @@
+//! Whether a state is in form: each thing is said in one way.
+
+ghost use Rattle.std.specs.Prelude.{◌≡◌, ◌<◌, ℕ, true, false, length, ◌⊎◌};
+ghost use Rattle.life_state.specs.Form.{AtHand, FormedBrigade, FormedCursor, IsFormed};
+ghost use Rattle.life_state.specs.FormTests.{NamesBelow, FormedPool, FormedPlace, FormedFact, FormedAt};
+ghost use Rattle.life_state.specs.Rules.{some_class};
+ghost use Rattle.life_state.specs.Seen.{seen, seen_homes, seen_brigade};
+ghost use Rattle.life_state.specs.States.{no_homes, only_null, never_made, is_live_brigade};
+
+use crate::parts::{BrigadeState, Classes, CursorState, HomeSet, PoolState};
+use crate::state::State;
+
+fn is_null(pool: PoolState) -> bool
+    ensures { result ≡ true → pool ≡ only_null }
+{
+    pool.null & !pool.gone & !pool.live
+}
+
+fn is_unmade(brigade: &BrigadeState) -> bool
+    ensures { result ≡ true → (brigade.now.null ≡ true) × (brigade.now.gone ≡ false) × (brigade.now.live ≡ false) }
+{
+    brigade.null & !brigade.gone & !brigade.live
+}
+
+fn has_class(classes: Classes) -> bool
+    ensures { result ≡ some_class classes }
+{
+    classes.bytes | classes.flush | classes.eos
+}
+
+/// How many cursors a row of facts is for.
+fn width(row: &[bool; 9]) -> u8
+    ensures value { result ≡ 9 }
+    ensures whole { length row.now ≡ 9 }
+{
+    row.len() as u8
+}
+
+/// Whether no homes are told.
+fn is_free(homes: &HomeSet) -> bool
+    ensures { result ≡ true → seen_homes homes.now ≡ no_homes }
+{
+    let named = are_declared(homes, 0);
+    !homes.call & !homes.dead & !homes.pools.req & named
+}
+
+/// Whether the pools among the homes have numbers below this one.
+fn are_declared(homes: &HomeSet, count: u8) -> bool
+    ensures { result ≡ true → NamesBelow count (seen_homes homes.now) }
+{
+    for q in 0..8u8 {
+        let declared = q < count || !homes.pools.own[usize::from(q)];
+        if !declared {
+            return false;
+        }
+    }
+    true
+}
+
+/// Whether a brigade has a mark exactly where it may be live, and contents and homes only where it may be usable.
+fn is_formed_brigade(brigade: &BrigadeState) -> bool
+    ensures { result ≡ true → FormedBrigade (seen_brigade brigade.now) }
+{
+    (brigade.null | brigade.gone | brigade.live)
+        & (brigade.live == (brigade.usable | brigade.passed))
+        & (brigade.usable | (brigade.content.is_empty() & is_free(&brigade.homes)))
+}
+
+impl State {
+    fn is_formed_pool(&self, q: u8) -> bool
+        ensures { result ≡ true → FormedPool (seen self.now) q }
+    {
+        let pool = self.pool(q);
+        let null = is_null(pool);
+        (pool.null | pool.gone | pool.live) & ((q < self.pool_count) | null)
+    }
+
+    fn is_formed_brigade(&self, b: u8) -> bool
+        ensures { result ≡ true → FormedPlace (seen self.now) b }
+    {
+        let brigade = self.brigade(b);
+        let formed = is_formed_brigade(&brigade);
+        let declared = are_declared(&brigade.homes, self.pool_count);
+        let unmade = is_unmade(&brigade);
+        formed & declared & ((b == 8) | (b < self.brigade_count) | unmade)
+    }
+
+    /// `in` is not given, or live.
+    fn is_formed_in(&self) -> bool
+        ensures { result ≡ true → FormedBrigade ((seen self.now).brigades 8) → ((seen self.now).brigades 8 ≡ never_made) ⊎ (is_live_brigade ((seen self.now).brigades 8) ≡ true) }
+    {
+        let brigade = self.brigade(8);
+        is_unmade(&brigade) | (brigade.live & !brigade.null & !brigade.gone)
+    }
+
+    fn is_at_hand(&self, b: u8) -> bool
+        ensures { result ≡ true → AtHand (seen self.now) b }
+    {
+        let brigade = self.brigade(b);
+        b < 9 && brigade.live & !brigade.null & !brigade.gone & brigade.usable & !brigade.passed
+    }
+
+    fn is_formed_cursor(&self, c: u8) -> bool
+        ensures { result ≡ true → FormedCursor (seen self.now) ((seen self.now).cursors c) }
+    {
+        match self.cursor(c) {
+            CursorState::Unset => true,
+            CursorState::Loose(classes, homes) => {
+                has_class(classes) & are_declared(&homes, self.pool_count)
+            }
+            CursorState::In(b, classes) | CursorState::InOrEnd(b, classes) => {
+                has_class(classes) & self.is_at_hand(b)
+            }
+            CursorState::End(b) => self.is_at_hand(b),
+        }
+    }
+
+    /// A fact is written both ways, and only where it has to be.
+    fn is_formed_fact(&self, c: u8, d: u8) -> bool
+        ensures { result ≡ true → FormedFact (seen self.now) c d }
+    {
+        let first = self.cursor(c);
+        let second = self.cursor(d);
+        let is_due = c != d && first.is_set() & second.is_set() & !first.is_apart(&second);
+        (is_due | !self.fact(c, d)) & (self.fact(c, d) == self.fact(d, c))
+    }
+
+    fn are_formed_facts(&self, c: u8) -> bool
+        requires { c < 9 }
+        ensures { result ≡ true → (d : ℕ) → FormedFact (seen self.now) c d }
+    {
+        for d in 0..width(&self.facts[usize::from(c)]) {
+            let formed = self.is_formed_fact(c, d);
+            if !formed {
+                return false;
+            }
+        }
+        true
+    }
+
+    fn are_formed_pools(&self) -> bool
+        ensures { result ≡ true → (q : ℕ) → q < 8 → FormedPool (seen self.now) q }
+    {
+        for q in 0..8u8 {
+            let formed = self.is_formed_pool(q);
+            if !formed {
+                return false;
+            }
+        }
+        true
+    }
+
+    fn are_formed_places(&self) -> bool
+        ensures { result ≡ true → (k : ℕ) → k < 9 → FormedAt (seen self.now) k }
+    {
+        for k in 0..9u8 {
+            let place = self.is_formed_brigade(k);
+            let cursor = self.is_formed_cursor(k);
+            let facts = self.are_formed_facts(k);
+            let formed = place & cursor & facts;
+            if !formed {
+                return false;
+            }
+        }
+        true
+    }
+
+    /// Whether the state is in form: whether what it says is said in the one way in which it may be written.
+    pub fn is_formed(&self) -> bool
+        ensures { result ≡ true → IsFormed (seen self.now) }
+    {
+        (self.pool_count <= 8)
+            & (self.brigade_count <= 8)
+            & self.is_formed_in()
+            & self.are_formed_pools()
+            & self.are_formed_places()
+    }
+}
