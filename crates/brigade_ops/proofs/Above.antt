@@ -33,3 +33,12 @@ dead_above ps f n m dead = by_test (is_in n (ps.path m)) refl where
   by_test : (b : Bool) → is_in n (ps.path m) ≡ b → b ≡ false
   by_test true is = absurd (false≢true (sym dead ∙ live_in ps f n m (ps.path m) refl is))
   by_test false is = refl
+
+none_in : (n : ℕ) (xs : List ℕ) → not (is_empty xs) ≡ false → is_in n xs ≡ false
+none_in n [] none = refl
+none_in n (x ∷ xs) none = absurd (false≢true (sym none))
+
+-- no pool stands above what is no pool
+pub dead_below : {T : Type 0} (ps : Pools T) (p n : ℕ) → is_live ps n ≡ false → is_under ps p n ≡ false
+unfolding is_live is_under
+dead_below ps p n dead = none_in p (ps.path n) dead

@@ -7,3 +7,6 @@ pub mod Above
 pub mod Unread
 pub mod Models
 pub mod Parts
+pub mod Referred
+pub mod Saves
+pub mod Cleared

@@ -1,6 +1,7 @@
 -- Lists of named buckets, as the model has them.
-use Rattle.std.proofs.Common.{◌≡◌, ◌==◌, ◌&&◌, ℕ, suc, ◌<◌, Bool, true, false, cond, List, [], ◌∷◌, ◌++◌, drop, Some, refl, sym, ap, ◌∙◌, arith, inl, inr, append_assoc}
+use Rattle.std.proofs.Common.{◌≡◌, ◌==◌, ◌&&◌, ℕ, suc, ◌<◌, Bool, true, false, cond, List, [], ◌∷◌, ◌++◌, drop, map, Some, refl, sym, ap, ◌∙◌, arith, inl, inr, append_assoc}
 use Rattle.std.specs.Prelude.{if◌then◌else◌}
+use Rattle.std.specs.List.{AllByRecursion}
 use Rattle.std.proofs.lemmas.Bool.{cases_eq, eq-eqb, ne_eqb}
 use Rattle.bucket_ring.specs.declared.names.BucketId.{BucketId}
 use Rattle.bucket_ring.specs.Lists as ring
@@ -8,10 +9,16 @@ use Rattle.bucket_ring.specs.Lists.{same, times, front, rest, found}
 use Rattle.bucket_ring.specs.Laws.{same_self}
 use Rattle.run_model.specs.declared.bucket.Bucket.{Bucket}
 use Rattle.run_model.specs.declared.bucket.NamedBucket.{NamedBucket}
+use Rattle.run_model.specs.Buckets.{cleared_bucket}
 use Rattle.run_model.specs.Cutting.{split_at}
+use Rattle.run_model.specs.declared.payload.Payload.{Payload}
+use Rattle.run_model.specs.Pools.{Pools}
+use Rattle.run_model.specs.Steps.{aside_named}
 use Rattle.run_model.specs.BrigadeLists as model
 use Rattle.run_model.specs.BrigadeLists.{buckets_before, buckets_from, first_split}
-use Rattle.brigade_ops.specs.Items.{Item, Items, named, named_item, replaced}
+use Rattle.brigade_ops.specs.Items.{Item, Items, named, named_item, replaced, aside_item}
+use Rattle.brigade_ops.specs.declared.morphs.Morph.{Morph}
+use Rattle.brigade_ops.specs.Morphs.{morphed, all_morphed, cleared_as}
 use Rattle.brigade_ops.specs.Laws.{IsGiven, ListsAreTheModels, birth_of}
 use Rattle.brigade_ops.proofs.Lists.{rest_head}
 
@@ -90,6 +97,16 @@ split_law id new n x xs given here =
     ∙ ap (λ (ys : List NamedBucket). buckets_before id.birth (named xs) ++ ys)
     (sym (ap (λ (zs : Items). first_split new.birth n (named zs)) (rest_head id xs x here)) ∙ ap (λ (ys : List NamedBucket). first_split new.birth n ys) (moves_law id xs given)))
 
+aside_law : (ps : Pools Payload) (pool : ℕ) (xs : Items) → named (map (aside_item ps pool) xs) ≡ map (aside_named ps pool) (named xs)
+aside_law ps pool [] = refl
+aside_law ps pool (x ∷ xs) = ap (λ (ys : List NamedBucket). aside_named ps pool (named_item x) ∷ ys) (aside_law ps pool xs)
+
+cleared_law : (reached : ℕ → Bool) (ms : List Morph) (xs : Items) → AllByRecursion (λ (x : Item). morphed ms x.0 x.1 ≡ cleared_as reached x.1) xs → named (all_morphed ms xs) ≡ map (cleared_bucket reached) (named xs)
+cleared_law reached ms [] all = refl
+cleared_law reached ms (x ∷ xs) all =
+    ap (λ (y : Bucket). named_item (x.0, y) ∷ named (all_morphed ms xs)) all.0
+    ∙ ap (λ (ys : List NamedBucket). cleared_bucket reached (named_item x) ∷ ys) (cleared_law reached ms xs all.1)
+
 pub lists_are_the_models : ListsAreTheModels
 lists_are_the_models = record {
   first = first_law;
@@ -100,4 +117,6 @@ lists_are_the_models = record {
   stays = stays_law;
   moves = moves_law;
   split = split_law;
+  aside = aside_law;
+  cleared = cleared_law;
 }

@@ -37,3 +37,8 @@ killed_again ps p test x passes =
 pub live_registered : {T : Type 0} (ps : Pools T) (p n : ℕ) (x : T) → is_live ps n ≡ true → is_live (registered p x ps) n ≡ true
 unfolding registered is_live
 live_registered ps p n x live = live
+
+-- so does a payload less
+pub live_killed : {T : Type 0} (ps : Pools T) (p n : ℕ) (test : T → Bool) → is_live ps n ≡ true → is_live (killed p test ps) n ≡ true
+unfolding killed is_live
+live_killed ps p n test live = live

@@ -9,6 +9,11 @@ unfoldable pub refs_in : ℕ → List (ℕ × Payload) → ℕ
 refs_in file [] = 0
 refs_in file (x ∷ xs) = if is_file_ref file x.1 then suc (refs_in file xs) else refs_in file xs
 
+-- how many of these files are one
+unfoldable pub times_in : ℕ → List ℕ → ℕ
+times_in file [] = 0
+times_in file (f ∷ fs) = if f == file then suc (times_in file fs) else times_in file fs
+
 -- A file is closed where references to it are handed on, and there were no more.
 abbrev pub is_let_go : ℕ → ℕ → Bool
 is_let_go count zero = false

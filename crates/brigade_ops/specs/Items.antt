@@ -6,6 +6,7 @@ use Rattle.run_model.specs.declared.payload.Payload.{Payload}
 use Rattle.run_model.specs.declared.payload.Payload.TheVariants.{FileRef}
 use Rattle.run_model.specs.Pools.{Pools, registered}
 use Rattle.run_model.specs.Steps.{is_above, file_of}
+use Rattle.run_model.specs.Cutting.{set_aside}
 use Rattle.run_model.specs.declared.bucket.Bucket.{Bucket}
 use Rattle.run_model.specs.declared.bucket.NamedBucket.{NamedBucket}
 use Rattle.run_model.specs.declared.bucket.Content.{Content}
@@ -72,3 +73,11 @@ pools_for pool (Some file) ps = registered pool (FileRef file) ps
 abbrev pub count_for : ℕ → Option ℕ → ℕ → ℕ
 count_for f None count = count
 count_for f (Some file) count = if f == file then count + 1 else count
+
+-- a bucket that is set aside into a pool keeps its name
+abbrev pub aside_item : Pools Payload → ℕ → Item → Item
+aside_item ps pool x = (x.0, set_aside pool (is_above ps pool x.1.home) x.1)
+
+-- From a place on, all is set aside.
+abbrev pub aside_behind : Pools Payload → ℕ → Option BucketId → Items → Items
+aside_behind ps pool place xs = before_place place xs ++ map (aside_item ps pool) (from_place place xs)

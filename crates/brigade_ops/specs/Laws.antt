@@ -1,15 +1,22 @@
 -- The words on lists of named buckets are those of the model's brigades.
-use Rattle.std.specs.Prelude.{◌≡◌, ℕ, ◌<◌, ◌≤◌, ◌∷◌, [], Option, None, Some}
+use Rattle.std.specs.Prelude.{◌≡◌, ℕ, ◌<◌, ◌≤◌, Bool, List, ◌∷◌, [], map, Option, None, Some}
+use Rattle.std.specs.List.{AllByRecursion}
 use Rattle.std.specs.Option.{option_map}
 use Rattle.bucket_ring.specs.declared.names.BucketId.{BucketId}
 use Rattle.bucket_ring.specs.Lists as ring
 use Rattle.bucket_ring.specs.Lists.{times, found}
 use Rattle.run_model.specs.declared.bucket.Bucket.{Bucket}
+use Rattle.run_model.specs.Buckets.{cleared_bucket}
 use Rattle.run_model.specs.Cutting.{split_at}
 use Rattle.run_model.specs.BrigadeLists as model
+use Rattle.run_model.specs.Pools.{Pools}
+use Rattle.run_model.specs.Steps.{aside_named}
+use Rattle.run_model.specs.declared.payload.Payload.{Payload}
 use Rattle.brigade_ops.specs.declared.walking.Point.TheVariants as point
 use Rattle.brigade_ops.specs.Points.{point_in}
-use Rattle.brigade_ops.specs.Items.{Item, Items, named, named_item, before_place, from_place, replaced}
+use Rattle.brigade_ops.specs.declared.morphs.Morph.{Morph}
+use Rattle.brigade_ops.specs.Morphs.{morphed, all_morphed, cleared_as}
+use Rattle.brigade_ops.specs.Items.{Item, Items, named, named_item, before_place, from_place, replaced, aside_item}
 
 -- No other bucket of the list has the birth of this name. It is so of each name that a store gave, whether the bucket is there still or not.
 abbrev pub IsGiven : BucketId → Items → Type 0
@@ -18,7 +25,8 @@ IsGiven id xs = (i : BucketId) → 0 < times i xs → i.birth ≡ id.birth → i
 abbrev pub birth_of : Option BucketId → Option ℕ
 birth_of place = option_map (λ id. id.birth) place
 
--- by apr_buckets.h: APR_BRIGADE_FIRST, INSERT_HEAD, INSERT_TAIL, INSERT_BEFORE, APR_BUCKET_REMOVE, apr_bucket_split, apr_brigade_split_ex
+-- by apr_buckets.h: APR_BRIGADE_FIRST, INSERT_HEAD, INSERT_TAIL, INSERT_BEFORE, APR_BUCKET_REMOVE, apr_bucket_split, apr_brigade_split_ex,
+-- apr_bucket_setaside, and the cleanup of a pool bucket
 pub record ListsAreTheModels : Type 0 where
   pub first : (xs : Items) → birth_of (ring.first_of xs) ≡ model.first_place (named xs)
   pub head : (x : Item) (xs : Items) → named (ring.put_head x xs) ≡ model.put_head (named_item x) (named xs)
@@ -29,6 +37,8 @@ pub record ListsAreTheModels : Type 0 where
   pub moves : (id : BucketId) (xs : Items) → IsGiven id xs → named (from_place (Some id) xs) ≡ model.moves (Some id.birth) (named xs)
   pub split : (id new : BucketId) (n : ℕ) (x : Bucket) (xs : Items) → IsGiven id xs → found id xs ≡ Some x
       → named (replaced id (split_at n x).0 ((new, (split_at n x).1) ∷ []) xs) ≡ model.bucket_split new.birth id.birth n (named xs)
+  pub aside : (ps : Pools Payload) (pool : ℕ) (xs : Items) → named (map (aside_item ps pool) xs) ≡ map (aside_named ps pool) (named xs)
+  pub cleared : (reached : ℕ → Bool) (ms : List Morph) (xs : Items) → AllByRecursion (λ (x : Item). morphed ms x.0 x.1 ≡ cleared_as reached x.1) xs → named (all_morphed ms xs) ≡ map (cleared_bucket reached) (named xs)
 
 abbrev pub place_cut : Option BucketId → model.Cut
 place_cut None = model.AtEnd

@@ -6,3 +6,4 @@ pub mod Points
 pub mod Refusals
 pub mod Reads
 pub mod Laws
+pub mod Morphs

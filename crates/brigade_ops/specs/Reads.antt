@@ -1,5 +1,5 @@
 -- A read of a bucket in a brigade (apr_bucket_read).
-use Rattle.std.specs.Prelude.{◌≡◌, ◌⊎◌, ℕ, ◌+◌, ◌&&◌, if◌then◌else◌, Option, None, Some, is_some, Result, Ok, Err, IfOk, List, []}
+use Rattle.std.specs.Prelude.{◌≡◌, ◌⊎◌, ℕ, ◌+◌, ◌&&◌, if◌then◌else◌, Option, None, Some, is_some, is_ok, Result, Ok, Err, IfOk, List, []}
 use Rattle.bucket_ring.specs.declared.names.BucketId.{BucketId}
 use Rattle.bucket_ring.specs.Lists.{on}
 use Rattle.run_model.specs.declared.bucket.Bucket.{Bucket}
@@ -9,13 +9,11 @@ use Rattle.bucket_kinds.specs.Reading.{GivesFor, EndsWithin}
 use Rattle.brigade_ops.specs.declared.refusal.ReadRefusal.{ReadRefusal}
 use Rattle.brigade_ops.specs.declared.refusal.ReadRefusal.TheVariants as refusal
 use Rattle.brigade_ops.specs.Items.{Items, replaced, rest_item}
-use Rattle.brigade_ops.specs.Refusals.{took_name}
 
--- The bucket x of the name id was read. What a read leaves of a longer range stands behind it under a name of its own, which was taken
--- before the file was read.
+-- The bucket x of the name id was read. What a read leaves of a longer range stands behind it under a name of its own.
 pub record IsRead (id : BucketId) (x : Bucket) (at : Option ℕ) (d e : Device) (old new : ℕ → Option Items) (next after : ℕ) (result : Result (Option BucketId) ReadRefusal) : Type 0 where
   pub ok : IfOk result (λ rest. (b : ℕ) → at ≡ Some b → (bytes : List ℕ) × GivesFor d x.content bytes × ((m : ℕ) → new m ≡ on b (replaced id (read_of bytes x).0 (rest_item rest (read_of bytes x).1)) old m))
   pub rest : IfOk result (λ rest. is_some rest ≡ is_some (read_of [] x).1)
-  pub names : after ≡ (if took_name result && is_some (read_of [] x).1 then next + 1 else next)
+  pub names : after ≡ (if is_ok result && is_some (read_of [] x).1 then next + 1 else next)
   pub unread : wanted x.content ≡ 0 → (result ≡ Ok None) × (e ≡ d)
   pub fault : result ≡ Err refusal.ReadFault → (e ≡ failed d) ⊎ ((e ≡ d) × EndsWithin d x.content)

@@ -17,7 +17,7 @@ use run_model::{Bucket, Content, Home, Kind, Payload};
 use std::alloc::AllocError;
 
 /// Stands in a bucket's place while that is changed.
-const NOTHING: Bucket = Bucket {
+pub(crate) const NOTHING: Bucket = Bucket {
     kind: Kind::Eos,
     content: Content::Nothing,
     home: Home::Free,
@@ -25,7 +25,7 @@ const NOTHING: Bucket = Bucket {
 
 /// Whether the pool of a home is the target or stands above it.
 #[tactic(auto, using(crate::proofs::Above::dead_above, pool_tree::proofs::Trees::tree_formed))]
-fn is_above(pools: &PoolTree<Payload>, target: PoolId, home: Home) -> bool
+pub(crate) fn is_above(pools: &PoolTree<Payload>, target: PoolId, home: Home) -> bool
     requires { IsTrue (is_live (map_of pools.now) target) }
     ensures { result ≡ is_above (map_of pools.now) target home }
 {
@@ -50,7 +50,7 @@ impl<R: Rings<Bucket> + Drop> Brigades<R> {
     ghost use Rattle.brigade_ops.specs.Store.{lists, brigade_of, bucket_at, pool_of, next_name, references};
 
     /// The file of which setting a bucket aside takes a further reference, and whether its home is the target or above it.
-    fn file_for(
+    pub(crate) fn file_for(
         &self,
         tree: &PoolTree<Payload>,
         id: BucketId,
@@ -69,7 +69,7 @@ impl<R: Rings<Bucket> + Drop> Brigades<R> {
     }
 
     /// Sets a bucket aside, where its file has a reference.
-    fn put_aside(&mut self, id: BucketId, pool: PoolId, above: bool)
+    pub(crate) fn put_aside(&mut self, id: BucketId, pool: PoolId, above: bool)
         requires { is_some (brigade_of self.old id) ≡ true }
         ensures out { (b m : ℕ) (x : Bucket) → brigade_of self.old id ≡ Some b → bucket_at self.old id ≡ Some x → lists self.new m ≡ on b (with_payload id (set_aside pool above x)) (lists self.old) m }
         ensures next { next_name self.new ≡ next_name self.old }

@@ -12,9 +12,9 @@ use pool_tree::{PoolId, PoolTree};
 use run_model::{Bucket, Payload};
 use std::alloc::AllocError;
 
-#[tactic(auto, unfolding(crate::specs::Store::lists, crate::specs::Store::brigade_of, crate::specs::Store::pool_of, crate::specs::Store::next_name), using(pool_tree::proofs::Trees::tree_formed))]
+#[tactic(auto, unfolding(crate::specs::Store::lists, crate::specs::Store::brigade_of, crate::specs::Store::pool_of, crate::specs::Store::next_name, crate::specs::Store::references), using(pool_tree::proofs::Trees::tree_formed))]
 impl<R: Rings<Bucket> + Drop> Brigades<R> {
-    ghost use Rattle.brigade_ops.specs.Store.{lists, pool_of, next_name};
+    ghost use Rattle.brigade_ops.specs.Store.{lists, pool_of, next_name, references};
 
     /// Makes an empty brigade on a pool (`apr_brigade_create`), which it ends with: it is registered there. `NamesSpent`: the next
     /// name is `u64::MAX`. Refused, nothing is changed.
@@ -32,6 +32,7 @@ impl<R: Rings<Bucket> + Drop> Brigades<R> {
         ensures formed { IsPoolMap (map_of tree.new) }
         ensures spent { IsErrOf result RingRefusal.NamesSpent ↔ (next_name self.old ≡ u64.MAX) }
         ensures err { OnErr result ((n : ℕ) → lists self.new n ≡ lists self.old n) }
+        ensures references { references self.new ≡ references self.old }
         ensures off { OnErr result ((n : ℕ) → pool_of self.new n ≡ pool_of self.old n) }
         ensures kept { OnErr result (map_of tree.new ≡ map_of tree.old) }
     {
@@ -61,6 +62,7 @@ impl<R: Rings<Bucket> + Drop> Brigades<R> {
         ensures name { IfOk result (λ b. b ≡ next_name self.old) }
         ensures next { next_name self.new ≡ (if is_ok result then next_name self.old + 1 else next_name self.old) }
         ensures pools { pool_of self.new ≡ pool_of self.old }
+        ensures references { references self.new ≡ references self.old }
         ensures spent { IsErrOf result RingRefusal.NamesSpent ↔ (next_name self.old ≡ u64.MAX) }
         ensures err { OnErr result ((n : ℕ) → lists self.new n ≡ lists self.old n) }
     {
@@ -74,6 +76,7 @@ impl<R: Rings<Bucket> + Drop> Brigades<R> {
         ensures out { (n : ℕ) → lists self.new n ≡ upd (lists self.old) b None n }
         ensures next { next_name self.new ≡ next_name self.old }
         ensures pools { pool_of self.new ≡ pool_of self.old }
+        ensures references { references self.new ≡ references self.old }
     {
         self.held.rings.end_ring(b);
     }
@@ -84,6 +87,7 @@ impl<R: Rings<Bucket> + Drop> Brigades<R> {
         ensures out { (n : ℕ) → lists self.new n ≡ on b (λ xs. []) (lists self.old) n }
         ensures next { next_name self.new ≡ next_name self.old }
         ensures pools { pool_of self.new ≡ pool_of self.old }
+        ensures references { references self.new ≡ references self.old }
     {
         self.held.rings.drop_all(b);
     }
@@ -99,6 +103,7 @@ impl<R: Rings<Bucket> + Drop> Brigades<R> {
         ensures empty { list_at (lists self.old) a ≡ [] → IsOk result }
         ensures next { next_name self.new ≡ next_name self.old }
         ensures pools { pool_of self.new ≡ pool_of self.old }
+        ensures references { references self.new ≡ references self.old }
         ensures err { OnErr result ((n : ℕ) → lists self.new n ≡ lists self.old n) }
     {
         self.held.rings.splice_tail(a, b)

@@ -9,9 +9,9 @@ use bucket_ring::{BucketId, RingRefusal, Rings};
 use run_model::{Bucket, Content};
 use std::alloc::AllocError;
 
-#[tactic(auto, unfolding(crate::specs::Store::lists, crate::specs::Store::brigade_of, crate::specs::Store::pool_of, crate::specs::Store::next_name))]
+#[tactic(auto, unfolding(crate::specs::Store::lists, crate::specs::Store::brigade_of, crate::specs::Store::pool_of, crate::specs::Store::next_name, crate::specs::Store::references))]
 impl<R: Rings<Bucket> + Drop> Brigades<R> {
-    ghost use Rattle.brigade_ops.specs.Store.{lists, brigade_of, bucket_at, pool_of, next_name};
+    ghost use Rattle.brigade_ops.specs.Store.{lists, brigade_of, bucket_at, pool_of, next_name, references};
 
     /// Puts a new bucket at the tail of a brigade (`APR_BRIGADE_INSERT_TAIL`). `NamesSpent`: the next name is `u64::MAX`. Refused,
     /// nothing is changed, and the bucket comes back.
@@ -25,6 +25,7 @@ impl<R: Rings<Bucket> + Drop> Brigades<R> {
         ensures name { IfOk result (λ id. id.birth ≡ next_name self.old) }
         ensures next { next_name self.new ≡ (if is_ok result then next_name self.old + 1 else next_name self.old) }
         ensures pools { pool_of self.new ≡ pool_of self.old }
+        ensures references { references self.new ≡ references self.old }
         ensures spent { next_name self.old ≡ u64.MAX → result ≡ Err (RingRefusal.NamesSpent, bucket) }
         ensures unspent { IfErr result (λ why. why.0 ≡ RingRefusal.NamesSpent → next_name self.old ≡ u64.MAX) }
         ensures err { OnErr result ((n : ℕ) → lists self.new n ≡ lists self.old n) }
@@ -44,6 +45,7 @@ impl<R: Rings<Bucket> + Drop> Brigades<R> {
         ensures name { IfOk result (λ id. id.birth ≡ next_name self.old) }
         ensures next { next_name self.new ≡ (if is_ok result then next_name self.old + 1 else next_name self.old) }
         ensures pools { pool_of self.new ≡ pool_of self.old }
+        ensures references { references self.new ≡ references self.old }
         ensures spent { next_name self.old ≡ u64.MAX → result ≡ Err (RingRefusal.NamesSpent, bucket) }
         ensures unspent { IfErr result (λ why. why.0 ≡ RingRefusal.NamesSpent → next_name self.old ≡ u64.MAX) }
         ensures err { OnErr result ((n : ℕ) → lists self.new n ≡ lists self.old n) }
@@ -63,6 +65,7 @@ impl<R: Rings<Bucket> + Drop> Brigades<R> {
         ensures name { IfOk result (λ id. id.birth ≡ next_name self.old) }
         ensures next { next_name self.new ≡ (if is_ok result then next_name self.old + 1 else next_name self.old) }
         ensures pools { pool_of self.new ≡ pool_of self.old }
+        ensures references { references self.new ≡ references self.old }
         ensures spent { next_name self.old ≡ u64.MAX → result ≡ Err (RingRefusal.NamesSpent, bucket) }
         ensures unspent { IfErr result (λ why. why.0 ≡ RingRefusal.NamesSpent → next_name self.old ≡ u64.MAX) }
         ensures err { OnErr result ((n : ℕ) → lists self.new n ≡ lists self.old n) }
@@ -82,6 +85,7 @@ impl<R: Rings<Bucket> + Drop> Brigades<R> {
         ensures name { IfOk result (λ id. id.birth ≡ next_name self.old) }
         ensures next { next_name self.new ≡ (if is_ok result then next_name self.old + 1 else next_name self.old) }
         ensures pools { pool_of self.new ≡ pool_of self.old }
+        ensures references { references self.new ≡ references self.old }
         ensures spent { next_name self.old ≡ u64.MAX → result ≡ Err (RingRefusal.NamesSpent, bucket) }
         ensures unspent { IfErr result (λ why. why.0 ≡ RingRefusal.NamesSpent → next_name self.old ≡ u64.MAX) }
         ensures err { OnErr result ((n : ℕ) → lists self.new n ≡ lists self.old n) }
@@ -98,6 +102,7 @@ impl<R: Rings<Bucket> + Drop> Brigades<R> {
         ensures sure { length (list_at (lists self.old) b) + 1 < 2 ^ 63 → IsOk result }
         ensures next { next_name self.new ≡ next_name self.old }
         ensures pools { pool_of self.new ≡ pool_of self.old }
+        ensures references { references self.new ≡ references self.old }
         ensures err { OnErr result ((n : ℕ) → lists self.new n ≡ lists self.old n) }
     {
         self.held.rings.move_tail(b, id)
@@ -111,6 +116,7 @@ impl<R: Rings<Bucket> + Drop> Brigades<R> {
         ensures sure { length (list_at (lists self.old) b) + 1 < 2 ^ 63 → IsOk result }
         ensures next { next_name self.new ≡ next_name self.old }
         ensures pools { pool_of self.new ≡ pool_of self.old }
+        ensures references { references self.new ≡ references self.old }
         ensures err { OnErr result ((n : ℕ) → lists self.new n ≡ lists self.old n) }
     {
         self.held.rings.move_head(b, id)
@@ -124,6 +130,7 @@ impl<R: Rings<Bucket> + Drop> Brigades<R> {
         ensures sure { (b : ℕ) → brigade_of self.old at ≡ Some b → length (list_at (lists self.old) b) + 1 < 2 ^ 63 → IsOk result }
         ensures next { next_name self.new ≡ next_name self.old }
         ensures pools { pool_of self.new ≡ pool_of self.old }
+        ensures references { references self.new ≡ references self.old }
         ensures err { OnErr result ((n : ℕ) → lists self.new n ≡ lists self.old n) }
     {
         self.held.rings.move_before(at, id)
@@ -135,6 +142,7 @@ impl<R: Rings<Bucket> + Drop> Brigades<R> {
         ensures out { (b n : ℕ) → brigade_of self.old id ≡ Some b → lists self.new n ≡ on b (without id) (lists self.old) n }
         ensures next { next_name self.new ≡ next_name self.old }
         ensures pools { pool_of self.new ≡ pool_of self.old }
+        ensures references { references self.new ≡ references self.old }
     {
         self.held.rings.drop_bucket(id);
     }

@@ -12,9 +12,9 @@ use bucket_kinds::{copy_bucket, halves};
 use bucket_ring::{BucketId, RingRefusal, Rings};
 use run_model::Bucket;
 
-#[tactic(auto, unfolding(crate::specs::Store::lists, crate::specs::Store::brigade_of, crate::specs::Store::pool_of, crate::specs::Store::next_name))]
+#[tactic(auto, unfolding(crate::specs::Store::lists, crate::specs::Store::brigade_of, crate::specs::Store::pool_of, crate::specs::Store::next_name, crate::specs::Store::references))]
 impl<R: Rings<Bucket> + Drop> Brigades<R> {
-    ghost use Rattle.brigade_ops.specs.Store.{lists, brigade_of, bucket_at, pool_of, next_name};
+    ghost use Rattle.brigade_ops.specs.Store.{lists, brigade_of, bucket_at, pool_of, next_name, references};
 
     /// Puts a new bucket behind another. Refused, nothing is changed, and it is dropped.
     pub(crate) fn put_behind(
@@ -30,6 +30,7 @@ impl<R: Rings<Bucket> + Drop> Brigades<R> {
         ensures name { IfOk result (λ id. id.birth ≡ next_name self.old) }
         ensures next { next_name self.new ≡ (if is_ok result then next_name self.old + 1 else next_name self.old) }
         ensures pools { pool_of self.new ≡ pool_of self.old }
+        ensures references { references self.new ≡ references self.old }
         ensures spent { next_name self.old ≡ u64.MAX → result ≡ Err RingRefusal.NamesSpent }
         ensures unspent { result ≡ Err RingRefusal.NamesSpent → next_name self.old ≡ u64.MAX }
         ensures err { OnErr result ((n : ℕ) → lists self.new n ≡ lists self.old n) }
@@ -51,6 +52,7 @@ impl<R: Rings<Bucket> + Drop> Brigades<R> {
         ensures name { IfOk result (λ new. new.birth ≡ next_name self.old) }
         ensures next { next_name self.new ≡ (if is_ok result then next_name self.old + 1 else next_name self.old) }
         ensures pools { pool_of self.new ≡ pool_of self.old }
+        ensures references { references self.new ≡ references self.old }
         ensures metadata { (x : Bucket) → bucket_at self.old id ≡ Some x → (result ≡ Err SplitRefusal.Metadata) ↔ (is_data_kind x.kind ≡ false) }
         ensures too_long { (x : Bucket) → bucket_at self.old id ≡ Some x → (result ≡ Err SplitRefusal.TooLong) ↔ ((is_data_kind x.kind ≡ true) × (length_of x.content < n)) }
         ensures spent { next_name self.old ≡ u64.MAX → IsErr result }
@@ -71,6 +73,7 @@ impl<R: Rings<Bucket> + Drop> Brigades<R> {
         ensures name { IfOk result (λ new. new.birth ≡ next_name self.old) }
         ensures next { next_name self.new ≡ (if is_ok result then next_name self.old + 1 else next_name self.old) }
         ensures pools { pool_of self.new ≡ pool_of self.old }
+        ensures references { references self.new ≡ references self.old }
         ensures spent { next_name self.old ≡ u64.MAX → IsErr result }
         ensures unspent { result ≡ Err RingRefusal.NamesSpent → next_name self.old ≡ u64.MAX }
         ensures err { OnErr result ((m : ℕ) → lists self.new m ≡ lists self.old m) }

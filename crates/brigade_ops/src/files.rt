@@ -10,6 +10,7 @@ ghost use Rattle.bucket_kinds.specs.Device.{Missing, is_there};
 ghost use Rattle.brigade_ops.specs.Items.{pools_for, count_for};
 ghost use Rattle.brigade_ops.specs.Files.{refs_in, is_let_go, SameButOpen};
 
+use crate::references::refer;
 use crate::store::{BrigadeId, Brigades};
 use bucket_kinds::{FileNo, Files};
 use bucket_ring::Rings;
@@ -17,7 +18,7 @@ use pool_tree::{PoolId, PoolTree};
 use run_model::{Bucket, Payload};
 use std::alloc::AllocError;
 
-#[tactic(auto, unfolding(crate::specs::Store::lists, crate::specs::Store::brigade_of, crate::specs::Store::bucket_at, crate::specs::Store::pool_of, crate::specs::Store::next_name, crate::specs::Store::references, bucket_ring::specs::Lists::upd), using(pool_tree::proofs::Trees::tree_formed))]
+#[tactic(auto, unfolding(crate::specs::Store::lists, crate::specs::Store::brigade_of, crate::specs::Store::bucket_at, crate::specs::Store::pool_of, crate::specs::Store::next_name, crate::specs::Store::references, crate::specs::Numbers::count_at, bucket_ring::specs::Lists::upd), using(pool_tree::proofs::Trees::tree_formed))]
 impl<R: Rings<Bucket> + Drop> Brigades<R> {
     ghost use Rattle.brigade_ops.specs.Store.{lists, brigade_of, bucket_at, pool_of, next_name, references};
 
@@ -40,16 +41,7 @@ impl<R: Rings<Bucket> + Drop> Brigades<R> {
         ensures kept { OnErr result (map_of tree.new ≡ map_of tree.old) }
         ensures uncounted { OnErr result ((f : ℕ) → references self.new f ≡ references self.old f) }
     {
-        self.references.reserve()?;
-        let count = self.references.get(file).unwrap_or(0);
-        let Some(more) = count.checked_add(1) else {
-            return Err(AllocError);
-        };
-        let Ok(()) = tree.register(pool, Payload::FileRef(file)) else {
-            return Err(AllocError);
-        };
-        self.references.put(file, more);
-        Ok(())
+        refer(&mut self.references, tree, pool, file)
     }
 
     /// Registers a reference to a file, where one is named, as `refer` does.

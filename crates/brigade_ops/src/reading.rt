@@ -1,12 +1,11 @@
 //! A bucket of the store is read.
 
-ghost use Rattle.std.specs.Prelude.{◌≡◌, ◌≢◌, ◌⊎◌, ◌&&◌, ℕ, ◌+◌, List, [], ◌∷◌, length, Ok, Some, None, Err, true, is_some, if◌then◌else◌, IfOk, IfSome, OnOk, OnErr};
+ghost use Rattle.std.specs.Prelude.{◌≡◌, ◌≢◌, ◌⊎◌, ◌&&◌, ℕ, ◌+◌, List, [], ◌∷◌, length, Ok, Some, None, Err, true, is_some, is_ok, if◌then◌else◌, IfOk, IfSome, OnOk, OnErr};
 ghost use Rattle.bucket_ring.specs.Lists.{on, with_payload};
 ghost use Rattle.run_model.specs.Cutting.{EndsInFile, wanted, read_of};
 ghost use Rattle.bucket_kinds.specs.Device.{failed};
 ghost use Rattle.bucket_kinds.specs.Reading.{IsOpenFor, GivesFor, EndsWithin};
 ghost use Rattle.brigade_ops.specs.Items.{replaced, rest_item, range_in};
-ghost use Rattle.brigade_ops.specs.Refusals.{took_name};
 ghost use Rattle.brigade_ops.specs.Reads.{IsRead};
 
 use crate::refusal::ReadRefusal;
@@ -15,9 +14,9 @@ use bucket_kinds::{Files, ReadFault, read_into, rest_of_read, room_to_read};
 use bucket_ring::{BucketId, Rings};
 use run_model::{Bucket, Content, Seq};
 
-#[tactic(auto, unfolding(crate::specs::Store::lists, crate::specs::Store::brigade_of, crate::specs::Store::pool_of, crate::specs::Store::next_name))]
+#[tactic(auto, unfolding(crate::specs::Store::lists, crate::specs::Store::brigade_of, crate::specs::Store::pool_of, crate::specs::Store::next_name, crate::specs::Store::references))]
 impl<R: Rings<Bucket> + Drop> Brigades<R> {
-    ghost use Rattle.brigade_ops.specs.Store.{lists, brigade_of, bucket_at, pool_of, next_name};
+    ghost use Rattle.brigade_ops.specs.Store.{lists, brigade_of, bucket_at, pool_of, next_name, references};
 
     /// A bucket that is a range of a file.
     fn range_at(&self, id: BucketId) -> Option<Bucket>
@@ -57,6 +56,7 @@ impl<R: Rings<Bucket> + Drop> Brigades<R> {
             × ((m : ℕ) → lists self.new m ≡ on b (with_payload id (read_of bytes bucket).0) (lists self.old) m)) }
         ensures next { next_name self.new ≡ next_name self.old }
         ensures pools { pool_of self.new ≡ pool_of self.old }
+        ensures references { references self.new ≡ references self.old }
         ensures unread { wanted bucket.content ≡ 0 → (result ≡ Ok tt) × (F.device files.new ≡ F.device files.old) }
         ensures same { OnOk result (F.device files.new ≡ F.device files.old) }
         ensures fault { OnErr result
@@ -70,12 +70,12 @@ impl<R: Rings<Bucket> + Drop> Brigades<R> {
         Ok(())
     }
 
-    /// Reads a bucket of which a read leaves this rest, which gets its name before the file is read.
+    /// Reads a bucket of which a read leaves this rest. A name is asked for before the file is read.
     fn read_front<F: Files>(
         &mut self,
         files: &mut F,
         id: BucketId,
-        bucket: Bucket,
+        mut bucket: Bucket,
         room: Seq<u8>,
         rest: Bucket,
     ) -> Result<BucketId, ReadRefusal>
@@ -87,8 +87,9 @@ impl<R: Rings<Bucket> + Drop> Brigades<R> {
         ensures ok { IfOk result (λ new. (b : ℕ) → brigade_of self.old id ≡ Some b → (bytes : List ℕ) × GivesFor (F.device files.old) bucket.content bytes
             × ((m : ℕ) → lists self.new m ≡ on b (replaced id (read_of bytes bucket).0 ((new, rest) ∷ [])) (lists self.old) m)) }
         ensures name { IfOk result (λ new. new.birth ≡ next_name self.old) }
-        ensures next { next_name self.new ≡ (if took_name result then next_name self.old + 1 else next_name self.old) }
+        ensures next { next_name self.new ≡ (if is_ok result then next_name self.old + 1 else next_name self.old) }
         ensures pools { pool_of self.new ≡ pool_of self.old }
+        ensures references { references self.new ≡ references self.old }
         ensures same { OnOk result (F.device files.new ≡ F.device files.old) }
         ensures fault { result ≡ Err ReadRefusal.ReadFault
             → (F.device files.new ≡ failed (F.device files.old))
@@ -99,14 +100,13 @@ impl<R: Rings<Bucket> + Drop> Brigades<R> {
         ensures open_files { (F.device files.new).numbered ≡ (F.device files.old).numbered }
         ensures err { OnErr result ((m : ℕ) → lists self.new m ≡ lists self.old m) }
     {
-        let new = self.put_behind(id, rest)?;
-        match self.read_whole(files, id, bucket, room) {
-            Ok(()) => Ok(new),
-            Err(_) => {
-                self.held.rings.drop_bucket(new);
-                Err(ReadRefusal::ReadFault)
-            }
+        if self.held.rings.next_name() == u64::MAX {
+            return Err(ReadRefusal::NamesSpent);
         }
+        let _rest = read_into(&mut bucket, room, files)?;
+        let new = self.put_behind(id, rest)?;
+        let _unread = self.held.rings.set_payload(id, bucket);
+        Ok(new)
     }
 
     /// Reads a bucket that is a range of a file.
@@ -123,8 +123,9 @@ impl<R: Rings<Bucket> + Drop> Brigades<R> {
             × ((m : ℕ) → lists self.new m ≡ on b (replaced id (read_of bytes bucket).0 (rest_item rest (read_of bytes bucket).1)) (lists self.old) m)) }
         ensures rest { IfOk result (λ rest. is_some rest ≡ is_some (read_of [] bucket).1) }
         ensures name { IfOk result (λ rest. IfSome rest (λ new. new.birth ≡ next_name self.old)) }
-        ensures names { next_name self.new ≡ (if took_name result && is_some (read_of [] bucket).1 then next_name self.old + 1 else next_name self.old) }
+        ensures names { next_name self.new ≡ (if is_ok result && is_some (read_of [] bucket).1 then next_name self.old + 1 else next_name self.old) }
         ensures pools { pool_of self.new ≡ pool_of self.old }
+        ensures references { references self.new ≡ references self.old }
         ensures unread { wanted bucket.content ≡ 0 → (result ≡ Ok None) × (F.device files.new ≡ F.device files.old) }
         ensures same { OnOk result (F.device files.new ≡ F.device files.old) }
         ensures fault { result ≡ Err ReadRefusal.ReadFault
@@ -149,8 +150,7 @@ impl<R: Rings<Bucket> + Drop> Brigades<R> {
     }
 
     /// Reads a bucket (`apr_bucket_read`), as `read_bucket` does. The rest of a longer FILE bucket stands behind it under the name that
-    /// is answered; it takes that name before the file is read, so a read that fails has spent it. Refused, nothing else is
-    /// changed.
+    /// is answered. Refused, nothing is changed, and no name is spent.
     pub fn read<F: Files>(
         &mut self,
         files: &mut F,
@@ -163,6 +163,7 @@ impl<R: Rings<Bucket> + Drop> Brigades<R> {
             → IsRead id x (brigade_of self.old id) (F.device files.old) (F.device files.new) (lists self.old) (lists self.new) (next_name self.old) (next_name self.new) result }
         ensures name { IfOk result (λ rest. IfSome rest (λ new. new.birth ≡ next_name self.old)) }
         ensures pools { pool_of self.new ≡ pool_of self.old }
+        ensures references { references self.new ≡ references self.old }
         ensures same { OnOk result (F.device files.new ≡ F.device files.old) }
         ensures no_memory { result ≡ Err ReadRefusal.NoMemory → F.device files.new ≡ F.device files.old }
         ensures unspent { result ≡ Err ReadRefusal.NamesSpent → (next_name self.old ≡ u64.MAX) × (F.device files.new ≡ F.device files.old) }

@@ -50,9 +50,9 @@ fn drop_before<R: Rings<Bucket>>(rings: &mut R, b: BrigadeId, id: BucketId)
     }
 }
 
-#[tactic(auto, unfolding(crate::specs::Store::lists, crate::specs::Store::brigade_of, crate::specs::Store::pool_of, crate::specs::Store::next_name))]
+#[tactic(auto, unfolding(crate::specs::Store::lists, crate::specs::Store::brigade_of, crate::specs::Store::pool_of, crate::specs::Store::next_name, crate::specs::Store::references))]
 impl<R: Rings<Bucket> + Drop> Brigades<R> {
-    ghost use Rattle.brigade_ops.specs.Store.{lists, brigade_of, bucket_at, pool_of, next_name};
+    ghost use Rattle.brigade_ops.specs.Store.{lists, brigade_of, bucket_at, pool_of, next_name, references};
 
     /// Where a walk along a brigade begins.
     pub(crate) fn start(&self, b: BrigadeId) -> Option<BucketId>
@@ -124,6 +124,7 @@ impl<R: Rings<Bucket> + Drop> Brigades<R> {
             × ((m : ℕ) → lists self.new m ≡ on b (replaced id (split_at n x).0 ((new, (split_at n x).1) ∷ [])) (lists self.old) m)) }
         ensures next { next_name self.new ≡ (if is_ok result && is_inside (point_in point (list_at (lists self.old) b)) then next_name self.old + 1 else next_name self.old) }
         ensures pools { pool_of self.new ≡ pool_of self.old }
+        ensures references { references self.new ≡ references self.old }
         ensures unspent { result ≡ Err RingRefusal.NamesSpent → next_name self.old ≡ u64.MAX }
         ensures err { OnErr result ((m : ℕ) → lists self.new m ≡ lists self.old m) }
     {
@@ -155,6 +156,7 @@ impl<R: Rings<Bucket> + Drop> Brigades<R> {
         ensures ok { OnOk result ((n : ℕ) → lists self.new n ≡ on a (λ xs. from_place place (list_at (lists self.old) b)) (on b (before_place place) (lists self.old)) n) }
         ensures next { next_name self.new ≡ next_name self.old }
         ensures pools { pool_of self.new ≡ pool_of self.old }
+        ensures references { references self.new ≡ references self.old }
         ensures err { OnErr result ((n : ℕ) → lists self.new n ≡ lists self.old n) }
     {
         let Some(id) = place else {

@@ -1,11 +1,14 @@
+pub mod AnswerLaws
 pub mod BringLaws
 pub mod FrontLaws
 pub mod HostLaws
 pub mod LabelLaws
 pub mod LineLaws
+pub mod PartLaws
 pub mod PieceLaws
 pub mod PlayLaws
 pub mod PlayTurns
 pub mod PoolLaws
 pub mod ReadyLaws
+pub mod RunLaws
 pub mod StepLaws

@@ -1,8 +1,8 @@
 -- The lines of a text, as code goes through it.
-use Rattle.std.proofs.Common.{◌≡◌, ℕ, ◌+◌, ◌-◌, Bool, true, false, List, [], ◌∷◌, length, take, drop, refl, ap, sym, ◌∙◌, arith}
+use Rattle.std.proofs.Common.{◌≡◌, ℕ, ◌+◌, ◌-◌, Bool, true, false, List, [], ◌∷◌, length, take, drop, refl, ap, sym, ◌∙◌, subst, arith}
 use Rattle.std.proofs.lemmas.Grind.{common_steps}
 use Rattle.module_lang.specs.TextLines.{Line, lines_of, width}
-use Rattle.host_cli.specs.Lines.{is_end, cut_from}
+use Rattle.host_cli.specs.Lines.{is_end, cut_from, text_cut, begins_cert, cert_cut}
 
 -- the rest of a text as code reads it
 abbrev pub rest_at : List ℕ → ℕ → List ℕ
@@ -41,3 +41,22 @@ cut_ends size lines rest l m ls w begins same wide last =
 pub cut_stops : (size lines : ℕ) (rest : List ℕ) → length rest ≡ 0 → cut_from size lines (lines_of rest) ≡ record { size = size; lines = lines }
 unfolding cut_from
 cut_stops size lines rest h = ap (cut_from size lines) (lines_none rest h)
+
+-- The certificate text behind a module text.
+pub cert_there : (rest : List Line) (l m : Line) (ls : List Line) → rest ≡ l ∷ ls → m ≡ l → begins_cert m ≡ true → text_cut rest ≡ cert_cut rest
+unfolding cert_cut
+cert_there rest l m ls begins same first =
+    let holds = ap begins_cert (sym same) ∙ first in
+    let here : text_cut (l ∷ ls) ≡ cert_cut (l ∷ ls) = rw holds refl in
+    subst (λ (x : List Line). text_cut x ≡ cert_cut x) (sym begins) here
+
+pub cert_not_there : (rest : List Line) (l m : Line) (ls : List Line) → rest ≡ l ∷ ls → m ≡ l → begins_cert m ≡ false → record { size = 0; lines = 0 } ≡ cert_cut rest
+unfolding cert_cut
+cert_not_there rest l m ls begins same first =
+    let holds = ap begins_cert (sym same) ∙ first in
+    let here : record { size = 0; lines = 0 } ≡ cert_cut (l ∷ ls) = rw holds refl in
+    here ∙ ap cert_cut (sym begins)
+
+pub cert_nowhere : (rest : List ℕ) → length rest ≡ 0 → record { size = 0; lines = 0 } ≡ cert_cut (lines_of rest)
+unfolding cert_cut
+cert_nowhere rest h = ap cert_cut (sym (lines_none rest h))

@@ -1,4 +1,7 @@
 pub use Rattle.module_lang.specs.Program
+pub use Rattle.life_check.specs.Typed
+pub use Rattle.life_check.specs.Theorem
+pub use Rattle.life_cert.specs.Reading
 pub mod Lines
 pub mod Words
 pub mod Pieces
@@ -10,3 +13,6 @@ pub mod Host
 pub mod Replies
 pub mod Scripts
 pub mod Plays
+pub mod Refusals
+pub mod Written
+pub mod TextAnswers

@@ -1,13 +1,9 @@
 -- The play of a script: what its commands may answer, and what is written of that.
-use Rattle.std.specs.Prelude.{◌≡◌, ℕ, zero, suc, ◌+◌, Bool, true, false, ◌||◌, not, if◌then◌else◌, List, [], ◌∷◌, ◌++◌, take, drop, Option, Some, None, Result, Ok, Err, ◌⊎◌, flat_map, MatchBool, IfSome}
+use Rattle.std.specs.Prelude.{◌≡◌, ℕ, zero, suc, ◌+◌, Bool, true, false, ◌||◌, not, if◌then◌else◌, List, [], ◌∷◌, ◌++◌, take, Option, Some, None, Result, Ok, Err, flat_map, MatchBool, IfSome}
 use Rattle.std.specs.List.{list_any}
 use Rattle.std.specs.Io.KnownBytes.{Appends}
 use Rattle.module_lang.specs.Program.{Program}
-use Rattle.module_lang.specs.Codes.{code_number}
-use Rattle.module_lang.specs.TextLines.{Line, lines_of}
-use Rattle.module_lang.specs.FirstFault.{Reads}
-use Rattle.module_lang.specs.declared.refusal.AsmRefusal.{AsmRefusal}
-use Rattle.module_lang.specs.declared.refusal.AsmRefusal.TheVariants as asm
+use Rattle.module_lang.specs.TextLines.{Line}
 use Rattle.run_model.specs.declared.event.Cause.TheVariants as cause
 use Rattle.run_model.specs.declared.event.Event.TheVariants as event
 use Rattle.run_model.specs.declared.event.Refusal.{Refusal}
@@ -27,12 +23,10 @@ use Rattle.host_cli.specs.declared.reply.Reply.{Reply}
 use Rattle.host_cli.specs.declared.reply.Reply.TheVariants as reply
 use Rattle.host_cli.specs.declared.ended.Ended.{Ended}
 use Rattle.host_cli.specs.declared.ended.Ended.TheVariants as ended
-use Rattle.host_cli.specs.declared.script.Header.{Header}
 use Rattle.host_cli.specs.Actions.{Action, Opening, Adding, Happening, Bringing, Running, action_of, is_for_first, opens}
 use Rattle.host_cli.specs.Host.{is_had}
-use Rattle.host_cli.specs.Replies.{reply_line, asm_line, script_line}
-use Rattle.host_cli.specs.Lines.{module_cut}
-use Rattle.host_cli.specs.Scripts.{command_at, header_of}
+use Rattle.host_cli.specs.Replies.{reply_line, script_line}
+use Rattle.host_cli.specs.Scripts.{command_at}
 
 -- how an answer of the connection is told; the root of its pools is 1
 abbrev pub reply_of : Answer → Reply
@@ -195,6 +189,11 @@ names_memory (reply.Output bytes) = false
 names_memory (reply.Labels labels) = false
 names_memory (reply.Pools text) = false
 
+-- whether an answer is a fault
+abbrev pub is_fault : Reply → Bool
+is_fault (reply.Stepped (stepped.Fault kind index pc)) = true
+is_fault r = false
+
 -- A play of the commands on these lines, from the empty world on. As far as no answer says that there was no memory, it is
 -- the play in which memory lasts.
 pub record IsPlay (budget : ℕ) (p : Program) (first : ℕ) (lines : List Line) (replies : List Reply) (fault : Option ℕ) : Type 0 where
@@ -229,42 +228,6 @@ pub record IsPlayedSoFar (budget : ℕ) (p : Program) (first : ℕ) (lines : Lis
   pub fault : Option ℕ
   pub play : IsPlay budget p first lines (answered ++ left) fault
   pub written : text ≡ lines_of_replies answered
-
--- The parts of a script: its module text, the budget, and the lines of commands with the number of the first.
-abbrev pub module_text : List ℕ → List ℕ
-module_text script = take (module_cut (lines_of script)).size script
-
-abbrev pub after_module : List ℕ → List ℕ
-after_module script = drop (module_cut (lines_of script)).size script
-
-abbrev pub script_header : List ℕ → Header
-script_header script = header_of (lines_of (after_module script))
-
-abbrev pub first_command : List ℕ → ℕ
-first_command script = (module_cut (lines_of script)).lines + (script_header script).lines + 1
-
-abbrev pub command_lines : List ℕ → List Line
-command_lines script = lines_of (drop (script_header script).size (after_module script))
-
--- What is written of a module, on which the commands are played, or of a text that is none, whose fault is told.
-abbrev pub IsPlayOf : Result Program AsmRefusal → List ℕ → List ℕ → Ended → Type 0
-IsPlayOf (Ok p) script text e = IsPlayed (script_header script).budget p (first_command script) (command_lines script) text e
-IsPlayOf (Err (asm.Fault n c)) script text e = (text ≡ asm_line n (code_number c)) × (e ≡ ended.Refused)
-IsPlayOf (Err asm.NoMemory) script text e = ⊥
-
--- What a play of a script may write, and how it ends: the module text is a module by the grammar, or has a first fault.
-abbrev pub IsWrittenFor : List ℕ → List ℕ → Ended → Type 0
-IsWrittenFor script text e = (m : Result Program AsmRefusal) × Reads (module_text script) m × IsPlayOf m script text e
-
--- What is written where memory was wanting: nothing, or the lines of the first answers of a play.
-abbrev pub IsFrontOf : List ℕ → List ℕ → Type 0
-IsFrontOf script text =
-    (text ≡ [])
-    ⊎ ((p : Program) × Reads (module_text script) (Ok p) × IsPlayedSoFar (script_header script).budget p (first_command script) (command_lines script) text)
-
--- What is written where the writer failed: nothing, or the front of what a play of the script may write.
-abbrev pub IsCutOf : List ℕ → List ℕ → Type 0
-IsCutOf script text = (text ≡ []) ⊎ ((more : List ℕ) × (e : Ended) × IsWrittenFor script (text ++ more) e)
 
 -- Where the input of a call is known, what it wrote is such a text of that input.
 abbrev pub Writes : Option (List ℕ) → Option (List ℕ) → Option (List ℕ) → (List ℕ → List ℕ → Type 0) → Type 0

@@ -1,12 +1,16 @@
 //! What keeps a script from being played to its end.
 
+ghost use Rattle.std.specs.Prelude.{◌≡◌};
+ghost use Rattle.host_cli.specs.declared.fault.PlayFault.TheVariants.{NoMemory};
+
+use std::alloc::AllocError;
 use thiserror::Error;
 
 /// A fault of the reader, of the writer or of the memory around a script.
 #[derive(Debug, Drop, Error)]
 pub enum PlayFault {
     /// The reader failed, or there was more to read than the bound of reads allows.
-    #[error("cannot read standard input")]
+    #[error("cannot read")]
     Read,
     /// The writer failed, or took nothing.
     #[error("cannot write")]
@@ -14,4 +18,12 @@ pub enum PlayFault {
     /// There was no memory for the script, for an answer, for the bytes of a `file` or for the list of pieces of a `bring`.
     #[error("no memory")]
     NoMemory,
+}
+
+impl From<AllocError> for PlayFault {
+    ghost from_gives = { λ _ e. e ≡ NoMemory };
+
+    fn from(_error: AllocError) -> PlayFault {
+        PlayFault::NoMemory
+    }
 }

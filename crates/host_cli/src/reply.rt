@@ -1,9 +1,12 @@
 //! What the program answers to a command, and the lines that it prints.
 
-ghost use Rattle.std.specs.Prelude.{◌≡◌, ◌++◌, ◌∷◌, [], IfOk, OnOk, OnErr};
+ghost use Rattle.std.specs.Prelude.{◌≡◌, ◌+◌, ◌++◌, ◌∷◌, [], IfOk, OnOk, OnErr};
 ghost use Rattle.module_lang.specs.Quoted.{spelling};
 ghost use Rattle.host_cli.specs.Replies.{status_name, fault_name, refusal_name, stepped_line, refused_line, output_line, labels_line, reply_line, asm_line, script_line};
+ghost use Rattle.host_cli.specs.Refusals.{cert_line, refused_module_line};
 
+use crate::refused_at::rule_name;
+use life_check::Rule;
 use module_lang::push_spelling;
 use run_model::{Cause, FaultKind, Refusal, Seq, Status, Stepped};
 use std::alloc::{AllocError, Global};
@@ -36,7 +39,8 @@ fn status_name(status: Status) -> &'static str
     }
 }
 
-fn fault_name(kind: FaultKind) -> &'static str
+/// The name of a fault.
+pub fn fault_name(kind: FaultKind) -> &'static str
     ensures { result.now ≡ fault_name kind }
 {
     match kind {
@@ -74,7 +78,7 @@ fn refusal_name(refusal: Refusal) -> &'static str
 }
 
 /// Adds a line to the text. Without memory nothing is changed.
-fn put(out: &mut Vec<u8>, line: &str) -> Result<(), AllocError>
+pub fn put(out: &mut Vec<u8>, line: &str) -> Result<(), AllocError>
     ensures ok { OnOk result (out.new.items ≡ out.old.items ++ line.now) }
     ensures err { OnErr result (out.new.items ≡ out.old.items) }
 {
@@ -217,6 +221,37 @@ pub fn put_asm_fault(
     ensures err { OnErr result (out.new.items ≡ out.old.items) }
 {
     let line = format!(in alloc; "asm line {line} code {code}\n")?;
+    put(out, line.as_str())
+}
+
+/// Adds the line that tells a fault of the certificate text, which stands behind so many lines. Without memory nothing is changed.
+pub fn put_cert_fault(
+    alloc: Global,
+    out: &mut Vec<u8>,
+    before: usize,
+    line: usize,
+    code: u8,
+) -> Result<(), AllocError>
+    ensures ok { OnOk result (out.new.items ≡ out.old.items ++ cert_line (before + line) code) }
+    ensures err { OnErr result (out.new.items ≡ out.old.items) }
+{
+    let line = before as u128 + line as u128;
+    let line = format!(in alloc; "cert line {line} code {code}\n")?;
+    put(out, line.as_str())
+}
+
+/// Adds the line that tells why the module is refused. Without memory nothing is changed.
+pub fn put_refused_module(
+    alloc: Global,
+    out: &mut Vec<u8>,
+    pc: usize,
+    rule: Rule,
+) -> Result<(), AllocError>
+    ensures ok { OnOk result (out.new.items ≡ out.old.items ++ refused_module_line pc rule) }
+    ensures err { OnErr result (out.new.items ≡ out.old.items) }
+{
+    let name = rule_name(rule);
+    let line = format!(in alloc; "refused module 0 at {pc}: {name}\n")?;
     put(out, line.as_str())
 }
 

@@ -2,7 +2,8 @@
 
 ghost use Rattle.std.specs.Prelude.{◌≡◌, ◌≢◌, ℕ, List, ◌<◌, ◌^◌, length, IfOk, IfErr};
 ghost use Rattle.std.specs.Io.KnownBytes.{Appends};
-ghost use Rattle.host_cli.specs.Plays.{IsWrittenFor, IsFrontOf, IsCutOf, Writes};
+ghost use Rattle.host_cli.specs.Plays.{Writes};
+ghost use Rattle.host_cli.specs.Written.{IsWrittenFor, IsFrontOf, IsCutOf};
 
 use crate::ended::Ended;
 use crate::fault::PlayFault;

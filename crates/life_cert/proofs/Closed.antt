@@ -11,7 +11,7 @@ use Rattle.life_state.specs.Rules.{at_open}
 use Rattle.life_state.proofs.JoinAbove.{join_above}
 use Rattle.life_state.proofs.OrderLaws.{leq_same, leq_trans}
 use Rattle.life_check.specs.Certificates.{Certificate}
-use Rattle.life_check.specs.Typed.{is_under}
+use Rattle.life_check.specs.Typed.{is_below}
 use Rattle.life_cert.specs.declared.growth.Place.{Place}
 use Rattle.life_cert.specs.declared.growth.Place.TheVariants as place
 use Rattle.life_cert.specs.Rounds.{Arrival, Grown, state_at, with_state, handed_by, handed_on, grow, arrive_by, arrive, arrived, round, nothing, begun, rounds, enough, made}
@@ -23,9 +23,9 @@ use Rattle.life_cert.proofs.RoundsFormed.{Good, AllFormed, on_good, rounds_forme
 use Rattle.life_cert.proofs.Enough.{rounds_end}
 
 abbrev Under : Certificate → Arrival → Type 0
-Under c a = is_under a.state (state_at c a.place) ≡ true
+Under c a = is_below a.state (state_at c a.place) ≡ true
 
-under_grown : (s : State) (o q : Option State) → HasGrown o q → is_under s o ≡ true → is_under s q ≡ true
+under_grown : (s : State) (o q : Option State) → HasGrown o q → is_below s o ≡ true → is_below s q ≡ true
 under_grown s None q h k = cc
 under_grown s (Some t) None h k = absurd h
 under_grown s (Some t) (Some u) h k = elim h [ inl e ↦ subst (λ (x : State). leq s x ≡ true) e k | inr le ↦ leq_trans s t u k le ]
@@ -47,8 +47,8 @@ written place.Idle s c = refl
 written place.Ready s c = refl
 written (place.At pc) s c = upd_at c.at pc (Some s)
 
-under_at : (s t : State) (o : Option State) → o ≡ Some t → leq s t ≡ true → is_under s o ≡ true
-under_at s t o e h = ap (is_under s) e ∙ h
+under_at : (s t : State) (o : Option State) → o ≡ Some t → leq s t ≡ true → is_below s o ≡ true
+under_at s t o e h = ap (is_below s) e ∙ h
 
 under_by : (p : Program) (a : Arrival) (g : Grown) (o : Option State) → state_at g.states a.place ≡ o → IsOf p g → IsFit p a → Good p a → Under (arrive_by o a g).states a
 under_by p a g None e h fit good = under_at a.state a.state (state_at (with_state a.place a.state g.states) a.place) (written a.place a.state g.states) (below_itself p (is_in_main p a.place) a.state good)

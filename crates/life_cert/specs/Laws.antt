@@ -4,7 +4,7 @@ use Rattle.module_lang.specs.Program.{Program, IsModule}
 use Rattle.life_state.specs.States.{State}
 use Rattle.life_state.specs.Order.{leq}
 use Rattle.life_state.specs.FormLaws.{IsFormedIn}
-use Rattle.life_check.specs.Typed.{is_under}
+use Rattle.life_check.specs.Typed.{is_below}
 use Rattle.life_cert.specs.declared.growth.Place.{Place}
 use Rattle.life_cert.specs.declared.growth.Place.TheVariants as place
 use Rattle.life_cert.specs.Rounds.{state_at, handed_by, begun, rounds, enough, made}
@@ -34,4 +34,4 @@ StatesAreFormed = (p : Program) → IsModule p → (n : ℕ) (w : Place) (s : St
 
 -- What each place hands on is below what stands where it arrives.
 abbrev pub StatesAreClosed : Type 0
-StatesAreClosed = (p : Program) → IsModule p → (w : Place) → All (λ a. is_under a.state (state_at (made p) a.place) ≡ true) (handed_by p w (state_at (made p) w))
+StatesAreClosed = (p : Program) → IsModule p → (w : Place) → All (λ a. is_below a.state (state_at (made p) a.place) ≡ true) (handed_by p w (state_at (made p) w))

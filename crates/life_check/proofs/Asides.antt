@@ -15,7 +15,7 @@ use Rattle.run_model.specs.declared.bucket.NamedBucket.{NamedBucket}
 use Rattle.run_model.specs.declared.payload.Payload.{Payload}
 use Rattle.run_model.specs.Buckets.{is_data_kind, is_eos_kind}
 use Rattle.run_model.specs.BrigadeLists.{bucket_named}
-use Rattle.run_model.specs.BucketSteps.{changed_at, ref_taken, set_items, items_at, aside_into, do_aside}
+use Rattle.run_model.specs.BucketSteps.{changed_at, ref_taken, items_at, aside_into, do_aside}
 use Rattle.run_model.specs.Cutting.{FitsKind, LivesAs, IsFree, IsOfPool, set_aside, set_aside_as}
 use Rattle.run_model.specs.Cursors.{Spot, Within, AtLoose, spot}
 use Rattle.run_model.specs.Faults.{WPool, WHome, WCursor, OnBucket, or_else, fault_want, has_pool, has_pool_at, is_live_named, usable_fault}
@@ -41,7 +41,7 @@ use Rattle.life_check.proofs.Wants.{unless_some}
 use Rattle.life_state.specs.PoolOrder.{is_clearable, under_within, is_under as is_declared_under}
 use Rattle.life_state.specs.States.{Homes, home_in, both_homes, with_homes, is_home, BrigadeKnown, CursorKnown, Unset, Loose, In, End, InOrEnd, State, set_brigade as set_brigade_known}
 use Rattle.life_check.specs.Meaning.{class_has, IsIn, IsLoose, FitsCursor, CoversPool, ByConnection, ByMember, ByDead, ByCall, Covers, Fits}
-use Rattle.life_check.specs.Soundness.{Outside, Ready, LawOf}
+use Rattle.life_check.specs.Soundness.{Outside, LawOf}
 use Rattle.run_model.proofs.RunOrderLaws.{under_itself}
 use Rattle.life_check.proofs.Filled.{covers_first, covers_second, IsFull, full_of, rearranged_stays, rearranged_brigades, finds_kept, bucket_moved}
 use Rattle.life_check.proofs.Standing.{Stays, Finds, finds_same, loose_stays, in_stays, end_stays, usable_below, spot_in, spot_loose}

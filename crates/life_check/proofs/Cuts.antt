@@ -1,25 +1,20 @@
 -- The laws of split, read and bpart.
-use Rattle.std.proofs.Common.{◌≡◌, ◌≢◌, ◌⊎◌, ℕ, ◌+◌, ◌<◌, ◌≤◌, Bool, true, false, ◌==◌, nat_lt, cond, List, [], ◌∷◌, Option, Some, None, is_some, inl, inr, refl, sym, ◌∙◌, ap, subst, arith}
-use Rattle.std.proofs.lemmas.Bool.Decides.{eqb_tells}
-use Rattle.module_lang.specs.declared.instr.Instr.{Instr}
+use Rattle.std.proofs.Common.{◌≡◌, ℕ, Bool, true, false, cond, List, Option, Some, None, is_some, refl, sym, subst}
 use Rattle.module_lang.specs.declared.instr.Instr.TheVariants as instr
 use Rattle.module_lang.specs.declared.instr.Value.{Value}
 use Rattle.module_lang.specs.Program.{Program}
 use Rattle.run_model.specs.declared.bucket.Cursor.{Cursor}
 use Rattle.run_model.specs.declared.bucket.Cursor.TheVariants as cursor
 use Rattle.run_model.specs.declared.bucket.Home.{Home}
-use Rattle.run_model.specs.declared.bucket.Home.TheVariants as home
 use Rattle.run_model.specs.declared.bucket.NamedBucket.{NamedBucket}
 use Rattle.run_model.specs.declared.fault.FaultKind.{FaultKind}
-use Rattle.run_model.specs.declared.fault.FaultKind.TheVariants.{F3, F4, F9}
-use Rattle.run_model.specs.BrigadeLists.{bucket_named, SplitRefusal, split_refusal, bucket_split}
-use Rattle.run_model.specs.BucketSteps.{items_at, set_items, bucket_read, read_given, read_within, has_rest, names_if, names_given, do_read, is_unread, do_split, is_unsplit, split_there}
-use Rattle.run_model.specs.CursorLaws.{LooseOnce, WithinOnce, BucketOnce}
+use Rattle.run_model.specs.BrigadeLists.{SplitRefusal, split_refusal, bucket_split}
+use Rattle.run_model.specs.BucketSteps.{items_at, set_items, bucket_read, read_given, read_within, has_rest, names_if, names_given, do_read, is_unread, is_unsplit, split_there}
 use Rattle.run_model.specs.Cursors.{Spot, Within, spot}
 use Rattle.run_model.specs.Faults.{InBrigade, or_else}
 use Rattle.run_model.specs.Sound.{Sound, SoundNames}
 use Rattle.run_model.specs.State.{Configuration, set_brigade, set_cursor, pool_view}
-use Rattle.run_model.specs.Steps.{Choice, step, value_of, jumps_if}
+use Rattle.run_model.specs.Steps.{value_of, jumps_if}
 use Rattle.run_model.specs.Cutting.{FitsKind}
 use Rattle.run_model.proofs.EachBucket.{of_named}
 use Rattle.run_model.proofs.StepNames.{step_names}
@@ -28,7 +23,7 @@ use Rattle.life_state.specs.declared.parts.Classes.{Classes}
 use Rattle.life_state.specs.Rules.{cursor_need, both_with, edges_read, no_other}
 use Rattle.life_state.specs.States.{Homes, CursorKnown, Unset, Loose, In, End, InOrEnd, State}
 use Rattle.life_check.specs.Meaning.{Covers, Differ, IsIn, FitsCursor, Fits}
-use Rattle.life_check.specs.Soundness.{Lands, Ready, LawOf}
+use Rattle.life_check.specs.Soundness.{Lands, LawOf}
 use Rattle.life_check.proofs.FinerFits.{finer_fits}
 use Rattle.life_check.proofs.Standing.{known_differ, spot_in}
 use Rattle.life_check.proofs.SetFits.{set_fits}

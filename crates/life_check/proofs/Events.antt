@@ -96,7 +96,7 @@ between_unset p (Some t) s bounded fit is = subst (λ (x : State). (c : ℕ) →
   same e = cc
 
 -- where the place, the output and the files change
-stands_aside : (p : Program) (m : Certificate) (c : Connection) (out : Out) (fs : Files) → Stands p m c
+pub stands_aside : (p : Program) (m : Certificate) (c : Connection) (out : Out) (fs : Files) → Stands p m c
     → Stands p m (record c { state = record c.state { out = out; shared = record c.state.shared { files = fs } } })
 stands_aside p m c out fs s = record {
   running = λ busy. fits_aside p (LivesIn c.state.call.name c.state.shared.req) c.state.pc out fs (m.at c.state.pc) c.state (s.running busy);

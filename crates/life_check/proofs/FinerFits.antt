@@ -1,9 +1,8 @@
 -- Where the buckets of one brigade are cut or read, the state that described the run describes what is left.
-use Rattle.std.proofs.Common.{◌≡◌, ◌≢◌, ◌⊎◌, ℕ, ◌+◌, ◌<◌, ◌≤◌, List, Option, Some, None, inl, inr, refl, sym, ◌∙◌, ap, subst, arith}
+use Rattle.std.proofs.Common.{◌≡◌, ◌≢◌, ℕ, ◌<◌, ◌≤◌, List, Some, inl, inr, refl, sym, ◌∙◌, ap, subst, arith}
 use Rattle.run_model.specs.declared.bucket.NamedBucket.{NamedBucket}
 use Rattle.run_model.specs.declared.bucket.BrigadeVar.{BrigadeVar}
 use Rattle.run_model.specs.declared.bucket.BrigadeVar.TheVariants as var
-use Rattle.run_model.specs.declared.bucket.Brigade.{Brigade}
 use Rattle.run_model.specs.declared.bucket.Cursor.{Cursor}
 use Rattle.run_model.specs.declared.bucket.Cursor.TheVariants as cursor
 use Rattle.run_model.specs.declared.bucket.Home.{Home}
@@ -17,10 +16,10 @@ use Rattle.run_model.specs.Indexed.{upd}
 use Rattle.run_model.specs.Sound.{SoundNames, brigade_name, count_named}
 use Rattle.run_model.specs.State.{Configuration, items_of, set_brigade}
 use Rattle.run_model.proofs.CursorNames.{given_out, found_there}
-use Rattle.run_model.proofs.Updates.{upd_at, upd_either}
+use Rattle.run_model.proofs.Updates.{upd_either}
 use Rattle.life_state.specs.declared.parts.Classes.{Classes}
 use Rattle.life_state.specs.States.{Homes, BrigadeKnown, CursorKnown, Unset, Loose, In, End, InOrEnd, State}
-use Rattle.life_check.specs.Meaning.{Each, Holds, FitsMark, FitsBrigade, IsLoose, IsIn, IsEndOf, FitsCursor, Fits}
+use Rattle.life_check.specs.Meaning.{FitsMark, FitsBrigade, IsIn, IsEndOf, FitsCursor, Fits}
 use Rattle.life_check.proofs.Finer.{Finer, FoundLike, finer_holds, finer_covered, finer_found}
 
 -- A bucket that is in a brigade has a name that was given out.

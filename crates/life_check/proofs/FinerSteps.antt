@@ -1,5 +1,5 @@
 -- A split, a read and a partition make a brigade finer.
-use Rattle.std.proofs.Common.{◌≡◌, ◌≢◌, ◌⊎◌, ℕ, zero, suc, ◌+◌, ◌-◌, ◌<◌, Bool, true, false, ◌==◌, nat_le, nat_lt, cond, List, [], ◌∷◌, ◌++◌, drop, Option, Some, None, inl, inr, refl, sym, ◌∙◌, ap, subst, arith}
+use Rattle.std.proofs.Common.{◌≡◌, ℕ, zero, suc, ◌-◌, ◌<◌, Bool, true, false, ◌==◌, nat_le, nat_lt, cond, List, [], ◌∷◌, ◌++◌, Some, None, inl, inr, refl, sym, ◌∙◌, ap, subst, arith}
 use Rattle.std.proofs.lemmas.List.Elements.{All-head, All-tail}
 use Rattle.std.proofs.lemmas.Bool.Decides.{nat_tests}
 use Rattle.std.specs.Prelude.{All}
@@ -11,11 +11,10 @@ use Rattle.run_model.specs.declared.bucket.Home.TheVariants as home
 use Rattle.run_model.specs.declared.bucket.Kind.{Kind}
 use Rattle.run_model.specs.declared.bucket.Kind.TheVariants as kind
 use Rattle.run_model.specs.declared.bucket.NamedBucket.{NamedBucket}
-use Rattle.run_model.specs.Buckets.{is_data_kind, is_eos_kind, is_data, is_eos}
+use Rattle.run_model.specs.Buckets.{is_data_kind, is_eos_kind, is_data}
 use Rattle.run_model.specs.BrigadeLists.{buckets_before, buckets_from, first_bucket, bucket_named, Metadata, TooLong, split_refusal, first_bytes, rest_as, first_split, bucket_split, front_to, back_from, is_short, partitioned}
 use Rattle.run_model.specs.BucketSteps.{first_read, bucket_read, rest_named}
 use Rattle.run_model.specs.Cutting.{FitsKind, form_of, form_of_kind, length_of, read_limit, read_as, heap_of, rest_of}
-use Rattle.life_state.specs.declared.parts.Classes.{Classes}
 use Rattle.life_state.specs.States.{Homes}
 use Rattle.life_check.specs.Meaning.{class_has}
 use Rattle.life_check.proofs.Finer.{Like, AreParts, Finer, like_itself, finer_same}

@@ -22,7 +22,7 @@ use Rattle.life_check.proofs.Splits.{law_bsplit}
 use Rattle.life_check.proofs.Takes.{law_bdelete, law_unlink}
 
 -- a row for each instruction
-step_lands : (lives : Home → Type 0) → StepLands lives
+pub step_lands : (lives : Home → Type 0) → StepLands lives
 step_lands lives (instr.PCreate q) = law_pcreate {lives = lives} q
 step_lands lives (instr.PClear q) = law_pclear {lives = lives} q
 step_lands lives (instr.PDestroy q) = law_pdestroy {lives = lives} q

@@ -44,7 +44,7 @@ use Rattle.life_state.specs.States.{State}
 use Rattle.life_check.specs.Certificates.{Certificate}
 use Rattle.life_check.specs.Meaning.{Covers, LivesIn, NoneLives, Fits, InCall, Between}
 use Rattle.life_check.specs.Soundness.{FitsSome, Lands, Ready, wants_request}
-use Rattle.life_check.specs.Typed.{IsLed, IsTyped, exits, is_under, left_by, leads_on, flows}
+use Rattle.life_check.specs.Typed.{IsLed, IsTyped, exits, is_below, left_by, leads_on, flows}
 use Rattle.life_check.specs.Theorem.{AllBounded, IsBoundedSome}
 use Rattle.life_state.proofs.Tests.{split2}
 use Rattle.life_check.proofs.Standards.{LawsHold, resting, Stands, MayStand, fits_under, fits_flow, fits_aside, outside_call, covered_own}
@@ -118,7 +118,7 @@ returns : (p : Program) (choice : Choice) (i : Instr) (r : Configuration) → is
 returns p choice (instr.Ret s) r on = refl
 returns p choice i r on = cc
 
-return_leaves : (p : Program) (m : Certificate) (pc : ℕ) (i : Instr) (s : State) → is_return i ≡ true → exits p m pc i s ≡ true → is_under (at_return s) (left_by p m pc) ≡ true
+return_leaves : (p : Program) (m : Certificate) (pc : ℕ) (i : Instr) (s : State) → is_return i ≡ true → exits p m pc i s ≡ true → is_below (at_return s) (left_by p m pc) ≡ true
 return_leaves p m pc (instr.Ret t) s on h = h
 return_leaves p m pc i s on h = cc
 
@@ -290,9 +290,9 @@ module _ (p : Program) (m : Certificate) (proper : IsModule p) (bounded : AllBou
       let flow = (split2 (flows e.next (m.at (c.state.pc + 1))) (flows e.jump (m.at (unwrap_or (target (next_of p c)) 0))) (leads c s h)).1 in
       (tt, goes_on_there c e.jump (unwrap_or (target (next_of p c)) 0) h.running (onward_goes p c Jump is tt) flow f)
   settled_stands c s h Return is f = (tt, λ whole sound declared. record { running = λ busy. cc; rests = λ idle. ends sound declared }) where
-    under : is_under (at_return s) (resting m (left_of p c).shared.req) ≡ true
+    under : is_below (at_return s) (resting m (left_of p c).shared.req) ≡ true
     under =
-        subst (λ (o : Option State). is_under (at_return s) o ≡ true)
+        subst (λ (o : Option State). is_below (at_return s) o ≡ true)
         (left_rests p m c.state.pc c.state.shared.req (h.handler.opening h.running) (h.handler.serving h.running) ∙ ap (resting m) (sym (same_request p c)))
         (return_leaves p m c.state.pc (next_of p c) s (return_ends p c is) (led c s h).exits)
 

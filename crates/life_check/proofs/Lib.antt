@@ -1,8 +1,10 @@
+pub mod AnyFiles
 pub mod Asides
 pub mod Brigades
 pub mod Cleared
 pub mod Cuts
 pub mod Events
+pub mod Examples
 pub mod Filled
 pub mod Finer
 pub mod FinerFits
@@ -22,7 +24,6 @@ pub mod Puts
 pub mod Saved
 pub mod SetFits
 pub mod Sets
-pub mod Sizes
 pub mod Splits
 pub mod Standards
 pub mod Standing

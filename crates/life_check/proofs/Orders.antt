@@ -154,9 +154,9 @@ greater_fits {lives = lives} p r s t sound declared bounded le f = record {
   facts = λ c d h. elim (cases_lt c 9) [
     | inl first ↦ elim (cases_lt d 9) [
       | inl second ↦ known_differ C r s c d sound.names f (below.facts c d first second h)
-      | inr beyond ↦ absurd (never h (bounded.rows c d beyond))
+      | inr beyond ↦ absurd (never h (bounded.facts_to c d beyond))
     ]
-    | inr beyond ↦ absurd (never h (bounded.facts c d beyond))
+    | inr beyond ↦ absurd (never h (bounded.facts_from c d beyond))
   ];
 } where
   C : Homes → Home → Type 0

@@ -1,8 +1,7 @@
 -- Where one cursor is set, in the state and in the run.
-use Rattle.std.proofs.Common.{◌≡◌, ◌≢◌, ℕ, Bool, true, refl, sym, subst}
+use Rattle.std.proofs.Common.{◌≡◌, ◌≢◌, ℕ, Bool, true, refl}
 use Rattle.run_model.specs.declared.bucket.Cursor.{Cursor}
 use Rattle.run_model.specs.declared.bucket.Home.{Home}
-use Rattle.run_model.specs.Indexed.{upd}
 use Rattle.run_model.specs.Sound.{SoundNames}
 use Rattle.run_model.specs.State as model
 use Rattle.run_model.specs.State.{Configuration}

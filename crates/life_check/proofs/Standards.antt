@@ -23,9 +23,10 @@ use Rattle.life_state.specs.States.{Homes, CursorKnown, Unset, Loose, In, End, I
 use Rattle.life_state.proofs.Below.{some_below}
 use Rattle.life_state.proofs.Tests.{or_left, or_right, not_true, all_at}
 use Rattle.life_check.specs.Certificates.{Certificate}
-use Rattle.life_check.specs.Meaning.{Covers, CoversPool, ByConnection, ByMember, ByDead, ByCall, LivesIn, NoneLives, Differ, Fits, InCall, Between, IsBounded}
+use Rattle.life_state.specs.Bounded.{IsBounded}
+use Rattle.life_check.specs.Meaning.{Covers, CoversPool, ByConnection, ByMember, ByDead, ByCall, LivesIn, NoneLives, Differ, Fits, InCall, Between}
 use Rattle.life_check.specs.Soundness.{Outside, FitsSome, StepLands, MetIsFaultless, GreaterFits, RequestEndLands}
-use Rattle.life_check.specs.Typed.{is_under, flows, has_no_cursor}
+use Rattle.life_check.specs.Typed.{is_below, flows, has_no_cursor}
 use Rattle.life_check.specs.Theorem.{IsBoundedSome}
 use Rattle.life_check.proofs.Pools.{cursor_more}
 
@@ -54,7 +55,7 @@ pub record LawsHold : Type 0 where
 -- Flows.
 
 pub fits_under : (p : Program) (lives : Home → Type 0) → GreaterFits lives → (r : Configuration) (s : State) (t : Option State)
-    → Sound r → AsDeclared p r → IsBoundedSome t → is_under s t ≡ true → Fits (Covers p (pool_view r) lives) s r → FitsSome (Covers p (pool_view r) lives) t r
+    → Sound r → AsDeclared p r → IsBoundedSome t → is_below s t ≡ true → Fits (Covers p (pool_view r) lives) s r → FitsSome (Covers p (pool_view r) lives) t r
 fits_under p lives greater r s None sound declared bounded le f = cc
 fits_under p lives greater r s (Some t) sound declared bounded le f = greater p r s t sound declared bounded le f
 

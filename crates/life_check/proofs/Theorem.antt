@@ -11,16 +11,16 @@ use Rattle.run_model.specs.Files.{Files}
 use Rattle.run_model.specs.Handlers.{HandlerWorld}
 use Rattle.run_model.specs.Laws.{SoundWorld, OrderlyWorld, is_work}
 use Rattle.run_model.specs.Pools.{Pools}
-use Rattle.run_model.specs.Runs.{Answer, World, Before, There, Closed, IfThere, adds_file, opens, closes, happens, IsRun}
+use Rattle.run_model.specs.Runs.{Answer, World, Before, There, Closed, IfThere, adds_file, opens, closes, happens}
 use Rattle.run_model.proofs.AsDeclared.{event_declared}
 use Rattle.run_model.proofs.Handlers.{event_runs}
 use Rattle.run_model.proofs.Orderly.{event_order}
 use Rattle.run_model.proofs.Refusals.{broken_stays_broken}
-use Rattle.run_model.proofs.Runs.{first_event, no_answer, no_event}
 use Rattle.run_model.proofs.SoundRuns.{event_sound}
 use Rattle.life_check.specs.Certificates.{Certificate}
 use Rattle.life_check.specs.Typed.{IsTyped}
-use Rattle.life_check.specs.Theorem.{IsNoFault, NoFaults, NeverFaults, AllBounded}
+use Rattle.life_check.specs.Theorem.{IsNoFault, NoFaults, NeverFaults, with_files, IsRunOnAnyFiles, NeverFaultsOnAnyFiles, AllBounded}
+use Rattle.life_check.proofs.AnyFiles.{whole_on, stands_on, runs_are_on_any_files}
 use Rattle.life_check.proofs.Standards.{LawsHold, MayStand}
 use Rattle.life_check.proofs.Events.{IsWhole, Told, opened_stands, happens_told}
 
@@ -101,16 +101,28 @@ module _ (p : Program) (m : Certificate) (proper : IsModule p) (bounded : AllBou
     stands = (event_told memory budget e w h).1;
   }
 
-  run_answers : (budget : ℕ) (old new : World) (es : List Event) (answers : List Answer) → Reached budget old → IsRun budget p old es answers new → NoFaults answers
-  unfolding NoFaults
+  -- the files do not matter
+  reached_on : (fs : Files) (budget : ℕ) (w : World) → Reached budget w → Reached budget (with_files fs w)
+  reached_on fs budget (Before old) h = record { sound = tt; declared = tt; order = tt; handler = tt; stands = tt }
+  reached_on fs budget (There c) h =
+      let whole : IsWhole budget p c = record { sound = h.sound; declared = h.declared; order = h.order; handler = h.handler } in
+      let new = whole_on fs budget p c whole in
+      record { sound = new.sound; declared = new.declared; order = new.order; handler = new.handler; stands = stands_on fs budget p m c whole h.stands }
+  reached_on fs budget (Closed pools old) h = record { sound = tt; declared = tt; order = tt; handler = tt; stands = tt }
+
+  run_answers : (budget : ℕ) (old new : World) (es : List Event) (answers : List Answer) → Reached budget old → IsRunOnAnyFiles budget p old es answers new → NoFaults answers
+  unfolding NoFaults IsRunOnAnyFiles
   run_answers budget old new [] [] h run = tt
-  run_answers budget old new [] (a ∷ answers) h run = absurd (no_event budget p old new a answers run)
-  run_answers budget old new (e ∷ es) [] h run = absurd (no_answer budget p old new e es run)
-  run_answers budget old new (e ∷ es) (a ∷ answers) h run =
-      let first = first_event budget p old new e es a answers run in
-      let none = subst (λ (x : Answer × World). IsNoFault x.0) first.3 (event_told first.1 budget e old h).0 in
-      let there = subst (λ (x : Answer × World). Reached budget x.1) first.3 (event_reached first.1 budget e old h) in
-      (none, run_answers budget first.2 new es answers there first.4)
+  run_answers budget old new [] (a ∷ answers) h run = absurd run
+  run_answers budget old new (e ∷ es) [] h run = absurd run
+  run_answers budget old new (e ∷ es) (a ∷ answers) h (fs, due, memory, mid, is, rest) =
+      let now = reached_on fs budget old h in
+      let none = subst (λ (x : Answer × World). IsNoFault x.0) is (event_told memory budget e (with_files fs old) now).0 in
+      let there = subst (λ (x : Answer × World). Reached budget x.1) is (event_reached memory budget e (with_files fs old) now) in
+      (none, run_answers budget mid new es answers there rest)
+
+  pub never_faults_on_any_files : NeverFaultsOnAnyFiles p
+  never_faults_on_any_files budget fs es answers w run = run_answers budget (Before fs) w es answers (record { sound = tt; declared = tt; order = tt; handler = tt; stands = tt }) run
 
   pub never_faults : NeverFaults p
-  never_faults budget fs es answers w run = run_answers budget (Before fs) w es answers (record { sound = tt; declared = tt; order = tt; handler = tt; stands = tt }) run
+  never_faults budget fs es answers w run = never_faults_on_any_files budget fs es answers w (runs_are_on_any_files budget p (Before fs) w es answers run)

@@ -1,5 +1,5 @@
 -- No refusal, and no rule that refuses.
-use Rattle.std.proofs.Common.{◌≡◌, ℕ, zero, suc, ◌<◌, [], ◌∷◌, arith, Bool, true, ◌&&◌, not, nat_lt, nat_le, if◌then◌else◌, List, IsOk, ◌↔◌, length, subst, rules, Option, Some, None, Result, Ok, Err, slice_get, refl, ap, sym, ◌∙◌}
+use Rattle.std.proofs.Common.{◌≡◌, ℕ, zero, suc, ◌<◌, [], ◌∷◌, arith, true, not, nat_lt, nat_le, if◌then◌else◌, List, IsOk, ◌↔◌, length, subst, rules, Option, Some, None, Result, Ok, Err, slice_get, refl, ap, sym, ◌∙◌}
 use Rattle.std.proofs.lemmas.Option.{slice_get_within}
 use Rattle.module_lang.specs.declared.instr.Instr.{Instr}
 use Rattle.module_lang.specs.Program.{Program}

@@ -1,4 +1,5 @@
--- A certificate: states between calls, before `init` and from then on; the states before instructions; how many lines are given.
+-- A certificate of a module. idle: between calls, while no request is open. ready: between calls in a request. at: before each
+-- instruction. lines: how many entries the certificate has; from there on none is meant to be.
 use Rattle.std.specs.Prelude.{ℕ, Option}
 use Rattle.life_state.specs.States.{State}
 

@@ -1,11 +1,14 @@
--- Worked certificates, by hand, of the module that passes on what it gets until an EOS was passed, and drops it from then on.
-use Rattle.std.specs.Prelude.{◌≡◌, ℕ, true, false, List, [], ◌∷◌, Option, Some, None, slice_index_or, length}
+-- Worked certificates, by hand, of the module that passes on what it gets until an EOS was passed, and drops it from then on; and
+-- which modules never fault.
+use Rattle.std.specs.Prelude.{◌≡◌, true, false, List, [], ◌∷◌, Option, Some, None, slice_index_or, length}
+use Rattle.run_model.specs.Examples.{never_creates}
 use Rattle.life_state.specs.declared.parts.Contents.TheVariants.{Empty}
 use Rattle.life_state.specs.States.{no_homes, holds, passed_on, State}
 use Rattle.life_state.specs.Examples.{identity, resting, serving, brought}
-use Rattle.life_check.specs.declared.refusal.Rule.TheVariants.{Entry, Flow, Exit, Request}
+use Rattle.life_check.specs.declared.refusal.Rule.TheVariants.{Entry, Flow, Exit}
 use Rattle.life_check.specs.Certificates.{Certificate}
 use Rattle.life_check.specs.Typed.{refusal, first_refusal}
+use Rattle.life_check.specs.Theorem.{NeverFaults, NeverFaultsOnAnyFiles}
 
 abbrev pub given : State → List (Option State) → Certificate
 given ready at = record { idle = Some (resting false); ready = Some ready; at = λ pc. slice_index_or at pc None; lines = length at }
@@ -27,7 +30,12 @@ pub record IdentityAnswers : Type 0 where
   pub unreached : first_refusal identity (given (resting true) (begun (None ∷ ended))) ≡ Some (refusal 3 Flow)
   -- after the `pass` an EOS may have been passed
   pub no_eos : first_refusal identity (given (resting false) whole) ≡ Some (refusal 4 Exit)
-  -- `open` begins somewhere
+  -- `open`'s first instruction has no state
   pub empty : first_refusal identity (given (resting true) []) ≡ Some (refusal 0 Entry)
-  -- and its `ret` ends somewhere
+  -- `open` returns, though idle is none
   pub nowhere : first_refusal identity (record (given (resting true) whole) { idle = None }) ≡ Some (refusal 0 Exit)
+
+pub record FaultRows : Type 0 where
+  pub passes_on : NeverFaultsOnAnyFiles identity
+  -- `main` cleans a brigade that was never created
+  pub cleans_none : NeverFaults never_creates → ⊥

@@ -1,5 +1,5 @@
 -- What a state means: which instances and calls it describes.
-use Rattle.std.specs.Prelude.{◌≡◌, ◌⊎◌, ℕ, ◌≤◌, Bool, true, false, if◌then◌else◌, List, [], ◌∷◌, Option, Some, None}
+use Rattle.std.specs.Prelude.{◌≡◌, ◌⊎◌, ℕ, Bool, true, false, if◌then◌else◌, List, [], ◌∷◌, Option, Some, None}
 use Rattle.module_lang.specs.Program.{Program}
 use Rattle.module_lang.specs.declared.instr.PoolRef.{PoolRef}
 use Rattle.run_model.specs.declared.bucket.BrigadeVar.{BrigadeVar}
@@ -28,27 +28,28 @@ use Rattle.life_state.specs.declared.parts.Contents.TheVariants.{Empty, Flushes,
 use Rattle.life_state.specs.declared.parts.Classes.{Classes}
 use Rattle.life_state.specs.declared.parts.PoolState.{PoolState}
 use Rattle.life_state.specs.PoolOrder.{is_clearable, is_under}
-use Rattle.life_state.specs.States.{Homes, only_null, BrigadeKnown, never_made, CursorKnown, Unset, Loose, In, End, InOrEnd, State}
+use Rattle.life_state.specs.States.{Homes, BrigadeKnown, CursorKnown, Unset, Loose, In, End, InOrEnd, State}
 
 -- Homes.
 
--- Why homes cover a live pool n: it is the connection's; or the pool at a place k that is a member or stands above one, as the
--- module declares them; or any pool of this instance or the request's, where they say dead; or it lives through the call, and
--- is another's or the request's.
+-- Why homes cover a live pool n. ByConnection: it is the connection's. ByMember: it is at k, and k is the member d or is declared
+-- above it. ByDead: it is a pool of this instance or the request's, and the homes say dead. ByCall: it lives through the call, and
+-- the homes say call.
 pub data CoversPool (p : Program) (v : PoolView) (lives : Home → Type 0) (h : Homes) (n : ℕ) : Type 0 where
   ByConnection : n ≡ v.conn → CoversPool p v lives h n
   ByMember : (k d : PoolRef) → is_clearable k ≡ true → is_clearable d ≡ true → named_at v k ≡ Some n → h.at d ≡ true → is_under p k d ≡ true → CoversPool p v lives h n
   ByDead : (k : PoolRef) → is_clearable k ≡ true → named_at v k ≡ Some n → h.dead ≡ true → CoversPool p v lives h n
   ByCall : h.call ≡ true → lives (home.Pool n) → CoversPool p v lives h n
 
--- Whether homes cover the home of a bucket; lives says which calls and which pools of others live through this call.
+-- Which homes of buckets these homes cover. lives: which calls and pools live through the call; never a pool of this instance.
+-- (A pool that is no more is no home: it has ended.)
 abbrev pub Covers : Program → PoolView → (Home → Type 0) → Homes → Home → Type 0
 Covers p v lives h home.Free = Unit {0}
 Covers p v lives h (home.Call n) = (h.call ≡ true) × lives (home.Call n)
 Covers p v lives h (home.Pool n) = (is_live v.pools n ≡ true) × CoversPool p v lives h n
 Covers p v lives h home.Ended = h.dead ≡ true
 
--- In a call of this name, on a connection with one module: the call itself and the request's pool.
+-- What lives through a call of this name, where one module is on the connection: the call, and the request's pool.
 abbrev pub LivesIn : ℕ → Option ℕ → Home → Type 0
 LivesIn call req home.Free = ⊥
 LivesIn call req (home.Call n) = n ≡ call
@@ -61,6 +62,7 @@ NoneLives h = ⊥
 
 -- Buckets.
 
+-- the classes have that of this kind
 abbrev pub class_has : Classes → Kind → Bool
 class_has t kind.Heap = t.bytes
 class_has t kind.Transient = t.bytes
@@ -70,12 +72,12 @@ class_has t kind.File = t.bytes
 class_has t kind.Flush = t.flush
 class_has t kind.Eos = t.eos
 
--- each bucket of a list passes
+-- P holds of each bucket
 unfoldable pub Each : (NamedBucket → Type 0) → List NamedBucket → Type 0
 Each P [] = Unit {0}
 Each P (x ∷ xs) = P x × Each P xs
 
--- a brigade has such contents
+-- what may stand in a brigade of these contents
 abbrev pub Holds : Contents → List NamedBucket → Type 0
 Holds Empty xs = xs ≡ []
 Holds Flushes xs = (has_data xs ≡ false) × (has_eos xs ≡ false)
@@ -83,7 +85,7 @@ Holds NoEos xs = has_eos xs ≡ false
 Holds NoLateData xs = data_after_eos xs ≡ false
 Holds Any xs = Unit {0}
 
--- Variables. C says which homes cover a home.
+-- Variables. C h x: the homes h cover the home x.
 
 abbrev pub FitsPool : Pools Payload → PoolState → PoolVar → Type 0
 FitsPool ps s poolvar.Null = s.null ≡ true
@@ -148,11 +150,3 @@ InCall p r = Covers p (pool_view r) (LivesIn r.call.name r.shared.req)
 
 abbrev pub Between : Program → Configuration → Homes → Home → Type 0
 Between p r = Covers p (pool_view r) NoneLives
-
--- A state says something of the module's own variables alone, as those of the code do.
-pub record IsBounded (s : State) : Type 0 where
-  pub pools : (q : ℕ) → 8 ≤ q → s.pools q ≡ only_null
-  pub brigades : (b : ℕ) → 9 ≤ b → s.brigades b ≡ never_made
-  pub cursors : (c : ℕ) → 9 ≤ c → s.cursors c ≡ Unset
-  pub facts : (c d : ℕ) → 9 ≤ c → s.facts c d ≡ false
-  pub rows : (c d : ℕ) → 9 ≤ d → s.facts c d ≡ false

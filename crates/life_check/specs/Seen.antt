@@ -1,5 +1,5 @@
 -- What the code's certificates stand for.
-use Rattle.std.specs.Prelude.{ℕ, Option, Some, None, slice_get, length}
+use Rattle.std.specs.Prelude.{Option, Some, None, slice_get, length}
 use Rattle.life_state.specs.declared.state.State as code
 use Rattle.life_state.specs.States.{State}
 use Rattle.life_state.specs.Seen.{seen_some}

@@ -1,6 +1,6 @@
--- The laws of single steps: where a state describes a run and no need of an instruction fails in it, the step has no fault, and the
--- state on the edge that it takes describes what it leaves.
-use Rattle.std.specs.Prelude.{◌≡◌, ◌⊎◌, ℕ, Bool, true, false, ◌||◌, List, [], ◌∷◌, Option, Some, None, is_some}
+-- The laws of single steps: where a state describes a configuration and no need of an instruction fails in it, the step has no
+-- fault, and the state on the edge that it takes describes what it leaves.
+use Rattle.std.specs.Prelude.{◌≡◌, ◌⊎◌, ℕ, Bool, true, false, List, [], ◌∷◌, Option, Some, None, is_some}
 use Rattle.module_lang.specs.Program.{Program, IsModule, fits}
 use Rattle.module_lang.specs.declared.instr.Instr.{Instr}
 use Rattle.module_lang.specs.declared.instr.PoolRef.{PoolRef}
@@ -21,26 +21,32 @@ use Rattle.run_model.specs.Steps.{Choice, step}
 use Rattle.life_state.specs.Order.{leq}
 use Rattle.life_state.specs.Rules.{Edges, edges, first_need, at_return, at_end_of_request}
 use Rattle.life_state.specs.States.{Homes, State}
-use Rattle.life_check.specs.Meaning.{Covers, Between, IsBounded, Fits}
+use Rattle.life_check.specs.Meaning.{Covers, Between, Fits}
+use Rattle.life_state.specs.Bounded.{IsBounded}
 
--- What lives through a call is outside the instance. stays: a pool of the instance has none of it under it. over: what stands
--- above a pool of the instance is the request's or the connection's. this: the call itself lives.
+-- What lives through a call is outside the instance. stays: a pool of the instance has none of it under it. over: what lives and
+-- stands above a place of the instance is the request's pool or the connection's. this: the call itself lives.
 pub record Outside (r : Configuration) (lives : Home → Type 0) : Type 0 where
   pub stays : (q n m : ℕ) → r.instance.pools q ≡ poolvar.Made n → is_live r.shared.pools n ≡ true → lives (home.Pool m) → is_under r.shared.pools n m ≡ false
   pub over : (k : PoolRef) (target m : ℕ) → pool_named r k ≡ Some target → lives (home.Pool m) → is_under r.shared.pools m target ≡ true → (r.shared.req ≡ Some m) ⊎ (m ≡ r.shared.conn)
   pub this : lives (home.Call r.call.name)
 
+-- what lives by a test
+abbrev pub IsToldBy : (Home → Bool) → Home → Type 0
+IsToldBy lives x = lives x ≡ true
+
 abbrev pub FitsSome : (Homes → Home → Type 0) → Option State → Configuration → Type 0
 FitsSome C None r = ⊥
 FitsSome C (Some s) r = Fits C s r
 
--- The state on the edge that is taken describes what is left; after a return, what is left between calls.
+-- The state on the edge that is taken describes what is left; after a return, what is left between calls. (So an edge that is taken
+-- is there.)
 abbrev pub Lands : (Home → Type 0) → Program → Edges → State → Exit → Configuration → Type 0
 Lands lives p e s GoOn r = FitsSome (Covers p (pool_view r) lives) e.next r
 Lands lives p e s Jump r = FitsSome (Covers p (pool_view r) lives) e.jump r
 Lands lives p e s Return r = Fits (Between p r) (at_return s) r
 
--- An instruction whose needs are met, in a run that the state describes.
+-- An instruction whose needs are met, in a configuration that the state describes.
 pub record Ready (lives : Home → Type 0) (p : Program) (i : Instr) (r : Configuration) (s : State) : Type 0 where
   pub outside : Outside r lives
   pub may : MayExecute p r i
@@ -62,14 +68,14 @@ wants_request [] = false
 wants_request (WPool pool.Req ∷ ws) = true
 wants_request (w ∷ ws) = wants_request ws
 
--- No need fails, so there is no fault; the request's pool is there where it is wanted, a home that has ended is covered as dead
--- alone, and one that may not be kept beyond the call only by homes that tell of the call.
+-- Where no need fails there is no fault. C: any reading of homes by which dead alone covers what has ended and call alone what may
+-- not outlast the call. The request's pool has to be there where the instruction names it.
 abbrev pub MetIsFaultless : (Homes → Home → Type 0) → Type 0
 MetIsFaultless C = ((h : Homes) → C h home.Ended → h.dead ≡ true) → (p : Program) (i : Instr) (r : Configuration) (s : State)
     → IsModule p → fits p i ≡ true → Sound r → AsDeclared p r → (wants_request (wants p i) ≡ true → is_some r.shared.req ≡ true)
     → ((h : Homes) (x : Home) → C h x → h.call ≡ false → is_stray r x ≡ false) → Fits C s r → first_need s (wants p i) ≡ None → fault p r i ≡ None
 
--- A state above one that describes a run describes it.
+-- What a state describes, each greater state describes.
 abbrev pub GreaterFits : (Home → Type 0) → Type 0
 GreaterFits lives = (p : Program) (r : Configuration) (s t : State) → Sound r → AsDeclared p r → IsBounded t → leq s t ≡ true
     → Fits (Covers p (pool_view r) lives) s r → Fits (Covers p (pool_view r) lives) t r

@@ -1,10 +1,11 @@
--- When a module is accepted with a certificate. No state is below none, and an edge or a call that is not there asks for nothing.
-use Rattle.std.specs.Prelude.{◌≡◌, ℕ, zero, suc, ◌+◌, ◌<◌, Bool, true, false, ◌&&◌, ◌||◌, not, ◌==◌, nat_lt, nat_le, if◌then◌else◌, length, Option, Some, None, Result, Ok, Err, slice_get, unwrap_or}
+-- When a module is accepted with a certificate. No state is below none. An edge that cannot be taken, and an idle or ready that is
+-- none, ask for nothing.
+use Rattle.std.specs.Prelude.{◌≡◌, ℕ, zero, suc, ◌+◌, Bool, true, false, ◌&&◌, not, ◌==◌, nat_lt, nat_le, if◌then◌else◌, length, Option, Some, None, Result, Ok, Err, slice_get, unwrap_or}
 use Rattle.module_lang.specs.declared.instr.Instr.{Instr}
 use Rattle.module_lang.specs.declared.instr.Instr.TheVariants as instr
 use Rattle.module_lang.specs.Program.{Program, target}
 use Rattle.run_model.specs.declared.fault.FaultKind.{FaultKind}
-use Rattle.life_state.specs.States.{State, CursorKnown}
+use Rattle.life_state.specs.States.{State}
 use Rattle.life_state.specs.Facts.{is_set}
 use Rattle.life_state.specs.Order.{all_below, leq}
 use Rattle.life_state.specs.Rules.{Edges, rule, at_open, at_main, at_return, at_end_of_request}
@@ -14,21 +15,22 @@ use Rattle.life_check.specs.declared.refusal.Rule.TheVariants.{Shape, Entry, May
 use Rattle.life_check.specs.Certificates.{Certificate}
 
 -- the state is below the one that is given
-abbrev pub is_under : State → Option State → Bool
-is_under s None = false
-is_under s (Some t) = leq s t
+abbrev pub is_below : State → Option State → Bool
+is_below s None = false
+is_below s (Some t) = leq s t
 
 -- what can be reached is below what is given there
 abbrev pub flows : Option State → Option State → Bool
 flows None t = true
-flows (Some s) t = is_under s t
+flows (Some s) t = is_below s t
 
 -- The shape.
 
--- the state is one of the module's variables
+-- the state is of the module's variables
 abbrev pub declares : Program → State → Bool
 declares p s = (s.pool_count == length p.pools) && (s.brigade_count == length p.brigades)
 
+-- whether `in` is given: its variable cannot be null
 abbrev pub has_in : State → Bool
 has_in s = not (s.brigades 8).null
 
@@ -58,7 +60,7 @@ main_from None = None
 main_from (Some s) = Some (at_main s)
 
 abbrev pub opens : Program → Certificate → Bool
-opens p c = is_under (at_open (length p.pools) (length p.brigades)) (c.at 0)
+opens p c = is_below (at_open (length p.pools) (length p.brigades)) (c.at 0)
 
 abbrev pub inits : Program → Certificate → Bool
 inits p c = flows c.idle (c.at p.init)
@@ -68,12 +70,12 @@ serves p c = flows (main_from c.ready) (c.at p.main)
 
 -- Where calls and requests end.
 
--- the state that a call leaves behind: `open` that before `init`, the others that of the request
+-- what a return leads to: idle from `open`, ready from `init` and `main`
 abbrev pub left_by : Program → Certificate → ℕ → Option State
 left_by p c pc = if nat_lt pc p.init then c.idle else c.ready
 
 abbrev pub exits : Program → Certificate → ℕ → Instr → State → Bool
-exits p c pc (instr.Ret t) s = is_under (at_return s) (left_by p c pc)
+exits p c pc (instr.Ret t) s = is_below (at_return s) (left_by p c pc)
 exits p c pc _ s = true
 
 abbrev pub request_end : Program → Option State → Option State
@@ -115,6 +117,7 @@ abbrev pub step_refusal : Program → Certificate → ℕ → Instr → State �
 step_refusal p c pc i s (Err k) = Some (refusal pc (May k))
 step_refusal p c pc i s (Ok e) = or_else (unless (leads_on c pc i e) pc Flow) (unless (exits p c pc i s) pc Exit)
 
+-- the refusal of one instruction in its state
 abbrev pub line_refusal : Program → Certificate → ℕ → Option Instr → Option State → Option CheckRefusal
 line_refusal p c pc (Some i) (Some s) = step_refusal p c pc i s (rule p i s)
 line_refusal p c pc _ _ = None

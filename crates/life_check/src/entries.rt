@@ -3,15 +3,15 @@
 ghost use Rattle.std.specs.Prelude.{◌≡◌, ◌≤◌, true, length};
 ghost use Rattle.life_state.specs.Seen.{seen, seen_some};
 ghost use Rattle.life_check.specs.Seen.{seen_cert};
-ghost use Rattle.life_check.specs.Typed.{is_under, flows, main_from, fits_between, has_shape, opens, inits, serves, request_end, requests};
+ghost use Rattle.life_check.specs.Typed.{is_below, flows, main_from, fits_between, has_shape, opens, inits, serves, request_end, requests};
 
 use crate::cert::Cert;
 use life_state::{State, at_end_of_request, at_main, at_open, leq};
 use module_lang::Module;
 
 /// Whether the state is below the one that is given; none is below none.
-pub(crate) fn is_under(state: &State, given: Option<State>) -> bool
-    ensures { result ≡ is_under (seen state.now) (seen_some given) }
+pub(crate) fn is_below(state: &State, given: Option<State>) -> bool
+    ensures { result ≡ is_below (seen state.now) (seen_some given) }
 {
     match given {
         None => false,
@@ -25,7 +25,7 @@ pub(crate) fn flows(reached: Option<State>, given: Option<State>) -> bool
 {
     match reached {
         None => true,
-        Some(state) => is_under(&state, given),
+        Some(state) => is_below(&state, given),
     }
 }
 
@@ -43,7 +43,7 @@ pub(crate) fn opens(code: &Module, cert: &Cert) -> bool
     ensures few { length code.now.pools ≤ 8 }
 {
     let first = at_open(code.pool_count(), code.brigade_count());
-    is_under(&first, cert.state(0))
+    is_below(&first, cert.state(0))
 }
 
 pub(crate) fn inits(code: &Module, cert: &Cert) -> bool

@@ -1,14 +1,34 @@
 //! Laws of the definitions. Each function does nothing: what its contract says holds of the definitions alone.
 
-ghost use Rattle.life_check.specs.Examples.{IdentityAnswers};
-ghost use Rattle.life_check.specs.Theorem.{TypedModuleNeverFaults};
+ghost use Rattle.std.specs.Prelude.{Bool};
+ghost use Rattle.module_lang.specs.Program.{Program};
+ghost use Rattle.run_model.specs.declared.bucket.Home.{Home};
+ghost use Rattle.run_model.specs.State.{PoolView};
+ghost use Rattle.life_check.specs.Examples.{FaultRows, IdentityAnswers};
+ghost use Rattle.life_check.specs.Meaning.{Covers};
+ghost use Rattle.life_check.specs.Soundness.{IsToldBy, StepLands, MetIsFaultless, GreaterFits, RequestEndLands};
+ghost use Rattle.life_check.specs.Theorem.{RunsAreOnAnyFiles, TypedModuleNeverFaults, TypedModuleNeverFaultsOnAnyFiles};
 
-/// Certificates worked out by hand, of a module that passes on what it gets.
+/// Certificates worked out by hand, of a module that passes on what it gets; a module that never faults, and one that does.
 pub fn worked_certificates()
-    ensures { IdentityAnswers }
+    ensures answers { IdentityAnswers }
+    ensures faults { FaultRows }
 {}
 
-/// Where a module is typed with a certificate, no run of it answers a fault.
+/// Where a module is typed with a certificate, no run of it answers a fault; nor does one in which each step reads whatever it
+/// may, or cannot read.
 pub fn typed_modules_never_fault()
-    ensures { TypedModuleNeverFaults }
+    ensures plainly { TypedModuleNeverFaults }
+    ensures on_any_files { TypedModuleNeverFaultsOnAnyFiles }
+    ensures runs { RunsAreOnAnyFiles }
+{}
+
+/// The rules are sound, step by step, whatever lives through a call. What a step leaves is described by the state on the edge that it
+/// takes. Where no need fails, there is no fault. A greater state describes what a lesser one does. The state after the end of a
+/// request describes what that leaves.
+pub fn rules_are_sound()
+    ensures steps { (lives : Home → Bool) → StepLands (IsToldBy lives) }
+    ensures needs { (lives : Home → Bool) (p : Program) (v : PoolView) → MetIsFaultless (Covers p v (IsToldBy lives)) }
+    ensures greater { (lives : Home → Bool) → GreaterFits (IsToldBy lives) }
+    ensures ends { RequestEndLands }
 {}

@@ -9,7 +9,7 @@ ghost use Rattle.life_check.specs.Seen.{seen_cert};
 ghost use Rattle.life_check.specs.Typed.{declares, has_shape, left_by, exits, leads_on, unless, step_refusal, refusal_at, first_below, IsAnswer};
 
 use crate::cert::Cert;
-use crate::entries::{flows, is_under};
+use crate::entries::{flows, is_below};
 use crate::refusal::{CheckRefusal, Rule};
 use life_state::{State, Successors, after, at_return};
 use module_lang::{Instr, Module};
@@ -52,7 +52,7 @@ fn exits(code: &Module, cert: &Cert, pc: usize, instr: Instr, state: &State) -> 
     ensures { result ≡ exits code.now (seen_cert cert.now) pc instr (seen state.now) }
 {
     match instr {
-        Instr::Ret(_) => is_under(&at_return(state), left_by(code, cert, pc)),
+        Instr::Ret(_) => is_below(&at_return(state), left_by(code, cert, pc)),
         _ => true,
     }
 }

@@ -3,19 +3,14 @@
 ghost use Rattle.std.specs.Prelude.{◌≡◌, ℕ, true, nat_le, not, if◌then◌else◌};
 ghost use Rattle.life_state.specs.Facts.{is_set};
 ghost use Rattle.life_state.specs.Seen.{seen, seen_cursor, seen_some};
-ghost use Rattle.life_check.specs.Meaning.{IsBounded};
 ghost use Rattle.life_check.specs.Seen.{seen_cert};
 ghost use Rattle.life_check.specs.Theorem.{AllBounded, IsBoundedSome};
 ghost use Rattle.life_check.specs.Typed.{declares, has_in, has_no_cursor, fits_between, fits_line, fits_lines, has_shape};
 
 use crate::cert::Cert;
+use life_state::laws::states_are_bounded;
 use life_state::{CursorState, State};
 use module_lang::Module;
-
-/// What a state says is of variables and cursors that there are: its arrays have no more. It does nothing.
-fn is_bounded(_state: State)
-    ensures { IsBounded (seen _state) }
-{}
 
 fn declares(code: &Module, state: &State) -> bool
     ensures { result ≡ declares code.now (seen state.now) }
@@ -60,7 +55,7 @@ fn fits_between(code: &Module, state: Option<State>) -> bool
     match state {
         None => true,
         Some(state) => {
-            is_bounded(state);
+            states_are_bounded(&state);
             declares(code, &state) & !has_in(&state) & has_no_cursor(&state)
         }
     }
@@ -83,7 +78,7 @@ fn fits_line(code: &Module, pc: usize, state: Option<State>) -> bool
     match state {
         None => true,
         Some(state) => {
-            is_bounded(state);
+            states_are_bounded(&state);
             declares(code, &state) & (pc < code.len()) & stands_in_part(code, pc, &state)
         }
     }

@@ -1,6 +1,7 @@
 pub mod FormLaws
 pub mod Arrays
 pub mod Below
+pub mod Bounds
 pub mod ClearLaws
 pub mod FactLaws
 pub mod FormClears
@@ -11,6 +12,7 @@ pub mod FormMoves
 pub mod FormNeeds
 pub mod FormOrder
 pub mod FormParts
+pub mod FormPasses
 pub mod FormRules
 pub mod FormSteps
 pub mod JoinAbove

@@ -8,7 +8,7 @@ use Rattle.life_state.specs.Facts.{is_set, is_apart}
 use Rattle.life_state.specs.Order.{is_at_hand}
 use Rattle.life_state.specs.Rules.{some_class}
 
--- a variable may be something
+-- a pool variable may be null, gone or live: one at least
 abbrev pub some_pool : PoolState → Bool
 some_pool v = v.null || v.gone || v.live
 
@@ -16,8 +16,8 @@ some_pool v = v.null || v.gone || v.live
 abbrev pub NamesDeclared : State → Homes → Type 0
 NamesDeclared s h = (h.at pool.Conn ≡ false) × ((q : ℕ) → h.at (pool.Own q) ≡ true → q < s.pool_count)
 
--- A brigade variable may be something; where it may be live it has a mark, and else none; where it cannot be usable it has no
--- contents and no homes.
+-- At least one of null, gone, live. Where it may be live it has a mark, else none. Where it cannot be usable, no contents and no
+-- homes.
 pub record FormedBrigade (v : BrigadeKnown) : Type 0 where
   pub some : (v.null || v.gone || v.live) ≡ true
   pub marks : v.live ≡ (v.usable || v.passed)

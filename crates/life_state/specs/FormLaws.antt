@@ -1,4 +1,4 @@
--- Rules, joins and entries lead from states in form to states in form, of the same variables.
+-- Rules, joins, and where calls begin and end lead from states in form to such states, of the same variables.
 use Rattle.std.specs.Prelude.{◌≡◌, Bool, true, false, not, length, IfSome, Ok}
 use Rattle.module_lang.specs.declared.instr.Instr.{Instr}
 use Rattle.module_lang.specs.Program.{Program, IsModule, fits}

@@ -27,7 +27,7 @@ LeqIsReflexive = (s : State) → ((c : ℕ) → s.facts c c ≡ false) → leq s
 abbrev pub LeqIsTransitive : Type 0
 LeqIsTransitive = (a b c : State) → leq a b ≡ true → leq b c ≡ true → leq a c ≡ true
 
--- Of two states in form, each below the other, both say the same.
+-- Two states in form, each below the other, are the same.
 abbrev pub LeqIsAntisymmetric : Type 0
 LeqIsAntisymmetric = (a b : State) → IsFormed a → IsFormed b → leq a b ≡ true → leq b a ≡ true → a ≡ b
 

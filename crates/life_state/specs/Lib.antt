@@ -1,6 +1,7 @@
 pub use Rattle.module_lang.specs.Program
 pub use Rattle.run_model.specs.Faults
 pub mod States
+pub mod Bounded
 pub mod Facts
 pub mod Order
 pub mod PoolOrder

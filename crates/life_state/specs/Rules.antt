@@ -62,7 +62,7 @@ send_limit false = NoLateData
 abbrev pub send_need : Bool → BrigadeKnown → Option FaultKind
 send_need sent v = if content_le v.content (send_limit sent) then None else Some F8
 
--- a brigade that may be live and usable, with a bucket that lives through this call alone
+-- a brigade that may be live and usable, with a bucket that may live through this call alone
 abbrev pub keeps_call : BrigadeKnown → Bool
 keeps_call v = v.live && v.usable && v.homes.call
 

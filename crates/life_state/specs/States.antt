@@ -10,8 +10,9 @@ use Rattle.life_state.specs.declared.parts.Classes.{Classes}
 use Rattle.life_state.specs.declared.parts.PoolState.{PoolState}
 
 -- What a bucket may live as long as. call: a call, a pool of another filter or the request's pool, as long as it lives
--- through this call; never a pool of this instance. dead: a pool of this instance or the request's, live or ended. at: this
--- pool and those above it. A bucket without a home, or whose home is the connection's pool, is always meant.
+-- through this call; never a pool of this instance; between calls, nothing. dead: a pool of this instance or the request's,
+-- live or ended. at: this pool and those above it. A bucket without a home, or whose home is the connection's pool, is
+-- always meant.
 pub record Homes : Type 0 where
   pub call : Bool
   pub dead : Bool

@@ -11,13 +11,15 @@ use crate::parts::{BrigadeState, Classes, CursorState, HomeSet, PoolState};
 use crate::state::State;
 
 fn is_null(pool: PoolState) -> bool
-    ensures { result ≡ true → pool ≡ only_null }
+    ensures sound { result ≡ true → pool ≡ only_null }
+    ensures complete { pool ≡ only_null → result ≡ true }
 {
     pool.null & !pool.gone & !pool.live
 }
 
 fn is_unmade(brigade: &BrigadeState) -> bool
-    ensures { result ≡ true → (brigade.now.null ≡ true) × (brigade.now.gone ≡ false) × (brigade.now.live ≡ false) }
+    ensures sound { result ≡ true → (brigade.now.null ≡ true) × (brigade.now.gone ≡ false) × (brigade.now.live ≡ false) }
+    ensures complete { seen_brigade brigade.now ≡ never_made → result ≡ true }
 {
     brigade.null & !brigade.gone & !brigade.live
 }
@@ -38,7 +40,8 @@ fn width(row: &[bool; 9]) -> u8
 
 /// Whether no homes are told.
 fn is_free(homes: &HomeSet) -> bool
-    ensures { result ≡ true → seen_homes homes.now ≡ no_homes }
+    ensures sound { result ≡ true → seen_homes homes.now ≡ no_homes }
+    ensures complete { seen_homes homes.now ≡ no_homes → result ≡ true }
 {
     let named = are_declared(homes, 0);
     !homes.call & !homes.dead & !homes.pools.req & named
@@ -46,7 +49,8 @@ fn is_free(homes: &HomeSet) -> bool
 
 /// Whether the pools among the homes have numbers below this one.
 fn are_declared(homes: &HomeSet, count: u8) -> bool
-    ensures { result ≡ true → NamesBelow count (seen_homes homes.now) }
+    ensures sound { result ≡ true → NamesBelow count (seen_homes homes.now) }
+    ensures complete { NamesBelow count (seen_homes homes.now) → result ≡ true }
 {
     for q in 0..8u8 {
         let declared = q < count || !homes.pools.own[usize::from(q)];
@@ -59,7 +63,8 @@ fn are_declared(homes: &HomeSet, count: u8) -> bool
 
 /// Whether a brigade has a mark exactly where it may be live, and contents and homes only where it may be usable.
 fn is_formed_brigade(brigade: &BrigadeState) -> bool
-    ensures { result ≡ true → FormedBrigade (seen_brigade brigade.now) }
+    ensures sound { result ≡ true → FormedBrigade (seen_brigade brigade.now) }
+    ensures complete { FormedBrigade (seen_brigade brigade.now) → result ≡ true }
 {
     (brigade.null | brigade.gone | brigade.live)
         & (brigade.live == (brigade.usable | brigade.passed))
@@ -68,7 +73,8 @@ fn is_formed_brigade(brigade: &BrigadeState) -> bool
 
 impl State {
     fn is_formed_pool(&self, q: u8) -> bool
-        ensures { result ≡ true → FormedPool (seen self.now) q }
+        ensures sound { result ≡ true → FormedPool (seen self.now) q }
+        ensures complete { FormedPool (seen self.now) q → result ≡ true }
     {
         let pool = self.pool(q);
         let null = is_null(pool);
@@ -76,7 +82,8 @@ impl State {
     }
 
     fn is_formed_brigade(&self, b: u8) -> bool
-        ensures { result ≡ true → FormedPlace (seen self.now) b }
+        ensures sound { result ≡ true → FormedPlace (seen self.now) b }
+        ensures complete { FormedPlace (seen self.now) b → result ≡ true }
     {
         let brigade = self.brigade(b);
         let formed = is_formed_brigade(&brigade);
@@ -87,21 +94,24 @@ impl State {
 
     /// `in` is not given, or live.
     fn is_formed_in(&self) -> bool
-        ensures { result ≡ true → FormedBrigade ((seen self.now).brigades 8) → ((seen self.now).brigades 8 ≡ never_made) ⊎ (is_live_brigade ((seen self.now).brigades 8) ≡ true) }
+        ensures sound { result ≡ true → FormedBrigade ((seen self.now).brigades 8) → ((seen self.now).brigades 8 ≡ never_made) ⊎ (is_live_brigade ((seen self.now).brigades 8) ≡ true) }
+        ensures complete { ((seen self.now).brigades 8 ≡ never_made) ⊎ (is_live_brigade ((seen self.now).brigades 8) ≡ true) → result ≡ true }
     {
         let brigade = self.brigade(8);
         is_unmade(&brigade) | (brigade.live & !brigade.null & !brigade.gone)
     }
 
     fn is_at_hand(&self, b: u8) -> bool
-        ensures { result ≡ true → AtHand (seen self.now) b }
+        ensures sound { result ≡ true → AtHand (seen self.now) b }
+        ensures complete { AtHand (seen self.now) b → result ≡ true }
     {
         let brigade = self.brigade(b);
         b < 9 && brigade.live & !brigade.null & !brigade.gone & brigade.usable & !brigade.passed
     }
 
     fn is_formed_cursor(&self, c: u8) -> bool
-        ensures { result ≡ true → FormedCursor (seen self.now) ((seen self.now).cursors c) }
+        ensures sound { result ≡ true → FormedCursor (seen self.now) ((seen self.now).cursors c) }
+        ensures complete { FormedCursor (seen self.now) ((seen self.now).cursors c) → result ≡ true }
     {
         match self.cursor(c) {
             CursorState::Unset => true,
@@ -117,7 +127,8 @@ impl State {
 
     /// A fact is written both ways, and only where it has to be.
     fn is_formed_fact(&self, c: u8, d: u8) -> bool
-        ensures { result ≡ true → FormedFact (seen self.now) c d }
+        ensures sound { result ≡ true → FormedFact (seen self.now) c d }
+        ensures complete { FormedFact (seen self.now) c d → result ≡ true }
     {
         let first = self.cursor(c);
         let second = self.cursor(d);
@@ -127,7 +138,8 @@ impl State {
 
     fn are_formed_facts(&self, c: u8) -> bool
         requires { c < 9 }
-        ensures { result ≡ true → (d : ℕ) → FormedFact (seen self.now) c d }
+        ensures sound { result ≡ true → (d : ℕ) → FormedFact (seen self.now) c d }
+        ensures complete { ((d : ℕ) → FormedFact (seen self.now) c d) → result ≡ true }
     {
         for d in 0..width(&self.facts[usize::from(c)]) {
             let formed = self.is_formed_fact(c, d);
@@ -139,7 +151,8 @@ impl State {
     }
 
     fn are_formed_pools(&self) -> bool
-        ensures { result ≡ true → (q : ℕ) → q < 8 → FormedPool (seen self.now) q }
+        ensures sound { result ≡ true → (q : ℕ) → q < 8 → FormedPool (seen self.now) q }
+        ensures complete { ((q : ℕ) → q < 8 → FormedPool (seen self.now) q) → result ≡ true }
     {
         for q in 0..8u8 {
             let formed = self.is_formed_pool(q);
@@ -151,7 +164,8 @@ impl State {
     }
 
     fn are_formed_places(&self) -> bool
-        ensures { result ≡ true → (k : ℕ) → k < 9 → FormedAt (seen self.now) k }
+        ensures sound { result ≡ true → (k : ℕ) → k < 9 → FormedAt (seen self.now) k }
+        ensures complete { ((k : ℕ) → k < 9 → FormedAt (seen self.now) k) → result ≡ true }
     {
         for k in 0..9u8 {
             let place = self.is_formed_brigade(k);
@@ -167,7 +181,8 @@ impl State {
 
     /// Whether the state is in form: whether what it says is said in the one way in which it may be written.
     pub fn is_formed(&self) -> bool
-        ensures { result ≡ true → IsFormed (seen self.now) }
+        ensures sound { result ≡ true → IsFormed (seen self.now) }
+        ensures complete { IsFormed (seen self.now) → result ≡ true }
     {
         (self.pool_count <= 8)
             & (self.brigade_count <= 8)

@@ -1,8 +1,12 @@
-//! Laws of the definitions. Each function does nothing: what its contract says holds of the definitions alone.
+//! Laws. Each function does nothing: what its contract says holds of the definitions, or of each value of the code.
 
+ghost use Rattle.life_state.specs.Bounded.{IsBounded};
 ghost use Rattle.life_state.specs.Examples.{IdentityRows, OtherRows};
 ghost use Rattle.life_state.specs.FormLaws.{RulesKeepForm, JoinsKeepForm, JoinsAbsorb, EntriesAreFormed};
 ghost use Rattle.life_state.specs.Laws.{LeqSays, LeqHolds, LeqIsReflexive, LeqIsTransitive, LeqIsAntisymmetric, JoinIsAbove, JoinIsLeast};
+ghost use Rattle.life_state.specs.Seen.{seen};
+
+use crate::state::State;
 
 /// States worked out by hand: those of a module that passes on what it gets, and small ones for single rules.
 pub fn worked_states()
@@ -10,8 +14,18 @@ pub fn worked_states()
     ensures others { OtherRows }
 {}
 
+/// A state says something of eight pools, nine brigades and nine cursors alone.
+pub fn states_are_bounded(state: &State)
+    ensures { IsBounded (seen state.now) }
+{
+    for c in 0..9usize {
+        let row = &state.facts[c];
+        let _first = row[0];
+    }
+}
+
 /// The order says each part of what it is, and no more; it is reflexive, where no cursor is written to differ from itself, and
-/// transitive; of two states in form, each below the other, both say the same.
+/// transitive; two states in form, each below the other, are the same.
 pub fn states_are_ordered()
     ensures says { LeqSays }
     ensures holds { LeqHolds }

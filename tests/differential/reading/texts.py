@@ -41,7 +41,7 @@ DUE = {
     'module': ('module',),
     'pools': ('pool', 'brigade', 'open'),
     'brigades': ('brigade', 'open'),
-    'open': ('init',), 'init': ('main',), 'main': ('end',),
+    'open': ('init',), 'init': ('main',), 'main': ('end',), 'end': (),
 }
 
 PRINTABLE = re.compile(rb'[ -~]*')
@@ -134,6 +134,47 @@ def assemble(data):
         reader.line += 1
     reader.check_handlers()
     return reader.module, reader.at, reader.line
+
+
+def assemble_alone(data):
+    """The module whose text is all of `data`. Raises FaultyText where there is none."""
+    reader = Reader(data)
+    state = 'module'
+    while state != 'end' or reader.at < len(data):
+        line = reader.next_line()
+        if line and line[0] != '#':
+            state = reader.take_line(line, state)
+        reader.line += 1
+    reader.check_handlers()
+    return reader.module
+
+
+def print_module(module):
+    """The text by which a module is printed."""
+    def word(kind, value):
+        if kind in 'PQ' and value not in ('conn', 'req'):
+            return 'p%d' % value
+        if kind in 'BO' and value != 'in':
+            return 'b%d' % value
+        if kind == 'V':
+            return '%s%d' % value
+        if kind in 'CN':
+            return '%s%d' % (kind.lower(), value)
+        if kind == 'X':
+            return 'n%d' % value[1] if value[0] == 'n' else '%d' % value[1]
+        if kind == 'T':
+            return show_text(value)
+        return 'i%d' % value if kind == 'L' else value
+
+    targets = {operands[-1] for first, *operands in module.code if 'L' in OPERANDS[first]}
+    lines = ['module 1']
+    lines += ['pool p%d %s' % (i, word('P', pool)) for i, pool in enumerate(module.pools)]
+    lines += ['brigade b%d %s' % (i, word('P', pool)) for i, pool in enumerate(module.brigades)]
+    for pc, (first, *operands) in enumerate(module.code):
+        lines += [handler for handler in HANDLERS if module.start[handler] == pc]
+        lines += [':i%d' % pc] if pc in targets else []
+        lines.append(' '.join([first] + [word(kind, value) for kind, value in zip(OPERANDS[first], operands)]))
+    return ''.join(line + '\n' for line in lines + ['end']).encode('ascii')
 
 
 class Reader:

@@ -1,4 +1,4 @@
-use Rattle.host_cli.specs.Plays.{IsFrontOf, IsCutOf}
+use Rattle.host_cli.specs.Written.{IsFrontOf, IsCutOf}
 use Rattle.host_cli.proofs.FrontLaws.{writes_all, writes_ok, writes_nothing}
 use Rattle.host_cli.proofs.run.run_play.Goals as goal
 

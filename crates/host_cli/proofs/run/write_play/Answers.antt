@@ -1,5 +1,5 @@
 use Rattle.std.proofs.Common.{ℕ, List, take, subst, sym}
-use Rattle.host_cli.specs.Plays.{IsCutOf}
+use Rattle.host_cli.specs.Written.{IsCutOf}
 use Rattle.host_cli.proofs.FrontLaws.{cut_take, cut_of_played}
 use Rattle.host_cli.proofs.run.write_play.Goals as goal
 

@@ -2,7 +2,7 @@
 use Rattle.std.proofs.Common.{◌≡◌, ℕ, Option, Some, None, length, arith, rules, below_more}
 use Rattle.life_check.specs.declared.refusal.CheckRefusal.{CheckRefusal}
 use Rattle.life_check.specs.Seen.{seen_cert}
-use Rattle.life_check.specs.Typed.{refusal_at, IsAnswer}
+use Rattle.life_check.specs.Typed.{refusal_at}
 use Rattle.life_check.proofs.Firsts.{none_below, some_below}
 use Rattle.life_check.proofs.lines.check_lines.Goals as goal
 

@@ -1,13 +1,18 @@
 -- One that does not fit decides, and all do where the loop ends.
 use Rattle.std.proofs.Common.{◌≡◌, ◌<◌, ◌≤◌, ℕ, Bool, true, false, length, Option, sym, ◌∙◌, ap, subst, arith, rules, ⊎_elim}
 use Rattle.std.proofs.lemmas.Bool.{cases_lt}
+use Rattle.std.proofs.lemmas.Option.{slice_get_past}
 use Rattle.life_state.specs.States.{State}
-use Rattle.life_check.specs.Seen.{seen_cert}
+use Rattle.life_check.specs.declared.cert.Cert.{Cert}
+use Rattle.life_check.specs.Seen.{seen_line, seen_cert}
 use Rattle.life_check.specs.Theorem.{IsBoundedSome}
 use Rattle.life_check.specs.Typed.{fits_line}
 use Rattle.life_state.proofs.Below.{all_below_holds, all_below_fails}
-use Rattle.life_check.proofs.Sizes.{past_bounded}
 use Rattle.life_check.proofs.shape.fits_lines.Goals as goal
+
+-- no state is given past the last line
+past_bounded : (c : Cert) (pc : ℕ) → length c.at.items ≤ pc → IsBoundedSome ((seen_cert c).at pc)
+past_bounded c pc le = subst (λ o. IsBoundedSome (seen_line o)) (sym (slice_get_past c.at.items pc le)) tt
 
 pub loop-pc-preserved : goal.loop-pc-preserved
 loop-pc-preserved c =

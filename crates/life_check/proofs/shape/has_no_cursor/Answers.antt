@@ -1,5 +1,5 @@
 -- One that is set decides, and none is where the loop ends.
-use Rattle.std.proofs.Common.{◌≡◌, ℕ, Bool, not, true, false, sym, arith, rules}
+use Rattle.std.proofs.Common.{◌≡◌, ℕ, Bool, not, false, sym, arith, rules}
 use Rattle.life_state.specs.Facts.{is_set}
 use Rattle.life_state.specs.Seen.{seen}
 use Rattle.life_state.proofs.Below.{all_below_holds, all_below_fails}

@@ -5,10 +5,10 @@ use Rattle.life_state.proofs.FormLaws.{formed_row}
 use Rattle.life_state.proofs.state.State.are_formed_facts.Goals as goal
 
 pub loop-d-preserved : goal.loop-d-preserved
-loop-d-preserved c = below_more (λ k. FormedFact (seen c.args.self.now) c.args.c k) c.loop-d.d c.loop-d.invariant (c.is_formed_fact-formed.ensures c.if-not-formed.false)
+loop-d-preserved c = below_more (λ k. FormedFact (seen c.args.self.now) c.args.c k) c.loop-d.d c.loop-d.invariant (c.is_formed_fact-formed.ensures.sound c.if-not-formed.false)
 
-pub returns : goal.returns
-returns c =
+pub returns-clause-sound : goal.returns-clause-sound
+returns-clause-sound c =
     let s = c.args.self.now in
     let cursors : length s.cursors ≡ 9 = omega arith in
     let pools : length s.pools ≡ 8 = omega arith in

@@ -8,7 +8,7 @@ pub loop-k-preserved : goal.loop-k-preserved
 loop-k-preserved c =
     let a = both_of _ _ c.if-not-formed.false in
     let b = both_of _ _ a.0 in
-    below_more (λ i. FormedAt (seen c.args.self.now) i) c.loop-k.k c.loop-k.invariant (c.is_formed_brigade-place.ensures b.0, (c.is_formed_cursor-cursor.ensures b.1, c.are_formed_facts-facts.ensures a.1))
+    below_more (λ i. FormedAt (seen c.args.self.now) i) c.loop-k.k c.loop-k.invariant (c.is_formed_brigade-place.ensures.sound b.0, (c.is_formed_cursor-cursor.ensures.sound b.1, c.are_formed_facts-facts.ensures.sound a.1))
 
-pub returns : goal.returns
-returns c = λ _ k below. c.loop-k.invariant k (omega arith)
+pub returns-clause-sound : goal.returns-clause-sound
+returns-clause-sound c = λ _ k below. c.loop-k.invariant k (omega arith)

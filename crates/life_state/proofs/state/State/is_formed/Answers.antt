@@ -1,12 +1,13 @@
 use Rattle.std.proofs.Common.{◌≡◌, length, arith}
-use Rattle.std.proofs.lemmas.Bool.{leb-true}
+use Rattle.std.proofs.lemmas.Bool.{leb-true, le-leb}
 use Rattle.life_state.specs.Seen.{seen}
 use Rattle.life_state.proofs.FormLaws.{both_of, formed_state}
+use Rattle.life_state.proofs.Tests.{and2}
 use Rattle.life_state.proofs.state.State.is_formed.Goals as goal
 
-pub returns : goal.returns
+pub returns-clause-sound : goal.returns-clause-sound
 unfolding seen
-returns c = λ h.
+returns-clause-sound c = λ h.
     let s = c.args.self.now in
     let pools : length s.pools ≡ 8 = omega arith in
     let brigades : length s.brigades ≡ 9 = omega arith in
@@ -16,4 +17,13 @@ returns c = λ h.
     let e2 = both_of _ _ e1.0 in
     let e3 = both_of _ _ e2.0 in
     let e4 = both_of _ _ e3.0 in
-    formed_state s pools brigades cursors rows (leb-true s.pool_count 8 e4.0) (leb-true s.brigade_count 8 e4.1) (c.is_formed_in.ensures e3.1) (c.are_formed_pools.ensures e2.1) (c.are_formed_places.ensures e1.1)
+    formed_state s pools brigades cursors rows (leb-true s.pool_count 8 e4.0) (leb-true s.brigade_count 8 e4.1) (c.is_formed_in.ensures.sound e3.1) (c.are_formed_pools.ensures.sound e2.1) (c.are_formed_places.ensures.sound e1.1)
+
+pub returns-clause-complete : goal.returns-clause-complete
+unfolding seen
+returns-clause-complete c = λ h.
+    let s = c.args.self.now in
+    let counts = and2 _ _ (le-leb s.pool_count 8 h.pool_count) (le-leb s.brigade_count 8 h.brigade_count) in
+    let pools = c.are_formed_pools.ensures.complete (λ q below. (h.pools q, h.no_pools q)) in
+    let places = c.are_formed_places.ensures.complete (λ k below. ((h.brigades k, (h.homes k, h.no_brigades k)), (h.cursors k, λ d. (h.facts k d, h.symmetric k d)))) in
+    and2 _ _ (and2 _ _ (and2 _ _ counts (c.is_formed_in.ensures.complete h.brought)) pools) places

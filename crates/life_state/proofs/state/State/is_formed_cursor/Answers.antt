@@ -2,10 +2,17 @@ use Rattle.std.proofs.Common.{sym, subst, ◌∙◌}
 use Rattle.life_state.specs.Form.{FormedCursor}
 use Rattle.life_state.specs.Seen.{seen}
 use Rattle.life_state.proofs.FormLaws.{both_of}
+use Rattle.life_state.proofs.Tests.{and2}
 use Rattle.life_state.proofs.state.State.is_formed_cursor.Goals as goal
 
-pub returns-in-Loose : goal.returns-in-Loose
+pub returns-in-Loose-clause-sound : goal.returns-in-Loose-clause-sound
 unfolding seen
-returns-in-Loose c = λ h.
+returns-in-Loose-clause-sound c = λ h.
     let p = both_of c.has_class.result c.are_declared.result h in
-    subst (FormedCursor (seen c.args.self.now)) c.in-Loose.ensures (sym c.has_class.ensures ∙ p.0, c.are_declared.ensures p.1)
+    subst (FormedCursor (seen c.args.self.now)) c.in-Loose.ensures (sym c.has_class.ensures ∙ p.0, c.are_declared.ensures.sound p.1)
+
+pub returns-in-Loose-clause-complete : goal.returns-in-Loose-clause-complete
+unfolding seen
+returns-in-Loose-clause-complete c = λ h.
+    let p = subst (FormedCursor (seen c.args.self.now)) (sym c.in-Loose.ensures) h in
+    and2 c.has_class.result c.are_declared.result (c.has_class.ensures ∙ p.0) (c.are_declared.ensures.complete p.1)

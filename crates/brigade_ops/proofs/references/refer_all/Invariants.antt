@@ -1,0 +1,15 @@
+-- The references so far are registered.
+use Rattle.std.proofs.Common.{◌≡◌, ℕ, ◌+◌, true, take}
+use Rattle.run_model.specs.Pools.{is_live}
+use Rattle.run_model.specs.Steps.{all_referred}
+use Rattle.pool_tree.specs.Tree.{map_of}
+use Rattle.brigade_ops.specs.Files.{times_in}
+use Rattle.brigade_ops.specs.Numbers.{count_at}
+use Rattle.brigade_ops.proofs.references.refer_all.Given as goal
+
+abbrev pub invariant-loop-index : goal.invariant-loop-index
+invariant-loop-index l = record {
+  live : is_live (map_of l.tree) l.pool ≡ true;
+  so_far : map_of l.tree ≡ all_referred l.pool (take l.index l.files) (map_of l.fn.tree);
+  counted : (f : ℕ) → count_at l.counts f ≡ count_at l.fn.counts f + times_in f (take l.index l.files);
+}

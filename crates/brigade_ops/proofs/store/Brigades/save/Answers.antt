@@ -1,0 +1,76 @@
+use Rattle.std.proofs.Common.{◌≡◌, ℕ, ◌+◌, ◌++◌, Some, is_some, List, [], filter_map, map, sym, ap, ◌∙◌}
+use Rattle.std.specs.Prelude.{IfSome}
+use Rattle.std.proofs.lemmas.Option.{same_Some}
+use Rattle.run_model.specs.declared.payload.Payload.{Payload}
+use Rattle.run_model.specs.Pools.{Pools}
+use Rattle.run_model.specs.Steps.{new_ref}
+use Rattle.pool_tree.specs.Tree.{map_of}
+use Rattle.bucket_ring.specs.Lists.{on, list_at, found, times}
+use Rattle.brigade_ops.specs.Files.{times_in}
+use Rattle.brigade_ops.specs.Items.{Item, Items, named, before_place, from_place, aside_item, aside_behind}
+use Rattle.brigade_ops.specs.Numbers.{count_at}
+use Rattle.brigade_ops.specs.Store.{lists, brigade_of, pool_of, references}
+use Rattle.brigade_ops.proofs.Lists.{list_off, on_after}
+use Rattle.brigade_ops.proofs.Walks.{if_some, told_some}
+use Rattle.brigade_ops.proofs.Referred.{aside_same, ok_of}
+use Rattle.brigade_ops.proofs.Saves.{none_other, found_append, joined, moved_aside}
+use Rattle.brigade_ops.proofs.store.Brigades.save.Goals as goal
+
+pub put_all_aside-requires-clause-inside : goal.put_all_aside-requires-clause-inside
+unfolding lists brigade_of
+put_all_aside-requires-clause-inside g c =
+    let laws = g.met.R.Rings in
+    let s = c.args.self.now.held.rings in
+    let o = c.args.o in
+    let b = c.args.b in
+    let new = c.splice_tail.new.self in
+    let went = sym c.is_err.ensures.value ∙ c.if-is_err.false in
+    let whole : list_at (g.R.Rings.lists new) o ≡ list_at (g.R.Rings.lists s) o ++ list_at (g.R.Rings.lists s) b
+    = joined o b (g.R.Rings.lists s) (g.R.Rings.lists new) c.requires.apart c.requires.onto (ok_of c.splice_tail.result _ went c.splice_tail.ensures.ok) in
+    if_some (λ id. g.R.Rings.ring_at new id ≡ Some o) c.start-first.result
+    (λ id is.
+    let inside = told_some (λ j. g.R.Rings.ring_at s j ≡ Some b) c.start-first.result c.start-first.ensures.inside id is in
+    let none = none_other o b (times id (list_at (g.R.Rings.lists s) o)) (g.R.Rings.ring_at s id) c.requires.apart inside (laws.counted s id o) in
+    laws.in_found new id o
+    (ap (λ (zs : Items). is_some (found id zs)) whole ∙ found_append id (list_at (g.R.Rings.lists s) o) (list_at (g.R.Rings.lists s) b) none (laws.found_in s id b inside)))
+
+pub returns-clause-ok : goal.returns-clause-ok
+unfolding lists brigade_of pool_of
+returns-clause-ok g c p n at =
+    let laws = g.met.R.Rings in
+    let s = c.args.self.now.held.rings in
+    let o = c.args.o in
+    let b = c.args.b in
+    let pool = c.in-Some.pool in
+    let ps = map_of c.args.tree.now in
+    let first = c.start-first.result in
+    let new = c.splice_tail.new.self in
+    let others = on b (λ (xs : Items). []) (g.R.Rings.lists s) in
+    let bs : Items = list_at (g.R.Rings.lists s) b in
+    let went = sym c.is_err.ensures.value ∙ c.if-is_err.false in
+    let same_pool : pool ≡ p = same_Some pool p (sym c.in-Some.is ∙ (c.get.ensures ∙ at)) in
+    let paths : aside_item (map_of c.refer_all.new.tree) pool ≡ aside_item ps pool
+    = ap (λ (qs : Pools Payload). aside_item qs pool) c.in_ok-refer_all.ensures.ok ∙ aside_same pool c.as_slice.result.now ps in
+    let none : IfSome first (λ id. times id (list_at others o) ≡ 0)
+    = if_some (λ id. times id (list_at others o) ≡ 0) first
+    (λ id is.
+    ap (λ (zs : Items). times id zs) (list_off o b (λ (xs : Items). []) (g.R.Rings.lists s) c.requires.apart)
+    ∙ none_other o b (times id (list_at (g.R.Rings.lists s) o)) (g.R.Rings.ring_at s id) c.requires.apart (told_some (λ j. g.R.Rings.ring_at s j ≡ Some b) first c.start-first.ensures.inside id is) (laws.counted s id o)) in
+    c.put_all_aside.ensures.out n
+    ∙ (ap (λ (f : Item → Item). on o (λ xs. before_place first xs ++ map f (from_place first xs)) (g.R.Rings.lists new) n) paths
+    ∙ (on_after o n (λ xs. xs ++ bs) (aside_behind ps pool first) (λ xs. xs ++ map (aside_item ps pool) bs) others (g.R.Rings.lists new) (ok_of c.splice_tail.result _ went c.splice_tail.ensures.ok)
+    (moved_aside ps pool first (list_at others o) bs c.start-first.ensures.whole none)
+    ∙ ap (λ (q : ℕ). on o (λ xs. xs ++ map (aside_item ps q) bs) others n) same_pool))
+
+pub returns-clause-counted : goal.returns-clause-counted
+unfolding lists pool_of references count_at
+returns-clause-counted g c p f at =
+    let pool = c.in-Some.pool in
+    let ps = map_of c.args.tree.now in
+    let same_pool : pool ≡ p = same_Some pool p (sym c.in-Some.is ∙ (c.get.ensures ∙ at)) in
+    let start = count_at c.args.self.now.references f in
+    let bs : Items = list_at (lists c.args.self.now) c.args.b in
+    ap (λ (r : ℕ → ℕ). r f) c.put_all_aside.ensures.references
+    ∙ (c.in_ok-refer_all.ensures.counted f
+    ∙ (ap (λ (files : List ℕ). start + times_in f files) (c.as_slice.ensures ∙ c.in_ok-files.ensures)
+    ∙ ap (λ (q : ℕ). start + times_in f (filter_map (new_ref ps q) (named bs))) same_pool))

@@ -1,0 +1,27 @@
+-- What a clear of a pool makes of buckets whose home or bytes lie under it (apr_buckets_pool.c, `pool_bucket_cleanup`).
+use Rattle.std.specs.Prelude.{ℕ, Bool, if◌then◌else◌, List, [], ◌∷◌, map}
+use Rattle.std.specs.List.{list_any}
+use Rattle.bucket_ring.specs.declared.names.BucketId.{BucketId}
+use Rattle.bucket_ring.specs.Lists.{same}
+use Rattle.run_model.specs.declared.bucket.Bucket.{Bucket}
+use Rattle.run_model.specs.Buckets.{to_heap, end_pools}
+use Rattle.brigade_ops.specs.declared.morphs.Morph.{Morph}
+use Rattle.brigade_ops.specs.Items.{Item, Items}
+
+-- one bucket gets the kind and the home that were made ready for it
+abbrev pub morph_one : Morph → BucketId → Bucket → Bucket
+morph_one m id x = if same id m.id then record x { kind = m.kind; home = m.home } else x
+
+unfoldable pub morphed : List Morph → BucketId → Bucket → Bucket
+morphed [] id x = x
+morphed (m ∷ ms) id x = morphed ms id (morph_one m id x)
+
+abbrev pub all_morphed : List Morph → Items → Items
+all_morphed ms xs = map (λ (x : Item). (x.0, morphed ms x.0 x.1)) xs
+
+-- a bucket where the pools that pass a test are cleared
+abbrev pub cleared_as : (ℕ → Bool) → Bucket → Bucket
+cleared_as reached x = record x { kind = to_heap reached x.kind; home = end_pools reached x.home }
+
+abbrev pub is_named : BucketId → List BucketId → Bool
+is_named id names = list_any (λ name. same id name) names

@@ -1,0 +1,54 @@
+//! What a command writes that is given texts, and how it ends.
+
+ghost use Rattle.std.specs.Prelude.{◌≡◌, ℕ, List, IfOk, IfErr, take};
+ghost use Rattle.std.specs.Io.KnownBytes.{Appends};
+ghost use Rattle.module_lang.specs.Writes.{Wrote};
+ghost use Rattle.host_cli.specs.TextAnswers.{TellsAsmFault};
+
+use crate::ended::Ended;
+use crate::fault::PlayFault;
+use crate::reply::put_asm_fault;
+use module_lang::{AsmRefusal, WriteFault, put_all};
+use std::alloc::{AllocError, Global};
+use std::io::Write;
+
+/// What a command writes, and how it ends.
+#[derive(Drop)]
+pub struct Answer {
+    pub text: Vec<u8>,
+    pub ended: Ended,
+}
+
+/// The line that tells why a text is no module.
+pub fn asm_fault(alloc: Global, refusal: AsmRefusal) -> Result<Answer, AllocError>
+    ensures { IfOk result (λ a. TellsAsmFault refusal a.text.items a.ended) }
+{
+    match refusal {
+        AsmRefusal::Fault { line, code } => {
+            let mut text = Vec::new(alloc);
+            put_asm_fault(alloc, &mut text, line, code.number())?;
+            let ended = Ended::Refused;
+            Ok(Answer { text, ended })
+        }
+        AsmRefusal::NoMemory => Err(AllocError),
+    }
+}
+
+/// The answer of one line.
+pub fn line_answer(alloc: Global, line: &str, ended: Ended) -> Result<Answer, AllocError>
+    ensures { IfOk result (λ a. (a.text.items ≡ line.now) × (a.ended ≡ ended)) }
+{
+    let text = Vec::from_slice(alloc, line.as_bytes())?;
+    Ok(Answer { text, ended })
+}
+
+/// Writes an answer. Where the writer fails, a front of it is written.
+pub fn write_answer<W: Write>(writer: &mut W, answer: &Answer) -> Result<Ended, PlayFault>
+    ensures ok { IfOk result (λ e. (e ≡ answer.now.ended) × Appends (W.contents writer.old) (W.contents writer.new) answer.now.text.items) }
+    ensures err { IfErr result (λ f. (f ≡ PlayFault.Write) × ((n : ℕ) × Appends (W.contents writer.old) (W.contents writer.new) (take n answer.now.text.items))) }
+{
+    match put_all(writer, answer.text.as_slice()) {
+        Ok(()) => Ok(answer.ended),
+        Err(WriteFault) => Err(PlayFault::Write),
+    }
+}

@@ -1,0 +1,59 @@
+//! What the program is called for.
+
+use clap::{Arg, Command, Error};
+use std::alloc::Global;
+
+/// What the words of the command line ask for.
+#[derive(Clone, Copy)]
+pub enum Task<'a> {
+    /// A script is played.
+    Play,
+    /// A module is printed.
+    Assemble { file: &'a str },
+    /// A certificate is made.
+    Certify { file: &'a str },
+    /// A certificate is checked.
+    Check { file: &'a str, cert: &'a str },
+}
+
+/// What these words ask for, of which the first is the program's name. `Error`: they are no words of the program, they ask for
+/// help, or there was no memory.
+pub fn task_of<'a>(alloc: Global, words: &'a [String]) -> Result<Task<'a>, Error> {
+    let file = Arg::new(alloc, "FILE").required(true);
+    let assemble = Command::new(alloc, "assemble")
+        .about("Prints a module, or the first fault of its text")
+        .arg(file)?;
+    let file = Arg::new(alloc, "FILE").required(true);
+    let certify = Command::new(alloc, "certify")
+        .about("Makes a certificate of a module, or tells why there is none")
+        .arg(file)?;
+    let file = Arg::new(alloc, "FILE").required(true);
+    let cert = Arg::new(alloc, "CERT").required(true);
+    let check = Command::new(alloc, "check")
+        .about("Checks a certificate of a module")
+        .arg(file)?
+        .arg(cert)?;
+    let play = Command::new(alloc, "play").about(
+        "Plays a script from standard input; so it does with no command",
+    );
+    let program = Command::new(alloc, "host_cli")
+        .about("A host of output filters")
+        .subcommand(play)?
+        .subcommand(assemble)?
+        .subcommand(certify)?
+        .subcommand(check)?;
+    let matches = program.try_get_matches_from(words)?;
+    let Some((name, given)) = matches.subcommand() else {
+        return Ok(Task::Play);
+    };
+    let file = given.get_str("FILE").unwrap_or("");
+    Ok(match name {
+        "assemble" => Task::Assemble { file },
+        "certify" => Task::Certify { file },
+        "check" => Task::Check {
+            file,
+            cert: given.get_str("CERT").unwrap_or(""),
+        },
+        _ => Task::Play,
+    })
+}
