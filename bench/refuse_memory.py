@@ -101,7 +101,7 @@ def is_front(answer, of):
 def stands_broken(command, answer, well):
     """Whether a broken connection answers a command so: `well` is the answer where memory lasts."""
     word = command.split(b' ')[0]
-    if word in (b'begin', b'end', b'bring', b'run'):
+    if word in (b'begin', b'end', b'bring', b'step', b'run'):
         return answer == [BROKEN]
     if word in (b'output', b'labels'):
         return len(answer) == 1 and is_front(answer[0], well[0])

@@ -10,3 +10,4 @@ pub mod Parts
 pub mod Referred
 pub mod Saves
 pub mod Cleared
+pub mod Stores

@@ -1,15 +1,17 @@
 -- Lists of named buckets, as the model has them.
-use Rattle.std.proofs.Common.{◌≡◌, ◌==◌, ◌&&◌, ℕ, suc, ◌<◌, Bool, true, false, cond, List, [], ◌∷◌, ◌++◌, drop, map, Some, refl, sym, ap, ◌∙◌, arith, inl, inr, append_assoc}
+use Rattle.std.proofs.Common.{◌≡◌, ◌==◌, ◌&&◌, ℕ, suc, ◌+◌, ◌<◌, Bool, true, false, cond, List, [], ◌∷◌, ◌++◌, drop, map, Some, refl, sym, ap, ◌∙◌, arith, inl, inr, append_assoc}
 use Rattle.std.specs.Prelude.{if◌then◌else◌}
 use Rattle.std.specs.List.{AllByRecursion}
 use Rattle.std.proofs.lemmas.Bool.{cases_eq, eq-eqb, ne_eqb}
 use Rattle.bucket_ring.specs.declared.names.BucketId.{BucketId}
 use Rattle.bucket_ring.specs.Lists as ring
-use Rattle.bucket_ring.specs.Lists.{same, times, front, rest, found}
+use Rattle.bucket_ring.specs.Lists.{same, times, front, rest, found, by_birth, numbered}
 use Rattle.bucket_ring.specs.Laws.{same_self}
 use Rattle.run_model.specs.declared.bucket.Bucket.{Bucket}
 use Rattle.run_model.specs.declared.bucket.NamedBucket.{NamedBucket}
+use Rattle.run_model.specs.declared.event.Piece.{Piece}
 use Rattle.run_model.specs.Buckets.{cleared_bucket}
+use Rattle.run_model.specs.Connection.{named_from}
 use Rattle.run_model.specs.Cutting.{split_at}
 use Rattle.run_model.specs.declared.payload.Payload.{Payload}
 use Rattle.run_model.specs.Pools.{Pools}
@@ -107,6 +109,19 @@ cleared_law reached ms (x ∷ xs) all =
     ap (λ (y : Bucket). named_item (x.0, y) ∷ named (all_morphed ms xs)) all.0
     ∙ ap (λ (ys : List NamedBucket). cleared_bucket reached (named_item x) ∷ ys) (cleared_law reached ms xs all.1)
 
+brought_law : (make : Piece → Bucket) (next : ℕ) (pieces : List Piece) (xs : Items) → by_birth xs ≡ numbered next (map make pieces) → named xs ≡ named_from make next pieces
+brought_law make next [] [] e = refl
+brought_law make next [] (x ∷ xs) e = cc
+brought_law make next (p ∷ ps) [] e = cc
+brought_law make next (p ∷ ps) (x ∷ xs) e =
+    let both : ◌≡◌ {A = ℕ × Bucket} (x.0.birth, x.1) (next, make p) = cc in
+    let birth : x.0.birth ≡ next = ap (λ (q : ℕ × Bucket). q.0) both in
+    let made : x.1 ≡ make p = ap (λ (q : ℕ × Bucket). q.1) both in
+    let others : by_birth xs ≡ numbered (next + 1) (map make ps) = cc in
+    ap (λ (n : ℕ). (let b : NamedBucket = record { name = n; bucket = x.1 } in b) ∷ named xs) birth
+    ∙ (ap (λ (y : Bucket). (let b : NamedBucket = record { name = next; bucket = y } in b) ∷ named xs) made
+    ∙ ap (λ (ys : List NamedBucket). (let b : NamedBucket = record { name = next; bucket = make p } in b) ∷ ys) (brought_law make (next + 1) ps xs others))
+
 pub lists_are_the_models : ListsAreTheModels
 lists_are_the_models = record {
   first = first_law;
@@ -119,4 +134,5 @@ lists_are_the_models = record {
   split = split_law;
   aside = aside_law;
   cleared = cleared_law;
+  brought = brought_law;
 }

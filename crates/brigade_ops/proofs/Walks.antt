@@ -30,9 +30,13 @@ pub if_some : {X : Type 0} (P : X → Type 0) (o : Option X) → ((x : X) → o 
 if_some P None told = tt
 if_some P (Some x) told = told x refl
 
-goes_on : (r : ℕ) (o : Option BucketId) (j : BucketId) → or_end r o ≡ Ok j → o ≡ Some j
+pub goes_on : (r : ℕ) (o : Option BucketId) (j : BucketId) → or_end r o ≡ Ok j → o ≡ Some j
 goes_on r None j e = cc
 goes_on r (Some i) j e = cc
+
+pub goes_no_further : (r q : ℕ) (o : Option BucketId) → or_end r o ≡ Err q → None ≡ o
+goes_no_further r q None e = refl
+goes_no_further r q (Some i) e = cc
 
 more : (s : Bool) (n : ℕ) → 0 < n → 0 < (if s then suc n else n)
 more true n h = omega arith

@@ -4,14 +4,16 @@ use Rattle.std.specs.List.{AllByRecursion}
 use Rattle.std.specs.Option.{option_map}
 use Rattle.bucket_ring.specs.declared.names.BucketId.{BucketId}
 use Rattle.bucket_ring.specs.Lists as ring
-use Rattle.bucket_ring.specs.Lists.{times, found}
+use Rattle.bucket_ring.specs.Lists.{times, found, by_birth, numbered}
 use Rattle.run_model.specs.declared.bucket.Bucket.{Bucket}
 use Rattle.run_model.specs.Buckets.{cleared_bucket}
 use Rattle.run_model.specs.Cutting.{split_at}
 use Rattle.run_model.specs.BrigadeLists as model
+use Rattle.run_model.specs.Connection.{named_from}
 use Rattle.run_model.specs.Pools.{Pools}
 use Rattle.run_model.specs.Steps.{aside_named}
 use Rattle.run_model.specs.declared.payload.Payload.{Payload}
+use Rattle.run_model.specs.declared.event.Piece.{Piece}
 use Rattle.brigade_ops.specs.declared.walking.Point.TheVariants as point
 use Rattle.brigade_ops.specs.Points.{point_in}
 use Rattle.brigade_ops.specs.declared.morphs.Morph.{Morph}
@@ -26,7 +28,7 @@ abbrev pub birth_of : Option BucketId → Option ℕ
 birth_of place = option_map (λ id. id.birth) place
 
 -- by apr_buckets.h: APR_BRIGADE_FIRST, INSERT_HEAD, INSERT_TAIL, INSERT_BEFORE, APR_BUCKET_REMOVE, apr_bucket_split, apr_brigade_split_ex,
--- apr_bucket_setaside, and the cleanup of a pool bucket
+-- apr_bucket_setaside, and the cleanup of a pool bucket; and buckets that are new together
 pub record ListsAreTheModels : Type 0 where
   pub first : (xs : Items) → birth_of (ring.first_of xs) ≡ model.first_place (named xs)
   pub head : (x : Item) (xs : Items) → named (ring.put_head x xs) ≡ model.put_head (named_item x) (named xs)
@@ -39,6 +41,7 @@ pub record ListsAreTheModels : Type 0 where
       → named (replaced id (split_at n x).0 ((new, (split_at n x).1) ∷ []) xs) ≡ model.bucket_split new.birth id.birth n (named xs)
   pub aside : (ps : Pools Payload) (pool : ℕ) (xs : Items) → named (map (aside_item ps pool) xs) ≡ map (aside_named ps pool) (named xs)
   pub cleared : (reached : ℕ → Bool) (ms : List Morph) (xs : Items) → AllByRecursion (λ (x : Item). morphed ms x.0 x.1 ≡ cleared_as reached x.1) xs → named (all_morphed ms xs) ≡ map (cleared_bucket reached) (named xs)
+  pub brought : (make : Piece → Bucket) (next : ℕ) (pieces : List Piece) (xs : Items) → by_birth xs ≡ numbered next (map make pieces) → named xs ≡ named_from make next pieces
 
 abbrev pub place_cut : Option BucketId → model.Cut
 place_cut None = model.AtEnd

@@ -7,6 +7,7 @@ ghost use Rattle.run_model.specs.Cutting.{set_aside};
 ghost use Rattle.run_model.specs.Steps.{is_above, file_of};
 ghost use Rattle.pool_tree.specs.Tree.{map_of};
 ghost use Rattle.bucket_ring.specs.Lists.{on, with_payload};
+ghost use Rattle.bucket_ring.specs.Kept.{NoneRevived};
 ghost use Rattle.brigade_ops.specs.Items.{file_for, pools_for, count_for};
 
 use crate::store::Brigades;
@@ -73,6 +74,7 @@ impl<R: Rings<Bucket> + Drop> Brigades<R> {
         requires { is_some (brigade_of self.old id) ≡ true }
         ensures out { (b m : ℕ) (x : Bucket) → brigade_of self.old id ≡ Some b → bucket_at self.old id ≡ Some x → lists self.new m ≡ on b (with_payload id (set_aside pool above x)) (lists self.old) m }
         ensures next { next_name self.new ≡ next_name self.old }
+        ensures names { NoneRevived (brigade_of self.old) (brigade_of self.new) (next_name self.old) }
         ensures pools { pool_of self.new ≡ pool_of self.old }
         ensures references { references self.new ≡ references self.old }
     {
@@ -96,6 +98,7 @@ impl<R: Rings<Bucket> + Drop> Brigades<R> {
         ensures registered { OnOk result ((x : Bucket) → bucket_at self.old id ≡ Some x → map_of tree.new ≡ pools_for pool (file_for (map_of tree.old) pool x) (map_of tree.old)) }
         ensures counted { OnOk result ((x : Bucket) (f : ℕ) → bucket_at self.old id ≡ Some x → references self.new f ≡ count_for f (file_for (map_of tree.old) pool x) (references self.old f)) }
         ensures next { next_name self.new ≡ next_name self.old }
+        ensures names { NoneRevived (brigade_of self.old) (brigade_of self.new) (next_name self.old) }
         ensures pools { pool_of self.new ≡ pool_of self.old }
         ensures formed { IsPoolMap (map_of tree.new) }
         ensures err { OnErr result ((m : ℕ) → lists self.new m ≡ lists self.old m) }

@@ -4,7 +4,9 @@ ghost use Rattle.std.specs.Prelude.{◌≡◌, ◌≢◌, ◌↔◌, ℕ, ◌+�
 ghost use Rattle.run_model.specs.Pools.{is_live, registered};
 ghost use Rattle.run_model.specs.RunOrder.{IsPoolMap};
 ghost use Rattle.pool_tree.specs.Tree.{map_of};
-ghost use Rattle.bucket_ring.specs.Lists.{upd, on, list_at};
+ghost use Rattle.bucket_ring.specs.Lists.{upd, on, list_at, by_birth, numbered};
+ghost use Rattle.brigade_ops.specs.Items.{Items};
+ghost use Rattle.bucket_ring.specs.Kept.{NoneRevived};
 
 use crate::store::{BrigadeId, Brigades};
 use bucket_ring::{RingRefusal, Rings};
@@ -14,7 +16,14 @@ use std::alloc::AllocError;
 
 #[tactic(auto, unfolding(crate::specs::Store::lists, crate::specs::Store::brigade_of, crate::specs::Store::pool_of, crate::specs::Store::next_name, crate::specs::Store::references), using(pool_tree::proofs::Trees::tree_formed))]
 impl<R: Rings<Bucket> + Drop> Brigades<R> {
-    ghost use Rattle.brigade_ops.specs.Store.{lists, pool_of, next_name, references};
+    ghost use Rattle.brigade_ops.specs.Store.{lists, brigade_of, pool_of, next_name, references};
+
+    /// Whether there is such a brigade.
+    pub fn has(&self, b: BrigadeId) -> bool
+        ensures { result ≡ is_some (lists self.now b) }
+    {
+        self.held.rings.has_ring(b)
+    }
 
     /// Makes an empty brigade on a pool (`apr_brigade_create`), which it ends with: it is registered there. `NamesSpent`: the next
     /// name is `u64::MAX`. Refused, nothing is changed.
@@ -28,6 +37,7 @@ impl<R: Rings<Bucket> + Drop> Brigades<R> {
         ensures on { IfOk result (λ b. (n : ℕ) → pool_of self.new n ≡ upd (pool_of self.old) b (Some pool) n) }
         ensures name { IfOk result (λ b. b ≡ next_name self.old) }
         ensures next { next_name self.new ≡ (if is_ok result then next_name self.old + 1 else next_name self.old) }
+        ensures names { NoneRevived (brigade_of self.old) (brigade_of self.new) (next_name self.old) }
         ensures registered { IfOk result (λ b. map_of tree.new ≡ registered pool (Payload.Brigade b) (map_of tree.old)) }
         ensures formed { IsPoolMap (map_of tree.new) }
         ensures spent { IsErrOf result RingRefusal.NamesSpent ↔ (next_name self.old ≡ u64.MAX) }
@@ -61,6 +71,7 @@ impl<R: Rings<Bucket> + Drop> Brigades<R> {
         ensures ok { IfOk result (λ b. (n : ℕ) → lists self.new n ≡ upd (lists self.old) b (Some []) n) }
         ensures name { IfOk result (λ b. b ≡ next_name self.old) }
         ensures next { next_name self.new ≡ (if is_ok result then next_name self.old + 1 else next_name self.old) }
+        ensures names { NoneRevived (brigade_of self.old) (brigade_of self.new) (next_name self.old) }
         ensures pools { pool_of self.new ≡ pool_of self.old }
         ensures references { references self.new ≡ references self.old }
         ensures spent { IsErrOf result RingRefusal.NamesSpent ↔ (next_name self.old ≡ u64.MAX) }
@@ -69,12 +80,33 @@ impl<R: Rings<Bucket> + Drop> Brigades<R> {
         self.held.rings.new_ring()
     }
 
+    /// Makes two brigades on no pool, the first empty, the second with new buckets in this order: all, or none. The brigades have the next
+    /// two names, the buckets those behind them. `NamesSpent`: so many names are not left. Refused, nothing is changed, and no name is
+    /// spent.
+    pub fn loose_pair(
+        &mut self,
+        buckets: Vec<Bucket>,
+    ) -> Result<(BrigadeId, BrigadeId), RingRefusal>
+        ensures ok { OnOk result ((xs : Items) × (by_birth xs ≡ numbered (next_name self.old + 2) buckets.items)
+            × ((n : ℕ) → lists self.new n ≡ upd (upd (lists self.old) (next_name self.old) (Some [])) (next_name self.old + 1) (Some xs) n)) }
+        ensures name { IfOk result (λ pair. pair ≡ (next_name self.old, next_name self.old + 1)) }
+        ensures next { next_name self.new ≡ (if is_ok result then next_name self.old + 2 + length buckets.items else next_name self.old) }
+        ensures names { NoneRevived (brigade_of self.old) (brigade_of self.new) (next_name self.old) }
+        ensures pools { pool_of self.new ≡ pool_of self.old }
+        ensures references { references self.new ≡ references self.old }
+        ensures spent { (result ≡ Err RingRefusal.NamesSpent) ↔ (u64.MAX < next_name self.old + 2 + length buckets.items) }
+        ensures err { OnErr result ((n : ℕ) → lists self.new n ≡ lists self.old n) }
+    {
+        self.held.rings.new_pair(buckets)
+    }
+
     /// Ends a brigade that is on no pool, with its buckets.
     pub fn end_loose(&mut self, b: BrigadeId)
         requires there { is_some (lists self.old b) ≡ true }
         requires loose { pool_of self.old b ≡ None }
         ensures out { (n : ℕ) → lists self.new n ≡ upd (lists self.old) b None n }
         ensures next { next_name self.new ≡ next_name self.old }
+        ensures names { NoneRevived (brigade_of self.old) (brigade_of self.new) (next_name self.old) }
         ensures pools { pool_of self.new ≡ pool_of self.old }
         ensures references { references self.new ≡ references self.old }
     {
@@ -86,6 +118,7 @@ impl<R: Rings<Bucket> + Drop> Brigades<R> {
         requires { is_some (lists self.old b) ≡ true }
         ensures out { (n : ℕ) → lists self.new n ≡ on b (λ xs. []) (lists self.old) n }
         ensures next { next_name self.new ≡ next_name self.old }
+        ensures names { NoneRevived (brigade_of self.old) (brigade_of self.new) (next_name self.old) }
         ensures pools { pool_of self.new ≡ pool_of self.old }
         ensures references { references self.new ≡ references self.old }
     {
@@ -102,6 +135,7 @@ impl<R: Rings<Bucket> + Drop> Brigades<R> {
         ensures sure { length (list_at (lists self.old) a) + length (list_at (lists self.old) b) < 2 ^ 63 → IsOk result }
         ensures empty { list_at (lists self.old) a ≡ [] → IsOk result }
         ensures next { next_name self.new ≡ next_name self.old }
+        ensures names { NoneRevived (brigade_of self.old) (brigade_of self.new) (next_name self.old) }
         ensures pools { pool_of self.new ≡ pool_of self.old }
         ensures references { references self.new ≡ references self.old }
         ensures err { OnErr result ((n : ℕ) → lists self.new n ≡ lists self.old n) }

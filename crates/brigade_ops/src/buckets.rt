@@ -1,8 +1,9 @@
 //! One bucket of the store at a time: put in, moved, found and destroyed.
 
-ghost use Rattle.std.specs.Prelude.{◌≡◌, ℕ, ◌+◌, ◌<◌, ◌^◌, length, Some, true, is_some, is_ok, if◌then◌else◌, IsOk, IfOk, IfErr, OnOk, OnErr};
-ghost use Rattle.bucket_ring.specs.Lists.{on, list_at, same, first_of, next_in, found, put_tail, put_head, put_before, put_after, without};
-ghost use Rattle.brigade_ops.specs.Items.{bytes_in};
+ghost use Rattle.std.specs.Prelude.{◌≡◌, ◌↔◌, ℕ, ◌+◌, ◌<◌, ◌^◌, ◌++◌, length, Some, true, is_some, is_ok, if◌then◌else◌, IsOk, IfOk, IfErr, OnOk, OnErr};
+ghost use Rattle.bucket_ring.specs.Lists.{on, list_at, same, first_of, next_in, found, put_tail, put_head, put_before, put_after, without, by_birth, numbered};
+ghost use Rattle.bucket_ring.specs.Kept.{NoneRevived};
+ghost use Rattle.brigade_ops.specs.Items.{Items, bytes_in};
 
 use crate::store::{BrigadeId, Brigades};
 use bucket_ring::{BucketId, RingRefusal, Rings};
@@ -24,6 +25,7 @@ impl<R: Rings<Bucket> + Drop> Brigades<R> {
         ensures ok { IfOk result (λ id. (n : ℕ) → lists self.new n ≡ on b (put_tail (id, bucket)) (lists self.old) n) }
         ensures name { IfOk result (λ id. id.birth ≡ next_name self.old) }
         ensures next { next_name self.new ≡ (if is_ok result then next_name self.old + 1 else next_name self.old) }
+        ensures names { NoneRevived (brigade_of self.old) (brigade_of self.new) (next_name self.old) }
         ensures pools { pool_of self.new ≡ pool_of self.old }
         ensures references { references self.new ≡ references self.old }
         ensures spent { next_name self.old ≡ u64.MAX → result ≡ Err (RingRefusal.NamesSpent, bucket) }
@@ -32,6 +34,21 @@ impl<R: Rings<Bucket> + Drop> Brigades<R> {
         ensures back { IfErr result (λ why. why.1 ≡ bucket) }
     {
         self.held.rings.add_tail(b, bucket)
+    }
+
+    /// Puts new buckets at the tail of a brigade, in this order: all, or none. `NamesSpent`: so many names are not left. Refused, nothing is
+    /// changed, and no name is spent.
+    pub fn add_all(&mut self, b: BrigadeId, buckets: Vec<Bucket>) -> Result<(), RingRefusal>
+        requires { is_some (lists self.old b) ≡ true }
+        ensures ok { OnOk result ((xs : Items) × (by_birth xs ≡ numbered (next_name self.old) buckets.items) × ((n : ℕ) → lists self.new n ≡ on b (λ ys. ys ++ xs) (lists self.old) n)) }
+        ensures next { next_name self.new ≡ (if is_ok result then next_name self.old + length buckets.items else next_name self.old) }
+        ensures names { NoneRevived (brigade_of self.old) (brigade_of self.new) (next_name self.old) }
+        ensures pools { pool_of self.new ≡ pool_of self.old }
+        ensures references { references self.new ≡ references self.old }
+        ensures spent { (result ≡ Err RingRefusal.NamesSpent) ↔ (u64.MAX < next_name self.old + length buckets.items) }
+        ensures err { OnErr result ((n : ℕ) → lists self.new n ≡ lists self.old n) }
+    {
+        self.held.rings.add_all(b, buckets)
     }
 
     /// Puts a new bucket at the head of a brigade (`APR_BRIGADE_INSERT_HEAD`), else as `add_tail`.
@@ -44,6 +61,7 @@ impl<R: Rings<Bucket> + Drop> Brigades<R> {
         ensures ok { IfOk result (λ id. (n : ℕ) → lists self.new n ≡ on b (put_head (id, bucket)) (lists self.old) n) }
         ensures name { IfOk result (λ id. id.birth ≡ next_name self.old) }
         ensures next { next_name self.new ≡ (if is_ok result then next_name self.old + 1 else next_name self.old) }
+        ensures names { NoneRevived (brigade_of self.old) (brigade_of self.new) (next_name self.old) }
         ensures pools { pool_of self.new ≡ pool_of self.old }
         ensures references { references self.new ≡ references self.old }
         ensures spent { next_name self.old ≡ u64.MAX → result ≡ Err (RingRefusal.NamesSpent, bucket) }
@@ -64,6 +82,7 @@ impl<R: Rings<Bucket> + Drop> Brigades<R> {
         ensures ok { IfOk result (λ id. (b n : ℕ) → brigade_of self.old at ≡ Some b → lists self.new n ≡ on b (put_before at (id, bucket)) (lists self.old) n) }
         ensures name { IfOk result (λ id. id.birth ≡ next_name self.old) }
         ensures next { next_name self.new ≡ (if is_ok result then next_name self.old + 1 else next_name self.old) }
+        ensures names { NoneRevived (brigade_of self.old) (brigade_of self.new) (next_name self.old) }
         ensures pools { pool_of self.new ≡ pool_of self.old }
         ensures references { references self.new ≡ references self.old }
         ensures spent { next_name self.old ≡ u64.MAX → result ≡ Err (RingRefusal.NamesSpent, bucket) }
@@ -84,6 +103,7 @@ impl<R: Rings<Bucket> + Drop> Brigades<R> {
         ensures ok { IfOk result (λ id. (b n : ℕ) → brigade_of self.old at ≡ Some b → lists self.new n ≡ on b (put_after at (id, bucket)) (lists self.old) n) }
         ensures name { IfOk result (λ id. id.birth ≡ next_name self.old) }
         ensures next { next_name self.new ≡ (if is_ok result then next_name self.old + 1 else next_name self.old) }
+        ensures names { NoneRevived (brigade_of self.old) (brigade_of self.new) (next_name self.old) }
         ensures pools { pool_of self.new ≡ pool_of self.old }
         ensures references { references self.new ≡ references self.old }
         ensures spent { next_name self.old ≡ u64.MAX → result ≡ Err (RingRefusal.NamesSpent, bucket) }
@@ -101,6 +121,7 @@ impl<R: Rings<Bucket> + Drop> Brigades<R> {
         ensures ok { OnOk result ((q n : ℕ) (x : Bucket) → brigade_of self.old id ≡ Some q → found id (list_at (lists self.old) q) ≡ Some x → lists self.new n ≡ on b (put_tail (id, x)) (on q (without id) (lists self.old)) n) }
         ensures sure { length (list_at (lists self.old) b) + 1 < 2 ^ 63 → IsOk result }
         ensures next { next_name self.new ≡ next_name self.old }
+        ensures names { NoneRevived (brigade_of self.old) (brigade_of self.new) (next_name self.old) }
         ensures pools { pool_of self.new ≡ pool_of self.old }
         ensures references { references self.new ≡ references self.old }
         ensures err { OnErr result ((n : ℕ) → lists self.new n ≡ lists self.old n) }
@@ -115,6 +136,7 @@ impl<R: Rings<Bucket> + Drop> Brigades<R> {
         ensures ok { OnOk result ((q n : ℕ) (x : Bucket) → brigade_of self.old id ≡ Some q → found id (list_at (lists self.old) q) ≡ Some x → lists self.new n ≡ on b (put_head (id, x)) (on q (without id) (lists self.old)) n) }
         ensures sure { length (list_at (lists self.old) b) + 1 < 2 ^ 63 → IsOk result }
         ensures next { next_name self.new ≡ next_name self.old }
+        ensures names { NoneRevived (brigade_of self.old) (brigade_of self.new) (next_name self.old) }
         ensures pools { pool_of self.new ≡ pool_of self.old }
         ensures references { references self.new ≡ references self.old }
         ensures err { OnErr result ((n : ℕ) → lists self.new n ≡ lists self.old n) }
@@ -129,6 +151,7 @@ impl<R: Rings<Bucket> + Drop> Brigades<R> {
         ensures ok { OnOk result ((b q n : ℕ) (x : Bucket) → brigade_of self.old at ≡ Some b → brigade_of self.old id ≡ Some q → found id (list_at (lists self.old) q) ≡ Some x → lists self.new n ≡ (if same at id then lists self.old n else on b (put_before at (id, x)) (on q (without id) (lists self.old)) n)) }
         ensures sure { (b : ℕ) → brigade_of self.old at ≡ Some b → length (list_at (lists self.old) b) + 1 < 2 ^ 63 → IsOk result }
         ensures next { next_name self.new ≡ next_name self.old }
+        ensures names { NoneRevived (brigade_of self.old) (brigade_of self.new) (next_name self.old) }
         ensures pools { pool_of self.new ≡ pool_of self.old }
         ensures references { references self.new ≡ references self.old }
         ensures err { OnErr result ((n : ℕ) → lists self.new n ≡ lists self.old n) }
@@ -141,6 +164,7 @@ impl<R: Rings<Bucket> + Drop> Brigades<R> {
         requires { is_some (brigade_of self.old id) ≡ true }
         ensures out { (b n : ℕ) → brigade_of self.old id ≡ Some b → lists self.new n ≡ on b (without id) (lists self.old) n }
         ensures next { next_name self.new ≡ next_name self.old }
+        ensures names { NoneRevived (brigade_of self.old) (brigade_of self.new) (next_name self.old) }
         ensures pools { pool_of self.new ≡ pool_of self.old }
         ensures references { references self.new ≡ references self.old }
     {

@@ -2,6 +2,7 @@
 
 ghost use Rattle.std.specs.Prelude.{◌≡◌, ◌↔◌, ℕ, ◌+◌, ◌<◌, List, [], ◌∷◌, Some, None, Err, true, false, is_some, is_ok, if◌then◌else◌, IfOk, OnOk, OnErr, IsErr};
 ghost use Rattle.bucket_ring.specs.Lists.{on, put_tail, put_after};
+ghost use Rattle.bucket_ring.specs.Kept.{NoneRevived};
 ghost use Rattle.run_model.specs.Buckets.{is_data_kind};
 ghost use Rattle.run_model.specs.Cutting.{EndsInFile, length_of, split_at};
 ghost use Rattle.brigade_ops.specs.Items.{replaced};
@@ -29,6 +30,7 @@ impl<R: Rings<Bucket> + Drop> Brigades<R> {
         ensures still { OnOk result ((b : ℕ) → brigade_of self.old at ≡ Some b → brigade_of self.new at ≡ Some b) }
         ensures name { IfOk result (λ id. id.birth ≡ next_name self.old) }
         ensures next { next_name self.new ≡ (if is_ok result then next_name self.old + 1 else next_name self.old) }
+        ensures names { NoneRevived (brigade_of self.old) (brigade_of self.new) (next_name self.old) }
         ensures pools { pool_of self.new ≡ pool_of self.old }
         ensures references { references self.new ≡ references self.old }
         ensures spent { next_name self.old ≡ u64.MAX → result ≡ Err RingRefusal.NamesSpent }
@@ -51,6 +53,7 @@ impl<R: Rings<Bucket> + Drop> Brigades<R> {
             → lists self.new m ≡ on b (replaced id (split_at n x).0 ((new, (split_at n x).1) ∷ [])) (lists self.old) m) }
         ensures name { IfOk result (λ new. new.birth ≡ next_name self.old) }
         ensures next { next_name self.new ≡ (if is_ok result then next_name self.old + 1 else next_name self.old) }
+        ensures names { NoneRevived (brigade_of self.old) (brigade_of self.new) (next_name self.old) }
         ensures pools { pool_of self.new ≡ pool_of self.old }
         ensures references { references self.new ≡ references self.old }
         ensures metadata { (x : Bucket) → bucket_at self.old id ≡ Some x → (result ≡ Err SplitRefusal.Metadata) ↔ (is_data_kind x.kind ≡ false) }
@@ -72,6 +75,7 @@ impl<R: Rings<Bucket> + Drop> Brigades<R> {
         ensures ok { IfOk result (λ new. (m : ℕ) (x : Bucket) → bucket_at self.old id ≡ Some x → lists self.new m ≡ on b (put_tail (new, x)) (lists self.old) m) }
         ensures name { IfOk result (λ new. new.birth ≡ next_name self.old) }
         ensures next { next_name self.new ≡ (if is_ok result then next_name self.old + 1 else next_name self.old) }
+        ensures names { NoneRevived (brigade_of self.old) (brigade_of self.new) (next_name self.old) }
         ensures pools { pool_of self.new ≡ pool_of self.old }
         ensures references { references self.new ≡ references self.old }
         ensures spent { next_name self.old ≡ u64.MAX → IsErr result }

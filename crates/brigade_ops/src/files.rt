@@ -6,6 +6,7 @@ ghost use Rattle.run_model.specs.Pools.{is_live, registered};
 ghost use Rattle.run_model.specs.RunOrder.{IsPoolMap};
 ghost use Rattle.run_model.specs.Payloads.{is_brigade, is_file_ref};
 ghost use Rattle.pool_tree.specs.Tree.{map_of};
+ghost use Rattle.bucket_ring.specs.Kept.{NoneRevived};
 ghost use Rattle.bucket_kinds.specs.Device.{Missing, is_there};
 ghost use Rattle.brigade_ops.specs.Items.{pools_for, count_for};
 ghost use Rattle.brigade_ops.specs.Files.{refs_in, is_let_go, SameButOpen};
@@ -37,6 +38,7 @@ impl<R: Rings<Bucket> + Drop> Brigades<R> {
         ensures brigades { brigade_of self.new ≡ brigade_of self.old }
         ensures pools { pool_of self.new ≡ pool_of self.old }
         ensures next { next_name self.new ≡ next_name self.old }
+        ensures names { NoneRevived (brigade_of self.old) (brigade_of self.new) (next_name self.old) }
         ensures formed { IsPoolMap (map_of tree.new) }
         ensures kept { OnErr result (map_of tree.new ≡ map_of tree.old) }
         ensures uncounted { OnErr result ((f : ℕ) → references self.new f ≡ references self.old f) }
@@ -59,6 +61,7 @@ impl<R: Rings<Bucket> + Drop> Brigades<R> {
         ensures brigades { brigade_of self.new ≡ brigade_of self.old }
         ensures pools { pool_of self.new ≡ pool_of self.old }
         ensures next { next_name self.new ≡ next_name self.old }
+        ensures names { NoneRevived (brigade_of self.old) (brigade_of self.new) (next_name self.old) }
         ensures formed { IsPoolMap (map_of tree.new) }
         ensures kept { OnErr result (map_of tree.new ≡ map_of tree.old) }
         ensures uncounted { OnErr result ((f : ℕ) → references self.new f ≡ references self.old f) }
@@ -74,6 +77,7 @@ impl<R: Rings<Bucket> + Drop> Brigades<R> {
         ensures out { (n : ℕ) → lists self.new n ≡ (if b == n then None else lists self.old n) }
         ensures off { (n : ℕ) → pool_of self.new n ≡ (if b == n then None else pool_of self.old n) }
         ensures next { next_name self.new ≡ next_name self.old }
+        ensures names { NoneRevived (brigade_of self.old) (brigade_of self.new) (next_name self.old) }
         ensures references { (f : ℕ) → references self.new f ≡ references self.old f }
     {
         self.pools.take(b);
@@ -92,6 +96,7 @@ impl<R: Rings<Bucket> + Drop> Brigades<R> {
         ensures lists { lists self.new ≡ lists self.old }
         ensures pools { pool_of self.new ≡ pool_of self.old }
         ensures next { next_name self.new ≡ next_name self.old }
+        ensures names { NoneRevived (brigade_of self.old) (brigade_of self.new) (next_name self.old) }
     {
         let count = self.references.get(file).unwrap_or(0);
         if count > 1 {
@@ -112,6 +117,7 @@ impl<R: Rings<Bucket> + Drop> Brigades<R> {
         ensures closed { (f : ℕ) → (F.device files.new).numbered f ≡ (if is_file_ref f payload.now && (references self.new f == 0) then Missing else (F.device files.old).numbered f) }
         ensures others { SameButOpen (F.device files.old) (F.device files.new) }
         ensures next { next_name self.new ≡ next_name self.old }
+        ensures names { NoneRevived (brigade_of self.old) (brigade_of self.new) (next_name self.old) }
     {
         match payload {
             Payload::Label(_) => {}
@@ -131,6 +137,7 @@ impl<R: Rings<Bucket> + Drop> Brigades<R> {
         ensures closed { (f : ℕ) → (F.device files.new).numbered f ≡ (if is_let_go (references self.old f) (refs_in f handed.now) then Missing else (F.device files.old).numbered f) }
         ensures others { SameButOpen (F.device files.old) (F.device files.new) }
         ensures next { next_name self.new ≡ next_name self.old }
+        ensures names { NoneRevived (brigade_of self.old) (brigade_of self.new) (next_name self.old) }
     {
         for entry in handed {
             self.end_payload(files, &entry.1);

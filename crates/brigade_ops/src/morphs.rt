@@ -6,6 +6,7 @@ ghost use Rattle.run_model.specs.Buckets.{to_heap, end_pools};
 ghost use Rattle.run_model.specs.Pools.{is_live, is_under};
 ghost use Rattle.pool_tree.specs.Tree.{map_of};
 ghost use Rattle.bucket_ring.specs.Lists.{on, with_payload};
+ghost use Rattle.bucket_ring.specs.Kept.{NoneRevived};
 ghost use Rattle.brigade_ops.specs.Morphs.{morphed, all_morphed, cleared_as, is_named};
 
 use crate::aside::NOTHING;
@@ -108,6 +109,7 @@ impl<R: Rings<Bucket> + Drop> Brigades<R> {
         ensures out { (b n : ℕ) (x : Bucket) → brigade_of self.old morph.id ≡ Some b → bucket_at self.old morph.id ≡ Some x
             → lists self.new n ≡ on b (with_payload morph.id (record x { kind = morph.kind; home = morph.home })) (lists self.old) n }
         ensures next { next_name self.new ≡ next_name self.old }
+        ensures names { NoneRevived (brigade_of self.old) (brigade_of self.new) (next_name self.old) }
         ensures pools { pool_of self.new ≡ pool_of self.old }
         ensures references { references self.new ≡ references self.old }
     {
@@ -121,6 +123,7 @@ impl<R: Rings<Bucket> + Drop> Brigades<R> {
     fn apply_morph(&mut self, morph: Morph)
         ensures out { (n : ℕ) → lists self.new n ≡ option_map (all_morphed (morph ∷ [])) (lists self.old n) }
         ensures next { next_name self.new ≡ next_name self.old }
+        ensures names { NoneRevived (brigade_of self.old) (brigade_of self.new) (next_name self.old) }
         ensures pools { pool_of self.new ≡ pool_of self.old }
         ensures references { references self.new ≡ references self.old }
     {
@@ -133,6 +136,7 @@ impl<R: Rings<Bucket> + Drop> Brigades<R> {
     pub fn apply_morphs(&mut self, morphs: Morphs)
         ensures out { (n : ℕ) → lists self.new n ≡ option_map (all_morphed morphs.found) (lists self.old n) }
         ensures next { next_name self.new ≡ next_name self.old }
+        ensures names { NoneRevived (brigade_of self.old) (brigade_of self.new) (next_name self.old) }
         ensures pools { pool_of self.new ≡ pool_of self.old }
         ensures references { references self.new ≡ references self.old }
     {

@@ -2,6 +2,7 @@
 
 ghost use Rattle.std.specs.Prelude.{◌≡◌, ◌≢◌, ◌⊎◌, ◌&&◌, ℕ, ◌+◌, List, [], ◌∷◌, length, Ok, Some, None, Err, true, is_some, is_ok, if◌then◌else◌, IfOk, IfSome, OnOk, OnErr};
 ghost use Rattle.bucket_ring.specs.Lists.{on, with_payload};
+ghost use Rattle.bucket_ring.specs.Kept.{NoneRevived};
 ghost use Rattle.run_model.specs.Cutting.{EndsInFile, wanted, read_of};
 ghost use Rattle.bucket_kinds.specs.Device.{failed};
 ghost use Rattle.bucket_kinds.specs.Reading.{IsOpenFor, GivesFor, EndsWithin};
@@ -55,6 +56,7 @@ impl<R: Rings<Bucket> + Drop> Brigades<R> {
         ensures ok { OnOk result ((b : ℕ) → brigade_of self.old id ≡ Some b → (bytes : List ℕ) × GivesFor (F.device files.old) bucket.content bytes
             × ((m : ℕ) → lists self.new m ≡ on b (with_payload id (read_of bytes bucket).0) (lists self.old) m)) }
         ensures next { next_name self.new ≡ next_name self.old }
+        ensures names { NoneRevived (brigade_of self.old) (brigade_of self.new) (next_name self.old) }
         ensures pools { pool_of self.new ≡ pool_of self.old }
         ensures references { references self.new ≡ references self.old }
         ensures unread { wanted bucket.content ≡ 0 → (result ≡ Ok tt) × (F.device files.new ≡ F.device files.old) }
@@ -88,6 +90,7 @@ impl<R: Rings<Bucket> + Drop> Brigades<R> {
             × ((m : ℕ) → lists self.new m ≡ on b (replaced id (read_of bytes bucket).0 ((new, rest) ∷ [])) (lists self.old) m)) }
         ensures name { IfOk result (λ new. new.birth ≡ next_name self.old) }
         ensures next { next_name self.new ≡ (if is_ok result then next_name self.old + 1 else next_name self.old) }
+        ensures names { NoneRevived (brigade_of self.old) (brigade_of self.new) (next_name self.old) }
         ensures pools { pool_of self.new ≡ pool_of self.old }
         ensures references { references self.new ≡ references self.old }
         ensures same { OnOk result (F.device files.new ≡ F.device files.old) }
@@ -123,7 +126,8 @@ impl<R: Rings<Bucket> + Drop> Brigades<R> {
             × ((m : ℕ) → lists self.new m ≡ on b (replaced id (read_of bytes bucket).0 (rest_item rest (read_of bytes bucket).1)) (lists self.old) m)) }
         ensures rest { IfOk result (λ rest. is_some rest ≡ is_some (read_of [] bucket).1) }
         ensures name { IfOk result (λ rest. IfSome rest (λ new. new.birth ≡ next_name self.old)) }
-        ensures names { next_name self.new ≡ (if is_ok result && is_some (read_of [] bucket).1 then next_name self.old + 1 else next_name self.old) }
+        ensures next { next_name self.new ≡ (if is_ok result && is_some (read_of [] bucket).1 then next_name self.old + 1 else next_name self.old) }
+        ensures names { NoneRevived (brigade_of self.old) (brigade_of self.new) (next_name self.old) }
         ensures pools { pool_of self.new ≡ pool_of self.old }
         ensures references { references self.new ≡ references self.old }
         ensures unread { wanted bucket.content ≡ 0 → (result ≡ Ok None) × (F.device files.new ≡ F.device files.old) }
@@ -161,6 +165,7 @@ impl<R: Rings<Bucket> + Drop> Brigades<R> {
         requires open { (x : Bucket) → bucket_at self.old id ≡ Some x → IsOpenFor (F.device files.old) x.content }
         ensures read { (x : Bucket) → bucket_at self.old id ≡ Some x
             → IsRead id x (brigade_of self.old id) (F.device files.old) (F.device files.new) (lists self.old) (lists self.new) (next_name self.old) (next_name self.new) result }
+        ensures names { NoneRevived (brigade_of self.old) (brigade_of self.new) (next_name self.old) }
         ensures name { IfOk result (λ rest. IfSome rest (λ new. new.birth ≡ next_name self.old)) }
         ensures pools { pool_of self.new ≡ pool_of self.old }
         ensures references { references self.new ≡ references self.old }

@@ -7,6 +7,7 @@ ghost use Rattle.run_model.specs.RunOrder.{IsPoolMap};
 ghost use Rattle.run_model.specs.Steps.{all_referred, new_ref};
 ghost use Rattle.pool_tree.specs.Tree.{map_of};
 ghost use Rattle.bucket_ring.specs.Lists.{on, list_at};
+ghost use Rattle.bucket_ring.specs.Kept.{NoneRevived};
 ghost use Rattle.brigade_ops.specs.Files.{times_in};
 ghost use Rattle.brigade_ops.specs.Items.{named, aside_item, aside_behind};
 
@@ -66,6 +67,7 @@ impl<R: Rings<Bucket> + Drop> Brigades<R> {
         requires live { IsTrue (is_live (map_of tree.now) pool) }
         ensures out { (n : ℕ) → lists self.new n ≡ on b (aside_behind (map_of tree.now) pool from) (lists self.old) n }
         ensures next { next_name self.new ≡ next_name self.old }
+        ensures names { NoneRevived (brigade_of self.old) (brigade_of self.new) (next_name self.old) }
         ensures pools { pool_of self.new ≡ pool_of self.old }
         ensures references { references self.new ≡ references self.old }
     {
@@ -97,6 +99,7 @@ impl<R: Rings<Bucket> + Drop> Brigades<R> {
         ensures counted { OnOk result ((p f : ℕ) → pool_of self.old o ≡ Some p
             → references self.new f ≡ references self.old f + times_in f (filter_map (new_ref (map_of tree.old) p) (named (list_at (lists self.old) b)))) }
         ensures next { next_name self.new ≡ next_name self.old }
+        ensures names { NoneRevived (brigade_of self.old) (brigade_of self.new) (next_name self.old) }
         ensures pools { pool_of self.new ≡ pool_of self.old }
         ensures formed { IsPoolMap (map_of tree.new) }
         ensures err { OnErr result ((n : ℕ) → lists self.new n ≡ lists self.old n) }

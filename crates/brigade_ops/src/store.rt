@@ -1,6 +1,7 @@
 //! The store of brigades.
 
-ghost use Rattle.std.specs.Prelude.{◌≡◌, ◌<◌, ◌^◌, ℕ, None};
+ghost use Rattle.std.specs.Prelude.{◌≡◌, ℕ, None};
+ghost use Rattle.bucket_ring.specs.Kept.{IsKept};
 
 use crate::numbers::Numbers;
 use bucket_ring::{RingId, Rings};
@@ -10,12 +11,12 @@ use std::alloc::Global;
 /// The name of a brigade, which is never given again.
 pub type BrigadeId = RingId;
 
-/// Rings of buckets. The ghost field is a law of all rings. By it the type of a store knows its rings, so that what contracts see of a
-/// store takes no argument but the store.
+/// Rings of buckets. The ghost field is the law of all rings. By it the type of a store knows its rings, so that what contracts see of a
+/// store takes no argument but the store, and what is true of each store needs none either.
 #[derive(Drop)]
 pub(crate) struct Held<R: Rings<Bucket>> {
     pub(crate) rings: R,
-    ghost limit: { R.next_name rings < 2 ^ 64 },
+    ghost kept: { IsKept (R.ring_at rings) (R.lists rings) (R.next_name rings) },
 }
 
 /// Brigades (apr_buckets.h, `apr_bucket_brigade`): rings of buckets, each on a pool or on none.

@@ -1,7 +1,8 @@
 //! A brigade is walked along: measured, split and parted.
 
 ghost use Rattle.std.specs.Prelude.{◌≡◌, ◌≢◌, ◌&&◌, ℕ, ◌+◌, ◌<◌, ◌^◌, [], ◌∷◌, drop, length, Some, None, Ok, Err, true, false, is_some, is_ok, if◌then◌else◌, IfOk, IfSome, OnOk, OnErr};
-ghost use Rattle.bucket_ring.specs.Lists.{on, list_at, rest};
+ghost use Rattle.bucket_ring.specs.Lists.{on, list_at, rest, first_of};
+ghost use Rattle.bucket_ring.specs.Kept.{NoneRevived};
 ghost use Rattle.run_model.specs.BrigadeLists.{length_in};
 ghost use Rattle.run_model.specs.Cutting.{EndsInFile, length_of, split_at};
 ghost use Rattle.brigade_ops.specs.Items.{named, replaced, before_place, from_place};
@@ -41,6 +42,7 @@ fn drop_before<R: Rings<Bucket>>(rings: &mut R, b: BrigadeId, id: BucketId)
     requires { R.ring_at rings.old id ≡ Some b }
     ensures out { (n : ℕ) → R.lists rings.new n ≡ on b (rest id) (R.lists rings.old) n }
     ensures next { R.next_name rings.new ≡ R.next_name rings.old }
+    ensures names { NoneRevived (R.ring_at rings.old) (R.ring_at rings.new) (R.next_name rings.old) }
 {
     while let Some(first) = rings.first(b) {
         if first == id {
@@ -54,9 +56,11 @@ fn drop_before<R: Rings<Bucket>>(rings: &mut R, b: BrigadeId, id: BucketId)
 impl<R: Rings<Bucket> + Drop> Brigades<R> {
     ghost use Rattle.brigade_ops.specs.Store.{lists, brigade_of, bucket_at, pool_of, next_name, references};
 
-    /// Where a walk along a brigade begins.
-    pub(crate) fn start(&self, b: BrigadeId) -> Option<BucketId>
+    /// Where a walk along a brigade begins: its first bucket. The place of a walk is the bucket at which it stands, and `None` at the end;
+    /// `from_place` of it is what is left of the brigade.
+    pub fn start(&self, b: BrigadeId) -> Option<BucketId>
         requires { is_some (lists self.now b) ≡ true }
+        ensures first { result ≡ first_of (list_at (lists self.now) b) }
         ensures whole { from_place result (list_at (lists self.now) b) ≡ list_at (lists self.now) b }
         ensures inside { IfSome result (λ id. brigade_of self.now id ≡ Some b) }
         ensures few { length (list_at (lists self.now) b) < 2 ^ 64 }
@@ -64,9 +68,11 @@ impl<R: Rings<Bucket> + Drop> Brigades<R> {
         self.held.rings.first(b)
     }
 
-    /// Where a walk along a brigade goes on behind a bucket.
-    pub(crate) fn behind(&self, id: BucketId) -> Option<BucketId>
+    /// Where a walk along a brigade goes on behind a bucket. What was left, with that bucket at its head, is left without it.
+    pub fn behind(&self, id: BucketId) -> Option<BucketId>
         requires { is_some (brigade_of self.now id) ≡ true }
+        ensures next { (b : ℕ) → brigade_of self.now id ≡ Some b → result ≡ first_of (drop 1 (rest id (list_at (lists self.now) b))) }
+        ensures head { (b : ℕ) (x : Bucket) → brigade_of self.now id ≡ Some b → bucket_at self.now id ≡ Some x → from_place (Some id) (list_at (lists self.now) b) ≡ (id, x) ∷ from_place result (list_at (lists self.now) b) }
         ensures others { (b : ℕ) → brigade_of self.now id ≡ Some b → from_place result (list_at (lists self.now) b) ≡ drop 1 (rest id (list_at (lists self.now) b)) }
         ensures inside { (b : ℕ) → brigade_of self.now id ≡ Some b → IfSome result (λ j. brigade_of self.now j ≡ Some b) }
     {
@@ -123,6 +129,7 @@ impl<R: Rings<Bucket> + Drop> Brigades<R> {
             → IfOk result (λ cut. (new : BucketId) × (cut ≡ Cut.Found new) × (new.birth ≡ next_name self.old)
             × ((m : ℕ) → lists self.new m ≡ on b (replaced id (split_at n x).0 ((new, (split_at n x).1) ∷ [])) (lists self.old) m)) }
         ensures next { next_name self.new ≡ (if is_ok result && is_inside (point_in point (list_at (lists self.old) b)) then next_name self.old + 1 else next_name self.old) }
+        ensures names { NoneRevived (brigade_of self.old) (brigade_of self.new) (next_name self.old) }
         ensures pools { pool_of self.new ≡ pool_of self.old }
         ensures references { references self.new ≡ references self.old }
         ensures unspent { result ≡ Err RingRefusal.NamesSpent → next_name self.old ≡ u64.MAX }
@@ -155,6 +162,7 @@ impl<R: Rings<Bucket> + Drop> Brigades<R> {
         requires inside { IfSome place (λ id. brigade_of self.old id ≡ Some b) }
         ensures ok { OnOk result ((n : ℕ) → lists self.new n ≡ on a (λ xs. from_place place (list_at (lists self.old) b)) (on b (before_place place) (lists self.old)) n) }
         ensures next { next_name self.new ≡ next_name self.old }
+        ensures names { NoneRevived (brigade_of self.old) (brigade_of self.new) (next_name self.old) }
         ensures pools { pool_of self.new ≡ pool_of self.old }
         ensures references { references self.new ≡ references self.old }
         ensures err { OnErr result ((n : ℕ) → lists self.new n ≡ lists self.old n) }

@@ -1,8 +1,8 @@
 //! The list of one ring.
 
-ghost use Rattle.std.specs.Prelude.{◌≡◌, ◌≤◌, ◌<◌, ◌+◌, ◌^◌, ◌++◌, take, drop, length, Option, None, Some, IsSome};
+ghost use Rattle.std.specs.Prelude.{◌≡◌, ◌≤◌, ◌<◌, ◌+◌, ◌^◌, ◌++◌, [], ◌∷◌, take, drop, length, Option, None, Some, IsSome, IfOk, IfErr};
 ghost use Rattle.std.specs.Option.{option_copied};
-ghost use Rattle.bucket_ring.specs.Lists.{same, front, rest, without, first_of, found, with_payload};
+ghost use Rattle.bucket_ring.specs.Lists.{same, front, rest, without, first_of, found, with_payload, payloads};
 ghost use Rattle.bucket_ring.specs.Spots.{placed, picked};
 
 use crate::names::BucketId;
@@ -21,6 +21,53 @@ pub(crate) enum Spot {
     Head,
     Before(BucketId),
     After(BucketId),
+}
+
+/// The name of a bucket that has none yet.
+pub(crate) const UNNAMED: BucketId = BucketId { slot: 0, birth: 0 };
+
+/// One bucket that has no name yet.
+pub(crate) fn alone<T: Drop>(alloc: Global, payload: T) -> Result<Entries<T>, T>
+    ensures ok { IfOk result (λ node. node ≡ (UNNAMED, payload) ∷ []) }
+    ensures back { IfErr result (λ given. given ≡ payload) }
+{
+    let mut node = LinkedList::new(alloc);
+    match node.push_back((UNNAMED, payload)) {
+        Ok(()) => Ok(node),
+        Err(refused) => Err(refused.value.1),
+    }
+}
+
+/// Buckets that have no names yet.
+pub(crate) fn unnamed<T: Drop>(alloc: Global, given: Vec<T>) -> Result<Entries<T>, AllocError>
+    ensures { IfOk result (λ nodes. payloads nodes ≡ given.items) }
+{
+    let mut nodes = LinkedList::new(alloc);
+    for payload in given {
+        if nodes.push_back((UNNAMED, payload)).is_err() {
+            return Err(AllocError);
+        }
+    }
+    Ok(nodes)
+}
+
+/// Takes the first bucket off, as a list of its own.
+pub(crate) fn take_first<T>(entries: &mut Entries<T>) -> Entries<T>
+    requires { 0 < length entries.old }
+    ensures taken { result ≡ take 1 entries.old }
+    ensures kept { entries.new ≡ drop 1 entries.old }
+{
+    let others = cut_off(entries, 1);
+    replace(entries, others)
+}
+
+/// Names the bucket of a list that has one.
+pub(crate) fn name<T>(node: &mut Entries<T>, id: BucketId)
+    ensures { (i : BucketId) (x : T) → node.old ≡ (i, x) ∷ [] → node.new ≡ (id, x) ∷ [] }
+{
+    if let Some(entry) = node.front_mut() {
+        entry.0 = id;
+    }
 }
 
 /// A bucket and those behind it.

@@ -2,6 +2,7 @@
 
 ghost use Rattle.std.specs.Prelude.{◌≡◌, ℕ, ◌<◌, ◌≤◌, ◌+◌, ◌^◌, ◌↔◌, IsTrue, [], length, drop, IsSome, is_some, Some, None, OnOk, OnErr};
 ghost use Rattle.std.specs.Option.{option_copied};
+ghost use Rattle.std.specs.HashMap.{spare};
 ghost use Rattle.bucket_ring.specs.Lists.{upd, on, list_at, front, rest, without, with_payload, found, first_of};
 ghost use Rattle.bucket_ring.specs.Spots.{placed, picked};
 
@@ -55,6 +56,26 @@ impl<T: Drop> Lists<T> {
     {
         self.by_name.insert(ring, LinkedList::new(alloc))?;
         Ok(())
+    }
+
+    /// Makes room for two rings.
+    pub(crate) fn reserve_two(&mut self) -> Result<(), AllocError>
+        ensures room { OnOk result (2 ≤ spare self.new.by_name) }
+        ensures same { (n : ℕ) → lists_of self.new n ≡ lists_of self.old n }
+    {
+        self.by_name.reserve(2)
+    }
+
+    /// Makes an empty ring, where there is room.
+    pub(crate) fn put_ring(&mut self, alloc: Global, ring: RingId)
+        requires { 0 < spare self.old.by_name }
+        ensures out { (n : ℕ) → lists_of self.new n ≡ upd (lists_of self.old) ring (Some []) n }
+        ensures room { spare self.old.by_name ≤ spare self.new.by_name + 1 }
+    {
+        match self.by_name.insert(ring, LinkedList::new(alloc)) {
+            Ok(_) => {}
+            Err(_) => unreachable!(),
+        }
     }
 
     /// Puts buckets into a ring.

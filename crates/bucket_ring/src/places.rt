@@ -1,7 +1,7 @@
 //! Which ring each bucket is in, by slots.
 
-ghost use Rattle.std.specs.Prelude.{◌≡◌, ℕ, None, Some, if◌then◌else◌};
-ghost use Rattle.std.specs.Prelude.{OnOk, IfOk};
+ghost use Rattle.std.specs.Prelude.{◌≡◌, ℕ, ◌+◌, None, Some, if◌then◌else◌};
+ghost use Rattle.std.specs.Prelude.{OnOk};
 ghost use Rattle.std.specs.Option.{option_map};
 ghost use Rattle.slab.specs.Slab.{HasRoomFor};
 ghost use Rattle.bucket_ring.specs.Lists.{same};
@@ -47,26 +47,23 @@ impl Places {
         }
     }
 
-    /// Makes room for one more bucket, and answers the slot that it will lie in.
-    pub(crate) fn reserve(&mut self) -> Result<usize, AllocError>
+    /// Makes room for so many more buckets.
+    pub(crate) fn reserve(&mut self, count: usize) -> Result<(), AllocError>
         ensures same { (id : _) → ring_at self.new id ≡ ring_at self.old id }
-        ensures room { OnOk result (HasRoomFor self.new.slots 1) }
-        ensures slot { IfOk result (λ slot. slot ≡ self.new.slots.vacant_key) }
+        ensures room { OnOk result (HasRoomFor self.new.slots count) }
     {
-        self.slots.reserve(1)?;
-        Ok(self.slots.vacant_key())
+        self.slots.reserve(count)
     }
 
-    /// A new bucket is in a ring.
-    pub(crate) fn fill(&mut self, id: BucketId, ring: RingId)
-        requires room { HasRoomFor self.old.slots 1 }
-        requires slot { id.slot ≡ self.old.slots.vacant_key }
-        ensures { (j : _) → ring_at self.new j ≡ (if same id j then Some ring else ring_at self.old j) }
+    /// A new bucket of this birth is in a ring, where there is room.
+    pub(crate) fn fill(&mut self, birth: u64, ring: RingId) -> BucketId
+        requires { HasRoomFor self.old.slots 1 }
+        ensures birth { result.birth ≡ birth }
+        ensures out { (j : _) → ring_at self.new j ≡ (if same result j then Some ring else ring_at self.old j) }
+        ensures room { (count : ℕ) → HasRoomFor self.old.slots (count + 1) → HasRoomFor self.new.slots count }
     {
-        self.slots.insert_reserved(Place {
-            birth: id.birth,
-            ring,
-        });
+        let slot = self.slots.insert_reserved(Place { birth, ring });
+        BucketId { slot, birth }
     }
 
     /// A bucket is in no ring any more.

@@ -1,19 +1,21 @@
 //! Rings as plain lists.
 
-ghost use Rattle.std.specs.Prelude.{◌≡◌, ℕ, ◌+◌, ◌<◌, ◌^◌, length, [], ◌∷◌, Some, true, is_some, is_ok, if◌then◌else◌, IsOk, IfOk, IfErr, OnOk, OnErr};
-ghost use Rattle.bucket_ring.specs.Lists.{upd, on, list_at, found, without};
+ghost use Rattle.std.specs.Prelude.{◌≡◌, ◌↔◌, ℕ, ◌+◌, ◌<◌, ◌≤◌, ◌^◌, length, List, [], ◌∷◌, ◌++◌, Some, true, is_some, is_ok, if◌then◌else◌, IsOk, IfOk, IfErr, OnOk, OnErr};
+ghost use Rattle.bucket_ring.specs.Lists.{upd, on, list_at, found, without, payloads, by_birth, numbered};
+ghost use Rattle.bucket_ring.specs.declared.names.BucketId.{BucketId};
+ghost use Rattle.slab.specs.Slab.{HasRoomFor};
+ghost use Rattle.std.specs.HashMap.{spare};
 ghost use Rattle.bucket_ring.specs.Spots.{placed};
 ghost use Rattle.bucket_ring.specs.Names.{ring_at};
 ghost use Rattle.bucket_ring.specs.Map.{lists_of};
-ghost use Rattle.bucket_ring.specs.Kept.{IsKept};
+ghost use Rattle.bucket_ring.specs.Kept.{IsKept, NoneRevived};
 
-use crate::entries::Spot;
+use crate::entries::{Entries, Spot, alone, name, take_first, unnamed};
 use crate::lists::Lists;
 use crate::names::{BucketId, RingId, RingRefusal};
 use crate::places::Places;
 use crate::rings::Rings;
 use std::alloc::{AllocError, Global};
-use std::collections::LinkedList;
 
 /// A list cannot have this many buckets.
 const LIMIT: usize = 0x8000_0000_0000_0000;
@@ -30,37 +32,109 @@ pub struct PlainRings<T> {
 }
 
 impl<T: Drop> PlainRings<T> {
+    /// Puts a bucket, which has no name yet, into a ring. There is room for it, and a name.
+    fn settle(&mut self, ring: RingId, spot: Spot, node: Entries<T>) -> BucketId
+        requires there { is_some (lists_of self.old.lists ring) ≡ true }
+        requires one { length node ≡ 1 }
+        requires room { HasRoomFor self.old.places.slots 1 }
+        requires few { length (list_at (lists_of self.old.lists) ring) + 1 < 2 ^ 63 }
+        requires unspent { self.old.next < u64.MAX }
+        ensures out { (i : BucketId) (x : T) (n : ℕ) → node ≡ (i, x) ∷ [] → lists_of self.new.lists n ≡ on ring (placed spot ((result, x) ∷ [])) (lists_of self.old.lists) n }
+        ensures name { result.birth ≡ self.old.next }
+        ensures next { self.new.next ≡ self.old.next + 1 }
+        ensures room { (count : ℕ) → HasRoomFor self.old.places.slots (count + 1) → HasRoomFor self.new.places.slots count }
+        ensures names { NoneRevived (ring_at self.old.places) (ring_at self.new.places) self.old.next }
+    {
+        let mut node = node;
+        let id = self.places.fill(self.next, ring);
+        name(&mut node, id);
+        self.lists.put(ring, spot, node);
+        self.next = id.birth + 1;
+        id
+    }
+
+    /// Puts buckets, which have no names yet, at the tail of a ring. There is room for them, and names.
+    fn settle_all(&mut self, ring: RingId, nodes: Entries<T>)
+        requires there { is_some (lists_of self.old.lists ring) ≡ true }
+        requires room { HasRoomFor self.old.places.slots (length nodes) }
+        requires few { length (list_at (lists_of self.old.lists) ring) + length nodes < 2 ^ 63 }
+        requires unspent { self.old.next + length nodes ≤ u64.MAX }
+        ensures out { (bs : List (BucketId × T)) × (by_birth bs ≡ numbered self.old.next (payloads nodes)) × ((n : ℕ) → lists_of self.new.lists n ≡ on ring (λ xs. xs ++ bs) (lists_of self.old.lists) n) }
+        ensures next { self.new.next ≡ self.old.next + length nodes }
+        ensures names { NoneRevived (ring_at self.old.places) (ring_at self.new.places) self.old.next }
+    {
+        let mut nodes = nodes;
+        while !nodes.is_empty() {
+            let node = take_first(&mut nodes);
+            self.settle(ring, Spot::Tail, node);
+        }
+    }
+
+    /// Makes new buckets and the room for them, where so many names are left beside some, and a ring would have room for them beside others.
+    fn ready(&mut self, given: Vec<T>, names: u64, others: usize) -> Result<Entries<T>, RingRefusal>
+        requires { names ≤ 2 }
+        ensures given { IfOk result (λ nodes. payloads nodes ≡ given.items) }
+        ensures room { IfOk result (λ nodes. HasRoomFor self.new.places.slots (length nodes)) }
+        ensures few { IfOk result (λ nodes. others + length nodes < 2 ^ 63) }
+        ensures spent { (result ≡ Err RingRefusal.NamesSpent) ↔ (u64.MAX < self.old.next + names + length given.items) }
+        ensures same { (n : ℕ) → lists_of self.new.lists n ≡ lists_of self.old.lists n }
+        ensures still { (id : BucketId) → ring_at self.new.places id ≡ ring_at self.old.places id }
+        ensures next { self.new.next ≡ self.old.next }
+    {
+        let count = given.len();
+        let left = u64::MAX - self.next;
+        if left < names || left - names < count as u64 {
+            return Err(RingRefusal::NamesSpent);
+        }
+        if others >= LIMIT || count >= LIMIT - others {
+            return Err(RingRefusal::NoMemory);
+        }
+        let nodes = unnamed(self.alloc, given)?;
+        self.places.reserve(count)?;
+        Ok(nodes)
+    }
+
     /// Puts a new bucket into a ring.
     fn add(&mut self, ring: RingId, spot: Spot, payload: T) -> Result<BucketId, (RingRefusal, T)>
         requires { is_some (lists_of self.old.lists ring) ≡ true }
         ensures ok { IfOk result (λ id. (n : ℕ) → lists_of self.new.lists n ≡ on ring (placed spot ((id, payload) ∷ [])) (lists_of self.old.lists) n) }
         ensures name { IfOk result (λ id. id.birth ≡ self.old.next) }
         ensures next { self.new.next ≡ (if is_ok result then self.old.next + 1 else self.old.next) }
+        ensures names { NoneRevived (ring_at self.old.places) (ring_at self.new.places) self.old.next }
         ensures spent { self.old.next ≡ u64.MAX → result ≡ Err (RingRefusal.NamesSpent, payload) }
         ensures unspent { IfErr result (λ why. why.0 ≡ RingRefusal.NamesSpent → self.old.next ≡ u64.MAX) }
         ensures err { OnErr result ((n : ℕ) → lists_of self.new.lists n ≡ lists_of self.old.lists n) }
         ensures back { IfErr result (λ why. why.1 ≡ payload) }
     {
-        let birth = self.next;
-        if birth == u64::MAX {
+        if self.next == u64::MAX {
             return Err((RingRefusal::NamesSpent, payload));
         }
         if self.lists.len(ring) + 1 >= LIMIT {
             return Err((RingRefusal::NoMemory, payload));
         }
-        let slot = match self.places.reserve() {
-            Ok(slot) => slot,
-            Err(_) => return Err((RingRefusal::NoMemory, payload)),
-        };
-        let id = BucketId { slot, birth };
-        let mut alone = LinkedList::new(self.alloc);
-        if let Err(refused) = alone.push_back((id, payload)) {
-            return Err((RingRefusal::NoMemory, refused.value.1));
+        if self.places.reserve(1).is_err() {
+            return Err((RingRefusal::NoMemory, payload));
         }
-        self.places.fill(id, ring);
-        self.lists.put(ring, spot, alone);
-        self.next = birth + 1;
-        Ok(id)
+        match alone(self.alloc, payload) {
+            Ok(node) => Ok(self.settle(ring, spot, node)),
+            Err(payload) => Err((RingRefusal::NoMemory, payload)),
+        }
+    }
+
+    /// Makes an empty ring. There is room for it, and a name.
+    fn put_ring(&mut self) -> RingId
+        requires room { 0 < spare self.old.lists.by_name }
+        requires unspent { self.old.next < u64.MAX }
+        ensures name { result ≡ self.old.next }
+        ensures out { (n : ℕ) → lists_of self.new.lists n ≡ upd (lists_of self.old.lists) result (Some []) n }
+        ensures next { self.new.next ≡ self.old.next + 1 }
+        ensures room { spare self.old.lists.by_name ≤ spare self.new.lists.by_name + 1 }
+        ensures places { self.new.places ≡ self.old.places }
+    {
+        let name = self.next;
+        self.lists.put_ring(self.alloc, name);
+        self.next += 1;
+        name
     }
 
     /// The ring that a bucket is in.
@@ -83,6 +157,7 @@ impl<T: Drop> PlainRings<T> {
         ensures ok { OnOk result ((q n : ℕ) (x : T) → ring_at self.old.places id ≡ Some q → found id (list_at (lists_of self.old.lists) q) ≡ Some x → lists_of self.new.lists n ≡ on ring (placed spot ((id, x) ∷ [])) (on q (without id) (lists_of self.old.lists)) n) }
         ensures sure { length (list_at (lists_of self.old.lists) ring) + 1 < 2 ^ 63 → IsOk result }
         ensures next { self.new.next ≡ self.old.next }
+        ensures names { NoneRevived (ring_at self.old.places) (ring_at self.new.places) self.old.next }
         ensures err { OnErr result ((n : ℕ) → lists_of self.new.lists n ≡ lists_of self.old.lists n) }
     {
         let from = self.ring_with(id);
@@ -104,6 +179,8 @@ impl<T: Drop> Rings<T> for PlainRings<T> {
     ghost ring_at = { λ s. ring_at s.places };
 
     ghost next_name = { λ s. s.next };
+
+    ghost kept = { λ s. s.kept };
 
     ghost counted = { λ s. s.kept.counted };
 
@@ -142,6 +219,37 @@ impl<T: Drop> Rings<T> for PlainRings<T> {
 
     fn add_tail(&mut self, ring: RingId, payload: T) -> Result<BucketId, (RingRefusal, T)> {
         self.add(ring, Spot::Tail, payload)
+    }
+
+    fn add_all(&mut self, ring: RingId, given: Vec<T>) -> Result<(), RingRefusal>
+        requires { is_some (lists_of self.old.lists ring) ≡ true }
+        ensures ok { OnOk result ((bs : List (BucketId × T)) × (by_birth bs ≡ numbered self.old.next given.items) × ((n : ℕ) → lists_of self.new.lists n ≡ on ring (λ xs. xs ++ bs) (lists_of self.old.lists) n)) }
+        ensures next { self.new.next ≡ (if is_ok result then self.old.next + length given.items else self.old.next) }
+        ensures names { NoneRevived (ring_at self.old.places) (ring_at self.new.places) self.old.next }
+        ensures spent { (result ≡ Err RingRefusal.NamesSpent) ↔ (u64.MAX < self.old.next + length given.items) }
+        ensures err { OnErr result ((n : ℕ) → lists_of self.new.lists n ≡ lists_of self.old.lists n) }
+    {
+        let others = self.lists.len(ring);
+        let nodes = self.ready(given, 0, others)?;
+        self.settle_all(ring, nodes);
+        Ok(())
+    }
+
+    fn new_pair(&mut self, given: Vec<T>) -> Result<(RingId, RingId), RingRefusal>
+        ensures ok { OnOk result ((bs : List (BucketId × T)) × (by_birth bs ≡ numbered (self.old.next + 2) given.items)
+            × ((n : ℕ) → lists_of self.new.lists n ≡ upd (upd (lists_of self.old.lists) self.old.next (Some [])) (self.old.next + 1) (Some bs) n)) }
+        ensures name { IfOk result (λ pair. pair ≡ (self.old.next, self.old.next + 1)) }
+        ensures next { self.new.next ≡ (if is_ok result then self.old.next + 2 + length given.items else self.old.next) }
+        ensures names { NoneRevived (ring_at self.old.places) (ring_at self.new.places) self.old.next }
+        ensures spent { (result ≡ Err RingRefusal.NamesSpent) ↔ (u64.MAX < self.old.next + 2 + length given.items) }
+        ensures err { OnErr result ((n : ℕ) → lists_of self.new.lists n ≡ lists_of self.old.lists n) }
+    {
+        let nodes = self.ready(given, 2, 0)?;
+        self.lists.reserve_two()?;
+        let first = self.put_ring();
+        let second = self.put_ring();
+        self.settle_all(second, nodes);
+        Ok((first, second))
     }
 
     fn add_head(&mut self, ring: RingId, payload: T) -> Result<BucketId, (RingRefusal, T)> {

@@ -1,5 +1,5 @@
 -- Runs of commands: there is one where memory lasts, and where no answer says otherwise it is the only one.
-use Rattle.std.proofs.Common.{◌≡◌, ℕ, zero, suc, ◌+◌, Bool, true, false, ◌||◌, not, cond, List, [], ◌∷◌, ◌++◌, Option, Some, None, Result, Ok, Err, refl, ap, sym, ◌∙◌, arith, is_some, length, take, MatchBool}
+use Rattle.std.proofs.Common.{◌≡◌, ℕ, zero, suc, ◌+◌, Bool, true, false, ◌||◌, not, cond, List, [], ◌∷◌, ◌++◌, Option, Some, None, Result, Ok, Err, refl, ap, sym, ◌∙◌, subst, arith, is_some, length, take, MatchBool, ◌-◌}
 use Rattle.std.specs.List.{list_any}
 use Rattle.module_lang.specs.Program.{Program}
 use Rattle.run_model.specs.declared.event.Event.{Event}
@@ -8,6 +8,7 @@ use Rattle.run_model.specs.declared.event.Piece.{Piece}
 use Rattle.run_model.specs.declared.event.Refusal.{Refusal}
 use Rattle.run_model.specs.declared.event.Refusal.TheVariants as refusal
 use Rattle.run_model.specs.declared.event.Stepped.{Stepped}
+use Rattle.run_model.specs.declared.event.Stepped.TheVariants as stepped
 use Rattle.run_model.specs.Steps.{is_spent}
 use Rattle.run_model.specs.declared.event.Piece.TheVariants as piece
 use Rattle.run_model.specs.Connection.{Connection, begins, begun, brings, brought, opens_file, file_answer, ends, ended, first_refusal, refused_if, if_broken, unless_refused, data_behind_eos, lacks_file, steps}
@@ -17,10 +18,10 @@ use Rattle.host_cli.specs.declared.pieces.ScriptPiece.TheVariants as script_piec
 use Rattle.host_cli.specs.declared.command.Command.{Command}
 use Rattle.host_cli.specs.declared.reply.Reply.{Reply}
 use Rattle.host_cli.specs.declared.reply.Reply.TheVariants as reply
-use Rattle.host_cli.specs.Actions.{Action, Opening, Adding, Happening, Bringing, Running, action_of, is_for_first, opens}
+use Rattle.host_cli.specs.Actions.{Action, Opening, Adding, Happening, Bringing, Stepping, Running, action_of, is_for_first, opens}
 use Rattle.module_lang.specs.TextLines.{Line}
-use Rattle.host_cli.specs.Plays.{told, told_open, ran, run_of, if_opened, IfOpened, brought_after, bring_of, answered, served, Brings, MayBring, MayRun, MayAnswer, Serves, due_at, Plays, unless_none, and_then, played, refusal_names_memory, names_memory}
-use Rattle.host_cli.proofs.StepLaws.{lost, same_step, ran_ends, ran_only, goes_below}
+use Rattle.host_cli.specs.Plays.{told, told_open, ran, run_of, steps_reply, told_steps, steps_of, if_opened, IfOpened, brought_after, bring_of, answered, served, Brings, MayBring, MakesSteps, MayStep, MayRun, MayAnswer, Serves, due_at, Plays, unless_none, and_then, played, refusal_names_memory, names_memory}
+use Rattle.host_cli.proofs.StepLaws.{lost, same_step, ran_ends, ran_only, goes_below, makes_only, ran_makes}
 
 true≢false : true ≡ false → ⊥
 true≢false h = cc
@@ -123,6 +124,20 @@ run_is budget p (There c) new r (m, answer, d, e, t) h =
     let ran_so = ran_only e.count budget budget p c e.last d m answer (omega arith) e.goes e.ends e.stops lasts in
     t ∙ ap (λ x. told (step_of x)) (sym ran_so)
 
+-- So are steps that are asked for by their number.
+named_steps : (n : ℕ) (answer : Result Stepped Refusal) → names_memory (steps_reply n answer) ≡ lost answer
+named_steps n (Ok stepped.Went) = refl
+named_steps n (Ok (stepped.CallEnded s)) = refl
+named_steps n (Ok (stepped.Fault k m pc)) = refl
+named_steps n (Err r) = refl
+
+steps_is : (n budget : ℕ) (p : Program) (w new : World) (r : Reply) → MayStep n budget p w r new → names_memory r ≡ false → (r, new) ≡ steps_of n budget p w
+steps_is n budget p (Before fs) new r m h = let a = m.0 in let b = m.1 in cc
+steps_is n budget p (Closed ps fs) new r m h = let a = m.0 in let b = m.1 in cc
+steps_is n budget p (There c) new r (m, answer, d, made, t) h =
+    let lasts : lost answer ≡ false = sym (named_steps n answer) ∙ sym (ap (λ x. names_memory x.0) t) ∙ h in
+    t ∙ ap (told_steps n) (sym (makes_only n budget p c d m answer made lasts))
+
 -- So is the bringing of pieces.
 opened_is : (m : Bool) (name : List ℕ) (c d : Connection) (r : Option Refusal) (x : Result (ℕ × ℕ) Refusal × Connection) (Rest : ℕ → Connection → Type 0) (rest : ℕ → Connection → Option Refusal × Connection) → opens_file m name c ≡ x → IfOpened x (λ e a. (r ≡ Some e) × (d ≡ a)) Rest → names_it r ≡ false → ((file : ℕ) (a : Connection) → Rest file a → (r, d) ≡ rest file a) → (r, d) ≡ if_opened (opens_file true name c) (λ e a. (Some e, a)) rest
 opened_is m name c d r (Err e, a) Rest rest o (is, new) h more =
@@ -157,6 +172,7 @@ answers_is budget p (Adding name bytes) w new r e h = sym e
 answers_is budget p (Happening v) w new r (true, e) h = sym e
 answers_is budget p (Happening v) w new r (false, e) h = sym e ∙ ap told (happens_same budget p v w (ap (λ x. names_memory x.0) e ∙ h))
 answers_is budget p (Bringing ps) w new r m h = bring_is p ps w new r m h
+answers_is budget p (Stepping n) w new r m h = steps_is n budget p w new r m h
 answers_is budget p Running w new r m h = run_is budget p w new r m h
 
 match_is : (b : Bool) (budget : ℕ) (p : Program) (a : Action) (w new : World) (r : Reply) → MatchBool b (MayAnswer budget p a w r new) ((r ≡ reply.Refused refusal.NoSuchConn) × (new ≡ w)) → names_memory r ≡ false → (r, new) ≡ cond b (answered budget p a w) (reply.Refused refusal.NoSuchConn, w)
@@ -219,6 +235,22 @@ run_may budget p (Before fs) = (refl, refl)
 run_may budget p (Closed ps fs) = (refl, refl)
 run_may budget p (There c) = (true, (ran budget budget p c).0, (ran budget budget p c).1, ran_ends budget budget p c (omega arith), refl)
 
+-- n at least one, as 0 is no count
+makes_some : (n budget : ℕ) (p : Program) (c : Connection) → MakesSteps true n budget p c (ran (n - 1) budget p c).0 (ran (n - 1) budget p c).1
+makes_some zero budget p c =
+    let one = ran_makes 0 budget p c in
+    let none : 0 ≡ 0 - 1 = omega arith in
+    subst (λ (j : ℕ). MakesSteps true 0 budget p c (ran j budget p c).0 (ran j budget p c).1) none
+    (record { count = one.count; last = one.last; few = omega (arith, one.few); goes = one.goes; ends = one.ends; stops = λ h. omega (arith, one.stops h) })
+makes_some (suc k) budget p c =
+    let one_less : k ≡ suc k - 1 = omega arith in
+    subst (λ (j : ℕ). MakesSteps true (suc k) budget p c (ran j budget p c).0 (ran j budget p c).1) one_less (ran_makes k budget p c)
+
+steps_may : (n budget : ℕ) (p : Program) (w : World) → MayStep n budget p w (steps_of n budget p w).0 (steps_of n budget p w).1
+steps_may n budget p (Before fs) = (refl, refl)
+steps_may n budget p (Closed ps fs) = (refl, refl)
+steps_may n budget p (There c) = (true, (ran (n - 1) budget p c).0, (ran (n - 1) budget p c).1, makes_some n budget p c, refl)
+
 opened_so : (x : Result (ℕ × ℕ) Refusal × Connection) (rest : ℕ → Connection → Option Refusal × Connection) (Rest : ℕ → Connection → Option Refusal → Connection → Type 0) → ((file : ℕ) (a : Connection) → Rest file a (rest file a).0 (rest file a).1) → IfOpened x (λ e a. ((if_opened x (λ e a. (Some e, a)) rest).0 ≡ Some e) × ((if_opened x (λ e a. (Some e, a)) rest).1 ≡ a)) (λ file a. Rest file a (if_opened x (λ e a. (Some e, a)) rest).0 (if_opened x (λ e a. (Some e, a)) rest).1)
 opened_so (Err e, a) rest Rest more = (refl, refl)
 opened_so (Ok f, a) rest Rest more = more f.0 a
@@ -241,6 +273,7 @@ answers_so budget p Opening w = (true, refl)
 answers_so budget p (Adding name bytes) w = refl
 answers_so budget p (Happening e) w = (true, refl)
 answers_so budget p (Bringing ps) w = bring_may p ps w
+answers_so budget p (Stepping n) w = steps_may n budget p w
 answers_so budget p Running w = run_may budget p w
 
 match_so : (b : Bool) (budget : ℕ) (p : Program) (a : Action) (w : World) → MatchBool b (MayAnswer budget p a w (cond b (answered budget p a w) (reply.Refused refusal.NoSuchConn, w)).0 (cond b (answered budget p a w) (reply.Refused refusal.NoSuchConn, w)).1) (((cond b (answered budget p a w) (reply.Refused refusal.NoSuchConn, w)).0 ≡ reply.Refused refusal.NoSuchConn) × ((cond b (answered budget p a w) (reply.Refused refusal.NoSuchConn, w)).1 ≡ w))

@@ -8,7 +8,7 @@ use Rattle.run_model.specs.Runs.{World, Before, files_of}
 use Rattle.host_cli.specs.declared.command.Command.{Command}
 use Rattle.host_cli.specs.declared.reply.Reply.{Reply}
 use Rattle.host_cli.specs.declared.ended.Ended.TheVariants as ended
-use Rattle.host_cli.specs.Actions.{Action, Opening, Adding, Happening, Bringing, Running, action_of, opens}
+use Rattle.host_cli.specs.Actions.{Action, Opening, Adding, Happening, Bringing, Stepping, Running, action_of, opens}
 use Rattle.host_cli.specs.Replies.{reply_line, script_line}
 use Rattle.module_lang.specs.TextLines.{Line, lines_of}
 use Rattle.host_cli.specs.Plays.{Serves, is_due, if_due, due_at, Plays, played, IsPlay, IsPlayed, IsPlayedSoFar, lines_of_replies, last_line, ended_at}
@@ -119,6 +119,7 @@ due_done true w Opening h b = absurd (cc)
 due_done is_open w (Adding name bytes) h b = none_if ((files_of w).named name) h
 due_done is_open w (Happening e) h b = tt
 due_done is_open w (Bringing pieces) h b = tt
+due_done is_open w (Stepping n) h b = tt
 due_done is_open w Running h b = tt
 
 some_if : (t : Bool) (c d : Command) → cond t (Some c) None ≡ Some d → (t ≡ true) × (c ≡ d)

@@ -14,7 +14,7 @@ use Rattle.run_model.specs.declared.event.Stepped.TheVariants as stepped
 use Rattle.run_model.specs.Files.{Files, no_files}
 use Rattle.run_model.specs.Connection.{Connection, opens_file}
 use Rattle.run_model.specs.Runs.{Answer, Done, Refused, Step, Output, Opened, Labels, Tree, World, Before, There, Closed, happens, step_of, answer_of, file_of, IsDue as IsEventDue, IsRun}
-use Rattle.run_model.proofs.Runs.{no_run, nothing_changes, no_answer, no_event, first_event, with_first, ended_steps_are_a_run}
+use Rattle.run_model.proofs.Runs.{no_run, nothing_changes, no_answer, no_event, first_event, with_first, run_goes_on, steps_are_a_run, ended_steps_are_a_run}
 use Rattle.life_check.specs.Theorem.{IsNoFault, NoFaults, NeverFaults}
 use Rattle.host_cli.specs.declared.command.Command.{Command}
 use Rattle.host_cli.specs.declared.command.Command.TheVariants as command
@@ -22,10 +22,10 @@ use Rattle.host_cli.specs.declared.pieces.ScriptPiece.{ScriptPiece}
 use Rattle.host_cli.specs.declared.pieces.ScriptPiece.TheVariants as script_piece
 use Rattle.host_cli.specs.declared.reply.Reply.{Reply}
 use Rattle.host_cli.specs.declared.reply.Reply.TheVariants as reply
-use Rattle.host_cli.specs.Actions.{Action, Opening, Adding, Happening, Bringing, Running, action_of, is_for_first, is_opening, opens}
+use Rattle.host_cli.specs.Actions.{Action, Opening, Adding, Happening, Bringing, Stepping, Running, action_of, is_for_first, is_opening, opens}
 use Rattle.host_cli.specs.Host.{IsDue, is_before}
 use Rattle.host_cli.specs.Scripts.{command_at}
-use Rattle.host_cli.specs.Plays.{reply_of, told, opened_reply, told_open, IfOpened, Brings, MayBring, MayRun, MayAnswer, Serves, Plays, IsPlay, is_fault}
+use Rattle.host_cli.specs.Plays.{reply_of, told, opened_reply, told_open, IfOpened, Brings, steps_reply, told_steps, MayBring, MakesSteps, MayStep, MayRun, MayAnswer, Serves, Plays, IsPlay, is_fault}
 use Rattle.host_cli.proofs.PlayLaws.{or_left, or_right}
 use Rattle.host_cli.proofs.PlayTurns.{if_due_done}
 
@@ -176,6 +176,34 @@ run_run budget p (There c) new r (memory, answer, d, ends, t) =
       faultless = λ h. ap is_fault both.1 ∙ told_so last (no_fault_last (replicate ends.count (Step stepped.Went)) last h);
     }
 
+-- Steps that are asked for by their number.
+
+last_there : (answer : Result Stepped Refusal) (new : Connection) → step_of (answer, new) ≡ ((step_of (answer, new)).0, There new)
+last_there (Ok a) new = refl
+last_there (Err r) new = refl
+
+steps_told : (n : ℕ) (answer : Result Stepped Refusal) (d : Connection) → IsNoFault (step_of (answer, d)).0 → is_fault (steps_reply n answer) ≡ false
+steps_told n (Ok stepped.Went) d h = refl
+steps_told n (Ok (stepped.CallEnded s)) d h = refl
+steps_told n (Ok (stepped.Fault k m pc)) d h = absurd h
+steps_told n (Err r) d h = refl
+
+steps_run : (n budget : ℕ) (p : Program) (old new : World) (r : Reply) → MayStep n budget p old r new → IsRunOf budget p old r new
+steps_run n budget p (Before fs) new r m = nothing_run budget p (Before fs) new r refusal.NoSuchConn m.0 m.1
+steps_run n budget p (Closed pools fs) new r m = nothing_run budget p (Closed pools fs) new r refusal.NoSuchConn m.0 m.1
+steps_run n budget p (There c) new r (memory, answer, d, made, t) =
+    let last = (step_of (answer, d)).0 in
+    let es = replicate made.count event.Step ++ event.Step ∷ [] in
+    let xs = replicate made.count (Step stepped.Went) ++ last ∷ [] in
+    let run = run_goes_on memory budget p (There c) (There made.last) (There d) (replicate made.count event.Step) (replicate made.count (Step stepped.Went)) event.Step last
+    (steps_are_a_run made.count budget p c made.last made.goes) tt (ap step_of made.ends ∙ last_there answer d) in
+    record {
+      events = es;
+      answers = xs;
+      run = subst (λ (w : World). IsRun budget p (There c) es xs w) (sym (ap (λ z. z.1) t)) run;
+      faultless = λ h. ap (λ z. is_fault z.0) t ∙ steps_told n answer d (no_fault_last (replicate made.count (Step stepped.Went)) last h);
+    }
+
 -- A command.
 
 -- the event of an action is due in each world, and opens no connection
@@ -189,6 +217,7 @@ command_plain (command.File f) = tt
 command_plain (command.Begin c) = (λ w. tt, λ memory budget p fs. refl)
 command_plain (command.End c) = (λ w. tt, λ memory budget p fs. refl)
 command_plain (command.Bring c pieces) = tt
+command_plain (command.Step c n) = tt
 command_plain (command.Run c) = tt
 command_plain (command.Output c) = (λ w. tt, λ memory budget p fs. refl)
 command_plain (command.Labels c) = (λ w. tt, λ memory budget p fs. refl)
@@ -201,6 +230,7 @@ answers_run budget p Opening old new r plain due (m, e) = open_run budget p old 
 answers_run budget p (Adding name bytes) old new r plain due e = told_run budget p old new r (event.AddFile name bytes) true due e
 answers_run budget p (Happening v) old new r plain due (m, e) = told_run budget p old new r v m (plain.0 old) e
 answers_run budget p (Bringing xs) old new r plain due m = bring_run budget p xs old new r m
+answers_run budget p (Stepping n) old new r plain due m = steps_run n budget p old new r m
 answers_run budget p Running old new r plain due m = run_run budget p old new r m
 
 match_run : (b : Bool) (budget : ℕ) (p : Program) (a : Action) (old new : World) (r : Reply) → IsPlain a → IsDue a old → MatchBool b (MayAnswer budget p a old r new) ((r ≡ reply.Refused refusal.NoSuchConn) × (new ≡ old)) → IsRunOf budget p old r new
@@ -222,6 +252,7 @@ before_answers budget p Opening fs new r plain h m = absurd (cc)
 before_answers budget p (Adding name bytes) fs new r plain h e = before_told (happens true budget p (event.AddFile name bytes) (Before fs)) r new e refl
 before_answers budget p (Happening v) fs new r plain h (m, e) = before_told (happens m budget p v (Before fs)) r new e (plain.1 m budget p fs)
 before_answers budget p (Bringing xs) fs new r plain h m = ap is_before m.1
+before_answers budget p (Stepping n) fs new r plain h m = ap is_before m.1
 before_answers budget p Running fs new r plain h m = ap is_before m.1
 
 before_match : (b : Bool) (budget : ℕ) (p : Program) (a : Action) (fs : Files) (new : World) (r : Reply) → IsPlain a → is_opening a ≡ false → MatchBool b (MayAnswer budget p a (Before fs) r new) ((r ≡ reply.Refused refusal.NoSuchConn) × (new ≡ Before fs)) → is_before new ≡ true

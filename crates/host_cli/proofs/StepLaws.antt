@@ -1,5 +1,5 @@
 -- Steps under a budget: they end, and where no answer says that there was no memory, they are those with memory.
-use Rattle.std.proofs.Common.{◌≡◌, ◌≢◌, ℕ, zero, suc, ◌+◌, ◌-◌, ◌<◌, ◌≤◌, Bool, true, false, ◌||◌, not, cond, leb, [], ◌∷◌, Option, Some, None, Result, Ok, Err, refl, ap, sym, ◌∙◌, arith}
+use Rattle.std.proofs.Common.{◌≡◌, ◌≢◌, ℕ, zero, suc, ◌+◌, ◌-◌, ◌<◌, ◌≤◌, Bool, true, false, ◌||◌, not, cond, leb, [], ◌∷◌, Option, Some, None, Result, Ok, Err, refl, ap, sym, ◌∙◌, subst, arith, ◌⊎◌, inl, inr}
 use Rattle.std.proofs.lemmas.Bool.Decides.{nat_tests}
 use Rattle.module_lang.specs.Program.{Program}
 use Rattle.module_lang.specs.declared.instr.Instr.{Instr}
@@ -15,7 +15,7 @@ use Rattle.run_model.specs.Steps.{watched, current, unless_fault, executed, succ
 use Rattle.run_model.specs.Faults.{fault}
 use Rattle.run_model.specs.Connection.{Connection, steps, step_if, step_answer, step_from, first_refusal, refused_if, if_broken}
 use Rattle.run_model.specs.Runs.{GoesOn, EndsRun}
-use Rattle.host_cli.specs.Plays.{unless_went, ran, refusal_names_memory}
+use Rattle.host_cli.specs.Plays.{unless_went, ran, MakesSteps, refusal_names_memory}
 
 -- whether a step's answer says that there was no memory
 abbrev pub lost : Result Stepped Refusal → Bool
@@ -128,6 +128,15 @@ unfolding ran
 last_only zero budget p c new answer e h = e
 last_only (suc n) budget p c new answer e h = ap (λ x. unless_went x (λ d. ran n budget p d)) e ∙ not_went answer new (λ d. ran n budget p d) h
 
+-- The same where the last one is the last that may be made.
+pub ran_so_far : (k budget : ℕ) (p : Program) (c last new : Connection) (m : Bool) (answer : Result Stepped Refusal) → GoesOn k budget p c last → steps m budget p last ≡ (answer, new) → lost answer ≡ false → ran k budget p c ≡ (answer, new)
+unfolding ran GoesOn
+ran_so_far zero budget p c last new m answer g e l =
+    let here : steps m budget p c ≡ (answer, new) = ap (λ x. steps m budget p x) (sym g) ∙ e in
+    let kept : lost (steps m budget p c).0 ≡ false = ap (λ x. lost x.0) here ∙ l in
+    sym (same_step m budget p c kept) ∙ here
+ran_so_far (suc k) budget p c last new m answer (d, s, g) e l = ap (λ x. unless_went x (λ d. ran k budget p d)) s ∙ ran_so_far k budget p d last new m answer g e l
+
 -- Steps that end without saying that there was no memory are the run with memory.
 pub ran_only : (k n budget : ℕ) (p : Program) (c last new : Connection) (m : Bool) (answer : Result Stepped Refusal) → k ≤ n → GoesOn k budget p c last → steps m budget p last ≡ (answer, new) → answer ≢ Ok stepped.Went → lost answer ≡ false → ran n budget p c ≡ (answer, new)
 unfolding ran GoesOn
@@ -138,3 +147,47 @@ ran_only zero n budget p c last new m answer b g e h l =
 ran_only (suc k) zero budget p c last new m answer b g e h l = absurd (omega arith)
 ran_only (suc k) (suc n) budget p c last new m answer b (d, s, g) e h l =
     ap (λ x. unless_went x (λ d. ran n budget p d)) s ∙ ran_only k n budget p d last new m answer (omega arith) g e h l
+
+-- whether it went
+pub went_or : (answer : Result Stepped Refusal) → (answer ≡ Ok stepped.Went) ⊎ (answer ≢ Ok stepped.Went)
+went_or (Ok stepped.Went) = inl refl
+went_or (Ok (stepped.CallEnded s)) = inr (λ h. cc)
+went_or (Ok (stepped.Fault k m pc)) = inr (λ h. cc)
+went_or (Err r) = inr (λ h. cc)
+
+-- So many steps at most: they are made, and there is no other way where memory lasts.
+pub makes_only : (n budget : ℕ) (p : Program) (c new : Connection) (m : Bool) (answer : Result Stepped Refusal) → MakesSteps m n budget p c answer new → lost answer ≡ false → ran (n - 1) budget p c ≡ (answer, new)
+makes_only n budget p c new m answer made l = elim (went_or answer) [
+  | inl went ↦ subst (λ (k : ℕ). ran k budget p c ≡ (answer, new)) (made.stops went) (ran_so_far made.count budget p c made.last new m answer made.goes made.ends l)
+  | inr other ↦ ran_only made.count (n - 1) budget p c made.last new m answer made.few made.goes made.ends other l
+]
+
+made_from : (k budget : ℕ) (p : Program) (c : Connection) (x : Result Stepped Refusal × Connection) → steps true budget p c ≡ x → ((d : Connection) → MakesSteps true (suc k) budget p d (ran k budget p d).0 (ran k budget p d).1)
+    → MakesSteps true (suc (suc k)) budget p c (unless_went x (λ d. ran k budget p d)).0 (unless_went x (λ d. ran k budget p d)).1
+unfolding GoesOn
+made_from k budget p c (Ok stepped.Went, d) e more =
+    let rest = more d in
+    record { count = suc rest.count; last = rest.last; few = omega (arith, rest.few); goes = (d, e, rest.goes); ends = rest.ends; stops = λ h. omega (arith, rest.stops h) }
+made_from k budget p c (Ok (stepped.CallEnded s), d) e more = record { count = 0; last = c; few = omega arith; goes = refl; ends = e; stops = λ h. cc }
+made_from k budget p c (Ok (stepped.Fault f m pc), d) e more = record { count = 0; last = c; few = omega arith; goes = refl; ends = e; stops = λ h. cc }
+made_from k budget p c (Err r, d) e more = record { count = 0; last = c; few = omega arith; goes = refl; ends = e; stops = λ h. cc }
+
+pub ran_makes : (k budget : ℕ) (p : Program) (c : Connection) → MakesSteps true (suc k) budget p c (ran k budget p c).0 (ran k budget p c).1
+unfolding ran GoesOn
+ran_makes zero budget p c = record { count = 0; last = c; few = omega arith; goes = refl; ends = refl; stops = λ h. refl }
+ran_makes (suc k) budget p c = made_from k budget p c (steps true budget p c) refl (λ d. ran_makes k budget p d)
+
+-- Of a count so many were made, and so many are left.
+pub few_left : (made left count : ℕ) → made + left ≡ count → (left ≡ 0 → count ≡ 0) → made ≤ count - 1
+few_left made zero count all none = (let no : count ≡ 0 = none refl in omega arith)
+few_left made (suc left) count all none = omega arith
+
+pub last_left : (made left count : ℕ) → made + left ≡ count → (left ≡ 0 → count ≡ 0) → left ≤ 1 → made ≡ count - 1
+last_left made zero count all none one = (let no : count ≡ 0 = none refl in omega arith)
+last_left made (suc left) count all none one = omega arith
+
+pub more_made : (made left count : ℕ) → made + left ≡ count → 1 < left → suc made + (left - 1) ≡ count
+more_made made left count all more = omega arith
+
+pub some_left : (left : ℕ) → 1 < left → left - 1 ≡ 0 → ⊥
+some_left left more none = absurd (omega arith)

@@ -17,6 +17,8 @@ pub data Action : Type 0 where
   Happening : Event → Action
   -- the files of pieces are opened, and the pieces brought
   Bringing : List ScriptPiece → Action
+  -- so many steps are made, or fewer where a call has ended or more is refused
+  Stepping : ℕ → Action
   -- steps are made until a call has ended, or more is refused
   Running : Action
 
@@ -30,6 +32,7 @@ action_of (command.File f) = Adding f.name (file_bytes f)
 action_of (command.Begin c) = Happening event.Begin
 action_of (command.End c) = Happening event.End
 action_of (command.Bring c pieces) = Bringing pieces
+action_of (command.Step c n) = Stepping n
 action_of (command.Run c) = Running
 action_of (command.Output c) = Happening event.TakeOutput
 action_of (command.Labels c) = Happening event.TellLabels
@@ -43,6 +46,7 @@ is_for_first (command.File f) = true
 is_for_first (command.Begin c) = c == 1
 is_for_first (command.End c) = c == 1
 is_for_first (command.Bring c pieces) = c == 1
+is_for_first (command.Step c n) = c == 1
 is_for_first (command.Run c) = c == 1
 is_for_first (command.Output c) = c == 1
 is_for_first (command.Labels c) = c == 1
@@ -54,6 +58,7 @@ is_opening Opening = true
 is_opening (Adding name bytes) = false
 is_opening (Happening e) = false
 is_opening (Bringing pieces) = false
+is_opening (Stepping n) = false
 is_opening Running = false
 
 -- whether a command opens the connection

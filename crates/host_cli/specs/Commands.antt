@@ -20,6 +20,7 @@ word_text word.Open = codes "open"
 word_text word.Begin = codes "begin"
 word_text word.End = codes "end"
 word_text word.Bring = codes "bring"
+word_text word.Step = codes "step"
 word_text word.Run = codes "run"
 word_text word.Output = codes "output"
 word_text word.Labels = codes "labels"
@@ -32,6 +33,7 @@ takes_of word.Open = takes.Nothing
 takes_of word.Begin = takes.Conn
 takes_of word.End = takes.Conn
 takes_of word.Bring = takes.ConnAndPieces
+takes_of word.Step = takes.ConnAndCount
 takes_of word.Run = takes.Conn
 takes_of word.Output = takes.Conn
 takes_of word.Labels = takes.Conn
@@ -44,6 +46,7 @@ command_with word.Open o = command.Open
 command_with word.Begin o = command.Begin o.conn
 command_with word.End o = command.End o.conn
 command_with word.Bring o = command.Bring o.conn o.pieces
+command_with word.Step o = command.Step o.conn o.count
 command_with word.Run o = command.Run o.conn
 command_with word.Output o = command.Output o.conn
 command_with word.Labels o = command.Labels o.conn
@@ -51,7 +54,7 @@ command_with word.Close o = command.Close o.conn
 command_with word.Pools o = command.Pools
 
 abbrev pub words : List Word
-words = word.Open ∷ word.Begin ∷ word.End ∷ word.Bring ∷ word.Run ∷ word.Output ∷ word.Labels ∷ word.Close ∷ word.Pools ∷ []
+words = word.Open ∷ word.Begin ∷ word.End ∷ word.Bring ∷ word.Step ∷ word.Run ∷ word.Output ∷ word.Labels ∷ word.Close ∷ word.Pools ∷ []
 
 -- the word that is written so
 unfoldable pub word_at : List ℕ → Option Word

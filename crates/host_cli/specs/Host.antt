@@ -7,7 +7,7 @@ use Rattle.module_run.specs.Seen.{seen, pools_left, files_left, refusal_lasted}
 use Rattle.bucket_kinds.specs.MemDevice.{files_of}
 use Rattle.bucket_kinds.specs.declared.refusal.AddRefusal.{AddRefusal}
 use Rattle.bucket_kinds.specs.declared.refusal.AddRefusal.TheVariants as added
-use Rattle.host_cli.specs.Actions.{Action, Opening, Adding, Happening, Bringing, Running}
+use Rattle.host_cli.specs.Actions.{Action, Opening, Adding, Happening, Bringing, Stepping, Running}
 use Rattle.host_cli.specs.declared.host.Host.{Host}
 use Rattle.host_cli.specs.declared.host.Host.TheVariants as host
 use Rattle.host_cli.specs.declared.reply.Reply.{Reply}
@@ -44,6 +44,7 @@ IsDue Opening w = is_before w ≡ true
 IsDue (Adding name bytes) w = IsFree name w
 IsDue (Happening e) w = Unit {0}
 IsDue (Bringing pieces) w = Unit {0}
+IsDue (Stepping n) w = Unit {0}
 IsDue Running w = Unit {0}
 
 -- what the adding of a file answers and leaves
@@ -58,6 +59,7 @@ lasted_by reply.Connected = true
 lasted_by reply.Done = true
 lasted_by (reply.Refused r) = refusal_lasted r
 lasted_by (reply.Stepped s) = true
+lasted_by (reply.Went n) = true
 lasted_by (reply.Output bytes) = true
 lasted_by (reply.Labels labels) = true
 lasted_by (reply.Pools text) = true

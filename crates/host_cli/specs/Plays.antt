@@ -1,5 +1,5 @@
 -- The play of a script: what its commands may answer, and what is written of that.
-use Rattle.std.specs.Prelude.{◌≡◌, ℕ, zero, suc, ◌+◌, Bool, true, false, ◌||◌, not, if◌then◌else◌, List, [], ◌∷◌, ◌++◌, take, Option, Some, None, Result, Ok, Err, flat_map, MatchBool, IfSome}
+use Rattle.std.specs.Prelude.{◌≡◌, ℕ, zero, suc, ◌+◌, ◌-◌, ◌≤◌, Bool, true, false, ◌||◌, not, if◌then◌else◌, List, [], ◌∷◌, ◌++◌, take, Option, Some, None, Result, Ok, Err, flat_map, MatchBool, IfSome}
 use Rattle.std.specs.List.{list_any}
 use Rattle.std.specs.Io.KnownBytes.{Appends}
 use Rattle.module_lang.specs.Program.{Program}
@@ -14,7 +14,7 @@ use Rattle.run_model.specs.declared.event.Piece.{Piece}
 use Rattle.run_model.specs.declared.event.Piece.TheVariants as piece
 use Rattle.run_model.specs.Files.{no_files}
 use Rattle.run_model.specs.Connection.{Connection, steps, brings, opens_file}
-use Rattle.run_model.specs.Runs.{Answer, Done, Refused, Step, Output, Opened, Labels, Tree, World, Before, There, happens, EndsRun, step_of, answer_of}
+use Rattle.run_model.specs.Runs.{Answer, Done, Refused, Step, Output, Opened, Labels, Tree, World, Before, There, happens, GoesOn, EndsRun, step_of, answer_of}
 use Rattle.pool_tree.specs.Printed.{payload_text, printed}
 use Rattle.host_cli.specs.declared.command.Command.{Command}
 use Rattle.host_cli.specs.declared.pieces.ScriptPiece.{ScriptPiece}
@@ -23,7 +23,7 @@ use Rattle.host_cli.specs.declared.reply.Reply.{Reply}
 use Rattle.host_cli.specs.declared.reply.Reply.TheVariants as reply
 use Rattle.host_cli.specs.declared.ended.Ended.{Ended}
 use Rattle.host_cli.specs.declared.ended.Ended.TheVariants as ended
-use Rattle.host_cli.specs.Actions.{Action, Opening, Adding, Happening, Bringing, Running, action_of, is_for_first, opens}
+use Rattle.host_cli.specs.Actions.{Action, Opening, Adding, Happening, Bringing, Stepping, Running, action_of, is_for_first, opens}
 use Rattle.host_cli.specs.Host.{is_had}
 use Rattle.host_cli.specs.Replies.{reply_line, script_line}
 use Rattle.host_cli.specs.Scripts.{command_at}
@@ -64,6 +64,20 @@ abbrev pub run_of : ℕ → Program → World → Reply × World
 run_of budget p (There c) = told (step_of (ran budget budget p c))
 run_of budget p w = (reply.Refused refusal.NoSuchConn, w)
 
+-- Steps are made until one answers something else than that it went, n at most (and one at least). Where all went, that is told.
+abbrev pub steps_reply : ℕ → Result Stepped Refusal → Reply
+steps_reply n (Ok stepped.Went) = reply.Went n
+steps_reply n (Ok (stepped.CallEnded s)) = reply.Stepped (stepped.CallEnded s)
+steps_reply n (Ok (stepped.Fault k m pc)) = reply.Stepped (stepped.Fault k m pc)
+steps_reply n (Err r) = reply.Refused r
+
+abbrev pub told_steps : ℕ → Result Stepped Refusal × Connection → Reply × World
+told_steps n (answer, c) = (steps_reply n answer, There c)
+
+abbrev pub steps_of : ℕ → ℕ → Program → World → Reply × World
+steps_of n budget p (There c) = told_steps n (ran (n - 1) budget p c)
+steps_of n budget p w = (reply.Refused refusal.NoSuchConn, w)
+
 -- The pieces come to the connection, memory lasting: the files of ranges are opened, left to right, and then the
 -- brigade is brought. The first refusal is the answer; files that were opened before it stay open.
 abbrev pub if_opened : Result (ℕ × ℕ) Refusal × Connection → (Refusal → Connection → Option Refusal × Connection) → (ℕ → Connection → Option Refusal × Connection) → Option Refusal × Connection
@@ -90,6 +104,7 @@ answered budget p Opening w = told_open (happens true budget p event.Open w)
 answered budget p (Adding name bytes) w = told (happens true budget p (event.AddFile name bytes) w)
 answered budget p (Happening e) w = told (happens true budget p e w)
 answered budget p (Bringing pieces) w = bring_of p pieces w
+answered budget p (Stepping n) w = steps_of n budget p w
 answered budget p Running w = run_of budget p w
 
 -- the same of a command
@@ -100,6 +115,19 @@ served budget p c w = if is_for_first c then answered budget p (action_of c) w e
 abbrev pub MayRun : ℕ → Program → World → Reply → World → Type 0
 MayRun budget p (There c) r new = (memory : Bool) × (answer : Result Stepped Refusal) × (d : Connection) × EndsRun memory budget p c answer d × ((r, new) ≡ told (step_of (answer, d)))
 MayRun budget p w r new = (r ≡ reply.Refused refusal.NoSuchConn) × (new ≡ w)
+
+-- These steps may be made, n at most: those but the last one go on, which is the n-th or answers something else than that it went.
+pub record MakesSteps (memory : Bool) (n budget : ℕ) (p : Program) (old : Connection) (answer : Result Stepped Refusal) (new : Connection) : Type 0 where
+  pub count : ℕ
+  pub last : Connection
+  pub few : count ≤ n - 1
+  pub goes : GoesOn count budget p old last
+  pub ends : steps memory budget p last ≡ (answer, new)
+  pub stops : answer ≡ Ok stepped.Went → count ≡ n - 1
+
+abbrev pub MayStep : ℕ → ℕ → Program → World → Reply → World → Type 0
+MayStep n budget p (There c) r new = (memory : Bool) × (answer : Result Stepped Refusal) × (d : Connection) × MakesSteps memory n budget p c answer d × ((r, new) ≡ told_steps n (answer, d))
+MayStep n budget p w r new = (r ≡ reply.Refused refusal.NoSuchConn) × (new ≡ w)
 
 -- A piece may be made ready so: the file of a range is opened, which may find no memory.
 abbrev pub IsMadeReady : ScriptPiece → Connection → Result Piece Refusal → Connection → Type 0
@@ -125,6 +153,7 @@ MayAnswer budget p Opening old r new = (memory : Bool) × (told_open (happens me
 MayAnswer budget p (Adding name bytes) old r new = told (happens true budget p (event.AddFile name bytes) old) ≡ (r, new)
 MayAnswer budget p (Happening e) old r new = (memory : Bool) × (told (happens memory budget p e old) ≡ (r, new))
 MayAnswer budget p (Bringing pieces) old r new = MayBring p pieces old r new
+MayAnswer budget p (Stepping n) old r new = MayStep n budget p old r new
 MayAnswer budget p Running old r new = MayRun budget p old r new
 
 -- From one world to another a command may answer so.
@@ -137,6 +166,7 @@ is_due is_open w Opening = not is_open
 is_due is_open w (Adding name bytes) = not (is_had w name)
 is_due is_open w (Happening e) = true
 is_due is_open w (Bringing pieces) = true
+is_due is_open w (Stepping n) = true
 is_due is_open w Running = true
 
 abbrev pub if_due : Bool → World → Option Command → Option Command
@@ -185,6 +215,7 @@ names_memory reply.Connected = false
 names_memory reply.Done = false
 names_memory (reply.Refused r) = refusal_names_memory r
 names_memory (reply.Stepped s) = false
+names_memory (reply.Went n) = false
 names_memory (reply.Output bytes) = false
 names_memory (reply.Labels labels) = false
 names_memory (reply.Pools text) = false

@@ -57,6 +57,10 @@ stepped_line (stepped.CallEnded s) = line (codes "ended " ++ status_name s)
 stepped_line (stepped.Fault kind index pc) =
     line (codes "fault " ++ fault_name kind ++ codes " module " ++ decimal index ++ codes " pc " ++ decimal pc)
 
+-- so many steps went
+abbrev pub went_line : ℕ → List ℕ
+went_line n = line (codes "went " ++ decimal n)
+
 abbrev pub output_line : List ℕ → List ℕ
 output_line bytes = line (codes "output " ++ spelling bytes)
 
@@ -70,6 +74,7 @@ reply_line reply.Connected = line (codes "conn 1")
 reply_line reply.Done = line (codes "ok")
 reply_line (reply.Refused r) = refused_line r
 reply_line (reply.Stepped s) = stepped_line s
+reply_line (reply.Went n) = went_line n
 reply_line (reply.Output bytes) = output_line bytes
 reply_line (reply.Labels labels) = labels_line labels
 reply_line (reply.Pools text) = text ++ line (codes "ok")

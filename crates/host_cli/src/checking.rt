@@ -1,7 +1,6 @@
 //! The command `check`.
 
-ghost use Rattle.std.specs.Prelude.{◌≡◌, ◌≢◌, ◌++◌, IfOk, IfErr, IfSome, OnOk, OnErr};
-ghost use Rattle.host_cli.specs.Refusals.{cert_line};
+ghost use Rattle.std.specs.Prelude.{◌≡◌, ◌≢◌, IfOk, IfErr, IfSome};
 ghost use Rattle.life_check.specs.Seen.{seen_cert};
 ghost use Rattle.host_cli.specs.Plays.{Writes};
 ghost use Rattle.host_cli.specs.TextAnswers.{TellsCertFault, IsVerdict, IsCheckOf, IsChecked, IsFront};
@@ -10,7 +9,7 @@ use crate::answer::{Answer, asm_fault, line_answer, write_answer};
 use crate::ended::Ended;
 use crate::fault::PlayFault;
 use crate::refused_at::refused_at;
-use crate::reply::put;
+use crate::reply::put_cert_fault;
 use crate::streams::read_all;
 use life_cert::{CertRefusal, read_cert};
 use life_check::{Cert, check};
@@ -18,22 +17,13 @@ use module_lang::{Module, assemble};
 use std::alloc::{AllocError, Global};
 use std::io::{Read, Write};
 
-/// Adds the line that tells a fault of a certificate text. Without memory nothing is changed.
-fn put_cert_fault(alloc: Global, out: &mut Vec<u8>, line: usize, code: u8) -> Result<(), AllocError>
-    ensures ok { OnOk result (out.new.items ≡ out.old.items ++ cert_line line code) }
-    ensures err { OnErr result (out.new.items ≡ out.old.items) }
-{
-    let line = format!(in alloc; "cert line {line} code {code}\n")?;
-    put(out, line.as_str())
-}
-
 fn cert_fault(alloc: Global, refusal: CertRefusal) -> Result<Answer, AllocError>
     ensures { IfOk result (λ a. TellsCertFault refusal a.text.items a.ended) }
 {
     match refusal {
         CertRefusal::Fault { line, code } => {
             let mut text = Vec::new(alloc);
-            put_cert_fault(alloc, &mut text, line, code.number())?;
+            put_cert_fault(alloc, &mut text, 0, line, code.number())?;
             let ended = Ended::Refused;
             Ok(Answer { text, ended })
         }

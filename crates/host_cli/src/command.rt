@@ -17,6 +17,7 @@ pub enum Word {
     Begin,
     End,
     Bring,
+    Step,
     Run,
     Output,
     Labels,
@@ -31,6 +32,8 @@ pub enum Takes {
     Nothing,
     /// The number of a connection.
     Conn,
+    /// The number of a connection, and a count.
+    ConnAndCount,
     /// The number of a connection, and pieces.
     ConnAndPieces,
 }
@@ -48,6 +51,8 @@ pub enum Command {
     End(u64),
     /// Opens the files of these pieces, and brings a brigade of them.
     Bring(u64, Seq<ScriptPiece>),
+    /// Makes so many steps, or fewer where a call has ended or more is refused.
+    Step(u64, u64),
     /// Makes steps until a call has ended, or more is refused.
     Run(u64),
     /// Takes the output.
@@ -60,11 +65,12 @@ pub enum Command {
     Pools,
 }
 
-const WORDS: [Word; 9] = [
+const WORDS: [Word; 10] = [
     Word::Open,
     Word::Begin,
     Word::End,
     Word::Bring,
+    Word::Step,
     Word::Run,
     Word::Output,
     Word::Labels,
@@ -82,6 +88,7 @@ impl Word {
             Word::Begin => b"begin",
             Word::End => b"end",
             Word::Bring => b"bring",
+            Word::Step => b"step",
             Word::Run => b"run",
             Word::Output => b"output",
             Word::Labels => b"labels",
@@ -98,6 +105,7 @@ impl Word {
             Word::Open | Word::Pools => Takes::Nothing,
             Word::Begin | Word::End | Word::Run => Takes::Conn,
             Word::Output | Word::Labels | Word::Close => Takes::Conn,
+            Word::Step => Takes::ConnAndCount,
             Word::Bring => Takes::ConnAndPieces,
         }
     }
@@ -111,6 +119,7 @@ impl Word {
             Word::Begin => Command::Begin(operands.conn),
             Word::End => Command::End(operands.conn),
             Word::Bring => Command::Bring(operands.conn, operands.pieces),
+            Word::Step => Command::Step(operands.conn, operands.count),
             Word::Run => Command::Run(operands.conn),
             Word::Output => Command::Output(operands.conn),
             Word::Labels => Command::Labels(operands.conn),

@@ -6,7 +6,7 @@ ghost use Rattle.run_model.specs.Files.{no_files};
 ghost use Rattle.run_model.specs.Runs.{happens, Before, There, files_of};
 ghost use Rattle.module_run.specs.Seen.{lasted};
 ghost use Rattle.host_cli.specs.Actions.{action_of, opens, is_for_first, file_bytes};
-ghost use Rattle.host_cli.specs.Plays.{told, told_open, MayBring, MayRun, MayAnswer, Serves};
+ghost use Rattle.host_cli.specs.Plays.{told, told_open, MayBring, MayStep, MayRun, MayAnswer, Serves};
 ghost use Rattle.host_cli.specs.Host.{world_of, is_before, IsFree, IsDue, IsAddingTo, IsReady, lasted_by, done};
 
 use crate::bringing::bring_pieces;
@@ -16,6 +16,7 @@ use crate::labels::labels_of;
 use crate::pieces::ScriptPiece;
 use crate::pools::{root_text, tree_text};
 use crate::reply::Reply;
+use crate::stepping::make_steps;
 use module_run::{AddRefusal, Closed, Conn, MemFiles};
 use run_model::{Event, Module, Refusal, Seq};
 use std::alloc::{AllocError, Global};
@@ -162,6 +163,18 @@ fn output(alloc: Global, host: &mut Host) -> Reply
     }
 }
 
+fn step(alloc: Global, code: &Module, budget: u64, host: &mut Host, count: u64) -> Reply
+    requires { IsReady code.now (world_of host.old) }
+    ensures steps { MayStep count budget code.now (world_of host.old) result (world_of host.new) }
+    ensures ready { IsReady code.now (world_of host.new) }
+    ensures before { is_before (world_of host.new) ≡ is_before (world_of host.old) }
+{
+    match host {
+        Host::There(conn) => make_steps(alloc, code, budget, conn, count),
+        Host::Before(_) | Host::Closed(_) => Reply::Refused(Refusal::NoSuchConn),
+    }
+}
+
 fn run(alloc: Global, code: &Module, budget: u64, host: &mut Host) -> Reply
     requires { IsReady code.now (world_of host.old) }
     ensures run { MayRun budget code.now (world_of host.old) result (world_of host.new) }
@@ -234,6 +247,7 @@ fn is_for_first(command: &Command) -> bool
     match command {
         Command::Open | Command::File(_) | Command::Pools => true,
         Command::Begin(c) | Command::End(c) | Command::Run(c) | Command::Output(c) => *c == 1,
+        Command::Step(c, _) => *c == 1,
         Command::Bring(c, _) | Command::Labels(c) | Command::Close(c) => *c == 1,
     }
 }
@@ -259,6 +273,7 @@ fn answer(
         Command::Begin(_) => Ok(begin(code, host)),
         Command::End(_) => Ok(end(host)),
         Command::Bring(_, pieces) => bring(alloc, code, host, pieces),
+        Command::Step(_, count) => Ok(step(alloc, code, budget, host, count)),
         Command::Run(_) => Ok(run(alloc, code, budget, host)),
         Command::Output(_) => Ok(output(alloc, host)),
         Command::Labels(_) => labels(alloc, host),

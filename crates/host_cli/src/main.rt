@@ -23,6 +23,7 @@ mod refused_at;
 mod reply;
 mod run;
 mod script;
+mod stepping;
 mod streams;
 mod task;
 #[cfg(test)]

@@ -1,7 +1,7 @@
 //! What follows the first word of a command.
 
 ghost use Rattle.std.specs.Prelude.{◌≡◌, IfOk};
-ghost use Rattle.host_cli.specs.Operands.{no_operands, conn_alone, conn_and_pieces, operands_at};
+ghost use Rattle.host_cli.specs.Operands.{no_operands, conn_alone, count_alone, conn_and_count, conn_and_pieces, operands_at};
 
 use crate::command::Takes;
 use crate::pieces::{ScriptPiece, pieces_of};
@@ -9,11 +9,13 @@ use crate::words::{after_number, number_at};
 use run_model::Seq;
 use std::alloc::{AllocError, Global};
 
-/// The operands of a command. Where it takes none the number is 0, and where it takes no pieces there are none.
+/// The operands of a command. A number that it does not take is 0, and where it takes no pieces there are none.
 #[derive(Drop)]
 pub struct Operands {
     /// The number of the connection.
     pub conn: u64,
+    /// How many steps are to be made.
+    pub count: u64,
     /// The pieces.
     pub pieces: Seq<ScriptPiece>,
 }
@@ -26,6 +28,7 @@ pub fn operands_of(alloc: Global, takes: Takes, tail: &[u8]) -> Result<Option<Op
     match takes {
         Takes::Nothing => Ok(no_operands(alloc, tail)),
         Takes::Conn => Ok(conn_alone(alloc, tail)),
+        Takes::ConnAndCount => Ok(conn_and_count(alloc, tail)),
         Takes::ConnAndPieces => conn_and_pieces(alloc, tail),
     }
 }
@@ -38,6 +41,7 @@ fn no_operands(alloc: Global, tail: &[u8]) -> Option<Operands>
     }
     Some(Operands {
         conn: 0,
+        count: 0,
         pieces: Seq::new(alloc),
     })
 }
@@ -51,6 +55,30 @@ fn conn_alone(alloc: Global, tail: &[u8]) -> Option<Operands>
     }
     Some(Operands {
         conn,
+        count: 0,
+        pieces: Seq::new(alloc),
+    })
+}
+
+fn count_alone(tail: &[u8]) -> Option<u64>
+    ensures { result ≡ count_alone tail.now }
+{
+    let count = number_at(tail)?;
+    if after_number(tail).is_empty() && count != 0 {
+        Some(count)
+    } else {
+        None
+    }
+}
+
+fn conn_and_count(alloc: Global, tail: &[u8]) -> Option<Operands>
+    ensures { result ≡ conn_and_count tail.now }
+{
+    let conn = number_at(tail)?;
+    let count = count_alone(after_number(tail))?;
+    Some(Operands {
+        conn,
+        count,
         pieces: Seq::new(alloc),
     })
 }
@@ -62,7 +90,11 @@ fn conn_and_pieces(alloc: Global, tail: &[u8]) -> Result<Option<Operands>, Alloc
         return Ok(None);
     };
     match pieces_of(alloc, after_number(tail))? {
-        Some(pieces) => Ok(Some(Operands { conn, pieces })),
+        Some(pieces) => Ok(Some(Operands {
+            conn,
+            count: 0,
+            pieces,
+        })),
         None => Ok(None),
     }
 }

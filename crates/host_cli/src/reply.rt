@@ -2,7 +2,7 @@
 
 ghost use Rattle.std.specs.Prelude.{◌≡◌, ◌+◌, ◌++◌, ◌∷◌, [], IfOk, OnOk, OnErr};
 ghost use Rattle.module_lang.specs.Quoted.{spelling};
-ghost use Rattle.host_cli.specs.Replies.{status_name, fault_name, refusal_name, stepped_line, refused_line, output_line, labels_line, reply_line, asm_line, script_line};
+ghost use Rattle.host_cli.specs.Replies.{status_name, fault_name, refusal_name, stepped_line, went_line, refused_line, output_line, labels_line, reply_line, asm_line, script_line};
 ghost use Rattle.host_cli.specs.Refusals.{cert_line, refused_module_line};
 
 use crate::refused_at::rule_name;
@@ -22,6 +22,8 @@ pub enum Reply {
     Refused(Refusal),
     /// How the steps ended.
     Stepped(Stepped),
+    /// All steps went that were asked for: so many.
+    Went(u64),
     /// The output.
     Output(Seq<u8>),
     /// Labels that ran, the first first.
@@ -103,6 +105,14 @@ fn put_stepped(alloc: Global, out: &mut Vec<u8>, stepped: Stepped) -> Result<(),
         Stepped::CallEnded(status) => put_ended(alloc, out, status),
         Stepped::Fault { kind, module, pc } => put_fault(alloc, out, kind, module, pc),
     }
+}
+
+fn put_went(alloc: Global, out: &mut Vec<u8>, count: u64) -> Result<(), AllocError>
+    ensures ok { OnOk result (out.new.items ≡ out.old.items ++ went_line count) }
+    ensures err { OnErr result (out.new.items ≡ out.old.items) }
+{
+    let line = format!(in alloc; "went {count}\n")?;
+    put(out, line.as_str())
 }
 
 fn put_ended(alloc: Global, out: &mut Vec<u8>, status: Status) -> Result<(), AllocError>
@@ -204,6 +214,7 @@ pub fn put_reply(alloc: Global, out: &mut Vec<u8>, reply: &Reply) -> Result<(), 
         Reply::Done => put(out, "ok\n"),
         Reply::Refused(refusal) => put_refused(alloc, out, *refusal),
         Reply::Stepped(stepped) => put_stepped(alloc, out, *stepped),
+        Reply::Went(count) => put_went(alloc, out, *count),
         Reply::Output(bytes) => put_output(alloc, out, bytes),
         Reply::Labels(labels) => put_labels(alloc, out, labels),
         Reply::Pools(text) => put_pools(alloc, out, text),

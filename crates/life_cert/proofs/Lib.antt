@@ -14,3 +14,11 @@ pub mod Weights
 pub mod Enough
 pub mod RoundsFormed
 pub mod Closed
+pub mod Taking
+pub mod HomeTexts
+pub mod CursorTexts
+pub mod FactTexts
+pub mod VariableTexts
+pub mod StateTexts
+pub mod StateReading
+pub mod OneState

@@ -152,3 +152,7 @@ abbrev pub EndTold : Bool → Due → ℕ → Result (Unit {0}) CertRefusal → 
 EndTold more d n (Ok u) = (more ≡ false) × (is_over d ≡ true)
 EndTold more d n (Err NoMemory) = ⊥
 EndTold more d n (Err (Fault m c)) = (m ≡ n) × EndHasCode more d c × ((e : CertCode) → EndHasCode more d e → code_number c ≤ code_number e)
+
+-- No two states in form have one text.
+abbrev pub TextsTellStates : Type 0
+TextsTellStates = (s t : State) → IsFormed s → IsFormed t → state_text s ≡ state_text t → s ≡ t

@@ -1,6 +1,7 @@
 //! Laws of the definitions. Each function does nothing: what its contract says holds of the definitions alone.
 
 ghost use Rattle.life_cert.specs.Examples.{WorkedTexts};
+ghost use Rattle.life_cert.specs.Reading.{TextsTellStates};
 ghost use Rattle.life_cert.specs.Laws.{StatesOnlyGrow, RoundsEnd, StatesAreFormed, StatesAreClosed};
 
 /// Texts worked out by hand.
@@ -24,4 +25,9 @@ pub fn states_are_formed()
 /// fault hand on nothing.
 pub fn states_are_closed()
     ensures { StatesAreClosed }
+{}
+
+/// No two states in form have one text: a text tells its state.
+pub fn texts_tell_states()
+    ensures { TextsTellStates }
 {}

@@ -43,11 +43,12 @@ use Rattle.life_state.specs.States.{Homes, home_in, both_homes, with_homes, is_h
 use Rattle.life_check.specs.Meaning.{class_has, IsIn, IsLoose, FitsCursor, CoversPool, ByConnection, ByMember, ByDead, ByCall, Covers, Fits}
 use Rattle.life_check.specs.Soundness.{Outside, LawOf}
 use Rattle.run_model.proofs.RunOrderLaws.{under_itself}
+use Rattle.run_model.proofs.chains.Apart.{some_is}
 use Rattle.life_check.proofs.Filled.{covers_first, covers_second, IsFull, full_of, rearranged_stays, rearranged_brigades, finds_kept, bucket_moved}
 use Rattle.life_check.proofs.Standing.{Stays, Finds, finds_same, loose_stays, in_stays, end_stays, usable_below, spot_in, spot_loose}
 use Rattle.life_check.proofs.Lists.{IsSorted, named_map, map_found, holds_map, each_of_all, all_of_each}
 use Rattle.life_check.proofs.Pools.{covers_moves, same_names, same_live, pool_kept, brigade_more, fits_beside}
-use Rattle.life_check.proofs.Tree.{under_declared, some_is}
+use Rattle.life_check.proofs.Tree.{under_declared}
 
 -- A place below 8 is a home of its own, and lies under itself.
 home_itself : (q : PoolRef) → is_clearable q ≡ true → is_home q q ≡ true

@@ -16,6 +16,7 @@ use Rattle.run_model.specs.Indexed.{upd}
 use Rattle.run_model.specs.Sound.{SoundNames, brigade_name}
 use Rattle.run_model.specs.State.{Call, Configuration, pool_view, pool_named, items_of, set_brigade as set_variable}
 use Rattle.run_model.specs.Steps.{do_create, do_clean, do_concat, cleaned, with_items}
+use Rattle.run_model.proofs.MadeBrigades.{brigade_lives}
 use Rattle.run_model.proofs.Marks.{first_none, second_none}
 use Rattle.run_model.proofs.Names.{at_each, at_two}
 use Rattle.run_model.proofs.Operands.{two_brigades}
@@ -29,7 +30,7 @@ use Rattle.life_check.specs.Meaning.{Covers, Each, FitsPool, FitsBrigade, Differ
 use Rattle.life_check.specs.Soundness.{LawOf}
 use Rattle.life_check.proofs.Filled.{covers_first, covers_second, IsFull, full_of, full_fits, filled_items, filled_name, filled_usable}
 use Rattle.life_check.proofs.Lists.{each_append, each_more, each_none, holds_joined, named_front, named_behind}
-use Rattle.life_check.proofs.Pools.{brigade_more, fits_beside}
+use Rattle.life_check.proofs.Pools.{covers_moves, same_names, pool_kept, brigade_more, fits_beside}
 use Rattle.life_check.proofs.Standing.{upd_both, within_at, moved_facts, Finds, finds_same, in_stays, end_stays, loose_stays}
 
 -- A new brigade.
@@ -42,13 +43,27 @@ new_unused (var.Live v) none usable = cc
 pub law_bcreate : {lives : Home → Type 0} (o : ℕ) → LawOf lives (instr.BCreate o)
 unfolding set_variable Each
 law_bcreate {lives} o p choice r s ready =
-    fits_beside C C (λ h x c. c) r (do_create p o r) refl same s s.pools (upd s.brigades o (holds Empty no_homes)) refl refl ready.fits.pools
-    (upd_both (FitsBrigade C) s.brigades r.instance.brigades o (holds Empty no_homes) made (refl, (refl, refl, tt)) (λ b off. ready.fits.brigades b)) ready.fits where
+    fits_beside C D more r (do_create p o r) refl same s s.pools (upd s.brigades o (holds Empty no_homes)) refl refl
+    (λ k. pool_kept r.shared.pools (do_create p o r).shared.pools (s.pools k) (r.instance.pools k) (λ n e. brigade_lives on r.shared.next r.shared.pools n) (ready.fits.pools k))
+    (upd_both (FitsBrigade D) s.brigades r.instance.brigades o (holds Empty no_homes) made (refl, (refl, refl, tt)) (λ b off. brigade_more C D more (s.brigades b) (r.instance.brigades b) (ready.fits.brigades b))) ready.fits where
+      on : Option ℕ
+      on = pool_named r (pool_of_brigade p o)
+
       C : Homes → Home → Type 0
       C = Covers p (pool_view r) lives
 
+      D : Homes → Home → Type 0
+      D = Covers p (pool_view (do_create p o r)) lives
+
+      more : (h : Homes) (x : Home) → C h x → D h x
+      more = covers_moves p (pool_view r) (pool_view (do_create p o r)) lives (record {
+        conn = refl;
+        named = λ k n e live. same_names (pool_view r) (pool_view (do_create p o r)) refl refl refl k ∙ e;
+        lives = λ n live. brigade_lives on r.shared.next r.shared.pools n ∙ live;
+      })
+
       made : BrigadeVar
-      made = var.Live (record { name = r.shared.next; on = pool_named r (pool_of_brigade p o); mark = Usable; items = [] })
+      made = var.Live (record { name = r.shared.next; on = on; mark = Usable; items = [] })
 
       none : new_fault (r.instance.brigades o) ≡ None
       none = first_none (new_fault (r.instance.brigades o)) None (second_none (fault_want r (WPool (pool_of_brigade p o))) (or_else (new_fault (r.instance.brigades o)) None) ready.may.faultless)

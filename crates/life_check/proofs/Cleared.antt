@@ -37,6 +37,7 @@ use Rattle.run_model.proofs.RunOrderLaws.{under_itself}
 use Rattle.run_model.proofs.Updates.{upd_either}
 use Rattle.run_model.proofs.PoolMap.{cleared_path, cleared_apart, cleared_itself, cleared_under as pools_cleared_under, destroyed_path, destroyed_apart, destroyed_under}
 use Rattle.run_model.proofs.StepPools.{wanted_pool, named_lives}
+use Rattle.run_model.proofs.chains.Apart.{some_is}
 use Rattle.run_model.specs.State.{Configuration, with_pools, pool_view, named_at, pool_named, name_in, items_of}
 use Rattle.life_state.specs.declared.parts.Classes.{Classes}
 use Rattle.life_state.specs.declared.parts.PoolState.{PoolState}
@@ -52,7 +53,7 @@ use Rattle.life_check.proofs.Lists.{each_map, IsSorted, holds_map, map_found, na
 use Rattle.life_check.specs.Soundness.{LawOf, RequestEndLands}
 use Rattle.life_check.proofs.Pools.{same_live, same_names}
 use Rattle.life_check.proofs.Standing.{moved_facts}
-use Rattle.life_check.proofs.Tree.{some_is, same_named, under_through, under_declared}
+use Rattle.life_check.proofs.Tree.{same_named, under_through, under_declared}
 
 -- The pool n goes with all under it, and may stay itself. named, apart: names of the others stay, and so do they. under,
 -- dead: those under it are gone, and none that was comes back. brigades, loose: what lies there goes, and homes there end.
@@ -69,44 +70,19 @@ pub record Went (r new : Configuration) (n : ℕ) : Type 0 where
 
 -- One bucket.
 
-heap_data : (reached : ℕ → Bool) (k : Kind) → is_data_kind (to_heap reached k) ≡ is_data_kind k
-heap_data reached (kind.Pool p) = by_test (reached p) where
-  by_test : (b : Bool) → is_data_kind (cond b kind.Heap (kind.Pool p)) ≡ true
-  by_test true = refl
+-- a test that answers of a pool bucket as of a heap bucket
+heap_same : (test : Kind → Bool) → ((p : ℕ) → test kind.Heap ≡ test (kind.Pool p)) → (reached : ℕ → Bool) (k : Kind) → test (to_heap reached k) ≡ test k
+heap_same test same reached (kind.Pool p) = by_test (reached p) where
+  by_test : (b : Bool) → test (cond b kind.Heap (kind.Pool p)) ≡ test (kind.Pool p)
+  by_test true = same p
   by_test false = refl
-heap_data reached kind.Heap = refl
-heap_data reached kind.Transient = refl
-heap_data reached kind.Immortal = refl
-heap_data reached kind.File = refl
-heap_data reached kind.Flush = refl
-heap_data reached kind.Eos = refl
+heap_same test same reached k = refl
 
-heap_eos : (reached : ℕ → Bool) (k : Kind) → is_eos_kind (to_heap reached k) ≡ is_eos_kind k
-heap_eos reached (kind.Pool p) = by_test (reached p) where
-  by_test : (b : Bool) → is_eos_kind (cond b kind.Heap (kind.Pool p)) ≡ false
-  by_test true = refl
-  by_test false = refl
-heap_eos reached kind.Heap = refl
-heap_eos reached kind.Transient = refl
-heap_eos reached kind.Immortal = refl
-heap_eos reached kind.File = refl
-heap_eos reached kind.Flush = refl
-heap_eos reached kind.Eos = refl
+pub heap_class : (reached : ℕ → Bool) (t : Classes) (k : Kind) → class_has t (to_heap reached k) ≡ class_has t k
+heap_class reached t = heap_same (class_has t) (λ p. refl) reached
 
-heap_class : (reached : ℕ → Bool) (t : Classes) (k : Kind) → class_has t (to_heap reached k) ≡ class_has t k
-heap_class reached t (kind.Pool p) = by_test (reached p) where
-  by_test : (b : Bool) → class_has t (cond b kind.Heap (kind.Pool p)) ≡ t.bytes
-  by_test true = refl
-  by_test false = refl
-heap_class reached t kind.Heap = refl
-heap_class reached t kind.Transient = refl
-heap_class reached t kind.Immortal = refl
-heap_class reached t kind.File = refl
-heap_class reached t kind.Flush = refl
-heap_class reached t kind.Eos = refl
-
-cleared_sorted : (reached : ℕ → Bool) → IsSorted (cleared_bucket reached)
-cleared_sorted reached = record { bytes = λ x. heap_data reached x.bucket.kind; eos = λ x. heap_eos reached x.bucket.kind }
+pub cleared_sorted : (reached : ℕ → Bool) → IsSorted (cleared_bucket reached)
+cleared_sorted reached = record { bytes = λ x. heap_same is_data_kind (λ p. refl) reached x.bucket.kind; eos = λ x. heap_same is_eos_kind (λ p. refl) reached x.bucket.kind }
 
 -- some place passes the test
 some_place : (f : PoolRef → Bool) (d : PoolRef) → is_clearable d ≡ true → f d ≡ true → any_place f ≡ true

@@ -74,7 +74,7 @@ stepped_told p m (Err r, c) none s = (tt, s)
 -- Between calls.
 
 -- another call of the same instance, whose state has no cursors
-calm_fits : (C D : Homes → Home → Type 0) (s : State) (r : Configuration) (call : Call) (shared : Shared) (pc : ℕ) (out : Out)
+pub calm_fits : (C D : Homes → Home → Type 0) (s : State) (r : Configuration) (call : Call) (shared : Shared) (pc : ℕ) (out : Out)
     → ((c : ℕ) → s.cursors c ≡ Unset) → ((c d : ℕ) → s.facts c d ≡ true → Differ (call.cursors c) (call.cursors d))
     → ((h : Homes) (x : Home) → C h x → D h x) → ((q n : ℕ) → r.instance.pools q ≡ poolvar.Made n → is_live shared.pools n ≡ is_live r.shared.pools n)
     → Fits C s r → Fits D s (record { instance = r.instance; call = call; shared = shared; pc = pc; out = out })
@@ -89,7 +89,7 @@ calm_fits C D s r call shared pc out unset facts more lives f =
     }
 
 -- what is known between calls has no cursors
-between_unset : (p : Program) (o : Option State) (s : State) → IsBoundedSome o → fits_between p o ≡ true → o ≡ Some s → (c : ℕ) → s.cursors c ≡ Unset
+pub between_unset : (p : Program) (o : Option State) (s : State) → IsBoundedSome o → fits_between p o ≡ true → o ≡ Some s → (c : ℕ) → s.cursors c ≡ Unset
 between_unset p None s bounded fit is = cc
 between_unset p (Some t) s bounded fit is = subst (λ (x : State). (c : ℕ) → x.cursors c ≡ Unset) (same is) (no_cursors t bounded (split3 (declares p t) (not (has_in t)) (has_no_cursor t) fit).2) where
   same : Some t ≡ Some s → t ≡ s
@@ -153,7 +153,7 @@ piece_covered p r req is live (piece.File file from len) = (live, ByCall refl is
 piece_covered p r req is live piece.Flush = tt
 piece_covered p r req is live piece.Eos = tt
 
-pieces_covered : (p : Program) (r : Configuration) (req n : ℕ) (xs : List Piece) → r.shared.req ≡ Some req → is_live r.shared.pools req ≡ true → Each (λ x. InCall p r only_call x.bucket.home) (named_from (bucket_of r.call.name req) n xs)
+pub pieces_covered : (p : Program) (r : Configuration) (req n : ℕ) (xs : List Piece) → r.shared.req ≡ Some req → is_live r.shared.pools req ≡ true → Each (λ x. InCall p r only_call x.bucket.home) (named_from (bucket_of r.call.name req) n xs)
 unfolding Each
 pieces_covered p r req n [] is live = tt
 pieces_covered p r req n (x ∷ xs) is live = (piece_covered p r req is live x, pieces_covered p r req (n + 1) xs is live)

@@ -1,5 +1,5 @@
 -- A split, a read and a partition make a brigade finer.
-use Rattle.std.proofs.Common.{◌≡◌, ℕ, zero, suc, ◌-◌, ◌<◌, Bool, true, false, ◌==◌, nat_le, nat_lt, cond, List, [], ◌∷◌, ◌++◌, Some, None, inl, inr, refl, sym, ◌∙◌, ap, subst, arith}
+use Rattle.std.proofs.Common.{◌≡◌, ℕ, zero, suc, ◌-◌, Bool, true, false, ◌==◌, nat_le, nat_lt, cond, List, [], ◌∷◌, ◌++◌, Some, None, inl, inr, refl, sym, ◌∙◌, ap, subst, arith}
 use Rattle.std.proofs.lemmas.List.Elements.{All-head, All-tail}
 use Rattle.std.proofs.lemmas.Bool.Decides.{nat_tests}
 use Rattle.std.specs.Prelude.{All}
@@ -15,18 +15,14 @@ use Rattle.run_model.specs.Buckets.{is_data_kind, is_eos_kind, is_data}
 use Rattle.run_model.specs.BrigadeLists.{buckets_before, buckets_from, first_bucket, bucket_named, Metadata, TooLong, split_refusal, first_bytes, rest_as, first_split, bucket_split, front_to, back_from, is_short, partitioned}
 use Rattle.run_model.specs.BucketSteps.{first_read, bucket_read, rest_named}
 use Rattle.run_model.specs.Cutting.{FitsKind, form_of, form_of_kind, length_of, read_limit, read_as, heap_of, rest_of}
+use Rattle.run_model.proofs.BrigadeLists.{bytes_are_data}
 use Rattle.life_state.specs.States.{Homes}
 use Rattle.life_check.specs.Meaning.{class_has}
 use Rattle.life_check.proofs.Finer.{Like, AreParts, Finer, like_itself, finer_same}
 
 pub data_not_eos : (k : Kind) → is_data_kind k ≡ true → is_eos_kind k ≡ false
 data_not_eos kind.Eos is = absurd (cc)
-data_not_eos kind.Heap is = refl
-data_not_eos kind.Transient is = refl
-data_not_eos kind.Immortal is = refl
-data_not_eos (kind.Pool p) is = refl
-data_not_eos kind.File is = refl
-data_not_eos kind.Flush is = refl
+data_not_eos k is = refl
 
 -- a bucket that is not refused a split is data
 pub split_data : (n : ℕ) (x : NamedBucket) → split_refusal n x ≡ None → is_data x ≡ true
@@ -38,24 +34,7 @@ split_data n x is = by_test (is_data x) refl is where
 -- a bucket of a file's range is of the kind FILE
 range_file : (k : Kind) (file start len : ℕ) → form_of (content.Range file start len) ≡ form_of_kind k → k ≡ kind.File
 range_file kind.File file start len is = refl
-range_file kind.Heap file start len is = absurd (cc)
-range_file kind.Transient file start len is = absurd (cc)
-range_file kind.Immortal file start len is = absurd (cc)
-range_file (kind.Pool p) file start len is = absurd (cc)
-range_file kind.Flush file start len is = absurd (cc)
-range_file kind.Eos file start len is = absurd (cc)
-
--- a bucket that has bytes is data
-bytes_data : (p : ℕ) (b : Bucket) → FitsKind b → p < length_of b.content → is_data_kind b.kind ≡ true
-bytes_data p b fits more = of_kind b.kind b.content fits.holds more where
-  of_kind : (k : Kind) (c : Content) → form_of c ≡ form_of_kind k → p < length_of c → is_data_kind k ≡ true
-  of_kind kind.Flush (content.Bytes bs) holds more = absurd (cc)
-  of_kind kind.Flush (content.Range f start len) holds more = absurd (cc)
-  of_kind kind.Flush content.Nothing holds more = absurd (omega arith)
-  of_kind kind.Eos (content.Bytes bs) holds more = absurd (cc)
-  of_kind kind.Eos (content.Range f start len) holds more = absurd (cc)
-  of_kind kind.Eos content.Nothing holds more = absurd (omega arith)
-  of_kind k c holds more = refl
+range_file k file start len is = absurd (cc)
 
 -- What is done to the bucket of a name, where it stands.
 changed_there : (n : ℕ) (xs : List NamedBucket) (R : List NamedBucket → List NamedBucket → Type 0) (change : List NamedBucket → List NamedBucket) (x : NamedBucket)
@@ -140,7 +119,7 @@ module _ (C : Homes → Home → Type 0) (free : (h : Homes) → C h home.Free) 
         → Finer C new (cond c (x ∷ front_to (suc p - length_of x.bucket.content) xs) (first_bytes (suc p) x ∷ []) ++ cond c (back_from new (suc p - length_of x.bucket.content) xs) (rest_as new (suc p) x ∷ xs)) (x ∷ xs)
     by_length true tells f = kept_finer new x (front_to (suc p - length_of x.bucket.content) xs ++ back_from new (suc p - length_of x.bucket.content) xs) xs f
     by_length false tells f =
-        parted_finer new (first_bytes (suc p) x) (rest_as new (suc p) x) x xs (split_parts new (suc p) x (bytes_data (suc p) x.bucket (All-head (λ y. FitsKind y.bucket) x xs fits) (grind (arith, nat_tests))))
+        parted_finer new (first_bytes (suc p) x) (rest_as new (suc p) x) x xs (split_parts new (suc p) x (bytes_are_data (suc p) x.bucket (All-head (λ y. FitsKind y.bucket) x xs fits) (grind (arith, nat_tests))))
 
   pub partition_finer : (new point : ℕ) (xs : List NamedBucket) → All (λ x. FitsKind x.bucket) xs → Finer C new (partitioned new point xs) xs
   partition_finer new point xs fits = by_test (is_short point xs) where

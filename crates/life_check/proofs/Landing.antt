@@ -75,7 +75,7 @@ apart_from_req p i h =
     let two = first_false (t o.first || t o.second) (t o.third) three in
     (first_false (t o.first) (t o.second) two, second_false (t o.first) (t o.second) two)
 
-no_request : (p : Program) (i : Instr) → misplaced part.Open p.pools p.brigades (op_of i) (operands_of i [] 0) ≡ false → wants_request (wants p i) ≡ true → ⊥
+pub no_request : (p : Program) (i : Instr) → misplaced part.Open p.pools p.brigades (op_of i) (operands_of i [] 0) ≡ false → wants_request (wants p i) ≡ true → ⊥
 unfolding pool_of_pool pool_of_brigade
 no_request p (instr.PCreate q) apart h = one_pool 7 p.pools (pool_of_pool p q) _ (apart_from_req p (instr.PCreate q) apart).0 refl h
 no_request p (instr.Label q t) apart h = one_pool 8 p.pools q [] (apart_from_req p (instr.Label q t) apart).0 refl h
@@ -87,7 +87,7 @@ no_request p i apart h = cc
 
 -- Exits.
 
-abbrev IsOnward : Exit → Type 0
+abbrev pub IsOnward : Exit → Type 0
 IsOnward GoOn = Unit {0}
 IsOnward Jump = Unit {0}
 IsOnward Return = ⊥
@@ -97,7 +97,7 @@ jumps_on true = tt
 jumps_on false = tt
 
 -- only a return returns
-goes_onward : (p : Program) (choice : Choice) (i : Instr) (r : Configuration) → is_return i ≡ false → IsOnward (step p choice i r).exit
+pub goes_onward : (p : Program) (choice : Choice) (i : Instr) (r : Configuration) → is_return i ≡ false → IsOnward (step p choice i r).exit
 goes_onward p choice (instr.BPart b x c l) r on = jumps_on (is_incomplete (partition_answer r.shared.next (value_of r x) (items_at r b)))
 goes_onward p choice (instr.JEmpty b l) r on = jumps_on (is_empty (items_of (r.instance.brigades b)))
 goes_onward p choice (instr.Pass b l) r on = jumps_on (is_fail choice.answer)
@@ -127,7 +127,7 @@ return_leaves p m pc i s on h = cc
 same_edges : (e x : Edges) → need_or None e ≡ Ok x → e ≡ x
 same_edges e x h = cc
 
-met_of : (f : Option FaultKind) (e x : Edges) → need_or f e ≡ Ok x → (f ≡ None) × (e ≡ x)
+pub met_of : (f : Option FaultKind) (e x : Edges) → need_or f e ≡ Ok x → (f ≡ None) × (e ≡ x)
 met_of None e x h = (refl, same_edges e x h)
 met_of (Some k) e x h = cc
 
@@ -151,7 +151,7 @@ same_call p o r call req named open_req f =
     (subst (λ (q : Option ℕ). FitsSome (Covers p (pool_view r) (LivesIn call q)) o r) (sym open_req) f)
 
 -- what a call leaves is what is known without a request, or in one
-left_rests : (p : Program) (m : Certificate) (pc : ℕ) (req : Option ℕ) → (pc < p.init → req ≡ None) → (p.init ≤ pc → is_some req ≡ true) → left_by p m pc ≡ resting m req
+pub left_rests : (p : Program) (m : Certificate) (pc : ℕ) (req : Option ℕ) → (pc < p.init → req ≡ None) → (p.init ≤ pc → is_some req ≡ true) → left_by p m pc ≡ resting m req
 left_rests p m pc req opening serving = by_test (nat_lt pc p.init) refl where
   less : nat_lt pc p.init ≡ true → pc < p.init
   less h = grind (arith, nat_tests)

@@ -1,7 +1,9 @@
+pub mod Accepting
 pub mod AnyFiles
 pub mod Asides
 pub mod Brigades
 pub mod Cleared
+pub mod chains
 pub mod Cuts
 pub mod Events
 pub mod Examples

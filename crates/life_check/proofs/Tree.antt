@@ -2,12 +2,9 @@
 use Rattle.std.proofs.Common.{◌≡◌, ℕ, zero, suc, ◌+◌, ◌<◌, Bool, true, false, ◌||◌, ◌==◌, ◌∷◌, Some, inl, inr, refl, sym, ◌∙◌, ap, subst, arith, eq-eqb, ne_eqb, eqb-true}
 use Rattle.std.proofs.lemmas.Bool.{ltb-true, cases_lt}
 use Rattle.std.proofs.lemmas.Bool.Decides.{eqb_tells}
-use Rattle.std.proofs.lemmas.List.{get_or_past}
-use Rattle.std.proofs.lemmas.Option.{get_or_from_slice_get, slice_get_cases}
 use Rattle.module_lang.specs.declared.instr.PoolRef.{PoolRef}
 use Rattle.module_lang.specs.declared.instr.PoolRef.TheVariants as pool
 use Rattle.module_lang.specs.Program.{Program, IsModule, pool_of_pool}
-use Rattle.module_lang.specs.Tables.{place_is_declared}
 use Rattle.run_model.specs.AsDeclared.{AsDeclared}
 use Rattle.run_model.specs.declared.bucket.PoolVar.TheVariants as poolvar
 use Rattle.run_model.specs.Pools.{is_in, is_live, is_under}
@@ -16,28 +13,12 @@ use Rattle.run_model.specs.State.{Configuration, named_at, pool_named}
 use Rattle.run_model.proofs.Formed.{formed_older}
 use Rattle.run_model.proofs.NamedPools.{own_named}
 use Rattle.run_model.proofs.PoolMap.{not_under}
+use Rattle.run_model.proofs.chains.Apart.{rank, parent_rank, some_is}
 use Rattle.run_model.proofs.RunOrderLaws.{under_itself}
 use Rattle.life_state.specs.PoolOrder.{is_same_place, parent_of, under_within, is_under as is_declared_under, is_clearable}
 use Rattle.life_state.proofs.Tests.{or_either, or_right}
 
--- Looks: how far a place is from the connection's pool, at most.
-
-abbrev pub rank : PoolRef → ℕ
-rank pool.Conn = 0
-rank pool.Req = 1
-rank (pool.Own q) = 2 + q
-
-declared_rank : (q : ℕ) (k : PoolRef) → place_is_declared q k ≡ true → rank k < 2 + q
-declared_rank q pool.Conn h = omega arith
-declared_rank q pool.Req h = omega arith
-declared_rank q (pool.Own i) h = let lt : i < q = ltb-true i q h in omega arith
-
-parent_rank : (p : Program) → IsModule p → (q : ℕ) → rank (pool_of_pool p q) < 2 + q
-unfolding pool_of_pool
-parent_rank p module_is q = elim (slice_get_cases p.pools q).1 [
-  | inl f ↦ subst (λ (k : PoolRef). rank k < 2 + q) (sym (get_or_from_slice_get p.pools q f.0 pool.Conn f.2)) (declared_rank q f.0 (module_is.parents q f.0 f.2))
-  | inr f ↦ subst (λ (k : PoolRef). rank k < 2 + q) (sym (get_or_past p.pools q pool.Conn f.0)) (omega arith)
-]
+-- Looks: a place's rank is how far it is from the connection's pool, at most.
 
 pub clearable_rank : (k : PoolRef) → is_clearable k ≡ true → rank k < 10
 clearable_rank pool.Conn h = omega arith
@@ -94,9 +75,6 @@ pub under_through : (p : Program) → IsModule p → (top mid low : PoolRef) →
 under_through p m top mid low clears above below = through 10 p m top mid low (clearable_rank low clears) above below
 
 -- Places and pools.
-
-pub some_is : (a b : ℕ) → Some a ≡ Some b → a ≡ b
-some_is a b e = cc
 
 -- two places name one pool only where they are one
 pub same_named : (p : Program) (r : Configuration) → Sound r → AsDeclared p r → (a b : PoolRef) (n m : ℕ) → pool_named r a ≡ Some n → pool_named r b ≡ Some m → (m == n) ≡ is_same_place a b

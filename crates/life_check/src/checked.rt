@@ -23,7 +23,7 @@ fn check_entries(code: &Module, cert: &Cert) -> Result<(), CheckRefusal>
 }
 
 #[tactic(auto, unfolding(crate::specs::Typed::first_refusal))]
-fn check_all(code: &Module, cert: &Cert) -> Result<(), CheckRefusal>
+pub(crate) fn check_all(code: &Module, cert: &Cert) -> Result<(), CheckRefusal>
     ensures first { IsAnswer (first_refusal code.now (seen_cert cert.now)) result }
     ensures bounded { IsOk result → AllBounded (seen_cert cert.now) }
     ensures proper { IsOk result → IsModule code.now }

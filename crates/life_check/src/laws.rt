@@ -4,6 +4,7 @@ ghost use Rattle.std.specs.Prelude.{Bool};
 ghost use Rattle.module_lang.specs.Program.{Program};
 ghost use Rattle.run_model.specs.declared.bucket.Home.{Home};
 ghost use Rattle.run_model.specs.State.{PoolView};
+ghost use Rattle.life_check.specs.ChainTheorem.{TypedChainNeverFaults};
 ghost use Rattle.life_check.specs.Examples.{FaultRows, IdentityAnswers};
 ghost use Rattle.life_check.specs.Meaning.{Covers};
 ghost use Rattle.life_check.specs.Soundness.{IsToldBy, StepLands, MetIsFaultless, GreaterFits, RequestEndLands};
@@ -21,6 +22,12 @@ pub fn typed_modules_never_fault()
     ensures plainly { TypedModuleNeverFaults }
     ensures on_any_files { TypedModuleNeverFaultsOnAnyFiles }
     ensures runs { RunsAreOnAnyFiles }
+{}
+
+/// Where each module of a chain is typed with its certificate, no run of any number of connections of that chain answers a fault,
+/// whatever happens on which of them, and whatever each read gives.
+pub fn typed_chains_never_fault()
+    ensures { TypedChainNeverFaults }
 {}
 
 /// The rules are sound, step by step, whatever lives through a call. What a step leaves is described by the state on the edge that it

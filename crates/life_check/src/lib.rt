@@ -2,14 +2,18 @@
 #![tactic(auto)]
 
 mod cert;
+mod chain;
 mod checked;
 mod entries;
 pub mod laws;
 mod lines;
 mod refusal;
 mod shape;
+#[cfg(test)]
+mod tests;
 
 pub use cert::Cert;
+pub use chain::{CheckedChain, accept_chain};
 pub use checked::check;
 pub use lines::target;
-pub use refusal::{CheckRefusal, Rule};
+pub use refusal::{ChainRefusal, CheckRefusal, Rule};

@@ -1,6 +1,10 @@
-//! Why a certificate is refused.
+//! Why a certificate, or a chain of modules, is refused.
+
+ghost use Rattle.std.specs.Prelude.{◌≡◌};
+ghost use Rattle.life_check.specs.declared.refusal.ChainRefusal.TheVariants.{NoMemory};
 
 use run_model::FaultKind;
+use std::alloc::AllocError;
 
 /// What a certificate fails.
 #[derive(Clone, Copy)]
@@ -26,4 +30,26 @@ pub struct CheckRefusal {
     pub pc: usize,
     /// What fails there.
     pub rule: Rule,
+}
+
+/// Why a chain is refused.
+#[derive(Clone, Copy)]
+pub enum ChainRefusal {
+    /// A module is refused with its certificate.
+    At {
+        /// The first such module, by its place in the chain, from 0 on.
+        index: usize,
+        /// Its refusal.
+        refusal: CheckRefusal,
+    },
+    /// There is no memory for the list of modules.
+    NoMemory,
+}
+
+impl From<AllocError> for ChainRefusal {
+    ghost from_gives = { λ _ e. e ≡ NoMemory };
+
+    fn from(_error: AllocError) -> Self {
+        ChainRefusal::NoMemory
+    }
 }

@@ -7,46 +7,27 @@ use Rattle.life_state.specs.declared.parts.Contents.{Contents}
 use Rattle.life_state.specs.declared.parts.Classes.{Classes}
 use Rattle.life_state.specs.States.{Homes, both_homes, BrigadeKnown, CursorKnown, Unset, Loose, In, End, InOrEnd, State}
 use Rattle.life_state.specs.Facts.{is_set, is_apart, place_of, known, facts_of}
-use Rattle.life_state.specs.Order.{implies, all_below, rank, content_le, greater, classes_le, both_classes, places_le, homes_le, variable_le, marks_le, brigade_le, both_brigades, cursor_le, both_here, both_cursors, is_at_hand, kept_cursor, same_variables, joined_brigades, joined_cursors, join}
+use Rattle.life_state.specs.Order.{implies, all_below, rank, content_le, greater, classes_le, both_classes, places_le, homes_le, brigade_le, both_brigades, cursor_le, both_here, both_cursors, is_at_hand, kept_cursor, same_variables, joined_brigades, joined_cursors, join}
 use Rattle.life_state.specs.Laws.{Below, JoinIsAbove}
 use Rattle.life_state.proofs.Below.{all_below_holds}
 use Rattle.life_state.proofs.Tests.{split2, and2, split3, and3, or_left, or_right, implies_left, implies_right}
-use Rattle.life_state.proofs.PartsOrder.{pool_left, pool_right, classes_same, classes_left, classes_right, content_same}
+use Rattle.life_state.proofs.PartsOrder.{IsPick, pool_left, pool_right, as_pool, brigade_by, classes_same, classes_left, classes_right, content_same}
 use Rattle.life_state.proofs.OrderLaws.{leq_holds}
 
-homes_left : (a b : Homes) → homes_le a (both_homes a b) ≡ true
-homes_left a b =
+homes_above : (pick : Bool → Bool → Bool) → IsPick pick → (a b : Homes)
+    → homes_le (record { call = pick a.call b.call; dead = pick a.dead b.dead; at = λ k. pick (a.at k) (b.at k) }) (both_homes a b) ≡ true
+homes_above pick up a b =
+    let one : PoolRef → Bool = λ k. pick (a.at k) (b.at k) in
     let both : PoolRef → Bool = λ k. a.at k || b.at k in
-    and3 (implies a.call (a.call || b.call)) (implies a.dead (a.dead || b.dead)) (places_le a.at both) (implies_left a.call b.call) (implies_left a.dead b.dead)
-    (and2 (implies (a.at pool.Req) (both pool.Req)) (all_below 8 (λ i. implies (a.at (pool.Own i)) (both (pool.Own i)))) (implies_left (a.at pool.Req) (b.at pool.Req))
-    (all_below_holds 8 (λ i. implies (a.at (pool.Own i)) (both (pool.Own i))) (λ i h. implies_left (a.at (pool.Own i)) (b.at (pool.Own i)))))
+    and3 (implies (pick a.call b.call) (a.call || b.call)) (implies (pick a.dead b.dead) (a.dead || b.dead)) (places_le one both) (up a.call b.call) (up a.dead b.dead)
+    (and2 (implies (one pool.Req) (both pool.Req)) (all_below 8 (λ i. implies (one (pool.Own i)) (both (pool.Own i)))) (up (a.at pool.Req) (b.at pool.Req))
+    (all_below_holds 8 (λ i. implies (one (pool.Own i)) (both (pool.Own i))) (λ i h. up (a.at (pool.Own i)) (b.at (pool.Own i)))))
 
-variable_left : (a b : BrigadeKnown) → variable_le a (both_brigades a b) ≡ true
-unfolding both_brigades
-variable_left a b =
-    and3 (implies a.null (a.null || b.null)) (implies a.gone (a.gone || b.gone)) (implies a.live (a.live || b.live))
-    (implies_left a.null b.null) (implies_left a.gone b.gone) (implies_left a.live b.live)
-
-marks_left : (a b : BrigadeKnown) → marks_le a (both_brigades a b) ≡ true
-unfolding both_brigades
-marks_left a b = and2 (implies a.usable (a.usable || b.usable)) (implies a.passed (a.passed || b.passed)) (implies_left a.usable b.usable) (implies_left a.passed b.passed)
+homes_left : (a b : Homes) → homes_le a (both_homes a b) ≡ true
+homes_left = homes_above (λ x y. x) implies_left
 
 homes_right : (a b : Homes) → homes_le b (both_homes a b) ≡ true
-homes_right a b =
-    let both : PoolRef → Bool = λ k. a.at k || b.at k in
-    and3 (implies b.call (a.call || b.call)) (implies b.dead (a.dead || b.dead)) (places_le b.at both) (implies_right a.call b.call) (implies_right a.dead b.dead)
-    (and2 (implies (b.at pool.Req) (both pool.Req)) (all_below 8 (λ i. implies (b.at (pool.Own i)) (both (pool.Own i)))) (implies_right (a.at pool.Req) (b.at pool.Req))
-    (all_below_holds 8 (λ i. implies (b.at (pool.Own i)) (both (pool.Own i))) (λ i h. implies_right (a.at (pool.Own i)) (b.at (pool.Own i)))))
-
-variable_right : (a b : BrigadeKnown) → variable_le b (both_brigades a b) ≡ true
-unfolding both_brigades
-variable_right a b =
-    and3 (implies b.null (a.null || b.null)) (implies b.gone (a.gone || b.gone)) (implies b.live (a.live || b.live))
-    (implies_right a.null b.null) (implies_right a.gone b.gone) (implies_right a.live b.live)
-
-marks_right : (a b : BrigadeKnown) → marks_le b (both_brigades a b) ≡ true
-unfolding both_brigades
-marks_right a b = and2 (implies b.usable (a.usable || b.usable)) (implies b.passed (a.passed || b.passed)) (implies_right a.usable b.usable) (implies_right a.passed b.passed)
+homes_right = homes_above (λ x y. y) implies_right
 
 content_left : (a b : Contents) → content_le a (greater a b) ≡ true
 content_left a b = pick (content_le a b) refl
@@ -63,18 +44,16 @@ content_right a b = pick (content_le a b) refl
     pick false h = let more : rank b < rank a = leb-false (rank a) (rank b) h in le-leb (rank b) (rank a) (omega arith)
 
 brigade_left : (a b : BrigadeKnown) → brigade_le a (both_brigades a b) ≡ true
-unfolding brigade_le both_brigades
+unfolding both_brigades
 brigade_left a b =
-    let both = both_brigades a b in
-    and2 (variable_le a both && marks_le a both && content_le a.content (greater a.content b.content)) (homes_le a.homes (both_homes a.homes b.homes))
-    (and3 (variable_le a both) (marks_le a both) (content_le a.content (greater a.content b.content)) (variable_left a b) (marks_left a b) (content_left a.content b.content)) (homes_left a.homes b.homes)
+    brigade_by a (both_brigades a b) (pool_left (as_pool a) (as_pool b)) (and2 (implies a.usable (a.usable || b.usable)) (implies a.passed (a.passed || b.passed)) (implies_left a.usable b.usable) (implies_left a.passed b.passed))
+    (content_left a.content b.content) (homes_left a.homes b.homes)
 
 brigade_right : (a b : BrigadeKnown) → brigade_le b (both_brigades a b) ≡ true
-unfolding brigade_le both_brigades
+unfolding both_brigades
 brigade_right a b =
-    let both = both_brigades a b in
-    and2 (variable_le b both && marks_le b both && content_le b.content (greater a.content b.content)) (homes_le b.homes (both_homes a.homes b.homes))
-    (and3 (variable_le b both) (marks_le b both) (content_le b.content (greater a.content b.content)) (variable_right a b) (marks_right a b) (content_right a.content b.content)) (homes_right a.homes b.homes)
+    brigade_by b (both_brigades a b) (pool_right (as_pool a) (as_pool b)) (and2 (implies b.usable (a.usable || b.usable)) (implies b.passed (a.passed || b.passed)) (implies_right a.usable b.usable) (implies_right a.passed b.passed))
+    (content_right a.content b.content) (homes_right a.homes b.homes)
 
 same_number : (b : ℕ) → (b == b) ≡ true
 same_number b = eq-eqb b b refl
@@ -96,17 +75,7 @@ here_left (End b) (InOrEnd c t) = same_number b
 here_left (InOrEnd b s) (In c t) = at_left b s t
 here_left (InOrEnd b s) (End c) = at_same b s
 here_left (InOrEnd b s) (InOrEnd c t) = at_left b s t
-here_left Unset y = refl
-here_left (Loose s h) Unset = refl
-here_left (Loose s h) (In c t) = refl
-here_left (Loose s h) (End c) = refl
-here_left (Loose s h) (InOrEnd c t) = refl
-here_left (In b s) Unset = refl
-here_left (In b s) (Loose t k) = refl
-here_left (End b) Unset = refl
-here_left (End b) (Loose t k) = refl
-here_left (InOrEnd b s) Unset = refl
-here_left (InOrEnd b s) (Loose t k) = refl
+here_left x y = refl
 
 turned : (b c : ℕ) → (b + 1 == c + 1) ≡ true → (c == b) ≡ true
 turned b c h = let e : b + 1 ≡ c + 1 = eqb-true (b + 1) (c + 1) h in eq-eqb c b (omega arith)
@@ -128,17 +97,7 @@ here_right (End b) (InOrEnd c t) e = at_turned b c t e
 here_right (InOrEnd b s) (In c t) e = at_right b c s t e
 here_right (InOrEnd b s) (End c) e = turned b c e
 here_right (InOrEnd b s) (InOrEnd c t) e = at_right b c s t e
-here_right Unset y e = refl
-here_right (Loose s h) Unset e = refl
-here_right (Loose s h) (In c t) e = refl
-here_right (Loose s h) (End c) e = refl
-here_right (Loose s h) (InOrEnd c t) e = refl
-here_right (In b s) Unset e = refl
-here_right (In b s) (Loose t k) e = refl
-here_right (End b) Unset e = refl
-here_right (End b) (Loose t k) e = refl
-here_right (InOrEnd b s) Unset e = refl
-here_right (InOrEnd b s) (Loose t k) e = refl
+here_right x y e = refl
 
 picked : (x y : CursorKnown) (t : Bool) → (t ≡ true → cursor_le x y ≡ true) → cursor_le x (if t then y else Unset) ≡ true
 picked x y true h = h refl

@@ -17,11 +17,6 @@ classes_same v =
     and3 (implies v.bytes v.bytes) (implies v.flush v.flush) (implies v.eos v.eos)
     (implies_same v.bytes) (implies_same v.flush) (implies_same v.eos)
 
-pub pool_same : (v : PoolState) → pool_le v v ≡ true
-pool_same v =
-    and3 (implies v.null v.null) (implies v.gone v.gone) (implies v.live v.live)
-    (implies_same v.null) (implies_same v.gone) (implies_same v.live)
-
 pub classes_trans : (a b c : Classes) → classes_le a b ≡ true → classes_le b c ≡ true → classes_le a c ≡ true
 classes_trans a b c p q =
     let p3 = split3 (implies a.bytes b.bytes) (implies a.flush b.flush) (implies a.eos b.eos) p in
@@ -29,44 +24,47 @@ classes_trans a b c p q =
     and3 (implies a.bytes c.bytes) (implies a.flush c.flush) (implies a.eos c.eos)
     (implies_trans a.bytes b.bytes c.bytes (p3.0) (q3.0)) (implies_trans a.flush b.flush c.flush (p3.1) (q3.1)) (implies_trans a.eos b.eos c.eos (p3.2) (q3.2))
 
-pub pool_trans : (a b c : PoolState) → pool_le a b ≡ true → pool_le b c ≡ true → pool_le a c ≡ true
-pool_trans a b c p q =
-    let p3 = split3 (implies a.null b.null) (implies a.gone b.gone) (implies a.live b.live) p in
-    let q3 = split3 (implies b.null c.null) (implies b.gone c.gone) (implies b.live c.live) q in
-    and3 (implies a.null c.null) (implies a.gone c.gone) (implies a.live c.live)
-    (implies_trans a.null b.null c.null (p3.0) (q3.0)) (implies_trans a.gone b.gone c.gone (p3.1) (q3.1)) (implies_trans a.live b.live c.live (p3.2) (q3.2))
+-- A pick gives one of two tests, and so one of two states' parts.
+abbrev pub IsPick : (Bool → Bool → Bool) → Type 0
+IsPick pick = (x y : Bool) → implies (pick x y) (x || y) ≡ true
+
+pub classes_above : (pick : Bool → Bool → Bool) → IsPick pick → (a b : Classes)
+    → classes_le (record { bytes = pick a.bytes b.bytes; flush = pick a.flush b.flush; eos = pick a.eos b.eos }) (both_classes a b) ≡ true
+classes_above pick up a b =
+    and3 (implies (pick a.bytes b.bytes) (a.bytes || b.bytes)) (implies (pick a.flush b.flush) (a.flush || b.flush)) (implies (pick a.eos b.eos) (a.eos || b.eos))
+    (up a.bytes b.bytes) (up a.flush b.flush) (up a.eos b.eos)
 
 pub classes_left : (a b : Classes) → classes_le a (both_classes a b) ≡ true
-classes_left a b =
-    and3 (implies a.bytes (a.bytes || b.bytes)) (implies a.flush (a.flush || b.flush)) (implies a.eos (a.eos || b.eos))
-    (implies_left a.bytes b.bytes) (implies_left a.flush b.flush) (implies_left a.eos b.eos)
-
-pub pool_left : (a b : PoolState) → pool_le a (both_pools a b) ≡ true
-pool_left a b =
-    and3 (implies a.null (a.null || b.null)) (implies a.gone (a.gone || b.gone)) (implies a.live (a.live || b.live))
-    (implies_left a.null b.null) (implies_left a.gone b.gone) (implies_left a.live b.live)
+classes_left = classes_above (λ x y. x) implies_left
 
 pub classes_right : (a b : Classes) → classes_le b (both_classes a b) ≡ true
-classes_right a b =
-    and3 (implies b.bytes (a.bytes || b.bytes)) (implies b.flush (a.flush || b.flush)) (implies b.eos (a.eos || b.eos))
-    (implies_right a.bytes b.bytes) (implies_right a.flush b.flush) (implies_right a.eos b.eos)
+classes_right = classes_above (λ x y. y) implies_right
+
+-- What a pool's variable may be is ordered as three classes are, and what a brigade's may be as a pool's.
+
+abbrev as_classes : PoolState → Classes
+as_classes v = record { bytes = v.null; flush = v.gone; eos = v.live }
+
+pub pool_same : (v : PoolState) → pool_le v v ≡ true
+pool_same v = classes_same (as_classes v)
+
+pub pool_trans : (a b c : PoolState) → pool_le a b ≡ true → pool_le b c ≡ true → pool_le a c ≡ true
+pool_trans a b c = classes_trans (as_classes a) (as_classes b) (as_classes c)
+
+pub pool_left : (a b : PoolState) → pool_le a (both_pools a b) ≡ true
+pool_left a b = classes_left (as_classes a) (as_classes b)
 
 pub pool_right : (a b : PoolState) → pool_le b (both_pools a b) ≡ true
-pool_right a b =
-    and3 (implies b.null (a.null || b.null)) (implies b.gone (a.gone || b.gone)) (implies b.live (a.live || b.live))
-    (implies_right a.null b.null) (implies_right a.gone b.gone) (implies_right a.live b.live)
+pool_right a b = classes_right (as_classes a) (as_classes b)
 
-pub variable_same : (v : BrigadeKnown) → variable_le v v ≡ true
-variable_same v =
-    and3 (implies v.null v.null) (implies v.gone v.gone) (implies v.live v.live)
-    (implies_same v.null) (implies_same v.gone) (implies_same v.live)
+abbrev pub as_pool : BrigadeKnown → PoolState
+as_pool v = record { null = v.null; gone = v.gone; live = v.live }
 
-pub variable_trans : (a b c : BrigadeKnown) → variable_le a b ≡ true → variable_le b c ≡ true → variable_le a c ≡ true
-variable_trans a b c p q =
-    let p3 = split3 (implies a.null b.null) (implies a.gone b.gone) (implies a.live b.live) p in
-    let q3 = split3 (implies b.null c.null) (implies b.gone c.gone) (implies b.live c.live) q in
-    and3 (implies a.null c.null) (implies a.gone c.gone) (implies a.live c.live)
-    (implies_trans a.null b.null c.null (p3.0) (q3.0)) (implies_trans a.gone b.gone c.gone (p3.1) (q3.1)) (implies_trans a.live b.live c.live (p3.2) (q3.2))
+variable_same : (v : BrigadeKnown) → variable_le v v ≡ true
+variable_same v = pool_same (as_pool v)
+
+variable_trans : (a b c : BrigadeKnown) → variable_le a b ≡ true → variable_le b c ≡ true → variable_le a c ≡ true
+variable_trans a b c = pool_trans (as_pool a) (as_pool b) (as_pool c)
 
 pub content_same : (a : Contents) → content_le a a ≡ true
 content_same a = le-leb (rank a) (rank a) (omega arith)
@@ -108,11 +106,14 @@ marks_trans a b c p q =
     let q2 = split2 (implies b.usable c.usable) (implies b.passed c.passed) q in
     and2 (implies a.usable c.usable) (implies a.passed c.passed) (implies_trans a.usable b.usable c.usable (p2.0) (q2.0)) (implies_trans a.passed b.passed c.passed (p2.1) (q2.1))
 
-pub brigade_same : (v : BrigadeKnown) → brigade_le v v ≡ true
+pub brigade_by : (a b : BrigadeKnown) → variable_le a b ≡ true → marks_le a b ≡ true → content_le a.content b.content ≡ true → homes_le a.homes b.homes ≡ true → brigade_le a b ≡ true
 unfolding brigade_le
-brigade_same v =
-    and2 (variable_le v v && marks_le v v && content_le v.content v.content) (homes_le v.homes v.homes)
-    (and3 (variable_le v v) (marks_le v v) (content_le v.content v.content) (variable_same v) (marks_same v) (content_same v.content)) (homes_same v.homes)
+brigade_by a b variable marks content homes =
+    and2 (variable_le a b && marks_le a b && content_le a.content b.content) (homes_le a.homes b.homes)
+    (and3 (variable_le a b) (marks_le a b) (content_le a.content b.content) variable marks content) homes
+
+pub brigade_same : (v : BrigadeKnown) → brigade_le v v ≡ true
+brigade_same v = brigade_by v v (variable_same v) (marks_same v) (content_same v.content) (homes_same v.homes)
 
 pub brigade_trans : (a b c : BrigadeKnown) → brigade_le a b ≡ true → brigade_le b c ≡ true → brigade_le a c ≡ true
 unfolding brigade_le
@@ -121,9 +122,7 @@ brigade_trans a b c p q =
     let q2 = split2 (variable_le b c && marks_le b c && content_le b.content c.content) (homes_le b.homes c.homes) q in
     let p3 = split3 (variable_le a b) (marks_le a b) (content_le a.content b.content) (p2.0) in
     let q3 = split3 (variable_le b c) (marks_le b c) (content_le b.content c.content) (q2.0) in
-    and2 (variable_le a c && marks_le a c && content_le a.content c.content) (homes_le a.homes c.homes)
-    (and3 (variable_le a c) (marks_le a c) (content_le a.content c.content) (variable_trans a b c (p3.0) (q3.0)) (marks_trans a b c (p3.1) (q3.1)) (content_trans a.content b.content c.content (p3.2) (q3.2)))
-    (homes_trans a.homes b.homes c.homes (p2.1) (q2.1))
+    brigade_by a c (variable_trans a b c (p3.0) (q3.0)) (marks_trans a b c (p3.1) (q3.1)) (content_trans a.content b.content c.content (p3.2) (q3.2)) (homes_trans a.homes b.homes c.homes (p2.1) (q2.1))
 
 same_number : (b : ℕ) → (b == b) ≡ true
 same_number b = eq-eqb b b refl

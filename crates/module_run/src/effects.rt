@@ -55,16 +55,24 @@ pub(crate) fn unlabel(code: &Module, machine: &mut Machine, pool: PoolRef, text:
     machine.remove_label(pool, code.text(text));
 }
 
-/// Makes an empty brigade on its declared pool, which is live.
-#[tactic(auto, unfolding(run_model::specs::State::named_at))]
-pub(crate) fn create(alloc: Global, code: &Module, machine: &mut Machine, o: u8)
+/// Makes an empty brigade on its declared pool, which is live, and registers it there. Without memory nothing is changed.
+#[tactic(auto, unfolding(run_model::specs::State::named_at, run_model::specs::State::with_pools))]
+pub(crate) fn create(
+    alloc: Global,
+    code: &Module,
+    machine: &mut Machine,
+    o: u8,
+) -> Result<(), AllocError>
     requires slot { o < 8 }
     requires declared { o < length code.now.brigades }
     requires live { has_pool (seen_machine machine.old) (pool_of_brigade code.now o) ≡ true }
     requires unspent { is_spent (seen_machine machine.old).shared.next 1 ≡ false }
-    ensures { seen_machine machine.new ≡ do_create code.now o (seen_machine machine.old) }
+    ensures ok { OnOk result (seen_machine machine.new ≡ do_create code.now o (seen_machine machine.old)) }
+    ensures err { OnErr result (seen_machine machine.new ≡ seen_machine machine.old) }
 {
-    let on = machine.pool_named(code.brigade_pool(o));
+    let pool = code.brigade_pool(o);
+    let on = machine.pool_named(pool);
+    machine.add_brigade(pool, machine.next())?;
     let name = machine.take_name();
     let brigade = Brigade {
         name,
@@ -73,6 +81,7 @@ pub(crate) fn create(alloc: Global, code: &Module, machine: &mut Machine, o: u8)
         items: Seq::new(alloc),
     };
     machine.put(o, BrigadeVar::Live(brigade));
+    Ok(())
 }
 
 /// Destroys the buckets of a brigade, which is usable again.

@@ -92,7 +92,7 @@ fn change(
         Instr::PDestroy(q) => machine.destroy_pool(q),
         Instr::Label(pool, text) => effects::label(alloc, code, machine, pool, text),
         Instr::Unlabel(pool, text) => Ok(effects::unlabel(code, machine, pool, text)),
-        Instr::BCreate(o) => Ok(effects::create(alloc, code, machine, o)),
+        Instr::BCreate(o) => effects::create(alloc, code, machine, o),
         Instr::BClean(b) => Ok(effects::clean(machine, b)),
         Instr::BConcat(a, b) => effects::concat(machine, a, b),
         Instr::BSplit(b, c, a) => cut_steps::bsplit(alloc, machine, b, c, a),

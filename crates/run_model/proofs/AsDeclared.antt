@@ -24,7 +24,7 @@ use Rattle.run_model.specs.Buckets.{cleared_bucket}
 use Rattle.run_model.specs.Clearing.{is_reached, cleared_var, run_down}
 use Rattle.run_model.specs.State.{named_at, Configuration, items_of, set_pool, with_pools, set_brigade, set_loose, set_cursor, set_number, name_in, pool_named}
 use Rattle.run_model.specs.Faults.{has_pool_at, is_live_named, has_pool, or_else}
-use Rattle.run_model.specs.Steps.{choice_at_end, do_create, do_pass, do_return, do_clean, cleaned, handed_over, with_items, returned_var, made_on, new_ref, saved_into, pool_cleared, pool_destroyed, label_registered, label_killed, text_of, current}
+use Rattle.run_model.specs.Steps.{choice_at_end, with_brigade, do_create, do_pass, do_return, do_clean, cleaned, handed_over, with_items, returned_var, made_on, new_ref, saved_into, pool_cleared, pool_destroyed, label_registered, label_killed, text_of, current}
 use Rattle.run_model.specs.Connection.{Connection, opened, begun, brought_in, file_taken, ended, takes}
 use Rattle.run_model.specs.Runs.{Before}
 use Rattle.run_model.specs.Sound.{brigade_pool, SoundPools, Sound}
@@ -41,35 +41,36 @@ use Rattle.run_model.proofs.RunOrderLaws.{under_itself}
 use Rattle.run_model.proofs.NamedPools.{on_named, made_under_named}
 use Rattle.run_model.proofs.BucketFrame.{IsFrame, placed_step}
 use Rattle.run_model.proofs.StepPools.{wanted_pool, named_lives, referred_path}
+use Rattle.run_model.proofs.MadeBrigades.{brigade_path, brigade_lives_named}
 use Rattle.run_model.proofs.SoundRuns.{event_sound}
 use Rattle.run_model.proofs.EventsKeep.{may_execute, StepKeeps, steps_keep, EventKeeps, events_keep}
 
 -- Names and paths.
 
-same_live : (ps new : Pools Payload) (n : ℕ) → new.path n ≡ ps.path n → is_live new n ≡ is_live ps n
+pub same_live : (ps new : Pools Payload) (n : ℕ) → new.path n ≡ ps.path n → is_live new n ≡ is_live ps n
 unfolding is_live
 same_live ps new n same = ap (λ (path : List ℕ). not (is_empty path)) same
 
-named_same : (r new : Configuration) → new.instance.pools ≡ r.instance.pools → new.shared.conn ≡ r.shared.conn → new.shared.req ≡ r.shared.req → (d : PoolRef) → pool_named new d ≡ pool_named r d
+pub named_same : (r new : Configuration) → new.instance.pools ≡ r.instance.pools → new.shared.conn ≡ r.shared.conn → new.shared.req ≡ r.shared.req → (d : PoolRef) → pool_named new d ≡ pool_named r d
 unfolding named_at
 named_same r new own conn req pool.Conn = ap (λ (n : ℕ). Some n) conn
 named_same r new own conn req pool.Req = req
 named_same r new own conn req (pool.Own q) = ap (λ (g : ℕ → PoolVar). name_in (g q)) own
 
 -- what a brigade that is left lies on
-abbrev KeepsOn : (ℕ → Type 0) → BrigadeVar → BrigadeVar → Type 0
+abbrev pub KeepsOn : (ℕ → Type 0) → BrigadeVar → BrigadeVar → Type 0
 KeepsOn Stays old new = (w : Brigade) → new ≡ var.Live w → (v : Brigade) × (old ≡ var.Live v) × (w.on ≡ v.on) × ((m : ℕ) → v.on ≡ Some m → Stays m)
 
 -- What is left is as it was: pools that stay keep their paths, names name the same, brigades lie where they lay.
-record IsCarried (r new : Configuration) : Type 0 where
-  own : new.instance.pools ≡ r.instance.pools
-  older : (q n : ℕ) → r.instance.pools q ≡ poolvar.Made n → is_live new.shared.pools n ≡ true
+pub record IsCarried (r new : Configuration) : Type 0 where
+  pub own : new.instance.pools ≡ r.instance.pools
+  pub older : (q n : ℕ) → r.instance.pools q ≡ poolvar.Made n → is_live new.shared.pools n ≡ true
       → (new.shared.pools.path n ≡ r.shared.pools.path n) × ((m : ℕ) → r.shared.pools.path n ≡ n ∷ r.shared.pools.path m → is_live r.shared.pools m ≡ true → new.shared.pools.path m ≡ r.shared.pools.path m)
-  named : (d : PoolRef) (m : ℕ) → pool_named r d ≡ Some m → is_live r.shared.pools m ≡ true → new.shared.pools.path m ≡ r.shared.pools.path m → pool_named new d ≡ Some m
-  brigades : (b : ℕ) → KeepsOn (λ m. new.shared.pools.path m ≡ r.shared.pools.path m) (r.instance.brigades b) (new.instance.brigades b)
+  pub named : (d : PoolRef) (m : ℕ) → pool_named r d ≡ Some m → is_live r.shared.pools m ≡ true → new.shared.pools.path m ≡ r.shared.pools.path m → pool_named new d ≡ Some m
+  pub brigades : (b : ℕ) → KeepsOn (λ m. new.shared.pools.path m ≡ r.shared.pools.path m) (r.instance.brigades b) (new.instance.brigades b)
 
 -- a brigade lies on the pool of its declaration, which is live
-abbrev Lies : Configuration → PoolRef → Option ℕ → Type 0
+abbrev pub Lies : Configuration → PoolRef → Option ℕ → Type 0
 Lies r d o = (o ≡ pool_named r d) × (is_live_named r.shared.pools o ≡ true)
 
 still_lies : (r new : Configuration) (d : PoolRef) (o : Option ℕ) → ((m : ℕ) → o ≡ Some m → new.shared.pools.path m ≡ r.shared.pools.path m)
@@ -77,7 +78,7 @@ still_lies : (r new : Configuration) (d : PoolRef) (o : Option ℕ) → ((m : �
 still_lies r new d None stays named lies = absurd (let no : false ≡ true = lies.1 in cc)
 still_lies r new d (Some m) stays named lies = (sym (named m (sym lies.0) lies.1 (stays m refl)), same_live r.shared.pools new.shared.pools m (stays m refl) ∙ lies.1)
 
-carried : (p : Program) (r new : Configuration) → IsCarried r new → AsDeclared p r → AsDeclared p new
+pub carried : (p : Program) (r new : Configuration) → IsCarried r new → AsDeclared p r → AsDeclared p new
 carried p r new c s = record {
   pools = λ q n e live.
       let was : r.instance.pools q ≡ poolvar.Made n = sym (ap (λ (g : ℕ → PoolVar). g q) c.own) ∙ e in
@@ -100,10 +101,10 @@ carried p r new c s = record {
 
 -- Where no pool goes.
 
-abbrev KeepsPool : BrigadeVar → BrigadeVar → Type 0
+abbrev pub KeepsPool : BrigadeVar → BrigadeVar → Type 0
 KeepsPool old new = KeepsOn (λ m. Unit {0}) old new
 
-same_on : (v : BrigadeVar) → KeepsPool v v
+pub same_on : (v : BrigadeVar) → KeepsPool v v
 same_on v w e = (w, e, refl, λ m at. tt)
 
 changed_on : (v w x : Brigade) → x.on ≡ v.on → var.Live x ≡ var.Live w → (y : Brigade) × (var.Live v ≡ var.Live y) × (w.on ≡ y.on) × ((m : ℕ) → y.on ≡ Some m → Unit {0})
@@ -114,23 +115,23 @@ cleaned_on var.Null w e = absurd (cc)
 cleaned_on var.Gone w e = absurd (cc)
 cleaned_on (var.Live v) w e = changed_on v w _ refl e
 
-handed_on : (v : BrigadeVar) → KeepsPool v (handed_over v)
+pub handed_on : (v : BrigadeVar) → KeepsPool v (handed_over v)
 handed_on var.Null w e = absurd (cc)
 handed_on var.Gone w e = absurd (cc)
 handed_on (var.Live v) w e = changed_on v w _ refl e
 
-filled_on : (items : List NamedBucket) (v : BrigadeVar) → KeepsPool v (with_items items v)
+pub filled_on : (items : List NamedBucket) (v : BrigadeVar) → KeepsPool v (with_items items v)
 filled_on items var.Null w e = absurd (cc)
 filled_on items var.Gone w e = absurd (cc)
 filled_on items (var.Live v) w e = changed_on v w _ refl e
 
-returned_on : (call : ℕ) (v : BrigadeVar) → KeepsPool v (returned_var call v)
+pub returned_on : (call : ℕ) (v : BrigadeVar) → KeepsPool v (returned_var call v)
 returned_on call var.Null w e = absurd (cc)
 returned_on call var.Gone w e = absurd (cc)
 returned_on call (var.Live v) w e = changed_on v w _ refl e
 
 -- what changes no path, no name and no brigade's pool
-kept : (p : Program) (r new : Configuration) → new.instance.pools ≡ r.instance.pools → new.shared.conn ≡ r.shared.conn → new.shared.req ≡ r.shared.req → new.shared.pools.path ≡ r.shared.pools.path
+pub kept : (p : Program) (r new : Configuration) → new.instance.pools ≡ r.instance.pools → new.shared.conn ≡ r.shared.conn → new.shared.req ≡ r.shared.req → new.shared.pools.path ≡ r.shared.pools.path
     → ((b : ℕ) → KeepsPool (r.instance.brigades b) (new.instance.brigades b)) → AsDeclared p r → AsDeclared p new
 kept p r new own conn req path slots s =
     carried p r new (record {
@@ -154,7 +155,7 @@ parent_below ps n m formed live is = by_path (ps.path m) refl where
       omega (arith, first)
 
 -- what is under a pool is under those above it
-parent_apart : (ps : Pools Payload) (c n m : ℕ) → ps.path n ≡ n ∷ ps.path m → is_under ps c n ≡ false → is_under ps c m ≡ false
+pub parent_apart : (ps : Pools Payload) (c n m : ℕ) → ps.path n ≡ n ∷ ps.path m → is_under ps c n ≡ false → is_under ps c m ≡ false
 unfolding is_under
 parent_apart ps c n m is off = second (n == c) (is_in c (ps.path m)) (sym (ap (is_in c) is) ∙ off) where
   second : (a b : Bool) → (a || b) ≡ false → b ≡ false
@@ -162,7 +163,7 @@ parent_apart ps c n m is off = second (n == c) (is_in c (ps.path m)) (sym (ap (i
   second false b h = h
 
 -- a brigade that a clear leaves lies where it lay, apart from what is cleared
-cleared_on : (reached : ℕ → Bool) (v w : BrigadeVar) → w ≡ cleared_var reached v → KeepsOn (λ m. reached m ≡ false) v w
+pub cleared_on : (reached : ℕ → Bool) (v w : BrigadeVar) → w ≡ cleared_var reached v → KeepsOn (λ m. reached m ≡ false) v w
 cleared_on reached v w is x e = of_var v (sym is ∙ e) where
   of_var : (v : BrigadeVar) → cleared_var reached v ≡ var.Live x → (y : Brigade) × (v ≡ var.Live y) × (x.on ≡ y.on) × ((m : ℕ) → y.on ≡ Some m → reached m ≡ false)
   of_var var.Null e = absurd (cc)
@@ -176,7 +177,7 @@ cleared_on reached v w is x e = of_var v (sym is ∙ e) where
         (y, refl, sym (ap (λ (z : Brigade). z.on) same), λ m at. sym (ap (is_reached reached) at) ∙ off)
 
 -- The pool c is cleared, and may stay itself, or it goes too.
-went : (p : Program) (c : ℕ) (r new : Configuration) → IsPoolMap r.shared.pools → new.instance.pools ≡ r.instance.pools
+pub went : (p : Program) (c : ℕ) (r new : Configuration) → IsPoolMap r.shared.pools → new.instance.pools ≡ r.instance.pools
     → ((k : ℕ) → is_under r.shared.pools c k ≡ false → new.shared.pools.path k ≡ r.shared.pools.path k)
     → ((k : ℕ) → is_under r.shared.pools c k ≡ true → is_live new.shared.pools k ≡ true → (k ≡ c) × (new.shared.pools.path k ≡ r.shared.pools.path k))
     → ((d : PoolRef) (m : ℕ) → pool_named r d ≡ Some m → is_live r.shared.pools m ≡ true → new.shared.pools.path m ≡ r.shared.pools.path m → pool_named new d ≡ Some m)
@@ -195,7 +196,7 @@ went p c r new formed own apart left named brigades s =
           (itself.1, λ m at there. apart m (not_under c r.shared.pools m (formed_older r.shared.pools formed) (subst (λ (k : ℕ). m < k) itself.0 (parent_below r.shared.pools n m formed there at))))
       by_under n live (inr off) = (apart n off, λ m at there. apart m (parent_apart r.shared.pools c n m at off))
 
-not_live : (ps : Pools Payload) (n : ℕ) → ps.path n ≡ [] → is_live ps n ≡ true → ⊥
+pub not_live : (ps : Pools Payload) (n : ℕ) → ps.path n ≡ [] → is_live ps n ≡ true → ⊥
 not_live ps n gone live = live_path ps n live gone
 
 cleared_declared : (p : Program) (c : ℕ) (r : Configuration) → IsPoolMap r.shared.pools → AsDeclared p r → AsDeclared p (pool_cleared c r)
@@ -215,7 +216,7 @@ destroyed_declared p c r formed s =
     (λ k under live. absurd (not_live (destroyed c r.shared.pools) k (destroyed_under c r.shared.pools k under).0 live))
     (λ d m e live stays. named_same r (pool_destroyed c r) refl refl refl d ∙ e) (λ b. refl) s
 
-some_same : (a b : ℕ) → Some a ≡ Some b → a ≡ b
+pub some_same : (a b : ℕ) → Some a ≡ Some b → a ≡ b
 some_same a b e = cc
 
 ended_declared : (p : Program) (c : Connection) (req : ℕ) → c.state.shared.req ≡ Some req → Sound c.state → AsDeclared p c.state → AsDeclared p (ended (Some req) c).state
@@ -302,7 +303,7 @@ made_declared p parent q r lt none is lives sound s = record {
   lies o d h = still_lies r new d o (λ m at. created_kept parent r.shared.pools m (sound.formed.named m (sym (ap (is_live_named r.shared.pools) at) ∙ h.1))) (λ m e live stays. named d m e live) h
 
 -- a brigade is written into one variable, as its declaration says
-written_declared : (p : Program) (o : ℕ) (made : Brigade) (r : Configuration) → (o ≢ 8 → Lies r (pool_of_brigade p o) made.on) → (o ≡ 8 → made.on ≡ None) → AsDeclared p r → AsDeclared p (set_brigade o (var.Live made) r)
+pub written_declared : (p : Program) (o : ℕ) (made : Brigade) (r : Configuration) → (o ≢ 8 → Lies r (pool_of_brigade p o) made.on) → (o ≡ 8 → made.on ≡ None) → AsDeclared p r → AsDeclared p (set_brigade o (var.Live made) r)
 unfolding set_brigade
 written_declared p o made r here incoming s = record {
   pools = λ q n e live. (let old = s.pools q n e live in (old.0, same (pool_of_pool p q) ∙ old.1, old.2, old.3));
@@ -343,7 +344,7 @@ brigade_not_in p m o h = small o (length p.brigades) m.brigades h where
   small : (o n : ℕ) → n ≤ 8 → nat_lt o n ≡ true → o ≢ 8
   small o n le h = grind (arith, nat_tests)
 
-same_vars : (r : Configuration) (b : ℕ) → KeepsPool (r.instance.brigades b) (r.instance.brigades b)
+pub same_vars : (r : Configuration) (b : ℕ) → KeepsPool (r.instance.brigades b) (r.instance.brigades b)
 same_vars r b = same_on (r.instance.brigades b)
 
 saved_declared : (p : Program) (o b target : ℕ) (r : Configuration) → AsDeclared p r → AsDeclared p (saved_into o b target r)
@@ -355,9 +356,11 @@ saved_declared p o b target r s =
 created_declared : (p : Program) (o : ℕ) (r : Configuration) → o ≢ 8 → has_pool r (pool_of_brigade p o) ≡ true → AsDeclared p r → AsDeclared p (do_create p o r)
 unfolding has_pool_at
 created_declared p o r ne lives s =
-    let next : Configuration = record r { shared = record r.shared { next = r.shared.next + 1 } } in
-    written_declared p o (record { name = r.shared.next; on = pool_named r (pool_of_brigade p o); mark = Usable; items = [] }) next
-    (λ h. (sym (named_same r next refl refl refl (pool_of_brigade p o)), lives)) (λ eight. absurd (ne eight)) (kept p r next refl refl refl refl (same_vars r) s)
+    let on : Option ℕ = pool_named r (pool_of_brigade p o) in
+    let next : Configuration = record r { shared = record r.shared { pools = with_brigade on r.shared.next r.shared.pools; next = r.shared.next + 1 } } in
+    written_declared p o (record { name = r.shared.next; on = on; mark = Usable; items = [] }) next
+    (λ h. (sym (named_same r next refl refl refl (pool_of_brigade p o)), brigade_lives_named on r.shared.next r.shared.pools on ∙ lives)) (λ eight. absurd (ne eight))
+    (kept p r next refl refl refl (brigade_path on r.shared.next r.shared.pools) (same_vars r) s)
 
 returned_declared : (p : Program) (r : Configuration) → AsDeclared p r → AsDeclared p (do_return r)
 returned_declared p r s = kept p r (do_return r) refl refl refl refl (λ b. left b (b == 8)) s where

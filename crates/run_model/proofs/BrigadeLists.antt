@@ -239,7 +239,7 @@ unsplit_is_unchanged new point bs none = by_test (is_short point bs) where
   by_test false = unsplit new point bs none
 
 -- a bucket that has bytes is data
-bytes_are_data : (p : ℕ) (b : Bucket) → FitsKind b → p < length_of b.content → is_data_kind b.kind ≡ true
+pub bytes_are_data : (p : ℕ) (b : Bucket) → FitsKind b → p < length_of b.content → is_data_kind b.kind ≡ true
 bytes_are_data p b fits more = of_kind b.kind b.content fits.holds more where
   of_kind : (k : Kind) (c : Content) → form_of c ≡ form_of_kind k → p < length_of c → is_data_kind k ≡ true
   of_kind kind.Flush (content.Bytes bs) holds more = absurd (cc)

@@ -8,7 +8,7 @@ use Rattle.run_model.specs.Faults.{cursor_fault, has_pool_at, is_stray, keeps_st
 use Rattle.run_model.specs.BrigadeLists.{buckets_before, buckets_from, length_in, front_to, back_from, bucket_across}
 use Rattle.run_model.specs.Cursors.{found_below, holder_of, variable_of, spot_of}
 use Rattle.run_model.specs.Files.{read_part, range_taken, taken_of}
-use Rattle.run_model.specs.Steps.{delivered, all_referred, text_of, is_spent, lacks_names, current}
+use Rattle.run_model.specs.Steps.{delivered, all_referred, with_brigade, text_of, is_spent, lacks_names, current}
 use Rattle.run_model.specs.Connection.{opened, begins, brings, takes, steps}
 use Rattle.run_model.specs.Examples.{answers_from}
 use Rattle.run_model.specs.BucketExamples.{CursorRows, MovingRows, MakerRows, CutRows, BrigadeCutRows, CursorFaults, FirstFaults, CursorRuns}
@@ -42,5 +42,5 @@ unfolding upd any_below is_live is_under planted created registered is_own_at na
 first_faults = record { brigade_first = refl; passed_first = refl; cursor_second = refl; brigade_third = refl; loose_first = refl; place_second = refl; cursor_first = refl; pool_second = refl; home_third = refl; pool_of_buffer = refl; split_dead = refl; copied_dead = refl; read_dead = refl; parted_dead = refl; dead_apart = refl; dead_moves = refl; dead_length = refl }
 
 pub cursor_runs : CursorRuns
-unfolding upd any_below is_live is_under planted created registered is_own_at named_at with_pools set_brigade set_number set_cursor set_loose cursor_fault has_pool_at buckets_before buckets_from length_in front_to back_from bucket_across found_below holder_of variable_of spot_of all_referred text_of opened is_stray keeps_stray read_part range_taken taken_of delivered is_spent lacks_names current pool_of_brigade pool_of_pool begins brings takes steps answers_from
+unfolding upd any_below is_live is_under planted created registered is_own_at named_at with_pools set_brigade set_number set_cursor set_loose cursor_fault has_pool_at buckets_before buckets_from length_in front_to back_from bucket_across found_below holder_of variable_of spot_of all_referred with_brigade text_of opened is_stray keeps_stray read_part range_taken taken_of delivered is_spent lacks_names current pool_of_brigade pool_of_pool begins brings takes steps answers_from
 cursor_runs = record { moved = refl; forgotten = refl }

@@ -37,7 +37,7 @@ at_bounds : (p : Program) (q : Part) (a b from to pc : ℕ) → from ≡ a → t
 at_bounds p q a b from to pc first last h le =
     handler_leads p q from to pc (subst (λ (k : ℕ). IsHandler p q k to) (sym first) (subst (λ (k : ℕ). IsHandler p q a k) (sym last) h)) (omega (arith, last, le))
 
-code_leads : (p : Program) → IsModule p → (from to pc : ℕ) → IsHandlerCode p from to → StandsIn from to pc → Leads (StandsIn from to) pc (current p pc)
+pub code_leads : (p : Program) → IsModule p → (from to pc : ℕ) → IsHandlerCode p from to → StandsIn from to pc → Leads (StandsIn from to) pc (current p pc)
 code_leads p m from to pc (inl e) = at_bounds p part.Open 0 p.init from to pc e.0 e.1 m.opening (omega (arith, m.inits))
 code_leads p m from to pc (inr (inl e)) = at_bounds p part.Init p.init p.main from to pc e.0 e.1 m.initial (omega (arith, m.mains))
 code_leads p m from to pc (inr (inr e)) = at_bounds p part.Main p.main (length p.code) from to pc e.0 e.1 m.serving (omega arith)
@@ -55,7 +55,7 @@ same_request memory budget p c =
           at_end_keeps (λ (x : Configuration). x.shared.req ≡ c.state.shared.req) p (current p r.pc) r ((step_changes_only p (choice_at_end (current p r.pc) r) (current p r.pc) r).req ∙ s) (λ out fs x reads stepped. stepped)
 
 -- where a call that runs stands
-side : (p : Program) → IsModule p → (pc : ℕ) → pc < length p.code → StandsIn 0 p.init pc ⊎ (StandsIn p.init p.main pc ⊎ StandsIn p.main (length p.code) pc)
+pub side : (p : Program) → IsModule p → (pc : ℕ) → pc < length p.code → StandsIn 0 p.init pc ⊎ (StandsIn p.init p.main pc ⊎ StandsIn p.main (length p.code) pc)
 side p m pc lt = elim (cases_lt pc p.init) [
   | inl first ↦ inl (omega arith, first)
   | inr le ↦ elim (cases_lt pc p.main) [ inl second ↦ inr (inl (le, second)) | inr third ↦ inr (inr (third, lt)) ]

@@ -6,7 +6,8 @@ use Rattle.std.proofs.lemmas.List.Elements.{All-nil, All-cons, All-head, All-tai
 use Rattle.module_lang.specs.declared.instr.Instr.{Instr}
 use Rattle.module_lang.specs.declared.instr.PoolRef.TheVariants as pool
 use Rattle.module_lang.specs.declared.instr.Instr.TheVariants as instr
-use Rattle.module_lang.specs.Program.{Program, IsModule}
+use Rattle.module_lang.specs.Program.{Program, IsModule, pool_of_brigade}
+use Rattle.run_model.proofs.MadeBrigades.{brigade_path}
 use Rattle.run_model.specs.declared.bucket.Home.{Home}
 use Rattle.run_model.specs.declared.bucket.Home.TheVariants as home
 use Rattle.run_model.specs.declared.bucket.Bucket.{Bucket}
@@ -268,7 +269,7 @@ step_homes p choice (instr.PClear q) r may sound named s = on_named HomesAlive p
 step_homes p choice (instr.PDestroy q) r may sound named s = on_named HomesAlive pool_destroyed (pool_named r (pool.Own q)) r s (λ n e. destroyed_homes n r s)
 step_homes p choice (instr.Label q t) r may sound named s = on_named HomesAlive (label_registered (text_of p t)) (pool_named r q) r s (λ n e. same r _ refl refl refl s.brigades (omega arith) s)
 step_homes p choice (instr.Unlabel q t) r may sound named s = on_named HomesAlive (label_killed (text_of p t)) (pool_named r q) r s (λ n e. same r _ refl refl refl s.brigades (omega arith) s)
-step_homes p choice (instr.BCreate o) r may sound named s = same r (do_create p o r) refl refl refl (one_written r o _ (none_alive r) s) (omega arith) s
+step_homes p choice (instr.BCreate o) r may sound named s = same r (do_create p o r) refl refl (brigade_path (pool_named r (pool_of_brigade p o)) r.shared.next r.shared.pools) (one_written r o _ (none_alive r) s) (omega arith) s
 step_homes p choice (instr.BClean b) r may sound named s = same r (do_clean b r) refl refl refl (one_written r b _ (cleaned_alive r (r.instance.brigades b)) s) (omega arith) s
 step_homes p choice (instr.BConcat a b) r may sound named s = same r _ refl refl refl (moved r a b (items_of (r.instance.brigades b)) (s.brigades b) s) (omega arith) s
 step_homes p choice (instr.BSave o b) r may sound named s = on_named HomesAlive (saved_into o b) (made_on (r.instance.brigades o)) r s (λ target e.

@@ -32,6 +32,7 @@ pub mod Passed
 pub mod Clears
 pub mod Kept
 pub mod References
+pub mod MadeBrigades
 pub mod StepFiles
 pub mod FilesRuns
 pub mod Contents
@@ -41,6 +42,7 @@ pub mod RangesEnd
 pub mod StepRanges
 pub mod RangesRuns
 pub mod AsDeclared
+pub mod Registered
 pub mod HomesAlive
 pub mod BucketReads
 pub mod Handlers
@@ -51,3 +53,5 @@ pub mod BucketFrame
 pub mod CursorNames
 pub mod CursorSpots
 pub mod CursorSteps
+pub mod chains
+pub mod ChainExamples

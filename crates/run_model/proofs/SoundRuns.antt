@@ -1,6 +1,5 @@
 -- Each event keeps what is sound, and so does each run.
 use Rattle.std.proofs.Common.{length, refl}
-use Rattle.module_lang.specs.declared.instr.Status.TheVariants.{Success}
 use Rattle.module_lang.specs.declared.instr.Instr.{Instr}
 use Rattle.module_lang.specs.Program.{Program, IsModule}
 use Rattle.run_model.specs.State.{Configuration}

@@ -105,7 +105,7 @@ named_proper call req n (x ∷ xs) = All-cons IsProper _ (named_from (bucket_of 
 abbrev pub KeepsProper : BrigadeVar → BrigadeVar → Type 0
 KeepsProper v w = ProperList (items_of v) → ProperList (items_of w)
 
-same_proper : (v : BrigadeVar) → KeepsProper v v
+pub same_proper : (v : BrigadeVar) → KeepsProper v v
 same_proper v h = h
 
 cleaned_proper : (v : BrigadeVar) → ProperList (items_of (cleaned v))
@@ -113,17 +113,17 @@ cleaned_proper var.Null = none_proper
 cleaned_proper var.Gone = none_proper
 cleaned_proper (var.Live v) = none_proper
 
-handed_proper : (v : BrigadeVar) → ProperList (items_of (handed_over v))
+pub handed_proper : (v : BrigadeVar) → ProperList (items_of (handed_over v))
 handed_proper var.Null = none_proper
 handed_proper var.Gone = none_proper
 handed_proper (var.Live v) = none_proper
 
-filled_proper : (items : List NamedBucket) (v : BrigadeVar) → ProperList items → ProperList (items_of (with_items items v))
+pub filled_proper : (items : List NamedBucket) (v : BrigadeVar) → ProperList items → ProperList (items_of (with_items items v))
 filled_proper items var.Null h = none_proper
 filled_proper items var.Gone h = none_proper
 filled_proper items (var.Live v) h = h
 
-returned_list : (call : ℕ) (v : BrigadeVar) → KeepsProper v (returned_var call v)
+pub returned_list : (call : ℕ) (v : BrigadeVar) → KeepsProper v (returned_var call v)
 returned_list call var.Null h = none_proper
 returned_list call var.Gone h = none_proper
 returned_list call (var.Live v) h = mapped_proper (returned_bucket call) (returned_proper call) v.items h
@@ -161,7 +161,7 @@ clean_buckets : (b : ℕ) (r : Configuration) → SoundBuckets r → SoundBucket
 unfolding set_brigade
 clean_buckets b r s = written_buckets r (do_clean b r) b (cleaned (r.instance.brigades b)) refl (cleaned_proper (r.instance.brigades b)) (λ h. h) s
 
-pass_buckets : (b : ℕ) (r : Configuration) → SoundBuckets r → SoundBuckets (do_pass b r)
+pub pass_buckets : (b : ℕ) (r : Configuration) → SoundBuckets r → SoundBuckets (do_pass b r)
 unfolding set_brigade
 pass_buckets b r s = written_buckets r (do_pass b r) b (handed_over (r.instance.brigades b)) refl (handed_proper (r.instance.brigades b)) (λ h. h) s
 
@@ -201,7 +201,7 @@ save_buckets o b target r s =
     moved_buckets (map (aside_named r.shared.pools target) (items_of (r.instance.brigades b))) o b r (saved_into o b target r)
     (mapped_proper (aside_named r.shared.pools target) (aside_proper r.shared.pools target) (items_of (r.instance.brigades b))) refl refl s
 
-return_buckets : (r : Configuration) → SoundBuckets r → SoundBuckets (do_return r)
+pub return_buckets : (r : Configuration) → SoundBuckets r → SoundBuckets (do_return r)
 return_buckets r s = keeps_buckets r (do_return r) (λ b. left b (b == 8)) (λ h. none_proper) s where
   left : (b : ℕ) (is_in : Bool) → KeepsProper (r.instance.brigades b) (cond is_in var.Null (returned_var r.call.name (r.instance.brigades b)))
   left b true h = none_proper

@@ -8,7 +8,7 @@ use Rattle.module_lang.specs.declared.instr.PoolRef.{PoolRef}
 use Rattle.module_lang.specs.declared.instr.PoolRef.TheVariants as pool
 use Rattle.module_lang.specs.declared.instr.Instr.{Instr}
 use Rattle.module_lang.specs.declared.instr.Instr.TheVariants as instr
-use Rattle.module_lang.specs.Program.{Program}
+use Rattle.module_lang.specs.Program.{Program, pool_of_brigade}
 use Rattle.run_model.specs.declared.fault.FaultKind.TheVariants.{F5}
 use Rattle.run_model.specs.declared.bucket.Kind.{Kind}
 use Rattle.run_model.specs.declared.bucket.Kind.TheVariants as kind
@@ -31,7 +31,7 @@ use Rattle.run_model.specs.Files.{Files}
 use Rattle.run_model.specs.Clearing.{is_reached, cleared_var, run_down}
 use Rattle.run_model.specs.State.{Configuration, items_of, set_pool, with_pools, set_brigade, set_loose, pool_named}
 use Rattle.run_model.specs.Faults.{WPool, WCursor, OnBucket, usable_fault, homes_fault, home_fault, or_else, fault_want}
-use Rattle.run_model.specs.Steps.{do_create, do_clean, do_concat, do_pass, do_return, cleaned, with_items, handed_over, returned_var, pool_cleared, pool_destroyed, files_let_go, label_registered, label_killed, text_of, is_above, aside_named, file_of, new_ref, all_referred, saved_into, made_on}
+use Rattle.run_model.specs.Steps.{with_brigade, do_create, do_clean, do_concat, do_pass, do_return, cleaned, with_items, handed_over, returned_var, pool_cleared, pool_destroyed, files_let_go, label_registered, label_killed, text_of, is_above, aside_named, file_of, new_ref, all_referred, saved_into, made_on}
 use Rattle.run_model.specs.Connection.{has_range}
 use Rattle.run_model.specs.Sound.{SoundPools, SoundBuckets, Sound, count_named}
 use Rattle.run_model.specs.BrigadeLists.{bucket_named}
@@ -49,6 +49,7 @@ use Rattle.run_model.proofs.Unchanged.{step_changes_only}
 use Rattle.run_model.proofs.PoolsKept.{req_apart}
 use Rattle.run_model.proofs.Marks.{first_none, second_none}
 use Rattle.run_model.proofs.Kept.{files_go}
+use Rattle.run_model.proofs.MadeBrigades.{brigade_refers, brigade_back}
 use Rattle.run_model.proofs.References.{one_of, or_left, or_right, refers_given, referred_at, created_refers, created_back, registered_refers, registered_back, all_grow, all_there, all_back, killed_refers, Emptied, emptied_refers, emptied_back}
 
 -- Lists and variables.
@@ -313,7 +314,14 @@ written_files files r new i w brigades held pools opened req loose s =
 
 create_files : (files : List (ℕ × ℕ)) (p : Program) (o : ℕ) (r : Configuration) → SoundFiles files r → SoundFiles files (do_create p o r)
 unfolding set_brigade
-create_files files p o r s = written_files files r (do_create p o r) o _ refl (none_held r.shared.pools) refl refl refl s.loose s
+create_files files p o r s =
+    let on : Option ℕ = pool_named r (pool_of_brigade p o) in
+    let ps = r.shared.pools in
+    let new : Pools Payload = with_brigade on r.shared.next ps in
+    let grow : ((p file : ℕ) → refers ps p file ≡ true → refers new p file ≡ true) = λ p file h. brigade_refers on r.shared.next ps p file h in
+    kept_files files r (do_create p o r) grow (λ p file h. s.lasts p file (brigade_back on r.shared.next ps p file h))
+    (λ k. written (λ v. HeldList new (items_of v)) r.instance.brigades o _ (none_held new) (λ j. weaker ps new grow (items_of (r.instance.brigades j)) (s.brigades j)) k)
+    (weaker ps new grow r.call.loose s.loose) refl s
 
 clean_files : (files : List (ℕ × ℕ)) (b : ℕ) (r : Configuration) → SoundFiles files r → SoundFiles files (do_clean b r)
 unfolding set_brigade

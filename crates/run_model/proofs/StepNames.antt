@@ -54,12 +54,12 @@ unfolding set_brigade
 clean_names b r limit =
     keeps_slots r (do_clean b r) (λ n. omega arith) (at_each Fewer r.instance.brigades b (cleaned (r.instance.brigades b)) (cleaned_fewer (r.instance.brigades b)) fewer_same) (omega arith) limit
 
-pass_names : (b : ℕ) (r : Configuration) → r.shared.next < 2 ^ 64 → NamesStep r (do_pass b r)
+pub pass_names : (b : ℕ) (r : Configuration) → r.shared.next < 2 ^ 64 → NamesStep r (do_pass b r)
 unfolding set_brigade
 pass_names b r limit =
     keeps_slots r (do_pass b r) (λ n. omega arith) (at_each Fewer r.instance.brigades b (handed_over (r.instance.brigades b)) (handed_fewer (r.instance.brigades b)) fewer_same) (omega arith) limit
 
-return_names : (r : Configuration) → r.shared.next < 2 ^ 64 → NamesStep r (do_return r)
+pub return_names : (r : Configuration) → r.shared.next < 2 ^ 64 → NamesStep r (do_return r)
 return_names r limit =
     keeps_slots r (do_return r) (λ n. rw (count_none n) (omega arith)) (λ b. left b (b == 8)) (omega arith) limit where
       left : (b : ℕ) (is_in : Bool) → Fewer (r.instance.brigades b) (cond is_in var.Null (returned_var r.call.name (r.instance.brigades b)))

@@ -33,6 +33,7 @@ use Rattle.run_model.proofs.Formed.{created_formed, cleared_formed, destroyed_fo
 use Rattle.run_model.proofs.NamedPools.{on_named, made_under_named, own_named, conn_given, req_given}
 use Rattle.run_model.proofs.BucketFrame.{IsFrame, placed_step}
 use Rattle.run_model.proofs.PoolsKept.{keeps_paths, keeps_pools, went_pools}
+use Rattle.run_model.proofs.MadeBrigades.{brigade_path, brigade_next, brigade_formed}
 
 -- What a change of a variable does to the pool of its brigade: it stays, or the brigade goes.
 abbrev pub KeepsPool : BrigadeVar → BrigadeVar → Type 0
@@ -79,8 +80,11 @@ unfolding has_pool_at
 named_lives r d n h e = let named : is_live_named r.shared.pools (pool_named r d) ≡ is_live r.shared.pools n = ap (is_live_named r.shared.pools) e in sym named ∙ h
 
 create_pools : (p : Program) (o : ℕ) (r : Configuration) → has_pool r (pool_of_brigade p o) ≡ true → SoundPools r → SoundPools (do_create p o r)
-unfolding set_brigade
-create_pools p o r lives s = keeps_pools r (do_create p o r) refl refl refl refl on_live s where
+unfolding set_brigade has_pool_at
+create_pools p o r lives s = keeps_paths r (do_create p o r) (brigade_formed on r.shared.next r.shared.pools lives s.formed) (brigade_path on r.shared.next r.shared.pools) (brigade_next on r.shared.next r.shared.pools) refl refl refl on_live s where
+  on : Option ℕ
+  on = pool_named r (pool_of_brigade p o)
+
   on_live : (b n : ℕ) → brigade_pool (upd r.instance.brigades o (var.Live (record { name = r.shared.next; on = pool_named r (pool_of_brigade p o); mark = Usable; items = [] })) b) ≡ Some n → is_live r.shared.pools n ≡ true
   on_live b n e = elim (upd_either r.instance.brigades o b (var.Live (record { name = r.shared.next; on = pool_named r (pool_of_brigade p o); mark = Usable; items = [] }))) [
     | inl q ↦ named_lives r (pool_of_brigade p o) n lives (sym (ap brigade_pool q.1) ∙ e)
@@ -109,7 +113,7 @@ unfolding all_referred registered
 referred_path target [] ps = refl
 referred_path target (file ∷ files) ps = referred_path target files (registered target (FileRef file) ps)
 
-referred_next : (target : ℕ) (files : List ℕ) (ps : Pools Payload) → (all_referred target files ps).next ≡ ps.next
+pub referred_next : (target : ℕ) (files : List ℕ) (ps : Pools Payload) → (all_referred target files ps).next ≡ ps.next
 unfolding all_referred registered
 referred_next target [] ps = refl
 referred_next target (file ∷ files) ps = referred_next target files (registered target (FileRef file) ps)

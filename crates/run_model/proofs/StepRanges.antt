@@ -6,7 +6,7 @@ use Rattle.std.proofs.lemmas.List.Elements.{All-nil, All-cons, All-head, All-tai
 use Rattle.module_lang.specs.declared.instr.PoolRef.TheVariants as pool
 use Rattle.module_lang.specs.declared.instr.Instr.{Instr}
 use Rattle.module_lang.specs.declared.instr.Instr.TheVariants as instr
-use Rattle.module_lang.specs.Program.{Program}
+use Rattle.module_lang.specs.Program.{Program, pool_of_brigade}
 use Rattle.run_model.specs.declared.bucket.Kind.{Kind}
 use Rattle.run_model.specs.declared.bucket.Kind.TheVariants as kind
 use Rattle.run_model.specs.declared.bucket.Content.{Content}
@@ -44,6 +44,7 @@ use Rattle.run_model.proofs.Unchanged.{step_changes_only}
 use Rattle.run_model.proofs.Marks.{first_none, second_none}
 use Rattle.run_model.proofs.Kept.{aside_lasts, files_go}
 use Rattle.run_model.proofs.References.{or_left, or_right, refers_given, referred_at, created_back, registered_back, all_back, killed_refers, Emptied, emptied_back}
+use Rattle.run_model.proofs.MadeBrigades.{brigade_back}
 use Rattle.run_model.proofs.StepFiles.{left_home, spared_home, written, cleared_emptied, destroyed_emptied, neither, refs_open, no_dead, not_dead, aside_refs, aside_live, step_files}
 
 -- Lists and variables.
@@ -225,7 +226,12 @@ one_written fs r i w here there b = written (λ v. LieList fs (items_of v)) r.in
 
 create_ranges : (files : List (ℕ × ℕ)) (p : Program) (o : ℕ) (r : Configuration) → SoundRanges files r → SoundRanges files (do_create p o r)
 unfolding set_brigade
-create_ranges files p o r s = record { brigades = one_written r.shared.files r o _ (none_lie r.shared.files) s.brigades; loose = s.loose; told = s.told; given = s.given }
+create_ranges files p o r s = record {
+  brigades = one_written r.shared.files r o _ (none_lie r.shared.files) s.brigades;
+  loose = s.loose;
+  told = s.told;
+  given = λ q file h. s.given q file (brigade_back (pool_named r (pool_of_brigade p o)) r.shared.next r.shared.pools q file h);
+}
 
 clean_ranges : (files : List (ℕ × ℕ)) (b : ℕ) (r : Configuration) → SoundRanges files r → SoundRanges files (do_clean b r)
 unfolding set_brigade

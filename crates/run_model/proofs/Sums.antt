@@ -67,3 +67,32 @@ pub all_none : (n : ℕ) (f : ℕ → ℕ) → ((k : ℕ) → k < n → f k ≡ 
 unfolding sum_below
 all_none zero f none = refl
 all_none (suc n) f none = (let rest : sum_below n f ≡ 0 = all_none n f (λ k lt. none k (omega arith)) in let here : f n ≡ 0 = none n (omega arith) in omega arith)
+
+-- The terms at one index apart, against terms that are no fewer elsewhere.
+pub sum_below_but : (n i : ℕ) (f g : ℕ → ℕ) → i < n → ((k : ℕ) → k ≢ i → g k ≤ f k) → sum_below n g + f i ≤ sum_below n f + g i
+unfolding sum_below
+sum_below_but zero i f g lt fewer = absurd (omega arith)
+sum_below_but (suc n) i f g lt fewer = elim (cases_lt i n) [
+  | inl less ↦
+      (let here : g n ≤ f n = fewer n (λ e. absurd (omega (arith, e))) in
+      let rest : sum_below n g + f i ≤ sum_below n f + g i = sum_below_but n i f g less fewer in
+      omega arith)
+  | inr le ↦
+      (let is : i ≡ n = omega arith in
+      let old : f i ≡ f n = ap f is in
+      let new : g i ≡ g n = ap g is in
+      let rest : sum_below n g ≤ sum_below n f = before n (λ k less. fewer k (λ e. absurd (omega (arith, e)))) in
+      omega arith)
+] where
+  before : (m : ℕ) → ((k : ℕ) → k < m → g k ≤ f k) → sum_below m g ≤ sum_below m f
+  before zero le = omega arith
+  before (suc m) le = (let here : g m ≤ f m = le m (omega arith) in let rest : sum_below m g ≤ sum_below m f = before m (λ k less. le k (omega arith)) in omega arith)
+
+-- an index that is written adds no more than its term
+pub sum_written : {X : Type 0} (n i : ℕ) (g : ℕ → X) (v : X) (f : X → ℕ) → sum_below n (λ k. f (upd g i v k)) ≤ sum_below n (λ k. f (g k)) + f v
+sum_written n i g v f = elim (cases_lt i n) [
+  | inl lt ↦ (let all : sum_below n (λ k. f (upd g i v k)) + f (g i) ≡ sum_below n (λ k. f (g k)) + f v = sum_below_upd n i g v f lt in omega arith)
+  | inr le ↦
+      (let same : sum_below n (λ k. f (upd g i v k)) ≡ sum_below n (λ k. f (g k)) = sum_below_same n (λ k. f (upd g i v k)) (λ k. f (g k)) (λ k less. ap f (upd_off g i k v (λ e. absurd (omega (arith, e))))) in
+      omega arith)
+]

@@ -4,6 +4,7 @@ use Rattle.std.proofs.lemmas.Bool.{or_left, or_right}
 use Rattle.module_lang.specs.declared.instr.PoolRef.TheVariants as pool
 use Rattle.module_lang.specs.declared.instr.Instr.{Instr}
 use Rattle.module_lang.specs.declared.instr.Instr.TheVariants as instr
+use Rattle.module_lang.specs.Program.{Program, pool_of_brigade}
 use Rattle.run_model.specs.declared.bucket.Bucket.{Bucket}
 use Rattle.run_model.specs.declared.bucket.Cursor.{Cursor}
 use Rattle.run_model.specs.declared.bucket.Kind.TheVariants as kind
@@ -17,7 +18,7 @@ use Rattle.run_model.specs.Clearing.{run_down}
 use Rattle.run_model.specs.Cursors.{Spot, Nowhere, AtLoose, Within, AtEndOf, spot, bucket_at, read_cursor}
 use Rattle.run_model.specs.BrigadeLists.{put_head, put_tail, put_before}
 use Rattle.run_model.specs.BucketSteps.{aside_into, byte_of, content_at, copy_of, do_before, do_delete, do_next, do_read, do_split, do_unlink, got, has_rest, heap_bucket, immortal_bucket, is_unsplit, items_at, metadata, name_given, names_given, names_if, names_to_part, names_to_read, names_to_split, new_loose, pool_bucket, put_into, read_given, read_within, split_there, transient_bucket}
-use Rattle.run_model.specs.Steps.{pool_cleared, pool_destroyed, label_registered, label_killed, text_of, made_on, saved_into, value_of, do_pass, names_of}
+use Rattle.run_model.specs.Steps.{with_brigade, do_create, pool_cleared, pool_destroyed, label_registered, label_killed, text_of, made_on, saved_into, value_of, do_pass, names_of}
 use Rattle.run_model.specs.Laws.{is_within, is_loose, may_change, may_change_pool, may_change_number, may_change_cursor, may_change_loose, may_change_buffer, changes_pools, ChangesOnly, StepChangesOnly}
 use Rattle.run_model.proofs.Updates.{upd_off}
 use Rattle.run_model.proofs.NamedPools.{on_named, made_under_named, put_keeps}
@@ -160,13 +161,19 @@ first_of a b = or_left (a == a) (a == b) (itself a)
 second_of : (a b : ℕ) → (b == a || b == b) ≡ true
 second_of a b = or_right (b == a) (b == b) (itself b)
 
+created_changes : (p : Program) (o : ℕ) (r : Configuration) → ChangesOnly (instr.BCreate o) r (do_create p o r)
+unfolding with_pools
+created_changes p o r =
+    let i = instr.BCreate o in
+    by_brigade i r (with_pools (with_brigade (pool_named r (pool_of_brigade p o)) r.shared.next r.shared.pools) (name_given r)) o _ (itself o) (by_tree i r (name_given r) _ refl (by_names i 1 r (omega arith)))
+
 pub step_changes_only : StepChangesOnly
 step_changes_only p choice (instr.PCreate q) r = let i = instr.PCreate q in made_under_named (ChangesOnly i r) p q r (nothing i r) (λ parent e. by_pool i r _ q _ (itself q) (by_tree i r r _ refl (nothing i r)))
 step_changes_only p choice (instr.PClear q) r = on_named (ChangesOnly (instr.PClear q) r) pool_cleared (pool_named r (pool.Own q)) r (nothing (instr.PClear q) r) (λ n e. cleared_changes q n r)
 step_changes_only p choice (instr.PDestroy q) r = on_named (ChangesOnly (instr.PDestroy q) r) pool_destroyed (pool_named r (pool.Own q)) r (nothing (instr.PDestroy q) r) (λ n e. destroyed_changes q n r)
 step_changes_only p choice (instr.Label q t) r = let i = instr.Label q t in on_named (ChangesOnly i r) (label_registered (text_of p t)) (pool_named r q) r (nothing i r) (λ n e. by_tree i r r _ refl (nothing i r))
 step_changes_only p choice (instr.Unlabel q t) r = let i = instr.Unlabel q t in on_named (ChangesOnly i r) (label_killed (text_of p t)) (pool_named r q) r (nothing i r) (λ n e. by_tree i r r _ refl (nothing i r))
-step_changes_only p choice (instr.BCreate o) r = by_brigade (instr.BCreate o) r (name_given r) o _ (itself o) (by_names (instr.BCreate o) 1 r (omega arith))
+step_changes_only p choice (instr.BCreate o) r = created_changes p o r
 step_changes_only p choice (instr.BClean b) r = by_brigade (instr.BClean b) r r b _ (itself b) (nothing (instr.BClean b) r)
 step_changes_only p choice (instr.BConcat a b) r = let i = instr.BConcat a b in by_brigade i r _ a _ (first_of a b) (by_brigade i r r b _ (second_of a b) (nothing i r))
 step_changes_only p choice (instr.BSplit b c a) r = let i = instr.BSplit b c a in by_brigade i r _ a _ (second_of b a) (by_brigade i r r b _ (first_of b a) (nothing i r))

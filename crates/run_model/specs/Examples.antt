@@ -33,7 +33,9 @@ use Rattle.run_model.specs.Faults.{fault}
 use Rattle.run_model.specs.Steps.{do_return}
 use Rattle.run_model.specs.Files.{no_files, file_added}
 use Rattle.run_model.specs.Connection.{opened, request_ended}
-use Rattle.run_model.specs.Runs.{Answer, Done, Refused, Step, Output, Opened, Labels, World, Before, There, Closed, happens}
+use Rattle.run_model.specs.declared.payload.Payload.{Payload}
+use Rattle.run_model.specs.declared.payload.Payload.TheVariants as payload
+use Rattle.run_model.specs.Runs.{Answer, Done, Refused, Step, Output, Opened, Labels, World, Before, There, Closed, happens, pools_of}
 
 -- the answers of these events, where memory is ample
 unfoldable pub answers_from : World → ℕ → Program → List Event → List Answer
@@ -208,6 +210,10 @@ pub record PassRuns : Type 0 where
   pub gathered : answers 1000000 gathers (event.Open ∷ (event.Step ∷ event.Begin ∷ event.Step ∷ event.Step ∷ a_heap (97 ∷ []) ∷ three_steps ++ event.Step ∷ event.End ∷ event.Begin ∷ event.Step ∷ event.Step ∷ event.TakeOutput ∷ []))
       ≡ Done ∷ step_ok ∷ Done ∷ went ∷ step_ok ∷ Done ∷ went ∷ went ∷ went ∷ step_ok ∷ Done ∷ Done ∷ went ∷ step_ok ∷ Output (97 ∷ []) ∷ []
 
+-- what the first pool that the module made, of name 3, holds after so many steps of `open`
+abbrev pub held_after : ℕ → Program → List Payload
+held_after steps p = (pools_of (world_after (Before no_files) 1000000 p (event.Open ∷ replicate steps event.Step))).payloads 3
+
 -- How pools are made, cleared and destroyed, and their labels run.
 pub record PoolRuns : Type 0 where
   -- subpools first, last in first out
@@ -235,6 +241,11 @@ pub record PoolRuns : Type 0 where
   pub pool_names : (happens true 1000000 (one_pool (instr.PCreate 0 ∷ [])) event.Step (with_names (2 ^ 64 - 1) 4 (There (opened no_files)))).0 ≡ broken_by cause.NamesSpent
   pub last_pool_name : (happens true 1000000 (one_pool (instr.PCreate 0 ∷ [])) event.Step (with_names (2 ^ 64 - 2) 4 (There (opened no_files)))).0 ≡ went
   pub no_memory : (happens false 1000000 (one_pool (instr.PCreate 0 ∷ [])) event.Step (There (opened no_files))).0 ≡ broken_by cause.NoMemory
+  -- a brigade is registered with its pool, behind what stood there
+  pub registered : held_after 3 (one_pool (instr.PCreate 0 ∷ instr.Label (pool.Own 0) 0 ∷ instr.BCreate 0 ∷ [])) ≡ payload.Label (97 ∷ []) ∷ payload.Brigade 2 ∷ []
+  -- a clear hands it on, and what is made then has another name
+  pub handed_on : held_after 4 (one_pool (instr.PCreate 0 ∷ instr.Label (pool.Own 0) 0 ∷ instr.BCreate 0 ∷ instr.PClear 0 ∷ [])) ≡ []
+  pub made_again : held_after 4 (one_pool (instr.PCreate 0 ∷ instr.BCreate 0 ∷ instr.PClear 0 ∷ instr.BCreate 0 ∷ [])) ≡ payload.Brigade 3 ∷ []
 
 -- How buckets of the kinds are kept, passed on and read.
 pub record KindRuns : Type 0 where

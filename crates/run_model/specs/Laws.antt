@@ -210,14 +210,16 @@ abbrev pub changes_pools : Instr → Bool
 changes_pools (instr.PCreate q) = true
 changes_pools (instr.Label q t) = true
 changes_pools (instr.Unlabel q t) = true
+changes_pools (instr.BCreate o) = true
 changes_pools (instr.BSave o b) = true
 changes_pools (instr.Aside c q) = true
 changes_pools i = is_clear i
 
 -- What an instruction does not name, or stand at by a cursor, is as before: other brigades, pool variables, numbers and
 -- cursors, the loose buckets and the buffer, and but for a pass whether an EOS was passed. Pools change by their own
--- instructions and where a file gets a reference; labels are run and files closed by clears alone; no more names are given
--- out than it wants. The place in the code is as before (the host sets it), and so is the call's name, but for a return.
+-- instructions, where a brigade is made and where a file gets a reference; labels are run and files closed by clears
+-- alone; no more names are given out than it wants. The place in the code is as before (the host sets it), and so is the
+-- call's name, but for a return.
 pub record ChangesOnly (i : Instr) (r new : Configuration) : Type 0 where
   pub brigades : (k : ℕ) → may_change r i k ≡ false → new.instance.brigades k ≡ r.instance.brigades k
   pub pools : (k : ℕ) → may_change_pool i k ≡ false → new.instance.pools k ≡ r.instance.pools k

@@ -25,8 +25,16 @@ pub mod RefusalOrder
 pub mod Ranges
 pub mod RangesEnd
 pub mod AsDeclared
+pub mod Registered
 pub mod HomesAlive
 pub mod BucketReads
 pub mod Handlers
 pub mod BrigadeLists
 pub mod CursorLaws
+pub mod Chains
+pub mod Passing
+pub mod Turns
+pub mod Worlds
+pub mod ChainSound
+pub mod ChainLaws
+pub mod ChainExamples

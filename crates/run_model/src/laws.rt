@@ -1,10 +1,12 @@
 //! Laws of the definitions. Each function does nothing: what its contract says holds of the definitions alone.
 
 ghost use Rattle.run_model.specs.Examples.{PassRuns, PoolRuns, PoolEnds, KindRuns, FaultRuns, BreakRuns, RefusedRuns, NameRuns, HeldFaults, HeldChanges};
+ghost use Rattle.run_model.specs.ChainExamples.{ChainRuns};
 ghost use Rattle.run_model.specs.Laws.{CreatesKeepOthers, KillsTheNewest, KillsOneLabel, EachStandsOnce, DepthDoesNotMatter};
 ghost use Rattle.run_model.specs.Laws.{StepGivesNames, NamesStaySingle, StepKeepsNames, StepKeepsBuckets, StepKeepsPools, StepAtEndKeeps, OpenedIsSound, EventKeepsSound, RunIsSound, RunGoesOn, StepsGoOn, StepsAreARun, EndedStepsAreARun, StepChangesOnly, RefusedChangesNothing, RefusedStepBreaks, FaultBreaks, BrokenStaysBroken, EventKeepsOrder, RunIsOrderly, BucketsAsPieces, LateDataIsRefused, BroughtEndsOnce, OutputOfCuts, FaultOfCuts, ClearsKeepOthers, ClearsTakeAlong};
 ghost use Rattle.run_model.specs.Laws.{AsideLasts, ReadsGiveTheFile, ReadsDropNothing, FilesCloseLast, StepKeepsFiles, EventKeepsFiles, RunKeepsFiles};
 ghost use Rattle.run_model.specs.AsDeclared.{OpenedAsDeclared, StepKeepsDeclared, StepAtEndKeepsDeclared, EventKeepsDeclared, RunIsDeclared};
+ghost use Rattle.run_model.specs.Registered.{OpenedRegistered, StepKeepsRegistered, StepAtEndKeepsRegistered, EventKeepsRegistered, RunKeepsRegistered};
 ghost use Rattle.run_model.specs.HomesAlive.{OpenedHomesAlive, StepKeepsHomes, StepAtEndKeepsHomes, EventKeepsHomes, RunKeepsHomes};
 ghost use Rattle.run_model.specs.BucketReads.{ReadKeepsBytes, ReadAtEndGivesTheFile};
 ghost use Rattle.run_model.specs.Handlers.{CallsBegin, StepStaysInHandler, OpenedRunsHandler, EventKeepsHandler, RunKeepsHandler};
@@ -14,6 +16,7 @@ ghost use Rattle.run_model.specs.BucketExamples.{CursorRows, MovingRows, MakerRo
 ghost use Rattle.run_model.specs.Ranges.{OpenedInRange, StepKeepsInRange, EventKeepsInRange, RunIsInRange, StepKeepsBuffer, EventKeepsBuffer, RunKeepsBuffer, StepKeepsRanges, EventKeepsRanges, RunKeepsRanges};
 ghost use Rattle.run_model.specs.RangesEnd.{OpenedEnds, StepKeepsEnds, StepAtEndKeepsEnds, StepsKeepEnds, EndedStepsKeepEnds, BringKeepsEnds, EventKeepsEnds, RunEnds};
 ghost use Rattle.run_model.specs.BrigadeLists.{BrigadeSplitsInOrder, MovesKeepNames, BucketSplitsInOrder, SplitKeepsBytes, PartsAtPoint, ShortIsIncomplete, PartitionKeepsBytes, UnsplitIsUnchanged, MetadataIsNotSplit, PlaceIsBehindFront, PartitionRows, BrigadeSplitRows, BucketSplitRows, MoveRows};
+ghost use Rattle.run_model.specs.ChainLaws.{TopKeepsNames, TopKeepsBuckets, TopKeepsPools, TopKeepsCalls, TopRaisesNames, RisingKeepsSound, EventKeepsWorld, RunKeepsWorld, OthersStay, OpeningStays};
 ghost use Rattle.run_model.specs.CursorLaws.{OpenedCursors, StepKeepsCursors, StepAtEndKeepsCursors, EventKeepsCursors, RunKeepsCursors, CursorsStandOnce, RunStandsOnce, MadeAreNew, CopiesAreNew, SplitsInOrder, RefusedSplitJumps, BrigadesSplitInOrder, PartitionsInOrder, PastEndJumps};
 
 /// Small runs answer as they are worked out by hand, and so do faults and changes of small states.
@@ -28,6 +31,11 @@ pub fn worked_runs()
     ensures held_faults { HeldFaults }
     ensures held_changes { HeldChanges }
     ensures pool_ends { PoolEnds }
+{}
+
+/// Small chains on several connections answer as they are worked out by hand.
+pub fn worked_chains()
+    ensures { ChainRuns }
 {}
 
 /// A step without a fault leaves of each name that was given out no more buckets than there were, and gives each new name once;
@@ -204,6 +212,16 @@ pub fn variables_stand_as_declared()
     ensures run { RunIsDeclared }
 {}
 
+/// In each run a live brigade stands once among the payloads of the pool that it is made on, and no other brigade stands with a
+/// pool.
+pub fn brigades_are_registered()
+    ensures opened { OpenedRegistered }
+    ensures step { StepKeepsRegistered }
+    ensures at_end { StepAtEndKeepsRegistered }
+    ensures event { EventKeepsRegistered }
+    ensures run { RunKeepsRegistered }
+{}
+
 /// In each run a home that has not ended is alive: it is the call that runs, which has a name, or a live pool.
 pub fn homes_are_alive_or_ended()
     ensures opened { OpenedHomesAlive }
@@ -278,6 +296,32 @@ pub fn steps_cut_in_order()
     ensures brigade { BrigadesSplitInOrder }
     ensures partition { PartitionsInOrder }
     ensures past_end { PastEndJumps }
+{}
+
+/// The instruction of the call on top of a chain keeps its connection sound, where it has no fault and the names that it gives out are
+/// there: each name is one bucket's over all instances and calls; each bucket's content and home are as its kind has them; pools and
+/// brigades are as each module declares them, and no two instances name one pool; each call waits for that of the next module. Names
+/// rise, and stay below their limit.
+pub fn chains_stay_sound()
+    ensures names { TopKeepsNames }
+    ensures buckets { TopKeepsBuckets }
+    ensures pools { TopKeepsPools }
+    ensures calls { TopKeepsCalls }
+    ensures rises { TopRaisesNames }
+{}
+
+/// Each event keeps each connection of a world sound, and so every connection is sound in each run from the empty world, with any
+/// number of connections and any chain. Names that others take change nothing of it.
+pub fn worlds_are_sound()
+    ensures rising { RisingKeepsSound }
+    ensures event { EventKeepsWorld }
+    ensures run { RunKeepsWorld }
+{}
+
+/// An event of one connection leaves every other exactly as it was; an opening leaves all, but that of the number which it gives out.
+pub fn connections_stay_apart()
+    ensures others { OthersStay }
+    ensures opening { OpeningStays }
 {}
 
 /// Small brigades are parted, split and changed as it is worked out by hand.

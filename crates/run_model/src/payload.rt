@@ -6,15 +6,14 @@ ghost use Rattle.run_model.specs.SamePayload.{payload_per};
 
 use module_lang::Seq;
 
-/// What a pool hands on when it is cleared (apr_pools.h, 'cleanups'). The model reads off the brigades which of them go with a
-/// pool, since each knows its pool, and registers none.
+/// What a pool hands on when it is cleared (apr_pools.h, 'cleanups').
 #[derive(Drop)]
 pub enum Payload {
     /// A cleanup: a label that is run.
     Label(Seq<u8>),
     /// A reference to the open file of this number.
     FileRef(u64),
-    /// The brigade of this name, which ends with the pool.
+    /// The brigade of this name, which is made on the pool and ends with it.
     Brigade(u64),
 }
 

@@ -2,9 +2,9 @@
 
 ghost use Rattle.std.specs.Prelude.{◌≡◌, ◌<◌, true, Some, IsTrue, OnOk, OnErr};
 ghost use Rattle.run_model.specs.Pools.{is_live};
-ghost use Rattle.run_model.specs.State.{pool_named};
+ghost use Rattle.run_model.specs.State.{pool_named, with_pools};
 ghost use Rattle.run_model.specs.Faults.{has_pool};
-ghost use Rattle.run_model.specs.Steps.{on_pool, pool_cleared, pool_destroyed, label_registered, label_killed};
+ghost use Rattle.run_model.specs.Steps.{on_pool, pool_cleared, pool_destroyed, label_registered, label_killed, with_brigade};
 ghost use Rattle.pool_tree.specs.Tree.{map_of};
 ghost use Rattle.module_run.specs.Seen.{seen_machine};
 ghost use Rattle.module_run.specs.Made.{pool_made};
@@ -82,6 +82,20 @@ impl Machine {
     {
         let name = self.live_pool(pool);
         let Ok(()) = self.pools.register(name, Payload::Label(text)) else {
+            return Err(AllocError);
+        };
+        Ok(())
+    }
+
+    /// Registers a brigade of this name with a pool. Without memory nothing is changed.
+    #[tactic(auto, unfolding(crate::specs::Seen::seen_machine, run_model::specs::State::with_pools, run_model::specs::Steps::with_brigade))]
+    pub(crate) fn add_brigade(&mut self, pool: PoolRef, name: u64) -> Result<(), AllocError>
+        requires { has_pool (seen_machine self.old) pool ≡ true }
+        ensures ok { OnOk result (let r = seen_machine self.old in seen_machine self.new ≡ with_pools (with_brigade (pool_named r pool) name r.shared.pools) r) }
+        ensures err { OnErr result (seen_machine self.new ≡ seen_machine self.old) }
+    {
+        let on = self.live_pool(pool);
+        let Ok(()) = self.pools.register(on, Payload::Brigade(name)) else {
             return Err(AllocError);
         };
         Ok(())

@@ -1,7 +1,7 @@
 use Rattle.std.proofs.Common.{◌≡◌, ℕ, ◌<◌, false, is_some, Some, length, sym, ap, ◌∙◌, arith, rules}
 use Rattle.bucket_ring.specs.declared.names.BucketId.{BucketId}
 use Rattle.bucket_ring.specs.Lists.{list_at, rest, same, without, first_of, payload_of}
-use Rattle.bucket_ring.specs.Laws.{first_found}
+use Rattle.bucket_ring.specs.Laws.{first_found, none_revived_twice}
 use Rattle.brigade_ops.specs.Items.{Items}
 use Rattle.brigade_ops.proofs.Lists.{list_on, on_after, on_same, rest_off, shorter, never_empty, first_rest}
 use Rattle.brigade_ops.proofs.walking.drop_before.Goals as goal
@@ -30,6 +30,8 @@ loop-first-preserved g c =
       out = λ n. on_after b n (without first) (rest id) (rest id) (g.R.Rings.lists s) (g.R.Rings.lists new) change kept ∙ c.loop-first.invariant.out n;
       inside = laws.in_found new id b (ap (λ ys. is_some (payload_of ys)) (ap (rest id) left ∙ kept) ∙ laws.found_in s id b c.loop-first.invariant.inside);
       next = c.drop_bucket.ensures.next ∙ c.loop-first.invariant.next;
+      names = none_revived_twice (g.R.Rings.ring_at c.args.rings.now) (g.R.Rings.ring_at s) (g.R.Rings.ring_at new) (g.R.Rings.next_name c.args.rings.now) (g.R.Rings.next_name s)
+          (omega (arith, c.loop-first.invariant.next)) c.loop-first.invariant.names c.drop_bucket.ensures.names;
     }
 
 pub loop-first-smaller : goal.loop-first-smaller

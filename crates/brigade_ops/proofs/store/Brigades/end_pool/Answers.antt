@@ -5,7 +5,8 @@ use Rattle.run_model.specs.declared.payload.Payload.{Payload}
 use Rattle.run_model.specs.Payloads.{is_brigade, is_file_ref}
 use Rattle.bucket_kinds.specs.Device.{Missing}
 use Rattle.brigade_ops.specs.Files.{refs_in, is_let_go}
-use Rattle.brigade_ops.specs.Store.{lists, pool_of, references}
+use Rattle.bucket_ring.specs.Laws.{none_revived_twice}
+use Rattle.brigade_ops.specs.Store.{lists, brigade_of, pool_of, next_name, references}
 use Rattle.brigade_ops.proofs.Ended.{out_step, counted_step, sum_step, closed_step, open_step, some_here, enough_here}
 use Rattle.brigade_ops.proofs.store.Brigades.end_pool.Goals as goal
 
@@ -68,6 +69,8 @@ loop-entry-preserved g c =
         failures = c.end_payload.ensures.others.failures ∙ c.loop-entry.invariant.others.failures;
       };
       next = c.end_payload.ensures.next ∙ c.loop-entry.invariant.next;
+      names = none_revived_twice (brigade_of c.args.self.now) (brigade_of c.loop-entry.self) (brigade_of c.end_payload.new.self) (next_name c.args.self.now) (next_name c.loop-entry.self)
+          (omega (arith, c.loop-entry.invariant.next)) c.loop-entry.invariant.names c.end_payload.ensures.names;
     }
 
 none_left : (f i : ℕ) (handed : List (ℕ × Payload)) → length handed ≤ i → refs_in f (drop i handed) ≡ 0

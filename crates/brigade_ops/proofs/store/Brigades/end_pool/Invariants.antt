@@ -3,7 +3,8 @@ use Rattle.std.specs.List.{list_any}
 use Rattle.run_model.specs.Payloads.{is_brigade}
 use Rattle.bucket_kinds.specs.Device.{Missing, is_there}
 use Rattle.brigade_ops.specs.Files.{refs_in, is_let_go, SameButOpen}
-use Rattle.brigade_ops.specs.Store.{lists, pool_of, references, next_name}
+use Rattle.bucket_ring.specs.Kept.{NoneRevived}
+use Rattle.brigade_ops.specs.Store.{lists, brigade_of, pool_of, references, next_name}
 use Rattle.brigade_ops.proofs.store.Brigades.end_pool.Given as goal
 
 -- What is left to end makes of the store what all of it makes of the store that was.
@@ -18,4 +19,5 @@ invariant-loop-entry g l = record {
   enough : (f : ℕ) → refs_in f (drop l.entry-index l.handed) ≤ references l.self f;
   others : SameButOpen (g.F.Files.device l.initial.files) (g.F.Files.device l.files);
   next : next_name l.self ≡ next_name l.initial.self;
+  names : NoneRevived (brigade_of l.initial.self) (brigade_of l.self) (next_name l.initial.self);
 }

@@ -1,11 +1,12 @@
-use Rattle.std.proofs.Common.{◌≡◌, ℕ, ◌<◌, Option, None, Some, is_some, drop, length, refl, sym, ap, subst, ◌∙◌}
+use Rattle.std.proofs.Common.{◌≡◌, ℕ, ◌<◌, Option, None, Some, is_some, drop, length, refl, sym, ap, subst, ◌∙◌, arith}
 use Rattle.bucket_ring.specs.declared.names.BucketId.{BucketId}
 use Rattle.run_model.specs.Cutting.{set_aside}
 use Rattle.run_model.specs.Steps.{is_above}
 use Rattle.pool_tree.specs.Tree.{map_of}
+use Rattle.bucket_ring.specs.Laws.{none_revived_twice}
 use Rattle.bucket_ring.specs.Lists.{on, list_at, found, rest, with_payload}
 use Rattle.brigade_ops.specs.Items.{Items, from_place, aside_behind}
-use Rattle.brigade_ops.specs.Store.{lists, brigade_of, bucket_at}
+use Rattle.brigade_ops.specs.Store.{lists, brigade_of, bucket_at, next_name}
 use Rattle.brigade_ops.proofs.Lists.{and_then_told, found_set, list_on, on_after, on_same}
 use Rattle.brigade_ops.proofs.Walks.{told_some}
 use Rattle.brigade_ops.proofs.Saves.{aside_step, fewer_left, none_left}
@@ -83,6 +84,8 @@ loop-place-preserved g c =
           ∙ (ap (λ (p : Option BucketId). on b (aside_behind ps pool p) (g.R.Rings.lists s) n) (sym c.in-Some.is) ∙ c.loop-place.invariant.out n);
       inside = told_some (λ j. g.R.Rings.ring_at c.put_aside.new.self.held.rings j ≡ Some b) place (c.behind-place.ensures.inside b (still g d));
       next = c.put_aside.ensures.next ∙ c.loop-place.invariant.next;
+      names = none_revived_twice (brigade_of c.args.self.now) (brigade_of c.loop-place.self) (brigade_of c.put_aside.new.self) (next_name c.args.self.now) (next_name c.loop-place.self)
+          (omega (arith, c.loop-place.invariant.next)) c.loop-place.invariant.names c.put_aside.ensures.names;
       pools = c.put_aside.ensures.pools ∙ c.loop-place.invariant.pools;
       references = c.put_aside.ensures.references ∙ c.loop-place.invariant.references;
     }

@@ -20,7 +20,7 @@ returns-in-Some-clause-read g c x is =
     let told : IsRead c.args.id c.in-Some.bucket (brigade_of c.args.self.now c.args.id) (g.F.Files.device c.args.files.now) (g.F.Files.device c.read_range.new.files) (lists c.args.self.now) (lists c.read_range.new.self) (next_name c.args.self.now) (next_name c.read_range.new.self) c.read_range.result = record {
       ok = c.read_range.ensures.ok;
       rest = c.read_range.ensures.rest;
-      names = c.read_range.ensures.names;
+      names = c.read_range.ensures.next;
       unread = c.read_range.ensures.unread;
       fault = c.read_range.ensures.fault;
     } in

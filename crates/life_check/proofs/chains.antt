@@ -1,0 +1,24 @@
+-- The lifetime theorem for chains.
+pub mod Begun
+pub mod Beside
+pub mod Ended
+pub mod Ends
+pub mod Events
+pub mod Given
+pub mod Handed
+pub mod InPlace
+pub mod Kept
+pub mod Never
+pub mod Others
+pub mod Outside
+pub mod Passing
+pub mod Resumed
+pub mod Returned
+pub mod Spared
+pub mod Starts
+pub mod Theorem
+pub mod Top
+pub mod TopStands
+pub mod TopStays
+pub mod Touches
+pub mod Turning

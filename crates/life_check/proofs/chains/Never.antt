@@ -1,0 +1,54 @@
+-- A chain of typed modules never faults.
+use Rattle.std.proofs.Common.{ℕ, List}
+use Rattle.module_lang.specs.Program.{Program}
+use Rattle.run_model.specs.Chains.{Frame, Connection, Common}
+use Rattle.run_model.specs.Passing.{Reads}
+use Rattle.run_model.specs.ChainSound.{ChainSound}
+use Rattle.run_model.specs.ChainLaws.{IsChain, MayProceed, after_top}
+use Rattle.run_model.proofs.chains.Buckets.{top_keeps_buckets}
+use Rattle.run_model.proofs.chains.Modules.{module_at_proper}
+use Rattle.run_model.proofs.chains.TopCalls.{top_keeps_calls}
+use Rattle.run_model.proofs.chains.TopNames.{top_keeps_names}
+use Rattle.run_model.proofs.chains.TopPools.{top_keeps_pools}
+use Rattle.run_model.proofs.chains.WorldKept.{empty_sound, event_keeps_world}
+use Rattle.life_check.specs.Certificates.{Certificate}
+use Rattle.life_check.specs.Accepted.{IsCheckedChain}
+use Rattle.life_check.specs.ChainTheorem.{AllTyped, ChainNeverFaults, TypedChainNeverFaults}
+use Rattle.life_check.proofs.chains.Ends.{over_stands}
+use Rattle.life_check.proofs.chains.Events.{EventsLand}
+use Rattle.life_check.proofs.chains.Starts.{opened_stands, begun_stands, brought_stands}
+use Rattle.life_check.proofs.chains.Theorem.{chain_never_faults}
+use Rattle.life_check.proofs.chains.TopStands.{top_stands}
+use Rattle.life_check.proofs.chains.TopStays.{top_never_faults}
+use Rattle.life_check.proofs.chains.Turning.{TopLands}
+
+top_sound : (chain : List Program) (reads : Reads) (g : Common) (c : Connection) (f : Frame) (rest : List Frame) → MayProceed chain g c f rest → ChainSound chain g c
+    → ChainSound chain (after_top chain reads g c f rest).0 (after_top chain reads g c f rest).1
+top_sound chain reads g c f rest may sound = record {
+  names = top_keeps_names chain reads g c f rest may sound;
+  buckets = top_keeps_buckets chain reads g c f rest may sound;
+  pools = top_keeps_pools chain reads g c f rest may sound;
+  calls = top_keeps_calls chain reads g c f rest may sound;
+}
+
+module _ (chain : List Program) (certs : ℕ → Certificate) (proper : IsChain chain) (typed : AllTyped chain certs) where
+  top_lands : TopLands chain certs
+  top_lands = record {
+    faultless = λ g c f rest top sound stands. top_never_faults chain certs g c f rest proper typed sound stands top;
+    lands = λ reads g c f rest may sound stands. top_stands chain reads certs g c f rest may typed sound stands (top_sound chain reads g c f rest may sound);
+  }
+
+  events_land : EventsLand chain certs
+  events_land = record {
+    opened = opened_stands chain certs proper.some typed;
+    begun = begun_stands chain certs proper.some typed;
+    brought = brought_stands chain certs proper.some typed;
+    over = over_stands chain certs (module_at_proper chain proper) typed;
+  }
+
+pub typed_chain_never_faults : TypedChainNeverFaults
+typed_chain_never_faults chain certs proper typed =
+    chain_never_faults chain certs proper (top_lands chain certs proper typed) (events_land chain certs proper typed) event_keeps_world (empty_sound chain)
+
+pub checked_never_faults : (chain : List Program) → IsCheckedChain chain → ChainNeverFaults chain
+checked_never_faults chain h = typed_chain_never_faults chain h.certs h.chained h.typed

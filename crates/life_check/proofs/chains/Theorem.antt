@@ -1,0 +1,33 @@
+-- No run of a chain of typed modules answers a fault, where events keep what is sound.
+use Rattle.std.proofs.Common.{◌≡◌, ℕ, List, [], ◌∷◌, Some, None, subst}
+use Rattle.module_lang.specs.Program.{Program}
+use Rattle.run_model.specs.declared.event.Event.{Event}
+use Rattle.run_model.specs.Worlds.{World, Answer, empty_world, IsRun}
+use Rattle.run_model.specs.ChainSound.{WorldSound}
+use Rattle.run_model.specs.ChainLaws.{IsChain, EventKeepsWorld}
+use Rattle.life_check.specs.Certificates.{Certificate}
+use Rattle.life_check.specs.ChainTheorem.{IsNoFault, NoFaults, ChainNeverFaults}
+use Rattle.life_check.proofs.chains.Turning.{TopLands}
+use Rattle.life_check.proofs.chains.Events.{WorldStands, EventsLand, happens_told}
+
+module _ (chain : List Program) (certs : ℕ → Certificate) (proper : IsChain chain) (top : TopLands chain certs) (events : EventsLand chain certs) (keeps : EventKeepsWorld) where
+  run_answers : (budget : ℕ) (old new : World) (es : List (ℕ × Event)) (answers : List Answer) → WorldSound chain old → WorldStands chain certs old → IsRun budget chain old es answers new → NoFaults answers
+  unfolding NoFaults IsRun
+  run_answers budget old new [] [] sound stands run = tt
+  run_answers budget old new [] (a ∷ answers) sound stands run = absurd run
+  run_answers budget old new (e ∷ es) [] sound stands run = absurd run
+  run_answers budget old new (e ∷ es) (a ∷ answers) sound stands (memory, reads, mid, is, rest) =
+      let next = keeps memory budget chain reads e.0 e.1 old proper sound in
+      let now = happens_told chain certs proper top events memory budget reads e.1 e.0 old sound stands next in
+      let none = subst (λ (x : Answer × World). IsNoFault x.0) is now.0 in
+      let mid_sound = subst (λ (x : Answer × World). WorldSound chain x.1) is next in
+      let mid_stands = subst (λ (x : Answer × World). WorldStands chain certs x.1) is now.1 in
+      (none, run_answers budget mid new es answers mid_sound mid_stands rest)
+
+  nowhere : WorldStands chain certs empty_world
+  nowhere k c at = absurd (apart at) where
+    apart : None ≡ Some c → ⊥
+    apart e = cc
+
+  pub chain_never_faults : WorldSound chain empty_world → ChainNeverFaults chain
+  chain_never_faults empty budget es answers w run = run_answers budget empty_world w es answers empty nowhere run

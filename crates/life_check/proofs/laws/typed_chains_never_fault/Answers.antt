@@ -1,0 +1,5 @@
+use Rattle.life_check.proofs.chains.Never.{typed_chain_never_faults}
+use Rattle.life_check.proofs.laws.typed_chains_never_fault.Goals as goal
+
+pub returns : goal.returns
+returns c = typed_chain_never_faults

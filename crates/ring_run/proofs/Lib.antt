@@ -1,0 +1,17 @@
+pub mod Read
+pub mod Slots
+pub mod Changes
+pub mod Names
+pub mod Joins
+pub mod Moves
+pub mod Stands
+pub mod Found
+pub mod Steps
+pub mod Walks
+pub mod Makes
+pub mod Vars
+pub mod Homes
+pub mod Splits
+pub mod Cuts
+pub mod Points
+pub mod Parts

@@ -1,0 +1,14 @@
+-- The ranges of files that an instance has end below 2 ^ 64.
+use Rattle.std.specs.Prelude.{◌≡◌, ℕ, Some}
+use Rattle.bucket_ring.specs.declared.names.BucketId.{BucketId}
+use Rattle.bucket_ring.specs.declared.rings.Rings.{Ghosts}
+use Rattle.run_model.specs.declared.bucket.Bucket.{Bucket}
+use Rattle.run_model.specs.Cutting.{EndsInFile}
+use Rattle.brigade_ops.specs.declared.store.Brigades.{Brigades}
+use Rattle.brigade_ops.specs.Store.{brigade_of, bucket_at}
+use Rattle.ring_run.specs.declared.machine.Instance.{Instance}
+use Rattle.ring_run.specs.Slots.{slot_at, name_in}
+
+module _ {R : Type 0} {g : Ghosts R Bucket} where
+  abbrev pub EndInFiles : Brigades R g → Instance → Type 0
+  EndInFiles store i = (b n : ℕ) (id : BucketId) (x : Bucket) → name_in (slot_at i b) ≡ Some n → brigade_of store id ≡ Some n → bucket_at store id ≡ Some x → EndsInFile x.content

@@ -1,0 +1,90 @@
+//! What instructions do to brigades that are walked (apr_buckets.h).
+
+ghost use Rattle.std.specs.Prelude.{◌≡◌, ◌<◌, ℕ, true, is_some, Some};
+ghost use Rattle.bucket_ring.specs.declared.names.BucketId.{BucketId};
+ghost use Rattle.bucket_ring.specs.Lists.{list_at};
+ghost use Rattle.run_model.specs.BrigadeLists.{first_place, next_place};
+ghost use Rattle.run_model.specs.BucketSteps.{cursor_at, do_first, do_next, items_at};
+ghost use Rattle.run_model.specs.Cursors.{spot};
+ghost use Rattle.brigade_ops.specs.Store.{lists, brigade_of};
+ghost use Rattle.ring_run.specs.declared.machine.Call.{Call};
+ghost use Rattle.ring_run.specs.Around.{Around};
+ghost use Rattle.ring_run.specs.Held.{IsHeld, WasGiven};
+ghost use Rattle.ring_run.specs.Slots.{slot_at, name_in};
+ghost use Rattle.ring_run.specs.Seen.{seen, seen_over, shown_cursor};
+
+use crate::effects::live;
+use crate::machine::{Call, Instance, Stand};
+use crate::spots::{Spot, place_of};
+use brigade_ops::{Brigades, Bucket, BucketId, Rings};
+
+/// The first place of a brigade: its first bucket or its end.
+fn first_stand<R: Rings<Bucket> + Drop>(instance: &Instance, store: &Brigades<R>, b: u8) -> Stand
+    requires { b < 9 }
+    ensures place { (around : Around) (call : Call) → let r = seen store.now around instance.now call in shown_cursor result ≡ cursor_at (r.instance.brigades b) (first_place (items_at r b)) }
+    ensures given { (id : BucketId) → result ≡ Stand.At id → WasGiven store.now id }
+{
+    let Some(name) = live(instance, store, b) else {
+        return Stand::Unset;
+    };
+    match store.first(name) {
+        Some(id) => Stand::At(id),
+        None => Stand::End(name),
+    }
+}
+
+/// The cursor is at the first bucket of a brigade, or at its end.
+pub(crate) fn first<R: Rings<Bucket> + Drop>(
+    instance: &Instance,
+    call: &mut Call,
+    store: &Brigades<R>,
+    c: u8,
+    b: u8,
+)
+    requires cursor { c < 9 }
+    requires slot { b < 9 }
+    requires held { IsHeld store.now instance.now call.old }
+    ensures new { (around : Around) → seen store.now around instance.now call.new ≡ do_first c b (seen store.now around instance.now call.old) }
+    ensures held { IsHeld store.now instance.now call.new }
+    ensures name { call.new.name ≡ call.old.name }
+{
+    let stand = first_stand(instance, store, b);
+    call.set_cursor(c, stand);
+}
+
+/// The place behind a bucket: the next bucket, or the end of its brigade.
+fn stand_behind<R: Rings<Bucket> + Drop>(store: &Brigades<R>, id: BucketId) -> Stand
+    requires { is_some (brigade_of store.now id) ≡ true }
+    ensures place { (around : Around) (i : Instance) (call : Call) (b n : ℕ) → name_in (slot_at i b) ≡ Some n → brigade_of store.now id ≡ Some n
+        → let r = seen store.now around i call in shown_cursor result ≡ cursor_at (r.instance.brigades b) (next_place id.birth (items_at r b)) }
+    ensures given { (j : BucketId) → result ≡ Stand.At j → WasGiven store.now j }
+{
+    match store.next(id) {
+        Ok(next) => Stand::At(next),
+        Err(name) => Stand::End(name),
+    }
+}
+
+/// The cursor `d` is at the bucket behind that of `c`, or at the end of its brigade.
+pub(crate) fn next<R: Rings<Bucket> + Drop>(
+    instance: &Instance,
+    call: &mut Call,
+    store: &Brigades<R>,
+    d: u8,
+    c: u8,
+)
+    requires set { d < 9 }
+    requires cursor { c < 9 }
+    requires held { IsHeld store.now instance.now call.old }
+    ensures new { (around : Around) → let r = seen store.now around instance.now call.old in seen store.now around instance.now call.new ≡ do_next d (spot r c) r }
+    ensures held { IsHeld store.now instance.now call.new }
+    ensures name { call.new.name ≡ call.old.name }
+{
+    match place_of(instance, call, store, c) {
+        Spot::Within(_, id) => {
+            let stand = stand_behind(store, id);
+            call.set_cursor(d, stand);
+        }
+        Spot::Nowhere | Spot::Loose(_) | Spot::End(_) => {}
+    }
+}

@@ -1,0 +1,141 @@
+//! What a step sees: an instance of a module, and a call of one of its handlers.
+
+ghost use Rattle.std.specs.Prelude.{◌≡◌, ◌<◌, ◌==◌, ℕ, Option, None, if◌then◌else◌};
+ghost use Rattle.brigade_ops.specs.Items.{Items};
+ghost use Rattle.run_model.specs.State.{set_cursor};
+ghost use Rattle.ring_run.specs.Around.{Around};
+ghost use Rattle.ring_run.specs.Seen.{seen_over, shown_cursor};
+
+use brigade_ops::{BrigadeId, BucketId};
+use pool_tree::PoolId;
+use run_model::{Mark, PoolVar, Seq};
+use std::alloc::Global;
+
+/// A brigade variable. What is made in it is named with its pool, which is none of a brought brigade, and its mark. Whether the
+/// brigade is there still is read off the store.
+#[derive(Clone, Copy)]
+pub enum Slot {
+    /// Nothing was made in it.
+    Null,
+    /// The brigade of this name.
+    Made(BrigadeId, Option<PoolId>, Mark),
+}
+
+/// A cursor.
+#[derive(Clone, Copy)]
+pub enum Stand {
+    /// It was not set.
+    Unset,
+    /// The bucket of this name.
+    At(BucketId),
+    /// The end of the brigade of this name.
+    End(BrigadeId),
+}
+
+/// A module on a connection: its variables, and whether it passed an EOS in this request. Brigade variables are numbered 0 to 7, and
+/// 8 is the brought brigade `in`.
+#[derive(Drop)]
+pub struct Instance {
+    pub(crate) slots: [Slot; 9],
+    pub(crate) pools: [PoolVar; 8],
+    pub(crate) numbers: [u32; 8],
+    pub(crate) sent: bool,
+}
+
+/// A call of a handler. Its name is that of the brigade of its loose buckets; between calls it is 0. Cursors are numbered 0 to 7,
+/// and 8 is the read cursor `rd`. `pc` is the number of the next instruction.
+#[derive(Drop)]
+pub struct Call {
+    pub(crate) name: BrigadeId,
+    pub(crate) cursors: [Stand; 9],
+    pub(crate) buffer: Seq<u8>,
+    pub(crate) pc: usize,
+}
+
+impl Instance {
+    ghost use Rattle.ring_run.specs.Slots.{slot_at, marked, SameButSlots};
+
+    /// An instance before its `open`.
+    #[tactic(auto, unfolding(crate::specs::Slots::slot_at))]
+    pub fn new() -> Self
+        ensures { (b : ℕ) → slot_at result b ≡ Slot.Null }
+    {
+        Instance {
+            slots: [Slot::Null; 9],
+            pools: [PoolVar::Null; 8],
+            numbers: [0; 8],
+            sent: false,
+        }
+    }
+
+    /// A brigade variable.
+    #[tactic(auto, unfolding(crate::specs::Slots::slot_at))]
+    pub fn slot(&self, b: u8) -> Slot
+        requires { b < 9 }
+        ensures { result ≡ slot_at self.now b }
+    {
+        self.slots[usize::from(b)]
+    }
+
+    /// Sets a brigade variable.
+    #[tactic(auto, unfolding(crate::specs::Slots::slot_at))]
+    pub(crate) fn set_slot(&mut self, b: u8, slot: Slot)
+        requires { b < 9 }
+        ensures slots { (a : ℕ) → slot_at self.new a ≡ (if a == b then slot else slot_at self.old a) }
+        ensures rest { SameButSlots self.old self.new }
+    {
+        self.slots[usize::from(b)] = slot;
+    }
+
+    /// Marks what is in a brigade variable.
+    pub(crate) fn set_mark(&mut self, b: u8, mark: Mark)
+        requires { b < 9 }
+        ensures slots { (a : ℕ) → slot_at self.new a ≡ (if a == b then marked mark (slot_at self.old b) else slot_at self.old a) }
+        ensures rest { SameButSlots self.old self.new }
+    {
+        match self.slot(b) {
+            Slot::Null => {}
+            Slot::Made(name, pool, _) => self.set_slot(b, Slot::Made(name, pool, mark)),
+        }
+    }
+}
+
+impl Call {
+    ghost use Rattle.bucket_ring.specs.declared.names.BucketId.{BucketId};
+    ghost use Rattle.ring_run.specs.Held.{HeldOver};
+    ghost use Rattle.ring_run.specs.Slots.{cursor_at, slot_at};
+
+    /// No call, as it is between calls.
+    #[tactic(auto, unfolding(crate::specs::Slots::cursor_at))]
+    pub fn none(alloc: Global) -> Self
+        ensures cursors { (c : ℕ) → cursor_at result c ≡ Stand.Unset }
+        ensures held { (at : BucketId → Option ℕ) (rings : ℕ → Option Items) (pools : ℕ → Option ℕ) (next : ℕ) (i : Instance) → ((b : ℕ) → slot_at i b ≡ Slot.Null) → 0 < next → pools 0 ≡ None → HeldOver at rings pools next i result }
+    {
+        Call {
+            name: 0,
+            cursors: [Stand::Unset; 9],
+            buffer: Seq::new(alloc),
+            pc: 0,
+        }
+    }
+
+    /// A cursor.
+    #[tactic(auto, unfolding(crate::specs::Slots::cursor_at))]
+    pub fn cursor(&self, c: u8) -> Stand
+        requires { c < 9 }
+        ensures { result ≡ cursor_at self.now c }
+    {
+        self.cursors[usize::from(c)]
+    }
+
+    /// Sets a cursor.
+    #[tactic(auto, unfolding(crate::specs::Seen::seen_over, crate::specs::Slots::cursor_at, run_model::specs::State::set_cursor, run_model::specs::Indexed::upd))]
+    pub(crate) fn set_cursor(&mut self, c: u8, stand: Stand)
+        requires { c < 9 }
+        ensures seen { (rings : ℕ → Option Items) (next : ℕ) (around : Around) (i : Instance) → seen_over rings next around i self.new ≡ set_cursor c (shown_cursor stand) (seen_over rings next around i self.old) }
+        ensures cursors { (d : ℕ) → cursor_at self.new d ≡ (if d == c then stand else cursor_at self.old d) }
+        ensures name { self.new.name ≡ self.old.name }
+    {
+        self.cursors[usize::from(c)] = stand;
+    }
+}

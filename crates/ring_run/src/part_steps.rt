@@ -1,0 +1,143 @@
+//! What instructions do to brigades that are cut (apr_buckets.h, apr_brigade_split_ex).
+
+ghost use Rattle.std.specs.Prelude.{◌≡◌, ◌≢◌, ◌<◌, ℕ, None, Some, true, is_some, IfSome, OnOk, OnErr};
+ghost use Rattle.bucket_ring.specs.Lists.{list_at};
+ghost use Rattle.run_model.specs.BrigadeLists.{bucket_across, moves, stays};
+ghost use Rattle.run_model.specs.BucketSteps.{do_bpart, do_bsplit, items_at, place_at};
+ghost use Rattle.run_model.specs.Cursors.{spot};
+ghost use Rattle.run_model.specs.Faults.{home_fault};
+ghost use Rattle.run_model.specs.Steps.{value_of};
+ghost use Rattle.brigade_ops.specs.Items.{before_place, from_place};
+ghost use Rattle.brigade_ops.specs.Store.{lists, brigade_of};
+ghost use Rattle.ring_run.specs.Around.{Around};
+ghost use Rattle.ring_run.specs.Ends.{EndInFiles};
+ghost use Rattle.ring_run.specs.Held.{IsHeld};
+ghost use Rattle.ring_run.specs.Places.{stand_of};
+ghost use Rattle.ring_run.specs.Slots.{live_in, name_in, slot_at};
+ghost use Rattle.ring_run.specs.Seen.{seen, shown, calls_in};
+
+use crate::effects::live;
+use crate::machine::{Call, Instance, Stand};
+use crate::spots::{Spot, place_of};
+use crate::values::value_of;
+use brigade_ops::{BrigadeId, Brigades, Bucket, BucketId, Cut, Rings};
+use run_model::Value;
+use std::alloc::AllocError;
+
+/// The bucket of a cursor that stands in the brigade of a variable.
+fn place_in<R: Rings<Bucket> + Drop>(
+    instance: &Instance,
+    call: &Call,
+    store: &Brigades<R>,
+    b: u8,
+    name: BrigadeId,
+    c: u8,
+) -> Option<BucketId>
+    requires cursor { c < 9 }
+    requires held { IsHeld store.now instance.now call.now }
+    requires named { name_in (slot_at instance.now b) ≡ Some name }
+    ensures inside { IfSome result (λ id. brigade_of store.now id ≡ Some name) }
+    ensures stays { (around : Around) → let r = seen store.now around instance.now call.now in shown (calls_in around call.now) (before_place result (list_at (lists store.now) name)) ≡ stays (place_at (spot r c)) (items_at r b) }
+    ensures moves { (around : Around) → let r = seen store.now around instance.now call.now in shown (calls_in around call.now) (from_place result (list_at (lists store.now) name)) ≡ moves (place_at (spot r c)) (items_at r b) }
+{
+    match place_of(instance, call, store, c) {
+        Spot::Within(k, id) => { if k == b { Some(id) } else { None } }
+        Spot::Nowhere => None,
+        Spot::Loose(_) => None,
+        Spot::End(_) => None,
+    }
+}
+
+/// What stands in a brigade from the place of a cursor on goes to another, which is emptied first. Without memory nothing is changed.
+pub(crate) fn bsplit<R: Rings<Bucket> + Drop>(
+    instance: &Instance,
+    call: &Call,
+    store: &mut Brigades<R>,
+    b: u8,
+    c: u8,
+    a: u8,
+) -> Result<(), AllocError>
+    requires from { b < 9 }
+    requires cursor { c < 9 }
+    requires into { a < 9 }
+    requires apart { a ≢ b }
+    requires live_from { is_some (live_in (lists store.old) (slot_at instance.now b)) ≡ true }
+    requires live_into { is_some (live_in (lists store.old) (slot_at instance.now a)) ≡ true }
+    requires held { IsHeld store.old instance.now call.now }
+    ensures ok { OnOk result ((around : Around) → let r = seen store.old around instance.now call.now in seen store.new around instance.now call.now ≡ do_bsplit b (spot r c) a r) }
+    ensures err { OnErr result ((around : Around) → seen store.new around instance.now call.now ≡ seen store.old around instance.now call.now) }
+    ensures held { IsHeld store.new instance.now call.now }
+{
+    let Some(from) = live(instance, store, b) else {
+        unreachable!()
+    };
+    let Some(to) = live(instance, store, a) else {
+        unreachable!()
+    };
+    let place = place_in(instance, call, store, b, from, c);
+    store.split_at(from, place, to)
+}
+
+/// Where a cursor is set by what a partition answers.
+fn stand_of(b: BrigadeId, cut: Cut) -> Stand
+    ensures { result ≡ stand_of b cut }
+{
+    match cut {
+        Cut::Found(id) => Stand::At(id),
+        Cut::AtEnd => Stand::End(b),
+        Cut::Incomplete => Stand::End(b),
+    }
+}
+
+/// Parts a brigade at a point, as `bpart`.
+fn part<R: Rings<Bucket> + Drop>(
+    instance: &Instance,
+    call: &mut Call,
+    store: &mut Brigades<R>,
+    b: u8,
+    point: u64,
+    c: u8,
+) -> Result<(), AllocError>
+    requires slot { b < 9 }
+    requires cursor { c < 9 }
+    requires live { is_some (live_in (lists store.old) (slot_at instance.now b)) ≡ true }
+    requires ends { EndInFiles store.old instance.now }
+    requires held { IsHeld store.old instance.now call.old }
+    ensures ok { OnOk result ((around : Around) → let r = seen store.old around instance.now call.old in home_fault (bucket_across point (items_at r b)) ≡ None → seen store.new around instance.now call.new ≡ do_bpart b point c r) }
+    ensures err { OnErr result ((around : Around) → seen store.new around instance.now call.new ≡ seen store.old around instance.now call.old) }
+    ensures held { IsHeld store.new instance.now call.new }
+    ensures name { call.new.name ≡ call.old.name }
+{
+    let Some(name) = live(instance, store, b) else {
+        unreachable!()
+    };
+    let Ok(cut) = store.partition(name, point) else {
+        return Err(AllocError);
+    };
+    call.set_cursor(c, stand_of(name, cut));
+    Ok(())
+}
+
+/// Parts a brigade at a point and sets a cursor to the place behind it; a bucket that the point lies inside is split. Where the brigade
+/// is shorter the place is its end. Without memory, and where the names are spent, nothing is changed.
+pub(crate) fn bpart<R: Rings<Bucket> + Drop>(
+    instance: &Instance,
+    call: &mut Call,
+    store: &mut Brigades<R>,
+    b: u8,
+    x: Value,
+    c: u8,
+) -> Result<(), AllocError>
+    requires slot { b < 9 }
+    requires cursor { c < 9 }
+    requires live { is_some (live_in (lists store.old) (slot_at instance.now b)) ≡ true }
+    requires ends { EndInFiles store.old instance.now }
+    requires held { IsHeld store.old instance.now call.old }
+    ensures ok { OnOk result ((around : Around) → let r = seen store.old around instance.now call.old in home_fault (bucket_across (value_of r x) (items_at r b)) ≡ None → seen store.new around instance.now call.new ≡ do_bpart b (value_of r x) c r) }
+    ensures err { OnErr result ((around : Around) → seen store.new around instance.now call.new ≡ seen store.old around instance.now call.old) }
+    ensures held { IsHeld store.new instance.now call.new }
+    ensures name { call.new.name ≡ call.old.name }
+{
+    let point = u64::from(value_of(instance, x));
+    part(instance, call, store, b, point, c)
+}

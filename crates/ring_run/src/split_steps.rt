@@ -1,0 +1,93 @@
+//! What instructions do to buckets that are split and copied (apr_buckets.h).
+
+ghost use Rattle.std.specs.Prelude.{◌≡◌, ◌<◌, ℕ, None, Some, true, is_some, OnOk, OnErr};
+ghost use Rattle.run_model.specs.BucketSteps.{do_copy, do_split, new_loose};
+ghost use Rattle.run_model.specs.Cursors.{bucket_at as model_bucket_at, spot};
+ghost use Rattle.run_model.specs.Faults.{home_fault};
+ghost use Rattle.run_model.specs.declared.bucket.Bucket.{Bucket};
+ghost use Rattle.brigade_ops.specs.Store.{lists, brigade_of, bucket_at, next_name};
+ghost use Rattle.ring_run.specs.declared.machine.Instance.{Instance};
+ghost use Rattle.ring_run.specs.Around.{Around};
+ghost use Rattle.ring_run.specs.Ends.{EndInFiles};
+ghost use Rattle.ring_run.specs.Held.{IsHeld};
+ghost use Rattle.ring_run.specs.Seen.{seen, bucket_in, calls_in};
+
+use crate::machine::{Call, Instance, Stand};
+use crate::spots::{Spot, place_of};
+use brigade_ops::{Brigades, Bucket, BucketId, Rings, SplitRefusal};
+use std::alloc::AllocError;
+
+/// Splits the bucket of a cursor after its first `n` bytes, where that is not refused. Without memory, and where the names are spent,
+/// nothing is changed.
+pub(crate) fn split<R: Rings<Bucket> + Drop>(
+    instance: &Instance,
+    call: &Call,
+    store: &mut Brigades<R>,
+    c: u8,
+    n: u64,
+) -> Result<(), AllocError>
+    requires cursor { c < 9 }
+    requires held { IsHeld store.old instance.now call.now }
+    requires ends { EndInFiles store.old instance.now }
+    ensures ok { OnOk result ((around : Around) → let r = seen store.old around instance.now call.now in home_fault (model_bucket_at (spot r c)) ≡ None → seen store.new around instance.now call.now ≡ do_split n (spot r c) r) }
+    ensures err { OnErr result ((around : Around) → seen store.new around instance.now call.now ≡ seen store.old around instance.now call.now) }
+    ensures held { IsHeld store.new instance.now call.now }
+{
+    let Spot::Within(_, id) = place_of(instance, call, store, c) else {
+        return Ok(());
+    };
+    match store.split(id, n) {
+        Ok(_) => Ok(()),
+        Err(SplitRefusal::Metadata) => Ok(()),
+        Err(SplitRefusal::TooLong) => Ok(()),
+        Err(SplitRefusal::NoMemory) => Err(AllocError),
+        Err(SplitRefusal::NamesSpent) => Err(AllocError),
+    }
+}
+
+/// Makes a loose copy of a bucket, at which the cursor is. Without memory, and where the names are spent, nothing is changed.
+fn add_copy<R: Rings<Bucket> + Drop>(
+    call: &mut Call,
+    store: &mut Brigades<R>,
+    d: u8,
+    id: BucketId,
+) -> Result<(), AllocError>
+    requires cursor { d < 9 }
+    requires there { is_some (brigade_of store.old id) ≡ true }
+    requires loose { is_some (lists store.old call.old.name) ≡ true }
+    ensures ok { OnOk result ((around : Around) (i : Instance) (x : Bucket) → IsHeld store.old i call.old → bucket_at store.old id ≡ Some x
+        → seen store.new around i call.new ≡ new_loose d (bucket_in (calls_in around call.old) (next_name store.old) x) (seen store.old around i call.old)) }
+    ensures err { OnErr result ((around : Around) (i : Instance) → seen store.new around i call.new ≡ seen store.old around i call.old) }
+    ensures held { (i : Instance) → IsHeld store.old i call.old → IsHeld store.new i call.new }
+    ensures name { call.new.name ≡ call.old.name }
+{
+    let Ok(new) = store.copy(id, call.name) else {
+        return Err(AllocError);
+    };
+    call.set_cursor(d, Stand::At(new));
+    Ok(())
+}
+
+/// Copies the bucket of the cursor `c`; `d` is at the copy. Without memory, and where the names are spent, nothing is changed.
+pub(crate) fn copy<R: Rings<Bucket> + Drop>(
+    instance: &Instance,
+    call: &mut Call,
+    store: &mut Brigades<R>,
+    d: u8,
+    c: u8,
+) -> Result<(), AllocError>
+    requires set { d < 9 }
+    requires cursor { c < 9 }
+    requires runs { 0 < call.old.name }
+    requires held { IsHeld store.old instance.now call.old }
+    ensures ok { OnOk result ((around : Around) → let r = seen store.old around instance.now call.old in home_fault (model_bucket_at (spot r c)) ≡ None → seen store.new around instance.now call.new ≡ do_copy d (spot r c) r) }
+    ensures err { OnErr result ((around : Around) → seen store.new around instance.now call.new ≡ seen store.old around instance.now call.old) }
+    ensures held { IsHeld store.new instance.now call.new }
+    ensures name { call.new.name ≡ call.old.name }
+{
+    match place_of(instance, call, store, c) {
+        Spot::Within(_, id) => add_copy(call, store, d, id),
+        Spot::Loose(id) => add_copy(call, store, d, id),
+        Spot::Nowhere | Spot::End(_) => Ok(()),
+    }
+}

@@ -1,0 +1,26 @@
+-- Chains of modules: the proofs of what each connection keeps.
+pub mod Apart
+pub mod Modules
+pub mod Spared
+pub mod QuietSteps
+pub mod Views
+pub mod PutBack
+pub mod TopSteps
+pub mod Instances
+pub mod TopPools
+pub mod Places
+pub mod Stacks
+pub mod TopCalls
+pub mod Names
+pub mod PassNames
+pub mod TopNames
+pub mod Raised
+pub mod Buckets
+pub mod EventNames
+pub mod EventBuckets
+pub mod EventPools
+pub mod EventCalls
+pub mod Others
+pub mod EventTurns
+pub mod TurnsSound
+pub mod WorldKept
