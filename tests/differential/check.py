@@ -56,11 +56,11 @@ class Reading:
         return (*play(script), b'')
 
 
-def pieces(rng, names):
-    """The pieces of a brigade in which no data follows an EOS."""
+def pieces(rng, names, often=1):
+    """The pieces of a brigade in which no data follows an EOS; a file is so many times as frequent as another piece."""
     words = []
     for _ in range(rng.choice([0, 1, 1, 2, 3, 6])):
-        kind = rng.choice(['heap', 'transient', 'immortal', 'pool', 'flush'] + ['file'] * (len(names) > 0))
+        kind = rng.choice(['heap', 'transient', 'immortal', 'pool', 'flush'] + ['file'] * (often * (len(names) > 0)))
         if kind == 'file':
             name = rng.choice(sorted(names))
             start = rng.choice([0, 0, 1, names[name] // 2])

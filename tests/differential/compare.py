@@ -3,13 +3,11 @@
 
     python3 tests/differential/compare.py [N] [SEED] [--program PATH] [--with PATH] [--keep FOLDER]
     python3 tests/differential/compare.py --alone [N] [SEED]
-    python3 tests/differential/compare.py --answer < SCRIPT
 """
 import argparse
 import os
 import random
 import subprocess
-import sys
 import tempfile
 import time
 
@@ -37,8 +35,9 @@ def answer_of(program):
 
 
 def read_answer(script):
-    """The answer that the reading gives. Raises TooBig where it is a matter of memory or time."""
-    return (*play(script), b'')
+    """The answer that the reading gives; the program has one module and one connection. Raises TooBig where it is a matter of memory
+    or time."""
+    return (*play(script, single=True), b'')
 
 
 def differs(players, script):
@@ -111,12 +110,7 @@ def main():
     parser.add_argument('--keep', default=tempfile.gettempdir(), help='the folder for a script with a difference')
     parser.add_argument('--counts', action='store_true', help='tell how often what arose')
     parser.add_argument('--alone', action='store_true', help='play the reading alone, and tell how often what arose')
-    parser.add_argument('--answer', action='store_true', help='only print what the reading answers to standard input')
     options = parser.parse_args()
-    if options.answer:
-        printed, status = play(sys.stdin.buffer.read())
-        sys.stdout.buffer.write(printed)
-        return status
     if options.alone:
         return count_alone(random_script(generator_of(options.seed, number)) for number in range(options.n))
     names = (options.other or 'reading', 'program')

@@ -5,8 +5,8 @@ it knows what is live, empty, passed or dead, and rarely writes what is a fault 
 its own; counters in n6 and n7 lead to it. What a test did can be told from the labels of the connection's pool.
 """
 from odd import NUMBERS, ODD_COMMANDS, change, odd_line, quote, some_bytes
+from reading.chains import Host
 from reading.counts import uncounted
-from reading.events import Host
 from reading.pools import DEAD
 from reading.scripts import BadLine, answer
 from reading.steps import BUFFER
@@ -33,7 +33,7 @@ class Writer:
     def __init__(self, rng):
         self.rng = rng
         self.module = self.declarations()
-        self.host = Host(self.module)
+        self.host = Host([self.module], single=True)
         self.handler = 'open'
         self.calls = {handler: [] for handler in HANDLERS}      # the code of each call
         self.lines = []                                         # the code of the call that is written
@@ -50,6 +50,16 @@ class Writer:
         if self.keeps_files:
             self.keeps, self.file_chance, self.kinds, self.wrong = True, .9, ['pool'], .003
         self.commands = []
+
+    @property
+    def connection(self):
+        """The connection, or None where it is not there."""
+        return self.host.connections.get(1)
+
+    @property
+    def filter(self):
+        """The instance of the module on the connection."""
+        return self.connection.instances[0]
 
     def declarations(self):
         """A module of pools and brigades, whose handlers are not there yet."""
@@ -97,7 +107,7 @@ class Writer:
             number = rng.randrange(6)
             return 'n%d' % number, number
         if kind == 'X':
-            near = min(U32, max(0, rng.choice(self.host.numbers) + rng.choice([-1, 0, 0, 1])))
+            near = min(U32, max(0, rng.choice(self.filter.numbers) + rng.choice([-1, 0, 0, 1])))
             word = rng.choice(['n%d' % rng.randrange(8), str(rng.choice(NUMBERS)), str(near)])
             return word, number_or_constant(word)
         if kind == 'T':
@@ -108,8 +118,8 @@ class Writer:
 
     def cursor(self):
         """A cursor, mostly one that names something that is there."""
-        call, rng = self.host.call, self.rng
-        there = [i for i, named in enumerate(call.cursors) if self.host.place_of(named)] if call else []
+        call, rng = self.filter.call, self.rng
+        there = [i for i, named in enumerate(call.cursors) if self.filter.place_of(named)] if call else []
         return rng.choice(there) if there and rng.random() < .8 else rng.randrange(8)
 
     def instruction(self, word=None):
@@ -129,20 +139,20 @@ class Writer:
 
     def do(self, instruction):
         """Does an instruction on the reading. A jump that is taken leaves the place 'taken'."""
-        self.host.call.pc = 0
-        self.host.do(instruction)
+        self.filter.call.pc = 0
+        self.filter.do(instruction)
 
     def pointless(self, instruction):
         """Whether an instruction would do next to nothing: such are written rarely."""
         word, *operands = instruction
         if word in ('bconcat', 'bsave'):
-            return not self.host.brigade_of(operands[1]).buckets
+            return not self.filter.brigade_of(operands[1]).buckets
         if word == 'bclean':
-            return not self.host.brigade_of(operands[0]).passed
+            return not self.filter.brigade_of(operands[0]).passed
         if word == 'pass':
-            return self.keeps or not self.host.brigade_of(operands[0]).buckets
+            return self.keeps or not self.filter.brigade_of(operands[0]).buckets
         if word == 'pdestroy':
-            return len(self.host.children(self.host.pool_of(operands[0]))) == 0
+            return len(self.host.pools.children(self.filter.pool_of(operands[0]))) == 0
         return False
 
     def step(self, word=None):
@@ -152,7 +162,7 @@ class Writer:
             if found is None:
                 continue
             line, instruction = found
-            fault = self.host.fault_of(instruction)
+            fault = self.filter.fault_of(instruction)
             if fault and self.rng.random() >= self.wrong * SELDOM.get(fault, 1):
                 continue
             if not fault and self.pointless(instruction) and self.rng.random() < .8:
@@ -170,7 +180,7 @@ class Writer:
 
     def after_jump(self, label):
         """What stands between a jump and its label: something that is skipped, or a label that tells it was not."""
-        if self.host.call.pc == 'taken':
+        if self.filter.call.pc == 'taken':
             found = self.instruction() if self.rng.random() < .5 else None
             if found:
                 line = found[0]
@@ -196,24 +206,24 @@ class Writer:
         code = [(*part[:-1], places[part[-1]]) if 'L' in OPERANDS[part[0]] else part for part in code]
         self.lines += lines
         self.texts += reader.texts
-        self.host.call.pc = 0
-        while self.host.call.pc < len(code):
-            instruction = code[self.host.call.pc]
-            if self.host.fault_of(instruction):
+        self.filter.call.pc = 0
+        while self.filter.call.pc < len(code):
+            instruction = code[self.filter.call.pc]
+            if self.filter.fault_of(instruction):
                 return False
-            self.host.do(instruction)
+            self.filter.do(instruction)
         return True
 
     def words(self):
         """Words for a block, or None where no usable brigade has buckets or no other one is there."""
-        rng, host = self.rng, self.host
+        rng, instance = self.rng, self.filter
         brigades = [(word, brigade) for word, brigade in dict(self.operands_of('B')).items()
-                    if host.fault_of(('jempty', brigade, 0)) is None]
-        filled = [word for word, brigade in brigades if host.brigade_of(brigade).buckets]
+                    if instance.fault_of(('jempty', brigade, 0)) is None]
+        filled = [word for word, brigade in brigades if instance.brigade_of(brigade).buckets]
         if not filled or len(brigades) < 2 or self.texts >= MOST_TEXTS - 3:
             return None
         chosen = rng.choice(filled)
-        pools = [word for word, pool in self.operands_of('P') if host.pool_of(pool) is not None]
+        pools = [word for word, pool in self.operands_of('P') if instance.pool_of(pool) is not None]
         c, d = rng.sample(range(8), 2)
         n, m = rng.sample(range(5), 2)
         self.labels += 1
@@ -226,12 +236,12 @@ class Writer:
         rng, words = self.rng, self.words()
         if not words:
             return self.step()
-        brigade = self.host.brigade_of(dict(self.operands_of('B'))[words['B']])
+        brigade = self.filter.brigade_of(dict(self.operands_of('B'))[words['B']])
         template = rng.choice(rng.choice([WALKS, CHANGES_OF_ONE, CHANGES_OF_ONE]))
-        pools = [word for word, pool in self.operands_of('Q') if self.host.pool_of(pool) is not None]
+        pools = [word for word, pool in self.operands_of('Q') if self.filter.pool_of(pool) is not None]
         if pools and rng.random() < .05:
             template, words['Q'] = CLEARED, rng.choice(pools)
-        if sum(map(self.host.length, brigade.buckets)) > LONGEST_WALK and 'get {m}' in template:
+        if sum(map(self.filter.length, brigade.buckets)) > LONGEST_WALK and 'get {m}' in template:
             template = CHANGES_OF_ONE[0]
         if not self.block(lines_of(template, words)):
             return False
@@ -242,12 +252,12 @@ class Writer:
         words = self.words()
         if not words:
             return True
-        buckets = self.host.brigade_of(dict(self.operands_of('B'))[words['B']]).buckets
-        number = self.host.numbers[int(words['m'][1])]
+        buckets = self.filter.brigade_of(dict(self.operands_of('B'))[words['B']]).buckets
+        number = self.filter.numbers[int(words['m'][1])]
         if len(buckets) > 12:
             return True
         end = words['l'] + 'z'
-        return self.block(audit(buckets, self.host.length, words)
+        return self.block(audit(buckets, self.filter.length, words)
                           + ['jeq %s %d %s' % (words['m'], number, end), 'label conn "audit"', ':' + end])
 
     def fill_buffer(self):
@@ -258,25 +268,25 @@ class Writer:
         count, byte = rng.choice([3, 4000, 7999, 8000, 8001]), rng.choice([0, 255])
         self.lines += ['set n5 0', ':' + again, 'put %d %s' % (byte, full), 'add n5 1',
                        'jlt n5 %d %s' % (count, again), ':' + full]
-        self.host.numbers[5] = min(count, BUFFER - len(self.host.call.buffer))
-        self.host.call.buffer += bytes([byte]) * self.host.numbers[5]
+        self.filter.numbers[5] = min(count, BUFFER - len(self.filter.call.buffer))
+        self.filter.call.buffer += bytes([byte]) * self.filter.numbers[5]
 
     def write_call(self):
         """Writes the code of the call that runs, up to its end or its fault."""
-        rng, host = self.rng, self.host
+        rng, instance = self.rng, self.filter
         self.lines = []
         if self.handler in COUNTERS:
-            host.numbers[COUNTERS[self.handler]] += 1
+            instance.numbers[COUNTERS[self.handler]] += 1
         if rng.random() < .01:
             self.lines += [':again%d' % self.labels, 'jump again%d' % self.labels]
             self.labels += 1
             self.is_endless = True
-            host.broken = 'OutOfSteps'
+            self.connection.broken = 'OutOfSteps'
         elif all(self.some_step() for _ in range(rng.randint(0, 2 * self.length))):
             self.end_call()
         else:
             self.lines.append('ret ok')
-            host.broken = 'Faulted'
+            self.connection.broken = 'Faulted'
         self.calls[self.handler].append(self.lines)
 
     def some_step(self):
@@ -285,12 +295,12 @@ class Writer:
         if chance < .004:
             self.fill_buffer()
             return True
-        homes = [bucket.home for bucket in self.host.all_buckets()]
+        homes = [bucket.home for bucket in self.filter.all_buckets()]
         if DEAD in homes and self.handler == 'main' and self.rng.random() < .6:
             return self.use_of_dead()
         if self.rng.random() < self.walks:
             return self.walk()
-        brought = self.host.brought
+        brought = self.filter.brought
         if brought and brought.buckets and chance < .04:
             return self.carry()
         if brought and brought.buckets and chance < .4:
@@ -301,14 +311,14 @@ class Writer:
 
     def use_of_dead(self):
         """A use of a bucket whose home is dead, or something near it."""
-        rng, host = self.rng, self.host
-        dead = [(word, place) for word, brigade in dict(self.operands_of('O')).items() if host.brigade_of(brigade)
-                for place, bucket in enumerate(host.brigade_of(brigade).buckets) if bucket.home == DEAD]
+        rng, instance = self.rng, self.filter
+        dead = [(word, place) for word, brigade in dict(self.operands_of('O')).items() if instance.brigade_of(brigade)
+                for place, bucket in enumerate(instance.brigade_of(brigade).buckets) if bucket.home == DEAD]
         if not dead or rng.random() < .5:
             return self.step(rng.choice(['bsave', 'pass', 'bconcat', 'read', 'copy', 'aside', 'split', 'bpart']))
         word, place = rng.choice(dead)
-        buckets = host.brigade_of(dict(self.operands_of('O'))[word]).buckets
-        point = sum(map(host.length, buckets[:place])) + rng.choice([0, 1, 1, host.length(buckets[place])])
+        buckets = instance.brigade_of(dict(self.operands_of('O'))[word]).buckets
+        point = sum(map(instance.length, buckets[:place])) + rng.choice([0, 1, 1, instance.length(buckets[place])])
         self.labels += 1
         use = rng.choice(['read c0 {l}', 'copy c1 c0', 'aside c0 conn', 'split c0 1 {l}', 'bpart {b} {x} c1 {l}', 'pass {b} {l}',
                           'unlink c0', 'bdelete c0', 'len n0 c0'])
@@ -317,10 +327,10 @@ class Writer:
 
     def carry(self):
         """Saves what was brought into a brigade on a pool, moves it on, clears that pool, and uses it."""
-        rng, host = self.rng, self.host
-        usable = [i for i in range(len(self.module.brigades)) if host.fault_of(('jempty', i, 0)) is None]
-        pairs = [(i, j) for i in usable for j in usable if self.module.brigades[i] not in ('conn', 'req') and not host.lies_under(
-            host.brigade_of(j).pool, host.brigade_of(i).pool)]
+        rng, instance = self.rng, self.filter
+        usable = [i for i in range(len(self.module.brigades)) if instance.fault_of(('jempty', i, 0)) is None]
+        pairs = [(i, j) for i in usable for j in usable if self.module.brigades[i] not in ('conn', 'req') and not self.host.pools.lies_under(
+            instance.brigade_of(j).pool, instance.brigade_of(i).pool)]
         if not pairs:
             return self.step()
         between, last = rng.choice(pairs)
@@ -328,20 +338,20 @@ class Writer:
         for line, instruction in (
                 ('bsave b%d in' % between, ('bsave', between, 'in')),
                 ('bconcat b%d b%d' % (last, between), ('bconcat', last, between)), ('pclear p%d' % pool, ('pclear', pool))):
-            if host.fault_of(instruction) is None:
+            if instance.fault_of(instruction) is None:
                 self.lines.append(line)
                 self.do(instruction)
         return self.step(rng.choice(['pass', 'bsave']))
 
     def end_call(self):
         """Cleans what may not be kept, mostly, and returns."""
-        host = self.host
-        if self.keeps_files and host.brought and host.brought.buckets and not self.step(self.rng.choice(['bconcat', 'bconcat', 'bsave'])):
+        instance = self.filter
+        if self.keeps_files and instance.brought and instance.brought.buckets and not self.step(self.rng.choice(['bconcat', 'bconcat', 'bsave'])):
             self.lines.append('ret ok')
-            host.broken = 'Faulted'
+            self.connection.broken = 'Faulted'
             return
-        for i, name in enumerate(host.brigade_variables):
-            brigade = host.brigades.get(name)
+        for i, name in enumerate(instance.brigade_variables):
+            brigade = instance.brigades.get(name)
             kept = brigade and any(bucket.home[0] == 'call' for bucket in brigade.buckets)
             if brigade and self.may_name(self.module.brigades[i]) and (
                     brigade.passed and self.rng.random() < .7 or
@@ -350,8 +360,8 @@ class Writer:
                 self.do(('bclean', i))
         status = 'fail' if self.handler == 'main' and self.rng.random() < .1 else 'ok'
         self.lines.append('ret ' + status)
-        if host.fault_of(('ret', status)):
-            host.broken = 'Faulted'
+        if instance.fault_of(('ret', status)):
+            self.connection.broken = 'Faulted'
         else:
             self.do(('ret', status))
 
@@ -359,13 +369,12 @@ class Writer:
 
     def command(self, line):
         """Writes a command and plays it; a call that is to run gets its code."""
-        host = self.host
         self.commands.append(line)
-        if line == 'run 1' and host.there and host.call and not host.broken:
+        if line == 'run 1' and self.connection and self.connection.stack and not self.connection.broken:
             self.write_call()
             return
         try:
-            told = answer(host, line)
+            told = answer(self.host, line)
         except BadLine:
             return
         word = line.split(' ')[0]
@@ -375,7 +384,7 @@ class Writer:
     def file(self):
         """A new file."""
         rng = self.rng
-        names = [name for name in FILE_NAMES if name not in self.host.files]
+        names = [name for name in FILE_NAMES if name not in self.host.pools.files]
         if names:
             data, count = some_bytes(rng, 2), rng.choice([0, 1, 2, 10, 1000, 7999, 8000, 8001, 16001])
             if rng.random() < .03:
@@ -383,7 +392,7 @@ class Writer:
             self.command('file %s %d %s' % (rng.choice(names), count, quote(rng, data)))
 
     def piece(self):
-        rng, files = self.rng, self.host.files
+        rng, files = self.rng, self.host.pools.files
         if files and rng.random() < self.file_chance:
             name = rng.choice(sorted(files))
             most = len(files[name])
@@ -492,12 +501,27 @@ class Writer:
         return lines
 
 
+def with_steps(rng, commands):
+    """The commands, with some steps before some runs and behind them. (A call's code is written where it is run, so they come last.)"""
+    if rng.random() < .7:
+        return commands
+    lines = []
+    for line in commands:
+        if line.startswith('run ') and rng.random() < .3:
+            lines.append('step%s %d' % (line[3:], rng.choice([1, 1, 2, 3, 5, 8, 20, 1000])))
+        lines.append(line)
+        if rng.random() < .03:
+            lines.append('step %d %d' % (rng.choice([1, 1, 1, 2]), rng.choice([1, 7, MOST])))
+    return lines
+
+
 # The ways to make a script, as a list of lines.
 
 def played(rng):
     """A script that is right as a text; of some, the module or the commands are changed."""
     writer = Writer(rng)
     module, commands = writer.script()
+    commands = with_steps(rng, commands)
     chance = rng.random()
     commands = writer.budget(is_changed=chance < .13) + commands
     if chance < .13:

@@ -50,44 +50,38 @@ class OpenFile:
 
 
 class Pools:
-    """All pools and what lies on them. Names are never given out twice."""
+    """The pools of all connections, and their files. A name is given once, to whichever connection asks."""
 
     def __init__(self):
-        self.pools = {ROOT: Pool(None)}
-        self.next_pool = ROOT + 1
-        self.brigades = {}
-        self.next_brigade = 1
+        self.tree = {ROOT: Pool(None)}
         self.files = {}                  # the bytes of each file
         self.open_files = {}
-        self.next_file = 1
-        self.brought = None              # the brigade `in` of the call that runs
-        self.loose = Brigade()           # the loose buckets of the call that runs
-        self.labels = []                 # the labels that ran
+        self.last = {'pool': ROOT, 'brigade': 0, 'call': 0, 'file': 0}
+
+    def name(self, kind):
+        """The next name of this kind."""
+        self.last[kind] += 1
+        return self.last[kind]
 
     def make_pool(self, parent):
-        name = self.next_pool
-        self.next_pool += 1
-        self.pools[name] = Pool(parent)
-        return name
-
-    def make_brigade(self, pool):
-        name = self.next_brigade
-        self.next_brigade += 1
-        self.brigades[name] = Brigade(pool)
-        self.pools[pool].payloads.append(('brigade', name))
+        name = self.name('pool')
+        self.tree[name] = Pool(parent)
         return name
 
     def open_file(self, name, pool):
         """Opens a file that is there, for as long as the pool lives."""
-        number = self.next_file
-        self.next_file += 1
+        number = self.name('file')
         self.open_files[number] = OpenFile(name)
         self.refer(pool, number)
         return number
 
+    def read(self, number, start, length):
+        """The bytes of a range of an open file, as far as the file reaches."""
+        return self.files[self.open_files[number].name][start:start + length]
+
     def refer(self, pool, number):
         """Keeps an open file open for as long as the pool lives."""
-        self.pools[pool].payloads.append(('file', number))
+        self.tree[pool].payloads.append(('file', number))
         self.open_files[number].references += 1
 
     def forget(self, number):
@@ -98,67 +92,42 @@ class Pools:
 
     def children(self, pool):
         """The pools right under a pool, the oldest first."""
-        return sorted(name for name, other in self.pools.items() if other.parent == pool)
+        return sorted(name for name, other in self.tree.items() if other.parent == pool)
 
     def lies_under(self, pool, above):
         """Whether a pool is the pool `above`, or lies under it."""
         while pool is not None and pool != above:
-            pool = self.pools[pool].parent
+            pool = self.tree[pool].parent
         return pool == above
+
+    def under(self, pool):
+        """The pools at and under a pool."""
+        return {name for name in self.tree if self.lies_under(name, pool)}
 
     def run_order(self, pool):
         """The payloads at and under a pool in the order in which a clear runs them."""
         order = []
         for child in reversed(self.children(pool)):
             order += self.run_order(child)
-        return order + self.pools[pool].payloads[::-1]
-
-    def all_brigades(self):
-        """Each brigade that is there."""
-        return list(self.brigades.values()) + ([] if self.brought is None else [self.brought])
-
-    def all_buckets(self):
-        """Each bucket that stands in a brigade or is loose."""
-        return [bucket for brigade in self.all_brigades() + [self.loose] for bucket in brigade.buckets]
+        return order + self.tree[pool].payloads[::-1]
 
     def clear(self, pool, destroy):
-        """Runs the cleanups at and under a pool, and takes away what lies there; the pool itself only on `destroy`."""
-        gone = {name for name in self.pools if self.lies_under(name, pool)}
-        payloads = self.run_order(pool)
-        self.drop_brigades(gone)
-        self.end_homes(gone)
+        """Takes away the pools under a pool, and the pool itself on `destroy`; gives the labels that run, in their order."""
+        payloads, gone = self.run_order(pool), self.under(pool)
         for kind, value in payloads:
-            if kind == 'label':
-                self.labels.append(value)
-            elif kind == 'file':
+            if kind == 'file':
                 self.forget(value)
-        if sum(kind == 'label' for kind, _ in payloads) > 1:
+        labels = [value for kind, value in payloads if kind == 'label']
+        if len(labels) > 1:
             arose('clear with two or more labels')
-        self.pools[pool].payloads = []
+        self.tree[pool].payloads = []
         for name in gone:
             if name != pool or destroy:
-                del self.pools[name]
-
-    def drop_brigades(self, gone):
-        """Takes away the brigades on pools that are gone."""
-        for name in [name for name, brigade in self.brigades.items() if brigade.pool in gone]:
-            if self.brigades[name].buckets:
-                arose('clear of a brigade with buckets')
-            del self.brigades[name]
-
-    def end_homes(self, gone):
-        """What the end of pools does to the buckets that are left: homes die, and POOL buckets become HEAP buckets."""
-        for bucket in self.all_buckets():
-            kind, name = bucket.home
-            if kind == 'pool' and name in gone:
-                bucket.home = DEAD
-                arose('clear of the home of a bucket')
-            if bucket.kind == 'pool' and bucket.pool in gone:
-                bucket.kind, bucket.pool = 'heap', None
-                arose('clear that makes a POOL bucket a HEAP bucket')
+                del self.tree[name]
+        return labels
 
     def show(self, pool=ROOT, depth=0):
         """A line for each pool at and under a pool, with its labels."""
-        labels = [value for kind, value in self.pools[pool].payloads if kind == 'label']
+        labels = [value for kind, value in self.tree[pool].payloads if kind == 'label']
         line = '  ' * depth + ' '.join(['pool %d' % pool] + [show_text(label) for label in labels]) + '\n'
         return line + ''.join(self.show(child, depth + 1) for child in self.children(pool))

@@ -1,0 +1,235 @@
+#!/usr/bin/env python3
+"""Plays random chains of filters that the checker accepts, on random commands of up to three connections. None may have a fault.
+
+    python3 tests/differential/chains.py [N] [SEED] [--program PATH] [--keep FOLDER]
+    python3 tests/differential/chains.py [N] [SEED] --unchecked [--program PATH]
+"""
+import argparse
+import os
+import tempfile
+import time
+import traceback
+from contextlib import suppress
+
+from check import pieces
+from compare import answer_of, generator_of, report, shown
+from filters import MEETING, PAIR
+from modules import FILTERS, random_module
+from odd import quote
+from reading.certificates import Refusal, make, show_certificate
+from reading.chains import Host
+from reading.counts import table, uncounted
+from reading.scripts import TooBig, answer, play
+from reading.texts import FaultyText, assemble_alone
+
+MOST_CONNECTIONS = 3
+MEETING_EACH_OTHER = .5                  # how often a filter is one of those that were written for chains
+PASSING = .85                            # how often another one passes something
+NEW = .5                                 # how often a chain has a new filter
+NO_SCRIPT = (b'asm line ', b'cert line ', b'script line ', b'refused module ')
+
+
+class Filter:
+    """A module: its text, what it says, and the text of its certificate, or None where it is not accepted. Raises FaultyText."""
+
+    def __init__(self, text):
+        self.text, self.module = text, assemble_alone(text)
+        self.passes = any(word == 'pass' for word, *_ in self.module.code)
+        try:
+            self.certificate = show_certificate(make(self.module))
+        except Refusal:
+            self.certificate = None
+
+
+class Filters:
+    """The filters of which chains are made. They grow: many a chain has a new one."""
+
+    def __init__(self, unchecked):
+        self.unchecked = unchecked
+        self.known = []
+        for lines in FILTERS:
+            self.take('\n'.join(lines).encode('latin-1') + b'\n')
+        self.meeting = [self.take(text) for text in MEETING]
+
+    def take(self, text):
+        """The filter of a text, which is known from now on; None where it may not be in a chain."""
+        try:
+            filter = Filter(text)
+        except FaultyText:
+            return None
+        if not self.unchecked and filter.certificate is None:
+            return None
+        self.known.append(filter)
+        return filter
+
+    def new(self, rng):
+        """A random filter."""
+        filter = None
+        while filter is None:
+            filter = self.take(random_module(rng))
+        return filter
+
+    def one(self, rng):
+        """A filter that is known."""
+        if rng.random() < MEETING_EACH_OTHER:
+            return rng.choice(self.meeting)
+        passing = [filter for filter in self.known if filter.passes]
+        return rng.choice(passing if rng.random() < PASSING else self.known)
+
+    def chain(self, rng):
+        """One to four filters."""
+        chain = [self.one(rng) for _ in range(rng.choice([1, 2, 2, 3, 3, 4]))]
+        if rng.random() < NEW:
+            chain[rng.randrange(len(chain))] = self.new(rng)
+        elif len(chain) > 1 and rng.random() < .2:
+            place = rng.randrange(len(chain) - 1)
+            chain[place:place + 2] = [filter for text in PAIR for filter in self.meeting if filter.text == text]
+        return chain
+
+
+class Talk:
+    """Random commands, which are played on the reading as they are written."""
+
+    def __init__(self, rng, chain):
+        self.rng = rng
+        self.host = Host([filter.module for filter in chain])
+        self.host.budget = rng.choice([40, 400, 3000])
+        self.lines = []
+        self.files = {}                  # their lengths
+        self.chance_of_stray = rng.choice([0, .02, .1])
+
+    def say(self, *words):
+        line = ' '.join(map(str, words))
+        self.lines.append(line)
+        answer(self.host, line)
+
+    def file(self):
+        """A new file."""
+        name, length = 'f%d' % len(self.files), self.rng.choice([1, 10, 7999, 8001, 16001])
+        self.files[name] = length
+        self.say('file', name, length, quote(self.rng, b'%d' % (len(self.files) % 10)))
+
+    def bring(self, number):
+        self.say('bring', number, *pieces(self.rng, self.files, often=4))
+
+    def stray(self):
+        """A command for any connection, there or not."""
+        number = self.rng.randint(1, self.host.opened + 1)
+        word = self.rng.choice(['begin', 'end', 'output', 'labels', 'run', 'step', 'bring', 'pools', 'file', 'close'])
+        if word == 'bring':
+            self.bring(number)
+        elif word == 'file':
+            self.file()
+        elif word == 'pools':
+            self.say(word)
+        elif word == 'step':
+            self.say(word, number, self.rng.choice([1, 2, 7]))
+        elif word != 'close' or self.rng.random() < .2:
+            self.say(word, number)
+
+    def turn(self):
+        """A command that some connection's state allows, mostly."""
+        rng, connections = self.rng, self.host.connections
+        chance = rng.random()
+        if not connections or len(connections) < MOST_CONNECTIONS and chance < .05:
+            self.say('open')
+        elif chance < .05 + self.chance_of_stray:
+            self.stray()
+        else:
+            number = rng.choice(sorted(connections))
+            self.turn_of(number, connections[number])
+
+    def turn_of(self, number, connection):
+        rng = self.rng
+        if connection.broken:
+            self.say(rng.choice(['close', 'close', 'close', 'output', 'labels', 'run', 'end']), number)
+        elif connection.stack and rng.random() < .4:
+            self.say('run', number)
+        elif connection.stack:
+            self.say('step', number, rng.choice([1, 1, 2, 3, 5, 10]))
+        elif connection.req_pool is None:
+            self.say('begin', number)
+        elif rng.random() < .75:
+            self.bring(number)
+        else:
+            self.say(rng.choice(['end', 'end', 'end', 'output', 'labels', 'close']), number)
+
+    def all(self):
+        """Writes the commands: some in turns, and then all that is left is told and closed."""
+        for _ in range(self.rng.choice([0, 1, 2, 2])):
+            self.file()
+        for _ in range(self.rng.choice([30, 100, 200])):
+            self.turn()
+        self.say('pools')
+        for number in sorted(self.host.connections):
+            for word in ('output', 'labels', 'close'):
+                self.say(word, number)
+        self.say('pools')
+
+
+def script_of(rng, chain, unchecked):
+    """The bytes of a script: the chain with some of its certificates, and a talk."""
+    talk = Talk(rng, chain)
+    with uncounted(), suppress(AssertionError):          # the script shows what is wrong, too
+        talk.all()
+    texts = b''.join(filter.text + (filter.certificate or b'' if rng.random() < .5 else b'') for filter in chain)
+    lines = ['budget %d' % talk.host.budget] + ['checked'] * (not unchecked) + talk.lines
+    return texts + ''.join(line + '\n' for line in lines).encode('latin-1')
+
+
+def chain_answer(script):
+    """The answer that the reading gives. Raises TooBig where it is a matter of memory or time."""
+    return (*play(script), b'')
+
+
+def is_amiss(told, unchecked):
+    """Whether an answer tells that the script is none, or a fault of a chain that is accepted."""
+    amiss = NO_SCRIPT if unchecked else NO_SCRIPT + (b'fault ',)
+    return any(line.startswith(amiss) for line in told[0].splitlines())
+
+
+def play_chain(players, script, path, unchecked):
+    """Plays a script; gives whether all is well, and keeps the script where it is not."""
+    try:
+        answers = [player(script) for player in players]
+        wrong = 'FAULT of an accepted chain: ' + shown(answers[0]) if is_amiss(answers[0], unchecked) else None
+    except TooBig:
+        return True
+    except AssertionError:
+        wrong = 'the reading is wrong: ' + traceback.format_exc()
+    if wrong:
+        with open(path + '.script', 'wb') as file:
+            file.write(script)
+        print('%s\n  %s.script' % (wrong, path))
+        return False
+    if answers[0] != answers[-1]:
+        report(players, ['reading', 'program'], script, path)
+        return False
+    return True
+
+
+def main():
+    parser = argparse.ArgumentParser(description='Plays chains of filters that the checker accepts; none may have a fault.')
+    parser.add_argument('n', nargs='?', type=int, default=2000, metavar='N', help='how many chains')
+    parser.add_argument('seed', nargs='?', default='1', metavar='SEED', help='any word; the same word gives the same chains')
+    parser.add_argument('--program', help='a program, whose answers are compared with those of the reading')
+    parser.add_argument('--keep', default=tempfile.gettempdir(), help='the folder for a script on which something is amiss')
+    parser.add_argument('--unchecked', action='store_true', help='chains of any filters, which may have faults')
+    options = parser.parse_args()
+    players = [chain_answer] + ([answer_of(options.program)] if options.program else [])
+    filters = Filters(options.unchecked)
+    start = time.monotonic()
+    for number in range(options.n):
+        rng = generator_of(options.seed, number)
+        script = script_of(rng, filters.chain(rng), options.unchecked)
+        path = os.path.join(options.keep, 'chain_%s_%d' % (options.seed.replace('/', '_'), number))
+        if not play_chain(players, script, path, options.unchecked):
+            return 1
+    print(table())
+    print('%d chains of seed %s: %s, %d filters, %.0f s' % (
+        options.n, options.seed, 'no difference' if options.unchecked else 'no fault', len(filters.known), time.monotonic() - start))
+    return 0
+
+
+if __name__ == '__main__':
+    raise SystemExit(main())
