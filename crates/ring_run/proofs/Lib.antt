@@ -15,3 +15,9 @@ pub mod Splits
 pub mod Cuts
 pub mod Points
 pub mod Parts
+pub mod Wanted
+pub mod Running
+pub mod LateData
+pub mod Walked
+pub mod Crossed
+pub mod Items

@@ -4,3 +4,7 @@ pub mod Held
 pub mod Seen
 pub mod Places
 pub mod Ends
+pub mod Footings
+pub mod Outside
+pub mod Shown
+pub mod Tests

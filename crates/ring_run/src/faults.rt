@@ -1,0 +1,124 @@
+//! The faults of brigade variables: nothing is there, or it was passed, or something is there already.
+
+ghost use Rattle.std.specs.Prelude.{◌≡◌, ◌<◌};
+ghost use Rattle.run_model.specs.Faults.{WBrigade, WUsable, WNew, fault_want, or_else, brigade_fault, usable_fault, passed_fault, new_fault};
+ghost use Rattle.brigade_ops.specs.Store.{lists};
+ghost use Rattle.ring_run.specs.declared.machine.Call.{Call};
+ghost use Rattle.ring_run.specs.Around.{Around};
+ghost use Rattle.ring_run.specs.Footings.{bare, mark_in};
+ghost use Rattle.ring_run.specs.Seen.{seen};
+ghost use Rattle.ring_run.specs.Slots.{slot_at};
+
+use crate::machine::{Instance, Slot};
+use brigade_ops::{Brigades, Bucket, Rings};
+use run_model::{FaultKind, Mark};
+
+/// The fault of the first want, or else of those behind it.
+pub(crate) fn or_else(first: Option<FaultKind>, second: Option<FaultKind>) -> Option<FaultKind>
+    ensures { result ≡ or_else first second }
+{
+    match first {
+        Some(kind) => Some(kind),
+        None => second,
+    }
+}
+
+/// The mark of the brigade in a variable, where it is there.
+fn mark_of<R: Rings<Bucket> + Drop>(instance: &Instance, store: &Brigades<R>, b: u8) -> Option<Mark>
+    requires { b < 9 }
+    ensures { result ≡ mark_in (lists store.now) (slot_at instance.now b) }
+{
+    match instance.slot(b) {
+        Slot::Made(name, _, mark) if store.has(name) => Some(mark),
+        Slot::Made(_, _, _) | Slot::Null => None,
+    }
+}
+
+fn brigade_fault(mark: Option<Mark>) -> Option<FaultKind>
+    ensures { result ≡ brigade_fault (bare mark) }
+{
+    match mark {
+        Some(_) => None,
+        None => Some(FaultKind::F2),
+    }
+}
+
+fn usable_fault(mark: Option<Mark>) -> Option<FaultKind>
+    ensures { result ≡ usable_fault (bare mark) }
+{
+    match mark {
+        Some(Mark::Usable) => None,
+        Some(Mark::Passed) => Some(FaultKind::F7),
+        None => Some(FaultKind::F2),
+    }
+}
+
+fn passed_by(mark: Option<Mark>) -> Option<FaultKind>
+    ensures { result ≡ passed_fault (bare mark) }
+{
+    match mark {
+        Some(Mark::Passed) => Some(FaultKind::F7),
+        Some(Mark::Usable) | None => None,
+    }
+}
+
+fn new_fault(mark: Option<Mark>) -> Option<FaultKind>
+    ensures { result ≡ new_fault (bare mark) }
+{
+    match mark {
+        Some(_) => Some(FaultKind::F10),
+        None => None,
+    }
+}
+
+/// The fault of a brigade that is to be there.
+#[tactic(auto, using(crate::proofs::Wanted::brigade_told))]
+pub(crate) fn want_brigade<R: Rings<Bucket> + Drop>(
+    instance: &Instance,
+    store: &Brigades<R>,
+    b: u8,
+) -> Option<FaultKind>
+    requires { b < 9 }
+    ensures { (around : Around) (call : Call) → result ≡ fault_want (seen store.now around instance.now call) (WBrigade b) }
+{
+    brigade_fault(mark_of(instance, store, b))
+}
+
+/// The fault of a brigade that is to be there, and was not passed.
+#[tactic(auto, using(crate::proofs::Wanted::usable_told))]
+pub(crate) fn want_usable<R: Rings<Bucket> + Drop>(
+    instance: &Instance,
+    store: &Brigades<R>,
+    b: u8,
+) -> Option<FaultKind>
+    requires { b < 9 }
+    ensures { (around : Around) (call : Call) → result ≡ fault_want (seen store.now around instance.now call) (WUsable b) }
+{
+    usable_fault(mark_of(instance, store, b))
+}
+
+/// The fault of a variable in which no brigade is to be.
+#[tactic(auto, using(crate::proofs::Wanted::new_told))]
+pub(crate) fn want_new<R: Rings<Bucket> + Drop>(
+    instance: &Instance,
+    store: &Brigades<R>,
+    b: u8,
+) -> Option<FaultKind>
+    requires { b < 9 }
+    ensures { (around : Around) (call : Call) → result ≡ fault_want (seen store.now around instance.now call) (WNew b) }
+{
+    new_fault(mark_of(instance, store, b))
+}
+
+/// The fault of a brigade that was passed.
+#[tactic(auto, using(crate::proofs::Wanted::passed_told))]
+pub(crate) fn passed_fault<R: Rings<Bucket> + Drop>(
+    instance: &Instance,
+    store: &Brigades<R>,
+    b: u8,
+) -> Option<FaultKind>
+    requires { b < 9 }
+    ensures { (around : Around) (call : Call) → result ≡ passed_fault ((seen store.now around instance.now call).instance.brigades b) }
+{
+    passed_by(mark_of(instance, store, b))
+}

@@ -1,0 +1,129 @@
+//! The homes of buckets as they read while calls run, and the faults of those that are dead.
+
+ghost use Rattle.std.specs.Prelude.{◌≡◌, ◌==◌, ◌<◌, true, is_some, Some, IfSome};
+ghost use Rattle.std.specs.List.{list_any};
+ghost use Rattle.bucket_ring.specs.declared.names.BucketId.{BucketId};
+ghost use Rattle.run_model.specs.declared.bucket.Bucket.{Bucket};
+ghost use Rattle.run_model.specs.Buckets.{is_ended};
+ghost use Rattle.run_model.specs.Cursors.{bucket_at as model_bucket_at, spot};
+ghost use Rattle.run_model.specs.Faults.{WHome, fault_want, home_fault};
+ghost use Rattle.brigade_ops.specs.Store.{brigade_of, bucket_at};
+ghost use Rattle.ring_run.specs.Around.{Around};
+ghost use Rattle.ring_run.specs.Held.{IsHeld};
+ghost use Rattle.ring_run.specs.Outside.{with_outside};
+ghost use Rattle.ring_run.specs.Seen.{seen, calls_in, home_in, is_running};
+ghost use Rattle.ring_run.specs.Shown.{shown_at};
+
+use crate::machine::{Call, Instance};
+use crate::outside::Outside;
+use crate::spots::{Spot, place_of};
+use brigade_ops::{BrigadeId, Brigades, Bucket, BucketId, Rings};
+use run_model::{FaultKind, Home};
+
+/// Whether a name is one of these.
+fn is_among(names: &[BrigadeId], n: BrigadeId) -> bool
+    ensures { result ≡ list_any (λ w. n == w) names.now }
+{
+    names.iter().any(|w| n == *w)
+}
+
+/// Whether a call runs: this one, or one that waits.
+#[tactic(auto, using(crate::proofs::Running::running_none, crate::proofs::Running::running_here, crate::proofs::Running::running_waits))]
+fn is_running(call: &Call, outside: &Outside<'_>, n: BrigadeId) -> bool
+    ensures { result ≡ is_running call.now.name outside.now.waits.now n }
+{
+    if n == 0 {
+        return false;
+    }
+    n == call.name || is_among(outside.waits, n)
+}
+
+/// The home of a bucket of this birth.
+fn home_in(call: &Call, outside: &Outside<'_>, birth: u64, home: Home) -> Home
+    ensures { result ≡ home_in (is_running call.now.name outside.now.waits.now) birth home }
+{
+    match home {
+        Home::Call(n) => {
+            if is_running(call, outside, n) && n < birth {
+                home
+            } else {
+                Home::Ended
+            }
+        }
+        Home::Free | Home::Pool(_) | Home::Ended => home,
+    }
+}
+
+/// The home of a bucket.
+pub(crate) fn home_of<R: Rings<Bucket> + Drop>(
+    call: &Call,
+    outside: &Outside<'_>,
+    store: &Brigades<R>,
+    id: BucketId,
+) -> Home
+    requires { is_some (brigade_of store.now id) ≡ true }
+    ensures { (x : Bucket) → bucket_at store.now id ≡ Some x → result ≡ home_in (is_running call.now.name outside.now.waits.now) id.birth x.home }
+{
+    home_in(call, outside, id.birth, store.payload(id).home)
+}
+
+/// Whether it is a dead home.
+pub(crate) fn is_ended(home: Home) -> bool
+    ensures { result ≡ is_ended home }
+{
+    matches!(home, Home::Ended)
+}
+
+/// The bucket that a cursor stands at.
+pub(crate) fn bucket_of<R: Rings<Bucket> + Drop>(
+    instance: &Instance,
+    call: &Call,
+    store: &Brigades<R>,
+    c: u8,
+) -> Option<BucketId>
+    requires cursor { c < 9 }
+    requires held { IsHeld store.now instance.now call.now }
+    ensures at { (around : Around) → shown_at (calls_in around call.now) (bucket_at store.now) result ≡ model_bucket_at (spot (seen store.now around instance.now call.now) c) }
+    ensures there { IfSome result (λ id. is_some (brigade_of store.now id) ≡ true) }
+{
+    match place_of(instance, call, store, c) {
+        Spot::Within(_, id) => Some(id),
+        Spot::Loose(id) => Some(id),
+        Spot::Nowhere | Spot::End(_) => None,
+    }
+}
+
+/// The fault of a bucket whose home is dead.
+pub(crate) fn home_fault<R: Rings<Bucket> + Drop>(
+    call: &Call,
+    outside: &Outside<'_>,
+    store: &Brigades<R>,
+    bucket: Option<BucketId>,
+) -> Option<FaultKind>
+    requires { IfSome bucket (λ id. is_some (brigade_of store.now id) ≡ true) }
+    ensures { result ≡ home_fault (shown_at (is_running call.now.name outside.now.waits.now) (bucket_at store.now) bucket) }
+{
+    let Some(id) = bucket else {
+        return None;
+    };
+    if is_ended(home_of(call, outside, store, id)) {
+        Some(FaultKind::F5)
+    } else {
+        None
+    }
+}
+
+/// The fault of a cursor at a bucket whose home is dead.
+pub(crate) fn want_home<R: Rings<Bucket> + Drop>(
+    instance: &Instance,
+    call: &Call,
+    outside: &Outside<'_>,
+    store: &Brigades<R>,
+    c: u8,
+) -> Option<FaultKind>
+    requires cursor { c < 9 }
+    requires held { IsHeld store.now instance.now call.now }
+    ensures { (around : Around) → result ≡ fault_want (seen store.now (with_outside outside.now around) instance.now call.now) (WHome c) }
+{
+    home_fault(call, outside, store, bucket_of(instance, call, store, c))
+}

@@ -1,0 +1,131 @@
+//! Pool variables, the pools that operands name, and the faults where a pool is not there, or is there already.
+
+ghost use Rattle.std.specs.Prelude.{◌≡◌, ℕ, Option, slice_index_or};
+ghost use Rattle.run_model.specs.Faults.{WPool, WNewPool, fault_want, has_pool, is_stray};
+ghost use Rattle.run_model.specs.Indexed.{any_below};
+ghost use Rattle.run_model.specs.State.{name_in, is_named, pool_named, is_own};
+ghost use Rattle.brigade_ops.specs.Items.{Items};
+ghost use Rattle.ring_run.specs.declared.machine.Call.{Call};
+ghost use Rattle.ring_run.specs.Around.{Around};
+ghost use Rattle.ring_run.specs.Outside.{with_outside};
+ghost use Rattle.ring_run.specs.Seen.{seen_over};
+
+use crate::machine::Instance;
+use crate::outside::Outside;
+use brigade_ops::PoolId;
+use run_model::{FaultKind, Home, PoolRef, PoolVar};
+
+/// The pool variable of a number; beyond the last they are null.
+fn variable(instance: &Instance, q: u8) -> PoolVar
+    ensures { result ≡ slice_index_or instance.now.pools q PoolVar.Null }
+{
+    match instance.pools.get(usize::from(q)) {
+        Some(var) => *var,
+        None => PoolVar::Null,
+    }
+}
+
+/// The pool that a pool variable names.
+fn name_in(var: PoolVar) -> Option<PoolId>
+    ensures { result ≡ name_in var }
+{
+    match var {
+        PoolVar::Null => None,
+        PoolVar::Made(name) => Some(name),
+    }
+}
+
+/// Whether there is a name and it is this one.
+fn is_named(held: Option<PoolId>, name: PoolId) -> bool
+    ensures { result ≡ is_named held name }
+{
+    match held {
+        Some(other) => name == other,
+        None => false,
+    }
+}
+
+/// Whether one of the eight pool variables names a pool.
+fn any_names(instance: &Instance, name: PoolId) -> bool
+    ensures { result ≡ any_below 8 (λ q. is_named (name_in (slice_index_or instance.now.pools q PoolVar.Null)) name) }
+{
+    for q in 0..8u8 {
+        if is_named(name_in(variable(instance, q)), name) {
+            return true;
+        }
+    }
+    false
+}
+
+/// The pool that an operand or a declaration names.
+#[tactic(auto, unfolding(crate::specs::Seen::seen_over, run_model::specs::State::named_at))]
+pub(crate) fn pool_named(
+    instance: &Instance,
+    outside: &Outside<'_>,
+    pool: PoolRef,
+) -> Option<PoolId>
+    ensures { (rings : ℕ → Option Items) (next : ℕ) (around : Around) (call : Call) → result ≡ pool_named (seen_over rings next (with_outside outside.now around) instance.now call) pool }
+{
+    match pool {
+        PoolRef::Conn => Some(outside.conn),
+        PoolRef::Req => outside.req,
+        PoolRef::Own(q) => name_in(variable(instance, q)),
+    }
+}
+
+/// Whether an operand names a live pool.
+#[tactic(auto, unfolding(crate::specs::Seen::seen_over, run_model::specs::Faults::has_pool_at))]
+fn has_pool(instance: &Instance, outside: &Outside<'_>, pool: PoolRef) -> bool
+    ensures { (rings : ℕ → Option Items) (next : ℕ) (around : Around) (call : Call) → result ≡ has_pool (seen_over rings next (with_outside outside.now around) instance.now call) pool }
+{
+    match pool_named(instance, outside, pool) {
+        Some(name) => outside.tree.is_live(name),
+        None => false,
+    }
+}
+
+/// The fault of an operand that is to name a live pool.
+pub(crate) fn want_pool(
+    instance: &Instance,
+    outside: &Outside<'_>,
+    pool: PoolRef,
+) -> Option<FaultKind>
+    ensures { (rings : ℕ → Option Items) (next : ℕ) (around : Around) (call : Call) → result ≡ fault_want (seen_over rings next (with_outside outside.now around) instance.now call) (WPool pool) }
+{
+    if has_pool(instance, outside, pool) {
+        None
+    } else {
+        Some(FaultKind::F1)
+    }
+}
+
+/// The fault of a variable that is to name no live pool.
+pub(crate) fn want_new_pool(instance: &Instance, outside: &Outside<'_>, q: u8) -> Option<FaultKind>
+    ensures { (rings : ℕ → Option Items) (next : ℕ) (around : Around) (call : Call) → result ≡ fault_want (seen_over rings next (with_outside outside.now around) instance.now call) (WNewPool q) }
+{
+    if has_pool(instance, outside, PoolRef::Own(q)) {
+        Some(FaultKind::F10)
+    } else {
+        None
+    }
+}
+
+/// Whether a pool is one that a pool variable names, the connection's or the open request's.
+#[tactic(auto, unfolding(crate::specs::Seen::seen_over, run_model::specs::State::is_own_at))]
+fn is_own(instance: &Instance, outside: &Outside<'_>, name: PoolId) -> bool
+    ensures { (rings : ℕ → Option Items) (next : ℕ) (around : Around) (call : Call) → result ≡ is_own (seen_over rings next (with_outside outside.now around) instance.now call) name }
+{
+    any_names(instance, name) || name == outside.conn || is_named(outside.req, name)
+}
+
+/// Whether a home does not outlast the call, or lies in a pool of another filter.
+#[tactic(auto, unfolding(run_model::specs::Faults::is_stray, run_model::specs::State::is_own_at, crate::specs::Seen::seen_over))]
+pub(crate) fn is_stray(instance: &Instance, outside: &Outside<'_>, home: Home) -> bool
+    ensures { (rings : ℕ → Option Items) (next : ℕ) (around : Around) (call : Call) → result ≡ is_stray (seen_over rings next (with_outside outside.now around) instance.now call) home }
+{
+    match home {
+        Home::Call(_) => true,
+        Home::Pool(name) => !is_own(instance, outside, name),
+        Home::Free | Home::Ended => false,
+    }
+}
