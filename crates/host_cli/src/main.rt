@@ -3,6 +3,7 @@
 
 mod answer;
 mod assembling;
+mod beginning;
 mod bringing;
 mod certifying;
 mod checking;
@@ -31,6 +32,7 @@ mod tests;
 mod words;
 
 use assembling::run_assemble;
+use beginning::run_new;
 use certifying::run_certify;
 use checking::run_check;
 use clap::Error;
@@ -86,6 +88,11 @@ fn certify_file(rt: &HostRuntime, file: &str) -> ExitCode {
     end(rt, certified, file)
 }
 
+fn certify_input(rt: &HostRuntime) -> ExitCode {
+    let certified = run_certify(rt.alloc(), &mut rt.stdin(), &mut rt.stdout());
+    end(rt, certified, "standard input")
+}
+
 fn check_file(rt: &HostRuntime, file: &str, cert: &str) -> ExitCode {
     let mut reader = NamedFile::new(rt, file);
     let mut certs = NamedFile::new(rt, cert);
@@ -97,8 +104,10 @@ fn check_file(rt: &HostRuntime, file: &str, cert: &str) -> ExitCode {
 fn perform(rt: &HostRuntime, task: Task<'_>) -> ExitCode {
     match task {
         Task::Play => play_script(rt),
+        Task::New => end(rt, run_new(&mut rt.stdout()), ""),
         Task::Assemble { file } => assemble_file(rt, file),
-        Task::Certify { file } => certify_file(rt, file),
+        Task::Certify { file: Some(file) } => certify_file(rt, file),
+        Task::Certify { file: None } => certify_input(rt),
         Task::Check { file, cert } => check_file(rt, file, cert),
     }
 }

@@ -8,10 +8,12 @@ use std::alloc::Global;
 pub enum Task<'a> {
     /// A script is played.
     Play,
+    /// A module to begin with is printed.
+    New,
     /// A module is printed.
     Assemble { file: &'a str },
-    /// A certificate is made.
-    Certify { file: &'a str },
+    /// A certificate is made, of the module of this file, or of standard input.
+    Certify { file: Option<&'a str> },
     /// A certificate is checked.
     Check { file: &'a str, cert: &'a str },
 }
@@ -23,9 +25,11 @@ pub fn task_of<'a>(alloc: Global, words: &'a [String]) -> Result<Task<'a>, Error
     let assemble = Command::new(alloc, "assemble")
         .about("Prints a module, or the first fault of its text")
         .arg(file)?;
-    let file = Arg::new(alloc, "FILE").required(true);
+    let file = Arg::new(alloc, "FILE");
     let certify = Command::new(alloc, "certify")
-        .about("Makes a certificate of a module, or tells why there is none")
+        .about(
+            "Makes a certificate of a module, or tells why there is none; of standard input with no file",
+        )
         .arg(file)?;
     let file = Arg::new(alloc, "FILE").required(true);
     let cert = Arg::new(alloc, "CERT").required(true);
@@ -36,9 +40,13 @@ pub fn task_of<'a>(alloc: Global, words: &'a [String]) -> Result<Task<'a>, Error
     let play = Command::new(alloc, "play").about(
         "Plays a script from standard input; so it does with no command",
     );
+    let new = Command::new(alloc, "new").about(
+        "Prints a module to begin with, which is accepted as it stands",
+    );
     let program = Command::new(alloc, "host_cli")
         .about("A host of output filters")
         .subcommand(play)?
+        .subcommand(new)?
         .subcommand(assemble)?
         .subcommand(certify)?
         .subcommand(check)?;
@@ -46,10 +54,12 @@ pub fn task_of<'a>(alloc: Global, words: &'a [String]) -> Result<Task<'a>, Error
     let Some((name, given)) = matches.subcommand() else {
         return Ok(Task::Play);
     };
-    let file = given.get_str("FILE").unwrap_or("");
+    let given_file = given.get_str("FILE");
+    let file = given_file.unwrap_or("");
     Ok(match name {
+        "new" => Task::New,
         "assemble" => Task::Assemble { file },
-        "certify" => Task::Certify { file },
+        "certify" => Task::Certify { file: given_file },
         "check" => Task::Check {
             file,
             cert: given.get_str("CERT").unwrap_or(""),

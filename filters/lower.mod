@@ -1,0 +1,57 @@
+# lower: letters A to Z become a to z.
+#
+# The other direction of upper. ASCII alone; it changes no length.
+module 1
+brigade b0 req
+open
+  ret ok
+init
+  bcreate b0
+  ret ok
+main
+  jsent gone
+:loop
+  first c0 in
+  jend c0 out
+  jkind c0 data work
+  unlink c0
+  jkind c0 eos last
+  tail b0 c0
+  jump loop
+:work
+  # of each bucket so much that what comes of it fits into the buffer
+  split c0 8000 whole
+:whole
+  read c0 bad
+  set n0 0
+:byte
+  get n1 n0 done
+  add n0 1
+  jlt n1 65 put
+  jlt n1 91 letter
+  jump put
+:letter
+  add n1 32
+:put
+  put n1 bad
+  jump byte
+:done
+  # the bytes in the buffer take the bucket's place
+  frombuf c1
+  tail b0 c1
+  clearbuf
+  bdelete c0
+  jump loop
+:last
+  tail b0 c0
+:out
+  pass b0 bad
+  bclean b0
+  ret ok
+:gone
+  bclean in
+  ret ok
+:bad
+  bclean b0
+  ret fail
+end
