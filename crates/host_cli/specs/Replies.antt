@@ -45,6 +45,7 @@ refusal_name refusal.InRequest = codes "InRequest"
 refusal_name refusal.NotInRequest = codes "NotInRequest"
 refusal_name refusal.DataAfterEos = codes "DataAfterEos"
 refusal_name refusal.NoFile = codes "NoFile"
+refusal_name refusal.FileFailed = codes "FileFailed"
 refusal_name refusal.NamesSpent = codes "NamesSpent"
 refusal_name refusal.NoMemory = codes "NoMemory"
 

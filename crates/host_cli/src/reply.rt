@@ -74,6 +74,7 @@ fn refusal_name(refusal: Refusal) -> &'static str
         Refusal::NotInRequest => "NotInRequest",
         Refusal::DataAfterEos => "DataAfterEos",
         Refusal::NoFile => "NoFile",
+        Refusal::FileFailed => "FileFailed",
         Refusal::NamesSpent => "NamesSpent",
         Refusal::NoMemory => "NoMemory",
     }

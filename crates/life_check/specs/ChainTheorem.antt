@@ -26,8 +26,8 @@ unfoldable pub NoFaults : List Answer → Type 0
 NoFaults [] = Unit {0}
 NoFaults (a ∷ answers) = IsNoFault a × NoFaults answers
 
--- Whatever happens, on however many connections of this chain and in whatever order, from the empty world on, with any budget, files
--- and want of memory, and whatever each read gives, no step answers a fault.
+-- Whatever happens, on however many connections of this chain and in whatever order, from the empty world on, with any budget and want
+-- of memory, and whatever each opening and each read tells, no step answers a fault.
 abbrev pub ChainNeverFaults : List Program → Type 0
 ChainNeverFaults chain = (budget : ℕ) (es : List (ℕ × Event)) (answers : List Answer) (w : World) → IsRun budget chain empty_world es answers w → NoFaults answers
 

@@ -25,7 +25,7 @@ pub fn typed_modules_never_fault()
 {}
 
 /// Where each module of a chain is typed with its certificate, no run of any number of connections of that chain answers a fault,
-/// whatever happens on which of them, and whatever each read gives.
+/// whatever happens on which of them, and whatever each opening of a file and each read tells.
 pub fn typed_chains_never_fault()
     ensures { TypedChainNeverFaults }
 {}

@@ -55,7 +55,7 @@ begun_files p c sound s =
       request = λ file end q has is. absurd (cc);
     }
 
-pieces_held : (ps : Pools Payload) (files : List (ℕ × ℕ)) (call req n : ℕ) (xs : List Piece) → list_any (lacks_file files) xs ≡ false
+pub pieces_held : (ps : Pools Payload) (files : List (ℕ × ℕ)) (call req n : ℕ) (xs : List Piece) → list_any (lacks_file files) xs ≡ false
     → ((file end : ℕ) → has_range files file end ≡ true → refers ps req file ≡ true) → HeldList ps (named_from (bucket_of call req) n xs)
 pieces_held ps files call req n [] there request = none_held ps
 pieces_held ps files call req n (x ∷ xs) there request =

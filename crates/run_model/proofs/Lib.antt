@@ -55,3 +55,4 @@ pub mod CursorSpots
 pub mod CursorSteps
 pub mod chains
 pub mod ChainExamples
+pub mod parts

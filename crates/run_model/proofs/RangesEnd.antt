@@ -38,7 +38,7 @@ use Rattle.run_model.proofs.Contents.{var_contents, destroyed_holds, step_conten
 
 -- Parts of a bucket, and buckets that are made.
 
-abbrev Ends : Bucket → Type 0
+abbrev pub Ends : Bucket → Type 0
 Ends b = EndsInFile b.content
 
 front_ends : (n : ℕ) (c : Content) → n ≤ length_of c → EndsInFile c → EndsInFile (front_of n c)
@@ -98,7 +98,7 @@ piece_ends : (call req : ℕ) (x : Piece) → PieceEnds x → Ends (bucket_of ca
 piece_ends call req (piece.File file start len) h = h
 piece_ends call req x h = tt
 
-pieces_end : (call req n : ℕ) (xs : List Piece) → All PieceEnds xs → Each Ends (named_from (bucket_of call req) n xs)
+pub pieces_end : (call req n : ℕ) (xs : List Piece) → All PieceEnds xs → Each Ends (named_from (bucket_of call req) n xs)
 pieces_end call req n [] all = All-nil (λ x. Ends x.bucket)
 pieces_end call req n (x ∷ xs) all =
     All-cons (λ x. Ends x.bucket) _ (named_from (bucket_of call req) (n + 1) xs) (piece_ends call req x (All-head PieceEnds x xs all)) (pieces_end call req (n + 1) xs (All-tail PieceEnds x xs all))

@@ -25,7 +25,7 @@ use Rattle.run_model.specs.RefusalOrder.{place, Tests, tests, Holds, IsFirst, Fi
 
 refusal_at : ℕ → Refusal
 refusal_at n =
-    get_or (refusal.NoSuchConn ∷ refusal.Broken cause.Faulted ∷ refusal.Busy ∷ refusal.Idle ∷ refusal.InRequest ∷ refusal.NotInRequest ∷ refusal.DataAfterEos ∷ refusal.NoFile ∷ refusal.NamesSpent ∷ refusal.NoMemory ∷ []) n
+    get_or (refusal.NoSuchConn ∷ refusal.Broken cause.Faulted ∷ refusal.Busy ∷ refusal.Idle ∷ refusal.InRequest ∷ refusal.NotInRequest ∷ refusal.DataAfterEos ∷ refusal.NoFile ∷ refusal.FileFailed ∷ refusal.NamesSpent ∷ refusal.NoMemory ∷ []) n
     refusal.NoMemory
 
 by_place : (r : Refusal) → place r ≢ 1 → refusal_at (place r) ≡ r
@@ -38,6 +38,7 @@ by_place refusal.InRequest ne = refl
 by_place refusal.NotInRequest ne = refl
 by_place refusal.DataAfterEos ne = refl
 by_place refusal.NoFile ne = refl
+by_place refusal.FileFailed ne = refl
 by_place refusal.NamesSpent ne = refl
 by_place refusal.NoMemory ne = refl
 
@@ -45,17 +46,18 @@ placed_broken : (r : Refusal) → place r ≡ 1 → (k : Cause) × (r ≡ refusa
 placed_broken (refusal.Broken k) e = (k, refl)
 placed_broken r e = absurd (omega arith)
 
-below_ten : (r : Refusal) → place r < 10
-below_ten refusal.NoSuchConn = omega arith
-below_ten (refusal.Broken k) = omega arith
-below_ten refusal.Busy = omega arith
-below_ten refusal.Idle = omega arith
-below_ten refusal.InRequest = omega arith
-below_ten refusal.NotInRequest = omega arith
-below_ten refusal.DataAfterEos = omega arith
-below_ten refusal.NoFile = omega arith
-below_ten refusal.NamesSpent = omega arith
-below_ten refusal.NoMemory = omega arith
+below_eleven : (r : Refusal) → place r < 11
+below_eleven refusal.NoSuchConn = omega arith
+below_eleven (refusal.Broken k) = omega arith
+below_eleven refusal.Busy = omega arith
+below_eleven refusal.Idle = omega arith
+below_eleven refusal.InRequest = omega arith
+below_eleven refusal.NotInRequest = omega arith
+below_eleven refusal.DataAfterEos = omega arith
+below_eleven refusal.NoFile = omega arith
+below_eleven refusal.FileFailed = omega arith
+below_eleven refusal.NamesSpent = omega arith
+below_eleven refusal.NoMemory = omega arith
 
 -- two refusals of one place whose tests hold are one
 same_refusal : (t : Tests) (q r : Refusal) → place q ≡ place r → Holds t q → Holds t r → q ≡ r
@@ -78,7 +80,7 @@ NoneBelow t n = (s : Refusal) → place s < n → Holds t s → ⊥
 -- what is told is due, and where nothing is told no test holds
 record Tells (t : Tests) (o : Option Refusal) : Type 0 where
   sound : (r : Refusal) → o ≡ Some r → IsFirst t r
-  none : o ≡ None → NoneBelow t 10
+  none : o ≡ None → NoneBelow t 11
 
 one_more : (t : Tests) (q : Refusal) → place q ≢ 1 → NoneBelow t (place q) → (Holds t q → ⊥) → NoneBelow t (place q + 1)
 one_more t q ne below fails = λ s lt h. elim (cases_eq (place s) (place q)) [
@@ -130,9 +132,10 @@ walk t =
     (row t refusal.NotInRequest t.not_in_request _ (omega arith) (λ h. h) (λ h. h)
     (row t refusal.DataAfterEos t.data_after_eos _ (omega arith) (λ h. h) (λ h. h)
     (row t refusal.NoFile t.no_file _ (omega arith) (λ h. h) (λ h. h)
-    (row t refusal.NamesSpent t.names_spent _ (omega arith) (λ h. h) (λ h. h)
+    (λ found. row t refusal.NamesSpent t.names_spent _ (omega arith) (λ h. h) (λ h. h)
     (row t refusal.NoMemory t.no_memory None (omega arith) (λ h. h) (λ h. h)
-    (λ below. record { sound = λ r e. absurd (cc); none = λ e. below })))))))))
+    (λ below. record { sound = λ r e. absurd (cc); none = λ e. below }))
+    (one_more t refusal.FileFailed (omega arith) found (λ h. h)))))))))
 
 -- the tests of an event are told in their order
 in_order : (t : Tests) (ts : List (Option Refusal)) → Tells t (firsts ts) → Tells t (first_refusal ts)
@@ -158,7 +161,7 @@ Exact t a r = (a ≡ Refused r → IsFirst t r) × (IsFirst t r → a ≡ Refuse
 
 exact : (t : Tests) (a : Answer) (o : Option Refusal) → Tells t o → ((r : Refusal) → o ≡ Some r → a ≡ Refused r) → (o ≡ None → is_refused a ≡ false) → (r : Refusal) → Exact t a r
 exact t a None tells told done r =
-    (λ e. absurd (let no : is_refused a ≡ false = done refl in let yes : is_refused a ≡ true = ap is_refused e in cc), λ first. absurd (tells.none refl r (below_ten r) first.holds))
+    (λ e. absurd (let no : is_refused a ≡ false = done refl in let yes : is_refused a ≡ true = ap is_refused e in cc), λ first. absurd (tells.none refl r (below_eleven r) first.holds))
 exact t a (Some q) tells told done r =
     let first : IsFirst t q = tells.sound q refl in
     let is : a ≡ Refused q = told q refl in
@@ -259,7 +262,7 @@ only_memory_refuses_close false budget p c r e = (let same : refusal.NoMemory �
 -- Steps.
 
 first_told : (t : Tests) (o : Option Refusal) (r : Refusal) → Tells t o → IsFirst t r → o ≡ Some r
-first_told t None r tells first = absurd (tells.none refl r (below_ten r) first.holds)
+first_told t None r tells first = absurd (tells.none refl r (below_eleven r) first.holds)
 first_told t (Some q) r tells first = ap (λ (x : Refusal). Some x) (first_is_one t q r (tells.sound q refl) first)
 
 -- where no refusal is due

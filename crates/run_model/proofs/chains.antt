@@ -24,3 +24,11 @@ pub mod Others
 pub mod EventTurns
 pub mod TurnsSound
 pub mod WorldKept
+pub mod EachBucket
+pub mod EachEvent
+pub mod Proceeds
+pub mod RangesEnd
+pub mod Paths
+pub mod FilesKept
+pub mod StepHomes
+pub mod Homes

@@ -1,10 +1,10 @@
--- Small chains as values, and what whole runs of them answer, worked out by hand. Reads fail, and memory is ample.
-use Rattle.std.specs.Prelude.{◌≡◌, ℕ, Bool, true, false, List, [], ◌∷◌, ◌++◌, replicate, Option, Some, None}
+-- Small chains as values, and what whole runs of them answer, worked out by hand. Reads fail, no file is found but where it is said, and memory is
+-- ample.
+use Rattle.std.specs.Prelude.{◌≡◌, ℕ, true, List, [], ◌∷◌, ◌++◌, replicate, Option, Some, None}
 use Rattle.module_lang.specs.Program.{Program}
-use Rattle.module_lang.specs.declared.instr.Instr.{Instr}
 use Rattle.module_lang.specs.declared.instr.Instr.TheVariants as instr
 use Rattle.module_lang.specs.declared.instr.PoolRef.TheVariants as pool
-use Rattle.module_lang.specs.declared.instr.Status.TheVariants.{Success, Fail}
+use Rattle.module_lang.specs.declared.instr.Status.TheVariants.{Success}
 use Rattle.run_model.specs.declared.bucket.BrigadeVar.{BrigadeVar}
 use Rattle.run_model.specs.declared.bucket.BrigadeVar.TheVariants as var
 use Rattle.run_model.specs.declared.bucket.Mark.TheVariants.{Usable, Passed}
@@ -20,17 +20,22 @@ use Rattle.run_model.specs.declared.event.Refusal.TheVariants as refusal
 use Rattle.run_model.specs.declared.fault.FaultKind.TheVariants as fault_kind
 use Rattle.run_model.specs.Examples.{identity, with_main}
 use Rattle.run_model.specs.Chains.{Connection}
-use Rattle.run_model.specs.Worlds.{World, Answer, Done, Refused, Connected, Step, Output, Labels, empty_world, happens}
+use Rattle.run_model.specs.Turns.{Opening, Found, Missing, Failing}
+use Rattle.run_model.specs.Worlds.{World, Told, Answer, Done, Refused, Connected, Step, Output, Opened, Labels, empty_world, happens}
+
+-- reads fail, and an opening tells this
+abbrev pub found : Opening → Told
+found opening = record { reads = λ k. None; opening = opening }
 
 unfoldable pub left_by : ℕ → List Program → World → List (ℕ × Event) → World
 left_by budget chain w [] = w
-left_by budget chain w (e ∷ es) = left_by budget chain (happens true budget chain (λ k. None) e.0 e.1 w).1 es
+left_by budget chain w (e ∷ es) = left_by budget chain (happens true budget chain (found Missing) e.0 e.1 w).1 es
 
 unfoldable pub answers_from : ℕ → List Program → World → List (ℕ × Event) → List Answer
 answers_from budget chain w [] = []
 answers_from budget chain w (e ∷ es) =
-    let told = happens true budget chain (λ k. None) e.0 e.1 w in
-    told.0 ∷ answers_from budget chain told.1 es
+    let after = happens true budget chain (found Missing) e.0 e.1 w in
+    after.0 ∷ answers_from budget chain after.1 es
 
 abbrev pub stepping : ℕ → ℕ → List (ℕ × Event)
 stepping n c = replicate n (c, event.Step)
@@ -130,6 +135,21 @@ ClearReachesOthers = brigade_in 1 1 0 (left_by 100 (clears_its_pool ∷ keeps �
     ((1, event.Open) ∷ (stepping 5 1 ++ ((1, event.Begin) ∷ (stepping 2 1 ++ ((1, event.Bring []) ∷ stepping 8 1))))))
     ≡ Some (var.Live (record { name = 4; on = Some 2; mark = Usable; items = record { name = 9; bucket = record { kind = kind.Heap; content = content.Bytes []; home = home.Free } } ∷ [] }))
 
+-- A file is opened on connection 1, with what the device tells.
+abbrev pub opening_of : Opening → World → Answer × World
+opening_of opening w = happens true 100 (identity ∷ []) (found opening) 1 (event.OpenFile (102 ∷ [])) w
+
+-- An opening finds bytes, no file, or a device that fails. What was refused changes nothing, and one file may be found with other bytes
+-- at each opening. Out of a request nothing is opened, whatever the device tells.
+abbrev pub OpeningsAreTold : Type 0
+OpeningsAreTold =
+    let idle = left_by 100 (identity ∷ []) empty_world ((1, event.Open) ∷ (1, event.Step) ∷ []) in
+    let serving = left_by 100 (identity ∷ []) idle ((1, event.Begin) ∷ (1, event.Step) ∷ []) in
+    let first = opening_of (Found (97 ∷ 98 ∷ [])) serving in
+    let failed = opening_of Failing first.1 in
+    ((opening_of Failing idle).0 ≡ Refused refusal.NotInRequest) × (first.0 ≡ Opened 1 2) × (failed.0 ≡ Refused refusal.FileFailed)
+    × ((opening_of Missing failed.1).0 ≡ Refused refusal.NoFile) × ((opening_of (Found []) failed.1).0 ≡ Opened 2 0)
+
 pub record ChainRuns : Type 0 where
   pub two : ChainOfTwo
   pub fault : FaultInSecond
@@ -138,3 +158,4 @@ pub record ChainRuns : Type 0 where
   pub refusals : RefusalsByState
   pub leftovers : LeftoversComeBack
   pub clears : ClearReachesOthers
+  pub openings : OpeningsAreTold

@@ -8,7 +8,7 @@ use Rattle.run_model.specs.Steps.{current, lacks_names, is_spent}
 use Rattle.run_model.specs.Chains.{Frame, Connection, Common, Linked, module_at, configuration}
 use Rattle.run_model.specs.Passing.{Reads, proceeds}
 use Rattle.run_model.specs.Turns.{calls_of}
-use Rattle.run_model.specs.Worlds.{World, Answer, empty_world, happens, IsRun}
+use Rattle.run_model.specs.Worlds.{World, Told, Answer, empty_world, happens, IsRun}
 use Rattle.run_model.specs.ChainSound.{ChainNames, ChainBuckets, ChainPools, ChainCalls, ChainSound, WorldSound}
 
 -- a chain of modules
@@ -62,15 +62,15 @@ RisingKeepsSound = (chain : List Program) (g new : Common) (c : Connection) → 
 
 -- Each event keeps each connection sound, and so each run from the empty world leads to a sound one.
 abbrev pub EventKeepsWorld : Type 0
-EventKeepsWorld = (memory : Bool) (budget : ℕ) (chain : List Program) (reads : Reads) (k : ℕ) (e : Event) (w : World) → IsChain chain → WorldSound chain w → WorldSound chain (happens memory budget chain reads k e w).1
+EventKeepsWorld = (memory : Bool) (budget : ℕ) (chain : List Program) (told : Told) (k : ℕ) (e : Event) (w : World) → IsChain chain → WorldSound chain w → WorldSound chain (happens memory budget chain told k e w).1
 
 abbrev pub RunKeepsWorld : Type 0
 RunKeepsWorld = (budget : ℕ) (chain : List Program) (es : List (ℕ × Event)) (answers : List Answer) (w : World) → IsChain chain → IsRun budget chain empty_world es answers w → WorldSound chain w
 
 -- An event of one connection leaves every other exactly as it was.
 abbrev pub OthersStay : Type 0
-OthersStay = (memory : Bool) (budget : ℕ) (chain : List Program) (reads : Reads) (k j : ℕ) (e : Event) (w : World) → e ≢ event.Open → j ≢ k → (happens memory budget chain reads k e w).1.conns j ≡ w.conns j
+OthersStay = (memory : Bool) (budget : ℕ) (chain : List Program) (told : Told) (k j : ℕ) (e : Event) (w : World) → e ≢ event.Open → j ≢ k → (happens memory budget chain told k e w).1.conns j ≡ w.conns j
 
 -- An opening leaves all that were there, but that of the number which it gives out.
 abbrev pub OpeningStays : Type 0
-OpeningStays = (memory : Bool) (budget : ℕ) (chain : List Program) (reads : Reads) (k j : ℕ) (w : World) → j ≢ w.last + 1 → (happens memory budget chain reads k event.Open w).1.conns j ≡ w.conns j
+OpeningStays = (memory : Bool) (budget : ℕ) (chain : List Program) (told : Told) (k j : ℕ) (w : World) → j ≢ w.last + 1 → (happens memory budget chain told k event.Open w).1.conns j ≡ w.conns j

@@ -38,3 +38,10 @@ pub mod Worlds
 pub mod ChainSound
 pub mod ChainLaws
 pub mod ChainExamples
+pub mod ChainFiles
+pub mod ChainPaths
+pub mod Parts
+pub mod PartSteps
+pub mod JoinedParts
+pub mod PartsLast
+pub mod ChainHomes

@@ -27,8 +27,9 @@ place refusal.InRequest = 4
 place refusal.NotInRequest = 5
 place refusal.DataAfterEos = 6
 place refusal.NoFile = 7
-place refusal.NamesSpent = 8
-place refusal.NoMemory = 9
+place refusal.FileFailed = 8
+place refusal.NamesSpent = 9
+place refusal.NoMemory = 10
 
 -- the events that no call may run at
 abbrev pub waits : Event → Bool
@@ -106,7 +107,7 @@ tests memory e c = record {
   no_memory = is_growing e && not memory;
 }
 
--- The test of this refusal holds.
+-- The test of this refusal holds. (Files in memory never fail at an opening.)
 abbrev pub Holds : Tests → Refusal → Type 0
 Holds t refusal.NoSuchConn = ⊥
 Holds t (refusal.Broken k) = t.broken ≡ Some k
@@ -116,6 +117,7 @@ Holds t refusal.InRequest = t.in_request ≡ true
 Holds t refusal.NotInRequest = t.not_in_request ≡ true
 Holds t refusal.DataAfterEos = t.data_after_eos ≡ true
 Holds t refusal.NoFile = t.no_file ≡ true
+Holds t refusal.FileFailed = ⊥
 Holds t refusal.NamesSpent = t.names_spent ≡ true
 Holds t refusal.NoMemory = t.no_memory ≡ true
 

@@ -10,12 +10,16 @@ use Rattle.run_model.specs.declared.event.Stepped.{Stepped}
 use Rattle.run_model.specs.declared.payload.Payload.{Payload}
 use Rattle.run_model.specs.Indexed.{upd}
 use Rattle.run_model.specs.Pools.{Pools, is_in, planted}
-use Rattle.run_model.specs.Files.{file_added}
 use Rattle.run_model.specs.Steps.{is_spent}
 use Rattle.run_model.specs.Connection.{first_refusal, refused_if}
 use Rattle.run_model.specs.Chains.{Connection, Common, Linked}
 use Rattle.run_model.specs.Passing.{Reads}
-use Rattle.run_model.specs.Turns.{steps, opened, begins, opens_file, brings, ends, closing_labels}
+use Rattle.run_model.specs.Turns.{Opening, steps, opened, begins, opens_file, brings, ends, closing_labels}
+
+-- What the files tell in an event: what each read gives, and what its opening finds.
+pub record Told : Type 0 where
+  pub reads : Reads
+  pub opening : Opening
 
 -- conns: the connections that are there, by their numbers. last: the number that was given last; the first is 1.
 pub record World : Type 0 where
@@ -25,7 +29,7 @@ pub record World : Type 0 where
 
 -- pool 1 is the root
 abbrev pub empty_world : World
-empty_world = record { conns = λ k. None; last = 0; common = record { pools = 2; next = 1; file = 1; named = λ name. None } }
+empty_world = record { conns = λ k. None; last = 0; common = record { pools = 2; next = 1; file = 1 } }
 
 -- what an event answers
 pub data Answer : Type 0 where
@@ -79,11 +83,9 @@ opens memory chain w =
     opens_if (first_refusal (refused_if (is_spent (w.last + 1) 1 || (is_spent w.common.pools 1 || is_spent w.common.next 1)) refusal.NamesSpent
     ∷ (refused_if (not memory) refusal.NoMemory ∷ []))) chain w
 
--- a file is added, for all connections
-abbrev pub adds_file : Bool → List ℕ → List ℕ → World → Answer × World
-adds_file memory name bytes w =
-    if memory then (Done, record w { common = record w.common { named = (file_added name bytes (record { named = w.common.named; opened = λ file. None; next = w.common.file; fails_in = None })).named } })
-    else (Refused refusal.NoMemory, w)
+-- A file is added. Files lie outside, and what is found of them is told at each opening.
+abbrev pub adds_file : Bool → World → Answer × World
+adds_file memory w = if memory then (Done, w) else (Refused refusal.NoMemory, w)
 
 -- The pools of all connections, under the root.
 
@@ -101,31 +103,31 @@ tree_below (suc k) conns root = with_part (conns (suc k)) (tree_below k conns ro
 abbrev pub tree_of : World → Pools Payload
 tree_of w = tree_below w.last w.conns (record (planted 1) { next = w.common.pools })
 
--- What an event of the connection k answers and leaves. memory: whether a growth would succeed. reads: what its reads give.
-unfoldable pub happens_on : Bool → ℕ → List Program → Reads → Event → ℕ → Option Connection → World → Answer × World
-happens_on memory budget chain reads event.Open k c w = opens memory chain w
-happens_on memory budget chain reads (event.AddFile name bytes) k c w = adds_file memory name bytes w
-happens_on memory budget chain reads event.TellPools k c w = (Tree (tree_of w), w)
-happens_on memory budget chain reads e k None w = (Refused refusal.NoSuchConn, w)
-happens_on memory budget chain reads (event.OpenFile name) k (Some c) w = file_answered k w (opens_file memory name (w.common, c))
-happens_on memory budget chain reads event.Begin k (Some c) w = answered k w (begins memory chain (w.common, c))
-happens_on memory budget chain reads (event.Bring pieces) k (Some c) w = answered k w (brings memory chain pieces (w.common, c))
-happens_on memory budget chain reads event.Step k (Some c) w = step_answered k w (steps memory budget chain reads (w.common, c))
-happens_on memory budget chain reads event.End k (Some c) w = answered k w (ends memory (w.common, c))
-happens_on memory budget chain reads event.TakeOutput k (Some c) w = takes k c w
-happens_on memory budget chain reads event.TellLabels k (Some c) w = (Labels c.labels, w)
-happens_on memory budget chain reads event.Close k (Some c) w = closes memory k c w
+-- What an event of the connection k answers and leaves. memory: whether a growth would succeed. told: what the files tell.
+unfoldable pub happens_on : Bool → ℕ → List Program → Told → Event → ℕ → Option Connection → World → Answer × World
+happens_on memory budget chain told event.Open k c w = opens memory chain w
+happens_on memory budget chain told (event.AddFile name bytes) k c w = adds_file memory w
+happens_on memory budget chain told event.TellPools k c w = (Tree (tree_of w), w)
+happens_on memory budget chain told e k None w = (Refused refusal.NoSuchConn, w)
+happens_on memory budget chain told (event.OpenFile name) k (Some c) w = file_answered k w (opens_file memory told.opening (w.common, c))
+happens_on memory budget chain told event.Begin k (Some c) w = answered k w (begins memory chain (w.common, c))
+happens_on memory budget chain told (event.Bring pieces) k (Some c) w = answered k w (brings memory chain pieces (w.common, c))
+happens_on memory budget chain told event.Step k (Some c) w = step_answered k w (steps memory budget chain told.reads (w.common, c))
+happens_on memory budget chain told event.End k (Some c) w = answered k w (ends memory (w.common, c))
+happens_on memory budget chain told event.TakeOutput k (Some c) w = takes k c w
+happens_on memory budget chain told event.TellLabels k (Some c) w = (Labels c.labels, w)
+happens_on memory budget chain told event.Close k (Some c) w = closes memory k c w
 
 -- One event. (Opening, adding a file and telling the pools are of no connection: k does not matter there.)
-abbrev pub happens : Bool → ℕ → List Program → Reads → ℕ → Event → World → Answer × World
-happens memory budget chain reads k e w = happens_on memory budget chain reads e k (w.conns k) w
+abbrev pub happens : Bool → ℕ → List Program → Told → ℕ → Event → World → Answer × World
+happens memory budget chain told k e w = happens_on memory budget chain told e k (w.conns k) w
 
 -- These events, each of the connection of this number, may give these answers, one after another, and lead from one world to
--- another. Each growth may find no memory. Each read may give any bytes, however many, or fail; and a file that is added may take the place of
--- one of its name.
+-- another. Each growth may find no memory. Each opening may find any bytes, or no file, or fail; and each read may give any bytes,
+-- however many, or fail.
 unfoldable pub IsRun : ℕ → List Program → World → List (ℕ × Event) → List Answer → World → Type 0
 IsRun budget chain old [] [] new = new ≡ old
 IsRun budget chain old (e ∷ es) (a ∷ answers) new =
-    (memory : Bool) × (reads : Reads) × (mid : World) × (happens memory budget chain reads e.0 e.1 old ≡ (a, mid)) × IsRun budget chain mid es answers new
+    (memory : Bool) × (told : Told) × (mid : World) × (happens memory budget chain told e.0 e.1 old ≡ (a, mid)) × IsRun budget chain mid es answers new
 IsRun budget chain old [] (a ∷ answers) new = ⊥
 IsRun budget chain old (e ∷ es) [] new = ⊥

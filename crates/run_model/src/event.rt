@@ -67,6 +67,9 @@ pub enum Refusal {
     /// A file is not there, was not opened in this request, or is shorter than the range.
     #[error("no such file, or a range that it does not have")]
     NoFile,
+    /// The device failed in this call, and told nothing of the file.
+    #[error("the device failed")]
+    FileFailed,
     /// A name that would have to be given out is 2^64 - 1.
     #[error("no name is left")]
     NamesSpent,

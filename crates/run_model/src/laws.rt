@@ -17,7 +17,14 @@ ghost use Rattle.run_model.specs.Ranges.{OpenedInRange, StepKeepsInRange, EventK
 ghost use Rattle.run_model.specs.RangesEnd.{OpenedEnds, StepKeepsEnds, StepAtEndKeepsEnds, StepsKeepEnds, EndedStepsKeepEnds, BringKeepsEnds, EventKeepsEnds, RunEnds};
 ghost use Rattle.run_model.specs.BrigadeLists.{BrigadeSplitsInOrder, MovesKeepNames, BucketSplitsInOrder, SplitKeepsBytes, PartsAtPoint, ShortIsIncomplete, PartitionKeepsBytes, UnsplitIsUnchanged, MetadataIsNotSplit, PlaceIsBehindFront, PartitionRows, BrigadeSplitRows, BucketSplitRows, MoveRows};
 ghost use Rattle.run_model.specs.ChainLaws.{TopKeepsNames, TopKeepsBuckets, TopKeepsPools, TopKeepsCalls, TopRaisesNames, RisingKeepsSound, EventKeepsWorld, RunKeepsWorld, OthersStay, OpeningStays};
+ghost use Rattle.run_model.specs.ChainFiles.{EventKeepsWorldEnds, RunEndsWorld, EventKeepsWorldFiles, RunKeepsWorldFiles};
+ghost use Rattle.run_model.specs.ChainHomes.{EventKeepsWorldHomes, RunKeepsWorldHomes};
+ghost use Rattle.run_model.specs.ChainPaths.{EventKeepsWorldPaths, RunKeepsWorldPaths};
 ghost use Rattle.run_model.specs.CursorLaws.{OpenedCursors, StepKeepsCursors, StepAtEndKeepsCursors, EventKeepsCursors, RunKeepsCursors, CursorsStandOnce, RunStandsOnce, MadeAreNew, CopiesAreNew, SplitsInOrder, RefusedSplitJumps, BrigadesSplitInOrder, PartitionsInOrder, PastEndJumps};
+ghost use Rattle.run_model.specs.Parts.{PartIsPoolMap, OwnPartChanges, OtherPartsStay, ChangesSpareTheRoot, NewPartIsPlanted, NewPartSparesOthers, PartReadsAlike};
+ghost use Rattle.run_model.specs.PartSteps.{StepsStayInPart, EndStepsStayInPart, FaultsAlike, NamesAlike, StepsSpareOthers};
+ghost use Rattle.run_model.specs.JoinedParts.{JoinedPartStays, PartsAreTheWhole};
+ghost use Rattle.run_model.specs.PartsLast.{PartsLast, OldPoolsLast, OwnFilesLast, StepsKeepParts, StepsKeepLies, TouchedLies, OthersLie};
 
 /// Small runs answer as they are worked out by hand, and so do faults and changes of small states.
 pub fn worked_runs()
@@ -318,6 +325,35 @@ pub fn worlds_are_sound()
     ensures run { RunKeepsWorld }
 {}
 
+/// In each run of a chain whose opened files have fewer than 2^64 bytes each range of a bucket ends below 2^64: in the brigades of every
+/// instance of every connection, and loose in its calls. Each event keeps it.
+pub fn ranges_of_chains_end_below_2_64()
+    ensures event { EventKeepsWorldEnds }
+    ensures run { RunEndsWorld }
+{}
+
+/// In each run of a chain a file of a connection is open as long as one of its pools holds a reference to it. So the file of each FILE
+/// bucket whose home has not ended is open, and that home holds a reference to it: in the brigades of every instance, and loose in
+/// every call. Each event keeps it.
+pub fn files_of_chains_stay_open()
+    ensures event { EventKeepsWorldFiles }
+    ensures run { RunKeepsWorldFiles }
+{}
+
+/// In each run of a chain each live pool of a connection's part lies under the connection's pool, but for the root, and so does each
+/// live pool that a variable names. Each event keeps it.
+pub fn pools_of_chains_stay_in_their_connection()
+    ensures event { EventKeepsWorldPaths }
+    ensures run { RunKeepsWorldPaths }
+{}
+
+/// In each run of a chain the home of a bucket that has not ended is a call that runs or waits, or a live pool: in the brigades of every
+/// instance, and loose in every call. Each event keeps it.
+pub fn homes_of_chains_are_alive_or_ended()
+    ensures event { EventKeepsWorldHomes }
+    ensures run { RunKeepsWorldHomes }
+{}
+
 /// An event of one connection leaves every other exactly as it was; an opening leaves all, but that of the number which it gives out.
 pub fn connections_stay_apart()
     ensures others { OthersStay }
@@ -342,4 +378,45 @@ pub fn worked_buckets()
     ensures faults { CursorFaults }
     ensures first_faults { FirstFaults }
     ensures runs { CursorRuns }
+{}
+
+/// The part of a connection, which is the root and what stands at its pool and under it, is a pool map, in which its pools read as in
+/// the whole map. What is done to a pool of a connection is done to it in its part; the parts of others stay, but for the next name,
+/// and so does the root. A pool that is made under the root is a new part, which has that pool alone. The parts of all connections are
+/// the whole again.
+pub fn parts_stand_apart()
+    ensures formed { PartIsPoolMap }
+    ensures alike { PartReadsAlike }
+    ensures own { OwnPartChanges }
+    ensures others { OtherPartsStay }
+    ensures root { ChangesSpareTheRoot }
+    ensures new { NewPartIsPlanted }
+    ensures new_apart { NewPartSparesOthers }
+    ensures joined_stays { JoinedPartStays }
+    ensures joined { PartsAreTheWhole }
+{}
+
+/// A step that has no fault does the same over the pools of all connections as over its connection's part, where what it sees lies in
+/// that part (`LiesIn`), and leaves the parts of others, but for the next name. Its fault and the names that are wanting are told
+/// alike.
+pub fn steps_stay_in_their_part()
+    ensures steps { StepsStayInPart }
+    ensures at_end { EndStepsStayInPart }
+    ensures faults { FaultsAlike }
+    ensures names { NamesAlike }
+    ensures others { StepsSpareOthers }
+{}
+
+/// What is done to a pool under c keeps the part of each connection: its pool stays right under the root, unless it is destroyed itself;
+/// a name that was given out and stands under it, where it is live, goes on doing so; and the files that are referred to there stay its
+/// own. So does a step that has no fault: what its call sees goes on lying in its part, brigades of other instances, as it touches them,
+/// stay on pools under c, and what stands under the pool of another connection stays there.
+pub fn parts_last()
+    ensures tops { PartsLast }
+    ensures old { OldPoolsLast }
+    ensures files { OwnFilesLast }
+    ensures steps { StepsKeepParts }
+    ensures lies { StepsKeepLies }
+    ensures touched { TouchedLies }
+    ensures others { OthersLie }
 {}

@@ -12,11 +12,10 @@ use Rattle.run_model.specs.declared.event.Stepped.TheVariants as stepped
 use Rattle.run_model.specs.declared.payload.Payload.TheVariants.{FileRef}
 use Rattle.run_model.specs.Indexed.{upd}
 use Rattle.run_model.specs.Pools.{registered}
-use Rattle.run_model.specs.Files.{file_opened}
 use Rattle.run_model.specs.Connection.{if_broken, data_behind_eos}
-use Rattle.run_model.specs.Chains.{Connection, Common, Linked, files_of, pools_of}
-use Rattle.run_model.specs.Passing.{Reads}
-use Rattle.run_model.specs.Turns.{is_busy, unless_refused, opened, begun, begins, file_taken, file_answer, opens_file, brought, brought_in, brings, ended, request_over, ends, steps}
+use Rattle.run_model.specs.Chains.{Connection, Common, Linked, pools_of}
+use Rattle.run_model.specs.Turns.{Opening, Found, Missing, Failing, is_busy, unless_refused, opened, begun, begins, file_taken, file_answer, opens_file, brought, brought_in, brings, ended, request_over, ends, steps}
+use Rattle.run_model.specs.Worlds as worlds
 use Rattle.run_model.specs.Worlds.{World, Answer, put_conn, answered, file_answered, step_answered, opens_if, opens, adds_file, closes, happens_on, happens}
 use Rattle.run_model.specs.ChainSound.{ChainSound, WorldSound}
 use Rattle.run_model.specs.ChainLaws.{IsChain}
@@ -87,28 +86,28 @@ module _ (chain : List Program) (certs : ℕ → Certificate) where
   step_told k w (Ok (stepped.Fault f m pc), v) stands now = absurd now.0
   step_told k w (Err r, v) stands now = (tt, put_stands k v w stands now.1)
 
-  file_told : (k : ℕ) (w : World) (c : Connection) (o : Option Refusal) (req : Option ℕ) (found : Option (List ℕ)) (name : List ℕ) → WorldStands chain certs w → StandsUnbroken chain certs (w.common, c)
-      → Told chain certs (file_answered k w (file_answer o req found name (w.common, c)))
-  file_told k w c (Some r) req found name stands here = (tt, stands)
-  file_told k w c None None found name stands here = (tt, stands)
-  file_told k w c None (Some req) None name stands here = (tt, stands)
-  file_told k w c None (Some req) (Some bytes) name stands here =
-      let fs = file_opened name (files_of w.common c) in
+  file_told : (k : ℕ) (w : World) (c : Connection) (o : Option Refusal) (req : Option ℕ) (opening : Opening) → WorldStands chain certs w → StandsUnbroken chain certs (w.common, c)
+      → Told chain certs (file_answered k w (file_answer o req opening (w.common, c)))
+  file_told k w c (Some r) req opening stands here = (tt, stands)
+  file_told k w c None None opening stands here = (tt, stands)
+  file_told k w c None (Some req) Missing stands here = (tt, stands)
+  file_told k w c None (Some req) Failing stands here = (tt, stands)
+  file_told k w c None (Some req) (Found bytes) stands here =
       let ps = registered req (FileRef w.common.file) (pools_of w.common c) in (
         tt,
-        put_stands k (file_taken req name (length bytes) (w.common, c)) w stands (λ none.
-            stands_beside chain certs w.common (record w.common { file = fs.next }) c ps.payloads c.labels fs.opened (c.files ++ (w.common.file, length bytes) ∷ []) c.out c.count (here none)),
+        put_stands k (file_taken req bytes (w.common, c)) w stands (λ none.
+            stands_beside chain certs w.common (record w.common { file = w.common.file + 1 }) c ps.payloads c.labels (upd c.opened w.common.file (Some bytes)) (c.files ++ (w.common.file, length bytes) ∷ []) c.out c.count (here none)),
       )
 
-  added_told : (memory : Bool) (name bytes : List ℕ) (w : World) → WorldStands chain certs w → Told chain certs (adds_file memory name bytes w)
-  added_told true name bytes w stands = (tt, λ k c at. others_stand w.common _ c (stands k c at))
-  added_told false name bytes w stands = (tt, stands)
+  added_told : (memory : Bool) (w : World) → WorldStands chain certs w → Told chain certs (adds_file memory w)
+  added_told true w stands = (tt, stands)
+  added_told false w stands = (tt, stands)
 
   closed_told : (memory : Bool) (k : ℕ) (c : Connection) (w : World) → WorldStands chain certs w → Told chain certs (closes memory k c w)
   closed_told true k c w stands = (tt, gone_stands k w stands)
   closed_told false k c w stands = (tt, stands)
 
-  module _ (proper : IsChain chain) (top : TopLands chain certs) (events : EventsLand chain certs) (memory : Bool) (budget : ℕ) (reads : Reads) where
+  module _ (proper : IsChain chain) (top : TopLands chain certs) (events : EventsLand chain certs) (memory : Bool) (budget : ℕ) (told : worlds.Told) where
     opened_told : (o : Option Refusal) (w : World) → WorldStands chain certs w → WorldSound chain (opens_if o chain w).1 → Told chain certs (opens_if o chain w)
     opened_told (Some r) w stands sound = (tt, stands)
     opened_told None w stands sound =
@@ -151,9 +150,9 @@ module _ (chain : List Program) (certs : ℕ → Certificate) where
         let b = none_if (is_busy c.stack) refusal.Busy _ (none_first (if_broken c.broken) _ none) in
         over_stands c.req w.common c refl (not_busy c.stack b.0) was (here (not_broken c.broken _ none)) new)
 
-    opens_file_told : (name : List ℕ) (k : ℕ) (c : Connection) (w : World) → StandsUnbroken chain certs (w.common, c) → WorldStands chain certs w → Told chain certs (file_answered k w (opens_file memory name (w.common, c)))
+    opens_file_told : (k : ℕ) (c : Connection) (w : World) → StandsUnbroken chain certs (w.common, c) → WorldStands chain certs w → Told chain certs (file_answered k w (opens_file memory told.opening (w.common, c)))
     unfolding opens_file
-    opens_file_told name k c w here stands = file_told k w c _ c.req (w.common.named name) name stands here
+    opens_file_told k c w here stands = file_told k w c _ c.req told.opening stands here
 
     opens_told : (w : World) → WorldStands chain certs w → WorldSound chain (opens memory chain w).1 → Told chain certs (opens memory chain w)
     unfolding opens
@@ -161,16 +160,16 @@ module _ (chain : List Program) (certs : ℕ → Certificate) where
 
     -- an event of a connection that is there
     there_told : (e : Event) (k : ℕ) (c : Connection) (w : World) → w.conns k ≡ Some c → WorldSound chain w → WorldStands chain certs w
-        → WorldSound chain (happens_on memory budget chain reads e k (Some c) w).1 → Told chain certs (happens_on memory budget chain reads e k (Some c) w)
+        → WorldSound chain (happens_on memory budget chain told e k (Some c) w).1 → Told chain certs (happens_on memory budget chain told e k (Some c) w)
     unfolding happens_on
     there_told event.Open k c w at was stands sound = opens_told w stands sound
-    there_told (event.AddFile name bytes) k c w at was stands sound = added_told memory name bytes w stands
+    there_told (event.AddFile name bytes) k c w at was stands sound = added_told memory w stands
     there_told event.TellPools k c w at was stands sound = (tt, stands)
-    there_told (event.OpenFile name) k c w at was stands sound = opens_file_told name k c w (stands k c at) stands
+    there_told (event.OpenFile name) k c w at was stands sound = opens_file_told k c w (stands k c at) stands
     there_told event.Begin k c w at was stands sound = begins_told k c w (was.conns k c at) (stands k c at) stands sound
     there_told (event.Bring pieces) k c w at was stands sound = brings_told pieces k c w (was.conns k c at) (stands k c at) stands sound
     there_told event.Step k c w at was stands sound =
-        step_told k w (steps memory budget chain reads (w.common, c)) stands (steps_stand chain certs proper top memory budget reads w.common c (was.conns k c at) (stands k c at))
+        step_told k w (steps memory budget chain told.reads (w.common, c)) stands (steps_stand chain certs proper top memory budget told.reads w.common c (was.conns k c at) (stands k c at))
     there_told event.End k c w at was stands sound = ends_told k c w (was.conns k c at) (stands k c at) stands sound
     there_told event.TakeOutput k c w at was stands sound = (
       tt,
@@ -181,15 +180,15 @@ module _ (chain : List Program) (certs : ℕ → Certificate) where
     there_told event.Close k c w at was stands sound = closed_told memory k c w stands
 
     -- one of a connection that is not
-    nowhere_told : (e : Event) (k : ℕ) (w : World) → WorldStands chain certs w → WorldSound chain (happens_on memory budget chain reads e k None w).1 → Told chain certs (happens_on memory budget chain reads e k None w)
+    nowhere_told : (e : Event) (k : ℕ) (w : World) → WorldStands chain certs w → WorldSound chain (happens_on memory budget chain told e k None w).1 → Told chain certs (happens_on memory budget chain told e k None w)
     unfolding happens_on
     nowhere_told event.Open k w stands sound = opens_told w stands sound
-    nowhere_told (event.AddFile name bytes) k w stands sound = added_told memory name bytes w stands
+    nowhere_told (event.AddFile name bytes) k w stands sound = added_told memory w stands
     nowhere_told event.TellPools k w stands sound = (tt, stands)
     nowhere_told e k w stands sound = (tt, stands)
 
-    pub happens_told : (e : Event) (k : ℕ) (w : World) → WorldSound chain w → WorldStands chain certs w → WorldSound chain (happens memory budget chain reads k e w).1 → Told chain certs (happens memory budget chain reads k e w)
+    pub happens_told : (e : Event) (k : ℕ) (w : World) → WorldSound chain w → WorldStands chain certs w → WorldSound chain (happens memory budget chain told k e w).1 → Told chain certs (happens memory budget chain told k e w)
     happens_told e k w was stands sound = by_conn (w.conns k) refl sound where
-      by_conn : (o : Option Connection) → w.conns k ≡ o → WorldSound chain (happens_on memory budget chain reads e k o w).1 → Told chain certs (happens_on memory budget chain reads e k o w)
+      by_conn : (o : Option Connection) → w.conns k ≡ o → WorldSound chain (happens_on memory budget chain told e k o w).1 → Told chain certs (happens_on memory budget chain told e k o w)
       by_conn None at new = nowhere_told e k w stands new
       by_conn (Some c) at new = there_told e k c w at was stands new

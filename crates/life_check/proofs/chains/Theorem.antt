@@ -16,9 +16,9 @@ module _ (chain : List Program) (certs : ℕ → Certificate) (proper : IsChain 
   run_answers budget old new [] [] sound stands run = tt
   run_answers budget old new [] (a ∷ answers) sound stands run = absurd run
   run_answers budget old new (e ∷ es) [] sound stands run = absurd run
-  run_answers budget old new (e ∷ es) (a ∷ answers) sound stands (memory, reads, mid, is, rest) =
-      let next = keeps memory budget chain reads e.0 e.1 old proper sound in
-      let now = happens_told chain certs proper top events memory budget reads e.1 e.0 old sound stands next in
+  run_answers budget old new (e ∷ es) (a ∷ answers) sound stands (memory, told, mid, is, rest) =
+      let next = keeps memory budget chain told e.0 e.1 old proper sound in
+      let now = happens_told chain certs proper top events memory budget told e.1 e.0 old sound stands next in
       let none = subst (λ (x : Answer × World). IsNoFault x.0) is now.0 in
       let mid_sound = subst (λ (x : Answer × World). WorldSound chain x.1) is next in
       let mid_stands = subst (λ (x : Answer × World). WorldStands chain certs x.1) is now.1 in

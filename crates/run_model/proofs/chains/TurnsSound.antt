@@ -1,5 +1,5 @@
 -- Each turn of a connection keeps it sound, and names rise.
-use Rattle.std.proofs.Common.{◌≡◌, ◌+◌, ◌^◌, ◌<◌, List, length, refl, arith}
+use Rattle.std.proofs.Common.{◌≡◌, ℕ, ◌+◌, ◌^◌, ◌<◌, List, refl, arith}
 use Rattle.module_lang.specs.Program.{Program}
 use Rattle.run_model.specs.Chains.{Connection, Common, Linked, pools_of}
 use Rattle.run_model.specs.Turns.{opened}
@@ -48,12 +48,12 @@ opened_sound chain g chained has next pools = record {
 pub same_rises : (g : Common) → HasNames g → Rises g g
 same_rises g has = record { next = omega arith; next_limit = has.next; pools = omega arith; pools_limit = has.pools.1 }
 
-pub turn_sound : (chain : List Program) (g : Common) (c : Connection) (v : Linked) → IsChain chain → HasNames g → Turn chain g c v → ChainSound chain g c → ChainSound chain v.0 v.1
-turn_sound chain g c v chained has Same s = s
-turn_sound chain g c v chained has Drained s = marked_sound chain g c _ refl refl refl refl refl refl s
-turn_sound chain g c v chained has (Broke k other) s = marked_sound chain g c _ refl refl refl refl refl refl s
-turn_sound chain g c v chained has (Faulted f rest k whole top is) s = marked_sound chain g c _ refl refl refl refl refl refl s
-turn_sound chain g c v chained has (Went reads f rest whole may) s =
+pub turn_sound : (chain : List Program) (Lengths : ℕ → Type 0) (g : Common) (c : Connection) (v : Linked) → IsChain chain → HasNames g → Turn chain Lengths g c v → ChainSound chain g c → ChainSound chain v.0 v.1
+turn_sound chain Lengths g c v chained has Same s = s
+turn_sound chain Lengths g c v chained has Drained s = marked_sound chain g c _ refl refl refl refl refl refl s
+turn_sound chain Lengths g c v chained has (Broke k other) s = marked_sound chain g c _ refl refl refl refl refl refl s
+turn_sound chain Lengths g c v chained has (Faulted f rest k whole top is) s = marked_sound chain g c _ refl refl refl refl refl refl s
+turn_sound chain Lengths g c v chained has (Went reads f rest whole may) s =
     let left : Linked = after_top chain reads g c f rest in
     marked_sound chain left.0 left.1 _ refl refl refl refl refl refl (record {
       names = top_keeps_names chain reads g c f rest may s;
@@ -61,38 +61,38 @@ turn_sound chain g c v chained has (Went reads f rest whole may) s =
       pools = top_keeps_pools chain reads g c f rest may s;
       calls = top_keeps_calls chain reads g c f rest may s;
     })
-turn_sound chain g c v chained has (Begun whole idle none pools next) s = record {
+turn_sound chain Lengths g c v chained has (Begun whole idle none pools next) s = record {
   names = begun_names chain g c next s.names;
   buckets = begun_buckets chain g c s.buckets;
   pools = begun_pools chain g c none pools s.pools;
   calls = begun_calls chain g c (module_at_proper chain chained 0) chained.some has.first;
 }
-turn_sound chain g c v chained has (Brought pieces req whole idle is there next) s = record {
+turn_sound chain Lengths g c v chained has (Brought pieces req whole idle is there next) s = record {
   names = brought_in_names chain pieces req g c chained.some next s.names;
   buckets = brought_in_buckets chain pieces req g c s.buckets;
   pools = brought_in_pools chain pieces req g c s.pools;
   calls = brought_in_calls chain pieces req g c (module_at_proper chain chained 0) chained.some has.first idle is s.calls;
 }
-turn_sound chain g c v chained has (FileTaken req name bytes whole idle is named last) s = record {
-  names = file_taken_names chain req (length bytes) name g c s.names;
-  buckets = file_taken_buckets req (length bytes) name g c s.buckets;
-  pools = file_taken_pools chain req (length bytes) name g c is s.pools;
-  calls = file_taken_calls chain req (length bytes) name g c s.calls;
+turn_sound chain Lengths g c v chained has (FileTaken req bytes whole idle is told last) s = record {
+  names = file_taken_names chain req bytes g c s.names;
+  buckets = file_taken_buckets req bytes g c s.buckets;
+  pools = file_taken_pools chain req bytes g c is s.pools;
+  calls = file_taken_calls chain req bytes g c s.calls;
 }
-turn_sound chain g c v chained has (Ended req whole idle is) s = record {
+turn_sound chain Lengths g c v chained has (Ended req whole idle is) s = record {
   names = request_over_names chain req g c s.names;
   buckets = request_over_buckets req g c s.buckets;
   pools = request_over_pools chain req g c is s.pools;
   calls = request_over_calls chain req g c idle s.calls;
 }
 
-pub turn_rises : (chain : List Program) (g : Common) (c : Connection) (v : Linked) → HasNames g → Turn chain g c v → ChainSound chain g c → Rises g v.0
-turn_rises chain g c v has Same s = same_rises g has
-turn_rises chain g c v has Drained s = same_rises g has
-turn_rises chain g c v has (Broke k other) s = same_rises g has
-turn_rises chain g c v has (Faulted f rest k whole top is) s = same_rises g has
-turn_rises chain g c v has (Went reads f rest whole may) s = top_raises_names chain reads g c f rest may s
-turn_rises chain g c v has (Begun whole idle none pools next) s = begun_raises chain g c next pools
-turn_rises chain g c v has (Brought pieces req whole idle is there next) s = brought_in_raises chain pieces req g c next has.pools.1
-turn_rises chain g c v has (FileTaken req name bytes whole idle is named last) s = file_taken_raises req (length bytes) name g c has.next has.pools.1
-turn_rises chain g c v has (Ended req whole idle is) s = request_over_raises req g c has.next has.pools.1
+pub turn_rises : (chain : List Program) (Lengths : ℕ → Type 0) (g : Common) (c : Connection) (v : Linked) → HasNames g → Turn chain Lengths g c v → ChainSound chain g c → Rises g v.0
+turn_rises chain Lengths g c v has Same s = same_rises g has
+turn_rises chain Lengths g c v has Drained s = same_rises g has
+turn_rises chain Lengths g c v has (Broke k other) s = same_rises g has
+turn_rises chain Lengths g c v has (Faulted f rest k whole top is) s = same_rises g has
+turn_rises chain Lengths g c v has (Went reads f rest whole may) s = top_raises_names chain reads g c f rest may s
+turn_rises chain Lengths g c v has (Begun whole idle none pools next) s = begun_raises chain g c next pools
+turn_rises chain Lengths g c v has (Brought pieces req whole idle is there next) s = brought_in_raises chain pieces req g c next has.pools.1
+turn_rises chain Lengths g c v has (FileTaken req bytes whole idle is told last) s = file_taken_raises req bytes g c has.next has.pools.1
+turn_rises chain Lengths g c v has (Ended req whole idle is) s = request_over_raises req g c has.next has.pools.1

@@ -1,0 +1,75 @@
+-- What is true of the buckets and files of each connection with a chain, in every run: ranges end below 2^64, and files stay open.
+use Rattle.std.specs.Prelude.{◌≡◌, ℕ, ◌^◌, ◌<◌, Bool, true, List, [], Some, None, is_some, All}
+use Rattle.module_lang.specs.Program.{Program}
+use Rattle.run_model.specs.declared.bucket.Content.TheVariants as content
+use Rattle.run_model.specs.declared.bucket.Home.TheVariants as home
+use Rattle.run_model.specs.declared.bucket.NamedBucket.{NamedBucket}
+use Rattle.run_model.specs.declared.event.Event.{Event}
+use Rattle.run_model.specs.Cutting.{EndsInFile}
+use Rattle.run_model.specs.State.{items_of}
+use Rattle.run_model.specs.RangesEnd.{LengthsEnd}
+use Rattle.run_model.specs.Connection.{has_range}
+use Rattle.run_model.specs.Laws.{refers, IsHeld}
+use Rattle.run_model.specs.Chains.{Connection, Common, pools_of}
+use Rattle.run_model.specs.Worlds.{World, Told, Answer, Opened, empty_world, happens, IsRun}
+use Rattle.run_model.specs.ChainSound.{WorldSound}
+use Rattle.run_model.specs.ChainLaws.{IsChain}
+
+-- This is true of each bucket of a connection: in the brigades of its instances, and loose in its calls.
+pub record OfEachBucket (T : NamedBucket → Type 0) (c : Connection) : Type 0 where
+  pub brigades : (k b : ℕ) → All T (items_of ((c.instances k).brigades b))
+  pub loose : All (λ f. All T f.call.loose) c.stack
+
+-- A file that was opened has one of these lengths.
+abbrev pub TellsLengths : (ℕ → Type 0) → Answer → Type 0
+TellsLengths Lengths (Opened file len) = Lengths len
+TellsLengths Lengths a = Unit {0}
+
+-- Ranges.
+
+-- a length below 2^64
+abbrev pub IsShort : ℕ → Type 0
+IsShort len = len < 2 ^ 64
+
+-- ends: each range of a bucket ends below 2^64. lengths: so do the files of the request.
+pub record ChainEnds (c : Connection) : Type 0 where
+  pub ends : OfEachBucket (λ x. EndsInFile x.bucket.content) c
+  pub lengths : LengthsEnd c.files
+
+abbrev pub WorldEnds : World → Type 0
+WorldEnds w = (k : ℕ) (c : Connection) → w.conns k ≡ Some c → ChainEnds c
+
+-- Each event keeps it where the file that it opens is short, and so it is true of each world that a run reaches whose files are.
+abbrev pub EventKeepsWorldEnds : Type 0
+EventKeepsWorldEnds = (memory : Bool) (budget : ℕ) (chain : List Program) (told : Told) (k : ℕ) (e : Event) (w : World)
+    → IsChain chain → WorldSound chain w → TellsLengths IsShort (happens memory budget chain told k e w).0 → WorldEnds w → WorldEnds (happens memory budget chain told k e w).1
+
+abbrev pub RunEndsWorld : Type 0
+RunEndsWorld = (budget : ℕ) (chain : List Program) (es : List (ℕ × Event)) (answers : List Answer) (w : World)
+    → IsChain chain → IsRun budget chain empty_world es answers w → All (TellsLengths IsShort) answers → WorldEnds w
+
+-- Files.
+
+-- the file of a range whose home is a pool is open
+abbrev pub IsOpen : Connection → NamedBucket → Type 0
+IsOpen c x = (file start len p : ℕ) → x.bucket.content ≡ content.Range file start len → x.bucket.home ≡ home.Pool p → is_some (c.opened file) ≡ true
+
+-- lasts: a file is open as long as a pool holds a reference to it. held, open: where the home of a FILE bucket has not ended, it holds such a
+-- reference, and the file is open. request: so does the request's pool for its files. between: between requests there are none.
+pub record ChainFiles (g : Common) (c : Connection) : Type 0 where
+  pub lasts : (p file : ℕ) → refers (pools_of g c) p file ≡ true → is_some (c.opened file) ≡ true
+  pub held : OfEachBucket (IsHeld (pools_of g c)) c
+  pub open_files : OfEachBucket (IsOpen c) c
+  pub request : (file end req : ℕ) → has_range c.files file end ≡ true → c.req ≡ Some req → refers (pools_of g c) req file ≡ true
+  pub between : c.req ≡ None → c.files ≡ []
+
+abbrev pub WorldFiles : World → Type 0
+WorldFiles w = (k : ℕ) (c : Connection) → w.conns k ≡ Some c → ChainFiles w.common c
+
+-- Each event keeps it, and so it is true of each world that a run reaches.
+abbrev pub EventKeepsWorldFiles : Type 0
+EventKeepsWorldFiles = (memory : Bool) (budget : ℕ) (chain : List Program) (told : Told) (k : ℕ) (e : Event) (w : World)
+    → IsChain chain → WorldSound chain w → WorldFiles w → WorldFiles (happens memory budget chain told k e w).1
+
+abbrev pub RunKeepsWorldFiles : Type 0
+RunKeepsWorldFiles = (budget : ℕ) (chain : List Program) (es : List (ℕ × Event)) (answers : List Answer) (w : World) → IsChain chain → IsRun budget chain empty_world es answers w → WorldFiles w
