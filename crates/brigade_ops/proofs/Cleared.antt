@@ -16,7 +16,7 @@ use Rattle.brigade_ops.specs.declared.morphs.Morph.{Morph}
 use Rattle.brigade_ops.specs.Items.{Item, Items}
 use Rattle.brigade_ops.specs.Morphs.{morph_one, morphed, all_morphed, cleared_as, is_named}
 
-morphed_append : (ms ns : List Morph) (id : BucketId) (x : Bucket) → morphed (ms ++ ns) id x ≡ morphed ns id (morphed ms id x)
+pub morphed_append : (ms ns : List Morph) (id : BucketId) (x : Bucket) → morphed (ms ++ ns) id x ≡ morphed ns id (morphed ms id x)
 unfolding morphed
 morphed_append [] ns id x = refl
 morphed_append (m ∷ ms) ns id x = morphed_append ms ns id (morph_one m id x)

@@ -11,3 +11,8 @@ pub mod Referred
 pub mod Saves
 pub mod Cleared
 pub mod Stores
+pub mod Counts
+pub mod Plans
+pub mod House
+pub mod Housed
+pub mod HouseCalls

@@ -7,3 +7,4 @@ pub mod Refusals
 pub mod Reads
 pub mod Laws
 pub mod Morphs
+pub mod House

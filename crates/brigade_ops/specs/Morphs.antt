@@ -1,5 +1,5 @@
 -- What a clear of a pool makes of buckets whose home or bytes lie under it (apr_buckets_pool.c, `pool_bucket_cleanup`).
-use Rattle.std.specs.Prelude.{ℕ, Bool, if◌then◌else◌, List, [], ◌∷◌, map}
+use Rattle.std.specs.Prelude.{◌≡◌, ◌⊎◌, ℕ, Bool, if◌then◌else◌, List, [], ◌∷◌, map}
 use Rattle.std.specs.List.{list_any}
 use Rattle.bucket_ring.specs.declared.names.BucketId.{BucketId}
 use Rattle.bucket_ring.specs.Lists.{same}
@@ -25,3 +25,7 @@ cleared_as reached x = record x { kind = to_heap reached x.kind; home = end_pool
 
 abbrev pub is_named : BucketId → List BucketId → Bool
 is_named id names = list_any (λ name. same id name) names
+
+-- What was made ready leaves a bucket as it is, or does what a clear does.
+abbrev pub IsAsItWas : (ℕ → Bool) → List Morph → BucketId → Bucket → Type 0
+IsAsItWas reached ms id x = (morphed ms id x ≡ x) ⊎ (morphed ms id x ≡ cleared_as reached x)

@@ -9,6 +9,7 @@ ghost use Rattle.pool_tree.specs.Tree.{map_of};
 ghost use Rattle.bucket_ring.specs.Lists.{on, with_payload};
 ghost use Rattle.bucket_ring.specs.Kept.{NoneRevived};
 ghost use Rattle.brigade_ops.specs.Items.{file_for, pools_for, count_for};
+ghost use Rattle.brigade_ops.specs.House.{IsHouse};
 
 use crate::store::Brigades;
 use bucket_kinds::{FileNo, aside_bucket};
@@ -104,6 +105,7 @@ impl<R: Rings<Bucket> + Drop> Brigades<R> {
         ensures err { OnErr result ((m : ℕ) → lists self.new m ≡ lists self.old m) }
         ensures kept { OnErr result (map_of tree.new ≡ map_of tree.old) }
         ensures uncounted { OnErr result ((f : ℕ) → references self.new f ≡ references self.old f) }
+        ensures house { IsHouse self.old (map_of tree.old) → IsHouse self.new (map_of tree.new) }
     {
         let (file, above) = self.file_for(tree, id, pool);
         self.refer_for(tree, pool, file)?;

@@ -6,6 +6,7 @@ ghost use Rattle.run_model.specs.RunOrder.{IsPoolMap};
 ghost use Rattle.pool_tree.specs.Tree.{map_of};
 ghost use Rattle.bucket_ring.specs.Lists.{upd, on, list_at, by_birth, numbered};
 ghost use Rattle.brigade_ops.specs.Items.{Items};
+ghost use Rattle.brigade_ops.specs.House.{IsHouse};
 ghost use Rattle.bucket_ring.specs.Kept.{NoneRevived};
 
 use crate::store::{BrigadeId, Brigades};
@@ -45,6 +46,7 @@ impl<R: Rings<Bucket> + Drop> Brigades<R> {
         ensures references { references self.new ≡ references self.old }
         ensures off { OnErr result ((n : ℕ) → pool_of self.new n ≡ pool_of self.old n) }
         ensures kept { OnErr result (map_of tree.new ≡ map_of tree.old) }
+        ensures house { IsHouse self.old (map_of tree.old) → IsHouse self.new (map_of tree.new) }
     {
         let name = self.held.rings.next_name();
         if name == u64::MAX {

@@ -10,6 +10,7 @@ ghost use Rattle.bucket_ring.specs.Kept.{NoneRevived};
 ghost use Rattle.bucket_kinds.specs.Device.{Missing, is_there};
 ghost use Rattle.brigade_ops.specs.Items.{pools_for, count_for};
 ghost use Rattle.brigade_ops.specs.Files.{refs_in, is_let_go, SameButOpen};
+ghost use Rattle.brigade_ops.specs.House.{IsHouse};
 
 use crate::references::refer;
 use crate::store::{BrigadeId, Brigades};
@@ -42,6 +43,7 @@ impl<R: Rings<Bucket> + Drop> Brigades<R> {
         ensures formed { IsPoolMap (map_of tree.new) }
         ensures kept { OnErr result (map_of tree.new ≡ map_of tree.old) }
         ensures uncounted { OnErr result ((f : ℕ) → references self.new f ≡ references self.old f) }
+        ensures house { IsHouse self.old (map_of tree.old) → IsHouse self.new (map_of tree.new) }
     {
         refer(&mut self.references, tree, pool, file)
     }
@@ -65,6 +67,7 @@ impl<R: Rings<Bucket> + Drop> Brigades<R> {
         ensures formed { IsPoolMap (map_of tree.new) }
         ensures kept { OnErr result (map_of tree.new ≡ map_of tree.old) }
         ensures uncounted { OnErr result ((f : ℕ) → references self.new f ≡ references self.old f) }
+        ensures house { IsHouse self.old (map_of tree.old) → IsHouse self.new (map_of tree.new) }
     {
         match file {
             Some(file) => self.refer(tree, pool, file),

@@ -4,6 +4,7 @@
 mod aside;
 mod brigades;
 mod buckets;
+mod clearing;
 mod cutting;
 mod files;
 mod laws;

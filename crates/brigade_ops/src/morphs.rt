@@ -33,14 +33,14 @@ pub struct Morphs {
 
 /// Whether a clear of a pool reaches the pool of a name.
 #[tactic(auto, using(crate::proofs::Above::dead_below))]
-fn reaches(tree: &PoolTree<Payload>, pool: PoolId, name: PoolId) -> bool
+pub(crate) fn reaches(tree: &PoolTree<Payload>, pool: PoolId, name: PoolId) -> bool
     requires { IsTrue (is_live (map_of tree.now) pool) }
     ensures { result ≡ is_under (map_of tree.now) pool name }
 {
     tree.is_live(name) && tree.is_ancestor(pool, name)
 }
 
-fn home_after(tree: &PoolTree<Payload>, pool: PoolId, home: Home) -> Home
+pub(crate) fn home_after(tree: &PoolTree<Payload>, pool: PoolId, home: Home) -> Home
     requires { IsTrue (is_live (map_of tree.now) pool) }
     ensures { result ≡ end_pools (is_under (map_of tree.now) pool) home }
 {
@@ -50,7 +50,7 @@ fn home_after(tree: &PoolTree<Payload>, pool: PoolId, home: Home) -> Home
     }
 }
 
-fn kind_after(tree: &PoolTree<Payload>, pool: PoolId, kind: Kind) -> Kind
+pub(crate) fn kind_after(tree: &PoolTree<Payload>, pool: PoolId, kind: Kind) -> Kind
     requires { IsTrue (is_live (map_of tree.now) pool) }
     ensures { result ≡ to_heap (is_under (map_of tree.now) pool) kind }
 {

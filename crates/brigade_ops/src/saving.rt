@@ -10,6 +10,7 @@ ghost use Rattle.bucket_ring.specs.Lists.{on, list_at};
 ghost use Rattle.bucket_ring.specs.Kept.{NoneRevived};
 ghost use Rattle.brigade_ops.specs.Files.{times_in};
 ghost use Rattle.brigade_ops.specs.Items.{named, aside_item, aside_behind};
+ghost use Rattle.brigade_ops.specs.House.{IsHouse};
 
 use crate::aside::is_above;
 use crate::references::{refer_all, unrefer_all};
@@ -105,6 +106,7 @@ impl<R: Rings<Bucket> + Drop> Brigades<R> {
         ensures err { OnErr result ((n : ℕ) → lists self.new n ≡ lists self.old n) }
         ensures kept { OnErr result (map_of tree.new ≡ map_of tree.old) }
         ensures uncounted { OnErr result ((f : ℕ) → references self.new f ≡ references self.old f) }
+        ensures house { IsHouse self.old (map_of tree.old) → IsHouse self.new (map_of tree.new) }
     {
         let Some(pool) = self.pools.get(o) else {
             unreachable!()

@@ -48,4 +48,11 @@ impl<R: Rings<Bucket> + Drop> Brigades<R> {
             references: Numbers::new(alloc),
         }
     }
+
+    /// The name that the next brigade or bucket would get.
+    pub fn next_name(&self) -> u64
+        ensures { result ≡ next_name self.now }
+    {
+        self.held.rings.next_name()
+    }
 }

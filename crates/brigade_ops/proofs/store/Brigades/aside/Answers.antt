@@ -1,12 +1,16 @@
-use Rattle.std.proofs.Common.{ℕ, Bool, Option, ap, ◌∙◌}
+use Rattle.std.proofs.Common.{◌≡◌, ℕ, Bool, true, Option, is_some, ap, ◌∙◌}
 use Rattle.run_model.specs.declared.bucket.Bucket.{Bucket}
 use Rattle.run_model.specs.Cutting.{set_aside}
 use Rattle.run_model.specs.Steps.{is_above}
 use Rattle.pool_tree.specs.Tree.{map_of}
 use Rattle.bucket_ring.specs.declared.names.BucketId.{BucketId}
-use Rattle.bucket_ring.specs.Lists.{on, with_payload}
+use Rattle.bucket_ring.specs.Lists.{on, list_at, with_payload}
 use Rattle.brigade_ops.specs.Items.{Items, count_for}
-use Rattle.brigade_ops.specs.Store.{lists, references}
+use Rattle.brigade_ops.specs.Store.{lists, brigade_of, pool_of, references}
+use Rattle.brigade_ops.proofs.Housed.{house_stays, on_some}
+use Rattle.brigade_ops.proofs.Lists.{some_of}
+use Rattle.brigade_ops.proofs.Saves.{found_some}
+use Rattle.brigade_ops.proofs.Stores.{found_in, found_bucket}
 use Rattle.brigade_ops.proofs.store.Brigades.aside.Goals as goal
 
 pub returns-clause-ok : goal.returns-clause-ok
@@ -23,3 +27,16 @@ returns-clause-counted g c x f is =
     ap (λ (r : ℕ → ℕ). r f) c.put_aside.ensures.references
     ∙ (c.in_ok-refer_for.ensures.counted f
     ∙ ap (λ (p : Option ℕ × Bool). count_for f p.0 (references c.args.self.now f)) (c.file_for-file.ensures x is))
+
+pub returns-clause-house : goal.returns-clause-house
+returns-clause-house g c house =
+    let id = c.args.id in
+    let before = c.refer_for.new.self in
+    let after = c.put_aside.new.self in
+    let there : is_some (brigade_of before id) ≡ true = ap (λ (f : BucketId → Option ℕ). is_some (f id)) c.in_ok-refer_for.ensures.brigades ∙ c.requires.there in
+    let b = some_of (brigade_of before id) there in
+    let x = found_some id (list_at (lists before) b.0) (found_in before id b.0 b.1) in
+    house_stays (lists before) (pool_of before) (references before) (map_of c.refer_for.new.tree) (c.in_ok-refer_for.ensures.house house) (lists after) (pool_of after) (references after)
+    (λ n p at some. ap is_some (c.put_aside.ensures.out b.0 n x.0 b.1 (found_bucket before id b.0 x.0 b.1 x.1)) ∙ (on_some b.0 n _ (lists before) ∙ some))
+    (λ n. ap (λ (f : ℕ → Option ℕ). f n) c.put_aside.ensures.pools)
+    (λ f. ap (λ (h : ℕ → ℕ). h f) c.put_aside.ensures.references)

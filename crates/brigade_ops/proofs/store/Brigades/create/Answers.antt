@@ -1,11 +1,18 @@
-use Rattle.std.proofs.Common.{◌≡◌, true, refl, sym, ap, subst, ◌∙◌}
+use Rattle.std.proofs.Common.{◌≡◌, ◌==◌, ℕ, true, cond, Option, Some, is_some, refl, sym, ap, subst, ◌∙◌, arith}
 use Rattle.std.proofs.lemmas.Bool.{eq-eqb}
 use Rattle.run_model.specs.declared.payload.Payload.{Payload}
 use Rattle.run_model.specs.declared.payload.Payload.TheVariants.{Brigade}
 use Rattle.run_model.specs.Payloads.{payload_eq}
-use Rattle.run_model.specs.Pools.{Pools, is_live}
+use Rattle.run_model.specs.Pools.{Pools, is_live, registered}
 use Rattle.run_model.specs.RunOrder.{killed}
 use Rattle.pool_tree.specs.Tree.{map_of}
+use Rattle.pool_tree.proofs.Trees.{tree_formed}
+use Rattle.bucket_ring.specs.Lists.{upd}
+use Rattle.brigade_ops.specs.House.{AreHoused}
+use Rattle.brigade_ops.specs.Numbers.{number_at}
+use Rattle.brigade_ops.specs.Store.{lists, pool_of, next_name, references}
+use Rattle.brigade_ops.proofs.Housed.{house_stays, house_made}
+use Rattle.brigade_ops.proofs.Stores.{brigades}
 use Rattle.brigade_ops.proofs.Undone.{killed_again, live_registered}
 use Rattle.brigade_ops.proofs.store.Brigades.create.Goals as goal
 
@@ -20,3 +27,29 @@ returns-in-Err-clause-kept g c =
     let test : Payload → _ = λ other. payload_eq other (Brigade n) in
     c.kill-killed.ensures.rest
     ∙ (ap (killed c.args.pool test) c.in-Ok.ensures.ok ∙ killed_again (map_of c.args.tree.now) c.args.pool test (Brigade n) (eq-eqb n n refl))
+
+pub returns-in-Ok-new_ring-clause-house : goal.returns-in-Ok-new_ring-clause-house
+unfolding lists pool_of next_name references upd
+returns-in-Ok-new_ring-clause-house g c house =
+    let store = c.args.self.now in
+    let b = c.in-Ok-new_ring.b in
+    let pool = c.args.pool in
+    let ps = map_of c.args.tree.now in
+    let name : b ≡ next_name store = c.in-Ok-new_ring.ensures.name in
+    let same : c.next_name-name.result ≡ b = c.next_name-name.ensures ∙ sym name in
+    subst (AreHoused (g.R.Rings.lists c.new_ring.new.self) (number_at c.put.new.self) (references store)) (sym (c.in-Ok.ensures.ok ∙ ap (λ (n : ℕ). registered pool (Brigade n) ps) same))
+    (house_made (lists store) (pool_of store) (references store) ps house (g.R.Rings.lists c.new_ring.new.self) (number_at c.put.new.self) (references store) pool b (tree_formed c.args.tree.now) c.requires
+    (λ there. let young = brigades store b there in absurd (omega (arith, young, name)))
+    c.in-Ok-new_ring.ensures.ok
+    (λ n. c.put.ensures n ∙ ap (λ (o : Option ℕ). cond (n == b) (Some pool) o) (c.in_ok-reserve.ensures.same n))
+    (λ f. refl))
+
+pub returns-in-Err-clause-house : goal.returns-in-Err-clause-house
+unfolding lists pool_of references
+returns-in-Err-clause-house g c house =
+    let store = c.args.self.now in
+    subst (AreHoused (g.R.Rings.lists c.new_ring.new.self) (number_at c.reserve.new.self) (references store)) (sym (returns-in-Err-clause-kept g c))
+    (house_stays (lists store) (pool_of store) (references store) (map_of c.args.tree.now) house (g.R.Rings.lists c.new_ring.new.self) (number_at c.reserve.new.self) (references store)
+    (λ n p at some. ap is_some (c.in-Err.ensures.err n) ∙ some)
+    c.in_ok-reserve.ensures.same
+    (λ f. refl))

@@ -1,4 +1,4 @@
-use Rattle.std.proofs.Common.{◌≡◌, ℕ, ◌+◌, ◌++◌, Some, is_some, List, [], filter_map, map, sym, ap, ◌∙◌}
+use Rattle.std.proofs.Common.{◌≡◌, ℕ, ◌+◌, ◌++◌, Option, Some, is_some, List, [], filter_map, map, sym, ap, subst, ◌∙◌}
 use Rattle.std.specs.Prelude.{IfSome}
 use Rattle.std.proofs.lemmas.Option.{same_Some}
 use Rattle.run_model.specs.declared.payload.Payload.{Payload}
@@ -10,6 +10,9 @@ use Rattle.brigade_ops.specs.Files.{times_in}
 use Rattle.brigade_ops.specs.Items.{Item, Items, named, before_place, from_place, aside_item, aside_behind}
 use Rattle.brigade_ops.specs.Numbers.{count_at}
 use Rattle.brigade_ops.specs.Store.{lists, brigade_of, pool_of, references}
+use Rattle.pool_tree.proofs.Trees.{tree_formed}
+use Rattle.brigade_ops.specs.House.{AreHoused}
+use Rattle.brigade_ops.proofs.Housed.{house_referred, on_some}
 use Rattle.brigade_ops.proofs.Lists.{list_off, on_after}
 use Rattle.brigade_ops.proofs.Walks.{if_some, told_some}
 use Rattle.brigade_ops.proofs.Referred.{aside_same, ok_of}
@@ -74,3 +77,27 @@ returns-clause-counted g c p f at =
     ∙ (c.in_ok-refer_all.ensures.counted f
     ∙ (ap (λ (files : List ℕ). start + times_in f files) (c.as_slice.ensures ∙ c.in_ok-files.ensures)
     ∙ ap (λ (q : ℕ). start + times_in f (filter_map (new_ref ps q) (named bs))) same_pool))
+
+pub returns-clause-house : goal.returns-clause-house
+unfolding lists pool_of references count_at
+returns-clause-house g c house =
+    let store = c.args.self.now in
+    let after = c.put_all_aside.new.self in
+    let o = c.args.o in
+    let b = c.args.b in
+    let pool = c.in-Some.pool in
+    let ps = map_of c.args.tree.now in
+    let s = g.R.Rings.lists store.held.rings in
+    let bs : Items = list_at s b in
+    let moved = g.R.Rings.lists c.splice_tail.new.self in
+    let went = sym c.is_err.ensures.value ∙ c.if-is_err.false in
+    let joined : ((n : ℕ) → moved n ≡ on o (λ xs. xs ++ bs) (on b (λ xs. []) s) n) = ok_of c.splice_tail.result _ went c.splice_tail.ensures.ok in
+    subst (AreHoused (lists after) (pool_of after) (references after)) (sym c.in_ok-refer_all.ensures.ok)
+    (house_referred (lists store) (pool_of store) (references store) ps house (lists after) (pool_of after) (references after) pool c.as_slice.result.now (tree_formed c.args.tree.now)
+    (c.requires.live pool (sym c.get.ensures ∙ c.in-Some.is))
+    (λ n p at some.
+    ap is_some (c.put_all_aside.ensures.out n)
+    ∙ (on_some o n _ moved
+    ∙ (ap is_some (joined n) ∙ (on_some o n (λ xs. xs ++ bs) (on b (λ xs. []) s) ∙ (on_some b n (λ xs. []) s ∙ some)))))
+    (λ n. ap (λ (f : ℕ → Option ℕ). f n) c.put_all_aside.ensures.pools)
+    (λ f. ap (λ (h : ℕ → ℕ). h f) c.put_all_aside.ensures.references ∙ c.in_ok-refer_all.ensures.counted f))

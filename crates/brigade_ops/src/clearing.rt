@@ -1,0 +1,203 @@
+//! A clear and a destroy of a pool, over the store, the tree and the files together.
+
+ghost use Rattle.std.specs.Prelude.{◌≡◌, ◌≢◌, [], ◌∷◌, ◌≤◌, ◌<◌, ◌+◌, ◌&&◌, not, ℕ, None, Some, true, false, is_some, if◌then◌else◌, IsTrue, IfOk, IfSome, OnOk, OnErr};
+ghost use Rattle.std.specs.List.{list_any};
+ghost use Rattle.std.specs.Option.{option_map};
+ghost use Rattle.run_model.specs.Buckets.{to_heap, end_pools};
+ghost use Rattle.run_model.specs.Files.{is_referred};
+ghost use Rattle.run_model.specs.Payloads.{is_brigade, is_file_ref};
+ghost use Rattle.run_model.specs.Pools.{is_live, is_under, is_in, cleared, destroyed};
+ghost use Rattle.run_model.specs.RunOrder.{run_order, IsPoolMap};
+ghost use Rattle.pool_tree.specs.Tree.{map_of};
+ghost use Rattle.bucket_kinds.specs.Device.{Missing, is_there};
+ghost use Rattle.bucket_ring.specs.Kept.{NoneRevived};
+ghost use Rattle.brigade_ops.specs.Files.{refs_in, is_let_go, SameButOpen};
+ghost use Rattle.brigade_ops.specs.House.{IsHouse, AreOpen, cleared_items, cleared_ring, pool_left};
+ghost use Rattle.brigade_ops.specs.Morphs.{morphed, all_morphed, cleared_as, IsAsItWas};
+
+use crate::morphs::{Morph, Morphs, home_after, kind_after, reaches};
+use crate::saving::push_some;
+use crate::store::{BrigadeId, Brigades};
+use bucket_kinds::Files;
+use bucket_ring::{BucketId, Rings};
+use pool_tree::{PoolId, PoolTree};
+use run_model::{Bucket, Home, Kind, Payload, Seq};
+use std::alloc::AllocError;
+
+/// Whether a clear of a pool changes a bucket of this kind and home.
+fn depends_on(tree: &PoolTree<Payload>, pool: PoolId, kind: Kind, home: Home) -> bool
+    requires { IsTrue (is_live (map_of tree.now) pool) }
+    ensures kind { result ≡ false → to_heap (is_under (map_of tree.now) pool) kind ≡ kind }
+    ensures home { result ≡ false → end_pools (is_under (map_of tree.now) pool) home ≡ home }
+{
+    let holds = match kind {
+        Kind::Pool(name) => reaches(tree, pool, name),
+        Kind::Heap | Kind::Transient | Kind::Immortal | Kind::File | Kind::Flush | Kind::Eos =>
+            false,
+    };
+    let lies = match home {
+        Home::Pool(name) => reaches(tree, pool, name),
+        Home::Free | Home::Call(_) | Home::Ended => false,
+    };
+    holds || lies
+}
+
+#[tactic(auto, unfolding(crate::specs::Store::lists, crate::specs::Store::brigade_of, crate::specs::Store::pool_of, crate::specs::Store::next_name, crate::specs::Store::references), using(pool_tree::proofs::Trees::tree_formed))]
+impl<R: Rings<Bucket> + Drop> Brigades<R> {
+    ghost use Rattle.brigade_ops.specs.Store.{lists, brigade_of, bucket_at, pool_of, next_name, references};
+
+    /// What a clear of a pool makes of a bucket; `None` where it stays as it is.
+    fn morph_for(&self, tree: &PoolTree<Payload>, pool: PoolId, id: BucketId) -> Option<Morph>
+        requires there { is_some (brigade_of self.now id) ≡ true }
+        requires live { IsTrue (is_live (map_of tree.now) pool) }
+        ensures name { IfSome result (λ morph. morph.id ≡ id) }
+        ensures kind { IfSome result (λ morph. (x : Bucket) → bucket_at self.now id ≡ Some x → morph.kind ≡ (cleared_as (is_under (map_of tree.now) pool) x).kind) }
+        ensures home { IfSome result (λ morph. (x : Bucket) → bucket_at self.now id ≡ Some x → morph.home ≡ (cleared_as (is_under (map_of tree.now) pool) x).home) }
+        ensures same { (x : Bucket) → result ≡ None → bucket_at self.now id ≡ Some x → cleared_as (is_under (map_of tree.now) pool) x ≡ x }
+    {
+        let bucket = self.payload(id);
+        if depends_on(tree, pool, bucket.kind, bucket.home) {
+            Some(Morph {
+                id,
+                kind: kind_after(tree, pool, bucket.kind),
+                home: home_after(tree, pool, bucket.home),
+            })
+        } else {
+            None
+        }
+    }
+
+    /// Makes ready what a clear of a pool makes of the buckets of a brigade.
+    fn plan_ring(
+        &self,
+        found: &mut Seq<Morph>,
+        b: BrigadeId,
+        pool: PoolId,
+        tree: &PoolTree<Payload>,
+    ) -> Result<(), AllocError>
+        requires there { is_some (lists self.now b) ≡ true }
+        requires live { IsTrue (is_live (map_of tree.now) pool) }
+        requires begun { (id : BucketId) (x : Bucket) → bucket_at self.now id ≡ Some x → IsAsItWas (is_under (map_of tree.now) pool) found.old id x }
+        ensures ready { OnOk result ((id : BucketId) (x : Bucket) → brigade_of self.now id ≡ Some b → bucket_at self.now id ≡ Some x
+            → morphed found.new id x ≡ cleared_as (is_under (map_of tree.now) pool) x) }
+        ensures others { OnOk result ((id : BucketId) (q : ℕ) (x : Bucket) → brigade_of self.now id ≡ Some q → q ≢ b
+            → morphed found.new id x ≡ morphed found.old id x) }
+    {
+        let mut place = self.start(b);
+        while let Some(id) = place {
+            let morph = self.morph_for(tree, pool, id);
+            push_some(found, morph)?;
+            place = self.behind(id);
+        }
+        Ok(())
+    }
+
+    /// Makes ready what a clear of a pool makes of the buckets of these brigades: POOL bytes that lie under it go to the heap, and homes
+    /// under it end. A name of no brigade is passed over, and no other brigade is looked at. Nothing is changed.
+    pub fn plan_morphs(
+        &self,
+        rings: &[BrigadeId],
+        pool: PoolId,
+        tree: &PoolTree<Payload>,
+    ) -> Result<Morphs, AllocError>
+        requires { IsTrue (is_live (map_of tree.now) pool) }
+        ensures { IfOk result (λ morphs. (n : ℕ) → option_map (all_morphed morphs.found) (lists self.now n) ≡ option_map (cleared_items (is_under (map_of tree.now) pool) (is_in n rings.now)) (lists self.now n)) }
+    {
+        let mut found = Seq::new(self.alloc);
+        for ring in rings {
+            if self.has(*ring) {
+                self.plan_ring(&mut found, *ring, pool, tree)?;
+            }
+        }
+        Ok(Morphs { found })
+    }
+
+    /// Does to the store and the files what goes with a clear that handed these payloads on. It takes no memory.
+    fn run_down<F: Files>(&mut self, files: &mut F, morphs: Morphs, handed: &[(PoolId, Payload)])
+        requires counted { (f : ℕ) → refs_in f handed.now ≤ references self.old f }
+        requires open { (f : ℕ) → 0 < refs_in f handed.now → is_there ((F.device files.old).numbered f) ≡ true }
+        ensures out { (n : ℕ) → lists self.new n ≡ (if list_any (λ x. is_brigade n x.1) handed.now then None else option_map (all_morphed morphs.found) (lists self.old n)) }
+        ensures off { (n : ℕ) → pool_of self.new n ≡ (if list_any (λ x. is_brigade n x.1) handed.now then None else pool_of self.old n) }
+        ensures counted { (f : ℕ) → references self.new f + refs_in f handed.now ≡ references self.old f }
+        ensures closed { (f : ℕ) → (F.device files.new).numbered f ≡ (if is_let_go (references self.old f) (refs_in f handed.now) then Missing else (F.device files.old).numbered f) }
+        ensures others { SameButOpen (F.device files.old) (F.device files.new) }
+        ensures next { next_name self.new ≡ next_name self.old }
+        ensures names { NoneRevived (brigade_of self.old) (brigade_of self.new) (next_name self.old) }
+    {
+        self.apply_morphs(morphs);
+        self.end_pool(files, handed);
+    }
+
+    /// Clears a pool (`apr_pool_clear`): all pools under it go, and its own payloads. With them go the brigades that are on them, and the
+    /// references, the last of which closes its file. In the brigades that are named, POOL bytes that lie under the pool go to the heap, and
+    /// homes under it end; no other brigade is looked at. Answers what was handed on, in the run order. Without memory nothing is changed.
+    pub fn clear<F: Files>(
+        &mut self,
+        rings: &[BrigadeId],
+        tree: &mut PoolTree<Payload>,
+        files: &mut F,
+        pool: PoolId,
+    ) -> Result<Vec<(PoolId, Payload)>, AllocError>
+        requires live { IsTrue (is_live (map_of tree.old) pool) }
+        requires house { IsHouse self.old (map_of tree.old) }
+        requires open { AreOpen (references self.old) (F.device files.old) }
+        ensures ran { IfOk result (λ ran. ran.items ≡ run_order (map_of tree.old) pool) }
+        ensures ok { OnOk result (map_of tree.new ≡ cleared pool (map_of tree.old)) }
+        ensures out { OnOk result ((n : ℕ) → lists self.new n ≡ cleared_ring (is_under (map_of tree.old) pool) (is_in n rings.now) (pool_of self.old n) (lists self.old n)) }
+        ensures off { OnOk result ((n : ℕ) → pool_of self.new n ≡ pool_left (is_under (map_of tree.old) pool) (pool_of self.old n)) }
+        ensures closed { OnOk result ((f : ℕ) → (F.device files.new).numbered f
+            ≡ (if list_any (λ x. is_file_ref f x.1) (run_order (map_of tree.old) pool) && not (is_referred (map_of tree.new) f) then Missing else (F.device files.old).numbered f)) }
+        ensures house { IsHouse self.new (map_of tree.new) }
+        ensures open { AreOpen (references self.new) (F.device files.new) }
+        ensures others { SameButOpen (F.device files.old) (F.device files.new) }
+        ensures next { next_name self.new ≡ next_name self.old }
+        ensures names { NoneRevived (brigade_of self.old) (brigade_of self.new) (next_name self.old) }
+        ensures formed { IsPoolMap (map_of tree.new) }
+        ensures err { OnErr result ((n : ℕ) → lists self.new n ≡ lists self.old n) }
+        ensures pools { OnErr result (pool_of self.new ≡ pool_of self.old) }
+        ensures uncounted { OnErr result (references self.new ≡ references self.old) }
+        ensures kept { OnErr result (map_of tree.new ≡ map_of tree.old) }
+        ensures unread { OnErr result (F.device files.new ≡ F.device files.old) }
+    {
+        let morphs = self.plan_morphs(rings, pool, tree)?;
+        let ran = tree.clear(pool)?;
+        self.run_down(files, morphs, ran.as_slice());
+        Ok(ran)
+    }
+
+    /// Destroys a pool other than the root (`apr_pool_destroy`): as `clear`, and the pool itself goes too.
+    pub fn destroy<F: Files>(
+        &mut self,
+        rings: &[BrigadeId],
+        tree: &mut PoolTree<Payload>,
+        files: &mut F,
+        pool: PoolId,
+    ) -> Result<Vec<(PoolId, Payload)>, AllocError>
+        requires live { IsTrue (is_live (map_of tree.old) pool) }
+        requires below { (map_of tree.old).path pool ≢ pool ∷ [] }
+        requires house { IsHouse self.old (map_of tree.old) }
+        requires open { AreOpen (references self.old) (F.device files.old) }
+        ensures ran { IfOk result (λ ran. ran.items ≡ run_order (map_of tree.old) pool) }
+        ensures ok { OnOk result (map_of tree.new ≡ destroyed pool (map_of tree.old)) }
+        ensures out { OnOk result ((n : ℕ) → lists self.new n ≡ cleared_ring (is_under (map_of tree.old) pool) (is_in n rings.now) (pool_of self.old n) (lists self.old n)) }
+        ensures off { OnOk result ((n : ℕ) → pool_of self.new n ≡ pool_left (is_under (map_of tree.old) pool) (pool_of self.old n)) }
+        ensures closed { OnOk result ((f : ℕ) → (F.device files.new).numbered f
+            ≡ (if list_any (λ x. is_file_ref f x.1) (run_order (map_of tree.old) pool) && not (is_referred (map_of tree.new) f) then Missing else (F.device files.old).numbered f)) }
+        ensures house { IsHouse self.new (map_of tree.new) }
+        ensures open { AreOpen (references self.new) (F.device files.new) }
+        ensures others { SameButOpen (F.device files.old) (F.device files.new) }
+        ensures next { next_name self.new ≡ next_name self.old }
+        ensures names { NoneRevived (brigade_of self.old) (brigade_of self.new) (next_name self.old) }
+        ensures formed { IsPoolMap (map_of tree.new) }
+        ensures err { OnErr result ((n : ℕ) → lists self.new n ≡ lists self.old n) }
+        ensures pools { OnErr result (pool_of self.new ≡ pool_of self.old) }
+        ensures uncounted { OnErr result (references self.new ≡ references self.old) }
+        ensures kept { OnErr result (map_of tree.new ≡ map_of tree.old) }
+        ensures unread { OnErr result (F.device files.new ≡ F.device files.old) }
+    {
+        let morphs = self.plan_morphs(rings, pool, tree)?;
+        let ran = tree.destroy(pool)?;
+        self.run_down(files, morphs, ran.as_slice());
+        Ok(ran)
+    }
+}
