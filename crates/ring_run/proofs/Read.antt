@@ -50,7 +50,7 @@ module _ (runs : ℕ → Bool) where
   pub shown_without : (id : BucketId) (xs : Items) → IsGiven id xs → shown runs (ring.without id xs) ≡ model.taken_out id.birth (shown runs xs)
   shown_without id xs given = sym (ap named (read_without id xs)) ∙ lists_are_the_models.taken id (read_in runs xs) (read_given id xs given)
 
-  named_append : (xs ys : Items) → named (xs ++ ys) ≡ named xs ++ named ys
+  pub named_append : (xs ys : Items) → named (xs ++ ys) ≡ named xs ++ named ys
   named_append [] ys = refl
   named_append (x ∷ xs) ys = ap (λ (zs : List NamedBucket). named_item x ∷ zs) (named_append xs ys)
 

@@ -83,7 +83,7 @@ nothing_cleaned L k around i call b none =
     let r = seen_over L k around i call in
     sym (ap (λ (v : BrigadeVar). set_brigade b v r) (clean_dead L (calls_in around call) (slot_at i b) none) ∙ set_same b r)
 
-named_marked : (mark : Mark) (s : Slot) → name_in (marked mark s) ≡ name_in s
+pub named_marked : (mark : Mark) (s : Slot) → name_in (marked mark s) ≡ name_in s
 named_marked mark slot.Null = refl
 named_marked mark (slot.Made n pool old) = refl
 
@@ -95,10 +95,23 @@ held_marked at L p next i new call b mark sets held = record {
   loose = λ a e. held.loose a (sym (same a) ∙ e);
   given = held.given;
   named = λ a n e. held.named a n (sym (same a) ∙ e);
+  real = λ a n e. held.real a n (sym (same a) ∙ e);
   called = held.called;
   runs = held.runs;
   free = held.free;
+  on = λ a n pool m own is there. (let was = unmarked a n pool m is in held.on a n pool was.0 own was.1 there);
+  incoming = λ n pool m is. (let was = unmarked 8 n pool m is in held.incoming n pool was.0 was.1);
 } where
+  of_marked : (s : Slot) (n : ℕ) (pool : Option ℕ) (m : Mark) → marked mark s ≡ slot.Made n pool m → (old : Mark) × (s ≡ slot.Made n pool old)
+  of_marked slot.Null n pool m e = absurd (cc)
+  of_marked (slot.Made j on k) n pool m e = (k, (let name : j ≡ n = cc in let p : on ≡ pool = cc in ap (λ (x : ℕ). slot.Made x on k) name ∙ ap (λ (x : Option ℕ). slot.Made n x k) p))
+
+  unmarked : (a n : ℕ) (pool : Option ℕ) (m : Mark) → slot_at new a ≡ slot.Made n pool m → (old : Mark) × (slot_at i a ≡ slot.Made n pool old)
+  unmarked a n pool m is = elim (cases_eq a b) [
+    | inl e ↦ let was = of_marked (slot_at i b) n pool m (sym (sets a ∙ ap (λ (t : Bool). if t then marked mark (slot_at i b) else slot_at i a) (eq-eqb a b e)) ∙ is) in (was.0, ap (λ (c : ℕ). slot_at i c) e ∙ was.1)
+    | inr ne ↦ (m, sym (sets a ∙ ap (λ (t : Bool). if t then marked mark (slot_at i b) else slot_at i a) (ne_eqb a b ne)) ∙ is)
+  ]
+
   same : (a : ℕ) → name_in (slot_at new a) ≡ name_in (slot_at i a)
   same a = elim (cases_eq a b) [
     | inl e ↦ ap name_in (sets a ∙ ap (λ (t : Bool). if t then marked mark (slot_at i b) else slot_at i a) (eq-eqb a b e)) ∙ (named_marked mark (slot_at i b) ∙ ap (λ (c : ℕ). name_in (slot_at i c)) (sym e))

@@ -8,3 +8,14 @@ pub mod Footings
 pub mod Outside
 pub mod Shown
 pub mod Tests
+pub mod Contents
+pub mod Asked
+pub mod Given
+pub mod Delivery
+pub mod Begun
+pub mod Handed
+pub mod Cleared
+pub mod Apart
+pub mod LeftAlone
+pub mod Setting
+pub mod Operands

@@ -5,6 +5,7 @@ ghost use Rattle.run_model.specs.BucketSteps.{do_before, do_delete, do_head, do_
 ghost use Rattle.run_model.specs.Cursors.{spot};
 ghost use Rattle.ring_run.specs.Around.{Around};
 ghost use Rattle.ring_run.specs.Held.{IsHeld};
+ghost use Rattle.ring_run.specs.LeftAlone.{LeavesOthers};
 ghost use Rattle.ring_run.specs.Seen.{seen};
 
 use crate::effects::live;
@@ -26,6 +27,7 @@ pub(crate) fn unlink<R: Rings<Bucket> + Drop>(
     ensures ok { OnOk result ((around : Around) → let r = seen store.old around instance.now call.now in seen store.new around instance.now call.now ≡ do_unlink (spot r c) r) }
     ensures err { OnErr result ((around : Around) → seen store.new around instance.now call.now ≡ seen store.old around instance.now call.now) }
     ensures held { IsHeld store.new instance.now call.now }
+    ensures left { LeavesOthers store.old store.new instance.now call.now }
 {
     match place_of(instance, call, store, c) {
         Spot::Within(_, id) => store.move_tail(call.name, id),
@@ -44,6 +46,7 @@ pub(crate) fn delete<R: Rings<Bucket> + Drop>(
     requires held { IsHeld store.old instance.now call.now }
     ensures new { (around : Around) → let r = seen store.old around instance.now call.now in seen store.new around instance.now call.now ≡ do_delete (spot r c) r }
     ensures held { IsHeld store.new instance.now call.now }
+    ensures left { LeavesOthers store.old store.new instance.now call.now }
 {
     match place_of(instance, call, store, c) {
         Spot::Within(_, id) => store.drop_bucket(id),
@@ -66,6 +69,7 @@ pub(crate) fn tail<R: Rings<Bucket> + Drop>(
     ensures ok { OnOk result ((around : Around) → let r = seen store.old around instance.now call.now in seen store.new around instance.now call.now ≡ do_tail b (spot r c) r) }
     ensures err { OnErr result ((around : Around) → seen store.new around instance.now call.now ≡ seen store.old around instance.now call.now) }
     ensures held { IsHeld store.new instance.now call.now }
+    ensures left { LeavesOthers store.old store.new instance.now call.now }
 {
     let Spot::Loose(id) = place_of(instance, call, store, c) else {
         return Ok(());
@@ -91,6 +95,7 @@ pub(crate) fn head<R: Rings<Bucket> + Drop>(
     ensures ok { OnOk result ((around : Around) → let r = seen store.old around instance.now call.now in seen store.new around instance.now call.now ≡ do_head b (spot r c) r) }
     ensures err { OnErr result ((around : Around) → seen store.new around instance.now call.now ≡ seen store.old around instance.now call.now) }
     ensures held { IsHeld store.new instance.now call.now }
+    ensures left { LeavesOthers store.old store.new instance.now call.now }
 {
     let Spot::Loose(id) = place_of(instance, call, store, c) else {
         return Ok(());
@@ -116,6 +121,7 @@ pub(crate) fn before<R: Rings<Bucket> + Drop>(
     ensures ok { OnOk result ((around : Around) → let r = seen store.old around instance.now call.now in seen store.new around instance.now call.now ≡ do_before (spot r c) (spot r d) r) }
     ensures err { OnErr result ((around : Around) → seen store.new around instance.now call.now ≡ seen store.old around instance.now call.now) }
     ensures held { IsHeld store.new instance.now call.now }
+    ensures left { LeavesOthers store.old store.new instance.now call.now }
 {
     match (
         place_of(instance, call, store, c),

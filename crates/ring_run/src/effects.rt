@@ -6,6 +6,7 @@ ghost use Rattle.brigade_ops.specs.Store.{lists};
 ghost use Rattle.ring_run.specs.declared.machine.Call.{Call};
 ghost use Rattle.ring_run.specs.Around.{Around};
 ghost use Rattle.ring_run.specs.Held.{AreApart, IsHeld};
+ghost use Rattle.ring_run.specs.LeftAlone.{LeavesOthers};
 ghost use Rattle.ring_run.specs.Slots.{live_in, slot_at};
 ghost use Rattle.ring_run.specs.Seen.{seen};
 
@@ -43,6 +44,7 @@ pub(crate) fn concat<R: Rings<Bucket> + Drop>(
     ensures ok { OnOk result ((around : Around) (call : Call) → IsHeld store.old instance.now call → seen store.new around instance.now call ≡ do_concat a b (seen store.old around instance.now call)) }
     ensures err { OnErr result ((around : Around) (call : Call) → seen store.new around instance.now call ≡ seen store.old around instance.now call) }
     ensures held { (call : Call) → IsHeld store.old instance.now call → IsHeld store.new instance.now call }
+    ensures left { (call : Call) → LeavesOthers store.old store.new instance.now call }
 {
     let Some(from) = live(instance, store, b) else {
         return Ok(());
@@ -63,6 +65,7 @@ pub(crate) fn clean<R: Rings<Bucket> + Drop>(
     requires { b < 9 }
     ensures new { (around : Around) (call : Call) → IsHeld store.old instance.old call → seen store.new around instance.new call ≡ do_clean b (seen store.old around instance.old call) }
     ensures held { (call : Call) → IsHeld store.old instance.old call → IsHeld store.new instance.new call }
+    ensures left { (call : Call) → LeavesOthers store.old store.new instance.old call }
 {
     let Some(name) = live(instance, store, b) else {
         return;

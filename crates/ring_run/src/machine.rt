@@ -1,6 +1,6 @@
 //! What a step sees: an instance of a module, and a call of one of its handlers.
 
-ghost use Rattle.std.specs.Prelude.{◌≡◌, ◌<◌, ◌==◌, ℕ, Option, None, if◌then◌else◌};
+ghost use Rattle.std.specs.Prelude.{◌≡◌, ◌<◌, ◌==◌, ℕ, Option, None, false, if◌then◌else◌, slice_index_or};
 ghost use Rattle.brigade_ops.specs.Items.{Items};
 ghost use Rattle.run_model.specs.State.{set_cursor};
 ghost use Rattle.ring_run.specs.Around.{Around};
@@ -58,7 +58,10 @@ impl Instance {
     /// An instance before its `open`.
     #[tactic(auto, unfolding(crate::specs::Slots::slot_at))]
     pub fn new() -> Self
-        ensures { (b : ℕ) → slot_at result b ≡ Slot.Null }
+        ensures slots { (b : ℕ) → slot_at result b ≡ Slot.Null }
+        ensures pools { (p : ℕ) → slice_index_or result.pools p PoolVar.Null ≡ PoolVar.Null }
+        ensures numbers { (n : ℕ) → slice_index_or result.numbers n 0 ≡ 0 }
+        ensures sent { result.sent ≡ false }
     {
         Instance {
             slots: [Slot::Null; 9],

@@ -7,6 +7,7 @@ ghost use Rattle.brigade_ops.specs.Store.{lists, next_name};
 ghost use Rattle.ring_run.specs.declared.machine.Instance.{Instance};
 ghost use Rattle.ring_run.specs.Around.{Around};
 ghost use Rattle.ring_run.specs.Held.{IsHeld};
+ghost use Rattle.ring_run.specs.LeftAlone.{LeavesOthers};
 ghost use Rattle.ring_run.specs.Seen.{seen, bucket_in, calls_in};
 
 use crate::machine::{Call, Stand};
@@ -28,6 +29,7 @@ fn add_loose<R: Rings<Bucket> + Drop>(
     ensures err { OnErr result ((around : Around) (i : Instance) → seen store.new around i call.new ≡ seen store.old around i call.old) }
     ensures held { (i : Instance) → IsHeld store.old i call.old → IsHeld store.new i call.new }
     ensures name { call.new.name ≡ call.old.name }
+    ensures left { (i : Instance) → LeavesOthers store.old store.new i call.old }
 {
     let Ok(id) = store.add_tail(call.name, bucket) else {
         return Err(AllocError);
@@ -38,7 +40,7 @@ fn add_loose<R: Rings<Bucket> + Drop>(
 
 /// The bytes of a text operand, or where there is no memory none.
 #[tactic(auto, unfolding(run_model::specs::Steps::text_of, module_lang::specs::Program::text_at))]
-fn text(alloc: Global, code: &Module, text: u8) -> Result<Seq<u8>, AllocError>
+pub(crate) fn text(alloc: Global, code: &Module, text: u8) -> Result<Seq<u8>, AllocError>
     requires { text < length code.now.texts }
     ensures { IfOk result (λ bytes. bytes ≡ text_of code.now text) }
 {
@@ -63,6 +65,7 @@ pub(crate) fn heap<R: Rings<Bucket> + Drop>(
     ensures err { OnErr result ((around : Around) (i : Instance) → seen store.new around i call.new ≡ seen store.old around i call.old) }
     ensures held { (i : Instance) → IsHeld store.old i call.old → IsHeld store.new i call.new }
     ensures name { call.new.name ≡ call.old.name }
+    ensures left { (i : Instance) → LeavesOthers store.old store.new i call.old }
 {
     let bucket = Bucket {
         kind: Kind::Heap,
@@ -88,6 +91,7 @@ pub(crate) fn immortal<R: Rings<Bucket> + Drop>(
     ensures err { OnErr result ((around : Around) (i : Instance) → seen store.new around i call.new ≡ seen store.old around i call.old) }
     ensures held { (i : Instance) → IsHeld store.old i call.old → IsHeld store.new i call.new }
     ensures name { call.new.name ≡ call.old.name }
+    ensures left { (i : Instance) → LeavesOthers store.old store.new i call.old }
 {
     let bucket = Bucket {
         kind: Kind::Immortal,
@@ -119,6 +123,7 @@ pub(crate) fn from_buffer<R: Rings<Bucket> + Drop>(
     ensures err { OnErr result ((around : Around) (i : Instance) → seen store.new around i call.new ≡ seen store.old around i call.old) }
     ensures held { (i : Instance) → IsHeld store.old i call.old → IsHeld store.new i call.new }
     ensures name { call.new.name ≡ call.old.name }
+    ensures left { (i : Instance) → LeavesOthers store.old store.new i call.old }
 {
     let bucket = Bucket {
         kind: Kind::Heap,
@@ -142,6 +147,7 @@ pub(crate) fn transient<R: Rings<Bucket> + Drop>(
     ensures err { OnErr result ((around : Around) (i : Instance) → seen store.new around i call.new ≡ seen store.old around i call.old) }
     ensures held { (i : Instance) → IsHeld store.old i call.old → IsHeld store.new i call.new }
     ensures name { call.new.name ≡ call.old.name }
+    ensures left { (i : Instance) → LeavesOthers store.old store.new i call.old }
 {
     let bucket = Bucket {
         kind: Kind::Transient,
@@ -165,6 +171,7 @@ pub(crate) fn pool<R: Rings<Bucket> + Drop>(
     ensures err { OnErr result ((around : Around) (i : Instance) → seen store.new around i call.new ≡ seen store.old around i call.old) }
     ensures held { (i : Instance) → IsHeld store.old i call.old → IsHeld store.new i call.new }
     ensures name { call.new.name ≡ call.old.name }
+    ensures left { (i : Instance) → LeavesOthers store.old store.new i call.old }
 {
     let bucket = Bucket {
         kind: Kind::Pool(pool),
@@ -187,6 +194,7 @@ pub(crate) fn mark<R: Rings<Bucket> + Drop>(
     ensures err { OnErr result ((around : Around) (i : Instance) → seen store.new around i call.new ≡ seen store.old around i call.old) }
     ensures held { (i : Instance) → IsHeld store.old i call.old → IsHeld store.new i call.new }
     ensures name { call.new.name ≡ call.old.name }
+    ensures left { (i : Instance) → LeavesOthers store.old store.new i call.old }
 {
     let bucket = Bucket {
         kind,

@@ -12,6 +12,7 @@ ghost use Rattle.brigade_ops.specs.Store.{lists, brigade_of};
 ghost use Rattle.ring_run.specs.Around.{Around};
 ghost use Rattle.ring_run.specs.Ends.{EndInFiles};
 ghost use Rattle.ring_run.specs.Held.{IsHeld};
+ghost use Rattle.ring_run.specs.LeftAlone.{LeavesOthers};
 ghost use Rattle.ring_run.specs.Places.{stand_of};
 ghost use Rattle.ring_run.specs.Slots.{live_in, name_in, slot_at};
 ghost use Rattle.ring_run.specs.Seen.{seen, shown, calls_in};
@@ -67,6 +68,7 @@ pub(crate) fn bsplit<R: Rings<Bucket> + Drop>(
     ensures ok { OnOk result ((around : Around) → let r = seen store.old around instance.now call.now in seen store.new around instance.now call.now ≡ do_bsplit b (spot r c) a r) }
     ensures err { OnErr result ((around : Around) → seen store.new around instance.now call.now ≡ seen store.old around instance.now call.now) }
     ensures held { IsHeld store.new instance.now call.now }
+    ensures left { LeavesOthers store.old store.new instance.now call.now }
 {
     let Some(from) = live(instance, store, b) else {
         unreachable!()
@@ -107,6 +109,7 @@ fn part<R: Rings<Bucket> + Drop>(
     ensures err { OnErr result ((around : Around) → seen store.new around instance.now call.new ≡ seen store.old around instance.now call.old) }
     ensures held { IsHeld store.new instance.now call.new }
     ensures name { call.new.name ≡ call.old.name }
+    ensures left { LeavesOthers store.old store.new instance.now call.old }
 {
     let Some(name) = live(instance, store, b) else {
         unreachable!()
@@ -137,6 +140,7 @@ pub(crate) fn bpart<R: Rings<Bucket> + Drop>(
     ensures err { OnErr result ((around : Around) → seen store.new around instance.now call.new ≡ seen store.old around instance.now call.old) }
     ensures held { IsHeld store.new instance.now call.new }
     ensures name { call.new.name ≡ call.old.name }
+    ensures left { LeavesOthers store.old store.new instance.now call.old }
 {
     let point = u64::from(value_of(instance, x));
     part(instance, call, store, b, point, c)

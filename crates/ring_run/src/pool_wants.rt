@@ -16,7 +16,7 @@ use brigade_ops::PoolId;
 use run_model::{FaultKind, Home, PoolRef, PoolVar};
 
 /// The pool variable of a number; beyond the last they are null.
-fn variable(instance: &Instance, q: u8) -> PoolVar
+pub(crate) fn variable(instance: &Instance, q: u8) -> PoolVar
     ensures { result ≡ slice_index_or instance.now.pools q PoolVar.Null }
 {
     match instance.pools.get(usize::from(q)) {

@@ -10,6 +10,7 @@ ghost use Rattle.ring_run.specs.declared.machine.Instance.{Instance};
 ghost use Rattle.ring_run.specs.Around.{Around};
 ghost use Rattle.ring_run.specs.Ends.{EndInFiles};
 ghost use Rattle.ring_run.specs.Held.{IsHeld};
+ghost use Rattle.ring_run.specs.LeftAlone.{LeavesOthers};
 ghost use Rattle.ring_run.specs.Seen.{seen, bucket_in, calls_in};
 
 use crate::machine::{Call, Instance, Stand};
@@ -32,6 +33,7 @@ pub(crate) fn split<R: Rings<Bucket> + Drop>(
     ensures ok { OnOk result ((around : Around) → let r = seen store.old around instance.now call.now in home_fault (model_bucket_at (spot r c)) ≡ None → seen store.new around instance.now call.now ≡ do_split n (spot r c) r) }
     ensures err { OnErr result ((around : Around) → seen store.new around instance.now call.now ≡ seen store.old around instance.now call.now) }
     ensures held { IsHeld store.new instance.now call.now }
+    ensures left { LeavesOthers store.old store.new instance.now call.now }
 {
     let Spot::Within(_, id) = place_of(instance, call, store, c) else {
         return Ok(());
@@ -60,6 +62,7 @@ fn add_copy<R: Rings<Bucket> + Drop>(
     ensures err { OnErr result ((around : Around) (i : Instance) → seen store.new around i call.new ≡ seen store.old around i call.old) }
     ensures held { (i : Instance) → IsHeld store.old i call.old → IsHeld store.new i call.new }
     ensures name { call.new.name ≡ call.old.name }
+    ensures left { (i : Instance) → LeavesOthers store.old store.new i call.old }
 {
     let Ok(new) = store.copy(id, call.name) else {
         return Err(AllocError);
@@ -84,6 +87,7 @@ pub(crate) fn copy<R: Rings<Bucket> + Drop>(
     ensures err { OnErr result ((around : Around) → seen store.new around instance.now call.new ≡ seen store.old around instance.now call.old) }
     ensures held { IsHeld store.new instance.now call.new }
     ensures name { call.new.name ≡ call.old.name }
+    ensures left { LeavesOthers store.old store.new instance.now call.old }
 {
     match place_of(instance, call, store, c) {
         Spot::Within(_, id) => add_copy(call, store, d, id),

@@ -8,7 +8,8 @@ use Rattle.brigade_ops.proofs.Stores.{kept}
 use Rattle.ring_run.specs.Slots.{slot_at, name_in, live_in}
 use Rattle.ring_run.proofs.Changes.{live_is}
 use Rattle.ring_run.proofs.Names.{held_kept, no_less, still_same, still_on, by_result}
-use Rattle.ring_run.proofs.Steps.{put_step, put_nowhere_step, moved_still}
+use Rattle.ring_run.proofs.Steps.{put_step, put_nowhere_step, moved_still, moved_off}
+use Rattle.ring_run.proofs.LeftAlone.{left_on, left_off, left_same, ours_slot, ours_loose}
 use Rattle.ring_run.proofs.bucket_steps.head.Goals as goal
 
 pub returns-in_default-live-clause-ok : goal.returns-in_default-live-clause-ok
@@ -38,3 +39,17 @@ returns-clause-held g c =
     (λ out. still_same (lists c.args.store.now) (lists c.move_head.new.self) out)
     c.move_head.ensures.ok c.move_head.ensures.err)
     c.args.instance.now c.args.call.now c.requires.held
+
+pub returns-in_default-live-clause-left : goal.returns-in_default-live-clause-left
+returns-in_default-live-clause-left g c =
+    left_on c.args.store.now c.drop_bucket.new.self (no_less (next_name c.args.store.now) (next_name c.drop_bucket.new.self) c.drop_bucket.ensures.next) c.drop_bucket.ensures.names c.drop_bucket.ensures.pools c.drop_bucket.ensures.references c.args.call.now.name (ring.without c.in-Loose.id) (λ m. c.drop_bucket.ensures.out c.args.call.now.name m c.in-Loose.ensures.inside) c.args.instance.now c.args.call.now (ours_loose c.args.instance.now c.args.call.now)
+
+pub returns-clause-left : goal.returns-clause-left
+returns-clause-left g c =
+    by_result c.move_head.result _ _
+    (λ out. left_off c.args.store.now c.move_head.new.self (no_less (next_name c.args.store.now) (next_name c.move_head.new.self) c.move_head.ensures.next) c.move_head.ensures.names c.move_head.ensures.pools c.move_head.ensures.references c.in-Some.to c.args.call.now.name
+    (moved_still (brigade_of c.args.store.now) (lists c.args.store.now) (lists c.move_head.new.self) (pool_of c.args.store.now) (next_name c.args.store.now) (next_name c.move_head.new.self) (kept c.args.store.now) c.move_head.ensures.next c.in-Loose.id c.args.call.now.name c.in-Some.to (λ x. ring.put_head (c.in-Loose.id, x)) c.in-Loose.ensures.inside out)
+    (moved_off (brigade_of c.args.store.now) (lists c.args.store.now) (lists c.move_head.new.self) (pool_of c.args.store.now) (next_name c.args.store.now) (next_name c.move_head.new.self) (kept c.args.store.now) c.move_head.ensures.next c.in-Loose.id c.args.call.now.name c.in-Some.to (λ x. ring.put_head (c.in-Loose.id, x)) c.in-Loose.ensures.inside out)
+    c.args.instance.now c.args.call.now (ours_slot c.args.instance.now c.args.call.now c.args.b c.in-Some.to (ap name_in (live_is (lists c.args.store.now) (slot_at c.args.instance.now c.args.b) c.in-Some.to (sym c.live.ensures ∙ c.in-Some.is)).1.1.0)) (ours_loose c.args.instance.now c.args.call.now))
+    (λ out. left_same c.args.store.now c.move_head.new.self (no_less (next_name c.args.store.now) (next_name c.move_head.new.self) c.move_head.ensures.next) c.move_head.ensures.names c.move_head.ensures.pools c.move_head.ensures.references out c.args.instance.now c.args.call.now)
+    c.move_head.ensures.ok c.move_head.ensures.err

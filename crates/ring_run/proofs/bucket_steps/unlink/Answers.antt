@@ -4,7 +4,8 @@ use Rattle.bucket_ring.specs.Lists as ring
 use Rattle.brigade_ops.specs.Store.{lists, brigade_of, pool_of, next_name}
 use Rattle.brigade_ops.proofs.Stores.{kept}
 use Rattle.ring_run.proofs.Names.{held_kept, no_less, still_same, by_result}
-use Rattle.ring_run.proofs.Steps.{unlink_step, moved_still}
+use Rattle.ring_run.proofs.Steps.{unlink_step, moved_still, moved_off}
+use Rattle.ring_run.proofs.LeftAlone.{left_off, left_same, ours_slot, ours_loose}
 use Rattle.ring_run.proofs.bucket_steps.unlink.Goals as goal
 
 pub returns-in-Within-clause-ok : goal.returns-in-Within-clause-ok
@@ -21,3 +22,13 @@ returns-in-Within-clause-held g c =
     (λ out. still_same (lists c.args.store.now) (lists c.move_tail.new.self) out)
     c.move_tail.ensures.ok c.move_tail.ensures.err)
     c.args.instance.now c.args.call.now c.requires.held
+
+pub returns-in-Within-clause-left : goal.returns-in-Within-clause-left
+returns-in-Within-clause-left g c =
+    by_result c.move_tail.result _ _
+    (λ out. left_off c.args.store.now c.move_tail.new.self (no_less (next_name c.args.store.now) (next_name c.move_tail.new.self) c.move_tail.ensures.next) c.move_tail.ensures.names c.move_tail.ensures.pools c.move_tail.ensures.references c.args.call.now.name c.in-Within.ensures.inside.1.0
+    (moved_still (brigade_of c.args.store.now) (lists c.args.store.now) (lists c.move_tail.new.self) (pool_of c.args.store.now) (next_name c.args.store.now) (next_name c.move_tail.new.self) (kept c.args.store.now) c.move_tail.ensures.next c.in-Within.id c.in-Within.ensures.inside.1.0 c.args.call.now.name (λ x. ring.put_tail (c.in-Within.id, x)) c.in-Within.ensures.inside.1.1.1 out)
+    (moved_off (brigade_of c.args.store.now) (lists c.args.store.now) (lists c.move_tail.new.self) (pool_of c.args.store.now) (next_name c.args.store.now) (next_name c.move_tail.new.self) (kept c.args.store.now) c.move_tail.ensures.next c.in-Within.id c.in-Within.ensures.inside.1.0 c.args.call.now.name (λ x. ring.put_tail (c.in-Within.id, x)) c.in-Within.ensures.inside.1.1.1 out)
+    c.args.instance.now c.args.call.now (ours_loose c.args.instance.now c.args.call.now) (ours_slot c.args.instance.now c.args.call.now c.in-Within.field-0 c.in-Within.ensures.inside.1.0 c.in-Within.ensures.inside.1.1.0))
+    (λ out. left_same c.args.store.now c.move_tail.new.self (no_less (next_name c.args.store.now) (next_name c.move_tail.new.self) c.move_tail.ensures.next) c.move_tail.ensures.names c.move_tail.ensures.pools c.move_tail.ensures.references out c.args.instance.now c.args.call.now)
+    c.move_tail.ensures.ok c.move_tail.ensures.err

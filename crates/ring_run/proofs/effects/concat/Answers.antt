@@ -8,6 +8,7 @@ use Rattle.ring_run.specs.Slots.{slot_at, name_in, live_in}
 use Rattle.ring_run.proofs.Changes.{live_is}
 use Rattle.ring_run.proofs.Joins.{joined, nothing_joined, lost}
 use Rattle.ring_run.proofs.Names.{apart_in, held_kept, no_less, still_same, still_on, still_both, by_result}
+use Rattle.ring_run.proofs.LeftAlone.{left_on, left_same, left_both, ours_slot}
 use Rattle.ring_run.proofs.effects.concat.Goals as goal
 
 pub returns-in_default-clause-ok : goal.returns-in_default-clause-ok
@@ -52,3 +53,19 @@ returns-clause-held g c =
     (λ out. still_same (lists c.args.store.now) (lists c.concat.new.self) out)
     c.concat.ensures.ok c.concat.ensures.err)
     c.args.instance.now call held
+
+pub returns-in_default-live-clause-left : goal.returns-in_default-live-clause-left
+returns-in_default-live-clause-left g c =
+    λ call.
+    left_on c.args.store.now c.clean.new.self (no_less (next_name c.args.store.now) (next_name c.clean.new.self) c.clean.ensures.next) c.clean.ensures.names c.clean.ensures.pools c.clean.ensures.references c.in-Some.from (λ xs. []) c.clean.ensures.out c.args.instance.now call
+    (ours_slot c.args.instance.now call c.args.b c.in-Some.from (ap name_in (live_is (lists c.args.store.now) (slot_at c.args.instance.now c.args.b) c.in-Some.from (sym c.live.ensures ∙ c.in-Some.is)).1.1.0))
+
+pub returns-clause-left : goal.returns-clause-left
+returns-clause-left g c =
+    λ call.
+    by_result c.concat.result _ _
+    (λ out. left_both c.args.store.now c.concat.new.self (no_less (next_name c.args.store.now) (next_name c.concat.new.self) c.concat.ensures.next) c.concat.ensures.names c.concat.ensures.pools c.concat.ensures.references c.in-Some-live.to c.in-Some.from (λ xs. xs ++ list_at (lists c.args.store.now) c.in-Some.from) (λ xs. []) out c.args.instance.now call
+    (ours_slot c.args.instance.now call c.args.a c.in-Some-live.to (ap name_in (live_is (lists c.args.store.now) (slot_at c.args.instance.now c.args.a) c.in-Some-live.to (sym c.live-2.ensures ∙ c.in-Some-live.is)).1.1.0))
+    (ours_slot c.args.instance.now call c.args.b c.in-Some.from (ap name_in (live_is (lists c.args.store.now) (slot_at c.args.instance.now c.args.b) c.in-Some.from (sym c.live.ensures ∙ c.in-Some.is)).1.1.0)))
+    (λ out. left_same c.args.store.now c.concat.new.self (no_less (next_name c.args.store.now) (next_name c.concat.new.self) c.concat.ensures.next) c.concat.ensures.names c.concat.ensures.pools c.concat.ensures.references out c.args.instance.now call)
+    c.concat.ensures.ok c.concat.ensures.err

@@ -13,6 +13,7 @@ use Rattle.ring_run.specs.Slots.{slot_at, name_in}
 use Rattle.ring_run.proofs.Changes.{live_is}
 use Rattle.ring_run.proofs.Cuts.{parted}
 use Rattle.ring_run.proofs.Names.{apart_in, held_kept, no_less, still_same, still_both, by_result}
+use Rattle.ring_run.proofs.LeftAlone.{left_both, left_same, ours_slot}
 use Rattle.ring_run.proofs.part_steps.bsplit.Goals as goal
 
 pub returns-clause-ok : goal.returns-clause-ok
@@ -35,3 +36,12 @@ returns-clause-held g c =
     (λ out. still_same (lists c.args.store.now) (lists c.split_at.new.self) out)
     c.split_at.ensures.ok c.split_at.ensures.err)
     c.args.instance.now c.args.call.now c.requires.held
+
+pub returns-clause-left : goal.returns-clause-left
+returns-clause-left g c =
+    by_result c.split_at.result _ _
+    (λ out. left_both c.args.store.now c.split_at.new.self (no_less (next_name c.args.store.now) (next_name c.split_at.new.self) c.split_at.ensures.next) c.split_at.ensures.names c.split_at.ensures.pools c.split_at.ensures.references c.in-Some-live.to c.in-Some.from (λ xs. from_place c.place_in-place.result (list_at (lists c.args.store.now) c.in-Some.from)) (before_place c.place_in-place.result) out c.args.instance.now c.args.call.now
+    (ours_slot c.args.instance.now c.args.call.now c.args.a c.in-Some-live.to (ap name_in (live_is (lists c.args.store.now) (slot_at c.args.instance.now c.args.a) c.in-Some-live.to (sym c.live-2.ensures ∙ c.in-Some-live.is)).1.1.0))
+    (ours_slot c.args.instance.now c.args.call.now c.args.b c.in-Some.from (ap name_in (live_is (lists c.args.store.now) (slot_at c.args.instance.now c.args.b) c.in-Some.from (sym c.live.ensures ∙ c.in-Some.is)).1.1.0)))
+    (λ out. left_same c.args.store.now c.split_at.new.self (no_less (next_name c.args.store.now) (next_name c.split_at.new.self) c.split_at.ensures.next) c.split_at.ensures.names c.split_at.ensures.pools c.split_at.ensures.references out c.args.instance.now c.args.call.now)
+    c.split_at.ensures.ok c.split_at.ensures.err

@@ -5,9 +5,10 @@ use Rattle.brigade_ops.specs.Store.{lists, brigade_of, pool_of, next_name}
 use Rattle.ring_run.specs.Seen.{seen, shown_cursor}
 use Rattle.ring_run.specs.Slots.{slot_at, name_in}
 use Rattle.ring_run.proofs.Changes.{live_is}
-use Rattle.ring_run.proofs.Names.{held_kept}
-use Rattle.ring_run.proofs.Parts.{WasFound, same_ok, parted_step, parted_rises, parted_still, parted_given}
+use Rattle.ring_run.proofs.Names.{held_kept, no_less, by_result}
+use Rattle.ring_run.proofs.Parts.{WasFound, same_ok, parted_step, parted_rises, parted_still, parted_given, parted_off}
 use Rattle.ring_run.proofs.Walks.{held_cursor}
+use Rattle.ring_run.proofs.LeftAlone.{left_off, left_same, ours_slot}
 use Rattle.ring_run.proofs.part_steps.part.Goals as goal
 
 pub returns-clause-ok : goal.returns-clause-ok
@@ -28,3 +29,17 @@ returns-clause-held g c =
     (held_kept c.args.store.now c.partition.new.self (parted_rises c.args.store.now c.partition.new.self c.in-Some.name c.args.point c.in-Ok.cut between c.in-Ok.ensures.inside c.in-Ok.ensures.next t.1.1.1) c.partition.ensures.names c.partition.ensures.pools
     (parted_still c.args.store.now c.partition.new.self c.in-Some.name c.args.point c.in-Ok.cut between c.in-Ok.ensures.inside c.in-Ok.ensures.next t.1.1.1)
     c.args.instance.now c.args.call.now c.requires.held)
+
+pub returns-clause-left : goal.returns-clause-left
+returns-clause-left g c =
+    let t = live_is (lists c.args.store.now) (slot_at c.args.instance.now c.args.b) c.in-Some.name (sym c.live.ensures ∙ c.in-Some.is) in
+    let between : WasFound c.args.store.now c.partition.new.self c.in-Some.name c.args.point c.in-Ok.cut = λ no. let h = c.in-Ok.ensures.between no in (same_ok c.in-Ok.cut _ h.0, h.1) in
+    let ours = ours_slot c.args.instance.now c.args.call.now c.args.b c.in-Some.name (ap name_in t.1.1.0) in
+    left_off c.args.store.now c.partition.new.self (parted_rises c.args.store.now c.partition.new.self c.in-Some.name c.args.point c.in-Ok.cut between c.in-Ok.ensures.inside c.in-Ok.ensures.next t.1.1.1) c.partition.ensures.names c.partition.ensures.pools c.partition.ensures.references c.in-Some.name c.in-Some.name
+    (parted_still c.args.store.now c.partition.new.self c.in-Some.name c.args.point c.in-Ok.cut between c.in-Ok.ensures.inside c.in-Ok.ensures.next t.1.1.1)
+    (parted_off c.args.store.now c.partition.new.self c.in-Some.name c.args.point c.in-Ok.cut between c.in-Ok.ensures.inside c.in-Ok.ensures.next t.1.1.1)
+    c.args.instance.now c.args.call.now ours ours
+
+pub returns-in_default-partition-clause-left : goal.returns-in_default-partition-clause-left
+returns-in_default-partition-clause-left g c =
+    left_same c.args.store.now c.partition.new.self (no_less (next_name c.args.store.now) (next_name c.partition.new.self) c.in_default-partition.ensures.next) c.partition.ensures.names c.partition.ensures.pools c.partition.ensures.references c.in_default-partition.ensures.err c.args.instance.now c.args.call.now

@@ -49,3 +49,9 @@ returns-in-Within-clause-held g c = c.add_copy.ensures.held c.args.instance.now 
 
 pub returns-in-Loose-clause-held : goal.returns-in-Loose-clause-held
 returns-in-Loose-clause-held g c = c.add_copy-in-Loose.ensures.held c.args.instance.now c.requires.held
+
+pub returns-in-Within-clause-left : goal.returns-in-Within-clause-left
+returns-in-Within-clause-left g c = c.add_copy.ensures.left c.args.instance.now
+
+pub returns-in-Loose-clause-left : goal.returns-in-Loose-clause-left
+returns-in-Loose-clause-left g c = c.add_copy-in-Loose.ensures.left c.args.instance.now

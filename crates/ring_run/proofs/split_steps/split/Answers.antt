@@ -16,10 +16,11 @@ use Rattle.brigade_ops.proofs.Stores.{kept, found_in, found_bucket}
 use Rattle.ring_run.specs.Seen.{seen_over, calls_in, item_in}
 use Rattle.ring_run.proofs.Changes.{seen_same}
 use Rattle.ring_run.proofs.Homes.{not_dead}
-use Rattle.ring_run.proofs.Names.{apart_in, held_kept, no_less, still_same, still_on}
+use Rattle.ring_run.proofs.Names.{apart_in, held_kept, no_less, still_same, still_on, by_result}
 use Rattle.ring_run.proofs.Slots.{name_there, given_in}
 use Rattle.ring_run.proofs.Splits.{split_into, not_refused, refused_data, refused_long, done_split, not_split, ok_data, ok_short, err_data, err_long}
 use Rattle.ring_run.proofs.Stands.{stands_within}
+use Rattle.ring_run.proofs.LeftAlone.{left_on, left_same, ours_slot}
 use Rattle.ring_run.proofs.split_steps.split.Goals as goal
 
 pub returns-in-Ok-clause-ok : goal.returns-in-Ok-clause-ok
@@ -102,3 +103,23 @@ returns-in-Err-NamesSpent-clause-held g c =
     held_kept c.args.store.now c.split.new.self (no_less (next_name c.args.store.now) (next_name c.split.new.self) c.in-Err-NamesSpent.ensures.next) c.split.ensures.names c.split.ensures.pools
     (still_same (lists c.args.store.now) (lists c.split.new.self) c.in-Err-NamesSpent.ensures.err)
     c.args.instance.now c.args.call.now c.requires.held
+
+pub returns-in-Ok-clause-left : goal.returns-in-Ok-clause-left
+returns-in-Ok-clause-left g c =
+    let n = c.in-Within.ensures.inside.1 in
+    let x = found_some c.in-Within.id (list_at (lists c.args.store.now) n.0) (found_in c.args.store.now c.in-Within.id n.0 n.1.1) in
+    let is : store.bucket_at c.args.store.now c.in-Within.id ≡ Some x.0 = found_bucket c.args.store.now c.in-Within.id n.0 x.0 n.1.1 x.1 in
+    let rises : next_name c.args.store.now ≤ next_name c.split.new.self = let e = c.in-Ok.ensures.next in omega (arith, e) in
+    left_on c.args.store.now c.split.new.self rises c.split.ensures.names c.split.ensures.pools c.split.ensures.references n.0 (replaced c.in-Within.id (split_at c.args.n x.0).0 ((c.in-Ok.field-0, (split_at c.args.n x.0).1) ∷ [])) (λ m. c.in-Ok.ensures.ok n.0 m x.0 n.1.1 is) c.args.instance.now c.args.call.now (ours_slot c.args.instance.now c.args.call.now c.in-Within.field-0 n.0 n.1.0)
+
+pub returns-in-Err-Metadata-clause-left : goal.returns-in-Err-Metadata-clause-left
+returns-in-Err-Metadata-clause-left g c = left_same c.args.store.now c.split.new.self (no_less (next_name c.args.store.now) (next_name c.split.new.self) c.in-Err-Metadata.ensures.next) c.split.ensures.names c.split.ensures.pools c.split.ensures.references c.in-Err-Metadata.ensures.err c.args.instance.now c.args.call.now
+
+pub returns-in-Err-TooLong-clause-left : goal.returns-in-Err-TooLong-clause-left
+returns-in-Err-TooLong-clause-left g c = left_same c.args.store.now c.split.new.self (no_less (next_name c.args.store.now) (next_name c.split.new.self) c.in-Err-TooLong.ensures.next) c.split.ensures.names c.split.ensures.pools c.split.ensures.references c.in-Err-TooLong.ensures.err c.args.instance.now c.args.call.now
+
+pub returns-in-Err-NoMemory-clause-left : goal.returns-in-Err-NoMemory-clause-left
+returns-in-Err-NoMemory-clause-left g c = left_same c.args.store.now c.split.new.self (no_less (next_name c.args.store.now) (next_name c.split.new.self) c.in-Err-NoMemory.ensures.next) c.split.ensures.names c.split.ensures.pools c.split.ensures.references c.in-Err-NoMemory.ensures.err c.args.instance.now c.args.call.now
+
+pub returns-in-Err-NamesSpent-clause-left : goal.returns-in-Err-NamesSpent-clause-left
+returns-in-Err-NamesSpent-clause-left g c = left_same c.args.store.now c.split.new.self (no_less (next_name c.args.store.now) (next_name c.split.new.self) c.in-Err-NamesSpent.ensures.next) c.split.ensures.names c.split.ensures.pools c.split.ensures.references c.in-Err-NamesSpent.ensures.err c.args.instance.now c.args.call.now

@@ -1,0 +1,42 @@
+-- The new brigade has the next name.
+use Rattle.std.proofs.Common.{◌==◌, ℕ, [], Some, sym, ap, subst, ◌∙◌}
+use Rattle.std.specs.Prelude.{if◌then◌else◌}
+use Rattle.bucket_ring.specs.Lists as ring
+use Rattle.run_model.specs.declared.bucket.Mark.TheVariants.{Usable}
+use Rattle.run_model.specs.declared.payload.Payload.TheVariants as payload
+use Rattle.run_model.specs.Pools.{registered}
+use Rattle.pool_tree.specs.Tree.{map_of}
+use Rattle.brigade_ops.specs.Store.{lists, brigade_of, pool_of, next_name}
+use Rattle.ring_run.specs.declared.machine.Slot.TheVariants as slot
+use Rattle.ring_run.specs.Held.{HeldOver}
+use Rattle.ring_run.specs.Slots.{slot_at}
+use Rattle.ring_run.proofs.NewBrigades.{created_step, created_held}
+use Rattle.ring_run.proofs.creates.create.Goals as goal
+
+pub returns-clause-ok : goal.returns-clause-ok
+returns-clause-ok g c =
+    λ code around call held named.
+    let k = next_name c.args.store.now in
+    let L = lists c.args.store.now in
+    let i = c.args.instance.now in
+    let born = c.in-Ok.ensures.name in
+    created_step L (lists c.create.new.self) k i c.set_slot.new.self c.args.o c.args.pool
+    (λ n. c.in-Ok.ensures.ok n ∙ ap (λ (j : ℕ). ring.upd L j (Some []) n) born)
+    (λ a. c.set_slot.ensures.slots a ∙ ap (λ (j : ℕ). if a == c.args.o then slot.Made j (Some c.args.pool) Usable else slot_at i a) born)
+    (map_of c.args.tree.now) (map_of c.create.new.tree) around call code (next_name c.create.new.self) held.named held.called c.set_slot.ensures.rest c.in-Ok.ensures.next
+    (c.in-Ok.ensures.registered ∙ ap (λ (j : ℕ). registered c.args.pool (payload.Brigade j) (map_of c.args.tree.now)) born) named
+
+pub returns-clause-held : goal.returns-clause-held
+returns-clause-held g c =
+    λ call held.
+    let k = next_name c.args.store.now in
+    let L = lists c.args.store.now in
+    let P = pool_of c.args.store.now in
+    let i = c.args.instance.now in
+    let born = c.in-Ok.ensures.name in
+    let now = created_held L (lists c.create.new.self) k i c.set_slot.new.self c.args.o c.args.pool
+    (λ n. c.in-Ok.ensures.ok n ∙ ap (λ (j : ℕ). ring.upd L j (Some []) n) born)
+    (λ a. c.set_slot.ensures.slots a ∙ ap (λ (j : ℕ). if a == c.args.o then slot.Made j (Some c.args.pool) Usable else slot_at i a) born)
+    (brigade_of c.args.store.now) (brigade_of c.create.new.self) P (pool_of c.create.new.self) call c.requires.slot
+    (λ n. c.in-Ok.ensures.on n ∙ ap (λ (j : ℕ). ring.upd P j (Some c.args.pool) n) born) c.in-Ok.ensures.names held in
+    subst (λ (n : ℕ). HeldOver (brigade_of c.create.new.self) (lists c.create.new.self) (pool_of c.create.new.self) n c.set_slot.new.self call) (sym c.in-Ok.ensures.next) now

@@ -1,0 +1,34 @@
+-- The brigade of the variable is there.
+use Rattle.std.proofs.Common.{◌≡◌, Some, List, sym, ap, subst, ◌∙◌}
+use Rattle.bucket_ring.specs.Lists.{list_at}
+use Rattle.run_model.specs.declared.bucket.NamedBucket.{NamedBucket}
+use Rattle.brigade_ops.specs.Store.{lists, next_name}
+use Rattle.ring_run.specs.Delivery.{WasDelivered, out_of}
+use Rattle.ring_run.specs.Seen.{calls_in}
+use Rattle.ring_run.specs.Slots.{slot_at, live_in, name_in}
+use Rattle.ring_run.proofs.Changes.{live_is}
+use Rattle.ring_run.proofs.Items.{items_live}
+use Rattle.ring_run.proofs.output.pass_out.Goals as goal
+
+pub deliver-requires-clause-ends : goal.deliver-requires-clause-ends
+deliver-requires-clause-ends g c =
+    λ id x at is.
+    let i = c.args.instance.now in
+    let t = live_is (lists c.args.store.now) (slot_at i c.args.b) c.in-Some.name (sym c.live.ensures ∙ c.in-Some.is) in
+    c.requires.ends c.args.b c.in-Some.name id x (ap name_in t.1.1.0) at is
+
+pub deliver-requires-clause-open : goal.deliver-requires-clause-open
+deliver-requires-clause-open g c =
+    λ id x at is.
+    let i = c.args.instance.now in
+    let t = live_is (lists c.args.store.now) (slot_at i c.args.b) c.in-Some.name (sym c.live.ensures ∙ c.in-Some.is) in
+    c.requires.open c.args.b c.in-Some.name id x (ap name_in t.1.1.0) at is
+
+pub returns-clause-delivered : goal.returns-clause-delivered
+returns-clause-delivered g c =
+    λ around call.
+    let s = c.args.store.now in
+    let i = c.args.instance.now in
+    subst (λ (items : List NamedBucket). WasDelivered (g.F.Files.device c.args.files.now) (g.F.Files.device c.deliver.new.files) (out_of c.args.out.now c.args.ended.now) items (out_of c.deliver.new.out c.deliver.new.ended) c.in_ok-well.well)
+    (sym (items_live (lists s) (next_name s) around i call c.args.b c.in-Some.name (sym c.live.ensures ∙ c.in-Some.is)))
+    (c.in_ok-well.ensures.ok (calls_in around call))

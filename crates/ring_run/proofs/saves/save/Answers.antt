@@ -1,0 +1,93 @@
+-- Both brigades are there, the first on a pool, or nothing is saved.
+use Rattle.std.proofs.Common.{◌≡◌, ◌++◌, [], ℕ, Option, Some, None, Bool, true, false, not, is_some, map, sym, ap, ◌∙◌, refl, arith}
+use Rattle.std.proofs.lemmas.Bool.{false≢true}
+use Rattle.bucket_ring.specs.Lists.{list_at}
+use Rattle.pool_tree.specs.Tree.{map_of}
+use Rattle.brigade_ops.specs.Items.{aside_item}
+use Rattle.brigade_ops.specs.Store.{lists, brigade_of, pool_of, next_name}
+use Rattle.ring_run.specs.declared.machine.Slot.TheVariants as slot
+use Rattle.ring_run.specs.Seen.{seen_over}
+use Rattle.ring_run.specs.Slots.{slot_at, name_in}
+use Rattle.ring_run.proofs.Changes.{live_is, dead_seen}
+use Rattle.ring_run.proofs.Names.{apart_in, held_kept, no_less, still_same, still_both, by_result}
+use Rattle.ring_run.proofs.Saved.{made_null, made_loose, made_gone, not_saved, nothing_saved, saved}
+use Rattle.ring_run.proofs.Trees.{over_pools, on_both, on_both_err, seen_kept}
+use Rattle.ring_run.proofs.saves.save.Goals as goal
+use Rattle.ring_run.proofs.saves.save.Goals.{then-is_none-via-then-is_none, then-is_none-via-else-is_none+then-not-has}
+
+none_is : (o : Option ℕ) (t : Bool) → is_some o ≡ not t → t ≡ true → o ≡ None
+none_is None t e f = refl
+none_is (Some p) t e f = absurd (false≢true (sym (e ∙ ap not f)))
+
+some_is : (o : Option ℕ) (t : Bool) → is_some o ≡ not t → t ≡ false → (p : ℕ) × (o ≡ Some p)
+some_is None t e f = absurd (false≢true (e ∙ ap not f))
+some_is (Some p) t e f = (p, refl)
+
+pub returns-in_default-clause-ok : goal.returns-in_default-clause-ok
+returns-in_default-clause-ok g c =
+    λ around call held.
+    let r = seen_over (lists c.args.store.now) (next_name c.args.store.now) (over_pools (map_of c.args.tree.now) around) c.args.instance.now call in
+    not_saved r c.args.o c.args.b (made_null (lists c.args.store.now) (next_name c.args.store.now) (over_pools (map_of c.args.tree.now) around) c.args.instance.now call c.args.o (sym c.in_default.ensures))
+
+pub returns-then-is_none-clause-ok : goal.returns-then-is_none-clause-ok
+returns-then-is_none-clause-ok g c =
+    λ around call held.
+    let L = lists c.args.store.now in
+    let k = next_name c.args.store.now in
+    let i = c.args.instance.now in
+    let these = over_pools (map_of c.args.tree.now) around in
+    let r = seen_over L k these i call in
+    elim c.then-is_none.branch [
+      | then-is_none-via-then-is_none w ↦ not_saved r c.args.o c.args.b (made_loose L k these i call c.args.o c.in-Made.to c.in-Made.field-2 (sym c.in-Made.ensures ∙ ap (λ (p : Option ℕ). slot.Made c.in-Made.to p c.in-Made.field-2) (none_is c.in-Made.on c.is_none.result c.is_none.ensures w.if-is_none.true)))
+      | then-is_none-via-else-is_none+then-not-has w ↦ not_saved r c.args.o c.args.b (made_gone L k these i call c.args.o c.in-Made.to c.in-Made.on c.in-Made.field-2 (sym c.in-Made.ensures) (sym w.if-not-has.ensures))
+    ]
+
+pub returns-in_default-live-clause-ok : goal.returns-in_default-live-clause-ok
+returns-in_default-live-clause-ok g c =
+    λ around call held.
+    let L = lists c.args.store.now in
+    let k = next_name c.args.store.now in
+    let these = over_pools (map_of c.args.tree.now) around in
+    let dead = dead_seen L k these c.args.instance.now call c.args.b (sym c.in_default-live.ensures) in
+    nothing_saved (seen_over L k these c.args.instance.now call) c.args.o c.args.b dead.0 (dead.1 [])
+
+pub save-requires-clause-apart : goal.save-requires-clause-apart
+save-requires-clause-apart g c =
+    λ e.
+    let from = live_is (lists c.args.store.now) (slot_at c.args.instance.now c.args.b) c.in-Some.from (sym c.in-Some.ensures) in
+    c.requires.apart (c.requires.held c.args.o c.args.b c.in-Some.from (ap name_in (sym c.in-Made.ensures) ∙ ap (λ (n : ℕ). Some n) e) (ap name_in from.1.1.0))
+
+pub returns-clause-ok : goal.returns-clause-ok
+returns-clause-ok g c =
+    let s = c.args.store.now in
+    let i = c.args.instance.now in
+    let ps = map_of c.args.tree.now in
+    let on = some_is c.in-Made.on c.is_none.result c.is_none.ensures c.if-is_none.false in
+    let is : slot_at i c.args.o ≡ slot.Made c.in-Made.to (Some on.0) c.in-Made.field-2 = sym c.in-Made.ensures ∙ ap (λ (p : Option ℕ). slot.Made c.in-Made.to p c.in-Made.field-2) on.1 in
+    let there : is_some (lists s c.in-Made.to) ≡ true = sym c.if-not-has.ensures in
+    let lies : pool_of s c.in-Made.to ≡ Some on.0 = c.requires.on c.args.o c.in-Made.to (Some on.0) c.in-Made.field-2 (λ e. let first = c.requires.first in omega (arith, first, e)) is there in
+    on_both c.save.result _ _ _ (λ out refs around call held.
+    saved (lists s) (lists c.save.new.self) (next_name s) (next_name c.save.new.self) ps (map_of c.save.new.tree) around i call c.args.o c.args.b c.in-Made.to c.in-Some.from on.0 c.in-Made.field-2 (apart_in (brigade_of s) (lists s) (pool_of s) (next_name s) i call held) c.requires.apart is there (sym c.in-Some.ensures) c.save.ensures.next (λ n. out on.0 n lies) (refs on.0 lies))
+    c.save.ensures.ok c.save.ensures.registered
+
+pub returns-clause-held : goal.returns-clause-held
+returns-clause-held g c =
+    λ call held.
+    let s = c.args.store.now in
+    let ps = map_of c.args.tree.now in
+    let on = some_is c.in-Made.on c.is_none.result c.is_none.ensures c.if-is_none.false in
+    let is : slot_at c.args.instance.now c.args.o ≡ slot.Made c.in-Made.to (Some on.0) c.in-Made.field-2 = sym c.in-Made.ensures ∙ ap (λ (p : Option ℕ). slot.Made c.in-Made.to p c.in-Made.field-2) on.1 in
+    let lies : pool_of s c.in-Made.to ≡ Some on.0 = c.requires.on c.args.o c.in-Made.to (Some on.0) c.in-Made.field-2 (λ e. let first = c.requires.first in omega (arith, first, e)) is (sym c.if-not-has.ensures) in
+    held_kept s c.save.new.self (no_less (next_name s) (next_name c.save.new.self) c.save.ensures.next) c.save.ensures.names c.save.ensures.pools
+    (by_result c.save.result _ _
+    (λ out. still_both (lists s) (lists c.save.new.self) c.in-Made.to c.in-Some.from (λ xs. xs ++ map (aside_item ps on.0) (list_at (lists s) c.in-Some.from)) (λ xs. []) (λ n. out on.0 n lies))
+    (λ out. still_same (lists s) (lists c.save.new.self) out)
+    c.save.ensures.ok c.save.ensures.err)
+    c.args.instance.now call held
+
+pub returns-clause-err : goal.returns-clause-err
+returns-clause-err g c =
+    let s = c.args.store.now in
+    on_both_err c.save.result _ _ _ (λ out kept around call.
+    seen_kept (lists s) (lists c.save.new.self) (next_name s) (next_name c.save.new.self) (map_of c.args.tree.now) (map_of c.save.new.tree) around c.args.instance.now call c.save.ensures.next kept out)
+    c.save.ensures.err c.save.ensures.kept

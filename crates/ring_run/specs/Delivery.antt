@@ -1,0 +1,72 @@
+-- What the end of the chain takes of a brigade, and what the device gives to its reads.
+use Rattle.std.specs.Prelude.{◌≡◌, ◌⊎◌, ℕ, zero, suc, ◌+◌, ◌-◌, Bool, true, false, min, List, [], ◌∷◌, length, take, Option, Some, None}
+use Rattle.bucket_kinds.specs.Device.{Device, failed}
+use Rattle.bucket_kinds.specs.Reading.{MayGive, MayEnd}
+use Rattle.run_model.specs.declared.bucket.Content.{Content}
+use Rattle.run_model.specs.declared.bucket.Content.TheVariants as content
+use Rattle.run_model.specs.declared.bucket.NamedBucket.{NamedBucket}
+use Rattle.run_model.specs.Buckets.{is_eos}
+use Rattle.run_model.specs.Cutting.{read_limit}
+use Rattle.run_model.specs.Files.{parts_of}
+use Rattle.run_model.specs.Passing.{Reads, Taken, content_taken, taken, delivered}
+use Rattle.run_model.specs.State.{Out}
+use Rattle.brigade_ops.specs.Items.{Items}
+use Rattle.ring_run.specs.declared.output.Filled.{Filled}
+use Rattle.ring_run.specs.Seen.{shown}
+
+abbrev pub Unless : Bool → Type 0 → Type 0 → Type 0
+Unless true P Q = P
+Unless false P Q = Q
+
+-- What one read of n bytes of a file may give. Where it fails the device is e, and no other read follows; else `next` is so.
+abbrev pub PartGiven : Device → Device → ℕ → ℕ → ℕ → Option (List ℕ) → Type 0 → Type 0
+PartGiven d e file start n (Some bytes) next = MayGive (d.numbered file) start n bytes × next
+PartGiven d e file start n None next = (e ≡ failed d) ⊎ ((e ≡ d) × MayEnd (d.numbered file) start n)
+
+-- a range in so many reads, of which the first has the number k; `next` says the same of what follows
+unfoldable pub PartsGiven : Device → Device → ℕ → ℕ → ℕ → ℕ → Reads → (ℕ → Type 0) → ℕ → Type 0
+PartsGiven d e zero file start len reads next k = next k
+PartsGiven d e (suc parts) file start len reads next k = PartGiven d e file start (min len read_limit) (reads k) (PartsGiven d e parts file (start + read_limit) (len - read_limit) reads next (k + 1))
+
+abbrev pub ContentGiven : Device → Device → Content → Reads → (ℕ → Type 0) → ℕ → Type 0
+ContentGiven d e (content.Bytes bs) reads next k = next k
+ContentGiven d e (content.Range file start len) reads next k = PartsGiven d e (parts_of len) file start len reads next k
+ContentGiven d e content.Nothing reads next k = next k
+
+-- The reads of the buckets before the first EOS, from number k on, up to one that fails: the device d may give these, and is e then.
+unfoldable pub ReadsGiven : Device → Device → List NamedBucket → Reads → ℕ → Type 0
+ReadsGiven d e [] reads k = e ≡ d
+ReadsGiven d e (b ∷ bs) reads k = Unless (is_eos b) (e ≡ d) (ContentGiven d e b.bucket.content reads (λ j. ReadsGiven d e bs reads j) k)
+
+abbrev pub out_of : List ℕ → Bool → Out
+out_of bytes ended = record { bytes = bytes; ended = ended }
+
+-- The last filter's brigade was delivered, by devices d and e. Nothing is read where the output has ended.
+pub record WasDelivered (d e : Device) (before : Out) (items : List NamedBucket) (after : Out) (well : Bool) : Type 0 where
+  pub reads : Reads
+  pub given : Unless before.ended (e ≡ d) (ReadsGiven d e items reads 0)
+  pub told : delivered before items reads ≡ (after, well)
+
+-- Of a buffer that is filled from its front on.
+
+-- these are the reads from number k on
+abbrev pub HasReads : Reads → ℕ → List (Option (List ℕ)) → Type 0
+HasReads reads k [] = Unit {0}
+HasReads reads k (g ∷ gs) = (reads k ≡ g) × HasReads reads (k + 1) gs
+
+abbrev pub filled : Filled → List ℕ → ℕ → Taken
+filled f out k = record { bytes = take f.count out; whole = f.whole; reads = k }
+
+-- A content was read into the front of a buffer, by devices d and e. More buckets may follow, where no read failed.
+pub record ContentFilled (d e : Device) (c : Content) (f : Filled) (out : List ℕ) : Type 0 where
+  pub reads : List (Option (List ℕ))
+  pub takes : (k : ℕ) (rs : Reads) → HasReads rs k reads → content_taken c k rs ≡ filled f out (k + length reads)
+  pub same : f.whole ≡ true → e ≡ d
+  pub goes_on : f.whole ≡ true → (last : Device) (bs : List NamedBucket) (k : ℕ) (rs : Reads) → HasReads rs k reads → ReadsGiven d last bs rs (k + length reads) → ContentGiven d last c rs (λ j. ReadsGiven d last bs rs j) k
+  pub fails : f.whole ≡ false → (bs : List NamedBucket) (k : ℕ) (rs : Reads) → HasReads rs k reads → ContentGiven d e c rs (λ j. ReadsGiven d e bs rs j) k
+
+-- So were the buckets of a brigade.
+pub record ItemsFilled (d e : Device) (xs : Items) (f : Filled) (out : List ℕ) : Type 0 where
+  pub reads : List (Option (List ℕ))
+  pub takes : (runs : ℕ → Bool) (k : ℕ) (rs : Reads) → HasReads rs k reads → taken (shown runs xs) k rs ≡ filled f out (k + length reads)
+  pub given : (runs : ℕ → Bool) (k : ℕ) (rs : Reads) → HasReads rs k reads → ReadsGiven d e (shown runs xs) rs k

@@ -1,0 +1,43 @@
+//! What instructions do to a bucket that is set aside (apr_bucket_setaside).
+
+ghost use Rattle.std.specs.Prelude.{◌≡◌, ◌<◌, Some, IsTrue, OnOk, OnErr};
+ghost use Rattle.run_model.specs.BucketSteps.{do_aside};
+ghost use Rattle.run_model.specs.Cursors.{spot};
+ghost use Rattle.run_model.specs.Pools.{is_live};
+ghost use Rattle.pool_tree.specs.Tree.{map_of};
+ghost use Rattle.brigade_ops.specs.House.{IsHouse};
+ghost use Rattle.ring_run.specs.Around.{Around};
+ghost use Rattle.ring_run.specs.Held.{IsHeld};
+ghost use Rattle.ring_run.specs.Seen.{seen};
+
+use crate::machine::{Call, Instance};
+use crate::spots::{Spot, place_of};
+use brigade_ops::{Brigades, PoolId, PoolTree, Rings};
+use run_model::{Bucket, Payload};
+use std::alloc::AllocError;
+
+/// Sets the bucket of a cursor aside into a pool. Without memory nothing is changed.
+pub(crate) fn aside<R: Rings<Bucket> + Drop>(
+    instance: &Instance,
+    call: &Call,
+    tree: &mut PoolTree<Payload>,
+    store: &mut Brigades<R>,
+    c: u8,
+    pool: PoolId,
+) -> Result<(), AllocError>
+    requires cursor { c < 9 }
+    requires live { IsTrue (is_live (map_of tree.old) pool) }
+    requires held { IsHeld store.old instance.now call.now }
+    ensures ok { OnOk result ((around : Around) → let r = seen store.old (record around { pools = map_of tree.old }) instance.now call.now in
+        seen store.new (record around { pools = map_of tree.new }) instance.now call.now ≡ do_aside (spot r c) (Some pool) r) }
+    ensures err { OnErr result ((around : Around)
+        → seen store.new (record around { pools = map_of tree.new }) instance.now call.now ≡ seen store.old (record around { pools = map_of tree.old }) instance.now call.now) }
+    ensures held { IsHeld store.new instance.now call.now }
+    ensures house { IsHouse store.old (map_of tree.old) → IsHouse store.new (map_of tree.new) }
+{
+    match place_of(instance, call, store, c) {
+        Spot::Within(_, id) => store.aside(tree, id, pool),
+        Spot::Loose(id) => store.aside(tree, id, pool),
+        Spot::Nowhere | Spot::End(_) => Ok(()),
+    }
+}

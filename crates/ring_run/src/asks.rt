@@ -1,0 +1,309 @@
+//! What is asked of the state before an instruction runs: the tests that decide where it leads, and whether there are names enough.
+
+ghost use Rattle.std.specs.Prelude.{◌≡◌, ◌<◌, ◌≤◌, ℕ, true, is_some, IfSome, length};
+ghost use Rattle.module_lang.specs.Program.{fits, is_variable};
+ghost use Rattle.run_model.specs.BrigadeLists.{is_short, split_refusal};
+ghost use Rattle.run_model.specs.BucketSteps.{has_rest, is_of_kind, is_unsplit, items_at, kind_is, names_to_part, names_to_read, names_to_split};
+ghost use Rattle.run_model.specs.Cursors.{bucket_at as model_bucket_at, is_end, spot};
+ghost use Rattle.run_model.specs.Pools.{is_empty};
+ghost use Rattle.run_model.specs.State.{items_of};
+ghost use Rattle.run_model.specs.Steps.{is_null, is_spent, lacks_names, names_of, pool_names_of, value_of};
+ghost use Rattle.run_model.specs.declared.bucket.NamedBucket.{NamedBucket};
+ghost use Rattle.pool_tree.specs.Tree.{map_of};
+ghost use Rattle.brigade_ops.specs.Store.{brigade_of, bucket_at, next_name};
+ghost use Rattle.ring_run.specs.declared.machine.Call.{Call};
+ghost use Rattle.ring_run.specs.Around.{Around};
+ghost use Rattle.ring_run.specs.Asked.{bucket_within};
+ghost use Rattle.ring_run.specs.Held.{IsHeld};
+ghost use Rattle.ring_run.specs.Outside.{with_outside};
+ghost use Rattle.ring_run.specs.Seen.{calls_in, seen};
+ghost use Rattle.ring_run.specs.Shown.{shown_at};
+
+use crate::across::bucket_across;
+use crate::effects::live;
+use crate::home_wants::bucket_of;
+use crate::machine::{Call, Instance, Slot};
+use crate::outside::Outside;
+use crate::pool_wants;
+use crate::spots::{Spot, place_of};
+use crate::values::value_of;
+use brigade_ops::{Brigades, Bucket, BucketId, Content, Kind, Rings};
+use bucket_kinds::length;
+use run_model::{Instr, KindTest, Module, PoolVar, Value, VarRef};
+
+/// How many bytes a read takes from a file, at most.
+const READ_LIMIT: u64 = 8000;
+
+/// Whether a cursor stands at the end of a brigade.
+pub(crate) fn is_end<R: Rings<Bucket> + Drop>(
+    instance: &Instance,
+    call: &Call,
+    store: &Brigades<R>,
+    c: u8,
+) -> bool
+    requires cursor { c < 9 }
+    requires held { IsHeld store.now instance.now call.now }
+    ensures { (around : Around) → result ≡ is_end (spot (seen store.now around instance.now call.now) c) }
+{
+    matches!(place_of(instance, call, store, c), Spot::End(_))
+}
+
+/// The bucket of a brigade at which a cursor stands.
+fn bucket_within<R: Rings<Bucket> + Drop>(
+    instance: &Instance,
+    call: &Call,
+    store: &Brigades<R>,
+    c: u8,
+) -> Option<BucketId>
+    requires cursor { c < 9 }
+    requires held { IsHeld store.now instance.now call.now }
+    ensures at { (around : Around) → shown_at (calls_in around call.now) (bucket_at store.now) result ≡ bucket_within (spot (seen store.now around instance.now call.now) c) }
+    ensures there { IfSome result (λ id. is_some (brigade_of store.now id) ≡ true) }
+{
+    match place_of(instance, call, store, c) {
+        Spot::Within(_, id) => Some(id),
+        Spot::Loose(_) => None,
+        Spot::Nowhere => None,
+        Spot::End(_) => None,
+    }
+}
+
+fn is_of_kind(test: KindTest, kind: Kind) -> bool
+    ensures { result ≡ is_of_kind test kind }
+{
+    match test {
+        KindTest::Heap => matches!(kind, Kind::Heap),
+        KindTest::Transient => matches!(kind, Kind::Transient),
+        KindTest::Immortal => matches!(kind, Kind::Immortal),
+        KindTest::Pool => matches!(kind, Kind::Pool(_)),
+        KindTest::File => matches!(kind, Kind::File),
+        KindTest::Flush => matches!(kind, Kind::Flush),
+        KindTest::Eos => matches!(kind, Kind::Eos),
+        KindTest::Data => !matches!(kind, Kind::Flush | Kind::Eos),
+    }
+}
+
+/// Whether the bucket at a cursor is of a kind.
+pub(crate) fn kind_is<R: Rings<Bucket> + Drop>(
+    instance: &Instance,
+    call: &Call,
+    store: &Brigades<R>,
+    test: KindTest,
+    c: u8,
+) -> bool
+    requires cursor { c < 9 }
+    requires held { IsHeld store.now instance.now call.now }
+    ensures { (around : Around) → result ≡ kind_is test (model_bucket_at (spot (seen store.now around instance.now call.now) c)) }
+{
+    match bucket_of(instance, call, store, c) {
+        Some(id) => is_of_kind(test, store.payload(id).kind),
+        None => false,
+    }
+}
+
+/// Whether a split of a bucket at a place is refused: metadata is not split, nor is a bucket that is shorter.
+fn is_refused(bucket: &Bucket, n: u32) -> bool
+    ensures { (y : NamedBucket) → y.bucket.kind ≡ bucket.now.kind → y.bucket.content ≡ bucket.now.content → result ≡ is_some (split_refusal n y) }
+{
+    matches!(bucket.kind, Kind::Flush | Kind::Eos) || length(&bucket.content) < u64::from(n)
+}
+
+/// Whether a split at a cursor is refused.
+pub(crate) fn is_unsplit<R: Rings<Bucket> + Drop>(
+    instance: &Instance,
+    call: &Call,
+    store: &Brigades<R>,
+    x: Value,
+    c: u8,
+) -> bool
+    requires cursor { c < 9 }
+    requires held { IsHeld store.now instance.now call.now }
+    ensures { (around : Around) → let r = seen store.now around instance.now call.now in result ≡ is_unsplit (value_of r x) (spot r c) }
+{
+    match bucket_within(instance, call, store, c) {
+        Some(id) => is_refused(store.payload(id), value_of(instance, x)),
+        None => true,
+    }
+}
+
+/// How many names a split takes.
+fn names_to_split<R: Rings<Bucket> + Drop>(
+    instance: &Instance,
+    call: &Call,
+    store: &Brigades<R>,
+    x: Value,
+    c: u8,
+) -> u64
+    requires cursor { c < 9 }
+    requires held { IsHeld store.now instance.now call.now }
+    ensures { (around : Around) → let r = seen store.now around instance.now call.now in result ≡ names_to_split (value_of r x) (spot r c) }
+{
+    if is_unsplit(instance, call, store, x, c) {
+        0
+    } else {
+        1
+    }
+}
+
+/// Whether a read leaves a rest.
+fn has_rest(content: &Content) -> bool
+    ensures { result ≡ has_rest content.now }
+{
+    match content {
+        Content::Range { len, .. } => *len > READ_LIMIT,
+        Content::Bytes(_) | Content::Nothing => false,
+    }
+}
+
+/// How many names a read takes.
+pub(crate) fn names_to_read<R: Rings<Bucket> + Drop>(
+    instance: &Instance,
+    call: &Call,
+    store: &Brigades<R>,
+    c: u8,
+) -> u64
+    requires cursor { c < 9 }
+    requires held { IsHeld store.now instance.now call.now }
+    ensures { (around : Around) → result ≡ names_to_read (spot (seen store.now around instance.now call.now) c) }
+{
+    let Some(id) = bucket_within(instance, call, store, c) else {
+        return 0;
+    };
+    if has_rest(&store.payload(id).content) {
+        1
+    } else {
+        0
+    }
+}
+
+/// Whether a brigade has fewer bytes than a partition wants.
+pub(crate) fn is_incomplete<R: Rings<Bucket> + Drop>(
+    instance: &Instance,
+    store: &Brigades<R>,
+    b: u8,
+    x: Value,
+) -> bool
+    requires { b < 9 }
+    ensures { (around : Around) (call : Call) → let r = seen store.now around instance.now call in result ≡ is_short (value_of r x) (items_at r b) }
+{
+    let point = u128::from(value_of(instance, x));
+    match live(instance, store, b) {
+        Some(name) => store.length(name) < point,
+        None => 0 < point,
+    }
+}
+
+/// How many names a partition takes.
+fn names_to_part<R: Rings<Bucket> + Drop>(
+    instance: &Instance,
+    store: &Brigades<R>,
+    b: u8,
+    x: Value,
+) -> u64
+    requires { b < 9 }
+    ensures { (around : Around) (call : Call) → let r = seen store.now around instance.now call in result ≡ names_to_part (value_of r x) (items_at r b) }
+{
+    let point = u64::from(value_of(instance, x));
+    let Some(name) = live(instance, store, b) else {
+        return 0;
+    };
+    match bucket_across(store, name, point) {
+        Some(_) => 1,
+        None => 0,
+    }
+}
+
+/// Whether a brigade has no buckets, or is not there.
+pub(crate) fn is_empty<R: Rings<Bucket> + Drop>(
+    instance: &Instance,
+    store: &Brigades<R>,
+    b: u8,
+) -> bool
+    requires { b < 9 }
+    ensures { (around : Around) (call : Call) → result ≡ is_empty (items_of ((seen store.now around instance.now call).instance.brigades b)) }
+{
+    match live(instance, store, b) {
+        Some(name) => store.start(name).is_none(),
+        None => true,
+    }
+}
+
+/// Whether nothing was made in a variable.
+pub(crate) fn is_null<R: Rings<Bucket> + Drop>(
+    code: &Module,
+    instance: &Instance,
+    store: &Brigades<R>,
+    var: VarRef,
+) -> bool
+    requires fit { is_variable code.now var ≡ true }
+    requires few { length code.now.brigades ≤ 8 }
+    ensures { (around : Around) (call : Call) → result ≡ is_null (seen store.now around instance.now call) var }
+{
+    match var {
+        VarRef::Pool(q) => matches!(pool_wants::variable(instance, q), PoolVar::Null),
+        VarRef::Brigade(b) => matches!(instance.slot(b), Slot::Null),
+    }
+}
+
+/// How many names of buckets, brigades and calls an instruction gives out.
+fn names<R: Rings<Bucket> + Drop>(
+    code: &Module,
+    instance: &Instance,
+    call: &Call,
+    store: &Brigades<R>,
+    instr: Instr,
+) -> u64
+    requires fit { fits code.now instr ≡ true }
+    requires few { length code.now.brigades ≤ 8 }
+    requires held { IsHeld store.now instance.now call.now }
+    ensures { (around : Around) → result ≡ names_of (seen store.now around instance.now call.now) instr }
+{
+    match instr {
+        Instr::BCreate(_)
+        | Instr::Heap(_, _)
+        | Instr::Immortal(_, _)
+        | Instr::FromBuf(_)
+        | Instr::Transient(_)
+        | Instr::PoolB(_, _)
+        | Instr::Flush(_)
+        | Instr::Eos(_)
+        | Instr::Copy(_, _) => 1,
+        Instr::BPart(b, x, _, _) => names_to_part(instance, store, b, x),
+        Instr::Split(c, x, _) => names_to_split(instance, call, store, x, c),
+        Instr::Read(c, _) => names_to_read(instance, call, store, c),
+        _ => 0,
+    }
+}
+
+/// How many names of pools an instruction gives out.
+fn pool_names(instr: Instr) -> u64
+    ensures { result ≡ pool_names_of instr }
+{
+    if let Instr::PCreate(_) = instr { 1 } else { 0 }
+}
+
+/// Whether so many names are not left, where this one is the next.
+#[tactic(auto, unfolding(run_model::specs::Steps::is_spent))]
+fn is_spent(next: u64, names: u64) -> bool
+    ensures { result ≡ is_spent next names }
+{
+    names > u64::MAX - next
+}
+
+/// Whether a name that an instruction would have to give out is not there.
+pub(crate) fn lacks_names<R: Rings<Bucket> + Drop>(
+    code: &Module,
+    instance: &Instance,
+    call: &Call,
+    outside: &Outside<'_>,
+    store: &Brigades<R>,
+    instr: Instr,
+) -> bool
+    requires fit { fits code.now instr ≡ true }
+    requires few { length code.now.brigades ≤ 8 }
+    requires held { IsHeld store.now instance.now call.now }
+    ensures { (around : Around) → result ≡ lacks_names (seen store.now (with_outside outside.now around) instance.now call.now) instr }
+{
+    let names = names(code, instance, call, store, instr);
+    is_spent(store.next_name(), names) || is_spent(outside.tree.next_name(), pool_names(instr))
+}

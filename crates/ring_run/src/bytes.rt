@@ -1,0 +1,138 @@
+//! What instructions do with the bytes of buckets and of a call's buffer.
+
+ghost use Rattle.std.specs.Prelude.{◌≡◌, ◌<◌, ◌||◌, ℕ, Option, nat_lt, nat_le, OnOk, OnErr};
+ghost use Rattle.bucket_ring.specs.declared.names.BucketId.{BucketId};
+ghost use Rattle.run_model.specs.BucketSteps.{byte_of, content_at, do_len, got};
+ghost use Rattle.run_model.specs.Cursors.{spot, read_cursor};
+ghost use Rattle.run_model.specs.Cutting.{length_of};
+ghost use Rattle.run_model.specs.Steps.{buffer_limit, do_put, is_full, value_of};
+ghost use Rattle.brigade_ops.specs.Items.{Items};
+ghost use Rattle.ring_run.specs.declared.machine.Instance.{Instance};
+ghost use Rattle.ring_run.specs.Around.{Around};
+ghost use Rattle.ring_run.specs.Held.{HeldOver, IsHeld};
+ghost use Rattle.ring_run.specs.Seen.{seen, seen_over};
+ghost use Rattle.ring_run.specs.Slots.{cursor_at, slot_at};
+
+use crate::home_wants::bucket_of;
+use crate::machine::{Call, Instance};
+use crate::values::value_of;
+use brigade_ops::{Brigades, Bucket, Content, Rings};
+use bucket_kinds::length;
+use run_model::Value;
+use std::alloc::AllocError;
+
+/// How many bytes a call's buffer holds at most.
+const BUFFER_LIMIT: usize = 8000;
+
+/// The number of the read cursor `rd`.
+pub(crate) const RD: u8 = 8;
+
+/// Whether a number is no byte, or a buffer of this length is full.
+fn has_no_room(number: u32, len: usize) -> bool
+    ensures { result ≡ (nat_lt 255 number || nat_le buffer_limit len) }
+{
+    number > 255 || len >= BUFFER_LIMIT
+}
+
+/// Whether a number is no byte, or the buffer is full.
+pub(crate) fn is_full(instance: &Instance, call: &Call, x: Value) -> bool
+    ensures { (rings : ℕ → Option Items) (next : ℕ) (around : Around) → result ≡ is_full (seen_over rings next around instance.now call.now) x }
+{
+    has_no_room(value_of(instance, x), call.buffer.len())
+}
+
+/// Appends a byte to the buffer, where it is one and fits. Without memory nothing is changed.
+pub(crate) fn put(instance: &Instance, call: &mut Call, x: Value) -> Result<(), AllocError>
+    ensures ok { OnOk result ((rings : ℕ → Option Items) (next : ℕ) (around : Around) → seen_over rings next around instance.now call.new ≡ do_put x (seen_over rings next around instance.now call.old)) }
+    ensures err { OnErr result ((rings : ℕ → Option Items) (next : ℕ) (around : Around) → seen_over rings next around instance.now call.new ≡ seen_over rings next around instance.now call.old) }
+    ensures cursors { (c : ℕ) → cursor_at call.new c ≡ cursor_at call.old c }
+    ensures name { call.new.name ≡ call.old.name }
+    ensures held { (at : BucketId → Option ℕ) (rings : ℕ → Option Items) (pools : ℕ → Option ℕ) (next : ℕ) → HeldOver at rings pools next instance.now call.old → HeldOver at rings pools next instance.now call.new }
+{
+    let number = value_of(instance, x);
+    if has_no_room(number, call.buffer.len()) {
+        return Ok(());
+    }
+    call.buffer_byte(number as u8)
+}
+
+/// The length of the bucket at a cursor; 0 where there is none.
+fn length_at<R: Rings<Bucket> + Drop>(
+    instance: &Instance,
+    call: &Call,
+    store: &Brigades<R>,
+    c: u8,
+) -> u64
+    requires cursor { c < 9 }
+    requires held { IsHeld store.now instance.now call.now }
+    ensures { (around : Around) → result ≡ length_of (content_at (spot (seen store.now around instance.now call.now) c)) }
+{
+    match bucket_of(instance, call, store, c) {
+        Some(id) => length(&store.payload(id).content),
+        None => 0,
+    }
+}
+
+/// Sets a number to the length of the bucket at a cursor, at most 4294967295.
+pub(crate) fn len<R: Rings<Bucket> + Drop>(
+    instance: &mut Instance,
+    call: &Call,
+    store: &Brigades<R>,
+    n: u8,
+    c: u8,
+)
+    requires number { n < 8 }
+    requires cursor { c < 9 }
+    requires held { IsHeld store.now instance.old call.now }
+    ensures new { (around : Around) → let r = seen store.now around instance.old call.now in seen store.now around instance.new call.now ≡ do_len n (spot r c) r }
+    ensures slots { (b : ℕ) → slot_at instance.new b ≡ slot_at instance.old b }
+    ensures held { IsHeld store.now instance.new call.now }
+{
+    let len = length_at(instance, call, store, c).min(u64::from(u32::MAX));
+    instance.set_number(n, len as u32);
+}
+
+/// A byte of a content in memory.
+fn byte_of(content: &Content, k: u32) -> Option<u8>
+    ensures { result ≡ byte_of k content.now }
+{
+    match content {
+        Content::Bytes(bytes) => bytes.as_slice().get(k as usize).copied(),
+        Content::Range { .. } | Content::Nothing => None,
+    }
+}
+
+/// A byte of the bucket at the read cursor.
+pub(crate) fn byte_read<R: Rings<Bucket> + Drop>(
+    instance: &Instance,
+    call: &Call,
+    store: &Brigades<R>,
+    x: Value,
+) -> Option<u8>
+    requires { IsHeld store.now instance.now call.now }
+    ensures { (around : Around) → let r = seen store.now around instance.now call.now in result ≡ byte_of (value_of r x) (content_at (spot r read_cursor)) }
+{
+    match bucket_of(instance, call, store, RD) {
+        Some(id) => byte_of(&store.payload(id).content, value_of(instance, x)),
+        None => None,
+    }
+}
+
+/// Sets a number to a byte of the bucket at the read cursor, where there is that byte.
+pub(crate) fn get<R: Rings<Bucket> + Drop>(
+    instance: &mut Instance,
+    call: &Call,
+    store: &Brigades<R>,
+    n: u8,
+    x: Value,
+)
+    requires number { n < 8 }
+    requires held { IsHeld store.now instance.old call.now }
+    ensures new { (around : Around) → let r = seen store.now around instance.old call.now in seen store.now around instance.new call.now ≡ got n (byte_of (value_of r x) (content_at (spot r read_cursor))) r }
+    ensures slots { (b : ℕ) → slot_at instance.new b ≡ slot_at instance.old b }
+    ensures held { IsHeld store.now instance.new call.now }
+{
+    if let Some(byte) = byte_read(instance, call, store, x) {
+        instance.set_number(n, u32::from(byte));
+    }
+}

@@ -1,0 +1,97 @@
+//! Calls begin and return.
+
+ghost use Rattle.std.specs.Prelude.{◌≡◌, ◌==◌, ◌↔◌, ℕ, ◌<◌, ◌+◌, false, None, Some, [], is_ok, if◌then◌else◌, OnOk, OnErr, IsErrOf};
+ghost use Rattle.ring_run.specs.Begun.{begun_as};
+ghost use Rattle.std.specs.List.{list_any};
+ghost use Rattle.bucket_ring.specs.Lists.{upd};
+ghost use Rattle.bucket_ring.specs.Kept.{NoneRevived};
+ghost use Rattle.run_model.specs.Steps.{do_return};
+ghost use Rattle.brigade_ops.specs.Store.{lists, brigade_of, pool_of, references, next_name};
+ghost use Rattle.ring_run.specs.Around.{Around};
+ghost use Rattle.ring_run.specs.Held.{IsHeld};
+ghost use Rattle.ring_run.specs.Seen.{seen};
+ghost use Rattle.ring_run.specs.Slots.{cursor_at};
+
+use crate::machine::{Call, Instance, Slot, Stand};
+use brigade_ops::{BrigadeId, Brigades, Bucket, RingRefusal, Rings};
+
+impl Call {
+    /// A call of this name, at this instruction.
+    #[tactic(auto, unfolding(crate::specs::Slots::cursor_at))]
+    fn start(&mut self, name: BrigadeId, pc: usize)
+        ensures name { self.new.name ≡ name }
+        ensures cursors { (c : ℕ) → cursor_at self.new c ≡ Stand.Unset }
+        ensures buffer { self.new.buffer ≡ [] }
+        ensures pc { self.new.pc ≡ pc }
+    {
+        self.name = name;
+        self.cursors = [Stand::Unset; 9];
+        self.buffer.clear();
+        self.pc = pc;
+    }
+
+    /// No call any more: it has no name, no cursor and no byte. Where it stood is kept.
+    #[tactic(auto, unfolding(crate::specs::Slots::cursor_at))]
+    fn end(&mut self)
+        ensures name { self.new.name ≡ 0 }
+        ensures cursors { (c : ℕ) → cursor_at self.new c ≡ Stand.Unset }
+        ensures buffer { self.new.buffer ≡ [] }
+        ensures pc { self.new.pc ≡ self.old.pc }
+    {
+        self.name = 0;
+        self.cursors = [Stand::Unset; 9];
+        self.buffer.clear();
+    }
+}
+
+/// A call begins at an instruction. Its name is new, and that of the brigade of its loose buckets. `NamesSpent`: the next name is `u64::MAX`.
+/// Refused, nothing is changed.
+pub fn begin_call<R: Rings<Bucket> + Drop>(
+    instance: &Instance,
+    call: &mut Call,
+    store: &mut Brigades<R>,
+    pc: usize,
+) -> Result<(), RingRefusal>
+    requires held { IsHeld store.old instance.now call.old }
+    requires idle { call.old.name ≡ 0 }
+    requires free { pool_of store.old (next_name store.old) ≡ None }
+    ensures seen { OnOk result ((around : Around) → seen store.new around instance.now call.new ≡ begun_as pc (seen store.old around instance.now call.old)) }
+    ensures out { OnOk result ((n : ℕ) → lists store.new n ≡ upd (lists store.old) (next_name store.old) (Some []) n) }
+    ensures name { OnOk result (call.new.name ≡ next_name store.old) }
+    ensures next { next_name store.new ≡ (if is_ok result then next_name store.old + 1 else next_name store.old) }
+    ensures names { NoneRevived (brigade_of store.old) (brigade_of store.new) (next_name store.old) }
+    ensures pools { pool_of store.new ≡ pool_of store.old }
+    ensures references { references store.new ≡ references store.old }
+    ensures spent { IsErrOf result RingRefusal.NamesSpent ↔ (next_name store.old ≡ u64.MAX) }
+    ensures err { OnErr result ((n : ℕ) → lists store.new n ≡ lists store.old n) }
+    ensures same { OnErr result (call.new ≡ call.old) }
+    ensures held { OnOk result (IsHeld store.new instance.now call.new) }
+{
+    let name = store.loose()?;
+    call.start(name, pc);
+    Ok(())
+}
+
+/// A call returns: its loose buckets are destroyed, `in` is null, and homes that are this call have ended. What stands in the brigade of `in`
+/// stays there.
+pub fn end_call<R: Rings<Bucket> + Drop>(
+    instance: &mut Instance,
+    call: &mut Call,
+    store: &mut Brigades<R>,
+)
+    requires held { IsHeld store.old instance.old call.old }
+    requires runs { 0 < call.old.name }
+    requires none { lists store.old 0 ≡ None }
+    requires free { pool_of store.old 0 ≡ None }
+    ensures seen { (around : Around) → list_any (λ w. call.old.name == w) around.waits ≡ false → seen store.new around instance.new call.new ≡ do_return (seen store.old around instance.old call.old) }
+    ensures out { (n : ℕ) → lists store.new n ≡ upd (lists store.old) call.old.name None n }
+    ensures next { next_name store.new ≡ next_name store.old }
+    ensures names { NoneRevived (brigade_of store.old) (brigade_of store.new) (next_name store.old) }
+    ensures pools { pool_of store.new ≡ pool_of store.old }
+    ensures references { references store.new ≡ references store.old }
+    ensures held { IsHeld store.new instance.new call.new }
+{
+    store.end_loose(call.name);
+    instance.set_slot(8, Slot::Null);
+    call.end();
+}

@@ -1,0 +1,102 @@
+//! Pools are cleared and destroyed.
+
+ghost use Rattle.std.specs.Prelude.{◌≡◌, ◌≢◌, ◌∷◌, ◌&&◌, not, if◌then◌else◌, [], ℕ, IsTrue, IfOk, OnOk, OnErr};
+ghost use Rattle.std.specs.List.{list_any};
+ghost use Rattle.bucket_kinds.specs.Device.{Missing};
+ghost use Rattle.bucket_ring.specs.Kept.{NoneRevived};
+ghost use Rattle.run_model.specs.Files.{is_referred};
+ghost use Rattle.run_model.specs.Payloads.{is_file_ref};
+ghost use Rattle.brigade_ops.specs.Files.{SameButOpen};
+ghost use Rattle.run_model.specs.Pools.{cleared, destroyed, is_in, is_live, is_under};
+ghost use Rattle.run_model.specs.RunOrder.{run_order, IsPoolMap};
+ghost use Rattle.run_model.specs.Steps.{pool_cleared, pool_destroyed};
+ghost use Rattle.pool_tree.specs.Tree.{map_of};
+ghost use Rattle.brigade_ops.specs.House.{IsHouse, AreOpen, cleared_ring, pool_left};
+ghost use Rattle.brigade_ops.specs.Store.{lists, brigade_of, pool_of, references, next_name};
+ghost use Rattle.ring_run.specs.Around.{Around};
+ghost use Rattle.ring_run.specs.Cleared.{around_cleared, LooksAt};
+ghost use Rattle.ring_run.specs.Held.{IsHeld};
+ghost use Rattle.ring_run.specs.Seen.{seen};
+
+use crate::machine::{Call, Instance};
+use brigade_ops::{BrigadeId, Brigades, Bucket, Files, PoolId, PoolTree, Rings};
+use run_model::Payload;
+use std::alloc::AllocError;
+
+/// Clears a pool (`apr_pool_clear`), looking at these brigades: those of the connection, in all its filters, and the loose buckets of all its
+/// calls. Answers what the pools handed on, in the run order. Without memory nothing is changed.
+pub fn clear_pool<R: Rings<Bucket> + Drop, F: Files>(
+    instance: &Instance,
+    call: &Call,
+    rings: &[BrigadeId],
+    tree: &mut PoolTree<Payload>,
+    store: &mut Brigades<R>,
+    files: &mut F,
+    pool: PoolId,
+) -> Result<Vec<(PoolId, Payload)>, AllocError>
+    requires live { IsTrue (is_live (map_of tree.old) pool) }
+    requires house { IsHouse store.old (map_of tree.old) }
+    requires open { AreOpen (references store.old) (F.device files.old) }
+    requires held { IsHeld store.old instance.now call.now }
+    requires looks { LooksAt rings.now (is_under (map_of tree.old) pool) (pool_of store.old) instance.now call.now }
+    ensures ran { IfOk result (λ ran. ran.items ≡ run_order (map_of tree.old) pool) }
+    ensures tree { OnOk result (map_of tree.new ≡ cleared pool (map_of tree.old)) }
+    ensures seen { OnOk result ((around : Around) → seen store.new (around_cleared pool (map_of tree.old) (map_of tree.new) around) instance.now call.now ≡ pool_cleared pool (seen store.old (record around { pools = map_of tree.old }) instance.now call.now)) }
+    ensures out { OnOk result ((n : ℕ) → lists store.new n ≡ cleared_ring (is_under (map_of tree.old) pool) (is_in n rings.now) (pool_of store.old n) (lists store.old n)) }
+    ensures off { OnOk result ((n : ℕ) → pool_of store.new n ≡ pool_left (is_under (map_of tree.old) pool) (pool_of store.old n)) }
+    ensures house { IsHouse store.new (map_of tree.new) }
+    ensures closed { OnOk result ((f : ℕ) → (F.device files.new).numbered f
+        ≡ (if list_any (λ x. is_file_ref f x.1) (run_order (map_of tree.old) pool) && not (is_referred (map_of tree.new) f) then Missing else (F.device files.old).numbered f)) }
+    ensures open { AreOpen (references store.new) (F.device files.new) }
+    ensures others { SameButOpen (F.device files.old) (F.device files.new) }
+    ensures next { next_name store.new ≡ next_name store.old }
+    ensures names { NoneRevived (brigade_of store.old) (brigade_of store.new) (next_name store.old) }
+    ensures formed { IsPoolMap (map_of tree.new) }
+    ensures held { OnOk result (IsHeld store.new instance.now call.now) }
+    ensures err { OnErr result ((n : ℕ) → lists store.new n ≡ lists store.old n) }
+    ensures pools { OnErr result (pool_of store.new ≡ pool_of store.old) }
+    ensures kept { OnErr result (map_of tree.new ≡ map_of tree.old) }
+    ensures unread { OnErr result (F.device files.new ≡ F.device files.old) }
+{
+    let ran = store.clear(rings, tree, files, pool)?;
+    Ok(ran)
+}
+
+/// Destroys a pool (`apr_pool_destroy`) that is not the root, else as `clear_pool`.
+pub fn destroy_pool<R: Rings<Bucket> + Drop, F: Files>(
+    instance: &Instance,
+    call: &Call,
+    rings: &[BrigadeId],
+    tree: &mut PoolTree<Payload>,
+    store: &mut Brigades<R>,
+    files: &mut F,
+    pool: PoolId,
+) -> Result<Vec<(PoolId, Payload)>, AllocError>
+    requires below { (map_of tree.old).path pool ≢ pool ∷ [] }
+    requires live { IsTrue (is_live (map_of tree.old) pool) }
+    requires house { IsHouse store.old (map_of tree.old) }
+    requires open { AreOpen (references store.old) (F.device files.old) }
+    requires held { IsHeld store.old instance.now call.now }
+    requires looks { LooksAt rings.now (is_under (map_of tree.old) pool) (pool_of store.old) instance.now call.now }
+    ensures ran { IfOk result (λ ran. ran.items ≡ run_order (map_of tree.old) pool) }
+    ensures tree { OnOk result (map_of tree.new ≡ destroyed pool (map_of tree.old)) }
+    ensures seen { OnOk result ((around : Around) → seen store.new (around_cleared pool (map_of tree.old) (map_of tree.new) around) instance.now call.now ≡ pool_destroyed pool (seen store.old (record around { pools = map_of tree.old }) instance.now call.now)) }
+    ensures out { OnOk result ((n : ℕ) → lists store.new n ≡ cleared_ring (is_under (map_of tree.old) pool) (is_in n rings.now) (pool_of store.old n) (lists store.old n)) }
+    ensures off { OnOk result ((n : ℕ) → pool_of store.new n ≡ pool_left (is_under (map_of tree.old) pool) (pool_of store.old n)) }
+    ensures house { IsHouse store.new (map_of tree.new) }
+    ensures closed { OnOk result ((f : ℕ) → (F.device files.new).numbered f
+        ≡ (if list_any (λ x. is_file_ref f x.1) (run_order (map_of tree.old) pool) && not (is_referred (map_of tree.new) f) then Missing else (F.device files.old).numbered f)) }
+    ensures open { AreOpen (references store.new) (F.device files.new) }
+    ensures others { SameButOpen (F.device files.old) (F.device files.new) }
+    ensures next { next_name store.new ≡ next_name store.old }
+    ensures names { NoneRevived (brigade_of store.old) (brigade_of store.new) (next_name store.old) }
+    ensures formed { IsPoolMap (map_of tree.new) }
+    ensures held { OnOk result (IsHeld store.new instance.now call.now) }
+    ensures err { OnErr result ((n : ℕ) → lists store.new n ≡ lists store.old n) }
+    ensures pools { OnErr result (pool_of store.new ≡ pool_of store.old) }
+    ensures kept { OnErr result (map_of tree.new ≡ map_of tree.old) }
+    ensures unread { OnErr result (F.device files.new ≡ F.device files.old) }
+{
+    let ran = store.destroy(rings, tree, files, pool)?;
+    Ok(ran)
+}

@@ -1,0 +1,44 @@
+//! What makes a brigade (apr_brigade_create).
+
+ghost use Rattle.std.specs.Prelude.{◌≡◌, ◌<◌, Some, IsTrue, OnOk, OnErr};
+ghost use Rattle.module_lang.specs.Program.{Program, pool_of_brigade};
+ghost use Rattle.run_model.specs.Pools.{is_live};
+ghost use Rattle.run_model.specs.State.{pool_named};
+ghost use Rattle.run_model.specs.Steps.{do_create};
+ghost use Rattle.pool_tree.specs.Tree.{map_of};
+ghost use Rattle.brigade_ops.specs.House.{IsHouse};
+ghost use Rattle.ring_run.specs.declared.machine.Call.{Call};
+ghost use Rattle.ring_run.specs.Around.{Around};
+ghost use Rattle.ring_run.specs.Held.{IsHeld};
+ghost use Rattle.ring_run.specs.Seen.{seen};
+
+use crate::machine::{Instance, Slot};
+use brigade_ops::{Brigades, PoolId, PoolTree, Rings};
+use run_model::{Bucket, Mark, Payload};
+use std::alloc::AllocError;
+
+/// Makes an empty brigade on its declared pool, where it is registered. What was in the variable is in no variable then. Without
+/// memory, and where the names are spent, nothing is changed.
+pub(crate) fn create<R: Rings<Bucket> + Drop>(
+    instance: &mut Instance,
+    tree: &mut PoolTree<Payload>,
+    store: &mut Brigades<R>,
+    o: u8,
+    pool: PoolId,
+) -> Result<(), AllocError>
+    requires slot { o < 8 }
+    requires live { IsTrue (is_live (map_of tree.old) pool) }
+    ensures ok { OnOk result ((code : Program) (around : Around) (call : Call) → IsHeld store.old instance.old call
+        → let r = seen store.old (record around { pools = map_of tree.old }) instance.old call in pool_named r (pool_of_brigade code o) ≡ Some pool
+        → seen store.new (record around { pools = map_of tree.new }) instance.new call ≡ do_create code o r) }
+    ensures err { OnErr result ((around : Around) (call : Call)
+        → seen store.new (record around { pools = map_of tree.new }) instance.new call ≡ seen store.old (record around { pools = map_of tree.old }) instance.old call) }
+    ensures held { (call : Call) → IsHeld store.old instance.old call → IsHeld store.new instance.new call }
+    ensures house { IsHouse store.old (map_of tree.old) → IsHouse store.new (map_of tree.new) }
+{
+    let Ok(name) = store.create(tree, pool) else {
+        return Err(AllocError);
+    };
+    instance.set_slot(o, Slot::Made(name, Some(pool), Mark::Usable));
+    Ok(())
+}

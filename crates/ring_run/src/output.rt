@@ -1,0 +1,223 @@
+//! The end of the chain, where the bytes of brigades become output.
+
+ghost use Rattle.std.specs.Prelude.{◌≡◌, ◌⊎◌, ◌+◌, ◌<◌, ◌≤◌, ◌^◌, ℕ, Bool, true, false, length, is_some, Some, IfOk, OnOk, OnErr};
+ghost use Rattle.bucket_kinds.specs.Device.{failed, is_there};
+ghost use Rattle.bucket_kinds.specs.Reading.{MayGive, MayEnd, IsOpenFor};
+ghost use Rattle.bucket_ring.specs.declared.names.BucketId.{BucketId};
+ghost use Rattle.bucket_ring.specs.Lists.{list_at};
+ghost use Rattle.run_model.specs.Buckets.{is_eos_kind};
+ghost use Rattle.run_model.specs.BrigadeLists.{length_in};
+ghost use Rattle.run_model.specs.State.{items_of};
+ghost use Rattle.run_model.specs.Steps.{do_pass};
+ghost use Rattle.run_model.specs.Cutting.{EndsInFile, length_of};
+ghost use Rattle.run_model.specs.declared.bucket.Bucket.{Bucket};
+ghost use Rattle.brigade_ops.specs.Items.{named};
+ghost use Rattle.brigade_ops.specs.Store.{lists, brigade_of, bucket_at};
+ghost use Rattle.ring_run.specs.Delivery.{ContentFilled, ItemsFilled, WasDelivered, out_of};
+ghost use Rattle.ring_run.specs.declared.machine.Call.{Call};
+ghost use Rattle.ring_run.specs.Around.{Around};
+ghost use Rattle.ring_run.specs.Ends.{EndInFiles};
+ghost use Rattle.ring_run.specs.Given.{AreOpen};
+ghost use Rattle.ring_run.specs.Held.{IsHeld};
+ghost use Rattle.ring_run.specs.LeftAlone.{LeavesOthers};
+ghost use Rattle.ring_run.specs.Slots.{live_in, slot_at};
+ghost use Rattle.ring_run.specs.Seen.{seen, shown};
+
+use crate::effects::live;
+use crate::machine::Instance;
+use crate::passes::{hand_over, has_eos, is_eos};
+use brigade_ops::{BrigadeId, Brigades, Bucket, Content, FileNo, Files, Rings};
+use run_model::Seq;
+use std::alloc::AllocError;
+
+/// How many bytes a read takes from a file, at most.
+const READ_LIMIT: usize = 8000;
+
+/// How many bytes were taken, and whether no read failed.
+#[derive(Clone, Copy)]
+struct Filled {
+    count: usize,
+    whole: bool,
+}
+
+/// Fills a buffer from a place of a file on, and tells whether that went well.
+fn fetch<F: Files>(files: &mut F, file: FileNo, at: u64, buffer: &mut [u8]) -> bool
+    requires { is_there ((F.device files.old).numbered file) ≡ true }
+    ensures given { result ≡ true → MayGive ((F.device files.old).numbered file) at (length buffer.old) buffer.new }
+    ensures same { result ≡ true → F.device files.new ≡ F.device files.old }
+    ensures fault { result ≡ false
+        → (F.device files.new ≡ failed (F.device files.old))
+        ⊎ ((F.device files.new ≡ F.device files.old) × MayEnd ((F.device files.old).numbered file) at (length buffer.old)) }
+    ensures open_files { (F.device files.new).numbered ≡ (F.device files.old).numbered }
+    ensures len { length buffer.new ≡ length buffer.old }
+{
+    let count = buffer.len();
+    match files.read_at(file, at, buffer) {
+        Ok(filled) => filled == count,
+        Err(_) => false,
+    }
+}
+
+/// Reads a range into a buffer of its length, in parts of 8000 bytes, up to a read that fails.
+fn fill_range<F: Files>(out: &mut [u8], files: &mut F, file: FileNo, start: u64) -> Filled
+    requires open { is_there ((F.device files.old).numbered file) ≡ true }
+    requires ends { start + length out.old < 2 ^ 64 }
+    ensures filled { ContentFilled (F.device files.old) (F.device files.new) (Content.Range file start (length out.old)) result out.new }
+    ensures within { result.count ≤ length out.old }
+    ensures open_files { (F.device files.new).numbered ≡ (F.device files.old).numbered }
+    ensures len { length out.new ≡ length out.old }
+{
+    let len = out.len();
+    let mut count = 0;
+    while count < len {
+        let end = count + READ_LIMIT.min(len - count);
+        if !fetch(files, file, start + count as u64, &mut out[count..end]) {
+            return Filled {
+                count,
+                whole: false,
+            };
+        }
+        count = end;
+    }
+    Filled { count, whole: true }
+}
+
+/// Takes the bytes of a content to the front of a buffer that is long enough.
+fn fill<F: Files>(out: &mut [u8], files: &mut F, content: &Content) -> Filled
+    requires room { length_of content.now ≤ length out.old }
+    requires ends { EndsInFile content.now }
+    requires open { IsOpenFor (F.device files.old) content.now }
+    ensures filled { ContentFilled (F.device files.old) (F.device files.new) content.now result out.new }
+    ensures within { result.count ≤ length_of content.now }
+    ensures open_files { (F.device files.new).numbered ≡ (F.device files.old).numbered }
+    ensures len { length out.new ≡ length out.old }
+{
+    match content {
+        Content::Bytes(bytes) => {
+            let count = bytes.len();
+            out[..count].copy_from_slice(bytes.as_slice());
+            Filled { count, whole: true }
+        }
+        Content::Range { file, start, len } => {
+            fill_range(&mut out[..*len as usize], files, *file, *start)
+        }
+        Content::Nothing => Filled {
+            count: 0,
+            whole: true,
+        },
+    }
+}
+
+/// Takes the bytes of a brigade before its first EOS to the front of a buffer that is long enough, up to a read that fails.
+fn fill_all<R: Rings<Bucket> + Drop, F: Files>(
+    out: &mut [u8],
+    files: &mut F,
+    store: &Brigades<R>,
+    b: BrigadeId,
+) -> Filled
+    requires there { is_some (lists store.now b) ≡ true }
+    requires room { length_in (named (list_at (lists store.now) b)) ≤ length out.old }
+    requires ends { (id : BucketId) (x : Bucket) → brigade_of store.now id ≡ Some b → bucket_at store.now id ≡ Some x → EndsInFile x.content }
+    requires open { (id : BucketId) (x : Bucket) → brigade_of store.now id ≡ Some b → bucket_at store.now id ≡ Some x → IsOpenFor (F.device files.old) x.content }
+    ensures filled { ItemsFilled (F.device files.old) (F.device files.new) (list_at (lists store.now) b) result out.new }
+    ensures within { result.count ≤ length out.old }
+    ensures open_files { (F.device files.new).numbered ≡ (F.device files.old).numbered }
+    ensures len { length out.new ≡ length out.old }
+{
+    let mut count = 0;
+    let mut place = store.start(b);
+    while let Some(id) = place {
+        let bucket = store.payload(id);
+        if is_eos(bucket.kind) {
+            return Filled { count, whole: true };
+        }
+        let filled = fill(&mut out[count..], files, &bucket.content);
+        count += filled.count;
+        if !filled.whole {
+            return Filled {
+                count,
+                whole: false,
+            };
+        }
+        place = store.behind(id);
+    }
+    Filled { count, whole: true }
+}
+
+/// Adds the bytes of a brigade before its first EOS to the output, up to a read that fails, and tells whether none did. An EOS ends the
+/// output, also behind a read that failed, and what comes after it is ignored. Without memory nothing is changed, and nothing is read.
+pub fn deliver<R: Rings<Bucket> + Drop, F: Files>(
+    store: &Brigades<R>,
+    files: &mut F,
+    b: BrigadeId,
+    out: &mut Seq<u8>,
+    ended: &mut bool,
+) -> Result<bool, AllocError>
+    requires there { is_some (lists store.now b) ≡ true }
+    requires ends { (id : BucketId) (x : Bucket) → brigade_of store.now id ≡ Some b → bucket_at store.now id ≡ Some x → EndsInFile x.content }
+    requires open { (id : BucketId) (x : Bucket) → brigade_of store.now id ≡ Some b → bucket_at store.now id ≡ Some x → IsOpenFor (F.device files.old) x.content }
+    ensures ok { IfOk result (λ well. (runs : ℕ → Bool) → WasDelivered (F.device files.old) (F.device files.new) (out_of out.old ended.old) (shown runs (list_at (lists store.now) b)) (out_of out.new ended.new) well) }
+    ensures err { OnErr result (out_of out.new ended.new ≡ out_of out.old ended.old) }
+    ensures unread { OnErr result (F.device files.new ≡ F.device files.old) }
+    ensures open_files { (F.device files.new).numbered ≡ (F.device files.old).numbered }
+{
+    if *ended {
+        return Ok(true);
+    }
+    let total = store.length(b);
+    if total > usize::MAX as u128 {
+        return Err(AllocError);
+    }
+    let len = out.len();
+    out.add_zeros(total as usize)?;
+    let filled = fill_all(&mut out.as_mut_slice()[len..], files, store, b);
+    out.truncate(len + filled.count);
+    *ended = has_eos(store, b);
+    Ok(filled.whole)
+}
+
+/// The brigade of a variable was taken by the output: its buckets are destroyed, and the variable is marked passed. It is remembered where
+/// an EOS went with it.
+fn empty_passed<R: Rings<Bucket> + Drop>(instance: &mut Instance, store: &mut Brigades<R>, b: u8)
+    requires { b < 9 }
+    ensures seen { (around : Around) (call : Call) → IsHeld store.old instance.old call → seen store.new around instance.new call ≡ do_pass b (seen store.old around instance.old call) }
+    ensures held { (call : Call) → IsHeld store.old instance.old call → IsHeld store.new instance.new call }
+    ensures left { (call : Call) → LeavesOthers store.old store.new instance.old call }
+{
+    hand_over(instance, store, b);
+    let Some(name) = live(instance, store, b) else {
+        return;
+    };
+    store.clean(name);
+}
+
+/// The last filter passes the brigade of a variable to the end of the chain, and it is told whether that went well. Without memory
+/// nothing is changed, and nothing is read.
+pub fn pass_out<R: Rings<Bucket> + Drop, F: Files>(
+    instance: &mut Instance,
+    store: &mut Brigades<R>,
+    files: &mut F,
+    b: u8,
+    out: &mut Seq<u8>,
+    ended: &mut bool,
+) -> Result<bool, AllocError>
+    requires slot { b < 9 }
+    requires live { is_some (live_in (lists store.old) (slot_at instance.old b)) ≡ true }
+    requires ends { EndInFiles store.old instance.old }
+    requires open { AreOpen (F.device files.old) store.old instance.old }
+    ensures delivered { IfOk result (λ well. (around : Around) (call : Call) → WasDelivered (F.device files.old) (F.device files.new) (out_of out.old ended.old) (items_of ((seen store.old around instance.old call).instance.brigades b)) (out_of out.new ended.new) well) }
+    ensures passed { OnOk result ((around : Around) (call : Call) → IsHeld store.old instance.old call → seen store.new around instance.new call ≡ do_pass b (seen store.old around instance.old call)) }
+    ensures held { (call : Call) → IsHeld store.old instance.old call → IsHeld store.new instance.new call }
+    ensures left { OnOk result ((call : Call) → LeavesOthers store.old store.new instance.old call) }
+    ensures err { OnErr result ((around : Around) (call : Call) → seen store.new around instance.new call ≡ seen store.old around instance.old call) }
+    ensures kept { OnErr result (out_of out.new ended.new ≡ out_of out.old ended.old) }
+    ensures unread { OnErr result (F.device files.new ≡ F.device files.old) }
+    ensures open_files { (F.device files.new).numbered ≡ (F.device files.old).numbered }
+{
+    let Some(name) = live(instance, store, b) else {
+        unreachable!()
+    };
+    let well = deliver(store, files, name, out, ended)?;
+    empty_passed(instance, store, b);
+    Ok(well)
+}

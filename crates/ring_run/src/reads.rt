@@ -1,0 +1,60 @@
+//! What the instruction that reads does (apr_buckets.h, apr_bucket_read).
+
+ghost use Rattle.std.specs.Prelude.{◌≡◌, ◌<◌, ℕ, None, Some, IfOk, OnOk, OnErr};
+ghost use Rattle.run_model.specs.Cursors.{Within, spot};
+ghost use Rattle.run_model.specs.Faults.{home_fault};
+ghost use Rattle.run_model.specs.declared.bucket.NamedBucket.{NamedBucket};
+ghost use Rattle.ring_run.specs.Around.{Around};
+ghost use Rattle.ring_run.specs.Ends.{EndInFiles};
+ghost use Rattle.ring_run.specs.Given.{AreOpen, WasRead};
+ghost use Rattle.ring_run.specs.Held.{IsHeld};
+ghost use Rattle.ring_run.specs.LeftAlone.{LeavesOthers};
+ghost use Rattle.ring_run.specs.Seen.{seen};
+
+use crate::machine::{Call, Instance, Stand};
+use crate::spots::{Spot, place_of};
+use brigade_ops::{Brigades, Bucket, Files, ReadRefusal, Rings};
+use std::alloc::AllocError;
+
+/// The read cursor `rd`.
+const READ_CURSOR: u8 = 8;
+
+/// Reads the bucket of a cursor, a longer range up to its first 8000 bytes, and tells whether that went well. The read cursor is at the
+/// bucket then; where the read failed it is unset. Without memory, and where the names are spent, nothing is changed, and nothing is
+/// read.
+pub(crate) fn read<R: Rings<Bucket> + Drop, F: Files>(
+    instance: &Instance,
+    call: &mut Call,
+    store: &mut Brigades<R>,
+    files: &mut F,
+    c: u8,
+) -> Result<bool, AllocError>
+    requires cursor { c < 9 }
+    requires held { IsHeld store.old instance.now call.old }
+    requires ends { EndInFiles store.old instance.now }
+    requires open { AreOpen (F.device files.old) store.old instance.now }
+    ensures ok { IfOk result (λ well. (around : Around) (b : ℕ) (x : NamedBucket) → let r = seen store.old around instance.now call.old in spot r c ≡ Within b x → home_fault (Some x) ≡ None
+        → WasRead (F.device files.old) (F.device files.new) (spot r c) r (seen store.new around instance.now call.new) well) }
+    ensures left { OnOk result (LeavesOthers store.old store.new instance.now call.old) }
+    ensures err { OnErr result ((around : Around) → seen store.new around instance.now call.new ≡ seen store.old around instance.now call.old) }
+    ensures unread { OnErr result (F.device files.new ≡ F.device files.old) }
+    ensures open_files { (F.device files.new).numbered ≡ (F.device files.old).numbered }
+    ensures held { IsHeld store.new instance.now call.new }
+    ensures name { call.new.name ≡ call.old.name }
+{
+    let Spot::Within(_, id) = place_of(instance, call, store, c) else {
+        return Ok(true);
+    };
+    match store.read(files, id) {
+        Ok(_) => {
+            call.set_cursor(READ_CURSOR, Stand::At(id));
+            Ok(true)
+        }
+        Err(ReadRefusal::ReadFault) => {
+            call.set_cursor(READ_CURSOR, Stand::Unset);
+            Ok(false)
+        }
+        Err(ReadRefusal::NoMemory) => Err(AllocError),
+        Err(ReadRefusal::NamesSpent) => Err(AllocError),
+    }
+}

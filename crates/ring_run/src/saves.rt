@@ -1,0 +1,53 @@
+//! The buckets of a brigade are set aside into the pool of another (ap_save_brigade).
+
+ghost use Rattle.std.specs.Prelude.{◌≡◌, ◌≢◌, ◌<◌, ℕ, Some, IsTrue, OnOk, OnErr};
+ghost use Rattle.run_model.specs.Pools.{is_live};
+ghost use Rattle.run_model.specs.Steps.{do_save};
+ghost use Rattle.pool_tree.specs.Tree.{map_of};
+ghost use Rattle.brigade_ops.specs.House.{IsHouse};
+ghost use Rattle.brigade_ops.specs.Store.{lists, pool_of};
+ghost use Rattle.ring_run.specs.declared.machine.Call.{Call};
+ghost use Rattle.ring_run.specs.Around.{Around};
+ghost use Rattle.ring_run.specs.Held.{AreApart, AreOn, IsHeld};
+ghost use Rattle.ring_run.specs.Slots.{live_in, slot_at};
+ghost use Rattle.ring_run.specs.Seen.{seen};
+
+use crate::effects::live;
+use crate::machine::{Instance, Slot};
+use brigade_ops::{Brigades, PoolTree, Rings};
+use run_model::{Bucket, Payload};
+use std::alloc::AllocError;
+
+/// Sets the buckets of a second brigade aside into the pool of a first, and moves them to its tail. Where the first is on no pool, or one
+/// of them is not there, nothing is changed. Without memory nothing is changed.
+pub(crate) fn save<R: Rings<Bucket> + Drop>(
+    instance: &Instance,
+    tree: &mut PoolTree<Payload>,
+    store: &mut Brigades<R>,
+    o: u8,
+    b: u8,
+) -> Result<(), AllocError>
+    requires first { o < 8 }
+    requires second { b < 9 }
+    requires apart { o ≢ b }
+    requires held { AreApart instance.now }
+    requires on { AreOn (lists store.old) (pool_of store.old) instance.now }
+    requires live { (n p : ℕ) → live_in (lists store.old) (slot_at instance.now o) ≡ Some n → pool_of store.old n ≡ Some p → IsTrue (is_live (map_of tree.old) p) }
+    ensures ok { OnOk result ((around : Around) (call : Call) → IsHeld store.old instance.now call
+        → seen store.new (record around { pools = map_of tree.new }) instance.now call ≡ do_save o b (seen store.old (record around { pools = map_of tree.old }) instance.now call)) }
+    ensures err { OnErr result ((around : Around) (call : Call)
+        → seen store.new (record around { pools = map_of tree.new }) instance.now call ≡ seen store.old (record around { pools = map_of tree.old }) instance.now call) }
+    ensures held { (call : Call) → IsHeld store.old instance.now call → IsHeld store.new instance.now call }
+    ensures house { IsHouse store.old (map_of tree.old) → IsHouse store.new (map_of tree.new) }
+{
+    let Slot::Made(to, on, _) = instance.slot(o) else {
+        return Ok(());
+    };
+    if on.is_none() || !store.has(to) {
+        return Ok(());
+    }
+    let Some(from) = live(instance, store, b) else {
+        return Ok(());
+    };
+    store.save(tree, to, from)
+}

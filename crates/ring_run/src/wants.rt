@@ -1,0 +1,129 @@
+//! The faults of an instruction.
+
+ghost use Rattle.std.specs.Prelude.{◌≡◌, ◌≤◌, true, length};
+ghost use Rattle.module_lang.specs.Program.{fits};
+ghost use Rattle.run_model.specs.Faults.{fault};
+ghost use Rattle.ring_run.specs.Around.{Around};
+ghost use Rattle.ring_run.specs.Held.{IsHeld};
+ghost use Rattle.ring_run.specs.Outside.{with_outside};
+ghost use Rattle.ring_run.specs.Seen.{seen};
+
+use crate::brigade_wants::{want_home_across, want_homes, want_return, want_send};
+use crate::bytes::RD;
+use crate::faults::{or_else, want_brigade, want_new, want_usable};
+use crate::footings::{Footing, want_cursor};
+use crate::home_wants::want_home;
+use crate::machine::{Call, Instance};
+use crate::outside::Outside;
+use crate::pool_wants::{want_new_pool, want_pool};
+use brigade_ops::{Brigades, Bucket, Rings};
+use run_model::{FaultKind, Instr, Module, PoolRef};
+
+/// The fault of an instruction, if it has one: the first of what it wants that is not so.
+pub(crate) fn fault<R: Rings<Bucket> + Drop>(
+    code: &Module,
+    instance: &Instance,
+    call: &Call,
+    outside: &Outside<'_>,
+    store: &Brigades<R>,
+    instr: Instr,
+) -> Option<FaultKind>
+    requires fit { fits code.now instr ≡ true }
+    requires few { length code.now.brigades ≤ 8 }
+    requires held { IsHeld store.now instance.now call.now }
+    ensures { (around : Around) → result ≡ fault code.now (seen store.now (with_outside outside.now around) instance.now call.now) instr }
+{
+    match instr {
+        Instr::PCreate(q) => or_else(
+            want_pool(instance, outside, code.pool_parent(q)),
+            want_new_pool(instance, outside, q),
+        ),
+        Instr::PClear(q) | Instr::PDestroy(q) => want_pool(instance, outside, PoolRef::Own(q)),
+        Instr::Label(pool, _) | Instr::Unlabel(pool, _) | Instr::PoolB(_, pool) => {
+            want_pool(instance, outside, pool)
+        }
+        Instr::BCreate(o) => or_else(
+            want_pool(instance, outside, code.brigade_pool(o)),
+            want_new(instance, store, o),
+        ),
+        Instr::BClean(b) => want_brigade(instance, store, b),
+        Instr::BConcat(a, b) => or_else(
+            want_usable(instance, store, a),
+            want_usable(instance, store, b),
+        ),
+        Instr::BSplit(b, c, a) => or_else(
+            want_usable(instance, store, b),
+            or_else(
+                want_cursor(instance, call, store, c, Footing::InThis(b)),
+                want_usable(instance, store, a),
+            ),
+        ),
+        Instr::BPart(b, x, _, _) => or_else(
+            want_usable(instance, store, b),
+            want_home_across(instance, call, outside, store, b, x),
+        ),
+        Instr::BSave(o, b) => or_else(
+            want_usable(instance, store, o),
+            or_else(
+                want_usable(instance, store, b),
+                want_homes(instance, call, outside, store, b),
+            ),
+        ),
+        Instr::JEmpty(b, _) | Instr::First(_, b) => want_usable(instance, store, b),
+        Instr::Pass(b, _) => or_else(
+            want_usable(instance, store, b),
+            or_else(
+                want_homes(instance, call, outside, store, b),
+                want_send(instance, store, b),
+            ),
+        ),
+        Instr::Next(_, c) | Instr::Unlink(c) => {
+            want_cursor(instance, call, store, c, Footing::InBrigade)
+        }
+        Instr::JEnd(c, _) => want_cursor(instance, call, store, c, Footing::Anywhere),
+        Instr::JKind(c, _, _) | Instr::BDelete(c) | Instr::Len(_, c) => {
+            want_cursor(instance, call, store, c, Footing::OnBucket)
+        }
+        Instr::Tail(b, c) | Instr::Head(b, c) => or_else(
+            want_usable(instance, store, b),
+            want_cursor(instance, call, store, c, Footing::OnLoose),
+        ),
+        Instr::Before(c, d) => or_else(
+            want_cursor(instance, call, store, c, Footing::OnLoose),
+            want_cursor(instance, call, store, d, Footing::InBrigade),
+        ),
+        Instr::Split(c, _, _) | Instr::Read(c, _) => or_else(
+            want_cursor(instance, call, store, c, Footing::InBrigade),
+            want_home(instance, call, outside, store, c),
+        ),
+        Instr::Copy(_, c) => or_else(
+            want_cursor(instance, call, store, c, Footing::OnBucket),
+            want_home(instance, call, outside, store, c),
+        ),
+        Instr::Aside(c, pool) => or_else(
+            want_cursor(instance, call, store, c, Footing::OnBucket),
+            or_else(
+                want_pool(instance, outside, pool),
+                want_home(instance, call, outside, store, c),
+            ),
+        ),
+        Instr::Get(_, _, _) => want_cursor(instance, call, store, RD, Footing::OnBucket),
+        Instr::Heap(_, _)
+        | Instr::Immortal(_, _)
+        | Instr::FromBuf(_)
+        | Instr::Transient(_)
+        | Instr::Flush(_)
+        | Instr::Eos(_)
+        | Instr::Put(_, _)
+        | Instr::ClearBuf
+        | Instr::Set(_, _)
+        | Instr::Add(_, _)
+        | Instr::Sub(_, _)
+        | Instr::JLt(_, _, _)
+        | Instr::JEq(_, _, _)
+        | Instr::JNull(_, _)
+        | Instr::JSent(_)
+        | Instr::Jump(_) => None,
+        Instr::Ret(_) => want_return(instance, call, outside, store),
+    }
+}
