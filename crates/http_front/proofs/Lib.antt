@@ -1,0 +1,4 @@
+pub mod Headless
+pub mod Dated
+pub mod Asked
+pub mod Sent
