@@ -14,6 +14,8 @@ pub mod Destroyed
 pub mod Removed
 pub mod Writing
 pub mod Printing
+pub mod PrintedParts
 pub mod Below
 pub mod Holding
 pub mod Hashing
+pub mod Renamed

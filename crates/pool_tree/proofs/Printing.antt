@@ -21,7 +21,7 @@ use Rattle.pool_tree.proofs.Walks.{children_from, children_start, children_rest}
 pub turned_more : (f : ℕ → List ℕ) (c : ℕ) (xs : List ℕ) → flat_map f (reverse (c ∷ xs)) ≡ flat_map f (reverse xs) ++ f c
 turned_more f c xs = ap (flat_map f) (reverse-append (c ∷ []) xs) ∙ flat_map-append f (reverse xs) (c ∷ []) ∙ ap (λ ys. flat_map f (reverse xs) ++ ys) (append-nil (f c))
 
-turned_same : {T : Type 0} (ps : Pools T) (p : ℕ) (f g : ℕ → List ℕ) → ((c : ℕ) → is_child ps p c ≡ true → f c ≡ g c) → (m : ℕ) → flat_map f (reverse (children_below ps p m)) ≡ flat_map g (reverse (children_below ps p m))
+pub turned_same : {T : Type 0} (ps : Pools T) (p : ℕ) (f g : ℕ → List ℕ) → ((c : ℕ) → is_child ps p c ≡ true → f c ≡ g c) → (m : ℕ) → flat_map f (reverse (children_below ps p m)) ≡ flat_map g (reverse (children_below ps p m))
 unfolding children_below
 turned_same ps p f g same zero = refl
 turned_same ps p f g same (suc m) =
@@ -30,7 +30,7 @@ turned_same ps p f g same (suc m) =
       | inr other ↦ rw other (turned_same ps p f g same m)
     ]
 
-printed_deep : {T : Type 0} (text : T → List ℕ) (ps : Pools T) → IsPoolMap ps → (d e depth p : ℕ) → ps.next ≤ d + p → ps.next ≤ e + p → is_live ps p ≡ true
+pub printed_deep : {T : Type 0} (text : T → List ℕ) (ps : Pools T) → IsPoolMap ps → (d e depth p : ℕ) → ps.next ≤ d + p → ps.next ≤ e + p → is_live ps p ≡ true
     → printed_within d text ps depth p ≡ printed_within e text ps depth p
 unfolding printed_within
 printed_deep text ps formed zero e depth p deep far live = absurd (omega (arith, formed.named p live))

@@ -2,6 +2,7 @@
 #![tactic(auto)]
 
 mod handed;
+pub mod laws;
 mod links;
 mod names;
 mod payloads;

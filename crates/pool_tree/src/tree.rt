@@ -98,6 +98,15 @@ impl<T: Drop> PoolTree<T> {
         self.next
     }
 
+    /// Sets the name that the next pool gets. All pools that are there have names below it.
+    pub fn set_next(&mut self, next: PoolId)
+        requires { (n : ℕ) → IsTrue (is_live (map_of self.old) n) → n < next }
+        ensures out { map_of self.new ≡ record (map_of self.old) { next = next } }
+        ensures formed { IsPoolMap (map_of self.new) }
+    {
+        self.next = next;
+    }
+
     /// Registers a payload with a pool, as its newest. Without memory nothing is changed, and the payload comes back.
     pub fn register(&mut self, pool: PoolId, payload: T) -> Result<(), (AllocError, T)>
         requires { IsTrue (is_live (map_of self.old) pool) }

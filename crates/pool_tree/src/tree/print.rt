@@ -71,8 +71,14 @@ impl<T: Drop + PoolText> PoolTree<T> {
         Some(oldest)
     }
 
-    /// Writes the lines of a pool and of those under it.
-    fn put_pool<W: Write>(&self, out: &mut W, pool: PoolId, depth: u64) -> Result<(), WriteFault>
+    /// Writes the lines of a pool and of those under it, as `print` does where this many pools stand above. Takes stack in proportion to
+    /// the depth of the tree.
+    pub fn put_pool<W: Write>(
+        &self,
+        out: &mut W,
+        pool: PoolId,
+        depth: u64,
+    ) -> Result<(), WriteFault>
         requires live { IsTrue (is_live (map_of self.now) pool) }
         requires small { depth ≤ pool }
         ensures { OnOk result (Appends (W.contents out.old) (W.contents out.new) (printed T.shown (map_of self.now) depth pool)) }
