@@ -16,3 +16,4 @@ pub mod Plans
 pub mod House
 pub mod Housed
 pub mod HouseCalls
+pub mod Renumbered

@@ -1,5 +1,6 @@
 -- What is true of each store of brigades.
-use Rattle.std.proofs.Common.{◌≡◌, ℕ, ◌<◌, ◌^◌, true, Some, is_some, ap}
+use Rattle.std.proofs.Common.{◌≡◌, ℕ, ◌<◌, ◌^◌, true, Option, None, Some, is_some, [], refl, sym, ◌∙◌, ap, arith}
+use Rattle.std.specs.Option.{option_map_or}
 use Rattle.bucket_ring.specs.declared.names.BucketId.{BucketId}
 use Rattle.bucket_ring.specs.declared.rings.Rings.{Ghosts}
 use Rattle.bucket_ring.specs.Lists.{list_at, times, found}
@@ -7,6 +8,7 @@ use Rattle.bucket_ring.specs.Kept.{once_in, IsKept}
 use Rattle.bucket_ring.specs.Laws as ring
 use Rattle.run_model.specs.declared.bucket.Bucket.{Bucket}
 use Rattle.brigade_ops.specs.declared.store.Brigades.{Brigades}
+use Rattle.brigade_ops.specs.Items.{Items}
 use Rattle.brigade_ops.specs.Laws.{IsGiven}
 use Rattle.brigade_ops.specs.Store.{lists, brigade_of, bucket_at, next_name}
 use Rattle.brigade_ops.proofs.Lists.{and_then_told}
@@ -66,3 +68,18 @@ module _ {R : Type 0} {g : Ghosts R Bucket} (store : Brigades R g) where
   pub found_bucket : (id : BucketId) (b : ℕ) (x : Bucket) → brigade_of store id ≡ Some b → found id (list_at (lists store) b) ≡ Some x → bucket_at store id ≡ Some x
   unfolding lists brigade_of bucket_at
   found_bucket id b x at is = here_at (brigade_of store id) (lists store) id b x at is
+
+same_ring : (o p : Option ℕ) → ((b : ℕ) → once_in b o ≡ once_in b p) → o ≡ p
+same_ring None None same = refl
+same_ring None (Some q) same = absurd (omega (arith, same q, ring.once_here q))
+same_ring (Some q) p same = sym (ring.once_some q p (omega (arith, same q, ring.once_here q)))
+
+-- Where two stores have the same lists, each bucket is in the same brigade.
+module _ {R : Type 0} {g : Ghosts R Bucket} (old new : Brigades R g) (same : (b : ℕ) → lists new b ≡ lists old b) where
+  pub same_brigade : (id : BucketId) → brigade_of new id ≡ brigade_of old id
+  same_brigade id =
+      same_ring (brigade_of new id) (brigade_of old id) (λ b. sym (counted new id b) ∙ (ap (λ (o : Option Items). times id (option_map_or (λ xs. xs) o [])) (same b) ∙ counted old id b))
+
+  -- so all buckets have names below the next of the other
+  pub births_below : (id : BucketId) → is_some (brigade_of new id) ≡ true → id.birth < next_name old
+  births_below id there = young old id (sym (ap is_some (same_brigade id)) ∙ there)

@@ -1,9 +1,10 @@
 //! Brigades of the store: made, ended, cleaned and joined.
 
 ghost use Rattle.std.specs.Prelude.{◌≡◌, ◌≢◌, ◌↔◌, ℕ, ◌+◌, ◌<◌, ◌^◌, ◌++◌, [], length, Some, None, true, is_some, is_ok, if◌then◌else◌, IsTrue, IsOk, IfOk, OnOk, OnErr, IsErrOf};
-ghost use Rattle.run_model.specs.Pools.{is_live, registered};
+ghost use Rattle.run_model.specs.Pools.{Pools, is_live, registered};
 ghost use Rattle.run_model.specs.RunOrder.{IsPoolMap};
 ghost use Rattle.pool_tree.specs.Tree.{map_of};
+ghost use Rattle.bucket_ring.specs.declared.names.BucketId.{BucketId};
 ghost use Rattle.bucket_ring.specs.Lists.{upd, on, list_at, by_birth, numbered};
 ghost use Rattle.brigade_ops.specs.Items.{Items};
 ghost use Rattle.brigade_ops.specs.House.{IsHouse};
@@ -17,7 +18,7 @@ use std::alloc::AllocError;
 
 #[tactic(auto, unfolding(crate::specs::Store::lists, crate::specs::Store::brigade_of, crate::specs::Store::pool_of, crate::specs::Store::next_name, crate::specs::Store::references), using(pool_tree::proofs::Trees::tree_formed))]
 impl<R: Rings<Bucket> + Drop> Brigades<R> {
-    ghost use Rattle.brigade_ops.specs.Store.{lists, brigade_of, pool_of, next_name, references};
+    ghost use Rattle.brigade_ops.specs.Store.{lists, brigade_of, bucket_at, pool_of, next_name, references};
 
     /// Whether there is such a brigade.
     pub fn has(&self, b: BrigadeId) -> bool
@@ -143,5 +144,20 @@ impl<R: Rings<Bucket> + Drop> Brigades<R> {
         ensures err { OnErr result ((n : ℕ) → lists self.new n ≡ lists self.old n) }
     {
         self.held.rings.splice_tail(a, b)
+    }
+
+    /// Sets the name that the next brigade or bucket gets. All brigades and buckets that are there have names below it.
+    pub fn set_next(&mut self, next: u64)
+        requires brigades { (b : ℕ) → is_some (lists self.old b) ≡ true → b < next }
+        requires births { (id : BucketId) → is_some (brigade_of self.old id) ≡ true → id.birth < next }
+        ensures next { next_name self.new ≡ next }
+        ensures lists { (b : ℕ) → lists self.new b ≡ lists self.old b }
+        ensures places { (id : BucketId) → brigade_of self.new id ≡ brigade_of self.old id }
+        ensures buckets { (id : BucketId) → bucket_at self.new id ≡ bucket_at self.old id }
+        ensures pools { pool_of self.new ≡ pool_of self.old }
+        ensures references { references self.new ≡ references self.old }
+        ensures house { (ps : Pools Payload) → IsHouse self.old ps → IsHouse self.new ps }
+    {
+        self.held.rings.set_next(next);
     }
 }

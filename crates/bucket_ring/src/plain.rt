@@ -330,6 +330,10 @@ impl<T: Drop> Rings<T> for PlainRings<T> {
         self.next
     }
 
+    fn set_next(&mut self, next: u64) {
+        self.next = next;
+    }
+
     fn has_ring(&self, ring: RingId) -> bool {
         self.lists.has(ring)
     }
