@@ -55,7 +55,7 @@ opening fs gs name (Err fault.Failed) failures h = absurd h
 opening fs gs name (Err fault.NamesSpent) failures h =
     (there_if (fs.named name) h.0, h.1, ap (λ x. device_of x failures) h.2)
 opening fs gs name (Err fault.NoMemory) failures h =
-    (there_if (fs.named name) h.0, ap (λ x. device_of x failures) h.2)
+    (there_if (fs.named name) h.0, h.1, ap (λ x. device_of x failures) h.2)
 
 -- An opening, where the count of failures stays.
 pub opening_device : (fs gs : Files) (name : List ℕ) (r : Result (ℕ × ℕ) FileFault) (old new : ℕ)

@@ -25,13 +25,13 @@ pub record Opens (d : Device) (name : List ℕ) (number len : ℕ) (e : Device) 
   pub after : e ≡ opened name d
   pub is_open : is_there (e.numbered number) ≡ true
 
--- An opening. That there is no such file is told before anything else but a failure.
+-- An opening. That there is no such file is told before anything else but a failure, and that numbers are spent before want of memory.
 abbrev pub IsOpening : Device → List ℕ → Result (ℕ × ℕ) FileFault → Device → Type 0
 IsOpening d name (Ok r) e = Opens d name r.0 r.1 e
 IsOpening d name (Err fault.NotThere) e = MayMiss (d.named name) × (e ≡ d)
 IsOpening d name (Err fault.Failed) e = e ≡ failed d
 IsOpening d name (Err fault.NamesSpent) e = (is_there (d.named name) ≡ true) × (d.next ≡ last_number) × (e ≡ d)
-IsOpening d name (Err fault.NoMemory) e = (is_there (d.named name) ≡ true) × (e ≡ d)
+IsOpening d name (Err fault.NoMemory) e = (is_there (d.named name) ≡ true) × (d.next < last_number) × (e ≡ d)
 
 -- A buffer is filled from a place on as far as the file reaches; n bytes are.
 abbrev pub IsFilled : Held → ℕ → List ℕ → ℕ → List ℕ → Type 0
