@@ -32,3 +32,9 @@ pub mod Paths
 pub mod FilesKept
 pub mod StepHomes
 pub mod Homes
+pub mod Numbers
+pub mod FilesApart
+pub mod Reached
+pub mod OwnPools
+pub mod PoolsApart
+pub mod Trees

@@ -140,15 +140,16 @@ abbrev pub opening_of : Opening → World → Answer × World
 opening_of opening w = happens true 100 (identity ∷ []) (found opening) 1 (event.OpenFile (102 ∷ [])) w
 
 -- An opening finds bytes, no file, or a device that fails. What was refused changes nothing, and one file may be found with other bytes
--- at each opening. Out of a request nothing is opened, whatever the device tells.
+-- at each opening, also under a later number. Out of a request nothing is opened, whatever the device tells.
 abbrev pub OpeningsAreTold : Type 0
 OpeningsAreTold =
     let idle = left_by 100 (identity ∷ []) empty_world ((1, event.Open) ∷ (1, event.Step) ∷ []) in
     let serving = left_by 100 (identity ∷ []) idle ((1, event.Begin) ∷ (1, event.Step) ∷ []) in
-    let first = opening_of (Found (97 ∷ 98 ∷ [])) serving in
+    let first = opening_of (Found 0 (97 ∷ 98 ∷ [])) serving in
     let failed = opening_of Failing first.1 in
     ((opening_of Failing idle).0 ≡ Refused refusal.NotInRequest) × (first.0 ≡ Opened 1 2) × (failed.0 ≡ Refused refusal.FileFailed)
-    × ((opening_of Missing failed.1).0 ≡ Refused refusal.NoFile) × ((opening_of (Found []) failed.1).0 ≡ Opened 2 0)
+    × ((opening_of Missing failed.1).0 ≡ Refused refusal.NoFile) × ((opening_of (Found 0 []) failed.1).0 ≡ Opened 2 0)
+    × ((opening_of (Found 1 []) failed.1).0 ≡ Opened 3 0)
 
 pub record ChainRuns : Type 0 where
   pub two : ChainOfTwo

@@ -73,3 +73,18 @@ EventKeepsWorldFiles = (memory : Bool) (budget : ℕ) (chain : List Program) (to
 
 abbrev pub RunKeepsWorldFiles : Type 0
 RunKeepsWorldFiles = (budget : ℕ) (chain : List Program) (es : List (ℕ × Event)) (answers : List Answer) (w : World) → IsChain chain → IsRun budget chain empty_world es answers w → WorldFiles w
+
+-- Whose files they are.
+
+-- given: a file that is open has a number that was given out. own: it is open on one connection.
+pub record WorldFilesApart (w : World) : Type 0 where
+  pub given : (k file : ℕ) (c : Connection) → w.conns k ≡ Some c → is_some (c.opened file) ≡ true → file < w.common.file
+  pub own : (j k file : ℕ) (c d : Connection) → w.conns j ≡ Some c → w.conns k ≡ Some d → is_some (c.opened file) ≡ true → is_some (d.opened file) ≡ true → j ≡ k
+
+-- Each event keeps it, and so it is true of each world that a run reaches.
+abbrev pub EventKeepsFilesApart : Type 0
+EventKeepsFilesApart = (memory : Bool) (budget : ℕ) (chain : List Program) (told : Told) (k : ℕ) (e : Event) (w : World)
+    → IsChain chain → WorldFilesApart w → WorldFilesApart (happens memory budget chain told k e w).1
+
+abbrev pub RunKeepsFilesApart : Type 0
+RunKeepsFilesApart = (budget : ℕ) (chain : List Program) (es : List (ℕ × Event)) (answers : List Answer) (w : World) → IsChain chain → IsRun budget chain empty_world es answers w → WorldFilesApart w

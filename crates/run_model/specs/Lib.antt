@@ -45,3 +45,7 @@ pub mod PartSteps
 pub mod JoinedParts
 pub mod PartsLast
 pub mod ChainHomes
+pub mod ChainNumbers
+pub mod Reached
+pub mod ChainClears
+pub mod ChainTrees

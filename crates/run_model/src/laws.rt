@@ -17,9 +17,13 @@ ghost use Rattle.run_model.specs.Ranges.{OpenedInRange, StepKeepsInRange, EventK
 ghost use Rattle.run_model.specs.RangesEnd.{OpenedEnds, StepKeepsEnds, StepAtEndKeepsEnds, StepsKeepEnds, EndedStepsKeepEnds, BringKeepsEnds, EventKeepsEnds, RunEnds};
 ghost use Rattle.run_model.specs.BrigadeLists.{BrigadeSplitsInOrder, MovesKeepNames, BucketSplitsInOrder, SplitKeepsBytes, PartsAtPoint, ShortIsIncomplete, PartitionKeepsBytes, UnsplitIsUnchanged, MetadataIsNotSplit, PlaceIsBehindFront, PartitionRows, BrigadeSplitRows, BucketSplitRows, MoveRows};
 ghost use Rattle.run_model.specs.ChainLaws.{TopKeepsNames, TopKeepsBuckets, TopKeepsPools, TopKeepsCalls, TopRaisesNames, RisingKeepsSound, EventKeepsWorld, RunKeepsWorld, OthersStay, OpeningStays};
-ghost use Rattle.run_model.specs.ChainFiles.{EventKeepsWorldEnds, RunEndsWorld, EventKeepsWorldFiles, RunKeepsWorldFiles};
+ghost use Rattle.run_model.specs.ChainFiles.{EventKeepsWorldEnds, RunEndsWorld, EventKeepsWorldFiles, RunKeepsWorldFiles, EventKeepsFilesApart, RunKeepsFilesApart};
 ghost use Rattle.run_model.specs.ChainHomes.{EventKeepsWorldHomes, RunKeepsWorldHomes};
 ghost use Rattle.run_model.specs.ChainPaths.{EventKeepsWorldPaths, RunKeepsWorldPaths};
+ghost use Rattle.run_model.specs.ChainNumbers.{EventKeepsNumbers, RunKeepsNumbers};
+ghost use Rattle.run_model.specs.Reached.{EmptyIsReached, EventReaches, WorldRunGoesOn, ReachedHolds};
+ghost use Rattle.run_model.specs.ChainClears.{MadePoolsAreOwn, OthersKeepBrigades};
+ghost use Rattle.run_model.specs.ChainTrees.{EventKeepsPoolsApart, RunKeepsPoolsApart, JoinedIsPoolMap, ReachedPartsJoin};
 ghost use Rattle.run_model.specs.CursorLaws.{OpenedCursors, StepKeepsCursors, StepAtEndKeepsCursors, EventKeepsCursors, RunKeepsCursors, CursorsStandOnce, RunStandsOnce, MadeAreNew, CopiesAreNew, SplitsInOrder, RefusedSplitJumps, BrigadesSplitInOrder, PartitionsInOrder, PastEndJumps};
 ghost use Rattle.run_model.specs.Parts.{PartIsPoolMap, OwnPartChanges, OtherPartsStay, ChangesSpareTheRoot, NewPartIsPlanted, NewPartSparesOthers, PartReadsAlike};
 ghost use Rattle.run_model.specs.PartSteps.{StepsStayInPart, EndStepsStayInPart, FaultsAlike, NamesAlike, StepsSpareOthers};
@@ -340,6 +344,12 @@ pub fn files_of_chains_stay_open()
     ensures run { RunKeepsWorldFiles }
 {}
 
+/// In each run of a chain a file that is open is open on one connection, under a number that was given out. Each event keeps it.
+pub fn files_of_chains_are_apart()
+    ensures event { EventKeepsFilesApart }
+    ensures run { RunKeepsFilesApart }
+{}
+
 /// In each run of a chain each live pool of a connection's part lies under the connection's pool, but for the root, and so does each
 /// live pool that a variable names. Each event keeps it.
 pub fn pools_of_chains_stay_in_their_connection()
@@ -358,6 +368,39 @@ pub fn homes_of_chains_are_alive_or_ended()
 pub fn connections_stay_apart()
     ensures others { OthersStay }
     ensures opening { OpeningStays }
+{}
+
+/// In each run no connection has the number 0, nor a number past the one that was given last, which stays below 2^64. Each event keeps it.
+pub fn connections_are_numbered()
+    ensures event { EventKeepsNumbers }
+    ensures run { RunKeepsNumbers }
+{}
+
+/// The empty world is reached, and so is what each event leaves of a world that is, where the file that it opens has fewer than 2^64
+/// bytes: a run goes on by one event. In a world that is reached all the laws of runs hold.
+pub fn reached_worlds_go_on()
+    ensures empty { EmptyIsReached }
+    ensures event { EventReaches }
+    ensures run { WorldRunGoesOn }
+    ensures laws { ReachedHolds }
+{}
+
+/// Under a pool that a module of a chain made lies nothing that others of its connection stand on: not the connection's pool, nor the
+/// request's, no pool of another module, and no brigade of one. It is not the root. So no instruction takes a brigade of another module
+/// away: it keeps its name, pool and mark.
+pub fn modules_clear_what_is_theirs()
+    ensures own { MadePoolsAreOwn }
+    ensures brigades { OthersKeepBrigades }
+{}
+
+/// In each run of a chain each connection's pool stands right under the root, no pool is two connections', and the pool of a later
+/// connection is newer. Each event keeps it. So in a world that is reached the pools of all connections are put together one connection
+/// after another: none of its pools is there before, and its own comes behind all that stand right under the root.
+pub fn pools_of_connections_are_their_own()
+    ensures event { EventKeepsPoolsApart }
+    ensures run { RunKeepsPoolsApart }
+    ensures formed { JoinedIsPoolMap }
+    ensures joins { ReachedPartsJoin }
 {}
 
 /// Small brigades are parted, split and changed as it is worked out by hand.

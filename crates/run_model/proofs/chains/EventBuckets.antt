@@ -41,8 +41,8 @@ brought_in_buckets chain pieces req g c s = record {
   there : BrigadeVar
   there = var.Live (record { name = g.next + 1; on = None; mark = Usable; items = named_from (bucket_of g.next req) (g.next + 2) pieces })
 
-pub file_taken_buckets : (req : ℕ) (bytes : List ℕ) (g : Common) (c : Connection) → ChainBuckets c → ChainBuckets (file_taken req bytes (g, c)).1
-file_taken_buckets req bytes g c s = record { brigades = s.brigades; loose = s.loose }
+pub file_taken_buckets : (req file : ℕ) (bytes : List ℕ) (g : Common) (c : Connection) → ChainBuckets c → ChainBuckets (file_taken req file bytes (g, c)).1
+file_taken_buckets req file bytes g c s = record { brigades = s.brigades; loose = s.loose }
 
 -- between calls
 pub request_over_buckets : (req : ℕ) (g : Common) (c : Connection) → ChainBuckets c → ChainBuckets (request_over req (g, c)).1
@@ -68,8 +68,8 @@ begun_raises chain g c next pools = record { next = omega arith; next_limit = ne
 pub brought_in_raises : (chain : List Program) (pieces : List Piece) (req : ℕ) (g : Common) (c : Connection) → g.next + (2 + length pieces) < 2 ^ 64 → g.pools < 2 ^ 64 → Rises g (brought_in chain pieces req (g, c)).0
 brought_in_raises chain pieces req g c next pools = record { next = omega arith; next_limit = omega arith; pools = omega arith; pools_limit = pools }
 
-pub file_taken_raises : (req : ℕ) (bytes : List ℕ) (g : Common) (c : Connection) → g.next < 2 ^ 64 → g.pools < 2 ^ 64 → Rises g (file_taken req bytes (g, c)).0
-file_taken_raises req bytes g c next pools = record { next = omega arith; next_limit = next; pools = omega arith; pools_limit = pools }
+pub file_taken_raises : (req file : ℕ) (bytes : List ℕ) (g : Common) (c : Connection) → g.next < 2 ^ 64 → g.pools < 2 ^ 64 → Rises g (file_taken req file bytes (g, c)).0
+file_taken_raises req file bytes g c next pools = record { next = omega arith; next_limit = next; pools = omega arith; pools_limit = pools }
 
 pub request_over_raises : (req : ℕ) (g : Common) (c : Connection) → g.next < 2 ^ 64 → g.pools < 2 ^ 64 → Rises g (request_over req (g, c)).0
 unfolding configuration run_down destroyed state.with_pools

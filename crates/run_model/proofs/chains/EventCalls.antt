@@ -62,8 +62,8 @@ pub begun_calls : (chain : List Program) (g : Common) (c : Connection) → IsMod
 unfolding begun
 begun_calls chain g c m some first = all_called_calls chain _ m some first
 
-pub file_taken_calls : (chain : List Program) (req : ℕ) (bytes : List ℕ) (g : Common) (c : Connection) → ChainCalls chain g c → LinkedCalls chain (file_taken req bytes (g, c))
-file_taken_calls chain req bytes g c h = same_calls chain g _ c _ refl refl refl refl h
+pub file_taken_calls : (chain : List Program) (req file : ℕ) (bytes : List ℕ) (g : Common) (c : Connection) → ChainCalls chain g c → LinkedCalls chain (file_taken req file bytes (g, c))
+file_taken_calls chain req file bytes g c h = same_calls chain g _ c _ refl refl refl refl h
 
 -- `main` of the first filter begins
 pub brought_in_calls : (chain : List Program) (pieces : List Piece) (req : ℕ) (g : Common) (c : Connection) → IsModule (module_at chain 0) → 0 < length chain → 0 < g.next → c.stack ≡ [] → c.req ≡ Some req → ChainCalls chain g c

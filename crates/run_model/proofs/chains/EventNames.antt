@@ -74,9 +74,9 @@ unfolding begun
 begun_names chain g c limit s = all_called_names chain (created c.conn (pools_of g c)) g (record c { req = Some g.pools }) limit (same_names chain g c (record c { req = Some g.pools }) refl refl s)
 
 -- A file is opened.
-pub file_taken_names : (chain : List Program) (req : ℕ) (bytes : List ℕ) (g : Common) (c : Connection) → ChainNames chain g c → NamesOf chain (file_taken req bytes (g, c))
-file_taken_names chain req bytes g c s =
-    let v : Linked = file_taken req bytes (g, c) in
+pub file_taken_names : (chain : List Program) (req file : ℕ) (bytes : List ℕ) (g : Common) (c : Connection) → ChainNames chain g c → NamesOf chain (file_taken req file bytes (g, c))
+file_taken_names chain req file bytes g c s =
+    let v : Linked = file_taken req file bytes (g, c) in
     same_names chain v.0 c v.1 refl refl (rising_names chain g v.0 c (omega arith) s.limit s)
 
 -- A request ends.

@@ -138,10 +138,10 @@ begun_pools chain g c none limit h = all_called_pools chain _ (record {
 
 -- A file is opened: the request's pool refers to it.
 
-pub file_taken_pools : (chain : List Program) (req : ℕ) (bytes : List ℕ) (g : Common) (c : Connection) → c.req ≡ Some req → ChainPools chain g c → LinkedPools chain (file_taken req bytes (g, c))
+pub file_taken_pools : (chain : List Program) (req file : ℕ) (bytes : List ℕ) (g : Common) (c : Connection) → c.req ≡ Some req → ChainPools chain g c → LinkedPools chain (file_taken req file bytes (g, c))
 unfolding configuration registered
-file_taken_pools chain req bytes g c is h = record {
-  sound = λ f. (let s = h.sound f in keeps_paths (configuration g c f) _ (registered_formed req (FileRef g.file) (pools_of g c) (path_live (pools_of g c) req req _ (s.req req is).0) s.formed) refl refl refl refl refl s.brigades s);
+file_taken_pools chain req file bytes g c is h = record {
+  sound = λ f. (let s = h.sound f in keeps_paths (configuration g c f) _ (registered_formed req (FileRef file) (pools_of g c) (path_live (pools_of g c) req req _ (s.req req is).0) s.formed) refl refl refl refl refl s.brigades s);
   declared = λ f. kept (module_at chain f.of) (configuration g c f) _ refl refl refl refl (same_vars (configuration g c f)) (h.declared f);
   apart = h.apart;
 }

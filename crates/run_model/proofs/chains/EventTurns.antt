@@ -1,5 +1,5 @@
 -- What an event makes of its connection: one of a few turns, each with what is known where it is taken.
-use Rattle.std.proofs.Common.{◌≡◌, ◌≢◌, ℕ, ◌+◌, ◌^◌, ◌<◌, Bool, true, false, ◌||◌, not, cond, List, [], ◌∷◌, length, Option, Some, None, is_some, Result, Ok, Err, nat_le, nat_lt, refl}
+use Rattle.std.proofs.Common.{◌≡◌, ◌≢◌, ℕ, ◌+◌, ◌^◌, ◌<◌, ◌≤◌, Bool, true, false, ◌||◌, not, cond, List, [], ◌∷◌, length, Option, Some, None, is_some, Result, Ok, Err, nat_le, nat_lt, refl, arith}
 use Rattle.std.specs.List.{list_any}
 use Rattle.module_lang.specs.Program.{Program}
 use Rattle.run_model.specs.declared.event.Cause.{Cause}
@@ -13,7 +13,7 @@ use Rattle.run_model.specs.Steps.{lacks_names, grows, current, is_spent}
 use Rattle.run_model.specs.Connection.{first_refusal, if_broken, data_behind_eos, lacks_file}
 use Rattle.run_model.specs.Chains.{Frame, Connection, Common, Linked, module_at, configuration}
 use Rattle.run_model.specs.Passing.{Reads, proceeds}
-use Rattle.run_model.specs.Turns.{Opening, Found, Missing, Failing, is_missing, is_failing, calls_of, broken_by, counted, executed, unless_fault, watched, step_top, step_unless, steps, unless_refused, is_busy, begun, begins, file_taken, file_answer, opens_file, brought_in, brought, brings, request_over, ended, ends}
+use Rattle.run_model.specs.Turns.{Opening, Found, Missing, Failing, is_missing, is_failing, number_given, calls_of, broken_by, counted, executed, unless_fault, watched, step_top, step_unless, steps, unless_refused, is_busy, begun, begins, file_taken, file_answer, opens_file, brought_in, brought, brings, request_over, ended, ends}
 use Rattle.run_model.specs.ChainLaws.{IsChain, MayProceed, after_top}
 use Rattle.run_model.proofs.StepNames.{not_spent}
 use Rattle.run_model.proofs.EventAnswers.{none_first, none_if}
@@ -41,8 +41,8 @@ pub data Turn (chain : List Program) (Lengths : ℕ → Type 0) (g : Common) (c 
   Begun : c.broken ≡ None → c.stack ≡ [] → c.req ≡ None → g.pools + 1 < 2 ^ 64 → g.next + 1 < 2 ^ 64 → Turn chain Lengths g c (begun chain (g, c))
   -- a brigade is brought
   Brought : (pieces : List Piece) (req : ℕ) → c.broken ≡ None → c.stack ≡ [] → c.req ≡ Some req → list_any (lacks_file c.files) pieces ≡ false → g.next + (2 + length pieces) < 2 ^ 64 → Turn chain Lengths g c (brought_in chain pieces req (g, c))
-  -- a file is opened
-  FileTaken : (req : ℕ) (bytes : List ℕ) → c.broken ≡ None → c.stack ≡ [] → c.req ≡ Some req → Lengths (length bytes) → is_spent g.file 1 ≡ false → Turn chain Lengths g c (file_taken req bytes (g, c))
+  -- a file is opened, under a number that was not given out
+  FileTaken : (req file : ℕ) (bytes : List ℕ) → c.broken ≡ None → c.stack ≡ [] → c.req ≡ Some req → Lengths (length bytes) → g.file ≤ file → is_spent file 1 ≡ false → Turn chain Lengths g c (file_taken req file bytes (g, c))
   -- a request ends
   Ended : (req : ℕ) → c.broken ≡ None → c.stack ≡ [] → c.req ≡ Some req → Turn chain Lengths g c (request_over req (g, c))
 
@@ -92,13 +92,13 @@ module _ (chain : List Program) (Lengths : ℕ → Type 0) (g : Common) (c : Con
       let i = none_if (is_spent g.next (2 + length pieces)) refusal.NamesSpent _ h.1 in
       brought_turn pieces c.req refl (not_broken c.broken _ none) (not_busy c.stack b.0) h.0 (not_spent g.next (2 + length pieces) i.0))
 
-  file_turn : (o : Option Refusal) (req : Option ℕ) (opening : Opening) → c.req ≡ req → OpensAs Lengths (file_answer o req opening (g, c)).0 → (o ≡ None → (c.broken ≡ None) × (c.stack ≡ []) × (is_spent g.file 1 ≡ false))
+  file_turn : (o : Option Refusal) (req : Option ℕ) (opening : Opening) → c.req ≡ req → OpensAs Lengths (file_answer o req opening (g, c)).0 → (o ≡ None → (c.broken ≡ None) × (c.stack ≡ []) × (is_spent (number_given g opening) 1 ≡ false))
       → Turn chain Lengths g c (file_answer o req opening (g, c)).1
   file_turn (Some r) req opening is told known = Same
   file_turn None None opening is told known = Same
   file_turn None (Some req) Missing is told known = Same
   file_turn None (Some req) Failing is told known = Same
-  file_turn None (Some req) (Found bytes) is told known = (let k = known refl in FileTaken req bytes k.0 k.1 is told k.2)
+  file_turn None (Some req) (Found skipped bytes) is told known = (let k = known refl in FileTaken req (g.file + skipped) bytes k.0 k.1 is told (omega arith) k.2)
 
   pub opens_file_turn : (memory : Bool) (opening : Opening) → OpensAs Lengths (opens_file memory opening (g, c)).0 → Turn chain Lengths g c (opens_file memory opening (g, c)).1
   unfolding opens_file
@@ -108,7 +108,7 @@ module _ (chain : List Program) (Lengths : ℕ → Type 0) (g : Common) (c : Con
       let d = none_if (not (is_some c.req)) refusal.NotInRequest _ b.1 in
       let e = none_if (is_missing opening) refusal.NoFile _ d.1 in
       let h = none_if (is_failing opening) refusal.FileFailed _ e.1 in
-      let i = none_if (is_spent g.file 1) refusal.NamesSpent _ h.1 in
+      let i = none_if (is_spent (number_given g opening) 1) refusal.NamesSpent _ h.1 in
       (not_broken c.broken _ none, not_busy c.stack b.0, i.0))
 
   ended_turn : (req : Option ℕ) → c.req ≡ req → c.broken ≡ None → c.stack ≡ [] → Turn chain Lengths g c (ended req (g, c))

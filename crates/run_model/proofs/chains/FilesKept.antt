@@ -116,8 +116,8 @@ unfolding configuration
 seen_files g c f rest is h = (let seen = seen_each (IsHeld (pools_of g c)) g c f rest is h.held in record { lasts = h.lasts; brigades = seen.brigades; loose = seen.loose; request = h.request })
 
 -- what an instruction leaves but for the buckets
-abbrev Others : Connection → Pools Payload → (ℕ → Option (List ℕ)) → Option ℕ → Type 0
-Others c ps files req =
+abbrev Others : Connection → Pools Payload → (ℕ → Option (List ℕ)) → ℕ → Option ℕ → Type 0
+Others c ps files next req =
     ((p file : ℕ) → refers ps p file ≡ true → is_some (files file) ≡ true)
     × ((file end q : ℕ) → has_range c.files file end ≡ true → req ≡ Some q → refers ps q file ≡ true)
     × (req ≡ c.req)
@@ -146,7 +146,7 @@ went_files chain reads f rest g c may s h = record {
   stepped : (choice : Choice) → SoundFiles c.files (step (module_at chain f.of) choice i (configuration g c f)).state
   stepped choice = step_files (module_at chain f.of) choice i c.files (configuration g c f) (may_step chain g c f rest may s) (sound_top chain g c f rest may.on_top s) (seen_files g c f rest may.on_top h)
 
-  others : Others c (pools_of left.0 left.1) left.1.opened left.1.req
+  others : Others c (pools_of left.0 left.1) left.1.opened left.0.file left.1.req
   others = proceeds_so (Others c) chain reads i f rest g c
       (λ choice. (let there = stepped choice in (there.lasts, there.request, (step_changes_only (module_at chain f.of) choice i (configuration g c f)).req))) (h.lasts, h.request, refl)
 
@@ -182,21 +182,21 @@ stays_open files next file bytes which = elim (upd_either files next file (Some 
   | inr q ↦ ap is_some q.1 ∙ (elim which [ inl old ↦ old | inr same ↦ absurd (q.0 (sym same)) ])
 ]
 
-taken_files : (req : ℕ) (bytes : List ℕ) (g : Common) (c : Connection) → c.req ≡ Some req → Kept g c → Kept (file_taken req bytes (g, c)).0 (file_taken req bytes (g, c)).1
+taken_files : (req new_file : ℕ) (bytes : List ℕ) (g : Common) (c : Connection) → c.req ≡ Some req → Kept g c → Kept (file_taken req new_file bytes (g, c)).0 (file_taken req new_file bytes (g, c)).1
 unfolding registered
-taken_files req bytes g c is h =
+taken_files req new_file bytes g c is h =
     let ps : Pools Payload = pools_of g c in
-    let new : Pools Payload = registered req (FileRef g.file) ps in
-    let grow : Grows ps new = λ p file there. registered_refers req (FileRef g.file) ps p file there in
+    let new : Pools Payload = registered req (FileRef new_file) ps in
+    let grow : Grows ps new = λ p file there. registered_refers req (FileRef new_file) ps p file there in
     let all = each_bucket_so (IsHeld ps) (IsHeld new) (held_so ps new grow) c h.held in
     record {
-      lasts = λ p file there. stays_open c.opened g.file file bytes (elim (registered_back req (FileRef g.file) ps p file there) [ inl old ↦ inl (h.lasts p file old) | inr same ↦ inr (eqb-true g.file file same) ]);
+      lasts = λ p file there. stays_open c.opened new_file file bytes (elim (registered_back req (FileRef new_file) ps p file there) [ inl old ↦ inl (h.lasts p file old) | inr same ↦ inr (eqb-true new_file file same) ]);
       held = record { brigades = all.brigades; loose = all.loose };
-      request = λ file end q has at. elim (one_of (has_range c.files file end) (has_range ((g.file, length bytes) ∷ []) file end)
-          (sym (list_any-append (λ (f : ℕ × ℕ). f.0 == file && nat_le end f.1) c.files ((g.file, length bytes) ∷ [])) ∙ has)) [
+      request = λ file end q has at. elim (one_of (has_range c.files file end) (has_range ((new_file, length bytes) ∷ []) file end)
+          (sym (list_any-append (λ (f : ℕ × ℕ). f.0 == file && nat_le end f.1) c.files ((new_file, length bytes) ∷ [])) ∙ has)) [
             | inl old ↦ grow q file (h.request file end q old at)
             | inr last ↦ (let same : req ≡ q = some_same req q (sym is ∙ at) in
-                subst (λ (k : ℕ). refers new k file ≡ true) same (subst (λ (k : ℕ). refers new req k ≡ true) (eqb-true g.file file (first_of (g.file == file) (nat_le end (length bytes)) last)) (registered_itself req g.file ps)))
+                subst (λ (k : ℕ). refers new k file ≡ true) same (subst (λ (k : ℕ). refers new req k ≡ true) (eqb-true new_file file (first_of (new_file == file) (nat_le end (length bytes)) last)) (registered_itself req new_file ps)))
           ];
       between = λ none. absurd (none_some req (sym none ∙ is));
     } where
@@ -241,7 +241,7 @@ turn_files chain g c v (Brought pieces req whole idle is there next) s h = recor
   request = h.request;
   between = h.between;
 }
-turn_files chain g c v (FileTaken req bytes whole idle is short last) s h = taken_files req bytes g c is h
+turn_files chain g c v (FileTaken req file bytes whole idle is short newer last) s h = taken_files req file bytes g c is h
 turn_files chain g c v (Ended req whole idle is) s h = over_files chain req g c idle s h
 
 kept_of : (g : Common) (c : Connection) → ChainFiles g c → Kept g c

@@ -70,7 +70,7 @@ named_newer r (pool.Own q) m s e = (let there = (s.own q m (own_named q m r e)).
 abbrev Stays : Configuration → Configuration → Type 0
 Stays r s = LieUnder r.shared.conn s.shared.pools
 
-aside_path : (s : Spot) (target : ℕ) (r : Configuration) → (aside_into s target r).shared.pools.path ≡ r.shared.pools.path
+pub aside_path : (s : Spot) (target : ℕ) (r : Configuration) → (aside_into s target r).shared.pools.path ≡ r.shared.pools.path
 unfolding set_brigade set_loose with_pools
 aside_path Nowhere target r = refl
 aside_path (AtLoose x) target r = referred_path target (filter_map (new_ref r.shared.pools target) (x ∷ [])) r.shared.pools
@@ -142,7 +142,7 @@ went_under chain reads f rest g c may s h =
     let i : Instr = current (module_at chain f.of) f.pc in
     let left : Linked = (proceeds chain reads i f rest (g, c)).1 in
     let conn : left.1.conn ≡ c.conn = proceeds_conn chain reads i f rest g c in
-    let pools = proceeds_so (λ ps files req. LieUnder c.conn ps) chain reads i f rest g c
+    let pools = proceeds_so (λ ps files next req. LieUnder c.conn ps) chain reads i f rest g c
     (λ choice. step_under (module_at chain f.of) choice i (configuration g c f) (may_step chain g c f rest may s) (s.pools.sound f) h.newer h.pools) h.pools in
     record { newer = subst (λ (k : ℕ). 1 < k) (sym conn) h.newer; pools = subst (λ (k : ℕ). LieUnder k (pools_of left.0 left.1)) (sym conn) pools }
 
@@ -155,7 +155,7 @@ turn_under chain g c v (Faulted f rest k whole top is) s h = record { newer = h.
 turn_under chain g c v (Went reads f rest whole may) s h = (let left = went_under chain reads f rest g c may s h in record { newer = left.newer; pools = left.pools })
 turn_under chain g c v (Begun whole idle none pools next) s h = begun_under chain g c s.pools h
 turn_under chain g c v (Brought pieces req whole idle is there next) s h = record { newer = h.newer; pools = h.pools }
-turn_under chain g c v (FileTaken req bytes whole idle is short last) s h = record { newer = h.newer; pools = h.pools }
+turn_under chain g c v (FileTaken req file bytes whole idle is short newer last) s h = record { newer = h.newer; pools = h.pools }
 turn_under chain g c v (Ended req whole idle is) s h = over_under req g c h
 
 -- others take names

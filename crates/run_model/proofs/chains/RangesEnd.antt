@@ -65,9 +65,9 @@ turn_ends chain g c v (Brought pieces req whole idle is there next) h = record {
   ends = brought_in_each (λ x. EndsInFile x.bucket.content) chain pieces req g c (pieces_end g.next req (g.next + 2) pieces (told_end c.files pieces h.lengths there)) h.ends;
   lengths = h.lengths;
 }
-turn_ends chain g c v (FileTaken req bytes whole idle is short last) h = record {
+turn_ends chain g c v (FileTaken req file bytes whole idle is short newer last) h = record {
   ends = record { brigades = h.ends.brigades; loose = h.ends.loose };
-  lengths = All-append (λ f. IsShort f.1) c.files ((g.file, length bytes) ∷ []) h.lengths (All-cons (λ f. IsShort f.1) (g.file, length bytes) [] short (All-nil (λ f. IsShort f.1)));
+  lengths = All-append (λ f. IsShort f.1) c.files ((file, length bytes) ∷ []) h.lengths (All-cons (λ f. IsShort f.1) (file, length bytes) [] short (All-nil (λ f. IsShort f.1)));
 }
 turn_ends chain g c v (Ended req whole idle is) h = record {
   ends = request_over_each (λ x. EndsInFile x.bucket.content) (λ x. EndsInFile x.bucket.content) req g c idle (λ x e. e) h.ends;

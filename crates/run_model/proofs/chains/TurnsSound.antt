@@ -73,11 +73,11 @@ turn_sound chain Lengths g c v chained has (Brought pieces req whole idle is the
   pools = brought_in_pools chain pieces req g c s.pools;
   calls = brought_in_calls chain pieces req g c (module_at_proper chain chained 0) chained.some has.first idle is s.calls;
 }
-turn_sound chain Lengths g c v chained has (FileTaken req bytes whole idle is told last) s = record {
-  names = file_taken_names chain req bytes g c s.names;
-  buckets = file_taken_buckets req bytes g c s.buckets;
-  pools = file_taken_pools chain req bytes g c is s.pools;
-  calls = file_taken_calls chain req bytes g c s.calls;
+turn_sound chain Lengths g c v chained has (FileTaken req file bytes whole idle is told newer last) s = record {
+  names = file_taken_names chain req file bytes g c s.names;
+  buckets = file_taken_buckets req file bytes g c s.buckets;
+  pools = file_taken_pools chain req file bytes g c is s.pools;
+  calls = file_taken_calls chain req file bytes g c s.calls;
 }
 turn_sound chain Lengths g c v chained has (Ended req whole idle is) s = record {
   names = request_over_names chain req g c s.names;
@@ -94,5 +94,5 @@ turn_rises chain Lengths g c v has (Faulted f rest k whole top is) s = same_rise
 turn_rises chain Lengths g c v has (Went reads f rest whole may) s = top_raises_names chain reads g c f rest may s
 turn_rises chain Lengths g c v has (Begun whole idle none pools next) s = begun_raises chain g c next pools
 turn_rises chain Lengths g c v has (Brought pieces req whole idle is there next) s = brought_in_raises chain pieces req g c next has.pools.1
-turn_rises chain Lengths g c v has (FileTaken req bytes whole idle is told last) s = file_taken_raises req bytes g c has.next has.pools.1
+turn_rises chain Lengths g c v has (FileTaken req file bytes whole idle is told newer last) s = file_taken_raises req file bytes g c has.next has.pools.1
 turn_rises chain Lengths g c v has (Ended req whole idle is) s = request_over_raises req g c has.next has.pools.1
