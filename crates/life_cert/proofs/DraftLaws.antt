@@ -72,7 +72,7 @@ found (due.States next) l x h = end_there next l (pointwise nat_eq l (codes "end
 found due.Nothing l x h = cc h
 
 -- no code fits a line that is due and has its state
-right : (d : Due) (l : List ℕ) (x : Line) → all_printable l ≡ true → due_line d l ≡ Some x → HasState x (after_token l) → (c : CertCode) → HasCode d l c → ⊥
+pub right : (d : Due) (l : List ℕ) (x : Line) → all_printable l ≡ true → due_line d l ≡ Some x → HasState x (after_token l) → (c : CertCode) → HasCode d l c → ⊥
 right d l x clean is has code_of.BadByte h = cc (clean, h)
 right d l x clean is has code_of.NotDue h = cc (is, h)
 right d l x clean is has code_of.NotState h = let lacks = subst (λ (o : Option Line). LacksState o (after_token l)) is h in lacks has

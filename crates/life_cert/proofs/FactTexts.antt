@@ -2,11 +2,12 @@
 use Rattle.std.proofs.Common.{◌≡◌, ℕ, zero, suc, ◌+◌, ◌<◌, ◌≤◌, Bool, true, false, ◌&&◌, List, [], ◌∷◌, ◌++◌, codes, refl, sym, ap, subst, ◌∙◌, eqb, append_assoc, arith, inl, ne_eqb, ⊎_elim}
 use Rattle.std.specs.Prelude.{nat_lt}
 use Rattle.std.proofs.lemmas.Bool.{cases_eq}
-use Rattle.life_state.specs.States.{Homes, CursorKnown, State}
+use Rattle.life_state.specs.States.{CursorKnown, State}
 use Rattle.life_state.specs.Facts.{is_set}
 use Rattle.life_cert.specs.StateText.{each, where_holds, cursor_name, place_text_of, cursor_text, fact_text, facts_text}
-use Rattle.life_cert.proofs.Taking.{Ended, cursor_first, cursor_named, past, second_of, second_tells, skips, starts, word_is, word_past}
-use Rattle.life_cert.proofs.CursorTexts.{CanSay, cursor_past, cursor_read, cursor_taken, key}
+use Rattle.life_cert.specs.StateFromText.{cursor_past, cursor_read, fact_past, fact_word, key, past_each, row_past, starts}
+use Rattle.life_cert.proofs.Taking.{Ended, cursor_first, cursor_named, second_of, second_tells, skips, word_is, word_past}
+use Rattle.life_cert.proofs.CursorTexts.{CanSay, cursor_taken}
 
 -- a name with another number
 two_bytes : (c d : ℕ) (w m : List ℕ) → c < 9 → d < 9 → (c ≡ d → ⊥) → starts (cursor_name c ++ w) (cursor_name d ++ m) ≡ false
@@ -39,10 +40,6 @@ any_bytes c d w m first second h =
     (λ (ne : c ≡ d → ⊥). two_bytes c d w m first second ne)
     (cases_eq c d)
 
--- the word of a fact
-abbrev pub fact_word : ℕ → ℕ → List ℕ
-fact_word c d = 32 ∷ (cursor_name c ++ (33 ∷ cursor_name d))
-
 -- No other cursor's word begins like that of this one, and none of a fact does.
 pub no_cursor : (c d : ℕ) (v : CursorKnown) (m : List ℕ) → c < 9 → d < 9 → (c ≡ d → ⊥) → starts (key c) m ≡ false → starts (key c) (cursor_text d v ++ m) ≡ false
 no_cursor c d v m first second ne h =
@@ -70,10 +67,6 @@ no_fact c d i j b m cs ds is js ne h =
     behind_sign e = ap (λ t. starts t (cursor_name j ++ m)) (ends (cursor_name d)) ∙ two_bytes d j [] m ds js (ne e)
 
 -- Texts in turn, each of which is taken where what follows does not begin like it.
-abbrev pub past_each : (ℕ → List ℕ → List ℕ) → ℕ → ℕ → List ℕ → List ℕ
-past_each p k zero t = t
-past_each p k (suc n) t = past_each p (k + 1) n (p k t)
-
 -- numbers below 9, texts, what is left behind one, and what it says of one's text
 pub record TakesEach (f : ℕ → List ℕ) (p : ℕ → List ℕ → List ℕ) (Says : ℕ → List ℕ → Type 0) (Free : ℕ → List ℕ → Type 0) : Type 0 where
   pub says : (i : ℕ) (m : List ℕ) → i < 9 → Free i m → Says i (f i ++ m)
@@ -90,8 +83,17 @@ each_free f p Says Free h i k zero m low high e = e
 each_free f p Says Free h i k (suc n) m low high e =
     subst (Free i) (sym (append_assoc (f k) (each (k + 1) n f) m)) (h.free i k (each (k + 1) n f ++ m) low (omega arith) (each_free f p Says Free h i (k + 1) n m (omega arith) (omega arith) e))
 
+-- the first, and then those behind it
+says_next : (p : ℕ → List ℕ → List ℕ) (Says : ℕ → List ℕ → Type 0) (k n : ℕ) (m t r : List ℕ) → p k t ≡ r → Says k t → EachTaken p Says (k + 1) n m r → (i : ℕ) → i < suc n → Says (k + i) (past_each p k i t)
+unfolding past_each
+says_next p Says k n m t r left here on zero inside = let same : k ≡ k + 0 = omega arith in subst (λ (x : ℕ). Says x t) same here
+says_next p Says k n m t r left here on (suc i) inside =
+    let same : k + 1 + i ≡ k + suc i = omega arith in
+    subst (λ (x : ℕ). Says x (past_each p (k + 1) i (p k t))) same
+    (subst (λ u. Says (k + 1 + i) (past_each p (k + 1) i u)) (sym left) (on.says i (omega (arith, inside))))
+
 pub each_taken : (f : ℕ → List ℕ) (p : ℕ → List ℕ → List ℕ) (Says Free : ℕ → List ℕ → Type 0) (h : TakesEach f p Says Free) (k n : ℕ) (m : List ℕ) → k + n ≤ 9 → ((i : ℕ) → i < 9 → Free i m) → EachTaken p Says k n m (each k n f ++ m)
-unfolding each
+unfolding each past_each
 each_taken f p Says Free h k zero m high e = record { says = λ i below. absurd (omega (arith, below)); more = refl }
 each_taken f p Says Free h k (suc n) m high e =
     let rest = each (k + 1) n f ++ m in
@@ -101,19 +103,9 @@ each_taken f p Says Free h k (suc n) m high e =
     let left : p k ((f k ++ each (k + 1) n f) ++ m) ≡ rest = ap (p k) again ∙ h.more k rest below none in
     let on = each_taken f p Says Free h (k + 1) n m (omega arith) e in
     record {
-      says = λ i inside. at i inside again left none below on;
+      says = says_next p Says k n m ((f k ++ each (k + 1) n f) ++ m) rest left (subst (Says k) (sym again) (h.says k rest below none)) on;
       more = ap (past_each p (k + 1) n) left ∙ on.more;
     }
-  where
-    at : (i : ℕ) → i < suc n → (f k ++ each (k + 1) n f) ++ m ≡ f k ++ (each (k + 1) n f ++ m) → p k ((f k ++ each (k + 1) n f) ++ m) ≡ each (k + 1) n f ++ m → Free k (each (k + 1) n f ++ m) → k < 9 → EachTaken p Says (k + 1) n m (each (k + 1) n f ++ m)
-        → Says (k + i) (past_each p k i ((f k ++ each (k + 1) n f) ++ m))
-    at zero inside again left none below on =
-        let same : k ≡ k + 0 = omega arith in
-        subst (λ (x : ℕ). Says x ((f k ++ each (k + 1) n f) ++ m)) same (subst (Says k) (sym again) (h.says k (each (k + 1) n f ++ m) below none))
-    at (suc i) inside again left none below on =
-        let same : k + 1 + i ≡ k + suc i = omega arith in
-        subst (λ (x : ℕ). Says x (past_each p (k + 1) i (p k ((f k ++ each (k + 1) n f) ++ m)))) same
-        (subst (λ t. Says (k + 1 + i) (past_each p (k + 1) i t)) (sym left) (on.says i (omega (arith, inside))))
 
 -- The cursors, in turn.
 abbrev pub FreeOfCursor : ℕ → List ℕ → Type 0
@@ -123,23 +115,17 @@ ended_where : (b : Bool) (t m : List ℕ) → Ended m → Ended (where_holds b (
 ended_where true t m h = inl refl
 ended_where false t m h = h
 
-pub cursors_taken : (from : List Bool → Homes) (v : ℕ → CursorKnown) (m : List ℕ) → ((c : ℕ) → CanSay from (v c)) → ((c : ℕ) → c < 9 → FreeOfCursor c m)
-    → EachTaken cursor_past (λ c t. cursor_read from c t ≡ v c) 0 9 m (each 0 9 (λ c. cursor_text c (v c)) ++ m)
-cursors_taken from v m say free =
-    each_taken (λ c. cursor_text c (v c)) cursor_past (λ c t. cursor_read from c t ≡ v c) FreeOfCursor
+pub cursors_taken : (v : ℕ → CursorKnown) (m : List ℕ) → ((c : ℕ) → CanSay (v c)) → ((c : ℕ) → c < 9 → FreeOfCursor c m)
+    → EachTaken cursor_past (λ c t. cursor_read c t ≡ v c) 0 9 m (each 0 9 (λ c. cursor_text c (v c)) ++ m)
+cursors_taken v m say free =
+    each_taken (λ c. cursor_text c (v c)) cursor_past (λ c t. cursor_read c t ≡ v c) FreeOfCursor
     (record {
-      says = λ i r below none. (cursor_taken from i (v i) r (say i) none.0 none.1).read;
-      more = λ i r below none. (cursor_taken from i (v i) r (say i) none.0 none.1).more;
+      says = λ i r below none. (cursor_taken i (v i) r (say i) none.0 none.1).read;
+      more = λ i r below none. (cursor_taken i (v i) r (say i) none.0 none.1).more;
       free = λ i j r low high none. (ended_where (is_set (v j)) (cursor_name j ++ (61 ∷ place_text_of (v j))) r none.0, no_cursor i j (v j) r (omega (arith, low, high)) high (λ e. omega (arith, low, e)) none.1);
     }) 0 9 m (omega arith) free
 
 -- The facts, row by row.
-abbrev pub fact_past : ℕ → ℕ → List ℕ → List ℕ
-fact_past c d t = past (fact_word c d) t
-
-abbrev pub row_past : ℕ → List ℕ → List ℕ
-row_past c t = past_each (fact_past c) 0 9 t
-
 abbrev pub is_written : State → ℕ → ℕ → Bool
 is_written s c d = nat_lt c d && s.facts c d
 

@@ -8,7 +8,8 @@ use Rattle.life_state.proofs.Tests.{split2}
 use Rattle.life_cert.specs.declared.print_state.Home.{Home}
 use Rattle.life_cert.specs.declared.print_state.Home.TheVariants as home
 use Rattle.life_cert.specs.StateText.{where_holds, homes, home_text, has_home, more_homes, some_homes, homes_text}
-use Rattle.life_cert.proofs.Taking.{Ended, not_begun, behind, behind_self, past, skips, starts, starts_self, word_is, word_past}
+use Rattle.life_cert.specs.StateFromText.{behind, homes_from, homes_past, homes_read, more_there, past, past_more, past_some, some_there, starts}
+use Rattle.life_cert.proofs.Taking.{Ended, not_begun, behind_self, skips, starts_self, word_is, word_past}
 
 -- the two bytes by which a home's name begins, and the others
 abbrev first : Home → ℕ
@@ -64,15 +65,7 @@ apart x y m p q h =
     by true false k = refl
     by false b k = refl
 
--- Which of these homes are written, each behind a comma.
-abbrev pub more_there : List Home → List ℕ → List Bool
-more_there [] t = []
-more_there (x ∷ xs) t = starts (44 ∷ home_text x) t ∷ more_there xs (past (44 ∷ home_text x) t)
-
-abbrev pub past_more : List Home → List ℕ → List ℕ
-past_more [] t = t
-past_more (x ∷ xs) t = past_more xs (past (44 ∷ home_text x) t)
-
+-- which of these are meant
 abbrev pub bits : Homes → List Home → List Bool
 bits h [] = []
 bits h (x ∷ xs) = has_home h x ∷ bits h xs
@@ -105,15 +98,6 @@ more_taken (x ∷ xs) h m a e =
       there = ap (λ (b : Bool). b ∷ more_there xs (past w (more_homes h (x ∷ xs) ++ m))) (ap (starts w) again ∙ word_is w (has_home h x) rest none) ∙ ap (λ t. has_home h x ∷ more_there xs t) after ∙ ap (λ bs. has_home h x ∷ bs) on.there;
       more = ap (past_more xs) after ∙ on.more;
     }
-
--- The same, without a comma before the first; a dash for none.
-abbrev pub some_there : List Home → List ℕ → List Bool
-some_there [] t = []
-some_there (x ∷ xs) t = cond (starts (home_text x) t) (true ∷ more_there xs (behind (home_text x) t)) (false ∷ some_there xs t)
-
-abbrev pub past_some : List Home → List ℕ → List ℕ
-past_some [] t = behind (codes "-") t
-past_some (x ∷ xs) t = cond (starts (home_text x) t) (past_more xs (behind (home_text x) t)) (past_some xs t)
 
 no_dash : (x : Home) (m : List ℕ) → is_small x ≡ true → starts (home_text x) (45 ∷ m) ≡ false
 no_dash x m p = ap (λ t. starts t (45 ∷ m)) (named x p) ∙ by x
@@ -172,6 +156,6 @@ some_taken (x ∷ xs) h m a e =
         }
 
 -- Of a text of homes, those are taken that are meant, and what follows is left.
-pub homes_taken : (h : Homes) (m : List ℕ) → Ended m → SomeTaken homes h m (homes_text h ++ m)
-unfolding homes_text
-homes_taken h m e = some_taken homes h m homes_apart e
+pub homes_taken : (h : Homes) (m : List ℕ) → homes_from (bits h homes) ≡ h → Ended m → (homes_read (homes_text h ++ m) ≡ h) × (homes_past (homes_text h ++ m) ≡ m)
+unfolding homes_text homes_read homes_past
+homes_taken h m is e = let taken = some_taken homes h m homes_apart e in (ap homes_from taken.there ∙ is, taken.more)

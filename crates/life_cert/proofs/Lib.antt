@@ -15,10 +15,17 @@ pub mod Enough
 pub mod RoundsFormed
 pub mod Closed
 pub mod Taking
+pub mod StateWords
+pub mod Turns
+pub mod HomesRead
 pub mod HomeTexts
 pub mod CursorTexts
 pub mod FactTexts
 pub mod VariableTexts
 pub mod StateTexts
 pub mod StateReading
+pub mod TextFacts
 pub mod OneState
+pub mod PrintedStates
+pub mod PrintedCert
+pub mod OneCert

@@ -10,12 +10,11 @@ use Rattle.life_cert.specs.declared.draft.Draft.{Draft}
 use Rattle.life_cert.specs.declared.due.Due.{Due}
 use Rattle.life_cert.specs.declared.due.Due.TheVariants as due
 use Rattle.life_cert.specs.declared.refusal.CertCode.{CertCode}
-use Rattle.life_cert.specs.declared.refusal.CertCode.TheVariants as code
 use Rattle.life_cert.specs.declared.refusal.CertRefusal.{CertRefusal}
 use Rattle.life_cert.specs.declared.refusal.CertRefusal.TheVariants.{Fault, NoMemory}
 use Rattle.life_cert.specs.Codes.{code_number}
 use Rattle.life_cert.specs.CertText.{cert_text}
-use Rattle.life_cert.specs.Reading.{EndHasCode, EndTold, Fits, HasCode, IsCertificate, IsTextOf, IsTold, IsToldBy, IsToldFirst, IsToldOf, LinesHaveCode, goes_on, is_over, left, more_than}
+use Rattle.life_cert.specs.Reading.{EndTold, IsCertificate, IsTextOf, IsTold, IsToldBy, IsToldFirst, IsToldOf, LinesHaveCode, goes_on, is_over, left, more_than}
 use Rattle.life_cert.specs.Drafts.{Counts, IsAdded, IsDraft, IsRefused, LineAdded, seen_draft, text_so_far}
 
 -- the text of lines that were taken
@@ -66,14 +65,9 @@ ahead more (l ∷ ls) tail d s n m c h k =
     let same : n + suc (length ls) ≡ n + 1 + length ls = omega arith in
     inr (subst (λ (x : Due). LinesHaveCode more x (n + 1) (ls ++ tail) m c) one.due (ahead more ls tail h.0 s (n + 1) m c h.2 (subst (λ (x : ℕ). LinesHaveCode more s.due x tail m c) same k)))
 
-fits_so : (c : CertCode) (P Q : Type 0) → (P → Q) → Fits c P → Fits c Q
-fits_so code.BadByte P Q f h = f h
-fits_so code.NotDue P Q f h = f h
-fits_so code.NotState P Q f h = tt
-
 told_at : (more : Bool) (before after : List (List ℕ)) (line : List ℕ) (d s : Draft) (m : ℕ) (c : CertCode) → AreTaken LineAdded d 1 before s → m ≡ length before + 1 → IsRefused s line c → IsToldFirst (LinesHaveCode more d.due 1 (before ++ line ∷ after)) m c
 told_at more before after line d s m c taken at r = record {
-  fits = fits_so c (HasCode s.due line c) (LinesHaveCode more d.due 1 (before ++ line ∷ after) m c) (λ h. ahead more before (line ∷ after) d s 1 m c taken (inl (omega (arith, at), h))) r.fits;
+  fits = ahead more before (line ∷ after) d s 1 m c taken (inl (omega (arith, at), r.fits));
   line = λ k e h. let first = low more s.due (1 + length before) (line ∷ after) k e (behind more before (line ∷ after) d s 1 k e taken h) in omega (arith, at, first);
   lowest = λ e h. here e (behind more before (line ∷ after) d s 1 m e taken h);
 }
@@ -97,15 +91,10 @@ end_told more lines d s n (Fault m c) at taken count r =
   where
     told : IsToldFirst (LinesHaveCode more d.due 1 (lines ++ [])) m c
     told = record {
-      fits = fits_so c (EndHasCode more s.due c) (LinesHaveCode more d.due 1 (lines ++ []) m c) (λ h. ahead more lines [] d s 1 m c taken (omega (arith, count, r.0), h)) (fit c r.1);
+      fits = ahead more lines [] d s 1 m c taken (omega (arith, count, r.0), r.1);
       line = λ k e h. let first = (behind more lines [] d s 1 k e taken h).0 in omega (arith, count, r.0, first);
       lowest = λ e h. r.2 e (behind more lines [] d s 1 m e taken h).1;
     }
-      where
-        fit : (c : CertCode) → EndHasCode more s.due c → Fits c (EndHasCode more s.due c)
-        fit code.BadByte h = h
-        fit code.NotDue h = h
-        fit code.NotState h = tt
 
 or_there : (a b : Bool) → (a || b) ≡ false → (a ≡ false) × (b ≡ false)
 or_there false b h = (refl, h)

@@ -1,25 +1,15 @@
 -- Of the text of a state in form, each part is taken as it was written, and what follows is left.
-use Rattle.std.proofs.Common.{◌≡◌, ℕ, ◌<◌, Bool, true, false, not, cond, List, [], ◌∷◌, ◌++◌, codes, refl, ap, ◌∙◌, append_assoc, arith, inl, inr}
+use Rattle.std.proofs.Common.{◌≡◌, ℕ, ◌<◌, Bool, true, false, not, List, [], ◌∷◌, ◌++◌, codes, refl, ap, ◌∙◌, append_assoc, arith, inl, inr}
 use Rattle.std.specs.Prelude.{◌⊎◌}
 use Rattle.life_state.specs.Form.{IsFormed}
 use Rattle.life_state.specs.States.{never_made, is_live_brigade, State}
 use Rattle.life_state.proofs.Tests.{not_true, split3}
 use Rattle.life_cert.specs.StateText.{brigade_text, cursor_name, cursor_text, each, facts_text, in_text, pool_text, sent_text, state_text}
-use Rattle.life_cert.proofs.Taking.{Ended, behind, skips, starts}
-use Rattle.life_cert.proofs.CursorTexts.{cursor_past, cursor_read}
-use Rattle.life_cert.proofs.FactTexts.{EachTaken, cursors_taken, each_taken, fact_past, fact_word, facts_taken, is_written, past_each, row_past}
-use Rattle.life_cert.proofs.VariableTexts.{body, in_past, in_read, in_taken, own_past, own_read, own_taken, pool_past, pool_read, pool_taken}
-use Rattle.life_cert.proofs.StateTexts.{Follows, IsLineEnd, count_each, counted, cursors_follow, each_keeps, ended_at, facts_follow, facts_free, homes_from, line_ended, no_space, says_brigade, says_cursor}
-
--- Where each part begins.
-abbrev pub at_pools : List ℕ → List ℕ
-at_pools t = cond (starts (codes "sent=maybe") t) (behind (codes "sent=maybe") t) (behind (codes "sent=no") t)
-
-abbrev pub at_brigades : ℕ → List ℕ → List ℕ
-at_brigades n t = past_each (λ i. pool_past) 0 n t
-
-abbrev pub at_in : ℕ → List ℕ → List ℕ
-at_in n t = past_each (λ i. own_past) 0 n t
+use Rattle.life_cert.specs.StateFromText.{at_pools, count_each, cursor_past, cursor_read, fact_past, fact_word, in_past, in_read, own_past, own_read, past_each, pool_past, pool_read, row_past, starts}
+use Rattle.life_cert.proofs.Taking.{Ended, skips}
+use Rattle.life_cert.proofs.FactTexts.{EachTaken, cursors_taken, each_taken, facts_taken, is_written}
+use Rattle.life_cert.proofs.VariableTexts.{body, in_taken, own_taken, pool_taken}
+use Rattle.life_cert.proofs.StateTexts.{Follows, IsLineEnd, counted, cursors_follow, each_keeps, ended_at, facts_follow, facts_free, line_ended, no_space, says_brigade, says_cursor}
 
 abbrev pub cursors_text : State → List ℕ
 cursors_text s = each 0 9 (λ c. cursor_text c (s.cursors c))
@@ -59,8 +49,8 @@ module _ (s : State) (formed : IsFormed s) (m : List ℕ) (h : IsLineEnd m) wher
       by true r = (refl, refl)
       by false r = (refl, refl)
 
-  pub cursors_told : EachTaken cursor_past (λ c t. cursor_read homes_from c t ≡ s.cursors c) 0 9 from_facts from_cursors
-  cursors_told = cursors_taken homes_from s.cursors from_facts (λ c. says_cursor s (s.cursors c) formed.pool_count (formed.cursors c)) (λ c below. facts_free s m h c below)
+  pub cursors_told : EachTaken cursor_past (λ c t. cursor_read c t ≡ s.cursors c) 0 9 from_facts from_cursors
+  cursors_told = cursors_taken s.cursors from_facts (λ c. says_cursor s (s.cursors c) formed.pool_count (formed.cursors c)) (λ c below. facts_free s m h c below)
 
   pub facts_told : EachTaken row_past (λ c t. (d : ℕ) → d < 9 → starts (fact_word c d) (past_each (fact_past c) 0 d t) ≡ is_written s c d) 0 9 m from_facts
   facts_told = facts_taken s m (λ c cs d ds. no_space (body_of c d) m h)
@@ -85,10 +75,10 @@ module _ (s : State) (formed : IsFormed s) (m : List ℕ) (h : IsLineEnd m) wher
       let i : Follows 112 [] from_in = record { ended = ended_at (s.brigades 8).live (codes "in=" ++ body (s.brigades 8)) from_cursors k.ended; free = skips (codes " p") (codes " in=" ++ body (s.brigades 8)) (s.brigades 8).live from_cursors refl k.free } in
       each_keeps (Follows 112 []) (λ b. brigade_text b (s.brigades b)) 0 s.brigade_count from_in (λ b below r q. record { ended = inl refl; free = refl }) i
 
-  pub in_told : (in_read homes_from from_in ≡ s.brigades 8) × (in_past from_in ≡ from_cursors)
+  pub in_told : (in_read from_in ≡ s.brigades 8) × (in_past from_in ≡ from_cursors)
   in_told =
       let v = s.brigades 8 in
-      let t = in_taken homes_from v from_cursors (says_brigade s v formed.pool_count (formed.brigades 8) (formed.homes 8)) (given formed.brought) in_free.ended in_free.free in
+      let t = in_taken v from_cursors (says_brigade s v formed.pool_count (formed.brigades 8) (formed.homes 8)) (given formed.brought) in_free.ended in_free.free in
       (t.read, t.more)
     where
       given : (s.brigades 8 ≡ never_made) ⊎ (is_live_brigade (s.brigades 8) ≡ true) → (s.brigades 8 ≡ never_made) ⊎ (((s.brigades 8).live ≡ true) × ((s.brigades 8).null ≡ false) × ((s.brigades 8).gone ≡ false))
@@ -97,13 +87,13 @@ module _ (s : State) (formed : IsFormed s) (m : List ℕ) (h : IsLineEnd m) wher
           let three = split3 (s.brigades 8).live (not (s.brigades 8).null) (not (s.brigades 8).gone) e in
           inr (three.0, not_true (s.brigades 8).null three.1, not_true (s.brigades 8).gone three.2)
 
-  pub brigades_told : EachTaken (λ i. own_past) (λ b t. own_read homes_from t ≡ s.brigades b) 0 s.brigade_count from_in from_brigades
+  pub brigades_told : EachTaken (λ i. own_past) (λ b t. own_read t ≡ s.brigades b) 0 s.brigade_count from_in from_brigades
   brigades_told =
       let few = formed.brigade_count in
-      each_taken (λ b. brigade_text b (s.brigades b)) (λ i. own_past) (λ b t. own_read homes_from t ≡ s.brigades b) (λ b r. Ended r)
+      each_taken (λ b. brigade_text b (s.brigades b)) (λ i. own_past) (λ b t. own_read t ≡ s.brigades b) (λ b r. Ended r)
       (record {
-        says = λ b r below e. (own_taken homes_from b (s.brigades b) r (omega (arith, below)) (says_brigade s (s.brigades b) formed.pool_count (formed.brigades b) (formed.homes b)) e).read;
-        more = λ b r below e. (own_taken homes_from b (s.brigades b) r (omega (arith, below)) (says_brigade s (s.brigades b) formed.pool_count (formed.brigades b) (formed.homes b)) e).more;
+        says = λ b r below e. (own_taken b (s.brigades b) r (omega (arith, below)) (says_brigade s (s.brigades b) formed.pool_count (formed.brigades b) (formed.homes b)) e).read;
+        more = λ b r below e. (own_taken b (s.brigades b) r (omega (arith, below)) (says_brigade s (s.brigades b) formed.pool_count (formed.brigades b) (formed.homes b)) e).more;
         free = λ i j r low high e. inl refl;
       }) 0 s.brigade_count from_in (omega (arith, few)) (λ i below. brigades_free.ended)
 
@@ -111,7 +101,7 @@ module _ (s : State) (formed : IsFormed s) (m : List ℕ) (h : IsLineEnd m) wher
   brigades_counted =
       let few = formed.brigade_count in
       counted (codes " b") own_past (λ b. brigade_text b (s.brigades b)) Ended (λ b below r e. inl refl)
-      (λ b below r e. let t = own_taken homes_from b (s.brigades b) r (omega (arith, below)) (says_brigade s (s.brigades b) formed.pool_count (formed.brigades b) (formed.homes b)) e in (t.begins, t.more))
+      (λ b below r e. let t = own_taken b (s.brigades b) r (omega (arith, below)) (says_brigade s (s.brigades b) formed.pool_count (formed.brigades b) (formed.homes b)) e in (t.begins, t.more))
       0 s.brigade_count 8 from_in (omega (arith, few)) few brigades_free.ended brigades_free.free
 
   pub pools_told : EachTaken (λ i. pool_past) (λ q t. pool_read t ≡ s.pools q) 0 s.pool_count from_brigades from_pools

@@ -8,36 +8,16 @@ use Rattle.life_state.specs.declared.parts.Contents.{Contents}
 use Rattle.life_state.specs.declared.parts.Contents.TheVariants.{Empty}
 use Rattle.life_state.specs.Facts.{is_set}
 use Rattle.life_state.specs.Form.{FormedBrigade, FormedCursor, NamesDeclared}
-use Rattle.life_state.specs.States.{Homes, no_homes, BrigadeKnown, CursorKnown, Unset, Loose, In, End, InOrEnd, State}
+use Rattle.life_state.specs.States.{Homes, BrigadeKnown, CursorKnown, Unset, Loose, In, End, InOrEnd, State}
 use Rattle.life_cert.specs.StateText.{cursor_name, cursor_text, each, facts_text, fact_text, homes, place_text_of, where_holds}
-use Rattle.life_cert.proofs.Taking.{Ended, skips, starts}
+use Rattle.life_cert.specs.StateFromText.{at_from, count_each, fact_word, homes_from, key, known_dead, own_from, starts}
+use Rattle.life_cert.proofs.Taking.{Ended, skips}
 use Rattle.life_cert.proofs.HomeTexts.{bits}
-use Rattle.life_cert.proofs.CursorTexts.{CanSay, key}
-use Rattle.life_cert.proofs.FactTexts.{fact_word, is_written, no_fact_key}
-use Rattle.life_cert.proofs.VariableTexts.{CanSayBrigade, known_dead}
+use Rattle.life_cert.proofs.CursorTexts.{CanSay}
+use Rattle.life_cert.proofs.FactTexts.{is_written, no_fact_key}
+use Rattle.life_cert.proofs.VariableTexts.{CanSayBrigade}
 
 -- Homes, from what is said of each in turn.
-abbrev own_from : List Bool → ℕ → Bool
-own_from [] q = false
-own_from (b ∷ []) q = false
-own_from (b ∷ (c ∷ bs)) zero = b
-own_from (b ∷ (c ∷ bs)) (suc q) = own_from (c ∷ bs) q
-
-abbrev dead_from : List Bool → Bool
-dead_from [] = false
-dead_from (b ∷ []) = b
-dead_from (b ∷ (c ∷ bs)) = dead_from (c ∷ bs)
-
-abbrev at_from : Bool → List Bool → PoolRef → Bool
-at_from r bs pool.Conn = false
-at_from r bs pool.Req = r
-at_from r bs (pool.Own q) = own_from bs q
-
-abbrev pub homes_from : List Bool → Homes
-homes_from [] = no_homes
-homes_from (a ∷ []) = no_homes
-homes_from (a ∷ (r ∷ bs)) = record { call = a; dead = dead_from bs; at = at_from r bs }
-
 abbrev eight_then : (ℕ → Bool) → Bool → List Bool
 eight_then f d = f 0 ∷ (f 1 ∷ (f 2 ∷ (f 3 ∷ (f 4 ∷ (f 5 ∷ (f 6 ∷ (f 7 ∷ (d ∷ []))))))))
 
@@ -68,14 +48,14 @@ homes_back s h few names = ap (λ (f : PoolRef → Bool). (let k : Homes = recor
     same (pool.Own q) = own_back (λ q. h.at (pool.Own q)) h.dead none q
 
 -- a text can say what is in form
-pub says_cursor : (s : State) (v : CursorKnown) → s.pool_count ≤ 8 → FormedCursor s v → CanSay homes_from v
+pub says_cursor : (s : State) (v : CursorKnown) → s.pool_count ≤ 8 → FormedCursor s v → CanSay v
 says_cursor s Unset few h = tt
 says_cursor s (Loose t k) few h = homes_back s k few h.1
 says_cursor s (In b t) few h = h.1.0
 says_cursor s (End b) few h = h.0
 says_cursor s (InOrEnd b t) few h = h.1.0
 
-pub says_brigade : (s : State) (v : BrigadeKnown) → s.pool_count ≤ 8 → FormedBrigade v → NamesDeclared s v.homes → CanSayBrigade homes_from v
+pub says_brigade : (s : State) (v : BrigadeKnown) → s.pool_count ≤ 8 → FormedBrigade v → NamesDeclared s v.homes → CanSayBrigade v
 says_brigade s v few form names = record { dead = λ e. dead e (marks v.usable v.passed (sym form.marks ∙ e)); bare = form.bare; homes = homes_back s v.homes few names }
   where
     marks : (a b : Bool) → (a || b) ≡ false → (a ≡ false) × (b ≡ false)
@@ -97,14 +77,10 @@ unfolding each
 each_keeps P f k zero m one h = h
 each_keeps P f k (suc n) m one h = subst P (sym (append_assoc (f k) (each (k + 1) n f) m)) (one k (omega arith) (each (k + 1) n f ++ m) (each_keeps P f (k + 1) n m (λ i below r q. one i (omega (arith, below)) r q) h))
 
--- How many texts stand there that begin so, up to a number.
-abbrev pub count_each : List ℕ → (List ℕ → List ℕ) → ℕ → List ℕ → ℕ
-count_each w p zero t = 0
-count_each w p (suc most) t = cond (starts w t) (suc (count_each w p most (p t))) 0
-
+-- How many texts stand there.
 pub counted : (w : List ℕ) (p : List ℕ → List ℕ) (f : ℕ → List ℕ) (P : List ℕ → Type 0) → ((i : ℕ) → i < 9 → (r : List ℕ) → P r → P (f i ++ r)) → ((i : ℕ) → i < 9 → (r : List ℕ) → P r → (starts w (f i ++ r) ≡ true) × (p (f i ++ r) ≡ r))
     → (k n most : ℕ) (m : List ℕ) → k + n ≤ 9 → n ≤ most → P m → starts w m ≡ false → count_each w p most (each k n f ++ m) ≡ n
-unfolding each
+unfolding each count_each
 counted w p f P keeps one k zero zero m high few h none = refl
 counted w p f P keeps one k zero (suc most) m high few h none = ap (λ (b : Bool). cond b (suc (count_each w p most (p m))) 0) none
 counted w p f P keeps one k (suc n) zero m high few h none = absurd (omega (arith, few))

@@ -4,22 +4,8 @@ use Rattle.std.specs.Prelude.{decimal, ◌⊎◌}
 use Rattle.std.proofs.lemmas.Bool.{eqb-true, eq-eqb}
 use Rattle.std.proofs.lemmas.Fmt.{decimal_digit}
 use Rattle.life_state.specs.declared.parts.Classes.{Classes}
+use Rattle.life_cert.specs.StateFromText.{behind, past, starts}
 use Rattle.life_cert.specs.StateText.{where_holds, set_text, classes_text, cursor_name, brigade_name}
-
--- whether a text begins with a word, and what stands behind a word as long
-abbrev pub starts : List ℕ → List ℕ → Bool
-starts [] t = true
-starts (x ∷ xs) [] = false
-starts (x ∷ xs) (y ∷ ys) = eqb y x && starts xs ys
-
-abbrev pub behind : List ℕ → List ℕ → List ℕ
-behind [] t = t
-behind (x ∷ xs) [] = []
-behind (x ∷ xs) (y ∷ ys) = behind xs ys
-
--- what is left behind a word, where it stands there
-abbrev pub past : List ℕ → List ℕ → List ℕ
-past w t = cond (starts w t) (behind w t) t
 
 pub starts_self : (w m : List ℕ) → starts w (w ++ m) ≡ true
 starts_self [] m = refl
@@ -35,8 +21,14 @@ word_is w true m h = starts_self w m
 word_is w false m h = h
 
 pub word_past : (w : List ℕ) (b : Bool) (m : List ℕ) → starts w m ≡ false → past w (where_holds b w ++ m) ≡ m
+unfolding past
 word_past w true m h = ap (λ (x : Bool). cond x (behind w (w ++ m)) (w ++ m)) (starts_self w m) ∙ behind_self w m
 word_past w false m h = ap (λ (x : Bool). cond x (behind w m) m) h
+
+-- where it does not stand there, nothing is taken
+pub past_none : (w t : List ℕ) → starts w t ≡ false → t ≡ past w t
+unfolding past
+past_none w t h = sym (ap (λ (b : Bool). cond b (behind w t) t) h)
 
 -- nor does a text begin with it that has another word before, or not
 pub skips : (w u : List ℕ) (b : Bool) (m : List ℕ) → starts w (u ++ m) ≡ false → starts w m ≡ false → starts w (where_holds b u ++ m) ≡ false

@@ -1,20 +1,15 @@
 -- Pools and brigades, taken from the front of a text.
-use Rattle.std.proofs.Common.{◌≡◌, ℕ, ◌+◌, ◌<◌, Bool, true, false, cond, List, [], ◌∷◌, ◌++◌, codes, refl, sym, ap, subst, ◌∙◌, eqb, append_assoc, inl, inr}
+use Rattle.std.proofs.Common.{◌≡◌, ℕ, ◌+◌, ◌<◌, Bool, true, false, cond, List, [], ◌∷◌, ◌++◌, codes, refl, sym, ap, subst, ◌∙◌, append_assoc, inl, inr}
 use Rattle.std.specs.Prelude.{◌⊎◌}
 use Rattle.std.proofs.lemmas.Fmt.{decimal_digit}
 use Rattle.life_state.specs.declared.parts.Contents.{Contents}
 use Rattle.life_state.specs.declared.parts.Contents.TheVariants.{Empty, Flushes, NoEos, NoLateData, Any}
 use Rattle.life_state.specs.declared.parts.PoolState.{PoolState}
-use Rattle.life_state.specs.States.{Homes, no_homes, BrigadeKnown, never_made}
+use Rattle.life_state.specs.States.{no_homes, BrigadeKnown, never_made}
 use Rattle.life_cert.specs.StateText.{where_holds, homes, homes_text, set_text, content_text, usable_text, live_text, pool_text, brigade_text, in_text}
-use Rattle.life_cert.proofs.Taking.{Ended, ThreeTaken, behind, one, past, set_taken, starts, three_taken, not_begun}
-use Rattle.life_cert.proofs.HomeTexts.{bits, homes_taken, past_some, some_there}
-
-abbrev pub set_read : List ℕ → PoolState
-set_read t = record { null = starts (one 110) t; gone = starts (one 103) (past (one 110) t); live = starts (one 108) (past (one 103) (past (one 110) t)) }
-
-abbrev pub set_past : List ℕ → List ℕ
-set_past t = past (one 108) (past (one 103) (past (one 110) t))
+use Rattle.life_cert.specs.StateFromText.{behind, behind_marks, content_read, homes_at, homes_from, homes_past, homes_read, in_past, in_read, known_dead, known_live, live_past, live_read, own_past, own_read, past, pool_past, pool_read, set_past, set_read, starts}
+use Rattle.life_cert.proofs.Taking.{Ended, ThreeTaken, not_begun, one, past_none, set_taken, three_taken}
+use Rattle.life_cert.proofs.HomeTexts.{bits, homes_taken}
 
 abbrev pub set_of : Bool → Bool → Bool → PoolState
 set_of n g l = record { null = n; gone = g; live = l }
@@ -26,12 +21,6 @@ same_set n g l m t h =
     ∙ ap (λ (b : Bool). set_of n g b) h.third
 
 -- A pool.
-abbrev pub pool_read : List ℕ → PoolState
-pool_read t = set_read (behind (codes " p0=") t)
-
-abbrev pub pool_past : List ℕ → List ℕ
-pool_past t = set_past (behind (codes " p0=") t)
-
 pub record PoolTaken (v : PoolState) (m t : List ℕ) : Type 0 where
   pub begins : starts (codes " p") t ≡ true
   pub read : pool_read t ≡ v
@@ -49,10 +38,6 @@ pool_taken q v m below e =
     }
 
 -- A brigade.
-abbrev pub content_read : List ℕ → Contents
-content_read [] = Empty
-content_read (b ∷ m) = cond (eqb b 102) Flushes (cond (eqb b 110) NoEos (cond (eqb b 111) NoLateData (cond (eqb b 97) Any Empty)))
-
 content_told : (c : Contents) (m : List ℕ) → (content_read (content_text c ++ m) ≡ c) × (behind (codes "e") (content_text c ++ m) ≡ m)
 content_told Empty m = (refl, refl)
 content_told Flushes m = (refl, refl)
@@ -60,88 +45,54 @@ content_told NoEos m = (refl, refl)
 content_told NoLateData m = (refl, refl)
 content_told Any m = (refl, refl)
 
-abbrev pub known_live : Bool → Bool → Bool → Bool → Contents → Homes → BrigadeKnown
-known_live null gone usable passed content homes = record { null = null; gone = gone; live = true; usable = usable; passed = passed; content = content; homes = homes }
-
-abbrev pub known_dead : Bool → Bool → BrigadeKnown
-known_dead null gone = record { null = null; gone = gone; live = false; usable = false; passed = false; content = Empty; homes = no_homes }
-
-abbrev pub behind_marks : List ℕ → List ℕ
-behind_marks t = past (one 112) (past (one 117) t)
-
-abbrev pub homes_at : List ℕ → List ℕ
-homes_at t = behind (codes "/") (behind (codes "e") (behind (codes "/") t))
-
-module _ (from : List Bool → Homes) where
-  abbrev pub live_read : Bool → Bool → List ℕ → BrigadeKnown
-  live_read null gone t = known_live null gone (starts (one 117) t) (starts (one 112) (past (one 117) t))
-      (cond (starts (one 117) t) (content_read (behind (codes "/") (behind_marks t))) Empty) (cond (starts (one 117) t) (from (some_there homes (homes_at (behind_marks t)))) no_homes)
-
-  abbrev pub own_read : List ℕ → BrigadeKnown
-  own_read t = cond (set_read (behind (codes " b0=") t)).live
-      (live_read (set_read (behind (codes " b0=") t)).null (set_read (behind (codes " b0=") t)).gone (behind (codes "/") (set_past (behind (codes " b0=") t))))
-      (known_dead (set_read (behind (codes " b0=") t)).null (set_read (behind (codes " b0=") t)).gone)
-
-  abbrev pub in_read : List ℕ → BrigadeKnown
-  in_read t = cond (starts (codes " in=") t) (live_read false false (behind (codes " in=") t)) never_made
-
-abbrev pub live_past : List ℕ → List ℕ
-live_past t = cond (starts (one 117) t) (past_some homes (homes_at (behind_marks t))) (behind_marks t)
-
-abbrev pub own_past : List ℕ → List ℕ
-own_past t = cond (set_read (behind (codes " b0=") t)).live (live_past (behind (codes "/") (set_past (behind (codes " b0=") t)))) (set_past (behind (codes " b0=") t))
-
-abbrev pub in_past : List ℕ → List ℕ
-in_past t = cond (starts (codes " in=") t) (live_past (behind (codes " in=") t)) t
-
 -- what a text can say of a brigade
-pub record CanSayBrigade (from : List Bool → Homes) (v : BrigadeKnown) : Type 0 where
+pub record CanSayBrigade (v : BrigadeKnown) : Type 0 where
   pub dead : v.live ≡ false → v ≡ known_dead v.null v.gone
   pub bare : v.usable ≡ false → (v.content ≡ Empty) × (v.homes ≡ no_homes)
-  pub homes : from (bits v.homes homes) ≡ v.homes
+  pub homes : homes_from (bits v.homes homes) ≡ v.homes
 
 abbrev pub body : BrigadeKnown → List ℕ
 body v = where_holds v.usable (codes "u") ++ (where_holds v.passed (codes "p") ++ usable_text v)
 
-pub record LiveTaken (from : List Bool → Homes) (v : BrigadeKnown) (m t : List ℕ) : Type 0 where
-  pub read : live_read from v.null v.gone t ≡ v
+pub record LiveTaken (v : BrigadeKnown) (m t : List ℕ) : Type 0 where
+  pub read : live_read v.null v.gone t ≡ v
   pub more : live_past t ≡ m
 
 -- what stands behind the marks
-record UsableTaken (from : List Bool → Homes) (v : BrigadeKnown) (m t : List ℕ) : Type 0 where
+record UsableTaken (v : BrigadeKnown) (m t : List ℕ) : Type 0 where
   ended : Ended t
   content : cond v.usable (content_read (behind (codes "/") t)) Empty ≡ v.content
-  homes_read : cond v.usable (from (some_there homes (homes_at t))) no_homes ≡ v.homes
-  more : cond v.usable (past_some homes (homes_at t)) t ≡ m
+  homes_read : cond v.usable (homes_read (homes_at t)) no_homes ≡ v.homes
+  more : cond v.usable (homes_past (homes_at t)) t ≡ m
 
-usable_taken : (from : List Bool → Homes) (v : BrigadeKnown) (m : List ℕ) → CanSayBrigade from v → Ended m → UsableTaken from v m (usable_text v ++ m)
-usable_taken from v m say e = by v.usable refl say.bare
+usable_taken : (v : BrigadeKnown) (m : List ℕ) → CanSayBrigade v → Ended m → UsableTaken v m (usable_text v ++ m)
+usable_taken v m say e = by v.usable refl say.bare
   where
     h : List ℕ
     h = homes_text v.homes
 
-    by : (b : Bool) → v.usable ≡ b → (b ≡ false → (v.content ≡ Empty) × (v.homes ≡ no_homes)) → UsableTaken from v m (usable_text v ++ m)
+    by : (b : Bool) → v.usable ≡ b → (b ≡ false → (v.content ≡ Empty) × (v.homes ≡ no_homes)) → UsableTaken v m (usable_text v ++ m)
     by true is bare =
         let r = 47 ∷ (h ++ m) in
         let told = content_told v.content r in
-        let there = homes_taken v.homes m e in
+        let there = homes_taken v.homes m say.homes e in
         let t = 47 ∷ (content_text v.content ++ r) in
         let whole : usable_text v ++ m ≡ t = ap (λ (b : Bool). where_holds b (codes "/" ++ (content_text v.content ++ (codes "/" ++ h))) ++ m) is ∙ ap (λ x. 47 ∷ x) (append_assoc (content_text v.content) (47 ∷ h) m) in
         let at : homes_at t ≡ h ++ m = ap (behind (codes "/")) told.1 in
-        subst (UsableTaken from v m) (sym whole) (record {
+        subst (UsableTaken v m) (sym whole) (record {
           ended = inr (inl refl);
           content = ap (λ (b : Bool). cond b (content_read (behind (codes "/") t)) Empty) is ∙ told.0;
-          homes_read = ap (λ (b : Bool). cond b (from (some_there homes (homes_at t))) no_homes) is ∙ ap (λ x. from (some_there homes x)) at ∙ ap from there.there ∙ say.homes;
-          more = ap (λ (b : Bool). cond b (past_some homes (homes_at t)) t) is ∙ ap (past_some homes) at ∙ there.more;
+          homes_read = ap (λ (b : Bool). cond b (homes_read (homes_at t)) no_homes) is ∙ ap homes_read at ∙ there.0;
+          more = ap (λ (b : Bool). cond b (homes_past (homes_at t)) t) is ∙ ap homes_past at ∙ there.1;
         })
     by false is bare =
         let both = bare refl in
         let whole : usable_text v ++ m ≡ m = ap (λ (b : Bool). where_holds b (codes "/" ++ (content_text v.content ++ (codes "/" ++ h))) ++ m) is in
-        subst (UsableTaken from v m) (sym whole) (record {
+        subst (UsableTaken v m) (sym whole) (record {
           ended = e;
           content = ap (λ (b : Bool). cond b (content_read (behind (codes "/") m)) Empty) is ∙ sym both.0;
-          homes_read = ap (λ (b : Bool). cond b (from (some_there homes (homes_at m))) no_homes) is ∙ sym both.1;
-          more = ap (λ (b : Bool). cond b (past_some homes (homes_at m)) m) is;
+          homes_read = ap (λ (b : Bool). cond b (homes_read (homes_at m)) no_homes) is ∙ sym both.1;
+          more = ap (λ (b : Bool). cond b (homes_past (homes_at m)) m) is;
         })
 
 marks_apart : (a b : Bool) (u m : List ℕ) → (where_holds a (codes "u") ++ (where_holds b (codes "p") ++ u)) ++ m ≡ (where_holds a (codes "u") ++ (where_holds b (codes "p") ++ where_holds false (codes "z"))) ++ (u ++ m)
@@ -150,30 +101,28 @@ marks_apart true false u m = refl
 marks_apart false true u m = refl
 marks_apart false false u m = refl
 
-pub live_taken : (from : List Bool → Homes) (v : BrigadeKnown) (m : List ℕ) → v.live ≡ true → CanSayBrigade from v → Ended m → LiveTaken from v m (body v ++ m)
-live_taken from v m live say e =
+pub live_taken : (v : BrigadeKnown) (m : List ℕ) → v.live ≡ true → CanSayBrigade v → Ended m → LiveTaken v m (body v ++ m)
+unfolding live_read live_past
+live_taken v m live say e =
     let u = usable_text v ++ m in
     let t = body v ++ m in
-    let h = usable_taken from v m say e in
+    let h = usable_taken v m say e in
     let marks = three_taken 117 112 122 v.usable v.passed false u refl refl refl (not_begun 117 [] u h.ended refl refl refl) (not_begun 112 [] u h.ended refl refl refl) (not_begun 122 [] u h.ended refl refl refl) in
     let two = subst (ThreeTaken 117 112 122 v.usable v.passed false u) (sym (marks_apart v.usable v.passed (usable_text v) m)) marks in
-    let left : behind_marks t ≡ u = no_z (behind_marks t) two.third ∙ two.more in
+    let left : behind_marks t ≡ u = past_none (one 122) (behind_marks t) two.third ∙ two.more in
     record {
-      read = ap (λ (b : Bool). known_live v.null v.gone b (starts (one 112) (past (one 117) t)) (cond b (content_read (behind (codes "/") (behind_marks t))) Empty) (cond b (from (some_there homes (homes_at (behind_marks t)))) no_homes)) two.first
-          ∙ ap (λ (b : Bool). known_live v.null v.gone v.usable b (cond v.usable (content_read (behind (codes "/") (behind_marks t))) Empty) (cond v.usable (from (some_there homes (homes_at (behind_marks t)))) no_homes)) two.second
-          ∙ ap (λ x. known_live v.null v.gone v.usable v.passed (cond v.usable (content_read (behind (codes "/") x)) Empty) (cond v.usable (from (some_there homes (homes_at x))) no_homes)) left
-          ∙ ap (λ (c : Contents). known_live v.null v.gone v.usable v.passed c (cond v.usable (from (some_there homes (homes_at u))) no_homes)) h.content
+      read = ap (λ (b : Bool). known_live v.null v.gone b (starts (one 112) (past (one 117) t)) (cond b (content_read (behind (codes "/") (behind_marks t))) Empty) (cond b (homes_read (homes_at (behind_marks t))) no_homes)) two.first
+          ∙ ap (λ (b : Bool). known_live v.null v.gone v.usable b (cond v.usable (content_read (behind (codes "/") (behind_marks t))) Empty) (cond v.usable (homes_read (homes_at (behind_marks t))) no_homes)) two.second
+          ∙ ap (λ x. known_live v.null v.gone v.usable v.passed (cond v.usable (content_read (behind (codes "/") x)) Empty) (cond v.usable (homes_read (homes_at x)) no_homes)) left
+          ∙ ap (λ (c : Contents). known_live v.null v.gone v.usable v.passed c (cond v.usable (homes_read (homes_at u)) no_homes)) h.content
           ∙ ap (known_live v.null v.gone v.usable v.passed v.content) h.homes_read
           ∙ ap (λ (b : Bool). (let k : BrigadeKnown = record v { live = b } in k)) (sym live);
-      more = ap (λ (b : Bool). cond b (past_some homes (homes_at (behind_marks t))) (behind_marks t)) two.first ∙ ap (λ x. cond v.usable (past_some homes (homes_at x)) x) left ∙ h.more;
+      more = ap (λ (b : Bool). cond b (homes_past (homes_at (behind_marks t))) (behind_marks t)) two.first ∙ ap (λ x. cond v.usable (homes_past (homes_at x)) x) left ∙ h.more;
     }
-  where
-    no_z : (t : List ℕ) → starts (one 122) t ≡ false → t ≡ past (one 122) t
-    no_z t h = sym (ap (λ (b : Bool). cond b (behind (one 122) t) t) h)
 
-pub record OwnTaken (from : List Bool → Homes) (v : BrigadeKnown) (m t : List ℕ) : Type 0 where
+pub record OwnTaken (v : BrigadeKnown) (m t : List ℕ) : Type 0 where
   pub begins : starts (codes " b") t ≡ true
-  pub read : own_read from t ≡ v
+  pub read : own_read t ≡ v
   pub more : own_past t ≡ m
 
 -- behind the set of a brigade
@@ -185,13 +134,14 @@ ended_live v m e = by v.live
     by false = e
 
 -- what is known before it is asked whether the brigade may be live
-record HalfTaken (from : List Bool → Homes) (v : BrigadeKnown) (m t : List ℕ) : Type 0 where
+record HalfTaken (v : BrigadeKnown) (m t : List ℕ) : Type 0 where
   begins : starts (codes " b") t ≡ true
-  read : own_read from t ≡ cond v.live (live_read from v.null v.gone (behind (codes "/") (live_text (codes "/") v ++ m))) (known_dead v.null v.gone)
+  read : own_read t ≡ cond v.live (live_read v.null v.gone (behind (codes "/") (live_text (codes "/") v ++ m))) (known_dead v.null v.gone)
   more : own_past t ≡ cond v.live (live_past (behind (codes "/") (live_text (codes "/") v ++ m))) (live_text (codes "/") v ++ m)
 
-pub own_taken : (from : List Bool → Homes) (b : ℕ) (v : BrigadeKnown) (m : List ℕ) → b < 10 → CanSayBrigade from v → Ended m → OwnTaken from v m (brigade_text b v ++ m)
-own_taken from b v m below say e =
+pub own_taken : (b : ℕ) (v : BrigadeKnown) (m : List ℕ) → b < 10 → CanSayBrigade v → Ended m → OwnTaken v m (brigade_text b v ++ m)
+unfolding own_read own_past
+own_taken b v m below say e =
     let set = set_text v.null v.gone v.live in
     let l = live_text (codes "/") v in
     let r = set ++ (l ++ m) in
@@ -199,46 +149,46 @@ own_taken from b v m below say e =
     let is : brigade_text b v ++ m ≡ t = ap (λ d. 32 ∷ (98 ∷ ((d ++ (61 ∷ (set ++ l))) ++ m))) (decimal_digit b below) ∙ ap (λ x. 32 ∷ (98 ∷ ((48 + b) ∷ (61 ∷ x)))) (append_assoc set l m) in
     let taken = set_taken v.null v.gone v.live (l ++ m) (ended_live v m e) in
     let is_set = same_set v.null v.gone v.live (l ++ m) r taken in
-    subst (OwnTaken from v m) (sym is) (by v.live refl (record {
+    subst (OwnTaken v m) (sym is) (by v.live refl (record {
       begins = refl;
-      read = ap (λ (s : PoolState). cond s.live (live_read from s.null s.gone (behind (codes "/") (set_past r))) (known_dead s.null s.gone)) is_set
-          ∙ ap (λ x. cond v.live (live_read from v.null v.gone (behind (codes "/") x)) (known_dead v.null v.gone)) taken.more;
+      read = ap (λ (s : PoolState). cond s.live (live_read s.null s.gone (behind (codes "/") (set_past r))) (known_dead s.null s.gone)) is_set
+          ∙ ap (λ x. cond v.live (live_read v.null v.gone (behind (codes "/") x)) (known_dead v.null v.gone)) taken.more;
       more = ap (λ (s : PoolState). cond s.live (live_past (behind (codes "/") (set_past r))) (set_past r)) is_set
           ∙ ap (λ x. cond v.live (live_past (behind (codes "/") x)) x) taken.more;
     }))
   where
-    by : {t : List ℕ} (x : Bool) → v.live ≡ x → HalfTaken from v m t → OwnTaken from v m t
+    by : {t : List ℕ} (x : Bool) → v.live ≡ x → HalfTaken v m t → OwnTaken v m t
     by true live half =
-        let on = live_taken from v m live say e in
+        let on = live_taken v m live say e in
         let l : live_text (codes "/") v ++ m ≡ 47 ∷ (body v ++ m) = ap (λ (y : Bool). where_holds y (47 ∷ body v) ++ m) live in
         record {
           begins = half.begins;
-          read = half.read ∙ ap (λ (y : Bool). cond y (live_read from v.null v.gone (behind (codes "/") (live_text (codes "/") v ++ m))) (known_dead v.null v.gone)) live ∙ ap (λ z. live_read from v.null v.gone (behind (codes "/") z)) l ∙ on.read;
+          read = half.read ∙ ap (λ (y : Bool). cond y (live_read v.null v.gone (behind (codes "/") (live_text (codes "/") v ++ m))) (known_dead v.null v.gone)) live ∙ ap (λ z. live_read v.null v.gone (behind (codes "/") z)) l ∙ on.read;
           more = half.more ∙ ap (λ (y : Bool). cond y (live_past (behind (codes "/") (live_text (codes "/") v ++ m))) (live_text (codes "/") v ++ m)) live ∙ ap (λ z. live_past (behind (codes "/") z)) l ∙ on.more;
         }
     by false live half =
         let l : live_text (codes "/") v ++ m ≡ m = ap (λ (y : Bool). where_holds y (47 ∷ body v) ++ m) live in
         record {
           begins = half.begins;
-          read = half.read ∙ ap (λ (y : Bool). cond y (live_read from v.null v.gone (behind (codes "/") (live_text (codes "/") v ++ m))) (known_dead v.null v.gone)) live ∙ sym (say.dead live);
+          read = half.read ∙ ap (λ (y : Bool). cond y (live_read v.null v.gone (behind (codes "/") (live_text (codes "/") v ++ m))) (known_dead v.null v.gone)) live ∙ sym (say.dead live);
           more = half.more ∙ ap (λ (y : Bool). cond y (live_past (behind (codes "/") (live_text (codes "/") v ++ m))) (live_text (codes "/") v ++ m)) live ∙ l;
         }
 
 -- `in`: never made, or exactly live
-pub record InTaken (from : List Bool → Homes) (v : BrigadeKnown) (m t : List ℕ) : Type 0 where
-  pub read : in_read from t ≡ v
+pub record InTaken (v : BrigadeKnown) (m t : List ℕ) : Type 0 where
+  pub read : in_read t ≡ v
   pub more : in_past t ≡ m
 
-pub in_taken : (from : List Bool → Homes) (v : BrigadeKnown) (m : List ℕ) → CanSayBrigade from v → (v ≡ never_made) ⊎ ((v.live ≡ true) × (v.null ≡ false) × (v.gone ≡ false)) → Ended m → starts (codes " in=") m ≡ false → InTaken from v m (in_text v ++ m)
-in_taken from v m say (inl never) e none =
-    subst (λ (x : BrigadeKnown). InTaken from x m (in_text x ++ m)) (sym never) (record {
-      read = ap (λ (b : Bool). cond b (live_read from false false (behind (codes " in=") m)) never_made) none;
+pub in_taken : (v : BrigadeKnown) (m : List ℕ) → CanSayBrigade v → (v ≡ never_made) ⊎ ((v.live ≡ true) × (v.null ≡ false) × (v.gone ≡ false)) → Ended m → starts (codes " in=") m ≡ false → InTaken v m (in_text v ++ m)
+in_taken v m say (inl never) e none =
+    subst (λ (x : BrigadeKnown). InTaken x m (in_text x ++ m)) (sym never) (record {
+      read = ap (λ (b : Bool). cond b (live_read false false (behind (codes " in=") m)) never_made) none;
       more = ap (λ (b : Bool). cond b (live_past (behind (codes " in=") m)) m) none;
     })
-in_taken from v m say (inr h) e none =
-    let on = live_taken from v m h.0 say e in
+in_taken v m say (inr h) e none =
+    let on = live_taken v m h.0 say e in
     let t : in_text v ++ m ≡ codes " in=" ++ (body v ++ m) = ap (λ (y : Bool). where_holds y (codes " in=" ++ body v) ++ m) h.0 in
     record {
-      read = ap (in_read from) t ∙ ap (λ (n : Bool). live_read from n false (body v ++ m)) (sym h.1) ∙ ap (λ (g : Bool). live_read from v.null g (body v ++ m)) (sym h.2) ∙ on.read;
+      read = ap in_read t ∙ ap (λ (n : Bool). live_read n false (body v ++ m)) (sym h.1) ∙ ap (λ (g : Bool). live_read v.null g (body v ++ m)) (sym h.2) ∙ on.read;
       more = ap in_past t ∙ on.more;
     }

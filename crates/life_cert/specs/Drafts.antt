@@ -1,7 +1,8 @@
 -- What the lines so far say, and what one more line adds.
-use Rattle.std.specs.Prelude.{◌≡◌, ℕ, ◌+◌, ◌≤◌, List, [], ◌∷◌, ◌++◌, length, slice_get, codes, Result, Ok, Err, IfSome, IsSome}
+use Rattle.std.specs.Prelude.{◌≡◌, ℕ, ◌+◌, ◌≤◌, List, [], ◌∷◌, ◌++◌, length, slice_get, codes, Option, Some, None, Result, Ok, Err, IfSome, IsSome}
 use Rattle.life_state.specs.Seen.{seen_some}
 use Rattle.life_state.specs.Form.{IsFormed}
+use Rattle.life_state.specs.States.{State}
 use Rattle.life_check.specs.Certificates.{Certificate}
 use Rattle.life_check.specs.Seen.{seen_line}
 use Rattle.life_cert.specs.declared.draft.Draft.{Draft}
@@ -12,9 +13,9 @@ use Rattle.life_cert.specs.declared.refusal.CertCode.TheVariants as code
 use Rattle.life_cert.specs.declared.refusal.CertRefusal.{CertRefusal}
 use Rattle.life_cert.specs.declared.refusal.CertRefusal.TheVariants.{Fault, NoMemory}
 use Rattle.life_cert.specs.Codes.{code_number}
-use Rattle.life_cert.specs.StateText.{each}
+use Rattle.life_cert.specs.StateText.{each, state_text}
 use Rattle.life_cert.specs.CertText.{between_line, pc_line, cert_text}
-use Rattle.life_cert.specs.Reading.{Fits, HasCode, left}
+use Rattle.life_cert.specs.Reading.{HasCode, IsState, IsStateOrNone, left}
 
 abbrev pub seen_draft : Draft → Certificate
 seen_draft d = record {
@@ -54,7 +55,7 @@ pub record IsAdded (d : Draft) (l : List ℕ) (e : Draft) : Type 0 where
 
 -- a line is refused by a code that fits it, and no lower one does
 pub record IsRefused (d : Draft) (l : List ℕ) (c : CertCode) : Type 0 where
-  pub fits : Fits c (HasCode d.due l c)
+  pub fits : HasCode d.due l c
   pub lowest : (e : CertCode) → HasCode d.due l e → code_number c ≤ code_number e
 
 abbrev pub LineAdded : Draft → ℕ → List ℕ → Result (Unit {0}) CertRefusal → Draft → Type 0
@@ -62,7 +63,18 @@ LineAdded d n l (Ok u) e = IsAdded d l e
 LineAdded d n l (Err (Fault m c)) e = (m ≡ n) × IsRefused d l c
 LineAdded d n l (Err NoMemory) e = Unit {0}
 
--- what stands behind the first word of line n is no state, or memory was wanting
-abbrev pub IsNoState : ℕ → CertRefusal → Type 0
-IsNoState n (Fault m c) = (m ≡ n) × (c ≡ code.NotState)
-IsNoState n NoMemory = Unit {0}
+-- what stands behind the first word of line n is no state, as this says, or memory was wanting
+abbrev pub IsNoState : ℕ → Type 0 → CertRefusal → Type 0
+IsNoState n Lacks (Fault m c) = (m ≡ n) × ((c ≡ code.NotState) × Lacks)
+IsNoState n Lacks NoMemory = Unit {0}
+
+abbrev pub NoStateIsIn : List ℕ → Type 0
+NoStateIsIn rest = ((s : State) × IsState rest s) → ⊥
+
+abbrev pub NoStateOrNoneIsIn : List ℕ → Type 0
+NoStateOrNoneIsIn rest = ((o : Option State) × IsStateOrNone rest o) → ⊥
+
+-- the state in form that has this text, where there is one
+abbrev pub IsReadState : List ℕ → Option State → Type 0
+IsReadState text None = (s : State) → IsFormed s → text ≡ state_text s → ⊥
+IsReadState text (Some s) = IsFormed s × (text ≡ state_text s)

@@ -1,6 +1,7 @@
 pub use Rattle.life_check.specs.Certificates
 pub mod Codes
 pub mod StateText
+pub mod StateFromText
 pub mod CertText
 pub mod Reading
 pub mod Drafts

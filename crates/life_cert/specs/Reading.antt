@@ -32,6 +32,26 @@ pub record IsTextOf (text : List ℕ) (c : Certificate) : Type 0 where
   pub whole : text ≡ cert_text c
   pub small : length text ≤ 4194304
 
+-- What may be printed: each state is in form, and none stands where no line is, or beyond instruction 1023. Its last lines may have
+-- none.
+pub record IsWritable (c : Certificate) : Type 0 where
+  pub idle : IfSome c.idle IsFormed
+  pub ready : IfSome c.ready IsFormed
+  pub at : (pc : ℕ) → IfSome (c.at pc) IsFormed
+  pub none : (pc : ℕ) → c.lines ≤ pc → c.at pc ≡ None
+  pub few : (pc : ℕ) → 1024 ≤ pc → c.at pc ≡ None
+
+pub record IsPrinted (text : List ℕ) (c : Certificate) : Type 0 where
+  pub writable : IsWritable c
+  pub whole : text ≡ cert_text c
+  pub small : length text ≤ 4194304
+
+-- two certificates say the same; lines at the end that have no state say nothing
+pub record HaveSameStates (c d : Certificate) : Type 0 where
+  pub idle : c.idle ≡ d.idle
+  pub ready : c.ready ≡ d.ready
+  pub at : (pc : ℕ) → c.at pc ≡ d.at pc
+
 -- Lines.
 
 abbrev pub where_due : Bool → Line → Option Line
@@ -120,15 +140,9 @@ goes_on text = nat_lt 4194304 (length text) || not (length (rest_from [] (take 4
 abbrev pub HasLineCode : List ℕ → ℕ → CertCode → Type 0
 HasLineCode text n c = LinesHaveCode (goes_on text) due.Header 1 (lines_of text) n c
 
--- where a code is told, it fits; of `NotState` this is not said yet
-abbrev pub Fits : CertCode → Type 0 → Type 0
-Fits code.BadByte P = P
-Fits code.NotDue P = P
-Fits code.NotState P = Unit {0}
-
--- no line before this one has a code, and none that is lower fits it
+-- the code fits this line, no lower one does, and no line before it has a code
 pub record IsToldFirst (P : ℕ → CertCode → Type 0) (n : ℕ) (c : CertCode) : Type 0 where
-  pub fits : Fits c (P n c)
+  pub fits : P n c
   pub line : (m : ℕ) (d : CertCode) → P m d → n ≤ m
   pub lowest : (d : CertCode) → P n d → code_number c ≤ code_number d
 
@@ -152,6 +166,10 @@ abbrev pub EndTold : Bool → Due → ℕ → Result (Unit {0}) CertRefusal → 
 EndTold more d n (Ok u) = (more ≡ false) × (is_over d ≡ true)
 EndTold more d n (Err NoMemory) = ⊥
 EndTold more d n (Err (Fault m c)) = (m ≡ n) × EndHasCode more d c × ((e : CertCode) → EndHasCode more d e → code_number c ≤ code_number e)
+
+-- what is told of a text is the state in form that has this text, where there is one
+abbrev pub IsToldState : List ℕ → State → Type 0
+IsToldState text r = (s : State) → IsFormed s → text ≡ state_text s → r ≡ s
 
 -- No two states in form have one text.
 abbrev pub TextsTellStates : Type 0

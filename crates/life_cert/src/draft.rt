@@ -5,9 +5,9 @@ ghost use Rattle.module_lang.specs.Bytes.{after_token};
 ghost use Rattle.life_state.specs.Form.{IsFormed};
 ghost use Rattle.life_state.specs.Seen.{seen, seen_some};
 ghost use Rattle.life_cert.specs.StateText.{state_text};
-ghost use Rattle.life_cert.specs.Drafts.{IsNoState};
+ghost use Rattle.life_cert.specs.Drafts.{IsNoState, IsReadState, NoStateIsIn, NoStateOrNoneIsIn};
 ghost use Rattle.life_cert.specs.Reading.{IsState, IsStateOrNone};
-ghost use Rattle.life_cert.specs.declared.refusal.CertRefusal.TheVariants.{NoMemory};
+ghost use Rattle.life_cert.specs.declared.refusal.CertRefusal.TheVariants.{Fault, NoMemory};
 
 use crate::due::{Due, Line, due_line};
 use crate::print_state::put_state;
@@ -28,6 +28,7 @@ pub(crate) struct Draft {
 
 fn is_state_text(alloc: Global, state: &State, text: &[u8]) -> Result<bool, CertRefusal>
     ensures right { IfOk result (λ b. b ≡ true → text.now ≡ state_text (seen state.now)) }
+    ensures whole { IfOk result (λ b. text.now ≡ state_text (seen state.now) → b ≡ true) }
     ensures err { IfErr result (λ e. e ≡ NoMemory) }
 {
     let mut printed = Vec::new(alloc);
@@ -37,9 +38,9 @@ fn is_state_text(alloc: Global, state: &State, text: &[u8]) -> Result<bool, Cert
     }
 }
 
-/// The state that is written so.
+/// The state that is written so, if it is one.
 fn read_state(alloc: Global, text: &[u8]) -> Result<Option<State>, CertRefusal>
-    ensures right { IfOk result (λ o. IfSome o (λ s. IsFormed (seen s) × (text.now ≡ state_text (seen s)))) }
+    ensures right { IfOk result (λ o. IsReadState text.now (seen_some o)) }
     ensures err { IfErr result (λ e. e ≡ NoMemory) }
 {
     let state = told_state(text);
@@ -53,7 +54,7 @@ fn read_state(alloc: Global, text: &[u8]) -> Result<Option<State>, CertRefusal>
 }
 
 fn no_state(number: usize) -> CertRefusal
-    ensures { IsNoState number result }
+    ensures { result ≡ Fault number CertCode.NotState }
 {
     CertRefusal::Fault {
         line: number,
@@ -63,7 +64,7 @@ fn no_state(number: usize) -> CertRefusal
 
 /// The state that stands behind the first word of a line.
 fn state_behind(alloc: Global, number: usize, line: &[u8]) -> Result<State, CertRefusal>
-    ensures { MatchResult result (λ s. IsState (after_token line.now) (seen s)) (λ e. IsNoState number e) }
+    ensures { MatchResult result (λ s. IsState (after_token line.now) (seen s)) (λ e. IsNoState number (NoStateIsIn (after_token line.now)) e) }
 {
     let rest = after_token(line);
     if !begins(rest, b' ') {
@@ -77,7 +78,7 @@ fn state_behind(alloc: Global, number: usize, line: &[u8]) -> Result<State, Cert
 }
 
 fn state_or_none(alloc: Global, number: usize, line: &[u8]) -> Result<Option<State>, CertRefusal>
-    ensures { MatchResult result (λ o. IsStateOrNone (after_token line.now) (seen_some o)) (λ e. IsNoState number e) }
+    ensures { MatchResult result (λ o. IsStateOrNone (after_token line.now) (seen_some o)) (λ e. IsNoState number (NoStateOrNoneIsIn (after_token line.now)) e) }
 {
     if is_text(after_token(line), b" none") {
         return Ok(None);
@@ -91,7 +92,7 @@ fn state_or_none(alloc: Global, number: usize, line: &[u8]) -> Result<Option<Sta
 impl Draft {
     ghost use Rattle.module_lang.specs.Bytes.{all_printable};
     ghost use Rattle.life_cert.specs.Drafts.{IsAdded, IsDraft};
-    ghost use Rattle.life_cert.specs.Reading.{due_line, due_after};
+    ghost use Rattle.life_cert.specs.Reading.{due_line, due_after, LacksState};
 
     pub(crate) fn new(alloc: Global) -> Draft
         ensures draft { IsDraft result }
@@ -131,7 +132,7 @@ impl Draft {
         requires due { due_line self.old.due bytes.now ≡ Some line }
         ensures draft { OnOk result (IsDraft self.new) }
         ensures added { OnOk result (IsAdded self.old bytes.now self.new) }
-        ensures refused { IfErr result (λ e. IsNoState number e) }
+        ensures refused { IfErr result (λ e. IsNoState number (LacksState (Some line) (after_token bytes.now)) e) }
     {
         match line {
             Line::Header => self.due = Due::Idle,

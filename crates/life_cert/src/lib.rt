@@ -12,7 +12,7 @@ mod print_state;
 mod read;
 mod refusal;
 mod state_text;
-mod words;
+mod unread;
 
 pub use maker::make;
 pub use print::print_cert;

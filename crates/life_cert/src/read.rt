@@ -1,8 +1,9 @@
 //! Certificates from their texts.
 
-ghost use Rattle.std.specs.Prelude.{◌≡◌, ◌≤◌, ◌<◌, ◌++◌, IfOk, IfErr, OnOk, Result, length, take, not, ◌||◌, ◌==◌, true, false};
+ghost use Rattle.std.specs.Prelude.{◌≡◌, ◌≤◌, ◌<◌, ◌++◌, IfOk, IfErr, MatchResult, OnOk, Result, length, take, not, ◌||◌, ◌==◌, true, false};
+ghost use Rattle.life_check.specs.Certificates.{Certificate};
 ghost use Rattle.life_check.specs.Seen.{seen_cert};
-ghost use Rattle.life_cert.specs.Reading.{IsTextOf, IsTold, IsToldOf, EndTold, more_than};
+ghost use Rattle.life_cert.specs.Reading.{HaveSameStates, IsPrinted, IsTextOf, IsTold, IsToldOf, EndTold, more_than};
 ghost use Rattle.life_cert.specs.declared.refusal.CertRefusal.TheVariants.{NoMemory};
 
 use crate::draft::Draft;
@@ -57,6 +58,7 @@ fn read_lines(alloc: Global, text: &[u8], long: bool) -> Result<Cert, CertRefusa
 pub fn read_cert(alloc: Global, text: &[u8]) -> Result<Cert, CertRefusal>
     ensures right { IfOk result (λ c. IsTextOf text.now (seen_cert c)) }
     ensures told { IfErr result (λ e. IsTold text.now e) }
+    ensures again { (c : Certificate) → IsPrinted text.now c → MatchResult result (λ r. HaveSameStates (seen_cert r) c) (λ e. e ≡ NoMemory) }
 {
     if MAX_LEN < text.len() {
         read_lines(alloc, &text[..MAX_LEN], true)

@@ -1,164 +1,357 @@
-//! States that words tell. The text of a state is read in two steps. These functions make some state of any words, and refuse
-//! nothing; `read` then compares the text with that of this state.
+//! States from their texts. Each part is read from the front, in the order in which the parts are written. Of the text of a
+//! state in form each part is read as it was written; of another text some state is read, and nothing is refused: `draft` then
+//! compares the text with that of this state.
 
-ghost use Rattle.std.specs.Prelude.{◌<◌, ◌≤◌, length};
+ghost use Rattle.std.specs.Prelude.{◌≡◌, ◌∷◌, ◌<◌, ◌≤◌, [], codes};
+ghost use Rattle.life_state.specs.Seen.{seen, seen_brigade, seen_cursor, seen_homes};
+ghost use Rattle.life_cert.specs.StateText.{cursor_name};
+ghost use Rattle.life_cert.specs.Reading.{IsToldState};
+ghost use Rattle.life_cert.specs.StateFromText.{starts, at_pools, at_past, at_read, behind_name, classes_past, classes_read, content_read, cursor_past, cursor_read, fact_past, fact_word, homes_past, homes_read, in_past, in_read, key, live_past, live_read, loose_past, loose_read, number_in, own_past, own_read, place_past, place_read, pool_past, pool_read, row_past, set_past, set_read, told_brigades, told_cursors, told_facts, told_pools, told_row, past_cursors, past_brigades, past_pools, brigades_there, pools_there};
 
-use crate::words::{brigade_number, cursor_number, halves, number};
+use crate::unread::Unread;
 use life_state::{
     BrigadeState, Classes, Contents, CursorState, HomeSet, PoolSet, PoolState, State, at_open,
 };
-use module_lang::text::{begins, is_text};
+use module_lang::text::begins;
 
-fn pool_of(letters: &[u8]) -> PoolState {
-    PoolState {
-        null: letters.contains(&b'n'),
-        gone: letters.contains(&b'g'),
-        live: letters.contains(&b'l'),
+/// `ngl`: what a variable may be.
+fn read_set(unread: &mut Unread<'_>) -> PoolState
+    ensures value { result ≡ set_read unread.old.bytes.now }
+    ensures rest { unread.new.bytes.now ≡ set_past unread.old.bytes.now }
+{
+    let null = unread.take(b"n");
+    let gone = unread.take(b"g");
+    let live = unread.take(b"l");
+    PoolState { null, gone, live }
+}
+
+/// `dfe`: which kinds a bucket may be of.
+fn read_classes(unread: &mut Unread<'_>) -> Classes
+    ensures value { result ≡ classes_read unread.old.bytes.now }
+    ensures rest { unread.new.bytes.now ≡ classes_past unread.old.bytes.now }
+{
+    let bytes = unread.take(b"d");
+    let flush = unread.take(b"f");
+    let eos = unread.take(b"e");
+    Classes { bytes, flush, eos }
+}
+
+/// The names of homes, with commas between them; a dash for none.
+fn read_homes(unread: &mut Unread<'_>) -> HomeSet
+    ensures value { seen_homes result ≡ homes_read unread.old.bytes.now }
+    ensures rest { unread.new.bytes.now ≡ homes_past unread.old.bytes.now }
+{
+    let call = unread.take_next(false, b"call");
+    let req = unread.take_next(call, b"req");
+    let mut any = call | req;
+    let mut own = [false; 8];
+    for q in 0..8u8 {
+        let found = unread.take_next(any, &[b'p', b'0' + q]);
+        own[usize::from(q)] = found;
+        any |= found;
+    }
+    let dead = unread.take_next(any, b"dead");
+    let none = !(any | dead);
+    if none {
+        unread.skip(b"-");
+    }
+    HomeSet {
+        call,
+        dead,
+        pools: PoolSet { req, own },
     }
 }
 
-fn classes_of(letters: &[u8]) -> Classes {
-    Classes {
-        bytes: letters.contains(&b'd'),
-        flush: letters.contains(&b'f'),
-        eos: letters.contains(&b'e'),
+#[tactic(auto, using(crate::proofs::StateWords::content_by_letter))]
+fn content_of(letter: &[u8]) -> Contents
+    ensures { result ≡ content_read letter.now }
+{
+    if begins(letter, b'f') {
+        Contents::Flushes
+    } else if begins(letter, b'n') {
+        Contents::NoEos
+    } else if begins(letter, b'o') {
+        Contents::NoLateData
+    } else if begins(letter, b'a') {
+        Contents::Any
+    } else {
+        Contents::Empty
     }
 }
 
-fn content_of(letter: &[u8]) -> Contents {
-    match letter {
-        [b'f'] => Contents::Flushes,
-        [b'n'] => Contents::NoEos,
-        [b'o'] => Contents::NoLateData,
-        [b'a'] => Contents::Any,
-        _ => Contents::Empty,
-    }
-}
-
-fn add_home(homes: &mut HomeSet, name: &[u8]) {
-    if is_text(name, b"call") {
-        homes.call = true;
-    } else if is_text(name, b"req") {
-        homes.pools.req = true;
-    } else if is_text(name, b"dead") {
-        homes.dead = true;
-    } else if begins(name, b'p') {
-        homes.pools.own[usize::from(number(name))] = true;
-    }
-}
-
-/// The homes of these names, with commas between them.
-fn homes_of(names: &[u8]) -> HomeSet {
-    let mut homes = HomeSet {
-        call: false,
-        dead: false,
-        pools: PoolSet {
-            req: false,
-            own: [false; 8],
-        },
+/// The marks of a brigade that may be live, and where it may be usable, what stands in it.
+#[tactic(auto, unfolding(crate::specs::StateFromText::live_read, crate::specs::StateFromText::live_past))]
+fn read_live(unread: &mut Unread<'_>, null: bool, gone: bool) -> BrigadeState
+    ensures value { seen_brigade result ≡ live_read null gone unread.old.bytes.now }
+    ensures rest { unread.new.bytes.now ≡ live_past unread.old.bytes.now }
+{
+    let usable = unread.take(b"u");
+    let passed = unread.take(b"p");
+    let mut brigade = BrigadeState {
+        null,
+        gone,
+        live: true,
+        usable,
+        passed,
+        ..BrigadeState::UNMADE
     };
-    let mut start = 0;
-    for (i, byte) in names.iter().enumerate() {
-        if *byte == b',' {
-            add_home(&mut homes, &names[start..i]);
-            start = i + 1;
-        }
+    if usable {
+        unread.skip(b"/");
+        brigade.content = content_of(unread.bytes);
+        unread.skip(b"e");
+        unread.skip(b"/");
+        brigade.homes = read_homes(unread);
     }
-    add_home(&mut homes, &names[start..]);
-    homes
+    brigade
 }
 
-/// What a brigade variable may be, and what a live one is: its marks, its content, its homes.
-fn brigade_of(set: PoolState, live: &[u8]) -> BrigadeState {
-    let (marks, usable) = halves(live, b'/');
-    let (content, homes) = halves(usable, b'/');
+/// A pool's word. Its number is not looked at.
+fn read_pool(unread: &mut Unread<'_>) -> PoolState
+    ensures value { result ≡ pool_read unread.old.bytes.now }
+    ensures rest { unread.new.bytes.now ≡ pool_past unread.old.bytes.now }
+{
+    unread.skip(b" p0=");
+    read_set(unread)
+}
+
+/// A brigade's word. Its number is not looked at.
+#[tactic(auto, unfolding(crate::specs::StateFromText::own_read, crate::specs::StateFromText::own_past))]
+fn read_brigade(unread: &mut Unread<'_>) -> BrigadeState
+    ensures value { seen_brigade result ≡ own_read unread.old.bytes.now }
+    ensures rest { unread.new.bytes.now ≡ own_past unread.old.bytes.now }
+{
+    unread.skip(b" b0=");
+    let set = read_set(unread);
+    if set.live {
+        unread.skip(b"/");
+        return read_live(unread, set.null, set.gone);
+    }
     BrigadeState {
         null: set.null,
         gone: set.gone,
-        live: set.live,
-        usable: marks.contains(&b'u'),
-        passed: marks.contains(&b'p'),
-        content: content_of(content),
-        homes: homes_of(homes),
+        ..BrigadeState::UNMADE
     }
 }
 
-fn own_brigade_of(value: &[u8]) -> BrigadeState {
-    let (set, live) = halves(value, b'/');
-    brigade_of(pool_of(set), live)
-}
-
-/// Where a cursor is: a brigade's name, before `$` its end, before `?` a bucket or the end; and the classes behind it.
-fn place_of(place: &[u8], classes: &[u8]) -> CursorState {
-    let (end, _) = halves(place, b'$');
-    let (either, _) = halves(place, b'?');
-    if end.len() < place.len() {
-        CursorState::End(brigade_number(end))
-    } else if either.len() < place.len() {
-        CursorState::InOrEnd(brigade_number(either), classes_of(classes))
-    } else {
-        CursorState::In(brigade_number(place), classes_of(classes))
-    }
-}
-
-fn cursor_of(value: &[u8]) -> CursorState {
-    let (place, rest) = halves(value, b'/');
-    if is_text(place, b"loose") {
-        let (classes, homes) = halves(rest, b'/');
-        CursorState::Loose(classes_of(classes), homes_of(homes))
-    } else {
-        place_of(place, rest)
-    }
-}
-
-fn add_value(state: &mut State, name: &[u8], value: &[u8]) {
-    if is_text(name, b"sent") {
-        state.set_sent(is_text(value, b"maybe"));
-    } else if is_text(name, b"in") {
-        state.set_brigade(8, brigade_of(PoolState::LIVE, value));
-    } else if begins(name, b'p') {
-        state.set_pool(number(name), pool_of(value));
-    } else if begins(name, b'b') {
-        state.set_brigade(number(name), own_brigade_of(value));
-    } else {
-        state.put_cursor(cursor_number(name), cursor_of(value));
-    }
-}
-
-/// What one word adds to a state.
-fn add_word(state: &mut State, word: &[u8]) {
-    let (c, d) = halves(word, b'!');
-    if c.len() < word.len() {
-        state.add_fact(cursor_number(c), cursor_number(d));
-        return;
-    }
-    let (name, value) = halves(word, b'=');
-    add_value(state, name, value);
-}
-
-/// How many words begin with a letter, up to 8.
-fn count_words(text: &[u8], letter: u8) -> u8
-    ensures { result ≤ 8 }
+/// The word of `in`, if it stands there.
+fn read_in(unread: &mut Unread<'_>) -> BrigadeState
+    ensures value { seen_brigade result ≡ in_read unread.old.bytes.now }
+    ensures rest { unread.new.bytes.now ≡ in_past unread.old.bytes.now }
 {
-    let mut count = 0;
-    for (i, byte) in text.iter().enumerate() {
-        if *byte == b' ' && begins(&text[i + 1..], letter) && count < 8 {
-            count += 1;
-        }
+    if unread.take(b" in=") {
+        read_live(unread, false, false)
+    } else {
+        BrigadeState::UNMADE
     }
-    count
 }
 
-/// The state that a text tells, where it is the text of one; else some state.
-pub(crate) fn told_state(text: &[u8]) -> State {
-    let mut state = at_open(count_words(text, b'p'), count_words(text, b'b'));
-    let mut start = 0;
-    for (i, byte) in text.iter().enumerate() {
-        if *byte == b' ' {
-            add_word(&mut state, &text[start..i]);
-            start = i + 1;
+/// The number that the second byte of a name tells, where this byte tells 8.
+fn read_number(unread: &mut Unread<'_>, eight: u8) -> u8
+    ensures value { result ≡ number_in eight unread.old.bytes.now }
+    ensures rest { unread.new.bytes.now ≡ behind_name unread.old.bytes.now }
+{
+    let name = unread.bytes;
+    unread.skip(b"b0");
+    if name.len() < 2 {
+        return 0;
+    }
+    if name[1] == eight {
+        8
+    } else {
+        name[1].saturating_sub(b'0')
+    }
+}
+
+/// What stands behind the name of the brigade that a cursor is in.
+#[tactic(auto, unfolding(crate::specs::StateFromText::at_read, crate::specs::StateFromText::at_past))]
+fn read_place_in(unread: &mut Unread<'_>, brigade: u8) -> CursorState
+    ensures value { seen_cursor result ≡ at_read brigade unread.old.bytes.now }
+    ensures rest { unread.new.bytes.now ≡ at_past unread.old.bytes.now }
+{
+    if unread.take(b"$") {
+        return CursorState::End(brigade);
+    }
+    if unread.take(b"?/") {
+        return CursorState::InOrEnd(brigade, read_classes(unread));
+    }
+    unread.skip(b"/");
+    CursorState::In(brigade, read_classes(unread))
+}
+
+fn read_loose(unread: &mut Unread<'_>) -> CursorState
+    ensures value { seen_cursor result ≡ loose_read unread.old.bytes.now }
+    ensures rest { unread.new.bytes.now ≡ loose_past unread.old.bytes.now }
+{
+    let classes = read_classes(unread);
+    unread.skip(b"/");
+    CursorState::Loose(classes, read_homes(unread))
+}
+
+/// Where a cursor is.
+#[tactic(auto, unfolding(crate::specs::StateFromText::place_read, crate::specs::StateFromText::place_past))]
+fn read_place(unread: &mut Unread<'_>) -> CursorState
+    ensures value { seen_cursor result ≡ place_read unread.old.bytes.now }
+    ensures rest { unread.new.bytes.now ≡ place_past unread.old.bytes.now }
+{
+    if unread.take(b"loose/") {
+        return read_loose(unread);
+    }
+    let brigade = read_number(unread, b'n');
+    read_place_in(unread, brigade)
+}
+
+/// The two bytes of a cursor's name.
+#[tactic(auto, using(std::proofs::lemmas::Fmt::decimal_digit))]
+fn name_of(cursor: u8) -> (u8, u8)
+    requires { cursor < 9 }
+    ensures { cursor_name cursor ≡ result.0 ∷ (result.1 ∷ []) }
+{
+    if cursor == 8 {
+        (b'r', b'd')
+    } else {
+        (b'c', b'0' + cursor)
+    }
+}
+
+/// A cursor's word, if it stands there.
+fn read_cursor(unread: &mut Unread<'_>, cursor: u8) -> CursorState
+    requires { cursor < 9 }
+    ensures value { seen_cursor result ≡ cursor_read cursor unread.old.bytes.now }
+    ensures rest { unread.new.bytes.now ≡ cursor_past cursor unread.old.bytes.now }
+{
+    let (letter, digit) = name_of(cursor);
+    let key = [b' ', letter, digit, b'='];
+    if !unread.has(&key) {
+        return CursorState::Unset;
+    }
+    unread.skip(&key);
+    read_place(unread)
+}
+
+/// The word of a fact, if it stands there.
+fn take_fact(unread: &mut Unread<'_>, c: u8, d: u8) -> bool
+    requires first { c < 9 }
+    requires second { d < 9 }
+    ensures value { result ≡ starts (fact_word c d) unread.old.bytes.now }
+    ensures rest { unread.new.bytes.now ≡ fact_past c d unread.old.bytes.now }
+{
+    let (letter, digit) = name_of(c);
+    let (other, number) = name_of(d);
+    unread.take(&[b' ', letter, digit, b'!', other, number])
+}
+
+/// Whether an EOS of this request may have been passed.
+fn read_sent(unread: &mut Unread<'_>) -> bool
+    ensures value { result ≡ starts (codes "sent=maybe") unread.old.bytes.now }
+    ensures rest { unread.new.bytes.now ≡ at_pools unread.old.bytes.now }
+{
+    let sent = unread.take(b"sent=maybe");
+    if !sent {
+        unread.skip(b"sent=no");
+    }
+    sent
+}
+
+/// Goes past the words of pools, and tells how many there are.
+fn count_pools(unread: &mut Unread<'_>) -> u8
+    ensures value { result ≡ pools_there unread.old.bytes.now }
+    ensures rest { unread.new.bytes.now ≡ past_pools unread.old.bytes.now }
+    ensures few { result ≤ 8 }
+{
+    for count in 0..8u8 {
+        if !unread.has(b" p") {
+            return count;
+        }
+        read_pool(unread);
+    }
+    8
+}
+
+/// Goes past the words of brigades, and tells how many there are.
+fn count_brigades(unread: &mut Unread<'_>) -> u8
+    ensures value { result ≡ brigades_there unread.old.bytes.now }
+    ensures rest { unread.new.bytes.now ≡ past_brigades unread.old.bytes.now }
+    ensures few { result ≤ 8 }
+{
+    for count in 0..8u8 {
+        if !unread.has(b" b") {
+            return count;
+        }
+        read_brigade(unread);
+    }
+    8
+}
+
+fn read_pools(state: &mut State, words: Unread<'_>)
+    requires { (seen state.old).pool_count ≤ 8 }
+    ensures { seen state.new ≡ told_pools words.entry.bytes.now (seen state.old) }
+{
+    let mut unread = words;
+    for q in 0..state.pool_count() {
+        let pool = read_pool(&mut unread);
+        state.set_pool(q, pool);
+    }
+}
+
+fn read_brigades(state: &mut State, words: Unread<'_>)
+    requires { (seen state.old).brigade_count ≤ 8 }
+    ensures { seen state.new ≡ told_brigades words.entry.bytes.now (seen state.old) }
+{
+    let mut unread = words;
+    for b in 0..state.brigade_count() {
+        let brigade = read_brigade(&mut unread);
+        state.set_brigade(b, brigade);
+    }
+}
+
+fn read_cursors(state: &mut State, unread: &mut Unread<'_>)
+    ensures value { seen state.new ≡ told_cursors unread.old.bytes.now (seen state.old) }
+    ensures rest { unread.new.bytes.now ≡ past_cursors unread.old.bytes.now }
+{
+    for c in 0..9u8 {
+        let cursor = read_cursor(unread, c);
+        state.put_cursor(c, cursor);
+    }
+}
+
+/// The facts of a cursor with each cursor.
+fn read_facts_of(state: &mut State, unread: &mut Unread<'_>, c: u8)
+    requires { c < 9 }
+    ensures value { seen state.new ≡ told_row c unread.old.bytes.now (seen state.old) }
+    ensures rest { unread.new.bytes.now ≡ row_past c unread.old.bytes.now }
+{
+    for d in 0..9u8 {
+        if take_fact(unread, c, d) {
+            state.add_fact(c, d);
         }
     }
-    add_word(&mut state, &text[start..]);
+}
+
+fn read_facts(state: &mut State, words: Unread<'_>)
+    ensures { seen state.new ≡ told_facts words.entry.bytes.now (seen state.old) }
+{
+    let mut unread = words;
+    for c in 0..9u8 {
+        read_facts_of(state, &mut unread, c);
+    }
+}
+
+/// The state that a text tells, where it is the text of one in form; else some state.
+pub(crate) fn told_state(text: &[u8]) -> State
+    ensures { IsToldState text.now (seen result) }
+{
+    let mut unread = Unread { bytes: text };
+    let sent = read_sent(&mut unread);
+    let pools = unread;
+    let pool_count = count_pools(&mut unread);
+    let brigades = unread;
+    let brigade_count = count_brigades(&mut unread);
+    let mut state = at_open(pool_count, brigade_count);
+    state.set_sent(sent);
+    read_pools(&mut state, pools);
+    read_brigades(&mut state, brigades);
+    state.set_brigade(8, read_in(&mut unread));
+    read_cursors(&mut state, &mut unread);
+    read_facts(&mut state, unread);
     state
 }

@@ -1,4 +1,5 @@
 -- A text that is not too long is read as it is.
+use Rattle.life_cert.proofs.OneCert.{read_short}
 use Rattle.std.proofs.Common.{length-take, arith}
 use Rattle.life_cert.proofs.ReadLaws.{all_told}
 use Rattle.life_cert.proofs.read.read_cert.Goals as goal
@@ -11,3 +12,11 @@ read_lines-requires c = omega (arith, length-take 4194304 c.args.text.now)
 
 pub returns-else-text-gt-MAX_LEN-clause-told : goal.returns-else-text-gt-MAX_LEN-clause-told
 returns-else-text-gt-MAX_LEN-clause-told c = all_told c.args.text.now c.read_lines-else-text-gt-MAX_LEN.result c.if-text-gt-MAX_LEN.false c.read_lines-else-text-gt-MAX_LEN.ensures.told
+
+pub returns-then-text-gt-MAX_LEN-clause-again : goal.returns-then-text-gt-MAX_LEN-clause-again
+returns-then-text-gt-MAX_LEN-clause-again c = λ d p. let small = p.small in absurd (omega (arith, small))
+
+pub returns-else-text-gt-MAX_LEN-clause-again : goal.returns-else-text-gt-MAX_LEN-clause-again
+returns-else-text-gt-MAX_LEN-clause-again c =
+    let r = c.read_lines-else-text-gt-MAX_LEN in
+    read_short c.args.text.now r.result r.ensures.right (all_told c.args.text.now r.result c.if-text-gt-MAX_LEN.false r.ensures.told)
