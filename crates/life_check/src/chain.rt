@@ -40,6 +40,15 @@ impl CheckedChain {
     {
         self.modules.as_slice()
     }
+
+    /// The modules, in their order.
+    pub fn into_modules(self) -> Vec<Module>
+        ensures value { result.items ≡ self }
+        ensures checked { IsCheckedChain self }
+        ensures safe { ChainNeverFaults self }
+    {
+        self.modules
+    }
 }
 
 fn check_parts(parts: &[(Module, Cert)]) -> Result<(), ChainRefusal>

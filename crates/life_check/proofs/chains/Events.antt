@@ -92,11 +92,12 @@ module _ (chain : List Program) (certs : ℕ → Certificate) where
   file_told k w c None None opening stands here = (tt, stands)
   file_told k w c None (Some req) Missing stands here = (tt, stands)
   file_told k w c None (Some req) Failing stands here = (tt, stands)
-  file_told k w c None (Some req) (Found bytes) stands here =
-      let ps = registered req (FileRef w.common.file) (pools_of w.common c) in (
+  file_told k w c None (Some req) (Found skipped bytes) stands here =
+      let file : ℕ = w.common.file + skipped in
+      let ps = registered req (FileRef file) (pools_of w.common c) in (
         tt,
-        put_stands k (file_taken req bytes (w.common, c)) w stands (λ none.
-            stands_beside chain certs w.common (record w.common { file = w.common.file + 1 }) c ps.payloads c.labels (upd c.opened w.common.file (Some bytes)) (c.files ++ (w.common.file, length bytes) ∷ []) c.out c.count (here none)),
+        put_stands k (file_taken req file bytes (w.common, c)) w stands (λ none.
+            stands_beside chain certs w.common (record w.common { file = file + 1 }) c ps.payloads c.labels (upd c.opened file (Some bytes)) (c.files ++ (file, length bytes) ∷ []) c.out c.count (here none)),
       )
 
   added_told : (memory : Bool) (w : World) → WorldStands chain certs w → Told chain certs (adds_file memory w)
