@@ -59,7 +59,7 @@ home_begun k waits birth older (home.Call n) = elim (cases_eq n k) [
 item_begun : (k : ℕ) (waits : List ℕ) (x : Item) → x.0.birth < k → named_item (item_in (is_running k waits) x) ≡ named_item (item_in (is_running 0 waits) x)
 item_begun k waits x older = ap (λ (h : Home). let y : Bucket = record x.1 { home = h } in named_item (x.0, y)) (home_begun k waits x.0.birth older x.1.home)
 
-items_begun : (k : ℕ) (waits : List ℕ) (xs : Items) → ((id : BucketId) → 0 < times id xs → id.birth < k) → shown (is_running k waits) xs ≡ shown (is_running 0 waits) xs
+pub items_begun : (k : ℕ) (waits : List ℕ) (xs : Items) → ((id : BucketId) → 0 < times id xs → id.birth < k) → shown (is_running k waits) xs ≡ shown (is_running 0 waits) xs
 items_begun k waits [] older = refl
 items_begun k waits (x ∷ xs) older =
     ap (λ (b : NamedBucket). b ∷ shown (is_running k waits) xs) (item_begun k waits x (older x.0 here))
@@ -78,7 +78,7 @@ module _ {R : Type 0} {g : Ghosts R Bucket} (old new : Brigades R g) (i : Instan
   as_was : (n : ℕ) → n < next_name old → lists new n ≡ lists old n
   as_was n below = over n ∙ ring_off (lists old) (next_name old) n (Some []) (λ e. omega (arith, below, e))
 
-  by_slot : (waits : List ℕ) (b : ℕ) → shown_slot (is_running begun.name waits) (lists new) (slot_at i b) ≡ shown_slot (is_running call.name waits) (lists old) (slot_at i b)
+  pub by_slot : (waits : List ℕ) (b : ℕ) → shown_slot (is_running begun.name waits) (lists new) (slot_at i b) ≡ shown_slot (is_running call.name waits) (lists old) (slot_at i b)
   by_slot waits b = ap (λ n. shown_slot (is_running n waits) (lists new) (slot_at i b)) name ∙ (go (slot_at i b) refl ∙ ap (λ n. shown_slot (is_running n waits) (lists old) (slot_at i b)) (sym idle)) where
     there : (n : ℕ) (pool : Option ℕ) (mark : Mark) (o : Option Items) → lists old n ≡ o → shown_as (is_running (next_name old) waits) n pool mark o ≡ shown_as (is_running 0 waits) n pool mark o
     there n pool mark None e = refl

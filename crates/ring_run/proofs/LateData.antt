@@ -17,7 +17,7 @@ eos_is_no_data kind.Flush = refl
 eos_is_no_data kind.Eos = refl
 
 -- e: the first bucket is an EOS; d: it is data; a: data stands behind an EOS of the rest; h: the rest has data
-one_more : (e d late a h : Bool) → (e && d) ≡ false → cond e (a || (true && h)) (cond (late && d) true (a || (late && h))) ≡ (((e && h) || a) || (late && (d || h)))
+pub one_more : (e d late a h : Bool) → (e && d) ≡ false → cond e (a || (true && h)) (cond (late && d) true (a || (late && h))) ≡ (((e && h) || a) || (late && (d || h)))
 one_more true true late a h p = absurd (false≢true (sym p))
 one_more true false true true true p = refl
 one_more true false true true false p = refl

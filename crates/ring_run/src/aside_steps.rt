@@ -1,13 +1,17 @@
 //! What instructions do to a bucket that is set aside (apr_bucket_setaside).
 
 ghost use Rattle.std.specs.Prelude.{◌≡◌, ◌<◌, Some, IsTrue, OnOk, OnErr};
-ghost use Rattle.run_model.specs.BucketSteps.{do_aside};
+ghost use Rattle.bucket_kinds.specs.Device.{Device};
+ghost use Rattle.bucket_kinds.specs.Reading.{IsOpenFor};
+ghost use Rattle.run_model.specs.BucketSteps.{content_at, do_aside};
 ghost use Rattle.run_model.specs.Cursors.{spot};
 ghost use Rattle.run_model.specs.Pools.{is_live};
 ghost use Rattle.pool_tree.specs.Tree.{map_of};
-ghost use Rattle.brigade_ops.specs.House.{IsHouse};
+ghost use Rattle.brigade_ops.specs.House.{AreOpen, IsHouse};
+ghost use Rattle.brigade_ops.specs.Store.{references};
 ghost use Rattle.ring_run.specs.Around.{Around};
 ghost use Rattle.ring_run.specs.Held.{IsHeld};
+ghost use Rattle.ring_run.specs.LeftAlone.{LeavesRest};
 ghost use Rattle.ring_run.specs.Seen.{seen};
 
 use crate::machine::{Call, Instance};
@@ -34,6 +38,9 @@ pub(crate) fn aside<R: Rings<Bucket> + Drop>(
         → seen store.new (record around { pools = map_of tree.new }) instance.now call.now ≡ seen store.old (record around { pools = map_of tree.old }) instance.now call.now) }
     ensures held { IsHeld store.new instance.now call.now }
     ensures house { IsHouse store.old (map_of tree.old) → IsHouse store.new (map_of tree.new) }
+    ensures left { LeavesRest store.old store.new instance.now call.now }
+    ensures open { (d : Device) (around : Around) → IsOpenFor d (content_at (spot (seen store.old around instance.now call.now) c))
+        → AreOpen (references store.old) d → AreOpen (references store.new) d }
 {
     match place_of(instance, call, store, c) {
         Spot::Within(_, id) => store.aside(tree, id, pool),

@@ -284,7 +284,7 @@ fn pool_names(instr: Instr) -> u64
 
 /// Whether so many names are not left, where this one is the next.
 #[tactic(auto, unfolding(run_model::specs::Steps::is_spent))]
-fn is_spent(next: u64, names: u64) -> bool
+pub(crate) fn is_spent(next: u64, names: u64) -> bool
     ensures { result ≡ is_spent next names }
 {
     names > u64::MAX - next

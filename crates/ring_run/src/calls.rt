@@ -10,7 +10,7 @@ ghost use Rattle.brigade_ops.specs.Store.{lists, brigade_of, pool_of, references
 ghost use Rattle.ring_run.specs.Around.{Around};
 ghost use Rattle.ring_run.specs.Held.{IsHeld};
 ghost use Rattle.ring_run.specs.Seen.{seen};
-ghost use Rattle.ring_run.specs.Slots.{cursor_at};
+ghost use Rattle.ring_run.specs.Slots.{cursor_at, slot_at, SameButSlots};
 
 use crate::machine::{Call, Instance, Slot, Stand};
 use brigade_ops::{BrigadeId, Brigades, Bucket, RingRefusal, Rings};
@@ -18,7 +18,7 @@ use brigade_ops::{BrigadeId, Brigades, Bucket, RingRefusal, Rings};
 impl Call {
     /// A call of this name, at this instruction.
     #[tactic(auto, unfolding(crate::specs::Slots::cursor_at))]
-    fn start(&mut self, name: BrigadeId, pc: usize)
+    pub(crate) fn start(&mut self, name: BrigadeId, pc: usize)
         ensures name { self.new.name ≡ name }
         ensures cursors { (c : ℕ) → cursor_at self.new c ≡ Stand.Unset }
         ensures buffer { self.new.buffer ≡ [] }
@@ -90,6 +90,12 @@ pub fn end_call<R: Rings<Bucket> + Drop>(
     ensures pools { pool_of store.new ≡ pool_of store.old }
     ensures references { references store.new ≡ references store.old }
     ensures held { IsHeld store.new instance.new call.new }
+    ensures slots { (a : ℕ) → slot_at instance.new a ≡ (if a == 8 then Slot.Null else slot_at instance.old a) }
+    ensures rest { SameButSlots instance.old instance.new }
+    ensures name { call.new.name ≡ 0 }
+    ensures cursors { (c : ℕ) → cursor_at call.new c ≡ Stand.Unset }
+    ensures buffer { call.new.buffer ≡ [] }
+    ensures pc { call.new.pc ≡ call.old.pc }
 {
     store.end_loose(call.name);
     instance.set_slot(8, Slot::Null);

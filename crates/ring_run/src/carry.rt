@@ -2,17 +2,22 @@
 
 ghost use Rattle.std.specs.Prelude.{◌≡◌, ◌≤◌, ℕ, Option, None, Some, true, false, length, IsTrue, IsOk, OnOk, OnErr};
 ghost use Rattle.module_lang.specs.Program.{fits};
+ghost use Rattle.bucket_kinds.specs.Device.{Device};
 ghost use Rattle.run_model.specs.Faults.{WPool, fault, fault_want};
 ghost use Rattle.run_model.specs.Pools.{is_live};
 ghost use Rattle.run_model.specs.State.{pool_named};
 ghost use Rattle.run_model.specs.Steps.{Choice, grows, step};
 ghost use Rattle.pool_tree.specs.Tree.{map_of};
-ghost use Rattle.brigade_ops.specs.House.{IsHouse};
+ghost use Rattle.brigade_ops.specs.House.{IsHouse, AreOpen};
 ghost use Rattle.brigade_ops.specs.Items.{Items};
+ghost use Rattle.brigade_ops.specs.Store.{references, next_name};
 ghost use Rattle.ring_run.specs.declared.machine.Call.{Call};
 ghost use Rattle.ring_run.specs.Apart.{changes_pools};
 ghost use Rattle.ring_run.specs.Around.{Around};
+ghost use Rattle.ring_run.specs.CarriedOut.{KeepNames};
+ghost use Rattle.ring_run.specs.Given.{RangesOpen};
 ghost use Rattle.ring_run.specs.Held.{IsHeld};
+ghost use Rattle.ring_run.specs.LeftAlone.{LeavesRest};
 ghost use Rattle.ring_run.specs.Seen.{seen, seen_over};
 ghost use Rattle.ring_run.specs.Setting.{in_setting};
 
@@ -75,6 +80,9 @@ pub(crate) fn change_tree<R: Rings<Bucket> + Drop>(
     ensures sure { grows instr ≡ false → IsOk result }
     ensures held { IsHeld store.new instance.new call.now }
     ensures house { IsHouse store.new (map_of tree.new) }
+    ensures open { (d : Device) → ((around : Around) → RangesOpen d (seen store.old (in_setting setting.now (map_of tree.old) around) instance.old call.now)) → AreOpen (references store.old) d → AreOpen (references store.new) d }
+    ensures slots { KeepNames (next_name store.old) (next_name store.new) instance.old instance.new }
+    ensures left { LeavesRest store.old store.new instance.old call.now }
 {
     match instr {
         Instr::PCreate(q) => {

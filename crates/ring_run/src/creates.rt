@@ -7,9 +7,12 @@ ghost use Rattle.run_model.specs.State.{pool_named};
 ghost use Rattle.run_model.specs.Steps.{do_create};
 ghost use Rattle.pool_tree.specs.Tree.{map_of};
 ghost use Rattle.brigade_ops.specs.House.{IsHouse};
+ghost use Rattle.brigade_ops.specs.Store.{next_name, references};
 ghost use Rattle.ring_run.specs.declared.machine.Call.{Call};
 ghost use Rattle.ring_run.specs.Around.{Around};
+ghost use Rattle.ring_run.specs.CarriedOut.{KeepNames};
 ghost use Rattle.ring_run.specs.Held.{IsHeld};
+ghost use Rattle.ring_run.specs.LeftAlone.{LeavesRest};
 ghost use Rattle.ring_run.specs.Seen.{seen};
 
 use crate::machine::{Instance, Slot};
@@ -35,6 +38,9 @@ pub(crate) fn create<R: Rings<Bucket> + Drop>(
         → seen store.new (record around { pools = map_of tree.new }) instance.new call ≡ seen store.old (record around { pools = map_of tree.old }) instance.old call) }
     ensures held { (call : Call) → IsHeld store.old instance.old call → IsHeld store.new instance.new call }
     ensures house { IsHouse store.old (map_of tree.old) → IsHouse store.new (map_of tree.new) }
+    ensures left { (call : Call) → LeavesRest store.old store.new instance.old call }
+    ensures references { references store.new ≡ references store.old }
+    ensures slots { KeepNames (next_name store.old) (next_name store.new) instance.old instance.new }
 {
     let Ok(name) = store.create(tree, pool) else {
         return Err(AllocError);

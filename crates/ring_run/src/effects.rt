@@ -1,13 +1,13 @@
 //! What instructions do to whole brigades.
 
-ghost use Rattle.std.specs.Prelude.{◌≡◌, ◌≢◌, ◌<◌, OnOk, OnErr};
+ghost use Rattle.std.specs.Prelude.{◌≡◌, ◌≢◌, ◌<◌, ℕ, OnOk, OnErr};
 ghost use Rattle.run_model.specs.Steps.{do_clean, do_concat};
 ghost use Rattle.brigade_ops.specs.Store.{lists};
 ghost use Rattle.ring_run.specs.declared.machine.Call.{Call};
 ghost use Rattle.ring_run.specs.Around.{Around};
 ghost use Rattle.ring_run.specs.Held.{AreApart, IsHeld};
 ghost use Rattle.ring_run.specs.LeftAlone.{LeavesOthers};
-ghost use Rattle.ring_run.specs.Slots.{live_in, slot_at};
+ghost use Rattle.ring_run.specs.Slots.{live_in, name_in, slot_at};
 ghost use Rattle.ring_run.specs.Seen.{seen};
 
 use crate::machine::{Instance, Slot};
@@ -66,6 +66,7 @@ pub(crate) fn clean<R: Rings<Bucket> + Drop>(
     ensures new { (around : Around) (call : Call) → IsHeld store.old instance.old call → seen store.new around instance.new call ≡ do_clean b (seen store.old around instance.old call) }
     ensures held { (call : Call) → IsHeld store.old instance.old call → IsHeld store.new instance.new call }
     ensures left { (call : Call) → LeavesOthers store.old store.new instance.old call }
+    ensures slots { (a : ℕ) → name_in (slot_at instance.new a) ≡ name_in (slot_at instance.old a) }
 {
     let Some(name) = live(instance, store, b) else {
         return;

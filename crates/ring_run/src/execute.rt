@@ -1,6 +1,6 @@
 //! What an instruction does that changes no pools and no files.
 
-ghost use Rattle.std.specs.Prelude.{◌≡◌, ◌<◌, ◌≤◌, None, true, false, length, IsOk, OnOk, OnErr};
+ghost use Rattle.std.specs.Prelude.{◌≡◌, ◌<◌, ◌≤◌, ℕ, None, true, false, length, IsOk, OnOk, OnErr};
 ghost use Rattle.module_lang.specs.Program.{fits};
 ghost use Rattle.run_model.specs.BucketSteps.{do_poolb};
 ghost use Rattle.run_model.specs.Faults.{fault};
@@ -13,6 +13,7 @@ ghost use Rattle.ring_run.specs.Held.{IsHeld};
 ghost use Rattle.ring_run.specs.LeftAlone.{LeavesOthers};
 ghost use Rattle.ring_run.specs.Outside.{with_outside};
 ghost use Rattle.ring_run.specs.Seen.{seen};
+ghost use Rattle.ring_run.specs.Slots.{name_in, slot_at};
 
 use crate::machine::{Call, Instance};
 use crate::outside::Outside;
@@ -40,6 +41,7 @@ fn change_numbers<R: Rings<Bucket> + Drop>(
     ensures sure { grows instr ≡ false → IsOk result }
     ensures held { IsHeld store.now instance.new call.new }
     ensures name { call.new.name ≡ call.old.name }
+    ensures slots { (b : ℕ) → name_in (slot_at instance.new b) ≡ name_in (slot_at instance.old b) }
 {
     match instr {
         Instr::Set(n, x) => values::set(instance, n, x),
@@ -168,6 +170,7 @@ fn cut_brigade<R: Rings<Bucket> + Drop>(
     ensures sure { grows instr ≡ false → IsOk result }
     ensures held { IsHeld store.new instance.new call.new }
     ensures name { call.new.name ≡ call.old.name }
+    ensures slots { (b : ℕ) → name_in (slot_at instance.new b) ≡ name_in (slot_at instance.old b) }
     ensures left { LeavesOthers store.old store.new instance.old call.old }
 {
     match instr {
@@ -204,6 +207,7 @@ pub(crate) fn change<R: Rings<Bucket> + Drop>(
     ensures sure { grows instr ≡ false → IsOk result }
     ensures held { IsHeld store.new instance.new call.new }
     ensures name { call.new.name ≡ call.old.name }
+    ensures slots { (b : ℕ) → name_in (slot_at instance.new b) ≡ name_in (slot_at instance.old b) }
     ensures left { LeavesOthers store.old store.new instance.old call.old }
 {
     match instr {

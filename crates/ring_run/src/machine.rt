@@ -112,6 +112,7 @@ impl Call {
     #[tactic(auto, unfolding(crate::specs::Slots::cursor_at))]
     pub fn none(alloc: Global) -> Self
         ensures cursors { (c : ℕ) → cursor_at result c ≡ Stand.Unset }
+        ensures name { result.name ≡ 0 }
         ensures held { (at : BucketId → Option ℕ) (rings : ℕ → Option Items) (pools : ℕ → Option ℕ) (next : ℕ) (i : Instance) → ((b : ℕ) → slot_at i b ≡ Slot.Null) → 0 < next → pools 0 ≡ None → HeldOver at rings pools next i result }
     {
         Call {

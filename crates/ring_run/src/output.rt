@@ -1,6 +1,6 @@
 //! The end of the chain, where the bytes of brigades become output.
 
-ghost use Rattle.std.specs.Prelude.{◌≡◌, ◌⊎◌, ◌+◌, ◌<◌, ◌≤◌, ◌^◌, ℕ, Bool, true, false, length, is_some, Some, IfOk, OnOk, OnErr};
+ghost use Rattle.std.specs.Prelude.{◌≡◌, ◌==◌, ◌⊎◌, ◌+◌, ◌<◌, ◌≤◌, ◌^◌, ℕ, Bool, true, false, length, is_some, if◌then◌else◌, All, Some, IfOk, OnOk, OnErr};
 ghost use Rattle.bucket_kinds.specs.Device.{failed, is_there};
 ghost use Rattle.bucket_kinds.specs.Reading.{MayGive, MayEnd, IsOpenFor};
 ghost use Rattle.bucket_ring.specs.declared.names.BucketId.{BucketId};
@@ -17,17 +17,17 @@ ghost use Rattle.ring_run.specs.Delivery.{ContentFilled, ItemsFilled, WasDeliver
 ghost use Rattle.ring_run.specs.declared.machine.Call.{Call};
 ghost use Rattle.ring_run.specs.Around.{Around};
 ghost use Rattle.ring_run.specs.Ends.{EndInFiles};
-ghost use Rattle.ring_run.specs.Given.{AreOpen};
+ghost use Rattle.ring_run.specs.Given.{HasOpen};
 ghost use Rattle.ring_run.specs.Held.{IsHeld};
 ghost use Rattle.ring_run.specs.LeftAlone.{LeavesOthers};
-ghost use Rattle.ring_run.specs.Slots.{live_in, slot_at};
+ghost use Rattle.ring_run.specs.Slots.{live_in, marked, slot_at};
 ghost use Rattle.ring_run.specs.Seen.{seen, shown};
 
 use crate::effects::live;
 use crate::machine::Instance;
 use crate::passes::{hand_over, has_eos, is_eos};
 use brigade_ops::{BrigadeId, Brigades, Bucket, Content, FileNo, Files, Rings};
-use run_model::Seq;
+use run_model::{Mark, Seq};
 use std::alloc::AllocError;
 
 /// How many bytes a read takes from a file, at most.
@@ -183,6 +183,7 @@ fn empty_passed<R: Rings<Bucket> + Drop>(instance: &mut Instance, store: &mut Br
     ensures seen { (around : Around) (call : Call) → IsHeld store.old instance.old call → seen store.new around instance.new call ≡ do_pass b (seen store.old around instance.old call) }
     ensures held { (call : Call) → IsHeld store.old instance.old call → IsHeld store.new instance.new call }
     ensures left { (call : Call) → LeavesOthers store.old store.new instance.old call }
+    ensures slots { (a : ℕ) → slot_at instance.new a ≡ (if a == b then marked Mark.Passed (slot_at instance.old b) else slot_at instance.old a) }
 {
     hand_over(instance, store, b);
     let Some(name) = live(instance, store, b) else {
@@ -204,12 +205,14 @@ pub fn pass_out<R: Rings<Bucket> + Drop, F: Files>(
     requires slot { b < 9 }
     requires live { is_some (live_in (lists store.old) (slot_at instance.old b)) ≡ true }
     requires ends { EndInFiles store.old instance.old }
-    requires open { AreOpen (F.device files.old) store.old instance.old }
+    requires open { (around : Around) × (call : Call) × All (HasOpen (F.device files.old)) (items_of ((seen store.old around instance.old call).instance.brigades b)) }
     ensures delivered { IfOk result (λ well. (around : Around) (call : Call) → WasDelivered (F.device files.old) (F.device files.new) (out_of out.old ended.old) (items_of ((seen store.old around instance.old call).instance.brigades b)) (out_of out.new ended.new) well) }
     ensures passed { OnOk result ((around : Around) (call : Call) → IsHeld store.old instance.old call → seen store.new around instance.new call ≡ do_pass b (seen store.old around instance.old call)) }
     ensures held { (call : Call) → IsHeld store.old instance.old call → IsHeld store.new instance.new call }
     ensures left { OnOk result ((call : Call) → LeavesOthers store.old store.new instance.old call) }
     ensures err { OnErr result ((around : Around) (call : Call) → seen store.new around instance.new call ≡ seen store.old around instance.old call) }
+    ensures slots { OnOk result ((a : ℕ) → slot_at instance.new a ≡ (if a == b then marked Mark.Passed (slot_at instance.old b) else slot_at instance.old a)) }
+    ensures same { OnErr result ((instance.new ≡ instance.old) × (store.new ≡ store.old)) }
     ensures kept { OnErr result (out_of out.new ended.new ≡ out_of out.old ended.old) }
     ensures unread { OnErr result (F.device files.new ≡ F.device files.old) }
     ensures open_files { (F.device files.new).numbered ≡ (F.device files.old).numbered }

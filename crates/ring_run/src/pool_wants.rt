@@ -26,7 +26,7 @@ pub(crate) fn variable(instance: &Instance, q: u8) -> PoolVar
 }
 
 /// The pool that a pool variable names.
-fn name_in(var: PoolVar) -> Option<PoolId>
+pub(crate) fn name_in(var: PoolVar) -> Option<PoolId>
     ensures { result ≡ name_in var }
 {
     match var {

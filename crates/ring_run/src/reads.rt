@@ -1,12 +1,14 @@
 //! What the instruction that reads does (apr_buckets.h, apr_bucket_read).
 
-ghost use Rattle.std.specs.Prelude.{◌≡◌, ◌<◌, ℕ, None, Some, IfOk, OnOk, OnErr};
+ghost use Rattle.std.specs.Prelude.{◌≡◌, ◌<◌, ℕ, None, Some, IfOk, OnErr};
+ghost use Rattle.bucket_kinds.specs.Reading.{IsOpenFor};
+ghost use Rattle.run_model.specs.BucketSteps.{content_at};
 ghost use Rattle.run_model.specs.Cursors.{Within, spot};
 ghost use Rattle.run_model.specs.Faults.{home_fault};
 ghost use Rattle.run_model.specs.declared.bucket.NamedBucket.{NamedBucket};
 ghost use Rattle.ring_run.specs.Around.{Around};
 ghost use Rattle.ring_run.specs.Ends.{EndInFiles};
-ghost use Rattle.ring_run.specs.Given.{AreOpen, WasRead};
+ghost use Rattle.ring_run.specs.Given.{WasRead};
 ghost use Rattle.ring_run.specs.Held.{IsHeld};
 ghost use Rattle.ring_run.specs.LeftAlone.{LeavesOthers};
 ghost use Rattle.ring_run.specs.Seen.{seen};
@@ -32,10 +34,10 @@ pub(crate) fn read<R: Rings<Bucket> + Drop, F: Files>(
     requires cursor { c < 9 }
     requires held { IsHeld store.old instance.now call.old }
     requires ends { EndInFiles store.old instance.now }
-    requires open { AreOpen (F.device files.old) store.old instance.now }
+    requires open { (around : Around) × IsOpenFor (F.device files.old) (content_at (spot (seen store.old around instance.now call.old) c)) }
     ensures ok { IfOk result (λ well. (around : Around) (b : ℕ) (x : NamedBucket) → let r = seen store.old around instance.now call.old in spot r c ≡ Within b x → home_fault (Some x) ≡ None
         → WasRead (F.device files.old) (F.device files.new) (spot r c) r (seen store.new around instance.now call.new) well) }
-    ensures left { OnOk result (LeavesOthers store.old store.new instance.now call.old) }
+    ensures left { LeavesOthers store.old store.new instance.now call.old }
     ensures err { OnErr result ((around : Around) → seen store.new around instance.now call.new ≡ seen store.old around instance.now call.old) }
     ensures unread { OnErr result (F.device files.new ≡ F.device files.old) }
     ensures open_files { (F.device files.new).numbered ≡ (F.device files.old).numbered }

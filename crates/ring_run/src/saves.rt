@@ -1,14 +1,18 @@
 //! The buckets of a brigade are set aside into the pool of another (ap_save_brigade).
 
-ghost use Rattle.std.specs.Prelude.{◌≡◌, ◌≢◌, ◌<◌, ℕ, Some, IsTrue, OnOk, OnErr};
+ghost use Rattle.std.specs.Prelude.{◌≡◌, ◌≢◌, ◌<◌, ℕ, All, Some, IsTrue, OnOk, OnErr};
+ghost use Rattle.bucket_kinds.specs.Device.{Device};
 ghost use Rattle.run_model.specs.Pools.{is_live};
+ghost use Rattle.run_model.specs.State.{items_of};
 ghost use Rattle.run_model.specs.Steps.{do_save};
 ghost use Rattle.pool_tree.specs.Tree.{map_of};
-ghost use Rattle.brigade_ops.specs.House.{IsHouse};
-ghost use Rattle.brigade_ops.specs.Store.{lists, pool_of};
+ghost use Rattle.brigade_ops.specs.House.{AreOpen, IsHouse};
+ghost use Rattle.brigade_ops.specs.Store.{lists, pool_of, references};
 ghost use Rattle.ring_run.specs.declared.machine.Call.{Call};
 ghost use Rattle.ring_run.specs.Around.{Around};
+ghost use Rattle.ring_run.specs.Given.{HasOpen};
 ghost use Rattle.ring_run.specs.Held.{AreApart, AreOn, IsHeld};
+ghost use Rattle.ring_run.specs.LeftAlone.{LeavesRest};
 ghost use Rattle.ring_run.specs.Slots.{live_in, slot_at};
 ghost use Rattle.ring_run.specs.Seen.{seen};
 
@@ -39,6 +43,9 @@ pub(crate) fn save<R: Rings<Bucket> + Drop>(
         → seen store.new (record around { pools = map_of tree.new }) instance.now call ≡ seen store.old (record around { pools = map_of tree.old }) instance.now call) }
     ensures held { (call : Call) → IsHeld store.old instance.now call → IsHeld store.new instance.now call }
     ensures house { IsHouse store.old (map_of tree.old) → IsHouse store.new (map_of tree.new) }
+    ensures left { (call : Call) → LeavesRest store.old store.new instance.now call }
+    ensures open { (d : Device) (around : Around) (call : Call) → All (HasOpen d) (items_of ((seen store.old around instance.now call).instance.brigades b))
+        → AreOpen (references store.old) d → AreOpen (references store.new) d }
 {
     let Slot::Made(to, on, _) = instance.slot(o) else {
         return Ok(());

@@ -10,6 +10,8 @@ use Rattle.brigade_ops.specs.Store.{lists, brigade_of, pool_of, next_name}
 use Rattle.ring_run.specs.declared.machine.Slot.TheVariants as slot
 use Rattle.ring_run.specs.Held.{HeldOver}
 use Rattle.ring_run.specs.Slots.{slot_at}
+use Rattle.ring_run.proofs.CarriedOut.{names_made}
+use Rattle.ring_run.proofs.LeftAlone.{rest_made}
 use Rattle.ring_run.proofs.NewBrigades.{created_step, created_held}
 use Rattle.ring_run.proofs.creates.create.Goals as goal
 
@@ -40,3 +42,12 @@ returns-clause-held g c =
     (brigade_of c.args.store.now) (brigade_of c.create.new.self) P (pool_of c.create.new.self) call c.requires.slot
     (λ n. c.in-Ok.ensures.on n ∙ ap (λ (j : ℕ). ring.upd P j (Some c.args.pool) n) born) c.in-Ok.ensures.names held in
     subst (λ (n : ℕ). HeldOver (brigade_of c.create.new.self) (lists c.create.new.self) (pool_of c.create.new.self) n c.set_slot.new.self call) (sym c.in-Ok.ensures.next) now
+
+pub returns-clause-left : goal.returns-clause-left
+returns-clause-left g c =
+    λ call.
+    rest_made c.args.store.now c.create.new.self c.in-Ok.ensures.names c.in-Ok.name c.args.pool c.in-Ok.ensures.name c.in-Ok.ensures.next c.in-Ok.ensures.ok c.in-Ok.ensures.on c.args.instance.now call
+
+pub returns-clause-slots : goal.returns-clause-slots
+returns-clause-slots g c =
+    names_made (next_name c.args.store.now) (next_name c.create.new.self) c.in-Ok.name c.args.o c.args.pool c.args.instance.now c.set_slot.new.self c.in-Ok.ensures.name c.in-Ok.ensures.next c.requires.slot c.set_slot.ensures.slots

@@ -4,7 +4,8 @@ use Rattle.run_model.specs.declared.bucket.Mark.TheVariants.{Usable}
 use Rattle.brigade_ops.specs.Store.{lists, brigade_of, pool_of, next_name}
 use Rattle.std.proofs.Common.{[]}
 use Rattle.ring_run.specs.Slots.{slot_at, live_in, name_in}
-use Rattle.ring_run.proofs.Names.{apart_in, held_kept, no_less, still_on, by_result}
+use Rattle.ring_run.proofs.CarriedOut.{names_marked}
+use Rattle.ring_run.proofs.Names.{apart_in, held_kept, no_less, still_on}
 use Rattle.ring_run.proofs.Vars.{cleaned_step, nothing_cleaned, held_marked}
 use Rattle.ring_run.proofs.Changes.{live_is}
 use Rattle.ring_run.proofs.LeftAlone.{left_on, ours_slot}
@@ -35,3 +36,6 @@ returns-clause-left g c =
     λ call.
     left_on c.args.store.now c.clean.new.self (no_less (next_name c.args.store.now) (next_name c.clean.new.self) c.clean.ensures.next) c.clean.ensures.names c.clean.ensures.pools c.clean.ensures.references c.in-Some.name (λ xs. []) c.clean.ensures.out c.args.instance.now call
     (ours_slot c.args.instance.now call c.args.b c.in-Some.name (ap name_in (live_is (lists c.args.store.now) (slot_at c.args.instance.now c.args.b) c.in-Some.name (sym c.live.ensures ∙ c.in-Some.is)).1.1.0))
+
+pub returns-clause-slots : goal.returns-clause-slots
+returns-clause-slots g c = names_marked c.args.instance.now c.set_mark.new.self c.args.b Usable c.set_mark.ensures.slots

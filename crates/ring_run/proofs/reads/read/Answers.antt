@@ -2,6 +2,8 @@
 use Rattle.std.proofs.Common.{◌≡◌, true, false, [], Err, Result, Some, None, Option, is_some, sym, ap, subst, ◌∙◌}
 use Rattle.bucket_ring.specs.declared.names.BucketId.{BucketId}
 use Rattle.bucket_ring.specs.Lists.{list_at}
+use Rattle.bucket_kinds.specs.Reading.{IsOpenFor}
+use Rattle.run_model.specs.BucketSteps.{content_at}
 use Rattle.run_model.specs.Cursors.{Spot, Within, spot, read_cursor}
 use Rattle.run_model.specs.Cutting.{read_of, wanted}
 use Rattle.run_model.specs.State.{set_cursor}
@@ -13,7 +15,7 @@ use Rattle.brigade_ops.specs.Items.{named_item, replaced, rest_item}
 use Rattle.brigade_ops.specs.Store as store
 use Rattle.brigade_ops.specs.Store.{lists, brigade_of, pool_of, next_name}
 use Rattle.brigade_ops.proofs.Saves.{found_some}
-use Rattle.brigade_ops.proofs.Stores.{kept, found_in, found_bucket}
+use Rattle.brigade_ops.proofs.Stores.{kept, found_in, found_bucket, bucket_found}
 use Rattle.ring_run.specs.declared.machine.Stand.TheVariants as stand
 use Rattle.ring_run.specs.Given.{WasRead}
 use Rattle.ring_run.specs.Held.{WasGiven}
@@ -173,3 +175,34 @@ returns-in-Err-ReadFault-clause-left g c =
     let read = c.in-Err-ReadFault.ensures.read x.0 is in
     let same = next_same (is_some (read_of [] x.0).1) (next_name c.args.store.now) (next_name c.read.new.self) read.names in
     left_same c.args.store.now c.read.new.self (no_less (next_name c.args.store.now) (next_name c.read.new.self) same) c.read.ensures.names c.read.ensures.pools c.read.ensures.references c.in-Err-ReadFault.ensures.err c.args.instance.now c.args.call.now
+
+pub returns-in-Err-NoMemory-clause-left : goal.returns-in-Err-NoMemory-clause-left
+returns-in-Err-NoMemory-clause-left g c =
+    let n = c.in-Within.ensures.inside.1 in
+    let x = found_some c.in-Within.id (list_at (lists c.args.store.now) n.0) (found_in c.args.store.now c.in-Within.id n.0 n.1.1) in
+    let is : store.bucket_at c.args.store.now c.in-Within.id ≡ Some x.0 = found_bucket c.args.store.now c.in-Within.id n.0 x.0 n.1.1 x.1 in
+    let read = c.in-Err-NoMemory.ensures.read x.0 is in
+    let same = next_same (is_some (read_of [] x.0).1) (next_name c.args.store.now) (next_name c.read.new.self) read.names in
+    left_same c.args.store.now c.read.new.self (no_less (next_name c.args.store.now) (next_name c.read.new.self) same) c.read.ensures.names c.read.ensures.pools c.read.ensures.references c.in-Err-NoMemory.ensures.err c.args.instance.now c.args.call.now
+
+pub returns-in-Err-NamesSpent-clause-left : goal.returns-in-Err-NamesSpent-clause-left
+returns-in-Err-NamesSpent-clause-left g c =
+    let n = c.in-Within.ensures.inside.1 in
+    let x = found_some c.in-Within.id (list_at (lists c.args.store.now) n.0) (found_in c.args.store.now c.in-Within.id n.0 n.1.1) in
+    let is : store.bucket_at c.args.store.now c.in-Within.id ≡ Some x.0 = found_bucket c.args.store.now c.in-Within.id n.0 x.0 n.1.1 x.1 in
+    let read = c.in-Err-NamesSpent.ensures.read x.0 is in
+    let same = next_same (is_some (read_of [] x.0).1) (next_name c.args.store.now) (next_name c.read.new.self) read.names in
+    left_same c.args.store.now c.read.new.self (no_less (next_name c.args.store.now) (next_name c.read.new.self) same) c.read.ensures.names c.read.ensures.pools c.read.ensures.references c.in-Err-NamesSpent.ensures.err c.args.instance.now c.args.call.now
+
+pub read-requires-clause-open : goal.read-requires-clause-open
+read-requires-clause-open g c =
+    λ y here.
+    let s = c.args.store.now in
+    let id = c.in-Within.id in
+    let n = c.in-Within.ensures.inside.1 in
+    let around = c.requires.open.0 in
+    let found = bucket_found s id n.0 y n.1.1 here in
+    let name = name_there (brigade_of s) (lists s) (next_name s) n.0 id (kept s) n.1.1 in
+    let given = given_in (brigade_of s) (lists s) (next_name s) id (kept s) name n.0 in
+    let at = stands_within (lists s) (next_name s) around c.args.instance.now c.args.call.now c.args.c id y c.in-Within.field-0 n.0 given (c.in-Within.ensures.at (next_name s) around) n.1.0 found in
+    subst (λ (p : Spot). IsOpenFor (g.F.Files.device c.args.files.now) (content_at p)) at c.requires.open.1

@@ -1,14 +1,19 @@
 -- Both brigades are there, the first on a pool, or nothing is saved.
-use Rattle.std.proofs.Common.{◌≡◌, ◌++◌, [], ℕ, Option, Some, None, Bool, true, false, not, is_some, map, sym, ap, ◌∙◌, refl, arith}
+use Rattle.std.proofs.Common.{◌≡◌, ◌++◌, [], ℕ, Option, Some, None, Bool, true, false, not, is_some, map, List, All, sym, ap, subst, ◌∙◌, refl, arith}
 use Rattle.std.proofs.lemmas.Bool.{false≢true}
 use Rattle.bucket_ring.specs.Lists.{list_at}
 use Rattle.pool_tree.specs.Tree.{map_of}
 use Rattle.brigade_ops.specs.Items.{aside_item}
-use Rattle.brigade_ops.specs.Store.{lists, brigade_of, pool_of, next_name}
+use Rattle.brigade_ops.specs.Store.{lists, brigade_of, pool_of, next_name, references}
 use Rattle.ring_run.specs.declared.machine.Slot.TheVariants as slot
-use Rattle.ring_run.specs.Seen.{seen_over}
+use Rattle.run_model.specs.declared.bucket.NamedBucket.{NamedBucket}
+use Rattle.ring_run.specs.Given.{HasOpen}
+use Rattle.ring_run.specs.Seen.{seen_over, calls_in}
 use Rattle.ring_run.specs.Slots.{slot_at, name_in}
 use Rattle.ring_run.proofs.Changes.{live_is, dead_seen}
+use Rattle.ring_run.proofs.Items.{items_live}
+use Rattle.ring_run.proofs.LeftAlone.{rest_both, rest_same, ours_slot}
+use Rattle.ring_run.proofs.OpenFiles.{refs_all, refs_same}
 use Rattle.ring_run.proofs.Names.{apart_in, held_kept, no_less, still_same, still_both, by_result}
 use Rattle.ring_run.proofs.Saved.{made_null, made_loose, made_gone, not_saved, nothing_saved, saved}
 use Rattle.ring_run.proofs.Trees.{over_pools, on_both, on_both_err, seen_kept}
@@ -91,3 +96,35 @@ returns-clause-err g c =
     on_both_err c.save.result _ _ _ (λ out kept around call.
     seen_kept (lists s) (lists c.save.new.self) (next_name s) (next_name c.save.new.self) (map_of c.args.tree.now) (map_of c.save.new.tree) around c.args.instance.now call c.save.ensures.next kept out)
     c.save.ensures.err c.save.ensures.kept
+
+pub returns-clause-left : goal.returns-clause-left
+returns-clause-left g c =
+    λ call.
+    let s = c.args.store.now in
+    let i = c.args.instance.now in
+    let ps = map_of c.args.tree.now in
+    let on = some_is c.in-Made.on c.is_none.result c.is_none.ensures c.if-is_none.false in
+    let is : slot_at i c.args.o ≡ slot.Made c.in-Made.to (Some on.0) c.in-Made.field-2 = sym c.in-Made.ensures ∙ ap (λ (p : Option ℕ). slot.Made c.in-Made.to p c.in-Made.field-2) on.1 in
+    let lies : pool_of s c.in-Made.to ≡ Some on.0 = c.requires.on c.args.o c.in-Made.to (Some on.0) c.in-Made.field-2 (λ e. let first = c.requires.first in omega (arith, first, e)) is (sym c.if-not-has.ensures) in
+    let from = live_is (lists s) (slot_at i c.args.b) c.in-Some.from (sym c.in-Some.ensures) in
+    let rises = no_less (next_name s) (next_name c.save.new.self) c.save.ensures.next in
+    by_result c.save.result _ _
+    (λ out. rest_both s c.save.new.self rises c.save.ensures.names c.save.ensures.pools c.in-Made.to c.in-Some.from (λ xs. xs ++ map (aside_item ps on.0) (list_at (lists s) c.in-Some.from)) (λ xs. []) (λ n. out on.0 n lies) i call
+    (ours_slot i call c.args.o c.in-Made.to (ap name_in is)) (ours_slot i call c.args.b c.in-Some.from (ap name_in from.1.1.0)))
+    (λ out. rest_same s c.save.new.self rises c.save.ensures.names (λ n. ap (λ (f : ℕ → Option ℕ). f n) c.save.ensures.pools) out i call)
+    c.save.ensures.ok c.save.ensures.err
+
+pub returns-clause-open : goal.returns-clause-open
+returns-clause-open g c =
+    λ d around call opens.
+    let s = c.args.store.now in
+    let i = c.args.instance.now in
+    let ps = map_of c.args.tree.now in
+    let on = some_is c.in-Made.on c.is_none.result c.is_none.ensures c.if-is_none.false in
+    let is : slot_at i c.args.o ≡ slot.Made c.in-Made.to (Some on.0) c.in-Made.field-2 = sym c.in-Made.ensures ∙ ap (λ (p : Option ℕ). slot.Made c.in-Made.to p c.in-Made.field-2) on.1 in
+    let lies : pool_of s c.in-Made.to ≡ Some on.0 = c.requires.on c.args.o c.in-Made.to (Some on.0) c.in-Made.field-2 (λ e. let first = c.requires.first in omega (arith, first, e)) is (sym c.if-not-has.ensures) in
+    let has = subst (λ (xs : List NamedBucket). All (HasOpen d) xs) (items_live (lists s) (next_name s) around i call c.args.b c.in-Some.from (sym c.in-Some.ensures)) opens in
+    by_result c.save.result _ _
+    (λ counts. refs_all d (calls_in around call) ps on.0 (list_at (lists s) c.in-Some.from) (references s) (references c.save.new.self) (λ f. counts on.0 f lies) has)
+    (λ same. refs_same d (references s) (references c.save.new.self) same)
+    c.save.ensures.counted c.save.ensures.uncounted

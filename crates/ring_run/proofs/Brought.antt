@@ -1,0 +1,93 @@
+-- What was brought to a call that runs reads as it was brought.
+use Rattle.std.proofs.Common.{◌≡◌, ℕ, ◌+◌, ◌<◌, Bool, true, List, [], ◌∷◌, ◌++◌, Option, None, Some, is_some, refl, sym, ap, ◌∙◌, inl, inr, arith}
+use Rattle.std.specs.Option.{option_map}
+use Rattle.std.proofs.lemmas.Bool.{cases_eq, lt-ltb}
+use Rattle.pool_tree.proofs.Trees.{not_there}
+use Rattle.bucket_ring.specs.declared.rings.Rings.{Ghosts}
+use Rattle.bucket_ring.specs.Lists as ring
+use Rattle.bucket_ring.proofs.Counted.{upd_on, upd_off}
+use Rattle.run_model.specs.declared.bucket.Bucket.{Bucket}
+use Rattle.run_model.specs.declared.bucket.Home.{Home}
+use Rattle.run_model.specs.declared.bucket.Home.TheVariants as home
+use Rattle.run_model.specs.declared.bucket.NamedBucket.{NamedBucket}
+use Rattle.run_model.specs.declared.event.Piece.{Piece}
+use Rattle.run_model.specs.declared.event.Piece.TheVariants as piece
+use Rattle.run_model.specs.Connection.{bucket_of, named_from}
+use Rattle.brigade_ops.specs.declared.store.Brigades.{Brigades}
+use Rattle.brigade_ops.specs.Items.{Item, Items, named, named_item}
+use Rattle.brigade_ops.specs.Store.{lists, next_name}
+use Rattle.brigade_ops.proofs.Stores.{brigades}
+use Rattle.ring_run.specs.Seen.{home_in, bucket_in, read_in, shown}
+
+module _ (runs : ℕ → Bool) (call req : ℕ) (alive : runs call ≡ true) where
+  home_reads : (n : ℕ) → call < n → home_in runs n (home.Call call) ≡ home.Call call
+  home_reads n young = rw (alive, lt-ltb call n young) refl
+
+  piece_reads : (n : ℕ) (x : Piece) → call < n → bucket_in runs n (bucket_of call req x) ≡ bucket_of call req x
+  piece_reads n (piece.Heap bytes) young = refl
+  piece_reads n (piece.Transient bytes) young = ap (λ (h : Home). let b : Bucket = record (bucket_of call req (piece.Transient bytes)) { home = h } in b) (home_reads n young)
+  piece_reads n (piece.Immortal bytes) young = refl
+  piece_reads n (piece.Pool bytes) young = refl
+  piece_reads n (piece.File file start len) young = refl
+  piece_reads n piece.Flush young = refl
+  piece_reads n piece.Eos young = refl
+
+  pub brought_reads : (n : ℕ) (pieces : List Piece) (xs : Items) → named xs ≡ named_from (bucket_of call req) n pieces → call < n → read_in runs xs ≡ xs
+  brought_reads n [] [] is young = refl
+  brought_reads n [] (x ∷ xs) is young = cc
+  brought_reads n (p ∷ ps) [] is young = cc
+  brought_reads n (p ∷ ps) (x ∷ xs) is young =
+      let first : named_item x ≡ record { name = n; bucket = bucket_of call req p } = cc in
+      let made : x.1 ≡ bucket_of call req p = ap (λ (y : NamedBucket). y.bucket) first in
+      let birth : x.0.birth ≡ n = ap (λ (y : NamedBucket). y.name) first in
+      let others : named xs ≡ named_from (bucket_of call req) (n + 1) ps = cc in
+      let reads : bucket_in runs x.0.birth x.1 ≡ x.1 =
+      ap (bucket_in runs x.0.birth) made ∙ (piece_reads x.0.birth p (omega (arith, birth)) ∙ sym made) in
+      ap (λ (y : Bucket). (let z : Item = (x.0, y) in z) ∷ read_in runs xs) reads ∙ ap (λ (ys : Items). x ∷ ys) (brought_reads (n + 1) ps xs others (omega arith))
+
+  -- so it is shown as the model has it
+  pub brought_shown : (n : ℕ) (pieces : List Piece) (xs : Items) → named xs ≡ named_from (bucket_of call req) n pieces → call < n → shown runs xs ≡ named_from (bucket_of call req) n pieces
+  brought_shown n pieces xs is young = ap named (brought_reads n pieces xs is young) ∙ is
+
+-- The lists where a brigade of a new name is made, and is filled or ended.
+module _ (L M : ℕ → Option Items) (b : ℕ) (made : (n : ℕ) → M n ≡ ring.upd L b (Some []) n) where
+  made_here : M b ≡ Some []
+  made_here = made b ∙ upd_on L b (Some [])
+
+  pub made_there : is_some (M b) ≡ true
+  made_there = ap is_some made_here
+
+  pub made_filled : (N : ℕ → Option Items) (ys : Items) → ((n : ℕ) → N n ≡ ring.on b (λ xs. xs ++ ys) M n) → (n : ℕ) → N n ≡ ring.upd L b (Some ys) n
+  made_filled N ys filled n =
+      filled n
+      ∙ elim (cases_eq n b) [
+        | inl e ↦
+            ap (ring.on b (λ xs. xs ++ ys) M) e ∙ (upd_on M b (option_map (λ xs. xs ++ ys) (M b)) ∙ (ap (option_map (λ xs. xs ++ ys)) made_here
+            ∙ (sym (upd_on L b (Some ys)) ∙ ap (ring.upd L b (Some ys)) (sym e))))
+        | inr ne ↦ upd_off M b (option_map (λ xs. xs ++ ys) (M b)) n ne ∙ (made n ∙ (upd_off L b (Some []) n ne ∙ sym (upd_off L b (Some ys) n ne)))
+      ]
+
+  pub made_ended : (N : ℕ → Option Items) → L b ≡ None → ((n : ℕ) → N n ≡ ring.upd M b None n) → (n : ℕ) → N n ≡ L n
+  made_ended N none gone n =
+      gone n
+      ∙ elim (cases_eq n b) [
+        | inl e ↦ ap (ring.upd M b None) e ∙ (upd_on M b None ∙ (sym none ∙ ap L (sym e)))
+        | inr ne ↦ upd_off M b None n ne ∙ (made n ∙ upd_off L b (Some []) n ne)
+      ]
+
+-- A brigade that was there is there where another is put in.
+pub put_there : (L : ℕ → Option Items) (b n : ℕ) (ys : Items) → is_some (L n) ≡ true → is_some (ring.upd L b (Some ys) n) ≡ true
+put_there L b n ys there =
+    elim (cases_eq n b) [
+      | inl e ↦ ap (λ (k : ℕ). is_some (ring.upd L b (Some ys) k)) e ∙ ap is_some (upd_on L b (Some ys))
+      | inr ne ↦ ap is_some (upd_off L b (Some ys) n ne) ∙ there
+    ]
+
+-- The next name is no brigade's.
+pub next_free : {R : Type 0} {g : Ghosts R Bucket} (store : Brigades R g) → lists store (next_name store) ≡ None
+next_free store = not_there (lists store (next_name store)) (λ there. omega (arith, brigades store (next_name store) there))
+
+-- A brigade of the next name that was made, and ended without a bucket, leaves the lists as they were.
+pub ended_again : {R : Type 0} {g : Ghosts R Bucket} (old made now : Brigades R g) (b : ℕ) → b ≡ next_name old → ((n : ℕ) → lists made n ≡ ring.upd (lists old) b (Some []) n)
+    → ((n : ℕ) → lists now n ≡ ring.upd (lists made) b None n) → (n : ℕ) → lists now n ≡ lists old n
+ended_again old made now b name is gone = made_ended (lists old) (lists made) b is (lists now) (ap (lists old) name ∙ next_free old) gone

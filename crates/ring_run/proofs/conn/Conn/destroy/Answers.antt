@@ -1,0 +1,16 @@
+-- By what was handed on.
+use Rattle.std.proofs.Common.{◌≡◌, ℕ, List, [], ◌∷◌, ◌++◌, ap, ◌∙◌}
+use Rattle.std.specs.Global.{Vec}
+use Rattle.run_model.specs.declared.payload.Payload.{Payload}
+use Rattle.run_model.specs.Files.{is_referred}
+use Rattle.pool_tree.specs.Tree.{map_of}
+use Rattle.pool_tree.proofs.Trees.{tree_formed}
+use Rattle.ring_run.proofs.Unreferred.{unreferred_stays}
+use Rattle.ring_run.proofs.conn.Conn.destroy.Goals as goal
+
+pub returns-clause-labels : goal.returns-clause-labels
+returns-clause-labels g c = (c.in_ok-ran.ran, c.in_ok-ran.ensures.ran, c.add_labels.ensures ∙ ap (λ (xs : List (Vec (ℕ × Payload))). xs ++ c.in_ok-ran.ran ∷ []) c.reserve.ensures.items)
+
+pub returns-clause-unreferred : goal.returns-clause-unreferred
+returns-clause-unreferred g c file none =
+    unreferred_stays (map_of c.args.tree.now) (tree_formed c.args.tree.now) c.args.pool c.requires.live file none (is_referred (map_of c.destroy.new.tree) file) ((g.F.Files.device c.destroy.new.files).numbered file) ((g.F.Files.device c.args.files.now).numbered file) (c.in_ok-ran.ensures.closed file)
