@@ -1,0 +1,113 @@
+-- A file is added to the files of a host.
+use Rattle.std.proofs.Common.{◌≡◌, ℕ, Bool, true, false, cond, List, Option, Some, None, is_some, Result, Ok, Err, refl, sym, ◌∙◌, ap, subst, arith}
+use Rattle.std.specs.Str.{bytes_eq}
+use Rattle.std.proofs.Math.Path.{fun_ext}
+use Rattle.module_lang.specs.Program.{Program}
+use Rattle.run_model.specs.declared.event.Event.TheVariants as event
+use Rattle.run_model.specs.declared.event.Refusal.TheVariants as refusal
+use Rattle.run_model.specs.Chains.{Connection}
+use Rattle.run_model.specs.Files.{Files, file_added}
+use Rattle.run_model.specs.Turns.{Failing}
+use Rattle.run_model.specs.Worlds.{World, Told, Done, Refused, happens_on}
+use Rattle.bucket_kinds.specs.declared.mem_files.MemFiles.{MemFiles}
+use Rattle.bucket_kinds.specs.declared.refusal.AddRefusal.{AddRefusal}
+use Rattle.bucket_kinds.specs.declared.refusal.AddRefusal.TheVariants as added
+use Rattle.bucket_kinds.specs.Device.{Device, Held, Holds, is_there}
+use Rattle.bucket_kinds.specs.MemAnswers.{IsAdding}
+use Rattle.bucket_kinds.specs.MemDevice.{held_of, device_of}
+use Rattle.ring_run.specs.Proceeding.{MayHold}
+use Rattle.filter_chain.specs.declared.next.Next.{Next}
+use Rattle.filter_chain.specs.declared.seat.Seat.{Seat}
+use Rattle.filter_chain.specs.declared.host.Host.{Host}
+use Rattle.filter_chain.specs.Hosting.{HoldsWorld, IsSeatOf, IsHosting, Happens, Stays, TriesToAdd, chain_of, budget_of, seat_at}
+use Rattle.filter_chain.specs.Scenes.{TellsEvent}
+
+-- The device, after a file is added.
+
+with_named : Device → (List ℕ → Held) → Device
+with_named d f = record d { named = f }
+
+held_if : (b : Bool) (bytes : List ℕ) (o : Option (List ℕ)) → held_of (cond b (Some bytes) o) ≡ cond b (Holds bytes) (held_of o)
+held_if true bytes o = refl
+held_if false bytes o = refl
+
+added_device : (fs : Files) (name bytes : List ℕ) (failures : ℕ) → device_of (file_added name bytes fs) failures ≡ record (device_of fs failures) { named = λ q. cond (bytes_eq q name) (Holds bytes) (held_of (fs.named q)) }
+unfolding with_named
+added_device fs name bytes failures = ap (with_named (device_of fs failures)) (fun_ext (λ q. held_if (bytes_eq q name) bytes (fs.named q)))
+
+missing_then : (o : Option (List ℕ)) → o ≡ None → is_there (held_of o) ≡ false
+missing_then o none = ap (λ (x : Option (List ℕ)). is_there (held_of x)) none
+
+there_then : (o : Option (List ℕ)) → is_some o ≡ true → is_there (held_of o) ≡ true
+there_then None there = absurd (cc)
+there_then (Some bytes) there = refl
+
+-- The host stands for the same world where its device gives the same numbers, and has the same files under them.
+module _ (budget : ℕ) (chain : List Program) (d e : Device) (next : Next) (last : ℕ) (seats : ℕ → Option Seat) (w : World) (h : HoldsWorld budget chain d next last seats w) (numbered : e.numbered ≡ d.numbered) (same : e.next ≡ d.next) where
+  pub renamed_holds : HoldsWorld budget chain e next last seats w
+  renamed_holds = record {
+    chained = h.chained;
+    reached = h.reached;
+    last_is = h.last_is;
+    pools = h.pools;
+    names = h.names;
+    files = (let le = h.files in omega (arith, le, same));
+    conns = λ k. both (seats k) (w.conns k) (h.conns k);
+  } where
+    both : (o : Option Seat) (b : Option Connection) → IsSeatOf chain d next o b → IsSeatOf chain e next o b
+    both None None is = is
+    both None (Some b) is = absurd is
+    both (Some s) None is = absurd is
+    both (Some s) (Some b) is = record {
+      seen = is.seen;
+      opens = λ file bytes there. subst (λ (held : Held). MayHold held bytes) (sym (ap (λ (f : ℕ → Held). f file) numbered)) (is.opens file bytes there);
+      formed = is.formed;
+      house = is.house;
+      none = is.none;
+      stacked = is.stacked;
+      pools = is.pools;
+      names = is.names;
+    }
+
+module _ (old : Host MemFiles) (files : MemFiles) (name bytes : List ℕ) (w : World) where
+  abbrev new : Host MemFiles
+  new = record old { files = files }
+
+  abbrev told : Told
+  told = record { reads = λ k. None; opening = Failing }
+
+  hosts_still : (d e : Device) → IsHosting d old w → e.numbered ≡ d.numbered → e.next ≡ d.next → IsHosting e new w
+  unfolding IsHosting chain_of budget_of
+  hosts_still d e hosts numbered same = renamed_holds (budget_of old) (chain_of old) d e old.next old.last (seat_at old.seats) w hosts numbered same
+
+  was_added : (d e : Device) → IsHosting d old w → is_there (d.named name) ≡ false → e ≡ record d { named = λ q. cond (bytes_eq q name) (Holds bytes) (d.named q) } → Happens d e old new 0 (event.AddFile name bytes) Done w
+  unfolding happens_on TellsEvent chain_of budget_of
+  was_added d e hosts free is = record {
+    to = w;
+    acts = record { memory = true; told = told; is = refl; tells = (free, is) };
+    hosts = hosts_still d e hosts (ap (λ (x : Device). x.numbered) is) (ap (λ (x : Device). x.next) is);
+    chain = refl;
+    budget = refl;
+  }
+
+  not_added : (d e : Device) → IsHosting d old w → e ≡ d → Happens d e old new 0 (event.AddFile name bytes) (Refused refusal.NoMemory) w
+  unfolding happens_on TellsEvent chain_of budget_of
+  not_added d e hosts is = record {
+    to = w;
+    acts = record { memory = false; told = told; is = refl; tells = is };
+    hosts = hosts_still d e hosts (ap (λ (x : Device). x.numbered) is) (ap (λ (x : Device). x.next) is);
+    chain = refl;
+    budget = refl;
+  }
+
+  stays_taken : (d e : Device) → IsHosting d old w → e ≡ d → Stays d e old new w
+  unfolding chain_of budget_of
+  stays_taken d e hosts is = record { same = is; hosts = hosts_still d e hosts (ap (λ (x : Device). x.numbered) is) (ap (λ (x : Device). x.next) is); chain = refl; budget = refl }
+
+  pub tries_to_add : (fs gs : Files) (m n : ℕ) (r : Result (Unit {0}) AddRefusal) → IsHosting (device_of fs m) old w → IsAdding fs name bytes r gs → n ≡ m → TriesToAdd (device_of fs m) (device_of gs n) old new name bytes r w
+  tries_to_add fs gs m n (Ok x) hosts (free, is) same =
+      was_added (device_of fs m) (device_of gs n) hosts (missing_then (fs.named name) free) (ap (device_of gs) same ∙ (ap (λ (x : Files). device_of x m) is ∙ added_device fs name bytes m))
+  tries_to_add fs gs m n (Err added.NoMemory) hosts (free, is) same =
+      (missing_then (fs.named name) free, not_added (device_of fs m) (device_of gs n) hosts (ap (device_of gs) same ∙ ap (λ (x : Files). device_of x m) is))
+  tries_to_add fs gs m n (Err added.Taken) hosts (taken, is) same =
+      (there_then (fs.named name) taken, stays_taken (device_of fs m) (device_of gs n) hosts (ap (device_of gs) same ∙ ap (λ (x : Files). device_of x m) is))

@@ -1,0 +1,108 @@
+-- The text of the pools of a host, one connection after another.
+use Rattle.std.proofs.Common.{◌≡◌, ℕ, zero, suc, ◌+◌, ◌<◌, ◌≤◌, true, not, List, [], ◌++◌, Option, Some, None, codes, refl, sym, ◌∙◌, ap, arith, add-one}
+use Rattle.std.proofs.lemmas.List.{append-nil, append_assoc}
+use Rattle.module_lang.specs.Program.{Program}
+use Rattle.run_model.specs.Pools.{is_empty, is_live}
+use Rattle.run_model.specs.Chains.{Connection, pools_of}
+use Rattle.run_model.specs.Worlds.{World, tree_below, tree_of, with_part}
+use Rattle.run_model.specs.ChainTrees.{WorldPoolsApart, tree_up_to}
+use Rattle.run_model.specs.Reached.{WorldLaws}
+use Rattle.run_model.proofs.chains.PoolsApart.{run_keeps_pools_apart}
+use Rattle.run_model.proofs.chains.Reached.{reached_holds}
+use Rattle.run_model.proofs.chains.Trees.{reached_parts_join}
+use Rattle.bucket_kinds.specs.Device.{Device}
+use Rattle.pool_tree.specs.Printed.{payload_text, printed}
+use Rattle.pool_tree.specs.Tree.{map_of}
+use Rattle.pool_tree.proofs.PrintedParts.{root_is_printed, part_is_printed, next_is_not_printed}
+use Rattle.ring_run.specs.Conns.{conn_of}
+use Rattle.filter_chain.specs.declared.next.Next.{Next}
+use Rattle.filter_chain.specs.declared.seat.Seat.{Seat}
+use Rattle.filter_chain.specs.Hosting.{HoldsWorld}
+use Rattle.filter_chain.specs.PartText.{part_text}
+use Rattle.filter_chain.specs.Seated.{IsSeated}
+use Rattle.filter_chain.proofs.Hosts.{found, missing}
+
+-- the text of the connections up to this number
+unfoldable pub parts_text : ℕ → World → List ℕ
+parts_text zero w = []
+parts_text (suc k) w = parts_text k w ++ part_text w.common (w.conns (suc k))
+
+pub parts_more : (k : ℕ) (w : World) → parts_text k w ++ part_text w.common (w.conns (k + 1)) ≡ parts_text (k + 1) w
+unfolding parts_text
+parts_more k w = rw add-one refl
+
+module _ (budget : ℕ) (chain : List Program) (d : Device) (next : Next) (last : ℕ) (seats : ℕ → Option Seat) (w : World) (h : HoldsWorld budget chain d next last seats w) where
+  laws : WorldLaws chain w
+  laws = reached_holds budget chain w h.chained h.reached
+
+  apart : WorldPoolsApart w
+  apart = run_keeps_pools_apart budget chain h.reached.events h.reached.answers w h.chained h.reached.run
+
+  -- The tree of a connection that is there.
+  module _ (number : ℕ) (s : Seat) (c : Connection) (here : w.conns number ≡ Some c) (seated : IsSeated chain d next s c) where
+    conn_is : c.conn ≡ s.conn.conn
+    unfolding conn_of
+    conn_is = ap (λ (x : Connection). x.conn) seated.seen
+
+    seat_newer : 1 < s.conn.conn
+    seat_newer = (let is : c.conn ≡ s.conn.conn = conn_is in let newer : 1 < c.conn = (laws.paths number c here).newer in omega (arith, is, newer))
+
+    seat_live : is_live (map_of s.tree) s.conn.conn ≡ true
+    unfolding conn_of is_live
+    seat_live = sym (ap (λ (x : Connection). is_live (pools_of w.common x) x.conn) seated.seen) ∙ ap (λ (xs : List ℕ). not (is_empty xs)) (apart.top number c here)
+
+    seat_printed : printed payload_text (pools_of w.common c) 1 c.conn ≡ printed payload_text (map_of s.tree) 1 s.conn.conn
+    unfolding conn_of
+    seat_printed =
+        ap (λ (x : Connection). printed payload_text (pools_of w.common x) 1 x.conn) seated.seen
+        ∙ next_is_not_printed payload_text (map_of s.tree) w.common.pools 1 s.conn.conn seated.formed (let le = seated.pools in let same = h.pools in omega (arith, same)) seat_live
+
+  -- its pool may be printed one pool deep
+  pub may_print : (number : ℕ) (s : Seat) → seats number ≡ Some s → (is_live (map_of s.tree) s.conn.conn ≡ true) × (1 ≤ s.conn.conn)
+  may_print number s at =
+      let f = found budget chain d next last seats w h number s at in
+      let newer : 1 < s.conn.conn = seat_newer number s f.0 f.1 f.2.linked.seated in
+      (seat_live number s f.0 f.1 f.2.linked.seated, omega (arith, newer))
+
+  pub part_seated : (number : ℕ) (s : Seat) → seats number ≡ Some s → printed payload_text (map_of s.tree) 1 s.conn.conn ≡ part_text w.common (w.conns number)
+  part_seated number s at =
+      let f = found budget chain d next last seats w h number s at in
+      sym (ap (part_text w.common) f.1 ∙ seat_printed number s f.0 f.1 f.2.linked.seated)
+
+  pub part_missing : (number : ℕ) → seats number ≡ None → [] ≡ part_text w.common (w.conns number)
+  part_missing number none = ap (part_text w.common) (sym (missing budget chain d next last seats w h number none))
+
+  -- The root, and then each connection.
+  root_text : codes "pool 1\n" ≡ printed payload_text (tree_up_to 0 w) 0 1
+  unfolding tree_below
+  root_text = (let more : 1 < w.common.pools = laws.sound.names.pools.0 in sym (root_is_printed payload_text w.common.pools (omega (arith, more))))
+
+  next_of : (k : ℕ) → (tree_up_to k w).next ≡ w.common.pools
+  unfolding tree_below
+  next_of zero = refl
+  next_of (suc k) = of_part (w.conns (suc k)) ∙ next_of k where
+    of_part : (o : Option Connection) → (with_part o (tree_up_to k w)).next ≡ (tree_up_to k w).next
+    of_part None = refl
+    of_part (Some c) = refl
+
+  more_text : (k : ℕ) → printed payload_text (tree_up_to k w) 0 1 ++ part_text w.common (w.conns (suc k)) ≡ printed payload_text (tree_up_to (suc k) w) 0 1
+  unfolding tree_below
+  more_text k = by_conn (w.conns (suc k)) refl where
+    by_conn : (o : Option Connection) → w.conns (suc k) ≡ o → printed payload_text (tree_up_to k w) 0 1 ++ part_text w.common o ≡ printed payload_text (with_part o (tree_up_to k w)) 0 1
+    by_conn None at = append-nil (printed payload_text (tree_up_to k w) 0 1)
+    by_conn (Some c) at =
+        ap (λ (n : ℕ). printed payload_text (tree_up_to k w) 0 1 ++ printed payload_text (record { path = c.path; payloads = c.payloads; next = n }) 1 c.conn) (sym (next_of k))
+        ∙ sym (part_is_printed payload_text c (tree_up_to k w) (reached_parts_join budget chain w k c h.chained h.reached at))
+
+  -- the root's line, and then those of the connections
+  pub parts_whole : (k : ℕ) → codes "pool 1\n" ++ parts_text k w ≡ printed payload_text (tree_up_to k w) 0 1
+  unfolding parts_text
+  parts_whole zero = append-nil (codes "pool 1\n") ∙ root_text
+  parts_whole (suc k) =
+      sym (append_assoc (codes "pool 1\n") (parts_text k w) (part_text w.common (w.conns (suc k))))
+      ∙ ap (λ (xs : List ℕ). xs ++ part_text w.common (w.conns (suc k))) (parts_whole k)
+      ∙ more_text k
+
+  -- all of them are the whole tree
+  pub whole_text : codes "pool 1\n" ++ parts_text last w ≡ printed payload_text (tree_of w) 0 1
+  whole_text = parts_whole last ∙ ap (λ (k : ℕ). printed payload_text (tree_up_to k w) 0 1) (sym h.last_is)

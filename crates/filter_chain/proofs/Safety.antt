@@ -1,0 +1,26 @@
+-- On a chain that was checked no event of a host answers a fault.
+use Rattle.std.proofs.Common.{ℕ, List, [], ◌∷◌, ◌++◌}
+use Rattle.run_model.specs.declared.event.Event.{Event}
+use Rattle.run_model.specs.Worlds.{World, Answer, empty_world}
+use Rattle.run_model.proofs.chains.Reached.{world_run_goes_on}
+use Rattle.bucket_kinds.specs.Device.{Device}
+use Rattle.life_check.specs.ChainTheorem.{IsNoFault, NoFaults}
+use Rattle.filter_chain.specs.declared.host.Host.{Host}
+use Rattle.filter_chain.specs.Hosting.{IsHosting, Happens, chain_of, budget_of}
+use Rattle.filter_chain.specs.Safe.{IsSafe, ReachedWorldsAnswerNoFault}
+use Rattle.filter_chain.specs.Scenes.{scene}
+
+last_well : (answers : List Answer) (a : Answer) → NoFaults (answers ++ a ∷ []) → IsNoFault a
+unfolding NoFaults
+last_well [] a well = well.0
+last_well (b ∷ answers) a well = last_well answers a well.1
+
+pub reached_worlds_answer_no_fault : ReachedWorldsAnswerNoFault
+reached_worlds_answer_no_fault budget chain number what old new answer never reached acts =
+    last_well reached.answers answer (never budget (reached.events ++ (number, what) ∷ []) (reached.answers ++ answer ∷ []) new.world
+    (world_run_goes_on acts.memory budget chain acts.told number what empty_world old.world new.world reached.events reached.answers answer reached.run acts.is))
+
+-- So it is of each call of a host.
+pub happens_well : {F : Type 0} (d e : Device) (old new : Host F) (number : ℕ) (what : Event) (answer : Answer) (w : World) → IsHosting d old w → IsSafe old → Happens d e old new number what answer w → IsNoFault answer
+unfolding IsHosting
+happens_well d e old new number what answer w hosts safe h = reached_worlds_answer_no_fault (budget_of old) (chain_of old) number what (scene w d) (scene h.to e) answer safe hosts.reached h.acts

@@ -1,0 +1,109 @@
+-- What a host stands for: a world of the model.
+use Rattle.std.specs.Prelude.{◌≡◌, ℕ, ◌≤◌, ◌<◌, List, length, Option, Some, None, Result, Ok, Err, nat_eq, Bool, true, false}
+use Rattle.std.specs.Global.{Vec}
+use Rattle.std.specs.HashMap.{get}
+use Rattle.module_lang.specs.Program.{Program}
+use Rattle.run_model.specs.declared.event.Event.{Event}
+use Rattle.run_model.specs.declared.event.Event.TheVariants as event
+use Rattle.run_model.specs.declared.event.Refusal.{Refusal}
+use Rattle.run_model.specs.declared.event.Refusal.TheVariants as refusal
+use Rattle.run_model.specs.declared.event.Stepped.{Stepped}
+use Rattle.run_model.specs.Chains.{Connection}
+use Rattle.run_model.specs.ChainLaws.{IsChain}
+use Rattle.run_model.specs.Reached.{IsReached}
+use Rattle.run_model.specs.declared.payload.Payload.{Payload}
+use Rattle.run_model.specs.Worlds.{World, Answer, Done, Refused, Connected, Opened, Output, Labels, Step}
+use Rattle.bucket_kinds.specs.Device.{Device, is_there}
+use Rattle.bucket_kinds.specs.declared.refusal.AddRefusal.{AddRefusal}
+use Rattle.bucket_kinds.specs.declared.refusal.AddRefusal.TheVariants as added
+use Rattle.ring_run.specs.Conns.{labels_handed}
+use Rattle.filter_chain.specs.declared.next.Next.{Next}
+use Rattle.filter_chain.specs.declared.seat.Seat.{Seat}
+use Rattle.filter_chain.specs.declared.seats.Seats.{Seats}
+use Rattle.filter_chain.specs.declared.host.Host.{Host}
+use Rattle.filter_chain.specs.Scenes.{Acts, scene}
+use Rattle.filter_chain.specs.Seated.{IsSeated}
+
+-- the connection of each number
+unfoldable pub seat_at : Seats → ℕ → Option Seat
+seat_at seats n = get nat_eq seats.by_number n
+
+-- It is there exactly where the model has it, and as the model has it.
+abbrev pub IsSeatOf : List Program → Device → Next → Option Seat → Option Connection → Type 0
+IsSeatOf chain d next None None = Unit {0}
+IsSeatOf chain d next None (Some c) = ⊥
+IsSeatOf chain d next (Some s) None = ⊥
+IsSeatOf chain d next (Some s) (Some c) = IsSeated chain d next s c
+
+-- what a step answers, and what an event does that answers nothing else
+
+abbrev pub step_answer : Result Stepped Refusal → Answer
+step_answer (Ok s) = Step s
+step_answer (Err r) = Refused r
+
+abbrev pub done_answer : Option Refusal → Answer
+done_answer None = Done
+done_answer (Some r) = Refused r
+
+abbrev pub output_answer : Result (List ℕ) Refusal → Answer
+output_answer (Ok bytes) = Output bytes
+output_answer (Err r) = Refused r
+
+abbrev pub open_answer : Result ℕ Refusal → Answer
+open_answer (Ok number) = Connected number
+open_answer (Err r) = Refused r
+
+abbrev pub file_answer : Result (ℕ × ℕ) Refusal → Answer
+file_answer (Ok file) = Opened file.0 file.1
+file_answer (Err r) = Refused r
+
+abbrev pub close_answer : Result (Vec (Vec (ℕ × Payload))) Refusal → Answer
+close_answer (Ok labels) = Labels (labels_handed labels.items)
+close_answer (Err r) = Refused r
+
+-- Connections stand for a world that is reached from the empty one by some events. last: the number that was given last. pools, names, files: the
+-- names that are given next; a device may have used up numbers of files that no opening told.
+pub record HoldsWorld (budget : ℕ) (chain : List Program) (d : Device) (next : Next) (last : ℕ) (seats : ℕ → Option Seat) (w : World) : Type 0 where
+  pub chained : IsChain chain
+  pub reached : IsReached budget chain w
+  pub last_is : w.last ≡ last
+  pub pools : w.common.pools ≡ next.pool
+  pub names : w.common.next ≡ next.name
+  pub files : w.common.file ≤ d.next
+  pub conns : (k : ℕ) → IsSeatOf chain d next (seats k) (w.conns k)
+
+-- the chain and the budget of a host, and its files
+
+unfoldable pub chain_of : {F : Type 0} → Host F → List Program
+chain_of host = host.modules.items
+
+unfoldable pub budget_of : {F : Type 0} → Host F → ℕ
+budget_of host = host.budget
+
+abbrev pub files_of : {F : Type 0} → Host F → F
+files_of host = host.files
+
+-- The host, whose files are this device, stands for this world.
+unfoldable pub IsHosting : {F : Type 0} → Device → Host F → World → Type 0
+IsHosting d host w = HoldsWorld (budget_of host) (chain_of host) d host.next host.last (seat_at host.seats) w
+
+-- An event of the connection of this number was answered. By devices d and e, the host stands for what it leaves, on the same chain, with the same budget.
+pub record Happens {F : Type 0} (d e : Device) (old new : Host F) (number : ℕ) (what : Event) (answer : Answer) (w : World) : Type 0 where
+  pub to : World
+  pub acts : Acts (budget_of old) (chain_of old) number what (scene w d) answer (scene to e)
+  pub hosts : IsHosting e new to
+  pub chain : chain_of new ≡ chain_of old
+  pub budget : budget_of new ≡ budget_of old
+
+-- Nothing happened.
+pub record Stays {F : Type 0} (d e : Device) (old new : Host F) (w : World) : Type 0 where
+  pub same : e ≡ d
+  pub hosts : IsHosting e new w
+  pub chain : chain_of new ≡ chain_of old
+  pub budget : budget_of new ≡ budget_of old
+
+-- A file is added, unless one has its name.
+abbrev pub TriesToAdd : {F : Type 0} → Device → Device → Host F → Host F → List ℕ → List ℕ → Result (Unit {0}) AddRefusal → World → Type 0
+TriesToAdd d e old new name bytes (Ok x) w = Happens d e old new 0 (event.AddFile name bytes) Done w
+TriesToAdd d e old new name bytes (Err added.NoMemory) w = (is_there (d.named name) ≡ false) × Happens d e old new 0 (event.AddFile name bytes) (Refused refusal.NoMemory) w
+TriesToAdd d e old new name bytes (Err added.Taken) w = (is_there (d.named name) ≡ true) × Stays d e old new w

@@ -1,0 +1,51 @@
+-- What is seen of a host, its world and the device of its files, and what an event does to these.
+use Rattle.std.specs.Prelude.{◌≡◌, ℕ, false, Bool, List, Option, Some, None, Ok, if◌then◌else◌}
+use Rattle.std.specs.Str.{bytes_eq}
+use Rattle.module_lang.specs.Program.{Program}
+use Rattle.run_model.specs.declared.event.Event.{Event}
+use Rattle.run_model.specs.declared.event.Event.TheVariants as event
+use Rattle.run_model.specs.Chains.{Connection}
+use Rattle.run_model.specs.Passing.{Reads}
+use Rattle.run_model.specs.Worlds.{World, Told, Answer, Done, Step, happens}
+use Rattle.bucket_kinds.specs.Device.{Device, Holds, is_there}
+use Rattle.ring_run.specs.OpenedFile.{MayTell}
+use Rattle.ring_run.specs.Stepping.{TellsStep}
+
+pub record Scene : Type 0 where
+  pub world : World
+  pub device : Device
+
+abbrev pub scene : World → Device → Scene
+scene w d = record { world = w; device = d }
+
+-- The file of a new name was added, or there was no memory for it.
+abbrev pub HasAdded : List ℕ → List ℕ → Device → Answer → Device → Type 0
+HasAdded name bytes d Done e = (is_there (d.named name) ≡ false) × (e ≡ record d { named = λ q. if bytes_eq q name then Holds bytes else d.named q })
+HasAdded name bytes d answer e = e ≡ d
+
+-- A step of this connection reads what the device may give. What is refused reads nothing.
+abbrev pub TellsReads : List Program → Scene → Option Connection → Answer → Reads → Device → Type 0
+TellsReads chain s None answer reads e = e ≡ s.device
+TellsReads chain s (Some c) (Step t) reads e = TellsStep s.device e chain (Ok t) (s.world.common, c) reads
+TellsReads chain s (Some c) answer reads e = e ≡ s.device
+
+-- What an event is told is what the device may tell, and the device is e then. Files are closed where pools go, and their names stay.
+unfoldable pub TellsEvent : List Program → ℕ → Event → Scene → Answer → Told → Device → Type 0
+TellsEvent chain k event.Open s answer told e = e ≡ s.device
+TellsEvent chain k event.Begin s answer told e = e ≡ s.device
+TellsEvent chain k (event.AddFile name bytes) s answer told e = HasAdded name bytes s.device answer e
+TellsEvent chain k (event.OpenFile name) s answer told e = MayTell s.device name told.opening × (e.named ≡ s.device.named)
+TellsEvent chain k (event.Bring pieces) s answer told e = e ≡ s.device
+TellsEvent chain k event.Step s answer told e = TellsReads chain s (s.world.conns k) answer told.reads e
+TellsEvent chain k event.End s answer told e = e.named ≡ s.device.named
+TellsEvent chain k event.TakeOutput s answer told e = e ≡ s.device
+TellsEvent chain k event.TellLabels s answer told e = e ≡ s.device
+TellsEvent chain k event.TellPools s answer told e = e ≡ s.device
+TellsEvent chain k event.Close s answer told e = e.named ≡ s.device.named
+
+-- An event of the connection of this number is answered so, and leads from one scene to another. memory: whether a growth would succeed.
+pub record Acts (budget : ℕ) (chain : List Program) (number : ℕ) (what : Event) (old : Scene) (answer : Answer) (new : Scene) : Type 0 where
+  pub memory : Bool
+  pub told : Told
+  pub is : happens memory budget chain told number what old.world ≡ (answer, new.world)
+  pub tells : TellsEvent chain number what old answer told new.device

@@ -1,0 +1,70 @@
+-- A connection of the host over its own pools and brigades, and the device of files.
+use Rattle.std.specs.Prelude.{◌≡◌, ℕ, ◌≤◌, Bool, List, [], None, Option, Result}
+use Rattle.module_lang.specs.Program.{Program}
+use Rattle.run_model.specs.declared.event.Refusal.{Refusal}
+use Rattle.run_model.specs.declared.event.Stepped.{Stepped}
+use Rattle.run_model.specs.Chains.{Connection, Linked}
+use Rattle.run_model.specs.Passing.{Reads}
+use Rattle.run_model.specs.RunOrder.{IsPoolMap}
+use Rattle.run_model.specs.Turns.{Opening, opens_file, steps}
+use Rattle.bucket_kinds.specs.Device.{Device}
+use Rattle.pool_tree.specs.Tree.{map_of}
+use Rattle.brigade_ops.specs.House.{IsHouse}
+use Rattle.brigade_ops.specs.Store.{lists, next_name}
+use Rattle.ring_run.specs.Conns.{conn_of}
+use Rattle.ring_run.specs.Proceeding.{HasOpen, IsLawful}
+use Rattle.filter_chain.specs.Spared.{Spares}
+use Rattle.ring_run.specs.Happened.{lasted}
+use Rattle.ring_run.specs.OpenedFile.{MayTell, TellsShort}
+use Rattle.ring_run.specs.Stacked.{IsStacked}
+use Rattle.ring_run.specs.Stepping.{TellsStep}
+use Rattle.filter_chain.specs.declared.next.Next.{Next}
+use Rattle.filter_chain.specs.declared.seat.Seat.{Seat}
+
+-- It shows this connection of the model. opens: its files are open on the device. formed, house: its pools, and its brigades on them. none: no
+-- brigade has the name 0. stacked: its filters and calls. pools, names: the names that it knows are below the next.
+pub record IsSeated (chain : List Program) (d : Device) (next : Next) (s : Seat) (c : Connection) : Type 0 where
+  pub seen : c ≡ conn_of (map_of s.tree) (lists s.store) c.opened s.conn
+  pub opens : HasOpen d c
+  pub formed : IsPoolMap (map_of s.tree)
+  pub house : IsHouse s.store (map_of s.tree)
+  pub none : lists s.store 0 ≡ None
+  pub stacked : IsStacked chain s.store s.conn
+  pub pools : (map_of s.tree).next ≤ next.pool
+  pub names : next_name s.store ≤ next.name
+
+-- its output was taken
+abbrev pub drained : Connection → Connection
+drained c = record c { out = record c.out { bytes = [] } }
+
+-- So does it, with what all connections share.
+pub record IsLinked (chain : List Program) (d : Device) (next : Next) (s : Seat) (v : Linked) : Type 0 where
+  pub seated : IsSeated chain d next s v.1
+  pub pools : v.0.pools ≡ next.pool
+  pub names : v.0.next ≡ next.name
+  pub files : v.0.file ≤ d.next
+
+-- And this is a connection as it is in every run.
+pub record MayServe (chain : List Program) (d : Device) (next : Next) (s : Seat) (v : Linked) : Type 0 where
+  pub lawful : IsLawful chain v
+  pub linked : IsLinked chain d next s v
+
+-- It answers this, and stands for what the model's event leaves; the files of others are as they were.
+pub record Served {A : Type 0} (chain : List Program) (d e : Device) (next : Next) (s : Seat) (c : Connection) (answer : A) (event : A × Linked) : Type 0 where
+  pub answers : event.0 ≡ answer
+  pub left : IsLinked chain e next s event.1
+  pub spared : Spares d e c
+
+-- A step.
+pub record Steps (chain : List Program) (budget : ℕ) (d e : Device) (v : Linked) (next : Next) (s : Seat) (answer : Result Stepped Refusal) : Type 0 where
+  pub memory : Bool
+  pub reads : Reads
+  pub told : TellsStep d e chain answer v reads
+  pub served : Served chain d e next s v.1 answer (steps memory budget chain reads v)
+
+-- A file of this name is opened. short: the length that is told is below 2^64.
+pub record OpensFile (chain : List Program) (d e : Device) (name : List ℕ) (v : Linked) (next : Next) (s : Seat) (answer : Result (ℕ × ℕ) Refusal) : Type 0 where
+  pub opening : Opening
+  pub told : MayTell d name opening
+  pub served : Served chain d e next s v.1 answer (opens_file (lasted answer) opening v)
+  pub short : TellsShort answer

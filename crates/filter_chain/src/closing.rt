@@ -1,0 +1,32 @@
+//! Connections are closed.
+
+ghost use Rattle.std.specs.Prelude.{◌≡◌};
+ghost use Rattle.run_model.specs.declared.event.Event.TheVariants.{Close};
+ghost use Rattle.run_model.specs.Worlds.{World};
+
+use crate::host::Host;
+use bucket_kinds::Files;
+use pool_tree::PoolId;
+use run_model::{Payload, Refusal};
+
+impl<F: Files + Drop> Host<F> {
+    ghost use Rattle.filter_chain.specs.Hosting.{IsHosting, Happens, close_answer, files_of};
+
+    /// Closes a connection, in any state: its calls are destroyed, and then its pool with all under it. Answers what clears of its pools
+    /// handed on, the oldest first, its own pool last. Refused, nothing is changed: `NoSuchConn`; `NoMemory`.
+    pub fn close(&mut self, number: u64) -> Result<Vec<Vec<(PoolId, Payload)>>, Refusal>
+        requires { (w : World) × IsHosting (F.device (files_of self.old)) self.old w }
+        ensures event { (w : World) → IsHosting (F.device (files_of self.old)) self.old w → Happens (F.device (files_of self.old)) (F.device (files_of self.new)) self.old self.new number Close (close_answer result) w }
+    {
+        let Some(seat) = self.seats.by_number.get_mut(&number) else {
+            return Err(Refusal::NoSuchConn);
+        };
+        let Ok(()) = seat.close(&mut self.files, self.next) else {
+            return Err(Refusal::NoMemory);
+        };
+        match self.seats.take(number) {
+            Some(seat) => Ok(seat.conn.into_labels()),
+            None => unreachable!(),
+        }
+    }
+}

@@ -1,0 +1,39 @@
+//! Files are opened and added.
+
+ghost use Rattle.std.specs.Prelude.{◌≡◌};
+ghost use Rattle.run_model.specs.declared.event.Event.TheVariants.{OpenFile};
+ghost use Rattle.run_model.specs.Worlds.{World};
+
+use crate::host::Host;
+use bucket_kinds::{AddRefusal, FileNo, Files, MemFiles};
+use run_model::Refusal;
+
+impl<F: Files + Drop> Host<F> {
+    ghost use Rattle.filter_chain.specs.Hosting.{IsHosting, Happens, file_answer, files_of};
+
+    /// Opens a file in the open request of a connection, and answers its number and its length in bytes. The request's pool holds it. Refused,
+    /// nothing is changed: `NoSuchConn`; `Broken`; `Busy`; `NotInRequest`; `NoFile`: there is none of that name; `FileFailed`: the device
+    /// failed; `NamesSpent`; `NoMemory`.
+    pub fn open_file(&mut self, number: u64, name: &[u8]) -> Result<(FileNo, u64), Refusal>
+        requires { (w : World) × IsHosting (F.device (files_of self.old)) self.old w }
+        ensures event { (w : World) → IsHosting (F.device (files_of self.old)) self.old w → Happens (F.device (files_of self.old)) (F.device (files_of self.new)) self.old self.new number (OpenFile name.now) (file_answer result) w }
+    {
+        match self.seats.by_number.get_mut(&number) {
+            None => Err(Refusal::NoSuchConn),
+            Some(seat) => seat.open_file(&mut self.files, &mut self.next, name),
+        }
+    }
+}
+
+impl Host<MemFiles> {
+    ghost use Rattle.bucket_kinds.specs.MemDevice.{mem_device};
+    ghost use Rattle.filter_chain.specs.Hosting.{IsHosting, TriesToAdd, files_of};
+
+    /// Adds a file. `Taken` is told where there is a file of that name, and `NoMemory` only where there is none. Refused, nothing is
+    /// changed.
+    pub fn add_file(&mut self, name: &[u8], bytes: Vec<u8>) -> Result<(), AddRefusal>
+        ensures { (w : World) → IsHosting (mem_device (files_of self.old)) self.old w → TriesToAdd (mem_device (files_of self.old)) (mem_device (files_of self.new)) self.old self.new name.now bytes.items result w }
+    {
+        self.files.add(name, bytes)
+    }
+}

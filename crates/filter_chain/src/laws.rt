@@ -1,0 +1,8 @@
+//! Laws of the definitions. Each function does nothing: what its contract says holds of the definitions alone.
+
+ghost use Rattle.filter_chain.specs.Safe.{ReachedWorldsAnswerNoFault};
+
+/// Where some events lead to a world, on a chain no run of which answers a fault, no event answers a fault there.
+pub fn checked_chains_answer_no_fault()
+    ensures { ReachedWorldsAnswerNoFault }
+{}

@@ -1,0 +1,177 @@
+//! A connection with what is its own.
+
+ghost use Rattle.std.specs.Prelude.{◌≡◌, ◌<◌, List, length, IfOk, OnErr, OnOk};
+ghost use Rattle.module_lang.specs.Program.{Program};
+ghost use Rattle.bucket_kinds.specs.Device.{Device};
+ghost use Rattle.run_model.specs.Chains.{Common, Connection, Linked};
+ghost use Rattle.run_model.specs.Turns.{begins, brings, closing_labels, ends, opened};
+ghost use Rattle.pool_tree.specs.Tree.{map_of};
+ghost use Rattle.brigade_ops.specs.Store.{next_name};
+ghost use Rattle.ring_run.specs.Conns.{labels_handed};
+ghost use Rattle.ring_run.specs.Happened.{lasted, refusal_of};
+ghost use Rattle.ring_run.specs.Proceeding.{LeftAs};
+ghost use Rattle.filter_chain.specs.Seated.{drained, IsLinked, IsSeated, MayServe, OpensFile, Served, Steps};
+ghost use Rattle.filter_chain.specs.Spared.{Spares};
+
+use crate::next::Next;
+use brigade_ops::{Brigades, FileNo, Files, PlainRings};
+use pool_tree::PoolTree;
+use ring_run::Conn;
+use run_model::{Bucket, Module, Payload, Piece, Refusal, Seq, Stepped};
+use std::alloc::{AllocError, Global};
+
+/// A connection with a tree of pools and a store of brigades of its own.
+#[derive(Drop)]
+pub(crate) struct Seat {
+    pub(crate) tree: PoolTree<Payload>,
+    pub(crate) store: Brigades<PlainRings<Bucket>>,
+    pub(crate) conn: Conn,
+}
+
+impl Seat {
+    /// A connection is opened.
+    pub(crate) fn open(alloc: Global, modules: &[Module], next: Next) -> Result<Seat, AllocError>
+        requires some { 0 < length modules.now }
+        requires pool { 1 < next.pool }
+        requires name { 0 < next.name }
+        ensures { IfOk result (λ s. (d : Device) (g : Common) → g.pools ≡ next.pool → g.next ≡ next.name → LeftAs modules.now s.tree s.store d s.conn (opened modules.now g)) }
+    {
+        let Ok(mut tree) = PoolTree::new(alloc, 1) else {
+            return Err(AllocError);
+        };
+        tree.set_next(next.pool);
+        let mut store = Brigades::new(alloc, next.name);
+        let conn = Conn::open(alloc, modules, &mut tree, &mut store)?;
+        Ok(Seat { tree, store, conn })
+    }
+
+    /// The names that are given next, as this connection knows them.
+    pub(crate) fn next(&self) -> Next
+        ensures pool { result.pool ≡ (map_of self.now.tree).next }
+        ensures name { result.name ≡ next_name self.now.store }
+    {
+        Next {
+            pool: self.tree.next_name(),
+            name: self.store.next_name(),
+        }
+    }
+
+    /// Tells the connection which names are given next.
+    pub(crate) fn set_next(&mut self, next: Next)
+        requires { (chain : List Program) × ((d : Device) × ((c : Connection) × IsSeated chain d next self.old c)) }
+        ensures same { (chain : List Program) (d : Device) (c : Connection) → IsSeated chain d next self.old c → IsSeated chain d next self.new c }
+        ensures pool { (map_of self.new.tree).next ≡ next.pool }
+        ensures name { next_name self.new.store ≡ next.name }
+    {
+        self.tree.set_next(next.pool);
+        self.store.set_next(next.name);
+    }
+
+    /// A request begins.
+    pub(crate) fn begin(&mut self, modules: &[Module], next: &mut Next) -> Result<(), Refusal>
+        requires { (d : Device) × ((v : Linked) × MayServe modules.now d next.old self.old v) }
+        ensures { (d : Device) (v : Linked) → MayServe modules.now d next.old self.old v → Served modules.now d d next.new self.new v.1 (refusal_of result) (begins (lasted result) modules.now v) }
+    {
+        self.set_next(*next);
+        let outcome = self.conn.begin(modules, &mut self.tree, &mut self.store);
+        *next = self.next();
+        outcome
+    }
+
+    /// One step.
+    pub(crate) fn step<F: Files>(
+        &mut self,
+        alloc: Global,
+        modules: &[Module],
+        budget: u64,
+        files: &mut F,
+        next: &mut Next,
+    ) -> Result<Stepped, Refusal>
+        requires { (v : Linked) × MayServe modules.now (F.device files.old) next.old self.old v }
+        ensures { (v : Linked) → MayServe modules.now (F.device files.old) next.old self.old v → Steps modules.now budget (F.device files.old) (F.device files.new) v next.new self.new result }
+    {
+        self.set_next(*next);
+        let outcome = self.conn.step(
+            alloc,
+            modules,
+            budget,
+            &mut self.tree,
+            &mut self.store,
+            files,
+        );
+        *next = self.next();
+        outcome
+    }
+
+    /// A brigade of these pieces is brought to the first filter.
+    pub(crate) fn bring(
+        &mut self,
+        alloc: Global,
+        modules: &[Module],
+        next: &mut Next,
+        pieces: Seq<Piece>,
+    ) -> Result<(), Refusal>
+        requires { (d : Device) × ((v : Linked) × MayServe modules.now d next.old self.old v) }
+        ensures { (d : Device) (v : Linked) → MayServe modules.now d next.old self.old v → Served modules.now d d next.new self.new v.1 (refusal_of result) (brings (lasted result) modules.now pieces v) }
+    {
+        self.set_next(*next);
+        let outcome = self.conn.bring(alloc, modules, &mut self.store, pieces);
+        *next = self.next();
+        outcome
+    }
+
+    /// The request ends.
+    pub(crate) fn end_request<F: Files>(
+        &mut self,
+        alloc: Global,
+        files: &mut F,
+        next: &mut Next,
+    ) -> Result<(), Refusal>
+        requires { (chain : List Program) × ((v : Linked) × MayServe chain (F.device files.old) next.old self.old v) }
+        ensures { (chain : List Program) (v : Linked) → MayServe chain (F.device files.old) next.old self.old v → Served chain (F.device files.old) (F.device files.new) next.new self.new v.1 (refusal_of result) (ends (lasted result) v) }
+    {
+        self.set_next(*next);
+        let outcome = self
+            .conn
+            .end_request(alloc, &mut self.tree, &mut self.store, files);
+        *next = self.next();
+        outcome
+    }
+
+    /// The output since the last take.
+    pub(crate) fn take_output(&mut self, alloc: Global) -> Seq<u8>
+        ensures bytes { (chain : List Program) (d : Device) (next : Next) (c : Connection) → IsSeated chain d next self.old c → result ≡ c.out.bytes }
+        ensures seated { (chain : List Program) (d : Device) (next : Next) (c : Connection) → IsSeated chain d next self.old c → IsSeated chain d next self.new (drained c) }
+    {
+        self.conn.take_output(alloc)
+    }
+
+    /// A file is opened in the open request.
+    pub(crate) fn open_file<F: Files>(
+        &mut self,
+        files: &mut F,
+        next: &mut Next,
+        name: &[u8],
+    ) -> Result<(FileNo, u64), Refusal>
+        requires { (chain : List Program) × ((v : Linked) × MayServe chain (F.device files.old) next.old self.old v) }
+        ensures { (chain : List Program) (v : Linked) → MayServe chain (F.device files.old) next.old self.old v → OpensFile chain (F.device files.old) (F.device files.new) name.now v next.new self.new result }
+    {
+        self.set_next(*next);
+        let outcome = self
+            .conn
+            .open_file(&mut self.tree, &mut self.store, files, name);
+        *next = self.next();
+        outcome
+    }
+
+    /// Closes the connection. Without memory nothing is changed.
+    pub(crate) fn close<F: Files>(&mut self, files: &mut F, next: Next) -> Result<(), AllocError>
+        requires { (chain : List Program) × ((v : Linked) × MayServe chain (F.device files.old) next self.old v) }
+        ensures labels { OnOk result ((chain : List Program) (v : Linked) → MayServe chain (F.device files.old) next self.old v → labels_handed self.new.conn.labels.items ≡ closing_labels v) }
+        ensures spared { (chain : List Program) (v : Linked) → MayServe chain (F.device files.old) next self.old v → Spares (F.device files.old) (F.device files.new) v.1 }
+        ensures err { OnErr result ((chain : List Program) (v : Linked) → MayServe chain (F.device files.old) next self.old v → IsLinked chain (F.device files.new) next self.new v) }
+    {
+        self.set_next(next);
+        self.conn.close(&mut self.tree, &mut self.store, files)
+    }
+}

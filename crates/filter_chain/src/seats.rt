@@ -1,0 +1,53 @@
+//! The connections that are there, by their numbers.
+
+ghost use Rattle.std.specs.Prelude.{◌≡◌, ℕ, None, Some, OnOk, OnErr};
+ghost use Rattle.std.specs.Option.{option_copied};
+ghost use Rattle.run_model.specs.Indexed.{upd};
+
+use crate::seat::Seat;
+use std::alloc::{AllocError, Global};
+use std::collections::HashMap;
+
+/// Connections by number.
+#[derive(Drop)]
+pub(crate) struct Seats {
+    pub(crate) by_number: HashMap<u64, Seat>,
+}
+
+#[tactic(auto, unfolding(crate::specs::Hosting::seat_at, run_model::specs::Indexed::upd))]
+impl Seats {
+    ghost use Rattle.filter_chain.specs.Hosting.{seat_at};
+
+    /// No connection.
+    pub(crate) fn new(alloc: Global) -> Self
+        ensures { (n : ℕ) → seat_at result n ≡ None }
+    {
+        Seats {
+            by_number: HashMap::new(alloc),
+        }
+    }
+
+    /// The connection of a number.
+    pub(crate) fn get(&self, number: u64) -> Option<&Seat>
+        ensures { option_copied result ≡ seat_at self.now number }
+    {
+        self.by_number.get(&number)
+    }
+
+    /// Puts a connection under a number. Without memory nothing is changed.
+    pub(crate) fn put(&mut self, number: u64, seat: Seat) -> Result<(), AllocError>
+        ensures ok { OnOk result ((n : ℕ) → seat_at self.new n ≡ upd (seat_at self.old) number (Some seat) n) }
+        ensures err { OnErr result ((n : ℕ) → seat_at self.new n ≡ seat_at self.old n) }
+    {
+        self.by_number.insert(number, seat)?;
+        Ok(())
+    }
+
+    /// Takes the connection of a number out.
+    pub(crate) fn take(&mut self, number: u64) -> Option<Seat>
+        ensures value { result ≡ seat_at self.old number }
+        ensures rest { (n : ℕ) → seat_at self.new n ≡ upd (seat_at self.old) number None n }
+    {
+        self.by_number.remove(&number)
+    }
+}

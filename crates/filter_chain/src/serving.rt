@@ -1,0 +1,53 @@
+//! What happens to one connection.
+
+ghost use Rattle.std.specs.Prelude.{◌≡◌};
+ghost use Rattle.run_model.specs.declared.event.Event.TheVariants.{Begin, Bring, End};
+ghost use Rattle.run_model.specs.Worlds.{World};
+ghost use Rattle.ring_run.specs.Happened.{refusal_of};
+
+use crate::host::Host;
+use bucket_kinds::Files;
+use run_model::{Piece, Refusal, Seq};
+
+impl<F: Files + Drop> Host<F> {
+    ghost use Rattle.filter_chain.specs.Hosting.{IsHosting, Happens, done_answer, files_of};
+
+    /// A request begins: its pool is made, and the `init` handlers of the filters are to be stepped. Refused, nothing is changed:
+    /// `NoSuchConn`; `Broken`; `Busy`; `InRequest`; `NamesSpent`; `NoMemory`.
+    pub fn begin(&mut self, number: u64) -> Result<(), Refusal>
+        requires { (w : World) × IsHosting (F.device (files_of self.old)) self.old w }
+        ensures event { (w : World) → IsHosting (F.device (files_of self.old)) self.old w → Happens (F.device (files_of self.old)) (F.device (files_of self.new)) self.old self.new number Begin (done_answer (refusal_of result)) w }
+        ensures files { files_of self.new ≡ files_of self.old }
+    {
+        match self.seats.by_number.get_mut(&number) {
+            None => Err(Refusal::NoSuchConn),
+            Some(seat) => seat.begin(self.modules.as_slice(), &mut self.next),
+        }
+    }
+
+    /// A brigade of these pieces is brought: `main` of the first filter is to be stepped. Refused, nothing is changed: `NoSuchConn`;
+    /// `Broken`; `Busy`; `NotInRequest`; `DataAfterEos`; `NoFile`; `NamesSpent`; `NoMemory`.
+    pub fn bring(&mut self, number: u64, pieces: Seq<Piece>) -> Result<(), Refusal>
+        requires { (w : World) × IsHosting (F.device (files_of self.old)) self.old w }
+        ensures event { (w : World) → IsHosting (F.device (files_of self.old)) self.old w → Happens (F.device (files_of self.old)) (F.device (files_of self.new)) self.old self.new number (Bring pieces) (done_answer (refusal_of result)) w }
+        ensures files { files_of self.new ≡ files_of self.old }
+    {
+        match self.seats.by_number.get_mut(&number) {
+            None => Err(Refusal::NoSuchConn),
+            Some(seat) => {
+                seat.bring(self.alloc, self.modules.as_slice(), &mut self.next, pieces)
+            }
+        }
+    }
+
+    /// The request ends: its pool is destroyed. Refused, nothing is changed: `NoSuchConn`; `Broken`; `Busy`; `NotInRequest`; `NoMemory`.
+    pub fn end_request(&mut self, number: u64) -> Result<(), Refusal>
+        requires { (w : World) × IsHosting (F.device (files_of self.old)) self.old w }
+        ensures event { (w : World) → IsHosting (F.device (files_of self.old)) self.old w → Happens (F.device (files_of self.old)) (F.device (files_of self.new)) self.old self.new number End (done_answer (refusal_of result)) w }
+    {
+        match self.seats.by_number.get_mut(&number) {
+            None => Err(Refusal::NoSuchConn),
+            Some(seat) => seat.end_request(self.alloc, &mut self.files, &mut self.next),
+        }
+    }
+}

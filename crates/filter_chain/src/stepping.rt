@@ -1,0 +1,33 @@
+//! Steps.
+
+ghost use Rattle.std.specs.Prelude.{◌≡◌};
+ghost use Rattle.run_model.specs.declared.event.Event.TheVariants.{Step};
+ghost use Rattle.run_model.specs.Worlds.{World};
+
+use crate::host::Host;
+use bucket_kinds::Files;
+use run_model::{Refusal, Stepped};
+
+impl<F: Files + Drop> Host<F> {
+    ghost use Rattle.filter_chain.specs.Hosting.{IsHosting, Happens, files_of, step_answer};
+    ghost use Rattle.filter_chain.specs.Safe.{GoesWell, IsSafe};
+
+    /// One step: the next instruction is executed, or the connection breaks. `Broken` tells why it broke, now or before. Refused otherwise,
+    /// nothing is changed: `NoSuchConn`; `Idle`.
+    pub fn step(&mut self, number: u64) -> Result<Stepped, Refusal>
+        requires { (w : World) × IsHosting (F.device (files_of self.old)) self.old w }
+        ensures event { (w : World) → IsHosting (F.device (files_of self.old)) self.old w → Happens (F.device (files_of self.old)) (F.device (files_of self.new)) self.old self.new number Step (step_answer result) w }
+        ensures safe { IsSafe self.old → GoesWell result }
+    {
+        match self.seats.by_number.get_mut(&number) {
+            None => Err(Refusal::NoSuchConn),
+            Some(seat) => seat.step(
+                self.alloc,
+                self.modules.as_slice(),
+                self.budget,
+                &mut self.files,
+                &mut self.next,
+            ),
+        }
+    }
+}
