@@ -1,0 +1,294 @@
+//! All refusals of a module that do not follow from one another, with lines that were tried.
+
+use crate::case::{Case, Remedy};
+use crate::doubt::Doubt;
+use crate::flow::{Refusal, all_ways, failures, refusal_of, refusals, states_of};
+use crate::pattern::Pattern;
+use crate::source::Source;
+use crate::told::Told;
+use crate::trail::{Known, trail_to};
+use life_check::Cert;
+use module_lang::{AsmRefusal, Module, assemble};
+use std::alloc::{AllocError, Global};
+
+/// How many refusals are told of a module at most.
+const MOST: u8 = 16;
+
+/// How many remedies of a refusal are tried at most.
+const TRIES: usize = 40;
+
+// A module with the states that it would have if each rule were met, and what may have a fault in them.
+#[derive(Drop)]
+struct Study {
+    code: Module,
+    states: Cert,
+    refusals: Vec<Refusal>,
+    failures: usize,
+}
+
+// What was made of a refusal: the source with lines that help, and how many tests may still fail.
+#[derive(Drop)]
+struct Mended {
+    remedy: Remedy,
+    source: Source,
+    left: usize,
+}
+
+fn module_of(alloc: Global, source: &Source) -> Result<Option<Module>, AllocError> {
+    let text = source.text(alloc)?;
+    match assemble(alloc, text.as_bytes()) {
+        Ok(code) => Ok(Some(code)),
+        Err(AsmRefusal::Fault { line: _, code: _ }) => Ok(None),
+        Err(AsmRefusal::NoMemory) => Err(AllocError),
+    }
+}
+
+fn all_failures(code: &Module, states: &Cert) -> usize {
+    let mut count = 0usize;
+    for pc in 0..code.len() {
+        if let Some(state) = states.state(pc) {
+            count = count.saturating_add(failures(code, pc, &state));
+        }
+    }
+    count
+}
+
+fn study_of(alloc: Global, source: &Source) -> Result<Option<Study>, AllocError> {
+    let Some(code) = module_of(alloc, source)? else {
+        return Ok(None);
+    };
+    let states = states_of(alloc, &code, true)?;
+    let refusals = refusals(alloc, &code, &states)?;
+    let failures = all_failures(&code, &states);
+    Ok(Some(Study {
+        code,
+        states,
+        refusals,
+        failures,
+    }))
+}
+
+// Whether an edit takes out a line that is to be written.
+fn undoes(source: &Source, remedy: &Remedy) -> bool {
+    remedy.edits.iter().any(|edit| {
+        edit.removes
+            && source
+                .lines
+                .get(edit.at)
+                .is_some_and(|line| line.number == 0)
+    })
+}
+
+// What is left with these edits; nothing where the text is no module then.
+fn tried(case: &Case<'_>, remedy: Remedy) -> Result<Option<(Mended, bool)>, AllocError> {
+    if undoes(case.source, &remedy) {
+        return Ok(None);
+    }
+    let source = case.source.edited(case.alloc, remedy.edits.as_slice())?;
+    let Some(study) = study_of(case.alloc, &source)? else {
+        return Ok(None);
+    };
+    let line = case.source.number_of(case.refusal.pc);
+    let settled = !refuses(&source, study.refusals.as_slice(), line);
+    let left = study.failures;
+    let mended = Mended {
+        remedy,
+        source,
+        left,
+    };
+    Ok(Some((mended, settled)))
+}
+
+// Whether the line is refused.
+fn refuses(source: &Source, refusals: &[Refusal], line: usize) -> bool {
+    refusals
+        .iter()
+        .any(|refusal| source.number_of(refusal.pc) == line)
+}
+
+// Whether a remedy may bring to light as much as it settles.
+fn uncovers(doubt: Doubt) -> bool {
+    matches!(
+        doubt,
+        Doubt::LivePool(_)
+            | Doubt::LiveBrigade(_)
+            | Doubt::NullPool(_)
+            | Doubt::NullBrigade(_)
+            | Doubt::GonePool(_)
+            | Doubt::GoneBrigade(_)
+    )
+}
+
+// The first remedy that leaves the fewest tests that may fail, and fewer than there are.
+fn best(case: &Case<'_>, now: usize) -> Result<Option<Mended>, AllocError> {
+    let mut best = None;
+    let mut least = now;
+    let mut ties = uncovers(case.refusal.doubt);
+    let mut remedies = case.remedies()?;
+    remedies.truncate(TRIES);
+    for remedy in remedies {
+        if least == 0 {
+            break;
+        }
+        if let Some((mended, settled)) = tried(case, remedy)? {
+            if mended.left < least || (ties && settled && mended.left == least) {
+                ties = false;
+                least = mended.left;
+                best = Some(mended);
+            }
+        }
+    }
+    match best {
+        Some(mended) => Ok(Some(pruned(case, mended)?)),
+        None => Ok(None),
+    }
+}
+
+// The same without cleans that change nothing.
+fn pruned(case: &Case<'_>, mended: Mended) -> Result<Mended, AllocError> {
+    let mut kept = mended;
+    let mut index = 0usize;
+    for _ in 0..kept.remedy.edits.len() {
+        if !matches!(kept.remedy.pattern, Pattern::CleanWhenFailed) || kept.remedy.edits.len() < 2 {
+            break;
+        }
+        let fewer = kept.remedy.without(case.alloc, index)?;
+        index = index.saturating_add(1);
+        if let Some((mended, _)) = tried(case, fewer)? {
+            if mended.left <= kept.left {
+                index = index.saturating_sub(1);
+                kept = mended;
+            }
+        }
+    }
+    Ok(kept)
+}
+
+// Tells what to write, as it was tried, or in words.
+fn tell_remedy(told: &mut Told, case: &Case<'_>, now: usize) -> Result<Option<Mended>, AllocError> {
+    if now == 0 {
+        return Ok(None);
+    }
+    let mended = best(case, now)?;
+    match &mended {
+        Some(mended) => told.remedy(case.source, &mended.remedy)?,
+        None => {
+            let pattern = case.pattern();
+            let name = pattern.name();
+            let advice = pattern.advice();
+            writeln!(told.text, "  pattern: {name}")?;
+            writeln!(told.text, "  write: {advice}")?;
+        }
+    }
+    Ok(mended)
+}
+
+// Tells a refusal in these states. It gives the source as it is mended, where lines were found that help.
+fn tell(
+    told: &mut Told,
+    source: &Source,
+    module: (&Module, &Cert),
+    refusal: Refusal,
+    now: usize,
+) -> Result<Option<Mended>, AllocError> {
+    let (code, states) = module;
+    let alloc = told.alloc;
+    let Some(state) = states.state(refusal.pc) else {
+        return Ok(None);
+    };
+    let ways = all_ways(alloc, code, states)?;
+    let known = Known {
+        alloc,
+        code,
+        states,
+        ways: ways.as_slice(),
+    };
+    let trail = trail_to(&known, refusal.pc, refusal.doubt)?;
+    told.refusal(source, &state, &refusal)?;
+    told.trail(source, code, &trail, refusal.doubt)?;
+    let case = Case {
+        alloc,
+        source,
+        code,
+        states,
+        trail: &trail,
+        refusal,
+    };
+    tell_remedy(told, &case, now)
+}
+
+// The first refusal whose line was not told yet.
+fn next_refusal(source: &Source, refusals: &[Refusal], seen: &[usize]) -> Option<Refusal> {
+    for refusal in refusals {
+        if !seen.contains(&source.number_of(refusal.pc)) {
+            return Some(*refusal);
+        }
+    }
+    None
+}
+
+fn tell_rest(told: &mut Told, source: Source, seen: Vec<usize>) -> Result<(), AllocError> {
+    let mut source = source;
+    let mut seen = seen;
+    for _ in 0..MOST {
+        let Some(study) = study_of(told.alloc, &source)? else {
+            break;
+        };
+        if study.refusals.is_empty() {
+            return told.say("with these lines the module is accepted");
+        }
+        let Some(refusal) = next_refusal(&source, study.refusals.as_slice(), seen.as_slice()) else {
+            break;
+        };
+        let line = source.number_of(refusal.pc);
+        let module = (&study.code, &study.states);
+        let mended = tell(told, &source, module, refusal, study.failures)?;
+        if !lessens(&mended, study.failures) {
+            seen.push(line)?;
+        }
+        if let Some(mended) = mended {
+            source = mended.source;
+        }
+    }
+    Ok(())
+}
+
+// Whether fewer tests may fail than before.
+fn lessens(mended: &Option<Mended>, now: usize) -> bool {
+    match mended {
+        Some(mended) => mended.left < now,
+        None => false,
+    }
+}
+
+/// Tells why an instruction of a module is refused in these states, and why others are that do not follow from it.
+pub fn tell_refusals(
+    told: &mut Told,
+    source: Source,
+    code: &Module,
+    states: &Cert,
+    pc: usize,
+) -> Result<(), AllocError> {
+    let Some(refusal) = refusal_of(code, states, pc) else {
+        return Ok(());
+    };
+    let now = match study_of(told.alloc, &source)? {
+        Some(study) => study.failures,
+        None => 0,
+    };
+    let line = source.number_of(pc);
+    let mended = tell(told, &source, (code, states), refusal, now)?;
+    if now == 0 {
+        return told.say(
+            "  write: nothing; `certify` makes a certificate with which the module is accepted",
+        );
+    }
+    let mut seen = Vec::new(told.alloc);
+    if !lessens(&mended, now) {
+        seen.push(line)?;
+    }
+    match mended {
+        Some(mended) => tell_rest(told, mended.source, seen),
+        None => tell_rest(told, source, seen),
+    }
+}
