@@ -11,7 +11,6 @@ use Rattle.host_cli.specs.declared.fault.PlayFault.{PlayFault}
 use Rattle.host_cli.specs.declared.fault.PlayFault.TheVariants as fault
 use Rattle.host_cli.specs.Plays.{Writes}
 use Rattle.host_cli.specs.TextAnswers.{IsCheckOf, IsFront, TellsCertFault}
-use Rattle.host_cli.proofs.FrontLaws.{writes_all}
 
 abbrev pub WritesFront : Option (List ℕ) → Option (List ℕ) → List ℕ → PlayFault → Type 0
 WritesFront w v out f = (f ≡ fault.Write) × ((n : ℕ) × Appends w v (take n out))
@@ -20,6 +19,14 @@ front_of : (P : List ℕ → Ended → Type 0) (out : List ℕ) (e : Ended) (n :
 front_of P out e n is =
     let Q : List ℕ → Type 0 = λ t. P t e in
     (drop n out, e, subst Q (sym (take-append-drop n out)) is)
+
+-- What a reader gave up to its end is all that it had.
+pub writes_all : (P : List ℕ → List ℕ → Type 0) (old rest w v : Option (List ℕ)) (script read : List ℕ) → Consumes old rest read → IsAtEnd rest → script ≡ read → ((text : List ℕ) × P script text × Appends w v text) → Writes old w v P
+writes_all P None rest w v script read c e same t = tt
+writes_all P (Some xs) None w v script read c e same t = absurd c
+writes_all P (Some xs) (Some ys) w v script read c e same (text, is, appends) =
+    let Q : List ℕ → Type 0 = λ s. P s text in
+    (text, subst Q (same ∙ sym (append-nil read) ∙ ap (λ l. read ++ l) (sym e) ∙ sym c) is, appends)
 
 -- Where the writer failed, what it took is a front of the answer to all that the reader had.
 pub writes_front : (P : List ℕ → List ℕ → Ended → Type 0) (old rest w v : Option (List ℕ)) (script read out : List ℕ) (e : Ended) (r : Result Ended PlayFault) → Consumes old rest read → IsAtEnd rest → script ≡ read → P script out e → IfErr r (WritesFront w v out) → r ≡ Err fault.Write → Writes old w v (λ text out. IsFront (P text) out)

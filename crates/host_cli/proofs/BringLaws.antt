@@ -1,98 +1,110 @@
--- Pieces that are brought, one after another.
-use Rattle.std.proofs.Common.{◌≡◌, ℕ, Bool, List, [], ◌∷◌, ◌++◌, Option, Some, None, Result, Ok, Err, refl, ap, sym, ◌∙◌, subst}
+-- Pieces that are made ready, one after another, and brought.
+use Rattle.std.proofs.Common.{◌≡◌, ℕ, List, [], ◌∷◌, ◌++◌, Ok, Err, refl, ap, sym, subst, ◌∙◌}
 use Rattle.module_lang.specs.Program.{Program}
+use Rattle.run_model.specs.declared.event.Event.TheVariants as event
 use Rattle.run_model.specs.declared.event.Piece.{Piece}
 use Rattle.run_model.specs.declared.event.Piece.TheVariants as piece
 use Rattle.run_model.specs.declared.event.Refusal.{Refusal}
-use Rattle.run_model.specs.Connection.{Connection, brings, opens_file, file_answer}
+use Rattle.run_model.specs.Worlds.{World, Answer}
+use Rattle.bucket_kinds.specs.declared.mem_files.MemFiles.{MemFiles}
+use Rattle.filter_chain.specs.declared.host.Host.{Host}
+use Rattle.filter_chain.specs.Hosting.{IsHosting, Happens, budget_of, chain_of}
+use Rattle.filter_chain.specs.Scenes.{Scene, Acts, scene}
+use Rattle.host_cli.specs.declared.command.Command.TheVariants as command
 use Rattle.host_cli.specs.declared.pieces.ScriptPiece.{ScriptPiece}
 use Rattle.host_cli.specs.declared.pieces.ScriptPiece.TheVariants as script_piece
-use Rattle.run_model.specs.Runs.{There, answer_of}
-use Rattle.module_run.specs.Seen.{refusal_of}
-use Rattle.host_cli.specs.Host.{done}
-use Rattle.host_cli.specs.Plays.{told, IfOpened, IsMadeReady, Brings}
+use Rattle.host_cli.specs.declared.reply.Reply.{Reply}
+use Rattle.host_cli.specs.declared.reply.Reply.TheVariants as reply
+use Rattle.host_cli.specs.Plays.{Brings, Serves, Tells, reply_of}
+use Rattle.host_cli.specs.Serving.{IsReadied, MakesReady}
+use Rattle.host_cli.specs.Sessions.{IsAlive, IsServed, device}
 
-abbrev Refuses : Result Piece Refusal → Connection → Refusal → Connection → Type 0
-Refuses r d e c = (r ≡ Err e) × (d ≡ c)
+module _ (budget : ℕ) (chain : List Program) (number : ℕ) (ready : List Piece) where
+  -- A piece that was made ready goes before the others.
+  brings_on : (x : ScriptPiece) (xs : List ScriptPiece) (y : Piece) (s m t : Scene) (r : Reply) → IsReadied budget chain number x s (Ok y) m → Brings budget chain number (ready ++ y ∷ []) xs m r t → Brings budget chain number ready (x ∷ xs) s r t
+  unfolding Brings
+  brings_on (script_piece.Ready z) xs y s m t r (is, same) rest =
+      let made : y ≡ z = cc in
+      subst (λ (v : Piece). Brings budget chain number (ready ++ v ∷ []) xs s r t) made (subst (λ (a : Scene). Brings budget chain number (ready ++ y ∷ []) xs a r t) same rest)
+  brings_on (script_piece.Range name start len) xs y s m t r (Err why, acts, is) rest = absurd (cc)
+  brings_on (script_piece.Range name start len) xs y s m t r (Ok file, acts, is) rest =
+      let made : y ≡ piece.File file.0 start len = cc in
+      (Ok file, m, acts, subst (λ (v : Piece). Brings budget chain number (ready ++ v ∷ []) xs m r t) made rest)
 
-abbrev Opens : ℕ → ℕ → Result Piece Refusal → Connection → ℕ → Connection → Type 0
-Opens start len r d file c = (r ≡ Ok (piece.File file start len)) × (d ≡ c)
+  -- The first refusal is the answer.
+  brings_stop : (x : ScriptPiece) (xs : List ScriptPiece) (why : Refusal) (s m : Scene) → IsReadied budget chain number x s (Err why) m → Brings budget chain number ready (x ∷ xs) s (reply.Refused why) m
+  unfolding Brings
+  brings_stop (script_piece.Ready z) xs why s m (is, same) = absurd (cc)
+  brings_stop (script_piece.Range name start len) xs why s m (Err e, acts, is) =
+      let told : why ≡ e = cc in
+      (Err e, m, acts, (ap reply.Refused told, refl))
+  brings_stop (script_piece.Range name start len) xs why s m (Ok file, acts, is) = absurd (cc)
 
-made_goes : (x : Result (ℕ × ℕ) Refusal × Connection) (start len : ℕ) (y : Piece) (d : Connection) (Stop : Refusal → Connection → Type 0) (Rest : Piece → Connection → Type 0) → IfOpened x (Refuses (Ok y) d) (Opens start len (Ok y) d) → Rest y d → IfOpened x Stop (λ file c. Rest (piece.File file start len) c)
-made_goes (Err z, a) start len y d Stop Rest (is, new) rest = absurd (cc)
-made_goes (Ok f, a) start len y d Stop Rest (is, new) rest =
-    let same : y ≡ piece.File f.0 start len = cc in
-    let P : Piece → Type 0 = λ v. Rest v a in
-    let Q : Connection → Type 0 = λ c. Rest y c in
-    subst P same (subst Q new rest)
+-- These pieces are ready, and these are left. From here on what is left is brought as all are.
+pub record BringsFrom (old now : Host MemFiles) (number : ℕ) (pieces : List ScriptPiece) (ready : List Piece) (left : List ScriptPiece) (w : World) : Type 0 where
+  pub to : World
+  pub hosts : IsHosting (device now) now to
+  pub rest : (r : Reply) (new : Scene) → Brings (budget_of old) (chain_of old) number ready left (scene to (device now)) r new → Brings (budget_of old) (chain_of old) number [] pieces (scene w (device old)) r new
 
-made_stops : (x : Result (ℕ × ℕ) Refusal × Connection) (start len : ℕ) (r : Refusal) (d : Connection) (Rest : ℕ → Connection → Type 0) → IfOpened x (Refuses (Err r) d) (Opens start len (Err r) d) → IfOpened x (λ e c. (Some r ≡ Some e) × (d ≡ c)) Rest
-made_stops (Err z, a) start len r d Rest (is, new) = (let same : r ≡ z = cc in ap Some same, new)
-made_stops (Ok f, a) start len r d Rest (is, new) = absurd (cc)
+pub record IsBringing (old now : Host MemFiles) (number : ℕ) (pieces : List ScriptPiece) (ready : List Piece) (left : List ScriptPiece) : Type 0 where
+  pub alive : IsAlive now
+  pub chain : chain_of now ≡ chain_of old
+  pub budget : budget_of now ≡ budget_of old
+  pub goes : (w : World) → IsHosting (device old) old w → BringsFrom old now number pieces ready left w
 
--- A piece that was made ready goes before the others.
-pub brings_on : (p : Program) (ready : List Piece) (x : ScriptPiece) (xs : List ScriptPiece) (c d e : Connection) (y : Piece) (r : Option Refusal) → IsMadeReady x c (Ok y) d → Brings p (ready ++ y ∷ []) xs d r e → Brings p ready (x ∷ xs) c r e
-unfolding Brings
-brings_on p ready (script_piece.Ready z) xs c d e y r (is, new) rest =
-    let same : y ≡ z = cc in
-    let P : Piece → Type 0 = λ v. Brings p (ready ++ v ∷ []) xs c r e in
-    let Q : Connection → Type 0 = λ a. Brings p (ready ++ y ∷ []) xs a r e in
-    subst P same (subst Q new rest)
-brings_on p ready (script_piece.Range name start len) xs c d e y r (m, o) rest =
-    (m, made_goes (opens_file m name c) start len y d (λ z a. (r ≡ Some z) × (e ≡ a)) (λ v a. Brings p (ready ++ v ∷ []) xs a r e) o rest)
+pub bring_begins : (host : Host MemFiles) (number : ℕ) (pieces : List ScriptPiece) → IsAlive host → IsBringing host host number pieces [] pieces
+bring_begins host number pieces alive = record { alive = alive; chain = refl; budget = refl; goes = λ w hosts. record { to = w; hosts = hosts; rest = λ r new h. h } }
 
--- The first refusal is the answer.
-pub brings_stop : (p : Program) (ready : List Piece) (x : ScriptPiece) (xs : List ScriptPiece) (c d : Connection) (r : Refusal) → IsMadeReady x c (Err r) d → Brings p ready (x ∷ xs) c (Some r) d
-unfolding Brings
-brings_stop p ready (script_piece.Ready z) xs c d r (is, new) = absurd (cc)
-brings_stop p ready (script_piece.Range name start len) xs c d r (m, o) =
-    (m, made_stops (opens_file m name c) start len r d (λ file a. Brings p (ready ++ piece.File file start len ∷ []) xs a (Some r) d) o)
+module _ (old now : Host MemFiles) (number : ℕ) (pieces : List ScriptPiece) where
+  module _ (ready : List Piece) (all : List ScriptPiece) (so : IsBringing old now number pieces ready all) (new : Host MemFiles) where
+    -- what was done to a host on the same chain, with the same budget, was done on its own
+    here : (T : ℕ → List Program → Type 0) → T (budget_of now) (chain_of now) → T (budget_of old) (chain_of old)
+    here T t = subst (λ (b : ℕ). T b (chain_of old)) so.budget (subst (λ (c : List Program). T (budget_of now) c) so.chain t)
 
-pub brings_last : (p : Program) (ready : List Piece) (c d : Connection) (m : Bool) (r : Option Refusal) → brings m p ready c ≡ (r, d) → Brings p ready [] c r d
-unfolding Brings
-brings_last p ready c d m r e = (m, e)
+    module _ (x : ScriptPiece) (xs : List ScriptPiece) (whole : all ≡ x ∷ xs) where
+      pub bring_goes : (y : Piece) (more : List Piece) → more ≡ ready ++ y ∷ [] → ((w : World) → IsHosting (device now) now w → MakesReady now new number x (Ok y) w) → IsBringing old new number pieces more xs
+      bring_goes y more pushed made = record {
+        alive = (let m = made so.alive.0 so.alive.1 in (m.to, m.hosts));
+        chain = (made so.alive.0 so.alive.1).chain ∙ so.chain;
+        budget = (made so.alive.0 so.alive.1).budget ∙ so.budget;
+        goes = λ w hosts. (let from = so.goes w hosts in let m = made from.to from.hosts in record {
+          to = m.to;
+          hosts = m.hosts;
+          rest = λ r end h. from.rest r end (subst (λ (ps : List ScriptPiece). Brings (budget_of old) (chain_of old) number ready ps (scene from.to (device now)) r end) (sym whole)
+              (brings_on (budget_of old) (chain_of old) number ready x xs y (scene from.to (device now)) (scene m.to (device new)) end r
+              (here (λ b c. IsReadied b c number x (scene from.to (device now)) (Ok y) (scene m.to (device new))) m.readied)
+              (subst (λ (ps : List Piece). Brings (budget_of old) (chain_of old) number ps xs (scene m.to (device new)) r end) pushed h)));
+        });
+      }
 
--- what an opened file makes of a range
-abbrev pub ranged : Result (ℕ × ℕ) Refusal → ℕ → ℕ → Result Piece Refusal
-ranged (Err e) start len = Err e
-ranged (Ok f) start len = Ok (piece.File f.0 start len)
+      pub bring_stops : (why : Refusal) → ((w : World) → IsHosting (device now) now w → MakesReady now new number x (Err why) w) → (w : World) → IsHosting (device old) old w → IsServed old new (command.Bring number pieces) (reply.Refused why) w
+      unfolding Serves
+      bring_stops why made w hosts =
+          let from = so.goes w hosts in
+          let m = made from.to from.hosts in
+          record {
+            to = m.to;
+            serves = from.rest (reply.Refused why) (scene m.to (device new)) (subst (λ (ps : List ScriptPiece). Brings (budget_of old) (chain_of old) number ready ps (scene from.to (device now)) (reply.Refused why) (scene m.to (device new))) (sym whole)
+                (brings_stop (budget_of old) (chain_of old) number ready x xs why (scene from.to (device now)) (scene m.to (device new))
+                (here (λ b c. IsReadied b c number x (scene from.to (device now)) (Err why) (scene m.to (device new))) m.readied)));
+            hosts = m.hosts;
+            chain = m.chain ∙ so.chain;
+            budget = m.budget ∙ so.budget;
+          }
 
-pub made_range : (m : Bool) (name : List ℕ) (start len : ℕ) (c d : Connection) (x : Result (ℕ × ℕ) Refusal) → opens_file m name c ≡ (x, d) → IsMadeReady (script_piece.Range name start len) c (ranged x start len) d
-made_range m name start len c d x e =
-    let P : Result (ℕ × ℕ) Refusal × Connection → Type 0 = λ z. IfOpened z (Refuses (ranged x start len) d) (Opens start len (ranged x start len) d) in
-    (m, subst P (sym e) (by_answer x)) where
-      by_answer : (x : Result (ℕ × ℕ) Refusal) → IfOpened (x, d) (Refuses (ranged x start len) d) (Opens start len (ranged x start len) d)
-      by_answer (Err r) = (refl, refl)
-      by_answer (Ok f) = (refl, refl)
-
--- Opening a file leaves the next instruction as it is.
-pc_answer : (t : Option Refusal) (req : Option ℕ) (found : Option (List ℕ)) (name : List ℕ) (c : Connection) → (file_answer t req found name c).1.state.pc ≡ c.state.pc
-pc_answer (Some r) req found name c = refl
-pc_answer None None found name c = refl
-pc_answer None (Some req) None name c = refl
-pc_answer None (Some req) (Some bytes) name c = refl
-
-pub pc_opens : (m : Bool) (name : List ℕ) (c d : Connection) (x : Result (ℕ × ℕ) Refusal) → opens_file m name c ≡ (x, d) → d.state.pc ≡ c.state.pc
-unfolding opens_file
-pc_opens m name c d x e = ap (λ z. z.1.state.pc) (sym e) ∙ pc_answer _ c.state.shared.req (c.state.shared.files.named name) name c
-
--- The turns of a loop over the pieces.
-pub brings_turn : (p : Program) (ready more : List Piece) (all rest : List ScriptPiece) (x : ScriptPiece) (y : Piece) (c d e : Connection) (r : Option Refusal) → all ≡ x ∷ rest → more ≡ ready ++ y ∷ [] → IsMadeReady x c (Ok y) d → Brings p more rest d r e → Brings p ready all c r e
-brings_turn p ready more all rest x y c d e r whole pushed made b =
-    let P : List ScriptPiece → Type 0 = λ xs. Brings p ready xs c r e in
-    let Q : List Piece → Type 0 = λ ys. Brings p ys rest d r e in
-    subst P (sym whole) (brings_on p ready x rest c d e y r made (subst Q pushed b))
-
-pub brings_stop_at : (p : Program) (ready : List Piece) (all rest : List ScriptPiece) (x : ScriptPiece) (c d : Connection) (r : Refusal) → all ≡ x ∷ rest → IsMadeReady x c (Err r) d → Brings p ready all c (Some r) d
-brings_stop_at p ready all rest x c d r whole made =
-    let P : List ScriptPiece → Type 0 = λ xs. Brings p ready xs c (Some r) d in
-    subst P (sym whole) (brings_stop p ready x rest c d r made)
-
-pub brings_end_at : (p : Program) (ready : List Piece) (all : List ScriptPiece) (c d : Connection) (m : Bool) (r : Option Refusal) → all ≡ [] → brings m p ready c ≡ (r, d) → Brings p ready all c r d
-brings_end_at p ready all c d m r whole e =
-    let P : List ScriptPiece → Type 0 = λ xs. Brings p ready xs c r d in
-    subst P (sym whole) (brings_last p ready c d m r e)
-
-pub done_told : (x : Result (Unit {0}) Refusal) (d : Connection) → (done x, There d) ≡ told (answer_of (refusal_of x, d))
-done_told (Ok u) d = refl
-done_told (Err r) d = refl
+    -- No piece is left, and those that are ready are brought.
+    pub bring_ends : (answer : Answer) (r : Reply) → all ≡ [] → r ≡ reply_of answer → ((w : World) → IsHosting (device now) now w → Happens (device now) (device new) now new number (event.Bring ready) answer w) → (w : World) → IsHosting (device old) old w
+        → IsServed old new (command.Bring number pieces) r w
+    unfolding Serves Brings
+    bring_ends answer r none told brought w hosts =
+        let from = so.goes w hosts in
+        let h = brought from.to from.hosts in
+        let tells : Tells (budget_of old) (chain_of old) number (event.Bring ready) (scene from.to (device now)) r (scene h.to (device new)) =
+        record { answer = answer; acts = here (λ b c. Acts b c number (event.Bring ready) (scene from.to (device now)) answer (scene h.to (device new))) h.acts; told = told } in
+        record {
+          to = h.to;
+          serves = from.rest r (scene h.to (device new)) (subst (λ (ps : List ScriptPiece). Brings (budget_of old) (chain_of old) number ready ps (scene from.to (device now)) r (scene h.to (device new))) (sym none) tells);
+          hosts = h.hosts;
+          chain = h.chain ∙ so.chain;
+          budget = h.budget ∙ so.budget;
+        }

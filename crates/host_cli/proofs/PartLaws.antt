@@ -1,109 +1,97 @@
--- What is written of the parts of a script, as code goes through them.
-use Rattle.std.proofs.Common.{◌≡◌, ℕ, ◌+◌, true, List, [], ◌++◌, take, drop, Option, Some, None, inl, inr, Result, Ok, Err, IfOk, OnErr, refl, ap, sym, ◌∙◌, subst, ◌⊎◌}
+-- Laws on the modules of a script, one after another.
+use Rattle.std.proofs.Common.{◌≡◌, ℕ, ◌+◌, List, [], ◌∷◌, ◌++◌, All, length, map, Option, Some, None, slice_get, refl, ap, sym, subst, ◌∙◌, append_assoc, arith}
+use Rattle.std.proofs.lemmas.List.{length-append, map-append, append-nil}
+use Rattle.std.proofs.lemmas.List.Elements.{All-get_or, All-push}
+use Rattle.std.proofs.lemmas.Option.{slice_get_within, get_or_from_slice_get}
 use Rattle.module_lang.specs.Program.{Program}
-use Rattle.module_lang.specs.FirstFault.{Reads}
-use Rattle.module_lang.specs.TextLines.{lines_of}
-use Rattle.life_check.specs.declared.refusal.CheckRefusal.{CheckRefusal}
+use Rattle.life_check.specs.Accepted.{Part as Pair, modules_of, IsChainRefusal}
 use Rattle.life_check.specs.Certificates.{Certificate}
-use Rattle.life_check.specs.Theorem.{NeverFaults}
+use Rattle.life_check.specs.Seen.{seen_cert}
 use Rattle.life_check.specs.Typed.{IsTyped, first_refusal}
+use Rattle.life_check.specs.declared.cert.Cert.{Cert}
+use Rattle.life_check.specs.declared.refusal.CheckRefusal.{CheckRefusal}
+use Rattle.life_check.specs.declared.refusal.ChainRefusal.TheVariants as chain
 use Rattle.life_check.proofs.TypedLaws.{none_typed}
 use Rattle.life_cert.specs.Rounds.{made}
-use Rattle.life_cert.specs.declared.refusal.CertCode.{CertCode}
-use Rattle.life_cert.specs.declared.refusal.CertRefusal.{CertRefusal}
-use Rattle.life_cert.specs.declared.refusal.CertRefusal.TheVariants as cert
-use Rattle.life_cert.specs.Codes.{code_number}
-use Rattle.host_cli.specs.declared.ended.Ended.{Ended}
-use Rattle.host_cli.specs.declared.ended.Ended.TheVariants as ended
-use Rattle.host_cli.specs.declared.lines.TextCut.{TextCut}
-use Rattle.host_cli.specs.declared.script.Header.{Header}
-use Rattle.host_cli.specs.Plays.{IsPlayed, IsPlayedSoFar}
-use Rattle.host_cli.specs.Refusals.{cert_line, refused_module_line}
-use Rattle.host_cli.specs.Written.{header_at, IsPlayBehind, IsFrontBehind, judged, IsPlayUnless, IsPlayWith, IsFrontWith, module_part, cert_part, ReadsCert, IsPlayRead, IsPlayAfter, IsFrontAfter, IsWrittenFor, IsFrontOf}
-use Rattle.host_cli.proofs.RunLaws.{faultless_play}
+use Rattle.host_cli.specs.declared.part.Part.{Part}
+use Rattle.host_cli.specs.Heads.{ScriptPart, seen_given, seen_part}
+use Rattle.host_cli.specs.Written.{refusal_of, refused_from, codes_of}
+
+-- it is accepted with its certificate
+abbrev pub IsUnrefused : Pair → Type 0
+IsUnrefused x = first_refusal x.0 (seen_cert x.1) ≡ None
+
+abbrev pub given : Program → Option Cert → ScriptPart
+given p o = record { code = p; cert = seen_given o }
 
 -- What is made is not refused.
-pub made_none : (p : Program) (m : Certificate) → IsTyped p m → m ≡ made p → None ≡ first_refusal p (made p)
-made_none p m typed is = sym (none_typed p (made p) (subst (IsTyped p) is typed))
+made_none : (p : Program) (m : Certificate) → IsTyped p m → m ≡ made p → first_refusal p (made p) ≡ None
+made_none p m typed is = none_typed p (made p) (subst (IsTyped p) is typed)
 
--- Behind the texts.
+pub made_judged : (p : Program) (o : Option Cert) (c : Cert) → o ≡ None → IsTyped p (seen_cert c) → seen_cert c ≡ made p → (refusal_of (given p o) ≡ None) × (first_refusal p (seen_cert c) ≡ None)
+made_judged p o c none typed is = (ap (λ x. refusal_of (given p x)) none ∙ made_none p (seen_cert c) typed is, none_typed p (seen_cert c) typed)
 
-pub refused_with : (p : Program) (c : Option Certificate) (lines : ℕ) (rest old text : List ℕ) (h : Header) (o : Option CheckRefusal) (r : CheckRefusal) → h ≡ header_at rest → o ≡ judged h.checked p c → o ≡ Some r → old ≡ [] → text ≡ old ++ refused_module_line r.pc r.rule → IsPlayWith p c lines rest text ended.Refused
-refused_with p c lines rest old text h o r same first is none written =
-    let P : Option CheckRefusal → Type 0 = λ x. IsPlayUnless x p lines rest text ended.Refused in
-    let known : Some r ≡ judged (header_at rest).checked p c = sym is ∙ first ∙ ap (λ x. judged x.checked p c) same in
-    subst P known (written ∙ ap (λ l. l ++ refused_module_line r.pc r.rule) none, refl)
+-- The first is not refused: the others decide.
+goes_on : (k : ℕ) (x : ScriptPart) (xs : List ScriptPart) → refusal_of x ≡ None → refused_from k (x ∷ xs) ≡ refused_from (k + 1) xs
+unfolding refused_from
+goes_on k x xs none = rw none refl
 
-none_judged : (p : Program) (c : Option Certificate) (rest : List ℕ) (h : Header) (o : Option CheckRefusal) → h ≡ header_at rest → o ≡ judged h.checked p c → o ≡ None → judged (header_at rest).checked p c ≡ None
-none_judged p c rest h o same first is = sym (ap (λ x. judged x.checked p c) same) ∙ sym first ∙ is
+-- The first is refused.
+stops : (k : ℕ) (x : ScriptPart) (xs : List ScriptPart) (r : CheckRefusal) → refusal_of x ≡ Some r → refused_from k (x ∷ xs) ≡ Some (k, r)
+unfolding refused_from
+stops k x xs r refused = rw refused refl
 
-pub played_with : {E : Type 0} (r : Result Ended E) (p : Program) (c : Option Certificate) (lines first : ℕ) (rest commands text : List ℕ) (h : Header) (o : Option CheckRefusal) → h ≡ header_at rest → o ≡ judged h.checked p c → o ≡ None → (o ≡ None → h.checked ≡ true → NeverFaults p) → first ≡ lines + h.lines + 1 → commands ≡ drop h.size rest → IfOk r (λ e. IsPlayed h.budget p first (lines_of commands) text e) → IfOk r (λ e. IsPlayWith p c lines rest text e)
-played_with (Ok e) p c lines first rest commands text h o same judge is safe number cut played =
-    let P : Header → Type 0 = λ x. IsPlayed x.budget p (lines + x.lines + 1) (lines_of (drop x.size rest)) text e in
-    let Q : ℕ → Type 0 = λ n. IsPlayed h.budget p n (lines_of (drop h.size rest)) text e in
-    let R : List ℕ → Type 0 = λ b. IsPlayed h.budget p first (lines_of b) text e in
-    let here : IsPlayed (header_at rest).budget p (lines + (header_at rest).lines + 1) (lines_of (drop (header_at rest).size rest)) text e = subst P same (subst Q number (subst R cut played)) in
-    let behind : IsPlayBehind p lines rest text e = record {
-      played = here;
-      faultless = λ on.
-          faultless_play _ p _ _ here.replies here.fault (safe is (ap (λ x. x.checked) same ∙ on)) here.play;
-    } in
-    subst (λ (x : Option CheckRefusal). IsPlayUnless x p lines rest text e) (sym (none_judged p c rest h o same judge is)) behind
-played_with (Err x) p c lines first rest commands text h o same judge is safe number cut played = tt
+none_left : (k : ℕ) → refused_from k [] ≡ None
+unfolding refused_from
+none_left k = refl
 
-pub front_with : {T E : Type 0} (r : Result T E) (p : Program) (c : Option Certificate) (lines first : ℕ) (rest commands text : List ℕ) (h : Header) (o : Option CheckRefusal) → h ≡ header_at rest → o ≡ judged h.checked p c → o ≡ None → (o ≡ None → h.checked ≡ true → NeverFaults p) → first ≡ lines + h.lines + 1 → commands ≡ drop h.size rest → OnErr r (IsPlayedSoFar h.budget p first (lines_of commands) text) → OnErr r ((text ≡ []) ⊎ IsFrontWith p c lines rest text)
-front_with (Ok e) p c lines first rest commands text h o same judge is safe number cut played = tt
-front_with (Err x) p c lines first rest commands text h o same judge is safe number cut played =
-    let P : Header → Type 0 = λ x. IsPlayedSoFar x.budget p (lines + x.lines + 1) (lines_of (drop x.size rest)) text in
-    let Q : ℕ → Type 0 = λ n. IsPlayedSoFar h.budget p n (lines_of (drop h.size rest)) text in
-    let R : List ℕ → Type 0 = λ b. IsPlayedSoFar h.budget p first (lines_of b) text in
-    let here : IsPlayedSoFar (header_at rest).budget p (lines + (header_at rest).lines + 1) (lines_of (drop (header_at rest).size rest)) text = subst P same (subst Q number (subst R cut played)) in
-    let behind : IsFrontBehind p lines rest text = record {
-      played = here;
-      faultless = λ on.
-          faultless_play _ p _ _ (here.answered ++ here.left) here.fault (safe is (ap (λ x. x.checked) same ∙ on)) here.play;
-    } in
-    inr (none_judged p c rest h o same judge is, behind)
+-- One part more is taken from those that are left.
 
--- Behind the module text.
+pub codes_on : (mods new : List Program) (left rest all : List Part) (p : Part) (m : Program) → mods ++ codes_of (map seen_part left) ≡ codes_of (map seen_part all) → left ≡ p ∷ rest → new ≡ mods ++ m ∷ [] → m ≡ p.code
+    → new ++ codes_of (map seen_part rest) ≡ codes_of (map seen_part all)
+codes_on mods new left rest all p m so_far steps pushed same =
+    ap (λ l. l ++ codes_of (map seen_part rest)) pushed ∙ append_assoc mods (m ∷ []) (codes_of (map seen_part rest))
+    ∙ ap (λ y. mods ++ (y ∷ codes_of (map seen_part rest))) same ∙ ap (λ l. mods ++ codes_of (map seen_part l)) (sym steps) ∙ so_far
 
-pub cert_fault_told : (p : Program) (lines n m k : ℕ) (d : CertCode) (rest text old out : List ℕ) (cut : TextCut) → cut ≡ cert_part rest → text ≡ take cut.size rest → ReadsCert text (Err (cert.Fault n d)) → m ≡ n → k ≡ code_number d → old ≡ [] → out ≡ old ++ cert_line (lines + m) k → IsPlayAfter p lines rest out ended.Refused
-cert_fault_told p lines n m k d rest text old out cut same is reads line number none written =
-    let P : List ℕ → Type 0 = λ t. ReadsCert t (Err (cert.Fault n d)) in
-    (Err (cert.Fault n d), subst P (is ∙ ap (λ x. take x.size rest) same) reads, (written ∙ ap (λ l. l ++ cert_line (lines + m) k) none ∙ ap (λ x. cert_line (lines + x) k) line ∙ ap (cert_line (lines + n)) number, refl))
+pub pairs_on : (pairs new : List Pair) (left rest all : List Part) (p : Part) (x : Pair) → modules_of pairs ++ codes_of (map seen_part left) ≡ codes_of (map seen_part all) → left ≡ p ∷ rest → new ≡ pairs ++ x ∷ [] → x.0 ≡ p.code
+    → modules_of new ++ codes_of (map seen_part rest) ≡ codes_of (map seen_part all)
+pairs_on pairs new left rest all p x so_far steps pushed same =
+    codes_on (modules_of pairs) (modules_of new) left rest all p x.0 so_far steps (ap modules_of pushed ∙ map-append (λ (y : Pair). y.0) pairs (x ∷ [])) same
 
-pub played_after : {E : Type 0} (r : Result Ended E) (p : Program) (c : Option Certificate) (lines before : ℕ) (rest text behind out : List ℕ) (cut : TextCut) → cut ≡ cert_part rest → text ≡ take cut.size rest → ReadsCert text (Ok c) → behind ≡ drop cut.size rest → before ≡ lines + cut.lines → IfOk r (λ e. IsPlayWith p c before behind out e) → IfOk r (λ e. IsPlayAfter p lines rest out e)
-played_after (Ok e) p c lines before rest text behind out cut same is reads left number played =
-    let P : List ℕ → Type 0 = λ t. ReadsCert t (Ok c) in
-    let Q : ℕ → Type 0 = λ n. IsPlayWith p c n behind out e in
-    let R : List ℕ → Type 0 = λ b. IsPlayWith p c (lines + (cert_part rest).lines) b out e in
-    (Ok c, subst P (is ∙ ap (λ x. take x.size rest) same) reads, subst R (left ∙ ap (λ x. drop x.size rest) same) (subst Q (number ∙ ap (λ x. lines + x.lines) same) played))
-played_after (Err x) p c lines before rest text behind out cut same is reads left number played = tt
+pub all_on : {X : Type 0} (P : X → Type 0) (xs new : List X) (x : X) → All P xs → new ≡ xs ++ x ∷ [] → P x → All P new
+all_on P xs new x all pushed here = subst (All P) (sym pushed) (All-push P xs x all here)
 
-pub front_after : {T E : Type 0} (r : Result T E) (p : Program) (c : Option Certificate) (lines before : ℕ) (rest text behind out : List ℕ) (cut : TextCut) → cut ≡ cert_part rest → text ≡ take cut.size rest → ReadsCert text (Ok c) → behind ≡ drop cut.size rest → before ≡ lines + cut.lines → OnErr r ((out ≡ []) ⊎ IsFrontWith p c before behind out) → OnErr r ((out ≡ []) ⊎ IsFrontAfter p lines rest out)
-front_after (Ok x) p c lines before rest text behind out cut same is reads left number front = tt
-front_after (Err x) p c lines before rest text behind out cut same is reads left number (inl none) = inl none
-front_after (Err x) p c lines before rest text behind out cut same is reads left number (inr front) =
-    let P : List ℕ → Type 0 = λ t. ReadsCert t (Ok c) in
-    let Q : ℕ → Type 0 = λ n. IsFrontWith p c n behind out in
-    let R : List ℕ → Type 0 = λ b. IsFrontWith p c (lines + (cert_part rest).lines) b out in
-    inr (c, subst P (is ∙ ap (λ x. take x.size rest) same) reads, subst R (left ∙ ap (λ x. drop x.size rest) same) (subst Q (number ∙ ap (λ x. lines + x.lines) same) front))
+pub refused_on : (pairs new : List Pair) (left rest all : List Part) (p : Part) (x : Pair) → refused_from (length pairs) (map seen_part left) ≡ refused_from 0 (map seen_part all) → left ≡ p ∷ rest → new ≡ pairs ++ x ∷ []
+    → refusal_of (seen_part p) ≡ None → refused_from (length new) (map seen_part rest) ≡ refused_from 0 (map seen_part all)
+refused_on pairs new left rest all p x so_far steps pushed none =
+    let longer : length new ≡ length pairs + 1 = ap length pushed ∙ length-append pairs (x ∷ []) in
+    ap (λ n. refused_from n (map seen_part rest)) longer ∙ sym (goes_on (length pairs) (seen_part p) (map seen_part rest) none)
+    ∙ ap (λ l. refused_from (length pairs) (map seen_part l)) (sym steps) ∙ so_far
 
--- The whole.
+pub refused_at : (pairs : List Pair) (left rest all : List Part) (p : Part) (index : ℕ) (r : CheckRefusal) → refused_from (length pairs) (map seen_part left) ≡ refused_from 0 (map seen_part all) → left ≡ p ∷ rest → refusal_of (seen_part p) ≡ Some r
+    → index ≡ length pairs → refused_from 0 (map seen_part all) ≡ Some (index, r)
+refused_at pairs left rest all p index r so_far steps refused is =
+    sym so_far ∙ ap (λ l. refused_from (length pairs) (map seen_part l)) steps ∙ stops (length pairs) (seen_part p) (map seen_part rest) r refused ∙ ap (λ n. Some (n, r)) (sym is)
 
-pub played_whole : {E : Type 0} (r : Result Ended E) (p : Program) (lines : ℕ) (script text behind out : List ℕ) (cut : TextCut) → cut ≡ module_part script → text ≡ take cut.size script → Reads text (Ok p) → behind ≡ drop cut.size script → lines ≡ cut.lines → IfOk r (λ e. IsPlayAfter p lines behind out e) → IfOk r (λ e. IsWrittenFor script out e)
-played_whole (Ok e) p lines script text behind out cut same is reads left number played =
-    let P : List ℕ → Type 0 = λ t. Reads t (Ok p) in
-    let Q : ℕ → Type 0 = λ n. IsPlayAfter p n behind out e in
-    let R : List ℕ → Type 0 = λ b. IsPlayAfter p (module_part script).lines b out e in
-    (Ok p, subst P (is ∙ ap (λ x. take x.size script) same) reads, subst R (left ∙ ap (λ x. drop x.size script) same) (subst Q (number ∙ ap (λ x. x.lines) same) played))
-played_whole (Err x) p lines script text behind out cut same is reads left number played = tt
+-- None is left.
 
-pub front_whole : {T E : Type 0} (r : Result T E) (p : Program) (lines : ℕ) (script text behind out : List ℕ) (cut : TextCut) → cut ≡ module_part script → text ≡ take cut.size script → Reads text (Ok p) → behind ≡ drop cut.size script → lines ≡ cut.lines → OnErr r ((out ≡ []) ⊎ IsFrontAfter p lines behind out) → OnErr r (IsFrontOf script out)
-front_whole (Ok x) p lines script text behind out cut same is reads left number front = tt
-front_whole (Err x) p lines script text behind out cut same is reads left number (inl none) = inl none
-front_whole (Err x) p lines script text behind out cut same is reads left number (inr front) =
-    let P : List ℕ → Type 0 = λ t. Reads t (Ok p) in
-    let Q : ℕ → Type 0 = λ n. IsFrontAfter p n behind out in
-    let R : List ℕ → Type 0 = λ b. IsFrontAfter p (module_part script).lines b out in
-    inr (p, subst P (is ∙ ap (λ x. take x.size script) same) reads, subst R (left ∙ ap (λ x. drop x.size script) same) (subst Q (number ∙ ap (λ x. x.lines) same) front))
+pub nothing_left : (left : List Part) (n : ℕ) → n ≡ length left → n ≡ 0 → left ≡ []
+nothing_left [] n is none = refl
+nothing_left (p ∷ ps) n is none = absurd (omega arith)
+
+pub all_codes : (chain : List Program) (pairs : List Pair) (left all : List Part) → chain ≡ modules_of pairs → left ≡ [] → modules_of pairs ++ codes_of (map seen_part left) ≡ codes_of (map seen_part all) → chain ≡ codes_of (map seen_part all)
+all_codes chain pairs left all is none so_far = is ∙ sym (append-nil (modules_of pairs)) ∙ ap (λ l. modules_of pairs ++ codes_of (map seen_part l)) (sym none) ∙ so_far
+
+pub none_refused : (k : ℕ) (left all : List Part) → left ≡ [] → refused_from k (map seen_part left) ≡ refused_from 0 (map seen_part all) → refused_from 0 (map seen_part all) ≡ None
+none_refused k left all none so_far = sym so_far ∙ ap (λ l. refused_from k (map seen_part l)) none ∙ none_left k
+
+-- Where no pair is refused no chain of them is.
+
+unrefused_at : (pairs : List Pair) (k : ℕ) (x : Pair) → All IsUnrefused pairs → slice_get pairs k ≡ Some x → IsUnrefused x
+unrefused_at pairs k x all at =
+    subst IsUnrefused (get_or_from_slice_get pairs k x x at) (All-get_or IsUnrefused pairs k x (slice_get_within pairs k x at) all)
+
+pub no_refusal : (pairs : List Pair) (index : ℕ) (r : CheckRefusal) → All IsUnrefused pairs → IsChainRefusal pairs (chain.At index r) → ⊥
+no_refusal pairs index r all (x, at, refused, before) =
+    let none : first_refusal x.0 (seen_cert x.1) ≡ None = unrefused_at pairs index x all at in
+    absurd (cc)

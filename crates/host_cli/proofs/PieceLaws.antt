@@ -1,11 +1,20 @@
 -- A list of pieces, piece by piece.
-use Rattle.std.proofs.Common.{◌≡◌, ℕ, zero, suc, ◌+◌, ◌-◌, ◌<◌, ◌≤◌, List, [], ◌∷◌, ◌++◌, length, drop, Some, None, refl, ap, sym, ◌∙◌, arith}
+use Rattle.std.proofs.Common.{◌≡◌, ℕ, zero, suc, ◌+◌, ◌-◌, ◌<◌, ◌≤◌, List, [], ◌∷◌, ◌++◌, length, take, drop, Some, None, refl, ap, sym, ◌∙◌, arith}
 use Rattle.std.proofs.lemmas.Grind.{common_steps}
 use Rattle.std.proofs.lemmas.List.{drop-drop, drop_all}
 use Rattle.host_cli.specs.declared.pieces.ScriptPiece.{ScriptPiece}
 use Rattle.host_cli.specs.declared.pieces.PieceRead.{PieceRead}
 use Rattle.host_cli.specs.Pieces.{piece_at, pieces_from}
-use Rattle.host_cli.proofs.LineLaws.{rest_at, rest_is}
+
+-- the rest of a text as code reads it
+abbrev pub rest_at : List ℕ → ℕ → List ℕ
+rest_at text at = take (length text - at) (drop at text)
+
+rest_is : (text : List ℕ) (at : ℕ) → rest_at text at ≡ drop at text
+rest_is text at = grind (arith, common_steps)
+
+pub length_rest : (text : List ℕ) (at : ℕ) → length (rest_at text at) ≡ length text - at
+length_rest text at = grind (arith, common_steps)
 
 goes : (n : ℕ) (done : List ScriptPiece) (bytes : List ℕ) (r : PieceRead) → 0 < length bytes → piece_at bytes ≡ Some r → pieces_from (suc n) done bytes ≡ pieces_from n (done ++ r.piece ∷ []) (drop r.used bytes)
 goes n done [] r h e = absurd (omega arith)

@@ -2,7 +2,8 @@
 use Rattle.std.specs.Prelude.{ℕ, List, ◌++◌, codes, decimal}
 use Rattle.life_check.specs.declared.refusal.Rule.{Rule}
 use Rattle.life_check.specs.declared.refusal.Rule.TheVariants.{Shape, Entry, May, Flow, Exit, Request}
-use Rattle.host_cli.specs.Replies.{line, fault_name}
+use Rattle.life_explain.specs.Names.{fault_name}
+use Rattle.host_cli.specs.Replies.{line}
 
 abbrev pub rule_name : Rule → List ℕ
 rule_name Shape = codes "shape"
@@ -15,9 +16,9 @@ rule_name Request = codes "request"
 abbrev pub refused_at_line : ℕ → Rule → List ℕ
 refused_at_line pc r = codes "refused at " ++ (decimal pc ++ (codes ": " ++ line (rule_name r)))
 
--- the module of a script is refused
-abbrev pub refused_module_line : ℕ → Rule → List ℕ
-refused_module_line pc r = codes "refused module 0 at " ++ (decimal pc ++ (codes ": " ++ line (rule_name r)))
+-- a module of a chain is refused, by its place
+abbrev pub refused_module_line : ℕ → ℕ → Rule → List ℕ
+refused_module_line index pc r = codes "refused module " ++ (decimal index ++ (codes " at " ++ (decimal pc ++ (codes ": " ++ line (rule_name r)))))
 
 -- the first faulty line of a certificate text, and its code
 abbrev pub cert_line : ℕ → ℕ → List ℕ

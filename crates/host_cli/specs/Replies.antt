@@ -2,14 +2,13 @@
 use Rattle.std.specs.Prelude.{ℕ, List, [], ◌∷◌, ◌++◌, flat_map, codes, decimal}
 use Rattle.module_lang.specs.declared.instr.Status.{Status}
 use Rattle.module_lang.specs.declared.instr.Status.TheVariants.{Success, Fail}
-use Rattle.run_model.specs.declared.fault.FaultKind.{FaultKind}
-use Rattle.run_model.specs.declared.fault.FaultKind.TheVariants.{F1, F2, F3, F4, F5, F6, F7, F8, F9, F10}
 use Rattle.run_model.specs.declared.event.Cause.TheVariants as cause
 use Rattle.run_model.specs.declared.event.Refusal.{Refusal}
 use Rattle.run_model.specs.declared.event.Refusal.TheVariants as refusal
 use Rattle.run_model.specs.declared.event.Stepped.{Stepped}
 use Rattle.run_model.specs.declared.event.Stepped.TheVariants as stepped
 use Rattle.module_lang.specs.Quoted.{spelling}
+use Rattle.life_explain.specs.Names.{fault_name}
 use Rattle.host_cli.specs.declared.reply.Reply.{Reply}
 use Rattle.host_cli.specs.declared.reply.Reply.TheVariants as reply
 
@@ -20,18 +19,6 @@ line text = text ++ 10 ∷ []
 abbrev pub status_name : Status → List ℕ
 status_name Success = codes "ok"
 status_name Fail = codes "fail"
-
-abbrev pub fault_name : FaultKind → List ℕ
-fault_name F1 = codes "F1"
-fault_name F2 = codes "F2"
-fault_name F3 = codes "F3"
-fault_name F4 = codes "F4"
-fault_name F5 = codes "F5"
-fault_name F6 = codes "F6"
-fault_name F7 = codes "F7"
-fault_name F8 = codes "F8"
-fault_name F9 = codes "F9"
-fault_name F10 = codes "F10"
 
 abbrev pub refusal_name : Refusal → List ℕ
 refusal_name refusal.NoSuchConn = codes "NoSuchConn"
@@ -58,6 +45,10 @@ stepped_line (stepped.CallEnded s) = line (codes "ended " ++ status_name s)
 stepped_line (stepped.Fault kind index pc) =
     line (codes "fault " ++ fault_name kind ++ codes " module " ++ decimal index ++ codes " pc " ++ decimal pc)
 
+-- a connection of this number was opened
+abbrev pub connected_line : ℕ → List ℕ
+connected_line n = line (codes "conn " ++ decimal n)
+
 -- so many steps went
 abbrev pub went_line : ℕ → List ℕ
 went_line n = line (codes "went " ++ decimal n)
@@ -71,7 +62,7 @@ labels_line labels = line (codes "labels" ++ flat_map (λ label. 32 ∷ spelling
 
 -- the line of a reply; of the pools, their lines and then one more
 abbrev pub reply_line : Reply → List ℕ
-reply_line reply.Connected = line (codes "conn 1")
+reply_line (reply.Connected n) = connected_line n
 reply_line reply.Done = line (codes "ok")
 reply_line (reply.Refused r) = refused_line r
 reply_line (reply.Stepped s) = stepped_line s

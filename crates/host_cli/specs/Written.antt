@@ -1,117 +1,160 @@
--- The text that is written for a script.
-use Rattle.std.specs.Prelude.{◌≡◌, ℕ, ◌+◌, Bool, true, false, List, [], ◌++◌, take, drop, Option, Some, None, Result, Ok, Err, ◌⊎◌}
-use Rattle.std.specs.List.{list_any}
+-- The text that is written for a script, line by line.
+use Rattle.std.specs.Prelude.{◌≡◌, ℕ, zero, suc, ◌+◌, Bool, true, false, if◌then◌else◌, List, [], ◌∷◌, ◌++◌, map, take, Option, Some, None, MatchOption, ◌⊎◌}
 use Rattle.module_lang.specs.Program.{Program}
-use Rattle.module_lang.specs.Codes.{code_number}
-use Rattle.module_lang.specs.TextLines.{lines_of}
-use Rattle.module_lang.specs.FirstFault.{Reads}
-use Rattle.module_lang.specs.declared.refusal.AsmRefusal.{AsmRefusal}
-use Rattle.module_lang.specs.declared.refusal.AsmRefusal.TheVariants as asm
-use Rattle.life_check.specs.declared.refusal.CheckRefusal.{CheckRefusal}
-use Rattle.life_check.specs.declared.cert.Cert.{Cert}
+use Rattle.module_lang.specs.TextLines.{Line, lines_of}
+use Rattle.run_model.specs.Files.{no_files}
+use Rattle.run_model.specs.Worlds.{empty_world}
+use Rattle.bucket_kinds.specs.MemDevice.{device_of}
 use Rattle.life_check.specs.Certificates.{Certificate}
-use Rattle.life_check.specs.Seen.{seen_cert}
 use Rattle.life_check.specs.Typed.{first_refusal}
-use Rattle.life_cert.specs.declared.refusal.CertRefusal.{CertRefusal}
-use Rattle.life_cert.specs.declared.refusal.CertRefusal.TheVariants as cert
-use Rattle.life_cert.specs.Codes.{code_number as cert_code_number}
-use Rattle.life_cert.specs.Reading.{IsTextOf, IsTold}
+use Rattle.life_check.specs.declared.refusal.CheckRefusal.{CheckRefusal}
 use Rattle.life_cert.specs.Rounds.{made}
+use Rattle.filter_chain.specs.Scenes.{Scene, scene}
+use Rattle.host_cli.specs.declared.command.Command.{Command}
 use Rattle.host_cli.specs.declared.ended.Ended.{Ended}
 use Rattle.host_cli.specs.declared.ended.Ended.TheVariants as ended
-use Rattle.host_cli.specs.declared.lines.TextCut.{TextCut}
-use Rattle.host_cli.specs.declared.script.Header.{Header}
-use Rattle.host_cli.specs.Lines.{text_cut, cert_cut}
-use Rattle.host_cli.specs.Plays.{IsPlayed, IsPlayedSoFar, is_fault}
-use Rattle.host_cli.specs.Refusals.{cert_line, refused_module_line}
-use Rattle.host_cli.specs.Replies.{asm_line}
-use Rattle.host_cli.specs.Scripts.{header_of}
+use Rattle.host_cli.specs.declared.reply.Reply.{Reply}
+use Rattle.host_cli.specs.declared.texts.Taken.{Taken}
+use Rattle.host_cli.specs.declared.texts.Taken.TheVariants as taken
+use Rattle.host_cli.specs.Heads.{ScriptPart, Head, no_head, TakesLine, EndsHead}
+use Rattle.host_cli.specs.Plays.{Serves, due_at, is_fault}
+use Rattle.host_cli.specs.Refusals.{refused_module_line}
+use Rattle.host_cli.specs.Replies.{reply_line, script_line}
 
--- The commands behind so many lines, which begin with the header.
+-- A chain that is played. is_checked: it was checked first.
+pub record Session : Type 0 where
+  pub chain : List Program
+  pub budget : ℕ
+  pub is_checked : Bool
+  pub scene : Scene
 
-abbrev pub header_at : List ℕ → Header
-header_at rest = header_of (lines_of rest)
+-- how far a script is, between two lines
+pub data Stage : Type 0 where
+  -- this was read before its commands
+  Reading : Head → Stage
+  -- its commands are done
+  Serving : Session → Stage
+  -- a fault was told
+  Over : Stage
 
--- The text is that of a play of the commands. Where the header says `checked`, no answer is a fault.
-pub record IsPlayBehind (p : Program) (lines : ℕ) (rest text : List ℕ) (e : Ended) : Type 0 where
-  pub played : IsPlayed (header_at rest).budget p (lines + (header_at rest).lines + 1) (lines_of (drop (header_at rest).size rest)) text e
-  pub faultless : (header_at rest).checked ≡ true → list_any is_fault played.replies ≡ false
+abbrev pub is_over : Stage → Bool
+is_over (Reading h) = false
+is_over (Serving s) = false
+is_over Over = true
 
--- The same of the lines of the first answers of a play.
-pub record IsFrontBehind (p : Program) (lines : ℕ) (rest text : List ℕ) : Type 0 where
-  pub played : IsPlayedSoFar (header_at rest).budget p (lines + (header_at rest).lines + 1) (lines_of (drop (header_at rest).size rest)) text
-  pub faultless : (header_at rest).checked ≡ true → list_any is_fault (played.answered ++ played.left) ≡ false
+-- Which module is refused.
 
--- the certificate that the code was given
-abbrev pub seen_given : Option Cert → Option Certificate
-seen_given None = None
-seen_given (Some c) = Some (seen_cert c)
+-- the certificate of a module: that which stands behind it, or else the one that is made
+abbrev pub cert_of : ScriptPart → Option Certificate → Certificate
+cert_of x None = made x.code
+cert_of x (Some c) = c
 
--- What a module that is checked is first refused for: with its certificate, or where it has none with the one that is made.
-abbrev pub judged : Bool → Program → Option Certificate → Option CheckRefusal
-judged false p c = None
-judged true p (Some c) = first_refusal p c
-judged true p None = first_refusal p (made p)
+abbrev pub refusal_of : ScriptPart → Option CheckRefusal
+refusal_of x = first_refusal x.code (cert_of x x.cert)
 
--- what is written of a module that is refused, or is not
-abbrev pub IsPlayUnless : Option CheckRefusal → Program → ℕ → List ℕ → List ℕ → Ended → Type 0
-IsPlayUnless None p lines rest text e = IsPlayBehind p lines rest text e
-IsPlayUnless (Some r) p lines rest text e = (text ≡ refused_module_line r.pc r.rule) × (e ≡ ended.Refused)
+abbrev pub first_of : ℕ → Option CheckRefusal → Option (ℕ × CheckRefusal) → Option (ℕ × CheckRefusal)
+first_of k None others = others
+first_of k (Some r) others = Some (k, r)
 
-abbrev pub IsPlayWith : Program → Option Certificate → ℕ → List ℕ → List ℕ → Ended → Type 0
-IsPlayWith p c lines rest text e = IsPlayUnless (judged (header_at rest).checked p c) p lines rest text e
+-- The first module that is refused, of these from the k-th on, and why.
+unfoldable pub refused_from : ℕ → List ScriptPart → Option (ℕ × CheckRefusal)
+refused_from k [] = None
+refused_from k (x ∷ xs) = first_of k (refusal_of x) (refused_from (k + 1) xs)
 
-abbrev pub IsFrontWith : Program → Option Certificate → ℕ → List ℕ → List ℕ → Type 0
-IsFrontWith p c lines rest text = (judged (header_at rest).checked p c ≡ None) × IsFrontBehind p lines rest text
+-- The commands begin.
 
--- What stands behind the module text, which has so many lines: a certificate text, or none.
+-- no connection, and no file
+abbrev pub first_scene : Scene
+first_scene = scene empty_world (device_of no_files 0)
 
-abbrev pub cert_part : List ℕ → TextCut
-cert_part rest = cert_cut (lines_of rest)
+abbrev pub codes_of : List ScriptPart → List Program
+codes_of parts = map (λ (x : ScriptPart). x.code) parts
 
--- what a certificate text says; the empty text is none
-abbrev pub ReadsCert : List ℕ → Result (Option Certificate) CertRefusal → Type 0
-ReadsCert text (Ok None) = text ≡ []
-ReadsCert text (Ok (Some c)) = IsTextOf text c
-ReadsCert text (Err r) = (text ≡ [] → ⊥) × IsTold text r
+abbrev pub session_of : Bool → Head → Session
+session_of checked h = record { chain = codes_of h.parts; budget = h.budget; is_checked = checked; scene = first_scene }
 
-abbrev pub IsPlayRead : Result (Option Certificate) CertRefusal → Program → ℕ → List ℕ → List ℕ → Ended → Type 0
-IsPlayRead (Ok c) p lines rest text e = IsPlayWith p c (lines + (cert_part rest).lines) (drop (cert_part rest).size rest) text e
-IsPlayRead (Err (cert.Fault n c)) p lines rest text e = (text ≡ cert_line (lines + n) (cert_code_number c)) × (e ≡ ended.Refused)
-IsPlayRead (Err cert.NoMemory) p lines rest text e = ⊥
+-- A chain that is to be checked is refused, or accepted; then, as without a check, its commands begin.
+abbrev pub BeginsUnless : Option (ℕ × CheckRefusal) → Bool → Head → List ℕ → Stage → Type 0
+BeginsUnless None checked h text s = (text ≡ []) × (s ≡ Serving (session_of checked h))
+BeginsUnless (Some (k, r)) checked h text s = (text ≡ refused_module_line k r.pc r.rule) × (s ≡ Over)
 
-abbrev pub IsPlayAfter : Program → ℕ → List ℕ → List ℕ → Ended → Type 0
-IsPlayAfter p lines rest text e =
-    (c : Result (Option Certificate) CertRefusal) × ReadsCert (take (cert_part rest).size rest) c × IsPlayRead c p lines rest text e
+abbrev pub Begins : Bool → Head → List ℕ → Stage → Type 0
+Begins checked h text s = BeginsUnless (if checked then refused_from 0 h.parts else None) checked h text s
 
-abbrev pub IsFrontAfter : Program → ℕ → List ℕ → List ℕ → Type 0
-IsFrontAfter p lines rest text =
-    (c : Option Certificate) × ReadsCert (take (cert_part rest).size rest) (Ok c)
-    × IsFrontWith p c (lines + (cert_part rest).lines) (drop (cert_part rest).size rest) text
+-- A line is taken.
 
--- A script: its module text, and the rest.
+-- A command answers so. On a chain that was checked no answer is a fault.
+pub record Replies (c : Command) (s : Session) (text : List ℕ) (t : Stage) : Type 0 where
+  pub reply : Reply
+  pub after : Scene
+  pub serves : Serves s.budget s.chain c s.scene reply after
+  pub faultless : s.is_checked ≡ true → is_fault reply ≡ false
+  pub told : text ≡ reply_line reply
+  pub stage : t ≡ Serving (record s { scene = after })
 
-abbrev pub module_part : List ℕ → TextCut
-module_part script = text_cut (lines_of script)
+-- A line of this number is a command that may stand there, or is told to be none.
+abbrev pub TakesCommand : ℕ → Line → Session → List ℕ → Stage → Type 0
+TakesCommand number l s text t =
+    MatchOption (due_at s.scene.device l) ((text ≡ script_line number) × (t ≡ Over)) (λ c. Replies c s text t)
 
--- What is written of a module, on which the commands are played, or of a text that is none, whose fault is told.
-abbrev pub IsPlayOf : Result Program AsmRefusal → List ℕ → List ℕ → Ended → Type 0
-IsPlayOf (Ok p) script text e = IsPlayAfter p (module_part script).lines (drop (module_part script).size script) text e
-IsPlayOf (Err (asm.Fault n c)) script text e = (text ≡ asm_line n (code_number c)) × (e ≡ ended.Refused)
-IsPlayOf (Err asm.NoMemory) script text e = ⊥
+abbrev pub TakesAt : ℕ → Line → Stage → List ℕ → Stage → Type 0
+TakesAt number l (Reading h) text t = ⊥
+TakesAt number l (Serving s) text t = TakesCommand number l s text t
+TakesAt number l Over text t = (text ≡ []) × (t ≡ Over)
 
--- What a play of a script may write, and how it ends: the module text is a module by the grammar, or has a first fault.
-abbrev pub IsWrittenFor : List ℕ → List ℕ → Ended → Type 0
-IsWrittenFor script text e =
-    (m : Result Program AsmRefusal) × Reads (take (module_part script).size script) m × IsPlayOf m script text e
+-- what follows a line before the commands, and what was told of it
+abbrev pub Follows : Taken → ℕ → Line → Head → List ℕ → List ℕ → Stage → Type 0
+Follows taken.More number l h told text t = (text ≡ told) × (t ≡ Reading h)
+Follows taken.Over number l h told text t = (text ≡ told) × (t ≡ Over)
+Follows taken.Checked number l h told text t = Begins true h text t
+Follows taken.Command number l h told text t = (s : Stage) × Begins false h [] s × TakesAt number l s text t
 
--- What is written where memory was wanting: nothing, or the lines of the first answers of a play.
-abbrev pub IsFrontOf : List ℕ → List ℕ → Type 0
-IsFrontOf script text =
-    (text ≡ [])
-    ⊎ ((p : Program) × Reads (take (module_part script).size script) (Ok p)
-    × IsFrontAfter p (module_part script).lines (drop (module_part script).size script) text)
+pub record TakesFirst (number : ℕ) (l : Line) (h : Head) (text : List ℕ) (t : Stage) : Type 0 where
+  pub taken : Taken
+  pub told : List ℕ
+  pub head : Head
+  pub takes : TakesLine number l h taken told head
+  pub follows : Follows taken number l head told text t
 
--- What is written where the writer failed: nothing, or the front of what a play of the script may write.
+abbrev pub Takes : ℕ → Line → Stage → List ℕ → Stage → Type 0
+Takes number l (Reading h) text t = TakesFirst number l h text t
+Takes number l (Serving s) text t = TakesCommand number l s text t
+Takes number l Over text t = (text ≡ []) × (t ≡ Over)
+
+-- These lines, of which the first has this number, are taken one after another.
+unfoldable pub TakesAll : ℕ → List Line → Stage → List ℕ → Stage → Type 0
+TakesAll number [] s text t = (text ≡ []) × (t ≡ s)
+TakesAll number (l ∷ ls) s text t =
+    (mid : Stage) × (told more : List ℕ) × Takes number l s told mid × TakesAll (number + 1) ls mid more t × (text ≡ told ++ more)
+
+-- The script ends.
+
+abbrev pub ended_by : Taken → Ended
+ended_by taken.More = ended.Done
+ended_by taken.Over = ended.Refused
+ended_by taken.Checked = ended.Done
+ended_by taken.Command = ended.Done
+
+abbrev pub EndsAt : Stage → List ℕ → Ended → Type 0
+EndsAt (Reading h) text e = (t : Taken) × (last : Head) × EndsHead h t text last × (e ≡ ended_by t)
+EndsAt (Serving s) text e = (text ≡ []) × (e ≡ ended.Done)
+EndsAt Over text e = (text ≡ []) × (e ≡ ended.Refused)
+
+-- What a play of a script may write, and how it ends.
+pub record IsWrittenFor (script text : List ℕ) (e : Ended) : Type 0 where
+  pub stage : Stage
+  pub answers : List ℕ
+  pub last : List ℕ
+  pub takes : TakesAll 1 (lines_of script) (Reading no_head) answers stage
+  pub ends : EndsAt stage last e
+  pub written : text ≡ answers ++ last
+
+-- What is written of its first lines.
+pub record IsFrontOf (script text : List ℕ) : Type 0 where
+  pub count : ℕ
+  pub stage : Stage
+  pub takes : TakesAll 1 (take count (lines_of script)) (Reading no_head) text stage
+
+-- What is written where the writer failed: the front of what may be written of the script, or of its first lines.
 abbrev pub IsCutOf : List ℕ → List ℕ → Type 0
-IsCutOf script text = (text ≡ []) ⊎ ((more : List ℕ) × (e : Ended) × IsWrittenFor script (text ++ more) e)
+IsCutOf script text = (more : List ℕ) × (IsFrontOf script (text ++ more) ⊎ ((e : Ended) × IsWrittenFor script (text ++ more) e))

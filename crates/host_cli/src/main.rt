@@ -4,31 +4,29 @@
 mod answer;
 mod assembling;
 mod beginning;
-mod bringing;
 mod certifying;
 mod checking;
 mod command;
+mod commands;
 mod ended;
 mod fault;
 mod file_line;
-mod host;
-mod judged;
 mod labels;
 mod lines;
 mod named_file;
 mod operands;
+mod part;
 mod pieces;
-mod play;
-mod pools;
+mod player;
+mod playing;
+mod recorded;
 mod refused_at;
 mod reply;
-mod run;
 mod script;
-mod stepping;
+mod session;
 mod streams;
 mod task;
-#[cfg(test)]
-mod tests;
+mod texts;
 mod words;
 
 use assembling::run_assemble;
@@ -39,8 +37,12 @@ use clap::Error;
 use clap::error::ErrorKind;
 use ended::Ended;
 use fault::PlayFault;
+use life_explain::{explain_certify, explain_check};
 use named_file::NamedFile;
-use run::run_play;
+use playing::run_play;
+use recorded::Recorded;
+use std::alloc::AllocError;
+use std::io::IsTerminal;
 use std::process::ExitCode;
 use std::{env, io};
 use task::{Task, task_of};
@@ -82,23 +84,52 @@ fn assemble_file(rt: &HostRuntime, file: &str) -> ExitCode {
     end(rt, assembled, file)
 }
 
-fn certify_file(rt: &HostRuntime, file: &str) -> ExitCode {
-    let mut reader = NamedFile::new(rt, file);
+/// Whether help is told on the standard error: where it was asked for, or where that is a terminal.
+fn tells_help(rt: &HostRuntime, asked: bool) -> bool {
+    asked || rt.stderr().is_terminal()
+}
+
+fn tell_help(rt: &HostRuntime, text: Result<String, AllocError>) {
+    let _ = match text {
+        Ok(text) => eprint!(rt; "{text}"),
+        Err(AllocError) => rt.eprintln(PlayFault::NoMemory),
+    };
+}
+
+fn is_refused(ended: &Result<Ended, PlayFault>) -> bool {
+    matches!(ended, Ok(Ended::Refused))
+}
+
+fn certify_file(rt: &HostRuntime, file: &str, asked: bool) -> ExitCode {
+    let helps = tells_help(rt, asked);
+    let mut reader = Recorded::new(rt.alloc(), NamedFile::new(rt, file), helps);
     let certified = run_certify(rt.alloc(), &mut reader, &mut rt.stdout());
+    if helps && is_refused(&certified) {
+        tell_help(rt, explain_certify(rt.alloc(), reader.given()));
+    }
     end(rt, certified, file)
 }
 
-fn certify_input(rt: &HostRuntime) -> ExitCode {
-    let certified = run_certify(rt.alloc(), &mut rt.stdin(), &mut rt.stdout());
+fn certify_input(rt: &HostRuntime, asked: bool) -> ExitCode {
+    let helps = tells_help(rt, asked);
+    let mut reader = Recorded::new(rt.alloc(), rt.stdin(), helps);
+    let certified = run_certify(rt.alloc(), &mut reader, &mut rt.stdout());
+    if helps && is_refused(&certified) {
+        tell_help(rt, explain_certify(rt.alloc(), reader.given()));
+    }
     end(rt, certified, "standard input")
 }
 
-fn check_file(rt: &HostRuntime, file: &str, cert: &str) -> ExitCode {
-    let mut reader = NamedFile::new(rt, file);
-    let mut certs = NamedFile::new(rt, cert);
+fn check_file(rt: &HostRuntime, file: &str, cert: &str, asked: bool) -> ExitCode {
+    let helps = tells_help(rt, asked);
+    let mut reader = Recorded::new(rt.alloc(), NamedFile::new(rt, file), helps);
+    let mut certs = Recorded::new(rt.alloc(), NamedFile::new(rt, cert), helps);
     let checked = run_check(rt.alloc(), &mut reader, &mut certs, &mut rt.stdout());
-    let read = if certs.is_read() { certs } else { reader };
-    end(rt, checked, read.name())
+    if helps && is_refused(&checked) {
+        tell_help(rt, explain_check(rt.alloc(), reader.given(), certs.given()));
+    }
+    let name = if certs.reader().is_read() { cert } else { file };
+    end(rt, checked, name)
 }
 
 fn perform(rt: &HostRuntime, task: Task<'_>) -> ExitCode {
@@ -106,9 +137,19 @@ fn perform(rt: &HostRuntime, task: Task<'_>) -> ExitCode {
         Task::Play => play_script(rt),
         Task::New => end(rt, run_new(&mut rt.stdout()), ""),
         Task::Assemble { file } => assemble_file(rt, file),
-        Task::Certify { file: Some(file) } => certify_file(rt, file),
-        Task::Certify { file: None } => certify_input(rt),
-        Task::Check { file, cert } => check_file(rt, file, cert),
+        Task::Certify {
+            file: Some(file),
+            explains,
+        } => certify_file(rt, file, explains),
+        Task::Certify {
+            file: None,
+            explains,
+        } => certify_input(rt, explains),
+        Task::Check {
+            file,
+            cert,
+            explains,
+        } => check_file(rt, file, cert, explains),
     }
 }
 

@@ -6,8 +6,9 @@ ghost use Rattle.host_cli.specs.TextAnswers.{TellsRefusal};
 
 use crate::answer::Answer;
 use crate::ended::Ended;
-use crate::reply::{fault_name, put};
+use crate::reply::put;
 use life_check::{CheckRefusal, Rule};
+use life_explain::fault_name;
 use std::alloc::{AllocError, Global};
 
 /// The word of a rule.

@@ -2,11 +2,12 @@
 
 ghost use Rattle.std.specs.Prelude.{◌≡◌, ◌+◌, ◌++◌, ◌∷◌, [], IfOk, OnOk, OnErr};
 ghost use Rattle.module_lang.specs.Quoted.{spelling};
-ghost use Rattle.host_cli.specs.Replies.{status_name, fault_name, refusal_name, stepped_line, went_line, refused_line, output_line, labels_line, reply_line, asm_line, script_line};
+ghost use Rattle.host_cli.specs.Replies.{status_name, refusal_name, stepped_line, went_line, connected_line, refused_line, output_line, labels_line, reply_line, asm_line, script_line};
 ghost use Rattle.host_cli.specs.Refusals.{cert_line, refused_module_line};
 
 use crate::refused_at::rule_name;
 use life_check::Rule;
+use life_explain::fault_name;
 use module_lang::push_spelling;
 use run_model::{Cause, FaultKind, Refusal, Seq, Status, Stepped};
 use std::alloc::{AllocError, Global};
@@ -14,8 +15,8 @@ use std::alloc::{AllocError, Global};
 /// What a command answers.
 #[derive(Drop)]
 pub enum Reply {
-    /// A connection was opened, the first.
-    Connected,
+    /// A connection was opened, of this number.
+    Connected(u64),
     /// It was done.
     Done,
     /// It was refused.
@@ -38,24 +39,6 @@ fn status_name(status: Status) -> &'static str
     match status {
         Status::Success => "ok",
         Status::Fail => "fail",
-    }
-}
-
-/// The name of a fault.
-pub fn fault_name(kind: FaultKind) -> &'static str
-    ensures { result.now ≡ fault_name kind }
-{
-    match kind {
-        FaultKind::F1 => "F1",
-        FaultKind::F2 => "F2",
-        FaultKind::F3 => "F3",
-        FaultKind::F4 => "F4",
-        FaultKind::F5 => "F5",
-        FaultKind::F6 => "F6",
-        FaultKind::F7 => "F7",
-        FaultKind::F8 => "F8",
-        FaultKind::F9 => "F9",
-        FaultKind::F10 => "F10",
     }
 }
 
@@ -86,6 +69,14 @@ pub fn put(out: &mut Vec<u8>, line: &str) -> Result<(), AllocError>
     ensures err { OnErr result (out.new.items ≡ out.old.items) }
 {
     out.extend_from_slice(line.as_bytes())
+}
+
+fn put_connected(alloc: Global, out: &mut Vec<u8>, number: u64) -> Result<(), AllocError>
+    ensures ok { OnOk result (out.new.items ≡ out.old.items ++ connected_line number) }
+    ensures err { OnErr result (out.new.items ≡ out.old.items) }
+{
+    let line = format!(in alloc; "conn {number}\n")?;
+    put(out, line.as_str())
 }
 
 fn put_refused(alloc: Global, out: &mut Vec<u8>, refusal: Refusal) -> Result<(), AllocError>
@@ -211,7 +202,7 @@ pub fn put_reply(alloc: Global, out: &mut Vec<u8>, reply: &Reply) -> Result<(), 
     ensures err { OnErr result (out.new.items ≡ out.old.items) }
 {
     match reply {
-        Reply::Connected => put(out, "conn 1\n"),
+        Reply::Connected(number) => put_connected(alloc, out, *number),
         Reply::Done => put(out, "ok\n"),
         Reply::Refused(refusal) => put_refused(alloc, out, *refusal),
         Reply::Stepped(stepped) => put_stepped(alloc, out, *stepped),
@@ -236,6 +227,22 @@ pub fn put_asm_fault(
     put(out, line.as_str())
 }
 
+/// Adds the line that tells a fault of a module text, which stands behind so many lines. Without memory nothing is changed.
+pub fn put_asm_fault_behind(
+    alloc: Global,
+    out: &mut Vec<u8>,
+    before: usize,
+    line: usize,
+    code: u8,
+) -> Result<(), AllocError>
+    ensures ok { OnOk result (out.new.items ≡ out.old.items ++ asm_line (before + line) code) }
+    ensures err { OnErr result (out.new.items ≡ out.old.items) }
+{
+    let line = before as u128 + line as u128;
+    let line = format!(in alloc; "asm line {line} code {code}\n")?;
+    put(out, line.as_str())
+}
+
 /// Adds the line that tells a fault of the certificate text, which stands behind so many lines. Without memory nothing is changed.
 pub fn put_cert_fault(
     alloc: Global,
@@ -252,18 +259,19 @@ pub fn put_cert_fault(
     put(out, line.as_str())
 }
 
-/// Adds the line that tells why the module is refused. Without memory nothing is changed.
+/// Adds the line that tells why a module of the chain is refused. Without memory nothing is changed.
 pub fn put_refused_module(
     alloc: Global,
     out: &mut Vec<u8>,
+    index: usize,
     pc: usize,
     rule: Rule,
 ) -> Result<(), AllocError>
-    ensures ok { OnOk result (out.new.items ≡ out.old.items ++ refused_module_line pc rule) }
+    ensures ok { OnOk result (out.new.items ≡ out.old.items ++ refused_module_line index pc rule) }
     ensures err { OnErr result (out.new.items ≡ out.old.items) }
 {
     let name = rule_name(rule);
-    let line = format!(in alloc; "refused module 0 at {pc}: {name}\n")?;
+    let line = format!(in alloc; "refused module {index} at {pc}: {name}\n")?;
     put(out, line.as_str())
 }
 

@@ -8,10 +8,10 @@ use std::alloc::Global;
 use std::io::Read;
 
 /// How many times a reader is read at most, the read that gives nothing included.
-const READS: u32 = 1_000_000;
+pub const READS: u32 = 1_000_000;
 
 /// How many bytes a read asks for.
-const READ_BYTES: usize = 8192;
+pub const READ_BYTES: usize = 8192;
 
 /// All that the reader gives up to its end.
 pub fn read_all<R: Read>(alloc: Global, reader: &mut R) -> Result<Vec<u8>, PlayFault>

@@ -1,7 +1,7 @@
 //! What the program is called for.
 
-use clap::{Arg, Command, Error};
-use std::alloc::Global;
+use clap::{Arg, ArgAction, Command, Error};
+use std::alloc::{AllocError, Global};
 
 /// What the words of the command line ask for.
 #[derive(Clone, Copy)]
@@ -11,11 +11,46 @@ pub enum Task<'a> {
     /// A module to begin with is printed.
     New,
     /// A module is printed.
-    Assemble { file: &'a str },
+    Assemble {
+        file: &'a str,
+    },
     /// A certificate is made, of the module of this file, or of standard input.
-    Certify { file: Option<&'a str> },
+    Certify {
+        file: Option<&'a str>,
+        explains: bool,
+    },
     /// A certificate is checked.
-    Check { file: &'a str, cert: &'a str },
+    Check {
+        file: &'a str,
+        cert: &'a str,
+        explains: bool,
+    },
+}
+
+fn explain_flag<'a>(alloc: Global) -> Arg<'a> {
+    Arg::new(alloc, "explain")
+        .long("explain")
+        .action(ArgAction::SetTrue)
+        .help(
+            "Tells on the standard error why a module is refused, and what to write instead; so it does on a terminal",
+        )
+}
+
+fn certify_command<'a>(alloc: Global) -> Result<Command<'a>, AllocError> {
+    Command::new(alloc, "certify")
+        .about(
+            "Makes a certificate of a module, or tells why there is none; of standard input with no file",
+        )
+        .arg(Arg::new(alloc, "FILE"))?
+        .arg(explain_flag(alloc))
+}
+
+fn check_command<'a>(alloc: Global) -> Result<Command<'a>, AllocError> {
+    Command::new(alloc, "check")
+        .about("Checks a certificate of a module")
+        .arg(Arg::new(alloc, "FILE").required(true))?
+        .arg(Arg::new(alloc, "CERT").required(true))?
+        .arg(explain_flag(alloc))
 }
 
 /// What these words ask for, of which the first is the program's name. `Error`: they are no words of the program, they ask for
@@ -25,18 +60,6 @@ pub fn task_of<'a>(alloc: Global, words: &'a [String]) -> Result<Task<'a>, Error
     let assemble = Command::new(alloc, "assemble")
         .about("Prints a module, or the first fault of its text")
         .arg(file)?;
-    let file = Arg::new(alloc, "FILE");
-    let certify = Command::new(alloc, "certify")
-        .about(
-            "Makes a certificate of a module, or tells why there is none; of standard input with no file",
-        )
-        .arg(file)?;
-    let file = Arg::new(alloc, "FILE").required(true);
-    let cert = Arg::new(alloc, "CERT").required(true);
-    let check = Command::new(alloc, "check")
-        .about("Checks a certificate of a module")
-        .arg(file)?
-        .arg(cert)?;
     let play = Command::new(alloc, "play").about(
         "Plays a script from standard input; so it does with no command",
     );
@@ -48,21 +71,26 @@ pub fn task_of<'a>(alloc: Global, words: &'a [String]) -> Result<Task<'a>, Error
         .subcommand(play)?
         .subcommand(new)?
         .subcommand(assemble)?
-        .subcommand(certify)?
-        .subcommand(check)?;
+        .subcommand(certify_command(alloc)?)?
+        .subcommand(check_command(alloc)?)?;
     let matches = program.try_get_matches_from(words)?;
     let Some((name, given)) = matches.subcommand() else {
         return Ok(Task::Play);
     };
     let given_file = given.get_str("FILE");
     let file = given_file.unwrap_or("");
+    let explains = given.get_flag("explain");
     Ok(match name {
         "new" => Task::New,
         "assemble" => Task::Assemble { file },
-        "certify" => Task::Certify { file: given_file },
+        "certify" => Task::Certify {
+            file: given_file,
+            explains,
+        },
         "check" => Task::Check {
             file,
             cert: given.get_str("CERT").unwrap_or(""),
+            explains,
         },
         _ => Task::Play,
     })

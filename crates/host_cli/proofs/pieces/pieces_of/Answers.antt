@@ -1,7 +1,6 @@
 use Rattle.std.proofs.Common.{◌∙◌, ◌-◌, ◌+◌, length, drop, sym, ap, arith}
 use Rattle.host_cli.specs.Pieces.{pieces_of, pieces_from}
-use Rattle.host_cli.proofs.PieceLaws.{turn_goes, turn_fails, turn_spent}
-use Rattle.host_cli.proofs.LineLaws.{length_rest}
+use Rattle.host_cli.proofs.PieceLaws.{length_rest, turn_goes, turn_fails, turn_spent}
 use Rattle.host_cli.proofs.pieces.pieces_of.Goals as goal
 
 pub returns-in_default : goal.returns-in_default

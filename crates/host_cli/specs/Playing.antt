@@ -1,0 +1,81 @@
+-- What the code that plays a script writes, part by part.
+use Rattle.std.specs.Prelude.{◌≡◌, ℕ, ◌+◌, Bool, false, List, [], ◌∷◌, ◌++◌, length, take, Option, Result, Ok, Err, ◌⊎◌}
+use Rattle.std.specs.Io.KnownBytes.{Appends}
+use Rattle.module_lang.specs.TextLines.{Line, lines_of}
+use Rattle.host_cli.specs.declared.ended.Ended.{Ended}
+use Rattle.host_cli.specs.declared.fault.PlayFault.{PlayFault}
+use Rattle.host_cli.specs.declared.fault.PlayFault.TheVariants as fault
+use Rattle.host_cli.specs.declared.player.Player.{Player}
+use Rattle.host_cli.specs.Written.{Stage, is_over, TakesAll, EndsAt}
+use Rattle.host_cli.specs.Sessions.{IsAt}
+
+-- a text that ends with an LF
+abbrev pub EndsLine : List ℕ → Type 0
+EndsLine text = (front : List ℕ) × (text ≡ front ++ 10 ∷ [])
+
+-- whole lines: a text that is empty or ends with an LF
+abbrev pub IsWhole : List ℕ → Type 0
+IsWhole text = (text ≡ []) ⊎ EndsLine text
+
+-- What lines from this number on say to their end, and how they end.
+pub record IsEndFrom (number : ℕ) (ls : List Line) (s : Stage) (text : List ℕ) (e : Ended) : Type 0 where
+  pub stage : Stage
+  pub answers : List ℕ
+  pub last : List ℕ
+  pub takes : TakesAll number ls s answers stage
+  pub ends : EndsAt stage last e
+  pub written : text ≡ answers ++ last
+
+-- What some first of these lines say.
+pub record IsSomeOf (number : ℕ) (ls : List Line) (s : Stage) (text : List ℕ) : Type 0 where
+  pub count : ℕ
+  pub stage : Stage
+  pub takes : TakesAll number (take count ls) s text stage
+
+abbrev pub IsCutOfSome : ℕ → List Line → Stage → List ℕ → Type 0
+IsCutOfSome number ls s text = (more : List ℕ) × IsSomeOf number ls s (text ++ more)
+
+abbrev pub IsCutOfEnd : ℕ → List Line → Stage → List ℕ → Type 0
+IsCutOfEnd number ls s text = (more : List ℕ) × (IsSomeOf number ls s (text ++ more) ⊎ ((e : Ended) × IsEndFrom number ls s (text ++ more) e))
+
+-- such a text is written
+abbrev pub Adds : Option (List ℕ) → Option (List ℕ) → (List ℕ → Type 0) → Type 0
+Adds before after P = (text : List ℕ) × P text × Appends before after text
+
+-- These lines are taken, and what is told of them is written. They are counted up to a fault.
+pub record PlaysOn (old new : Player) (before after : Option (List ℕ)) (ls : List Line) (s : Stage) : Type 0 where
+  pub told : List ℕ
+  pub stage : Stage
+  pub takes : TakesAll (old.lines + 1) ls s told stage
+  pub at : IsAt new stage
+  pub lines : is_over stage ≡ false → new.lines ≡ old.lines + length ls
+  pub added : Appends before after told
+
+module _ (old new : Player) (before after : Option (List ℕ)) where
+  -- Lines are played. Where that fails, what some of them say is written, or a front of it.
+  abbrev pub PlaysLines : List Line → Stage → Result (Unit {0}) PlayFault → Type 0
+  PlaysLines ls s (Ok u) = PlaysOn old new before after ls s
+  PlaysLines ls s (Err fault.Read) = ⊥
+  PlaysLines ls s (Err fault.Write) = Adds before after (IsCutOfSome (old.lines + 1) ls s)
+  PlaysLines ls s (Err fault.NoMemory) = Adds before after (IsSomeOf (old.lines + 1) ls s)
+
+  -- The same of the whole lines of these bytes; the rest is held back.
+  abbrev pub PlaysBytes : List ℕ → List ℕ → Stage → Result (Unit {0}) PlayFault → Type 0
+  PlaysBytes bytes held s (Ok u) = (whole : List ℕ) × IsWhole whole × (bytes ≡ whole ++ held) × PlaysOn old new before after (lines_of whole) s
+  PlaysBytes bytes held s (Err fault.Read) = ⊥
+  PlaysBytes bytes held s (Err fault.Write) = (whole rest : List ℕ) × IsWhole whole × (bytes ≡ whole ++ rest) × Adds before after (IsCutOfSome (old.lines + 1) (lines_of whole) s)
+  PlaysBytes bytes held s (Err fault.NoMemory) = (whole rest : List ℕ) × IsWhole whole × (bytes ≡ whole ++ rest) × Adds before after (IsSomeOf (old.lines + 1) (lines_of whole) s)
+
+-- The play ends, behind all lines.
+abbrev pub EndsLines : Option (List ℕ) → Option (List ℕ) → Stage → Result Ended PlayFault → Type 0
+EndsLines before after s (Ok e) = Adds before after (λ text. EndsAt s text e)
+EndsLines before after s (Err fault.Read) = ⊥
+EndsLines before after s (Err fault.Write) = Adds before after (λ text. (text ≡ []) ⊎ ((more : List ℕ) × (e : Ended) × EndsAt s (text ++ more) e))
+EndsLines before after s (Err fault.NoMemory) = Appends before after []
+
+-- The last lines are played, and the play ends.
+abbrev pub PlaysEnd : ℕ → Option (List ℕ) → Option (List ℕ) → List Line → Stage → Result Ended PlayFault → Type 0
+PlaysEnd number before after ls s (Ok e) = Adds before after (λ text. IsEndFrom number ls s text e)
+PlaysEnd number before after ls s (Err fault.Read) = ⊥
+PlaysEnd number before after ls s (Err fault.Write) = Adds before after (IsCutOfEnd number ls s)
+PlaysEnd number before after ls s (Err fault.NoMemory) = Adds before after (IsSomeOf number ls s)

@@ -1,0 +1,49 @@
+-- What the parts of a command leave of a host.
+use Rattle.std.specs.Prelude.{◌≡◌, ℕ, ◌-◌, ◌≤◌, List, Result, Ok, Err}
+use Rattle.module_lang.specs.Program.{Program}
+use Rattle.run_model.specs.declared.event.Event.TheVariants as event
+use Rattle.run_model.specs.declared.event.Piece.{Piece}
+use Rattle.run_model.specs.declared.event.Piece.TheVariants as piece
+use Rattle.run_model.specs.declared.event.Refusal.{Refusal}
+use Rattle.run_model.specs.declared.event.Stepped.{Stepped}
+use Rattle.run_model.specs.declared.event.Stepped.TheVariants as stepped
+use Rattle.run_model.specs.Worlds.{World}
+use Rattle.bucket_kinds.specs.declared.mem_files.MemFiles.{MemFiles}
+use Rattle.filter_chain.specs.declared.host.Host.{Host}
+use Rattle.filter_chain.specs.Hosting.{IsHosting, budget_of, chain_of, file_answer, step_answer}
+use Rattle.filter_chain.specs.Scenes.{Scene, Acts, scene}
+use Rattle.host_cli.specs.declared.pieces.ScriptPiece.{ScriptPiece}
+use Rattle.host_cli.specs.declared.pieces.ScriptPiece.TheVariants as script_piece
+use Rattle.host_cli.specs.Plays.{GoesOn}
+use Rattle.host_cli.specs.Sessions.{device}
+
+-- Steps of this connection were made until one answered something else than that it went, or until they were n, and the last one answered so.
+pub record TakesSteps (old new : Host MemFiles) (number n : ℕ) (answer : Result Stepped Refusal) (w : World) : Type 0 where
+  pub count : ℕ
+  pub before : Scene
+  pub to : World
+  pub few : count ≤ n - 1
+  pub goes : GoesOn (budget_of old) (chain_of old) number count (scene w (device old)) before
+  pub last : Acts (budget_of old) (chain_of old) number event.Step before (step_answer answer) (scene to (device new))
+  pub stops : answer ≡ Ok stepped.Went → count ≡ n - 1
+  pub hosts : IsHosting (device new) new to
+  pub chain : chain_of new ≡ chain_of old
+  pub budget : budget_of new ≡ budget_of old
+
+-- what an opened file makes of a range
+abbrev pub ranged : Result (ℕ × ℕ) Refusal → ℕ → ℕ → Result Piece Refusal
+ranged (Err r) start len = Err r
+ranged (Ok file) start len = Ok (piece.File file.0 start len)
+
+-- A piece can be brought now, or its file was not opened.
+abbrev pub IsReadied : ℕ → List Program → ℕ → ScriptPiece → Scene → Result Piece Refusal → Scene → Type 0
+IsReadied budget chain number (script_piece.Ready x) old r new = (r ≡ Ok x) × (new ≡ old)
+IsReadied budget chain number (script_piece.Range name start len) old r new =
+    (answer : Result (ℕ × ℕ) Refusal) × Acts budget chain number (event.OpenFile name) old (file_answer answer) new × (r ≡ ranged answer start len)
+
+pub record MakesReady (old new : Host MemFiles) (number : ℕ) (x : ScriptPiece) (r : Result Piece Refusal) (w : World) : Type 0 where
+  pub to : World
+  pub readied : IsReadied (budget_of old) (chain_of old) number x (scene w (device old)) r (scene to (device new))
+  pub hosts : IsHosting (device new) new to
+  pub chain : chain_of new ≡ chain_of old
+  pub budget : budget_of new ≡ budget_of old

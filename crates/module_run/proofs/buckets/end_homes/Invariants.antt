@@ -1,7 +1,0 @@
--- The buckets so far are changed, and the others are as they were.
-use Rattle.std.proofs.Common.{◌≡◌, ◌++◌, take, drop, map}
-use Rattle.run_model.specs.Buckets.{returned_bucket}
-use Rattle.module_run.proofs.buckets.end_homes.Given as goal
-
-abbrev pub invariant-loop-b : goal.invariant-loop-b
-invariant-loop-b l = l.items ≡ map (returned_bucket l.call) (take l.b-index l.fn.items) ++ drop l.b-index l.fn.items
