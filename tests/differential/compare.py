@@ -35,9 +35,8 @@ def answer_of(program):
 
 
 def read_answer(script):
-    """The answer that the reading gives; the program has one module and one connection. Raises TooBig where it is a matter of memory
-    or time."""
-    return (*play(script, single=True), b'')
+    """The answer that the reading gives. Raises TooBig where it is a matter of memory or time."""
+    return (*play(script), b'')
 
 
 def differs(players, script):

@@ -33,7 +33,7 @@ class Writer:
     def __init__(self, rng):
         self.rng = rng
         self.module = self.declarations()
-        self.host = Host([self.module], single=True)
+        self.host = Host([self.module])
         self.handler = 'open'
         self.calls = {handler: [] for handler in HANDLERS}      # the code of each call
         self.lines = []                                         # the code of the call that is written

@@ -27,14 +27,13 @@ class Ended(Exception):
     """The line with which a script ends before its commands."""
 
 
-def play(script, single=False):
-    """The bytes that the program must print for a script, and its exit status. Where it is `single`, the script has one module and
-    one connection, as long as the program has no more. Raises TooBig where that is a matter of memory or time."""
+def play(script):
+    """The bytes that the program must print for a script, and its exit status. Raises TooBig where that is a matter of memory or time."""
     try:
-        chain, at, line = read_chain(script, 1 if single else MOST_MODULES)
+        chain, at, line = read_chain(script, MOST_MODULES)
     except Ended as ended:
         return str(ended).encode('ascii'), 1
-    host = Host([module for module, _ in chain], single)
+    host = Host([module for module, _ in chain])
     answers = []
     due = ['budget', 'checked']
     while at < len(script):
@@ -177,8 +176,6 @@ def read_pieces(line, at):
 def answer(host, command):
     """What is answered to a command."""
     if command == 'open':
-        if host.single and host.opened:
-            raise BadLine
         return 'conn %d\n' % host.open()
     if command == 'pools':
         return host.pools.show() + 'ok\n'
