@@ -21,7 +21,7 @@ use Rattle.run_model.specs.declared.fault.FaultKind.TheVariants as fault_kind
 use Rattle.run_model.specs.Examples.{identity, with_main}
 use Rattle.run_model.specs.Chains.{Connection}
 use Rattle.run_model.specs.Turns.{Opening, Found, Missing, Failing}
-use Rattle.run_model.specs.Worlds.{World, Told, Answer, Done, Refused, Connected, Step, Output, Opened, Labels, empty_world, happens}
+use Rattle.run_model.specs.Worlds.{World, Told, Answer, Done, Refused, Connected, Step, Output, Opened, Labels, empty_world, happens, tree_of}
 
 -- reads fail, and an opening tells this
 abbrev pub found : Opening → Told
@@ -135,9 +135,12 @@ ClearReachesOthers = brigade_in 1 1 0 (left_by 100 (clears_its_pool ∷ keeps �
     ((1, event.Open) ∷ (stepping 5 1 ++ ((1, event.Begin) ∷ (stepping 2 1 ++ ((1, event.Bring []) ∷ stepping 8 1))))))
     ≡ Some (var.Live (record { name = 4; on = Some 2; mark = Usable; items = record { name = 9; bucket = record { kind = kind.Heap; content = content.Bytes []; home = home.Free } } ∷ [] }))
 
--- A file is opened on connection 1, with what the device tells.
+-- A file is opened on a connection, with what the device tells.
+abbrev pub opening_on : ℕ → Opening → World → Answer × World
+opening_on k opening w = happens true 100 (identity ∷ []) (found opening) k (event.OpenFile (102 ∷ [])) w
+
 abbrev pub opening_of : Opening → World → Answer × World
-opening_of opening w = happens true 100 (identity ∷ []) (found opening) 1 (event.OpenFile (102 ∷ [])) w
+opening_of opening w = opening_on 1 opening w
 
 -- An opening finds bytes, no file, or a device that fails. What was refused changes nothing, and one file may be found with other bytes
 -- at each opening, also under a later number. Out of a request nothing is opened, whatever the device tells.
@@ -151,6 +154,32 @@ OpeningsAreTold =
     × ((opening_of Missing failed.1).0 ≡ Refused refusal.NoFile) × ((opening_of (Found 0 []) failed.1).0 ≡ Opened 2 0)
     × ((opening_of (Found 1 []) failed.1).0 ≡ Opened 3 0)
 
+-- two connections, each in a request
+abbrev pub two_serving : World
+two_serving = left_by 100 (identity ∷ []) empty_world
+    ((1, event.Open) ∷ (1, event.Step) ∷ (2, event.Open) ∷ (2, event.Step) ∷ (1, event.Begin) ∷ (1, event.Step) ∷ (2, event.Begin) ∷ (2, event.Step) ∷ [])
+
+-- what an open file of a connection held
+abbrev pub file_in : ℕ → ℕ → World → Option (List ℕ)
+file_in k file w = in_conn (w.conns k) where
+  in_conn : Option Connection → Option (List ℕ)
+  in_conn None = None
+  in_conn (Some c) = c.opened file
+
+-- The end of a request closes its file. That of another connection stays open.
+abbrev pub EndSparesOthersFiles : Type 0
+EndSparesOthersFiles =
+    let mine = (opening_on 1 (Found 0 (97 ∷ [])) two_serving).1 in
+    let both = (opening_on 2 (Found 0 (98 ∷ [])) mine).1 in
+    let after = left_by 100 (identity ∷ []) both ((1, event.End) ∷ []) in
+    (file_in 1 1 both ≡ Some (97 ∷ [])) × (file_in 1 1 after ≡ None) × (file_in 2 2 after ≡ Some (98 ∷ []))
+
+-- With a close go its connection's pool, 2, and its request's, 4. Those of the other connection stay: 3, and 5 under it.
+abbrev pub CloseTakesItsPools : Type 0
+CloseTakesItsPools =
+    let after = tree_of (left_by 100 (identity ∷ []) two_serving ((1, event.Close) ∷ [])) in
+    ((tree_of two_serving).path 4 ≡ 4 ∷ 2 ∷ 1 ∷ []) × (after.path 2 ≡ []) × (after.path 4 ≡ []) × (after.path 3 ≡ 3 ∷ 1 ∷ []) × (after.path 5 ≡ 5 ∷ 3 ∷ 1 ∷ [])
+
 pub record ChainRuns : Type 0 where
   pub two : ChainOfTwo
   pub fault : FaultInSecond
@@ -160,3 +189,5 @@ pub record ChainRuns : Type 0 where
   pub leftovers : LeftoversComeBack
   pub clears : ClearReachesOthers
   pub openings : OpeningsAreTold
+  pub ends : EndSparesOthersFiles
+  pub closes : CloseTakesItsPools
