@@ -8,6 +8,8 @@ mod entries;
 pub mod laws;
 mod lines;
 mod refusal;
+#[cfg(test)]
+mod refused_tests;
 mod shape;
 #[cfg(test)]
 mod tests;
