@@ -1,7 +1,7 @@
 #!/usr/bin/env python3
 """Measures chains and many connections, as ratios within one run.
 
-    python3 bench/connections.py [PROGRAM]
+    python3 bench/connections.py [PROGRAM [flat]]
 
 PROGRAM is crates/host_cli/out/host_cli where none is given (`./host` builds it). Each time is the best of three runs.
 
@@ -9,7 +9,9 @@ PROGRAM is crates/host_cli/out/host_cli where none is given (`./host` builds it)
     request    begin, bring, run, output and end of a connection, beside as many
     idle       bytes of memory that a connection takes, idle and with a request, for chains of 1 and 16 filters
     chain      the same request through chains of 1, 4 and 16 filters that pass what they get
-    flat       resident memory after so many requests on 100 connections in turn
+    flat       resident memory after so many requests on 100 connections in turn, up to a million
+
+With the word `flat` behind PROGRAM it measures that alone, in some minutes.
 """
 import os
 import subprocess
@@ -24,7 +26,7 @@ OTHERS = (0, 1_000, 10_000)
 CHAINS = (1, 4, 16)
 STEPS = 3_000_000
 REQUESTS = 20_000
-TURNS = (10_000, 20_000, 40_000, 80_000)
+TURNS = (10_000, 100_000, 1_000_000)
 BUDGET = 'budget 18446744073709551615\n'
 
 THROUGH = 'module 1\nopen\nret ok\ninit\nret ok\nmain\npass in bad\nret ok\n:bad\nret fail\nend\n'
@@ -149,8 +151,9 @@ def flat():
 
 
 if __name__ == '__main__':
-    steps()
-    requests()
-    chains()
-    memory()
+    if sys.argv[2:] != ['flat']:
+        steps()
+        requests()
+        chains()
+        memory()
     flat()

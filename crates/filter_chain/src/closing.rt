@@ -12,8 +12,8 @@ use run_model::{Payload, Refusal};
 impl<F: Files + Drop> Host<F> {
     ghost use Rattle.filter_chain.specs.Hosting.{IsHosting, Happens, close_answer, files_of};
 
-    /// Closes a connection, in any state: its calls are destroyed, and then its pool with all under it. Answers what clears of its pools
-    /// handed on, the oldest first, its own pool last. Refused, nothing is changed: `NoSuchConn`; `NoMemory`.
+    /// Closes a connection, in any state: its calls are destroyed, and then its pool with all under it. Answers the labels that ran, as
+    /// `labels_run` has them, those of its own pool last. Refused, nothing is changed: `NoSuchConn`; `NoMemory`.
     pub fn close(&mut self, number: u64) -> Result<Vec<Vec<(PoolId, Payload)>>, Refusal>
         requires { (w : World) × IsHosting (F.device (files_of self.old)) self.old w }
         ensures event { (w : World) → IsHosting (F.device (files_of self.old)) self.old w → Happens (F.device (files_of self.old)) (F.device (files_of self.new)) self.old self.new number Close (close_answer result) w }

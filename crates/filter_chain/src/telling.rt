@@ -25,7 +25,8 @@ impl<F: Files + Drop> Host<F> {
         }
     }
 
-    /// What clears of the connection's pools handed on so far, the oldest first. Refused: `NoSuchConn`.
+    /// The labels of the connection that ran so far, each with its pool, in a list for each clear that ran any, the oldest first. Refused:
+    /// `NoSuchConn`.
     pub fn labels_run(&self, number: u64) -> Result<&[Vec<(PoolId, Payload)>], Refusal>
         ensures told { IfOk result (λ labels. (w : World) → IsHosting (F.device (files_of self.now)) self.now w → Happens (F.device (files_of self.now)) (F.device (files_of self.now)) self.now self.now number TellLabels (Labels (labels_handed labels.now)) w) }
         ensures missing { IfErr result (λ why. (w : World) → IsHosting (F.device (files_of self.now)) self.now w → Happens (F.device (files_of self.now)) (F.device (files_of self.now)) self.now self.now number TellLabels (Refused why) w) }

@@ -95,6 +95,7 @@ pub mod Brought
 pub mod LatePieces
 pub mod OpenFiles
 pub mod CarriedOut
+pub mod LabelsKept
 pub mod Instructions
 pub mod Untouched
 pub mod Bystanders

@@ -1,5 +1,5 @@
 -- A request ends: what the connection stands for then.
-use Rattle.std.proofs.Common.{◌≡◌, ◌≢◌, ◌==◌, ℕ, zero, suc, ◌+◌, ◌-◌, ◌<◌, ◌≤◌, ◌&&◌, not, nat_le, Bool, true, false, List, [], ◌∷◌, ◌++◌, length, map, Option, Some, None, is_some, refl, sym, ap, subst, ◌∙◌, inl, inr, arith, append_assoc}
+use Rattle.std.proofs.Common.{◌≡◌, ◌≢◌, ◌==◌, ℕ, zero, suc, ◌+◌, ◌-◌, ◌<◌, ◌≤◌, ◌&&◌, not, nat_le, Bool, true, false, List, [], ◌∷◌, ◌++◌, length, map, Option, Some, None, is_some, refl, sym, ap, subst, ◌∙◌, inl, inr, arith}
 use Rattle.std.specs.Prelude.{if◌then◌else◌, slice_get}
 use Rattle.std.specs.Option.{option_map}
 use Rattle.std.specs.List.{list_any}
@@ -47,15 +47,6 @@ use Rattle.ring_run.proofs.HeldAlike.{held_slots}
 use Rattle.ring_run.proofs.Looked.{some_same}
 use Rattle.ring_run.proofs.Tops.{frame_at}
 use Rattle.ring_run.proofs.RequestBegins.{conn_is, pools_are}
-
--- labels that one more clear handed on
-append_none : {X : Type 0} (xs : List X) → xs ++ [] ≡ xs
-append_none [] = refl
-append_none (x ∷ xs) = ap (λ (ys : List _). x ∷ ys) (append_none xs)
-
-pub handed_more : (xs : List (Vec (ℕ × Payload))) (x : Vec (ℕ × Payload)) → labels_handed (xs ++ x ∷ []) ≡ labels_handed xs ++ labels_in x.items
-handed_more [] x = append_none (labels_in x.items)
-handed_more (y ∷ ys) x = ap (λ (ls : List (List ℕ)). labels_in y.items ++ ls) (handed_more ys x) ∙ sym (append_assoc (labels_in y.items) (labels_handed ys) (labels_in x.items))
 
 pub quiet_length : (xs : List Filter) → length (map quieted xs) ≡ length xs
 quiet_length [] = refl
@@ -213,7 +204,7 @@ module _ {R : Type 0} {g : Ghosts R Bucket} (chain : List Program) (tree newer :
     no_stack rings d quiet_now = ap (λ (b : Bool). if b then stack_up (frame_at rings d) d.first (suc (waiting d)) else []) quiet_now
 
     -- what it stands for
-    module _ (v : Linked) (left : LeftAs chain tree old dev c v) (handed : Vec (ℕ × Payload)) (order : handed.items ≡ run_order (map_of tree) pool) (more : labels.items ≡ c.labels.items ++ handed ∷ []) (none_open : files.items ≡ []) where
+    module _ (v : Linked) (left : LeftAs chain tree old dev c v) (more : labels_handed labels.items ≡ labels_handed c.labels.items ++ labels_in (run_order (map_of tree) pool)) (none_open : files.items ≡ []) where
       pools_as : pools_of v.0 v.1 ≡ map_of tree
       pools_as = pools_are (map_of tree) (lists old) (next_name old) c v left.seen
 
@@ -221,7 +212,7 @@ module _ {R : Type 0} {g : Ghosts R Bucket} (chain : List Program) (tree newer :
       pools_then = ap (destroyed pool) pools_as ∙ sym gone.pools
 
       labels_then : labels_handed c.labels.items ++ labels_in (run_order (map_of tree) pool) ≡ labels_handed labels.items
-      labels_then = sym (ap labels_handed more ∙ (handed_more c.labels.items handed ∙ ap (λ (xs : List (ℕ × Payload)). labels_handed c.labels.items ++ labels_in xs) order))
+      labels_then = sym more
 
       queue_then : counting c.queue (length c.filters.items - c.queue) ≡ counting c.queue (length filters.items - c.queue)
       queue_then = ap (λ (n : ℕ). counting c.queue (n - c.queue)) (stacked.many ∙ sym stacked_then.many)
@@ -285,12 +276,10 @@ module _ {R : Type 0} {g : Ghosts R Bucket} (chain : List Program) (tree newer :
       }
 
 -- the labels of a close
-pub closed_labels : (ps : Pools Payload) (rings : ℕ → Option Items) (next : ℕ) (c : Conn) (v : Linked) → IsSeenAs ps rings next c v → (handed : Vec (ℕ × Payload)) → handed.items ≡ run_order ps c.conn
-    → labels_handed (c.labels.items ++ handed ∷ []) ≡ closing_labels v
+pub closed_labels : (ps : Pools Payload) (rings : ℕ → Option Items) (next : ℕ) (c : Conn) (v : Linked) → IsSeenAs ps rings next c v
+    → labels_handed c.labels.items ++ labels_in (run_order ps c.conn) ≡ closing_labels v
 unfolding closing_labels configuration run_down with_pools conn_of
-closed_labels ps rings next c v seen handed order =
-    handed_more c.labels.items handed
-    ∙ (ap (λ (xs : List (ℕ × Payload)). labels_handed c.labels.items ++ labels_in xs) order
-    ∙ (ap (λ (n : ℕ). labels_handed c.labels.items ++ labels_in (run_order ps n)) (sym (conn_is ps rings next c v seen))
+closed_labels ps rings next c v seen =
+    ap (λ (n : ℕ). labels_handed c.labels.items ++ labels_in (run_order ps n)) (sym (conn_is ps rings next c v seen))
     ∙ (ap (λ (qs : Pools Payload). labels_handed c.labels.items ++ labels_in (run_order qs v.1.conn)) (sym (pools_are ps rings next c v seen))
-    ∙ ap (λ (x : Connection). x.labels ++ labels_in (run_order (pools_of v.0 v.1) v.1.conn)) (sym seen.conn))))
+    ∙ ap (λ (x : Connection). x.labels ++ labels_in (run_order (pools_of v.0 v.1) v.1.conn)) (sym seen.conn))

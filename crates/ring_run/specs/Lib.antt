@@ -35,3 +35,4 @@ pub mod Operands
 pub mod NamedBelow
 pub mod Pieces
 pub mod CarriedOut
+pub mod LabelsKept

@@ -1,11 +1,10 @@
 //! One instruction is carried out: what it does, and where it leads.
 
-ghost use Rattle.std.specs.Prelude.{◌≡◌, ◌≢◌, ◌∷◌, ◌≤◌, ◌<◌, ◌++◌, ℕ, [], None, Some, true, false, length, IsTrue, IsOk, IfOk, OnOk, OnErr, vec_len, vec_capacity};
+ghost use Rattle.std.specs.Prelude.{◌≡◌, ◌≢◌, ◌∷◌, ◌≤◌, ◌<◌, ℕ, [], None, Some, true, false, length, IsTrue, IsOk, IfOk, OnOk, OnErr};
 ghost use Rattle.module_lang.specs.Program.{Program, fits};
 ghost use Rattle.bucket_kinds.specs.Device.{Device};
 ghost use Rattle.bucket_ring.specs.Kept.{NoneRevived};
 ghost use Rattle.run_model.specs.Faults.{fault};
-ghost use Rattle.run_model.specs.Payloads.{labels_in};
 ghost use Rattle.run_model.specs.Pools.{is_live, is_under};
 ghost use Rattle.run_model.specs.Steps.{Choice, grows, step};
 ghost use Rattle.pool_tree.specs.Tree.{map_of};
@@ -13,7 +12,7 @@ ghost use Rattle.brigade_ops.specs.House.{IsHouse, AreOpen};
 ghost use Rattle.brigade_ops.specs.Store.{brigade_of, pool_of, references, next_name};
 ghost use Rattle.ring_run.specs.Apart.{changes_pools, clears_pool, is_carried, keeps_files};
 ghost use Rattle.ring_run.specs.Around.{Around};
-ghost use Rattle.ring_run.specs.CarriedOut.{KeepNames, WasCarriedOut, during, labels_handed, with_files};
+ghost use Rattle.ring_run.specs.CarriedOut.{KeepNames, WasCarriedOut, during, with_files};
 ghost use Rattle.ring_run.specs.Cleared.{LooksAt};
 ghost use Rattle.ring_run.specs.Ends.{EndInFiles};
 ghost use Rattle.ring_run.specs.Given.{RangesOpen};
@@ -26,6 +25,7 @@ ghost use Rattle.ring_run.specs.Setting.{in_setting};
 use crate::carry::change_tree;
 use crate::execute::change;
 use crate::exits::{exit, jumps_if};
+use crate::labels::hand_on;
 use crate::machine::{Call, Instance};
 use crate::outside::Outside;
 use crate::pool_clears::{clear_named, cleared_pool};
@@ -96,15 +96,6 @@ fn carry_inside<R: Rings<Bucket> + Drop>(
     Ok(leads)
 }
 
-/// Adds what a clear handed on.
-#[tactic(auto, using(crate::proofs::CarriedOut::labels_more))]
-fn hand_on(handed: &mut Vec<Vec<(PoolId, Payload)>>, ran: Vec<(PoolId, Payload)>)
-    requires { vec_len handed.old < vec_capacity handed.old }
-    ensures { labels_handed handed.new.items ≡ labels_handed handed.old.items ++ labels_in ran.items }
-{
-    handed.push(ran).unwrap();
-}
-
 /// Carries out an instruction that clears a pool. Without memory nothing is changed.
 fn carry_clear<R: Rings<Bucket> + Drop, F: Files>(
     instance: &Instance,
@@ -154,8 +145,8 @@ fn carry_clear<R: Rings<Bucket> + Drop, F: Files>(
     Ok(Exit::GoOn)
 }
 
-/// Carries out an instruction that has no fault and whose names are there, other than a pass and a return, and tells where it leads. To what
-/// clears handed on, the oldest first, is added what this one does: its labels are what ran. Without memory nothing is changed.
+/// Carries out an instruction that has no fault and whose names are there, other than a pass and a return, and tells where it leads. To the
+/// labels that clears ran, the oldest first, are added those that this one runs. Without memory nothing is changed.
 pub(crate) fn carry_out<R: Rings<Bucket> + Drop, F: Files>(
     alloc: Global,
     code: &Module,

@@ -23,7 +23,7 @@ pub struct OpenFile {
 /// A connection. Its calls are those of the filter `first` and of the filters behind it: each waits for that of the next one, and the last
 /// one runs. `busy` tells whether any call runs. `waits` are the names of those that wait, the outermost first. `queue` is the next filter
 /// whose `open` or `init` is to run; where none is, it is the number of filters. `conn` is the connection's pool, and `req` that of the
-/// open request. `labels` is what each clear handed on, the oldest first. `files` are those of the request. `out` is the output that was not
+/// open request. `labels` has a list for each clear that ran labels, the oldest first. `files` are those of the request. `out` is the output that was not
 /// taken yet, and `ended` tells whether an EOS came to it in this request. `count` is the number of instructions that were executed since
 /// the last open, begin or bring. `broken` is why the connection broke.
 #[derive(Drop)]

@@ -18,7 +18,7 @@ ghost use Rattle.ring_run.specs.Happened.{Stands};
 ghost use Rattle.ring_run.specs.Proceeding.{LeftAs, StandsFor};
 
 use crate::conn::Conn;
-use crate::conn_end::add_labels;
+use crate::labels::hand_on;
 use brigade_ops::{Brigades, Bucket, Files, PoolTree, Rings};
 use run_model::Payload;
 use std::alloc::AllocError;
@@ -45,7 +45,7 @@ impl Conn {
     {
         self.labels.reserve(1)?;
         let ran = store.clear(&[], tree, files, self.conn)?;
-        add_labels(&mut self.labels, ran);
+        hand_on(&mut self.labels, ran);
         Ok(())
     }
 }

@@ -6,6 +6,7 @@ ghost use Rattle.module_lang.specs.Program.{Program};
 ghost use Rattle.run_model.specs.Chains.{Linked};
 ghost use Rattle.run_model.specs.Connection.{first_refusal};
 ghost use Rattle.run_model.specs.Files.{is_referred};
+ghost use Rattle.run_model.specs.Payloads.{labels_in};
 ghost use Rattle.run_model.specs.Pools.{is_live};
 ghost use Rattle.run_model.specs.RunOrder.{run_order};
 ghost use Rattle.run_model.specs.Turns.{ends};
@@ -13,14 +14,14 @@ ghost use Rattle.pool_tree.specs.Tree.{map_of};
 ghost use Rattle.brigade_ops.specs.Files.{SameButOpen};
 ghost use Rattle.brigade_ops.specs.House.{IsHouse, AreOpen};
 ghost use Rattle.brigade_ops.specs.Store.{lists, pool_of, references, next_name};
+ghost use Rattle.ring_run.specs.Conns.{labels_handed};
 ghost use Rattle.ring_run.specs.Destroyed.{WasDestroyed, quieted, request_left};
 ghost use Rattle.ring_run.specs.Happened.{Happened, Stands, lasted, refusal_of};
 ghost use Rattle.ring_run.specs.Proceeding.{StandsFor};
 ghost use Rattle.ring_run.specs.Refused.{request_tests};
-ghost use Rattle.std.specs.Global.{Vec};
-ghost use Rattle.std.specs.Vec.{vec_len, vec_capacity};
 
 use crate::conn::{Conn, Filter};
+use crate::labels::hand_on;
 use brigade_ops::{Brigades, Bucket, Files, PoolId, PoolTree, Rings};
 use run_model::{Payload, Refusal};
 use std::alloc::{AllocError, Global};
@@ -32,14 +33,6 @@ fn forget_sent(filters: &mut Vec<Filter>)
     for k in 0..filters.len() {
         filters[k].instance.sent = false;
     }
-}
-
-/// Adds what a pool handed on, where there is room.
-pub(crate) fn add_labels(labels: &mut Vec<Vec<(PoolId, Payload)>>, ran: Vec<(PoolId, Payload)>)
-    requires { vec_len labels.old < vec_capacity labels.old }
-    ensures { labels.new.items ≡ labels.old.items ++ ran ∷ [] }
-{
-    labels.push(ran).unwrap();
 }
 
 impl Conn {
@@ -74,7 +67,7 @@ impl Conn {
         requires house { IsHouse store.old (map_of tree.old) }
         requires open { AreOpen (references store.old) (F.device files.old) }
         ensures ok { OnOk result (WasDestroyed pool tree.old tree.new store.old store.new (F.device files.old) (F.device files.new) self.old) }
-        ensures labels { OnOk result ((handed : Vec (ℕ × Payload)) × (handed.items ≡ run_order (map_of tree.old) pool) × (self.new.labels.items ≡ self.old.labels.items ++ handed ∷ [])) }
+        ensures labels { OnOk result (labels_handed self.new.labels.items ≡ labels_handed self.old.labels.items ++ labels_in (run_order (map_of tree.old) pool)) }
         ensures rest { self.new ≡ record self.old { labels = self.new.labels } }
         ensures same { OnErr result (self.new.labels.items ≡ self.old.labels.items) }
         ensures err { OnErr result ((n : ℕ) → lists store.new n ≡ lists store.old n) }
@@ -89,7 +82,7 @@ impl Conn {
         let rings = self.rings(alloc)?;
         self.labels.reserve(1)?;
         let ran = store.destroy(rings.as_slice(), tree, files, pool)?;
-        add_labels(&mut self.labels, ran);
+        hand_on(&mut self.labels, ran);
         Ok(())
     }
 

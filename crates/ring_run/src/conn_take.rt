@@ -25,8 +25,8 @@ impl Conn {
         mem::replace(&mut self.out, Seq::new(alloc))
     }
 
-    /// What each clear and each end of a pool handed on, the oldest first. Labels are what ran. It takes no memory, and serves in any
-    /// state.
+    /// The labels that ran, each with its pool, in a list for each clear or end of a pool that ran any, the oldest first. It takes no memory,
+    /// and serves in any state.
     #[tactic(auto, unfolding(crate::specs::Conns::conn_of))]
     pub fn labels(&self) -> &[Vec<(PoolId, Payload)>]
         ensures { (ps : Pools Payload) (rings : ℕ → Option Items) (opened : ℕ → Option (List ℕ)) → labels_handed result.now ≡ (conn_of ps rings opened self.now).labels }
@@ -34,7 +34,7 @@ impl Conn {
         self.labels.as_slice()
     }
 
-    /// What clears and ends of pools handed on, as `labels` has it.
+    /// The labels that ran, as `labels` has them.
     pub fn into_labels(self) -> Vec<Vec<(PoolId, Payload)>>
         ensures { result ≡ self.labels }
     {

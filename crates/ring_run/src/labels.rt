@@ -1,10 +1,13 @@
 //! Labels among payloads.
 
-ghost use Rattle.std.specs.Prelude.{◌≡◌, false, MatchOption};
+ghost use Rattle.std.specs.Prelude.{◌≡◌, ◌<◌, ◌++◌, [], false, filter, MatchOption, vec_len, vec_capacity};
 ghost use Rattle.std.specs.List.{list_any};
-ghost use Rattle.run_model.specs.Payloads.{is_label};
+ghost use Rattle.run_model.specs.Payloads.{is_label, labels_in};
 ghost use Rattle.pool_tree.specs.Payloads.{IsLastAt};
+ghost use Rattle.ring_run.specs.CarriedOut.{labels_handed};
+ghost use Rattle.ring_run.specs.LabelsKept.{is_run};
 
+use brigade_ops::PoolId;
 use run_model::Payload;
 
 fn is_label(payload: &Payload, text: &[u8]) -> bool
@@ -26,4 +29,35 @@ pub(crate) fn newest_label(payloads: &[Payload], text: &[u8]) -> Option<usize>
         }
     }
     None
+}
+
+/// Whether a payload is a label, which ran.
+fn is_run(payload: &Payload) -> bool
+    ensures { result ≡ is_run payload.now }
+{
+    match payload {
+        Payload::Label(_) => true,
+        Payload::FileRef(_) | Payload::Brigade(_) => false,
+    }
+}
+
+/// Leaves the labels alone, in their order. It takes no memory.
+fn keep_labels(ran: &mut Vec<(PoolId, Payload)>)
+    ensures { ran.new.items ≡ filter (λ x. is_run x.1) ran.old.items }
+{
+    ran.retain(|entry| is_run(&entry.1));
+}
+
+/// Adds the labels among what a clear handed on, where there is room. Where there are none, nothing is added.
+pub(crate) fn hand_on(handed: &mut Vec<Vec<(PoolId, Payload)>>, ran: Vec<(PoolId, Payload)>)
+    requires { vec_len handed.old < vec_capacity handed.old }
+    ensures told { labels_handed handed.new.items ≡ labels_handed handed.old.items ++ labels_in ran.items }
+    ensures none { labels_in ran.items ≡ [] → handed.new.items ≡ handed.old.items }
+{
+    let mut kept = ran;
+    keep_labels(&mut kept);
+    if kept.is_empty() {
+        return;
+    }
+    handed.push(kept).unwrap();
 }

@@ -16,7 +16,7 @@ returns-clause-ok g c =
     let d = g.F.Files.device c.args.files.now in
     let e = g.F.Files.device c.clear_named.new.files in
     let handed = c.args.handed.now.items in
-    let labels = c.hand_on.ensures ∙ (ap (λ hs. labels_handed hs ++ labels_in c.in_ok-ran.ran.items) c.reserve.ensures.items ∙ ap (λ xs. labels_handed handed ++ labels_in xs) c.in_ok-ran.ensures.ran) in
+    let labels = c.hand_on.ensures.told ∙ (ap (λ hs. labels_handed hs ++ labels_in c.in_ok-ran.ran.items) c.reserve.ensures.items ∙ ap (λ xs. labels_handed handed ++ labels_in xs) c.in_ok-ran.ensures.ran) in
     carried_clear d e code c.args.instr (pool_cleared c.args.instr c.requires.kind) c.args.setting.now ps (map_of c.clear_named.new.tree) handed c.hand_on.new.handed.items around c.in-Some.pool
     (lists s) (next_name s) (lists c.clear_named.new.store) (next_name c.clear_named.new.store) c.args.instance.now c.args.call.now _ (sym c.in-Some.ensures) labels refl
     (record { closed = c.in_ok-ran.ensures.closed; others = c.clear_named.ensures.others })

@@ -1,8 +1,9 @@
 -- By what was handed on.
-use Rattle.std.proofs.Common.{◌≡◌, ℕ, List, [], ◌∷◌, ◌++◌, sym, ap, subst, ◌∙◌}
+use Rattle.std.proofs.Common.{◌≡◌, ℕ, List, ◌++◌, sym, ap, subst, ◌∙◌}
 use Rattle.std.specs.Global.{Vec}
 use Rattle.bucket_kinds.specs.Device.{Device}
 use Rattle.run_model.specs.declared.payload.Payload.{Payload}
+use Rattle.run_model.specs.Payloads.{labels_in}
 use Rattle.pool_tree.specs.Tree.{map_of}
 use Rattle.brigade_ops.specs.Store.{lists, next_name}
 use Rattle.ring_run.specs.Conns.{labels_handed}
@@ -21,8 +22,8 @@ clear-requires-clause-live g c = (let s = c.requires.stands in conn_live s.0 c.a
 
 pub returns-clause-labels : goal.returns-clause-labels
 returns-clause-labels g c chain v stands =
-    ap labels_handed (c.add_labels.ensures ∙ ap (λ (xs : List (Vec (ℕ × Payload))). xs ++ c.in_ok-ran.ran ∷ []) c.reserve.ensures.items)
-    ∙ closed_labels (map_of c.args.tree.now) (lists c.args.store.now) (next_name c.args.store.now) c.args.self.now v stands.left.seen c.in_ok-ran.ran c.in_ok-ran.ensures.ran
+    (c.hand_on.ensures.told ∙ (ap (λ (hs : List (Vec (ℕ × Payload))). labels_handed hs ++ labels_in c.in_ok-ran.ran.items) c.reserve.ensures.items ∙ ap (λ (xs : List (ℕ × Payload)). labels_handed c.args.self.now.labels.items ++ labels_in xs) c.in_ok-ran.ensures.ran))
+    ∙ closed_labels (map_of c.args.tree.now) (lists c.args.store.now) (next_name c.args.store.now) c.args.self.now v stands.left.seen
 
 pub returns-in_err-reserve-clause-err : goal.returns-in_err-reserve-clause-err
 returns-in_err-reserve-clause-err g c =

@@ -53,7 +53,7 @@ returns-clause-ends g c chain v stands =
     let more = e.labels in
     let left =
     request_left_as chain c.args.tree.now c.destroy.new.tree c.args.store.now c.destroy.new.store d (g.F.Files.device c.destroy.new.files) self stands.left.stacked (request_idle self.broken self.busy self.req none) c.in-Ok.pool e.ok
-    after.filters c.destroy.new.self.labels after.files (c.forget_request.ensures.quiet ∙ ap (λ (x : Conn). map quieted x.filters.items) e.rest) v stands.left more.0 more.1 more.2 c.forget_request.ensures.files in
+    after.filters c.destroy.new.self.labels after.files (c.forget_request.ensures.quiet ∙ ap (λ (x : Conn). map quieted x.filters.items) e.rest) v stands.left more c.forget_request.ensures.files in
     let same : after ≡ request_left self after.filters c.destroy.new.self.labels after.files = c.forget_request.ensures.rest ∙ ap (λ (x : Conn). request_left x after.filters x.labels after.files) e.rest in
     happened_as chain c.destroy.new.tree c.destroy.new.store (g.F.Files.device c.destroy.new.files) after None (ends true v) (request_over c.in-Ok.pool v)
     (end_passed (map_of c.args.tree.now) (lists c.args.store.now) (next_name c.args.store.now) self v stands.left.seen true none
