@@ -2,6 +2,7 @@
 
 use crate::doubt::{Doubt, doubt_of};
 use crate::mend::mend;
+use crate::names::fault_name;
 use life_check::{Cert, target};
 use life_state::{
     State, Successors, after, at_end_of_request, at_main, at_open, at_return, join, leq,
@@ -300,6 +301,19 @@ pub fn failures(code: &Module, pc: usize, state: &State) -> usize {
 /// The refusal of an instruction, if it has one in these states.
 pub fn refusal_of(code: &Module, states: &Cert, pc: usize) -> Option<Refusal> {
     refusal_at(code, pc, &states.state(pc)?)
+}
+
+/// The refusal of an instruction by a fault of this name, if it has one in these states.
+pub fn refusal_by(code: &Module, states: &Cert, pc: usize, name: &str) -> Option<Refusal> {
+    let mut state = states.state(pc)?;
+    for _ in 0..TESTS {
+        let refusal = refusal_at(code, pc, &state)?;
+        if fault_name(refusal.kind) == name {
+            return Some(refusal);
+        }
+        mend(&mut state, refusal.doubt);
+    }
+    None
 }
 
 /// The instructions that may have a fault in these states.

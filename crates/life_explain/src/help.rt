@@ -1,6 +1,8 @@
 //! The help on a module text that gets no certificate, and on one that is refused with a certificate.
 
+use crate::faulty_line::{tell_asm_fault, tell_cert_fault};
 use crate::flow::states_of;
+use crate::script::{ScriptText, TextKind};
 use crate::session::tell_refusals;
 use crate::source::Source;
 use crate::told::Told;
@@ -9,59 +11,77 @@ use life_check::{Cert, CheckRefusal, Rule, check};
 use module_lang::{AsmRefusal, Module, assemble};
 use std::alloc::{AllocError, Global};
 
-// The front of a line.
-fn shortened(alloc: Global, line: &str) -> Result<String, AllocError> {
-    let mut front = String::new(alloc);
-    for byte in line.as_bytes().iter().take(100) {
-        front.push(char::from(*byte))?;
-    }
-    Ok(front)
-}
-
-fn asm_fault(alloc: Global, text: &[u8], refusal: AsmRefusal) -> Result<String, AllocError> {
-    match refusal {
-        AsmRefusal::Fault { line, code } => {
-            let source = Source::of(alloc, text)?;
-            let there = shortened(alloc, source.text_at(line.saturating_sub(1)))?;
-            format!(in alloc; "line {line}: `{there}`: {code}\n")
+/// The module of a text; nothing where its fault is told.
+pub fn module_of(told: &mut Told, text: ScriptText<'_>) -> Result<Option<Module>, AllocError> {
+    match assemble(told.alloc, text.text) {
+        Ok(code) => Ok(Some(code)),
+        Err(AsmRefusal::Fault { line, code }) => {
+            tell_asm_fault(told, text, line, code)?;
+            Ok(None)
         }
-        AsmRefusal::NoMemory => Err(AllocError),
+        Err(AsmRefusal::NoMemory) => Err(AllocError),
     }
 }
 
-fn cert_fault(alloc: Global, refusal: CertRefusal) -> Result<String, AllocError> {
-    match refusal {
-        CertRefusal::Fault { line, code } => format!(in alloc;
-            "line {line} of the certificate: {code}\n"
-        ),
-        CertRefusal::NoMemory => Err(AllocError),
+/// The certificate of a text; nothing where its fault is told.
+pub fn cert_of(told: &mut Told, text: ScriptText<'_>) -> Result<Option<Cert>, AllocError> {
+    match read_cert(told.alloc, text.text) {
+        Ok(cert) => Ok(Some(cert)),
+        Err(CertRefusal::Fault { line, code }) => {
+            tell_cert_fault(told, text, line, code)?;
+            Ok(None)
+        }
+        Err(CertRefusal::NoMemory) => Err(AllocError),
     }
 }
 
-fn without_certificate(
-    alloc: Global,
-    text: &[u8],
-    code: &Module,
-    pc: usize,
-) -> Result<String, AllocError> {
-    let source = Source::of(alloc, text)?;
-    let states = states_of(alloc, code, false)?;
-    let mut told = Told::new(alloc);
-    tell_refusals(&mut told, source, code, &states, pc)?;
-    Ok(told.text)
+// A text that stands alone.
+fn alone(kind: TextKind, text: &[u8]) -> ScriptText<'_> {
+    ScriptText {
+        kind,
+        before: 0,
+        text,
+    }
+}
+
+/// Tells what is wrong with the texts of a script, or why a module is refused, alone or with its certificate.
+pub fn tell_texts(
+    told: &mut Told,
+    text: ScriptText<'_>,
+    cert: Option<ScriptText<'_>>,
+) -> Result<(), AllocError> {
+    let Some(code) = module_of(told, text)? else {
+        return Ok(());
+    };
+    let source = Source::of(told.alloc, text.text, text.before)?;
+    let Some(given) = cert else {
+        return without_certificate(told, source, &code);
+    };
+    let Some(cert) = cert_of(told, given)? else {
+        return Ok(());
+    };
+    match check(&code, &cert) {
+        Ok(()) => Ok(()),
+        Err(refusal) => with_certificate(told, source, &code, &cert, refusal),
+    }
+}
+
+fn without_certificate(told: &mut Told, source: Source, code: &Module) -> Result<(), AllocError> {
+    match make(told.alloc, code) {
+        Ok(_) => Ok(()),
+        Err(MakeRefusal::NoMemory) => Err(AllocError),
+        Err(MakeRefusal::At { pc, rule: _ }) => {
+            let states = states_of(told.alloc, code, false)?;
+            tell_refusals(told, source, code, &states, pc)
+        }
+    }
 }
 
 /// Why no certificate of a module text is made, in words; nothing where one is made.
 pub fn explain_certify(alloc: Global, text: &[u8]) -> Result<String, AllocError> {
-    let code = match assemble(alloc, text) {
-        Ok(code) => code,
-        Err(refusal) => return asm_fault(alloc, text, refusal),
-    };
-    match make(alloc, &code) {
-        Ok(_) => Ok(String::new(alloc)),
-        Err(MakeRefusal::NoMemory) => Err(AllocError),
-        Err(MakeRefusal::At { pc, rule: _ }) => without_certificate(alloc, text, &code, pc),
-    }
+    let mut told = Told::new(alloc);
+    tell_texts(&mut told, alone(TextKind::Module, text), None)?;
+    Ok(told.text)
 }
 
 // Tells whether there is another certificate with which the module is accepted.
@@ -76,36 +96,25 @@ fn tell_other(told: &mut Told, code: &Module) -> Result<(), AllocError> {
 }
 
 fn with_certificate(
-    alloc: Global,
-    text: &[u8],
+    told: &mut Told,
+    source: Source,
     code: &Module,
     cert: &Cert,
     refusal: CheckRefusal,
-) -> Result<String, AllocError> {
-    let source = Source::of(alloc, text)?;
-    let mut told = Told::new(alloc);
+) -> Result<(), AllocError> {
     match refusal.rule {
-        Rule::May(_) => tell_refusals(&mut told, source, code, cert, refusal.pc)?,
+        Rule::May(_) => tell_refusals(told, source, code, cert, refusal.pc),
         Rule::Shape | Rule::Entry | Rule::Flow | Rule::Exit | Rule::Request => {
             told.certificate(&source, code, cert, refusal)?;
-            tell_other(&mut told, code)?;
+            tell_other(told, code)
         }
     }
-    Ok(told.text)
 }
 
 /// Why a module text is refused with a certificate text, in words; nothing where it is accepted.
 pub fn explain_check(alloc: Global, text: &[u8], cert: &[u8]) -> Result<String, AllocError> {
-    let code = match assemble(alloc, text) {
-        Ok(code) => code,
-        Err(refusal) => return asm_fault(alloc, text, refusal),
-    };
-    let cert = match read_cert(alloc, cert) {
-        Ok(cert) => cert,
-        Err(refusal) => return cert_fault(alloc, refusal),
-    };
-    match check(&code, &cert) {
-        Ok(()) => Ok(String::new(alloc)),
-        Err(refusal) => with_certificate(alloc, text, &code, &cert, refusal),
-    }
+    let mut told = Told::new(alloc);
+    let cert = alone(TextKind::Cert, cert);
+    tell_texts(&mut told, alone(TextKind::Module, text), Some(cert))?;
+    Ok(told.text)
 }

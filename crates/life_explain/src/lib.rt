@@ -3,14 +3,21 @@
 
 mod case;
 mod certificate;
+mod command_line;
 mod doubt;
+mod faulty_line;
 mod flow;
+mod forms;
 mod help;
+mod line_words;
 mod mend;
 mod names;
 mod pattern;
+mod play;
+mod refused;
 mod remedies;
 mod rewrites;
+mod script;
 mod session;
 mod source;
 mod told;
@@ -19,3 +26,4 @@ mod words;
 
 pub use help::{explain_certify, explain_check};
 pub use names::fault_name;
+pub use play::explain_play;

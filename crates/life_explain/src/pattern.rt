@@ -2,6 +2,7 @@
 
 use crate::doubt::Doubt;
 use module_lang::Instr;
+use run_model::FaultKind;
 
 /// What an accepted module has in place of what is refused. `docs/FILTERS.md` has each, with a module before and after.
 #[derive(Clone, Copy)]
@@ -108,5 +109,19 @@ fn pattern_of_late_data(b: u8, maker: Option<Instr>) -> Pattern {
         _ if b == 8 => Pattern::InsertIntoOwn,
         Some(Instr::BSave(_, _) | Instr::BConcat(_, _)) => Pattern::MoveOneByOne,
         _ => Pattern::LeaveAtEos,
+    }
+}
+
+/// The pattern that a fault is mostly of.
+pub fn pattern_of_fault(kind: FaultKind) -> Pattern {
+    match kind {
+        FaultKind::F1 | FaultKind::F2 | FaultKind::F10 => Pattern::MakeWhereItBegins,
+        FaultKind::F3 => Pattern::SetAgain,
+        FaultKind::F4 => Pattern::AskJend,
+        FaultKind::F5 => Pattern::OutliveTheRequest,
+        FaultKind::F6 => Pattern::AsideWhatIsKept,
+        FaultKind::F7 => Pattern::CleanWhenFailed,
+        FaultKind::F8 => Pattern::Guard,
+        FaultKind::F9 => Pattern::MoveInTwoSteps,
     }
 }

@@ -2,13 +2,15 @@
 
 use crate::case::{Case, Remedy};
 use crate::doubt::Doubt;
-use crate::flow::{Refusal, all_ways, failures, refusal_of, refusals, states_of};
-use crate::pattern::Pattern;
+use crate::flow::{Refusal, all_ways, failures, refusal_by, refusal_of, refusals, states_of};
+use crate::names::fault_name;
+use crate::pattern::{Pattern, pattern_of_fault};
 use crate::source::Source;
 use crate::told::Told;
 use crate::trail::{Known, trail_to};
 use life_check::Cert;
 use module_lang::{AsmRefusal, Module, assemble};
+use run_model::FaultKind;
 use std::alloc::{AllocError, Global};
 
 /// How many refusals are told of a module at most.
@@ -172,13 +174,7 @@ fn tell_remedy(told: &mut Told, case: &Case<'_>, now: usize) -> Result<Option<Me
     let mended = best(case, now)?;
     match &mended {
         Some(mended) => told.remedy(case.source, &mended.remedy)?,
-        None => {
-            let pattern = case.pattern();
-            let name = pattern.name();
-            let advice = pattern.advice();
-            writeln!(told.text, "  pattern: {name}")?;
-            writeln!(told.text, "  write: {advice}")?;
-        }
+        None => told.advice(case.pattern())?,
     }
     Ok(mended)
 }
@@ -191,11 +187,23 @@ fn tell(
     refusal: Refusal,
     now: usize,
 ) -> Result<Option<Mended>, AllocError> {
-    let (code, states) = module;
-    let alloc = told.alloc;
-    let Some(state) = states.state(refusal.pc) else {
+    let Some(state) = module.1.state(refusal.pc) else {
         return Ok(None);
     };
+    told.refusal(source, &state, &refusal)?;
+    tell_cause(told, source, module, refusal, now)
+}
+
+// Tells where what may be so comes from, and what to write. It gives the source as it is mended, where lines were found that help.
+fn tell_cause(
+    told: &mut Told,
+    source: &Source,
+    module: (&Module, &Cert),
+    refusal: Refusal,
+    now: usize,
+) -> Result<Option<Mended>, AllocError> {
+    let (code, states) = module;
+    let alloc = told.alloc;
     let ways = all_ways(alloc, code, states)?;
     let known = Known {
         alloc,
@@ -204,7 +212,6 @@ fn tell(
         ways: ways.as_slice(),
     };
     let trail = trail_to(&known, refusal.pc, refusal.doubt)?;
-    told.refusal(source, &state, &refusal)?;
     told.trail(source, code, &trail, refusal.doubt)?;
     let case = Case {
         alloc,
@@ -290,5 +297,32 @@ pub fn tell_refusals(
     match mended {
         Some(mended) => tell_rest(told, mended.source, seen),
         None => tell_rest(told, source, seen),
+    }
+}
+
+/// Tells what the rule of an instruction wants that had this fault, where that comes from, and what to write instead.
+pub fn tell_fault(
+    told: &mut Told,
+    source: &Source,
+    pc: usize,
+    kind: FaultKind,
+) -> Result<(), AllocError> {
+    let Some(study) = study_of(told.alloc, source)? else {
+        return Ok(());
+    };
+    let module = (&study.code, &study.states);
+    let (Some(refusal), Some(state)) = (
+        refusal_by(module.0, module.1, pc, fault_name(kind)),
+        module.1.state(pc),
+    ) else {
+        return told.advice(pattern_of_fault(kind));
+    };
+    told.rule(&state, refusal.doubt)?;
+    match tell_cause(told, source, module, refusal, study.failures)? {
+        Some(mended) if mended.left == 0 => told.say("with these lines the module is accepted"),
+        Some(_) => told.say(
+            "with these lines other instructions may have a fault; `certify --explain` tells them",
+        ),
+        None => Ok(()),
     }
 }

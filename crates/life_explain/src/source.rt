@@ -116,13 +116,13 @@ impl Line {
 }
 
 impl Source {
-    /// The lines of a text.
-    pub fn of(alloc: Global, text: &[u8]) -> Result<Source, AllocError> {
+    /// The lines of a text, before which so many stand.
+    pub fn of(alloc: Global, text: &[u8], before: usize) -> Result<Source, AllocError> {
         let mut lines = Vec::new(alloc);
         let mut line = String::new(alloc);
         for byte in text {
             if *byte == b'\n' {
-                let number = lines.len().saturating_add(1);
+                let number = before.saturating_add(lines.len()).saturating_add(1);
                 lines.push(Line { number, text: line })?;
                 line = String::new(alloc);
             } else if *byte != b' ' || !line.is_empty() {

@@ -4,6 +4,7 @@ use crate::case::Remedy;
 use crate::doubt::Doubt;
 use crate::flow::{Place, Refusal, instr_at};
 use crate::names::fault_name;
+use crate::pattern::Pattern;
 use crate::source::{Edit, Source};
 use crate::trail::{Origin, Step, Trail};
 use crate::words::{cursor_name, fault_text, found, wanted};
@@ -74,12 +75,17 @@ impl Told {
         let instruction = source.instruction(refusal.pc);
         let fault = fault_name(refusal.kind);
         let says = fault_text(refusal.kind);
-        let wanted = wanted(self.alloc, refusal.doubt)?;
-        let found = found(self.alloc, state, refusal.doubt)?;
         writeln!(
             self.text,
             "line {line}: `{instruction}` may have {fault}: {says}"
         )?;
+        self.rule(state, refusal.doubt)
+    }
+
+    /// Tells what a rule wants and what the state there is.
+    pub fn rule(&mut self, state: &State, doubt: Doubt) -> Result<(), AllocError> {
+        let wanted = wanted(self.alloc, doubt)?;
+        let found = found(self.alloc, state, doubt)?;
         writeln!(self.text, "  wanted: {wanted}")?;
         writeln!(self.text, "  there: {found}")
     }
@@ -169,6 +175,14 @@ impl Told {
             }
             _ => Ok(()),
         }
+    }
+
+    /// Tells in words what to write.
+    pub fn advice(&mut self, pattern: Pattern) -> Result<(), AllocError> {
+        let name = pattern.name();
+        let advice = pattern.advice();
+        writeln!(self.text, "  pattern: {name}")?;
+        writeln!(self.text, "  write: {advice}")
     }
 
     /// Tells what to write.

@@ -1,0 +1,201 @@
+//! The help on what a play answered.
+
+use crate::command_line::tell_script_fault;
+use crate::help::{cert_of, module_of, tell_texts};
+use crate::line_words::{number, shown, word_text};
+use crate::names::fault_name;
+use crate::refused::{Answered, is_told, tell_refused};
+use crate::script::{Script, TextKind, lines_of};
+use crate::session::tell_fault;
+use crate::source::Source;
+use crate::told::Told;
+use crate::words::fault_text;
+use module_lang::text::is_text;
+use run_model::FaultKind;
+use std::alloc::{AllocError, Global};
+
+/// How many answers are explained at most.
+const MOST: usize = 16;
+
+/// The faults.
+const KINDS: [FaultKind; 10] = [
+    FaultKind::F1,
+    FaultKind::F2,
+    FaultKind::F3,
+    FaultKind::F4,
+    FaultKind::F5,
+    FaultKind::F6,
+    FaultKind::F7,
+    FaultKind::F8,
+    FaultKind::F9,
+    FaultKind::F10,
+];
+
+// What an answer line is.
+#[derive(Clone, Copy, PartialEq, Eq, Drop)]
+enum Kind {
+    Fault,
+    Refused,
+    RefusedModule,
+    Asm,
+    Cert,
+    Script,
+    Well,
+}
+
+fn kind_of(answer: &[u8]) -> Kind {
+    match (word_text(answer, 0), word_text(answer, 1)) {
+        ("fault", _) => Kind::Fault,
+        ("refused", "module") => Kind::RefusedModule,
+        ("refused", _) => Kind::Refused,
+        ("asm", "line") => Kind::Asm,
+        ("cert", "line") => Kind::Cert,
+        ("script", "line") => Kind::Script,
+        _ => Kind::Well,
+    }
+}
+
+// Whether it answers a command, and does not tell where the play ended.
+fn is_of_command(answer: &[u8]) -> bool {
+    matches!(kind_of(answer), Kind::Fault | Kind::Refused | Kind::Well)
+}
+
+// The lines of the answers, each with its command. Of `pools` the last line alone is that of the next command.
+fn answered<'a>(
+    alloc: Global,
+    script: &Script<'a>,
+    answers: &'a [u8],
+) -> Result<Vec<Answered<'a>>, AllocError> {
+    let mut found = Vec::new(alloc);
+    let mut at = script.before;
+    for line in &lines_of(alloc, answers, 0)? {
+        let answer = line.text;
+        let command = if is_of_command(answer) {
+            script.lines.get(at).copied()
+        } else {
+            None
+        };
+        found.push(Answered { command, answer })?;
+        let prints = match command {
+            Some(command) => is_text(command.text, b"pools") && !is_text(answer, b"ok"),
+            None => false,
+        };
+        if !prints {
+            at = at.saturating_add(1);
+        }
+    }
+    Ok(found)
+}
+
+fn fault_kind(name: &str) -> Option<FaultKind> {
+    KINDS.iter().copied().find(|kind| fault_name(*kind) == name)
+}
+
+// Tells what a fault means, where it is and what to write instead.
+fn tell_fault_of(
+    told: &mut Told,
+    script: &Script<'_>,
+    answered: &Answered<'_>,
+) -> Result<(), AllocError> {
+    let answer = answered.answer;
+    let (Some(kind), Some(index), Some(pc), Some(command)) = (
+        fault_kind(word_text(answer, 1)),
+        number(answer, 3),
+        number(answer, 5),
+        answered.command,
+    ) else {
+        return Ok(());
+    };
+    let Some(text) = script.module(index) else {
+        return Ok(());
+    };
+    let source = Source::of(told.alloc, text.text, text.before)?;
+    let played = command.number;
+    let line = shown(told.alloc, command.text)?;
+    let at = source.number_of(pc);
+    let instruction = source.instruction(pc);
+    let (name, says) = (fault_name(kind), fault_text(kind));
+    writeln!(
+        told.text,
+        "line {played}, `{line}`: line {at}, `{instruction}`, of module {index} has {name}: {says}"
+    )?;
+    tell_fault(told, &source, pc, kind)
+}
+
+fn tell_module(told: &mut Told, script: &Script<'_>, answer: &[u8]) -> Result<(), AllocError> {
+    let Some(index) = number(answer, 2) else {
+        return Ok(());
+    };
+    let Some(text) = script.module(index) else {
+        return Ok(());
+    };
+    let first = text.before.saturating_add(1);
+    writeln!(
+        told.text,
+        "module {index}, from line {first} on, is not accepted"
+    )?;
+    tell_texts(told, text, script.certificate(index))
+}
+
+// Tells what is wrong with the text that a line of this number is of.
+fn tell_text(told: &mut Told, script: &Script<'_>, answer: &[u8]) -> Result<(), AllocError> {
+    let Some(text) = script.text_with(number(answer, 2).unwrap_or(0)) else {
+        return Ok(());
+    };
+    match text.kind {
+        TextKind::Module => {
+            let _ = module_of(told, text)?;
+        }
+        TextKind::Cert => {
+            let _ = cert_of(told, text)?;
+        }
+    }
+    Ok(())
+}
+
+// Tells what an answer means; whether there was something to tell.
+fn tell_answer(
+    told: &mut Told,
+    script: &Script<'_>,
+    earlier: &[Answered<'_>],
+    answered: &Answered<'_>,
+) -> Result<bool, AllocError> {
+    match kind_of(answered.answer) {
+        Kind::Fault => tell_fault_of(told, script, answered)?,
+        Kind::Refused => tell_refused(told, script, earlier, answered)?,
+        Kind::RefusedModule => tell_module(told, script, answered.answer)?,
+        Kind::Asm | Kind::Cert => tell_text(told, script, answered.answer)?,
+        Kind::Script => {
+            if let Some(line) = number(answered.answer, 2) {
+                tell_script_fault(told, script, line)?;
+            }
+        }
+        Kind::Well => return Ok(false),
+    }
+    Ok(true)
+}
+
+/// What the answers of a play mean that tell a fault or refuse, in words; nothing where there are none. The same
+/// refusal of the same connection is told once, but `Busy` once for each command, and sixteen answers are told at most.
+pub fn explain_play<'a>(
+    alloc: Global,
+    script: &'a [u8],
+    answers: &'a [u8],
+) -> Result<String, AllocError> {
+    let script = Script::of(alloc, script)?;
+    let answered = answered(alloc, &script, answers)?;
+    let mut told = Told::new(alloc);
+    let mut done = Vec::new(alloc);
+    for (index, answer) in answered.iter().enumerate() {
+        if done.len() == MOST {
+            told.say("what is answered from then on is not explained")?;
+            break;
+        }
+        let earlier = answered.get(..index).unwrap_or(&[]);
+        let again = is_told(done.as_slice(), answer);
+        if !again && tell_answer(&mut told, &script, earlier, answer)? {
+            done.push(*answer)?;
+        }
+    }
+    Ok(told.text)
+}
