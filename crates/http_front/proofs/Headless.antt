@@ -45,7 +45,7 @@ headless_whole limit room buf whole is none more over h rest begins =
     none h rest (subst (λ x. ReadsRequest x h rest) nothing begins.reads)
 
 -- a text that fits into the front lies in it
-front_only : (buf more text rest : List ℕ) → buf ++ more ≡ text ++ rest → length text ≤ length buf
+pub front_only : (buf more text rest : List ℕ) → buf ++ more ≡ text ++ rest → length text ≤ length buf
     → buf ≡ text ++ drop (length text) buf
 front_only buf more text rest same fits =
     let front : take (length text) buf ≡ text =

@@ -1,4 +1,14 @@
 pub mod Headless
 pub mod Dated
 pub mod Asked
-pub mod Sent
+pub mod ServingLaws
+pub mod Stepped
+pub mod Literal
+pub mod SitePaths
+pub mod Driving
+pub mod StepCounts
+pub mod RunLaws
+pub mod FeedLaws
+pub mod RequestLaws
+pub mod ConnectLaws
+pub mod ServedLaws

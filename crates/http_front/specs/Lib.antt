@@ -3,5 +3,13 @@ pub mod Looking
 pub mod Fields
 pub mod Asking
 pub mod Replying
-pub mod Site
+pub mod Routes
+pub mod Sites
 pub mod Inboxes
+pub mod Outcomes
+pub mod Turns
+pub mod Stepping
+pub mod Requests
+pub mod Driven
+pub mod Connecting
+pub mod Serving

@@ -1,0 +1,42 @@
+-- Serving a connection, read by read.
+use Rattle.std.proofs.Common.{◌≡◌, ℕ, ◌⊎◌, inl, inr, List, Option, Result, Ok, Err, refl, sym, subst}
+use Rattle.http_front.specs.Serving.{Adds, Loses, SoFar, Goes, FailsBy}
+use Rattle.http_front.specs.declared.fault.FrontKind.{FrontKind}
+use Rattle.http_front.specs.declared.fault.FrontKind.TheVariants as kind
+use Rattle.http_front.specs.declared.handler.Outcome.{Outcome}
+use Rattle.http_front.specs.declared.reply.Method.{Method}
+use Rattle.http_front.specs.declared.serving.Next.{Next}
+use Rattle.http_front.specs.declared.serving.Next.TheVariants as next
+use Rattle.http_front.specs.declared.site.Site.{Site}
+use Rattle.http_front.proofs.ServingLaws.{far_front, far_read}
+use Rattle.std.specs.Prelude.{Bool, IfErr}
+
+module _ {H K : Type 0} (site : Site) (handles : H → Method → List ℕ → Outcome → H → Type 0) (tells : K → ℕ → K → Type 0) where
+  -- what comes next, by an equal result
+  pub next_is : (old : H) (before : K) (r q w v : Option (List ℕ)) (whole : Bool) (unread : List ℕ) (n : ℕ) (new : H) (after : K) (given result : Result Next FrontKind)
+      → given ≡ result → Goes site handles tells old before r q w v whole unread n new after given → Goes site handles tells old before r q w v whole unread n new after result
+  next_is old before r q w v whole unread n new after given result same goes = subst (Goes site handles tells old before r q w v whole unread n new after) same goes
+
+  -- bytes are added to those at hand
+  pub far_adds : (old : H) (before : K) (r q p w v : Option (List ℕ)) (unread all : List ℕ) (limit : ℕ) (whole : Bool) (n : ℕ) (new : H) (after : K)
+      → SoFar site handles tells old before r q w v unread n new after → Adds q p unread all limit whole → SoFar site handles tells old before r p w v all n new after
+  far_adds old before r q p w v unread all limit whole n new after so adds = far_read site handles tells old before r q p w v unread adds.bytes all n new after so adds.took adds.added
+
+  -- no bytes are added
+  pub far_loses : (old : H) (before : K) (r q p w v : Option (List ℕ)) (unread : List ℕ) (n : ℕ) (new : H) (after : K) (e : FrontKind)
+      → SoFar site handles tells old before r q w v unread n new after → Loses q p e → FailsBy site handles tells old before r w v e
+  far_loses old before r q p w v unread n new after e so (read, inl same) = subst (FailsBy site handles tells old before r w v) (sym same) (far_front site handles tells old before r q w v unread n new after so)
+  far_loses old before r q p w v unread n new after e so (read, inr same) = subst (FailsBy site handles tells old before r w v) (sym same) (far_front site handles tells old before r q w v unread n new after so)
+
+  -- how a `?` leaves
+  pub fails_err : {T : Type 0} (old : H) (before : K) (r w v : Option (List ℕ)) (result : Result T FrontKind) (y e : FrontKind)
+      → result ≡ Err y → y ≡ e → FailsBy site handles tells old before r w v e → IfErr result (λ k. FailsBy site handles tells old before r w v k)
+  fails_err old before r w v (Ok x) y e is same fails = tt
+  fails_err old before r w v (Err k) y e is same fails = let here : e ≡ k = cc in subst (FailsBy site handles tells old before r w v) here fails
+
+  -- serving goes on
+  pub far_next : (old : H) (before : K) (r q w v : Option (List ℕ)) (whole : Bool) (unread : List ℕ) (n : ℕ) (new : H) (after : K) (s : Next)
+      → ¬ (s ≡ next.Over) → Goes site handles tells old before r q w v whole unread n new after (Ok s) → SoFar site handles tells old before r q w v unread n new after
+  far_next old before r q w v whole unread n new after next.Again not goes = goes
+  far_next old before r q w v whole unread n new after next.Reads not goes = goes.0
+  far_next old before r q w v whole unread n new after next.Over not goes = absurd (not refl)

@@ -1,0 +1,264 @@
+-- Serving a connection, turn by turn.
+use Rattle.std.proofs.Common.{◌≡◌, ◌≢◌, ℕ, zero, suc, ◌+◌, ◌<◌, ◌≤◌, ◌⊎◌, inl, inr, Bool, true, false, List, [], ◌∷◌, ◌++◌, length, take, drop, Option, Some, None, IfSome, Result, Ok, Err, refl, ap, sym, subst, ◌∙◌, arith}
+use Rattle.std.proofs.lemmas.List.{append_assoc, append-nil, length-append, take-append-drop}
+use Rattle.std.proofs.lemmas.Grind.{flat_map-append}
+use Rattle.std.proofs.KnownBytes.{Appends-nil, Appends-trans, Consumes-nil, Consumes-trans}
+use Rattle.std.specs.Io.KnownBytes.{Appends, Consumes, Keeps, IsAtEnd}
+use Rattle.httparse.specs.Grammar.{RequestHead, print_request}
+use Rattle.http_front.specs.Heads.{BeginsWithin, StaysHeadless}
+use Rattle.http_front.specs.Replying.{reply_text}
+use Rattle.http_front.specs.Turns.{Turn, AllStay, Answers, AnswersAll, SendsBad, heads_of, texts_of, head_limit, fields_limit, EndsAll, ClosesAfter, RefusesAfter, Responses, IsFront, IsCut}
+use Rattle.http_front.specs.Stepping.{Serves, Waits, Steps}
+use Rattle.http_front.specs.Serving.{Writes, SoFar, Goes, EndsWell, FailsBy}
+use Rattle.http_front.specs.declared.fault.FrontKind.{FrontKind}
+use Rattle.http_front.specs.declared.fault.FrontKind.TheVariants as kind
+use Rattle.http_front.specs.declared.handler.Outcome.{Outcome}
+use Rattle.http_front.specs.declared.reply.Method.{Method}
+use Rattle.http_front.specs.declared.serving.Next.{Next}
+use Rattle.http_front.specs.declared.serving.Next.TheVariants as next
+use Rattle.http_front.specs.declared.site.Site.{Site}
+use Rattle.http_front.specs.declared.steps.Step.{Step}
+use Rattle.http_front.specs.Outcomes.{IsLack}
+
+-- Lists of turns with one more.
+
+pub heads_more : (turns : List Turn) (t : Turn) → heads_of (turns ++ t ∷ []) ≡ heads_of turns ++ print_request t.head
+heads_more turns t = flat_map-append (λ (x : Turn). print_request x.head) turns (t ∷ []) ∙ ap (λ l. heads_of turns ++ l) (append-nil (print_request t.head))
+
+pub texts_more : (turns : List Turn) (t : Turn) → texts_of (turns ++ t ∷ []) ≡ texts_of turns ++ reply_text t.reply t.date
+texts_more turns t = flat_map-append (λ (x : Turn). reply_text x.reply x.date) turns (t ∷ []) ∙ ap (λ l. texts_of turns ++ l) (append-nil (reply_text t.reply t.date))
+
+stay_more : (turns : List Turn) (t : Turn) → AllStay turns → t.reply.closes ≡ false → AllStay (turns ++ t ∷ [])
+stay_more [] t stay stays = (stays, tt)
+stay_more (x ∷ turns) t stay stays = (stay.0, stay_more turns t stay.1 stays)
+
+count_more : (turns : List Turn) (t : Turn) (n : ℕ) → n ≡ length turns → n + 1 ≡ length (turns ++ t ∷ [])
+count_more turns t n count = ap (λ k. k + 1) count ∙ sym (length-append turns (t ∷ []))
+
+-- What a reader had left, where it is known, is what was taken and what it has.
+abbrev pub IsLeft : List ℕ → Option (List ℕ) → List ℕ → Type 0
+IsLeft stream q taken = (rest : List ℕ) × (q ≡ Some rest) × (stream ≡ taken ++ rest)
+
+left_of : (stream taken : List ℕ) (q : Option (List ℕ)) → Consumes (Some stream) q taken → IsLeft stream q taken
+left_of stream taken None took = absurd took
+left_of stream taken (Some rest) took = (rest, refl, took)
+
+at_end : (q : Option (List ℕ)) (rest : List ℕ) → q ≡ Some rest → IsAtEnd q → rest ≡ []
+at_end q rest same end = subst IsAtEnd same end
+
+module _ {H K : Type 0} (site : Site) (handles : H → Method → List ℕ → Outcome → H → Type 0) (tells : K → ℕ → K → Type 0) where
+  abbrev pub Far : H → K → Option (List ℕ) → Option (List ℕ) → Option (List ℕ) → Option (List ℕ) → List ℕ → ℕ → H → K → Type 0
+  Far = SoFar site handles tells
+
+  answers_more : (old : H) (before : K) (turns : List Turn) (mid : H) (then : K) (t : Turn) (new : H) (after : K)
+      → AnswersAll site handles tells old before turns mid then → Answers site handles tells mid then t new after
+      → AnswersAll site handles tells old before (turns ++ t ∷ []) new after
+  unfolding AnswersAll
+  answers_more old before [] mid then t new after all one =
+      (new, after, subst (λ h. Answers site handles tells h before t new after) all.0 (subst (λ k. Answers site handles tells mid k t new after) all.1 one), (refl, refl))
+  answers_more old before (x ∷ turns) mid then t new after all one =
+      (all.0, all.1, all.2, answers_more all.0 all.1 turns mid then t new after all.3 one)
+
+  -- Nothing is read yet.
+  pub far_start : (old : H) (before : K) (r w : Option (List ℕ)) (unread : List ℕ) (n : ℕ) → unread ≡ [] → n ≡ 0 → Far old before r r w w unread n old before
+  unfolding AnswersAll
+  far_start old before r w unread n none zero-is = record {
+    turns = [];
+    stay = tt;
+    answers = (refl, refl);
+    count = zero-is;
+    took = subst (Consumes r r) (sym none) (Consumes-nil r);
+    wrote = Appends-nil w;
+  }
+
+  -- Bytes are read.
+  pub far_read : (old : H) (before : K) (r q p w v : Option (List ℕ)) (unread bytes all : List ℕ) (n : ℕ) (new : H) (after : K)
+      → Far old before r q w v unread n new after → Consumes q p bytes → all ≡ unread ++ bytes → Far old before r p w v all n new after
+  far_read old before r q p w v unread bytes all n new after so read same = record {
+    turns = so.turns;
+    stay = so.stay;
+    answers = so.answers;
+    count = so.count;
+    took = subst (Consumes r p) (append_assoc (heads_of so.turns) unread bytes ∙ ap (λ l. heads_of so.turns ++ l) (sym same)) (Consumes-trans r q p (heads_of so.turns ++ unread) bytes so.took read);
+    wrote = so.wrote;
+  }
+
+  -- A request is answered, and the connection stays open.
+  pub far_stays : (old : H) (before : K) (r q w v u : Option (List ℕ)) (unread left : List ℕ) (n m size : ℕ) (mid new : H) (then after : K) (text : List ℕ)
+      → Far old before r q w v unread n mid then → Serves site handles tells mid then unread false size text new after
+      → Appends v u text → left ≡ drop size unread → m ≡ n + 1 → Far old before r q w u left m new after
+  far_stays old before r q w v u unread left n m size mid new then after text so serves wrote skipped more =
+      let t = serves.turn in
+      let took : heads_of so.turns ++ unread ≡ heads_of (so.turns ++ t ∷ []) ++ left = ap (λ l. heads_of so.turns ++ l) (serves.begins.reads.1 ∙ ap (λ l. print_request t.head ++ l) (sym skipped)) ∙ sym (append_assoc (heads_of so.turns) (print_request t.head) left) ∙ ap (λ l. l ++ left) (sym (heads_more so.turns t)) in
+      record {
+        turns = so.turns ++ t ∷ [];
+        stay = stay_more so.turns t so.stay serves.goes_on;
+        answers = answers_more old before so.turns mid then t new after so.answers serves.answers;
+        count = more ∙ count_more so.turns t n so.count;
+        took = subst (Consumes r q) took so.took;
+        wrote = subst (Appends w u) (ap (λ l. texts_of so.turns ++ l) serves.written ∙ sym (texts_more so.turns t)) (Appends-trans w v u (texts_of so.turns) text so.wrote wrote);
+      }
+
+  -- The responses so far.
+  front_of : (old : H) (before : K) (stream : List ℕ) (q w v : Option (List ℕ)) (unread : List ℕ) (n : ℕ) (new : H) (after : K)
+      → (so : Far old before (Some stream) q w v unread n new after) → IsFront site handles tells old before stream (texts_of so.turns)
+  front_of old before stream q w v unread n new after so =
+      let left = left_of stream (heads_of so.turns ++ unread) q so.took in
+      record {
+        first = heads_of so.turns;
+        rest = unread ++ left.0;
+        n = n;
+        new = new;
+        after = after;
+        splits = left.2 ∙ append_assoc (heads_of so.turns) unread left.0;
+        responses = record { turns = so.turns; stay = so.stay; answers = so.answers; requests = refl; written = refl; count = so.count };
+      }
+
+  -- Serving fails with what is written so far.
+  pub far_front : (old : H) (before : K) (r q w v : Option (List ℕ)) (unread : List ℕ) (n : ℕ) (new : H) (after : K)
+      → Far old before r q w v unread n new after → Writes r w v (IsFront site handles tells old before)
+  far_front old before None q w v unread n new after so = tt
+  far_front old before (Some stream) q w v unread n new after so =
+      (texts_of so.turns, front_of old before stream q w v unread n new after so, so.wrote)
+
+  -- The stream has ended.
+  pub far_done : (old : H) (before : K) (r q w v : Option (List ℕ)) (unread : List ℕ) (n : ℕ) (new : H) (after : K)
+      → Far old before r q w v unread n new after → unread ≡ [] → IsAtEnd q → EndsWell site handles tells old before r w v n new after
+  far_done old before None q w v unread n new after so none end = tt
+  far_done old before (Some stream) q w v unread n new after so none end =
+      let left = left_of stream (heads_of so.turns ++ unread) q so.took in
+      let all : stream ≡ heads_of so.turns = left.2 ∙ ap (λ l. (heads_of so.turns ++ unread) ++ l) (at_end q left.0 left.1 end) ∙ append-nil (heads_of so.turns ++ unread) ∙ ap (λ l. heads_of so.turns ++ l) none ∙ append-nil (heads_of so.turns) in
+      (texts_of so.turns, inl (record { turns = so.turns; stay = so.stay; answers = so.answers; requests = all; written = refl; count = so.count }), so.wrote)
+
+  -- A request is answered, and the connection closes.
+  closed : (old : H) (before : K) (stream : List ℕ) (q w v : Option (List ℕ)) (unread : List ℕ) (n m size : ℕ) (mid new : H) (then after : K) (text : List ℕ)
+      → (so : Far old before (Some stream) q w v unread n mid then) → Serves site handles tells mid then unread true size text new after → m ≡ n + 1
+      → ClosesAfter site handles tells old before stream (texts_of so.turns ++ text) m new after
+  closed old before stream q w v unread n m size mid new then after text so serves more =
+      let t = serves.turn in
+      let left = left_of stream (heads_of so.turns ++ unread) q so.took in
+      let one : heads_of so.turns ++ unread ≡ heads_of (so.turns ++ t ∷ []) ++ drop size unread = ap (λ l. heads_of so.turns ++ l) serves.begins.reads.1 ∙ sym (append_assoc (heads_of so.turns) (print_request t.head) (drop size unread)) ∙ ap (λ l. l ++ drop size unread) (sym (heads_more so.turns t)) in
+      record {
+        turns = so.turns;
+        last = t;
+        rest = drop size unread ++ left.0;
+        stay = so.stay;
+        closes = serves.goes_on;
+        answers = answers_more old before so.turns mid then t new after so.answers serves.answers;
+        requests = left.2 ∙ ap (λ l. l ++ left.0) one ∙ append_assoc (heads_of (so.turns ++ t ∷ [])) (drop size unread) left.0;
+        written = ap (λ l. texts_of so.turns ++ l) serves.written ∙ sym (texts_more so.turns t);
+        count = more ∙ count_more so.turns t n so.count;
+      }
+
+  pub far_closes : (old : H) (before : K) (r q w v u : Option (List ℕ)) (unread : List ℕ) (n m size : ℕ) (mid new : H) (then after : K) (text : List ℕ)
+      → Far old before r q w v unread n mid then → Serves site handles tells mid then unread true size text new after
+      → Appends v u text → m ≡ n + 1 → EndsWell site handles tells old before r w u m new after
+  far_closes old before None q w v u unread n m size mid new then after text so serves wrote more = tt
+  far_closes old before (Some stream) q w v u unread n m size mid new then after text so serves wrote more =
+      (texts_of so.turns ++ text, inr (inl (closed old before stream q w v unread n m size mid new then after text so serves more)), Appends-trans w v u (texts_of so.turns) text so.wrote wrote)
+
+  -- What follows begins with no head.
+  abbrev pub Bad : H → K → List ℕ → Bool → List ℕ → H → K → Type 0
+  Bad mid then unread whole text new after = ¬ (unread ≡ []) × StaysHeadless head_limit fields_limit unread whole × (new ≡ mid) × SendsBad site handles tells then text after
+
+  some_left : (unread rest : List ℕ) → ¬ (unread ≡ []) → ¬ (unread ++ rest ≡ [])
+  some_left [] rest some = λ _. some refl
+  some_left (x ∷ unread) rest some = λ h. cc
+
+  refused : (old : H) (before : K) (stream : List ℕ) (q w v : Option (List ℕ)) (unread : List ℕ) (whole : Bool) (n m : ℕ) (mid new : H) (then after : K) (text : List ℕ)
+      → (so : Far old before (Some stream) q w v unread n mid then) → (whole ≡ true → IsAtEnd q) → Bad mid then unread whole text new after → m ≡ n + 1
+      → RefusesAfter site handles tells old before stream (texts_of so.turns ++ text) m new after
+  refused old before stream q w v unread whole n m mid new then after text so end bad more =
+      let left = left_of stream (heads_of so.turns ++ unread) q so.took in
+      record {
+        turns = so.turns;
+        then = then;
+        rest = unread ++ left.0;
+        bad = text;
+        stay = so.stay;
+        answers = subst (λ h. AnswersAll site handles tells old before so.turns h then) (sym bad.2) so.answers;
+        sends = bad.3;
+        more = some_left unread left.0 bad.0;
+        headless = bad.1 left.0 (λ w. at_end q left.0 left.1 (end w));
+        requests = left.2 ∙ append_assoc (heads_of so.turns) unread left.0;
+        written = refl;
+        count = more ∙ ap (λ k. k + 1) so.count;
+      }
+
+  pub far_refused : (old : H) (before : K) (r q w v u : Option (List ℕ)) (unread : List ℕ) (whole : Bool) (n m : ℕ) (mid new : H) (then after : K) (text : List ℕ)
+      → Far old before r q w v unread n mid then → (whole ≡ true → IsAtEnd q) → Bad mid then unread whole text new after
+      → Appends v u text → m ≡ n + 1 → EndsWell site handles tells old before r w u m new after
+  far_refused old before None q w v u unread whole n m mid new then after text so end bad wrote more = tt
+  far_refused old before (Some stream) q w v u unread whole n m mid new then after text so end bad wrote more =
+      (texts_of so.turns ++ text, inr (inr (refused old before stream q w v unread whole n m mid new then after text so end bad more)), Appends-trans w v u (texts_of so.turns) text so.wrote wrote)
+
+  -- The writer failed: a front of the response is written.
+
+  unwritten : (old : H) (before : K) (r q w v : Option (List ℕ)) (unread : List ℕ) (n : ℕ) (new : H) (after : K) → Far old before r q w v unread n new after → Far old before r q None None unread n new after
+  unwritten old before r q w v unread n new after so = record { turns = so.turns; stay = so.stay; answers = so.answers; count = so.count; took = so.took; wrote = tt }
+
+  whole_again : (front text : List ℕ) (k : ℕ) → (front ++ take k text) ++ drop k text ≡ front ++ text
+  whole_again front text k = append_assoc front (take k text) (drop k text) ∙ ap (λ l. front ++ l) (take-append-drop k text)
+
+  pub cut_stays : (old : H) (before : K) (r q w v u : Option (List ℕ)) (unread : List ℕ) (n size k : ℕ) (mid new : H) (then after : K) (text : List ℕ)
+      → Far old before r q w v unread n mid then → Serves site handles tells mid then unread false size text new after
+      → Appends v u (take k text) → Writes r w u (IsCut site handles tells old before)
+  unfolding far_stays unwritten
+  cut_stays old before None q w v u unread n size k mid new then after text so serves wrote = tt
+  cut_stays old before (Some stream) q w v u unread n size k mid new then after text so serves wrote =
+      let bare = unwritten old before (Some stream) q w v unread n mid then so in
+      let next = far_stays old before (Some stream) q None None None unread (drop size unread) n (n + 1) size mid new then after text bare serves tt refl refl in
+      let all : texts_of next.turns ≡ texts_of so.turns ++ text = texts_more so.turns serves.turn ∙ ap (λ l. texts_of so.turns ++ l) (sym serves.written) in (
+        texts_of so.turns ++ take k text,
+        (drop k text, inl (subst (IsFront site handles tells old before stream) (all ∙ sym (whole_again (texts_of so.turns) text k)) (front_of old before stream q None None (drop size unread) (n + 1) new after next))),
+        Appends-trans w v u (texts_of so.turns) (take k text) so.wrote wrote,
+      )
+
+  pub cut_closes : (old : H) (before : K) (r q w v u : Option (List ℕ)) (unread : List ℕ) (n size k : ℕ) (mid new : H) (then after : K) (text : List ℕ)
+      → Far old before r q w v unread n mid then → Serves site handles tells mid then unread true size text new after
+      → Appends v u (take k text) → Writes r w u (IsCut site handles tells old before)
+  cut_closes old before None q w v u unread n size k mid new then after text so serves wrote = tt
+  cut_closes old before (Some stream) q w v u unread n size k mid new then after text so serves wrote =
+      let all = closed old before stream q w v unread n (n + 1) size mid new then after text so serves refl in (
+        texts_of so.turns ++ take k text,
+        (drop k text, inr (n + 1, new, after, inr (inl (subst (λ l. ClosesAfter site handles tells old before stream l (n + 1) new after) (sym (whole_again (texts_of so.turns) text k)) all)))),
+        Appends-trans w v u (texts_of so.turns) (take k text) so.wrote wrote,
+      )
+
+  pub cut_refused : (old : H) (before : K) (r q w v u : Option (List ℕ)) (unread : List ℕ) (whole : Bool) (n k : ℕ) (mid new : H) (then after : K) (text : List ℕ)
+      → Far old before r q w v unread n mid then → (whole ≡ true → IsAtEnd q) → Bad mid then unread whole text new after
+      → Appends v u (take k text) → Writes r w u (IsCut site handles tells old before)
+  cut_refused old before None q w v u unread whole n k mid new then after text so end bad wrote = tt
+  cut_refused old before (Some stream) q w v u unread whole n k mid new then after text so end bad wrote =
+      let all = refused old before stream q w v unread whole n (n + 1) mid new then after text so end bad refl in (
+        texts_of so.turns ++ take k text,
+        (drop k text, inr (n + 1, new, after, inr (inr (subst (λ l. RefusesAfter site handles tells old before stream l (n + 1) new after) (sym (whole_again (texts_of so.turns) text k)) all)))),
+        Appends-trans w v u (texts_of so.turns) (take k text) so.wrote wrote,
+      )
+
+  -- Memory or names are lacking.
+  pub far_lacks : (old : H) (before : K) (r q w v : Option (List ℕ)) (unread : List ℕ) (n : ℕ) (new : H) (after : K) (e : FrontKind)
+      → IsLack e → Far old before r q w v unread n new after → FailsBy site handles tells old before r w v e
+  far_lacks old before r q w v unread n new after e (inl same) so = subst (FailsBy site handles tells old before r w v) (sym same) (far_front old before r q w v unread n new after so)
+  far_lacks old before r q w v unread n new after e (inr same) so = subst (FailsBy site handles tells old before r w v) (sym same) (far_front old before r q w v unread n new after so)
+
+  -- How a `?` leaves.
+
+  abbrev GoesOn : H → K → Option (List ℕ) → Option (List ℕ) → Option (List ℕ) → Option (List ℕ) → Bool → List ℕ → ℕ → H → K → Result Next FrontKind → Type 0
+  GoesOn = Goes site handles tells
+
+  pub fails_lacking : (old : H) (before : K) (r q w v : Option (List ℕ)) (whole : Bool) (unread : List ℕ) (n : ℕ) (mid new : H) (then after : K) (result : Result Next FrontKind) (y e : FrontKind)
+      → result ≡ Err y → y ≡ e → IsLack e → Far old before r q w v unread n mid then → GoesOn old before r q w v whole unread n new after result
+  fails_lacking old before r q w v whole unread n mid new then after result y e is same lack so =
+      subst (GoesOn old before r q w v whole unread n new after) (sym (is ∙ ap Err same)) (far_lacks old before r q w v unread n mid then e lack so)
+
+  pub fails_by : (old : H) (before : K) (r q w v : Option (List ℕ)) (whole : Bool) (unread : List ℕ) (n : ℕ) (new : H) (after : K) (result : Result Next FrontKind) (y e : FrontKind)
+      → result ≡ Err y → y ≡ e → e ≡ kind.Write → Writes r w v (IsCut site handles tells old before) → GoesOn old before r q w v whole unread n new after result
+  fails_by old before r q w v whole unread n new after result y e is same write cut =
+      subst (GoesOn old before r q w v whole unread n new after) (sym (is ∙ ap Err (same ∙ write))) cut
+
+  -- What a step did with these bytes, by what it answers.
+  pub did : (old : H) (before : K) (given seen : List ℕ) (whole : Bool) (s t : Step) (text : List ℕ) (new : H) (after : K) → given ≡ seen → s ≡ t
+      → Steps site handles tells old before given whole s text new after → Steps site handles tells old before seen whole t text new after
+  did old before given seen whole s t text new after are same h =
+      subst (λ x. Steps site handles tells old before seen whole x text new after) same (subst (λ l. Steps site handles tells old before l whole s text new after) are h)

@@ -1,0 +1,154 @@
+-- What a step does, from its parts.
+use Rattle.std.proofs.Common.{◌≡◌, ℕ, ◌≤◌, ◌<◌, ◌==◌, Bool, true, false, ◌&&◌, nat_le, Ok, Err, Some, None, List, [], ◌∷◌, ◌++◌, length, take, drop, refl, sym, ◌∙◌, ap, subst, append_assoc, append-nil, take-append-drop, arith, length-take, length-drop, length-append}
+use Rattle.std.specs.Prelude.{Result, IfOk}
+use Rattle.std.proofs.lemmas.Bool.{leb-true, le-leb}
+use Rattle.std.proofs.lemmas.List.{drop_all, take_all}
+use Rattle.httparse.specs.Grammar.{RequestHead, print_request}
+use Rattle.httparse.specs.Spans.{IsRequestAt, IsRequestWithin}
+use Rattle.httparse.specs.declared.spans.HeaderSpan.{HeaderSpan}
+use Rattle.httparse.specs.declared.spans.RequestSpans.{RequestSpans}
+use Rattle.httparse.proofs.GrammarLemmas.{print_request-append}
+use Rattle.percent_encoding.specs.Percent.{percent_decode}
+use Rattle.http_front.specs.Asking.{target_path}
+use Rattle.http_front.specs.Heads.{BeginsWithin, StaysHeadless}
+use Rattle.http_front.specs.Looking.{IsFound}
+use Rattle.http_front.specs.Outcomes.{file_at, file_of, IsBadReply}
+use Rattle.http_front.specs.Sites.{route_of}
+use Rattle.http_front.specs.Stepping.{IsReplied, IsWritten, Serves, Steps}
+use Rattle.http_front.specs.Turns.{SendsBad, head_limit, fields_limit}
+use Rattle.http_front.specs.declared.handler.Outcome.{Outcome}
+use Rattle.http_front.specs.declared.reply.Method.{Method}
+use Rattle.http_front.specs.declared.reply.Reply.{Reply}
+use Rattle.http_front.specs.declared.site.Site.{Site}
+use Rattle.http_front.specs.declared.steps.Step.{Step}
+use Rattle.http_front.specs.declared.steps.Step.TheVariants as step
+use Rattle.http_front.proofs.Headless.{front_only}
+
+pub ok_gives : {A E : Type 0} (P Q : A → Type 0) (r : Result A E) → ((a : A) → P a → Q a) → IfOk r P → IfOk r Q
+ok_gives P Q (Ok a) gives p = gives a p
+ok_gives P Q (Err e) gives p = tt
+
+-- the file at the path of a target
+pub file_at_path : (site : Site) (h : RequestHead) (target sent : List ℕ) → target ≡ h.target → target_path target ≡ Some sent
+    → route_of site (percent_decode sent) ≡ file_of site h
+unfolding file_of
+file_at_path site h target sent same is = ap (file_at site) (sym is ∙ ap target_path same)
+
+pub no_file : (site : Site) (h : RequestHead) (target : List ℕ) → target ≡ h.target → target_path target ≡ None → None ≡ file_of site h
+unfolding file_of
+no_file site h target same is = ap (file_at site) (sym is ∙ ap target_path same)
+
+-- a head has a byte
+some_bytes : (h : RequestHead) → 0 < length (print_request h)
+some_bytes h = omega (arith, simp length-append at (ap length (print_request-append h [])))
+
+-- a head that a front of the bytes begins with
+begins_wider : (limit : ℕ) (room : ℕ) (seen : List ℕ) (h : RequestHead) (size : ℕ) → size ≤ length (take limit seen)
+    → BeginsWithin limit room (take limit seen) h (drop size (take limit seen)) → BeginsWithin limit room seen h (drop size seen)
+begins_wider limit room seen h size fits begins =
+    let text = print_request h in
+    let low = take limit seen in
+    let count : size ≡ length text = omega (arith, ap length begins.reads.1, length-append text (drop size low), length-drop size low) in
+    let all : seen ++ [] ≡ text ++ (drop size low ++ drop limit seen) =
+    append-nil seen ∙ sym (take-append-drop limit seen) ∙ ap (λ x. x ++ drop limit seen) begins.reads.1 ∙ append_assoc text (drop size low) (drop limit seen) in
+    let within : length text ≤ length seen = omega (arith, length-take limit seen) in
+    record {
+      reads = (begins.reads.0, subst (λ (k : ℕ). seen ≡ text ++ drop k seen) (sym count) (front_only seen [] text (drop size low ++ drop limit seen) all within));
+      size = begins.size;
+      count = begins.count;
+    }
+
+-- nothing lies behind the front
+nothing_more : (limit : ℕ) (seen more : List ℕ) (whole : Bool) → (whole ≡ true → more ≡ []) → (whole && nat_le (length seen) limit) ≡ true
+    → drop limit seen ++ more ≡ []
+nothing_more limit seen more true over is =
+    ap (λ x. x ++ more) (drop_all limit seen (leb-true (length seen) limit is)) ∙ over refl
+nothing_more limit seen more false over is = cc
+
+-- what a front of the bytes never becomes
+headless_wider : (limit : ℕ) (room : ℕ) (seen : List ℕ) (whole : Bool)
+    → StaysHeadless limit room (take limit seen) (whole && nat_le (length seen) limit) → StaysHeadless limit room seen whole
+headless_wider limit room seen whole never more over h rest begins =
+    let same : seen ++ more ≡ take limit seen ++ (drop limit seen ++ more) =
+    ap (λ x. x ++ more) (sym (take-append-drop limit seen)) ∙ append_assoc (take limit seen) (drop limit seen) more in
+    never (drop limit seen ++ more) (nothing_more limit seen more whole over) h rest (subst (λ x. BeginsWithin limit room x h rest) same begins)
+
+so_not : {b : Bool} → b ≡ false → b ≡ true → ⊥
+so_not fails holds = cc
+
+pub not_empty : (xs : List ℕ) → false ≡ (length xs == 0) → ¬ (xs ≡ [])
+not_empty [] test none = so_not (sym test) refl
+not_empty (x ∷ xs) test none = cc
+
+-- more bytes come, and there is room for them
+more_wider : (limit : ℕ) (seen : List ℕ) (whole : Bool) → (whole && nat_le (length seen) limit) ≡ false → length (take limit seen) < limit
+    → (whole ≡ false) × (length seen < limit)
+more_wider limit seen true is room =
+    let fits : length seen ≤ limit = omega (arith, length-take limit seen) in
+    let yes = le-leb (length seen) limit fits in
+    absurd (so_not is yes)
+more_wider limit seen false is room = (refl, omega (arith, length-take limit seen))
+
+done_wider : (limit : ℕ) (seen : List ℕ) (whole : Bool) → (whole && nat_le (length seen) limit) ≡ true → take limit seen ≡ []
+    → (whole ≡ true) × (seen ≡ [])
+done_wider limit seen true is none = (refl, sym (take_all limit seen (leb-true (length seen) limit is)) ∙ none)
+done_wider limit seen false is none = cc
+
+module _ {H K : Type 0} (site : Site) (handles : H → Method → List ℕ → Outcome → H → Type 0) (tells : K → ℕ → K → Type 0) where
+  -- a head that was found is answered
+  pub serves : (old new : H) (before after : K) (seen : List ℕ) (spans : List HeaderSpan) (head : RequestSpans) (r : Reply) (closes : Bool) (text : List ℕ)
+      → IsRequestWithin seen spans head → length spans ≡ fields_limit → IsFound head_limit seen spans head
+      → ((h : RequestHead) → IsRequestAt seen spans head h → IsReplied site handles old h r new)
+      → IsWritten tells before r text after → r.closes ≡ closes
+      → Serves site handles tells old before seen closes head.len text new after
+  serves old new before after seen spans head r closes text within room found replied written is =
+      let says = replied found.0 found.1 in
+      record {
+        turn = record { head = found.0; reply = r; date = written.date };
+        begins = subst (λ (n : ℕ). BeginsWithin head_limit n seen found.0 (drop head.len seen)) room found.2;
+        fits = within.section.len_fits;
+        some = subst (λ (n : ℕ). 0 < n) (sym found.1.len) (some_bytes found.0);
+        answers = record { outcome = says.outcome; comes = says.comes; reply = says.reply; dated = written.dated };
+        written = written.written;
+        goes_on = is;
+      }
+
+  -- a bad reply is sent
+  pub sends_bad : (before after : K) (r : Reply) (text : List ℕ) → IsBadReply r → IsWritten tells before r text after
+      → SendsBad site handles tells before text after
+  sends_bad before after r text bad w =
+      record { reply = r; date = w.date; bad = bad; dated = w.dated; written = w.written }
+
+  serves_wider : (old new : H) (before after : K) (seen : List ℕ) (closes : Bool) (size : ℕ) (text : List ℕ)
+      → Serves site handles tells old before (take head_limit seen) closes size text new after
+      → Serves site handles tells old before seen closes size text new after
+  serves_wider old new before after seen closes size text s = record {
+    turn = s.turn;
+    begins = begins_wider head_limit fields_limit seen s.turn.head size s.fits s.begins;
+    fits = omega (arith, s.fits, length-take head_limit seen);
+    some = s.some;
+    answers = s.answers;
+    written = s.written;
+    goes_on = s.goes_on;
+  }
+
+  -- a step over a front of the bytes is a step over them all
+  steps_wider : (old new : H) (before after : K) (seen : List ℕ) (whole : Bool) (text : List ℕ) (s : Step)
+      → Steps site handles tells old before (take head_limit seen) (whole && nat_le (length seen) head_limit) s text new after
+      → Steps site handles tells old before seen whole s text new after
+  steps_wider old new before after seen whole text (step.Stays size) x = serves_wider old new before after seen false size text x
+  steps_wider old new before after seen whole text (step.Closes size) x = serves_wider old new before after seen true size text x
+  steps_wider old new before after seen whole text step.Refused x =
+      (λ none. x.0 (ap (take head_limit) none), headless_wider head_limit fields_limit seen whole x.1, x.2, x.3)
+  steps_wider old new before after seen whole text step.More x =
+      let wider = more_wider head_limit seen whole x.0 x.1 in (wider.0, wider.1, x.2)
+  steps_wider old new before after seen whole text step.Done x =
+      let wider = done_wider head_limit seen whole x.0 x.1 in (wider.0, wider.1, x.2)
+
+  pub steps_front : (old new : H) (before after : K) (seen low : List ℕ) (whole ended : Bool) (text : List ℕ) (s : Step)
+      → low ≡ take head_limit seen → ended ≡ (whole && nat_le (length seen) head_limit)
+      → Steps site handles tells old before low ended s text new after → Steps site handles tells old before seen whole s text new after
+  steps_front old new before after seen low whole ended text s front over x =
+      let at_front = subst (λ (l : List ℕ). Steps site handles tells old before l ended s text new after) front x in
+      steps_wider old new before after seen whole text s
+      (subst (λ (e : Bool). Steps site handles tells old before (take head_limit seen) e s text new after) over at_front)

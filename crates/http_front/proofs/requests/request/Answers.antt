@@ -1,0 +1,10 @@
+use Rattle.http_front.proofs.RequestLaws.{begun, begin_refused}
+use Rattle.http_front.proofs.requests.request.Goals as goal
+
+pub returns-in-Ok-clause-leads : goal.returns-in-Ok-clause-leads
+returns-in-Ok-clause-leads g c =
+    begun g.F.Files.device c.args.number c.args.host.now c.begin.new.self c.init_and_go_on.new.host c.init_and_go_on.result c.args.method c.args.file.now c.in-Ok.ensures.event c.init_and_go_on.ensures.leads
+
+pub returns-in_ok-unless_lack-in-Err-clause-leads : goal.returns-in_ok-unless_lack-in-Err-clause-leads
+returns-in_ok-unless_lack-in-Err-clause-leads g c =
+    begin_refused g.F.Files.device c.args.number c.args.host.now c.begin.new.self c.args.method c.args.file.now c.in-Err.refusal c.bare.result c.in_ok-unless_lack-in-Err.ensures.ok c.bare.ensures c.in-Err.ensures.event

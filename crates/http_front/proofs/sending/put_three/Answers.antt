@@ -1,8 +1,0 @@
-use Rattle.std.proofs.Common.{◌++◌}
-use Rattle.module_lang.proofs.WritingLaws.{wrote_then}
-use Rattle.http_front.proofs.sending.put_three.Goals as goal
-
-pub returns : goal.returns
-returns g c =
-    let w = g.W.Write.contents in
-    wrote_then (w c.args.out.now) (w c.put_all.new.out) (w c.put_both.new.out) c.args.front.now (c.args.body.now ++ c.args.end.now) c.put_both.result c.in_ok-put_all.ensures c.put_both.ensures

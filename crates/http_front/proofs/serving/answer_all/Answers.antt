@@ -1,0 +1,32 @@
+use Rattle.std.proofs.Common.{◌≡◌, ℕ, ◌+◌, ◌≤◌, List, length, true, Ok, Err, ap, sym, ◌∙◌, arith}
+use Rattle.std.proofs.lemmas.Result.{err_from_is_err_and}
+use Rattle.std.specs.Io.KnownBytes.{IsAtEnd}
+use Rattle.http_front.specs.Inboxes.{unread}
+use Rattle.http_front.proofs.ServedLaws.{next_is}
+use Rattle.http_front.proofs.serving.answer_all.Goals as goal
+
+pub returns-in_err-answer_next-clause-goes : goal.returns-in_err-answer_next-clause-goes
+returns-in_err-answer_next-clause-goes g c old before r q w ends so =
+    let p = err_from_is_err_and c.from_residual.result c.from_residual.ensures.1 in
+    next_is _ _ _ old before r q w _ _ _ _ _ _ (Err c.in_err-answer_next.field-0.0) c.from_residual.result (sym (p.1 ∙ ap Err p.2))
+    (c.in_err-answer_next.ensures.goes old before r q w (λ is. ends (sym c.loop.invariant.whole ∙ is)) (c.loop.invariant.goes old before r q w ends so))
+
+pub loop-preserved : goal.loop-preserved
+loop-preserved g c = record {
+  opened = c.answer_next.ensures.open;
+  few = let one = c.answer_next.ensures.few in let all = c.loop.invariant.few in omega (arith, one, all);
+  whole = c.answer_next.ensures.whole ∙ c.loop.invariant.whole;
+  goes = λ old before r q w ends so.
+      next_is _ _ _ old before r q w _ _ _ _ _ _ (Ok c.in_ok-answer_next.field-0) _ (ap Ok c.in-Again.is)
+      (c.in_ok-answer_next.ensures.goes old before r q w (λ is. ends (sym c.loop.invariant.whole ∙ is)) (c.loop.invariant.goes old before r q w ends so));
+}
+
+pub returns-in-Reads-clause-goes : goal.returns-in-Reads-clause-goes
+returns-in-Reads-clause-goes g c old before r q w ends so =
+    next_is _ _ _ old before r q w _ _ _ _ _ _ (Ok c.in_ok-answer_next.field-0) _ (ap Ok c.in-Reads.is)
+    (c.in_ok-answer_next.ensures.goes old before r q w (λ is. ends (sym c.loop.invariant.whole ∙ is)) (c.loop.invariant.goes old before r q w ends so))
+
+pub returns-in-Over-clause-goes : goal.returns-in-Over-clause-goes
+returns-in-Over-clause-goes g c old before r q w ends so =
+    next_is _ _ _ old before r q w _ _ _ _ _ _ (Ok c.in_ok-answer_next.field-0) _ (ap Ok c.in-Over.is)
+    (c.in_ok-answer_next.ensures.goes old before r q w (λ is. ends (sym c.loop.invariant.whole ∙ is)) (c.loop.invariant.goes old before r q w ends so))

@@ -1,0 +1,18 @@
+use Rattle.std.proofs.Common.{ℕ, refl, ◌∙◌, subst}
+use Rattle.http_front.specs.Heads.{StaysHeadless}
+use Rattle.http_front.specs.Turns.{head_limit}
+use Rattle.http_front.proofs.Stepped.{not_empty, ok_gives, sends_bad}
+use Rattle.http_front.proofs.steps.step_within.Goals as goal
+
+pub returns-in-Head-clause-ok : goal.returns-in-Head-clause-ok
+returns-in-Head-clause-ok g c =
+    ok_gives _ _ c.answer_head.result (λ s says. says c.args.whole) c.answer_head.ensures.ok
+
+pub returns-in_ok-put_reply-in-Headless-clause-ok :
+    goal.returns-in_ok-put_reply-in-Headless-clause-ok
+returns-in_ok-put_reply-in-Headless-clause-ok g c = (
+  not_empty c.args.seen.now c.if-is_empty-2.ensures,
+  subst (λ (n : ℕ). StaysHeadless head_limit n c.args.seen.now c.args.whole) (c.look_at.ensures.room ∙ c.requires.room) c.in-Headless.ensures.looks,
+  refl,
+  sends_bad c.args.site.now (λ old. g.H.Handler.handles old c.args.number) g.K.Clock.tells _ _ c.bad_reply.result _ c.bad_reply.ensures c.in_ok-put_reply-in-Headless.ensures,
+)

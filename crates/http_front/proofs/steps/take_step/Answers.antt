@@ -1,0 +1,9 @@
+use Rattle.http_front.proofs.Stepped.{ok_gives, steps_front}
+use Rattle.http_front.proofs.steps.take_step.Goals as goal
+
+pub returns-clause-ok : goal.returns-clause-ok
+returns-clause-ok g c =
+    ok_gives _ _ c.step_within.result
+    (λ s says. steps_front c.args.site.now (λ old. g.H.Handler.handles old c.args.number) g.K.Clock.tells _ _ _ _ c.args.seen.now c.front.result.now c.args.whole c.ends_within.result _ s
+    c.front.ensures.is c.ends_within.ensures says)
+    c.step_within.ensures.ok

@@ -1,0 +1,77 @@
+-- A connection of the host: it is opened, its requests are served, and it is closed.
+use Rattle.std.specs.Prelude.{◌≡◌, ℕ, List, [], Option, Some, None, Result, Ok, Err, ◌⊎◌}
+use Rattle.std.specs.Io.KnownBytes.{Appends}
+use Rattle.module_lang.specs.Program.{Program}
+use Rattle.run_model.specs.declared.event.Event.TheVariants as event
+use Rattle.run_model.specs.declared.event.Refusal.{Refusal}
+use Rattle.run_model.specs.declared.event.Refusal.TheVariants as refusal
+use Rattle.run_model.specs.Worlds.{Connected, Labels, Refused}
+use Rattle.bucket_kinds.specs.Device.{Device}
+use Rattle.filter_chain.specs.declared.host.Host.{Host}
+use Rattle.filter_chain.specs.Scenes.{Scene, Acts}
+use Rattle.http_front.specs.Driven.{Leads, Handles}
+use Rattle.http_front.specs.Requests.{Runs}
+use Rattle.http_front.specs.Turns.{IsCut, Responses}
+use Rattle.http_front.specs.declared.fault.FrontFault.{FrontFault}
+use Rattle.http_front.specs.declared.fault.FrontKind.{FrontKind}
+use Rattle.http_front.specs.declared.fault.FrontKind.TheVariants as kind
+use Rattle.http_front.specs.declared.fault.Served.{Served}
+use Rattle.http_front.specs.declared.running.Ended.{Ended}
+use Rattle.http_front.specs.declared.site.Site.{Site}
+
+-- what an opening lacks: names, or else memory
+abbrev pub kind_of : Refusal → FrontKind
+kind_of refusal.NamesSpent = kind.NamesSpent
+kind_of r = kind.NoMemory
+
+-- how serving ends. left: the connection, where it could not be closed
+abbrev pub outcome_of : Result Served FrontKind → Option ℕ → Result Served FrontFault
+outcome_of (Ok s) None = Ok s
+outcome_of (Ok s) (Some n) = Err (record { kind = kind.NoMemory; left = Some n })
+outcome_of (Err k) left = Err (record { kind = k; left = left })
+
+module _ (budget : ℕ) (chain : List Program) (number : ℕ) where
+  -- A connection of this number is opened, and its `open` handlers run, however they end.
+  pub record IsOpened (old new : Scene) : Type 0 where
+    pub mid : Scene
+    pub how : Ended
+    pub acts : Acts budget chain 0 event.Open old (Connected number) mid
+    pub runs : Runs budget chain number mid how new
+
+  -- It is closed, or it is left.
+  abbrev pub IsClosed : Option ℕ → Scene → Scene → Type 0
+  IsClosed None old new = (labels : List (List ℕ)) × Acts budget chain number event.Close old (Labels labels) new
+  IsClosed (Some n) old new = (n ≡ number) × (why : Refusal) × Acts budget chain number event.Close old (Refused why) new
+
+module _ {F K : Type 0} (device : F → Device) (tells : K → ℕ → K → Type 0) (site : Site) where
+  -- A connection is opened, its requests are served so, and it is closed, or left. old, opened, served, new: the host before and after each.
+  pub record Connects (old new : Host F) (left : Option ℕ) (serves : ℕ → Host F → Host F → Type 0) : Type 0 where
+    pub number : ℕ
+    pub opened : Host F
+    pub served : Host F
+    pub opens : Leads device old opened (λ b c s t. IsOpened b c number s t)
+    pub done : serves number opened served
+    pub closes : Leads device served new (λ b c s t. IsClosed b c number left s t)
+
+  -- All of the stream is served, and the responses are written.
+  pub record ServesAll (old : Host F) (before : K) (stream : List ℕ) (count : ℕ) (was is : Option (List ℕ)) (new : Host F) (after : K) : Type 0 where
+    pub text : List ℕ
+    pub connects : Connects old new None (λ number a z. Responses site (λ o. Handles device o number) tells a before stream text count z after)
+    pub written : Appends was is text
+
+  -- The front of the responses is written.
+  pub record ServesFront (old : Host F) (before : K) (stream : List ℕ) (left : Option ℕ) (was is : Option (List ℕ)) (new : Host F) : Type 0 where
+    pub text : List ℕ
+    pub connects : Connects old new left (λ number a z. IsCut site (λ o. Handles device o number) tells a before stream text)
+    pub written : Appends was is text
+
+  -- No connection is opened, and nothing is written.
+  pub record IsUnopened (old : Host F) (e : FrontFault) (was is : Option (List ℕ)) (new : Host F) : Type 0 where
+    pub why : Refusal
+    pub kind : e.kind ≡ kind_of why
+    pub left : e.left ≡ None
+    pub refused : Leads device old new (λ b c s t. Acts b c 0 event.Open s (Refused why) t)
+    pub written : Appends was is []
+
+  abbrev pub FailsAt : Host F → K → List ℕ → FrontFault → Option (List ℕ) → Option (List ℕ) → Host F → Type 0
+  FailsAt old before stream e was is new = IsUnopened old e was is new ⊎ ServesFront old before stream e.left was is new

@@ -1,0 +1,58 @@
+-- What a request comes to (RFC 9110, sections 9.3 and 15).
+use Rattle.std.specs.Prelude.{◌≡◌, ℕ, ◌==◌, true, ◌||◌, if◌then◌else◌, List, [], Option, Some, None, codes, bytes_eq, ◌⊎◌}
+use Rattle.httparse.specs.Grammar.{RequestHead}
+use Rattle.percent_encoding.specs.Percent.{percent_decode}
+use Rattle.http_front.specs.Asking.{target_path, head_closes, status_closes}
+use Rattle.http_front.specs.declared.fault.FrontKind.{FrontKind}
+use Rattle.http_front.specs.declared.fault.FrontKind.TheVariants as kind
+use Rattle.http_front.specs.declared.handler.Outcome.{Outcome}
+use Rattle.http_front.specs.declared.reply.Method.{Method}
+use Rattle.http_front.specs.declared.reply.Method.TheVariants.{Get, Head, Other}
+use Rattle.http_front.specs.declared.reply.Reply.{Reply}
+use Rattle.http_front.specs.declared.reply.Version.{Version}
+use Rattle.http_front.specs.declared.reply.Version.TheVariants.{Http10, Http11}
+use Rattle.http_front.specs.declared.site.Site.{Site}
+use Rattle.http_front.specs.declared.status.Status.{Status}
+use Rattle.http_front.specs.declared.status.Status.TheVariants.{BadRequest}
+use Rattle.http_front.specs.Sites.{route_of}
+
+-- memory or names are lacking
+abbrev pub IsLack : FrontKind → Type 0
+IsLack k = (k ≡ kind.NoMemory) ⊎ (k ≡ kind.NamesSpent)
+
+-- the version of a head
+abbrev pub version_of : ℕ → Version
+version_of minor = if minor == 0 then Http10 else Http11
+
+-- the method of a head, as far as its response depends on it
+abbrev pub method_of : List ℕ → Method
+method_of method = if bytes_eq method (codes "GET") then Get else (if bytes_eq method (codes "HEAD") then Head else Other)
+
+-- the file at a path that was sent
+abbrev pub file_at : Site → Option (List ℕ) → Option (List ℕ)
+file_at site None = None
+file_at site (Some sent) = route_of site (percent_decode sent)
+
+-- the file that a head asks for: its path is decoded once, and matched as a whole
+unfoldable pub file_of : Site → RequestHead → Option (List ℕ)
+file_of site h = file_at site (target_path h.target)
+
+-- the outcome is this status, without content
+abbrev pub IsBare : Status → Outcome → Type 0
+IsBare status o = (o.status ≡ status) × (o.body.items ≡ [])
+
+-- the reply to a head
+pub record IsReplyTo (h : RequestHead) (o : Outcome) (r : Reply) : Type 0 where
+  pub status : r.status ≡ o.status
+  pub version : r.version ≡ version_of h.minor
+  pub method : r.method ≡ method_of h.method
+  pub closes : r.closes ≡ (head_closes h || status_closes o.status)
+  pub body : r.body.items ≡ o.body.items
+
+-- the reply where there is no head
+pub record IsBadReply (r : Reply) : Type 0 where
+  pub status : r.status ≡ BadRequest
+  pub version : r.version ≡ Http11
+  pub method : r.method ≡ Other
+  pub closes : r.closes ≡ true
+  pub body : r.body.items ≡ []

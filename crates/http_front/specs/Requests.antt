@@ -1,0 +1,184 @@
+-- A request on the host of chains: its events, and what it comes to.
+use Rattle.std.specs.Prelude.{◌≡◌, ℕ, zero, suc, ◌+◌, ◌-◌, ◌/◌, List, [], ◌∷◌, Option, Some, None, Result, Ok, Err}
+use Rattle.module_lang.specs.Program.{Program}
+use Rattle.module_lang.specs.declared.instr.Status.TheVariants as call
+use Rattle.run_model.specs.declared.event.Event.TheVariants as event
+use Rattle.run_model.specs.declared.event.Piece.{Piece}
+use Rattle.run_model.specs.declared.event.Piece.TheVariants as piece
+use Rattle.run_model.specs.declared.event.Refusal.{Refusal}
+use Rattle.run_model.specs.declared.event.Refusal.TheVariants as refusal
+use Rattle.run_model.specs.declared.event.Stepped.{Stepped}
+use Rattle.run_model.specs.declared.event.Stepped.TheVariants as stepped
+use Rattle.run_model.specs.Worlds.{Step}
+use Rattle.filter_chain.specs.Hosting.{done_answer, file_answer, output_answer, step_answer}
+use Rattle.filter_chain.specs.Scenes.{Scene, Acts}
+use Rattle.http_front.specs.Outcomes.{IsBare}
+use Rattle.http_front.specs.declared.fault.FrontKind.{FrontKind}
+use Rattle.http_front.specs.declared.fault.FrontKind.TheVariants as kind
+use Rattle.http_front.specs.declared.handler.Outcome.{Outcome}
+use Rattle.http_front.specs.declared.reply.Method.{Method}
+use Rattle.http_front.specs.declared.reply.Method.TheVariants.{Get, Head, Other}
+use Rattle.http_front.specs.declared.running.Ended.{Ended}
+use Rattle.http_front.specs.declared.running.Ended.TheVariants as ended
+use Rattle.http_front.specs.declared.status.Status.{Status}
+use Rattle.http_front.specs.declared.status.Status.TheVariants.{Success, NotFound, InternalServerError}
+
+-- The brigades of a file.
+
+-- the most bytes of a file in one brigade
+abbrev pub piece_bytes : ℕ
+piece_bytes = 65536
+
+-- the last bytes of a file, from a place on: a FILE piece, where there are any, and an EOS
+abbrev pub last_brigade : ℕ → ℕ → ℕ → List Piece
+last_brigade file at zero = piece.Eos ∷ []
+last_brigade file at (suc n) = piece.File file at (suc n) ∷ piece.Eos ∷ []
+
+-- from a place of a file of len bytes on, so many brigades of one FILE piece, and the last
+unfoldable pub brigades_from : ℕ → ℕ → ℕ → ℕ → List (List Piece)
+brigades_from file len at zero = last_brigade file at (len - at) ∷ []
+brigades_from file len at (suc n) = (piece.File file at piece_bytes ∷ []) ∷ brigades_from file len (at + piece_bytes) n
+
+-- the brigades of a file of len bytes
+unfoldable pub brigades_of : ℕ → ℕ → List (List Piece)
+brigades_of file len = brigades_from file len 0 ((len - 1) / piece_bytes)
+
+-- what is brought of a file: GET all of it, any other method nothing
+abbrev pub brigades_for : Method → ℕ × ℕ → List (List Piece)
+brigades_for Get file = brigades_of file.0 file.1
+brigades_for Head file = []
+brigades_for Other file = []
+
+-- What is answered.
+
+-- what a refusal lacks, memory or names
+abbrev pub lack_of : Refusal → Option FrontKind
+lack_of refusal.NoMemory = Some kind.NoMemory
+lack_of refusal.NamesSpent = Some kind.NamesSpent
+lack_of r = None
+
+-- how a call ended, by the answer of its last step
+abbrev pub ended_of : Result Stepped Refusal → Ended
+ended_of (Ok (stepped.CallEnded call.Success)) = ended.Succeeded
+ended_of (Ok (stepped.CallEnded call.Fail)) = ended.Failed
+ended_of (Ok stepped.Went) = ended.Broke
+ended_of (Ok (stepped.Fault k m pc)) = ended.Broke
+ended_of (Err r) = ended.Broke
+
+-- the status where a file is not opened
+abbrev pub unopened : Refusal → Status
+unopened refusal.NoFile = NotFound
+unopened r = InternalServerError
+
+abbrev pub IfSucceeded : Ended → Type 0 → Type 0 → Type 0
+IfSucceeded ended.Succeeded then other = then
+IfSucceeded ended.Failed then other = other
+IfSucceeded ended.Broke then other = other
+
+-- a 200 with the output
+abbrev pub IsOutput : Result (List ℕ) Refusal → Outcome → Type 0
+IsOutput (Ok bytes) o = (o.status ≡ Success) × (o.body.items ≡ bytes)
+IsOutput (Err r) o = IsBare InternalServerError o
+
+-- The events, on the connection of this number.
+
+module _ (budget : ℕ) (chain : List Program) (number : ℕ) where
+  -- So many steps go on, one after another.
+  unfoldable pub GoesOn : ℕ → Scene → Scene → Type 0
+  GoesOn zero old new = new ≡ old
+  GoesOn (suc n) old new = (mid : Scene) × Acts budget chain number event.Step old (Step stepped.Went) mid × GoesOn n mid new
+
+  -- Steps are made until one answers something else than that it went.
+  pub record Runs (old : Scene) (how : Ended) (new : Scene) : Type 0 where
+    pub count : ℕ
+    pub before : Scene
+    pub answer : Result Stepped Refusal
+    pub goes : GoesOn count old before
+    pub last : Acts budget chain number event.Step before (step_answer answer) new
+    pub stops : ¬ (answer ≡ Ok stepped.Went)
+    pub told : how ≡ ended_of answer
+
+  -- The request ends, if it does not lack memory.
+  pub record EndsRequest (old new : Scene) : Type 0 where
+    pub answer : Option Refusal
+    pub acts : Acts budget chain number event.End old (done_answer answer) new
+    pub lacks : (r : Refusal) → answer ≡ Some r → lack_of r ≡ None
+
+  -- A call was to begin: it runs to its end, or it was refused, for what it does not lack.
+  abbrev pub RunsUnless : Option Refusal → Scene → Ended → Scene → Type 0
+  RunsUnless None old how new = Runs old how new
+  RunsUnless (Some r) old how new = (lack_of r ≡ None) × (how ≡ ended.Failed) × (new ≡ old)
+
+  -- A brigade is brought, and its call runs to its end.
+  pub record Brings (pieces : List Piece) (old : Scene) (how : Ended) (new : Scene) : Type 0 where
+    pub answer : Option Refusal
+    pub mid : Scene
+    pub acts : Acts budget chain number (event.Bring pieces) old (done_answer answer) mid
+    pub runs : RunsUnless answer mid how new
+
+  -- Brigades are brought, up to the first that does not succeed.
+  unfoldable pub BringsAll : List (List Piece) → Scene → Ended → Scene → Type 0
+  BringsAll [] old how new = (how ≡ ended.Succeeded) × (new ≡ old)
+  BringsAll (b ∷ bs) old how new =
+      (first : Ended) × (mid : Scene) × Brings b old first mid × IfSucceeded first (BringsAll bs mid how new) ((how ≡ first) × (new ≡ mid))
+
+  -- The request ends with this status, without content.
+  abbrev pub EndsBare : Status → Scene → Outcome → Scene → Type 0
+  EndsBare status old o new = IsBare status o × EndsRequest old new
+
+  -- The output is taken.
+  pub record TakesOutput (old : Scene) (o : Outcome) (new : Scene) : Type 0 where
+    pub answer : Result (List ℕ) Refusal
+    pub acts : Acts budget chain number event.TakeOutput old (output_answer answer) new
+    pub gives : IsOutput answer o
+
+  -- Then the request ends.
+  abbrev pub EndsWithOutput : Scene → Outcome → Scene → Type 0
+  EndsWithOutput old o new = (mid : Scene) × TakesOutput old o mid × EndsRequest mid new
+
+  -- What a request comes to whose calls ended so. The request of a broken connection does not end.
+  abbrev pub Finishes : Ended → Scene → Outcome → Scene → Type 0
+  Finishes ended.Succeeded old o new = EndsWithOutput old o new
+  Finishes ended.Failed old o new = EndsBare InternalServerError old o new
+  Finishes ended.Broke old o new = IsBare InternalServerError o × (new ≡ old)
+
+  -- The file is brought, unless `init` failed, and the request finishes.
+  pub record Feeds (init : Ended) (method : Method) (file : ℕ × ℕ) (old : Scene) (o : Outcome) (new : Scene) : Type 0 where
+    pub how : Ended
+    pub mid : Scene
+    pub brings : IfSucceeded init (BringsAll (brigades_for method file) old how mid) ((how ≡ init) × (mid ≡ old))
+    pub finishes : Finishes how mid o new
+
+  abbrev pub FeedsIf : Result (ℕ × ℕ) Refusal → Ended → Method → Scene → Outcome → Scene → Type 0
+  FeedsIf (Ok file) init method old o new = Feeds init method file old o new
+  FeedsIf (Err r) init method old o new = (lack_of r ≡ None) × EndsBare (unopened r) old o new
+
+  -- The file is opened, and the request goes on with it.
+  pub record Opens (init : Ended) (method : Method) (file : List ℕ) (old : Scene) (o : Outcome) (new : Scene) : Type 0 where
+    pub answer : Result (ℕ × ℕ) Refusal
+    pub mid : Scene
+    pub acts : Acts budget chain number (event.OpenFile file) old (file_answer answer) mid
+    pub feeds : FeedsIf answer init method mid o new
+
+  abbrev pub OpensUnless : Ended → Method → List ℕ → Scene → Outcome → Scene → Type 0
+  OpensUnless ended.Succeeded method file old o new = Opens ended.Succeeded method file old o new
+  OpensUnless ended.Failed method file old o new = Opens ended.Failed method file old o new
+  OpensUnless ended.Broke method file old o new = IsBare InternalServerError o × (new ≡ old)
+
+  -- `init` runs, and the request goes on.
+  pub record Inits (method : Method) (file : List ℕ) (old : Scene) (o : Outcome) (new : Scene) : Type 0 where
+    pub init : Ended
+    pub mid : Scene
+    pub runs : Runs old init mid
+    pub opens : OpensUnless init method file mid o new
+
+  abbrev pub InitsIf : Option Refusal → Method → List ℕ → Scene → Outcome → Scene → Type 0
+  InitsIf None method file old o new = Inits method file old o new
+  InitsIf (Some r) method file old o new = (lack_of r ≡ None) × IsBare InternalServerError o × (new ≡ old)
+
+  -- A request for a file comes to this outcome.
+  pub record ComesOf (method : Method) (file : List ℕ) (old : Scene) (o : Outcome) (new : Scene) : Type 0 where
+    pub answer : Option Refusal
+    pub mid : Scene
+    pub acts : Acts budget chain number event.Begin old (done_answer answer) mid
+    pub inits : InitsIf answer method file mid o new

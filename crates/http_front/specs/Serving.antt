@@ -1,0 +1,57 @@
+-- How far serving a connection is, and what it wrote where it is known what the reader had left and what the writer holds.
+use Rattle.std.specs.Prelude.{◌≡◌, ◌≢◌, ℕ, ◌<◌, ◌≤◌, ◌+◌, ◌⊎◌, Bool, true, false, List, [], ◌++◌, length, Option, IfSome, Result, Ok, Err}
+use Rattle.std.specs.Io.KnownBytes.{Consumes, Appends, IsAtEnd}
+use Rattle.http_front.specs.Turns.{Turn, AllStay, AnswersAll, heads_of, texts_of, Responses, IsFront, IsCut}
+use Rattle.http_front.specs.declared.fault.FrontKind.{FrontKind}
+use Rattle.http_front.specs.declared.fault.FrontKind.TheVariants as kind
+use Rattle.http_front.specs.declared.handler.Outcome.{Outcome}
+use Rattle.http_front.specs.declared.reply.Method.{Method}
+use Rattle.http_front.specs.declared.serving.Next.{Next}
+use Rattle.http_front.specs.declared.serving.Next.TheVariants as next
+use Rattle.http_front.specs.declared.site.Site.{Site}
+
+-- Where the bytes that were left are known, a text of them was written.
+abbrev pub Writes : Option (List ℕ) → Option (List ℕ) → Option (List ℕ) → (List ℕ → List ℕ → Type 0) → Type 0
+Writes input w v P = IfSome input (λ stream. (text : List ℕ) × P stream text × Appends w v text)
+
+-- What a read adds to the bytes at hand: at most so many. whole: no bytes follow.
+pub record Adds (r q : Option (List ℕ)) (old new : List ℕ) (limit : ℕ) (whole : Bool) : Type 0 where
+  pub bytes : List ℕ
+  pub took : Consumes r q bytes
+  pub added : new ≡ old ++ bytes
+  pub few : length bytes ≤ limit
+  pub end : whole ≡ true → IsAtEnd q
+
+-- why a read adds nothing
+abbrev pub Loses : Option (List ℕ) → Option (List ℕ) → FrontKind → Type 0
+Loses r q e = ((bytes : List ℕ) × Consumes r q bytes) × ((e ≡ kind.Read) ⊎ (e ≡ kind.NoMemory))
+
+module _ {H K : Type 0} (site : Site) (handles : H → Method → List ℕ → Outcome → H → Type 0) (tells : K → ℕ → K → Type 0) where
+  -- So many requests are answered, and the connection stays open. r, q: what the reader had left, and has. w, v: what the writer held,
+  -- and holds. unread: what is read and not answered.
+  pub record SoFar (old : H) (before : K) (r q w v : Option (List ℕ)) (unread : List ℕ) (n : ℕ) (new : H) (after : K) : Type 0 where
+    pub turns : List Turn
+    pub stay : AllStay turns
+    pub answers : AnswersAll site handles tells old before turns new after
+    pub count : n ≡ length turns
+    pub took : Consumes r q (heads_of turns ++ unread)
+    pub wrote : Appends w v (texts_of turns)
+
+  -- Serving ends well.
+  abbrev pub EndsWell : H → K → Option (List ℕ) → Option (List ℕ) → Option (List ℕ) → ℕ → H → K → Type 0
+  EndsWell old before r w v n new after = Writes r w v (λ stream text. Responses site handles tells old before stream text n new after)
+
+  -- Serving fails. Only where the writer failed, a response may be cut.
+  abbrev pub FailsBy : H → K → Option (List ℕ) → Option (List ℕ) → Option (List ℕ) → FrontKind → Type 0
+  FailsBy old before r w v kind.Write = Writes r w v (IsCut site handles tells old before)
+  FailsBy old before r w v kind.Read = Writes r w v (IsFront site handles tells old before)
+  FailsBy old before r w v kind.TooManyReads = Writes r w v (IsFront site handles tells old before)
+  FailsBy old before r w v kind.NoMemory = Writes r w v (IsFront site handles tells old before)
+  FailsBy old before r w v kind.NamesSpent = Writes r w v (IsFront site handles tells old before)
+
+  -- what comes next
+  abbrev pub Goes : H → K → Option (List ℕ) → Option (List ℕ) → Option (List ℕ) → Option (List ℕ) → Bool → List ℕ → ℕ → H → K → Result Next FrontKind → Type 0
+  Goes old before r q w v whole unread n new after (Ok next.Again) = SoFar old before r q w v unread n new after
+  Goes old before r q w v whole unread n new after (Ok next.Reads) = SoFar old before r q w v unread n new after × (whole ≡ false)
+  Goes old before r q w v whole unread n new after (Ok next.Over) = EndsWell old before r w v n new after
+  Goes old before r q w v whole unread n new after (Err e) = FailsBy old before r w v e

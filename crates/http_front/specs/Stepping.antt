@@ -1,0 +1,52 @@
+-- What a step does with the bytes at hand.
+use Rattle.std.specs.Prelude.{◌≡◌, ℕ, ◌<◌, ◌≤◌, Bool, true, false, List, [], length, drop}
+use Rattle.httparse.specs.Grammar.{RequestHead}
+use Rattle.http_front.specs.Asking.{refusal}
+use Rattle.http_front.specs.Heads.{BeginsWithin, StaysHeadless}
+use Rattle.http_front.specs.Outcomes.{IsReplyTo}
+use Rattle.http_front.specs.Replying.{reply_text}
+use Rattle.http_front.specs.Turns.{Turn, head_limit, fields_limit, ComesUnless, IsDated, Answers, SendsBad}
+use Rattle.http_front.specs.declared.handler.Outcome.{Outcome}
+use Rattle.http_front.specs.declared.reply.Method.{Method}
+use Rattle.http_front.specs.declared.reply.Reply.{Reply}
+use Rattle.http_front.specs.declared.site.Site.{Site}
+use Rattle.http_front.specs.declared.steps.Step.{Step}
+use Rattle.http_front.specs.declared.steps.Step.TheVariants as step
+
+-- A head comes to this reply.
+pub record IsReplied {H : Type 0} (site : Site) (handles : H → Method → List ℕ → Outcome → H → Type 0) (old : H) (h : RequestHead) (r : Reply) (new : H) : Type 0 where
+  pub outcome : Outcome
+  pub comes : ComesUnless site handles (refusal h) old h outcome new
+  pub reply : IsReplyTo h outcome r
+
+-- The text of a reply is made, with the Date line of a moment that the clock told.
+pub record IsWritten {K : Type 0} (tells : K → ℕ → K → Type 0) (before : K) (r : Reply) (text : List ℕ) (after : K) : Type 0 where
+  pub date : List ℕ
+  pub dated : IsDated tells before date after
+  pub written : text ≡ reply_text r date
+
+module _ {H K : Type 0} (site : Site) (handles : H → Method → List ℕ → Outcome → H → Type 0) (tells : K → ℕ → K → Type 0) where
+  -- The bytes begin with a head of this length, within the limits. It is answered, and closes or not.
+  pub record Serves (old : H) (before : K) (seen : List ℕ) (closes : Bool) (size : ℕ) (text : List ℕ) (new : H) (after : K) : Type 0 where
+    pub turn : Turn
+    pub begins : BeginsWithin head_limit fields_limit seen turn.head (drop size seen)
+    pub fits : size ≤ length seen
+    pub some : 0 < size
+    pub answers : Answers site handles tells old before turn new after
+    pub written : text ≡ reply_text turn.reply turn.date
+    pub goes_on : turn.reply.closes ≡ closes
+
+  -- Nothing is answered.
+  pub record Waits (old : H) (before : K) (text : List ℕ) (new : H) (after : K) : Type 0 where
+    pub same : new ≡ old
+    pub still : after ≡ before
+    pub none : text ≡ []
+
+  -- whole: no bytes follow those that are seen
+  abbrev pub Steps : H → K → List ℕ → Bool → Step → List ℕ → H → K → Type 0
+  Steps old before seen whole (step.Stays size) text new after = Serves old before seen false size text new after
+  Steps old before seen whole (step.Closes size) text new after = Serves old before seen true size text new after
+  Steps old before seen whole step.Refused text new after =
+      ¬ (seen ≡ []) × StaysHeadless head_limit fields_limit seen whole × (new ≡ old) × SendsBad site handles tells before text after
+  Steps old before seen whole step.More text new after = (whole ≡ false) × (length seen < head_limit) × Waits old before text new after
+  Steps old before seen whole step.Done text new after = (whole ≡ true) × (seen ≡ []) × Waits old before text new after

@@ -1,0 +1,140 @@
+-- The requests of a connection, one after another, and what is answered (RFC 9112, section 9.3).
+use Rattle.std.specs.Prelude.{◌≡◌, ℕ, ◌≤◌, ◌+◌, true, false, List, [], ◌∷◌, ◌++◌, Option, Some, None, ◌⊎◌, length}
+use Rattle.std.specs.List.{flat_map}
+use Rattle.httparse.specs.Grammar.{RequestHead, print_request}
+use Rattle.http_front.specs.Asking.{refusal}
+use Rattle.http_front.specs.Heads.{IsHeadlessWithin}
+use Rattle.http_front.specs.Outcomes.{file_of, method_of, IsBare, IsReplyTo, IsBadReply}
+use Rattle.http_front.specs.Replying.{reply_text, IsDateLine}
+use Rattle.http_front.specs.declared.handler.Outcome.{Outcome}
+use Rattle.http_front.specs.declared.reply.Method.{Method}
+use Rattle.http_front.specs.declared.reply.Reply.{Reply}
+use Rattle.http_front.specs.declared.site.Site.{Site}
+use Rattle.http_front.specs.declared.status.Status.{Status}
+use Rattle.http_front.specs.declared.status.Status.TheVariants.{NotFound}
+
+-- a head has at most so many bytes, and so many fields
+abbrev pub head_limit : ℕ
+head_limit = 8192
+
+abbrev pub fields_limit : ℕ
+fields_limit = 64
+
+-- A request and its response: the head, the reply, and the Date line.
+pub record Turn : Type 0 where
+  pub head : RequestHead
+  pub reply : Reply
+  pub date : List ℕ
+
+-- the bytes of the requests, and of the responses
+abbrev pub heads_of : List Turn → List ℕ
+heads_of turns = flat_map (λ (t : Turn). print_request t.head) turns
+
+abbrev pub texts_of : List Turn → List ℕ
+texts_of turns = flat_map (λ (t : Turn). reply_text t.reply t.date) turns
+
+-- the connection goes on after each of them
+abbrev pub AllStay : List Turn → Type 0
+AllStay [] = Unit {0}
+AllStay (t ∷ turns) = (t.reply.closes ≡ false) × AllStay turns
+
+-- the head is within the limits
+pub record IsWithin (h : RequestHead) : Type 0 where
+  pub size : length (print_request h) ≤ head_limit
+  pub count : length h.fields ≤ fields_limit
+
+-- H: what handles requests. handles: how it handles one.
+module _ {H : Type 0} (site : Site) (handles : H → Method → List ℕ → Outcome → H → Type 0) where
+  -- what a head with this file comes to, where nothing refuses it: 404 where there is no file at its path
+  abbrev pub ComesTo : Option (List ℕ) → H → RequestHead → Outcome → H → Type 0
+  ComesTo None old h o new = IsBare NotFound o × (new ≡ old)
+  ComesTo (Some file) old h o new = handles old (method_of h.method) file o new
+
+  abbrev pub ComesUnless : Option Status → H → RequestHead → Outcome → H → Type 0
+  ComesUnless (Some status) old h o new = IsBare status o × (new ≡ old)
+  ComesUnless None old h o new = ComesTo (file_of site h) old h o new
+
+-- K: a clock. tells: what it tells.
+module _ {K : Type 0} (tells : K → ℕ → K → Type 0) where
+  -- The Date line is that of a moment that the clock told.
+  pub record IsDated (before : K) (date : List ℕ) (after : K) : Type 0 where
+    pub moment : ℕ
+    pub told : tells before moment after
+    pub line : IsDateLine moment date
+
+module _ {H K : Type 0} (site : Site) (handles : H → Method → List ℕ → Outcome → H → Type 0) (tells : K → ℕ → K → Type 0) where
+  -- One request is answered.
+  pub record Answers (old : H) (before : K) (t : Turn) (new : H) (after : K) : Type 0 where
+    pub outcome : Outcome
+    pub comes : ComesUnless site handles (refusal t.head) old t.head outcome new
+    pub reply : IsReplyTo t.head outcome t.reply
+    pub dated : IsDated tells before t.date after
+
+  -- These requests are answered, one after another.
+  unfoldable pub AnswersAll : H → K → List Turn → H → K → Type 0
+  AnswersAll old before [] new after = (new ≡ old) × (after ≡ before)
+  AnswersAll old before (t ∷ turns) new after =
+      (mid : H) × (then : K) × Answers old before t mid then × AnswersAll mid then turns new after
+
+  -- What is sent where the bytes at hand begin with no head.
+  pub record SendsBad (before : K) (text : List ℕ) (after : K) : Type 0 where
+    pub reply : Reply
+    pub date : List ℕ
+    pub bad : IsBadReply reply
+    pub dated : IsDated tells before date after
+    pub written : text ≡ reply_text reply date
+
+  -- The stream ends with the last of these requests; or the last of them closes, and what follows is not read; or what follows begins
+  -- with no head.
+  pub record EndsAll (old : H) (before : K) (stream text : List ℕ) (n : ℕ) (new : H) (after : K) : Type 0 where
+    pub turns : List Turn
+    pub stay : AllStay turns
+    pub answers : AnswersAll old before turns new after
+    pub requests : stream ≡ heads_of turns
+    pub written : text ≡ texts_of turns
+    pub count : n ≡ length turns
+
+  pub record ClosesAfter (old : H) (before : K) (stream text : List ℕ) (n : ℕ) (new : H) (after : K) : Type 0 where
+    pub turns : List Turn
+    pub last : Turn
+    pub rest : List ℕ
+    pub stay : AllStay turns
+    pub closes : last.reply.closes ≡ true
+    pub answers : AnswersAll old before (turns ++ last ∷ []) new after
+    pub requests : stream ≡ heads_of (turns ++ last ∷ []) ++ rest
+    pub written : text ≡ texts_of (turns ++ last ∷ [])
+    pub count : n ≡ length (turns ++ last ∷ [])
+
+  pub record RefusesAfter (old : H) (before : K) (stream text : List ℕ) (n : ℕ) (new : H) (after : K) : Type 0 where
+    pub turns : List Turn
+    pub then : K
+    pub rest : List ℕ
+    pub bad : List ℕ
+    pub stay : AllStay turns
+    pub answers : AnswersAll old before turns new then
+    pub sends : SendsBad then bad after
+    pub more : ¬ (rest ≡ [])
+    pub headless : IsHeadlessWithin head_limit fields_limit rest
+    pub requests : stream ≡ heads_of turns ++ rest
+    pub written : text ≡ texts_of turns ++ bad
+    pub count : n ≡ length turns + 1
+
+  -- The text of so many responses is written for a stream of requests.
+  abbrev pub Responses : H → K → List ℕ → List ℕ → ℕ → H → K → Type 0
+  Responses old before stream text n new after =
+      EndsAll old before stream text n new after ⊎ (ClosesAfter old before stream text n new after ⊎ RefusesAfter old before stream text n new after)
+
+  -- These are the responses to the first requests of a stream.
+  pub record IsFront (old : H) (before : K) (stream text : List ℕ) : Type 0 where
+    pub first : List ℕ
+    pub rest : List ℕ
+    pub n : ℕ
+    pub new : H
+    pub after : K
+    pub splits : stream ≡ first ++ rest
+    pub responses : EndsAll old before first text n new after
+
+  -- This is cut from the responses to a stream, or to its first requests: the front of them.
+  abbrev pub IsCut : H → K → List ℕ → List ℕ → Type 0
+  IsCut old before stream text =
+      (more : List ℕ) × (IsFront old before stream (text ++ more) ⊎ ((n : ℕ) × (new : H) × (after : K) × Responses old before stream (text ++ more) n new after))

@@ -1,0 +1,165 @@
+//! What a head is answered.
+
+ghost use Rattle.std.specs.Prelude.{◌≡◌, ◌||◌, ℕ, List, IfOk, IfErr};
+ghost use Rattle.httparse.specs.Grammar.{RequestHead};
+ghost use Rattle.httparse.specs.Spans.{IsRequestAt, IsRequestWithin};
+ghost use Rattle.percent_encoding.specs.Percent.{percent_decode};
+ghost use Rattle.http_front.specs.Asking.{refusal, status_closes};
+ghost use Rattle.http_front.specs.Outcomes.{IsBare, IsBadReply, IsLack, file_of, method_of, version_of};
+ghost use Rattle.http_front.specs.Sites.{route_of};
+ghost use Rattle.http_front.specs.Stepping.{IsReplied};
+ghost use Rattle.http_front.specs.Turns.{ComesTo, ComesUnless};
+
+use crate::asks::target_path;
+use crate::fault::FrontKind;
+use crate::handler::{Handler, Outcome};
+use crate::paths::decoded;
+use crate::refusing::{head_closes, refusal, status_closes};
+use crate::reply::{Method, Reply, Version};
+use crate::site::Site;
+use crate::status::Status;
+use httparse::spans::{HeaderSpan, RequestSpans};
+use std::alloc::Global;
+
+fn bare(alloc: Global, status: Status) -> Outcome
+    ensures { IsBare status result }
+{
+    Outcome {
+        status,
+        body: Vec::new(alloc),
+    }
+}
+
+fn version_of(minor: u8) -> Version
+    ensures { result ≡ version_of minor }
+{
+    if minor == 0 {
+        return Version::Http10;
+    }
+    Version::Http11
+}
+
+fn method_of(method: &[u8]) -> Method
+    ensures { result ≡ method_of method.now }
+{
+    if method == b"GET".as_slice() {
+        return Method::Get;
+    }
+    if method == b"HEAD".as_slice() {
+        return Method::Head;
+    }
+    Method::Other
+}
+
+fn closes_with(closes: bool, status: Status) -> bool
+    ensures { result ≡ (closes || status_closes status) }
+{
+    closes || status_closes(status)
+}
+
+fn path_outcome<H: Handler>(
+    alloc: Global,
+    sent: &[u8],
+    method: Method,
+    site: &Site,
+    handler: &mut H,
+    number: u64,
+) -> Result<Outcome, FrontKind>
+    requires { H.is_open handler.old number }
+    ensures open { H.is_open handler.new number }
+    ensures ok { IfOk result (λ o. (h : RequestHead) → method ≡ method_of h.method
+        → ComesTo site.now (λ old. H.handles old number) (route_of site.now (percent_decode sent.now)) handler.old h o handler.new) }
+    ensures err { IfErr result IsLack }
+{
+    let path = decoded(alloc, sent)?;
+    match site.route(path.as_slice()) {
+        Some(file) => handler.handle(alloc, number, method, file),
+        None => Ok(bare(alloc, Status::NotFound)),
+    }
+}
+
+fn target_outcome<H: Handler>(
+    alloc: Global,
+    target: &[u8],
+    method: Method,
+    site: &Site,
+    handler: &mut H,
+    number: u64,
+) -> Result<Outcome, FrontKind>
+    requires { H.is_open handler.old number }
+    ensures open { H.is_open handler.new number }
+    ensures ok { IfOk result (λ o. (h : RequestHead) → method ≡ method_of h.method → target.now ≡ h.target
+        → ComesTo site.now (λ old. H.handles old number) (file_of site.now h) handler.old h o handler.new) }
+    ensures err { IfErr result IsLack }
+{
+    match target_path(target) {
+        Some(sent) => path_outcome(alloc, sent, method, site, handler, number),
+        None => Ok(bare(alloc, Status::NotFound)),
+    }
+}
+
+fn outcome_of<H: Handler>(
+    alloc: Global,
+    seen: &[u8],
+    spans: &[HeaderSpan],
+    head: RequestSpans,
+    site: &Site,
+    handler: &mut H,
+    number: u64,
+) -> Result<Outcome, FrontKind>
+    requires within { IsRequestWithin seen.now spans.now head }
+    requires open { H.is_open handler.old number }
+    ensures open { H.is_open handler.new number }
+    ensures ok { IfOk result (λ o. (h : RequestHead) → IsRequestAt seen.now spans.now head h
+        → ComesUnless site.now (λ old. H.handles old number) (refusal h) handler.old h o handler.new) }
+    ensures err { IfErr result IsLack }
+{
+    match refusal(seen, spans, head) {
+        Some(status) => Ok(bare(alloc, status)),
+        None => {
+            let method = method_of(head.method.of(seen));
+            target_outcome(alloc, head.path.of(seen), method, site, handler, number)
+        }
+    }
+}
+
+/// The reply to a head: its refusal (RFC 9110, section 15), or 404 where there is no file at its path, or
+/// what the handler makes of the file. `NoMemory` and `NamesSpent` leave the head without a reply.
+pub(crate) fn reply_to<H: Handler>(
+    alloc: Global,
+    seen: &[u8],
+    spans: &[HeaderSpan],
+    head: RequestSpans,
+    site: &Site,
+    handler: &mut H,
+    number: u64,
+) -> Result<Reply, FrontKind>
+    requires within { IsRequestWithin seen.now spans.now head }
+    requires open { H.is_open handler.old number }
+    ensures open { H.is_open handler.new number }
+    ensures ok { IfOk result (λ r. (h : RequestHead) → IsRequestAt seen.now spans.now head h
+        → IsReplied site.now (λ old. H.handles old number) handler.old h r handler.new) }
+    ensures err { IfErr result IsLack }
+{
+    let outcome = outcome_of(alloc, seen, spans, head, site, handler, number)?;
+    Ok(Reply {
+        status: outcome.status,
+        version: version_of(head.version),
+        method: method_of(head.method.of(seen)),
+        closes: closes_with(head_closes(seen, spans, head), outcome.status),
+        body: outcome.body,
+    })
+}
+
+/// The reply where the bytes at hand begin with no head (RFC 9112, section 2.2).
+pub(crate) fn bad_reply(alloc: Global) -> Reply
+    ensures { IsBadReply result }
+{
+    Reply {
+        status: Status::BadRequest,
+        version: Version::Http11,
+        method: Method::Other,
+        closes: true,
+        body: Vec::new(alloc),
+    }
+}

@@ -1,0 +1,43 @@
+//! What makes the content of a response.
+
+ghost use Rattle.std.specs.Prelude.{ℕ, List, IfOk, IfErr};
+ghost use Rattle.http_front.specs.Outcomes.{IsLack};
+
+use crate::fault::FrontKind;
+use crate::reply::Method;
+use crate::status::Status;
+use std::alloc::Global;
+
+/// What a request comes to.
+#[derive(Debug, Drop)]
+pub struct Outcome {
+    /// The status: 200, or why there is no content.
+    pub status: Status,
+    /// The content, where a GET succeeds.
+    pub body: Vec<u8>,
+}
+
+/// What makes the content of a response from a file, on a connection that it opened.
+pub trait Handler {
+    ghost use Rattle.http_front.specs.declared.reply.Method.{Method};
+    ghost use Rattle.http_front.specs.declared.handler.Outcome.{Outcome};
+
+    // It can take a request on the connection of this number.
+    ghost is_open: { Self → ℕ → Type 0 };
+
+    // From the first state, a request for this file comes to this outcome, and leaves the second state.
+    ghost handles: { Self → ℕ → Method → List ℕ → Outcome → Self → Type 0 };
+
+    /// Handles a request for a file. `NoMemory` and `NamesSpent` leave the request without an outcome.
+    fn handle(
+        &mut self,
+        alloc: Global,
+        number: u64,
+        method: Method,
+        file: &[u8],
+    ) -> Result<Outcome, FrontKind>
+        requires { is_open self.old number }
+        ensures ok { IfOk result (λ o. handles self.old number method file.now o self.new) }
+        ensures open { is_open self.new number }
+        ensures err { IfErr result IsLack };
+}

@@ -1,0 +1,215 @@
+//! A request for a file, on the host of chains.
+
+ghost use Rattle.std.specs.Prelude.{◌≡◌, ℕ, List, IfOk, IfErr};
+ghost use Rattle.module_lang.specs.Program.{Program};
+ghost use Rattle.filter_chain.specs.Scenes.{Scene};
+ghost use Rattle.http_front.specs.Driven.{IsAlive, Leads};
+ghost use Rattle.http_front.specs.Outcomes.{IsBare, IsLack};
+ghost use Rattle.http_front.specs.Requests.{ComesOf, EndsBare, EndsWithOutput, Feeds, Finishes, Inits, Opens, OpensUnless, TakesOutput, unopened};
+
+use crate::fault::FrontKind;
+use crate::feeding::feed;
+use crate::handler::{Handler, Outcome};
+use crate::reply::Method;
+use crate::running::{Ended, end_request, run_call, unless_lack};
+use crate::status::Status;
+use filter_chain::{Files, Host, Refusal};
+use std::alloc::Global;
+
+fn bare(alloc: Global, status: Status) -> Outcome
+    ensures { IsBare status result }
+{
+    Outcome {
+        status,
+        body: Vec::new(alloc),
+    }
+}
+
+/// The status where a file is not opened.
+fn unopened(refusal: Refusal) -> Status
+    ensures { result ≡ unopened refusal }
+{
+    match refusal {
+        Refusal::NoFile => Status::NotFound,
+        _ => Status::InternalServerError,
+    }
+}
+
+/// Takes the output.
+fn output<F: Files + Drop>(alloc: Global, host: &mut Host<F>, number: u64) -> Outcome
+    requires { IsAlive F.device host.old }
+    ensures { Leads F.device host.old host.new (λ (b : ℕ) (c : List Program) (s t : Scene). TakesOutput b c number s result t) }
+{
+    match host.take_output(number) {
+        Ok(bytes) => {
+            let body = bytes.into_vec();
+            Outcome {
+                status: Status::Success,
+                body,
+            }
+        }
+        Err(_) => bare(alloc, Status::InternalServerError),
+    }
+}
+
+/// Takes the output, and ends the request.
+fn finish_with_output<F: Files + Drop>(
+    alloc: Global,
+    host: &mut Host<F>,
+    number: u64,
+) -> Result<Outcome, FrontKind>
+    requires { IsAlive F.device host.old }
+    ensures leads { Leads F.device host.old host.new (λ (b : ℕ) (c : List Program) (s t : Scene). IfOk result (λ o. EndsWithOutput b c number s o t)) }
+    ensures err { IfErr result IsLack }
+{
+    let outcome = output(alloc, host, number);
+    end_request(host, number)?;
+    Ok(outcome)
+}
+
+/// Ends the request with a status alone.
+fn finish_bare<F: Files + Drop>(
+    alloc: Global,
+    host: &mut Host<F>,
+    number: u64,
+    status: Status,
+) -> Result<Outcome, FrontKind>
+    requires { IsAlive F.device host.old }
+    ensures leads { Leads F.device host.old host.new (λ (b : ℕ) (c : List Program) (s t : Scene). IfOk result (λ o. EndsBare b c number status s o t)) }
+    ensures err { IfErr result IsLack }
+{
+    end_request(host, number)?;
+    Ok(bare(alloc, status))
+}
+
+/// Finishes a request whose last call ended so.
+fn finish<F: Files + Drop>(
+    alloc: Global,
+    host: &mut Host<F>,
+    number: u64,
+    how: Ended,
+) -> Result<Outcome, FrontKind>
+    requires { IsAlive F.device host.old }
+    ensures leads { Leads F.device host.old host.new (λ (b : ℕ) (c : List Program) (s t : Scene). IfOk result (λ o. Finishes b c number how s o t)) }
+    ensures err { IfErr result IsLack }
+{
+    match how {
+        Ended::Succeeded => finish_with_output(alloc, host, number),
+        Ended::Failed => finish_bare(alloc, host, number, Status::InternalServerError),
+        Ended::Broke => Ok(bare(alloc, Status::InternalServerError)),
+    }
+}
+
+/// Brings a file that is open, and finishes.
+fn feed_opened<F: Files + Drop>(
+    alloc: Global,
+    host: &mut Host<F>,
+    number: u64,
+    init: Ended,
+    method: Method,
+    file: (u64, u64),
+) -> Result<Outcome, FrontKind>
+    requires { IsAlive F.device host.old }
+    ensures leads { Leads F.device host.old host.new (λ (b : ℕ) (c : List Program) (s t : Scene). IfOk result (λ o. Feeds b c number init method file s o t)) }
+    ensures err { IfErr result IsLack }
+{
+    let how = feed(alloc, host, number, init, method, file)?;
+    finish(alloc, host, number, how)
+}
+
+/// Opens the file, brings it, and finishes.
+fn open_and_feed<F: Files + Drop>(
+    alloc: Global,
+    host: &mut Host<F>,
+    number: u64,
+    init: Ended,
+    method: Method,
+    file: &[u8],
+) -> Result<Outcome, FrontKind>
+    requires { IsAlive F.device host.old }
+    ensures leads { Leads F.device host.old host.new (λ (b : ℕ) (c : List Program) (s t : Scene). IfOk result (λ o. Opens b c number init method file.now s o t)) }
+    ensures err { IfErr result IsLack }
+{
+    match host.open_file(number, file) {
+        Ok(opened) => feed_opened(alloc, host, number, init, method, opened),
+        Err(refusal) => {
+            unless_lack(refusal)?;
+            finish_bare(alloc, host, number, unopened(refusal))
+        }
+    }
+}
+
+/// Goes on with a request whose `init` ended so.
+fn go_on<F: Files + Drop>(
+    alloc: Global,
+    host: &mut Host<F>,
+    number: u64,
+    init: Ended,
+    method: Method,
+    file: &[u8],
+) -> Result<Outcome, FrontKind>
+    requires { IsAlive F.device host.old }
+    ensures leads { Leads F.device host.old host.new (λ (b : ℕ) (c : List Program) (s t : Scene). IfOk result (λ o. OpensUnless b c number init method file.now s o t)) }
+    ensures err { IfErr result IsLack }
+{
+    match init {
+        Ended::Broke => Ok(bare(alloc, Status::InternalServerError)),
+        Ended::Succeeded => open_and_feed(alloc, host, number, init, method, file),
+        Ended::Failed => open_and_feed(alloc, host, number, init, method, file),
+    }
+}
+
+/// Runs `init`, and goes on.
+fn init_and_go_on<F: Files + Drop>(
+    alloc: Global,
+    host: &mut Host<F>,
+    number: u64,
+    method: Method,
+    file: &[u8],
+) -> Result<Outcome, FrontKind>
+    requires { IsAlive F.device host.old }
+    ensures leads { Leads F.device host.old host.new (λ (b : ℕ) (c : List Program) (s t : Scene). IfOk result (λ o. Inits b c number method file.now s o t)) }
+    ensures err { IfErr result IsLack }
+{
+    let init = run_call(host, number);
+    go_on(alloc, host, number, init, method, file)
+}
+
+/// The request for a file, from its begin to its end.
+fn request<F: Files + Drop>(
+    alloc: Global,
+    host: &mut Host<F>,
+    number: u64,
+    method: Method,
+    file: &[u8],
+) -> Result<Outcome, FrontKind>
+    requires { IsAlive F.device host.old }
+    ensures leads { Leads F.device host.old host.new (λ (b : ℕ) (c : List Program) (s t : Scene). IfOk result (λ o. ComesOf b c number method file.now s o t)) }
+    ensures err { IfErr result IsLack }
+{
+    match host.begin(number) {
+        Ok(()) => init_and_go_on(alloc, host, number, method, file),
+        Err(refusal) => {
+            unless_lack(refusal)?;
+            Ok(bare(alloc, Status::InternalServerError))
+        }
+    }
+}
+
+impl<F: Files + Drop> Handler for Host<F> {
+    ghost use Rattle.http_front.specs.Driven.{IsAlive, Handles};
+
+    ghost is_open = { λ host number. IsAlive F.device host };
+
+    ghost handles = { λ old number method file o new. Handles F.device old number method file o new };
+
+    fn handle(
+        &mut self,
+        alloc: Global,
+        number: u64,
+        method: Method,
+        file: &[u8],
+    ) -> Result<Outcome, FrontKind> {
+        request(alloc, self, number, method, file)
+    }
+}

@@ -1,0 +1,157 @@
+//! One step of a connection: from the bytes at hand to a response.
+
+ghost use Rattle.std.specs.Prelude.{◌≡◌, ◌≤◌, ◌&&◌, ℕ, Bool, List, length, take, nat_le, IfOk, IfErr};
+ghost use Rattle.httparse.specs.Spans.{IsRequestWithin};
+ghost use Rattle.http_front.specs.Looking.{IsFound};
+ghost use Rattle.http_front.specs.Outcomes.{IsLack};
+ghost use Rattle.http_front.specs.Stepping.{Steps};
+ghost use Rattle.http_front.specs.Turns.{head_limit, fields_limit};
+
+use crate::answering::{bad_reply, reply_to};
+use crate::clock::Clock;
+use crate::fault::FrontKind;
+use crate::handler::Handler;
+use crate::looking::{Look, look_at};
+use crate::site::Site;
+use crate::texts::put_reply;
+use httparse::spans::{EMPTY_HEADER_SPAN, HeaderSpan, RequestSpans};
+use std::alloc::Global;
+
+// The bytes of a head, and its fields, at most.
+const HEAD_LIMIT: usize = 8192;
+
+const FIELDS_LIMIT: usize = 64;
+
+/// What a step does.
+#[derive(Clone, Copy, Debug, PartialEq, Eq)]
+pub enum Step {
+    /// A request of so many bytes is answered, and the connection stays open.
+    Stays(usize),
+    /// A request of so many bytes is answered, and the connection closes.
+    Closes(usize),
+    /// The bytes begin with no head: 400, and the connection closes.
+    Refused,
+    /// More bytes are needed.
+    More,
+    /// There are no bytes, and no more come.
+    Done,
+}
+
+fn answer_head<H: Handler, K: Clock>(
+    alloc: Global,
+    seen: &[u8],
+    spans: &[HeaderSpan],
+    head: RequestSpans,
+    site: &Site,
+    handler: &mut H,
+    number: u64,
+    clock: &mut K,
+    text: &mut Vec<u8>,
+) -> Result<Step, FrontKind>
+    requires within { IsRequestWithin seen.now spans.now head }
+    requires found { IsFound head_limit seen.now spans.now head }
+    requires room { length spans.now ≡ fields_limit }
+    requires open { H.is_open handler.old number }
+    ensures open { H.is_open handler.new number }
+    ensures ok { IfOk result (λ s. (whole : Bool) → Steps site.now (λ old. H.handles old number) K.tells handler.old clock.old seen.now whole s text.new.items handler.new clock.new) }
+    ensures err { IfErr result IsLack }
+{
+    let reply = reply_to(alloc, seen, spans, head, site, handler, number)?;
+    put_reply(alloc, &reply, clock, text)?;
+    if reply.closes {
+        return Ok(Step::Closes(head.len));
+    }
+    Ok(Step::Stays(head.len))
+}
+
+// A step where the bytes are within the limit.
+fn step_within<H: Handler, K: Clock>(
+    alloc: Global,
+    seen: &[u8],
+    whole: bool,
+    spans: &mut [HeaderSpan],
+    site: &Site,
+    handler: &mut H,
+    number: u64,
+    clock: &mut K,
+    text: &mut Vec<u8>,
+) -> Result<Step, FrontKind>
+    requires size { length seen.now ≤ head_limit }
+    requires room { length spans.old ≡ fields_limit }
+    requires open { H.is_open handler.old number }
+    ensures open { H.is_open handler.new number }
+    ensures ok { IfOk result (λ s. Steps site.now (λ old. H.handles old number) K.tells handler.old clock.old seen.now whole s text.new.items handler.new clock.new) }
+    ensures err { IfErr result IsLack }
+{
+    text.clear();
+    if seen.is_empty() && whole {
+        return Ok(Step::Done);
+    }
+    if seen.is_empty() {
+        return Ok(Step::More);
+    }
+    match look_at(seen, HEAD_LIMIT, whole, spans) {
+        Look::Head(head) => answer_head(
+            alloc, seen, spans, head, site, handler, number, clock, text,
+        ),
+        Look::More => Ok(Step::More),
+        Look::Headless => {
+            put_reply(alloc, &bad_reply(alloc), clock, text)?;
+            Ok(Step::Refused)
+        }
+    }
+}
+
+fn ends_within(whole: bool, size: usize, limit: usize) -> bool
+    ensures { result ≡ (whole && nat_le size limit) }
+{
+    whole && size <= limit
+}
+
+fn front(bytes: &[u8], limit: usize) -> &[u8]
+    ensures is { result.now ≡ take limit bytes.now }
+    ensures size { length result.now ≤ limit }
+{
+    if bytes.len() <= limit {
+        return bytes;
+    }
+    &bytes[..limit]
+}
+
+/// Answers the request that the bytes at hand begin with, if they hold its head (RFC 9112, section 2.1). A head has at most 8192 bytes, the
+/// empty lines before it among them, and 64 fields. The response is left in `text`, which is cleared first and keeps its room; where
+/// nothing is answered it is empty. `whole` says that no bytes follow.
+///
+/// `handler` is asked where a GET or a HEAD names a file of the site, on the connection of this `number`; `clock` is asked once a response.
+///
+/// # Errors
+///
+/// `NoMemory` and `NamesSpent` leave the request without a response, and `text` is of no use.
+pub fn take_step<H: Handler, K: Clock>(
+    alloc: Global,
+    seen: &[u8],
+    whole: bool,
+    site: &Site,
+    handler: &mut H,
+    number: u64,
+    clock: &mut K,
+    text: &mut Vec<u8>,
+) -> Result<Step, FrontKind>
+    requires { H.is_open handler.old number }
+    ensures open { H.is_open handler.new number }
+    ensures ok { IfOk result (λ s. Steps site.now (λ old. H.handles old number) K.tells handler.old clock.old seen.now whole s text.new.items handler.new clock.new) }
+    ensures err { IfErr result IsLack }
+{
+    let mut spans = [EMPTY_HEADER_SPAN; FIELDS_LIMIT];
+    step_within(
+        alloc,
+        front(seen, HEAD_LIMIT),
+        ends_within(whole, seen.len(), HEAD_LIMIT),
+        &mut spans,
+        site,
+        handler,
+        number,
+        clock,
+        text,
+    )
+}
