@@ -14,3 +14,4 @@ pub mod StepCounts
 pub mod BringLaws
 pub mod Served
 pub mod SessionLaws
+pub mod SiteLaws

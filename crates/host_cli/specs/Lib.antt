@@ -20,3 +20,5 @@ pub mod Players
 pub mod Playing
 pub mod Serving
 pub mod TextAnswers
+pub mod SiteFiles
+pub mod Loading

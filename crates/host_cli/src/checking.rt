@@ -17,7 +17,8 @@ use module_lang::{Module, assemble};
 use std::alloc::{AllocError, Global};
 use std::io::{Read, Write};
 
-fn cert_fault(alloc: Global, refusal: CertRefusal) -> Result<Answer, AllocError>
+/// The line that tells why a text is no certificate.
+pub fn cert_fault(alloc: Global, refusal: CertRefusal) -> Result<Answer, AllocError>
     ensures { IfOk result (λ a. TellsCertFault refusal a.text.items a.ended) }
 {
     match refusal {

@@ -11,8 +11,13 @@ mod commands;
 mod ended;
 mod fault;
 mod file_line;
+mod front;
+mod front_words;
+mod head_reader;
 mod labels;
 mod lines;
+mod listening;
+mod loading;
 mod named_file;
 mod operands;
 mod part;
@@ -24,7 +29,9 @@ mod refused_at;
 mod reply;
 mod script;
 mod session;
+mod site_file;
 mod streams;
+mod system_clock;
 mod task;
 mod texts;
 mod words;
@@ -37,10 +44,11 @@ use clap::Error;
 use clap::error::ErrorKind;
 use ended::Ended;
 use fault::PlayFault;
-use life_explain::{explain_certify, explain_check};
+use front::serve_front;
+use life_explain::{explain_certify, explain_check, explain_play};
 use named_file::NamedFile;
 use playing::run_play;
-use recorded::Recorded;
+use recorded::{Recorded, RecordedWriter};
 use std::alloc::AllocError;
 use std::io::IsTerminal;
 use std::process::ExitCode;
@@ -71,11 +79,6 @@ fn end_words(rt: &HostRuntime, error: &Error) -> ExitCode {
     } else {
         ExitCode::SUCCESS
     }
-}
-
-fn play_script(rt: &HostRuntime) -> ExitCode {
-    let played = run_play(rt.alloc(), &mut rt.stdin(), &mut rt.stdout());
-    end(rt, played, "standard input")
 }
 
 fn assemble_file(rt: &HostRuntime, file: &str) -> ExitCode {
@@ -120,6 +123,17 @@ fn certify_input(rt: &HostRuntime, asked: bool) -> ExitCode {
     end(rt, certified, "standard input")
 }
 
+fn play_script(rt: &HostRuntime, asked: bool) -> ExitCode {
+    let helps = tells_help(rt, asked);
+    let mut reader = Recorded::new(rt.alloc(), rt.stdin(), helps);
+    let mut writer = RecordedWriter::new(rt.alloc(), rt.stdout(), helps);
+    let played = run_play(rt.alloc(), &mut reader, &mut writer);
+    if helps && played.is_ok() {
+        tell_help(rt, explain_play(rt.alloc(), reader.given(), writer.taken()));
+    }
+    end(rt, played, "standard input")
+}
+
 fn check_file(rt: &HostRuntime, file: &str, cert: &str, asked: bool) -> ExitCode {
     let helps = tells_help(rt, asked);
     let mut reader = Recorded::new(rt.alloc(), NamedFile::new(rt, file), helps);
@@ -134,7 +148,7 @@ fn check_file(rt: &HostRuntime, file: &str, cert: &str, asked: bool) -> ExitCode
 
 fn perform(rt: &HostRuntime, task: Task<'_>) -> ExitCode {
     match task {
-        Task::Play => play_script(rt),
+        Task::Play { explains } => play_script(rt, explains),
         Task::New => end(rt, run_new(&mut rt.stdout()), ""),
         Task::Assemble { file } => assemble_file(rt, file),
         Task::Certify {
@@ -150,6 +164,7 @@ fn perform(rt: &HostRuntime, task: Task<'_>) -> ExitCode {
             cert,
             explains,
         } => check_file(rt, file, cert, explains),
+        Task::Serve(front) => serve_front(rt, &front),
     }
 }
 

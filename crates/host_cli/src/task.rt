@@ -1,13 +1,25 @@
 //! What the program is called for.
 
+use crate::front::Front;
+use crate::front_words::{front_of, serve_command};
 use clap::{Arg, ArgAction, Command, Error};
 use std::alloc::{AllocError, Global};
 
+/// What `--explain` does where a module is judged.
+const EXPLAINS_MODULES: &str =
+    "Tells on the standard error why a module is refused, and what to write instead; so it does on a terminal";
+
+/// What `--explain` does where a script is played.
+const EXPLAINS_PLAYS: &str =
+    "Tells on the standard error, behind the answers, what faults and refusals mean, and what to write instead; so it does on a terminal";
+
 /// What the words of the command line ask for.
-#[derive(Clone, Copy)]
+#[derive(Drop)]
 pub enum Task<'a> {
     /// A script is played.
-    Play,
+    Play {
+        explains: bool,
+    },
     /// A module to begin with is printed.
     New,
     /// A module is printed.
@@ -25,15 +37,21 @@ pub enum Task<'a> {
         cert: &'a str,
         explains: bool,
     },
+    /// Connections are served.
+    Serve(Front<'a>),
 }
 
-fn explain_flag<'a>(alloc: Global) -> Arg<'a> {
+fn explain_flag<'a>(alloc: Global, help: &'a str) -> Arg<'a> {
     Arg::new(alloc, "explain")
         .long("explain")
         .action(ArgAction::SetTrue)
-        .help(
-            "Tells on the standard error why a module is refused, and what to write instead; so it does on a terminal",
-        )
+        .help(help)
+}
+
+fn play_command<'a>(alloc: Global) -> Result<Command<'a>, AllocError> {
+    Command::new(alloc, "play")
+        .about("Plays a script from standard input; so it does with no command")
+        .arg(explain_flag(alloc, EXPLAINS_PLAYS))
 }
 
 fn certify_command<'a>(alloc: Global) -> Result<Command<'a>, AllocError> {
@@ -42,7 +60,7 @@ fn certify_command<'a>(alloc: Global) -> Result<Command<'a>, AllocError> {
             "Makes a certificate of a module, or tells why there is none; of standard input with no file",
         )
         .arg(Arg::new(alloc, "FILE"))?
-        .arg(explain_flag(alloc))
+        .arg(explain_flag(alloc, EXPLAINS_MODULES))
 }
 
 fn check_command<'a>(alloc: Global) -> Result<Command<'a>, AllocError> {
@@ -50,7 +68,7 @@ fn check_command<'a>(alloc: Global) -> Result<Command<'a>, AllocError> {
         .about("Checks a certificate of a module")
         .arg(Arg::new(alloc, "FILE").required(true))?
         .arg(Arg::new(alloc, "CERT").required(true))?
-        .arg(explain_flag(alloc))
+        .arg(explain_flag(alloc, EXPLAINS_MODULES))
 }
 
 /// What these words ask for, of which the first is the program's name. `Error`: they are no words of the program, they ask for
@@ -60,23 +78,24 @@ pub fn task_of<'a>(alloc: Global, words: &'a [String]) -> Result<Task<'a>, Error
     let assemble = Command::new(alloc, "assemble")
         .about("Prints a module, or the first fault of its text")
         .arg(file)?;
-    let play = Command::new(alloc, "play").about(
-        "Plays a script from standard input; so it does with no command",
-    );
     let new = Command::new(alloc, "new").about(
         "Prints a module to begin with, which is accepted as it stands",
     );
     let program = Command::new(alloc, "host_cli")
         .about("A host of output filters")
-        .subcommand(play)?
+        .subcommand(play_command(alloc)?)?
         .subcommand(new)?
         .subcommand(assemble)?
         .subcommand(certify_command(alloc)?)?
-        .subcommand(check_command(alloc)?)?;
+        .subcommand(check_command(alloc)?)?
+        .subcommand(serve_command(alloc)?)?;
     let matches = program.try_get_matches_from(words)?;
     let Some((name, given)) = matches.subcommand() else {
-        return Ok(Task::Play);
+        return Ok(Task::Play { explains: false });
     };
+    if name == "serve" {
+        return Ok(Task::Serve(front_of(alloc, given)?));
+    }
     let given_file = given.get_str("FILE");
     let file = given_file.unwrap_or("");
     let explains = given.get_flag("explain");
@@ -92,6 +111,6 @@ pub fn task_of<'a>(alloc: Global, words: &'a [String]) -> Result<Task<'a>, Error
             cert: given.get_str("CERT").unwrap_or(""),
             explains,
         },
-        _ => Task::Play,
+        _ => Task::Play { explains },
     })
 }

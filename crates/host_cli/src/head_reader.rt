@@ -1,0 +1,80 @@
+//! A connection's stream, with a deadline for each head.
+
+use std::cell::Cell;
+use std::io::{self, ErrorKind, Read, Write};
+use std::net::TcpStream;
+use std::time::{Duration, Instant};
+
+/// When the next head is to be there: not said before it is first waited for.
+#[derive(Drop)]
+pub struct Deadline {
+    at: Cell<Option<Instant>>,
+    patience: Duration,
+}
+
+impl Deadline {
+    /// No deadline yet; each head may take so long.
+    pub fn new(patience: Duration) -> Deadline {
+        Deadline {
+            at: Cell::new(None),
+            patience,
+        }
+    }
+
+    /// The next head gets a deadline of its own.
+    fn renew(&self) {
+        self.at.set(None);
+    }
+
+    /// What is left of the time of this head, which begins when it is first waited for; `None` where it is over.
+    fn left(&self, now: Instant) -> Option<Duration> {
+        let Some(at) = self.at.get() else {
+            self.at.set(now.checked_add(self.patience));
+            return Some(self.patience);
+        };
+        let left = at.checked_duration_since(now)?;
+        if left.is_zero() {
+            return None;
+        }
+        Some(left)
+    }
+}
+
+/// Reads a stream, as long as the head that is waited for may take.
+#[derive(Drop)]
+pub struct HeadReader<'a> {
+    pub runtime: &'a HostRuntime,
+    pub stream: &'a TcpStream,
+    pub deadline: &'a Deadline,
+}
+
+impl Read for HeadReader<'_> {
+    fn read(&mut self, buf: &mut [u8]) -> io::Result<usize> {
+        let now = Instant::now(self.runtime)?;
+        let Some(left) = self.deadline.left(now) else {
+            return Err(io::Error::from(ErrorKind::TimedOut));
+        };
+        self.stream.set_read_timeout(Some(left))?;
+        let mut stream = self.stream;
+        stream.read(buf)
+    }
+}
+
+/// Writes to a stream. Behind what is written the next head has a deadline of its own.
+#[derive(Drop)]
+pub struct ReplyWriter<'a> {
+    pub stream: &'a TcpStream,
+    pub deadline: &'a Deadline,
+}
+
+impl Write for ReplyWriter<'_> {
+    fn write(&mut self, buf: &[u8]) -> io::Result<usize> {
+        self.deadline.renew();
+        let mut stream = self.stream;
+        stream.write(buf)
+    }
+
+    fn flush(&mut self) -> io::Result<()> {
+        Ok(())
+    }
+}

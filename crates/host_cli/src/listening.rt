@@ -1,0 +1,130 @@
+//! Connections, one after another.
+
+ghost use Rattle.http_front.specs.Driven.{IsAlive};
+
+use crate::head_reader::{Deadline, HeadReader, ReplyWriter};
+use crate::system_clock::SystemClock;
+use bucket_kinds::DiskFiles;
+use filter_chain::{Files, Host};
+use http_front::{FrontFault, Served, Site, serve};
+use std::io::{self, Read};
+use std::net::{Shutdown, TcpListener, TcpStream};
+use std::thread;
+use std::time::{Duration, Instant};
+
+/// The host of a program that serves.
+pub type DiskHost = Host<DiskFiles<HostRuntime>>;
+
+/// How connections are served.
+#[derive(Clone, Copy)]
+pub struct Manner {
+    /// How many are served; 0: until the program is stopped.
+    pub conns: u32,
+    /// How long a head may take, and a write.
+    pub patience: Duration,
+    /// Whether each is told on the standard error.
+    pub logs: bool,
+}
+
+/// How many seconds a client that is answered may go on to send.
+const DRAIN_SECONDS: u64 = 1;
+
+/// How many reads what it sends may take.
+const DRAIN_READS: u32 = 64;
+
+/// Ends sending, and reads what the client sent meanwhile, so that the last response is not lost: a socket that is closed with bytes unread
+/// takes back what is not yet delivered.
+fn drain(rt: &HostRuntime, stream: &TcpStream) -> io::Result<()> {
+    stream.shutdown(Shutdown::Write)?;
+    let start = Instant::now(rt)?;
+    let mut buffer = [0; 8192];
+    let mut reader = stream;
+    for _ in 0..DRAIN_READS {
+        let left = Duration::from_secs(DRAIN_SECONDS).saturating_sub(start.elapsed(rt)?);
+        if left.is_zero() {
+            return Ok(());
+        }
+        stream.set_read_timeout(Some(left))?;
+        if reader.read(&mut buffer)? == 0 {
+            return Ok(());
+        }
+    }
+    Ok(())
+}
+
+fn set_up(stream: &TcpStream, patience: Duration) -> io::Result<()> {
+    stream.set_nodelay(true)?;
+    stream.set_write_timeout(Some(patience))
+}
+
+/// Tells a connection: how many requests were answered, or why it ended.
+fn tell(rt: &HostRuntime, number: u64, outcome: Result<Served, FrontFault>) {
+    let _ = match outcome {
+        Ok(served) => {
+            let requests = served.requests;
+            eprintln!(rt; "connection {number}: requests {requests}")
+        }
+        Err(fault) => {
+            let kind = fault.kind;
+            eprintln!(rt; "connection {number}: {kind}")
+        }
+    };
+}
+
+/// Serves a connection to its end. A fault ends it alone.
+fn serve_stream<F: Files + Drop>(
+    rt: &HostRuntime,
+    stream: &TcpStream,
+    site: &Site,
+    host: &mut Host<F>,
+    patience: Duration,
+) -> Result<Served, FrontFault>
+    requires { IsAlive F.device host.old }
+    ensures { IsAlive F.device host.new }
+{
+    let deadline = Deadline::new(patience);
+    let mut reader = HeadReader {
+        runtime: rt,
+        stream,
+        deadline: &deadline,
+    };
+    let mut writer = ReplyWriter {
+        stream,
+        deadline: &deadline,
+    };
+    let mut clock = SystemClock { runtime: rt };
+    serve(rt.alloc(), &mut reader, &mut writer, site, host, &mut clock)
+}
+
+/// How many milliseconds the program waits where no connection could be taken.
+const PAUSE_MILLIS: u64 = 100;
+
+/// Serves connections one after another. One that cannot be taken is none.
+pub fn serve_all<F: Files + Drop>(
+    rt: &HostRuntime,
+    listener: &TcpListener,
+    site: &Site,
+    host: &mut Host<F>,
+    manner: Manner,
+)
+    requires { IsAlive F.device host.old }
+{
+    let mut number = 0u64;
+    for stream in listener.incoming() {
+        let Ok(stream) = stream else {
+            thread::sleep(rt, Duration::from_millis(PAUSE_MILLIS));
+            continue;
+        };
+        number = number.saturating_add(1);
+        if set_up(&stream, manner.patience).is_ok() {
+            let outcome = serve_stream(rt, &stream, site, host, manner.patience);
+            if manner.logs {
+                tell(rt, number, outcome);
+            }
+            let _ = drain(rt, &stream);
+        }
+        if number == u64::from(manner.conns) {
+            return;
+        }
+    }
+}
