@@ -3,7 +3,7 @@
 
     python3 bench/refuse_memory.py [SCRIPT ..]
 
-Without scripts it plays those of examples/. The answers are those where memory lasts, up to the command that met the refused
+Without scripts it plays those of examples/ and tests/cases/. The answers are those where memory lasts, up to the command that met the refused
 growth. That one answers `refused NoMemory`, and all later ones answer as in the script without it; or `refused
 Broken(NoMemory)`, and what the connection served until then stands; or the program ends with `no memory`.
 
@@ -69,11 +69,14 @@ def play(library, script, refused):
 
 
 def split(script):
-    """The module text with its budget, and the commands, as lists of lines."""
+    """The texts with the lines `budget` and `checked`, and the commands, as lists of lines."""
     lines = script.split(b'\n')[:-1]
-    first = next((i + 1 for i, line in enumerate(lines) if line.strip(b' ') == b'end'), len(lines))
-    if first < len(lines) and lines[first].startswith(b'budget '):
-        first += 1
+    first, word = 0, b'module'
+    while word in (b'module', b'cert'):
+        first = next((i + 1 for i in range(first, len(lines)) if lines[i].strip(b' ') == b'end'), len(lines))
+        word = next((line.split()[0] for line in lines[first:] if line.strip() and not line.lstrip().startswith(b'#')), b'')
+    for word in (b'budget ', b'checked'):
+        first += first < len(lines) and lines[first].startswith(word)
     return lines[:first], lines[first:]
 
 
@@ -110,15 +113,22 @@ def stands_broken(command, answer, well):
     return len(answer) == 1 and answer[0].startswith(b'labels') if word == b'close' else answer == well
 
 
-def is_broken_well(commands, answers, well):
-    """Whether these answers are those of a connection that a want of memory broke."""
+def is_broken_well(commands, conn, answers, well):
+    """Whether these answers are those where a want of memory broke a connection, by its number as a word: others answer as before."""
     closed = False
     for command, answer, whole in zip(commands, answers, well):
-        serves = command == b'pools' or (command.split(b' ')[1:2] == [b'1'] and not closed)
+        serves = command == b'pools' or (command.split(b' ')[1:2] == [conn] and not closed)
         if not (stands_broken(command, answer, whole) if serves else answer == whole):
             return False
-        closed = closed or command == b'close 1'
+        closed = closed or command == b'close ' + conn
     return True
+
+
+def is_front_of(lines, others):
+    """Whether answers are the front of others, a last `script line` apart: what is no command depends on the lines before it."""
+    if lines[-1:] and lines[-1].startswith(b'script line '):
+        return lines[:-1] == others[:len(lines) - 1]
+    return lines == others
 
 
 def is_well_told(library, script, lines, others):
@@ -131,8 +141,10 @@ def is_well_told(library, script, lines, others):
         return later == []
     if answer == [REFUSED]:
         without, _ = play(library, joined(head, commands[:at] + commands[at + 1:]), 0)
-        return later == without[sum(map(len, found[:at])):]
-    return answer == [BROKEN] and is_broken_well(commands[at + 1:], found[at + 1:], well[at + 1:])
+        return is_front_of(later, without[sum(map(len, found[:at])):])
+    if answer != [BROKEN]:
+        return False
+    return is_broken_well(commands[at + 1:], commands[at].split(b' ')[1], found[at + 1:], well[at + 1:])
 
 
 def check(library, name):
@@ -154,7 +166,8 @@ def main():
         raise SystemExit('bench/refuse_memory.py: there is no program %s; ./host builds it' % PROGRAM)
     if not shutil.which('cc'):
         raise SystemExit('bench/refuse_memory.py: there is no compiler cc')
-    names = sys.argv[1:] or sorted(glob.glob(os.path.join(TOP, 'examples', '*.script')))
+    names = sys.argv[1:] or [name for folder in ('examples', 'tests/cases')
+                             for name in sorted(glob.glob(os.path.join(TOP, folder, '*.script')))]
     with tempfile.TemporaryDirectory() as folder:
         source, library = os.path.join(folder, 'refuser.c'), os.path.join(folder, 'refuser.so')
         with open(source, 'w', encoding='utf-8') as file:

@@ -3,6 +3,9 @@
 
     python3 tests/differential/chains.py [N] [SEED] [--program PATH] [--keep FOLDER]
     python3 tests/differential/chains.py [N] [SEED] --unchecked [--program PATH]
+
+Bodies come in random cuts, and connections are closed at any moment. In every other chain things fail too: openings and reads of
+files, and growths of memory. No script can say that, so these chains are played by the reading alone.
 """
 import argparse
 import os
@@ -11,19 +14,22 @@ import time
 import traceback
 from contextlib import suppress
 
+from accepted import hand_written
 from check import pieces
 from compare import answer_of, generator_of, report, shown
 from filters import MEETING, PAIR
 from modules import FILTERS, random_module
-from odd import quote
+from odd import quote, some_bytes
 from reading.certificates import Refusal, make, show_certificate
 from reading.chains import Host
-from reading.counts import table, uncounted
+from reading.counts import ARISEN, arose, table, uncounted
 from reading.scripts import TooBig, answer, play
 from reading.texts import FaultyText, assemble_alone
 
 MOST_CONNECTIONS = 3
 MEETING_EACH_OTHER = .5                  # how often a filter is one of those that were written for chains
+# How often what fails, one of these in a chain.
+OFTEN_IN_TROUBLE = {'opening': [0, .05, .3], 'read': [0, .05, .3, 1], 'growth': [0, .001, .01, .05]}
 PASSING = .85                            # how often another one passes something
 NEW = .5                                 # how often a chain has a new filter
 NO_SCRIPT = (b'asm line ', b'cert line ', b'script line ', b'refused module ')
@@ -47,6 +53,7 @@ class Filters:
     def __init__(self, unchecked):
         self.unchecked = unchecked
         self.known = []
+        self.made, self.accepted = 0, 0  # of random modules
         for lines in FILTERS:
             self.take('\n'.join(lines).encode('latin-1') + b'\n')
         self.meeting = [self.take(text) for text in MEETING]
@@ -67,6 +74,8 @@ class Filters:
         filter = None
         while filter is None:
             filter = self.take(random_module(rng))
+            self.made += 1
+            self.accepted += filter is not None and filter.certificate is not None
         return filter
 
     def one(self, rng):
@@ -90,18 +99,29 @@ class Filters:
 class Talk:
     """Random commands, which are played on the reading as they are written."""
 
-    def __init__(self, rng, chain):
+    def __init__(self, rng, chain, troubled):
         self.rng = rng
-        self.host = Host([filter.module for filter in chain])
+        self.host = Host([filter.module for filter in chain], self.fails)
         self.host.budget = rng.choice([40, 400, 3000])
         self.lines = []
+        self.answers = []
         self.files = {}                  # their lengths
+        self.bodies = {}                 # by connections: the pieces that are still to come
         self.chance_of_stray = rng.choice([0, .02, .1])
+        self.chance_of_close = rng.choice([0, .005, .03])
+        self.chance_of_trouble = {what: rng.choice(OFTEN_IN_TROUBLE[what]) if troubled else 0 for what in OFTEN_IN_TROUBLE}
+
+    def fails(self, what):
+        """Whether the opening, the read or the growth that is tried fails."""
+        failed = self.rng.random() < self.chance_of_trouble[what]
+        if failed:
+            arose(what + ' that fails by chance')
+        return failed
 
     def say(self, *words):
         line = ' '.join(map(str, words))
         self.lines.append(line)
-        answer(self.host, line)
+        self.answers.append(answer(self.host, line))
 
     def file(self):
         """A new file."""
@@ -110,7 +130,24 @@ class Talk:
         self.say('file', name, length, quote(self.rng, b'%d' % (len(self.files) % 10)))
 
     def bring(self, number):
-        self.say('bring', number, *pieces(self.rng, self.files, often=4))
+        """Pieces of their own, or what comes next of a body."""
+        if self.rng.random() < .4:
+            self.say('bring', number, *pieces(self.rng, self.files, often=4))
+        else:
+            if not self.bodies.get(number):
+                self.bodies[number] = body(self.rng, self.files)
+            self.say('bring', number, *[word_of(self.rng, piece) for piece in self.cut(number)])
+
+    def cut(self, number):
+        """The front of a connection's body up to a random place, which may be inside a piece; the rest comes later."""
+        left = self.bodies[number]
+        place = self.rng.randint(0, len(left))
+        front, self.bodies[number] = left[:place], left[place:]
+        if front and front[-1][0] not in ('flush', 'eos') and self.rng.random() < .5:
+            arose('body cut inside a piece')
+            front[-1], rest = halves(front[-1], self.rng)
+            self.bodies[number].insert(0, rest)
+        return front
 
     def stray(self):
         """A command for any connection, there or not."""
@@ -141,7 +178,9 @@ class Talk:
 
     def turn_of(self, number, connection):
         rng = self.rng
-        if connection.broken:
+        if rng.random() < self.chance_of_close:
+            self.say('close', number)
+        elif connection.broken:
             self.say(rng.choice(['close', 'close', 'close', 'output', 'labels', 'run', 'end']), number)
         elif connection.stack and rng.random() < .4:
             self.say('run', number)
@@ -167,9 +206,60 @@ class Talk:
         self.say('pools')
 
 
+def body(rng, files):
+    """The pieces of a body: (kind, bytes), ('file', name, start, length), ('flush',), and at its end an EOS."""
+    pieces = []
+    for _ in range(rng.choice([1, 2, 4, 8])):
+        kind = rng.choice(['heap', 'transient', 'immortal', 'pool', 'flush'] + ['file'] * (4 * (len(files) > 0)))
+        if kind == 'file':
+            name = rng.choice(sorted(files))
+            start = rng.randint(0, files[name])
+            pieces.append((kind, name, start, rng.randint(0, files[name] - start)))
+        else:
+            pieces.append((kind,) if kind == 'flush' else (kind, bytes(some_bytes(rng))))
+    return pieces + [('eos',)] * (rng.random() < .8)
+
+
+def halves(piece, rng):
+    """A piece in two, at a random place."""
+    if piece[0] == 'file':
+        _, name, start, length = piece
+        size = rng.randint(0, length)
+        return ('file', name, start, size), ('file', name, start + size, length - size)
+    kind, data = piece
+    size = rng.randint(0, len(data))
+    return (kind, data[:size]), (kind, data[size:])
+
+
+def word_of(rng, piece):
+    """A piece as a script has it."""
+    kind, *words = piece
+    if kind in ('heap', 'transient', 'immortal', 'pool'):
+        return '%s %s' % (kind, quote(rng, words[0]))
+    return ' '.join([kind] + [str(word) for word in words])
+
+
+def play_troubled(rng, chain, path):
+    """Plays commands in which things fail; gives whether there was no fault, and keeps the commands where there was."""
+    talk = Talk(rng, chain, troubled=True)
+    try:
+        talk.all()
+    except AssertionError:
+        wrong = 'the reading is wrong: ' + traceback.format_exc()
+    else:
+        faults = [line for line in talk.answers if line.startswith('fault ')]
+        wrong = 'FAULT of an accepted chain, where things fail: ' + faults[0] if faults else None
+    if wrong:
+        told = ['%s\n# %s' % both for both in zip(talk.lines, talk.answers)]
+        with open(path + '.troubled', 'wb') as file:
+            file.write(b''.join(filter.text for filter in chain) + '\n'.join(told).encode('latin-1'))
+        print('%s\n  %s.troubled' % (wrong, path))
+    return wrong is None
+
+
 def script_of(rng, chain, unchecked):
     """The bytes of a script: the chain with some of its certificates, and a talk."""
-    talk = Talk(rng, chain)
+    talk = Talk(rng, chain, troubled=False)
     with uncounted(), suppress(AssertionError):          # the script shows what is wrong, too
         talk.all()
     texts = b''.join(filter.text + (filter.certificate or b'' if rng.random() < .5 else b'') for filter in chain)
@@ -221,11 +311,20 @@ def main():
     start = time.monotonic()
     for number in range(options.n):
         rng = generator_of(options.seed, number)
-        script = script_of(rng, filters.chain(rng), options.unchecked)
+        chain = filters.chain(rng)
         path = os.path.join(options.keep, 'chain_%s_%d' % (options.seed.replace('/', '_'), number))
-        if not play_chain(players, script, path, options.unchecked):
+        if number % 2 and not options.unchecked:
+            well = play_troubled(rng, chain, path)
+        else:
+            well = play_chain(players, script_of(rng, chain, options.unchecked), path, options.unchecked)
+        if not well:
             return 1
     print(table())
+    if not options.unchecked:
+        print('accepted: %d of %d random modules' % (filters.accepted, filters.made))
+        for kind, accepted, all_of_them in hand_written():
+            print('accepted: %d of %d modules of %s' % (accepted, all_of_them, kind))
+        print('%d instructions' % ARISEN['instruction done'])
     print('%d chains of seed %s: %s, %d filters, %.0f s' % (
         options.n, options.seed, 'no difference' if options.unchecked else 'no fault', len(filters.known), time.monotonic() - start))
     return 0

@@ -11,6 +11,11 @@ FREE = ('free', None)            # a home is FREE, ('call', name), ('pool', name
 DEAD = ('dead', None)
 
 
+def never(_):
+    """Nothing fails."""
+    return False
+
+
 class Bucket:
     """A bucket: its kind, its bytes or its range (file, start, length), and the home that it must not outlast. A POOL
     bucket has the pool of its bytes."""
@@ -52,7 +57,8 @@ class OpenFile:
 class Pools:
     """The pools of all connections, and their files. A name is given once, to whichever connection asks."""
 
-    def __init__(self):
+    def __init__(self, fails=never):
+        self.fails = fails               # told 'opening', 'read' or 'growth', it says whether that fails now
         self.tree = {ROOT: Pool(None)}
         self.files = {}                  # the bytes of each file
         self.open_files = {}
@@ -76,8 +82,9 @@ class Pools:
         return number
 
     def read(self, number, start, length):
-        """The bytes of a range of an open file, as far as the file reaches."""
-        return self.files[self.open_files[number].name][start:start + length]
+        """The bytes of a range of an open file, or None where the file ends before, or the read fails."""
+        data = self.files[self.open_files[number].name][start:start + length]
+        return None if len(data) < length or self.fails('read') else data
 
     def refer(self, pool, number):
         """Keeps an open file open for as long as the pool lives."""

@@ -175,18 +175,18 @@ def read_pieces(line, at):
 
 def answer(host, command):
     """What is answered to a command."""
-    if command == 'open':
-        return 'conn %d\n' % host.open()
     if command == 'pools':
         return host.pools.show() + 'ok\n'
     word, space, rest = command.partition(' ')
     if word == 'file':
         make_file(host, rest)
         return 'ok\n'
-    if word not in ANSWERS or not space:
+    if command != 'open' and (word not in ANSWERS or not space):
         raise BadLine
-    conn, *operands = read_operands(word, command)
+    conn, *operands = (None,) if command == 'open' else read_operands(word, command)
     try:
+        if command == 'open':
+            return 'conn %d\n' % host.open()
         if word == 'close':
             return labels_line(host.close(conn))
         return ANSWERS[word](host.connection(conn), *operands)

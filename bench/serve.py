@@ -1,0 +1,182 @@
+#!/usr/bin/env python3
+"""Measures `serve`: processor time for a request, and memory.
+
+    bench/serve.py [--program PATH] [--requests N] [--conns N] [--module FILE]
+
+One client asks for a file of 2 bytes, of 64 KiB and of 1 MiB on one connection that stays open. What is told is the processor time of
+the server alone, user and system, for each request, and its memory before and behind. Then the file of 2 bytes is asked for on N connections
+of one request each. Where nginx or apache2 is there, it serves the same files in the same run, as one process that reads files and changes
+nothing, and the ratio is told.
+"""
+import argparse
+import os
+import shutil
+import signal
+import socket
+import subprocess
+import tempfile
+import time
+
+TOP = os.path.dirname(os.path.dirname(os.path.abspath(__file__)))
+BUILT = os.path.join(TOP, 'crates', 'host_cli', 'out', 'host_cli')
+MODULE = os.path.join(TOP, 'filters', 'new.module')
+SIZES = (2, 65536, 1048576)
+NGINX = """daemon off; master_process off; pid %(folder)s/nginx.pid; error_log %(folder)s/nginx.err;
+events { worker_connections 64; }
+http { access_log off; client_body_temp_path %(folder)s; proxy_temp_path %(folder)s; fastcgi_temp_path %(folder)s; uwsgi_temp_path %(folder)s;
+  scgi_temp_path %(folder)s; keepalive_requests 100000000; sendfile off; server { listen 127.0.0.1:%(port)d; root %(folder)s; } }
+"""
+APACHE = """ServerRoot %(folder)s
+PidFile %(folder)s/apache.pid
+ErrorLog %(folder)s/apache.err
+ServerName h
+Listen 127.0.0.1:%(port)d
+LoadModule mpm_prefork_module /usr/lib/apache2/modules/mod_mpm_prefork.so
+LoadModule authz_core_module /usr/lib/apache2/modules/mod_authz_core.so
+DocumentRoot %(folder)s
+MaxKeepAliveRequests 0
+EnableSendfile Off
+"""
+
+
+def free_port():
+    with socket.socket() as probe:
+        probe.bind(('127.0.0.1', 0))
+        return probe.getsockname()[1]
+
+
+def processor(pid):
+    """Seconds that the process had a processor, in its own code and in the system's."""
+    with open('/proc/%d/schedstat' % pid) as file:
+        return int(file.read().split()[0]) / 1e9
+
+
+def memory(pid):
+    """Resident KiB."""
+    with open('/proc/%d/status' % pid) as file:
+        return next(int(line.split()[1]) for line in file if line.startswith('VmRSS'))
+
+
+def connect(port):
+    for _ in range(100):
+        try:
+            link = socket.create_connection(('127.0.0.1', port), 60)
+            link.setsockopt(socket.IPPROTO_TCP, socket.TCP_NODELAY, 1)
+            return link
+        except OSError:
+            time.sleep(0.05)
+    raise SystemExit('bench/serve.py: no server at port %d' % port)
+
+
+def receive(link, length, buffer):
+    """Takes so many bytes."""
+    while length > 0:
+        taken = link.recv_into(buffer, min(length, len(buffer)))
+        if taken == 0:
+            raise SystemExit('bench/serve.py: the server closed')
+        length -= taken
+
+
+def first(link, ask):
+    """The length of the response, all of which is at hand once nothing comes for a while."""
+    link.sendall(ask)
+    got, link_timeout = b'', link.gettimeout()
+    link.settimeout(0.5)
+    try:
+        while True:
+            part = link.recv(1 << 20)
+            if not part:
+                break
+            got += part
+    except TimeoutError:
+        pass
+    link.settimeout(link_timeout)
+    if not got.startswith(b'HTTP/1.1 200'):
+        raise SystemExit('bench/serve.py: %r' % got[:80])
+    return len(got)
+
+
+def measure(pid, port, size, requests):
+    """Microseconds of the server for each request, and the KiB that it grew by."""
+    ask = b'GET /f%d HTTP/1.1\r\nHost: h\r\n\r\n' % size
+    buffer = bytearray(1 << 20)
+    with connect(port) as link:
+        length = first(link, ask)
+        for _ in range(min(requests, 100)):
+            link.sendall(ask)
+            receive(link, length, buffer)
+        spent, held = processor(pid), memory(pid)
+        for _ in range(requests):
+            link.sendall(ask)
+            receive(link, length, buffer)
+        return (processor(pid) - spent) / requests * 1e6, memory(pid) - held
+
+
+def connections(pid, port, count):
+    """KiB that the server grew by over so many connections, and microseconds for each."""
+    ask = b'GET /f2 HTTP/1.1\r\nHost: h\r\nConnection: close\r\n\r\n'
+    spent, held = processor(pid), memory(pid)
+    for _ in range(count):
+        with connect(port) as link:
+            link.sendall(ask)
+            while link.recv(65536):
+                pass
+    return (processor(pid) - spent) / count * 1e6, memory(pid) - held
+
+
+def start(words, folder):
+    return subprocess.Popen(words, cwd=folder, stdout=subprocess.DEVNULL, stderr=subprocess.DEVNULL)
+
+
+def servers(program, module, folder):
+    """The servers: a name, and the words that start it at a port."""
+    shutil.copy(module, os.path.join(folder, 'module'))
+    with open(os.path.join(folder, 'module.cert'), 'wb') as file:
+        subprocess.run([program, 'certify', module], stdout=file)
+    with open(os.path.join(folder, 'site'), 'w') as file:
+        for size in SIZES:
+            file.write('/f%d f%d\n' % (size, size))
+    for size in SIZES:
+        with open(os.path.join(folder, 'f%d' % size), 'wb') as file:
+            file.write(b'x' * size)
+    yield 'serve', lambda port: [program, 'serve', '--site', 'site', '--port', str(port), '--conns', '0', 'module']
+    for name, text, words in (('nginx', NGINX, ['-c']), ('apache2', APACHE, ['-X', '-f'])):
+        found = shutil.which(name) or shutil.which(name, path='/usr/sbin')
+        if found:
+            path = os.path.join(folder, name + '.conf')
+
+            def at(port, path=path, text=text, found=found, words=words):
+                with open(path, 'w') as file:
+                    file.write(text % {'folder': folder, 'port': port})
+                return [found] + words + [path]
+            yield name, at
+
+
+def main():
+    parser = argparse.ArgumentParser(description=__doc__, formatter_class=argparse.RawDescriptionHelpFormatter)
+    parser.add_argument('--program', default=BUILT)
+    parser.add_argument('--module', default=MODULE)
+    parser.add_argument('--requests', type=int, default=5000, metavar='N', help='of 2 bytes; of larger files fewer')
+    parser.add_argument('--conns', type=int, default=2000, metavar='N')
+    options = parser.parse_args()
+    with tempfile.TemporaryDirectory() as folder:
+        os.chmod(folder, 0o755)
+        base = {}
+        for name, words in servers(os.path.abspath(options.program), os.path.abspath(options.module), folder):
+            port = free_port()
+            server = start(words(port), folder)
+            try:
+                for size in SIZES:
+                    count = max(options.requests // (1 + size // 20000), 20)
+                    spent, grown = measure(server.pid, port, size, count)
+                    base.setdefault(size, spent)
+                    ratio = '' if name == 'serve' else ', serve takes %.2f of it' % (base[size] / max(spent, 0.01))
+                    print('%-8s %8d bytes: %8.1f us a request over %d, %+d KiB%s' % (name, size, spent, count, grown, ratio), flush=True)
+                print('%-8s %d connections: %.1f us each, %+d KiB' % ((name, options.conns) + connections(server.pid, port, options.conns)), flush=True)
+            finally:
+                server.send_signal(signal.SIGTERM)
+                server.wait()
+
+
+if __name__ == '__main__':
+    main()
