@@ -1,8 +1,8 @@
 //! The maker of certificates.
 
-ghost use Rattle.std.specs.Prelude.{◌≡◌, OnOk, IfOk};
+ghost use Rattle.std.specs.Prelude.{◌≡◌, ◌∷◌, [], OnOk, IfOk};
 ghost use Rattle.life_check.specs.Seen.{seen_cert};
-ghost use Rattle.life_check.specs.Theorem.{NeverFaults};
+ghost use Rattle.life_check.specs.ChainTheorem.{ChainNeverFaults};
 ghost use Rattle.life_check.specs.Typed.{IsTyped};
 ghost use Rattle.life_cert.specs.Rounds.{round, enough, made};
 ghost use Rattle.life_cert.specs.Fitting.{IsOf};
@@ -54,13 +54,13 @@ fn grown(alloc: Global, code: &Module) -> Result<Cert, AllocError>
 }
 
 /// Makes a certificate. The states grow from none, in rounds over all instructions at once: each hands on what it leads to, where its
-/// state grew in the round before, and one that may have a fault hands on nothing. The certificate is accepted by `check`, and so no run of the module answers a fault; where it
+/// state grew in the round before, and one that may have a fault hands on nothing. The certificate is accepted by `check`, and so no run of the module alone answers a fault; where it
 /// is not, the refusal is the first of `check`, which is at the lowest instruction that may have a fault. It takes a line for each
 /// instruction, and `NoMemory` comes where these or what is handed on cannot be held.
 pub fn make(alloc: Global, code: &Module) -> Result<Cert, MakeRefusal>
     ensures typed { IfOk result (λ c. IsTyped code.now (seen_cert c)) }
     ensures made { IsMade code.now result }
-    ensures safe { OnOk result (NeverFaults code.now) }
+    ensures safe { OnOk result (ChainNeverFaults (code.now ∷ [])) }
 {
     let cert = grown(alloc, code)?;
     check(code, &cert)?;

@@ -29,7 +29,7 @@ use Rattle.run_model.specs.Pools.{Pools, is_empty, is_live, is_under}
 use Rattle.run_model.specs.Pools as pools
 use Rattle.run_model.specs.Sound.{Sound, brigade_name}
 use Rattle.run_model.specs.Steps.{on_pool, pool_cleared, pool_destroyed}
-use Rattle.run_model.specs.Connection.{request_ended}
+use Rattle.life_check.specs.Soundness.{request_ended}
 use Rattle.run_model.specs.Indexed.{upd}
 use Rattle.run_model.proofs.Formed.{path_live}
 use Rattle.run_model.proofs.NamedPools.{own_named}

@@ -1,5 +1,5 @@
 -- The worked certificates compute, and so does a run to a fault.
-use Rattle.std.proofs.Common.{◌≡◌, ℕ, zero, suc, ◌+◌, ◌<◌, ◌≤◌, Bool, true, false, List, [], ◌∷◌, ◌++◌, Option, Some, None, slice_get, slice_index_or, refl, subst, arith}
+use Rattle.std.proofs.Common.{◌≡◌, ℕ, zero, suc, ◌+◌, ◌<◌, ◌≤◌, Bool, true, false, List, [], ◌∷◌, Option, Some, None, slice_get, slice_index_or, refl, subst, arith}
 use Rattle.module_lang.specs.declared.draft.Part.{Part}
 use Rattle.module_lang.specs.declared.draft.Part.TheVariants as part
 use Rattle.module_lang.specs.declared.instr.Instr.{Instr}
@@ -7,12 +7,7 @@ use Rattle.module_lang.specs.declared.instr.Instr.TheVariants as instr
 use Rattle.module_lang.specs.declared.instr.Status.TheVariants.{Success, Fail}
 use Rattle.module_lang.specs.Program.{Program, pool_of_brigade, pool_of_pool, goes_on, IsPlaced, IsInside, IsModule}
 use Rattle.run_model.specs.declared.event.Event.{Event}
-use Rattle.run_model.specs.declared.event.Event.TheVariants as event
-use Rattle.run_model.specs.Examples.{answers_from, world_after, beginning, never_creates}
-use Rattle.run_model.specs.Files.{no_files}
 use Rattle.run_model.specs.Indexed.{upd, any_below}
-use Rattle.run_model.specs.Runs.{World, Before, happens, IsDue, IsRun}
-use Rattle.run_model.proofs.Examples.{fault_runs}
 use Rattle.run_model.proofs.Updates.{upd_off}
 use Rattle.life_state.specs.declared.parts.Contents.TheVariants.{Empty}
 use Rattle.life_state.specs.Examples.{identity, resting, serving, brought}
@@ -23,11 +18,16 @@ use Rattle.life_state.specs.Rules.{cleared_under, at_end_of_request}
 use Rattle.life_state.specs.States.{no_homes, BrigadeKnown, holds, passed_on, State}
 use Rattle.life_check.specs.Examples.{given, whole, IdentityAnswers, FaultRows}
 use Rattle.life_state.specs.Bounded.{IsBounded}
-use Rattle.life_check.specs.Theorem.{IsBoundedSome, AllBounded, NoFaults, NeverFaults}
+use Rattle.life_check.specs.Certificates.{IsBoundedSome, AllBounded}
 use Rattle.life_check.specs.Typed.{first_below, first_refusal}
-use Rattle.life_check.proofs.Instructions.{laws_hold}
-use Rattle.life_check.proofs.Theorem.{never_faults_on_any_files}
 use Rattle.life_check.proofs.TypedLaws.{typed_of}
+use Rattle.run_model.specs.Examples.{never_creates}
+use Rattle.run_model.specs.ChainExamples.{found, left_by, answers_from, cleans_none}
+use Rattle.run_model.specs.Turns.{Missing}
+use Rattle.run_model.specs.Worlds.{World, empty_world, happens, IsRun}
+use Rattle.run_model.proofs.ChainExamples.{chain_runs}
+use Rattle.life_check.specs.ChainTheorem.{NoFaults, ChainNeverFaults}
+use Rattle.life_check.proofs.chains.Never.{typed_alone_never_faults}
 
 pub identity_answers : IdentityAnswers
 unfolding pool_of_brigade pool_of_pool upd any_below known facts_of moved all_below brigade_le leq under_within cleared_under at_end_of_request first_below first_refusal
@@ -124,27 +124,20 @@ identity_module = record {
 
 -- A run to a fault.
 
-AllDue : ℕ → Program → World → List Event → Type 0
-AllDue budget p w [] = Unit {0}
-AllDue budget p w (e ∷ es) = IsDue e w × AllDue budget p (happens true budget p e w).1 es
+-- where reads fail, no file is found, and memory is ample
+ample_run : (budget : ℕ) (chain : List Program) (w : World) (es : List (ℕ × Event)) → IsRun budget chain w es (answers_from budget chain w es) (left_by budget chain w es)
+unfolding IsRun answers_from left_by
+ample_run budget chain w [] = refl
+ample_run budget chain w (e ∷ es) = (true, found Missing, (happens true budget chain (found Missing) e.0 e.1 w).1, refl, ample_run budget chain (happens true budget chain (found Missing) e.0 e.1 w).1 es)
 
--- where memory is ample
-ample_run : (budget : ℕ) (p : Program) (w : World) (es : List Event) → AllDue budget p w es → IsRun budget p w es (answers_from w budget p es) (world_after w budget p es)
-unfolding IsRun answers_from world_after AllDue
-ample_run budget p w [] due = refl
-ample_run budget p w (e ∷ es) due = (due.0, true, (happens true budget p e w).1, refl, ample_run budget p (happens true budget p e w).1 es due.1)
-
-abbrev to_a_fault : List Event
-to_a_fault = beginning ++ event.Bring [] ∷ event.Step ∷ []
-
-cleans_none : NeverFaults never_creates → ⊥
-unfolding NoFaults AllDue
-cleans_none never =
-    (subst NoFaults fault_runs.no_brigade (never 1000000 no_files to_a_fault (answers_from (Before no_files) 1000000 never_creates to_a_fault) (world_after (Before no_files) 1000000 never_creates to_a_fault)
-    (ample_run 1000000 never_creates (Before no_files) to_a_fault (tt, (tt, (tt, (tt, (tt, (tt, tt))))))))).1.1.1.1.1.0
+a_fault : ChainNeverFaults (never_creates ∷ []) → ⊥
+unfolding NoFaults
+a_fault never =
+    (subst NoFaults chain_runs.no_brigade (never 100 cleans_none (answers_from 100 (never_creates ∷ []) empty_world cleans_none) (left_by 100 (never_creates ∷ []) empty_world cleans_none)
+    (ample_run 100 (never_creates ∷ []) empty_world cleans_none))).1.1.1.1.1.0
 
 pub fault_rows : FaultRows
 fault_rows = record {
-  passes_on = never_faults_on_any_files identity (given (resting true) whole) identity_module whole_bounded (typed_of identity (given (resting true) whole) identity_answers.accepted) laws_hold;
-  cleans_none = cleans_none;
+  passes_on = typed_alone_never_faults identity (given (resting true) whole) identity_module whole_bounded (typed_of identity (given (resting true) whole) identity_answers.accepted);
+  cleans_none = a_fault;
 }

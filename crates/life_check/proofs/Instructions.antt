@@ -1,14 +1,10 @@
--- The laws of all instructions, and of what else a run does.
+-- The laws of all instructions.
 use Rattle.module_lang.specs.declared.instr.Instr.TheVariants as instr
 use Rattle.run_model.specs.declared.bucket.Home.{Home}
-use Rattle.life_check.specs.Meaning.{LivesIn, NoneLives, InCall}
 use Rattle.life_check.specs.Soundness.{StepLands}
-use Rattle.life_check.proofs.Standards.{LawsHold}
-use Rattle.life_check.proofs.Orders.{greater_fits}
-use Rattle.life_check.proofs.Wants.{met_is_faultless}
 use Rattle.life_check.proofs.Asides.{law_aside}
 use Rattle.life_check.proofs.Brigades.{law_bclean, law_bconcat, law_bcreate}
-use Rattle.life_check.proofs.Cleared.{request_end_lands, law_pclear, law_pdestroy}
+use Rattle.life_check.proofs.Cleared.{law_pclear, law_pdestroy}
 use Rattle.life_check.proofs.Cuts.{law_read, law_split}
 use Rattle.life_check.proofs.Makers.{law_copy, law_eos, law_flush, law_frombuf, law_heap, law_immortal, law_poolb, law_transient}
 use Rattle.life_check.proofs.Partitions.{law_bpart}
@@ -69,12 +65,3 @@ step_lands lives (instr.JNull v l) = law_jnull {lives = lives} v l
 step_lands lives (instr.JSent l) = law_jsent {lives = lives} l
 step_lands lives (instr.Jump l) = law_jump {lives = lives} l
 step_lands lives (instr.Ret t) = law_ret {lives = lives} t
-
-pub laws_hold : LawsHold
-laws_hold = record {
-  lands = λ call req. step_lands (LivesIn call req);
-  met = λ p r. met_is_faultless (InCall p r);
-  greater = λ call req. greater_fits {lives = LivesIn call req};
-  rests = greater_fits {lives = NoneLives};
-  ends = request_end_lands;
-}

@@ -1,11 +1,9 @@
 pub mod Accepting
-pub mod AnyFiles
 pub mod Asides
 pub mod Brigades
 pub mod Cleared
 pub mod chains
 pub mod Cuts
-pub mod Events
 pub mod Examples
 pub mod Filled
 pub mod Finer
@@ -13,9 +11,9 @@ pub mod FinerFits
 pub mod FinerSteps
 pub mod Firsts
 pub mod Instructions
-pub mod Landing
 pub mod Lists
 pub mod Makers
+pub mod Onward
 pub mod Orders
 pub mod Partitions
 pub mod Passes
@@ -29,8 +27,8 @@ pub mod Sets
 pub mod Splits
 pub mod Standards
 pub mod Standing
+pub mod Starting
 pub mod Takes
-pub mod Theorem
 pub mod Tree
 pub mod TypedLaws
 pub mod Wants

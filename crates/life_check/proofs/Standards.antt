@@ -1,4 +1,4 @@
--- Where a connection stands: which state of the certificate describes it.
+-- What flows from one state to another, what does not matter to a state, and what is covered where a call begins.
 use Rattle.std.proofs.Common.{◌≡◌, ℕ, ◌<◌, true, false, ◌||◌, not, ◌==◌, nat_lt, Option, Some, None, inl, inr, refl, sym, ◌∙◌, ap, arith, eq-eqb}
 use Rattle.std.proofs.lemmas.Bool.{cases_lt}
 use Rattle.std.proofs.lemmas.Bool.Decides.{nat_tests}
@@ -9,48 +9,28 @@ use Rattle.run_model.specs.AsDeclared.{AsDeclared}
 use Rattle.run_model.specs.declared.bucket.Cursor.TheVariants as cursor
 use Rattle.run_model.specs.declared.bucket.Home.{Home}
 use Rattle.run_model.specs.declared.bucket.Home.TheVariants as home
-use Rattle.run_model.specs.Connection.{Connection}
 use Rattle.run_model.specs.Faults.{is_stray}
 use Rattle.run_model.specs.Files.{Files}
 use Rattle.run_model.specs.Indexed.{any_below}
 use Rattle.run_model.specs.Pools.{is_live}
 use Rattle.run_model.specs.Sound.{Sound}
 use Rattle.run_model.specs.State.{Configuration, Out, PoolView, pool_view, named_at, name_in, is_named, is_own_at, is_own}
-use Rattle.run_model.proofs.PoolsKept.{req_apart}
 use Rattle.life_state.specs.Facts.{is_set}
 use Rattle.life_state.specs.PoolOrder.{is_clearable}
 use Rattle.life_state.specs.States.{Homes, CursorKnown, Unset, Loose, In, End, InOrEnd, State}
 use Rattle.life_state.proofs.Below.{some_below}
 use Rattle.life_state.proofs.Tests.{or_left, or_right, not_true, all_at}
-use Rattle.life_check.specs.Certificates.{Certificate}
+use Rattle.life_check.specs.Certificates.{Certificate, IsBoundedSome}
 use Rattle.life_state.specs.Bounded.{IsBounded}
-use Rattle.life_check.specs.Meaning.{Covers, CoversPool, ByConnection, ByMember, ByDead, ByCall, LivesIn, NoneLives, Differ, Fits, InCall, Between}
-use Rattle.life_check.specs.Soundness.{Outside, FitsSome, StepLands, MetIsFaultless, GreaterFits, RequestEndLands}
+use Rattle.life_check.specs.Meaning.{Covers, CoversPool, ByConnection, ByMember, ByDead, ByCall, NoneLives, Differ, Fits}
+use Rattle.life_check.specs.Soundness.{FitsSome, GreaterFits}
 use Rattle.life_check.specs.Typed.{is_below, flows, has_no_cursor}
-use Rattle.life_check.specs.Theorem.{IsBoundedSome}
 use Rattle.life_check.proofs.Pools.{cursor_more}
 
 -- what is known between calls: without a request, and in one
 abbrev pub resting : Certificate → Option ℕ → Option State
 resting m None = m.idle
 resting m (Some req) = m.ready
-
--- while a call runs the state before its next instruction describes it; between calls the one that is known then does
-pub record Stands (p : Program) (m : Certificate) (c : Connection) : Type 0 where
-  pub running : c.busy ≡ true → FitsSome (InCall p c.state) (m.at c.state.pc) c.state
-  pub rests : c.busy ≡ false → FitsSome (Between p c.state) (resting m c.state.shared.req) c.state
-
--- it is asked of no broken connection
-abbrev pub MayStand : Program → Certificate → Connection → Type 0
-MayStand p m c = c.broken ≡ None → Sound c.state → AsDeclared p c.state → Stands p m c
-
--- The laws of steps and of the ends of requests, where this lives through a call: itself, and the request's pool.
-pub record LawsHold : Type 0 where
-  pub lands : (call : ℕ) (req : Option ℕ) → StepLands (LivesIn call req)
-  pub met : (p : Program) (r : Configuration) → MetIsFaultless (InCall p r)
-  pub greater : (call : ℕ) (req : Option ℕ) → GreaterFits (LivesIn call req)
-  pub rests : GreaterFits NoneLives
-  pub ends : RequestEndLands
 
 -- Flows.
 
@@ -81,15 +61,6 @@ fits_aside p lives pc out files (Some s) r f =
       cursors = λ c. cursor_more C C (λ h x covered. covered) r (aside_from pc out files r) refl (λ b usable. refl) (s.cursors c) (r.call.cursors c) (f.cursors c);
       facts = f.facts;
     }
-
--- What lives through a call is outside the instance.
-
-pub outside_call : (r : Configuration) → Sound r → Outside r (LivesIn r.call.name r.shared.req)
-outside_call r sound = record {
-  stays = λ q n m made live is. req_apart n m r (sound.pools.own q n made).0 (λ (same : m ≡ n). (sound.pools.own q n made).2 (is ∙ ap (λ (k : ℕ). Some k) same)) is sound.pools;
-  over = λ k target m named is under. inl is;
-  this = refl;
-}
 
 -- A home that homes cover, and that they do not tell of the call, may be kept beyond it.
 

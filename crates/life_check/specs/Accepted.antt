@@ -5,10 +5,9 @@ use Rattle.run_model.specs.ChainLaws.{IsChain}
 use Rattle.life_check.specs.declared.cert.Cert.{Cert}
 use Rattle.life_check.specs.declared.refusal.ChainRefusal.{ChainRefusal}
 use Rattle.life_check.specs.declared.refusal.ChainRefusal.TheVariants.{At, NoMemory}
-use Rattle.life_check.specs.Certificates.{Certificate}
+use Rattle.life_check.specs.Certificates.{Certificate, AllBounded}
 use Rattle.life_check.specs.ChainTheorem.{AllTyped}
 use Rattle.life_check.specs.Seen.{seen_cert}
-use Rattle.life_check.specs.Theorem.{AllBounded}
 use Rattle.life_check.specs.Typed.{IsTyped, first_refusal}
 
 -- a module with its certificate

@@ -6,9 +6,8 @@ use Rattle.run_model.specs.declared.event.Stepped.TheVariants as stepped
 use Rattle.run_model.specs.Chains.{module_at}
 use Rattle.run_model.specs.Worlds.{World, Answer, Done, Refused, Connected, Step, Output, Opened, Labels, Tree, empty_world, IsRun}
 use Rattle.run_model.specs.ChainLaws.{IsChain}
-use Rattle.life_check.specs.Certificates.{Certificate}
+use Rattle.life_check.specs.Certificates.{Certificate, AllBounded}
 use Rattle.life_check.specs.Typed.{IsTyped}
-use Rattle.life_check.specs.Theorem.{AllBounded}
 
 abbrev pub IsNoFault : Answer → Type 0
 IsNoFault Done = Unit {0}

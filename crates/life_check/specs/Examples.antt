@@ -7,8 +7,8 @@ use Rattle.life_state.specs.States.{no_homes, holds, passed_on, State}
 use Rattle.life_state.specs.Examples.{identity, resting, serving, brought}
 use Rattle.life_check.specs.declared.refusal.Rule.TheVariants.{Entry, Flow, Exit}
 use Rattle.life_check.specs.Certificates.{Certificate}
+use Rattle.life_check.specs.ChainTheorem.{ChainNeverFaults}
 use Rattle.life_check.specs.Typed.{refusal, first_refusal}
-use Rattle.life_check.specs.Theorem.{NeverFaults, NeverFaultsOnAnyFiles}
 
 abbrev pub given : State → List (Option State) → Certificate
 given ready at = record { idle = Some (resting false); ready = Some ready; at = λ pc. slice_index_or at pc None; lines = length at }
@@ -36,6 +36,6 @@ pub record IdentityAnswers : Type 0 where
   pub nowhere : first_refusal identity (record (given (resting true) whole) { idle = None }) ≡ Some (refusal 0 Exit)
 
 pub record FaultRows : Type 0 where
-  pub passes_on : NeverFaultsOnAnyFiles identity
+  pub passes_on : ChainNeverFaults (identity ∷ [])
   -- `main` cleans a brigade that was never created
-  pub cleans_none : NeverFaults never_creates → ⊥
+  pub cleans_none : ChainNeverFaults (never_creates ∷ []) → ⊥

@@ -6,7 +6,6 @@ pub mod Typed
 pub mod Examples
 pub mod Meaning
 pub mod Soundness
-pub mod Theorem
 pub mod ChainMeaning
 pub mod ChainTheorem
 pub mod Accepted

@@ -1,9 +1,10 @@
 //! The check of a certificate.
 
-ghost use Rattle.std.specs.Prelude.{◌≤◌, ◌↔◌, length, IsOk};
+ghost use Rattle.std.specs.Prelude.{◌≤◌, ◌↔◌, ◌∷◌, [], length, IsOk};
 ghost use Rattle.module_lang.specs.Program.{IsModule};
 ghost use Rattle.life_check.specs.Seen.{seen_cert};
-ghost use Rattle.life_check.specs.Theorem.{AllBounded, NeverFaults, NeverFaultsOnAnyFiles};
+ghost use Rattle.life_check.specs.Certificates.{AllBounded};
+ghost use Rattle.life_check.specs.ChainTheorem.{ChainNeverFaults};
 ghost use Rattle.life_check.specs.Typed.{entry_refusal, first_refusal, IsAnswer, IsTyped};
 
 use crate::cert::Cert;
@@ -43,12 +44,12 @@ pub(crate) fn check_all(code: &Module, cert: &Cert) -> Result<(), CheckRefusal>
 /// Whether the states of a certificate follow from one another by the rules, so that no instruction has a fault: Ok exactly where
 /// no rule refuses. Else the first refusal: by the shape of the states; where a handler begins; at the lowest instruction with a
 /// state by a fault that it may have, by where it leads, or by what it leaves where it returns; at the end of the request. It
-/// takes no memory. No run of a module that is accepted answers a fault, whatever its steps read, and whether they can.
+/// takes no memory. No run of a chain that is this module alone answers a fault, on however many connections, and whatever is found
+/// and read, or cannot be.
 pub fn check(code: &Module, cert: &Cert) -> Result<(), CheckRefusal>
     ensures first { IsAnswer (first_refusal code.now (seen_cert cert.now)) result }
     ensures accepts { IsOk result ↔ IsTyped code.now (seen_cert cert.now) }
-    ensures safe { IsOk result → NeverFaults code.now }
-    ensures whatever_is_read { IsOk result → NeverFaultsOnAnyFiles code.now }
+    ensures safe { IsOk result → ChainNeverFaults (code.now ∷ []) }
 {
     check_all(code, cert)
 }

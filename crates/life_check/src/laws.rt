@@ -8,20 +8,11 @@ ghost use Rattle.life_check.specs.ChainTheorem.{TypedChainNeverFaults};
 ghost use Rattle.life_check.specs.Examples.{FaultRows, IdentityAnswers};
 ghost use Rattle.life_check.specs.Meaning.{Covers};
 ghost use Rattle.life_check.specs.Soundness.{IsToldBy, StepLands, MetIsFaultless, GreaterFits, RequestEndLands};
-ghost use Rattle.life_check.specs.Theorem.{RunsAreOnAnyFiles, TypedModuleNeverFaults, TypedModuleNeverFaultsOnAnyFiles};
 
 /// Certificates worked out by hand, of a module that passes on what it gets; a module that never faults, and one that does.
 pub fn worked_certificates()
     ensures answers { IdentityAnswers }
     ensures faults { FaultRows }
-{}
-
-/// Where a module is typed with a certificate, no run of it answers a fault; nor does one in which each step reads whatever it
-/// may, or cannot read.
-pub fn typed_modules_never_fault()
-    ensures plainly { TypedModuleNeverFaults }
-    ensures on_any_files { TypedModuleNeverFaultsOnAnyFiles }
-    ensures runs { RunsAreOnAnyFiles }
 {}
 
 /// Where each module of a chain is typed with its certificate, no run of any number of connections of that chain answers a fault,

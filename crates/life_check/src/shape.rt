@@ -4,7 +4,7 @@ ghost use Rattle.std.specs.Prelude.{◌≡◌, ℕ, true, nat_le, not, if◌then
 ghost use Rattle.life_state.specs.Facts.{is_set};
 ghost use Rattle.life_state.specs.Seen.{seen, seen_cursor, seen_some};
 ghost use Rattle.life_check.specs.Seen.{seen_cert};
-ghost use Rattle.life_check.specs.Theorem.{AllBounded, IsBoundedSome};
+ghost use Rattle.life_check.specs.Certificates.{AllBounded, IsBoundedSome};
 ghost use Rattle.life_check.specs.Typed.{declares, has_in, has_no_cursor, fits_between, fits_line, fits_lines, has_shape};
 
 use crate::cert::Cert;

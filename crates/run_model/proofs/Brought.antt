@@ -9,9 +9,12 @@ use Rattle.run_model.specs.declared.event.Refusal.TheVariants as refusal
 use Rattle.run_model.specs.declared.event.Piece.{Piece}
 use Rattle.run_model.specs.declared.event.Piece.TheVariants as piece
 use Rattle.run_model.specs.Buckets.{is_data_kind, is_eos_kind, has_data, data_after_eos}
-use Rattle.run_model.specs.State.{items_of, set_brigade}
-use Rattle.run_model.specs.Connection.{Connection, bucket_of, named_from, is_data_piece, is_eos_piece, data_behind_eos, brought, brings, first_refusal, refused_if, if_broken, unless_refused}
-use Rattle.run_model.specs.Laws.{BucketsAsPieces, LateDataIsRefused, BroughtEndsOnce}
+use Rattle.run_model.specs.State.{Instance, items_of}
+use Rattle.run_model.specs.Connection.{bucket_of, named_from, is_data_piece, is_eos_piece, data_behind_eos, first_refusal, refused_if, if_broken}
+use Rattle.run_model.specs.Chains.{Connection, Common, Linked}
+use Rattle.run_model.specs.Turns.{brought, brings, unless_refused, is_busy}
+use Rattle.run_model.specs.Laws.{BucketsAsPieces}
+use Rattle.run_model.specs.Bringing.{LateDataIsRefused, BroughtEndsOnce}
 use Rattle.run_model.proofs.EventAnswers.{none_first, none_if}
 use Rattle.run_model.proofs.Updates.{upd_at}
 
@@ -59,26 +62,26 @@ late_first (Some k) busy o l rest req sound idle in_request late = absurd (cc)
 
 pub late_data_is_refused : LateDataIsRefused
 unfolding brings
-late_data_is_refused memory p pieces c req sound idle is late =
-    ap (λ (o : Option Refusal). unless_refused o c (brought c.state.shared.req p pieces c)) (late_first c.broken c.busy c.state.shared.req (data_behind_eos pieces) _ req sound idle is late)
+late_data_is_refused memory chain pieces g c req sound idle is late =
+    ap (λ (o : Option Refusal). unless_refused o (g, c) (brought chain pieces c.req (g, c))) (late_first c.broken (is_busy c.stack) c.req (data_behind_eos pieces) _ req sound (ap is_busy idle) is late)
 
 -- what happened passed each test
-served : (o : Option Refusal) (old done new : Connection) → unless_refused o old done ≡ (None, new) → (o ≡ None) × (new ≡ done)
-served None old done new is = (refl, ap (λ (a : Option Refusal × Connection). a.1) (sym is))
-served (Some r) old done new is = absurd (let no : Some r ≡ None = ap (λ (a : Option Refusal × Connection). a.0) is in cc)
+served : (o : Option Refusal) (old done new : Linked) → unless_refused o old done ≡ (None, new) → (o ≡ None) × (new ≡ done)
+served None old done new is = (refl, ap (λ (a : Option Refusal × Linked). a.1) (sym is))
+served (Some r) old done new is = absurd (let no : Some r ≡ None = ap (λ (a : Option Refusal × Linked). a.0) is in cc)
 
-in_brought : (o : Option ℕ) (p : Program) (pieces : List Piece) (c : Connection) → not (is_some o) ≡ false → data_behind_eos pieces ≡ false → data_after_eos (items_of ((brought o p pieces c).state.instance.brigades 8)) ≡ false
-unfolding set_brigade
-in_brought None p pieces c in_request none = absurd (cc)
-in_brought (Some req) p pieces c in_request none =
-    ap (λ (v : BrigadeVar). data_after_eos (items_of v)) (upd_at c.state.instance.brigades 8 _) ∙ (buckets_as_pieces c.state.shared.next req (c.state.shared.next + 2) pieces ∙ none)
+in_brought : (o : Option ℕ) (chain : List Program) (pieces : List Piece) (g : Common) (c : Connection) → not (is_some o) ≡ false → data_behind_eos pieces ≡ false → data_after_eos (items_of (((brought chain pieces o (g, c)).1.instances 0).brigades 8)) ≡ false
+in_brought None chain pieces g c in_request none = absurd (cc)
+in_brought (Some req) chain pieces g c in_request none =
+    ap (λ (i : Instance). data_after_eos (items_of (i.brigades 8))) (upd_at c.instances 0 _)
+    ∙ ap (λ (v : BrigadeVar). data_after_eos (items_of v)) (upd_at (c.instances 0).brigades 8 _) ∙ (buckets_as_pieces g.next req (g.next + 2) pieces ∙ none)
 
 pub brought_ends_once : BroughtEndsOnce
 unfolding brings
-brought_ends_once memory p pieces c new is =
-    let happened = served _ c (brought c.state.shared.req p pieces c) new is in
+brought_ends_once memory chain pieces (g, c) new is =
+    let happened = served _ (g, c) (brought chain pieces c.req (g, c)) new is in
     let a = none_first (if_broken c.broken) _ happened.0 in
-    let b = none_if c.busy refusal.Busy _ a in
-    let d = none_if (not (is_some c.state.shared.req)) refusal.NotInRequest _ b.1 in
+    let b = none_if (is_busy c.stack) refusal.Busy _ a in
+    let d = none_if (not (is_some c.req)) refusal.NotInRequest _ b.1 in
     let e = none_if (data_behind_eos pieces) refusal.DataAfterEos _ d.1 in
-    ap (λ (x : Connection). data_after_eos (items_of (x.state.instance.brigades 8))) happened.1 ∙ in_brought c.state.shared.req p pieces c d.0 e.0
+    ap (λ (x : Linked). data_after_eos (items_of ((x.1.instances 0).brigades 8))) happened.1 ∙ in_brought c.req chain pieces g c d.0 e.0

@@ -11,15 +11,15 @@ use Rattle.run_model.specs.declared.event.Refusal.{Refusal}
 use Rattle.run_model.specs.declared.event.Refusal.TheVariants as refusal
 use Rattle.run_model.specs.declared.event.Event.{Event}
 use Rattle.run_model.specs.declared.event.Event.TheVariants as event
+use Rattle.run_model.specs.declared.event.Piece.{Piece}
 use Rattle.run_model.specs.declared.event.Stepped.{Stepped}
-use Rattle.run_model.specs.declared.event.StepRefusal.{StepRefusal}
-use Rattle.run_model.specs.declared.event.StepRefusal.TheVariants as step_refusal
-use Rattle.run_model.specs.State.{Configuration}
-use Rattle.run_model.specs.Faults.{fault}
-use Rattle.run_model.specs.Steps.{is_spent, lacks_names, grows, current, step_at_end, settled, succeeded, executed, unless_fault, watched}
-use Rattle.run_model.specs.Connection.{Connection, lacks_file, data_behind_eos, first_refusal, refused_if, if_broken, unless_refused, begins, begun, brings, brought, ends, ended, opens_file, file_answer, steps, step_if, step_from, broke}
-use Rattle.run_model.specs.Runs.{Answer, Done, Refused, World, Before, There, Closed, answer_of, file_of, adds_file, closes, happens}
-use Rattle.run_model.specs.RefusalOrder.{place, Tests, tests, Holds, IsFirst, FirstIsTold, StepsTell, NoConnectionIsTold, is_of_connection, BusyDoesNotEnd, OnlyMemoryRefusesClose}
+use Rattle.run_model.specs.Steps.{is_spent, current}
+use Rattle.run_model.specs.Connection.{lacks_file, data_behind_eos, first_refusal, refused_if, if_broken}
+use Rattle.run_model.specs.Chains.{Frame, Connection, Common, Linked, module_at}
+use Rattle.run_model.specs.Passing.{Reads, proceeds}
+use Rattle.run_model.specs.Turns.{Opening, Found, Missing, Failing, is_missing, is_failing, number_given, unless_refused, is_busy, begins, begun, brings, brought, ends, ended, opens_file, file_answer, steps, step_unless, step_top, watched, executed, unless_fault, counted, broken_by}
+use Rattle.run_model.specs.Worlds.{World, Told, Answer, Done, Refused, answered, file_answered, adds_file, closes, opens, opens_if, happens_on}
+use Rattle.run_model.specs.RefusalOrder.{place, Tests, tests, Holds, IsFirst, FirstIsTold, StepsTell, NoConnectionIsTold, is_of_connection, BusyDoesNotEnd, OnlyMemoryRefusesClose, lacks_for, grows_for, fault_of}
 
 -- Refusals by their places.
 
@@ -110,32 +110,33 @@ row : (t : Tests) (q : Refusal) (b : Bool) (o : Option Refusal) → place q ≢ 
 row t q true o ne means only rest below = due t q (record { holds = means refl; first = below })
 row t q false o ne means only rest below = rest (one_more t q ne below (λ h. (let no : false ≡ true = only h in cc)))
 
-broken_row : (t : Tests) (b : Option Cause) (o : Option Refusal) → t.broken ≡ b → (NoneBelow t 2 → Tells t o) → Tells t (first_of (if_broken b) o)
-broken_row t None o is rest = rest (λ s lt h. none s lt h) where
+no_conn_row : (t : Tests) (o : Option Refusal) → (NoneBelow t 1 → Tells t o) → Tells t (first_of (refused_if t.no_such_conn refusal.NoSuchConn) o)
+no_conn_row t o rest = row t refusal.NoSuchConn t.no_such_conn o (omega arith) (λ h. h) (λ h. h) rest (λ s lt h. absurd (omega arith))
+
+broken_row : (t : Tests) (b : Option Cause) (o : Option Refusal) → t.broken ≡ b → (NoneBelow t 2 → Tells t o) → NoneBelow t 1 → Tells t (first_of (if_broken b) o)
+broken_row t None o is rest below = rest (λ s lt h. none s lt h) where
   none : (s : Refusal) → place s < 2 → Holds t s → ⊥
-  none refusal.NoSuchConn lt h = h
+  none refusal.NoSuchConn lt h = below refusal.NoSuchConn (omega arith) h
   none (refusal.Broken k) lt h = cc
   none s lt h = absurd (omega arith)
-broken_row t (Some k) o is rest = due t (refusal.Broken k) (record { holds = is; first = λ s lt h. none s lt h }) where
-  none : (s : Refusal) → place s < 1 → Holds t s → ⊥
-  none refusal.NoSuchConn lt h = h
-  none s lt h = absurd (omega arith)
+broken_row t (Some k) o is rest below = due t (refusal.Broken k) (record { holds = is; first = below })
 
 walk : (t : Tests)
-    → Tells t (firsts (if_broken t.broken ∷ refused_if t.busy refusal.Busy ∷ refused_if t.idle refusal.Idle ∷ refused_if t.in_request refusal.InRequest ∷ refused_if t.not_in_request refusal.NotInRequest
-    ∷ refused_if t.data_after_eos refusal.DataAfterEos ∷ refused_if t.no_file refusal.NoFile ∷ refused_if t.names_spent refusal.NamesSpent ∷ refused_if t.no_memory refusal.NoMemory ∷ []))
+    → Tells t (firsts (refused_if t.no_such_conn refusal.NoSuchConn ∷ if_broken t.broken ∷ refused_if t.busy refusal.Busy ∷ refused_if t.idle refusal.Idle ∷ refused_if t.in_request refusal.InRequest ∷ refused_if t.not_in_request refusal.NotInRequest
+    ∷ refused_if t.data_after_eos refusal.DataAfterEos ∷ refused_if t.no_file refusal.NoFile ∷ refused_if t.file_failed refusal.FileFailed ∷ refused_if t.names_spent refusal.NamesSpent ∷ refused_if t.no_memory refusal.NoMemory ∷ []))
 walk t =
-    broken_row t t.broken _ refl
+    no_conn_row t _
+    (broken_row t t.broken _ refl
     (row t refusal.Busy t.busy _ (omega arith) (λ h. h) (λ h. h)
     (row t refusal.Idle t.idle _ (omega arith) (λ h. h) (λ h. h)
     (row t refusal.InRequest t.in_request _ (omega arith) (λ h. h) (λ h. h)
     (row t refusal.NotInRequest t.not_in_request _ (omega arith) (λ h. h) (λ h. h)
     (row t refusal.DataAfterEos t.data_after_eos _ (omega arith) (λ h. h) (λ h. h)
     (row t refusal.NoFile t.no_file _ (omega arith) (λ h. h) (λ h. h)
-    (λ found. row t refusal.NamesSpent t.names_spent _ (omega arith) (λ h. h) (λ h. h)
+    (row t refusal.FileFailed t.file_failed _ (omega arith) (λ h. h) (λ h. h)
+    (row t refusal.NamesSpent t.names_spent _ (omega arith) (λ h. h) (λ h. h)
     (row t refusal.NoMemory t.no_memory None (omega arith) (λ h. h) (λ h. h)
-    (λ below. record { sound = λ r e. absurd (cc); none = λ e. below }))
-    (one_more t refusal.FileFailed (omega arith) found (λ h. h)))))))))
+    (λ below. record { sound = λ r e. absurd (cc); none = λ e. below })))))))))))
 
 -- the tests of an event are told in their order
 in_order : (t : Tests) (ts : List (Option Refusal)) → Tells t (firsts ts) → Tells t (first_refusal ts)
@@ -168,20 +169,25 @@ exact t a (Some q) tells told done r =
     (λ e. (let same : q ≡ r = cc in subst (IsFirst t) same first), λ other. is ∙ ap Refused (first_is_one t q r first other))
 
 -- an event that is refused or happens
-refused_or_done : (t : Tests) (o : Option Refusal) (old new : Connection) → Tells t o → (r : Refusal) → Exact t (answer_of (unless_refused o old new)).0 r
-refused_or_done t o old new tells r =
-    exact t _ o tells (λ q e. ap (λ (x : Option Refusal). (answer_of (unless_refused x old new)).0) e) (λ e. ap (λ (x : Option Refusal). is_refused (answer_of (unless_refused x old new)).0) e) r
+refused_or_done : (t : Tests) (o : Option Refusal) (k : ℕ) (w : World) (old new : Linked) → Tells t o → (r : Refusal) → Exact t (answered k w (unless_refused o old new)).0 r
+refused_or_done t o k w old new tells r =
+    exact t _ o tells (λ q e. ap (λ (x : Option Refusal). (answered k w (unless_refused x old new)).0) e) (λ e. ap (λ (x : Option Refusal). is_refused (answered k w (unless_refused x old new)).0) e) r
 
--- a file is opened where it is there and a request is open
-file_or_refused : (t : Tests) (o : Option Refusal) (req : Option ℕ) (found : Option (List ℕ)) (name : List ℕ) (c : Connection) → Tells t o
-    → (o ≡ None → (is_some req ≡ true) × (is_some found ≡ true)) → (r : Refusal) → Exact t (file_of (file_answer o req found name c)).0 r
-file_or_refused t o req found name c tells there r =
-    exact t _ o tells (λ q e. ap (λ (x : Option Refusal). (file_of (file_answer x req found name c)).0) e)
-    (λ e. (let parts = there e in ap (λ (x : Option Refusal). is_refused (file_of (file_answer x req found name c)).0) e ∙ opened_file req found parts.0 parts.1)) r where
-      opened_file : (req : Option ℕ) (found : Option (List ℕ)) → is_some req ≡ true → is_some found ≡ true → is_refused (file_of (file_answer None req found name c)).0 ≡ false
-      opened_file (Some q) (Some bytes) e f = refl
-      opened_file None found e f = absurd (cc)
-      opened_file (Some q) None e f = absurd (cc)
+-- a file is opened where it is there, the device does not fail, and a request is open
+file_or_refused : (t : Tests) (o : Option Refusal) (req : Option ℕ) (opening : Opening) (k : ℕ) (w : World) (v : Linked) → Tells t o
+    → (o ≡ None → (is_some req ≡ true) × (is_missing opening ≡ false) × (is_failing opening ≡ false)) → (r : Refusal) → Exact t (file_answered k w (file_answer o req opening v)).0 r
+file_or_refused t o req opening k w v tells there r =
+    exact t _ o tells (λ q e. ap (λ (x : Option Refusal). (file_answered k w (file_answer x req opening v)).0) e)
+    (λ e. (let parts = there e in ap (λ (x : Option Refusal). is_refused (file_answered k w (file_answer x req opening v)).0) e ∙ opened_file req opening parts.0 parts.1 parts.2)) r where
+      opened_file : (req : Option ℕ) (opening : Opening) → is_some req ≡ true → is_missing opening ≡ false → is_failing opening ≡ false → is_refused (file_answered k w (file_answer None req opening v)).0 ≡ false
+      opened_file (Some q) (Found skipped bytes) e f h = refl
+      opened_file (Some q) Missing e f h = absurd (cc)
+      opened_file (Some q) Failing e f h = absurd (cc)
+      opened_file None opening e f h = absurd (cc)
+
+not_on : (b : Bool) → (b ≡ true → ⊥) → b ≡ false
+not_on true h = absurd (h refl)
+not_on false h = refl
 
 from_not : (b : Bool) → (not b ≡ true → ⊥) → b ≡ true
 from_not true h = refl
@@ -190,74 +196,114 @@ from_not false h = absurd (h refl)
 never_refused : (t : Tests) (a : Answer) → Tells t None → is_refused a ≡ false → (r : Refusal) → Exact t a r
 never_refused t a tells done r = exact t a None tells (λ q e. absurd (cc)) (λ e. done) r
 
-no_memory_told : (t : Tests) (w : World) (r : Refusal) → Tells t (Some refusal.NoMemory) → Exact t (Refused refusal.NoMemory) r
-no_memory_told t w r tells = exact t (Refused refusal.NoMemory) (Some refusal.NoMemory) tells (λ q e. (let same : refusal.NoMemory ≡ q = cc in ap Refused same)) (λ e. absurd (cc)) r
+no_memory_told : (t : Tests) (r : Refusal) → Tells t (Some refusal.NoMemory) → Exact t (Refused refusal.NoMemory) r
+no_memory_told t r tells = exact t (Refused refusal.NoMemory) (Some refusal.NoMemory) tells (λ q e. (let same : refusal.NoMemory ≡ q = cc in ap Refused same)) (λ e. absurd (cc)) r
 
-adds_exact : (memory : Bool) (name bytes : List ℕ) (c : Connection) (r : Refusal) → Exact (tests memory (event.AddFile name bytes) c) (adds_file memory name bytes (There c)).0 r
-adds_exact true name bytes c r = never_refused _ Done (walk (tests true (event.AddFile name bytes) c)) refl r
-adds_exact false name bytes c r = no_memory_told _ (There c) r (walk (tests false (event.AddFile name bytes) c))
+no_conn_told : (t : Tests) (r : Refusal) → Tells t (Some refusal.NoSuchConn) → Exact t (Refused refusal.NoSuchConn) r
+no_conn_told t r tells = exact t (Refused refusal.NoSuchConn) (Some refusal.NoSuchConn) tells (λ q e. (let same : refusal.NoSuchConn ≡ q = cc in ap Refused same)) (λ e. absurd (cc)) r
 
-closes_exact : (memory : Bool) (c : Connection) (r : Refusal) → Exact (tests memory event.Close c) (closes memory c).0 r
-closes_exact true c r = never_refused _ _ (walk (tests true event.Close c)) refl r
-closes_exact false c r = no_memory_told _ (There c) r (walk (tests false event.Close c))
+module _ (told : Told) (w : World) (r : Refusal) where
+  adds_exact : (memory : Bool) (name bytes : List ℕ) (o : Option Connection) → Exact (tests memory told (event.AddFile name bytes) o w) (adds_file memory w).0 r
+  adds_exact true name bytes o = never_refused _ Done (walk (tests true told (event.AddFile name bytes) o w)) refl r
+  adds_exact false name bytes o = no_memory_told _ r (walk (tests false told (event.AddFile name bytes) o w))
 
-opens_file_exact : (memory : Bool) (name : List ℕ) (c : Connection) (r : Refusal) → Exact (tests memory (event.OpenFile name) c) (file_of (opens_file memory name c)).0 r
-unfolding opens_file
-opens_file_exact memory name c r =
-    let t = tests memory (event.OpenFile name) c in
-    let told = in_order t (if_broken c.broken ∷ refused_if c.busy refusal.Busy ∷ refused_if (not (is_some c.state.shared.req)) refusal.NotInRequest ∷ refused_if (not (is_some (c.state.shared.files.named name))) refusal.NoFile
-    ∷ refused_if (is_spent c.state.shared.files.next 1) refusal.NamesSpent ∷ refused_if (not memory) refusal.NoMemory ∷ []) (walk t) in
-    file_or_refused t _ c.state.shared.req (c.state.shared.files.named name) name c told
-    (λ e. (from_not (is_some c.state.shared.req) (told.none e refusal.NotInRequest (omega arith)), from_not (is_some (c.state.shared.files.named name)) (told.none e refusal.NoFile (omega arith)))) r
+  closes_exact : (memory : Bool) (k : ℕ) (c : Connection) → Exact (tests memory told event.Close (Some c) w) (closes memory k c w).0 r
+  closes_exact true k c = never_refused _ _ (walk (tests true told event.Close (Some c) w)) refl r
+  closes_exact false k c = no_memory_told _ r (walk (tests false told event.Close (Some c) w))
+
+  opens_exact : (memory : Bool) (chain : List Program) (o : Option Connection) → Exact (tests memory told event.Open o w) (opens memory chain w).0 r
+  unfolding opens
+  opens_exact memory chain o =
+      let t = tests memory told event.Open o w in
+      exact t _ _ (in_order t (refused_if (is_spent (w.last + 1) 1 || (is_spent w.common.pools 1 || is_spent w.common.next 1)) refusal.NamesSpent ∷ (refused_if (not memory) refusal.NoMemory ∷ [])) (walk t))
+      (λ q e. ap (λ (x : Option Refusal). (opens_if x chain w).0) e) (λ e. ap (λ (x : Option Refusal). is_refused (opens_if x chain w).0) e) r
+
+  opens_file_exact : (memory : Bool) (name : List ℕ) (k : ℕ) (c : Connection) → Exact (tests memory told (event.OpenFile name) (Some c) w) (file_answered k w (opens_file memory told.opening (w.common, c))).0 r
+  unfolding opens_file
+  opens_file_exact memory name k c =
+      let t = tests memory told (event.OpenFile name) (Some c) w in
+      let ordered = in_order t (if_broken c.broken ∷ refused_if (is_busy c.stack) refusal.Busy ∷ refused_if (not (is_some c.req)) refusal.NotInRequest ∷ refused_if (is_missing told.opening) refusal.NoFile
+      ∷ refused_if (is_failing told.opening) refusal.FileFailed ∷ refused_if (is_spent (number_given w.common told.opening) 1) refusal.NamesSpent ∷ refused_if (not memory) refusal.NoMemory ∷ []) (walk t) in
+      file_or_refused t _ c.req told.opening k w (w.common, c) ordered
+      (λ e. (from_not (is_some c.req) (ordered.none e refusal.NotInRequest (omega arith)), not_on (is_missing told.opening) (ordered.none e refusal.NoFile (omega arith)), not_on (is_failing told.opening) (ordered.none e refusal.FileFailed (omega arith)))) r
+
+  begins_exact : (memory : Bool) (chain : List Program) (k : ℕ) (c : Connection) → Exact (tests memory told event.Begin (Some c) w) (answered k w (begins memory chain (w.common, c))).0 r
+  unfolding begins
+  begins_exact memory chain k c =
+      let t = tests memory told event.Begin (Some c) w in
+      refused_or_done t _ k w (w.common, c) (begun chain (w.common, c)) (in_order t (if_broken c.broken ∷ refused_if (is_busy c.stack) refusal.Busy ∷ refused_if (is_some c.req) refusal.InRequest
+      ∷ refused_if (is_spent w.common.pools 1 || is_spent w.common.next 1) refusal.NamesSpent ∷ refused_if (not memory) refusal.NoMemory ∷ []) (walk t)) r
+
+  brings_exact : (memory : Bool) (chain : List Program) (pieces : List Piece) (k : ℕ) (c : Connection) → Exact (tests memory told (event.Bring pieces) (Some c) w) (answered k w (brings memory chain pieces (w.common, c))).0 r
+  unfolding brings
+  brings_exact memory chain pieces k c =
+      let t = tests memory told (event.Bring pieces) (Some c) w in
+      refused_or_done t _ k w (w.common, c) (brought chain pieces c.req (w.common, c)) (in_order t (if_broken c.broken ∷ refused_if (is_busy c.stack) refusal.Busy ∷ refused_if (not (is_some c.req)) refusal.NotInRequest ∷ refused_if (data_behind_eos pieces) refusal.DataAfterEos
+      ∷ refused_if (list_any (lacks_file c.files) pieces) refusal.NoFile ∷ refused_if (is_spent w.common.next (2 + length pieces)) refusal.NamesSpent ∷ refused_if (not memory) refusal.NoMemory ∷ []) (walk t)) r
+
+  ends_exact : (memory : Bool) (k : ℕ) (c : Connection) → Exact (tests memory told event.End (Some c) w) (answered k w (ends memory (w.common, c))).0 r
+  unfolding ends
+  ends_exact memory k c =
+      let t = tests memory told event.End (Some c) w in
+      refused_or_done t _ k w (w.common, c) (ended c.req (w.common, c)) (in_order t (if_broken c.broken ∷ refused_if (is_busy c.stack) refusal.Busy ∷ refused_if (not (is_some c.req)) refusal.NotInRequest ∷ refused_if (not memory) refusal.NoMemory ∷ []) (walk t)) r
+
+  on_exact : (memory : Bool) (budget : ℕ) (chain : List Program) (e : Event) (k : ℕ) (o : Option Connection) → e ≢ event.Step → Exact (tests memory told e o w) (happens_on memory budget chain told e k o w).0 r
+  unfolding happens_on
+  on_exact memory budget chain event.Open k o ne = opens_exact memory chain o
+  on_exact memory budget chain (event.AddFile name bytes) k o ne = adds_exact memory name bytes o
+  on_exact memory budget chain event.TellPools k o ne = never_refused _ _ (walk (tests memory told event.TellPools o w)) refl r
+  on_exact memory budget chain event.Step k o ne = absurd (ne refl)
+  on_exact memory budget chain (event.OpenFile name) k (Some c) ne = opens_file_exact memory name k c
+  on_exact memory budget chain event.Begin k (Some c) ne = begins_exact memory chain k c
+  on_exact memory budget chain (event.Bring pieces) k (Some c) ne = brings_exact memory chain pieces k c
+  on_exact memory budget chain event.End k (Some c) ne = ends_exact memory k c
+  on_exact memory budget chain event.TakeOutput k (Some c) ne = never_refused _ _ (walk (tests memory told event.TakeOutput (Some c) w)) refl r
+  on_exact memory budget chain event.TellLabels k (Some c) ne = never_refused _ _ (walk (tests memory told event.TellLabels (Some c) w)) refl r
+  on_exact memory budget chain event.Close k (Some c) ne = closes_exact memory k c
+  on_exact memory budget chain (event.OpenFile name) k None ne = no_conn_told _ r (walk (tests memory told (event.OpenFile name) None w))
+  on_exact memory budget chain event.Begin k None ne = no_conn_told _ r (walk (tests memory told event.Begin None w))
+  on_exact memory budget chain (event.Bring pieces) k None ne = no_conn_told _ r (walk (tests memory told (event.Bring pieces) None w))
+  on_exact memory budget chain event.End k None ne = no_conn_told _ r (walk (tests memory told event.End None w))
+  on_exact memory budget chain event.TakeOutput k None ne = no_conn_told _ r (walk (tests memory told event.TakeOutput None w))
+  on_exact memory budget chain event.TellLabels k None ne = no_conn_told _ r (walk (tests memory told event.TellLabels None w))
+  on_exact memory budget chain event.Close k None ne = no_conn_told _ r (walk (tests memory told event.Close None w))
 
 pub first_is_told : FirstIsTold
-unfolding begins brings ends
-first_is_told memory budget p (event.AddFile name bytes) c r ne = adds_exact memory name bytes c r
-first_is_told memory budget p (event.OpenFile name) c r ne = opens_file_exact memory name c r
-first_is_told memory budget p event.Begin c r ne = refused_or_done (tests memory event.Begin c) _ c (begun p c) (in_order (tests memory event.Begin c) (if_broken c.broken ∷ refused_if c.busy refusal.Busy ∷ refused_if (is_some c.state.shared.req) refusal.InRequest
-    ∷ refused_if (is_spent c.state.shared.pools.next 1 || is_spent c.state.shared.next 1) refusal.NamesSpent ∷ refused_if (not memory) refusal.NoMemory ∷ []) (walk (tests memory event.Begin c))) r
-first_is_told memory budget p (event.Bring pieces) c r ne =
-    refused_or_done (tests memory (event.Bring pieces) c) _ c (brought c.state.shared.req p pieces c) (in_order (tests memory (event.Bring pieces) c) (if_broken c.broken ∷ refused_if c.busy refusal.Busy ∷ refused_if (not (is_some c.state.shared.req)) refusal.NotInRequest ∷ refused_if (data_behind_eos pieces) refusal.DataAfterEos
-    ∷ refused_if (list_any (lacks_file c.files) pieces) refusal.NoFile ∷ refused_if (is_spent c.state.shared.next (2 + length pieces)) refusal.NamesSpent ∷ refused_if (not memory) refusal.NoMemory ∷ []) (walk (tests memory (event.Bring pieces) c))) r
-first_is_told memory budget p event.End c r ne = refused_or_done (tests memory event.End c) _ c (ended c.state.shared.req c) (in_order (tests memory event.End c) (if_broken c.broken ∷ refused_if c.busy refusal.Busy ∷ refused_if (not (is_some c.state.shared.req)) refusal.NotInRequest ∷ refused_if (not memory) refusal.NoMemory ∷ []) (walk (tests memory event.End c))) r
-first_is_told memory budget p event.Close c r ne = closes_exact memory c r
-first_is_told memory budget p event.Step c r ne = absurd (ne refl)
-first_is_told memory budget p event.Open c r ne = never_refused _ _ (walk (tests memory event.Open c)) refl r
-first_is_told memory budget p event.TakeOutput c r ne = never_refused _ _ (walk (tests memory event.TakeOutput c)) refl r
-first_is_told memory budget p event.TellLabels c r ne = never_refused _ _ (walk (tests memory event.TellLabels c)) refl r
-first_is_told memory budget p event.TellPools c r ne = never_refused _ _ (walk (tests memory event.TellPools c)) refl r
+first_is_told memory budget chain told k e w r ne = on_exact told w r memory budget chain e k (w.conns k) ne
+
+nothing_there : (memory : Bool) (budget : ℕ) (chain : List Program) (told : Told) (e : Event) (k : ℕ) (w : World) → is_of_connection e ≡ true → happens_on memory budget chain told e k None w ≡ (Refused refusal.NoSuchConn, w)
+unfolding happens_on
+nothing_there memory budget chain told event.Open k w of = absurd (cc)
+nothing_there memory budget chain told (event.AddFile name bytes) k w of = absurd (cc)
+nothing_there memory budget chain told event.TellPools k w of = absurd (cc)
+nothing_there memory budget chain told event.Begin k w of = refl
+nothing_there memory budget chain told (event.OpenFile name) k w of = refl
+nothing_there memory budget chain told (event.Bring pieces) k w of = refl
+nothing_there memory budget chain told event.Step k w of = refl
+nothing_there memory budget chain told event.End k w of = refl
+nothing_there memory budget chain told event.TakeOutput k w of = refl
+nothing_there memory budget chain told event.TellLabels k w of = refl
+nothing_there memory budget chain told event.Close k w of = refl
 
 pub no_connection_is_told : NoConnectionIsTold
-no_connection_is_told memory budget p e (There c) there of = absurd (cc)
-no_connection_is_told memory budget p event.Open w there of = absurd (cc)
-no_connection_is_told memory budget p (event.AddFile name bytes) w there of = absurd (cc)
-no_connection_is_told memory budget p event.TellPools w there of = absurd (cc)
-no_connection_is_told memory budget p event.Begin (Before fs) there of = refl
-no_connection_is_told memory budget p (event.OpenFile name) (Before fs) there of = refl
-no_connection_is_told memory budget p (event.Bring pieces) (Before fs) there of = refl
-no_connection_is_told memory budget p event.Step (Before fs) there of = refl
-no_connection_is_told memory budget p event.End (Before fs) there of = refl
-no_connection_is_told memory budget p event.TakeOutput (Before fs) there of = refl
-no_connection_is_told memory budget p event.TellLabels (Before fs) there of = refl
-no_connection_is_told memory budget p event.Close (Before fs) there of = refl
-no_connection_is_told memory budget p e (Closed pools fs) there of = closed e of where
-  closed : (e : Event) → is_of_connection e ≡ true → happens memory budget p e (Closed pools fs) ≡ (Refused refusal.NoSuchConn, Closed pools fs)
-  closed event.Open of = absurd (cc)
-  closed (event.AddFile name bytes) of = absurd (cc)
-  closed event.TellPools of = absurd (cc)
-  closed e of = refl
+no_connection_is_told memory budget chain told k e w none of = ap (λ (o : Option Connection). happens_on memory budget chain told e k o w) none ∙ nothing_there memory budget chain told e k w of
 
 pub busy_does_not_end : BusyDoesNotEnd
-unfolding ends
-busy_does_not_end memory budget p c whole busy = ap (λ (o : Option Refusal). answer_of (unless_refused o c (ended c.state.shared.req c))) (told c.broken c.busy _ whole busy) where
-  told : (broken : Option Cause) (b : Bool) (ts : List (Option Refusal)) → broken ≡ None → b ≡ true → first_refusal (if_broken broken ∷ refused_if b refusal.Busy ∷ ts) ≡ Some refusal.Busy
-  told None true ts whole busy = refl
-  told None false ts whole busy = absurd (cc)
-  told (Some k) b ts whole busy = absurd (cc)
+unfolding ends happens_on
+busy_does_not_end memory budget chain told k c w at whole busy =
+    ap (λ (o : Option Connection). happens_on memory budget chain told event.End k o w) at
+    ∙ ap (λ (o : Option Refusal). answered k w (unless_refused o (w.common, c) (ended c.req (w.common, c)))) (busy_told c.broken (is_busy c.stack) _ whole busy) where
+      busy_told : (broken : Option Cause) (b : Bool) (ts : List (Option Refusal)) → broken ≡ None → b ≡ true → first_refusal (if_broken broken ∷ refused_if b refusal.Busy ∷ ts) ≡ Some refusal.Busy
+      busy_told None true ts whole busy = refl
+      busy_told None false ts whole busy = absurd (cc)
+      busy_told (Some k) b ts whole busy = absurd (cc)
 
 pub only_memory_refuses_close : OnlyMemoryRefusesClose
-only_memory_refuses_close true budget p c r e = absurd (let told : is_refused (closes true c).0 ≡ true = ap is_refused e in cc)
-only_memory_refuses_close false budget p c r e = (let same : refusal.NoMemory ≡ r = cc in sym same, refl)
+unfolding happens_on
+only_memory_refuses_close memory budget chain told k c w r at e = by_memory memory (ap (λ (o : Option Connection). (happens_on memory budget chain told event.Close k o w).0) (sym at) ∙ e) where
+  by_memory : (m : Bool) → (closes m k c w).0 ≡ Refused r → (r ≡ refusal.NoMemory) × (m ≡ false)
+  by_memory true e = absurd (let was : is_refused (closes true k c w).0 ≡ true = ap is_refused e in cc)
+  by_memory false e = (let same : refusal.NoMemory ≡ r = cc in sym same, refl)
 
 -- Steps.
 
@@ -266,54 +312,69 @@ first_told t None r tells first = absurd (tells.none refl r (below_eleven r) fir
 first_told t (Some q) r tells first = ap (λ (x : Refusal). Some x) (first_is_one t q r (tells.sound q refl) first)
 
 -- where no refusal is due
-module _ (memory : Bool) (budget : ℕ) (p : Program) (c : Connection) (whole : c.broken ≡ None) (busy : c.busy ≡ true) where
-  asked : steps memory budget p c ≡ cond (nat_le budget c.count) (broke cause.OutOfSteps c) (step_from (watched memory p (current p c.state.pc) c.state) c)
+module _ (memory : Bool) (budget : ℕ) (chain : List Program) (reads : Reads) (g : Common) (c : Connection) (f : Frame) (rest : List Frame) (whole : c.broken ≡ None) (top : c.stack ≡ f ∷ rest) where
+  asked : steps memory budget chain reads (g, c) ≡ cond (nat_le budget c.count) (broken_by cause.OutOfSteps (g, c)) (watched memory chain reads f rest (g, c))
   unfolding steps
-  asked = ap (λ (o : Option Refusal). step_if o memory budget p c) (none c.broken c.busy whole busy) where
-    none : (broken : Option Cause) (b : Bool) → broken ≡ None → b ≡ true → first_refusal (if_broken broken ∷ refused_if (not b) refusal.Idle ∷ []) ≡ None
-    none None true whole busy = refl
-    none None false whole busy = absurd (cc)
-    none (Some k) b whole busy = absurd (cc)
+  asked =
+      ap (λ (b : Option Cause). step_unless b memory budget chain reads (g, c)) whole
+      ∙ ap (λ (fs : List Frame). step_top memory budget chain reads fs (g, c)) top
 
-  watching : c.count < budget → steps memory budget p c ≡ step_from (watched memory p (current p c.state.pc) c.state) c
-  watching lt = asked ∙ ap (λ (b : Bool). cond b (broke cause.OutOfSteps c) (step_from (watched memory p (current p c.state.pc) c.state) c)) (few budget c.count lt) where
+  watching : c.count < budget → steps memory budget chain reads (g, c) ≡ watched memory chain reads f rest (g, c)
+  watching lt = asked ∙ ap (λ (b : Bool). cond b (broken_by cause.OutOfSteps (g, c)) (watched memory chain reads f rest (g, c))) (few budget c.count lt) where
     few : (n m : ℕ) → m < n → nat_le n m ≡ false
     few n m lt = grind (arith, nat_tests)
 
-  faultless : c.count < budget → fault p c.state (current p c.state.pc) ≡ None → steps memory budget p c ≡ step_from (executed memory p (current p c.state.pc) c.state) c
-  faultless lt none = watching lt ∙ ap (λ (f : Option FaultKind). step_from (unless_fault f c.state (executed memory p (current p c.state.pc) c.state)) c) none
+  faultless : c.count < budget → fault_of chain (g, c) f ≡ None → steps memory budget chain reads (g, c) ≡ executed memory chain reads (current (module_at chain f.of) f.pc) f rest (g, c)
+  faultless lt none = watching lt ∙ ap (λ (o : Option FaultKind). unless_fault o f (g, c) (executed memory chain reads (current (module_at chain f.of) f.pc) f rest (g, c))) none
 
-  abbrev Executing : Bool → Result Stepped StepRefusal × Configuration
-  Executing b =
-      let i = current p c.state.pc in
-      cond b (succeeded (settled i (step_at_end p i c.state).exit (step_at_end p i c.state).state)) (Err step_refusal.NoMemory, c.state)
+  abbrev Executing : Bool → Result Stepped Refusal × Linked
+  Executing b = cond b (counted (proceeds chain reads (current (module_at chain f.of) f.pc) f rest (g, c))) (broken_by cause.NoMemory (g, c))
 
-  named : c.count < budget → fault p c.state (current p c.state.pc) ≡ None → lacks_names c.state (current p c.state.pc) ≡ false
-      → steps memory budget p c ≡ step_from (Executing (memory || not (grows (current p c.state.pc)))) c
-  named lt none last =
-      faultless lt none ∙ ap (λ (b : Bool). step_from (cond b (Err step_refusal.NamesSpent, c.state) (Executing (memory || not (grows (current p c.state.pc))))) c) last
+  without_names : c.count < budget → fault_of chain (g, c) f ≡ None → lacks_for chain (g, c) f rest ≡ true → steps memory budget chain reads (g, c) ≡ broken_by cause.NamesSpent (g, c)
+  unfolding executed
+  without_names lt none lacks = faultless lt none ∙ ap (λ (b : Bool). cond b (broken_by cause.NamesSpent (g, c)) (Executing (memory || not (grows_for chain c f rest)))) lacks
 
-due_refused : (memory : Bool) (budget : ℕ) (p : Program) (c : Connection) (r : Refusal) → IsFirst (tests memory event.Step c) r → steps memory budget p c ≡ (Err r, c)
+  named : c.count < budget → fault_of chain (g, c) f ≡ None → lacks_for chain (g, c) f rest ≡ false → steps memory budget chain reads (g, c) ≡ Executing (memory || not (grows_for chain c f rest))
+  unfolding executed
+  named lt none last = faultless lt none ∙ ap (λ (b : Bool). cond b (broken_by cause.NamesSpent (g, c)) (Executing (memory || not (grows_for chain c f rest)))) last
+
+due_refused : (memory : Bool) (budget : ℕ) (chain : List Program) (told : Told) (c : Connection) (w : World) (r : Refusal) → IsFirst (tests memory told event.Step (Some c) w) r
+    → steps memory budget chain told.reads (w.common, c) ≡ (Err r, (w.common, c))
 unfolding steps
-due_refused memory budget p c r first =
-    ap (λ (o : Option Refusal). step_if o memory budget p c)
-    (first_told (tests memory event.Step c) _ r (in_order (tests memory event.Step c) (if_broken c.broken ∷ refused_if (not c.busy) refusal.Idle ∷ []) (walk (tests memory event.Step c))) first)
+due_refused memory budget chain told c w r first =
+    by_broken c.broken (first_told t _ r (in_order t (if_broken c.broken ∷ refused_if (not (is_busy c.stack)) refusal.Idle ∷ []) (walk t)) first) where
+      t : Tests
+      t = tests memory told event.Step (Some c) w
+
+      none_is : (a : Refusal) → None ≡ Some a → ⊥
+      none_is a e = cc
+
+      some_is : (a b : Refusal) → Some a ≡ Some b → a ≡ b
+      some_is a b e = cc
+
+      by_stack : (fs : List Frame) → first_refusal (refused_if (not (is_busy fs)) refusal.Idle ∷ []) ≡ Some r → step_top memory budget chain told.reads fs (w.common, c) ≡ (Err r, (w.common, c))
+      by_stack [] e = ap (λ (x : Refusal). (Err x, (w.common, c))) (some_is refusal.Idle r e)
+      by_stack (f ∷ fs) e = absurd (none_is r e)
+
+      by_broken : (b : Option Cause) → first_refusal (if_broken b ∷ refused_if (not (is_busy c.stack)) refusal.Idle ∷ []) ≡ Some r → step_unless b memory budget chain told.reads (w.common, c) ≡ (Err r, (w.common, c))
+      by_broken None e = by_stack c.stack e
+      by_broken (Some k) e = ap (λ (x : Refusal). (Err x, (w.common, c))) (some_is (refusal.Broken k) r e)
 
 pub steps_tell : StepsTell
-steps_tell memory budget p c = record {
-  refused = due_refused memory budget p c;
-  out_of_steps = λ whole busy met. asked memory budget p c whole busy ∙ ap (λ (b : Bool). cond b (broke cause.OutOfSteps c) (step_from (watched memory p (current p c.state.pc) c.state) c)) (met_all budget c.count met);
-  faulted = λ k whole busy lt is. watching memory budget p c whole busy lt ∙ ap (λ (f : Option FaultKind). step_from (unless_fault f c.state (executed memory p (current p c.state.pc) c.state)) c) is;
-  no_name = λ whole busy lt none lacks.
-      faultless memory budget p c whole busy lt none
-      ∙ ap (λ (b : Bool). step_from (cond b (Err step_refusal.NamesSpent, c.state) (Executing memory budget p c whole busy (memory || not (grows (current p c.state.pc))))) c) lacks;
-  no_memory = λ whole busy lt none last refuses growing.
-      named memory budget p c whole busy lt none last
-      ∙ ap (λ (b : Bool). step_from (Executing memory budget p c whole busy b) c) (ap (λ (b : Bool). b || not (grows (current p c.state.pc))) refuses ∙ ap not growing);
-  made = λ whole busy lt none last there. (
-    (settled (current p c.state.pc) (step_at_end p (current p c.state.pc) c.state).exit (step_at_end p (current p c.state.pc) c.state).state).0,
-    ap (λ (x : Result Stepped Refusal × Connection). x.0) (named memory budget p c whole busy lt none last ∙ ap (λ (b : Bool). step_from (Executing memory budget p c whole busy b) c) there),
-  );
+steps_tell memory budget chain told c w = record {
+  refused = due_refused memory budget chain told c w;
+  out_of_steps = λ f rest whole top met.
+      asked memory budget chain told.reads w.common c f rest whole top
+      ∙ ap (λ (b : Bool). cond b (broken_by cause.OutOfSteps (w.common, c)) (watched memory chain told.reads f rest (w.common, c))) (met_all budget c.count met);
+  faulted = λ f rest k whole top lt is.
+      watching memory budget chain told.reads w.common c f rest whole top lt
+      ∙ ap (λ (o : Option FaultKind). unless_fault o f (w.common, c) (executed memory chain told.reads (current (module_at chain f.of) f.pc) f rest (w.common, c))) is;
+  no_name = λ f rest whole top lt none lacks. without_names memory budget chain told.reads w.common c f rest whole top lt none lacks;
+  no_memory = λ f rest whole top lt none last refuses growing.
+      named memory budget chain told.reads w.common c f rest whole top lt none last
+      ∙ ap (λ (b : Bool). Executing memory budget chain told.reads w.common c f rest whole top b) (ap (λ (b : Bool). b || not (grows_for chain c f rest)) refuses ∙ ap not growing);
+  made = λ f rest whole top lt none last there.
+      named memory budget chain told.reads w.common c f rest whole top lt none last ∙ ap (λ (b : Bool). Executing memory budget chain told.reads w.common c f rest whole top b) there;
 } where
   met_all : (n m : ℕ) → n ≤ m → nat_le n m ≡ true
   met_all n m le = grind (arith, nat_tests)

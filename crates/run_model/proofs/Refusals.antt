@@ -1,180 +1,178 @@
--- What a refused event and a fault leave as it was.
-use Rattle.std.proofs.Common.{◌≡◌, ℕ, Bool, true, false, ◌||◌, not, cond, List, [], ◌∷◌, length, ◌⊎◌, inl, inr, Option, Some, None, Result, Ok, Err, nat_le, refl, sym, ◌∙◌, ap}
-use Rattle.module_lang.specs.declared.instr.Instr.{Instr}
+-- A refused event changes nothing, and what breaks a connection. A broken connection stays as it is.
+use Rattle.std.proofs.Common.{◌≡◌, ◌≢◌, ◌⊎◌, ℕ, Bool, true, false, ◌||◌, not, cond, nat_le, nat_lt, List, [], ◌∷◌, Option, Some, None, Result, Ok, Err, inl, inr, refl, sym, ◌∙◌, ap, subst}
 use Rattle.module_lang.specs.Program.{Program}
+use Rattle.module_lang.specs.declared.instr.Instr.{Instr}
+use Rattle.module_lang.specs.declared.instr.Instr.TheVariants as instr
+use Rattle.module_lang.specs.declared.instr.Status.{Status}
 use Rattle.run_model.specs.declared.fault.FaultKind.{FaultKind}
-use Rattle.run_model.specs.declared.event.Exit.{Exit}
-use Rattle.run_model.specs.declared.event.Exit.TheVariants.{GoOn, Jump, Return}
-use Rattle.run_model.specs.declared.event.Event.TheVariants as event
 use Rattle.run_model.specs.declared.event.Cause.{Cause}
 use Rattle.run_model.specs.declared.event.Cause.TheVariants as cause
 use Rattle.run_model.specs.declared.event.Refusal.{Refusal}
 use Rattle.run_model.specs.declared.event.Refusal.TheVariants as refusal
+use Rattle.run_model.specs.declared.event.Event.{Event}
+use Rattle.run_model.specs.declared.event.Event.TheVariants as event
 use Rattle.run_model.specs.declared.event.Stepped.{Stepped}
 use Rattle.run_model.specs.declared.event.Stepped.TheVariants as stepped
-use Rattle.run_model.specs.declared.event.StepRefusal.{StepRefusal}
-use Rattle.run_model.specs.declared.event.StepRefusal.TheVariants as step_refusal
-use Rattle.run_model.specs.Files.{Files}
-use Rattle.run_model.specs.State.{Configuration}
-use Rattle.run_model.specs.Faults.{fault}
-use Rattle.run_model.specs.Steps.{step_at_end, settled, grows, lacks_names, current, succeeded, executed, unless_fault, watched}
-use Rattle.run_model.specs.Connection.{Connection, begins, brings, ends, takes, steps, begun, brought, file_answer, opens_file, ended, closing_labels, first_refusal, refused_if, if_broken, unless_refused, breaks, broke, step_answer, step_from, step_if, after_step}
-use Rattle.run_model.specs.Runs.{Answer, Done, Refused, Output, Opened, Labels, World, Before, There, Closed, answer_of, step_of, file_of, adds_file, opens, closes}
-use Rattle.run_model.specs.Laws.{RefusedChangesNothing, RefusedStepBreaks, FaultBreaks, BrokenStaysBroken}
+use Rattle.run_model.specs.Steps.{lacks_names, grows, current, is_spent}
+use Rattle.run_model.specs.Connection.{first_refusal, if_broken}
+use Rattle.run_model.specs.Chains.{Frame, Connection, Common, Linked, module_at, configuration}
+use Rattle.run_model.specs.Passing.{Reads, next_called, returned_from, proceeds}
+use Rattle.run_model.specs.Turns.{Opening, unless_refused, begins, begun, brings, brought, ends, ended, opens_file, file_answer, steps, step_unless, step_top, watched, executed, unless_fault, counted, broken_by, calls_of}
+use Rattle.run_model.specs.Worlds.{World, Told, Answer, Refused, put_conn, answered, file_answered, step_answered, adds_file, closes, opens, opens_if, happens_on}
+use Rattle.run_model.specs.RefusalOrder.{RefusedChangesNothing, RefusedStepBreaks, FaultBreaks, BrokenStaysBroken, SameWorld, breaks, is_work}
+use Rattle.run_model.proofs.Updates.{upd_either}
 
--- Events but steps.
+abbrev Out : Type 0
+Out = Answer × World
 
-refused_same : (o : Option Refusal) (old new : Connection) (r : Refusal) (w : World) → answer_of (unless_refused o old new) ≡ (Refused r, w) → w ≡ There old
-refused_same None old new r w e = absurd (let told : Done ≡ Refused r = ap (λ (x : Answer × World). x.0) e in cc)
-refused_same (Some q) old new r w e = sym (ap (λ (x : Answer × World). x.1) e)
+left : (a b : Out) → a ≡ b → b.1 ≡ a.1
+left a b e = sym (ap (λ (x : Out). x.1) e)
 
-opens_refused : (memory : Bool) (fs : Files) (r : Refusal) (new : World) → opens memory fs ≡ (Refused r, new) → new ≡ Before fs
-opens_refused true fs r new e = absurd (let told : Done ≡ Refused r = ap (λ (x : Answer × World). x.0) e in cc)
-opens_refused false fs r new e = sym (ap (λ (x : Answer × World). x.1) e)
+abbrev is_refused : Answer → Bool
+is_refused (Refused r) = true
+is_refused a = false
 
-closes_refused : (memory : Bool) (c : Connection) (r : Refusal) (new : World) → closes memory c ≡ (Refused r, new) → new ≡ There c
-closes_refused true c r new e = absurd (let told : Labels (closing_labels c) ≡ Refused r = ap (λ (x : Answer × World). x.0) e in cc)
-closes_refused false c r new e = sym (ap (λ (x : Answer × World). x.1) e)
+served : (a : Out) (r : Refusal) (new : World) → is_refused a.0 ≡ false → a ≡ (Refused r, new) → ⊥
+served a r new is e = let was : is_refused a.0 ≡ true = ap (λ (x : Out). is_refused x.0) e in cc
 
-adds_refused : (memory : Bool) (name bytes : List ℕ) (w : World) (r : Refusal) (new : World) → adds_file memory name bytes w ≡ (Refused r, new) → new ≡ w
-adds_refused true name bytes w r new e = absurd (let told : Done ≡ Refused r = ap (λ (x : Answer × World). x.0) e in cc)
-adds_refused false name bytes w r new e = sym (ap (λ (x : Answer × World). x.1) e)
+module _ (k : ℕ) (w new : World) (r : Refusal) where
+  answered_same : (a : Option Refusal × Linked) → answered k w a ≡ (Refused r, new) → new ≡ w
+  answered_same (None, v) e = absurd (served _ r new refl e)
+  answered_same (Some q, v) e = left _ _ e
 
-opening_refused : (o : Option Refusal) (req : Option ℕ) (found : Option (List ℕ)) (name : List ℕ) (c : Connection) (r : Refusal) (new : World)
-    → file_of (file_answer o req found name c) ≡ (Refused r, new) → new ≡ There c
-opening_refused (Some q) req found name c r new e = sym (ap (λ (x : Answer × World). x.1) e)
-opening_refused None None found name c r new e = sym (ap (λ (x : Answer × World). x.1) e)
-opening_refused None (Some req) None name c r new e = sym (ap (λ (x : Answer × World). x.1) e)
-opening_refused None (Some req) (Some bytes) name c r new e = absurd (let told : Opened c.state.shared.files.next (length bytes) ≡ Refused r = ap (λ (x : Answer × World). x.0) e in cc)
+  file_same : (a : Result (ℕ × ℕ) Refusal × Linked) → file_answered k w a ≡ (Refused r, new) → new ≡ w
+  file_same (Ok f, v) e = absurd (served _ r new refl e)
+  file_same (Err q, v) e = left _ _ e
+
+  closes_same : (memory : Bool) (c : Connection) → closes memory k c w ≡ (Refused r, new) → new ≡ w
+  closes_same true c e = absurd (served _ r new refl e)
+  closes_same false c e = left _ _ e
+
+  adds_same : (memory : Bool) → adds_file memory w ≡ (Refused r, new) → new ≡ w
+  adds_same true e = absurd (served _ r new refl e)
+  adds_same false e = left _ _ e
+
+  opens_same : (o : Option Refusal) (chain : List Program) → opens_if o chain w ≡ (Refused r, new) → new ≡ w
+  opens_same None chain e = absurd (served _ r new refl e)
+  opens_same (Some q) chain e = left _ _ e
+
+  on_same : (memory : Bool) (budget : ℕ) (chain : List Program) (told : Told) (e : Event) (o : Option Connection) → e ≢ event.Step → happens_on memory budget chain told e k o w ≡ (Refused r, new) → new ≡ w
+  unfolding happens_on opens
+  on_same memory budget chain told event.Open o ne is = opens_same _ chain is
+  on_same memory budget chain told (event.AddFile name bytes) o ne is = adds_same memory is
+  on_same memory budget chain told event.TellPools o ne is = left _ _ is
+  on_same memory budget chain told event.Step o ne is = absurd (ne refl)
+  on_same memory budget chain told (event.OpenFile name) (Some c) ne is = file_same _ is
+  on_same memory budget chain told event.Begin (Some c) ne is = answered_same _ is
+  on_same memory budget chain told (event.Bring pieces) (Some c) ne is = answered_same _ is
+  on_same memory budget chain told event.End (Some c) ne is = answered_same _ is
+  on_same memory budget chain told event.TakeOutput (Some c) ne is = absurd (served _ r new refl is)
+  on_same memory budget chain told event.TellLabels (Some c) ne is = left _ _ is
+  on_same memory budget chain told event.Close (Some c) ne is = closes_same memory c is
+  on_same memory budget chain told e None ne is = left _ _ is
 
 pub refused_changes_nothing : RefusedChangesNothing
-unfolding begins brings opens_file ends
-refused_changes_nothing memory budget p event.Open (Before fs) new r ne e = opens_refused memory fs r new e
-refused_changes_nothing memory budget p event.Open (There c) new r ne e = absurd (let told : Done ≡ Refused r = ap (λ (x : Answer × World). x.0) e in cc)
-refused_changes_nothing memory budget p (event.AddFile name bytes) (There c) new r ne e = adds_refused memory name bytes (There c) r new e
-refused_changes_nothing memory budget p (event.OpenFile name) (There c) new r ne e = opening_refused _ c.state.shared.req (c.state.shared.files.named name) name c r new e
-refused_changes_nothing memory budget p event.Begin (There c) new r ne e = refused_same _ c (begun p c) r new e
-refused_changes_nothing memory budget p (event.Bring pieces) (There c) new r ne e = refused_same _ c (brought c.state.shared.req p pieces c) r new e
-refused_changes_nothing memory budget p event.Step (There c) new r ne e = absurd (ne refl)
-refused_changes_nothing memory budget p event.End (There c) new r ne e = refused_same _ c (ended c.state.shared.req c) r new e
-refused_changes_nothing memory budget p event.TakeOutput (There c) new r ne e = absurd (let told : Output (takes c).0 ≡ Refused r = ap (λ (x : Answer × World). x.0) e in cc)
-refused_changes_nothing memory budget p event.TellLabels (There c) new r ne e = absurd (let told : Labels c.state.shared.labels ≡ Refused r = ap (λ (x : Answer × World). x.0) e in cc)
-refused_changes_nothing memory budget p event.Close (There c) new r ne e = closes_refused memory c r new e
-refused_changes_nothing memory budget p event.TellPools (There c) new r ne e = sym (ap (λ (x : Answer × World). x.1) e)
-refused_changes_nothing memory budget p (event.AddFile name bytes) (Before fs) new r ne e = adds_refused memory name bytes (Before fs) r new e
-refused_changes_nothing memory budget p e (Before fs) new r ne h = sym (ap (λ (x : Answer × World). x.1) h)
-refused_changes_nothing memory budget p (event.AddFile name bytes) (Closed pools fs) new r ne e = adds_refused memory name bytes (Closed pools fs) r new e
-refused_changes_nothing memory budget p e (Closed pools fs) new r ne h = sym (ap (λ (x : Answer × World). x.1) h)
+refused_changes_nothing memory budget chain told k e w new r ne is = on_same k w new r memory budget chain told e (w.conns k) ne is
 
 -- Steps.
 
--- whether an instruction was executed
-abbrev pub was_executed : Result Stepped StepRefusal → Bool
-was_executed (Ok stepped.Went) = true
-was_executed (Ok (stepped.CallEnded s)) = true
-was_executed (Ok (stepped.Fault k m pc)) = false
-was_executed (Err r) = false
-
-settled_executed : (i : Instr) (exit : Exit) (r : Configuration) → was_executed (Ok (settled i exit r).0) ≡ true
-settled_executed i GoOn r = refl
-settled_executed i Jump r = refl
-settled_executed i Return r = refl
-
-pub watched_keeps : (memory : Bool) (p : Program) (i : Instr) (r : Configuration) → was_executed (watched memory p i r).0 ≡ false → (watched memory p i r).1 ≡ r
-watched_keeps memory p i r = by_fault (fault p r i) where
-  by_memory : (b : Bool) → was_executed (cond b (succeeded (settled i (step_at_end p i r).exit (step_at_end p i r).state)) (Err step_refusal.NoMemory, r)).0 ≡ false
-      → (cond b (succeeded (settled i (step_at_end p i r).exit (step_at_end p i r).state)) (Err step_refusal.NoMemory, r)).1 ≡ r
-  by_memory true no_step = absurd (let done : was_executed (Ok (settled i (step_at_end p i r).exit (step_at_end p i r).state).0) ≡ true = settled_executed i (step_at_end p i r).exit (step_at_end p i r).state in cc)
-  by_memory false no_step = refl
-
-  by_names : (b : Bool) → was_executed (cond b (Err step_refusal.NamesSpent, r) (cond (memory || not (grows i)) (succeeded (settled i (step_at_end p i r).exit (step_at_end p i r).state)) (Err step_refusal.NoMemory, r))).0 ≡ false
-      → (cond b (Err step_refusal.NamesSpent, r) (cond (memory || not (grows i)) (succeeded (settled i (step_at_end p i r).exit (step_at_end p i r).state)) (Err step_refusal.NoMemory, r))).1 ≡ r
-  by_names true no_step = refl
-  by_names false no_step = by_memory (memory || not (grows i)) no_step
-
-  by_fault : (f : Option FaultKind) → was_executed (unless_fault f r (executed memory p i r)).0 ≡ false → (unless_fault f r (executed memory p i r)).1 ≡ r
-  by_fault None no_step = by_names (lacks_names r i) no_step
-  by_fault (Some k) no_step = refl
-
--- what a refused step may be: nothing, or a break
-abbrev pub RefusedStep : Connection → Connection → Refusal → Type 0
-RefusedStep c new r = ((r ≡ refusal.Idle) × (new ≡ c)) ⊎ ((k : Cause) × ((r ≡ refusal.Broken k) × (new ≡ breaks k c)))
-
 abbrev StepAnswer : Type 0
-StepAnswer = Result Stepped Refusal × Connection
+StepAnswer = Result Stepped Refusal × Linked
 
-abbrev err : Refusal → Connection → StepAnswer
-err r c = (Err r, c)
+abbrev pub RefusedStep : Linked → Linked → Refusal → Type 0
+RefusedStep w new r = ((r ≡ refusal.Idle) × (new ≡ w)) ⊎ ((k : Cause) × ((r ≡ refusal.Broken k) × (new ≡ breaks k w)))
 
-abbrev ok : Stepped → Connection → StepAnswer
-ok a c = (Ok a, c)
+-- What a step may be: the connection breaks, a fault is told, or it goes.
+data StepIs (w : Linked) : StepAnswer → Type 0 where
+  Breaks : (k : Cause) → StepIs w (Err (refusal.Broken k), breaks k w)
+  Idles : StepIs w (Err refusal.Idle, w)
+  Faults : (k : FaultKind) (m pc : ℕ) → StepIs w (Ok (stepped.Fault k m pc), breaks cause.Faulted w)
+  Goes : (new : Linked) → StepIs w (Ok stepped.Went, new)
+  Ends : (s : Status) (new : Linked) → StepIs w (Ok (stepped.CallEnded s), new)
 
-err_parts : (r s : Refusal) (c new : Connection) → err r c ≡ err s new → (s ≡ r) × (new ≡ c)
-err_parts r s c new e = (let told : (err r c).0 ≡ (err s new).0 = ap (λ (x : StepAnswer). x.0) e in cc, sym (ap (λ (x : StepAnswer). x.1) e))
+module _ (memory : Bool) (budget : ℕ) (chain : List Program) (reads : Reads) (g : Common) (c : Connection) where
+  called_is : (s : Status) (queue : List ℕ) (v : Linked) → StepIs (g, c) (counted (next_called chain s queue v))
+  called_is s [] v = Ends s _
+  called_is s (k ∷ ks) v = Goes _
 
-ok_is_no_err : (a : Stepped) (s : Refusal) (c new : Connection) → ok a c ≡ err s new → ⊥
-ok_is_no_err a s c new e = let told : (ok a c).0 ≡ (err s new).0 = ap (λ (x : StepAnswer). x.0) e in cc
+  proceeds_is : (i : Instr) (f : Frame) (rest : List Frame) → StepIs (g, c) (counted (proceeds chain reads i f rest (g, c)))
+  unfolding proceeds returned_from
+  proceeds_is (instr.Ret s) f [] = called_is s c.queue _
+  proceeds_is (instr.Ret s) f (w ∷ rest) = Goes _
+  proceeds_is (instr.Pass b l) f rest = Goes _
+  proceeds_is i f rest = Goes _
 
-err_is_no_ok : (r : Refusal) (a : Stepped) (c new : Connection) → err r c ≡ ok a new → ⊥
-err_is_no_ok r a c new e = let told : (err r c).0 ≡ (ok a new).0 = ap (λ (x : StepAnswer). x.0) e in cc
+  executed_is : (i : Instr) (f : Frame) (rest : List Frame) → StepIs (g, c) (executed memory chain reads i f rest (g, c))
+  unfolding executed
+  executed_is i f rest = by_names (lacks_names (configuration g c f) i || is_spent g.next (calls_of chain i f rest c.queue)) where
+    by_memory : (b : Bool) → StepIs (g, c) (cond b (counted (proceeds chain reads i f rest (g, c))) (broken_by cause.NoMemory (g, c)))
+    by_memory true = proceeds_is i f rest
+    by_memory false = Breaks cause.NoMemory
 
-ok_parts : (a b : Stepped) (c new : Connection) → ok a c ≡ ok b new → (a ≡ b) × (new ≡ c)
-ok_parts a b c new e = (let told : (ok a c).0 ≡ (ok b new).0 = ap (λ (x : StepAnswer). x.0) e in cc, sym (ap (λ (x : StepAnswer). x.1) e))
+    by_names : (b : Bool) → StepIs (g, c) (cond b (broken_by cause.NamesSpent (g, c)) (cond (memory || not (grows i || nat_lt 0 (calls_of chain i f rest c.queue))) (counted (proceeds chain reads i f rest (g, c))) (broken_by cause.NoMemory (g, c))))
+    by_names true = Breaks cause.NamesSpent
+    by_names false = by_memory _
 
--- a connection that broke by a cause, seen from where its run is as it was
-same_run : (c : Connection) (r : Configuration) → r ≡ c.state → record c { state = r } ≡ c
-same_run c r is = ap (λ (x : Configuration). record c { state = x }) is
+  fault_is : (o : Option FaultKind) (f : Frame) (rest : List Frame) → StepIs (g, c) (unless_fault o f (g, c) (executed memory chain reads (current (module_at chain f.of) f.pc) f rest (g, c)))
+  fault_is None f rest = executed_is _ f rest
+  fault_is (Some k) f rest = Faults k f.of f.pc
 
-answered_err : (a : Result Stepped StepRefusal) (r : Configuration) (c new : Connection) (s : Refusal)
-    → (was_executed a ≡ false → r ≡ c.state) → step_answer a (record c { state = r }) ≡ err s new → RefusedStep c new s
-answered_err (Ok a) r c new s same e = absurd (ok_is_no_err a s (after_step a (record c { state = r })) new e)
-answered_err (Err step_refusal.NamesSpent) r c new s same e =
-    let parts = err_parts (refusal.Broken cause.NamesSpent) s (breaks cause.NamesSpent (record c { state = r })) new e in
-    inr (cause.NamesSpent, (parts.0, parts.1 ∙ ap (breaks cause.NamesSpent) (same_run c r (same refl))))
-answered_err (Err step_refusal.NoMemory) r c new s same e =
-    let parts = err_parts (refusal.Broken cause.NoMemory) s (breaks cause.NoMemory (record c { state = r })) new e in
-    inr (cause.NoMemory, (parts.0, parts.1 ∙ ap (breaks cause.NoMemory) (same_run c r (same refl))))
+  top_is : (stack : List Frame) → StepIs (g, c) (step_top memory budget chain reads stack (g, c))
+  top_is [] = Idles
+  top_is (f ∷ rest) = by_budget (nat_le budget c.count) where
+    by_budget : (b : Bool) → StepIs (g, c) (cond b (broken_by cause.OutOfSteps (g, c)) (watched memory chain reads f rest (g, c)))
+    by_budget true = Breaks cause.OutOfSteps
+    by_budget false = fault_is _ f rest
+
+abbrev err : Refusal → Linked → StepAnswer
+err r v = (Err r, v)
+
+abbrev ok : Stepped → Linked → StepAnswer
+ok a v = (Ok a, v)
+
+err_same : (r s : Refusal) (v new : Linked) → err r v ≡ err s new → s ≡ r
+err_same r s v new e = let told : (err r v).0 ≡ (err s new).0 = ap (λ (x : StepAnswer). x.0) e in cc
+
+ok_no_err : (a : Stepped) (s : Refusal) (v new : Linked) → ok a v ≡ err s new → ⊥
+ok_no_err a s v new e = let told : (ok a v).0 ≡ (err s new).0 = ap (λ (x : StepAnswer). x.0) e in cc
+
+ok_same : (a b : Stepped) (v new : Linked) → ok a v ≡ ok b new → a ≡ b
+ok_same a b v new e = let told : (ok a v).0 ≡ (ok b new).0 = ap (λ (x : StepAnswer). x.0) e in cc
+
+after : (a b : StepAnswer) → a ≡ b → b.1 ≡ a.1
+after a b e = sym (ap (λ (x : StepAnswer). x.1) e)
+
+refused_step : (w new : Linked) (a : StepAnswer) (r : Refusal) → StepIs w a → a ≡ err r new → RefusedStep w new r
+refused_step w new a r (Breaks k) e = inr (k, (err_same (refusal.Broken k) r (breaks k w) new e, after _ _ e))
+refused_step w new a r Idles e = inl (err_same refusal.Idle r w new e, after _ _ e)
+refused_step w new a r (Faults k m pc) e = absurd (ok_no_err (stepped.Fault k m pc) r (breaks cause.Faulted w) new e)
+refused_step w new a r (Goes v) e = absurd (ok_no_err stepped.Went r v new e)
+refused_step w new a r (Ends s v) e = absurd (ok_no_err (stepped.CallEnded s) r v new e)
 
 -- the same connection, broken by the cause that it has
-still_broken : (c : Connection) (k : Cause) → c.broken ≡ Some k → c ≡ breaks k c
-still_broken c k is = ap (λ (b : Option Cause). record c { broken = b }) is
+still_broken : (g : Common) (c : Connection) (k : Cause) → c.broken ≡ Some k → (g, c) ≡ breaks k (g, c)
+still_broken g c k is = ap (λ (b : Option Cause). (g, record c { broken = b })) is
 
 pub refused_step_breaks : RefusedStepBreaks
 unfolding steps
-refused_step_breaks memory budget p c new r e = by_broken c.broken refl e where
-  by_budget : (b : Bool) → cond b (broke cause.OutOfSteps c) (step_from (watched memory p (current p c.state.pc) c.state) c) ≡ err r new → RefusedStep c new r
-  by_budget true e = let parts = err_parts (refusal.Broken cause.OutOfSteps) r (breaks cause.OutOfSteps c) new e in inr (cause.OutOfSteps, (parts.0, parts.1))
-  by_budget false e = answered_err (watched memory p (current p c.state.pc) c.state).0 (watched memory p (current p c.state.pc) c.state).1 c new r (watched_keeps memory p (current p c.state.pc) c.state) e
+refused_step_breaks memory budget chain reads (g, c) new r e = by_broken c.broken refl e where
+  by_broken : (b : Option Cause) → c.broken ≡ b → step_unless b memory budget chain reads (g, c) ≡ err r new → RefusedStep (g, c) new r
+  by_broken None is e = refused_step (g, c) new _ r (top_is memory budget chain reads g c c.stack) e
+  by_broken (Some k) is e = inr (k, (err_same (refusal.Broken k) r (g, c) new e, after _ _ e ∙ still_broken g c k is))
 
-  by_idle : (b : Bool) → step_if (first_refusal (refused_if b refusal.Idle ∷ [])) memory budget p c ≡ err r new → RefusedStep c new r
-  by_idle true e = let parts = err_parts refusal.Idle r c new e in inl (parts.0, parts.1)
-  by_idle false e = by_budget (nat_le budget c.count) e
-
-  by_broken : (b : Option Cause) → c.broken ≡ b → step_if (first_refusal (if_broken b ∷ (refused_if (not c.busy) refusal.Idle ∷ []))) memory budget p c ≡ err r new → RefusedStep c new r
-  by_broken None is e = by_idle (not c.busy) e
-  by_broken (Some k) is e = let parts = err_parts (refusal.Broken k) r c new e in inr (k, (parts.0, parts.1 ∙ still_broken c k is))
-
-answered_fault : (a : Result Stepped StepRefusal) (r : Configuration) (c new : Connection) (k : FaultKind) (m pc : ℕ)
-    → (was_executed a ≡ false → r ≡ c.state) → step_answer a (record c { state = r }) ≡ ok (stepped.Fault k m pc) new → new ≡ breaks cause.Faulted c
-answered_fault (Ok stepped.Went) r c new k m pc same e =
-    absurd (let parts = ok_parts stepped.Went (stepped.Fault k m pc) (after_step stepped.Went (record c { state = r })) new e in let told : stepped.Went ≡ stepped.Fault k m pc = parts.0 in cc)
-answered_fault (Ok (stepped.CallEnded s)) r c new k m pc same e =
-    absurd (let parts = ok_parts (stepped.CallEnded s) (stepped.Fault k m pc) (after_step (stepped.CallEnded s) (record c { state = r })) new e in let told : stepped.CallEnded s ≡ stepped.Fault k m pc = parts.0 in cc)
-answered_fault (Ok (stepped.Fault k' m' pc')) r c new k m pc same e =
-    (ok_parts (stepped.Fault k' m' pc') (stepped.Fault k m pc) (breaks cause.Faulted (record c { state = r })) new e).1 ∙ ap (breaks cause.Faulted) (same_run c r (same refl))
-answered_fault (Err step_refusal.NamesSpent) r c new k m pc same e = absurd (err_is_no_ok (refusal.Broken cause.NamesSpent) (stepped.Fault k m pc) (breaks cause.NamesSpent (record c { state = r })) new e)
-answered_fault (Err step_refusal.NoMemory) r c new k m pc same e = absurd (err_is_no_ok (refusal.Broken cause.NoMemory) (stepped.Fault k m pc) (breaks cause.NoMemory (record c { state = r })) new e)
+fault_step : (w new : Linked) (a : StepAnswer) (k : FaultKind) (m pc : ℕ) → StepIs w a → a ≡ ok (stepped.Fault k m pc) new → new ≡ breaks cause.Faulted w
+fault_step w new a k m pc (Breaks j) e = absurd (ok_no_err (stepped.Fault k m pc) (refusal.Broken j) new (breaks j w) (sym e))
+fault_step w new a k m pc Idles e = absurd (ok_no_err (stepped.Fault k m pc) refusal.Idle new w (sym e))
+fault_step w new a k m pc (Faults j n at) e = after _ _ e
+fault_step w new a k m pc (Goes v) e = absurd (let told : stepped.Went ≡ stepped.Fault k m pc = ok_same stepped.Went (stepped.Fault k m pc) v new e in cc)
+fault_step w new a k m pc (Ends s v) e = absurd (let told : stepped.CallEnded s ≡ stepped.Fault k m pc = ok_same (stepped.CallEnded s) (stepped.Fault k m pc) v new e in cc)
 
 pub fault_breaks : FaultBreaks
 unfolding steps
-fault_breaks memory budget p c new k m pc e = by_refusal (first_refusal (if_broken c.broken ∷ (refused_if (not c.busy) refusal.Idle ∷ []))) e where
-  by_budget : (b : Bool) → cond b (broke cause.OutOfSteps c) (step_from (watched memory p (current p c.state.pc) c.state) c) ≡ ok (stepped.Fault k m pc) new → new ≡ breaks cause.Faulted c
-  by_budget true e = absurd (err_is_no_ok (refusal.Broken cause.OutOfSteps) (stepped.Fault k m pc) (breaks cause.OutOfSteps c) new e)
-  by_budget false e = answered_fault (watched memory p (current p c.state.pc) c.state).0 (watched memory p (current p c.state.pc) c.state).1 c new k m pc (watched_keeps memory p (current p c.state.pc) c.state) e
-
-  by_refusal : (o : Option Refusal) → step_if o memory budget p c ≡ ok (stepped.Fault k m pc) new → new ≡ breaks cause.Faulted c
-  by_refusal None e = by_budget (nat_le budget c.count) e
-  by_refusal (Some r) e = absurd (err_is_no_ok r (stepped.Fault k m pc) c new e)
+fault_breaks memory budget chain reads (g, c) new k m pc e = by_broken c.broken e where
+  by_broken : (b : Option Cause) → step_unless b memory budget chain reads (g, c) ≡ ok (stepped.Fault k m pc) new → new ≡ breaks cause.Faulted (g, c)
+  by_broken None e = fault_step (g, c) new _ k m pc (top_is memory budget chain reads g c c.stack) e
+  by_broken (Some j) e = absurd (ok_no_err (stepped.Fault k m pc) (refusal.Broken j) new (g, c) (sym e))
 
 -- Broken connections.
 
@@ -182,11 +180,37 @@ first_broken : (b : Option Cause) (k : Cause) (tests : List (Option Refusal)) �
 first_broken None k tests is = absurd (cc)
 first_broken (Some j) k tests is = let same : j ≡ k = cc in ap (λ (x : Cause). Some (refusal.Broken x)) same
 
+module _ (memory : Bool) (budget : ℕ) (chain : List Program) (told : Told) (k : ℕ) (c : Connection) (w : World) (why : Cause) (at : w.conns k ≡ Some c) (is : c.broken ≡ Some why) where
+  abbrev Stays : Out → Type 0
+  Stays a = (a.0 ≡ Refused (refusal.Broken why)) × SameWorld w a.1
+
+  same : SameWorld w w
+  same = record { conns = λ j. refl; last = refl; common = refl }
+
+  put_same : SameWorld w (put_conn k (w.common, c) w)
+  put_same = record { conns = λ j. elim (upd_either w.conns k j (Some c)) [ inl here ↦ here.1 ∙ sym at ∙ sym (ap w.conns here.0) | inr off ↦ off.1 ]; last = refl; common = refl }
+
+  refused_so : (o : Option Refusal) (old new : Linked) → o ≡ Some (refusal.Broken why) → Stays (answered k w (unless_refused o old new))
+  refused_so None old new e = absurd (cc)
+  refused_so (Some r) old new e = (let it : r ≡ refusal.Broken why = cc in ap Refused it, same)
+
+  file_so : (o : Option Refusal) (req : Option ℕ) (opening : Opening) (v : Linked) → o ≡ Some (refusal.Broken why) → Stays (file_answered k w (file_answer o req opening v))
+  file_so None req opening v e = absurd (cc)
+  file_so (Some r) req opening v e = (let it : r ≡ refusal.Broken why = cc in ap Refused it, same)
+
+  step_so : (b : Option Cause) → b ≡ Some why → Stays (step_answered k w (step_unless b memory budget chain told.reads (w.common, c)))
+  step_so None e = absurd (cc)
+  step_so (Some j) e = (let it : j ≡ why = cc in ap (λ (x : Cause). Refused (refusal.Broken x)) it, put_same)
+
+  stays : (e : Event) → is_work e ≡ true → Stays (happens_on memory budget chain told e k (Some c) w)
+  unfolding happens_on begins brings opens_file ends steps
+  stays event.Begin work = refused_so _ (w.common, c) (begun chain (w.common, c)) (first_broken c.broken why _ is)
+  stays (event.Bring pieces) work = refused_so _ (w.common, c) (brought chain pieces c.req (w.common, c)) (first_broken c.broken why _ is)
+  stays (event.OpenFile name) work = file_so _ c.req told.opening (w.common, c) (first_broken c.broken why _ is)
+  stays event.Step work = step_so c.broken is
+  stays event.End work = refused_so _ (w.common, c) (ended c.req (w.common, c)) (first_broken c.broken why _ is)
+  stays e work = absurd (cc)
+
 pub broken_stays_broken : BrokenStaysBroken
-unfolding begins brings opens_file ends steps
-broken_stays_broken memory budget p event.Begin c k is work = ap (λ (o : Option Refusal). answer_of (unless_refused o c (begun p c))) (first_broken c.broken k _ is)
-broken_stays_broken memory budget p (event.Bring pieces) c k is work = ap (λ (o : Option Refusal). answer_of (unless_refused o c (brought c.state.shared.req p pieces c))) (first_broken c.broken k _ is)
-broken_stays_broken memory budget p (event.OpenFile name) c k is work = ap (λ (o : Option Refusal). file_of (file_answer o c.state.shared.req (c.state.shared.files.named name) name c)) (first_broken c.broken k _ is)
-broken_stays_broken memory budget p event.Step c k is work = ap (λ (o : Option Refusal). step_of (step_if o memory budget p c)) (first_broken c.broken k _ is)
-broken_stays_broken memory budget p event.End c k is work = ap (λ (o : Option Refusal). answer_of (unless_refused o c (ended c.state.shared.req c))) (first_broken c.broken k _ is)
-broken_stays_broken memory budget p e c k is work = absurd (cc)
+broken_stays_broken memory budget chain told k e c w why at is work =
+    subst (λ (o : Option Connection). ((happens_on memory budget chain told e k o w).0 ≡ Refused (refusal.Broken why)) × SameWorld w (happens_on memory budget chain told e k o w).1) (sym at) (stays memory budget chain told k c w why at is e work)

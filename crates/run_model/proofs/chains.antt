@@ -38,3 +38,5 @@ pub mod Reached
 pub mod OwnPools
 pub mod PoolsApart
 pub mod Trees
+pub mod Cursors
+pub mod CallsKept

@@ -18,7 +18,7 @@ use Rattle.run_model.specs.declared.event.Stepped.TheVariants as stepped
 use Rattle.run_model.specs.declared.event.Cause.TheVariants as cause
 use Rattle.run_model.specs.declared.event.Refusal.TheVariants as refusal
 use Rattle.run_model.specs.declared.fault.FaultKind.TheVariants as fault_kind
-use Rattle.run_model.specs.Examples.{identity, with_main}
+use Rattle.run_model.specs.Examples.{identity, with_main, never_creates}
 use Rattle.run_model.specs.Chains.{Connection}
 use Rattle.run_model.specs.Turns.{Opening, Found, Missing, Failing}
 use Rattle.run_model.specs.Worlds.{World, Told, Answer, Done, Refused, Connected, Step, Output, Opened, Labels, empty_world, happens, tree_of}
@@ -180,6 +180,13 @@ CloseTakesItsPools =
     let after = tree_of (left_by 100 (identity ∷ []) two_serving ((1, event.Close) ∷ [])) in
     ((tree_of two_serving).path 4 ≡ 4 ∷ 2 ∷ 1 ∷ []) × (after.path 2 ≡ []) × (after.path 4 ≡ []) × (after.path 3 ≡ 3 ∷ 1 ∷ []) × (after.path 5 ≡ 5 ∷ 3 ∷ 1 ∷ [])
 
+-- A module alone cleans a brigade that was never created.
+abbrev pub cleans_none : List (ℕ × Event)
+cleans_none = (1, event.Open) ∷ (1, event.Step) ∷ (1, event.Begin) ∷ (1, event.Step) ∷ (1, event.Bring []) ∷ (1, event.Step) ∷ []
+
+abbrev pub NoBrigade : Type 0
+NoBrigade = answers_from 100 (never_creates ∷ []) empty_world cleans_none ≡ Connected 1 ∷ (ended ++ (Done ∷ (ended ++ (Done ∷ Step (stepped.Fault fault_kind.F2 0 2) ∷ []))))
+
 pub record ChainRuns : Type 0 where
   pub two : ChainOfTwo
   pub fault : FaultInSecond
@@ -191,3 +198,4 @@ pub record ChainRuns : Type 0 where
   pub openings : OpeningsAreTold
   pub ends : EndSparesOthersFiles
   pub closes : CloseTakesItsPools
+  pub no_brigade : NoBrigade

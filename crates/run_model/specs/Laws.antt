@@ -1,5 +1,5 @@
 -- The laws of the definitions, as statements.
-use Rattle.std.specs.Prelude.{◌≡◌, ◌≢◌, ℕ, ◌+◌, ◌<◌, ◌≤◌, Bool, true, false, ◌==◌, ◌||◌, if◌then◌else◌, ◌⊎◌, List, [], ◌∷◌, ◌++◌, map, filter, reverse, length, take, drop, replicate, Option, is_some, Some, None, Result, Ok, Err, All}
+use Rattle.std.specs.Prelude.{◌≡◌, ◌≢◌, ℕ, ◌+◌, ◌<◌, ◌≤◌, Bool, true, false, ◌==◌, ◌||◌, if◌then◌else◌, ◌⊎◌, List, [], ◌∷◌, ◌++◌, map, filter, reverse, length, take, drop, replicate, Option, is_some, Some, None, Result, Ok, All}
 use Rattle.module_lang.specs.declared.instr.Instr.{Instr}
 use Rattle.module_lang.specs.declared.instr.Instr.TheVariants as instr
 use Rattle.module_lang.specs.Program.{Program, IsModule, fits}
@@ -10,12 +10,8 @@ use Rattle.run_model.specs.declared.bucket.Content.TheVariants as content
 use Rattle.run_model.specs.declared.bucket.NamedBucket.{NamedBucket}
 use Rattle.run_model.specs.declared.bucket.BrigadeVar.{BrigadeVar}
 use Rattle.run_model.specs.declared.bucket.BrigadeVar.TheVariants as var
-use Rattle.run_model.specs.declared.fault.FaultKind.{FaultKind}
 use Rattle.run_model.specs.declared.event.Piece.{Piece}
-use Rattle.run_model.specs.declared.event.Cause.{Cause}
-use Rattle.run_model.specs.declared.event.Cause.TheVariants as cause
 use Rattle.run_model.specs.declared.event.Refusal.{Refusal}
-use Rattle.run_model.specs.declared.event.Refusal.TheVariants as refusal
 use Rattle.run_model.specs.declared.event.Event.{Event}
 use Rattle.run_model.specs.declared.event.Event.TheVariants as event
 use Rattle.run_model.specs.declared.event.Stepped.{Stepped}
@@ -27,8 +23,8 @@ use Rattle.run_model.specs.State.{Configuration, Out, fresh_call, items_of}
 use Rattle.run_model.specs.Cursors.{Spot, Nowhere, AtLoose, Within, AtEndOf, spot, read_cursor}
 use Rattle.run_model.specs.Faults.{fault, send_fault, or_else}
 use Rattle.run_model.specs.Steps.{Choice, step, step_at_end, aside_named, delivered, lacks_names, names_of, pool_cleared, pool_destroyed}
-use Rattle.run_model.specs.Connection.{Connection, opened, bucket_of, named_from, data_behind_eos, has_range, brings, breaks, steps}
-use Rattle.run_model.specs.Runs.{Answer, Refused, Step, World, Before, There, IfThere, happens, IsDue, step_of, IsRun, GoesOn, EndsRun}
+use Rattle.run_model.specs.Connection.{Connection, opened, bucket_of, named_from, data_behind_eos, has_range, steps}
+use Rattle.run_model.specs.Runs.{Answer, Step, World, Before, There, IfThere, happens, IsDue, step_of, IsRun, GoesOn, EndsRun}
 use Rattle.run_model.specs.Sound.{NamesStep, SoundNames, SoundBuckets, SoundPools, Sound, brigade_pool}
 use Rattle.run_model.specs.declared.bucket.Kind.TheVariants as kind
 use Rattle.run_model.specs.declared.bucket.Home.{Home}
@@ -242,36 +238,6 @@ pub record ChangesOnly (i : Instr) (r new : Configuration) : Type 0 where
 abbrev pub StepChangesOnly : Type 0
 StepChangesOnly = (p : Program) (choice : Choice) (i : Instr) (r : Configuration) → ChangesOnly i r (step p choice i r).state
 
--- A refused event changes nothing, but that a step that is refused while its call runs leaves the connection broken, by
--- the cause that it names.
-abbrev pub RefusedChangesNothing : Type 0
-RefusedChangesNothing = (memory : Bool) (budget : ℕ) (p : Program) (e : Event) (w new : World) (r : Refusal)
-    → e ≢ event.Step → happens memory budget p e w ≡ (Refused r, new) → new ≡ w
-
-abbrev pub RefusedStepBreaks : Type 0
-RefusedStepBreaks = (memory : Bool) (budget : ℕ) (p : Program) (c new : Connection) (r : Refusal)
-    → steps memory budget p c ≡ (Err r, new) → ((r ≡ refusal.Idle) × (new ≡ c)) ⊎ ((k : Cause) × ((r ≡ refusal.Broken k) × (new ≡ breaks k c)))
-
--- A fault breaks the connection and changes nothing else.
-abbrev pub FaultBreaks : Type 0
-FaultBreaks = (memory : Bool) (budget : ℕ) (p : Program) (c new : Connection) (k : FaultKind) (m pc : ℕ)
-    → steps memory budget p c ≡ (Ok (stepped.Fault k m pc), new) → new ≡ breaks cause.Faulted c
-
--- the events that a broken connection does not serve
-abbrev pub is_work : Event → Bool
-is_work event.Begin = true
-is_work (event.OpenFile name) = true
-is_work (event.Bring pieces) = true
-is_work event.Step = true
-is_work event.End = true
-is_work e = false
-
--- A broken connection names its cause from then on and stays as it is; only its output can be taken, its labels told, and
--- it can be closed.
-abbrev pub BrokenStaysBroken : Type 0
-BrokenStaysBroken = (memory : Bool) (budget : ℕ) (p : Program) (e : Event) (c : Connection) (k : Cause)
-    → c.broken ≡ Some k → is_work e ≡ true → happens memory budget p e (There c) ≡ (Refused (refusal.Broken k), There c)
-
 -- A connection is orderly: a call that runs is at an instruction of the module; between calls there is no brought
 -- brigade, no cursor and no loose bucket; no more instructions were executed than the budget gives.
 pub record IsOrderly (budget : ℕ) (p : Program) (c : Connection) : Type 0 where
@@ -292,15 +258,6 @@ RunIsOrderly = (budget : ℕ) (p : Program) (fs : Files) (es : List Event) (answ
 -- The buckets of pieces have data behind an EOS exactly where the pieces do.
 abbrev pub BucketsAsPieces : Type 0
 BucketsAsPieces = (call req n : ℕ) (pieces : List Piece) → data_after_eos (named_from (bucket_of call req) n pieces) ≡ data_behind_eos pieces
-
--- Such pieces are refused, where the connection is not broken, no call runs and a request is open.
-abbrev pub LateDataIsRefused : Type 0
-LateDataIsRefused = (memory : Bool) (p : Program) (pieces : List Piece) (c : Connection) (req : ℕ) → c.broken ≡ None → c.busy ≡ false → c.state.shared.req ≡ Some req → data_behind_eos pieces ≡ true
-    → brings memory p pieces c ≡ (Some refusal.DataAfterEos, c)
-
--- No data stands behind an EOS of a brigade that was brought.
-abbrev pub BroughtEndsOnce : Type 0
-BroughtEndsOnce = (memory : Bool) (p : Program) (pieces : List Piece) (c new : Connection) → brings memory p pieces c ≡ (None, new) → data_after_eos (items_of (new.state.instance.brigades 8)) ≡ false
 
 -- However a body is cut: brigades that are passed one after the other reach the output as they would in one, where no
 -- read failed in the first, and have the fault of data after an EOS where they would have it in one.

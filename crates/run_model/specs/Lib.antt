@@ -21,7 +21,6 @@ pub mod Examples
 pub mod BucketExamples
 pub mod Laws
 pub mod Marks
-pub mod RefusalOrder
 pub mod Ranges
 pub mod RangesEnd
 pub mod AsDeclared
@@ -35,8 +34,12 @@ pub mod Chains
 pub mod Passing
 pub mod Turns
 pub mod Worlds
+pub mod RefusalOrder
+pub mod Bringing
 pub mod ChainSound
 pub mod ChainLaws
+pub mod ChainCursors
+pub mod CallLaws
 pub mod ChainExamples
 pub mod ChainFiles
 pub mod ChainPaths

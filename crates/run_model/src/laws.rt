@@ -3,14 +3,17 @@
 ghost use Rattle.run_model.specs.Examples.{PassRuns, PoolRuns, PoolEnds, KindRuns, FaultRuns, BreakRuns, RefusedRuns, NameRuns, HeldFaults, HeldChanges};
 ghost use Rattle.run_model.specs.ChainExamples.{ChainRuns};
 ghost use Rattle.run_model.specs.Laws.{CreatesKeepOthers, KillsTheNewest, KillsOneLabel, EachStandsOnce, DepthDoesNotMatter};
-ghost use Rattle.run_model.specs.Laws.{StepGivesNames, NamesStaySingle, StepKeepsNames, StepKeepsBuckets, StepKeepsPools, StepAtEndKeeps, OpenedIsSound, EventKeepsSound, RunIsSound, RunGoesOn, StepsGoOn, StepsAreARun, EndedStepsAreARun, StepChangesOnly, RefusedChangesNothing, RefusedStepBreaks, FaultBreaks, BrokenStaysBroken, EventKeepsOrder, RunIsOrderly, BucketsAsPieces, LateDataIsRefused, BroughtEndsOnce, OutputOfCuts, FaultOfCuts, ClearsKeepOthers, ClearsTakeAlong};
+ghost use Rattle.run_model.specs.Laws.{StepGivesNames, NamesStaySingle, StepKeepsNames, StepKeepsBuckets, StepKeepsPools, StepAtEndKeeps, OpenedIsSound, EventKeepsSound, RunIsSound, RunGoesOn, StepsGoOn, StepsAreARun, EndedStepsAreARun, StepChangesOnly, EventKeepsOrder, RunIsOrderly, BucketsAsPieces, OutputOfCuts, FaultOfCuts, ClearsKeepOthers, ClearsTakeAlong};
 ghost use Rattle.run_model.specs.Laws.{AsideLasts, ReadsGiveTheFile, ReadsDropNothing, FilesCloseLast, StepKeepsFiles, EventKeepsFiles, RunKeepsFiles};
 ghost use Rattle.run_model.specs.AsDeclared.{OpenedAsDeclared, StepKeepsDeclared, StepAtEndKeepsDeclared, EventKeepsDeclared, RunIsDeclared};
 ghost use Rattle.run_model.specs.Registered.{OpenedRegistered, StepKeepsRegistered, StepAtEndKeepsRegistered, EventKeepsRegistered, RunKeepsRegistered};
 ghost use Rattle.run_model.specs.HomesAlive.{OpenedHomesAlive, StepKeepsHomes, StepAtEndKeepsHomes, EventKeepsHomes, RunKeepsHomes};
 ghost use Rattle.run_model.specs.BucketReads.{ReadKeepsBytes, ReadAtEndGivesTheFile};
 ghost use Rattle.run_model.specs.Handlers.{CallsBegin, StepStaysInHandler, OpenedRunsHandler, EventKeepsHandler, RunKeepsHandler};
-ghost use Rattle.run_model.specs.RefusalOrder.{FirstIsTold, NoConnectionIsTold, StepsTell, BusyDoesNotEnd, OnlyMemoryRefusesClose};
+ghost use Rattle.run_model.specs.Bringing.{LateDataIsRefused, BroughtEndsOnce};
+ghost use Rattle.run_model.specs.CallLaws.{EventKeepsCalls, RunKeepsCalls};
+ghost use Rattle.run_model.specs.ChainCursors.{SoundWorldStandsOnce, WorldRunStandsOnce};
+ghost use Rattle.run_model.specs.RefusalOrder.{RefusedChangesNothing, RefusedStepBreaks, FaultBreaks, BrokenStaysBroken, FirstIsTold, NoConnectionIsTold, StepsTell, BusyDoesNotEnd, OnlyMemoryRefusesClose};
 ghost use Rattle.run_model.specs.Marks.{PassesMark, PassedIsNotUsed, UseAfterPassFaults, StepKeepsPassed, ReturnEndsIn, EventKeepsPassed, CleanedIsUsable};
 ghost use Rattle.run_model.specs.BucketExamples.{CursorRows, MovingRows, MakerRows, CutRows, BrigadeCutRows, CursorFaults, FirstFaults, CursorRuns};
 ghost use Rattle.run_model.specs.Ranges.{OpenedInRange, StepKeepsInRange, EventKeepsInRange, RunIsInRange, StepKeepsBuffer, EventKeepsBuffer, RunKeepsBuffer, StepKeepsRanges, EventKeepsRanges, RunKeepsRanges};
@@ -362,6 +365,21 @@ pub fn pools_of_chains_stay_in_their_connection()
 pub fn homes_of_chains_are_alive_or_ended()
     ensures event { EventKeepsWorldHomes }
     ensures run { RunKeepsWorldHomes }
+{}
+
+/// In each world that is sound, and so in each run of a chain, what a cursor of a call names is in one place of what that call sees,
+/// whether it runs or waits: a bucket is in exactly one list, once, in one brigade or loose, and nowhere only where no list has it; so
+/// is the brigade at whose end a cursor is.
+pub fn cursors_of_chains_stand_once()
+    ensures sound { SoundWorldStandsOnce }
+    ensures run { WorldRunStandsOnce }
+{}
+
+/// In each run of a chain the buffer of each call, whether it runs or waits, holds at most 8000 bytes, each of them at most 255, and its
+/// cursors hold names that were given out, whatever is brought and read. Each event keeps it.
+pub fn calls_of_chains_stay_sound()
+    ensures event { EventKeepsCalls }
+    ensures run { RunKeepsCalls }
 {}
 
 /// An event of one connection leaves every other exactly as it was; an opening leaves all, but that of the number which it gives out.

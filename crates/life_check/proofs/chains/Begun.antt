@@ -18,7 +18,7 @@ use Rattle.life_check.specs.Certificates.{Certificate}
 use Rattle.life_check.specs.ChainMeaning.{Lives, Runs, is_on}
 use Rattle.life_check.specs.Meaning.{Covers, Between, FitsBrigade, FitsCursor, Fits}
 use Rattle.life_check.specs.Soundness.{FitsSome}
-use Rattle.life_check.proofs.Events.{calm_fits}
+use Rattle.life_check.proofs.Starting.{calm_fits}
 use Rattle.life_check.proofs.Pools.{brigade_more}
 use Rattle.life_check.proofs.Standards.{unset_differ, covers_begun}
 use Rattle.life_check.proofs.Standing.{upd_both}

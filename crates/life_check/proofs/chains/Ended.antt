@@ -13,14 +13,13 @@ use Rattle.run_model.specs.Passing.{handler_at}
 use Rattle.life_state.specs.Rules.{at_open, at_return}
 use Rattle.life_state.specs.States.{Unset, State}
 use Rattle.life_state.proofs.Tests.{split3}
-use Rattle.life_check.specs.Certificates.{Certificate}
+use Rattle.life_check.specs.Certificates.{Certificate, AllBounded}
 use Rattle.life_check.specs.ChainMeaning.{Lives, Runs, AllWait, between, before, RestsIn, resting_frame, is_on, ChainStands}
 use Rattle.life_check.specs.ChainTheorem.{AllTyped}
 use Rattle.life_check.specs.Meaning.{Covers}
 use Rattle.life_check.specs.Soundness.{FitsSome, Ready}
-use Rattle.life_check.specs.Theorem.{AllBounded}
 use Rattle.life_check.specs.Typed.{IsTyped, flows, is_below, left_by, fits_between, fits_lines}
-use Rattle.life_check.proofs.Events.{between_unset}
+use Rattle.life_check.proofs.Starting.{between_unset}
 use Rattle.life_check.proofs.Orders.{greater_fits}
 use Rattle.life_check.proofs.Standards.{fits_flow}
 use Rattle.life_check.proofs.chains.Begun.{runs_of, handler_begins, off_parts, off_from}

@@ -2,7 +2,7 @@
 use Rattle.std.proofs.Common.{◌≡◌, ℕ, ◌<◌, cond, List, [], length, Option, Some, None, refl, sym, subst}
 use Rattle.module_lang.specs.Program.{Program, IsModule}
 use Rattle.run_model.specs.AsDeclared.{AsDeclared}
-use Rattle.run_model.specs.Connection.{request_ended}
+use Rattle.life_check.specs.Soundness.{request_ended}
 use Rattle.run_model.specs.Pools.{is_in}
 use Rattle.run_model.specs.Clearing.{run_down}
 use Rattle.run_model.specs.Sound.{Sound}

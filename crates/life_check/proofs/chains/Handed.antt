@@ -25,14 +25,13 @@ use Rattle.life_state.specs.declared.parts.Contents.TheVariants.{NoLateData}
 use Rattle.life_state.specs.Rules.{edges, need, after_pass, at_main}
 use Rattle.life_state.specs.States.{only_call, holds, State}
 use Rattle.life_state.proofs.Tests.{split2, split3}
-use Rattle.life_check.specs.Certificates.{Certificate}
+use Rattle.life_check.specs.Certificates.{Certificate, AllBounded, IsBoundedSome}
 use Rattle.life_check.specs.ChainMeaning.{Lives, Runs, Waits, AllWait, StackStands, between, before, known_of, RestsIn, is_on, ChainStands}
 use Rattle.life_check.specs.ChainTheorem.{AllTyped}
 use Rattle.life_check.specs.Meaning.{Covers, NoneLives, FitsBrigade, Fits}
 use Rattle.life_check.specs.Soundness.{FitsSome, Ready}
-use Rattle.life_check.specs.Theorem.{AllBounded, IsBoundedSome}
 use Rattle.life_check.specs.Typed.{IsTyped, flows, fits_between, fits_lines, leads_on, main_from}
-use Rattle.life_check.proofs.Events.{between_unset}
+use Rattle.life_check.proofs.Starting.{between_unset}
 use Rattle.life_check.proofs.Orders.{greater_fits}
 use Rattle.life_check.proofs.Passes.{law_pass}
 use Rattle.life_check.proofs.Standards.{fits_flow}

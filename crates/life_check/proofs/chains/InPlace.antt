@@ -26,7 +26,7 @@ use Rattle.life_check.specs.Meaning.{CoversPool, ByConnection, ByMember, ByDead,
 use Rattle.life_check.specs.Soundness.{FitsSome, Lands, Ready}
 use Rattle.life_check.specs.Typed.{flows}
 use Rattle.life_check.proofs.Instructions.{step_lands}
-use Rattle.life_check.proofs.Landing.{IsOnward, goes_onward}
+use Rattle.life_check.proofs.Onward.{IsOnward, goes_onward}
 use Rattle.life_check.proofs.Orders.{greater_fits}
 use Rattle.life_check.proofs.Pools.{brigade_more, fits_beside}
 use Rattle.life_check.proofs.Standards.{fits_flow, aside_from, fits_aside}

@@ -1,7 +1,8 @@
 -- A chain of typed modules never faults.
-use Rattle.std.proofs.Common.{ℕ, List}
-use Rattle.module_lang.specs.Program.{Program}
-use Rattle.run_model.specs.Chains.{Frame, Connection, Common}
+use Rattle.std.proofs.Common.{ℕ, zero, suc, List, [], ◌∷◌, arith}
+use Rattle.std.proofs.lemmas.List.Elements.{All-nil, All-cons}
+use Rattle.module_lang.specs.Program.{Program, IsModule}
+use Rattle.run_model.specs.Chains.{Frame, Connection, Common, module_at}
 use Rattle.run_model.specs.Passing.{Reads}
 use Rattle.run_model.specs.ChainSound.{ChainSound}
 use Rattle.run_model.specs.ChainLaws.{IsChain, MayProceed, after_top}
@@ -11,9 +12,10 @@ use Rattle.run_model.proofs.chains.TopCalls.{top_keeps_calls}
 use Rattle.run_model.proofs.chains.TopNames.{top_keeps_names}
 use Rattle.run_model.proofs.chains.TopPools.{top_keeps_pools}
 use Rattle.run_model.proofs.chains.WorldKept.{empty_sound, event_keeps_world}
-use Rattle.life_check.specs.Certificates.{Certificate}
+use Rattle.life_check.specs.Certificates.{Certificate, AllBounded}
 use Rattle.life_check.specs.Accepted.{IsCheckedChain}
 use Rattle.life_check.specs.ChainTheorem.{AllTyped, ChainNeverFaults, TypedChainNeverFaults}
+use Rattle.life_check.specs.Typed.{IsTyped}
 use Rattle.life_check.proofs.chains.Ends.{over_stands}
 use Rattle.life_check.proofs.chains.Events.{EventsLand}
 use Rattle.life_check.proofs.chains.Starts.{opened_stands, begun_stands, brought_stands}
@@ -52,3 +54,15 @@ typed_chain_never_faults chain certs proper typed =
 
 pub checked_never_faults : (chain : List Program) → IsCheckedChain chain → ChainNeverFaults chain
 checked_never_faults chain h = typed_chain_never_faults chain h.certs h.chained h.typed
+
+-- one module alone
+pub alone : (p : Program) → IsModule p → IsChain (p ∷ [])
+alone p proper = record { modules = All-cons IsModule p [] proper (All-nil IsModule); some = omega arith }
+
+alone_typed : (p : Program) (m : Certificate) → AllBounded m → IsTyped p m → AllTyped (p ∷ []) (λ k. m)
+unfolding module_at
+alone_typed p m bounded typed zero lt = (bounded, typed)
+alone_typed p m bounded typed (suc k) lt = absurd (omega arith)
+
+pub typed_alone_never_faults : (p : Program) (m : Certificate) → IsModule p → AllBounded m → IsTyped p m → ChainNeverFaults (p ∷ [])
+typed_alone_never_faults p m proper bounded typed = typed_chain_never_faults (p ∷ []) (λ k. m) (alone p proper) (alone_typed p m bounded typed)

@@ -18,11 +18,10 @@ use Rattle.run_model.specs.Passing.{given_back}
 use Rattle.run_model.proofs.Updates.{upd_at, upd_off}
 use Rattle.life_state.specs.Rules.{at_return}
 use Rattle.life_state.specs.States.{State}
-use Rattle.life_check.specs.Certificates.{Certificate}
+use Rattle.life_check.specs.Certificates.{Certificate, AllBounded}
 use Rattle.life_check.specs.ChainMeaning.{IsCallIn, Lives, FitsFrame, Runs, Waits, AllWait, resting_frame, is_on, ChainStands}
 use Rattle.life_check.specs.Meaning.{Covers, Fits}
 use Rattle.life_check.specs.Soundness.{Ready}
-use Rattle.life_check.specs.Theorem.{AllBounded}
 use Rattle.life_check.specs.Typed.{flows, is_below, left_by}
 use Rattle.life_check.proofs.Orders.{greater_fits}
 use Rattle.life_check.proofs.Standards.{fits_flow}

@@ -15,13 +15,12 @@ use Rattle.run_model.specs.Chains.{Frame, Connection, Common, Linked, module_at,
 use Rattle.run_model.specs.ChainSound.{ChainSound, IsPlaced, IsRising}
 use Rattle.life_state.specs.Rules.{at_return}
 use Rattle.life_state.specs.States.{State}
-use Rattle.life_check.specs.Certificates.{Certificate}
+use Rattle.life_check.specs.Certificates.{Certificate, AllBounded, IsBoundedSome}
 use Rattle.life_check.specs.ChainMeaning.{between, before, known_of, RestsIn, resting_frame, is_on, ChainStands}
 use Rattle.life_check.specs.Meaning.{Between, NoneLives, Fits}
 use Rattle.life_check.specs.Soundness.{FitsSome, Ready}
-use Rattle.life_check.specs.Theorem.{AllBounded, IsBoundedSome}
 use Rattle.life_check.specs.Typed.{is_below, left_by}
-use Rattle.life_check.proofs.Landing.{left_rests}
+use Rattle.life_check.proofs.Onward.{left_rests}
 use Rattle.life_check.proofs.Orders.{greater_fits}
 use Rattle.life_check.proofs.Passes.{law_ret}
 use Rattle.life_check.proofs.Standards.{resting, fits_under}

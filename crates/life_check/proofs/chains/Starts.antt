@@ -28,14 +28,13 @@ use Rattle.life_state.specs.declared.parts.Contents.TheVariants.{NoLateData}
 use Rattle.life_state.specs.Rules.{at_open}
 use Rattle.life_state.specs.States.{Homes, only_call, holds, State}
 use Rattle.life_state.proofs.Tests.{split3}
-use Rattle.life_check.specs.Certificates.{Certificate}
+use Rattle.life_check.specs.Certificates.{Certificate, IsBoundedSome}
 use Rattle.life_check.specs.ChainMeaning.{IsNamedIn, IsCallIn, Lives, AllWait, between, before, known_of, resting_frame, RestsIn, is_on, ChainStands}
 use Rattle.life_check.specs.ChainTheorem.{AllTyped}
 use Rattle.life_check.specs.Meaning.{Covers, LivesIn, NoneLives, FitsBrigade, Differ, Fits, InCall, Between}
 use Rattle.life_check.specs.Soundness.{FitsSome}
-use Rattle.life_check.specs.Theorem.{IsBoundedSome}
 use Rattle.life_check.specs.Typed.{fits_between, fits_lines, main_from}
-use Rattle.life_check.proofs.Events.{calm_fits, between_unset, pieces_covered}
+use Rattle.life_check.proofs.Starting.{calm_fits, between_unset, pieces_covered}
 use Rattle.life_check.proofs.Orders.{greater_fits}
 use Rattle.life_check.proofs.Pools.{brigade_more}
 use Rattle.life_check.proofs.Standards.{fits_under, fits_flow, unset_differ, covers_begun}

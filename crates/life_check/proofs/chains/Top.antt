@@ -20,7 +20,7 @@ use Rattle.life_check.specs.ChainTheorem.{AllTyped}
 use Rattle.life_check.specs.Meaning.{Covers}
 use Rattle.life_check.specs.Soundness.{Outside, Ready, wants_request}
 use Rattle.life_check.specs.Typed.{IsLed, exits, leads_on}
-use Rattle.life_check.proofs.Landing.{no_request, met_of}
+use Rattle.life_check.proofs.Onward.{no_request, met_of}
 use Rattle.life_check.proofs.Standards.{covered_own}
 use Rattle.life_check.proofs.Wants.{met_is_faultless}
 use Rattle.life_check.proofs.chains.Outside.{outside}

@@ -18,7 +18,7 @@ use Rattle.run_model.specs.ChainSound.{ChainSound}
 use Rattle.run_model.specs.ChainLaws.{IsChain, MayProceed, after_top}
 use Rattle.life_check.specs.Certificates.{Certificate}
 use Rattle.life_check.specs.ChainMeaning.{ChainStands}
-use Rattle.life_check.proofs.Landing.{NoFaultIn}
+use Rattle.life_check.proofs.Onward.{NoFaultIn}
 use Rattle.life_check.proofs.chains.Beside.{stands_beside}
 
 -- what is asked of the instruction of the call on top: it has no fault, and keeps what is sound and what stands

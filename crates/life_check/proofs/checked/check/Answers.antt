@@ -1,8 +1,7 @@
 -- No refusal is no rule that refuses, and then no run answers a fault.
 use Rattle.life_check.specs.Seen.{seen_cert}
-use Rattle.life_check.proofs.Instructions.{laws_hold}
-use Rattle.life_check.proofs.Theorem.{never_faults, never_faults_on_any_files}
 use Rattle.life_check.proofs.TypedLaws.{accepted}
+use Rattle.life_check.proofs.chains.Never.{typed_alone_never_faults}
 use Rattle.life_check.proofs.checked.check.Goals as goal
 
 pub returns-clause-accepts : goal.returns-clause-accepts
@@ -10,8 +9,4 @@ returns-clause-accepts c = accepted c.args.code.now (seen_cert c.args.cert.now) 
 
 pub returns-clause-safe : goal.returns-clause-safe
 returns-clause-safe c = λ ok.
-    never_faults c.args.code.now (seen_cert c.args.cert.now) (c.check_all.ensures.proper ok) (c.check_all.ensures.bounded ok) ((accepted c.args.code.now (seen_cert c.args.cert.now) c.check_all.result c.check_all.ensures.first).0 ok) laws_hold
-
-pub returns-clause-whatever_is_read : goal.returns-clause-whatever_is_read
-returns-clause-whatever_is_read c = λ ok.
-    never_faults_on_any_files c.args.code.now (seen_cert c.args.cert.now) (c.check_all.ensures.proper ok) (c.check_all.ensures.bounded ok) ((accepted c.args.code.now (seen_cert c.args.cert.now) c.check_all.result c.check_all.ensures.first).0 ok) laws_hold
+    typed_alone_never_faults c.args.code.now (seen_cert c.args.cert.now) (c.check_all.ensures.proper ok) (c.check_all.ensures.bounded ok) ((accepted c.args.code.now (seen_cert c.args.cert.now) c.check_all.result c.check_all.ensures.first).0 ok)

@@ -5,7 +5,7 @@ use Rattle.std.proofs.lemmas.Option.{slice_get_past}
 use Rattle.life_state.specs.States.{State}
 use Rattle.life_check.specs.declared.cert.Cert.{Cert}
 use Rattle.life_check.specs.Seen.{seen_line, seen_cert}
-use Rattle.life_check.specs.Theorem.{IsBoundedSome}
+use Rattle.life_check.specs.Certificates.{IsBoundedSome}
 use Rattle.life_check.specs.Typed.{fits_line}
 use Rattle.life_state.proofs.Below.{all_below_holds, all_below_fails}
 use Rattle.life_check.proofs.shape.fits_lines.Goals as goal

@@ -1,7 +1,7 @@
 -- Each line so far fits, and is bounded.
 use Rattle.std.proofs.Common.{◌≡◌, ℕ, ◌<◌, true}
 use Rattle.life_check.specs.Seen.{seen_cert}
-use Rattle.life_check.specs.Theorem.{IsBoundedSome}
+use Rattle.life_check.specs.Certificates.{IsBoundedSome}
 use Rattle.life_check.specs.Typed.{fits_line}
 use Rattle.life_check.proofs.shape.fits_lines.Given as goal
 

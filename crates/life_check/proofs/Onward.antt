@@ -1,0 +1,126 @@
+-- Where an instruction leads, and what it may want.
+use Rattle.std.proofs.Common.{◌≡◌, ℕ, suc, ◌<◌, ◌≤◌, Bool, true, false, ◌&&◌, ◌||◌, not, nat_lt, ◌==◌, cond, List, [], ◌∷◌, Option, Some, None, is_some, is_none, Result, Ok, refl, sym, ap, arith}
+use Rattle.std.proofs.lemmas.Bool.Decides.{nat_tests}
+use Rattle.module_lang.specs.Args.{op_of}
+use Rattle.module_lang.specs.Tables.{misplaced, touches_req, any_touches_req, has_main_only, is_main, under_req}
+use Rattle.module_lang.specs.Spelling.{operands_of}
+use Rattle.module_lang.specs.declared.draft.Part.TheVariants as part
+use Rattle.module_lang.specs.declared.instr.Instr.{Instr}
+use Rattle.module_lang.specs.declared.instr.Instr.TheVariants as instr
+use Rattle.module_lang.specs.declared.instr.PoolRef.{PoolRef}
+use Rattle.module_lang.specs.declared.instr.PoolRef.TheVariants as pool
+use Rattle.module_lang.specs.Program.{Program, pool_of_pool, pool_of_brigade}
+use Rattle.run_model.specs.declared.event.Exit.{Exit}
+use Rattle.run_model.specs.declared.event.Exit.TheVariants.{GoOn, Jump, Return}
+use Rattle.run_model.specs.declared.event.Refusal.{Refusal}
+use Rattle.run_model.specs.declared.event.Stepped.{Stepped}
+use Rattle.run_model.specs.declared.event.Stepped.TheVariants as stepped
+use Rattle.run_model.specs.declared.fault.FaultKind.{FaultKind}
+use Rattle.run_model.specs.BrigadeLists.{partition_answer}
+use Rattle.run_model.specs.BucketSteps.{byte_of, content_at, is_incomplete, is_unread, is_unsplit, items_at, kind_is}
+use Rattle.run_model.specs.Cursors.{spot, bucket_at, is_end, read_cursor}
+use Rattle.run_model.specs.Faults.{Want, WPool, wants}
+use Rattle.run_model.specs.Laws.{is_return}
+use Rattle.run_model.specs.Pools.{is_empty}
+use Rattle.run_model.specs.State.{Configuration, items_of}
+use Rattle.run_model.specs.Steps.{Choice, step, jumps_if, is_null, is_fail, is_full, value_of}
+use Rattle.life_state.specs.Rules.{Edges, need_or}
+use Rattle.life_check.specs.Certificates.{Certificate}
+use Rattle.life_check.specs.Soundness.{wants_request}
+use Rattle.life_check.specs.Typed.{left_by}
+use Rattle.life_check.proofs.Standards.{resting}
+
+-- In `open` no instruction wants the request's pool.
+
+first_false : (a b : Bool) → (a || b) ≡ false → a ≡ false
+first_false true b h = cc
+first_false false b h = refl
+
+second_false : (a b : Bool) → (a || b) ≡ false → b ≡ false
+second_false true b h = cc
+second_false false b h = h
+
+one_pool : (n : ℕ) (pools : List PoolRef) (d : PoolRef) (rest : List Want) → under_req (suc n) pools d ≡ false → wants_request rest ≡ false → wants_request (WPool d ∷ rest) ≡ true → ⊥
+one_pool n pools pool.Conn rest apart none h = cc
+one_pool n pools pool.Req rest apart none h = cc
+one_pool n pools (pool.Own i) rest apart none h = cc
+
+-- the places of the first two operands do not lie under it
+apart_from_req : (p : Program) (i : Instr) → misplaced part.Open p.pools p.brigades (op_of i) (operands_of i [] 0) ≡ false
+    → (touches_req p.pools p.brigades (operands_of i [] 0).first ≡ false) × (touches_req p.pools p.brigades (operands_of i [] 0).second ≡ false)
+apart_from_req p i h =
+    let o = operands_of i [] 0 in
+    let t = touches_req p.pools p.brigades in
+    let all = second_false (not (is_main part.Open) && has_main_only (op_of i) o) (any_touches_req p.pools p.brigades o) h in
+    let three = first_false (t o.first || t o.second || t o.third) (t o.fourth) all in
+    let two = first_false (t o.first || t o.second) (t o.third) three in
+    (first_false (t o.first) (t o.second) two, second_false (t o.first) (t o.second) two)
+
+pub no_request : (p : Program) (i : Instr) → misplaced part.Open p.pools p.brigades (op_of i) (operands_of i [] 0) ≡ false → wants_request (wants p i) ≡ true → ⊥
+unfolding pool_of_pool pool_of_brigade
+no_request p (instr.PCreate q) apart h = one_pool 7 p.pools (pool_of_pool p q) _ (apart_from_req p (instr.PCreate q) apart).0 refl h
+no_request p (instr.Label q t) apart h = one_pool 8 p.pools q [] (apart_from_req p (instr.Label q t) apart).0 refl h
+no_request p (instr.Unlabel q t) apart h = one_pool 8 p.pools q [] (apart_from_req p (instr.Unlabel q t) apart).0 refl h
+no_request p (instr.BCreate o) apart h = one_pool 8 p.pools (pool_of_brigade p o) _ (apart_from_req p (instr.BCreate o) apart).0 refl h
+no_request p (instr.PoolB c q) apart h = one_pool 8 p.pools q [] (apart_from_req p (instr.PoolB c q) apart).1 refl h
+no_request p (instr.Aside c q) apart h = one_pool 8 p.pools q _ (apart_from_req p (instr.Aside c q) apart).1 refl h
+no_request p i apart h = cc
+
+-- Exits.
+
+abbrev pub IsOnward : Exit → Type 0
+IsOnward GoOn = Unit {0}
+IsOnward Jump = Unit {0}
+IsOnward Return = ⊥
+
+jumps_on : (b : Bool) → IsOnward (jumps_if b)
+jumps_on true = tt
+jumps_on false = tt
+
+-- only a return returns
+pub goes_onward : (p : Program) (choice : Choice) (i : Instr) (r : Configuration) → is_return i ≡ false → IsOnward (step p choice i r).exit
+goes_onward p choice (instr.BPart b x c l) r on = jumps_on (is_incomplete (partition_answer r.shared.next (value_of r x) (items_at r b)))
+goes_onward p choice (instr.JEmpty b l) r on = jumps_on (is_empty (items_of (r.instance.brigades b)))
+goes_onward p choice (instr.Pass b l) r on = jumps_on (is_fail choice.answer)
+goes_onward p choice (instr.JEnd c l) r on = jumps_on (is_end (spot r c))
+goes_onward p choice (instr.JKind c k l) r on = jumps_on (kind_is k (bucket_at (spot r c)))
+goes_onward p choice (instr.Split c x l) r on = jumps_on (is_unsplit (value_of r x) (spot r c))
+goes_onward p choice (instr.Read c l) r on = jumps_on (is_unread choice.given (spot r c))
+goes_onward p choice (instr.Get n x l) r on = jumps_on (is_none (byte_of (value_of r x) (content_at (spot r read_cursor))))
+goes_onward p choice (instr.Put x l) r on = jumps_on (is_full r x)
+goes_onward p choice (instr.JLt n x l) r on = jumps_on (nat_lt (r.instance.numbers n) (value_of r x))
+goes_onward p choice (instr.JEq n x l) r on = jumps_on (r.instance.numbers n == value_of r x)
+goes_onward p choice (instr.JNull v l) r on = jumps_on (is_null r v)
+goes_onward p choice (instr.JSent l) r on = jumps_on r.instance.sent
+goes_onward p choice (instr.Ret s) r on = cc
+goes_onward p choice i r on = tt
+
+-- What is met, and where it leads.
+
+same_edges : (e x : Edges) → need_or None e ≡ Ok x → e ≡ x
+same_edges e x h = cc
+
+pub met_of : (f : Option FaultKind) (e x : Edges) → need_or f e ≡ Ok x → (f ≡ None) × (e ≡ x)
+met_of None e x h = (refl, same_edges e x h)
+met_of (Some k) e x h = cc
+
+abbrev pub NoFaultIn : Result Stepped Refusal → Type 0
+NoFaultIn (Ok (stepped.Fault k m pc)) = ⊥
+NoFaultIn a = Unit {0}
+
+-- what a call leaves is what is known without a request, or in one
+pub left_rests : (p : Program) (m : Certificate) (pc : ℕ) (req : Option ℕ) → (pc < p.init → req ≡ None) → (p.init ≤ pc → is_some req ≡ true) → left_by p m pc ≡ resting m req
+left_rests p m pc req opening serving = by_test (nat_lt pc p.init) refl where
+  less : nat_lt pc p.init ≡ true → pc < p.init
+  less h = grind (arith, nat_tests)
+
+  more : nat_lt pc p.init ≡ false → p.init ≤ pc
+  more h = grind (arith, nat_tests)
+
+  open_there : (o : Option ℕ) → is_some o ≡ true → m.ready ≡ resting m o
+  open_there None h = cc
+  open_there (Some n) h = refl
+
+  by_test : (b : Bool) → nat_lt pc p.init ≡ b → cond b m.idle m.ready ≡ resting m req
+  by_test true is = ap (resting m) (sym (opening (less is)))
+  by_test false is = open_there req (serving (more is))

@@ -1,0 +1,8 @@
+use Rattle.run_model.proofs.chains.Cursors.{sound_world_stands_once, run_world_stands_once}
+use Rattle.run_model.proofs.laws.cursors_of_chains_stand_once.Goals as goal
+
+pub returns-clause-sound : goal.returns-clause-sound
+returns-clause-sound c = sound_world_stands_once
+
+pub returns-clause-run : goal.returns-clause-run
+returns-clause-run c = run_world_stands_once
