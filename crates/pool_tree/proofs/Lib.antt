@@ -16,6 +16,5 @@ pub mod Writing
 pub mod Printing
 pub mod PrintedParts
 pub mod Below
-pub mod Holding
 pub mod Hashing
 pub mod Renamed

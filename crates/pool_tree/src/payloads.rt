@@ -53,13 +53,6 @@ fn newest_equal<T: PartialEq>(items: &[T], item: &T) -> Option<usize>
     None
 }
 
-/// Whether an item equals this one.
-pub(crate) fn is_among<T: PartialEq>(items: &[T], item: &T) -> bool
-    ensures { result ≡ list_any (λ other. T.eq other item.now) items.now }
-{
-    items.iter().any(|other| *other == *item)
-}
-
 /// Takes out the last item that equals this one.
 fn take_last_equal<T: PartialEq>(items: &mut Vec<T>, item: &T) -> Option<T>
     ensures taken { result ≡ last_that (λ other. T.eq other item.now) items.old.items }

@@ -1,13 +1,10 @@
 //! The linked records of the pools, by name.
 
 ghost use Rattle.std.specs.Prelude.{◌≡◌, ℕ, None, Some, length, nat_eq, OnOk, OnErr};
-ghost use Rattle.std.specs.HashMap.{values, IsUnique};
-ghost use Rattle.std.specs.List.{list_any};
 ghost use Rattle.std.specs.Option.{option_copied};
 ghost use Rattle.run_model.specs.Indexed.{upd};
 
 use crate::names::NameHasher;
-use crate::payloads::is_among;
 use std::alloc::{AllocError, Global};
 use std::collections::HashMap;
 use std::hash::BuildHasherDefault;
@@ -118,18 +115,6 @@ impl<T: Drop> Records<T> {
             Some(pool) => pool.payloads.as_slice(),
             None => &[],
         }
-    }
-
-    /// Whether a payload of some pool equals this one.
-    pub(crate) fn hold(&self, payload: &T) -> bool
-    where
-        T: PartialEq,
-        ensures value { result ≡ list_any (λ pool. list_any (λ other. T.eq other payload.now) pool.payloads.items) (values self.now.by_name) }
-        ensures unique { IsUnique nat_eq self.now.by_name }
-    {
-        self.by_name
-            .values()
-            .any(|pool| is_among(pool.payloads.as_slice(), payload))
     }
 
     /// How many payloads a pool has.

@@ -1,8 +1,6 @@
 //! The tree of pools.
 
 ghost use Rattle.std.specs.Prelude.{◌≡◌, ℕ, ◌<◌, length, slice_index_or, remove, is_some, IsTrue, ◌↔◌, [], ◌∷◌, IfOk, OnOk, OnErr, IfErr, IsErrOf};
-ghost use Rattle.std.specs.List.{list_any};
-ghost use Rattle.run_model.specs.Indexed.{any_below};
 ghost use Rattle.pool_tree.specs.Links.{IsLinked};
 ghost use Rattle.pool_tree.specs.Records.{record_of};
 
@@ -131,15 +129,6 @@ impl<T: Drop> PoolTree<T> {
         ensures formed { IsPoolMap (map_of self.new) }
     {
         take_newest_equal(&mut self.records, pool, payload)
-    }
-
-    /// Whether a payload of some pool equals this one. It takes no memory.
-    pub fn is_held(&self, payload: &T) -> bool
-    where
-        T: PartialEq,
-        ensures { let ps = map_of self.now in result ≡ any_below ps.next (λ pool. list_any (λ other. T.eq other payload.now) (ps.payloads pool)) }
-    {
-        self.records.hold(payload)
     }
 
     /// The payloads of a pool, the oldest first.
