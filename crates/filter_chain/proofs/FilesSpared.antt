@@ -22,9 +22,9 @@ use Rattle.run_model.specs.Steps.{current}
 use Rattle.bucket_kinds.specs.Device.{Device, failed}
 use Rattle.ring_run.specs.Delivery.{Unless, PartGiven, PartsGiven, ContentGiven, ReadsGiven}
 use Rattle.ring_run.specs.Given.{MayGive}
-use Rattle.ring_run.specs.Proceeding.{TellsReads}
+use Rattle.module_run.specs.Proceeding.{TellsReads}
 use Rattle.filter_chain.specs.Spared.{Spares}
-use Rattle.ring_run.specs.Stepping.{TellsAtTop, TellsStep}
+use Rattle.module_run.specs.Stepping.{TellsAtTop, TellsStep}
 
 module _ (d e : Device) where
   -- by reads alone, no name and no number changes

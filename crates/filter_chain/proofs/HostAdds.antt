@@ -15,7 +15,7 @@ use Rattle.bucket_kinds.specs.declared.refusal.AddRefusal.TheVariants as added
 use Rattle.bucket_kinds.specs.Device.{Device, Held, Holds, is_there}
 use Rattle.bucket_kinds.specs.MemAnswers.{IsAdding}
 use Rattle.bucket_kinds.specs.MemDevice.{held_of, device_of}
-use Rattle.ring_run.specs.Proceeding.{MayHold}
+use Rattle.module_run.specs.Proceeding.{MayHold}
 use Rattle.filter_chain.specs.declared.next.Next.{Next}
 use Rattle.filter_chain.specs.declared.seat.Seat.{Seat}
 use Rattle.filter_chain.specs.declared.host.Host.{Host}

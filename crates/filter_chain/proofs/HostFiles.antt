@@ -11,8 +11,8 @@ use Rattle.run_model.specs.Turns as turns
 use Rattle.run_model.specs.Worlds.{World, Refused, put_conn, happens_on, file_answered}
 use Rattle.run_model.proofs.chains.EventTurns.{OpensAs, opens_file_turn}
 use Rattle.bucket_kinds.specs.Device.{Device}
-use Rattle.ring_run.specs.Happened.{lasted}
-use Rattle.ring_run.specs.OpenedFile.{TellsShort}
+use Rattle.module_run.specs.Happened.{lasted}
+use Rattle.module_run.specs.OpenedFile.{TellsShort}
 use Rattle.filter_chain.specs.declared.next.Next.{Next}
 use Rattle.filter_chain.specs.declared.seat.Seat.{Seat}
 use Rattle.filter_chain.specs.Hosting.{file_answer}

@@ -17,7 +17,7 @@ use Rattle.run_model.proofs.chains.EventTurns.{both_off}
 use Rattle.bucket_kinds.specs.Device.{Device}
 use Rattle.pool_tree.specs.Tree.{map_of}
 use Rattle.brigade_ops.specs.Store.{next_name}
-use Rattle.ring_run.specs.Proceeding.{LeftAs}
+use Rattle.module_run.specs.Proceeding.{LeftAs}
 use Rattle.filter_chain.specs.declared.next.Next.{Next}
 use Rattle.filter_chain.specs.declared.seat.Seat.{Seat}
 use Rattle.filter_chain.specs.declared.host.Host.{Host}

@@ -17,7 +17,7 @@ use Rattle.run_model.specs.Worlds.{World, Told, Answer, put_conn, happens, step_
 use Rattle.run_model.proofs.Updates.{upd_either}
 use Rattle.run_model.proofs.chains.Reached.{event_reaches, reached_holds}
 use Rattle.bucket_kinds.specs.Device.{Held, Device}
-use Rattle.ring_run.specs.Proceeding.{MayHold, HasOpen, IsLawful}
+use Rattle.module_run.specs.Proceeding.{MayHold, HasOpen, IsLawful}
 use Rattle.filter_chain.specs.Spared.{Spares}
 use Rattle.filter_chain.specs.declared.next.Next.{Next}
 use Rattle.filter_chain.specs.declared.seat.Seat.{Seat}

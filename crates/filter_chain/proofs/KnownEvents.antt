@@ -16,7 +16,7 @@ use Rattle.run_model.specs.Worlds.{World, Refused, Output, put_conn, happens_on,
 use Rattle.run_model.proofs.Updates.{upd_either}
 use Rattle.run_model.proofs.chains.EventTurns.{Turn, Drained, begins_turn, brings_turn, ends_turn, steps_turn}
 use Rattle.bucket_kinds.specs.Device.{Device}
-use Rattle.ring_run.specs.Stepping.{TellsStep}
+use Rattle.module_run.specs.Stepping.{TellsStep}
 use Rattle.filter_chain.specs.declared.next.Next.{Next}
 use Rattle.filter_chain.specs.declared.seat.Seat.{Seat}
 use Rattle.filter_chain.specs.Hosting.{done_answer, step_answer}

@@ -12,3 +12,6 @@ pub mod HostAdds
 pub mod Safety
 pub mod HostCloses
 pub mod PrintedPools
+pub mod StepCounts
+pub mod Driving
+pub mod Going

@@ -14,7 +14,7 @@ use Rattle.bucket_kinds.specs.Device.{Device}
 use Rattle.pool_tree.specs.Printed.{payload_text, printed}
 use Rattle.pool_tree.specs.Tree.{map_of}
 use Rattle.pool_tree.proofs.PrintedParts.{root_is_printed, part_is_printed, next_is_not_printed}
-use Rattle.ring_run.specs.Conns.{conn_of}
+use Rattle.module_run.specs.Conns.{conn_of}
 use Rattle.filter_chain.specs.declared.next.Next.{Next}
 use Rattle.filter_chain.specs.declared.seat.Seat.{Seat}
 use Rattle.filter_chain.specs.Hosting.{HoldsWorld}

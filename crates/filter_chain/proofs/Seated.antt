@@ -24,11 +24,11 @@ use Rattle.brigade_ops.specs.Store.{lists, brigade_of, pool_of, references, next
 use Rattle.brigade_ops.proofs.Counts.{any_some}
 use Rattle.brigade_ops.proofs.Renumbered.{house_renumbered}
 use Rattle.brigade_ops.proofs.Stores.{brigades, young}
-use Rattle.ring_run.specs.declared.conn.Conn.{Conn}
-use Rattle.ring_run.specs.Conns.{conn_of, IsSeenAs}
-use Rattle.ring_run.specs.Proceeding.{MayHold, HasOpen, IsLawful, LeftAs, StandsFor}
+use Rattle.module_run.specs.declared.conn.Conn.{Conn}
+use Rattle.module_run.specs.Conns.{conn_of, IsSeenAs}
+use Rattle.module_run.specs.Proceeding.{MayHold, HasOpen, IsLawful, LeftAs, StandsFor}
 use Rattle.filter_chain.specs.Spared.{Spares}
-use Rattle.ring_run.specs.Stacked.{IsStacked}
+use Rattle.module_run.specs.Stacked.{IsStacked}
 use Rattle.ring_run.proofs.Renamed.{held_raised}
 use Rattle.filter_chain.specs.declared.next.Next.{Next}
 use Rattle.filter_chain.specs.declared.seat.Seat.{Seat}

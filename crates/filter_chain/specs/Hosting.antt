@@ -16,7 +16,7 @@ use Rattle.run_model.specs.Worlds.{World, Answer, Done, Refused, Connected, Open
 use Rattle.bucket_kinds.specs.Device.{Device, is_there}
 use Rattle.bucket_kinds.specs.declared.refusal.AddRefusal.{AddRefusal}
 use Rattle.bucket_kinds.specs.declared.refusal.AddRefusal.TheVariants as added
-use Rattle.ring_run.specs.Conns.{labels_handed}
+use Rattle.module_run.specs.Conns.{labels_handed}
 use Rattle.filter_chain.specs.declared.next.Next.{Next}
 use Rattle.filter_chain.specs.declared.seat.Seat.{Seat}
 use Rattle.filter_chain.specs.declared.seats.Seats.{Seats}
@@ -48,6 +48,11 @@ done_answer (Some r) = Refused r
 abbrev pub output_answer : Result (List ℕ) Refusal → Answer
 output_answer (Ok bytes) = Output bytes
 output_answer (Err r) = Refused r
+
+-- the output of a connection, as it lies
+abbrev pub output_in : Option Connection → Result (List ℕ) Refusal
+output_in None = Err refusal.NoSuchConn
+output_in (Some c) = Ok c.out.bytes
 
 abbrev pub open_answer : Result ℕ Refusal → Answer
 open_answer (Ok number) = Connected number

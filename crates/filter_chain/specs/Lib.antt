@@ -4,3 +4,5 @@ pub mod Scenes
 pub mod Hosting
 pub mod PartText
 pub mod Safe
+pub mod Led
+pub mod Running

@@ -8,8 +8,8 @@ use Rattle.run_model.specs.Chains.{Connection}
 use Rattle.run_model.specs.Passing.{Reads}
 use Rattle.run_model.specs.Worlds.{World, Told, Answer, Done, Step, happens}
 use Rattle.bucket_kinds.specs.Device.{Device, Holds, is_there}
-use Rattle.ring_run.specs.OpenedFile.{MayTell}
-use Rattle.ring_run.specs.Stepping.{TellsStep}
+use Rattle.module_run.specs.OpenedFile.{MayTell}
+use Rattle.module_run.specs.Stepping.{TellsStep}
 
 pub record Scene : Type 0 where
   pub world : World

@@ -11,13 +11,13 @@ use Rattle.bucket_kinds.specs.Device.{Device}
 use Rattle.pool_tree.specs.Tree.{map_of}
 use Rattle.brigade_ops.specs.House.{IsHouse}
 use Rattle.brigade_ops.specs.Store.{lists, next_name}
-use Rattle.ring_run.specs.Conns.{conn_of}
-use Rattle.ring_run.specs.Proceeding.{HasOpen, IsLawful}
+use Rattle.module_run.specs.Conns.{conn_of}
+use Rattle.module_run.specs.Proceeding.{HasOpen, IsLawful}
 use Rattle.filter_chain.specs.Spared.{Spares}
-use Rattle.ring_run.specs.Happened.{lasted}
-use Rattle.ring_run.specs.OpenedFile.{MayTell, TellsShort}
-use Rattle.ring_run.specs.Stacked.{IsStacked}
-use Rattle.ring_run.specs.Stepping.{TellsStep}
+use Rattle.module_run.specs.Happened.{lasted}
+use Rattle.module_run.specs.OpenedFile.{MayTell, TellsShort}
+use Rattle.module_run.specs.Stacked.{IsStacked}
+use Rattle.module_run.specs.Stepping.{TellsStep}
 use Rattle.filter_chain.specs.declared.next.Next.{Next}
 use Rattle.filter_chain.specs.declared.seat.Seat.{Seat}
 

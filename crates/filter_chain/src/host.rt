@@ -7,6 +7,7 @@ ghost use Rattle.run_model.specs.Worlds.{empty_world};
 use crate::limits::Limits;
 use crate::next::Next;
 use crate::seats::Seats;
+use crate::spare::Spare;
 use bucket_kinds::Files;
 use life_check::CheckedChain;
 use run_model::Module;
@@ -22,6 +23,7 @@ pub struct Host<F: Files> {
     pub(crate) last: u64,
     pub(crate) next: Next,
     pub(crate) files: F,
+    pub(crate) spare: Spare,
 }
 
 impl<F: Files + Drop> Host<F> {
@@ -45,6 +47,7 @@ impl<F: Files + Drop> Host<F> {
             last: 0,
             next: Next { pool: 2, name: 1 },
             files,
+            spare: Spare::new(alloc),
         }
     }
 

@@ -9,9 +9,11 @@ mod limits;
 mod next;
 mod opening;
 mod pools;
+mod running;
 mod seat;
 mod seats;
 mod serving;
+mod spare;
 mod stepping;
 mod telling;
 

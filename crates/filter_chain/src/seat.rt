@@ -7,16 +7,16 @@ ghost use Rattle.run_model.specs.Chains.{Common, Connection, Linked};
 ghost use Rattle.run_model.specs.Turns.{begins, brings, closing_labels, ends, opened};
 ghost use Rattle.pool_tree.specs.Tree.{map_of};
 ghost use Rattle.brigade_ops.specs.Store.{next_name};
-ghost use Rattle.ring_run.specs.Conns.{labels_handed};
-ghost use Rattle.ring_run.specs.Happened.{lasted, refusal_of};
-ghost use Rattle.ring_run.specs.Proceeding.{LeftAs};
+ghost use Rattle.module_run.specs.Conns.{labels_handed};
+ghost use Rattle.module_run.specs.Happened.{lasted, refusal_of};
+ghost use Rattle.module_run.specs.Proceeding.{LeftAs};
 ghost use Rattle.filter_chain.specs.Seated.{drained, IsLinked, IsSeated, MayServe, OpensFile, Served, Steps};
 ghost use Rattle.filter_chain.specs.Spared.{Spares};
 
 use crate::next::Next;
 use brigade_ops::{Brigades, FileNo, Files, PlainRings};
+use module_run::Conn;
 use pool_tree::PoolTree;
-use ring_run::Conn;
 use run_model::{Bucket, Module, Payload, Piece, Refusal, Seq, Stepped};
 use std::alloc::{AllocError, Global};
 
@@ -138,12 +138,26 @@ impl Seat {
         outcome
     }
 
-    /// The output since the last take.
-    pub(crate) fn take_output(&mut self, alloc: Global) -> Seq<u8>
+    /// The output since it was emptied last.
+    pub(crate) fn output(&self) -> &[u8]
+        ensures { (chain : List Program) (d : Device) (next : Next) (c : Connection) → IsSeated chain d next self.now c → result.now ≡ c.out.bytes }
+    {
+        self.conn.output()
+    }
+
+    /// Empties the output, and keeps its room.
+    pub(crate) fn clear_output(&mut self)
+        ensures { (chain : List Program) (d : Device) (next : Next) (c : Connection) → IsSeated chain d next self.old c → IsSeated chain d next self.new (drained c) }
+    {
+        self.conn.clear_output();
+    }
+
+    /// The output since it was emptied last. Output goes into `room` from now on.
+    pub(crate) fn take_output(&mut self, room: Seq<u8>) -> Seq<u8>
         ensures bytes { (chain : List Program) (d : Device) (next : Next) (c : Connection) → IsSeated chain d next self.old c → result ≡ c.out.bytes }
         ensures seated { (chain : List Program) (d : Device) (next : Next) (c : Connection) → IsSeated chain d next self.old c → IsSeated chain d next self.new (drained c) }
     {
-        self.conn.take_output(alloc)
+        self.conn.take_output(room)
     }
 
     /// A file is opened in the open request.

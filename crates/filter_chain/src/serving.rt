@@ -3,7 +3,7 @@
 ghost use Rattle.std.specs.Prelude.{◌≡◌};
 ghost use Rattle.run_model.specs.declared.event.Event.TheVariants.{Begin, Bring, End};
 ghost use Rattle.run_model.specs.Worlds.{World};
-ghost use Rattle.ring_run.specs.Happened.{refusal_of};
+ghost use Rattle.module_run.specs.Happened.{refusal_of};
 
 use crate::host::Host;
 use bucket_kinds::Files;

@@ -1,9 +1,10 @@
 //! What a connection tells.
 
-ghost use Rattle.std.specs.Prelude.{◌≡◌, IfErr, IfOk};
+ghost use Rattle.std.specs.Prelude.{◌≡◌, Err, IfErr, IfOk, Ok};
 ghost use Rattle.run_model.specs.declared.event.Event.TheVariants.{TakeOutput, TellLabels};
 ghost use Rattle.run_model.specs.Worlds.{World, Labels, Refused};
-ghost use Rattle.ring_run.specs.Conns.{labels_handed};
+ghost use Rattle.module_run.specs.Conns.{labels_handed};
+ghost use Rattle.module_run.specs.Happened.{refusal_of};
 
 use crate::host::Host;
 use bucket_kinds::Files;
@@ -11,9 +12,37 @@ use pool_tree::PoolId;
 use run_model::{Payload, Refusal, Seq};
 
 impl<F: Files + Drop> Host<F> {
-    ghost use Rattle.filter_chain.specs.Hosting.{IsHosting, Happens, output_answer, files_of};
+    ghost use Rattle.filter_chain.specs.Hosting.{IsHosting, Happens, output_answer, output_in, files_of};
 
-    /// The output since it was taken last, whatever state the connection is in. It takes no memory. Refused: `NoSuchConn`.
+    /// The output since it was emptied last, as it lies, whatever state the connection is in. Refused: `NoSuchConn`.
+    pub fn output(&self, number: u64) -> Result<&[u8], Refusal>
+        ensures lent { IfOk result (λ bytes. (w : World) → IsHosting (F.device (files_of self.now)) self.now w → output_in (w.conns number) ≡ Ok bytes.now) }
+        ensures missing { IfErr result (λ why. (w : World) → IsHosting (F.device (files_of self.now)) self.now w → output_in (w.conns number) ≡ Err why) }
+    {
+        match self.seats.get(number) {
+            None => Err(Refusal::NoSuchConn),
+            Some(seat) => Ok(seat.output()),
+        }
+    }
+
+    /// Empties the output, and keeps its room for what comes: what `output` lends is taken. It takes no memory. Refused: `NoSuchConn`.
+    pub fn clear_output(&mut self, number: u64) -> Result<(), Refusal>
+        requires { (w : World) × IsHosting (F.device (files_of self.old)) self.old w }
+        ensures event { (w : World) → IsHosting (F.device (files_of self.old)) self.old w → Happens (F.device (files_of self.old)) (F.device (files_of self.new)) self.old self.new number TakeOutput (output_answer (output_in (w.conns number))) w }
+        ensures told { (w : World) → IsHosting (F.device (files_of self.old)) self.old w → refusal_of result ≡ refusal_of (output_in (w.conns number)) }
+        ensures files { files_of self.new ≡ files_of self.old }
+    {
+        match self.seats.by_number.get_mut(&number) {
+            None => Err(Refusal::NoSuchConn),
+            Some(seat) => {
+                seat.clear_output();
+                Ok(())
+            }
+        }
+    }
+
+    /// The output since it was emptied last, whatever state the connection is in. Output goes into the block that was given back last, if
+    /// there is one. It takes no memory. Refused: `NoSuchConn`.
     pub fn take_output(&mut self, number: u64) -> Result<Seq<u8>, Refusal>
         requires { (w : World) × IsHosting (F.device (files_of self.old)) self.old w }
         ensures event { (w : World) → IsHosting (F.device (files_of self.old)) self.old w → Happens (F.device (files_of self.old)) (F.device (files_of self.new)) self.old self.new number TakeOutput (output_answer result) w }
@@ -21,8 +50,16 @@ impl<F: Files + Drop> Host<F> {
     {
         match self.seats.by_number.get_mut(&number) {
             None => Err(Refusal::NoSuchConn),
-            Some(seat) => Ok(seat.take_output(self.alloc)),
+            Some(seat) => Ok(seat.take_output(self.spare.take(self.alloc))),
         }
+    }
+
+    /// Gives the block of an output back that was taken. The next output that is taken leaves it to its connection, so that its room is
+    /// used again.
+    pub fn give_back_output(&mut self, block: Seq<u8>)
+        ensures { self.new ≡ self.old }
+    {
+        self.spare.put(block);
     }
 
     /// The labels of the connection that ran so far, each with its pool, in a list for each clear that ran any, the oldest first. Refused:

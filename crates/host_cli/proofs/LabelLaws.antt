@@ -5,7 +5,7 @@ use Rattle.std.specs.Global.{Vec}
 use Rattle.run_model.specs.declared.payload.Payload.{Payload}
 use Rattle.run_model.specs.declared.payload.Payload.TheVariants.{Label, FileRef, Brigade}
 use Rattle.run_model.specs.Payloads.{labels_in}
-use Rattle.ring_run.specs.Conns.{labels_handed}
+use Rattle.module_run.specs.Conns.{labels_handed}
 
 in_turn : (x : ℕ × Payload) (xs : List (ℕ × Payload)) → labels_in (x ∷ xs) ≡ labels_in (x ∷ []) ++ labels_in xs
 in_turn (p, Label text) xs = refl

@@ -10,7 +10,6 @@ pub mod PlayingLaws
 pub mod ScriptLines
 pub mod TakenLaws
 pub mod TakingLaws
-pub mod StepCounts
 pub mod BringLaws
 pub mod Served
 pub mod SessionLaws

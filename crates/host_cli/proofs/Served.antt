@@ -8,10 +8,13 @@ use Rattle.run_model.specs.declared.event.Stepped.{Stepped}
 use Rattle.run_model.specs.declared.event.Stepped.TheVariants as stepped
 use Rattle.run_model.specs.Turns.{Missing}
 use Rattle.run_model.specs.Worlds.{World, Told, Answer, Done, Step, Tree, happens_on, tree_of}
+use Rattle.bucket_kinds.specs.MemDevice.{mem_device}
 use Rattle.bucket_kinds.specs.declared.mem_files.MemFiles.{MemFiles}
 use Rattle.life_check.specs.ChainTheorem.{ChainNeverFaults}
 use Rattle.pool_tree.specs.Printed.{payload_text, printed}
 use Rattle.filter_chain.specs.declared.host.Host.{Host}
+use Rattle.filter_chain.specs.Led.{LeadsFrom}
+use Rattle.filter_chain.specs.Running.{Runs, StepsOn}
 use Rattle.filter_chain.specs.Hosting.{IsHosting, Happens, budget_of, chain_of, step_answer}
 use Rattle.filter_chain.specs.Safe.{GoesWell, IsSafe}
 use Rattle.filter_chain.specs.Scenes.{Scene, Acts, TellsEvent, scene}
@@ -20,10 +23,8 @@ use Rattle.host_cli.specs.declared.command.Command.TheVariants as command
 use Rattle.host_cli.specs.declared.file_line.FileLine.{FileLine}
 use Rattle.host_cli.specs.declared.reply.Reply.{Reply}
 use Rattle.host_cli.specs.declared.reply.Reply.TheVariants as reply
-use Rattle.host_cli.specs.Plays.{GoesOn, IsLast, Serves, Tells, file_bytes, is_fault, reply_of, steps_reply}
-use Rattle.host_cli.specs.Serving.{TakesSteps}
+use Rattle.host_cli.specs.Plays.{Serves, Tells, file_bytes, is_fault, reply_of, steps_reply}
 use Rattle.host_cli.specs.Sessions.{IsAlive, IsServed, device}
-use Rattle.host_cli.proofs.StepCounts.{goes_few, goes_more}
 
 -- Commands that are one event.
 
@@ -97,112 +98,14 @@ step_well (Ok (stepped.CallEnded s)) well = refl
 step_well (Ok (stepped.Fault k m pc)) well = absurd well
 step_well (Err r) well = refl
 
--- So many steps went on.
-pub record HasGone (old now : Host MemFiles) (number made : ℕ) (w : World) : Type 0 where
-  pub to : World
-  pub goes : GoesOn (budget_of old) (chain_of old) number made (scene w (device old)) (scene to (device now))
-  pub hosts : IsHosting (device now) now to
-
-pub record IsGoing (old now : Host MemFiles) (number made : ℕ) : Type 0 where
-  pub alive : IsAlive now
-  pub chain : chain_of now ≡ chain_of old
-  pub budget : budget_of now ≡ budget_of old
-  pub gone : (w : World) → IsHosting (device old) old w → HasGone old now number made w
-
-pub going_begins : (host : Host MemFiles) (number : ℕ) → IsAlive host → IsGoing host host number 0
-unfolding GoesOn
-going_begins host number alive = record { alive = alive; chain = refl; budget = refl; gone = λ w hosts. record { to = w; goes = refl; hosts = hosts } }
-
--- What acts on a host acts so on one of the same chain and budget.
-same_acts : (old now : Host MemFiles) (number : ℕ) (what : Event) (answer : Answer) (s t : Scene) → chain_of now ≡ chain_of old → budget_of now ≡ budget_of old → Acts (budget_of now) (chain_of now) number what s answer t → Acts (budget_of old) (chain_of old) number what s answer t
-same_acts old now number what answer s t chain budget a =
-    subst (λ (b : ℕ). Acts b (chain_of old) number what s answer t) budget (subst (λ (c : List Program). Acts (budget_of now) c number what s answer t) chain a)
-
-pub safe_still : (old now : Host MemFiles) → chain_of now ≡ chain_of old → IsSafe old → IsSafe now
-safe_still old now chain safe = subst ChainNeverFaults (sym chain) safe
-
-module _ (old now new : Host MemFiles) (number made : ℕ) (so : IsGoing old now number made) (answer : Result Stepped Refusal)
-    (step : (w : World) → IsHosting (device now) now w → Happens (device now) (device new) now new number event.Step (step_answer answer) w) where
-  pub going_on : answer ≡ Ok stepped.Went → IsGoing old new number (suc made)
-  going_on went = record {
-    alive = (let h = step so.alive.0 so.alive.1 in (h.to, h.hosts));
-    chain = (step so.alive.0 so.alive.1).chain ∙ so.chain;
-    budget = (step so.alive.0 so.alive.1).budget ∙ so.budget;
-    gone = λ w hosts. (let from = so.gone w hosts in let h = step from.to from.hosts in record {
-      to = h.to;
-      goes = goes_more (budget_of old) (chain_of old) number made (scene w (device old)) (scene from.to (device now)) (scene h.to (device new)) from.goes
-          (subst (λ (a : Result Stepped Refusal). Acts (budget_of old) (chain_of old) number event.Step (scene from.to (device now)) (step_answer a) (scene h.to (device new))) went
-          (same_acts old now number event.Step (step_answer answer) (scene from.to (device now)) (scene h.to (device new)) so.chain so.budget h.acts));
-      hosts = h.hosts;
-    });
-  }
-
-  pub going_ends : (n : ℕ) → made ≤ n - 1 → (answer ≡ Ok stepped.Went → made ≡ n - 1) → (w : World) → IsHosting (device old) old w → TakesSteps old new number n answer w
-  going_ends n few stops w hosts =
-      let from = so.gone w hosts in
-      let h = step from.to from.hosts in
-      record {
-        count = made;
-        before = scene from.to (device now);
-        to = h.to;
-        few = few;
-        goes = from.goes;
-        last = same_acts old now number event.Step (step_answer answer) (scene from.to (device now)) (scene h.to (device new)) so.chain so.budget h.acts;
-        stops = stops;
-        hosts = h.hosts;
-        chain = h.chain ∙ so.chain;
-        budget = h.budget ∙ so.budget;
-      }
-
-pub steps_served : (old new : Host MemFiles) (number n : ℕ) (answer : Result Stepped Refusal) (r : Reply) (w : World) → r ≡ steps_reply n answer → TakesSteps old new number n answer w → IsServed old new (command.Step number n) r w
+pub steps_served : (old new : Host MemFiles) (number n : ℕ) (answer : Result Stepped Refusal) (r : Reply) (w : World) → r ≡ steps_reply n answer
+    → LeadsFrom mem_device old new (λ b c s t. StepsOn b c number (n - 1) s answer t) w → IsServed old new (command.Step number n) r w
 unfolding Serves
-steps_served old new number n answer r w told t =
-    record {
-      to = t.to;
-      serves = record { count = t.count; before = t.before; answer = answer; few = t.few; goes = t.goes; last = t.last; stops = t.stops; told = told };
-      hosts = t.hosts;
-      chain = t.chain;
-      budget = t.budget;
-    }
+steps_served old new number n answer r w told h =
+    record { to = h.to; serves = record { answer = answer; steps = h.did; told = told }; hosts = h.hosts; chain = h.chain; budget = h.budget }
 
--- The last of the steps that a call takes.
-
-last_unless : (answer : Result Stepped Refusal) → (answer ≡ Ok stepped.Went → ⊥) → IsLast answer
-last_unless (Ok stepped.Went) other = absurd (other refl)
-last_unless (Ok (stepped.CallEnded s)) other = tt
-last_unless (Ok (stepped.Fault k m pc)) other = tt
-last_unless (Err r) other = tt
-
-module _ (old new : Host MemFiles) (number n : ℕ) (budget : n ≡ budget_of old) (w : World) where
-  pub run_served : (answer : Result Stepped Refusal) (r : Reply) → (answer ≡ Ok stepped.Went → ⊥) → r ≡ reply_of (step_answer answer) → TakesSteps old new number n answer w → IsServed old new (command.Run number) r w
-  unfolding Serves
-  run_served answer r other told t =
-      record {
-        to = t.to;
-        serves = record { count = t.count; before = t.before; answer = answer; goes = t.goes; last = t.last; ends = last_unless answer other; told = told };
-        hosts = t.hosts;
-        chain = t.chain;
-        budget = t.budget;
-      }
-
-  -- As many went as the budget, so that one more does not go on.
-  pub run_over : (mid : Host MemFiles) (answer : Result Stepped Refusal) (r : Reply) → r ≡ reply_of (step_answer answer) → TakesSteps old mid number n (Ok stepped.Went) w
-      → ((w : World) → IsHosting (device mid) mid w → Happens (device mid) (device new) mid new number event.Step (step_answer answer) w) → IsServed old new (command.Run number) r w
-  unfolding Serves
-  run_over mid answer r told t step =
-      let h = step t.to t.hosts in
-      let goes = goes_more (budget_of old) (chain_of old) number t.count (scene w (device old)) t.before (scene t.to (device mid)) t.goes t.last in
-      let last = same_acts old mid number event.Step (step_answer answer) (scene t.to (device mid)) (scene h.to (device new)) t.chain t.budget h.acts in
-      record {
-        to = h.to;
-        serves = record { count = suc t.count; before = scene t.to (device mid); answer = answer; goes = goes; last = last; ends = last_unless answer (λ went. no_more h.to goes (subst (λ (a : Result Stepped Refusal). Acts (budget_of old) (chain_of old) number event.Step (scene t.to (device mid)) (step_answer a) (scene h.to (device new))) went last)); told = told };
-        hosts = h.hosts;
-        chain = h.chain ∙ t.chain;
-        budget = h.budget ∙ t.budget;
-      } where
-        no_more : (to : World) → GoesOn (budget_of old) (chain_of old) number (suc t.count) (scene w (device old)) (scene t.to (device mid))
-            → Acts (budget_of old) (chain_of old) number event.Step (scene t.to (device mid)) (Step stepped.Went) (scene to (device new)) → ⊥
-        no_more to goes last =
-            let few = goes_few (budget_of old) (chain_of old) number (suc t.count) (scene w (device old)) (scene t.to (device mid)) (scene to (device new)) goes last in
-            let all : t.count ≡ n - 1 = t.stops refl in
-            absurd (omega (arith, few, all, budget))
+pub run_served : (old new : Host MemFiles) (number : ℕ) (answer : Result Stepped Refusal) (r : Reply) (w : World) → r ≡ reply_of (step_answer answer)
+    → LeadsFrom mem_device old new (λ b c s t. Runs b c number s answer t) w → IsServed old new (command.Run number) r w
+unfolding Serves
+run_served old new number answer r w told h =
+    record { to = h.to; serves = record { answer = answer; runs = h.did; told = told }; hosts = h.hosts; chain = h.chain; budget = h.budget }

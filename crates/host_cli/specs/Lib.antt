@@ -1,6 +1,6 @@
 pub use Rattle.module_lang.specs.Program
 pub use Rattle.life_check.specs.Typed
-pub use Rattle.life_check.specs.Theorem
+pub use Rattle.life_check.specs.ChainTheorem
 pub use Rattle.life_cert.specs.Reading
 pub mod Lines
 pub mod Words

@@ -1,5 +1,5 @@
 -- What the commands of a script may answer, and what each leaves of the host.
-use Rattle.std.specs.Prelude.{◌≡◌, ℕ, zero, suc, ◌-◌, ◌≤◌, Bool, true, false, not, if◌then◌else◌, List, [], ◌∷◌, ◌++◌, Option, Some, None, Result, Ok, Err, IfSome}
+use Rattle.std.specs.Prelude.{◌≡◌, ℕ, ◌-◌, Bool, true, false, not, if◌then◌else◌, List, [], ◌∷◌, ◌++◌, Option, Some, None, Result, Ok, Err, IfSome}
 use Rattle.std.specs.List.{repeat}
 use Rattle.std.specs.Io.KnownBytes.{Appends}
 use Rattle.module_lang.specs.Program.{Program}
@@ -15,6 +15,7 @@ use Rattle.run_model.specs.Worlds.{Answer, Done, Refused, Connected, Step, Outpu
 use Rattle.bucket_kinds.specs.Device.{Device, is_there}
 use Rattle.pool_tree.specs.Printed.{payload_text, printed}
 use Rattle.filter_chain.specs.Hosting.{step_answer, file_answer}
+use Rattle.filter_chain.specs.Running.{Runs, StepsOn}
 use Rattle.filter_chain.specs.Scenes.{Scene, Acts}
 use Rattle.host_cli.specs.declared.command.Command.{Command}
 use Rattle.host_cli.specs.declared.command.Command.TheVariants as command
@@ -43,13 +44,6 @@ steps_reply n (Ok (stepped.CallEnded s)) = reply.Stepped (stepped.CallEnded s)
 steps_reply n (Ok (stepped.Fault k m pc)) = reply.Stepped (stepped.Fault k m pc)
 steps_reply n (Err r) = reply.Refused r
 
--- whether a step is the last of a call, or was refused
-abbrev pub IsLast : Result Stepped Refusal → Type 0
-IsLast (Ok stepped.Went) = ⊥
-IsLast (Ok (stepped.CallEnded s)) = Unit {0}
-IsLast (Ok (stepped.Fault k m pc)) = Unit {0}
-IsLast (Err r) = Unit {0}
-
 -- the bytes of the file that a line adds
 abbrev pub file_bytes : FileLine → List ℕ
 file_bytes f = repeat f.count f.text
@@ -65,30 +59,16 @@ module _ (budget : ℕ) (chain : List Program) where
     pub acts : Acts budget chain number what old answer new
     pub told : r ≡ reply_of answer
 
-  -- So many steps go on, one after another.
-  unfoldable pub GoesOn : ℕ → ℕ → Scene → Scene → Type 0
-  GoesOn number zero old new = new ≡ old
-  GoesOn number (suc n) old new = (mid : Scene) × Acts budget chain number event.Step old (Step stepped.Went) mid × GoesOn number n mid new
-
   -- Steps are made until one answers something else than that it went, or until they are n. One at least is made.
   pub record MakesSteps (number n : ℕ) (old : Scene) (r : Reply) (new : Scene) : Type 0 where
-    pub count : ℕ
-    pub before : Scene
     pub answer : Result Stepped Refusal
-    pub few : count ≤ n - 1
-    pub goes : GoesOn number count old before
-    pub last : Acts budget chain number event.Step before (step_answer answer) new
-    pub stops : answer ≡ Ok stepped.Went → count ≡ n - 1
+    pub steps : StepsOn budget chain number (n - 1) old answer new
     pub told : r ≡ steps_reply n answer
 
   -- Steps are made until one answers something else than that it went.
-  pub record Runs (number : ℕ) (old : Scene) (r : Reply) (new : Scene) : Type 0 where
-    pub count : ℕ
-    pub before : Scene
+  pub record RunsTo (number : ℕ) (old : Scene) (r : Reply) (new : Scene) : Type 0 where
     pub answer : Result Stepped Refusal
-    pub goes : GoesOn number count old before
-    pub last : Acts budget chain number event.Step before (step_answer answer) new
-    pub ends : IsLast answer
+    pub runs : Runs budget chain number old answer new
     pub told : r ≡ reply_of (step_answer answer)
 
   -- The files of ranges are opened, from left to right, and then the brigade of all pieces is brought. The first refusal is the answer; files that
@@ -108,7 +88,7 @@ module _ (budget : ℕ) (chain : List Program) where
   Serves (command.End k) old r new = Tells k event.End old r new
   Serves (command.Bring k pieces) old r new = Brings k [] pieces old r new
   Serves (command.Step k n) old r new = MakesSteps k n old r new
-  Serves (command.Run k) old r new = Runs k old r new
+  Serves (command.Run k) old r new = RunsTo k old r new
   Serves (command.Output k) old r new = Tells k event.TakeOutput old r new
   Serves (command.Labels k) old r new = Tells k event.TellLabels old r new
   Serves (command.Close k) old r new = Tells k event.Close old r new

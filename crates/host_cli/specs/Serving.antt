@@ -1,34 +1,18 @@
 -- What the parts of a command leave of a host.
-use Rattle.std.specs.Prelude.{◌≡◌, ℕ, ◌-◌, ◌≤◌, List, Result, Ok, Err}
+use Rattle.std.specs.Prelude.{◌≡◌, ℕ, List, Result, Ok, Err}
 use Rattle.module_lang.specs.Program.{Program}
 use Rattle.run_model.specs.declared.event.Event.TheVariants as event
 use Rattle.run_model.specs.declared.event.Piece.{Piece}
 use Rattle.run_model.specs.declared.event.Piece.TheVariants as piece
 use Rattle.run_model.specs.declared.event.Refusal.{Refusal}
-use Rattle.run_model.specs.declared.event.Stepped.{Stepped}
-use Rattle.run_model.specs.declared.event.Stepped.TheVariants as stepped
 use Rattle.run_model.specs.Worlds.{World}
 use Rattle.bucket_kinds.specs.declared.mem_files.MemFiles.{MemFiles}
 use Rattle.filter_chain.specs.declared.host.Host.{Host}
-use Rattle.filter_chain.specs.Hosting.{IsHosting, budget_of, chain_of, file_answer, step_answer}
+use Rattle.filter_chain.specs.Hosting.{IsHosting, budget_of, chain_of, file_answer}
 use Rattle.filter_chain.specs.Scenes.{Scene, Acts, scene}
 use Rattle.host_cli.specs.declared.pieces.ScriptPiece.{ScriptPiece}
 use Rattle.host_cli.specs.declared.pieces.ScriptPiece.TheVariants as script_piece
-use Rattle.host_cli.specs.Plays.{GoesOn}
 use Rattle.host_cli.specs.Sessions.{device}
-
--- Steps of this connection were made until one answered something else than that it went, or until they were n, and the last one answered so.
-pub record TakesSteps (old new : Host MemFiles) (number n : ℕ) (answer : Result Stepped Refusal) (w : World) : Type 0 where
-  pub count : ℕ
-  pub before : Scene
-  pub to : World
-  pub few : count ≤ n - 1
-  pub goes : GoesOn (budget_of old) (chain_of old) number count (scene w (device old)) before
-  pub last : Acts (budget_of old) (chain_of old) number event.Step before (step_answer answer) (scene to (device new))
-  pub stops : answer ≡ Ok stepped.Went → count ≡ n - 1
-  pub hosts : IsHosting (device new) new to
-  pub chain : chain_of new ≡ chain_of old
-  pub budget : budget_of new ≡ budget_of old
 
 -- what an opened file makes of a range
 abbrev pub ranged : Result (ℕ × ℕ) Refusal → ℕ → ℕ → Result Piece Refusal

@@ -3,11 +3,11 @@
 ghost use Rattle.std.specs.Prelude.{◌≡◌, ◌↔◌, false, true, IfOk, IsTrue};
 ghost use Rattle.bucket_kinds.specs.Device.{is_there};
 ghost use Rattle.run_model.specs.Worlds.{World};
-ghost use Rattle.ring_run.specs.Happened.{refusal_of};
+ghost use Rattle.module_run.specs.Happened.{refusal_of};
 ghost use Rattle.filter_chain.specs.Hosting.{IsHosting, done_answer, step_answer};
 ghost use Rattle.filter_chain.specs.Safe.{GoesWell, IsSafe};
 ghost use Rattle.host_cli.specs.Plays.{is_due, is_fault, reply_of};
-ghost use Rattle.host_cli.specs.Serving.{MakesReady, TakesSteps};
+ghost use Rattle.host_cli.specs.Serving.{MakesReady};
 ghost use Rattle.host_cli.specs.Sessions.{IsAlive, IsServed, device};
 
 use crate::command::Command;
@@ -99,22 +99,6 @@ fn went(answer: &Result<Stepped, Refusal>) -> bool
     matches!(answer, Ok(Stepped::Went))
 }
 
-/// Makes steps until one answers something else than that it went, `count` at most. (Where `count` is 0 it makes one.)
-fn make_steps(host: &mut Host<MemFiles>, number: u64, count: u64) -> Result<Stepped, Refusal>
-    requires { IsAlive host.old }
-    ensures steps { (w : World) → IsHosting (device host.old) host.old w → TakesSteps host.old host.new number count result w }
-    ensures safe { IsSafe host.old → GoesWell result }
-{
-    let mut left = count;
-    loop {
-        let answer = host.step(number);
-        if !went(&answer) || left <= 1 {
-            return answer;
-        }
-        left -= 1;
-    }
-}
-
 /// What the last of some steps answers.
 fn stepped(answer: Result<Stepped, Refusal>) -> Reply
     ensures { result ≡ reply_of (step_answer answer) }
@@ -131,25 +115,20 @@ fn step(host: &mut Host<MemFiles>, number: u64, count: u64) -> Reply
     ensures served { (w : World) → IsHosting (device host.old) host.old w → IsServed host.old host.new (Command.Step number count) result w }
     ensures safe { IsSafe host.old → is_fault result ≡ false }
 {
-    let answer = make_steps(host, number, count);
+    let answer = host.step_up_to(number, count);
     if went(&answer) {
         return Reply::Went(count);
     }
     stepped(answer)
 }
 
-/// Makes steps until a call has ended or more is refused. Where all went that a call may take, one more is refused.
+/// Makes steps until a call has ended or more is refused.
 fn run(host: &mut Host<MemFiles>, number: u64) -> Reply
     requires { IsAlive host.old }
     ensures served { (w : World) → IsHosting (device host.old) host.old w → IsServed host.old host.new (Command.Run number) result w }
     ensures safe { IsSafe host.old → is_fault result ≡ false }
 {
-    let budget = host.budget();
-    let answer = make_steps(host, number, budget);
-    if went(&answer) {
-        return stepped(host.step(number));
-    }
-    stepped(answer)
+    stepped(host.run(number))
 }
 
 fn output(host: &mut Host<MemFiles>, number: u64) -> Reply

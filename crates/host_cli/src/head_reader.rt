@@ -5,10 +5,11 @@ use std::io::{self, ErrorKind, Read, Write};
 use std::net::TcpStream;
 use std::time::{Duration, Instant};
 
-/// When the next head is to be there: not said before it is first waited for.
+/// When the next head is to be there: not said before it is first waited for. And when bytes last came.
 #[derive(Drop)]
 pub struct Deadline {
     at: Cell<Option<Instant>>,
+    came: Cell<Option<Instant>>,
     patience: Duration,
 }
 
@@ -17,8 +18,20 @@ impl Deadline {
     pub fn new(patience: Duration) -> Deadline {
         Deadline {
             at: Cell::new(None),
+            came: Cell::new(None),
             patience,
         }
+    }
+
+    /// The time since bytes last came, or since this was last asked: so long a response took.
+    pub fn taken(&self, rt: &HostRuntime) -> Duration {
+        let Ok(now) = Instant::now(rt) else {
+            return Duration::ZERO;
+        };
+        let Some(before) = self.came.replace(Some(now)) else {
+            return Duration::ZERO;
+        };
+        now.checked_duration_since(before).unwrap_or(Duration::ZERO)
     }
 
     /// The next head gets a deadline of its own.
@@ -56,7 +69,9 @@ impl Read for HeadReader<'_> {
         };
         self.stream.set_read_timeout(Some(left))?;
         let mut stream = self.stream;
-        stream.read(buf)
+        let count = stream.read(buf)?;
+        self.deadline.came.set(Instant::now(self.runtime).ok());
+        Ok(count)
     }
 }
 

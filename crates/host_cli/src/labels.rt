@@ -2,7 +2,7 @@
 
 ghost use Rattle.std.specs.Prelude.{◌≡◌, ℕ, ◌++◌, ◌∷◌, [], IfOk, OnOk};
 ghost use Rattle.run_model.specs.Payloads.{labels_in};
-ghost use Rattle.ring_run.specs.Conns.{labels_handed};
+ghost use Rattle.module_run.specs.Conns.{labels_handed};
 
 use crate::words::copied;
 use pool_tree::PoolId;

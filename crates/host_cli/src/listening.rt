@@ -3,6 +3,8 @@
 ghost use Rattle.http_front.specs.Driven.{IsAlive};
 
 use crate::head_reader::{Deadline, HeadReader, ReplyWriter};
+use crate::left::Left;
+use crate::request_log::RequestLog;
 use crate::system_clock::SystemClock;
 use bucket_kinds::DiskFiles;
 use filter_chain::{Files, Host};
@@ -71,13 +73,14 @@ fn tell(rt: &HostRuntime, number: u64, outcome: Result<Served, FrontFault>) {
     };
 }
 
-/// Serves a connection to its end. A fault ends it alone.
-fn serve_stream<F: Files + Drop>(
+/// Serves a connection to its end. A fault ends it alone. Where it has a number to be told as, each request is told on the standard error.
+pub fn serve_stream<F: Files + Drop>(
     rt: &HostRuntime,
     stream: &TcpStream,
     site: &Site,
     host: &mut Host<F>,
     patience: Duration,
+    told_as: Option<u64>,
 ) -> Result<Served, FrontFault>
     requires { IsAlive F.device host.old }
     ensures { IsAlive F.device host.new }
@@ -92,7 +95,12 @@ fn serve_stream<F: Files + Drop>(
         stream,
         deadline: &deadline,
     };
-    let mut clock = SystemClock { runtime: rt };
+    let log = told_as.map(|number| RequestLog {
+        runtime: rt,
+        deadline: &deadline,
+        number,
+    });
+    let mut clock = SystemClock { runtime: rt, log };
     serve(rt.alloc(), &mut reader, &mut writer, site, host, &mut clock)
 }
 
@@ -110,6 +118,7 @@ pub fn serve_all<F: Files + Drop>(
     requires { IsAlive F.device host.old }
 {
     let mut number = 0u64;
+    let mut left = Left::new();
     for stream in listener.incoming() {
         let Ok(stream) = stream else {
             thread::sleep(rt, Duration::from_millis(PAUSE_MILLIS));
@@ -117,11 +126,22 @@ pub fn serve_all<F: Files + Drop>(
         };
         number = number.saturating_add(1);
         if set_up(&stream, manner.patience).is_ok() {
-            let outcome = serve_stream(rt, &stream, site, host, manner.patience);
+            let told_as = if manner.logs { Some(number) } else { None };
+            let outcome = serve_stream(rt, &stream, site, host, manner.patience, told_as);
+            if let Err(
+                FrontFault {
+                    left: Some(conn),
+                    ..
+                },
+            ) = outcome
+            {
+                left.add(conn);
+            }
             if manner.logs {
                 tell(rt, number, outcome);
             }
             let _ = drain(rt, &stream);
+            left.close(host);
         }
         if number == u64::from(manner.conns) {
             return;

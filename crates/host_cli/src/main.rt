@@ -15,6 +15,7 @@ mod front;
 mod front_words;
 mod head_reader;
 mod labels;
+mod left;
 mod lines;
 mod listening;
 mod loading;
@@ -27,12 +28,15 @@ mod playing;
 mod recorded;
 mod refused_at;
 mod reply;
+mod request_log;
 mod script;
 mod session;
 mod site_file;
 mod streams;
 mod system_clock;
 mod task;
+#[cfg(test)]
+mod tests;
 mod texts;
 mod words;
 

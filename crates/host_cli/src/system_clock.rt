@@ -1,12 +1,15 @@
 //! The clock of the system.
 
-use http_front::Clock;
+use crate::request_log::RequestLog;
+use http_front::{Clock, Exchange};
 use std::time::SystemTime;
 
 /// The clock of the system. A clock that cannot be asked, or that is set before 1970, tells the beginning of 1970.
 #[derive(Drop)]
 pub struct SystemClock<'a> {
     pub runtime: &'a HostRuntime,
+    /// Where each request is told, if it is.
+    pub log: Option<RequestLog<'a>>,
 }
 
 impl Clock for SystemClock<'_> {
@@ -20,6 +23,12 @@ impl Clock for SystemClock<'_> {
         match now.duration_since(SystemTime::UNIX_EPOCH) {
             Ok(since) => since.as_secs(),
             Err(_) => 0,
+        }
+    }
+
+    fn answered(&mut self, exchange: &Exchange<'_>) {
+        if let Some(log) = &self.log {
+            log.tell(exchange);
         }
     }
 }

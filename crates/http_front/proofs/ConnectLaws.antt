@@ -1,6 +1,5 @@
 -- A connection of the host, from its opening to its close.
 use Rattle.std.proofs.Common.{◌≡◌, ℕ, ◌⊎◌, inl, inr, List, [], ◌++◌, Option, Some, None, Result, Ok, Err, IfOk, IfErr, IfSome, refl, sym, subst}
-use Rattle.std.proofs.lemmas.List.{append-nil}
 use Rattle.std.proofs.KnownBytes.{Appends-nil}
 use Rattle.std.specs.Io.KnownBytes.{Appends}
 use Rattle.run_model.specs.declared.event.Event.TheVariants as event
@@ -9,11 +8,12 @@ use Rattle.run_model.specs.Worlds.{Connected, Labels, Refused}
 use Rattle.bucket_kinds.specs.Device.{Device}
 use Rattle.filter_chain.specs.declared.host.Host.{Host}
 use Rattle.filter_chain.specs.Scenes.{Acts}
-use Rattle.http_front.specs.Connecting.{FailsAt, IsClosed, IsOpened, ServesAll, kind_of, outcome_of}
+use Rattle.http_front.specs.Clocks.{Said}
+use Rattle.http_front.specs.Connecting.{FailsAt, FallsBy, IsClosed, IsOpened, ServesAll, kind_of, outcome_of}
 use Rattle.http_front.specs.Driven.{Handles, Leads}
 use Rattle.http_front.specs.Requests.{Runs}
 use Rattle.http_front.specs.Serving.{FailsBy, Writes}
-use Rattle.http_front.specs.Turns.{IsCut, IsFront, Responses}
+use Rattle.http_front.specs.Turns.{IsFront, Responses}
 use Rattle.http_front.specs.declared.fault.FrontFault.{FrontFault}
 use Rattle.http_front.specs.declared.fault.FrontKind.{FrontKind}
 use Rattle.http_front.specs.declared.fault.FrontKind.TheVariants as kind
@@ -22,7 +22,7 @@ use Rattle.http_front.specs.declared.handler.Outcome.{Outcome}
 use Rattle.http_front.specs.declared.reply.Method.{Method}
 use Rattle.http_front.specs.declared.running.Ended.{Ended}
 use Rattle.http_front.specs.declared.site.Site.{Site}
-use Rattle.http_front.proofs.Driving.{Happened, by_event, leads_as, leads_on}
+use Rattle.filter_chain.proofs.Driving.{Happened, by_event, leads_as, leads_on}
 
 module _ {F : Type 0} (device : F → Device) (number : ℕ) (old new : Host F) where
   pub closed : (left : Option ℕ) (labels : List (List ℕ)) → left ≡ None → Happened device old new number event.Close (Labels labels) → Leads device old new (λ b c s t. IsClosed b c number left s t)
@@ -39,29 +39,23 @@ module _ {F : Type 0} (device : F → Device) (number : ℕ) (old new : Host F) 
   opened_conn mid how h = leads_on device old mid new (λ b c s t. Acts b c 0 event.Open s (Connected number) t) (λ b c s t. Runs b c number s how t) (λ b c s t. IsOpened b c number s t)
       (λ b c s m t a r. record { mid = m; how = how; acts = a; runs = r }) (by_event device old mid 0 event.Open (Connected number) h)
 
--- What is written of responses is the front of them.
-module _ {H K : Type 0} (site : Site) (handles : H → Method → List ℕ → Outcome → H → Type 0) (tells : K → ℕ → K → Type 0) (old : H) (before : K) where
-  front_whole : (stream text : List ℕ) (n : ℕ) (new : H) (after : K) → Responses site handles tells old before stream text n new after → IsCut site handles tells old before stream text
-  front_whole stream text n new after all = ([], inr (n, new, after, subst (λ (t : List ℕ). Responses site handles tells old before stream t n new after) (sym (append-nil text)) all))
+-- What is written where serving fails.
+module _ {H K : Type 0} (site : Site) (handles : H → Method → List ℕ → Outcome → H → Type 0) (tells : K → Said → K → Type 0) (old : H) (before : K) where
+  front_whole : (stream text : List ℕ) (m n : ℕ) (new : H) (after : K) → Responses site handles tells old before stream text n new after → FallsBy site handles tells kind.NoMemory (Some m) old before stream text
+  front_whole stream text m n new after all = inr ((λ none. cc), n, new, after, all)
 
-  front_some : (stream text : List ℕ) → IsFront site handles tells old before stream text → IsCut site handles tells old before stream text
-  front_some stream text some = ([], inl (subst (λ (t : List ℕ). IsFront site handles tells old before stream t) (sym (append-nil text)) some))
+  lacking : (read was is : Option (List ℕ)) (left : Option ℕ) → Writes read was is (IsFront site handles tells old before) → Writes read was is (FallsBy site handles tells kind.NoMemory left old before)
+  lacking None was is left h = tt
+  lacking (Some stream) was is left h = (h.0, inl h.1, h.2)
 
-  abbrev IsSomeCut : Option (List ℕ) → Option (List ℕ) → Option (List ℕ) → Type 0
-  IsSomeCut read was is = Writes read was is (λ stream text. IsCut site handles tells old before stream text)
+  pub falls : (read was is : Option (List ℕ)) (left : Option ℕ) (e : FrontKind) → FailsBy site handles tells old before read was is e → Writes read was is (FallsBy site handles tells e left old before)
+  falls read was is left kind.Write h = h
+  falls read was is left kind.Read h = h
+  falls read was is left kind.TooManyReads h = h
+  falls read was is left kind.NoMemory h = lacking read was is left h
+  falls read was is left kind.NamesSpent h = h
 
-  cut_front : (read was is : Option (List ℕ)) → Writes read was is (IsFront site handles tells old before) → IsSomeCut read was is
-  cut_front None was is h = tt
-  cut_front (Some stream) was is h = (h.0, front_some stream h.0 h.1, h.2)
-
-  pub cut_failed : (read was is : Option (List ℕ)) (e : FrontKind) → FailsBy site handles tells old before read was is e → IsSomeCut read was is
-  cut_failed read was is kind.Write h = h
-  cut_failed read was is kind.Read h = cut_front read was is h
-  cut_failed read was is kind.TooManyReads h = cut_front read was is h
-  cut_failed read was is kind.NoMemory h = cut_front read was is h
-  cut_failed read was is kind.NamesSpent h = cut_front read was is h
-
-module _ {F K : Type 0} (device : F → Device) (tells : K → ℕ → K → Type 0) (site : Site) (old : Host F) (before : K) (was is : Option (List ℕ)) where
+module _ {F K : Type 0} (device : F → Device) (tells : K → Said → K → Type 0) (site : Site) (old : Host F) (before : K) (was is : Option (List ℕ)) where
   pub none_opened : (new : Host F) (e : FrontFault) (why : Refusal) (read : Option (List ℕ)) → is ≡ was → e.kind ≡ kind_of why → e.left ≡ None → Happened device old new 0 event.Open (Refused why)
       → IfSome read (λ stream. FailsAt device tells site old before stream e was is new)
   none_opened new e why None same kind left h = tt
@@ -78,8 +72,8 @@ module _ {F K : Type 0} (device : F → Device) (tells : K → ℕ → K → Typ
     abbrev AllSo : Option (List ℕ) → Served → Type 0
     AllSo read s = IfSome read (λ stream. (text : List ℕ) × Responses site (λ o. Handles device o number) tells opened before stream text s.requests served after × Appends was is text)
 
-    abbrev FrontSo : Option (List ℕ) → Type 0
-    FrontSo read = IfSome read (λ stream. (text : List ℕ) × IsCut site (λ o. Handles device o number) tells opened before stream text × Appends was is text)
+    abbrev FrontSo : Option ℕ → Option (List ℕ) → FrontKind → Type 0
+    FrontSo left read k = IfSome read (λ stream. (text : List ℕ) × FallsBy site (λ o. Handles device o number) tells k left opened before stream text × Appends was is text)
 
     by_ok : (read : Option (List ℕ)) (r : Result Served FrontKind) (left : Option ℕ) → Leads device served new (λ b c s t. IsClosed b c number left s t) → IfOk r (AllSo read)
         → IfOk (outcome_of r left) (λ s. IfSome read (λ stream. ServesAll device tells site old before stream s.requests was is new after))
@@ -92,13 +86,13 @@ module _ {F K : Type 0} (device : F → Device) (tells : K → ℕ → K → Typ
       written = written;
     }
 
-    by_err : (read : Option (List ℕ)) (r : Result Served FrontKind) (left : Option ℕ) → Leads device served new (λ b c s t. IsClosed b c number left s t) → IfOk r (AllSo read) → IfErr r (λ e. FrontSo read)
+    by_err : (read : Option (List ℕ)) (r : Result Served FrontKind) (left : Option ℕ) → Leads device served new (λ b c s t. IsClosed b c number left s t) → IfOk r (AllSo read) → IfErr r (λ k. FrontSo left read k)
         → IfErr (outcome_of r left) (λ e. IfSome read (λ stream. FailsAt device tells site old before stream e was is new))
     by_err read (Ok s) None closes all front = tt
     by_err None (Ok s) (Some n) closes all front = tt
     by_err (Some stream) (Ok s) (Some n) closes (text, all, written) front = inr record {
       text = text;
-      connects = record { number = number; opened = opened; served = served; opens = opens; done = front_whole site (λ o. Handles device o number) tells opened before stream text s.requests served after all; closes = closes };
+      connects = record { number = number; opened = opened; served = served; opens = opens; done = front_whole site (λ o. Handles device o number) tells opened before stream text n s.requests served after all; closes = closes };
       written = written;
     }
     by_err None (Err k) left closes all front = tt
@@ -108,13 +102,13 @@ module _ {F K : Type 0} (device : F → Device) (tells : K → ℕ → K → Typ
       written = written;
     }
 
-    fails_so : (read : Option (List ℕ)) (r : Result Served FrontKind) → IfErr r (λ e. FailsBy site (λ o. Handles device o number) tells opened before read was is e) → IfErr r (λ e. FrontSo read)
-    fails_so read (Ok s) h = tt
-    fails_so read (Err e) h = cut_failed site (λ o. Handles device o number) tells opened before read was is e h
+    fails_so : (read : Option (List ℕ)) (r : Result Served FrontKind) (left : Option ℕ) → IfErr r (λ e. FailsBy site (λ o. Handles device o number) tells opened before read was is e) → IfErr r (λ k. FrontSo left read k)
+    fails_so read (Ok s) left h = tt
+    fails_so read (Err e) left h = falls site (λ o. Handles device o number) tells opened before read was is left e h
 
     module _ (read : Option (List ℕ)) (r : Result Served FrontKind) (left : Option ℕ) (closes : Leads device served new (λ b c s t. IsClosed b c number left s t)) (all : IfOk r (AllSo read)) (result : Result Served FrontFault) (same : result ≡ outcome_of r left) where
       pub served_ok : IfOk result (λ s. IfSome read (λ stream. ServesAll device tells site old before stream s.requests was is new after))
       served_ok = subst (λ (x : Result Served FrontFault). IfOk x (λ s. IfSome read (λ stream. ServesAll device tells site old before stream s.requests was is new after))) (sym same) (by_ok read r left closes all)
 
       pub served_err : IfErr r (λ e. FailsBy site (λ o. Handles device o number) tells opened before read was is e) → IfErr result (λ e. IfSome read (λ stream. FailsAt device tells site old before stream e was is new))
-      served_err front = subst (λ (x : Result Served FrontFault). IfErr x (λ e. IfSome read (λ stream. FailsAt device tells site old before stream e was is new))) (sym same) (by_err read r left closes all (fails_so read r front))
+      served_err front = subst (λ (x : Result Served FrontFault). IfErr x (λ e. IfSome read (λ stream. FailsAt device tells site old before stream e was is new))) (sym same) (by_err read r left closes all (fails_so read r left front))

@@ -11,7 +11,7 @@ use Rattle.http_front.specs.Requests.{Brings, BringsAll, IfSucceeded, brigades_f
 use Rattle.http_front.specs.declared.fault.FrontKind.{FrontKind}
 use Rattle.http_front.specs.declared.running.Ended.{Ended}
 use Rattle.http_front.specs.declared.running.Ended.TheVariants as ended
-use Rattle.http_front.proofs.Driving.{alive_then, leads_on, leads_still}
+use Rattle.filter_chain.proofs.Driving.{alive_then, leads_on, leads_still}
 
 module _ {F : Type 0} (device : F → Device) (number : ℕ) where
   pub brings_same : (old new : Host F) (r : Result Ended FrontKind) (p q : List Piece) → p ≡ q
@@ -25,13 +25,13 @@ pub record IsFeeding {F : Type 0} (device : F → Device) (old now : Host F) (nu
 
 stopped : (how : Ended) (s : Scene) (A : Type 0) → ¬ (how ≡ ended.Succeeded) → IfSucceeded how A ((how ≡ how) × (s ≡ s))
 stopped ended.Succeeded s A not = absurd (not refl)
-stopped ended.Failed s A not = (refl, refl)
-stopped ended.Broke s A not = (refl, refl)
+stopped (ended.Failed why) s A not = (refl, refl)
+stopped (ended.Broke why) s A not = (refl, refl)
 
 ends_either : (how : Ended) (s : Scene) → IfSucceeded how ((how ≡ ended.Succeeded) × (s ≡ s)) ((how ≡ how) × (s ≡ s))
 ends_either ended.Succeeded s = (refl, refl)
-ends_either ended.Failed s = (refl, refl)
-ends_either ended.Broke s = (refl, refl)
+ends_either (ended.Failed why) s = (refl, refl)
+ends_either (ended.Broke why) s = (refl, refl)
 
 module _ {F : Type 0} (device : F → Device) (number file len : ℕ) where
   pub feeding_begins : (host : Host F) (left : ℕ) → left ≡ (len - 1) / piece_bytes → IsAlive device host → IsFeeding device host host number file len 0 left

@@ -5,8 +5,6 @@ pub mod ServingLaws
 pub mod Stepped
 pub mod Literal
 pub mod SitePaths
-pub mod Driving
-pub mod StepCounts
 pub mod RunLaws
 pub mod FeedLaws
 pub mod RequestLaws

@@ -1,5 +1,5 @@
 -- A request is handled, event by event.
-use Rattle.std.proofs.Common.{◌≡◌, ℕ, List, Some, None, Result, Ok, Err, IfOk, refl, sym, subst}
+use Rattle.std.proofs.Common.{◌≡◌, ℕ, List, Option, Some, None, Result, Ok, Err, IfOk, refl, sym, subst}
 use Rattle.run_model.specs.declared.event.Event.TheVariants as event
 use Rattle.run_model.specs.declared.event.Refusal.{Refusal}
 use Rattle.run_model.specs.Worlds.{Done, Opened, Output, Refused}
@@ -7,31 +7,32 @@ use Rattle.bucket_kinds.specs.Device.{Device}
 use Rattle.filter_chain.specs.declared.host.Host.{Host}
 use Rattle.filter_chain.specs.Scenes.{Acts}
 use Rattle.http_front.specs.Driven.{Leads}
-use Rattle.http_front.specs.Outcomes.{IsBare}
+use Rattle.http_front.specs.Outcomes.{IsUnserved}
 use Rattle.http_front.specs.Requests.{BringsAll, ComesOf, EndsBare, EndsRequest, EndsWithOutput, Feeds, Finishes, IfSucceeded, Inits, Opens, OpensUnless, Runs, TakesOutput, brigades_for, lack_of, unopened}
+use Rattle.http_front.specs.declared.failure.Failure.{Failure}
+use Rattle.http_front.specs.declared.failure.Failure.TheVariants as failure
 use Rattle.http_front.specs.declared.fault.FrontKind.{FrontKind}
 use Rattle.http_front.specs.declared.handler.Outcome.{Outcome}
 use Rattle.http_front.specs.declared.reply.Method.{Method}
 use Rattle.http_front.specs.declared.running.Ended.{Ended}
-use Rattle.http_front.specs.declared.status.Status.{Status}
-use Rattle.http_front.specs.declared.status.Status.TheVariants.{Success, InternalServerError}
-use Rattle.http_front.proofs.Driving.{Happened, by_event, leads_as, leads_on, leads_ok}
+use Rattle.http_front.specs.declared.status.Status.TheVariants.{Success}
+use Rattle.filter_chain.proofs.Driving.{Happened, by_event, leads_as, leads_on, leads_ok}
 
 module _ {F : Type 0} (device : F → Device) (number : ℕ) where
   module _ (old new : Host F) where
-    pub output_taken : (o : Outcome) (bytes : List ℕ) → o.status ≡ Success → o.body.items ≡ bytes → Happened device old new number event.TakeOutput (Output bytes)
+    pub output_taken : (o : Outcome) (bytes : List ℕ) → o.status ≡ Success → o.body ≡ bytes → o.failure ≡ None → Happened device old new number event.TakeOutput (Output bytes)
         → Leads device old new (λ b c s t. TakesOutput b c number s o t)
-    output_taken o bytes status body h =
+    output_taken o bytes status body well h =
         leads_as device old new (λ b c s t. Acts b c number event.TakeOutput s (Output bytes) t) (λ b c s t. TakesOutput b c number s o t)
-        (λ b c s t a. record { answer = Ok bytes; acts = a; gives = (status, body) }) (by_event device old new number event.TakeOutput (Output bytes) h)
+        (λ b c s t a. record { answer = Ok bytes; acts = a; gives = (status, body, well) }) (by_event device old new number event.TakeOutput (Output bytes) h)
 
-    pub output_refused : (o : Outcome) (why : Refusal) → IsBare InternalServerError o → Happened device old new number event.TakeOutput (Refused why)
+    pub output_refused : (o : Outcome) (why : Refusal) → IsUnserved (Some (failure.Refused why)) o → Happened device old new number event.TakeOutput (Refused why)
         → Leads device old new (λ b c s t. TakesOutput b c number s o t)
     output_refused o why bare h =
         leads_as device old new (λ b c s t. Acts b c number event.TakeOutput s (Refused why) t) (λ b c s t. TakesOutput b c number s o t)
         (λ b c s t a. record { answer = Err why; acts = a; gives = bare }) (by_event device old new number event.TakeOutput (Refused why) h)
 
-    pub bare_finished : (status : Status) (o : Outcome) → IsBare status o → Leads device old new (λ b c s t. EndsRequest b c number s t) → Leads device old new (λ b c s t. EndsBare b c number status s o t)
+    pub bare_finished : (status : Option Failure) (o : Outcome) → IsUnserved status o → Leads device old new (λ b c s t. EndsRequest b c number s t) → Leads device old new (λ b c s t. EndsBare b c number status s o t)
     bare_finished status o bare = leads_as device old new (λ b c s t. EndsRequest b c number s t) (λ b c s t. EndsBare b c number status s o t) (λ b c s t e. (bare, e))
 
   module _ (old mid new : Host F) where
@@ -58,12 +59,12 @@ module _ {F : Type 0} (device : F → Device) (number : ℕ) where
           (λ o b c s t. Feeds b c number init method file s o t) (λ o b c s t. Opens b c number init method name s o t)
           (λ o b c s m t x y. record { answer = Ok file; mid = m; acts = x; feeds = y }) (by_event device old mid number (event.OpenFile name) (Opened file.0 file.1) h)
 
-      pub open_refused : (init : Ended) (method : Method) (name : List ℕ) (why : Refusal) (status : Status) → status ≡ unopened why → lack_of why ≡ None → Happened device old mid number (event.OpenFile name) (Refused why)
+      pub open_refused : (init : Ended) (method : Method) (name : List ℕ) (why : Refusal) (status : Option Failure) → status ≡ unopened why → lack_of why ≡ None → Happened device old mid number (event.OpenFile name) (Refused why)
           → Leads device mid new (λ b c s t. IfOk r (λ o. EndsBare b c number status s o t)) → Leads device old new (λ b c s t. IfOk r (λ o. Opens b c number init method name s o t))
       open_refused init method name why status is well h ends = leads_ok device r old mid new (λ b c s t. Acts b c number (event.OpenFile name) s (Refused why) t)
           (λ o b c s t. EndsBare b c number (unopened why) s o t) (λ o b c s t. Opens b c number init method name s o t)
           (λ o b c s m t x y. record { answer = Err why; mid = m; acts = x; feeds = (well, y) }) (by_event device old mid number (event.OpenFile name) (Refused why) h)
-          (subst (λ (x : Status). Leads device mid new (λ b c s t. IfOk r (λ o. EndsBare b c number x s o t))) is ends)
+          (subst (λ (x : Option Failure). Leads device mid new (λ b c s t. IfOk r (λ o. EndsBare b c number x s o t))) is ends)
 
       pub inited : (init : Ended) (method : Method) (name : List ℕ) → Leads device old mid (λ b c s t. Runs b c number s init t)
           → Leads device mid new (λ b c s t. IfOk r (λ o. OpensUnless b c number init method name s o t)) → Leads device old new (λ b c s t. IfOk r (λ o. Inits b c number method name s o t))
@@ -77,7 +78,7 @@ module _ {F : Type 0} (device : F → Device) (number : ℕ) where
           (λ o b c s t. Inits b c number method name s o t) (λ o b c s t. ComesOf b c number method name s o t)
           (λ o b c s m t x y. record { answer = None; mid = m; acts = x; inits = y }) (by_event device old mid number event.Begin Done h)
 
-  pub begin_refused : (old new : Host F) (method : Method) (name : List ℕ) (why : Refusal) (o : Outcome) → lack_of why ≡ None → IsBare InternalServerError o → Happened device old new number event.Begin (Refused why)
+  pub begin_refused : (old new : Host F) (method : Method) (name : List ℕ) (why : Refusal) (o : Outcome) → lack_of why ≡ None → IsUnserved (Some (failure.Refused why)) o → Happened device old new number event.Begin (Refused why)
       → Leads device old new (λ b c s t. ComesOf b c number method name s o t)
   begin_refused old new method name why o well bare h =
       leads_as device old new (λ b c s t. Acts b c number event.Begin s (Refused why) t) (λ b c s t. ComesOf b c number method name s o t)

@@ -1,5 +1,6 @@
 -- Serving a connection, read by read.
 use Rattle.std.proofs.Common.{◌≡◌, ℕ, ◌⊎◌, inl, inr, List, Option, Result, Ok, Err, refl, sym, subst}
+use Rattle.http_front.specs.Clocks.{Said}
 use Rattle.http_front.specs.Serving.{Adds, Loses, SoFar, Goes, FailsBy}
 use Rattle.http_front.specs.declared.fault.FrontKind.{FrontKind}
 use Rattle.http_front.specs.declared.fault.FrontKind.TheVariants as kind
@@ -11,7 +12,7 @@ use Rattle.http_front.specs.declared.site.Site.{Site}
 use Rattle.http_front.proofs.ServingLaws.{far_front, far_read}
 use Rattle.std.specs.Prelude.{Bool, IfErr}
 
-module _ {H K : Type 0} (site : Site) (handles : H → Method → List ℕ → Outcome → H → Type 0) (tells : K → ℕ → K → Type 0) where
+module _ {H K : Type 0} (site : Site) (handles : H → Method → List ℕ → Outcome → H → Type 0) (tells : K → Said → K → Type 0) where
   -- what comes next, by an equal result
   pub next_is : (old : H) (before : K) (r q w v : Option (List ℕ)) (whole : Bool) (unread : List ℕ) (n : ℕ) (new : H) (after : K) (given result : Result Next FrontKind)
       → given ≡ result → Goes site handles tells old before r q w v whole unread n new after given → Goes site handles tells old before r q w v whole unread n new after result

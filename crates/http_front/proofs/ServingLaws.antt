@@ -5,6 +5,7 @@ use Rattle.std.proofs.lemmas.Grind.{flat_map-append}
 use Rattle.std.proofs.KnownBytes.{Appends-nil, Appends-trans, Consumes-nil, Consumes-trans}
 use Rattle.std.specs.Io.KnownBytes.{Appends, Consumes, Keeps, IsAtEnd}
 use Rattle.httparse.specs.Grammar.{RequestHead, print_request}
+use Rattle.http_front.specs.Clocks.{Said}
 use Rattle.http_front.specs.Heads.{BeginsWithin, StaysHeadless}
 use Rattle.http_front.specs.Replying.{reply_text}
 use Rattle.http_front.specs.Turns.{Turn, AllStay, Answers, AnswersAll, SendsBad, heads_of, texts_of, head_limit, fields_limit, EndsAll, ClosesAfter, RefusesAfter, Responses, IsFront, IsCut}
@@ -46,7 +47,7 @@ left_of stream taken (Some rest) took = (rest, refl, took)
 at_end : (q : Option (List ℕ)) (rest : List ℕ) → q ≡ Some rest → IsAtEnd q → rest ≡ []
 at_end q rest same end = subst IsAtEnd same end
 
-module _ {H K : Type 0} (site : Site) (handles : H → Method → List ℕ → Outcome → H → Type 0) (tells : K → ℕ → K → Type 0) where
+module _ {H K : Type 0} (site : Site) (handles : H → Method → List ℕ → Outcome → H → Type 0) (tells : K → Said → K → Type 0) where
   abbrev pub Far : H → K → Option (List ℕ) → Option (List ℕ) → Option (List ℕ) → Option (List ℕ) → List ℕ → ℕ → H → K → Type 0
   Far = SoFar site handles tells
 

@@ -4,11 +4,12 @@ use Rattle.std.specs.Prelude.{Result, IfOk}
 use Rattle.std.proofs.lemmas.Bool.{leb-true, le-leb}
 use Rattle.std.proofs.lemmas.List.{drop_all, take_all}
 use Rattle.httparse.specs.Grammar.{RequestHead, print_request}
-use Rattle.httparse.specs.Spans.{IsRequestAt, IsRequestWithin}
+use Rattle.httparse.specs.Spans.{IsRequestAt, IsRequestWithin, span_bytes}
 use Rattle.httparse.specs.declared.spans.HeaderSpan.{HeaderSpan}
 use Rattle.httparse.specs.declared.spans.RequestSpans.{RequestSpans}
 use Rattle.httparse.proofs.GrammarLemmas.{print_request-append}
 use Rattle.percent_encoding.specs.Percent.{percent_decode}
+use Rattle.http_front.specs.Clocks.{Said, IsNoted}
 use Rattle.http_front.specs.Asking.{target_path}
 use Rattle.http_front.specs.Heads.{BeginsWithin, StaysHeadless}
 use Rattle.http_front.specs.Looking.{IsFound}
@@ -94,30 +95,30 @@ done_wider : (limit : ℕ) (seen : List ℕ) (whole : Bool) → (whole && nat_le
 done_wider limit seen true is none = (refl, sym (take_all limit seen (leb-true (length seen) limit is)) ∙ none)
 done_wider limit seen false is none = cc
 
-module _ {H K : Type 0} (site : Site) (handles : H → Method → List ℕ → Outcome → H → Type 0) (tells : K → ℕ → K → Type 0) where
+module _ {H K : Type 0} (site : Site) (handles : H → Method → List ℕ → Outcome → H → Type 0) (tells : K → Said → K → Type 0) where
   -- a head that was found is answered
-  pub serves : (old new : H) (before after : K) (seen : List ℕ) (spans : List HeaderSpan) (head : RequestSpans) (r : Reply) (closes : Bool) (text : List ℕ)
+  pub serves : (old new : H) (before after : K) (seen : List ℕ) (spans : List HeaderSpan) (head : RequestSpans) (r : Reply) (closes : Bool) (text method target : List ℕ)
       → IsRequestWithin seen spans head → length spans ≡ fields_limit → IsFound head_limit seen spans head
       → ((h : RequestHead) → IsRequestAt seen spans head h → IsReplied site handles old h r new)
-      → IsWritten tells before r text after → r.closes ≡ closes
+      → method ≡ span_bytes seen head.method → target ≡ span_bytes seen head.path → IsWritten tells before method target r text after → r.closes ≡ closes
       → Serves site handles tells old before seen closes head.len text new after
-  serves old new before after seen spans head r closes text within room found replied written is =
+  serves old new before after seen spans head r closes text method target within room found replied sent named written is =
       let says = replied found.0 found.1 in
       record {
         turn = record { head = found.0; reply = r; date = written.date };
         begins = subst (λ (n : ℕ). BeginsWithin head_limit n seen found.0 (drop head.len seen)) room found.2;
         fits = within.section.len_fits;
         some = subst (λ (n : ℕ). 0 < n) (sym found.1.len) (some_bytes found.0);
-        answers = record { outcome = says.outcome; comes = says.comes; reply = says.reply; dated = written.dated };
+        answers = record { outcome = says.outcome; comes = says.comes; reply = says.reply; then = written.then; dated = written.dated; noted = subst (λ m. IsNoted tells written.then m found.0.target r after) (sent ∙ found.1.method) (subst (λ t. IsNoted tells written.then method t r after) (named ∙ found.1.path) written.noted) };
         written = written.written;
         goes_on = is;
       }
 
   -- a bad reply is sent
-  pub sends_bad : (before after : K) (r : Reply) (text : List ℕ) → IsBadReply r → IsWritten tells before r text after
+  pub sends_bad : (before after : K) (r : Reply) (text : List ℕ) → IsBadReply r → IsWritten tells before [] [] r text after
       → SendsBad site handles tells before text after
   sends_bad before after r text bad w =
-      record { reply = r; date = w.date; bad = bad; dated = w.dated; written = w.written }
+      record { reply = r; date = w.date; bad = bad; then = w.then; dated = w.dated; noted = w.noted; written = w.written }
 
   serves_wider : (old new : H) (before after : K) (seen : List ℕ) (closes : Bool) (size : ℕ) (text : List ℕ)
       → Serves site handles tells old before (take head_limit seen) closes size text new after

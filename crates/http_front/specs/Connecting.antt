@@ -9,13 +9,16 @@ use Rattle.run_model.specs.Worlds.{Connected, Labels, Refused}
 use Rattle.bucket_kinds.specs.Device.{Device}
 use Rattle.filter_chain.specs.declared.host.Host.{Host}
 use Rattle.filter_chain.specs.Scenes.{Scene, Acts}
+use Rattle.http_front.specs.Clocks.{Said}
 use Rattle.http_front.specs.Driven.{Leads, Handles}
 use Rattle.http_front.specs.Requests.{Runs}
-use Rattle.http_front.specs.Turns.{IsCut, Responses}
+use Rattle.http_front.specs.Turns.{IsCut, IsFront, Responses}
 use Rattle.http_front.specs.declared.fault.FrontFault.{FrontFault}
 use Rattle.http_front.specs.declared.fault.FrontKind.{FrontKind}
 use Rattle.http_front.specs.declared.fault.FrontKind.TheVariants as kind
 use Rattle.http_front.specs.declared.fault.Served.{Served}
+use Rattle.http_front.specs.declared.handler.Outcome.{Outcome}
+use Rattle.http_front.specs.declared.reply.Method.{Method}
 use Rattle.http_front.specs.declared.running.Ended.{Ended}
 use Rattle.http_front.specs.declared.site.Site.{Site}
 
@@ -43,7 +46,19 @@ module _ (budget : ℕ) (chain : List Program) (number : ℕ) where
   IsClosed None old new = (labels : List (List ℕ)) × Acts budget chain number event.Close old (Labels labels) new
   IsClosed (Some n) old new = (n ≡ number) × (why : Refusal) × Acts budget chain number event.Close old (Refused why) new
 
-module _ {F K : Type 0} (device : F → Device) (tells : K → ℕ → K → Type 0) (site : Site) where
+module _ {H K : Type 0} (site : Site) (handles : H → Method → List ℕ → Outcome → H → Type 0) (tells : K → Said → K → Type 0) where
+  -- What is written of the responses to a stream, where serving it ends by this kind of fault. Only where the writer failed, the last response
+  -- may be cut. All are written, where no more than the close lacks memory.
+  abbrev pub FallsBy : FrontKind → Option ℕ → H → K → List ℕ → List ℕ → Type 0
+  FallsBy kind.Write left old before stream text = IsCut site handles tells old before stream text
+  FallsBy kind.Read left old before stream text = IsFront site handles tells old before stream text
+  FallsBy kind.TooManyReads left old before stream text = IsFront site handles tells old before stream text
+  FallsBy kind.NamesSpent left old before stream text = IsFront site handles tells old before stream text
+  FallsBy kind.NoMemory left old before stream text =
+      IsFront site handles tells old before stream text
+      ⊎ (¬ (left ≡ None) × (n : ℕ) × (new : H) × (after : K) × Responses site handles tells old before stream text n new after)
+
+module _ {F K : Type 0} (device : F → Device) (tells : K → Said → K → Type 0) (site : Site) where
   -- A connection is opened, its requests are served so, and it is closed, or left. old, opened, served, new: the host before and after each.
   pub record Connects (old new : Host F) (left : Option ℕ) (serves : ℕ → Host F → Host F → Type 0) : Type 0 where
     pub number : ℕ
@@ -59,10 +74,10 @@ module _ {F K : Type 0} (device : F → Device) (tells : K → ℕ → K → Typ
     pub connects : Connects old new None (λ number a z. Responses site (λ o. Handles device o number) tells a before stream text count z after)
     pub written : Appends was is text
 
-  -- The front of the responses is written.
-  pub record ServesFront (old : Host F) (before : K) (stream : List ℕ) (left : Option ℕ) (was is : Option (List ℕ)) (new : Host F) : Type 0 where
+  -- The front of the responses is written, as far as the kind of the fault tells.
+  pub record ServesFront (old : Host F) (before : K) (stream : List ℕ) (e : FrontFault) (was is : Option (List ℕ)) (new : Host F) : Type 0 where
     pub text : List ℕ
-    pub connects : Connects old new left (λ number a z. IsCut site (λ o. Handles device o number) tells a before stream text)
+    pub connects : Connects old new e.left (λ number a z. FallsBy site (λ o. Handles device o number) tells e.kind e.left a before stream text)
     pub written : Appends was is text
 
   -- No connection is opened, and nothing is written.
@@ -74,4 +89,4 @@ module _ {F K : Type 0} (device : F → Device) (tells : K → ℕ → K → Typ
     pub written : Appends was is []
 
   abbrev pub FailsAt : Host F → K → List ℕ → FrontFault → Option (List ℕ) → Option (List ℕ) → Host F → Type 0
-  FailsAt old before stream e was is new = IsUnopened old e was is new ⊎ ServesFront old before stream e.left was is new
+  FailsAt old before stream e was is new = IsUnopened old e was is new ⊎ ServesFront old before stream e was is new

@@ -1,36 +1,12 @@
--- What a host of chains is led through, by the devices of its files.
-use Rattle.std.specs.Prelude.{◌≡◌, ℕ, List}
-use Rattle.module_lang.specs.Program.{Program}
-use Rattle.run_model.specs.Worlds.{World}
+-- How a host of chains handles a request, by the devices of its files.
+use Rattle.std.specs.Prelude.{ℕ, List}
 use Rattle.bucket_kinds.specs.Device.{Device}
 use Rattle.filter_chain.specs.declared.host.Host.{Host}
-use Rattle.filter_chain.specs.Hosting.{IsHosting, budget_of, chain_of, files_of}
-use Rattle.filter_chain.specs.Scenes.{Scene, scene}
+pub use Rattle.filter_chain.specs.Led.{Deed, IsAlive, Leads, LeadsFrom}
 use Rattle.http_front.specs.Requests.{ComesOf}
 use Rattle.http_front.specs.declared.handler.Outcome.{Outcome}
 use Rattle.http_front.specs.declared.reply.Method.{Method}
 
--- what may happen between two scenes, with this budget and chain
-abbrev pub Deed : Type 1
-Deed = ℕ → List Program → Scene → Scene → Type 0
-
-module _ {F : Type 0} (device : F → Device) where
-  -- The host stands for some world.
-  abbrev pub IsAlive : Host F → Type 0
-  IsAlive host = (w : World) × IsHosting (device (files_of host)) host w
-
-  -- From this world the deed was done, and the host stands for what it leaves, on the same chain, with the same budget.
-  pub record LeadsFrom (old new : Host F) (does : Deed) (w : World) : Type 0 where
-    pub to : World
-    pub did : does (budget_of old) (chain_of old) (scene w (device (files_of old))) (scene to (device (files_of new)))
-    pub hosts : IsHosting (device (files_of new)) new to
-    pub chain : chain_of new ≡ chain_of old
-    pub budget : budget_of new ≡ budget_of old
-
-  -- So it is from each world that the host stands for.
-  abbrev pub Leads : Host F → Host F → Deed → Type 0
-  Leads old new does = (w : World) → IsHosting (device (files_of old)) old w → LeadsFrom old new does w
-
-  -- A request for a file on the connection of this number comes to this outcome.
-  abbrev pub Handles : Host F → ℕ → Method → List ℕ → Outcome → Host F → Type 0
-  Handles old number method file o new = Leads old new (λ budget chain s t. ComesOf budget chain number method file s o t)
+-- A request for a file on the connection of this number comes to this outcome.
+abbrev pub Handles : {F : Type 0} → (F → Device) → Host F → ℕ → Method → List ℕ → Outcome → Host F → Type 0
+Handles device old number method file o new = Leads device old new (λ budget chain s t. ComesOf budget chain number method file s o t)

@@ -3,6 +3,7 @@ pub mod Looking
 pub mod Fields
 pub mod Asking
 pub mod Replying
+pub mod Clocks
 pub mod Routes
 pub mod Sites
 pub mod Inboxes

@@ -3,6 +3,7 @@ use Rattle.std.specs.Prelude.{◌≡◌, ℕ, ◌==◌, true, ◌||◌, if◌the
 use Rattle.httparse.specs.Grammar.{RequestHead}
 use Rattle.percent_encoding.specs.Percent.{percent_decode}
 use Rattle.http_front.specs.Asking.{target_path, head_closes, status_closes}
+use Rattle.http_front.specs.declared.failure.Failure.{Failure}
 use Rattle.http_front.specs.declared.fault.FrontKind.{FrontKind}
 use Rattle.http_front.specs.declared.fault.FrontKind.TheVariants as kind
 use Rattle.http_front.specs.declared.handler.Outcome.{Outcome}
@@ -13,7 +14,7 @@ use Rattle.http_front.specs.declared.reply.Version.{Version}
 use Rattle.http_front.specs.declared.reply.Version.TheVariants.{Http10, Http11}
 use Rattle.http_front.specs.declared.site.Site.{Site}
 use Rattle.http_front.specs.declared.status.Status.{Status}
-use Rattle.http_front.specs.declared.status.Status.TheVariants.{BadRequest}
+use Rattle.http_front.specs.declared.status.Status.TheVariants.{BadRequest, NotFound, InternalServerError}
 use Rattle.http_front.specs.Sites.{route_of}
 
 -- memory or names are lacking
@@ -39,7 +40,12 @@ file_of site h = file_at site (target_path h.target)
 
 -- the outcome is this status, without content
 abbrev pub IsBare : Status → Outcome → Type 0
-IsBare status o = (o.status ≡ status) × (o.body.items ≡ [])
+IsBare status o = (o.status ≡ status) × (o.body ≡ []) × (o.failure ≡ None)
+
+-- the outcome is 500 for a failure, and 404 where there is none, without content
+abbrev pub IsUnserved : Option Failure → Outcome → Type 0
+IsUnserved None o = IsBare NotFound o
+IsUnserved (Some failure) o = (o.status ≡ InternalServerError) × (o.body ≡ []) × (o.failure ≡ Some failure)
 
 -- the reply to a head
 pub record IsReplyTo (h : RequestHead) (o : Outcome) (r : Reply) : Type 0 where
@@ -47,7 +53,8 @@ pub record IsReplyTo (h : RequestHead) (o : Outcome) (r : Reply) : Type 0 where
   pub version : r.version ≡ version_of h.minor
   pub method : r.method ≡ method_of h.method
   pub closes : r.closes ≡ (head_closes h || status_closes o.status)
-  pub body : r.body.items ≡ o.body.items
+  pub body : r.body ≡ o.body
+  pub failure : r.failure ≡ o.failure
 
 -- the reply where there is no head
 pub record IsBadReply (r : Reply) : Type 0 where
@@ -55,4 +62,5 @@ pub record IsBadReply (r : Reply) : Type 0 where
   pub version : r.version ≡ Http11
   pub method : r.method ≡ Other
   pub closes : r.closes ≡ true
-  pub body : r.body.items ≡ []
+  pub body : r.body ≡ []
+  pub failure : r.failure ≡ None

@@ -63,21 +63,21 @@ head_text status date allow connection framing chunk =
 
 -- the size line of the chunk, if the body goes out in chunks
 abbrev pub chunk_line : Reply → List ℕ
-chunk_line r = if has_chunks r.status r.version r.method then size_line (length r.body.items) else []
+chunk_line r = if has_chunks r.status r.version r.method then size_line (length r.body) else []
 
 -- the text before the body, where date is the Date line
 unfoldable pub opening : Reply → List ℕ → List ℕ
 opening r date =
     head_text (status_text r.status) date (allow_line r.status) (connection_line r.closes)
-    (framing_line r.status r.version r.method (length r.body.items)) (chunk_line r)
+    (framing_line r.status r.version r.method (length r.body)) (chunk_line r)
 
 -- the body, as it lies
 unfoldable pub middle : Reply → List ℕ
-middle r = if has_body r.status r.method then r.body.items else []
+middle r = if has_body r.status r.method then r.body else []
 
 -- the text after the body
 unfoldable pub closing : Reply → List ℕ
-closing r = if has_chunks r.status r.version r.method then last_chunk (length r.body.items) else []
+closing r = if has_chunks r.status r.version r.method then last_chunk (length r.body) else []
 
 -- the whole response
 unfoldable pub reply_text : Reply → List ℕ → List ℕ

@@ -2,6 +2,7 @@
 use Rattle.std.specs.Prelude.{◌≡◌, ℕ, zero, suc, ◌+◌, ◌-◌, ◌/◌, List, [], ◌∷◌, Option, Some, None, Result, Ok, Err}
 use Rattle.module_lang.specs.Program.{Program}
 use Rattle.module_lang.specs.declared.instr.Status.TheVariants as call
+use Rattle.run_model.specs.declared.event.Cause.TheVariants as cause
 use Rattle.run_model.specs.declared.event.Event.TheVariants as event
 use Rattle.run_model.specs.declared.event.Piece.{Piece}
 use Rattle.run_model.specs.declared.event.Piece.TheVariants as piece
@@ -9,10 +10,12 @@ use Rattle.run_model.specs.declared.event.Refusal.{Refusal}
 use Rattle.run_model.specs.declared.event.Refusal.TheVariants as refusal
 use Rattle.run_model.specs.declared.event.Stepped.{Stepped}
 use Rattle.run_model.specs.declared.event.Stepped.TheVariants as stepped
-use Rattle.run_model.specs.Worlds.{Step}
-use Rattle.filter_chain.specs.Hosting.{done_answer, file_answer, output_answer, step_answer}
+use Rattle.filter_chain.specs.Hosting.{done_answer, file_answer, output_answer}
+use Rattle.filter_chain.specs.Running as steps
 use Rattle.filter_chain.specs.Scenes.{Scene, Acts}
-use Rattle.http_front.specs.Outcomes.{IsBare}
+use Rattle.http_front.specs.Outcomes.{IsUnserved}
+use Rattle.http_front.specs.declared.failure.Failure.{Failure}
+use Rattle.http_front.specs.declared.failure.Failure.TheVariants as failure
 use Rattle.http_front.specs.declared.fault.FrontKind.{FrontKind}
 use Rattle.http_front.specs.declared.fault.FrontKind.TheVariants as kind
 use Rattle.http_front.specs.declared.handler.Outcome.{Outcome}
@@ -20,8 +23,7 @@ use Rattle.http_front.specs.declared.reply.Method.{Method}
 use Rattle.http_front.specs.declared.reply.Method.TheVariants.{Get, Head, Other}
 use Rattle.http_front.specs.declared.running.Ended.{Ended}
 use Rattle.http_front.specs.declared.running.Ended.TheVariants as ended
-use Rattle.http_front.specs.declared.status.Status.{Status}
-use Rattle.http_front.specs.declared.status.Status.TheVariants.{Success, NotFound, InternalServerError}
+use Rattle.http_front.specs.declared.status.Status.TheVariants.{Success}
 
 -- The brigades of a file.
 
@@ -57,45 +59,40 @@ lack_of refusal.NoMemory = Some kind.NoMemory
 lack_of refusal.NamesSpent = Some kind.NamesSpent
 lack_of r = None
 
+-- an instruction had a fault
+abbrev pub faulted : Failure
+faulted = failure.Refused (refusal.Broken cause.Faulted)
+
 -- how a call ended, by the answer of its last step
 abbrev pub ended_of : Result Stepped Refusal → Ended
 ended_of (Ok (stepped.CallEnded call.Success)) = ended.Succeeded
-ended_of (Ok (stepped.CallEnded call.Fail)) = ended.Failed
-ended_of (Ok stepped.Went) = ended.Broke
-ended_of (Ok (stepped.Fault k m pc)) = ended.Broke
-ended_of (Err r) = ended.Broke
+ended_of (Ok (stepped.CallEnded call.Fail)) = ended.Failed failure.Filter
+ended_of (Ok stepped.Went) = ended.Broke faulted
+ended_of (Ok (stepped.Fault k m pc)) = ended.Broke faulted
+ended_of (Err r) = ended.Broke (failure.Refused r)
 
--- the status where a file is not opened
-abbrev pub unopened : Refusal → Status
-unopened refusal.NoFile = NotFound
-unopened r = InternalServerError
+-- the failure where a file is not opened: none where it is not there
+abbrev pub unopened : Refusal → Option Failure
+unopened refusal.NoFile = None
+unopened r = Some (failure.Refused r)
 
 abbrev pub IfSucceeded : Ended → Type 0 → Type 0 → Type 0
 IfSucceeded ended.Succeeded then other = then
-IfSucceeded ended.Failed then other = other
-IfSucceeded ended.Broke then other = other
+IfSucceeded (ended.Failed why) then other = other
+IfSucceeded (ended.Broke why) then other = other
 
 -- a 200 with the output
 abbrev pub IsOutput : Result (List ℕ) Refusal → Outcome → Type 0
-IsOutput (Ok bytes) o = (o.status ≡ Success) × (o.body.items ≡ bytes)
-IsOutput (Err r) o = IsBare InternalServerError o
+IsOutput (Ok bytes) o = (o.status ≡ Success) × (o.body ≡ bytes) × (o.failure ≡ None)
+IsOutput (Err r) o = IsUnserved (Some (failure.Refused r)) o
 
 -- The events, on the connection of this number.
 
 module _ (budget : ℕ) (chain : List Program) (number : ℕ) where
-  -- So many steps go on, one after another.
-  unfoldable pub GoesOn : ℕ → Scene → Scene → Type 0
-  GoesOn zero old new = new ≡ old
-  GoesOn (suc n) old new = (mid : Scene) × Acts budget chain number event.Step old (Step stepped.Went) mid × GoesOn n mid new
-
   -- Steps are made until one answers something else than that it went.
   pub record Runs (old : Scene) (how : Ended) (new : Scene) : Type 0 where
-    pub count : ℕ
-    pub before : Scene
     pub answer : Result Stepped Refusal
-    pub goes : GoesOn count old before
-    pub last : Acts budget chain number event.Step before (step_answer answer) new
-    pub stops : ¬ (answer ≡ Ok stepped.Went)
+    pub runs : steps.Runs budget chain number old answer new
     pub told : how ≡ ended_of answer
 
   -- The request ends, if it does not lack memory.
@@ -107,7 +104,7 @@ module _ (budget : ℕ) (chain : List Program) (number : ℕ) where
   -- A call was to begin: it runs to its end, or it was refused, for what it does not lack.
   abbrev pub RunsUnless : Option Refusal → Scene → Ended → Scene → Type 0
   RunsUnless None old how new = Runs old how new
-  RunsUnless (Some r) old how new = (lack_of r ≡ None) × (how ≡ ended.Failed) × (new ≡ old)
+  RunsUnless (Some r) old how new = (lack_of r ≡ None) × (how ≡ ended.Failed (failure.Refused r)) × (new ≡ old)
 
   -- A brigade is brought, and its call runs to its end.
   pub record Brings (pieces : List Piece) (old : Scene) (how : Ended) (new : Scene) : Type 0 where
@@ -122,9 +119,9 @@ module _ (budget : ℕ) (chain : List Program) (number : ℕ) where
   BringsAll (b ∷ bs) old how new =
       (first : Ended) × (mid : Scene) × Brings b old first mid × IfSucceeded first (BringsAll bs mid how new) ((how ≡ first) × (new ≡ mid))
 
-  -- The request ends with this status, without content.
-  abbrev pub EndsBare : Status → Scene → Outcome → Scene → Type 0
-  EndsBare status old o new = IsBare status o × EndsRequest old new
+  -- The request ends without content.
+  abbrev pub EndsBare : Option Failure → Scene → Outcome → Scene → Type 0
+  EndsBare why old o new = IsUnserved why o × EndsRequest old new
 
   -- The output is taken.
   pub record TakesOutput (old : Scene) (o : Outcome) (new : Scene) : Type 0 where
@@ -139,8 +136,8 @@ module _ (budget : ℕ) (chain : List Program) (number : ℕ) where
   -- What a request comes to whose calls ended so. The request of a broken connection does not end.
   abbrev pub Finishes : Ended → Scene → Outcome → Scene → Type 0
   Finishes ended.Succeeded old o new = EndsWithOutput old o new
-  Finishes ended.Failed old o new = EndsBare InternalServerError old o new
-  Finishes ended.Broke old o new = IsBare InternalServerError o × (new ≡ old)
+  Finishes (ended.Failed why) old o new = EndsBare (Some why) old o new
+  Finishes (ended.Broke why) old o new = IsUnserved (Some why) o × (new ≡ old)
 
   -- The file is brought, unless `init` failed, and the request finishes.
   pub record Feeds (init : Ended) (method : Method) (file : ℕ × ℕ) (old : Scene) (o : Outcome) (new : Scene) : Type 0 where
@@ -162,8 +159,8 @@ module _ (budget : ℕ) (chain : List Program) (number : ℕ) where
 
   abbrev pub OpensUnless : Ended → Method → List ℕ → Scene → Outcome → Scene → Type 0
   OpensUnless ended.Succeeded method file old o new = Opens ended.Succeeded method file old o new
-  OpensUnless ended.Failed method file old o new = Opens ended.Failed method file old o new
-  OpensUnless ended.Broke method file old o new = IsBare InternalServerError o × (new ≡ old)
+  OpensUnless (ended.Failed why) method file old o new = Opens (ended.Failed why) method file old o new
+  OpensUnless (ended.Broke why) method file old o new = IsUnserved (Some why) o × (new ≡ old)
 
   -- `init` runs, and the request goes on.
   pub record Inits (method : Method) (file : List ℕ) (old : Scene) (o : Outcome) (new : Scene) : Type 0 where
@@ -174,7 +171,7 @@ module _ (budget : ℕ) (chain : List Program) (number : ℕ) where
 
   abbrev pub InitsIf : Option Refusal → Method → List ℕ → Scene → Outcome → Scene → Type 0
   InitsIf None method file old o new = Inits method file old o new
-  InitsIf (Some r) method file old o new = (lack_of r ≡ None) × IsBare InternalServerError o × (new ≡ old)
+  InitsIf (Some r) method file old o new = (lack_of r ≡ None) × IsUnserved (Some (failure.Refused r)) o × (new ≡ old)
 
   -- A request for a file comes to this outcome.
   pub record ComesOf (method : Method) (file : List ℕ) (old : Scene) (o : Outcome) (new : Scene) : Type 0 where

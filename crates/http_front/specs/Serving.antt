@@ -1,6 +1,7 @@
 -- How far serving a connection is, and what it wrote where it is known what the reader had left and what the writer holds.
 use Rattle.std.specs.Prelude.{◌≡◌, ◌≢◌, ℕ, ◌<◌, ◌≤◌, ◌+◌, ◌⊎◌, Bool, true, false, List, [], ◌++◌, length, Option, IfSome, Result, Ok, Err}
 use Rattle.std.specs.Io.KnownBytes.{Consumes, Appends, IsAtEnd}
+use Rattle.http_front.specs.Clocks.{Said}
 use Rattle.http_front.specs.Turns.{Turn, AllStay, AnswersAll, heads_of, texts_of, Responses, IsFront, IsCut}
 use Rattle.http_front.specs.declared.fault.FrontKind.{FrontKind}
 use Rattle.http_front.specs.declared.fault.FrontKind.TheVariants as kind
@@ -26,7 +27,7 @@ pub record Adds (r q : Option (List ℕ)) (old new : List ℕ) (limit : ℕ) (wh
 abbrev pub Loses : Option (List ℕ) → Option (List ℕ) → FrontKind → Type 0
 Loses r q e = ((bytes : List ℕ) × Consumes r q bytes) × ((e ≡ kind.Read) ⊎ (e ≡ kind.NoMemory))
 
-module _ {H K : Type 0} (site : Site) (handles : H → Method → List ℕ → Outcome → H → Type 0) (tells : K → ℕ → K → Type 0) where
+module _ {H K : Type 0} (site : Site) (handles : H → Method → List ℕ → Outcome → H → Type 0) (tells : K → Said → K → Type 0) where
   -- So many requests are answered, and the connection stays open. r, q: what the reader had left, and has. w, v: what the writer held,
   -- and holds. unread: what is read and not answered.
   pub record SoFar (old : H) (before : K) (r q w v : Option (List ℕ)) (unread : List ℕ) (n : ℕ) (new : H) (after : K) : Type 0 where

@@ -2,6 +2,7 @@
 use Rattle.std.specs.Prelude.{◌≡◌, ℕ, ◌<◌, ◌≤◌, Bool, true, false, List, [], length, drop}
 use Rattle.httparse.specs.Grammar.{RequestHead}
 use Rattle.http_front.specs.Asking.{refusal}
+use Rattle.http_front.specs.Clocks.{Said, IsNoted}
 use Rattle.http_front.specs.Heads.{BeginsWithin, StaysHeadless}
 use Rattle.http_front.specs.Outcomes.{IsReplyTo}
 use Rattle.http_front.specs.Replying.{reply_text}
@@ -19,13 +20,15 @@ pub record IsReplied {H : Type 0} (site : Site) (handles : H → Method → List
   pub comes : ComesUnless site handles (refusal h) old h outcome new
   pub reply : IsReplyTo h outcome r
 
--- The text of a reply is made, with the Date line of a moment that the clock told.
-pub record IsWritten {K : Type 0} (tells : K → ℕ → K → Type 0) (before : K) (r : Reply) (text : List ℕ) (after : K) : Type 0 where
+-- The text of a reply to such a request is made, with the Date line of a moment that the clock told. The clock is told of it.
+pub record IsWritten {K : Type 0} (tells : K → Said → K → Type 0) (before : K) (method target : List ℕ) (r : Reply) (text : List ℕ) (after : K) : Type 0 where
   pub date : List ℕ
-  pub dated : IsDated tells before date after
+  pub then : K
+  pub dated : IsDated tells before date then
+  pub noted : IsNoted tells then method target r after
   pub written : text ≡ reply_text r date
 
-module _ {H K : Type 0} (site : Site) (handles : H → Method → List ℕ → Outcome → H → Type 0) (tells : K → ℕ → K → Type 0) where
+module _ {H K : Type 0} (site : Site) (handles : H → Method → List ℕ → Outcome → H → Type 0) (tells : K → Said → K → Type 0) where
   -- The bytes begin with a head of this length, within the limits. It is answered, and closes or not.
   pub record Serves (old : H) (before : K) (seen : List ℕ) (closes : Bool) (size : ℕ) (text : List ℕ) (new : H) (after : K) : Type 0 where
     pub turn : Turn

@@ -3,6 +3,7 @@ use Rattle.std.specs.Prelude.{◌≡◌, ℕ, ◌≤◌, ◌+◌, true, false, L
 use Rattle.std.specs.List.{flat_map}
 use Rattle.httparse.specs.Grammar.{RequestHead, print_request}
 use Rattle.http_front.specs.Asking.{refusal}
+use Rattle.http_front.specs.Clocks.{Said, Moment, IsNoted}
 use Rattle.http_front.specs.Heads.{IsHeadlessWithin}
 use Rattle.http_front.specs.Outcomes.{file_of, method_of, IsBare, IsReplyTo, IsBadReply}
 use Rattle.http_front.specs.Replying.{reply_text, IsDateLine}
@@ -54,21 +55,23 @@ module _ {H : Type 0} (site : Site) (handles : H → Method → List ℕ → Out
   ComesUnless (Some status) old h o new = IsBare status o × (new ≡ old)
   ComesUnless None old h o new = ComesTo (file_of site h) old h o new
 
--- K: a clock. tells: what it tells.
-module _ {K : Type 0} (tells : K → ℕ → K → Type 0) where
+-- K: a clock. tells: what passes between it and the server.
+module _ {K : Type 0} (tells : K → Said → K → Type 0) where
   -- The Date line is that of a moment that the clock told.
   pub record IsDated (before : K) (date : List ℕ) (after : K) : Type 0 where
     pub moment : ℕ
-    pub told : tells before moment after
+    pub told : tells before (Moment moment) after
     pub line : IsDateLine moment date
 
-module _ {H K : Type 0} (site : Site) (handles : H → Method → List ℕ → Outcome → H → Type 0) (tells : K → ℕ → K → Type 0) where
-  -- One request is answered.
+module _ {H K : Type 0} (site : Site) (handles : H → Method → List ℕ → Outcome → H → Type 0) (tells : K → Said → K → Type 0) where
+  -- One request is answered, and the clock is told of it.
   pub record Answers (old : H) (before : K) (t : Turn) (new : H) (after : K) : Type 0 where
     pub outcome : Outcome
     pub comes : ComesUnless site handles (refusal t.head) old t.head outcome new
     pub reply : IsReplyTo t.head outcome t.reply
-    pub dated : IsDated tells before t.date after
+    pub then : K
+    pub dated : IsDated tells before t.date then
+    pub noted : IsNoted tells then t.head.method t.head.target t.reply after
 
   -- These requests are answered, one after another.
   unfoldable pub AnswersAll : H → K → List Turn → H → K → Type 0
@@ -76,12 +79,14 @@ module _ {H K : Type 0} (site : Site) (handles : H → Method → List ℕ → O
   AnswersAll old before (t ∷ turns) new after =
       (mid : H) × (then : K) × Answers old before t mid then × AnswersAll mid then turns new after
 
-  -- What is sent where the bytes at hand begin with no head.
+  -- What is sent where the bytes at hand begin with no head. The clock is told of it, without a method or a target.
   pub record SendsBad (before : K) (text : List ℕ) (after : K) : Type 0 where
     pub reply : Reply
     pub date : List ℕ
     pub bad : IsBadReply reply
-    pub dated : IsDated tells before date after
+    pub then : K
+    pub dated : IsDated tells before date then
+    pub noted : IsNoted tells then [] [] reply after
     pub written : text ≡ reply_text reply date
 
   -- The stream ends with the last of these requests; or the last of them closes, and what follows is not read; or what follows begins

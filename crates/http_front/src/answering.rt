@@ -18,6 +18,7 @@ use crate::refusing::{head_closes, refusal, status_closes};
 use crate::reply::{Method, Reply, Version};
 use crate::site::Site;
 use crate::status::Status;
+use filter_chain::Seq;
 use httparse::spans::{HeaderSpan, RequestSpans};
 use std::alloc::Global;
 
@@ -26,7 +27,8 @@ fn bare(alloc: Global, status: Status) -> Outcome
 {
     Outcome {
         status,
-        body: Vec::new(alloc),
+        body: Seq::new(alloc),
+        failure: None,
     }
 }
 
@@ -148,6 +150,7 @@ pub(crate) fn reply_to<H: Handler>(
         method: method_of(head.method.of(seen)),
         closes: closes_with(head_closes(seen, spans, head), outcome.status),
         body: outcome.body,
+        failure: outcome.failure,
     })
 }
 
@@ -160,6 +163,7 @@ pub(crate) fn bad_reply(alloc: Global) -> Reply
         version: Version::Http11,
         method: Method::Other,
         closes: true,
-        body: Vec::new(alloc),
+        body: Seq::new(alloc),
+        failure: None,
     }
 }

@@ -140,7 +140,7 @@ pub(crate) fn feed<F: Files + Drop>(
 {
     match init {
         Ended::Succeeded => feed_method(alloc, host, number, method, file),
-        Ended::Failed => Ok(Ended::Failed),
-        Ended::Broke => Ok(Ended::Broke),
+        Ended::Failed(why) => Ok(Ended::Failed(why)),
+        Ended::Broke(why) => Ok(Ended::Broke(why)),
     }
 }

@@ -1,20 +1,24 @@
 //! What makes the content of a response.
 
-ghost use Rattle.std.specs.Prelude.{ℕ, List, IfOk, IfErr};
+ghost use Rattle.std.specs.Prelude.{◌≡◌, ℕ, List, IfOk, IfErr};
 ghost use Rattle.http_front.specs.Outcomes.{IsLack};
 
+use crate::failure::Failure;
 use crate::fault::FrontKind;
 use crate::reply::Method;
 use crate::status::Status;
+use filter_chain::Seq;
 use std::alloc::Global;
 
 /// What a request comes to.
-#[derive(Debug, Drop)]
+#[derive(Drop)]
 pub struct Outcome {
     /// The status: 200, or why there is no content.
     pub status: Status,
     /// The content, where a GET succeeds.
-    pub body: Vec<u8>,
+    pub body: Seq<u8>,
+    /// Why the status is 500.
+    pub failure: Option<Failure>,
 }
 
 /// What makes the content of a response from a file, on a connection that it opened.
@@ -40,4 +44,8 @@ pub trait Handler {
         ensures ok { IfOk result (λ o. handles self.old number method file.now o self.new) }
         ensures open { is_open self.new number }
         ensures err { IfErr result IsLack };
+
+    /// Gives back the content of an outcome, which has gone out, so that its room is used again. It changes nothing.
+    fn give_back(&mut self, body: Seq<u8>)
+        ensures { self.new ≡ self.old };
 }

@@ -32,12 +32,16 @@ impl Inbox {
         &self.bytes.as_slice()[self.at..]
     }
 
-    /// Drops the first bytes, which are served.
+    /// Drops the first bytes, which are served. Where none is left, their room is used again.
     pub(crate) fn skip(&mut self, count: usize)
         requires { count ≤ length (unread self.old) }
         ensures { unread self.new ≡ drop count (unread self.old) }
     {
         self.at += count;
+        if self.at == self.bytes.len() {
+            self.at = 0;
+            self.bytes.clear();
+        }
     }
 
     /// Adds bytes. Without memory nothing changes.

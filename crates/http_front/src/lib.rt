@@ -5,6 +5,7 @@ mod answering;
 mod asks;
 mod clock;
 mod connection;
+mod failure;
 mod fault;
 mod feeding;
 mod fields;
@@ -23,8 +24,9 @@ mod status;
 mod steps;
 mod texts;
 
-pub use clock::Clock;
+pub use clock::{Clock, Exchange};
 pub use connection::serve;
+pub use failure::Failure;
 pub use fault::{FrontFault, FrontKind, Served};
 pub use handler::{Handler, Outcome};
 pub use looking::{Look, look_at};

@@ -1,6 +1,8 @@
 //! What a request is answered.
 
+use crate::failure::Failure;
 use crate::status::Status;
+use filter_chain::Seq;
 
 /// The version of a request (RFC 9112, section 2.3).
 #[derive(Clone, Copy, Debug, PartialEq, Eq)]
@@ -23,7 +25,7 @@ pub enum Method {
 }
 
 /// A response.
-#[derive(Debug, Drop)]
+#[derive(Drop)]
 pub struct Reply {
     /// The status.
     pub status: Status,
@@ -34,5 +36,7 @@ pub struct Reply {
     /// Whether the connection closes after it.
     pub closes: bool,
     /// The body, which goes out where a GET succeeds.
-    pub body: Vec<u8>,
+    pub body: Seq<u8>,
+    /// Why the status is 500.
+    pub failure: Option<Failure>,
 }

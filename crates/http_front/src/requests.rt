@@ -4,34 +4,41 @@ ghost use Rattle.std.specs.Prelude.{◌≡◌, ℕ, List, IfOk, IfErr};
 ghost use Rattle.module_lang.specs.Program.{Program};
 ghost use Rattle.filter_chain.specs.Scenes.{Scene};
 ghost use Rattle.http_front.specs.Driven.{IsAlive, Leads};
-ghost use Rattle.http_front.specs.Outcomes.{IsBare, IsLack};
+ghost use Rattle.http_front.specs.Outcomes.{IsLack, IsUnserved};
 ghost use Rattle.http_front.specs.Requests.{ComesOf, EndsBare, EndsWithOutput, Feeds, Finishes, Inits, Opens, OpensUnless, TakesOutput, unopened};
 
+use crate::failure::Failure;
 use crate::fault::FrontKind;
 use crate::feeding::feed;
 use crate::handler::{Handler, Outcome};
 use crate::reply::Method;
 use crate::running::{Ended, end_request, run_call, unless_lack};
 use crate::status::Status;
-use filter_chain::{Files, Host, Refusal};
+use filter_chain::{Files, Host, Refusal, Seq};
 use std::alloc::Global;
 
-fn bare(alloc: Global, status: Status) -> Outcome
-    ensures { IsBare status result }
+/// 500 for a failure; 404 where there is none.
+fn bare(alloc: Global, failure: Option<Failure>) -> Outcome
+    ensures { IsUnserved failure result }
 {
+    let status = match failure {
+        None => Status::NotFound,
+        Some(_) => Status::InternalServerError,
+    };
     Outcome {
         status,
-        body: Vec::new(alloc),
+        body: Seq::new(alloc),
+        failure,
     }
 }
 
-/// The status where a file is not opened.
-fn unopened(refusal: Refusal) -> Status
+/// The failure where a file is not opened: none where it is not there.
+fn unopened(refusal: Refusal) -> Option<Failure>
     ensures { result ≡ unopened refusal }
 {
     match refusal {
-        Refusal::NoFile => Status::NotFound,
-        _ => Status::InternalServerError,
+        Refusal::NoFile => None,
+        _ => Some(Failure::Refused(refusal)),
     }
 }
 
@@ -41,14 +48,12 @@ fn output<F: Files + Drop>(alloc: Global, host: &mut Host<F>, number: u64) -> Ou
     ensures { Leads F.device host.old host.new (λ (b : ℕ) (c : List Program) (s t : Scene). TakesOutput b c number s result t) }
 {
     match host.take_output(number) {
-        Ok(bytes) => {
-            let body = bytes.into_vec();
-            Outcome {
-                status: Status::Success,
-                body,
-            }
-        }
-        Err(_) => bare(alloc, Status::InternalServerError),
+        Ok(body) => Outcome {
+            status: Status::Success,
+            body,
+            failure: None,
+        },
+        Err(refusal) => bare(alloc, Some(Failure::Refused(refusal))),
     }
 }
 
@@ -67,19 +72,19 @@ fn finish_with_output<F: Files + Drop>(
     Ok(outcome)
 }
 
-/// Ends the request with a status alone.
+/// Ends the request without content.
 fn finish_bare<F: Files + Drop>(
     alloc: Global,
     host: &mut Host<F>,
     number: u64,
-    status: Status,
+    failure: Option<Failure>,
 ) -> Result<Outcome, FrontKind>
     requires { IsAlive F.device host.old }
-    ensures leads { Leads F.device host.old host.new (λ (b : ℕ) (c : List Program) (s t : Scene). IfOk result (λ o. EndsBare b c number status s o t)) }
+    ensures leads { Leads F.device host.old host.new (λ (b : ℕ) (c : List Program) (s t : Scene). IfOk result (λ o. EndsBare b c number failure s o t)) }
     ensures err { IfErr result IsLack }
 {
     end_request(host, number)?;
-    Ok(bare(alloc, status))
+    Ok(bare(alloc, failure))
 }
 
 /// Finishes a request whose last call ended so.
@@ -95,8 +100,8 @@ fn finish<F: Files + Drop>(
 {
     match how {
         Ended::Succeeded => finish_with_output(alloc, host, number),
-        Ended::Failed => finish_bare(alloc, host, number, Status::InternalServerError),
-        Ended::Broke => Ok(bare(alloc, Status::InternalServerError)),
+        Ended::Failed(why) => finish_bare(alloc, host, number, Some(why)),
+        Ended::Broke(why) => Ok(bare(alloc, Some(why))),
     }
 }
 
@@ -153,9 +158,9 @@ fn go_on<F: Files + Drop>(
     ensures err { IfErr result IsLack }
 {
     match init {
-        Ended::Broke => Ok(bare(alloc, Status::InternalServerError)),
+        Ended::Broke(why) => Ok(bare(alloc, Some(why))),
         Ended::Succeeded => open_and_feed(alloc, host, number, init, method, file),
-        Ended::Failed => open_and_feed(alloc, host, number, init, method, file),
+        Ended::Failed(_) => open_and_feed(alloc, host, number, init, method, file),
     }
 }
 
@@ -191,7 +196,7 @@ fn request<F: Files + Drop>(
         Ok(()) => init_and_go_on(alloc, host, number, method, file),
         Err(refusal) => {
             unless_lack(refusal)?;
-            Ok(bare(alloc, Status::InternalServerError))
+            Ok(bare(alloc, Some(Failure::Refused(refusal))))
         }
     }
 }
@@ -211,5 +216,9 @@ impl<F: Files + Drop> Handler for Host<F> {
         file: &[u8],
     ) -> Result<Outcome, FrontKind> {
         request(alloc, self, number, method, file)
+    }
+
+    fn give_back(&mut self, body: Seq<u8>) {
+        self.give_back_output(body);
     }
 }

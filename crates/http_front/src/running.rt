@@ -1,25 +1,26 @@
 //! Calls on the host of chains, each run to its end.
 
-ghost use Rattle.std.specs.Prelude.{◌≡◌, ℕ, List, Ok, IfOk, IfErr, OnOk, IsTrue, ◌↔◌, None};
+ghost use Rattle.std.specs.Prelude.{◌≡◌, ℕ, List, IfOk, IfErr, OnOk, None};
 ghost use Rattle.module_lang.specs.Program.{Program};
 ghost use Rattle.filter_chain.specs.Scenes.{Scene};
 ghost use Rattle.http_front.specs.Driven.{IsAlive, Leads};
 ghost use Rattle.http_front.specs.Outcomes.{IsLack};
 ghost use Rattle.http_front.specs.Requests.{Brings, EndsRequest, Runs, ended_of, lack_of};
 
+use crate::failure::Failure;
 use crate::fault::FrontKind;
-use filter_chain::{Files, Host, Piece, Refusal, Seq, Stepped};
+use filter_chain::{Cause, Files, Host, Piece, Refusal, Seq, Stepped};
 use module_lang::Status;
 
 /// How a call ended.
-#[derive(Clone, Copy, Debug, PartialEq, Eq)]
+#[derive(Clone, Copy, Debug)]
 pub enum Ended {
     /// It succeeded.
     Succeeded,
     /// It failed.
-    Failed,
+    Failed(Failure),
     /// It did not end: the connection broke.
-    Broke,
+    Broke(Failure),
 }
 
 /// What a refusal lacks, memory or names, is an error.
@@ -34,35 +35,25 @@ pub(crate) fn unless_lack(refusal: Refusal) -> Result<(), FrontKind>
     }
 }
 
-fn went(answer: &Result<Stepped, Refusal>) -> bool
-    ensures { IsTrue result ↔ answer.now ≡ Ok Stepped.Went }
-{
-    matches!(answer, Ok(Stepped::Went))
-}
-
 fn how_ended(answer: Result<Stepped, Refusal>) -> Ended
     ensures { result ≡ ended_of answer }
 {
     match answer {
         Ok(Stepped::CallEnded(Status::Success)) => Ended::Succeeded,
-        Ok(Stepped::CallEnded(Status::Fail)) => Ended::Failed,
-        Ok(Stepped::Went | Stepped::Fault { .. }) | Err(_) => Ended::Broke,
+        Ok(Stepped::CallEnded(Status::Fail)) => Ended::Failed(Failure::Filter),
+        Ok(Stepped::Went | Stepped::Fault { .. }) => {
+            Ended::Broke(Failure::Refused(Refusal::Broken(Cause::Faulted)))
+        }
+        Err(refusal) => Ended::Broke(Failure::Refused(refusal)),
     }
 }
 
-/// Makes steps until one answers something else than that it went. (One more than the budget is refused.)
+/// Makes steps until one answers something else than that it went.
 pub(crate) fn run_call<F: Files + Drop>(host: &mut Host<F>, number: u64) -> Ended
     requires { IsAlive F.device host.old }
     ensures { Leads F.device host.old host.new (λ (b : ℕ) (c : List Program) (s t : Scene). Runs b c number s result t) }
 {
-    let mut left = host.budget();
-    loop {
-        let answer = host.step(number);
-        if !went(&answer) || left == 0 {
-            return how_ended(answer);
-        }
-        left -= 1;
-    }
+    how_ended(host.run(number))
 }
 
 /// Brings a brigade, and runs its call.
@@ -79,7 +70,7 @@ pub(crate) fn bring<F: Files + Drop>(
         Ok(()) => Ok(run_call(host, number)),
         Err(refusal) => {
             unless_lack(refusal)?;
-            Ok(Ended::Failed)
+            Ok(Ended::Failed(Failure::Refused(refusal)))
         }
     }
 }

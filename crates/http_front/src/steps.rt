@@ -57,8 +57,11 @@ fn answer_head<H: Handler, K: Clock>(
     ensures err { IfErr result IsLack }
 {
     let reply = reply_to(alloc, seen, spans, head, site, handler, number)?;
-    put_reply(alloc, &reply, clock, text)?;
-    if reply.closes {
+    let (method, target) = (head.method.of(seen), head.path.of(seen));
+    put_reply(alloc, method, target, &reply, clock, text)?;
+    let closes = reply.closes;
+    handler.give_back(reply.body);
+    if closes {
         return Ok(Step::Closes(head.len));
     }
     Ok(Step::Stays(head.len))
@@ -96,7 +99,7 @@ fn step_within<H: Handler, K: Clock>(
         ),
         Look::More => Ok(Step::More),
         Look::Headless => {
-            put_reply(alloc, &bad_reply(alloc), clock, text)?;
+            put_reply(alloc, &[], &[], &bad_reply(alloc), clock, text)?;
             Ok(Step::Refused)
         }
     }

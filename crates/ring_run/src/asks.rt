@@ -284,14 +284,14 @@ fn pool_names(instr: Instr) -> u64
 
 /// Whether so many names are not left, where this one is the next.
 #[tactic(auto, unfolding(run_model::specs::Steps::is_spent))]
-pub(crate) fn is_spent(next: u64, names: u64) -> bool
+pub fn is_spent(next: u64, names: u64) -> bool
     ensures { result ≡ is_spent next names }
 {
     names > u64::MAX - next
 }
 
 /// Whether a name that an instruction would have to give out is not there.
-pub(crate) fn lacks_names<R: Rings<Bucket> + Drop>(
+pub fn lacks_names<R: Rings<Bucket> + Drop>(
     code: &Module,
     instance: &Instance,
     call: &Call,

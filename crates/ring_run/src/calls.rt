@@ -18,7 +18,7 @@ use brigade_ops::{BrigadeId, Brigades, Bucket, RingRefusal, Rings};
 impl Call {
     /// A call of this name, at this instruction.
     #[tactic(auto, unfolding(crate::specs::Slots::cursor_at))]
-    pub(crate) fn start(&mut self, name: BrigadeId, pc: usize)
+    pub fn start(&mut self, name: BrigadeId, pc: usize)
         ensures name { self.new.name ≡ name }
         ensures cursors { (c : ℕ) → cursor_at self.new c ≡ Stand.Unset }
         ensures buffer { self.new.buffer ≡ [] }
@@ -28,6 +28,18 @@ impl Call {
         self.cursors = [Stand::Unset; 9];
         self.buffer.clear();
         self.pc = pc;
+    }
+
+    /// Goes on behind a pass, or at its target where not all went well.
+    pub fn go_on(&mut self, well: bool, target: u16)
+        requires { self.old.pc < 1024 }
+        ensures { let call = self.old in self.new ≡ record call { pc = if well then call.pc + 1 else target } }
+    {
+        self.pc = if well {
+            self.pc + 1
+        } else {
+            usize::from(target)
+        };
     }
 
     /// No call any more: it has no name, no cursor and no byte. Where it stood is kept.

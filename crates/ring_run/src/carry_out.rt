@@ -147,7 +147,7 @@ fn carry_clear<R: Rings<Bucket> + Drop, F: Files>(
 
 /// Carries out an instruction that has no fault and whose names are there, other than a pass and a return, and tells where it leads. To the
 /// labels that clears ran, the oldest first, are added those that this one runs. Without memory nothing is changed.
-pub(crate) fn carry_out<R: Rings<Bucket> + Drop, F: Files>(
+pub fn carry_out<R: Rings<Bucket> + Drop, F: Files>(
     alloc: Global,
     code: &Module,
     instance: &mut Instance,

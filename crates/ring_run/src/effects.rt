@@ -16,7 +16,7 @@ use run_model::Mark;
 use std::alloc::AllocError;
 
 /// The brigade of a variable, where it is there.
-pub(crate) fn live<R: Rings<Bucket> + Drop>(
+pub fn live<R: Rings<Bucket> + Drop>(
     instance: &Instance,
     store: &Brigades<R>,
     b: u8,

@@ -30,7 +30,7 @@ pub(crate) fn target(instr: Instr) -> usize
 }
 
 /// The number of the instruction to which an instruction leads that has this number.
-pub(crate) fn led_to(exit: Exit, instr: Instr, pc: usize) -> usize
+pub fn led_to(exit: Exit, instr: Instr, pc: usize) -> usize
     requires { pc < 1024 }
     ensures { result ≡ led_to exit instr pc }
 {

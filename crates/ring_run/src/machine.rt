@@ -1,6 +1,6 @@
 //! What a step sees: an instance of a module, and a call of one of its handlers.
 
-ghost use Rattle.std.specs.Prelude.{◌≡◌, ◌<◌, ◌==◌, ℕ, Option, None, false, if◌then◌else◌, slice_index_or};
+ghost use Rattle.std.specs.Prelude.{◌≡◌, ◌<◌, ◌==◌, ℕ, Option, None, Some, true, false, if◌then◌else◌, slice_index_or, OnOk};
 ghost use Rattle.brigade_ops.specs.Items.{Items};
 ghost use Rattle.run_model.specs.State.{set_cursor};
 ghost use Rattle.ring_run.specs.Around.{Around};
@@ -9,7 +9,7 @@ ghost use Rattle.ring_run.specs.Seen.{seen_over, shown_cursor};
 use brigade_ops::{BrigadeId, BucketId};
 use pool_tree::PoolId;
 use run_model::{Mark, PoolVar, Seq};
-use std::alloc::Global;
+use std::alloc::{AllocError, Global};
 
 /// A brigade variable. What is made in it is named with its pool, which is none of a brought brigade, and its mark. Whether the
 /// brigade is there still is read off the store.
@@ -36,24 +36,25 @@ pub enum Stand {
 /// 8 is the brought brigade `in`.
 #[derive(Drop)]
 pub struct Instance {
-    pub(crate) slots: [Slot; 9],
-    pub(crate) pools: [PoolVar; 8],
-    pub(crate) numbers: [u32; 8],
-    pub(crate) sent: bool,
+    pub slots: [Slot; 9],
+    pub pools: [PoolVar; 8],
+    pub numbers: [u32; 8],
+    pub sent: bool,
 }
 
 /// A call of a handler. Its name is that of the brigade of its loose buckets; between calls it is 0. Cursors are numbered 0 to 7,
 /// and 8 is the read cursor `rd`. `pc` is the number of the next instruction.
 #[derive(Drop)]
 pub struct Call {
-    pub(crate) name: BrigadeId,
-    pub(crate) cursors: [Stand; 9],
-    pub(crate) buffer: Seq<u8>,
-    pub(crate) pc: usize,
+    pub name: BrigadeId,
+    pub cursors: [Stand; 9],
+    pub buffer: Seq<u8>,
+    pub pc: usize,
 }
 
 impl Instance {
-    ghost use Rattle.ring_run.specs.Slots.{slot_at, marked, SameButSlots};
+    ghost use Rattle.run_model.specs.Pools.{is_in};
+    ghost use Rattle.ring_run.specs.Slots.{slot_at, marked, name_in, SameButSlots};
 
     /// An instance before its `open`.
     #[tactic(auto, unfolding(crate::specs::Slots::slot_at))]
@@ -82,7 +83,7 @@ impl Instance {
 
     /// Sets a brigade variable.
     #[tactic(auto, unfolding(crate::specs::Slots::slot_at))]
-    pub(crate) fn set_slot(&mut self, b: u8, slot: Slot)
+    pub fn set_slot(&mut self, b: u8, slot: Slot)
         requires { b < 9 }
         ensures slots { (a : ℕ) → slot_at self.new a ≡ (if a == b then slot else slot_at self.old a) }
         ensures rest { SameButSlots self.old self.new }
@@ -91,7 +92,7 @@ impl Instance {
     }
 
     /// Marks what is in a brigade variable.
-    pub(crate) fn set_mark(&mut self, b: u8, mark: Mark)
+    pub fn set_mark(&mut self, b: u8, mark: Mark)
         requires { b < 9 }
         ensures slots { (a : ℕ) → slot_at self.new a ≡ (if a == b then marked mark (slot_at self.old b) else slot_at self.old a) }
         ensures rest { SameButSlots self.old self.new }
@@ -100,6 +101,19 @@ impl Instance {
             Slot::Null => {}
             Slot::Made(name, pool, _) => self.set_slot(b, Slot::Made(name, pool, mark)),
         }
+    }
+
+    /// Adds the names of the brigades of its variables.
+    pub fn add_brigades(&self, names: &mut Vec<BrigadeId>) -> Result<(), AllocError>
+        ensures kept { (n : ℕ) → is_in n names.old.items ≡ true → is_in n names.new.items ≡ true }
+        ensures named { OnOk result ((b n : ℕ) → name_in (slot_at self.now b) ≡ Some n → is_in n names.new.items ≡ true) }
+    {
+        for slot in &self.slots {
+            if let Slot::Made(name, _, _) = *slot {
+                names.push(name)?;
+            }
+        }
+        Ok(())
     }
 }
 
@@ -134,7 +148,7 @@ impl Call {
 
     /// Sets a cursor.
     #[tactic(auto, unfolding(crate::specs::Seen::seen_over, crate::specs::Slots::cursor_at, run_model::specs::State::set_cursor, run_model::specs::Indexed::upd))]
-    pub(crate) fn set_cursor(&mut self, c: u8, stand: Stand)
+    pub fn set_cursor(&mut self, c: u8, stand: Stand)
         requires { c < 9 }
         ensures seen { (rings : ℕ → Option Items) (next : ℕ) (around : Around) (i : Instance) → seen_over rings next around i self.new ≡ set_cursor c (shown_cursor stand) (seen_over rings next around i self.old) }
         ensures cursors { (d : ℕ) → cursor_at self.new d ≡ (if d == c then stand else cursor_at self.old d) }

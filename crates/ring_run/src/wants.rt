@@ -20,7 +20,7 @@ use brigade_ops::{Brigades, Bucket, Rings};
 use run_model::{FaultKind, Instr, Module, PoolRef};
 
 /// The fault of an instruction, if it has one: the first of what it wants that is not so.
-pub(crate) fn fault<R: Rings<Bucket> + Drop>(
+pub fn fault<R: Rings<Bucket> + Drop>(
     code: &Module,
     instance: &Instance,
     call: &Call,

@@ -1,7 +1,7 @@
 use Rattle.std.proofs.Common.{◌≡◌, [], arith}
 use Rattle.std.proofs.lemmas.Grind.{common_steps}
 use Rattle.std.specs.Vec.Iter.{into_iter_items}
-use Rattle.ring_run.specs.Happened.{refusal_of}
+use Rattle.module_run.specs.Happened.{refusal_of}
 use Rattle.filter_chain.specs.Hosting.{done_answer}
 use Rattle.host_cli.proofs.BringLaws.{bring_goes, bring_stops, bring_ends}
 use Rattle.host_cli.proofs.commands.bring.Goals as goal

@@ -1,4 +1,4 @@
-use Rattle.ring_run.specs.Happened.{refusal_of}
+use Rattle.module_run.specs.Happened.{refusal_of}
 use Rattle.filter_chain.specs.Hosting.{done_answer}
 use Rattle.host_cli.proofs.Served.{begin_served, end_served}
 use Rattle.host_cli.proofs.commands.serve.Goals as goal

@@ -1,5 +1,5 @@
 use Rattle.std.proofs.Common.{◌≡◌, ◌++◌, drop}
-use Rattle.ring_run.specs.Conns.{labels_handed}
+use Rattle.module_run.specs.Conns.{labels_handed}
 use Rattle.host_cli.proofs.labels.labels_of.Given as goal
 
 -- the labels so far, and those of the rest

@@ -13,5 +13,6 @@ returns-clause-ok g c h at = record {
     method = c.method_of.ensures ∙ ap method_of (c.of.ensures ∙ at.method);
     closes = c.closes_with.ensures ∙ ap (λ x. x || status_closes c.in_ok-outcome.outcome.status) (c.head_closes.ensures h at);
     body = refl;
+    failure = refl;
   };
 }

@@ -1,31 +1,5 @@
-use Rattle.std.proofs.Common.{◌≡◌, suc, true, false, sym, ◌∙◌, Ok, arith}
-use Rattle.run_model.specs.declared.event.Stepped.TheVariants as stepped
-use Rattle.http_front.proofs.RunLaws.{going_begins, going_on, going_ends}
+use Rattle.http_front.proofs.RunLaws.{runs_told}
 use Rattle.http_front.proofs.running.run_call.Goals as goal
-use Rattle.http_front.proofs.running.run_call.Goals.{then-not-went-via-then-not-went, then-not-went-via-else-not-went+then-left-eq0}
 
-pub loop-answer-init : goal.loop-answer-init
-loop-answer-init g c =
-    let is = c.budget-left.ensures in
-    (0, going_begins g.F.Files.device c.args.number c.args.host.now c.requires, omega (arith, is))
-
-pub loop-answer-preserved : goal.loop-answer-preserved
-loop-answer-preserved g c =
-    let so = c.loop-answer.invariant in
-    let went : c.step-answer.result ≡ Ok stepped.Went = c.went.ensures.0 c.if-not-went.false in
-    let all = so.2 in
-    let some = c.if-left-eq0.false in (
-      suc so.0,
-      going_on g.F.Files.device c.args.number c.args.host.now c.loop-answer.host c.step-answer.new.self so.0 so.1 c.step-answer.result c.step-answer.ensures.event went,
-      omega (arith, all, some),
-    )
-
-pub returns-then-not-went : goal.returns-then-not-went
-returns-then-not-went g c =
-    let so = c.loop-answer.invariant in
-    let all = so.2 in
-    going_ends g.F.Files.device c.args.number c.args.host.now c.loop-answer.host c.step-answer.new.self so.0 so.1 c.step-answer.result c.step-answer.ensures.event c.how_ended.result c.how_ended.ensures
-    (λ h. elim c.then-not-went.branch [
-      | then-not-went-via-then-not-went v ↦ absurd (let clash : true ≡ false = sym (c.went.ensures.1 h) ∙ v.if-not-went.true in cc)
-      | then-not-went-via-else-not-went+then-left-eq0 v ↦ (let none = v.if-left-eq0.true in omega (arith, all, none))
-    ])
+pub returns : goal.returns
+returns g c = runs_told g.F.Files.device c.args.number c.args.host.now c.run.new.self c.run.result c.how_ended.result c.how_ended.ensures c.run.ensures.runs

@@ -2,7 +2,7 @@
 use Rattle.std.proofs.Common.{◌≡◌, refl, sym, ◌∙◌, ap, subst}
 use Rattle.std.specs.Option.{option_copied_mut, IsSome}
 use Rattle.run_model.specs.declared.event.Event.TheVariants as event
-use Rattle.ring_run.specs.Happened.{lasted, refusal_of}
+use Rattle.module_run.specs.Happened.{lasted, refusal_of}
 use Rattle.filter_chain.specs.Hosting.{seat_at, chain_of, budget_of, done_answer}
 use Rattle.filter_chain.proofs.HostEvents.{can_serve, put_back, none_found}
 use Rattle.filter_chain.proofs.KnownEvents.{brings_serves}

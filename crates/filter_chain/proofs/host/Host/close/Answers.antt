@@ -6,7 +6,7 @@ use Rattle.run_model.specs.declared.event.Event.TheVariants as event
 use Rattle.run_model.specs.declared.event.Refusal.TheVariants as refusal
 use Rattle.run_model.specs.declared.payload.Payload.{Payload}
 use Rattle.run_model.specs.Worlds.{Refused}
-use Rattle.ring_run.specs.Conns.{labels_handed}
+use Rattle.module_run.specs.Conns.{labels_handed}
 use Rattle.filter_chain.specs.declared.seat.Seat.{Seat}
 use Rattle.filter_chain.specs.declared.seats.Seats.{Seats}
 use Rattle.filter_chain.specs.Hosting.{seat_at, chain_of, budget_of}

@@ -2,7 +2,7 @@
 use Rattle.std.proofs.Common.{◌≡◌, refl, sym, ◌∙◌, ap}
 use Rattle.std.specs.Option.{option_copied}
 use Rattle.run_model.specs.declared.event.Event.TheVariants as event
-use Rattle.ring_run.specs.Conns.{labels_handed}
+use Rattle.module_run.specs.Conns.{labels_handed}
 use Rattle.filter_chain.specs.Hosting.{seat_at}
 use Rattle.filter_chain.proofs.HostEvents.{none_served}
 use Rattle.filter_chain.proofs.HostTells.{labels_on}

@@ -1,7 +1,7 @@
 -- By what stands while the next names are set.
 use Rattle.std.proofs.Common.{◌≡◌, sym, ◌∙◌, arith}
 use Rattle.run_model.specs.Turns.{brings}
-use Rattle.ring_run.specs.Happened.{lasted}
+use Rattle.module_run.specs.Happened.{lasted}
 use Rattle.filter_chain.proofs.FileNumbers.{brings_file}
 use Rattle.filter_chain.proofs.Seated.{lent, linked_after, spares_all}
 use Rattle.filter_chain.proofs.seat.Seat.bring.Goals as goal

@@ -1,7 +1,7 @@
 -- By what stands while the next names are set.
 use Rattle.std.proofs.Common.{◌≡◌, sym, ◌∙◌, arith}
 use Rattle.run_model.specs.Turns.{ends}
-use Rattle.ring_run.specs.Happened.{lasted}
+use Rattle.module_run.specs.Happened.{lasted}
 use Rattle.filter_chain.proofs.FileNumbers.{ends_file}
 use Rattle.filter_chain.proofs.Seated.{lent, linked_after, spares_unreferred}
 use Rattle.filter_chain.proofs.seat.Seat.end_request.Goals as goal

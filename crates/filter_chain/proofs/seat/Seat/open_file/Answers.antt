@@ -1,7 +1,7 @@
 -- By what stands while the next names are set.
 use Rattle.std.proofs.Common.{sym}
 use Rattle.run_model.specs.Turns.{opens_file}
-use Rattle.ring_run.specs.Happened.{lasted}
+use Rattle.module_run.specs.Happened.{lasted}
 use Rattle.filter_chain.proofs.Seated.{lent, linked_after}
 use Rattle.filter_chain.proofs.seat.Seat.open_file.Goals as goal
 

@@ -1,0 +1,58 @@
+//! Steps, one after another.
+
+ghost use Rattle.std.specs.Prelude.{◌≡◌, ◌↔◌, ◌-◌, ℕ, IsTrue, List, Ok};
+ghost use Rattle.module_lang.specs.Program.{Program};
+ghost use Rattle.filter_chain.specs.Scenes.{Scene};
+
+use crate::host::Host;
+use bucket_kinds::Files;
+use run_model::{Refusal, Stepped};
+
+fn went(answer: &Result<Stepped, Refusal>) -> bool
+    ensures { IsTrue result ↔ answer.now ≡ Ok Stepped.Went }
+{
+    matches!(answer, Ok(Stepped::Went))
+}
+
+impl<F: Files + Drop> Host<F> {
+    ghost use Rattle.filter_chain.specs.Led.{IsAlive, Leads};
+    ghost use Rattle.filter_chain.specs.Running.{Runs, StepsOn};
+    ghost use Rattle.filter_chain.specs.Safe.{GoesWell, IsSafe};
+
+    /// Makes a step, and up to so many more while each of them goes.
+    fn step_on(&mut self, number: u64, more: u64) -> Result<Stepped, Refusal>
+        requires { IsAlive F.device self.old }
+        ensures steps { Leads F.device self.old self.new (λ (b : ℕ) (c : List Program) (s t : Scene). StepsOn b c number more s result t) }
+        ensures safe { IsSafe self.old → GoesWell result }
+    {
+        let mut left = more;
+        loop {
+            let answer = self.step(number);
+            if !went(&answer) || left == 0 {
+                return answer;
+            }
+            left -= 1;
+        }
+    }
+
+    /// Makes steps until one answers something else than that it went, at most `most`; where that is 0 it makes one. Answers what the last
+    /// of them answers.
+    pub fn step_up_to(&mut self, number: u64, most: u64) -> Result<Stepped, Refusal>
+        requires { IsAlive F.device self.old }
+        ensures steps { Leads F.device self.old self.new (λ (b : ℕ) (c : List Program) (s t : Scene). StepsOn b c number (most - 1) s result t) }
+        ensures safe { IsSafe self.old → GoesWell result }
+    {
+        self.step_on(number, most.saturating_sub(1))
+    }
+
+    /// Makes steps until one answers something else than that it went: a call ended, the connection is broken or idle, or there is no such
+    /// connection. Answers what that step answers. No more steps go than the budget allows.
+    pub fn run(&mut self, number: u64) -> Result<Stepped, Refusal>
+        requires { IsAlive F.device self.old }
+        ensures runs { Leads F.device self.old self.new (λ (b : ℕ) (c : List Program) (s t : Scene). Runs b c number s result t) }
+        ensures safe { IsSafe self.old → GoesWell result }
+    {
+        let budget = self.budget();
+        self.step_on(number, budget)
+    }
+}

@@ -1,0 +1,205 @@
+-- The call of the first filter begins, where no call runs: what is true of the filters and calls.
+use Rattle.std.proofs.Common.{◌≡◌, ◌≢◌, ◌==◌, ℕ, zero, suc, ◌+◌, ◌-◌, ◌<◌, ◌≤◌, ◌&&◌, nat_le, nat_lt, Bool, true, false, List, [], ◌∷◌, ◌++◌, length, Option, Some, None, is_some, refl, sym, ap, subst, ◌∙◌, ◌⊎◌, inl, inr, arith}
+use Rattle.std.proofs.lemmas.Bool.{le-leb, lt-leb, leb-true}
+use Rattle.bucket_kinds.specs.Device.{Device}
+use Rattle.bucket_ring.specs.declared.names.BucketId.{BucketId}
+use Rattle.bucket_ring.specs.declared.rings.Rings.{Ghosts}
+use Rattle.bucket_ring.specs.Kept.{NoneRevived}
+use Rattle.bucket_ring.specs.Lists as ring
+use Rattle.module_lang.specs.Program.{Program}
+use Rattle.run_model.specs.declared.bucket.Bucket.{Bucket}
+use Rattle.run_model.specs.declared.payload.Payload.{Payload}
+use Rattle.run_model.specs.Chains.{Connection, Common, Linked, module_at}
+use Rattle.run_model.specs.Passing.{called, handler_at}
+use Rattle.run_model.specs.Pools.{Pools}
+use Rattle.run_model.specs.RunOrder.{IsPoolMap}
+use Rattle.run_model.specs.Turns.{all_called, numbers_below, tail_of, with_pools}
+use Rattle.pool_tree.specs.declared.tree.PoolTree.{PoolTree}
+use Rattle.pool_tree.specs.Tree.{map_of}
+use Rattle.brigade_ops.specs.declared.store.Brigades.{Brigades}
+use Rattle.brigade_ops.specs.House.{IsHouse, AreOpen}
+use Rattle.brigade_ops.specs.Items.{Items}
+use Rattle.brigade_ops.specs.Store.{lists, brigade_of, pool_of, next_name, references}
+use Rattle.brigade_ops.proofs.HouseCalls.{house_loose}
+use Rattle.module_run.specs.declared.conn.Conn.{Conn}
+use Rattle.module_run.specs.declared.conn.Filter.{Filter}
+use Rattle.ring_run.specs.declared.machine.Call.{Call}
+use Rattle.ring_run.specs.declared.machine.Instance.{Instance}
+use Rattle.module_run.specs.CalledFirst.{CalledFirst, Starts}
+use Rattle.module_run.specs.Conns.{conn_of, IsSeenAs, filter_at, top_of, waiting}
+use Rattle.ring_run.specs.Held.{HeldOver, IsHeld, WasGiven}
+use Rattle.module_run.specs.Proceeding.{LeftAs}
+use Rattle.ring_run.specs.Slots.{slot_at, name_in}
+use Rattle.module_run.specs.Stacked.{AreApart, AreCalled, IsStacked, StackedOver, is_called, is_waiting, named_at, names_up}
+use Rattle.ring_run.proofs.Begins.{held_begun}
+use Rattle.ring_run.proofs.Changes.{ring_off}
+use Rattle.module_run.proofs.FirstCalls.{Was, was, started, others_stay, waits_are, first_is, none_waiting, top_is, starts, before, before_is, after, after_is, conn_called, no_call, nothing_in, not_lent, none_between, no_lent, true_false}
+use Rattle.module_run.proofs.Looked.{some_same}
+
+pub no_names : (c : Conn) (k n : ℕ) → n ≡ 0 → names_up c k n ≡ []
+unfolding names_up
+no_names c k zero e = refl
+no_names c k (suc n) e = absurd (omega (arith, e))
+
+less : (a b : ℕ) → a < b → a ≢ b
+less a b lt e = omega (arith, lt, e)
+
+-- a ring of a new name leaves what is held of a filter that has no call
+module _ {R : Type 0} {g : Ghosts R Bucket} (old new : Brigades R g) (over : (n : ℕ) → lists new n ≡ ring.upd (lists old) (next_name old) (Some []) n)
+    (next : next_name new ≡ next_name old + 1) (names : NoneRevived (brigade_of old) (brigade_of new) (next_name old)) (pools : pool_of new ≡ pool_of old) where
+  as_before : (n : ℕ) → n < next_name old → lists new n ≡ lists old n
+  as_before n lt = over n ∙ ring_off (lists old) (next_name old) n (Some []) (less n (next_name old) lt)
+
+  pub held_beside : (i : Instance) (call : Call) → IsHeld old i call → IsHeld new i call
+  held_beside i call held = record {
+    apart = held.apart;
+    loose = held.loose;
+    given = λ c id e. kept id (held.given c id e);
+    named = λ b n e. (let a = held.named b n e in omega (arith, a, next));
+    real = held.real;
+    called = (let a = held.called in omega (arith, a, next));
+    runs = λ pos. ap is_some (as_before call.name held.called) ∙ held.runs pos;
+    free = ap (λ (f : ℕ → Option ℕ). f call.name) pools ∙ held.free;
+    on = λ b n pool mark own is there. ap (λ (f : ℕ → Option ℕ). f n) pools ∙ held.on b n pool mark own is (sym (ap is_some (as_before n (held.named b n (ap name_in is)))) ∙ there);
+    incoming = held.incoming;
+  } where
+    kept : (id : BucketId) → WasGiven old id → WasGiven new id
+    kept id name = record {
+      young = let a = name.young in omega (arith, a, next);
+      only = λ j there e. name.only j (names j there (let b = name.young in omega (arith, b, e))) e;
+    }
+
+module _ {R : Type 0} {g : Ghosts R Bucket} (chain : List Program) (old new : Brigades R g) (c d : Conn) (r : Option ℕ) (stacked : IsStacked chain old c) (idle : c.busy ≡ false)
+    (begins : CalledFirst chain (next_name old) (record c { req = r }) d) (over : (n : ℕ) → lists new n ≡ ring.upd (lists old) (next_name old) (Some []) n)
+    (next : next_name new ≡ next_name old + 1) (names : NoneRevived (brigade_of old) (brigade_of new) (next_name old)) (pools : pool_of new ≡ pool_of old) (free : pool_of old (next_name old) ≡ None) where
+  abbrev There : ℕ → Filter → Type 0
+  There k f = Was chain old new c d r stacked idle begins over k f
+
+  there : (k : ℕ) (f : Filter) → filter_at d k ≡ Some f → There k f
+  there = was chain old new c d r stacked idle begins over
+
+  abbrev first : Filter
+  first = after chain old new c d r stacked idle begins over
+
+  named_as : (k b : ℕ) (f : Filter) (w : There k f) → named_at f b ≡ named_at w.filter b
+  named_as k b f w = ap (λ (i : Instance). name_in (slot_at i b)) w.instance
+
+  named_so : (k b m : ℕ) (f : Filter) (w : There k f) → named_at f b ≡ Some m → named_at w.filter b ≡ Some m
+  named_so k b m f w e = sym (named_as k b f w) ∙ e
+
+  not_in : (k : ℕ) (f : Filter) → filter_at d k ≡ Some f → (m : ℕ) → named_at f 8 ≡ Some m → ⊥
+  not_in k f is m e = (let w = there k f is in no_lent (named_at w.filter 8) m (nothing_in chain old c stacked idle k w.filter w.is) (named_so k 8 m f w e))
+
+  never_lent : (k b : ℕ) (f : Filter) → filter_at d k ≡ Some f → f.lent ≡ Some b → ⊥
+  never_lent k b f is e = (let w = there k f is in no_lent w.filter.lent b (not_lent chain old c stacked idle k w.filter w.is) (sym w.lent ∙ e))
+
+  -- only the first filter has a call
+  name_of : (k : ℕ) (f : Filter) (w : There k f) → k ≢ 0 → f.call.name ≡ 0
+  name_of k f w other = elim w.call [
+    | inl e ↦ absurd (other e.0)
+    | inr e ↦ ap (λ (x : Call). x.name) e.1 ∙ no_call chain old c stacked idle k w.filter w.is
+  ]
+
+  is_first : (k : ℕ) (f : Filter) → filter_at d k ≡ Some f → 0 < f.call.name → k ≡ 0
+  is_first zero f is pos = refl
+  is_first (suc k) f is pos = absurd (let e = name_of (suc k) f (there (suc k) f is) (λ e. omega (arith, e)) in omega (arith, e, pos))
+
+  apart_called : AreApart d
+  apart_called = record {
+    own = λ i j a b m f e la lb fi ej na nb. (let w = there i f fi in let u = there j e ej in stacked.apart.own i j a b m w.filter u.filter la lb w.is u.is (named_so i a m f w na) (named_so j b m e u nb));
+    later = λ i j b m f e lt lb fi ej nf. absurd (not_in i f fi m nf);
+    handed = λ i j a m f e lt fi ej na nb. absurd (not_in j e ej m nb);
+    loose = λ i j b f e fi ej. no_loose i j b f e fi (there i f fi) (there j e ej);
+    calls = λ i j f e fi ej pos same. is_first i f fi pos ∙ sym (is_first j e ej (omega (arith, pos, same)));
+  } where
+    no_loose : (i j b : ℕ) (f e : Filter) → filter_at d i ≡ Some f → There i f → There j e → named_at f b ≢ Some e.call.name
+    no_loose i j b f e fi w u is = elim u.call [
+      | inl q ↦ (let lt = (stacked.held i w.filter w.is).named b e.call.name (named_so i b e.call.name f w is) in let same = q.1 in omega (arith, lt, same))
+      | inr q ↦ stacked.apart.loose i j b w.filter u.filter w.is u.is (named_so i b e.call.name f w is ∙ ap (λ (x : Call). Some x.name) q.1)
+    ]
+
+  called_there : (k : ℕ) → is_called d k ≡ true → k ≡ 0
+  called_there k e = go (nat_le k (top_of d)) refl where
+    go : (t : Bool) → nat_le k (top_of d) ≡ t → k ≡ 0
+    go true is = (let low = leb-true k (top_of d) is in let top = top_is chain old new c d r stacked idle begins over in omega (arith, low, top))
+    go false is = absurd (true_false (is_called d k) e (both d.busy (nat_le d.first k) (nat_le k (top_of d)) is)) where
+      both : (s t u : Bool) → u ≡ false → (s && (t && u)) ≡ false
+      both s t true q = absurd (cc)
+      both true true false q = refl
+      both true false false q = refl
+      both false t false q = refl
+
+  first_called : is_called d 0 ≡ true
+  first_called =
+      ap (λ (b : Bool). b && (nat_le d.first 0 && nat_le 0 (top_of d))) (ap (λ (x : Conn). x.busy) begins.rest)
+      ∙ (ap (λ (b : Bool). b && nat_le 0 (top_of d)) (le-leb d.first 0 (let e = first_is chain old new c d r stacked idle begins over in omega (arith, e))) ∙ le-leb 0 (top_of d) (omega arith))
+
+  none_wait : (k : ℕ) → is_waiting d k ≡ false
+  none_wait k = none_between d.first k (waiting d) (none_waiting chain old new c d r stacked idle begins over)
+
+  calls_called : AreCalled chain d
+  calls_called = record {
+    runs = λ k f is e. first_runs k f is (there k f is) (called_there k e);
+    idle = λ k f is e. name_of k f (there k f is) (λ (z : k ≡ 0). true_false (is_called d k) (ap (is_called d) z ∙ first_called) e);
+    lent = λ k f is. (let w = there k f is in ap is_some w.lent ∙ (ap is_some (not_lent chain old c stacked idle k w.filter w.is) ∙ sym (none_wait k)));
+    passes = λ k b f is e. absurd (never_lent k b f is e);
+    passed = λ k b f is e. absurd (never_lent k b f is e);
+    inward = λ k b f e is behind lends. absurd (never_lent k b f is lends);
+    incoming = λ k f is e. (let w = there k f is in named_as k 8 f w ∙ nothing_in chain old c stacked idle k w.filter w.is);
+    waits = waits_are chain old new c d r stacked idle begins over ∙ sym (no_names d d.first (waiting d) (none_waiting chain old new c d r stacked idle begins over));
+    quiet = λ e. absurd (true_false d.busy (ap (λ (x : Conn). x.busy) begins.rest) e);
+  } where
+    first_runs : (k : ℕ) (f : Filter) → filter_at d k ≡ Some f → There k f → k ≡ 0 → 0 < f.call.name
+    first_runs k f is w z = elim w.call [
+      | inl e ↦ (let same = e.1 in let pos = (stacked.held k w.filter w.is).called in omega (arith, same, pos))
+      | inr e ↦ absurd (e.0 z)
+    ]
+
+  abbrev was_first : Filter
+  was_first = before chain old new c d r stacked idle begins over
+
+  first_was : filter_at c 0 ≡ Some was_first
+  first_was = before_is chain old new c d r stacked idle begins over
+
+  began : Starts (next_name old) (handler_at r (module_at chain 0)) was_first first
+  began = starts chain old new c d r stacked idle begins over
+
+  held_called : (k : ℕ) (f : Filter) → filter_at d k ≡ Some f → IsHeld new f.instance f.call
+  held_called zero f is = subst (λ (x : Filter). IsHeld new x.instance x.call) same
+      (subst (λ (i : Instance). IsHeld new i first.call) (sym began.instance)
+      (held_begun old new was_first.instance was_first.call first.call (stacked.held 0 was_first first_was) (no_call chain old c stacked idle 0 was_first first_was) over began.named began.cursors next names pools free)) where
+        same : first ≡ f
+        same = some_same first f (sym (after_is chain old new c d r stacked idle begins over) ∙ is)
+  held_called (suc k) f is = held_beside old new over next names pools f.instance f.call (stacked.held (suc k) f (sym (others_stay chain old new c d r stacked idle begins over (suc k) (λ e. omega (arith, e))) ∙ is))
+
+  pub stacked_called : IsStacked chain new d
+  stacked_called = record {
+    many = begins.many ∙ stacked.many;
+    within = (let top = top_is chain old new c d r stacked idle begins over in let some = stacked.within in omega (arith, top, some));
+    queue = (let q = ap (λ (x : Conn). x.queue) begins.rest in let some = stacked.within in omega (arith, q, some));
+    held = held_called;
+    apart = apart_called;
+    called = calls_called;
+    brought = λ m f is e. absurd (not_in d.first f is m e);
+  }
+
+  -- All of it. Its pools may have been changed, and a request begun.
+  pub left_called : (tree newer : PoolTree Payload) (dev : Device) (k : Common) (x : Connection) → LeftAs chain tree old dev c (k, x) → references new ≡ references old
+      → IsPoolMap (map_of newer) → IsHouse old (map_of newer) → LeftAs chain newer new dev d (all_called chain (with_pools (map_of newer) (k, record x { req = r })))
+  unfolding conn_of all_called
+  left_called tree newer dev k x left refs formed house = record {
+    seen = record {
+      pools = refl;
+      given = ap (λ (n : ℕ). n + 1) left.seen.given ∙ sym next;
+      conn = ap (λ (y : Connection). (called chain 0 (tail_of (numbers_below (length chain))) (with_pools (map_of newer) (k, record y { req = r; count = 0 }))).1) left.seen.conn
+          ∙ sym (conn_called chain old new c d r stacked idle begins over (map_of newer) x.opened (record k { pools = (map_of newer).next }) left.seen.given);
+    };
+    opens = left.opens;
+    formed = formed;
+    house = house_loose old new (map_of newer) pools refs house (next_name old) [] over;
+    references = subst (λ (f : ℕ → ℕ). AreOpen f dev) (sym refs) left.references;
+    none = over 0 ∙ (ring_off (lists old) (next_name old) 0 (Some []) (less 0 (next_name old) first_name) ∙ left.none);
+    stacked = stacked_called;
+  } where
+    first_name : 0 < next_name old
+    first_name = (let a = (stacked.held 0 was_first first_was).called in omega (arith, a))

@@ -1,0 +1,61 @@
+-- By the tests, and by what is left where none refuses.
+use Rattle.std.proofs.Common.{◌≡◌, ℕ, true, false, List, map, Option, Some, None, sym, ap, subst, ◌∙◌}
+use Rattle.module_lang.specs.Program.{Program}
+use Rattle.bucket_kinds.specs.Device.{Device}
+use Rattle.run_model.specs.declared.event.Refusal.TheVariants as refusal
+use Rattle.run_model.specs.Chains.{Linked}
+use Rattle.run_model.specs.Turns.{ended, ends, request_over, unless_refused}
+use Rattle.pool_tree.specs.Tree.{map_of}
+use Rattle.brigade_ops.specs.Store.{lists, next_name}
+use Rattle.module_run.specs.declared.conn.Conn.{Conn}
+use Rattle.module_run.specs.declared.conn.Filter.{Filter}
+use Rattle.module_run.specs.Destroyed.{quieted, request_left}
+use Rattle.module_run.specs.Happened.{has_lasted}
+use Rattle.module_run.specs.Proceeding.{LeftAs}
+use Rattle.module_run.proofs.Alongside.{left_relabelled}
+use Rattle.module_run.proofs.Refusing.{end_refused, end_passed}
+use Rattle.module_run.proofs.RequestBegins.{happened_as, req_is, request_below, request_idle, request_live}
+use Rattle.module_run.proofs.RequestEnds.{request_left_as}
+use Rattle.module_run.proofs.Unchanged.{left_same}
+use Rattle.module_run.proofs.conn.Conn.end_request.Goals as goal
+
+pub destroy-requires-clause-below : goal.destroy-requires-clause-below
+destroy-requires-clause-below g c = (let s = c.requires.stands in request_below s.0 c.args.tree.now c.args.store.now (g.F.Files.device c.args.files.now) c.args.self.now s.1.linked s.1.so c.in-Ok.pool c.in-Ok.ensures.pool)
+
+pub destroy-requires-clause-live : goal.destroy-requires-clause-live
+destroy-requires-clause-live g c = (let s = c.requires.stands in request_live s.0 c.args.tree.now c.args.store.now (g.F.Files.device c.args.files.now) c.args.self.now s.1.linked s.1.so c.in-Ok.pool c.in-Ok.ensures.pool)
+
+pub returns-in-Err-clause-ends : goal.returns-in-Err-clause-ends
+returns-in-Err-clause-ends g c chain v stands =
+    happened_as chain c.args.tree.now c.args.store.now (g.F.Files.device c.args.files.now) c.args.self.now (Some c.in-Err.why) (ends (has_lasted c.in-Err.why) v) v
+    (end_refused (map_of c.args.tree.now) (lists c.args.store.now) (next_name c.args.store.now) c.args.self.now v stands.left.seen (has_lasted c.in-Err.why) c.in-Err.why (sym c.in-Err.ensures.refusal))
+    stands.left
+
+pub returns-in_default-clause-ends : goal.returns-in_default-clause-ends
+returns-in_default-clause-ends g c chain v stands =
+    let e = c.in_default.ensures in
+    let self = c.args.self.now in
+    let d = g.F.Files.device c.args.files.now in
+    happened_as chain c.destroy.new.tree c.destroy.new.store (g.F.Files.device c.destroy.new.files) c.destroy.new.self (Some refusal.NoMemory) (ends false v) v
+    (end_passed (map_of c.args.tree.now) (lists c.args.store.now) (next_name c.args.store.now) self v stands.left.seen false (sym c.in-Ok.ensures.refusal))
+    (subst (λ (x : Device). LeftAs chain c.destroy.new.tree c.destroy.new.store x c.destroy.new.self v) (sym e.unread)
+    (subst (λ (x : Conn). LeftAs chain c.destroy.new.tree c.destroy.new.store d x v) (sym e.rest)
+    (left_relabelled chain c.destroy.new.tree c.destroy.new.store d self v c.destroy.new.self.labels e.same
+    (left_same c.args.store.now c.destroy.new.store e.err e.next e.pools chain c.args.tree.now c.destroy.new.tree d self v e.kept e.uncounted stands.left))))
+
+pub returns-clause-ends : goal.returns-clause-ends
+returns-clause-ends g c chain v stands =
+    let e = c.in-Ok-destroy.ensures in
+    let self = c.args.self.now in
+    let d = g.F.Files.device c.args.files.now in
+    let after = c.forget_request.new.self in
+    let none = sym c.in-Ok.ensures.refusal in
+    let more = e.labels in
+    let left =
+    request_left_as chain c.args.tree.now c.destroy.new.tree c.args.store.now c.destroy.new.store d (g.F.Files.device c.destroy.new.files) self stands.left.stacked (request_idle self.broken self.busy self.req none) c.in-Ok.pool e.ok
+    after.filters c.destroy.new.self.labels after.files (c.forget_request.ensures.quiet ∙ ap (λ (x : Conn). map quieted x.filters.items) e.rest) v stands.left more c.forget_request.ensures.files in
+    let same : after ≡ request_left self after.filters c.destroy.new.self.labels after.files = c.forget_request.ensures.rest ∙ ap (λ (x : Conn). request_left x after.filters x.labels after.files) e.rest in
+    happened_as chain c.destroy.new.tree c.destroy.new.store (g.F.Files.device c.destroy.new.files) after None (ends true v) (request_over c.in-Ok.pool v)
+    (end_passed (map_of c.args.tree.now) (lists c.args.store.now) (next_name c.args.store.now) self v stands.left.seen true none
+    ∙ ap (λ (o : Option ℕ). unless_refused None v (ended o v)) (req_is (map_of c.args.tree.now) (lists c.args.store.now) (next_name c.args.store.now) self v stands.left.seen ∙ c.in-Ok.ensures.pool))
+    (subst (λ (x : Conn). LeftAs chain c.destroy.new.tree c.destroy.new.store (g.F.Files.device c.destroy.new.files) x (request_over c.in-Ok.pool v)) (sym same) left)

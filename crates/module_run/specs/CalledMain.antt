@@ -1,0 +1,28 @@
+-- A brigade is brought to the first filter of a connection.
+use Rattle.std.specs.Prelude.{◌≡◌, ◌≢◌, ◌==◌, ℕ, true, List, [], length, Some, None, if◌then◌else◌}
+use Rattle.module_lang.specs.Program.{Program}
+use Rattle.run_model.specs.declared.bucket.Mark.TheVariants.{Usable}
+use Rattle.run_model.specs.Chains.{module_at}
+use Rattle.ring_run.specs.declared.machine.Slot.TheVariants.{Made}
+use Rattle.ring_run.specs.declared.machine.Stand.TheVariants.{Unset}
+use Rattle.module_run.specs.declared.conn.Filter.{Filter}
+use Rattle.module_run.specs.declared.conn.Conn.{Conn}
+use Rattle.module_run.specs.Conns.{filter_at}
+use Rattle.ring_run.specs.Slots.{SameButSlots, cursor_at, slot_at}
+
+-- A call of this name begins in a filter, at this instruction, and this brigade is its `in`.
+pub record StartsWith (name brigade pc : ℕ) (f e : Filter) : Type 0 where
+  pub slots : (a : ℕ) → slot_at e.instance a ≡ (if a == 8 then Made brigade None Usable else slot_at f.instance a)
+  pub rest : SameButSlots f.instance e.instance
+  pub lent : e.lent ≡ f.lent
+  pub named : e.call.name ≡ name
+  pub cursors : (i : ℕ) → cursor_at e.call i ≡ Unset
+  pub buffer : e.call.buffer ≡ []
+  pub at : e.call.pc ≡ pc
+
+-- `main` of the first filter begins.
+pub record CalledMain (chain : List Program) (name brigade : ℕ) (c d : Conn) : Type 0 where
+  pub first : (f : Filter) → filter_at c 0 ≡ Some f → (e : Filter) × ((filter_at d 0 ≡ Some e) × StartsWith name brigade (module_at chain 0).main f e)
+  pub others : (k : ℕ) → k ≢ 0 → filter_at d k ≡ filter_at c k
+  pub many : length d.filters.items ≡ length c.filters.items
+  pub rest : d ≡ record c { filters = d.filters; first = 0; busy = true; count = 0 }

@@ -1,0 +1,47 @@
+-- A pool of a connection is destroyed while no call runs.
+use Rattle.std.specs.Prelude.{◌≡◌, ℕ, Bool, true, false, ◌&&◌, not, if◌then◌else◌, List, [], ◌∷◌, ◌++◌, map, Some, None}
+use Rattle.std.specs.List.{list_any}
+use Rattle.std.specs.Global.{Vec}
+use Rattle.bucket_kinds.specs.Device.{Device, Missing}
+use Rattle.bucket_ring.specs.declared.rings.Rings.{Ghosts}
+use Rattle.bucket_ring.specs.Kept.{NoneRevived}
+use Rattle.run_model.specs.declared.bucket.Bucket.{Bucket}
+use Rattle.run_model.specs.declared.payload.Payload.{Payload}
+use Rattle.run_model.specs.Files.{is_referred}
+use Rattle.run_model.specs.Payloads.{is_file_ref}
+use Rattle.run_model.specs.Pools.{destroyed, is_in, is_under}
+use Rattle.run_model.specs.RunOrder.{run_order, IsPoolMap}
+use Rattle.pool_tree.specs.declared.tree.PoolTree.{PoolTree}
+use Rattle.pool_tree.specs.Tree.{map_of}
+use Rattle.brigade_ops.specs.declared.store.Brigades.{Brigades}
+use Rattle.brigade_ops.specs.House.{AreOpen, IsHouse, cleared_ring, pool_left}
+use Rattle.brigade_ops.specs.Store.{lists, brigade_of, pool_of, next_name, references}
+use Rattle.module_run.specs.declared.conn.Conn.{Conn}
+use Rattle.module_run.specs.declared.conn.Filter.{Filter}
+use Rattle.module_run.specs.declared.conn.OpenFile.{OpenFile}
+use Rattle.module_run.specs.Conns.{filter_at}
+use Rattle.module_run.specs.Stacked.{named_at}
+
+-- in no request an EOS was passed
+abbrev pub quieted : Filter → Filter
+quieted f = record f { instance = record f.instance { sent = false } }
+
+-- a connection whose request is over, with these filters, labels and files
+abbrev pub request_left : Conn → Vec Filter → Vec (Vec (ℕ × Payload)) → Vec OpenFile → Conn
+request_left c filters labels files = record c { filters = filters; labels = labels; req = None; files = files; ended = false }
+
+module _ {R : Type 0} {g : Ghosts R Bucket} where
+  -- The pool went, over the tree, the store and the device, where those of all filters and calls of the connection are among the brigades that were looked at.
+  pub record WasDestroyed (pool : ℕ) (tree newer : PoolTree Payload) (old new : Brigades R g) (d e : Device) (c : Conn) : Type 0 where
+    pub looked : List ℕ
+    pub named : (k b n : ℕ) (f : Filter) → filter_at c k ≡ Some f → named_at f b ≡ Some n → is_in n looked ≡ true
+    pub loose : (k : ℕ) (f : Filter) → filter_at c k ≡ Some f → is_in f.call.name looked ≡ true
+    pub pools : map_of newer ≡ destroyed pool (map_of tree)
+    pub out : (n : ℕ) → lists new n ≡ cleared_ring (is_under (map_of tree) pool) (is_in n looked) (pool_of old n) (lists old n)
+    pub off : (n : ℕ) → pool_of new n ≡ pool_left (is_under (map_of tree) pool) (pool_of old n)
+    pub closed : (file : ℕ) → e.numbered file ≡ (if list_any (λ x. is_file_ref file x.1) (run_order (map_of tree) pool) && not (is_referred (map_of newer) file) then Missing else d.numbered file)
+    pub house : IsHouse new (map_of newer)
+    pub open_files : AreOpen (references new) e
+    pub next : next_name new ≡ next_name old
+    pub names : NoneRevived (brigade_of old) (brigade_of new) (next_name old)
+    pub formed : IsPoolMap (map_of newer)

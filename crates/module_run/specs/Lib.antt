@@ -1,0 +1,13 @@
+pub mod Conns
+pub mod Stacked
+pub mod Proceeding
+pub mod Stepping
+pub mod Looking
+pub mod Passing
+pub mod CalledFirst
+pub mod CalledMain
+pub mod Happened
+pub mod Refused
+pub mod Opening
+pub mod Destroyed
+pub mod OpenedFile

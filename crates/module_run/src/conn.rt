@@ -1,0 +1,57 @@
+//! A connection: a filter for each module of its chain, and the calls that run.
+
+use brigade_ops::{BrigadeId, FileNo, PoolId};
+use ring_run::machine::{Call, Instance};
+use run_model::{Cause, Payload, Seq};
+
+/// A filter of a connection: its instance and its call. While the call waits for a pass to return, `lent` is the brigade variable that
+/// was passed.
+#[derive(Drop)]
+pub struct Filter {
+    pub(crate) instance: Instance,
+    pub(crate) call: Call,
+    pub(crate) lent: Option<u8>,
+}
+
+/// A file that was opened in the request, and its length in bytes then.
+#[derive(Clone, Copy)]
+pub struct OpenFile {
+    pub(crate) number: FileNo,
+    pub(crate) len: u64,
+}
+
+/// A connection. Its calls are those of the filter `first` and of the filters behind it: each waits for that of the next one, and the last
+/// one runs. `busy` tells whether any call runs. `waits` are the names of those that wait, the outermost first. `queue` is the next filter
+/// whose `open` or `init` is to run; where none is, it is the number of filters. `conn` is the connection's pool, and `req` that of the
+/// open request. `labels` has a list for each clear that ran labels, the oldest first. `files` are those of the request. `out` is the output that was not
+/// taken yet, and `ended` tells whether an EOS came to it in this request. `count` is the number of instructions that were executed since
+/// the last open, begin or bring. `broken` is why the connection broke.
+#[derive(Drop)]
+pub struct Conn {
+    pub(crate) filters: Vec<Filter>,
+    pub(crate) first: usize,
+    pub(crate) waits: Vec<BrigadeId>,
+    pub(crate) busy: bool,
+    pub(crate) queue: usize,
+    pub(crate) conn: PoolId,
+    pub(crate) req: Option<PoolId>,
+    pub(crate) labels: Vec<Vec<(PoolId, Payload)>>,
+    pub(crate) files: Vec<OpenFile>,
+    pub(crate) out: Seq<u8>,
+    pub(crate) ended: bool,
+    pub(crate) count: u64,
+    pub(crate) broken: Option<Cause>,
+}
+
+impl Conn {
+    ghost use Rattle.std.specs.Prelude.{◌≡◌, ◌<◌, ◌^◌};
+    ghost use Rattle.module_run.specs.Conns.{top_of};
+
+    /// The filter whose call is on top.
+    pub(crate) fn top(&self) -> usize
+        requires { top_of self.now < 2 ^ 64 }
+        ensures { result ≡ top_of self.now }
+    {
+        self.first + self.waits.len()
+    }
+}

@@ -1,0 +1,103 @@
+//! A request begins.
+
+ghost use Rattle.std.specs.Prelude.{◌≡◌, ◌<◌, ◌+◌, ℕ, None, Some, [], is_ok, if◌then◌else◌, IsTrue, IfOk, OnOk, OnErr};
+ghost use Rattle.bucket_ring.specs.Lists.{upd};
+ghost use Rattle.bucket_kinds.specs.Device.{Device};
+ghost use Rattle.run_model.specs.Chains.{Linked};
+ghost use Rattle.run_model.specs.Connection.{first_refusal};
+ghost use Rattle.run_model.specs.Pools.{created, is_live};
+ghost use Rattle.run_model.specs.RunOrder.{IsPoolMap};
+ghost use Rattle.run_model.specs.Turns.{begins};
+ghost use Rattle.pool_tree.specs.Tree.{map_of};
+ghost use Rattle.bucket_ring.specs.Kept.{NoneRevived};
+ghost use Rattle.brigade_ops.specs.Store.{lists, brigade_of, pool_of, references, next_name};
+ghost use Rattle.module_run.specs.Happened.{Happened, Stands, lasted, refusal_of};
+ghost use Rattle.module_run.specs.Proceeding.{StandsFor};
+ghost use Rattle.module_run.specs.Refused.{begin_tests};
+
+use crate::conn::Conn;
+use brigade_ops::{BrigadeId, Brigades, Bucket, PoolId, PoolTree, Rings};
+use ring_run::asks::is_spent;
+use run_model::{Module, Payload, Refusal};
+use std::alloc::AllocError;
+
+/// Makes the brigade of a call's loose buckets, and a pool under this one, and tells their names. Names are left. Without memory nothing
+/// is changed.
+pub(crate) fn call_and_pool<R: Rings<Bucket> + Drop>(
+    tree: &mut PoolTree<Payload>,
+    store: &mut Brigades<R>,
+    parent: PoolId,
+) -> Result<(BrigadeId, PoolId), AllocError>
+    requires live { IsTrue (is_live (map_of tree.old) parent) }
+    requires free { pool_of store.old (next_name store.old) ≡ None }
+    ensures made { IfOk result (λ made. made ≡ (next_name store.old, (map_of tree.old).next)) }
+    ensures tree { OnOk result (map_of tree.new ≡ created parent (map_of tree.old)) }
+    ensures rings { OnOk result ((n : ℕ) → lists store.new n ≡ upd (lists store.old) (next_name store.old) (Some []) n) }
+    ensures next { next_name store.new ≡ (if is_ok result then next_name store.old + 1 else next_name store.old) }
+    ensures names { NoneRevived (brigade_of store.old) (brigade_of store.new) (next_name store.old) }
+    ensures pools { pool_of store.new ≡ pool_of store.old }
+    ensures references { references store.new ≡ references store.old }
+    ensures formed { OnOk result (IsPoolMap (map_of tree.new)) }
+    ensures kept { OnErr result (map_of tree.new ≡ map_of tree.old) }
+    ensures err { OnErr result ((n : ℕ) → lists store.new n ≡ lists store.old n) }
+{
+    let Ok(name) = store.loose() else {
+        return Err(AllocError);
+    };
+    match tree.create(parent) {
+        Ok(pool) => Ok((name, pool)),
+        Err(_) => {
+            store.end_loose(name);
+            store.set_next(name);
+            Err(AllocError)
+        }
+    }
+}
+
+impl Conn {
+    /// Why no request may begin now, if there is a reason.
+    fn refusal_to_begin<R: Rings<Bucket> + Drop>(
+        &self,
+        tree: &PoolTree<Payload>,
+        store: &Brigades<R>,
+    ) -> Option<Refusal>
+        ensures { result ≡ first_refusal (begin_tests self.now.broken self.now.busy self.now.req (map_of tree.now).next (next_name store.now)) }
+    {
+        if let Some(cause) = self.broken {
+            return Some(Refusal::Broken(cause));
+        }
+        if self.busy {
+            return Some(Refusal::Busy);
+        }
+        if self.req.is_some() {
+            return Some(Refusal::InRequest);
+        }
+        if is_spent(tree.next_name(), 1) || is_spent(store.next_name(), 1) {
+            return Some(Refusal::NamesSpent);
+        }
+        None
+    }
+
+    /// A request begins: its pool is made under the connection's, and `init` of the first filter begins. Refused, nothing is changed:
+    /// `Broken`; `Busy`: a call is running; `InRequest`; `NamesSpent`: a name to be given out would be `u64::MAX`; `NoMemory`.
+    #[tactic(auto, using(crate::proofs::RequestBegins::begun_left))]
+    pub fn begin<R: Rings<Bucket> + Drop>(
+        &mut self,
+        modules: &[Module],
+        tree: &mut PoolTree<Payload>,
+        store: &mut Brigades<R>,
+    ) -> Result<(), Refusal>
+        requires stands { (d : Device) × Stands modules.now tree.old store.old d self.old }
+        ensures { (d : Device) (v : Linked) → StandsFor modules.now tree.old store.old d self.old v → Happened modules.now tree.new store.new d self.new (refusal_of result) (begins (lasted result) modules.now v) }
+    {
+        if let Some(why) = self.refusal_to_begin(tree, store) {
+            return Err(why);
+        }
+        let Ok((name, pool)) = call_and_pool(tree, store, self.conn) else {
+            return Err(Refusal::NoMemory);
+        };
+        self.req = Some(pool);
+        self.call_first(modules, name);
+        Ok(())
+    }
+}

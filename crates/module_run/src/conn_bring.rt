@@ -1,0 +1,149 @@
+//! A brigade is brought to a connection.
+
+ghost use Rattle.std.specs.Prelude.{◌≡◌, ◌<◌, ◌≤◌, ◌+◌, ℕ, List, None, Some, [], length, is_ok, if◌then◌else◌, IfOk, OnOk, OnErr};
+ghost use Rattle.bucket_ring.specs.Lists.{upd};
+ghost use Rattle.bucket_ring.specs.Kept.{NoneRevived};
+ghost use Rattle.bucket_kinds.specs.Device.{Device};
+ghost use Rattle.run_model.specs.declared.payload.Payload.{Payload};
+ghost use Rattle.run_model.specs.Chains.{Linked};
+ghost use Rattle.run_model.specs.Connection.{bucket_of, named_from, first_refusal};
+ghost use Rattle.run_model.specs.Steps.{is_spent};
+ghost use Rattle.run_model.specs.Turns.{brings};
+ghost use Rattle.pool_tree.specs.declared.tree.PoolTree.{PoolTree};
+ghost use Rattle.brigade_ops.specs.Items.{Items, named};
+ghost use Rattle.brigade_ops.specs.Store.{lists, brigade_of, pool_of, references, next_name};
+ghost use Rattle.module_run.specs.CalledMain.{CalledMain, StartsWith};
+ghost use Rattle.module_run.specs.Happened.{Happened, Stands, lasted, refusal_of};
+ghost use Rattle.module_run.specs.Proceeding.{StandsFor};
+ghost use Rattle.module_run.specs.Refused.{bring_tests};
+ghost use Rattle.module_run.specs.Conns.{lengths};
+
+use crate::bring::bring_in;
+use crate::conn::{Conn, Filter};
+use crate::pieces::{has_data_behind_eos, lack_files};
+use brigade_ops::{BrigadeId, Brigades, Bucket, PoolId, Rings};
+use ring_run::machine::Slot;
+use run_model::{Mark, Module, Piece, Refusal, Seq};
+use std::alloc::{AllocError, Global};
+
+/// Whether not so many names are left as a call, a brigade and so many buckets take.
+#[tactic(auto, unfolding(run_model::specs::Steps::is_spent))]
+fn are_spent(next: u64, buckets: u64) -> bool
+    ensures { result ≡ is_spent next (2 + buckets) }
+{
+    let left = u64::MAX - next;
+    left < 2 || buckets > left - 2
+}
+
+/// Makes the brigade of a call's loose buckets, and that of the pieces that are brought to it in a request of this pool. They have the next
+/// two names, and the buckets those behind them. Without memory nothing is changed, and no name is spent.
+fn call_and_brigade<R: Rings<Bucket> + Drop>(
+    alloc: Global,
+    store: &mut Brigades<R>,
+    req: PoolId,
+    pieces: Seq<Piece>,
+) -> Result<(BrigadeId, BrigadeId), AllocError>
+    requires free { (n : ℕ) → next_name store.old ≤ n → pool_of store.old n ≡ None }
+    ensures made { IfOk result (λ made. made ≡ (next_name store.old, next_name store.old + 1)) }
+    ensures rings { OnOk result ((xs : Items) × ((named xs ≡ named_from (bucket_of (next_name store.old) req) (next_name store.old + 2) pieces)
+        × ((n : ℕ) → lists store.new n ≡ upd (upd (lists store.old) (next_name store.old) (Some [])) (next_name store.old + 1) (Some xs) n))) }
+    ensures next { next_name store.new ≡ (if is_ok result then next_name store.old + 2 + length pieces else next_name store.old) }
+    ensures names { NoneRevived (brigade_of store.old) (brigade_of store.new) (next_name store.old) }
+    ensures pools { pool_of store.new ≡ pool_of store.old }
+    ensures references { references store.new ≡ references store.old }
+    ensures err { OnErr result ((n : ℕ) → lists store.new n ≡ lists store.old n) }
+{
+    let Ok(call) = store.loose() else {
+        return Err(AllocError);
+    };
+    match bring_in(alloc, store, call, req, pieces) {
+        Ok(brigade) => Ok((call, brigade)),
+        Err(_) => {
+            store.end_loose(call);
+            store.set_next(call);
+            Err(AllocError)
+        }
+    }
+}
+
+impl Filter {
+    /// A call of this name begins, at this instruction, with this brigade as its `in`.
+    fn start_with(&mut self, name: BrigadeId, brigade: BrigadeId, pc: usize)
+        ensures { StartsWith name brigade pc self.old self.new }
+    {
+        self.instance
+            .set_slot(8, Slot::Made(brigade, None, Mark::Usable));
+        self.call.start(name, pc);
+    }
+}
+
+impl Conn {
+    /// `main` of the first filter begins: the call has this name, and this brigade is its `in`.
+    #[tactic(auto, unfolding(crate::specs::Conns::filter_at))]
+    fn call_main(&mut self, modules: &[Module], name: BrigadeId, brigade: BrigadeId)
+        requires some { 0 < length modules.now }
+        requires many { length self.old.filters.items ≡ length modules.now }
+        ensures { CalledMain modules.now name brigade self.old self.new }
+    {
+        let pc = modules[0].main();
+        self.filters[0].start_with(name, brigade, pc);
+        self.first = 0;
+        self.busy = true;
+        self.count = 0;
+    }
+
+    /// The pool of the request in which these pieces may be brought now, or why they may not.
+    fn pool_to_bring<R: Rings<Bucket> + Drop>(
+        &self,
+        store: &Brigades<R>,
+        pieces: &[Piece],
+    ) -> Result<PoolId, Refusal>
+        ensures pool { IfOk result (λ pool. self.now.req ≡ Some pool) }
+        ensures refusal { refusal_of result ≡ first_refusal (bring_tests self.now.broken self.now.busy self.now.req (lengths self.now.files.items) (next_name store.now) pieces.now) }
+    {
+        if let Some(cause) = self.broken {
+            return Err(Refusal::Broken(cause));
+        }
+        if self.busy {
+            return Err(Refusal::Busy);
+        }
+        let Some(pool) = self.req else {
+            return Err(Refusal::NotInRequest);
+        };
+        if has_data_behind_eos(pieces) {
+            return Err(Refusal::DataAfterEos);
+        }
+        if lack_files(self.files.as_slice(), pieces) {
+            return Err(Refusal::NoFile);
+        }
+        if are_spent(store.next_name(), pieces.len() as u64) {
+            return Err(Refusal::NamesSpent);
+        }
+        Ok(pool)
+    }
+
+    /// A brigade of these pieces comes: it is the `in` of the first filter, whose `main` begins. Refused, nothing is changed and the pieces are
+    /// dropped: `Broken`; `Busy`: a call is running; `NotInRequest`; `DataAfterEos`: a data piece stands behind an EOS; `NoFile`: a range
+    /// is of no file that was opened in this request, or ends behind it; `NamesSpent`: a name to be given out would be `u64::MAX`;
+    /// `NoMemory`.
+    pub fn bring<R: Rings<Bucket> + Drop>(
+        &mut self,
+        alloc: Global,
+        modules: &[Module],
+        store: &mut Brigades<R>,
+        pieces: Seq<Piece>,
+    ) -> Result<(), Refusal>
+        requires stands { (tree : PoolTree Payload) × ((d : Device) × Stands modules.now tree store.old d self.old) }
+        ensures { (tree : PoolTree Payload) (d : Device) (v : Linked) → StandsFor modules.now tree store.old d self.old v → Happened modules.now tree store.new d self.new (refusal_of result) (brings (lasted result) modules.now pieces v) }
+    {
+        let req = match self.pool_to_bring(store, pieces.as_slice()) {
+            Ok(pool) => pool,
+            Err(why) => return Err(why),
+        };
+        let Ok((name, brigade)) = call_and_brigade(alloc, store, req, pieces) else {
+            return Err(Refusal::NoMemory);
+        };
+        self.call_main(modules, name, brigade);
+        Ok(())
+    }
+}

@@ -1,0 +1,125 @@
+//! A request ends.
+
+ghost use Rattle.std.specs.Prelude.{◌≡◌, ◌≢◌, ◌<◌, ◌∷◌, ◌++◌, [], ℕ, List, None, Some, false, map, IsTrue, IfOk, OnOk, OnErr};
+ghost use Rattle.bucket_kinds.specs.Device.{Device};
+ghost use Rattle.module_lang.specs.Program.{Program};
+ghost use Rattle.run_model.specs.Chains.{Linked};
+ghost use Rattle.run_model.specs.Connection.{first_refusal};
+ghost use Rattle.run_model.specs.Files.{is_referred};
+ghost use Rattle.run_model.specs.Payloads.{labels_in};
+ghost use Rattle.run_model.specs.Pools.{is_live};
+ghost use Rattle.run_model.specs.RunOrder.{run_order};
+ghost use Rattle.run_model.specs.Turns.{ends};
+ghost use Rattle.pool_tree.specs.Tree.{map_of};
+ghost use Rattle.brigade_ops.specs.Files.{SameButOpen};
+ghost use Rattle.brigade_ops.specs.House.{IsHouse, AreOpen};
+ghost use Rattle.brigade_ops.specs.Store.{lists, pool_of, references, next_name};
+ghost use Rattle.module_run.specs.Conns.{labels_handed};
+ghost use Rattle.module_run.specs.Destroyed.{WasDestroyed, quieted, request_left};
+ghost use Rattle.module_run.specs.Happened.{Happened, Stands, lasted, refusal_of};
+ghost use Rattle.module_run.specs.Proceeding.{StandsFor};
+ghost use Rattle.module_run.specs.Refused.{request_tests};
+
+use crate::conn::{Conn, Filter};
+use brigade_ops::{Brigades, Bucket, Files, PoolId, PoolTree, Rings};
+use ring_run::labels::hand_on;
+use run_model::{Payload, Refusal};
+use std::alloc::{AllocError, Global};
+
+/// No EOS was passed yet in the next request.
+fn forget_sent(filters: &mut Vec<Filter>)
+    ensures { filters.new.items ≡ map quieted filters.old.items }
+{
+    for k in 0..filters.len() {
+        filters[k].instance.sent = false;
+    }
+}
+
+impl Conn {
+    /// The pool of the open request, where no call runs; or why nothing may happen in it now.
+    pub(crate) fn request(&self) -> Result<PoolId, Refusal>
+        ensures pool { IfOk result (λ pool. self.now.req ≡ Some pool) }
+        ensures refusal { refusal_of result ≡ first_refusal (request_tests self.now.broken self.now.busy self.now.req) }
+    {
+        if let Some(cause) = self.broken {
+            return Err(Refusal::Broken(cause));
+        }
+        if self.busy {
+            return Err(Refusal::Busy);
+        }
+        match self.req {
+            Some(pool) => Ok(pool),
+            None => Err(Refusal::NotInRequest),
+        }
+    }
+
+    /// Destroys a pool of the connection that is not the root, while no call runs. Without memory nothing is changed.
+    pub(crate) fn destroy<R: Rings<Bucket> + Drop, F: Files>(
+        &mut self,
+        alloc: Global,
+        tree: &mut PoolTree<Payload>,
+        store: &mut Brigades<R>,
+        files: &mut F,
+        pool: PoolId,
+    ) -> Result<(), AllocError>
+        requires below { (map_of tree.old).path pool ≢ pool ∷ [] }
+        requires live { IsTrue (is_live (map_of tree.old) pool) }
+        requires house { IsHouse store.old (map_of tree.old) }
+        requires open { AreOpen (references store.old) (F.device files.old) }
+        ensures ok { OnOk result (WasDestroyed pool tree.old tree.new store.old store.new (F.device files.old) (F.device files.new) self.old) }
+        ensures labels { OnOk result (labels_handed self.new.labels.items ≡ labels_handed self.old.labels.items ++ labels_in (run_order (map_of tree.old) pool)) }
+        ensures rest { self.new ≡ record self.old { labels = self.new.labels } }
+        ensures same { OnErr result (self.new.labels.items ≡ self.old.labels.items) }
+        ensures err { OnErr result ((n : ℕ) → lists store.new n ≡ lists store.old n) }
+        ensures pools { OnErr result (pool_of store.new ≡ pool_of store.old) }
+        ensures uncounted { OnErr result (references store.new ≡ references store.old) }
+        ensures next { next_name store.new ≡ next_name store.old }
+        ensures kept { OnErr result (map_of tree.new ≡ map_of tree.old) }
+        ensures unread { OnErr result (F.device files.new ≡ F.device files.old) }
+        ensures others { SameButOpen (F.device files.old) (F.device files.new) }
+        ensures unreferred { (file : ℕ) → is_referred (map_of tree.old) file ≡ false → (F.device files.new).numbered file ≡ (F.device files.old).numbered file }
+    {
+        let rings = self.rings(alloc)?;
+        self.labels.reserve(1)?;
+        let ran = store.destroy(rings.as_slice(), tree, files, pool)?;
+        hand_on(&mut self.labels, ran);
+        Ok(())
+    }
+
+    /// The request is over: no file is open in it, and no EOS was passed in the next one.
+    fn forget_request(&mut self)
+        ensures quiet { self.new.filters.items ≡ map quieted self.old.filters.items }
+        ensures files { self.new.files.items ≡ [] }
+        ensures rest { self.new ≡ request_left self.old self.new.filters self.old.labels self.new.files }
+    {
+        forget_sent(&mut self.filters);
+        self.req = None;
+        self.files.clear();
+        self.ended = false;
+    }
+
+    /// The request ends: its pool is destroyed with what lies on it and under it, and labels run. Refused, nothing is changed: `Broken`;
+    /// `Busy`: a call is running; `NotInRequest`; `NoMemory`.
+    pub fn end_request<R: Rings<Bucket> + Drop, F: Files>(
+        &mut self,
+        alloc: Global,
+        tree: &mut PoolTree<Payload>,
+        store: &mut Brigades<R>,
+        files: &mut F,
+    ) -> Result<(), Refusal>
+        requires stands { (chain : List Program) × Stands chain tree.old store.old (F.device files.old) self.old }
+        ensures ends { (chain : List Program) (v : Linked) → StandsFor chain tree.old store.old (F.device files.old) self.old v → Happened chain tree.new store.new (F.device files.new) self.new (refusal_of result) (ends (lasted result) v) }
+        ensures others { SameButOpen (F.device files.old) (F.device files.new) }
+        ensures unreferred { (file : ℕ) → is_referred (map_of tree.old) file ≡ false → (F.device files.new).numbered file ≡ (F.device files.old).numbered file }
+    {
+        let pool = match self.request() {
+            Ok(pool) => pool,
+            Err(why) => return Err(why),
+        };
+        let Ok(()) = self.destroy(alloc, tree, store, files, pool) else {
+            return Err(Refusal::NoMemory);
+        };
+        self.forget_request();
+        Ok(())
+    }
+}
