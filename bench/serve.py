@@ -6,7 +6,8 @@
 One client asks for a file of 2 bytes, of 64 KiB and of 1 MiB on one connection that stays open. What is told is the processor time of
 the server alone, user and system, for each request, and its memory before and behind. Then the file of 2 bytes is asked for on N connections
 of one request each. Where nginx or apache2 is there, it serves the same files in the same run, as one process that reads files and changes
-nothing, and the ratio is told.
+nothing, and the ratio is told. Where apxs is there as well (apache2-dev), apache2 sends them through a filter in C that passes each brigade
+on (bench/pass_filter.c).
 """
 import argparse
 import os
@@ -30,13 +31,18 @@ APACHE = """ServerRoot %(folder)s
 PidFile %(folder)s/apache.pid
 ErrorLog %(folder)s/apache.err
 ServerName h
+User nobody
+Group nogroup
 Listen 127.0.0.1:%(port)d
 LoadModule mpm_prefork_module /usr/lib/apache2/modules/mod_mpm_prefork.so
 LoadModule authz_core_module /usr/lib/apache2/modules/mod_authz_core.so
 DocumentRoot %(folder)s
 MaxKeepAliveRequests 0
 EnableSendfile Off
+FileETag None
+%(filter)s
 """
+PASS = 'LoadModule pass_filter_module %s/.libs/pass_filter.so\nSetOutputFilter PASS'
 
 
 def free_port():
@@ -128,6 +134,15 @@ def start(words, folder):
     return subprocess.Popen(words, cwd=folder, stdout=subprocess.DEVNULL, stderr=subprocess.DEVNULL)
 
 
+def pass_filter(folder):
+    """The lines that make apache2 send all through the filter in C, where it can be built."""
+    if not shutil.which('apxs'):
+        return ''
+    shutil.copy(os.path.join(TOP, 'bench', 'pass_filter.c'), folder)
+    built = subprocess.run(['apxs', '-c', 'pass_filter.c'], cwd=folder, stdout=subprocess.DEVNULL, stderr=subprocess.DEVNULL)
+    return PASS % folder if built.returncode == 0 else ''
+
+
 def servers(program, module, folder):
     """The servers: a name, and the words that start it at a port."""
     shutil.copy(module, os.path.join(folder, 'module'))
@@ -147,7 +162,7 @@ def servers(program, module, folder):
 
             def at(port, path=path, text=text, found=found, words=words):
                 with open(path, 'w') as file:
-                    file.write(text % {'folder': folder, 'port': port})
+                    file.write(text % {'folder': folder, 'port': port, 'filter': pass_filter(folder)})
                 return [found] + words + [path]
             yield name, at
 

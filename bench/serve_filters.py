@@ -1,26 +1,48 @@
 #!/usr/bin/env python3
-"""Sends the tests of the filters of filters/, and a file of 1 MiB, through `serve`.
+"""Sends the tests of the filters of filters/, and a page of 1 MiB, through `serve`.
 
     bench/serve_filters.py [--program PATH]
 
-For each filter: how many bodies of its tests came out as they are to, and how many megabytes of the large file go through in a second.
-The budget of a call is 100,000,000 instructions.
+First for the identity filter, then for each filter and for each chain that has tests: how many bodies of its tests came out as they are
+to, and whether the page did; how many megabytes of the page go through in a second, the best of three, and how many times as long as with
+the identity filter it takes; and its instructions for a byte, as bench/steps.py counts them. What a filter makes of the page is
+written here, in `MAKES`; a chain makes of it what its filters make, one after another. The budget of a call is 100,000,000 instructions.
 """
 import argparse
-import glob
+import base64
 import os
+import re
+import shutil
 import socket
 import subprocess
 import sys
 import tempfile
 import time
 
-TOP = os.path.dirname(os.path.dirname(os.path.abspath(__file__)))
-BUILT = os.path.join(TOP, 'crates', 'host_cli', 'out', 'host_cli')
-sys.path.insert(0, os.path.join(TOP, 'tests'))
-import filters  # noqa: E402
+from steps import BUILT, LINE, SIZE, TOP, filters, instructions
 
-LARGE = (b'The quick brown fox <b>jumps</b> over 13 lazy dogs.\r\n' * 20165)[:1048576]
+UPPER, LOWER = b'ABCDEFGHIJKLMNOPQRSTUVWXYZ', b'abcdefghijklmnopqrstuvwxyz'
+LARGE = (LINE + b'The <b>quick</b> brown fox.\r\n') * 12000
+LARGE = LARGE[:1048576]
+TURNED = bytes.maketrans(UPPER + LOWER, UPPER[13:] + UPPER[:13] + LOWER[13:] + LOWER[:13])
+MAKES = {
+    'upper': bytes.upper,
+    'lower': bytes.lower,
+    'rot13': lambda body: body.translate(TURNED),
+    'tabs': lambda body: body.replace(b'\t', b' '),
+    'arrow': lambda body: body.replace(b'->', b'=>'),
+    'crlf': lambda body: re.sub(rb'(?<!\r)\n', b'\r\n', body),
+    'strip': lambda body: re.sub(rb'<!--.*?(?:-->|\Z)', b'', body, flags=re.DOTALL),
+    'base64': base64.b64encode,
+    'count': lambda body: body + b'%d lines, %d bytes\n' % (body.count(b'\n'), len(body)),
+    'prefix': lambda body: b'-- begin --\n' + body,
+    'suffix': lambda body: body + b'-- end --\n',
+    'footer': lambda body: body and body + b'<!-- served by httpd -->\n',
+    'banner': lambda body: b'welcome\n' + body,
+    'truncate': lambda body: body[:1000],
+    'drop': lambda body: b'',
+    'tee': lambda body: body * 2,
+}
 
 
 def ask(port, path):
@@ -29,12 +51,13 @@ def ask(port, path):
         sock.sendall(b'GET %s HTTP/1.1\r\nHost: h\r\nConnection: close\r\n\r\n' % path.encode())
         parts = list(iter(lambda: sock.recv(1 << 16), b''))
     head, _, rest = b''.join(parts).partition(b'\r\n\r\n')
-    body = b''
+    pieces = []
     while rest:
-        size, _, rest = rest.partition(b'\r\n')
-        body += rest[:int(size, 16)]
-        rest = rest[int(size, 16) + 2:]
-    return int(head.split()[1]), body
+        end = rest.index(b'\r\n')
+        size = int(rest[:end], 16)
+        pieces.append(rest[end + 2:end + 2 + size])
+        rest = rest[end + size + 4:]
+    return int(head.split()[1]), b''.join(pieces)
 
 
 def free_port():
@@ -49,40 +72,73 @@ def pairs(test):
         return [filters.bodies(line[5:].rstrip('\n'))[0] for line in lines if line.startswith('body ')]
 
 
-def measure(program, module, folder):
-    """How many bodies came out right, of how many, and megabytes a second."""
-    name = os.path.basename(module)[:-len('.mod')]
-    due = pairs(os.path.join(TOP, 'filters', 'tests', name + '.test'))
-    files = {'/large': LARGE, **{'/%d' % at: sent for at, (sent, _) in enumerate(due)}}
+def lay_out(folder, files):
+    """The files of a site, and its site file."""
     for path, data in files.items():
         with open(folder + path, 'wb') as file:
             file.write(data)
     with open(folder + '/site', 'w') as site:
         site.writelines('%s %s%s\n' % (path, folder, path) for path in files)
+
+
+def seconds(port):
+    """How long the page takes."""
+    start = time.monotonic()
+    ask(port, '/large')
+    return time.monotonic() - start
+
+
+def measure(program, modules, due, made, folder):
+    """How many bodies came out right, whether the page did, and megabytes a second."""
+    lay_out(folder, {'/large': LARGE, **{'/%d' % at: sent for at, (sent, _) in enumerate(due)}})
     port = free_port()
-    words = [program, 'serve', '--site', folder + '/site', '--port', str(port), '--conns', '0', '--budget', '100000000', module]
+    words = [program, 'serve', '--site', folder + '/site', '--port', str(port), '--conns', '0', '--budget', '100000000'] + modules
     with subprocess.Popen(words, stdout=subprocess.PIPE) as server:
         try:
             server.stdout.readline()
             right = sum(ask(port, '/%d' % at) == (200, out) for at, (_, out) in enumerate(due))
-            start = time.monotonic()
-            status, _ = ask(port, '/large')
-            seconds = time.monotonic() - start
+            whole = ask(port, '/large') == (200, made)
+            return right, whole, len(LARGE) / 1e6 / min(seconds(port) for _ in range(3))
         finally:
             server.kill()
-    return right, len(due), status, len(LARGE) / 1e6 / seconds
+
+
+def made_of(name):
+    """What a chain makes of the page."""
+    body = LARGE
+    for part in name.split('-'):
+        body = MAKES.get(part, lambda same: same)(body)
+    return body
+
+
+def subjects(program, folder):
+    """What is measured: a name, the modules, the bodies of the tests, and what becomes of the page."""
+    identity = shutil.copy(os.path.join(TOP, 'filters', 'new.module'), folder)
+    with open(identity + '.cert', 'wb') as file:
+        subprocess.run([program, 'certify', identity], stdout=file)
+    yield 'identity', [identity], [], LARGE
+    tests = os.path.join(TOP, 'filters', 'tests')
+    for name, path in filters.filters():
+        yield name, [path], pairs(os.path.join(tests, name + '.test')), made_of(name)
+    for name, paths in filters.chains():
+        yield name, paths, pairs(os.path.join(tests, 'chains', name + '.test')), made_of(name)
 
 
 def main():
     parser = argparse.ArgumentParser(description=__doc__, formatter_class=argparse.RawDescriptionHelpFormatter)
     parser.add_argument('--program', default=BUILT, metavar='PATH')
-    program = parser.parse_args().program
-    wrong = 0
-    for module in sorted(glob.glob(os.path.join(TOP, 'filters', '*.mod'))):
-        with tempfile.TemporaryDirectory() as folder:
-            right, count, status, rate = measure(program, module, folder)
-        wrong += count - right + (status != 200)
-        print('%-12s %d of %d bodies, 1 MiB: %d, %.1f MB a second' % (os.path.basename(module)[:-4], right, count, status, rate), flush=True)
+    program = os.path.abspath(parser.parse_args().program)
+    wrong, base = 0, None
+    with tempfile.TemporaryDirectory() as kept:
+        for name, modules, due, made in subjects(program, kept):
+            with tempfile.TemporaryDirectory() as folder:
+                right, whole, rate = measure(program, modules, due, made, folder)
+            base = base or rate
+            steps = instructions(program, ''.join(filters.text_of(path) for path in modules)) / SIZE
+            wrong += len(due) - right + (not whole)
+            told = 'as it is to be' if whole else 'WRONG'
+            print('%-22s %2d of %2d bodies, the page %s, %7.1f MB a second, %6.1f times, %6.2f instructions a byte'
+                  % (name, right, len(due), told, rate, base / rate, steps), flush=True)
     print('%d wrong' % wrong)
     return int(wrong > 0)
 

@@ -1,6 +1,6 @@
-"""Plays the filters of filters/ with their tests.
+"""Plays the filters of filters/ with their tests, and chains of them.
 
-A test stands in filters/tests/NAME.test. Its lines are
+A test stands in filters/tests/NAME.test, that of a chain in filters/tests/chains/FIRST-SECOND-THIRD.test. Its lines are
 
     # ..                           a remark
     body IN => OUT ; IN => OUT ..  bodies of requests on one connection, and what is to come out for each; where there is one
@@ -128,7 +128,7 @@ def tests(path):
 
 
 def plays(name, path):
-    """All plays of a filter, as commands with the answers that are due."""
+    """All plays of a filter or a chain, as commands with the answers that are due."""
     chance = random.Random(name)
     sent, (commands, due) = tests(path)
     for requests in sent:
@@ -147,6 +147,13 @@ def filters():
         yield os.path.basename(path)[:-4], path
 
 
+def chains():
+    """The chains that have tests, by their names, and the modules of each."""
+    for path in sorted(glob.glob(os.path.join(TOP, 'filters', 'tests', 'chains', '*.test'))):
+        name = os.path.basename(path)[:-5]
+        yield name, [os.path.join(TOP, 'filters', part + '.mod') for part in name.split('-')]
+
+
 def patterns():
     """The patterns: a name, the module that is refused with what `certify` says of it, and the one that is accepted."""
     for path in sorted(glob.glob(os.path.join(TOP, 'filters', 'patterns', '*.before'))):
@@ -160,6 +167,6 @@ def text_of(path):
         return file.read()
 
 
-def script(path, commands):
-    """A script that plays a filter, checked with its certificate."""
-    return text_of(path) + text_of(path + '.cert') + 'checked\n' + ''.join(c + '\n' for c in commands)
+def script(paths, commands):
+    """A script that plays a chain, checked with its certificates."""
+    return ''.join(text_of(path) + text_of(path + '.cert') for path in paths) + 'checked\n' + ''.join(c + '\n' for c in commands)
