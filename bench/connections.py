@@ -19,8 +19,9 @@ import sys
 import threading
 import time
 
-TOP = os.path.dirname(os.path.dirname(os.path.abspath(__file__)))
-PROGRAM = sys.argv[1] if len(sys.argv) > 1 else os.path.join(TOP, 'crates', 'host_cli', 'out', 'host_cli')
+from steps import BUILT, built
+
+PROGRAM = built(sys.argv[1] if len(sys.argv) > 1 else BUILT)
 
 OTHERS = (0, 1_000, 10_000)
 CHAINS = (1, 4, 16)

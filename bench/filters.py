@@ -10,9 +10,9 @@ multiple of the identity filter's.
 import os
 import sys
 
-from steps import BUILT, MOST, SIZE, TOP, filters, instructions, played
+from steps import BUILT, MOST, SIZE, TOP, built, filters, instructions, played
 
-PROGRAM = sys.argv[1] if len(sys.argv) > 1 else BUILT
+PROGRAM = built(sys.argv[1] if len(sys.argv) > 1 else BUILT)
 
 
 def seconds(module):

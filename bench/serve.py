@@ -18,8 +18,8 @@ import subprocess
 import tempfile
 import time
 
-TOP = os.path.dirname(os.path.dirname(os.path.abspath(__file__)))
-BUILT = os.path.join(TOP, 'crates', 'host_cli', 'out', 'host_cli')
+from steps import BUILT, TOP, built
+
 MODULE = os.path.join(TOP, 'filters', 'new.module')
 SIZES = (2, 65536, 1048576)
 NGINX = """daemon off; master_process off; pid %(folder)s/nginx.pid; error_log %(folder)s/nginx.err;
@@ -174,10 +174,11 @@ def main():
     parser.add_argument('--requests', type=int, default=5000, metavar='N', help='of 2 bytes; of larger files fewer')
     parser.add_argument('--conns', type=int, default=2000, metavar='N')
     options = parser.parse_args()
+    program = built(options.program)
     with tempfile.TemporaryDirectory() as folder:
         os.chmod(folder, 0o755)
         base = {}
-        for name, words in servers(os.path.abspath(options.program), os.path.abspath(options.module), folder):
+        for name, words in servers(program, os.path.abspath(options.module), folder):
             port = free_port()
             server = start(words(port), folder)
             try:

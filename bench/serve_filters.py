@@ -19,7 +19,7 @@ import sys
 import tempfile
 import time
 
-from steps import BUILT, LINE, SIZE, TOP, filters, instructions
+from steps import BUILT, LINE, SIZE, TOP, built, filters, instructions
 
 UPPER, LOWER = b'ABCDEFGHIJKLMNOPQRSTUVWXYZ', b'abcdefghijklmnopqrstuvwxyz'
 LARGE = (LINE + b'The <b>quick</b> brown fox.\r\n') * 12000
@@ -127,7 +127,7 @@ def subjects(program, folder):
 def main():
     parser = argparse.ArgumentParser(description=__doc__, formatter_class=argparse.RawDescriptionHelpFormatter)
     parser.add_argument('--program', default=BUILT, metavar='PATH')
-    program = os.path.abspath(parser.parse_args().program)
+    program = built(parser.parse_args().program)
     wrong, base = 0, None
     with tempfile.TemporaryDirectory() as kept:
         for name, modules, due, made in subjects(program, kept):

@@ -19,6 +19,13 @@ LINES = SIZE // len(LINE) + 1
 MOST = 100_000_000
 
 
+def built(program):
+    """The program's path, where it is there."""
+    if not os.path.isfile(program):
+        raise SystemExit('%s: there is no program %s; ./host builds the one of this repository' % (sys.argv[0], program))
+    return os.path.abspath(program)
+
+
 def played(program, module, budget, requests):
     """The answers of a script in which a page is sent so many times, and the time that it took."""
     lines = ['budget %d' % budget, 'file a %d %s' % (LINES, filters.quoted(LINE)), 'open', 'run 1']

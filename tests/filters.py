@@ -23,14 +23,16 @@ TOP = os.path.dirname(os.path.dirname(os.path.abspath(__file__)))
 KINDS = ('heap', 'transient', 'immortal', 'pool', 'file')
 TERM = re.compile(r'(?:(\d+) \* )?"((?:[^"\\]|\\.)*)"')
 ESCAPE = re.compile(r'\\(x[0-9a-f]{2}|.)')
-NAMED = {'n': 10, 'r': 13}
+NAMED = {'n': 10, 'r': 13, '"': 34, '\\': 92}
 
 
 def unquoted(text):
     """The bytes of a text between its quotes."""
     def byte(found):
         word = found.group(1)
-        return chr(int(word[1:], 16) if len(word) == 3 else NAMED.get(word, ord(word)))
+        if len(word) < 3 and word not in NAMED:
+            raise SystemExit('tests/filters.py: no escape \\%s in a text' % word)
+        return chr(int(word[1:], 16) if len(word) == 3 else NAMED[word])
     return ESCAPE.sub(byte, text).encode('latin-1')
 
 
