@@ -25,6 +25,8 @@ UPPER, LOWER = b'ABCDEFGHIJKLMNOPQRSTUVWXYZ', b'abcdefghijklmnopqrstuvwxyz'
 LARGE = (LINE + b'The <b>quick</b> brown fox.\r\n') * 12000
 LARGE = LARGE[:1048576]
 TURNED = bytes.maketrans(UPPER + LOWER, UPPER[13:] + UPPER[:13] + LOWER[13:] + LOWER[:13])
+LINES_OF_16 = re.compile(rb'.{1,16}', re.DOTALL)
+FIRST_LETTER = re.compile(rb'(?<![^\0- ])[!-/:-@\[-`{-\x7f]*[a-z]')
 MAKES = {
     'upper': bytes.upper,
     'lower': bytes.lower,
@@ -34,6 +36,8 @@ MAKES = {
     'crlf': lambda body: re.sub(rb'(?<!\r)\n', b'\r\n', body),
     'strip': lambda body: re.sub(rb'<!--.*?(?:-->|\Z)', b'', body, flags=re.DOTALL),
     'base64': base64.b64encode,
+    'hexdump': lambda body: LINES_OF_16.sub(lambda line: line[0].hex(' ').encode() + b' \n', body),
+    'capital': lambda body: FIRST_LETTER.sub(lambda found: found[0].upper(), body),
     'count': lambda body: body + b'%d lines, %d bytes\n' % (body.count(b'\n'), len(body)),
     'prefix': lambda body: b'-- begin --\n' + body,
     'suffix': lambda body: body + b'-- end --\n',
