@@ -1,9 +1,12 @@
 //! A request over a socket of this machine.
 
+ghost use Rattle.std.specs.Prelude.{IfOk};
+ghost use Rattle.http_front.specs.Driven.{IsAlive};
+
 use crate::listening::serve_stream;
 use crate::part::{Part, accept_parts};
 use bucket_kinds::MemFiles;
-use filter_chain::{CheckedChain, Host, Limits};
+use filter_chain::{CheckedChain, Files, Host, Limits};
 use http_front::Site;
 use module_lang::assemble;
 use std::alloc::Global;
@@ -24,7 +27,9 @@ fn chain(alloc: Global) -> Result<CheckedChain, Fail> {
     Ok(chain)
 }
 
-fn host(alloc: Global) -> Result<Host<MemFiles>, Fail> {
+fn host(alloc: Global) -> Result<Host<MemFiles>, Fail>
+    ensures { IfOk result (λ h. IsAlive ⟦<MemFiles as Files>⟧.device h) }
+{
     let mut files = MemFiles::new(alloc);
     let text = Vec::from_slice(alloc, b"hello")?;
     files.add(b"page", text).ok().ok_or("no file")?;
