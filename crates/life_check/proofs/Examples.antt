@@ -21,9 +21,8 @@ use Rattle.life_state.specs.Bounded.{IsBounded}
 use Rattle.life_check.specs.Certificates.{IsBoundedSome, AllBounded}
 use Rattle.life_check.specs.Typed.{first_below, first_refusal}
 use Rattle.life_check.proofs.TypedLaws.{typed_of}
-use Rattle.run_model.specs.Examples.{never_creates}
-use Rattle.run_model.specs.ChainExamples.{found, left_by, answers_from, cleans_none}
-use Rattle.run_model.specs.Turns.{Missing}
+use Rattle.run_model.specs.Examples.{bare, told_by, left_by, answers_from, never_creates}
+use Rattle.run_model.specs.ChainExamples.{cleans_none}
 use Rattle.run_model.specs.Worlds.{World, empty_world, happens, IsRun}
 use Rattle.run_model.proofs.ChainExamples.{chain_runs}
 use Rattle.life_check.specs.ChainTheorem.{NoFaults, ChainNeverFaults}
@@ -125,15 +124,15 @@ identity_module = record {
 -- A run to a fault.
 
 -- where reads fail, no file is found, and memory is ample
-ample_run : (budget : ℕ) (chain : List Program) (w : World) (es : List (ℕ × Event)) → IsRun budget chain w es (answers_from budget chain w es) (left_by budget chain w es)
+ample_run : (budget : ℕ) (chain : List Program) (w : World) (es : List (ℕ × Event)) → IsRun budget chain w es (answers_from bare budget chain w es) (left_by bare budget chain w es)
 unfolding IsRun answers_from left_by
 ample_run budget chain w [] = refl
-ample_run budget chain w (e ∷ es) = (true, found Missing, (happens true budget chain (found Missing) e.0 e.1 w).1, refl, ample_run budget chain (happens true budget chain (found Missing) e.0 e.1 w).1 es)
+ample_run budget chain w (e ∷ es) = (true, told_by bare e.1, (happens true budget chain (told_by bare e.1) e.0 e.1 w).1, refl, ample_run budget chain (happens true budget chain (told_by bare e.1) e.0 e.1 w).1 es)
 
 a_fault : ChainNeverFaults (never_creates ∷ []) → ⊥
 unfolding NoFaults
 a_fault never =
-    (subst NoFaults chain_runs.no_brigade (never 100 cleans_none (answers_from 100 (never_creates ∷ []) empty_world cleans_none) (left_by 100 (never_creates ∷ []) empty_world cleans_none)
+    (subst NoFaults chain_runs.no_brigade (never 100 cleans_none (answers_from bare 100 (never_creates ∷ []) empty_world cleans_none) (left_by bare 100 (never_creates ∷ []) empty_world cleans_none)
     (ample_run 100 (never_creates ∷ []) empty_world cleans_none))).1.1.1.1.1.0
 
 pub fault_rows : FaultRows

@@ -1,5 +1,5 @@
 -- Steps and events keep pools and brigades as the module declares them.
-use Rattle.std.proofs.Common.{◌≡◌, ◌≢◌, ℕ, ◌+◌, ◌<◌, ◌≤◌, Bool, true, false, ◌||◌, not, ◌==◌, nat_lt, cond, List, [], ◌∷◌, ◌++◌, map, filter_map, length, Option, Some, None, is_some, ◌⊎◌, inl, inr, refl, sym, ◌∙◌, ap, subst, arith}
+use Rattle.std.proofs.Common.{◌≡◌, ◌≢◌, ℕ, ◌+◌, ◌<◌, ◌≤◌, Bool, true, false, ◌||◌, not, ◌==◌, nat_lt, cond, List, [], ◌∷◌, ◌++◌, map, filter_map, length, Option, Some, None, ◌⊎◌, inl, inr, refl, sym, ◌∙◌, ap, subst, arith}
 use Rattle.std.proofs.lemmas.Bool.{cases_Bool, cases_eq}
 use Rattle.std.proofs.lemmas.Bool.Decides.{nat_tests}
 use Rattle.module_lang.specs.declared.instr.PoolRef.{PoolRef}
@@ -14,7 +14,6 @@ use Rattle.run_model.specs.declared.bucket.BrigadeVar.TheVariants as var
 use Rattle.run_model.specs.declared.bucket.PoolVar.{PoolVar}
 use Rattle.run_model.specs.declared.bucket.PoolVar.TheVariants as poolvar
 use Rattle.run_model.specs.declared.bucket.Cursor.{Cursor}
-use Rattle.run_model.specs.declared.event.Piece.{Piece}
 use Rattle.run_model.specs.declared.fault.FaultKind.TheVariants.{F1, F10}
 use Rattle.run_model.specs.declared.payload.Payload.{Payload}
 use Rattle.run_model.specs.Indexed.{upd}
@@ -24,26 +23,19 @@ use Rattle.run_model.specs.Buckets.{cleared_bucket}
 use Rattle.run_model.specs.Clearing.{is_reached, cleared_var, run_down}
 use Rattle.run_model.specs.State.{named_at, Configuration, items_of, set_pool, with_pools, set_brigade, set_loose, set_cursor, set_number, name_in, pool_named}
 use Rattle.run_model.specs.Faults.{has_pool_at, is_live_named, has_pool, or_else}
-use Rattle.run_model.specs.Steps.{choice_at_end, with_brigade, do_create, do_pass, do_return, do_clean, cleaned, handed_over, with_items, returned_var, made_on, new_ref, saved_into, pool_cleared, pool_destroyed, label_registered, label_killed, text_of, current}
-use Rattle.run_model.specs.Connection.{Connection, opened, begun, brought_in, file_taken, ended, takes}
-use Rattle.run_model.specs.Runs.{Before}
-use Rattle.run_model.specs.Sound.{brigade_pool, SoundPools, Sound}
-use Rattle.run_model.specs.Laws.{SoundWorld}
-use Rattle.run_model.specs.AsDeclared.{AsDeclared, OpenedAsDeclared, StepKeepsDeclared, StepAtEndKeepsDeclared, DeclaredWorld, EventKeepsDeclared, RunIsDeclared}
+use Rattle.run_model.specs.Steps.{choice_at_end, with_brigade, do_create, do_pass, do_return, do_clean, cleaned, handed_over, with_items, returned_var, made_on, new_ref, saved_into, pool_cleared, pool_destroyed, label_registered, label_killed, text_of}
+use Rattle.run_model.specs.Sound.{SoundPools}
+use Rattle.run_model.specs.AsDeclared.{AsDeclared, StepKeepsDeclared, StepAtEndKeepsDeclared}
 use Rattle.run_model.proofs.AtEnd.{at_end_keeps}
 use Rattle.run_model.proofs.Updates.{upd_off, upd_either}
 use Rattle.run_model.proofs.Marks.{first_none, second_none}
 use Rattle.run_model.proofs.Names.{at_each, at_two}
-use Rattle.run_model.proofs.Runs.{run_keeps}
 use Rattle.run_model.proofs.PoolMap.{live_path, created_lives, created_kept, created_at, destroyed_apart, destroyed_under, cleared_apart, cleared_itself, cleared_under, not_under}
-use Rattle.run_model.proofs.Formed.{path_live, formed_older}
-use Rattle.run_model.proofs.RunOrderLaws.{under_itself}
+use Rattle.run_model.proofs.Formed.{formed_older}
 use Rattle.run_model.proofs.NamedPools.{on_named, made_under_named}
 use Rattle.run_model.proofs.BucketFrame.{IsFrame, placed_step}
 use Rattle.run_model.proofs.StepPools.{wanted_pool, named_lives, referred_path}
 use Rattle.run_model.proofs.MadeBrigades.{brigade_path, brigade_lives_named}
-use Rattle.run_model.proofs.SoundRuns.{event_sound}
-use Rattle.run_model.proofs.EventsKeep.{may_execute, StepKeeps, steps_keep, EventKeeps, events_keep}
 
 -- Names and paths.
 
@@ -219,22 +211,6 @@ destroyed_declared p c r formed s =
 pub some_same : (a b : ℕ) → Some a ≡ Some b → a ≡ b
 some_same a b e = cc
 
-ended_declared : (p : Program) (c : Connection) (req : ℕ) → c.state.shared.req ≡ Some req → Sound c.state → AsDeclared p c.state → AsDeclared p (ended (Some req) c).state
-unfolding run_down with_pools named_at
-ended_declared p c req is sound s =
-    went p req c.state (ended (Some req) c).state sound.pools.formed refl (λ k off. (destroyed_apart req c.state.shared.pools k off).0)
-    (λ k under live. absurd (not_live (destroyed req c.state.shared.pools) k (destroyed_under req c.state.shared.pools k under).0 live))
-    (λ d m e live stays. named d m e live stays) (λ b. refl) s where
-      lives : is_live c.state.shared.pools req ≡ true
-      lives = path_live c.state.shared.pools req req _ (sound.pools.req req is).0
-
-      named : (d : PoolRef) (m : ℕ) → pool_named c.state d ≡ Some m → is_live c.state.shared.pools m ≡ true → (destroyed req c.state.shared.pools).path m ≡ c.state.shared.pools.path m → pool_named (ended (Some req) c).state d ≡ Some m
-      named pool.Conn m e live stays = e
-      named (pool.Own q) m e live stays = e
-      named pool.Req m e live stays =
-          let same : req ≡ m = some_same req m (sym is ∙ e) in
-          absurd (live_path c.state.shared.pools m live (sym stays ∙ subst (λ (k : ℕ). (destroyed req c.state.shared.pools).path k ≡ []) same (destroyed_under req c.state.shared.pools req (under_itself c.state.shared.pools sound.pools.formed req lives)).0))
-
 -- Pools and brigades that are made.
 
 -- names of what is live stay where the variable q, which names no live pool, is written
@@ -408,66 +384,3 @@ unfolding set_brigade
 at_end_declared p i r may sound s = at_end_keeps (AsDeclared p) p i r (step_declared p (choice_at_end i r) i r may sound s) (λ out fs x reads stepped. kept p x _ refl refl refl refl (same_vars x) stepped)
 
 -- Events.
-
-pub opened_declared : OpenedAsDeclared
-unfolding opened
-opened_declared p fs = record {
-  pools = λ q n e live. absurd (cc);
-  apart = λ q k n e f. absurd (cc);
-  slots = λ q le. refl;
-  brigades = λ b v ne e. absurd (cc);
-  incoming = λ v e. absurd (cc);
-}
-
-begun_declared : (p : Program) (c : Connection) → is_some c.state.shared.req ≡ false → Sound c.state → AsDeclared p c.state → AsDeclared p (begun p c).state
-unfolding named_at
-begun_declared p c none sound s =
-    let ps = c.state.shared.pools in
-    let stays = λ (n : ℕ) (lt : n < ps.next). created_kept c.state.shared.conn ps n lt in
-    carried p c.state (begun p c).state (record {
-      own = refl;
-      older = λ q n e live. (stays n (sound.pools.own q n e).1, λ m at there. stays m (sound.pools.formed.named m there));
-      named = λ d m e live same. named d m e;
-      brigades = λ b w e. (w, e, refl, λ m at. stays m (sound.pools.formed.named m (sound.pools.brigades b m (ap brigade_pool e ∙ at))));
-    }) s where
-      named : (d : PoolRef) (m : ℕ) → pool_named c.state d ≡ Some m → pool_named (begun p c).state d ≡ Some m
-      named pool.Conn m e = e
-      named (pool.Own q) m e = e
-      named pool.Req m e = absurd (let no : true ≡ false = sym (ap is_some e) ∙ none in cc)
-
-taken_declared : (p : Program) (req len : ℕ) (name : List ℕ) (c : Connection) → AsDeclared p c.state → AsDeclared p (file_taken req name len c).state
-unfolding registered
-taken_declared p req len name c s = kept p c.state (file_taken req name len c).state refl refl refl refl (same_vars c.state) s
-
-brought_declared : (p : Program) (req : ℕ) (pieces : List Piece) (c : Connection) → AsDeclared p c.state → AsDeclared p (brought_in req p pieces c).state
-unfolding set_brigade
-brought_declared p req pieces c s =
-    let next : Configuration = record c.state { shared = record c.state.shared { next = c.state.shared.next + 2 + length pieces } } in
-    let brought : AsDeclared p (set_brigade 8 (var.Live _) next) = written_declared p 8 _ next (λ ne. absurd (ne refl)) (λ eight. refl) (kept p c.state next refl refl refl refl (same_vars c.state) s) in
-    kept p _ (brought_in req p pieces c).state refl refl refl refl (λ b. same_on _) brought
-
-declared_steps : (p : Program) → IsModule p → StepKeeps p (λ files r. Sound r) (λ files r. AsDeclared p r)
-declared_steps p m = record {
-  at_end = λ files r none last sound s. at_end_declared p (current p r.pc) r (may_execute p r m none last) sound s;
-  moved = λ pc files r s. kept p r _ refl refl refl refl (same_vars r) s;
-}
-
-declared_events : (p : Program) → IsModule p → EventKeeps p (λ c. Sound c.state) (λ c. AsDeclared p c.state)
-unfolding takes
-declared_events p m = record {
-  begin = λ c none idle last sound s. begun_declared p c none sound s;
-  bring = λ req pieces c is idle there last sound s. brought_declared p req pieces c s;
-  open_file = λ req name bytes c is found sound s. taken_declared p req (length bytes) name c s;
-  end = λ req c is idle sound s. ended_declared p c req is sound s;
-  take = λ c s. kept p c.state _ refl refl refl refl (same_vars c.state) s;
-  add = λ name bytes c s. kept p c.state _ refl refl refl refl (same_vars c.state) s;
-}
-
-pub event_declared : EventKeepsDeclared
-event_declared memory budget p e w m sound s =
-    events_keep budget p (λ c. Sound c.state) (λ c. AsDeclared p c.state) (declared_events p m) (opened_declared p)
-    (λ memory c sound s. steps_keep p (λ files r. Sound r) (λ files r. AsDeclared p r) (declared_steps p m) memory budget c sound s) memory e w sound s
-
-pub run_declared : RunIsDeclared
-run_declared budget p fs es answers w m run =
-    (run_keeps budget p (λ v. SoundWorld v × DeclaredWorld p v) (λ memory e v s. (event_sound memory budget p e v m s.0, event_declared memory budget p e v m s.0 s.1)) (Before fs) w es answers (tt, tt) run).1

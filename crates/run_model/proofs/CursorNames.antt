@@ -3,7 +3,6 @@ use Rattle.std.proofs.Common.{◌≡◌, ℕ, ◌+◌, ◌<◌, ◌≤◌, Bool,
 use Rattle.std.proofs.lemmas.Bool.{cases_lt}
 use Rattle.module_lang.specs.declared.instr.PoolRef.TheVariants as pool
 use Rattle.module_lang.specs.declared.instr.Instr.TheVariants as instr
-use Rattle.module_lang.specs.Program.{Program, IsModule}
 use Rattle.run_model.specs.declared.bucket.Bucket.{Bucket}
 use Rattle.run_model.specs.declared.bucket.NamedBucket.{NamedBucket}
 use Rattle.run_model.specs.declared.bucket.BrigadeVar.{BrigadeVar}
@@ -15,24 +14,17 @@ use Rattle.run_model.specs.State.{Configuration, items_of, set_brigade, set_loos
 use Rattle.run_model.specs.BrigadeLists.{buckets_from, bucket_named, taken_out, first_place, next_place, stays, partition_answer, partitioned, place_of, place_before, front_to, back_from, is_short, Incomplete}
 use Rattle.run_model.specs.Cursors.{Spot, Within, spot, bucket_at, read_cursor}
 use Rattle.run_model.specs.BucketSteps.{items_at, cursor_at, set_place, set_items, do_first, do_next, names_given, new_loose, pool_bucket, copy_of, read_given, read_within, do_read, names_to_part, do_bpart}
-use Rattle.run_model.specs.Steps.{do_create, do_clean, do_concat, do_pass, choice_at_end, current, pool_cleared, pool_destroyed, label_registered, label_killed, text_of, saved_into, made_on, value_of}
-use Rattle.run_model.specs.Connection.{opened, takes}
-use Rattle.run_model.specs.Runs.{Before}
-use Rattle.run_model.specs.Sound.{SoundNames, Sound, brigade_name, sum_below, count_named, count}
-use Rattle.run_model.specs.Laws.{SoundWorld}
-use Rattle.run_model.specs.CursorLaws.{name_held, SoundCursors, OpenedCursors, StepKeepsCursors, StepAtEndKeepsCursors, CursorsWorld, EventKeepsCursors, RunKeepsCursors}
+use Rattle.run_model.specs.Steps.{do_create, do_clean, do_concat, do_pass, pool_cleared, pool_destroyed, label_registered, label_killed, text_of, saved_into, made_on, value_of}
+use Rattle.run_model.specs.Sound.{SoundNames, brigade_name, sum_below, count_named, count}
+use Rattle.run_model.specs.CursorLaws.{name_held, SoundCursors, StepKeepsCursors}
 use Rattle.run_model.proofs.Updates.{upd_either}
 use Rattle.run_model.proofs.Sums.{term_below}
-use Rattle.run_model.proofs.AtEnd.{at_end_keeps}
-use Rattle.run_model.proofs.Runs.{run_keeps}
 use Rattle.run_model.proofs.Names.{count_none, count_append, count_cons}
 use Rattle.run_model.proofs.BrigadeLists.{brigade_splits_in_order, moves_keep_names}
 use Rattle.run_model.proofs.Spots.{Stands, stands}
 use Rattle.run_model.proofs.SlotNames.{Rises, slot_carried, part_rises}
 use Rattle.run_model.proofs.NamedPools.{on_named, made_under_named}
 use Rattle.run_model.proofs.BucketFrame.{IsFrame, framed_step}
-use Rattle.run_model.proofs.EventsKeep.{may_execute, StepKeeps, steps_keep, EventKeeps, events_keep}
-use Rattle.run_model.proofs.SoundRuns.{event_sound}
 
 -- A bucket that is in a list has a name that was given out.
 
@@ -182,38 +174,3 @@ step_cursors p choice (instr.Eos c) r may names s = new_held c _ r s
 step_cursors p choice (instr.Copy d c) r may names s = copy_held d (bucket_at (spot r c)) r s
 step_cursors p choice (instr.Read c l) r may names s = read_held choice.given (spot r c) r (stands r (r.call.cursors c)) names s
 step_cursors p choice i r may names s = framed_step SoundCursors held_frame p choice i r refl refl may s
-
-pub at_end_cursors : StepAtEndKeepsCursors
-at_end_cursors p i r may names s = at_end_keeps SoundCursors p i r (step_cursors p (choice_at_end i r) i r may names s) (λ out fs x reads stepped. record { given = stepped.given })
-
--- Events.
-
-pub opened_cursors : OpenedCursors
-unfolding opened
-opened_cursors fs = record { given = λ c n e. absurd (cc) }
-
-cursor_steps : (p : Program) → IsModule p → StepKeeps p (λ files r. Sound r) (λ files r. SoundCursors r)
-cursor_steps p m = record {
-  at_end = λ files r none last sound s. at_end_cursors p (current p r.pc) r (may_execute p r m none last) sound.names s;
-  moved = λ pc files r s. record { given = s.given };
-}
-
-cursor_events : (p : Program) → IsModule p → EventKeeps p (λ c. Sound c.state) (λ c. SoundCursors c.state)
-unfolding takes set_brigade run_down with_pools
-cursor_events p m = record {
-  begin = λ c none idle last sound s. record { given = λ k n e. absurd (cc) };
-  bring = λ req pieces c is idle there last sound s. record { given = λ k n e. absurd (cc) };
-  open_file = λ req name bytes c is found sound s. record { given = s.given };
-  end = λ req c is idle sound s. record { given = s.given };
-  take = λ c s. record { given = s.given };
-  add = λ name bytes c s. record { given = s.given };
-}
-
-pub event_cursors : EventKeepsCursors
-event_cursors memory budget p e w m sound s =
-    events_keep budget p (λ c. Sound c.state) (λ c. SoundCursors c.state) (cursor_events p m) opened_cursors
-    (λ memory c sound s. steps_keep p (λ files r. Sound r) (λ files r. SoundCursors r) (cursor_steps p m) memory budget c sound s) memory e w sound s
-
-pub run_cursors : RunKeepsCursors
-run_cursors budget p fs es answers w m run =
-    (run_keeps budget p (λ v. SoundWorld v × CursorsWorld v) (λ memory e v s. (event_sound memory budget p e v m s.0, event_cursors memory budget p e v m s.0 s.1)) (Before fs) w es answers (tt, tt) run).1

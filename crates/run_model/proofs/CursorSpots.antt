@@ -4,17 +4,13 @@ use Rattle.std.proofs.lemmas.Bool.{cases_lt, or_parts}
 use Rattle.run_model.specs.declared.bucket.NamedBucket.{NamedBucket}
 use Rattle.run_model.specs.declared.bucket.BrigadeVar.{BrigadeVar}
 use Rattle.run_model.specs.declared.bucket.BrigadeVar.TheVariants as var
-use Rattle.run_model.specs.declared.bucket.Cursor.{Cursor}
 use Rattle.run_model.specs.declared.bucket.Cursor.TheVariants as cursor
 use Rattle.run_model.specs.BrigadeLists.{buckets_from, first_bucket, bucket_named, is_there}
 use Rattle.run_model.specs.State.{Configuration, items_of, is_named}
 use Rattle.run_model.specs.Cursors.{found_below, holder_of, variable_of, loose_spot, brigade_spot, bucket_spot, end_spot, spot_of}
 use Rattle.run_model.specs.BucketSteps.{items_at}
 use Rattle.run_model.specs.Sound.{SoundNames, brigade_name, sum_below, count_named, count}
-use Rattle.run_model.specs.CursorLaws.{LooseOnce, WithinOnce, BucketOnce, BrigadeOnce, StandsOnce, CursorsStandOnce, RunStandsOnce}
-use Rattle.run_model.specs.Runs.{World, Before, There, Closed, IfThere}
-use Rattle.run_model.specs.Laws.{SoundWorld}
-use Rattle.run_model.proofs.SoundRuns.{run_sound}
+use Rattle.run_model.specs.CursorLaws.{LooseOnce, WithinOnce, BucketOnce, BrigadeOnce, CursorsStandOnce}
 use Rattle.run_model.proofs.Names.{count_none, count_cons}
 use Rattle.run_model.proofs.Spots.{found_tells, named_is, named_in}
 use Rattle.run_model.proofs.Sums.{term_below, two_below, all_none}
@@ -124,10 +120,3 @@ cursors_stand_once r (cursor.End n) s = of_variable (variable_of r n) refl where
   of_variable (Some b) is =
       let found = found_tells 9 (λ j. is_named (brigade_name (r.instance.brigades j)) n) b is in
       record { there = named_in (r.instance.brigades b) n found.1; others = λ k e. s.apart k b n e (named_in (r.instance.brigades b) n found.1) }
-
-pub run_stands_once : RunStandsOnce
-run_stands_once budget p fs es answers w m run = of_world w (run_sound budget p fs es answers w m run) where
-  of_world : (w : World) → SoundWorld w → IfThere w (λ c. (v : Cursor) → StandsOnce c.state v (spot_of c.state v))
-  of_world (Before fs) sound = tt
-  of_world (There c) sound = λ v. cursors_stand_once c.state v sound.names
-  of_world (Closed pools fs) sound = tt

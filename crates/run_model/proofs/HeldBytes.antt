@@ -1,5 +1,5 @@
 -- What buckets and files hold stays bytes where 46 instructions step.
-use Rattle.std.proofs.Common.{◌≡◌, ℕ, ◌+◌, ◌<◌, ◌≤◌, Bool, true, false, cond, ◌==◌, nat_le, min, List, [], ◌∷◌, length, take, drop, get_or, Option, Some, None, All, inl, inr, refl, sym, subst, arith}
+use Rattle.std.proofs.Common.{◌≡◌, ℕ, ◌+◌, ◌<◌, ◌≤◌, Bool, true, false, cond, ◌==◌, List, [], ◌∷◌, length, drop, get_or, Some, All, inl, inr, sym, subst, arith}
 use Rattle.std.proofs.lemmas.Bool.{cases_lt}
 use Rattle.std.proofs.lemmas.List.{get_or_past}
 use Rattle.std.proofs.lemmas.List.Elements.{All-nil, All-cons, All-head, All-tail, All-take, All-drop, All-get_or}
@@ -12,18 +12,17 @@ use Rattle.run_model.specs.declared.bucket.Bucket.{Bucket}
 use Rattle.run_model.specs.declared.bucket.NamedBucket.{NamedBucket}
 use Rattle.run_model.specs.declared.event.Piece.{Piece}
 use Rattle.run_model.specs.declared.event.Piece.TheVariants as piece
-use Rattle.run_model.specs.Cutting.{front_of, rest_of, read_limit}
-use Rattle.run_model.specs.Files.{Files, fails_now, part_of, read_part}
+use Rattle.run_model.specs.Cutting.{front_of, rest_of}
 use Rattle.run_model.specs.State.{Configuration}
 use Rattle.run_model.specs.Cursors.{Spot, Nowhere, AtLoose, Within, AtEndOf, spot}
-use Rattle.run_model.specs.BucketSteps.{content_at, first_of, byte_of, given_by, items_at, read_given}
-use Rattle.run_model.specs.Steps.{Choice, choice_at_end, step, pool_destroyed, text_of}
+use Rattle.run_model.specs.BucketSteps.{content_at, first_of, byte_of, items_at, read_given}
+use Rattle.run_model.specs.Steps.{Choice, step, text_of}
 use Rattle.run_model.specs.Connection.{bucket_of, named_from}
-use Rattle.run_model.specs.Ranges.{AreBytes, HoldsBytes, FileBytes, GivesBytes, IsOfBytes}
+use Rattle.run_model.specs.Ranges.{AreBytes, HoldsBytes, GivesBytes, IsOfBytes}
 use Rattle.run_model.proofs.EachBucket.{of_named}
 use Rattle.run_model.proofs.Spots.{Stands, stands}
 use Rattle.run_model.proofs.Origins.{Each, PassesParts, Holds, Makes}
-use Rattle.run_model.proofs.Contents.{destroyed_holds, step_contents}
+use Rattle.run_model.proofs.Contents.{step_contents}
 
 -- The bytes that a bucket holds are bytes.
 abbrev pub OfBytes : Bucket → Type 0
@@ -78,9 +77,6 @@ made_bytes p choice r m gives buffer (instr.Eos c) b is = subst OfBytes (sym is)
 made_bytes p choice r m gives buffer (instr.Read c l) b is = subst OfBytes (sym is.1.1.1) (given_bytes choice gives is.0 is.1.0 is.1.1.0)
 made_bytes p choice r m gives buffer i b is = absurd is
 
-pub destroyed_bytes : (n : ℕ) (r : Configuration) → Holds OfBytes r → Holds OfBytes (pool_destroyed n r)
-destroyed_bytes n r h = destroyed_holds HoldsBytes n r h
-
 pub step_holds : (p : Program) (choice : Choice) (i : Instr) (r : Configuration) → IsModule p → GivesBytes choice → AreBytes r.call.buffer → Holds OfBytes r → Holds OfBytes (step p choice i r).state
 step_holds p choice i r m gives buffer h = step_contents HoldsBytes p choice i r parts (made_bytes p choice r m gives buffer i) h
 
@@ -104,36 +100,6 @@ byte_small k v content.Nothing all is = absurd (cc)
 -- the byte of a bucket at which a cursor stands
 pub byte_there : (r : Configuration) (c k v : ℕ) → Holds OfBytes r → byte_of k (content_at (spot r c)) ≡ Some v → v ≤ 255
 byte_there r c k v h is = byte_small k v (content_at (spot r c)) (spot_bytes r (spot r c) (stands r (r.call.cursors c)) h) is
-
--- What a file gives.
-
-part_bytes : (o : Option (List ℕ)) (at n : ℕ) (bytes : List ℕ) → ((all : List ℕ) → o ≡ Some all → AreBytes all) → part_of o at n ≡ Some bytes → AreBytes bytes
-part_bytes None at n bytes file is = absurd (cc)
-part_bytes (Some all) at n bytes file is = by_length (nat_le n (length (drop at all))) is where
-  by_length : (b : Bool) → cond b (Some (take n (drop at all))) None ≡ Some bytes → AreBytes bytes
-  by_length true is = let same : take n (drop at all) ≡ bytes = cc in subst AreBytes same (All-take (λ b. b ≤ 255) n (drop at all) (All-drop (λ b. b ≤ 255) at all (file all refl)))
-  by_length false is = absurd (cc)
-
-read_bytes : (file at n : ℕ) (fs : Files) (bytes : List ℕ) → FileBytes fs → read_part file at n fs ≡ Some bytes → AreBytes bytes
-unfolding read_part
-read_bytes file at n fs bytes held is = by_failure (fails_now fs.fails_in) is where
-  by_failure : (b : Bool) → cond b None (part_of (fs.opened file) at n) ≡ Some bytes → AreBytes bytes
-  by_failure true is = absurd (cc)
-  by_failure false is = part_bytes (fs.opened file) at n bytes (held.opened file) is
-
-given_of : (c : Content) (fs : Files) (bytes : List ℕ) → FileBytes fs → given_by c fs ≡ Some bytes → AreBytes bytes
-given_of (content.Bytes bs) fs bytes held is = let empty : bytes ≡ [] = cc in subst AreBytes (sym empty) (All-nil (λ b. b ≤ 255))
-given_of (content.Range file start len) fs bytes held is = by_length (len == 0) is where
-  by_length : (b : Bool) → cond b (Some []) (read_part file start (min len read_limit) fs) ≡ Some bytes → AreBytes bytes
-  by_length true is = let empty : bytes ≡ [] = cc in subst AreBytes (sym empty) (All-nil (λ b. b ≤ 255))
-  by_length false is = read_bytes file start (min len read_limit) fs bytes held is
-given_of content.Nothing fs bytes held is = let empty : bytes ≡ [] = cc in subst AreBytes (sym empty) (All-nil (λ b. b ≤ 255))
-
--- at the end of the chain a read is given bytes
-pub end_gives : (i : Instr) (r : Configuration) → FileBytes r.shared.files → GivesBytes (choice_at_end i r)
-end_gives (instr.Pass b l) r held bytes is = absurd (cc)
-end_gives (instr.Read c l) r held bytes is = given_of (content_at (spot r c)) r.shared.files bytes held is
-end_gives i r held bytes is = absurd (cc)
 
 -- Buckets that are brought.
 

@@ -1,7 +1,6 @@
 -- Buckets that are set aside, read, and let go with their files.
-use Rattle.std.proofs.Common.{◌≡◌, ℕ, zero, suc, ◌+◌, ◌-◌, ◌*◌, ◌/◌, ◌<◌, ◌≤◌, Bool, true, false, ◌&&◌, not, cond, List, [], ◌∷◌, ◌++◌, append-nil, length, take, drop, ◌⊎◌, inl, inr, Option, Some, None, nat_le, min, ◌==◌, eqb-true, subst, refl, sym, ◌∙◌, ap, arith}
-use Rattle.std.proofs.Math.Seq.{take-add}
-use Rattle.std.proofs.lemmas.List.{drop-drop, drop-take, length-drop, length-take, take-append-drop, take_all}
+use Rattle.std.proofs.Common.{◌≡◌, ℕ, ◌+◌, ◌-◌, ◌<◌, Bool, true, false, ◌&&◌, not, cond, List, [], ◌∷◌, ◌++◌, append-nil, take, drop, ◌⊎◌, inl, inr, Option, Some, None, nat_le, min, ◌==◌, eqb-true, subst, refl, sym, ◌∙◌, ap, arith}
+use Rattle.std.proofs.lemmas.List.{drop-drop, drop-take, length-take, take-append-drop, take_all}
 use Rattle.std.proofs.lemmas.Bool.{cases_lt, or_cases}
 use Rattle.std.proofs.lemmas.Bool.Decides.{nat_tests}
 use Rattle.run_model.specs.declared.bucket.Kind.{Kind}
@@ -17,12 +16,12 @@ use Rattle.run_model.specs.Pools.{Pools, is_in, is_live, is_under, cleared, dest
 use Rattle.run_model.specs.RunOrder.{IsPoolMap}
 use Rattle.run_model.specs.Buckets.{is_dead, is_ended}
 use Rattle.run_model.specs.Cutting.{read_limit, rest_of, wanted, set_aside, read_as}
-use Rattle.run_model.specs.Files.{Files, is_referred, fails_now, after_read, part_of, read_part, read_done, all_taken, and_then, unless_failed, range_taken, parts_of}
+use Rattle.run_model.specs.Files.{is_referred}
 use Rattle.run_model.specs.Clearing.{run_down}
 use Rattle.run_model.specs.State.{Configuration, with_pools}
 use Rattle.run_model.specs.Steps.{is_above, files_let_go}
 use Rattle.run_model.specs.Cutting.{IsFree, IsOfPool, LivesAs}
-use Rattle.run_model.specs.Laws.{MatchHome, KeptAside, AsideLasts, ReadsGiveTheFile, bytes_in, is_range, bytes_of_rest, ReadsDropNothing, hands_on, FilesGo, FilesCloseLast}
+use Rattle.run_model.specs.Laws.{MatchHome, KeptAside, AsideLasts, bytes_in, is_range, bytes_of_rest, ReadsDropNothing, hands_on, FilesGo, FilesCloseLast}
 use Rattle.run_model.proofs.Formed.{path_live}
 
 -- Setting aside.
@@ -107,53 +106,6 @@ pub files_close_last : FilesCloseLast
 files_close_last n r = (files_go n r (cleared n r.shared.pools), files_go n r (destroyed n r.shared.pools))
 
 -- Reads.
-
-both_true : (n k : ℕ) → n ≤ k → nat_le n k ≡ true
-both_true n k le = grind (arith, nat_tests)
-
--- what one read gives
-pub one_read : (file at n : ℕ) (bytes : List ℕ) (fs : Files) → fs.fails_in ≡ None → fs.opened file ≡ Some bytes → n ≤ length bytes - at → read_part file at n fs ≡ Some (take n (drop at bytes))
-unfolding read_part
-one_read file at n bytes fs sound is le =
-    let reaches : nat_le n (length (drop at bytes)) ≡ true = both_true n (length (drop at bytes)) (omega (arith, length-drop at bytes)) in
-    ap (λ (o : Option ℕ). cond (fails_now o) None (part_of (fs.opened file) at n)) sound
-    ∙ (ap (λ (o : Option (List ℕ)). part_of o at n) is
-    ∙ ap (λ (b : Bool). cond b (Some (take n (drop at bytes))) None) reaches)
-
-same_files : (fs : Files) → fs.fails_in ≡ None → read_done fs ≡ fs
-same_files fs sound = ap (λ (o : Option ℕ). record fs { fails_in = after_read o }) sound ∙ sym (ap (λ (o : Option ℕ). record fs { fails_in = o }) sound)
-
--- the first bytes, and those behind them
-front_and_rest : (start len : ℕ) (bytes : List ℕ) → take (min len read_limit) (drop start bytes) ++ take (len - read_limit) (drop (start + read_limit) bytes) ≡ take len (drop start bytes)
-front_and_rest start len bytes = elim (cases_lt read_limit len) [
-  | inl lt ↦ (let front : min len read_limit ≡ read_limit = grind (arith, nat_tests) in
-      let all : read_limit + (len - read_limit) ≡ len = omega arith in
-      ap (λ (n : ℕ). take n (drop start bytes) ++ take (len - read_limit) (drop (start + read_limit) bytes)) front
-      ∙ (ap (λ (d : List ℕ). take read_limit (drop start bytes) ++ take (len - read_limit) d) (sym (drop-drop read_limit start bytes))
-      ∙ (sym (take-add read_limit (len - read_limit) (drop start bytes)) ∙ ap (λ (n : ℕ). take n (drop start bytes)) all)))
-  | inr le ↦ (let front : min len read_limit ≡ len = grind (arith, nat_tests) in
-      let none : len - read_limit ≡ 0 = omega arith in
-      ap (λ (n : ℕ). take n (drop start bytes) ++ take (len - read_limit) (drop (start + read_limit) bytes)) front
-      ∙ (ap (λ (n : ℕ). take len (drop start bytes) ++ take n (drop (start + read_limit) bytes)) none ∙ append-nil (take len (drop start bytes))))
-]
-
-in_parts : (parts file start len : ℕ) (bytes : List ℕ) (fs : Files) → fs.fails_in ≡ None → fs.opened file ≡ Some bytes → len ≤ length bytes - start → len ≤ parts * read_limit
-    → range_taken parts file start len fs ≡ all_taken (take len (drop start bytes)) fs
-unfolding range_taken
-in_parts zero file start len bytes fs sound is le few = let none : len ≡ 0 = omega arith in ap (λ (n : ℕ). all_taken (take n (drop start bytes)) fs) (sym none)
-in_parts (suc parts) file start len bytes fs sound is le few =
-    let within : min len read_limit ≤ len = grind (arith, nat_tests) in
-    let rest : range_taken parts file (start + read_limit) (len - read_limit) fs ≡ all_taken (take (len - read_limit) (drop (start + read_limit) bytes)) fs
-    = in_parts parts file (start + read_limit) (len - read_limit) bytes fs sound is (omega arith) (omega arith) in
-    ap (λ (o : Option (List ℕ)). unless_failed o (read_done fs) (range_taken parts file (start + read_limit) (len - read_limit))) (one_read file start (min len read_limit) bytes fs sound is (omega arith))
-    ∙ (ap (λ (now : Files). and_then (take (min len read_limit) (drop start bytes)) (range_taken parts file (start + read_limit) (len - read_limit) now)) (same_files fs sound)
-    ∙ (ap (and_then (take (min len read_limit) (drop start bytes))) rest
-    ∙ ap (λ (bs : List ℕ). all_taken bs fs) (front_and_rest start len bytes)))
-
-pub reads_give_the_file : ReadsGiveTheFile
-reads_give_the_file file start len bytes fs sound is le = in_parts (parts_of len) file start len bytes fs sound is (omega arith) (enough len) where
-  enough : (len : ℕ) → len ≤ ((len + (read_limit - 1)) / read_limit) * read_limit
-  enough len = omega arith
 
 -- the bytes behind the first that were read
 behind_read : (start len : ℕ) (file : List ℕ) → read_limit < len → take read_limit (take len (drop start file)) ++ take (len - read_limit) (drop (start + read_limit) file) ≡ take len (drop start file)

@@ -15,7 +15,6 @@ pub mod NamedPools
 pub mod PoolsKept
 pub mod StepPools
 pub mod Events
-pub mod Runs
 pub mod EventAnswers
 pub mod AtEnd
 pub mod EventsKeep
@@ -24,7 +23,6 @@ pub mod SoundRuns
 pub mod Unchanged
 pub mod Refusals
 pub mod RefusalOrder
-pub mod Orderly
 pub mod Cuts
 pub mod Filled
 pub mod Marks
@@ -40,7 +38,6 @@ pub mod HeldBytes
 pub mod InRange
 pub mod RangesEnd
 pub mod StepRanges
-pub mod RangesRuns
 pub mod AsDeclared
 pub mod Registered
 pub mod HomesAlive

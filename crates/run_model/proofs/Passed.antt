@@ -11,28 +11,18 @@ use Rattle.run_model.specs.declared.bucket.BrigadeVar.{BrigadeVar}
 use Rattle.run_model.specs.declared.bucket.BrigadeVar.TheVariants as var
 use Rattle.run_model.specs.declared.fault.FaultKind.{FaultKind}
 use Rattle.run_model.specs.declared.fault.FaultKind.TheVariants.{F7, F9}
-use Rattle.run_model.specs.declared.event.Piece.{Piece}
-use Rattle.run_model.specs.declared.event.Event.{Event}
-use Rattle.run_model.specs.declared.event.Event.TheVariants as event
-use Rattle.run_model.specs.Indexed.{upd}
 use Rattle.run_model.specs.Pools.{is_under}
 use Rattle.run_model.specs.Buckets.{cleared_bucket}
 use Rattle.run_model.specs.Clearing.{is_reached, cleared_var, run_down}
 use Rattle.run_model.specs.State.{Configuration, is_passed, set_brigade, with_pools, pool_named}
 use Rattle.run_model.specs.Cursors.{Spot, Nowhere, AtLoose, Within, AtEndOf, spot}
 use Rattle.run_model.specs.Faults.{Footing, Anywhere, OnBucket, OnLoose, InBrigade, InThis, Want, WPool, WUsable, WCursor, wants, usable_fault, passed_fault, loose_fault, within_fault, end_fault, cursor_fault, new_fault, fault_want, first_fault, fault, or_else}
-use Rattle.run_model.specs.Steps.{choice_at_end, Choice, step, step_at_end, do_pass, handed_over, returned_var, pool_cleared, pool_destroyed, current}
-use Rattle.run_model.specs.Connection.{brought_in, Connection, takes, steps, ended}
-use Rattle.run_model.specs.Runs.{World, There, Closed, happens}
-use Rattle.run_model.specs.Runs as runs
+use Rattle.run_model.specs.Steps.{Choice, step, do_pass, handed_over, returned_var, pool_cleared, pool_destroyed}
 use Rattle.run_model.specs.Sound.{brigade_name}
-use Rattle.run_model.specs.Laws.{is_within, may_change, IsOrderly}
-use Rattle.run_model.specs.Marks.{event_lets_go, is_at, wants_use, uses, may_come_first, HoldsPassed, StaysPassed, StaysPassedIn, lets_go, PassesMark, PassedIsNotUsed, StepKeepsPassed, ReturnEndsIn, EventKeepsPassed}
-use Rattle.run_model.proofs.AtEnd.{at_end_keeps}
-use Rattle.run_model.proofs.Updates.{upd_at, upd_either}
+use Rattle.run_model.specs.Laws.{is_within, may_change}
+use Rattle.run_model.specs.Marks.{is_at, wants_use, uses, may_come_first, HoldsPassed, StaysPassed, PassesMark, PassedIsNotUsed, StepKeepsPassed, ReturnEndsIn}
+use Rattle.run_model.proofs.Updates.{upd_at}
 use Rattle.run_model.proofs.NamedPools.{on_named}
-use Rattle.run_model.proofs.EventAnswers.{After}
-use Rattle.run_model.proofs.EventsKeep.{steps_keep, EventKeeps, event_keeps}
 use Rattle.run_model.proofs.Unchanged.{step_changes_only}
 use Rattle.run_model.proofs.Marks.{first_none, second_none, one_of, uses_unmet}
 
@@ -233,7 +223,7 @@ passed_is_not_used p b r i used h = elim (told_first r b (wants p i) (wants_orde
 
 -- Steps.
 
-still : (v : BrigadeVar) → HoldsPassed v → StaysPassed v v
+pub still : (v : BrigadeVar) → HoldsPassed v → StaysPassed v v
 still var.Null h = absurd h
 still var.Gone h = absurd h
 still (var.Live v) h = (refl, h)
@@ -301,7 +291,7 @@ changed_used p r i k plain h = absurd (cc)
 plain_keeps : (p : Program) (choice : Choice) (i : Instr) (b : ℕ) (r : Configuration) → is_remade i ≡ false → fault p r i ≡ None → HoldsPassed (r.instance.brigades b) → StaysPassed (r.instance.brigades b) ((step p choice i r).state.instance.brigades b)
 plain_keeps p choice i b r plain none h = kept_unless p choice i b r (λ t. uses_unmet r b (wants p i) (not_usable (r.instance.brigades b) h) (changed_used p r i b plain t) none) h
 
-cleared_stays : (reached : ℕ → Bool) (v : BrigadeVar) → HoldsPassed v → StaysPassed v (cleared_var reached v)
+pub cleared_stays : (reached : ℕ → Bool) (v : BrigadeVar) → HoldsPassed v → StaysPassed v (cleared_var reached v)
 cleared_stays reached var.Null h = absurd h
 cleared_stays reached var.Gone h = absurd h
 cleared_stays reached (var.Live v) h = by_test (is_reached reached v.on) where
@@ -309,7 +299,7 @@ cleared_stays reached (var.Live v) h = by_test (is_reached reached v.on) where
   by_test true = tt
   by_test false = (refl, h)
 
-returned_stays : (call : ℕ) (t : Bool) (v : BrigadeVar) → t ≡ false → HoldsPassed v → StaysPassed v (cond t var.Null (returned_var call v))
+pub returned_stays : (call : ℕ) (t : Bool) (v : BrigadeVar) → t ≡ false → HoldsPassed v → StaysPassed v (cond t var.Null (returned_var call v))
 returned_stays call true v other h = absurd (cc)
 returned_stays call false var.Null other h = absurd h
 returned_stays call false var.Gone other h = absurd h
@@ -331,64 +321,3 @@ step_keeps_passed p choice i b r none other h = plain_keeps p choice i b r refl 
 
 pub return_ends_in : ReturnEndsIn
 return_ends_in p choice s r = refl
-
--- Events of a connection.
-
-abbrev StaysIn : BrigadeVar → ℕ → Connection → Type 0
-StaysIn v b c = StaysPassed v (c.state.instance.brigades b)
-
-written_keeps : (f : ℕ → BrigadeVar) (b : ℕ) (v : BrigadeVar) → f 8 ≡ var.Null → HoldsPassed (f b) → StaysPassed (f b) (upd f 8 v b)
-written_keeps f b v none h = elim (upd_either f 8 b v) [
-  | inl q ↦ absurd (subst HoldsPassed (ap f q.0 ∙ none) h)
-  | inr q ↦ still_at (f b) (upd f 8 v b) q.1 h
-]
-
--- one event of the connection c, whose variable b holds a passed brigade
-module _ (budget : ℕ) (p : Program) (b : ℕ) (c : Connection) (order : IsOrderly budget p c) (h : HoldsPassed (c.state.instance.brigades b)) where
-  abbrev Stays : Connection → Type 0
-  Stays x = StaysIn (c.state.instance.brigades b) b x
-
-  at_end_stays : lets_go (current p c.state.pc) b ≡ false → (r : Configuration) → r ≡ c.state → fault p r (current p r.pc) ≡ None
-      → StaysPassed (c.state.instance.brigades b) ((step_at_end p (current p r.pc) r).state.instance.brigades b)
-  unfolding set_brigade
-  at_end_stays other r same = subst (λ (x : Configuration). fault p x (current p x.pc) ≡ None → StaysPassed (c.state.instance.brigades b) ((step_at_end p (current p x.pc) x).state.instance.brigades b)) (sym same) (λ none.
-      at_end_keeps (λ (x : Configuration). StaysPassed (c.state.instance.brigades b) (x.instance.brigades b)) p (current p c.state.pc) c.state
-      (step_keeps_passed p (choice_at_end (current p c.state.pc) c.state) (current p c.state.pc) b c.state none other h) (λ out fs x reads stepped. stepped))
-
-  step_stays : lets_go (current p c.state.pc) b ≡ false → (memory : Bool) → Stays (steps memory budget p c).1
-  step_stays other memory =
-      steps_keep p (λ files r. r ≡ c.state) (λ files r. StaysPassed (c.state.instance.brigades b) (r.instance.brigades b))
-      (record { at_end = λ files r none last same s. at_end_stays other r same none; moved = λ pc files r s. s }) memory budget c refl (still (c.state.instance.brigades b) h)
-
-  brought_stays : (req : ℕ) (pieces : List Piece) → c.busy ≡ false → Stays (brought_in req p pieces c)
-  unfolding set_brigade
-  brought_stays req pieces idle = written_keeps c.state.instance.brigades b _ (order.nothing_brought idle) h
-
-  ended_stays : (req : ℕ) → Stays (ended (Some req) c)
-  unfolding with_pools run_down
-  ended_stays req = cleared_stays (is_under c.state.shared.pools req) (c.state.instance.brigades b) h
-
-  as_c : (P : Connection → Type 0) (x : Connection) → x ≡ c → P c → P x
-  as_c P x same there = subst P (sym same) there
-
-  events_stay : EventKeeps p (λ x. x ≡ c) Stays
-  unfolding takes
-  events_stay = record {
-    begin = λ x none idle last same s. s;
-    bring = λ req pieces x is idle there last same s. as_c (λ y. y.busy ≡ false → Stays (brought_in req p pieces y)) x same (brought_stays req pieces) idle;
-    open_file = λ req name bytes x is found same s. s;
-    end = λ req x is idle same s. as_c (λ y. Stays (ended (Some req) y)) x same (ended_stays req);
-    take = λ x s. s;
-    add = λ name bytes x s. s;
-  }
-
-stays_in : (v : BrigadeVar) (b : ℕ) (w : World) → After w (StaysIn v b) → StaysPassedIn v b w
-stays_in v b (runs.Before fs) s = s
-stays_in v b (There c) s = s
-stays_in v b (Closed pools fs) s = s
-
-pub event_keeps_passed : EventKeepsPassed
-event_keeps_passed memory budget p e b c order other h =
-    stays_in (c.state.instance.brigades b) b (happens memory budget p e (There c)).1 (event_keeps budget p (λ x. x ≡ c) (StaysIn (c.state.instance.brigades b) b) (events_stay budget p b c order h) memory e c stepped refl (still (c.state.instance.brigades b) h)) where
-      stepped : e ≡ event.Step → StaysIn (c.state.instance.brigades b) b (steps memory budget p c).1
-      stepped is = step_stays budget p b c order h (ap (λ (x : Event). event_lets_go p c x b) (sym is) ∙ other) memory

@@ -39,4 +39,17 @@ pub mod OwnPools
 pub mod PoolsApart
 pub mod Trees
 pub mod Cursors
+pub mod EachCall
 pub mod CallsKept
+pub mod Registered
+pub mod Bodies
+pub mod StepCases
+pub mod Handlers
+pub mod EachConnection
+pub mod ConnectionKept
+pub mod Order
+pub mod Passed
+pub mod CallBuffers
+pub mod InRange
+pub mod Ranges
+pub mod StepRuns

@@ -1,20 +1,16 @@
 -- Pools and brigades of an instance stand as its module declares them.
-use Rattle.std.specs.Prelude.{◌≡◌, ◌≢◌, ◌∷◌, ℕ, ◌≤◌, Bool, true, List, Some, None}
+use Rattle.std.specs.Prelude.{◌≡◌, ◌≢◌, ◌∷◌, ℕ, ◌≤◌, true, Some, None}
 use Rattle.module_lang.specs.declared.instr.Instr.{Instr}
-use Rattle.module_lang.specs.Program.{Program, IsModule, pool_of_brigade, pool_of_pool}
+use Rattle.module_lang.specs.Program.{Program, pool_of_brigade, pool_of_pool}
 use Rattle.run_model.specs.declared.bucket.Brigade.{Brigade}
 use Rattle.run_model.specs.declared.bucket.BrigadeVar.TheVariants as var
 use Rattle.run_model.specs.declared.bucket.PoolVar.TheVariants as poolvar
-use Rattle.run_model.specs.declared.event.Event.{Event}
 use Rattle.run_model.specs.Pools.{is_live}
-use Rattle.run_model.specs.Files.{Files}
 use Rattle.run_model.specs.State.{Configuration, pool_named}
 use Rattle.run_model.specs.Faults.{is_live_named}
 use Rattle.run_model.specs.Steps.{Choice, step, step_at_end}
-use Rattle.run_model.specs.Connection.{opened}
-use Rattle.run_model.specs.Runs.{Answer, World, Before, IfThere, happens, IsRun}
 use Rattle.run_model.specs.Sound.{Sound}
-use Rattle.run_model.specs.Laws.{MayExecute, SoundWorld}
+use Rattle.run_model.specs.Laws.{MayExecute}
 
 -- pools: a live pool that a variable names lies right under the live pool that is its declared parent. apart: no two
 -- variables name one pool. slots: there are eight pool variables. brigades: a live brigade lies on the live pool of its
@@ -27,23 +23,9 @@ pub record AsDeclared (p : Program) (r : Configuration) : Type 0 where
   pub brigades : (b : ℕ) (v : Brigade) → b ≢ 8 → r.instance.brigades b ≡ var.Live v → (v.on ≡ pool_named r (pool_of_brigade p b)) × (is_live_named r.shared.pools v.on ≡ true)
   pub incoming : (v : Brigade) → r.instance.brigades 8 ≡ var.Live v → v.on ≡ None
 
--- A connection that has just been opened is so.
-abbrev pub OpenedAsDeclared : Type 0
-OpenedAsDeclared = (p : Program) (fs : Files) → AsDeclared p (opened fs).state
-
 -- A step without a fault keeps it, also at the end of the chain.
 abbrev pub StepKeepsDeclared : Type 0
 StepKeepsDeclared = (p : Program) (choice : Choice) (i : Instr) (r : Configuration) → MayExecute p r i → Sound r → AsDeclared p r → AsDeclared p (step p choice i r).state
 
 abbrev pub StepAtEndKeepsDeclared : Type 0
 StepAtEndKeepsDeclared = (p : Program) (i : Instr) (r : Configuration) → MayExecute p r i → Sound r → AsDeclared p r → AsDeclared p (step_at_end p i r).state
-
-abbrev pub DeclaredWorld : Program → World → Type 0
-DeclaredWorld p w = IfThere w (λ c. AsDeclared p c.state)
-
--- Each event keeps it, and so it is true of each world that a run reaches.
-abbrev pub EventKeepsDeclared : Type 0
-EventKeepsDeclared = (memory : Bool) (budget : ℕ) (p : Program) (e : Event) (w : World) → IsModule p → SoundWorld w → DeclaredWorld p w → DeclaredWorld p (happens memory budget p e w).1
-
-abbrev pub RunIsDeclared : Type 0
-RunIsDeclared = (budget : ℕ) (p : Program) (fs : Files) (es : List Event) (answers : List Answer) (w : World) → IsModule p → IsRun budget p (Before fs) es answers w → DeclaredWorld p w

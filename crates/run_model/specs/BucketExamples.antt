@@ -26,11 +26,9 @@ use Rattle.run_model.specs.BrigadeLists.{heap, eos, range, pooled}
 use Rattle.run_model.specs.State.{Configuration, items_of}
 use Rattle.run_model.specs.Cursors.{read_cursor}
 use Rattle.run_model.specs.Faults.{fault}
-use Rattle.run_model.specs.Files.{no_files}
-use Rattle.run_model.specs.Connection.{opened}
-use Rattle.run_model.specs.Runs.{Done, Step, Output}
+use Rattle.run_model.specs.Worlds.{Done, Connected, Step, Output}
 use Rattle.run_model.specs.Steps.{Outcome, step}
-use Rattle.run_model.specs.Examples.{answers, saving, saving_well, three_steps, went, step_ok}
+use Rattle.run_model.specs.Examples.{at_open, answers, saving, saving_well, three_steps, went, step_ok}
 
 -- a module with the text `a`
 abbrev pub one_text : Program
@@ -40,13 +38,13 @@ one_text = record { pools = []; brigades = []; texts = (97 ∷ []) ∷ []; code 
 -- brigade 2 is null. The buffer is `b`, and the next name is 100. These buckets are loose, and the cursors stand so.
 abbrev pub state : Mark → List NamedBucket → List NamedBucket → List NamedBucket → (ℕ → Cursor) → Configuration
 state mark first second loose cursors =
-    record (opened no_files).state {
-      instance = record (opened no_files).state.instance {
+    record at_open {
+      instance = record at_open.instance {
         brigades = λ k. if k == 0 then var.Live (record { name = 80; on = Some 2; mark = mark; items = first })
             else if k == 1 then var.Live (record { name = 81; on = Some 2; mark = Usable; items = second }) else var.Null;
       };
       call = record { name = 1; cursors = cursors; buffer = 98 ∷ []; loose = loose };
-      shared = record (opened no_files).state.shared { next = 100 };
+      shared = record at_open.shared { next = 100 };
     }
 
 -- cursor 0 stands so, and so does cursor 1; the others are unset
@@ -253,4 +251,4 @@ pub record CursorRuns : Type 0 where
   pub moved : answers 1000000 moves_on (saving ++ event.Bring (piece.Heap (97 ∷ []) ∷ piece.Eos ∷ []) ∷ three_steps ++ three_steps ++ three_steps ++ three_steps ++ three_steps ++ event.TakeOutput ∷ [])
       ≡ saving_well ++ Done ∷ went ∷ went ∷ went ∷ went ∷ went ∷ went ∷ went ∷ went ∷ went ∷ went ∷ went ∷ went ∷ went ∷ went ∷ step_ok ∷ Output (97 ∷ []) ∷ []
   -- what is loose at a return goes, and so do the cursors
-  pub forgotten : answers 1000000 keeps_loose (event.Open ∷ event.Step ∷ event.Step ∷ event.Begin ∷ event.Step ∷ []) ≡ Done ∷ went ∷ step_ok ∷ Done ∷ Step (stepped.Fault F3 0 2) ∷ []
+  pub forgotten : answers 1000000 keeps_loose (event.Open ∷ event.Step ∷ event.Step ∷ event.Begin ∷ event.Step ∷ []) ≡ Connected 1 ∷ went ∷ step_ok ∷ Done ∷ Step (stepped.Fault F3 0 2) ∷ []

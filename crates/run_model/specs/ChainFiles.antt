@@ -5,12 +5,15 @@ use Rattle.run_model.specs.declared.bucket.Content.TheVariants as content
 use Rattle.run_model.specs.declared.bucket.Home.TheVariants as home
 use Rattle.run_model.specs.declared.bucket.NamedBucket.{NamedBucket}
 use Rattle.run_model.specs.declared.event.Event.{Event}
+use Rattle.run_model.specs.declared.event.Piece.{Piece}
 use Rattle.run_model.specs.Cutting.{EndsInFile}
 use Rattle.run_model.specs.State.{items_of}
-use Rattle.run_model.specs.RangesEnd.{LengthsEnd}
+use Rattle.run_model.specs.RangesEnd.{PieceEnds, LengthsEnd}
 use Rattle.run_model.specs.Connection.{has_range}
 use Rattle.run_model.specs.Laws.{refers, IsHeld}
 use Rattle.run_model.specs.Chains.{Connection, Common, pools_of}
+use Rattle.run_model.specs.Passing.{Reads}
+use Rattle.run_model.specs.Turns.{steps, brought_in}
 use Rattle.run_model.specs.Worlds.{World, Told, Answer, Opened, empty_world, happens, IsRun}
 use Rattle.run_model.specs.ChainSound.{WorldSound}
 use Rattle.run_model.specs.ChainLaws.{IsChain}
@@ -31,13 +34,29 @@ TellsLengths Lengths a = Unit {0}
 abbrev pub IsShort : ℕ → Type 0
 IsShort len = len < 2 ^ 64
 
+-- Each range of a bucket ends below 2^64.
+abbrev pub BucketsEnd : Connection → Type 0
+BucketsEnd c = OfEachBucket (λ x. EndsInFile x.bucket.content) c
+
+-- A step of a connection keeps it, and so does a brigade that is brought, where the ranges of its pieces end so.
+abbrev pub ConnectionStepKeepsEnds : Type 0
+ConnectionStepKeepsEnds = (memory : Bool) (budget : ℕ) (chain : List Program) (reads : Reads) (g : Common) (c : Connection) → BucketsEnd c → BucketsEnd (steps memory budget chain reads (g, c)).1.1
+
+abbrev pub BringKeepsEnds : Type 0
+BringKeepsEnds = (chain : List Program) (pieces : List Piece) (req : ℕ) (g : Common) (c : Connection) → All PieceEnds pieces → BucketsEnd c → BucketsEnd (brought_in chain pieces req (g, c)).1
+
 -- ends: each range of a bucket ends below 2^64. lengths: so do the files of the request.
 pub record ChainEnds (c : Connection) : Type 0 where
-  pub ends : OfEachBucket (λ x. EndsInFile x.bucket.content) c
+  pub ends : BucketsEnd c
   pub lengths : LengthsEnd c.files
 
 abbrev pub WorldEnds : World → Type 0
 WorldEnds w = (k : ℕ) (c : Connection) → w.conns k ≡ Some c → ChainEnds c
+
+-- Where the files of the requests are short, each event leaves buckets whose ranges end so.
+abbrev pub EventKeepsBucketsEnd : Type 0
+EventKeepsBucketsEnd = (memory : Bool) (budget : ℕ) (chain : List Program) (told : Told) (k : ℕ) (e : Event) (w : World)
+    → WorldEnds w → (j : ℕ) (c : Connection) → (happens memory budget chain told k e w).1.conns j ≡ Some c → BucketsEnd c
 
 -- Each event keeps it where the file that it opens is short, and so it is true of each world that a run reaches whose files are.
 abbrev pub EventKeepsWorldEnds : Type 0

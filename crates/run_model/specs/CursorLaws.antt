@@ -1,26 +1,22 @@
 -- The laws of cursors, and of the buckets at which they stand, as statements.
-use Rattle.std.specs.Prelude.{◌≡◌, ◌≢◌, ℕ, ◌<◌, ◌≤◌, Bool, List, ◌∷◌, ◌++◌, drop, length, take, Option, Some, None}
+use Rattle.std.specs.Prelude.{◌≡◌, ◌≢◌, ℕ, ◌<◌, ◌≤◌, List, ◌∷◌, ◌++◌, drop, length, take, Option, Some, None}
 use Rattle.module_lang.specs.declared.instr.Instr.{Instr}
 use Rattle.module_lang.specs.declared.instr.Instr.TheVariants as instr
 use Rattle.module_lang.specs.declared.instr.Value.{Value}
-use Rattle.module_lang.specs.Program.{Program, IsModule}
+use Rattle.module_lang.specs.Program.{Program}
 use Rattle.run_model.specs.declared.bucket.Cursor.{Cursor}
 use Rattle.run_model.specs.declared.bucket.Cursor.TheVariants as cursor
 use Rattle.run_model.specs.declared.bucket.Bucket.{Bucket}
-use Rattle.run_model.specs.declared.event.Event.{Event}
 use Rattle.run_model.specs.declared.event.Exit.TheVariants.{GoOn, Jump}
-use Rattle.run_model.specs.Files.{Files}
 use Rattle.run_model.specs.declared.bucket.NamedBucket.{NamedBucket}
 use Rattle.run_model.specs.BrigadeLists.{bucket_named, buckets_before, buckets_from, put_tail, stays, moves, SplitRefusal, split_refusal, first_bytes, rest_as, SplitBytes, length_in, all_bytes}
 use Rattle.run_model.specs.declared.bucket.Kind.TheVariants as kind
 use Rattle.run_model.specs.State.{Configuration, pool_named}
 use Rattle.run_model.specs.Cursors.{Spot, Nowhere, AtLoose, Within, AtEndOf, spot, spot_of, bucket_at}
 use Rattle.run_model.specs.BucketSteps.{items_at, place_at, heap_bucket, immortal_bucket, transient_bucket, pool_bucket, metadata}
-use Rattle.run_model.specs.Steps.{Choice, Outcome, step, step_at_end, text_of, value_of}
-use Rattle.run_model.specs.Connection.{opened}
-use Rattle.run_model.specs.Runs.{Answer, World, Before, IfThere, happens, IsRun}
+use Rattle.run_model.specs.Steps.{Choice, Outcome, step, text_of, value_of}
 use Rattle.run_model.specs.Sound.{SoundNames, brigade_name, count_named, count}
-use Rattle.run_model.specs.Laws.{MayExecute, SoundWorld}
+use Rattle.run_model.specs.Laws.{MayExecute}
 
 -- the name that a cursor holds
 abbrev pub name_held : Cursor → Option ℕ
@@ -32,25 +28,9 @@ name_held (cursor.End n) = Some n
 pub record SoundCursors (r : Configuration) : Type 0 where
   pub given : (c n : ℕ) → name_held (r.call.cursors c) ≡ Some n → n < r.shared.next
 
--- It is so where a connection is opened, and a step without a fault keeps it, also at the end of the chain.
-abbrev pub OpenedCursors : Type 0
-OpenedCursors = (fs : Files) → SoundCursors (opened fs).state
-
+-- A step without a fault keeps it.
 abbrev pub StepKeepsCursors : Type 0
 StepKeepsCursors = (p : Program) (choice : Choice) (i : Instr) (r : Configuration) → MayExecute p r i → SoundNames r → SoundCursors r → SoundCursors (step p choice i r).state
-
-abbrev pub StepAtEndKeepsCursors : Type 0
-StepAtEndKeepsCursors = (p : Program) (i : Instr) (r : Configuration) → MayExecute p r i → SoundNames r → SoundCursors r → SoundCursors (step_at_end p i r).state
-
-abbrev pub CursorsWorld : World → Type 0
-CursorsWorld w = IfThere w (λ c. SoundCursors c.state)
-
--- Each event keeps it, and so it is true of each world that a run reaches.
-abbrev pub EventKeepsCursors : Type 0
-EventKeepsCursors = (memory : Bool) (budget : ℕ) (p : Program) (e : Event) (w : World) → IsModule p → SoundWorld w → CursorsWorld w → CursorsWorld (happens memory budget p e w).1
-
-abbrev pub RunKeepsCursors : Type 0
-RunKeepsCursors = (budget : ℕ) (p : Program) (fs : Files) (es : List Event) (answers : List Answer) (w : World) → IsModule p → IsRun budget p (Before fs) es answers w → CursorsWorld w
 
 -- The bucket x of the name n is loose, once, and in no brigade.
 pub record LooseOnce (r : Configuration) (n : ℕ) (x : NamedBucket) : Type 0 where
@@ -94,11 +74,6 @@ StandsOnce r (cursor.End n) s = BrigadeOnce r n s
 -- Where names are single, what a cursor names is in one place, where it is there.
 abbrev pub CursorsStandOnce : Type 0
 CursorsStandOnce = (r : Configuration) (v : Cursor) → SoundNames r → StandsOnce r v (spot_of r v)
-
--- So it is in each run.
-abbrev pub RunStandsOnce : Type 0
-RunStandsOnce = (budget : ℕ) (p : Program) (fs : Files) (es : List Event) (answers : List Answer) (w : World) → IsModule p → IsRun budget p (Before fs) es answers w
-    → IfThere w (λ c. (v : Cursor) → StandsOnce c.state v (spot_of c.state v))
 
 -- A bucket that is made has a name that no bucket had. It is loose, and the cursor c stands at it; all others are as before.
 pub record MakesLoose (c : ℕ) (b : Bucket) (r new : Configuration) : Type 0 where

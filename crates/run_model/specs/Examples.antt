@@ -1,5 +1,6 @@
--- Small modules as values, and what whole runs of them answer.
-use Rattle.std.specs.Prelude.{◌≡◌, ℕ, ◌-◌, ◌^◌, true, false, ◌+◌, List, [], ◌∷◌, ◌++◌, length, replicate, Some, None, ◌==◌, if◌then◌else◌}
+-- Small modules as values, and what whole runs of a chain of one of them answer, worked out by hand.
+use Rattle.std.specs.Prelude.{◌≡◌, ℕ, zero, suc, ◌-◌, ◌^◌, true, false, ◌+◌, List, [], ◌∷◌, ◌++◌, length, map, replicate, Bool, Some, None, ◌==◌, if◌then◌else◌}
+use Rattle.std.specs.Str.{bytes_eq}
 use Rattle.module_lang.specs.declared.instr.PoolRef.{PoolRef}
 use Rattle.module_lang.specs.declared.instr.PoolRef.TheVariants as pool
 use Rattle.module_lang.specs.declared.instr.Value.TheVariants as value
@@ -26,25 +27,67 @@ use Rattle.run_model.specs.declared.event.Cause.{Cause}
 use Rattle.run_model.specs.declared.event.Cause.TheVariants as cause
 use Rattle.run_model.specs.declared.event.Refusal.TheVariants as refusal
 use Rattle.run_model.specs.declared.fault.FaultKind.TheVariants as fault_kind
-use Rattle.run_model.specs.Pools.{planted, created}
-use Rattle.run_model.specs.Connection.{closing_pools}
-use Rattle.run_model.specs.State.{Configuration, items_of}
-use Rattle.run_model.specs.Faults.{fault}
-use Rattle.run_model.specs.Steps.{do_return}
-use Rattle.run_model.specs.Files.{no_files, file_added}
-use Rattle.run_model.specs.Connection.{opened, request_ended}
 use Rattle.run_model.specs.declared.payload.Payload.{Payload}
 use Rattle.run_model.specs.declared.payload.Payload.TheVariants as payload
-use Rattle.run_model.specs.Runs.{Answer, Done, Refused, Step, Output, Opened, Labels, World, Before, There, Closed, happens, pools_of}
+use Rattle.run_model.specs.Pools.{planted, created}
+use Rattle.run_model.specs.State.{Configuration, items_of, fresh_call}
+use Rattle.run_model.specs.Faults.{fault}
+use Rattle.run_model.specs.Steps.{do_return}
+use Rattle.run_model.specs.Chains.{Frame, Linked, configuration}
+use Rattle.run_model.specs.Passing.{Reads}
+use Rattle.run_model.specs.Turns.{Opening, Found, Missing, opened, fresh_connection, request_over}
+use Rattle.run_model.specs.Worlds.{World, Told, Answer, Done, Refused, Connected, Step, Output, Opened, Labels, empty_world, happens, tree_of}
 
--- the answers of these events, where memory is ample
-unfoldable pub answers_from : World → ℕ → Program → List Event → List Answer
-answers_from w budget p [] = []
-answers_from w budget p (e ∷ es) = (happens true budget p e w).0 ∷ answers_from (happens true budget p e w).1 budget p es
+-- What the device tells: what an opening finds under a name, and what the reads of an event give.
+pub record Device : Type 0 where
+  pub named : List ℕ → Opening
+  pub reads : Reads
 
--- the answers of a host that is not yet open
+-- there is no file, and reads fail
+abbrev pub bare : Device
+bare = record { named = λ name. Missing; reads = λ k. None }
+
+-- one file, of the name `f`, with this content, and these reads
+abbrev pub one_file : List ℕ → Reads → Device
+one_file bytes reads = record { named = λ name. if bytes_eq name (102 ∷ []) then Found 0 bytes else Missing; reads = reads }
+
+abbrev pub found_by : Device → Event → Opening
+found_by d (event.OpenFile name) = d.named name
+found_by d e = Missing
+
+abbrev pub told_by : Device → Event → Told
+told_by d e = record { reads = d.reads; opening = found_by d e }
+
+-- what these events lead to, each of the connection of this number, where memory is ample
+unfoldable pub left_by : Device → ℕ → List Program → World → List (ℕ × Event) → World
+left_by d budget chain w [] = w
+left_by d budget chain w (e ∷ es) = left_by d budget chain (happens true budget chain (told_by d e.1) e.0 e.1 w).1 es
+
+-- and their answers
+unfoldable pub answers_from : Device → ℕ → List Program → World → List (ℕ × Event) → List Answer
+answers_from d budget chain w [] = []
+answers_from d budget chain w (e ∷ es) =
+    let after = happens true budget chain (told_by d e.1) e.0 e.1 w in
+    after.0 ∷ answers_from d budget chain after.1 es
+
+-- events of the first connection
+abbrev pub of_first : List Event → List (ℕ × Event)
+of_first es = map (λ e. (1, e)) es
+
+-- the answers of a chain of this module alone, from the empty world on
 abbrev pub answers : ℕ → Program → List Event → List Answer
-answers budget p es = answers_from (Before no_files) budget p es
+answers budget p es = answers_from bare budget (p ∷ []) empty_world (of_first es)
+
+abbrev pub answers_with : Device → Program → List Event → List Answer
+answers_with d p es = answers_from d 1000000 (p ∷ []) empty_world (of_first es)
+
+-- what it leads to
+abbrev pub world_after : Program → List Event → World
+world_after p es = left_by bare 1000000 (p ∷ []) empty_world (of_first es)
+
+-- one event of the first connection; memory: whether a growth succeeds
+abbrev pub happening : Bool → Program → Event → World → Answer × World
+happening memory p e w = happens memory 1000000 (p ∷ []) (told_by bare e) 1 e w
 
 -- a module with no variables, whose `open` and `init` succeed at once
 abbrev pub with_main : List Instr → Program
@@ -97,22 +140,19 @@ abbrev pub beginning : List Event
 beginning = event.Open ∷ event.Step ∷ event.Begin ∷ event.Step ∷ []
 
 abbrev pub begun_well : List Answer
-begun_well = Done ∷ step_ok ∷ Done ∷ step_ok ∷ []
+begun_well = Connected 1 ∷ step_ok ∷ Done ∷ step_ok ∷ []
 
 -- a world with other next names, of pools and of all else
 abbrev pub with_names : ℕ → ℕ → World → World
-with_names pool_name name (Before fs) = Before fs
-with_names pool_name name (Closed pools fs) = Closed pools fs
-with_names pool_name name (There c) = There (record c { state = record c.state { shared = record c.state.shared { pools = record c.state.shared.pools { next = pool_name }; next = name } } })
-
--- what the events lead to, where memory is ample
-unfoldable pub world_after : World → ℕ → Program → List Event → World
-world_after w budget p [] = w
-world_after w budget p (e ∷ es) = world_after (happens true budget p e w).1 budget p es
+with_names pool_name name w = record w { common = record w.common { pools = pool_name; next = name } }
 
 -- the answers of these events after `beginning`, with these next names
 abbrev pub answers_with_names : ℕ → ℕ → Program → List Event → List Answer
-answers_with_names pool_name name p es = answers_from (with_names pool_name name (world_after (Before no_files) 1000000 p beginning)) 1000000 p es
+answers_with_names pool_name name p es = answers_from bare 1000000 (p ∷ []) (with_names pool_name name (world_after p beginning)) (of_first es)
+
+-- the connection was opened, and its `open` is to run
+abbrev pub just_opened : Program → World
+just_opened p = world_after p (event.Open ∷ [])
 
 -- a module with these variables and texts whose `open` is this, and whose `init` and `main` succeed at once
 abbrev pub with_open : List PoolRef → List PoolRef → List (List ℕ) → List Instr → Program
@@ -170,7 +210,7 @@ abbrev pub saving : List Event
 saving = event.Open ∷ event.Step ∷ event.Step ∷ event.Begin ∷ event.Step ∷ []
 
 abbrev pub saving_well : List Answer
-saving_well = Done ∷ went ∷ step_ok ∷ Done ∷ step_ok ∷ []
+saving_well = Connected 1 ∷ went ∷ step_ok ∷ Done ∷ step_ok ∷ []
 
 -- open: `set n0 256`, `put n0 a`, `:loop` `jump loop`, `:a` `sub n0 257`, `jeq n0 0 b`, `:loop2` `jump loop2`, `:b` `add n0 4294967295`,
 -- `add n0 1`, `:loop3` `jlt n0 4294967295 loop3`, `ret ok`
@@ -178,11 +218,13 @@ abbrev pub counts : Program
 counts = with_open [] [] [] (instr.Set 0 (value.Constant 256) ∷ instr.Put (value.Number 0) 3 ∷ instr.Jump 2 ∷ instr.Sub 0 (value.Constant 257) ∷ instr.JEq 0 (value.Constant 0) 6 ∷ instr.Jump 5
     ∷ instr.Add 0 (value.Constant 4294967295) ∷ instr.Add 0 (value.Constant 1) ∷ instr.JLt 0 (value.Constant 4294967295) 8 ∷ instr.Ret Success ∷ [])
 
--- a world in which so many reads go on well, and then one fails
-abbrev pub failing_in : ℕ → World → World
-failing_in n (Before fs) = Before (record fs { fails_in = Some n })
-failing_in n (There c) = There (record c { state = record c.state { shared = record c.state.shared { files = record c.state.shared.files { fails_in = Some n } } } })
-failing_in n (Closed pools fs) = Closed pools (record fs { fails_in = Some n })
+-- each read fails; the first one alone does
+abbrev pub unread : Reads
+unread k = None
+
+abbrev pub first_unread : Reads
+first_unread zero = None
+first_unread (suc k) = Some (120 ∷ [])
 
 -- bodies of these bytes
 abbrev pub a_heap : List ℕ → Event
@@ -208,39 +250,39 @@ pub record PassRuns : Type 0 where
       ≡ begun_well ++ Done ∷ went ∷ went ∷ step_ok ∷ Done ∷ Done ∷ step_ok ∷ Done ∷ went ∷ went ∷ step_ok ∷ Output (97 ∷ 98 ∷ []) ∷ []
   -- a brigade on the request's pool goes with it, and may be made again
   pub gathered : answers 1000000 gathers (event.Open ∷ (event.Step ∷ event.Begin ∷ event.Step ∷ event.Step ∷ a_heap (97 ∷ []) ∷ three_steps ++ event.Step ∷ event.End ∷ event.Begin ∷ event.Step ∷ event.Step ∷ event.TakeOutput ∷ []))
-      ≡ Done ∷ step_ok ∷ Done ∷ went ∷ step_ok ∷ Done ∷ went ∷ went ∷ went ∷ step_ok ∷ Done ∷ Done ∷ went ∷ step_ok ∷ Output (97 ∷ []) ∷ []
+      ≡ Connected 1 ∷ step_ok ∷ Done ∷ went ∷ step_ok ∷ Done ∷ went ∷ went ∷ went ∷ step_ok ∷ Done ∷ Done ∷ went ∷ step_ok ∷ Output (97 ∷ []) ∷ []
 
 -- what the first pool that the module made, of name 3, holds after so many steps of `open`
 abbrev pub held_after : ℕ → Program → List Payload
-held_after steps p = (pools_of (world_after (Before no_files) 1000000 p (event.Open ∷ replicate steps event.Step))).payloads 3
+held_after steps p = (tree_of (world_after p (event.Open ∷ replicate steps event.Step))).payloads 3
 
 -- How pools are made, cleared and destroyed, and their labels run.
 pub record PoolRuns : Type 0 where
   -- subpools first, last in first out
   pub order : answers 1000000 cleans_up (opening 7 (event.TellLabels ∷ event.Close ∷ event.TellLabels ∷ []))
-      ≡ Done ∷ went ∷ went ∷ went ∷ went ∷ went ∷ went ∷ step_ok ∷ Labels ((51 ∷ []) ∷ (50 ∷ []) ∷ (49 ∷ []) ∷ []) ∷ Labels ((51 ∷ []) ∷ (50 ∷ []) ∷ (49 ∷ []) ∷ []) ∷ Refused refusal.NoSuchConn ∷ []
+      ≡ Connected 1 ∷ went ∷ went ∷ went ∷ went ∷ went ∷ went ∷ step_ok ∷ Labels ((51 ∷ []) ∷ (50 ∷ []) ∷ (49 ∷ []) ∷ []) ∷ Labels ((51 ∷ []) ∷ (50 ∷ []) ∷ (49 ∷ []) ∷ []) ∷ Refused refusal.NoSuchConn ∷ []
   -- of two equal labels the newer one is killed; what is left runs at the close
   pub killed : answers 1000000 (one_pool (instr.PCreate 0 ∷ instr.Label (pool.Own 0) 0 ∷ instr.Label pool.Conn 1 ∷ instr.Label (pool.Own 0) 1 ∷ instr.Label (pool.Own 0) 0 ∷ instr.Unlabel (pool.Own 0) 0 ∷ []))
-      (opening 7 (event.TellLabels ∷ event.Close ∷ [])) ≡ Done ∷ went ∷ went ∷ went ∷ went ∷ went ∷ went ∷ step_ok ∷ Labels [] ∷ Labels ((98 ∷ []) ∷ (97 ∷ []) ∷ (98 ∷ []) ∷ []) ∷ []
+      (opening 7 (event.TellLabels ∷ event.Close ∷ [])) ≡ Connected 1 ∷ went ∷ went ∷ went ∷ went ∷ went ∷ went ∷ step_ok ∷ Labels [] ∷ Labels ((98 ∷ []) ∷ (97 ∷ []) ∷ (98 ∷ []) ∷ []) ∷ []
   -- a label that was not registered last is killed too
   pub killed_below : answers 1000000 (one_pool (instr.PCreate 0 ∷ instr.Label (pool.Own 0) 0 ∷ instr.Label (pool.Own 0) 1 ∷ instr.Unlabel (pool.Own 0) 0 ∷ instr.PClear 0 ∷ []))
-      (opening 6 (event.TellLabels ∷ [])) ≡ Done ∷ went ∷ went ∷ went ∷ went ∷ went ∷ step_ok ∷ Labels ((98 ∷ []) ∷ []) ∷ []
+      (opening 6 (event.TellLabels ∷ [])) ≡ Connected 1 ∷ went ∷ went ∷ went ∷ went ∷ went ∷ step_ok ∷ Labels ((98 ∷ []) ∷ []) ∷ []
   -- a brigade goes with its pool, and may be made again; a cleared pool is usable
   pub again : answers 1000000 (one_pool (instr.PCreate 0 ∷ instr.BCreate 0 ∷ instr.PClear 0 ∷ instr.BCreate 0 ∷ instr.BClean 0 ∷ [])) (opening 6 [])
-      ≡ Done ∷ went ∷ went ∷ went ∷ went ∷ went ∷ step_ok ∷ []
+      ≡ Connected 1 ∷ went ∷ went ∷ went ∷ went ∷ went ∷ step_ok ∷ []
   pub gone : answers 1000000 (one_pool (instr.PCreate 0 ∷ instr.BCreate 0 ∷ instr.PClear 0 ∷ instr.BClean 0 ∷ [])) (opening 4 [])
-      ≡ Done ∷ went ∷ went ∷ went ∷ Step (stepped.Fault fault_kind.F2 0 3) ∷ []
+      ≡ Connected 1 ∷ went ∷ went ∷ went ∷ Step (stepped.Fault fault_kind.F2 0 3) ∷ []
   pub dead : answers 1000000 (one_pool (instr.PCreate 0 ∷ instr.PDestroy 0 ∷ instr.PCreate 0 ∷ instr.PDestroy 0 ∷ instr.PClear 0 ∷ [])) (opening 5 [])
-      ≡ Done ∷ went ∷ went ∷ went ∷ went ∷ Step (stepped.Fault fault_kind.F1 0 4) ∷ []
-  pub null : answers 1000000 (one_pool (instr.Label (pool.Own 0) 0 ∷ [])) (opening 1 []) ≡ Done ∷ Step (stepped.Fault fault_kind.F1 0 0) ∷ []
+      ≡ Connected 1 ∷ went ∷ went ∷ went ∷ went ∷ Step (stepped.Fault fault_kind.F1 0 4) ∷ []
+  pub null : answers 1000000 (one_pool (instr.Label (pool.Own 0) 0 ∷ [])) (opening 1 []) ≡ Connected 1 ∷ Step (stepped.Fault fault_kind.F1 0 0) ∷ []
   pub over_live : answers 1000000 (one_pool (instr.PCreate 0 ∷ instr.PCreate 0 ∷ [])) (opening 2 (event.TellLabels ∷ event.Begin ∷ event.Close ∷ []))
-      ≡ Done ∷ went ∷ Step (stepped.Fault fault_kind.F10 0 1) ∷ Labels [] ∷ broken_by cause.Faulted ∷ Labels [] ∷ []
+      ≡ Connected 1 ∷ went ∷ Step (stepped.Fault fault_kind.F10 0 1) ∷ Labels [] ∷ broken_by cause.Faulted ∷ Labels [] ∷ []
   -- a dead variable is not null
   pub nulls : answers 1000000 (one_pool (instr.JNull (varref.Pool 0) 2 ∷ instr.PClear 0 ∷ instr.PCreate 0 ∷ instr.PDestroy 0 ∷ instr.JNull (varref.Pool 0) 1 ∷ instr.JNull (varref.Brigade 0) 7 ∷ instr.PClear 0 ∷ []))
-      (opening 6 []) ≡ Done ∷ went ∷ went ∷ went ∷ went ∷ went ∷ step_ok ∷ []
-  pub pool_names : (happens true 1000000 (one_pool (instr.PCreate 0 ∷ [])) event.Step (with_names (2 ^ 64 - 1) 4 (There (opened no_files)))).0 ≡ broken_by cause.NamesSpent
-  pub last_pool_name : (happens true 1000000 (one_pool (instr.PCreate 0 ∷ [])) event.Step (with_names (2 ^ 64 - 2) 4 (There (opened no_files)))).0 ≡ went
-  pub no_memory : (happens false 1000000 (one_pool (instr.PCreate 0 ∷ [])) event.Step (There (opened no_files))).0 ≡ broken_by cause.NoMemory
+      (opening 6 []) ≡ Connected 1 ∷ went ∷ went ∷ went ∷ went ∷ went ∷ step_ok ∷ []
+  pub pool_names : (happening true (one_pool (instr.PCreate 0 ∷ [])) event.Step (with_names (2 ^ 64 - 1) 4 (just_opened (one_pool (instr.PCreate 0 ∷ []))))).0 ≡ broken_by cause.NamesSpent
+  pub last_pool_name : (happening true (one_pool (instr.PCreate 0 ∷ [])) event.Step (with_names (2 ^ 64 - 2) 4 (just_opened (one_pool (instr.PCreate 0 ∷ []))))).0 ≡ went
+  pub no_memory : (happening false (one_pool (instr.PCreate 0 ∷ [])) event.Step (just_opened (one_pool (instr.PCreate 0 ∷ [])))).0 ≡ broken_by cause.NoMemory
   -- a brigade is registered with its pool, behind what stood there
   pub registered : held_after 3 (one_pool (instr.PCreate 0 ∷ instr.Label (pool.Own 0) 0 ∷ instr.BCreate 0 ∷ [])) ≡ payload.Label (97 ∷ []) ∷ payload.Brigade 2 ∷ []
   -- a clear hands it on, and what is made then has another name
@@ -256,11 +298,11 @@ pub record KindRuns : Type 0 where
   pub kept : answers 1000000 keeper (saving ++ event.Bring (piece.Transient (97 ∷ []) ∷ []) ∷ three_steps)
       ≡ saving_well ++ Done ∷ went ∷ went ∷ Step (stepped.Fault fault_kind.F6 0 5) ∷ []
   -- a file that is saved outlasts its request
-  pub file_saved : answers 1000000 saver (event.AddFile (102 ∷ []) (120 ∷ 121 ∷ 122 ∷ []) ∷ saving ++ event.OpenFile (102 ∷ []) ∷ event.Bring (piece.File 1 1 2 ∷ []) ∷ three_steps
+  pub file_saved : answers_with (one_file (120 ∷ 121 ∷ 122 ∷ []) (λ k. Some (121 ∷ 122 ∷ []))) saver (event.AddFile (102 ∷ []) (120 ∷ 121 ∷ 122 ∷ []) ∷ saving ++ event.OpenFile (102 ∷ []) ∷ event.Bring (piece.File 1 1 2 ∷ []) ∷ three_steps
       ++ event.End ∷ event.Begin ∷ event.Step ∷ event.Bring [] ∷ three_steps ++ event.Step ∷ event.TakeOutput ∷ [])
       ≡ Done ∷ saving_well ++ Opened 1 3 ∷ Done ∷ went ∷ went ∷ step_ok ∷ Done ∷ Done ∷ step_ok ∷ Done ∷ went ∷ went ∷ went ∷ step_ok ∷ Output (121 ∷ 122 ∷ []) ∷ []
   -- and one that is only kept does not
-  pub file_kept : answers 1000000 keeper (event.AddFile (102 ∷ []) (120 ∷ []) ∷ saving ++ event.OpenFile (102 ∷ []) ∷ event.Bring (piece.File 1 0 1 ∷ []) ∷ three_steps
+  pub file_kept : answers_with (one_file (120 ∷ []) unread) keeper (event.AddFile (102 ∷ []) (120 ∷ []) ∷ saving ++ event.OpenFile (102 ∷ []) ∷ event.Bring (piece.File 1 0 1 ∷ []) ∷ three_steps
       ++ event.End ∷ event.Begin ∷ event.Step ∷ event.Bring [] ∷ event.Step ∷ event.Step ∷ [])
       ≡ Done ∷ saving_well ++ Opened 1 1 ∷ Done ∷ went ∷ went ∷ step_ok ∷ Done ∷ Done ∷ step_ok ∷ Done ∷ went ∷ Step (stepped.Fault fault_kind.F5 0 6) ∷ []
   -- bytes in the request's pool are kept when it goes
@@ -269,47 +311,47 @@ pub record KindRuns : Type 0 where
   pub metadata : answers 1000000 identity (beginning ++ event.Bring (piece.Flush ∷ piece.Immortal (97 ∷ []) ∷ piece.Eos ∷ piece.Flush ∷ []) ∷ three_steps ++ event.TakeOutput ∷ [])
       ≡ begun_well ++ Done ∷ went ∷ went ∷ step_ok ∷ Output (97 ∷ []) ∷ []
   -- the first of the reads fails: the pass answers Fail, and an EOS counts
-  pub read_fails : answers_from (failing_in 0 (world_after (Before (file_added (102 ∷ []) (120 ∷ []) no_files)) 1000000 identity beginning)) 1000000 identity
-      (event.OpenFile (102 ∷ []) ∷ event.Bring (piece.Heap (97 ∷ []) ∷ piece.File 1 0 1 ∷ piece.Heap (98 ∷ []) ∷ piece.Eos ∷ []) ∷ three_steps ++ event.TakeOutput ∷ event.Bring [] ∷ three_steps)
-      ≡ Opened 1 1 ∷ Done ∷ went ∷ went ∷ Step (stepped.CallEnded Fail) ∷ Output (97 ∷ []) ∷ Done ∷ went ∷ went ∷ step_ok ∷ []
-  pub no_file : answers 1000000 identity (event.AddFile (102 ∷ []) (120 ∷ []) ∷ event.Open ∷ event.Step ∷ event.OpenFile (102 ∷ []) ∷ event.Begin ∷ event.OpenFile (102 ∷ []) ∷ event.Step ∷ event.OpenFile (103 ∷ [])
+  pub read_fails : answers_with (one_file (120 ∷ []) first_unread) identity
+      (beginning ++ event.OpenFile (102 ∷ []) ∷ event.Bring (piece.Heap (97 ∷ []) ∷ piece.File 1 0 1 ∷ piece.Heap (98 ∷ []) ∷ piece.Eos ∷ []) ∷ three_steps ++ event.TakeOutput ∷ event.Bring [] ∷ three_steps)
+      ≡ begun_well ++ Opened 1 1 ∷ Done ∷ went ∷ went ∷ Step (stepped.CallEnded Fail) ∷ Output (97 ∷ []) ∷ Done ∷ went ∷ went ∷ step_ok ∷ []
+  pub no_file : answers_with (one_file (120 ∷ []) unread) identity (event.AddFile (102 ∷ []) (120 ∷ []) ∷ event.Open ∷ event.Step ∷ event.OpenFile (102 ∷ []) ∷ event.Begin ∷ event.OpenFile (102 ∷ []) ∷ event.Step ∷ event.OpenFile (103 ∷ [])
       ∷ event.OpenFile (102 ∷ []) ∷ event.Bring (piece.File 1 0 2 ∷ []) ∷ event.Bring (piece.File 2 0 0 ∷ []) ∷ event.Bring (piece.File 1 1 0 ∷ []) ∷ [])
-      ≡ Done ∷ Done ∷ step_ok ∷ Refused refusal.NotInRequest ∷ Done ∷ Refused refusal.Busy ∷ step_ok ∷ Refused refusal.NoFile ∷ Opened 1 1 ∷ Refused refusal.NoFile ∷ Refused refusal.NoFile ∷ Done ∷ []
+      ≡ Done ∷ Connected 1 ∷ step_ok ∷ Refused refusal.NotInRequest ∷ Done ∷ Refused refusal.Busy ∷ step_ok ∷ Refused refusal.NoFile ∷ Opened 1 1 ∷ Refused refusal.NoFile ∷ Refused refusal.NoFile ∷ Done ∷ []
   -- a file of the last request is not open in this one
-  pub next_request : answers 1000000 identity (event.AddFile (102 ∷ []) (120 ∷ []) ∷ beginning ++ event.OpenFile (102 ∷ []) ∷ event.End ∷ event.Begin ∷ event.Step ∷ event.Bring (piece.File 1 0 1 ∷ []) ∷ event.OpenFile (102 ∷ []) ∷ [])
+  pub next_request : answers_with (one_file (120 ∷ []) unread) identity (event.AddFile (102 ∷ []) (120 ∷ []) ∷ beginning ++ event.OpenFile (102 ∷ []) ∷ event.End ∷ event.Begin ∷ event.Step ∷ event.Bring (piece.File 1 0 1 ∷ []) ∷ event.OpenFile (102 ∷ []) ∷ [])
       ≡ Done ∷ begun_well ++ Opened 1 1 ∷ Done ∷ Done ∷ step_ok ∷ Refused refusal.NoFile ∷ Opened 2 1 ∷ []
   -- numbers stop at 0 and at 4294967295, and only a byte is put into the buffer
-  pub numbers : answers 1000000 counts (opening 8 []) ≡ Done ∷ went ∷ went ∷ went ∷ went ∷ went ∷ went ∷ went ∷ step_ok ∷ []
+  pub numbers : answers 1000000 counts (opening 8 []) ≡ Connected 1 ∷ went ∷ went ∷ went ∷ went ∷ went ∷ went ∷ went ∷ step_ok ∷ []
 
 -- How pools end with those above them, with their request and with their connection.
 pub record PoolEnds : Type 0 where
   pub subpool_brigade : answers 1000000 (two_pools (instr.PCreate 0 ∷ instr.PCreate 1 ∷ instr.BCreate 0 ∷ instr.PClear 0 ∷ instr.BClean 0 ∷ [])) (opening 5 [])
-      ≡ Done ∷ went ∷ went ∷ went ∷ went ∷ Step (stepped.Fault fault_kind.F2 0 4) ∷ []
+      ≡ Connected 1 ∷ went ∷ went ∷ went ∷ went ∷ Step (stepped.Fault fault_kind.F2 0 4) ∷ []
   pub subpool : answers 1000000 (two_pools (instr.PCreate 0 ∷ instr.PCreate 1 ∷ instr.PDestroy 0 ∷ instr.PClear 1 ∷ [])) (opening 4 [])
-      ≡ Done ∷ went ∷ went ∷ went ∷ Step (stepped.Fault fault_kind.F1 0 3) ∷ []
+      ≡ Connected 1 ∷ went ∷ went ∷ went ∷ Step (stepped.Fault fault_kind.F1 0 3) ∷ []
   -- a pool above a cleared one is left as it is
-  pub above : answers 1000000 (two_pools (instr.PCreate 0 ∷ instr.PCreate 1 ∷ instr.PDestroy 1 ∷ instr.PClear 0 ∷ [])) (opening 5 []) ≡ Done ∷ went ∷ went ∷ went ∷ went ∷ step_ok ∷ []
+  pub above : answers 1000000 (two_pools (instr.PCreate 0 ∷ instr.PCreate 1 ∷ instr.PDestroy 1 ∷ instr.PClear 0 ∷ [])) (opening 5 []) ≡ Connected 1 ∷ went ∷ went ∷ went ∷ went ∷ step_ok ∷ []
   -- no label of another pool is killed, and where there is none nothing happens
   pub other_pool : answers 1000000 (one_pool (instr.PCreate 0 ∷ instr.Label pool.Conn 0 ∷ instr.Unlabel (pool.Own 0) 0 ∷ instr.Unlabel pool.Conn 1 ∷ [])) (opening 5 (event.Close ∷ []))
-      ≡ Done ∷ went ∷ went ∷ went ∷ went ∷ step_ok ∷ Labels ((97 ∷ []) ∷ []) ∷ []
+      ≡ Connected 1 ∷ went ∷ went ∷ went ∷ went ∷ step_ok ∷ Labels ((97 ∷ []) ∷ []) ∷ []
   -- the labels of a request's pools run where it ends
   pub request_labels : answers 1000000 (request_pools (instr.Label pool.Req 0 ∷ [])) (event.Open ∷ event.Step ∷ event.Begin ∷ event.Step ∷ event.Step ∷ event.TellLabels ∷ event.End ∷ event.TellLabels ∷ event.Close ∷ [])
-      ≡ Done ∷ step_ok ∷ Done ∷ went ∷ step_ok ∷ Labels [] ∷ Done ∷ Labels ((97 ∷ []) ∷ []) ∷ Labels ((97 ∷ []) ∷ []) ∷ []
+      ≡ Connected 1 ∷ step_ok ∷ Done ∷ went ∷ step_ok ∷ Labels [] ∷ Done ∷ Labels ((97 ∷ []) ∷ []) ∷ Labels ((97 ∷ []) ∷ []) ∷ []
   -- they and their brigades may be made again in the next request
   pub next_request : answers 1000000 (request_pools (instr.PCreate 0 ∷ instr.PCreate 1 ∷ instr.BCreate 0 ∷ []))
       (event.Open ∷ (event.Step ∷ event.Begin ∷ three_steps ++ event.Step ∷ event.End ∷ event.Begin ∷ three_steps ++ event.Step ∷ []))
-      ≡ Done ∷ step_ok ∷ Done ∷ went ∷ went ∷ went ∷ step_ok ∷ Done ∷ Done ∷ went ∷ went ∷ went ∷ step_ok ∷ []
+      ≡ Connected 1 ∷ step_ok ∷ Done ∷ went ∷ went ∷ went ∷ step_ok ∷ Done ∷ Done ∷ went ∷ went ∷ went ∷ step_ok ∷ []
   -- until then they are dead, and not null
   pub after_request : answers 1000000 (request_pools (instr.JNull (varref.Pool 0) 3 ∷ instr.PClear 0 ∷ instr.PCreate 0 ∷ []))
       (event.Open ∷ (event.Step ∷ event.Begin ∷ three_steps ++ event.End ∷ event.Begin ∷ event.Step ∷ event.Step ∷ []))
-      ≡ Done ∷ step_ok ∷ Done ∷ went ∷ went ∷ step_ok ∷ Done ∷ Done ∷ went ∷ Step (stepped.Fault fault_kind.F1 0 2) ∷ []
+      ≡ Connected 1 ∷ step_ok ∷ Done ∷ went ∷ went ∷ step_ok ∷ Done ∷ Done ∷ went ∷ Step (stepped.Fault fault_kind.F1 0 2) ∷ []
   pub while_busy : answers 1000000 identity (event.Open ∷ event.Close ∷ event.Step ∷ event.TakeOutput ∷ event.Close ∷ [])
-      ≡ Done ∷ Labels [] ∷ Refused refusal.NoSuchConn ∷ Refused refusal.NoSuchConn ∷ Refused refusal.NoSuchConn ∷ []
+      ≡ Connected 1 ∷ Labels [] ∷ Refused refusal.NoSuchConn ∷ Refused refusal.NoSuchConn ∷ Refused refusal.NoSuchConn ∷ []
   -- the root is left, alone
-  pub root_left : (closing_pools (opened no_files)).path 1 ≡ 1 ∷ []
-  pub none_left : (closing_pools (opened no_files)).path 2 ≡ []
-  pub no_memory_to_end : (happens false 1000000 identity event.End (world_after (Before no_files) 1000000 identity beginning)).0 ≡ Refused refusal.NoMemory
-  pub no_memory_to_close : happens false 1000000 identity event.Close (There (opened no_files)) ≡ (Refused refusal.NoMemory, There (opened no_files))
+  pub root_left : (tree_of (world_after identity (event.Open ∷ event.Close ∷ []))).path 1 ≡ 1 ∷ []
+  pub none_left : (tree_of (world_after identity (event.Open ∷ event.Close ∷ []))).path 2 ≡ []
+  pub no_memory_to_end : (happening false identity event.End (world_after identity beginning)).0 ≡ Refused refusal.NoMemory
+  pub no_memory_to_close : happening false identity event.Close (just_opened identity) ≡ (Refused refusal.NoMemory, just_opened identity)
 
 -- How instructions have faults, which are told whether or not there is memory.
 pub record FaultRuns : Type 0 where
@@ -321,12 +363,12 @@ pub record FaultRuns : Type 0 where
   pub data_after_eos : answers 1000000 passes_on (beginning ++ a_last_heap (97 ∷ []) ∷ event.Step ∷ event.Step ∷ a_heap (98 ∷ []) ∷ event.Step ∷ event.TakeOutput ∷ [])
       ≡ begun_well ++ Done ∷ went ∷ step_ok ∷ Done ∷ Step (stepped.Fault fault_kind.F8 0 2) ∷ Output (97 ∷ []) ∷ []
   pub made_again : answers 1000000 creates_each_time (event.Open ∷ event.Step ∷ event.Begin ∷ event.Step ∷ event.Step ∷ event.End ∷ event.Begin ∷ event.Step ∷ [])
-      ≡ Done ∷ step_ok ∷ Done ∷ went ∷ step_ok ∷ Done ∷ Done ∷ Step (stepped.Fault fault_kind.F10 0 1) ∷ []
+      ≡ Connected 1 ∷ step_ok ∷ Done ∷ went ∷ step_ok ∷ Done ∷ Done ∷ Step (stepped.Fault fault_kind.F10 0 1) ∷ []
   pub no_pool : answers 1000000 lacks_its_pool (event.Open ∷ event.Step ∷ event.Begin ∷ event.Step ∷ [])
-      ≡ Done ∷ step_ok ∷ Done ∷ Step (stepped.Fault fault_kind.F1 0 1) ∷ []
+      ≡ Connected 1 ∷ step_ok ∷ Done ∷ Step (stepped.Fault fault_kind.F1 0 1) ∷ []
   pub no_brigade : answers 1000000 never_creates (beginning ++ event.Bring [] ∷ event.Step ∷ [])
       ≡ begun_well ++ Done ∷ Step (stepped.Fault fault_kind.F2 0 2) ∷ []
-  pub without_memory : (happens false 1000000 never_creates event.Step (world_after (Before no_files) 1000000 never_creates (beginning ++ event.Bring [] ∷ []))).0 ≡ Step (stepped.Fault fault_kind.F2 0 2)
+  pub without_memory : (happening false never_creates event.Step (world_after never_creates (beginning ++ event.Bring [] ∷ []))).0 ≡ Step (stepped.Fault fault_kind.F2 0 2)
 
 -- How connections break.
 pub record BreakRuns : Type 0 where
@@ -334,24 +376,24 @@ pub record BreakRuns : Type 0 where
       ≡ begun_well ++ Done ∷ went ∷ went ∷ step_ok ∷ []
   pub two_are_not : answers 2 identity (beginning ++ a_last_heap (97 ∷ 98 ∷ []) ∷ three_steps ++ event.Step ∷ event.End ∷ event.Begin ∷ event.Bring [] ∷ event.TakeOutput ∷ [])
       ≡ begun_well ++ Done ∷ went ∷ went ∷ broken_by cause.OutOfSteps ∷ broken_by cause.OutOfSteps ∷ broken_by cause.OutOfSteps ∷ broken_by cause.OutOfSteps ∷ broken_by cause.OutOfSteps ∷ Output (97 ∷ 98 ∷ []) ∷ []
-  pub none : answers 0 identity (event.Open ∷ event.Step ∷ []) ≡ Done ∷ broken_by cause.OutOfSteps ∷ []
+  pub none : answers 0 identity (event.Open ∷ event.Step ∷ []) ≡ Connected 1 ∷ broken_by cause.OutOfSteps ∷ []
   pub for_ever : answers 2 loops (beginning ++ event.Bring [] ∷ three_steps) ≡ begun_well ++ Done ∷ went ∷ went ∷ broken_by cause.OutOfSteps ∷ []
   -- a brigade wants memory, a return wants none
-  pub no_memory : (happens false 1000000 gathers event.Step (world_after (Before no_files) 1000000 gathers (event.Open ∷ event.Step ∷ event.Begin ∷ []))).0 ≡ broken_by cause.NoMemory
-  pub no_growth : (happens false 1000000 identity event.Step (There (opened no_files))).0 ≡ step_ok
+  pub no_memory : (happening false gathers event.Step (world_after gathers (event.Open ∷ event.Step ∷ event.Begin ∷ []))).0 ≡ broken_by cause.NoMemory
+  pub no_growth : (happening false identity event.Step (just_opened identity)).0 ≡ step_ok
 
 -- Which events are refused in which states.
 pub record RefusedRuns : Type 0 where
   pub before_open : answers 1000000 identity (event.Begin ∷ event.Bring [] ∷ event.Step ∷ event.End ∷ event.TakeOutput ∷ [])
       ≡ Refused refusal.NoSuchConn ∷ Refused refusal.NoSuchConn ∷ Refused refusal.NoSuchConn ∷ Refused refusal.NoSuchConn ∷ Refused refusal.NoSuchConn ∷ []
   pub busy : answers 1000000 identity (event.Open ∷ event.Begin ∷ event.Bring [] ∷ event.End ∷ [])
-      ≡ Done ∷ Refused refusal.Busy ∷ Refused refusal.Busy ∷ Refused refusal.Busy ∷ []
+      ≡ Connected 1 ∷ Refused refusal.Busy ∷ Refused refusal.Busy ∷ Refused refusal.Busy ∷ []
   pub no_request : answers 1000000 identity (event.Open ∷ event.Step ∷ event.Step ∷ event.Bring (piece.Eos ∷ []) ∷ event.End ∷ [])
-      ≡ Done ∷ step_ok ∷ Refused refusal.Idle ∷ Refused refusal.NotInRequest ∷ Refused refusal.NotInRequest ∷ []
+      ≡ Connected 1 ∷ step_ok ∷ Refused refusal.Idle ∷ Refused refusal.NotInRequest ∷ Refused refusal.NotInRequest ∷ []
   pub in_request : answers 1000000 identity (beginning ++ event.Begin ∷ event.Step ∷ []) ≡ begun_well ++ Refused refusal.InRequest ∷ Refused refusal.Idle ∷ []
   pub data_after_eos : answers 1000000 identity (beginning ++ event.Bring (piece.Heap (97 ∷ []) ∷ piece.Eos ∷ piece.Heap (98 ∷ []) ∷ []) ∷ event.Step ∷ [])
       ≡ begun_well ++ Refused refusal.DataAfterEos ∷ Refused refusal.Idle ∷ []
-  pub no_memory : (happens false 1000000 identity (event.Bring []) (world_after (Before no_files) 1000000 identity beginning)).0 ≡ Refused refusal.NoMemory
+  pub no_memory : (happening false identity (event.Bring []) (world_after identity beginning)).0 ≡ Refused refusal.NoMemory
 
 -- How far names last: 2^64 - 2 is the last one, of pools as of all else.
 pub record NameRuns : Type 0 where
@@ -370,13 +412,22 @@ pub record NameRuns : Type 0 where
 abbrev pub a_bucket : Kind → Home → NamedBucket
 a_bucket k h = record { name = 90; bucket = record { kind = k; content = content.Nothing; home = h } }
 
+-- what the call on top of the stack sees
+abbrev pub seen_by : List Frame → Linked → Configuration
+seen_by [] (g, c) = configuration g c (record { of = 0; call = fresh_call 0; pc = 0 })
+seen_by (f ∷ fs) (g, c) = configuration g c f
+
+-- what the call 1 of the first connection sees, as `open` of its one module begins
+abbrev pub at_open : Configuration
+at_open = (let w = opened (identity ∷ []) empty_world.common in seen_by w.1.stack w)
+
 -- The call 1 of a connection with the pool 2, the request's pool 3 and the instance's own pool 5, whose brigade of this
 -- number has these buckets.
 abbrev pub holding : ℕ → Mark → List NamedBucket → Configuration
 holding b mark items =
-    record (opened no_files).state {
-      instance = record (opened no_files).state.instance { pools = λ p. poolvar.Made 5; brigades = λ k. if k == b then var.Live (record { name = 80; on = Some 2; mark = mark; items = items }) else var.Null };
-      shared = record (opened no_files).state.shared { req = Some 3 };
+    record at_open {
+      instance = record at_open.instance { pools = λ p. poolvar.Made 5; brigades = λ k. if k == b then var.Live (record { name = 80; on = Some 2; mark = mark; items = items }) else var.Null };
+      shared = record at_open.shared { req = Some 3 };
     }
 
 -- the same, where the pool 3 stands under the pool 2
@@ -385,7 +436,14 @@ in_request items = record (holding 0 Usable items) { shared = record (holding 0 
 
 -- a run whose pool variable 0 names a dead pool, and the others a live one
 abbrev pub dead_and_live : Configuration
-dead_and_live = record (opened no_files).state { instance = record (opened no_files).state.instance { pools = λ p. if p == 0 then poolvar.Made 9 else poolvar.Made 2 } }
+dead_and_live = record at_open { instance = record at_open.instance { pools = λ p. if p == 0 then poolvar.Made 9 else poolvar.Made 2 } }
+
+-- the first connection, where its instance and its pools are those of such a call, and none runs
+abbrev pub between_calls : Configuration → Linked
+between_calls r = (
+  record { pools = r.shared.pools.next; next = r.shared.next; file = r.shared.files.next },
+  record (fresh_connection empty_world.common) { instances = λ k. r.instance; path = r.shared.pools.path; payloads = r.shared.pools.payloads; req = r.shared.req },
+)
 
 -- Faults of what may be held, and their order.
 pub record HeldFaults : Type 0 where
@@ -417,5 +475,5 @@ pub record HeldChanges : Type 0 where
   pub returned : items_of ((do_return (holding 0 Usable (a_bucket kind.Transient (home.Call 1) ∷ a_bucket kind.Transient (home.Call 9) ∷ a_bucket kind.File (home.Pool 3) ∷ []))).instance.brigades 0)
       ≡ a_bucket kind.Transient home.Ended ∷ a_bucket kind.Transient (home.Call 9) ∷ a_bucket kind.File (home.Pool 3) ∷ []
   pub in_goes : (do_return (holding 8 Usable (a_bucket kind.Heap home.Free ∷ []))).instance.brigades 8 ≡ var.Null
-  pub request_ended : items_of ((request_ended 3 (in_request (a_bucket kind.File (home.Pool 3) ∷ a_bucket kind.File (home.Pool 2) ∷ a_bucket (kind.Pool 3) home.Free ∷ a_bucket (kind.Pool 2) home.Free ∷ []))).instance.brigades 0)
+  pub request_ended : items_of (((request_over 3 (between_calls (in_request (a_bucket kind.File (home.Pool 3) ∷ a_bucket kind.File (home.Pool 2) ∷ a_bucket (kind.Pool 3) home.Free ∷ a_bucket (kind.Pool 2) home.Free ∷ [])))).1.instances 0).brigades 0)
       ≡ a_bucket kind.File home.Ended ∷ a_bucket kind.File (home.Pool 2) ∷ a_bucket kind.Heap home.Free ∷ a_bucket (kind.Pool 2) home.Free ∷ []

@@ -1,5 +1,5 @@
 -- The laws of the definitions, as statements.
-use Rattle.std.specs.Prelude.{◌≡◌, ◌≢◌, ℕ, ◌+◌, ◌<◌, ◌≤◌, Bool, true, false, ◌==◌, ◌||◌, if◌then◌else◌, ◌⊎◌, List, [], ◌∷◌, ◌++◌, map, filter, reverse, length, take, drop, replicate, Option, is_some, Some, None, Result, Ok, All}
+use Rattle.std.specs.Prelude.{◌≡◌, ◌≢◌, ℕ, ◌+◌, ◌≤◌, Bool, true, false, ◌==◌, ◌||◌, if◌then◌else◌, ◌⊎◌, List, [], ◌∷◌, ◌++◌, map, filter, reverse, take, drop, Option, is_some, Some, None, All}
 use Rattle.module_lang.specs.declared.instr.Instr.{Instr}
 use Rattle.module_lang.specs.declared.instr.Instr.TheVariants as instr
 use Rattle.module_lang.specs.Program.{Program, IsModule, fits}
@@ -11,20 +11,14 @@ use Rattle.run_model.specs.declared.bucket.NamedBucket.{NamedBucket}
 use Rattle.run_model.specs.declared.bucket.BrigadeVar.{BrigadeVar}
 use Rattle.run_model.specs.declared.bucket.BrigadeVar.TheVariants as var
 use Rattle.run_model.specs.declared.event.Piece.{Piece}
-use Rattle.run_model.specs.declared.event.Refusal.{Refusal}
-use Rattle.run_model.specs.declared.event.Event.{Event}
-use Rattle.run_model.specs.declared.event.Event.TheVariants as event
-use Rattle.run_model.specs.declared.event.Stepped.{Stepped}
-use Rattle.run_model.specs.declared.event.Stepped.TheVariants as stepped
 use Rattle.run_model.specs.Buckets.{has_eos, data_after_eos, is_dead}
-use Rattle.run_model.specs.Files.{Files, all_taken, range_taken, parts_of, is_referred}
+use Rattle.run_model.specs.Files.{is_referred}
 use Rattle.run_model.specs.Cutting.{FitsKind, wanted, read_of}
-use Rattle.run_model.specs.State.{Configuration, Out, fresh_call, items_of}
+use Rattle.run_model.specs.State.{Configuration, items_of}
 use Rattle.run_model.specs.Cursors.{Spot, Nowhere, AtLoose, Within, AtEndOf, spot, read_cursor}
 use Rattle.run_model.specs.Faults.{fault, send_fault, or_else}
-use Rattle.run_model.specs.Steps.{Choice, step, step_at_end, aside_named, delivered, lacks_names, names_of, pool_cleared, pool_destroyed}
-use Rattle.run_model.specs.Connection.{Connection, opened, bucket_of, named_from, data_behind_eos, has_range, steps}
-use Rattle.run_model.specs.Runs.{Answer, Step, World, Before, There, IfThere, happens, IsDue, step_of, IsRun, GoesOn, EndsRun}
+use Rattle.run_model.specs.Steps.{Choice, step, step_at_end, aside_named, lacks_names, names_of, pool_cleared, pool_destroyed}
+use Rattle.run_model.specs.Connection.{bucket_of, named_from, data_behind_eos, has_range}
 use Rattle.run_model.specs.Sound.{NamesStep, SoundNames, SoundBuckets, SoundPools, Sound, brigade_pool}
 use Rattle.run_model.specs.declared.bucket.Kind.TheVariants as kind
 use Rattle.run_model.specs.declared.bucket.Home.{Home}
@@ -69,30 +63,6 @@ StepKeepsPools = (p : Program) (choice : Choice) (i : Instr) (r : Configuration)
 -- The same of the last filter's steps.
 abbrev pub StepAtEndKeeps : Type 0
 StepAtEndKeeps = (p : Program) (i : Instr) (r : Configuration) → MayExecute p r i → Sound r → Sound (step_at_end p i r).state
-
--- A connection that has just been opened is sound.
-abbrev pub OpenedIsSound : Type 0
-OpenedIsSound = (fs : Files) → Sound (opened fs).state
-
-abbrev pub SoundWorld : World → Type 0
-SoundWorld w = IfThere w (λ c. Sound c.state)
-
--- Each event keeps it, and so it is true of each world that a run reaches.
-abbrev pub EventKeepsSound : Type 0
-EventKeepsSound = (memory : Bool) (budget : ℕ) (p : Program) (e : Event) (w : World) → IsModule p → SoundWorld w → SoundWorld (happens memory budget p e w).1
-
-abbrev pub RunIsSound : Type 0
-RunIsSound = (budget : ℕ) (p : Program) (fs : Files) (es : List Event) (answers : List Answer) (w : World) → IsModule p → IsRun budget p (Before fs) es answers w → SoundWorld w
-
--- A run goes on by one event, but a connection is opened once.
-abbrev pub RunGoesOn : Type 0
-RunGoesOn = (memory : Bool) (budget : ℕ) (p : Program) (old mid new : World) (es : List Event) (answers : List Answer) (e : Event) (a : Answer)
-    → IsRun budget p old es answers mid → IsDue e mid → happens memory budget p e mid ≡ (a, new) → IsRun budget p old (es ++ e ∷ []) (answers ++ a ∷ []) new
-
--- Steps that went go on by one more that went.
-abbrev pub StepsGoOn : Type 0
-StepsGoOn = (n budget : ℕ) (p : Program) (old mid new : Connection)
-    → GoesOn n budget p old mid → steps true budget p mid ≡ (Ok stepped.Went, new) → GoesOn (n + 1) budget p old new
 
 -- whether a cursor stands at a bucket of the brigade in this variable
 abbrev pub is_within : Spot → ℕ → Bool
@@ -238,44 +208,13 @@ pub record ChangesOnly (i : Instr) (r new : Configuration) : Type 0 where
 abbrev pub StepChangesOnly : Type 0
 StepChangesOnly = (p : Program) (choice : Choice) (i : Instr) (r : Configuration) → ChangesOnly i r (step p choice i r).state
 
--- A connection is orderly: a call that runs is at an instruction of the module; between calls there is no brought
--- brigade, no cursor and no loose bucket; no more instructions were executed than the budget gives.
-pub record IsOrderly (budget : ℕ) (p : Program) (c : Connection) : Type 0 where
-  pub placed : c.busy ≡ true → c.state.pc < length p.code
-  pub nothing_brought : c.busy ≡ false → c.state.instance.brigades 8 ≡ var.Null
-  pub no_call : c.busy ≡ false → c.state.call ≡ fresh_call 0
-  pub spent : c.count ≤ budget
-
-abbrev pub OrderlyWorld : ℕ → Program → World → Type 0
-OrderlyWorld budget p w = IfThere w (IsOrderly budget p)
-
-abbrev pub EventKeepsOrder : Type 0
-EventKeepsOrder = (memory : Bool) (budget : ℕ) (p : Program) (e : Event) (w : World) → IsModule p → OrderlyWorld budget p w → OrderlyWorld budget p (happens memory budget p e w).1
-
-abbrev pub RunIsOrderly : Type 0
-RunIsOrderly = (budget : ℕ) (p : Program) (fs : Files) (es : List Event) (answers : List Answer) (w : World) → IsModule p → IsRun budget p (Before fs) es answers w → OrderlyWorld budget p w
-
 -- The buckets of pieces have data behind an EOS exactly where the pieces do.
 abbrev pub BucketsAsPieces : Type 0
 BucketsAsPieces = (call req n : ℕ) (pieces : List Piece) → data_after_eos (named_from (bucket_of call req) n pieces) ≡ data_behind_eos pieces
 
--- However a body is cut: brigades that are passed one after the other reach the output as they would in one, where no
--- read failed in the first, and have the fault of data after an EOS where they would have it in one.
-abbrev pub OutputOfCuts : Type 0
-OutputOfCuts = (out : Out) (xs ys : List NamedBucket) (fs : Files) → (delivered out xs fs).well ≡ true
-    → delivered (delivered out xs fs).out ys (delivered out xs fs).files ≡ delivered out (xs ++ ys) fs
-
+-- However a body is cut: brigades that are passed one after the other have the fault of data after an EOS where they would have it in one.
 abbrev pub FaultOfCuts : Type 0
 FaultOfCuts = (sent : Bool) (xs ys : List NamedBucket) → or_else (send_fault sent xs) (send_fault (sent || has_eos xs) ys) ≡ send_fault sent (xs ++ ys)
-
--- Steps that went are a run, and so are they with the step at which they end.
-abbrev pub StepsAreARun : Type 0
-StepsAreARun = (n budget : ℕ) (p : Program) (old new : Connection)
-    → GoesOn n budget p old new → IsRun budget p (There old) (replicate n event.Step) (replicate n (Step stepped.Went)) (There new)
-
-abbrev pub EndedStepsAreARun : Type 0
-EndedStepsAreARun = (memory : Bool) (budget : ℕ) (p : Program) (old new : Connection) (answer : Result Stepped Refusal) → (ended : EndsRun memory budget p old answer new)
-    → IsRun budget p (There old) (replicate ended.count event.Step ++ event.Step ∷ []) (replicate ended.count (Step stepped.Went) ++ (step_of (answer, new)).0 ∷ []) (There new)
 
 -- Where a pool is made under a parent: its name was no pool's, it has nothing to hand on, and the others are as they were.
 pub record CreateKeeps {T : Type 0} (parent : ℕ) (ps new : Pools T) : Type 0 where
@@ -405,11 +344,6 @@ pub record KeptAside (ps : Pools Payload) (target : ℕ) (old new : NamedBucket)
 abbrev pub AsideLasts : Type 0
 AsideLasts = (ps : Pools Payload) (target : ℕ) (x : NamedBucket) → FitsKind x.bucket → is_dead x ≡ false → KeptAside ps target x (aside_named ps target x)
 
--- Where no read fails, all bytes of a range are taken from the file.
-abbrev pub ReadsGiveTheFile : Type 0
-ReadsGiveTheFile = (file start len : ℕ) (bytes : List ℕ) (fs : Files) → fs.fails_in ≡ None → fs.opened file ≡ Some bytes → start + len ≤ length bytes
-    → range_taken (parts_of len) file start len fs ≡ all_taken (take len (drop start bytes)) fs
-
 -- the bytes that a content stands for, where its file has these
 abbrev pub bytes_in : List ℕ → Content → List ℕ
 bytes_in file (content.Bytes bs) = bs
@@ -470,13 +404,3 @@ pub record SoundFiles (files : List (ℕ × ℕ)) (r : Configuration) : Type 0 w
 -- A step without a fault keeps all that.
 abbrev pub StepKeepsFiles : Type 0
 StepKeepsFiles = (p : Program) (choice : Choice) (i : Instr) (files : List (ℕ × ℕ)) (r : Configuration) → MayExecute p r i → Sound r → SoundFiles files r → SoundFiles files (step p choice i r).state
-
-abbrev pub FilesWorld : World → Type 0
-FilesWorld w = IfThere w (λ c. SoundFiles c.files c.state)
-
--- Each event keeps it, and so it is true of each world that a run reaches.
-abbrev pub EventKeepsFiles : Type 0
-EventKeepsFiles = (memory : Bool) (budget : ℕ) (p : Program) (e : Event) (w : World) → IsModule p → SoundWorld w → FilesWorld w → FilesWorld (happens memory budget p e w).1
-
-abbrev pub RunKeepsFiles : Type 0
-RunKeepsFiles = (budget : ℕ) (p : Program) (fs : Files) (es : List Event) (answers : List Answer) (w : World) → IsModule p → IsRun budget p (Before fs) es answers w → FilesWorld w

@@ -15,7 +15,6 @@ pub mod Cursors
 pub mod BucketSteps
 pub mod Steps
 pub mod Connection
-pub mod Runs
 pub mod Sound
 pub mod Examples
 pub mod BucketExamples
@@ -42,13 +41,18 @@ pub mod ChainCursors
 pub mod CallLaws
 pub mod ChainExamples
 pub mod ChainFiles
+pub mod ChainRanges
 pub mod ChainPaths
 pub mod Parts
 pub mod PartSteps
 pub mod JoinedParts
 pub mod PartsLast
 pub mod ChainHomes
+pub mod ChainRegistered
+pub mod ChainBodies
 pub mod ChainNumbers
 pub mod Reached
 pub mod ChainClears
 pub mod ChainTrees
+pub mod ChainOrder
+pub mod StepRuns

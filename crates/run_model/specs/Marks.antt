@@ -1,5 +1,5 @@
 -- Passed brigades: that they are not used, and stay passed, until they are cleaned.
-use Rattle.std.specs.Prelude.{◌≡◌, ℕ, Bool, true, false, ◌==◌, ◌⊎◌, List, [], ◌∷◌, ◌++◌, Some, None}
+use Rattle.std.specs.Prelude.{◌≡◌, ℕ, Bool, true, false, ◌==◌, ◌&&◌, ◌⊎◌, List, [], ◌∷◌, ◌++◌, Option, Some, None}
 use Rattle.std.specs.List.{list_any}
 use Rattle.module_lang.specs.declared.instr.Status.{Status}
 use Rattle.module_lang.specs.declared.instr.Instr.{Instr}
@@ -16,10 +16,13 @@ use Rattle.run_model.specs.State.{Configuration, items_of}
 use Rattle.run_model.specs.Cursors.{Spot, Nowhere, AtLoose, Within, AtEndOf, spot}
 use Rattle.run_model.specs.Faults.{Want, WUsable, WCursor, wants, fault_want, fault}
 use Rattle.run_model.specs.Steps.{Choice, step, current}
-use Rattle.run_model.specs.Connection.{Connection}
-use Rattle.run_model.specs.Runs.{World, Before, There, Closed, happens}
 use Rattle.run_model.specs.Sound.{brigade_name}
-use Rattle.run_model.specs.Laws.{IsOrderly}
+use Rattle.run_model.specs.Chains.{Frame, Connection, module_at}
+use Rattle.run_model.specs.Worlds.{World, Told, happens}
+use Rattle.run_model.specs.ChainSound.{WorldSound}
+use Rattle.run_model.specs.ChainLaws.{IsChain}
+use Rattle.run_model.specs.ChainNumbers.{WorldNumbers}
+use Rattle.run_model.specs.ChainOrder.{WorldOrder}
 
 -- whether a cursor stands at a bucket or at the end of the brigade in this variable
 abbrev pub is_at : Spot → ℕ → Bool
@@ -100,21 +103,28 @@ StepKeepsPassed = (p : Program) (choice : Choice) (i : Instr) (b : ℕ) (r : Con
 abbrev pub ReturnEndsIn : Type 0
 ReturnEndsIn = (p : Program) (choice : Choice) (s : Status) (r : Configuration) → (step p choice (instr.Ret s) r).state.instance.brigades 8 ≡ var.Null
 
--- whether an event lets go of it: a step whose instruction does
-abbrev pub event_lets_go : Program → Connection → Event → ℕ → Bool
-event_lets_go p c event.Step b = lets_go (current p c.state.pc) b
-event_lets_go p c e b = false
+-- In a connection with a chain.
 
--- the same of a variable in a world, in which the connection may be closed
-abbrev pub StaysPassedIn : BrigadeVar → ℕ → World → Type 0
-StaysPassedIn old b (Before fs) = ⊥
-StaysPassedIn old b (There c) = StaysPassed old (c.state.instance.brigades b)
-StaysPassedIn old b (Closed pools fs) = Unit {0}
+-- whether a step lets go of the brigade b of the instance j: the call on top is of that module, at an instruction that does
+abbrev pub top_lets_go : List Program → List Frame → ℕ → ℕ → Bool
+top_lets_go chain [] j b = false
+top_lets_go chain (f ∷ rest) j b = (f.of == j) && lets_go (current (module_at chain f.of) f.pc) b
 
--- Each other event of an orderly connection leaves it passed, or it is gone; or the connection is closed.
+-- whether an event of its connection does
+abbrev pub event_lets_go : List Program → Connection → Event → ℕ → ℕ → Bool
+event_lets_go chain c event.Step j b = top_lets_go chain c.stack j b
+event_lets_go chain c e j b = false
+
+-- the same of a variable of a connection that may be closed
+abbrev pub StaysPassedIn : BrigadeVar → ℕ → ℕ → Option Connection → Type 0
+StaysPassedIn old j b None = Unit {0}
+StaysPassedIn old j b (Some c) = StaysPassed old ((c.instances j).brigades b)
+
+-- Each other event, also of another connection, leaves it passed, or it is gone; or its connection is closed.
 abbrev pub EventKeepsPassed : Type 0
-EventKeepsPassed = (memory : Bool) (budget : ℕ) (p : Program) (e : Event) (b : ℕ) (c : Connection) → IsOrderly budget p c → event_lets_go p c e b ≡ false → HoldsPassed (c.state.instance.brigades b)
-    → StaysPassedIn (c.state.instance.brigades b) b (happens memory budget p e (There c)).1
+EventKeepsPassed = (memory : Bool) (budget : ℕ) (chain : List Program) (told : Told) (i k j b : ℕ) (e : Event) (w : World) (c : Connection)
+    → IsChain chain → WorldSound chain w → WorldNumbers w → WorldOrder budget w → w.conns k ≡ Some c → (i ≡ k → event_lets_go chain c e j b ≡ false) → HoldsPassed ((c.instances j).brigades b)
+    → StaysPassedIn ((c.instances j).brigades b) j b ((happens memory budget chain told i e w).1.conns k)
 
 -- A brigade that was cleaned is usable and empty.
 abbrev pub CleanedIsUsable : Type 0

@@ -1,5 +1,5 @@
--- What stays in range in each run: numbers and bytes, and what is brought of files.
-use Rattle.std.specs.Prelude.{◌≡◌, ℕ, ◌+◌, ◌<◌, ◌≤◌, Bool, true, List, length, Some, All}
+-- What a step keeps in range: numbers and bytes, and what is brought of files.
+use Rattle.std.specs.Prelude.{◌≡◌, ℕ, ◌+◌, ◌<◌, ◌≤◌, true, List, length, Some, All}
 use Rattle.module_lang.specs.declared.instr.Instr.{Instr}
 use Rattle.module_lang.specs.Program.{Program, IsModule, fits}
 use Rattle.run_model.specs.declared.bucket.Content.{Content}
@@ -13,10 +13,8 @@ use Rattle.run_model.specs.declared.event.Piece.TheVariants as piece
 use Rattle.run_model.specs.Files.{Files}
 use Rattle.run_model.specs.State.{Configuration, items_of}
 use Rattle.run_model.specs.Steps.{Choice, step}
-use Rattle.run_model.specs.Connection.{opened}
-use Rattle.run_model.specs.Runs.{Answer, World, Before, There, Closed, IfThere, happens, IsRun}
 use Rattle.run_model.specs.Sound.{Sound}
-use Rattle.run_model.specs.Laws.{MayExecute, SoundWorld, refers, SoundFiles, FilesWorld}
+use Rattle.run_model.specs.Laws.{MayExecute, refers, SoundFiles}
 
 -- These are bytes.
 abbrev pub AreBytes : List ℕ → Type 0
@@ -33,23 +31,19 @@ pub record FileBytes (fs : Files) : Type 0 where
   pub named : (name bytes : List ℕ) → fs.named name ≡ Some bytes → AreBytes bytes
   pub opened : (file : ℕ) (bytes : List ℕ) → fs.opened file ≡ Some bytes → AreBytes bytes
 
--- The buffer of a call. bytes: what is in it are bytes. size: there are no more of them than it holds.
-pub record BufferInRange (r : Configuration) : Type 0 where
-  pub bytes : AreBytes r.call.buffer
-  pub size : length r.call.buffer ≤ 8000
+-- What is in the buffer of a call. bytes: it is of bytes. size: there are no more of them than it holds.
+pub record BufferInRange (buffer : List ℕ) : Type 0 where
+  pub bytes : AreBytes buffer
+  pub size : length buffer ≤ 8000
 
 -- Numbers, and what they come from. numbers: each number is below 2^32. buffer: the buffer is in range. brigades, loose, files:
 -- what buckets and files hold are bytes.
 pub record InRange (r : Configuration) : Type 0 where
   pub numbers : (n : ℕ) → r.instance.numbers n ≤ 4294967295
-  pub buffer : BufferInRange r
+  pub buffer : BufferInRange r.call.buffer
   pub brigades : (b : ℕ) → All (λ x. HoldsBytes x.bucket.content) (items_of (r.instance.brigades b))
   pub loose : All (λ x. HoldsBytes x.bucket.content) r.call.loose
   pub files : FileBytes r.shared.files
-
--- A connection that has just been opened is so, where its files hold bytes.
-abbrev pub OpenedInRange : Type 0
-OpenedInRange = (fs : Files) → FileBytes fs → InRange (opened fs).state
 
 -- What the surroundings give to a read are bytes.
 abbrev pub GivesBytes : Choice → Type 0
@@ -59,7 +53,7 @@ GivesBytes choice = (bytes : List ℕ) → choice.given ≡ Some bytes → AreBy
 abbrev pub StepKeepsInRange : Type 0
 StepKeepsInRange = (p : Program) (choice : Choice) (i : Instr) (r : Configuration) → IsModule p → fits p i ≡ true → GivesBytes choice → InRange r → InRange (step p choice i r).state
 
--- What is brought and added are bytes. (In the code they are of the type `u8`.)
+-- What is brought are bytes. (In the code they are of the type `u8`.)
 abbrev pub IsOfBytes : Piece → Type 0
 IsOfBytes (piece.Heap bytes) = AreBytes bytes
 IsOfBytes (piece.Transient bytes) = AreBytes bytes
@@ -70,34 +64,12 @@ IsOfBytes piece.Flush = Unit {0}
 IsOfBytes piece.Eos = Unit {0}
 
 abbrev pub BringsBytes : Event → Type 0
-BringsBytes (event.AddFile name bytes) = AreBytes bytes
 BringsBytes (event.Bring pieces) = All IsOfBytes pieces
 BringsBytes e = Unit {0}
 
-abbrev pub InRangeWorld : World → Type 0
-InRangeWorld (Before fs) = FileBytes fs
-InRangeWorld (There c) = InRange c.state
-InRangeWorld (Closed pools fs) = Unit {0}
-
--- Each event that brings bytes keeps it, and so it is true of each world that a run of such events reaches.
-abbrev pub EventKeepsInRange : Type 0
-EventKeepsInRange = (memory : Bool) (budget : ℕ) (p : Program) (e : Event) (w : World) → IsModule p → BringsBytes e → InRangeWorld w → InRangeWorld (happens memory budget p e w).1
-
-abbrev pub RunIsInRange : Type 0
-RunIsInRange = (budget : ℕ) (p : Program) (fs : Files) (es : List Event) (answers : List Answer) (w : World) → IsModule p → FileBytes fs → All BringsBytes es → IsRun budget p (Before fs) es answers w → InRangeWorld w
-
 -- The buffer is in range whatever is brought and read.
 abbrev pub StepKeepsBuffer : Type 0
-StepKeepsBuffer = (p : Program) (choice : Choice) (i : Instr) (r : Configuration) → BufferInRange r → BufferInRange (step p choice i r).state
-
-abbrev pub BufferWorld : World → Type 0
-BufferWorld w = IfThere w (λ c. BufferInRange c.state)
-
-abbrev pub EventKeepsBuffer : Type 0
-EventKeepsBuffer = (memory : Bool) (budget : ℕ) (p : Program) (e : Event) (w : World) → BufferWorld w → BufferWorld (happens memory budget p e w).1
-
-abbrev pub RunKeepsBuffer : Type 0
-RunKeepsBuffer = (budget : ℕ) (p : Program) (fs : Files) (es : List Event) (answers : List Answer) (w : World) → IsRun budget p (Before fs) es answers w → BufferWorld w
+StepKeepsBuffer = (p : Program) (choice : Choice) (i : Instr) (r : Configuration) → BufferInRange r.call.buffer → BufferInRange (step p choice i r).state.call.buffer
 
 -- The file is open, and reaches so far.
 abbrev pub Reaches : Files → ℕ → ℕ → Type 0
@@ -124,14 +96,3 @@ pub record SoundRanges (files : List (ℕ × ℕ)) (r : Configuration) : Type 0 
 abbrev pub StepKeepsRanges : Type 0
 StepKeepsRanges = (p : Program) (choice : Choice) (i : Instr) (files : List (ℕ × ℕ)) (r : Configuration)
     → MayExecute p r i → Sound r → SoundFiles files r → SoundRanges files r → SoundRanges files (step p choice i r).state
-
-abbrev pub RangesWorld : World → Type 0
-RangesWorld w = IfThere w (λ c. SoundRanges c.files c.state)
-
--- Each event keeps it, and so it is true of each world that a run reaches.
-abbrev pub EventKeepsRanges : Type 0
-EventKeepsRanges = (memory : Bool) (budget : ℕ) (p : Program) (e : Event) (w : World)
-    → IsModule p → SoundWorld w → FilesWorld w → RangesWorld w → RangesWorld (happens memory budget p e w).1
-
-abbrev pub RunKeepsRanges : Type 0
-RunKeepsRanges = (budget : ℕ) (p : Program) (fs : Files) (es : List Event) (answers : List Answer) (w : World) → IsModule p → IsRun budget p (Before fs) es answers w → RangesWorld w

@@ -3,31 +3,36 @@
 ghost use Rattle.run_model.specs.Examples.{PassRuns, PoolRuns, PoolEnds, KindRuns, FaultRuns, BreakRuns, RefusedRuns, NameRuns, HeldFaults, HeldChanges};
 ghost use Rattle.run_model.specs.ChainExamples.{ChainRuns};
 ghost use Rattle.run_model.specs.Laws.{CreatesKeepOthers, KillsTheNewest, KillsOneLabel, EachStandsOnce, DepthDoesNotMatter};
-ghost use Rattle.run_model.specs.Laws.{StepGivesNames, NamesStaySingle, StepKeepsNames, StepKeepsBuckets, StepKeepsPools, StepAtEndKeeps, OpenedIsSound, EventKeepsSound, RunIsSound, RunGoesOn, StepsGoOn, StepsAreARun, EndedStepsAreARun, StepChangesOnly, EventKeepsOrder, RunIsOrderly, BucketsAsPieces, OutputOfCuts, FaultOfCuts, ClearsKeepOthers, ClearsTakeAlong};
-ghost use Rattle.run_model.specs.Laws.{AsideLasts, ReadsGiveTheFile, ReadsDropNothing, FilesCloseLast, StepKeepsFiles, EventKeepsFiles, RunKeepsFiles};
-ghost use Rattle.run_model.specs.AsDeclared.{OpenedAsDeclared, StepKeepsDeclared, StepAtEndKeepsDeclared, EventKeepsDeclared, RunIsDeclared};
-ghost use Rattle.run_model.specs.Registered.{OpenedRegistered, StepKeepsRegistered, StepAtEndKeepsRegistered, EventKeepsRegistered, RunKeepsRegistered};
-ghost use Rattle.run_model.specs.HomesAlive.{OpenedHomesAlive, StepKeepsHomes, StepAtEndKeepsHomes, EventKeepsHomes, RunKeepsHomes};
-ghost use Rattle.run_model.specs.BucketReads.{ReadKeepsBytes, ReadAtEndGivesTheFile};
-ghost use Rattle.run_model.specs.Handlers.{CallsBegin, StepStaysInHandler, OpenedRunsHandler, EventKeepsHandler, RunKeepsHandler};
+ghost use Rattle.run_model.specs.Laws.{StepGivesNames, NamesStaySingle, StepKeepsNames, StepKeepsBuckets, StepKeepsPools, StepAtEndKeeps, StepChangesOnly, BucketsAsPieces, FaultOfCuts, ClearsKeepOthers, ClearsTakeAlong};
+ghost use Rattle.run_model.specs.Laws.{AsideLasts, ReadsDropNothing, FilesCloseLast, StepKeepsFiles};
+ghost use Rattle.run_model.specs.AsDeclared.{StepKeepsDeclared, StepAtEndKeepsDeclared};
+ghost use Rattle.run_model.specs.Registered.{StepKeepsRegistered};
+ghost use Rattle.run_model.specs.ChainRegistered.{EventKeepsWorldRegistered, RunKeepsWorldRegistered};
+ghost use Rattle.run_model.specs.HomesAlive.{StepKeepsHomes, StepAtEndKeepsHomes};
+ghost use Rattle.run_model.specs.BucketReads.{ReadKeepsBytes, StepReadGivesTheFile};
+ghost use Rattle.run_model.specs.ChainBodies.{OutputOfCuts, ReadsGiveTheFile, TopReadGivesTheFile};
+ghost use Rattle.run_model.specs.Handlers.{CallsBegin, StepStaysInHandler, RunPlacesCalls};
 ghost use Rattle.run_model.specs.Bringing.{LateDataIsRefused, BroughtEndsOnce};
 ghost use Rattle.run_model.specs.CallLaws.{EventKeepsCalls, RunKeepsCalls};
-ghost use Rattle.run_model.specs.ChainCursors.{SoundWorldStandsOnce, WorldRunStandsOnce};
+ghost use Rattle.run_model.specs.StepRuns.{StepsGoOn, StepsAreARun, EndedStepsAreARun};
+ghost use Rattle.run_model.specs.ChainCursors.{EventKeepsWorldCursors, RunKeepsWorldCursors, SoundWorldStandsOnce, WorldRunStandsOnce};
 ghost use Rattle.run_model.specs.RefusalOrder.{RefusedChangesNothing, RefusedStepBreaks, FaultBreaks, BrokenStaysBroken, FirstIsTold, NoConnectionIsTold, StepsTell, BusyDoesNotEnd, OnlyMemoryRefusesClose};
 ghost use Rattle.run_model.specs.Marks.{PassesMark, PassedIsNotUsed, UseAfterPassFaults, StepKeepsPassed, ReturnEndsIn, EventKeepsPassed, CleanedIsUsable};
 ghost use Rattle.run_model.specs.BucketExamples.{CursorRows, MovingRows, MakerRows, CutRows, BrigadeCutRows, CursorFaults, FirstFaults, CursorRuns};
-ghost use Rattle.run_model.specs.Ranges.{OpenedInRange, StepKeepsInRange, EventKeepsInRange, RunIsInRange, StepKeepsBuffer, EventKeepsBuffer, RunKeepsBuffer, StepKeepsRanges, EventKeepsRanges, RunKeepsRanges};
-ghost use Rattle.run_model.specs.RangesEnd.{OpenedEnds, StepKeepsEnds, StepAtEndKeepsEnds, StepsKeepEnds, EndedStepsKeepEnds, BringKeepsEnds, EventKeepsEnds, RunEnds};
+ghost use Rattle.run_model.specs.Ranges.{StepKeepsInRange, StepKeepsBuffer, StepKeepsRanges};
+ghost use Rattle.run_model.specs.ChainRanges.{EventKeepsBuffers, RunKeepsBuffers, EventKeepsWorldInRange, RunsOfBytesAreRuns, RunIsInRangeWorld, EventKeepsWorldRanges, RunKeepsWorldRanges};
+ghost use Rattle.run_model.specs.RangesEnd.{StepKeepsEnds, StepAtEndKeepsEnds};
 ghost use Rattle.run_model.specs.BrigadeLists.{BrigadeSplitsInOrder, MovesKeepNames, BucketSplitsInOrder, SplitKeepsBytes, PartsAtPoint, ShortIsIncomplete, PartitionKeepsBytes, UnsplitIsUnchanged, MetadataIsNotSplit, PlaceIsBehindFront, PartitionRows, BrigadeSplitRows, BucketSplitRows, MoveRows};
 ghost use Rattle.run_model.specs.ChainLaws.{TopKeepsNames, TopKeepsBuckets, TopKeepsPools, TopKeepsCalls, TopRaisesNames, RisingKeepsSound, EventKeepsWorld, RunKeepsWorld, OthersStay, OpeningStays};
-ghost use Rattle.run_model.specs.ChainFiles.{EventKeepsWorldEnds, RunEndsWorld, EventKeepsWorldFiles, RunKeepsWorldFiles, EventKeepsFilesApart, RunKeepsFilesApart};
+ghost use Rattle.run_model.specs.ChainFiles.{ConnectionStepKeepsEnds, BringKeepsEnds, EventKeepsBucketsEnd, EventKeepsWorldEnds, RunEndsWorld, EventKeepsWorldFiles, RunKeepsWorldFiles, EventKeepsFilesApart, RunKeepsFilesApart};
 ghost use Rattle.run_model.specs.ChainHomes.{EventKeepsWorldHomes, RunKeepsWorldHomes};
+ghost use Rattle.run_model.specs.ChainOrder.{EventKeepsWorldOrder, RunKeepsWorldOrder};
 ghost use Rattle.run_model.specs.ChainPaths.{EventKeepsWorldPaths, RunKeepsWorldPaths};
 ghost use Rattle.run_model.specs.ChainNumbers.{EventKeepsNumbers, RunKeepsNumbers};
 ghost use Rattle.run_model.specs.Reached.{EmptyIsReached, EventReaches, WorldRunGoesOn, ReachedHolds};
 ghost use Rattle.run_model.specs.ChainClears.{MadePoolsAreOwn, OthersKeepBrigades};
 ghost use Rattle.run_model.specs.ChainTrees.{EventKeepsPoolsApart, RunKeepsPoolsApart, JoinedIsPoolMap, ReachedPartsJoin};
-ghost use Rattle.run_model.specs.CursorLaws.{OpenedCursors, StepKeepsCursors, StepAtEndKeepsCursors, EventKeepsCursors, RunKeepsCursors, CursorsStandOnce, RunStandsOnce, MadeAreNew, CopiesAreNew, SplitsInOrder, RefusedSplitJumps, BrigadesSplitInOrder, PartitionsInOrder, PastEndJumps};
+ghost use Rattle.run_model.specs.CursorLaws.{StepKeepsCursors, CursorsStandOnce, MadeAreNew, CopiesAreNew, SplitsInOrder, RefusedSplitJumps, BrigadesSplitInOrder, PartitionsInOrder, PastEndJumps};
 ghost use Rattle.run_model.specs.Parts.{PartIsPoolMap, OwnPartChanges, OtherPartsStay, ChangesSpareTheRoot, NewPartIsPlanted, NewPartSparesOthers, PartReadsAlike};
 ghost use Rattle.run_model.specs.PartSteps.{StepsStayInPart, EndStepsStayInPart, FaultsAlike, NamesAlike, StepsSpareOthers};
 ghost use Rattle.run_model.specs.JoinedParts.{JoinedPartStays, PartsAreTheWhole};
@@ -64,21 +69,6 @@ pub fn steps_stay_sound()
     ensures at_end { StepAtEndKeeps }
 {}
 
-/// Each event of a connection keeps what is sound, so every run from the empty world leads to a sound one.
-pub fn runs_are_sound()
-    ensures opened { OpenedIsSound }
-    ensures event { EventKeepsSound }
-    ensures run { RunIsSound }
-{}
-
-/// A run goes on by one event, and steps that went by one more. Steps until the call ends are a run.
-pub fn runs_go_on()
-    ensures event { RunGoesOn }
-    ensures step { StepsGoOn }
-    ensures steps { StepsAreARun }
-    ensures ended { EndedStepsAreARun }
-{}
-
 /// A step changes nothing but what its instruction names, and what the cursors that it names stand at.
 pub fn steps_change_only_what_they_name()
     ensures { StepChangesOnly }
@@ -104,10 +94,11 @@ pub fn first_refusals_are_told()
     ensures close { OnlyMemoryRefusesClose }
 {}
 
-/// In each run calls stay inside their module, nothing is left between calls, and budgets are kept.
+/// In each run of a chain no more instructions were executed than the budget gives, and a module of which no call runs or waits holds no
+/// brigade that was brought or passed to it. Each event keeps it.
 pub fn runs_are_orderly()
-    ensures event { EventKeepsOrder }
-    ensures run { RunIsOrderly }
+    ensures event { EventKeepsWorldOrder }
+    ensures run { RunKeepsWorldOrder }
 {}
 
 /// Pieces with data behind an EOS are refused, where the connection is not broken, no call runs and a request is open. No data
@@ -118,17 +109,17 @@ pub fn brought_brigades_end_once()
     ensures brought { BroughtEndsOnce }
 {}
 
-/// Brigades that are passed one after the other reach the output as they would in one, where no read failed in the first, and
-/// have the fault of data after an EOS where they would have it in one.
+/// Brigades that the last filter of a chain passes one after the other reach the output as they would in one, where no read failed in
+/// the first, and have the fault of data after an EOS where they would have it in one.
 pub fn bodies_are_cut_anywhere()
     ensures output { OutputOfCuts }
     ensures fault { FaultOfCuts }
 {}
 
 /// A pass without a fault leaves its brigade passed. A brigade that was passed is not used again before it is cleaned: each
-/// other use of it has a fault, and each step without a fault and each event of an orderly connection leaves it passed, or it
-/// is gone, or the connection is closed; but for a clean of it and, of `in`, a return, which ends it. A brigade that was
-/// cleaned is empty and usable.
+/// other use of it has a fault, and each step without a fault leaves it passed, or it is gone; but for a clean of it and, of
+/// `in`, a return, which ends it. So does each event in a chain, of its connection or another, or its connection is closed; but
+/// for such a step of its own module. A brigade that was cleaned is empty and usable.
 pub fn passed_brigades_are_only_cleaned()
     ensures marked { PassesMark }
     ensures passed { PassedIsNotUsed }
@@ -164,102 +155,96 @@ pub fn clears_take_what_lies_under()
 {}
 
 /// A bucket that was set aside keeps its name and bytes, and depends on no call and on no pool but the one that it was set
-/// aside into and those above it, which are live where that pool is. Where no read fails, all bytes of a range of an open file
-/// are taken, and a read of one bucket drops none. Where a pool goes, a file closes where a reference to it went and none is
+/// aside into and those above it, which are live where that pool is. A read of one bucket drops no byte. Where a pool goes, a file closes where a reference to it went and none is
 /// left, and no other file closes.
 pub fn kept_buckets_last()
     ensures aside { AsideLasts }
-    ensures reads { ReadsGiveTheFile }
     ensures rest { ReadsDropNothing }
     ensures files { FilesCloseLast }
 {}
 
-/// In each run a file is open as long as a pool refers to it, and a FILE bucket whose home is alive has such a reference
-/// there.
+/// A step without a fault keeps a file open as long as a pool refers to it, and keeps such a reference in the home of each FILE bucket,
+/// where that is alive. (`files_of_chains_stay_open` says it of runs.)
 pub fn kept_files_stay_open()
-    ensures step { StepKeepsFiles }
-    ensures event { EventKeepsFiles }
-    ensures run { RunKeepsFiles }
+    ensures { StepKeepsFiles }
 {}
 
-/// In each run the buffer of a call holds at most 8000 bytes, each of them at most 255. Where all that is brought, and the files
-/// that are added, are bytes, what buckets hold are bytes, and numbers are at most 4294967295.
+/// In each run of a chain the buffer of each call, whether it runs or waits, holds at most 8000 bytes, each of them at most 255, whatever
+/// is brought and read. Where what is brought and what the files tell are bytes, numbers are at most 4294967295 in every instance, and
+/// what buckets and open files hold are bytes. Each event keeps it, and so does each step: that of an instruction that fits its module,
+/// where a read is given bytes.
 pub fn numbers_stay_in_range()
-    ensures opened { OpenedInRange }
     ensures step { StepKeepsInRange }
-    ensures event { EventKeepsInRange }
-    ensures run { RunIsInRange }
     ensures buffer_step { StepKeepsBuffer }
-    ensures buffer_event { EventKeepsBuffer }
-    ensures buffer_run { RunKeepsBuffer }
+    ensures event { EventKeepsWorldInRange }
+    ensures runs { RunsOfBytesAreRuns }
+    ensures run { RunIsInRangeWorld }
+    ensures buffer_event { EventKeepsBuffers }
+    ensures buffer_run { RunKeepsBuffers }
 {}
 
-/// In each run a FILE bucket whose home is alive is a range that lies inside its open file, and the files of the request have
-/// the lengths that were told when they were opened.
+/// In each run of a chain a FILE bucket whose home is alive is a range that lies inside its open file: in the brigades of every
+/// instance, and loose in every call. The files of the request have the lengths that were told when they were opened, and a file that a
+/// pool refers to has a number that was given. Each event keeps it, and so does each step without a fault.
 pub fn ranges_lie_in_their_files()
     ensures step { StepKeepsRanges }
-    ensures event { EventKeepsRanges }
-    ensures run { RunKeepsRanges }
+    ensures event { EventKeepsWorldRanges }
+    ensures run { RunKeepsWorldRanges }
 {}
 
-/// In each run whose files have fewer than 2^64 bytes each range ends below 2^64. Steps keep it, and so does each event of a
-/// connection where the files of its request have such lengths, and each brigade that is brought, where the ranges of its pieces end so.
+/// In each run of a chain whose opened files have fewer than 2^64 bytes each range of a bucket ends below 2^64: in the brigades of every
+/// instance of every connection, and loose in its calls. Each event keeps it where the file that it opens is so, and the ranges alone
+/// where those of the request are. So does each step, also at the end of the chain, and each brigade that is brought, where the ranges
+/// of its pieces end so.
 pub fn ranges_end_below_2_64()
-    ensures opened { OpenedEnds }
     ensures step { StepKeepsEnds }
     ensures at_end { StepAtEndKeepsEnds }
-    ensures steps { StepsKeepEnds }
-    ensures ended { EndedStepsKeepEnds }
+    ensures connection { ConnectionStepKeepsEnds }
     ensures bring { BringKeepsEnds }
-    ensures event { EventKeepsEnds }
-    ensures run { RunEnds }
+    ensures buckets { EventKeepsBucketsEnd }
+    ensures event { EventKeepsWorldEnds }
+    ensures run { RunEndsWorld }
 {}
 
-/// In each run pools and brigades stand as the module declares them: a live pool that a variable names lies right under its
+/// A step without a fault keeps pools and brigades as the module declares them: a live pool that a variable names lies right under its
 /// declared parent, which is live; no two variables name one pool; a live brigade lies on the pool of its declaration, which is
-/// live, and a brought one on none.
+/// live, and a brought one on none. (`worlds_are_sound` says it of runs.)
 pub fn variables_stand_as_declared()
-    ensures opened { OpenedAsDeclared }
     ensures step { StepKeepsDeclared }
     ensures at_end { StepAtEndKeepsDeclared }
-    ensures event { EventKeepsDeclared }
-    ensures run { RunIsDeclared }
 {}
 
-/// In each run a live brigade stands once among the payloads of the pool that it is made on, and no other brigade stands with a
-/// pool.
+/// In each run of a chain a live brigade stands once among the payloads of the pool that it is made on, whichever instance holds it, and no
+/// other brigade stands with a pool. A step keeps it, whatever brigades other instances have, and so does each event.
 pub fn brigades_are_registered()
-    ensures opened { OpenedRegistered }
     ensures step { StepKeepsRegistered }
-    ensures at_end { StepAtEndKeepsRegistered }
-    ensures event { EventKeepsRegistered }
-    ensures run { RunKeepsRegistered }
+    ensures event { EventKeepsWorldRegistered }
+    ensures run { RunKeepsWorldRegistered }
 {}
 
-/// In each run a home that has not ended is alive: it is the call that runs, which has a name, or a live pool.
+/// A step of a call keeps each home that has not ended alive: it is the call that runs, which has a name, or a live pool.
 pub fn homes_are_alive_or_ended()
-    ensures opened { OpenedHomesAlive }
     ensures step { StepKeepsHomes }
     ensures at_end { StepAtEndKeepsHomes }
-    ensures event { EventKeepsHomes }
-    ensures run { RunKeepsHomes }
 {}
 
-/// A read of a bucket leaves the bytes of its brigade as they were: of a longer range the rest follows. Where no read of a file
-/// fails, the last filter's read is given the bytes of the file and goes on, unless it has a fault.
+/// A read of a bucket leaves the bytes of its brigade as they were: of a longer range the rest follows. Where the file gives what the read
+/// asks for, its step goes on, and so does that of the call on top of a chain. Where each read at the end of a chain gives its part of a
+/// range, all bytes of it are taken.
 pub fn reads_drop_no_byte()
     ensures list { ReadKeepsBytes }
-    ensures at_end { ReadAtEndGivesTheFile }
+    ensures step { StepReadGivesTheFile }
+    ensures top { TopReadGivesTheFile }
+    ensures range { ReadsGiveTheFile }
 {}
 
-/// A call begins at the first instruction of its handler and stays in it, and in each run a request is open, while a call runs,
-/// exactly where that handler is not `open`.
+/// A call of a chain begins at the first instruction of a handler, by an event, by a pass, or where its module is due, and stays in its
+/// handler as long as it runs or waits. In each run it is at an instruction of its module, and a request is open exactly where that
+/// handler is not `open`.
 pub fn calls_stay_in_their_handler()
     ensures begins { CallsBegin }
     ensures step { StepStaysInHandler }
-    ensures opened { OpenedRunsHandler }
-    ensures event { EventKeepsHandler }
-    ensures run { RunKeepsHandler }
+    ensures run { RunPlacesCalls }
 {}
 
 /// A split of a brigade gives both parts in order, and a split of a bucket its bytes in order. A partition at a point that is not
@@ -280,17 +265,12 @@ pub fn brigades_are_cut_in_order()
     ensures place { PlaceIsBehindFront }
 {}
 
-/// In each run a cursor that is set holds a name that was given out. Where names are single, the bucket of a cursor is in exactly
+/// A step leaves each cursor that is set with a name that was given out. Where names are single, the bucket of a cursor is in exactly
 /// one list, once: in one brigade, or loose; and it is nowhere only where no list has it. The same is true of the brigade at whose
-/// end a cursor is. So it is in each run.
+/// end a cursor is.
 pub fn cursors_stand_at_one_place()
-    ensures opened { OpenedCursors }
     ensures step { StepKeepsCursors }
-    ensures at_end { StepAtEndKeepsCursors }
-    ensures event { EventKeepsCursors }
-    ensures run { RunKeepsCursors }
     ensures once { CursorsStandOnce }
-    ensures run_once { RunStandsOnce }
 {}
 
 /// A bucket that is made is loose, under a name that no bucket had, and its cursor stands at it. So is a copy, of the same kind,
@@ -332,13 +312,6 @@ pub fn worlds_are_sound()
     ensures run { RunKeepsWorld }
 {}
 
-/// In each run of a chain whose opened files have fewer than 2^64 bytes each range of a bucket ends below 2^64: in the brigades of every
-/// instance of every connection, and loose in its calls. Each event keeps it.
-pub fn ranges_of_chains_end_below_2_64()
-    ensures event { EventKeepsWorldEnds }
-    ensures run { RunEndsWorld }
-{}
-
 /// In each run of a chain a file of a connection is open as long as one of its pools holds a reference to it. So the file of each FILE
 /// bucket whose home has not ended is open, and that home holds a reference to it: in the brigades of every instance, and loose in
 /// every call. Each event keeps it.
@@ -369,8 +342,10 @@ pub fn homes_of_chains_are_alive_or_ended()
 
 /// In each world that is sound, and so in each run of a chain, what a cursor of a call names is in one place of what that call sees,
 /// whether it runs or waits: a bucket is in exactly one list, once, in one brigade or loose, and nowhere only where no list has it; so
-/// is the brigade at whose end a cursor is.
+/// is the brigade at whose end a cursor is. The same is true of what an instance has where no call is. In each run a cursor that is set holds a name that was given out. Each event keeps it.
 pub fn cursors_of_chains_stand_once()
+    ensures event { EventKeepsWorldCursors }
+    ensures given { RunKeepsWorldCursors }
     ensures sound { SoundWorldStandsOnce }
     ensures run { WorldRunStandsOnce }
 {}
@@ -401,6 +376,13 @@ pub fn reached_worlds_go_on()
     ensures event { EventReaches }
     ensures run { WorldRunGoesOn }
     ensures laws { ReachedHolds }
+{}
+
+/// Steps of a connection that went go on by one more that went. They are a run, and so are they with the step at which they end.
+pub fn runs_go_on()
+    ensures step { StepsGoOn }
+    ensures steps { StepsAreARun }
+    ensures ended { EndedStepsAreARun }
 {}
 
 /// Under a pool that a module of a chain made lies nothing that others of its connection stand on: not the connection's pool, nor the

@@ -11,7 +11,7 @@ use Rattle.run_model.specs.Steps.{current, lacks_names}
 use Rattle.run_model.specs.Chains.{Frame, Connection, Common, module_at, configuration}
 use Rattle.run_model.specs.ChainSound.{ChainSound, IsNested, IsNestedStack, IsPlaced}
 use Rattle.run_model.proofs.EventsKeep.{may_execute, current_fits}
-use Rattle.run_model.proofs.Orderly.{current_at}
+use Rattle.run_model.proofs.Handlers.{current_at}
 use Rattle.life_state.specs.Rules.{Edges, edges, first_need}
 use Rattle.life_state.specs.States.{State}
 use Rattle.life_check.specs.Certificates.{Certificate}

@@ -16,7 +16,7 @@ use Rattle.run_model.specs.Chains.{Frame, Connection, Common, Linked, module_at,
 use Rattle.run_model.specs.ChainLaws.{MayProceed, after_top}
 use Rattle.run_model.specs.ChainSound.{ChainSound, IsPlaced, IsRising, AreNamed}
 use Rattle.run_model.specs.Passing.{Reads, gone_on, next_called, passed_to, returned_to, returned_from, delivered_by, proceeds, after_pass}
-use Rattle.run_model.proofs.Orderly.{current_at}
+use Rattle.run_model.proofs.Handlers.{current_at}
 use Rattle.run_model.proofs.chains.Modules.{module_at_proper}
 use Rattle.run_model.proofs.chains.Views.{sound_top, sound_resting}
 use Rattle.life_state.specs.Rules.{edges}

@@ -83,7 +83,7 @@ module _ (T : NamedBucket → Type 0) where
   pub called_each : (chain : List Program) (k : ℕ) (queue : List ℕ) (g : Common) (c : Connection) → OfEachBucket T c → OfEachBucket T (called chain k queue (g, c)).1
   called_each chain k queue g c h = record { brigades = h.brigades; loose = one_call _ [] none no_calls }
 
-  passed_to_each : (callee : Program) (b : ℕ) (f : Frame) (rest : List Frame) (g : Common) (c : Connection) → c.stack ≡ f ∷ rest → OfEachBucket T c → OfEachBucket T (passed_to callee b f rest (g, c)).1
+  pub passed_to_each : (callee : Program) (b : ℕ) (f : Frame) (rest : List Frame) (g : Common) (c : Connection) → c.stack ≡ f ∷ rest → OfEachBucket T c → OfEachBucket T (passed_to callee b f rest (g, c)).1
   unfolding passed_to configuration set_brigade
   passed_to_each callee b f rest g c is h = record {
     brigades = written_instances here (f.of + 1) (set_in (handed_in ((c.instances f.of).brigades b)) (here (f.of + 1))) in_here
@@ -98,7 +98,7 @@ module _ (T : NamedBucket → Type 0) where
         (written_variable (c.instances f.of) b (handed_over ((c.instances f.of).brigades b)) (h.brigades f.of) (handed_over_each ((c.instances f.of).brigades b)))
 
   -- what the callee left is the caller's again
-  given_each : (at : ℕ) (left : List NamedBucket) (k : ℕ) (h : ℕ → Instance) → ((j b : ℕ) → All T (items_of ((h j).brigades b))) → All T left
+  pub given_each : (at : ℕ) (left : List NamedBucket) (k : ℕ) (h : ℕ → Instance) → ((j b : ℕ) → All T (items_of ((h j).brigades b))) → All T left
       → (j b : ℕ) → All T (items_of ((upd h k (given_back at left (h k)) j).brigades b))
   given_each at left k h all there = written_instances h k (given_back at left (h k)) all (written_variable (h k) at (with_items left ((h k).brigades at)) (all k) (filled_each left ((h k).brigades at) there))
 

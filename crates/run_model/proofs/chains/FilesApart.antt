@@ -57,9 +57,9 @@ step_opens p choice i r =
 -- Turns.
 
 -- Numbers rise, and a file that is open was open before, or its number is new.
-record OpensNew (g : Common) (c : Connection) (v : Linked) : Type 0 where
-  rises : g.file ≤ v.0.file
-  from : (file : ℕ) → is_some (v.1.opened file) ≡ true → (is_some (c.opened file) ≡ true) ⊎ ((g.file ≤ file) × (file < v.0.file))
+pub record OpensNew (g : Common) (c : Connection) (v : Linked) : Type 0 where
+  pub rises : g.file ≤ v.0.file
+  pub from : (file : ℕ) → is_some (v.1.opened file) ≡ true → (is_some (c.opened file) ≡ true) ⊎ ((g.file ≤ file) × (file < v.0.file))
 
 none_new : (g : Common) (c : Connection) (v : Linked) → OpensNone c.opened g.file v.1.opened v.0.file → OpensNew g c v
 none_new g c v none = (let same : v.0.file ≡ g.file = none.1 in record { rises = omega (arith, same); from = λ file is_open. inl (none.0 file is_open) })
@@ -79,7 +79,7 @@ taken_opens req new bytes g c newer v last files = record {
   ];
 }
 
-turn_opens : (chain : List Program) (g : Common) (c : Connection) (v : Linked) → Turn chain AnyLength g c v → OpensNew g c v
+pub turn_opens : (chain : List Program) (g : Common) (c : Connection) (v : Linked) → Turn chain AnyLength g c v → OpensNew g c v
 unfolding begun all_called configuration run_down with_pools
 turn_opens chain g c v Same = none_new g c v (λ file is_open. is_open, refl)
 turn_opens chain g c v Drained = none_new g c v (λ file is_open. is_open, refl)

@@ -251,7 +251,7 @@ kept_of g c h = record { lasts = h.lasts; held = h.held; request = h.request; be
 risen_files : (g new : Common) (c : Connection) → ChainFiles g c → ChainFiles new c
 risen_files g new c h = record { lasts = h.lasts; held = h.held; open_files = h.open_files; request = h.request; between = h.between }
 
-files_kept : (chain : List Program) → TurnsKeep chain AnyLength ChainFiles
+pub files_kept : (chain : List Program) → TurnsKeep chain AnyLength ChainFiles
 files_kept chain = record {
   rising = λ g new c rises s h. risen_files g new c h;
   opening = λ g has s. with_open (opened chain g).0 (opened chain g).1 (opened_files chain g);

@@ -15,8 +15,7 @@ use Rattle.run_model.specs.Laws.{is_return}
 use Rattle.run_model.specs.Handlers.{StandsIn}
 use Rattle.run_model.specs.Chains.{led_to}
 use Rattle.run_model.specs.Passing.{after_pass}
-use Rattle.run_model.proofs.Orderly.{Leads, current_at}
-use Rattle.run_model.proofs.Handlers.{code_leads, side}
+use Rattle.run_model.proofs.Handlers.{Leads, current_at, code_leads, side}
 
 -- where an instruction leads that does not return
 branch : (P : ℕ → Type 0) (i : Instr) (l pc : ℕ) (b : Bool) → P l → P (pc + 1) → unwrap_or (target i) 0 ≡ l → P (led_to (jumps_if b) i pc)

@@ -67,3 +67,17 @@ proceeds_so P chain reads (instr.Ret s) f [] g c stepped here = by_queue c.queue
   by_queue (k ∷ ks) = here
 proceeds_so P chain reads (instr.Ret s) f (w ∷ rest) g c stepped here = here
 proceeds_so P chain reads i f rest g c stepped here = stepped_so P chain i f g c stepped here _ rest
+
+-- Nor does it count itself.
+pub proceeds_count : (chain : List Program) (reads : Reads) (i : Instr) (f : Frame) (rest : List Frame) (g : Common) (c : Connection) → (proceeds chain reads i f rest (g, c)).1.1.count ≡ c.count
+unfolding proceeds delivered_by passed_to returned_from returned_to put_back stepped_in
+proceeds_count chain reads (instr.Pass b l) f rest g c = by_last (is_last chain f.of) where
+  by_last : (t : Bool) → (cond t (delivered_by (module_at chain f.of) reads b (instr.Pass b l) f rest (g, c)) (passed_to (module_at chain (f.of + 1)) b f rest (g, c))).1.count ≡ c.count
+  by_last true = refl
+  by_last false = refl
+proceeds_count chain reads (instr.Ret s) f [] g c = by_queue c.queue where
+  by_queue : (queue : List ℕ) → (next_called chain s queue (put_back (instr.Ret s) f (do_return (configuration g c f)) [] [] (g, c))).1.1.count ≡ c.count
+  by_queue [] = refl
+  by_queue (k ∷ ks) = refl
+proceeds_count chain reads (instr.Ret s) f (w ∷ rest) g c = refl
+proceeds_count chain reads i f rest g c = refl

@@ -1,10 +1,11 @@
 -- Ranges end below 2^64 in each connection with a chain, where opened files are shorter than that.
-use Rattle.std.proofs.Common.{◌≡◌, ◌+◌, List, [], ◌∷◌, length, sym, subst}
+use Rattle.std.proofs.Common.{◌≡◌, ℕ, ◌+◌, Bool, List, [], ◌∷◌, length, sym, subst}
 use Rattle.std.proofs.lemmas.List.Elements.{All-nil, All-cons, All-append}
 use Rattle.module_lang.specs.declared.instr.Instr.{Instr}
 use Rattle.module_lang.specs.declared.instr.Instr.TheVariants as instr
 use Rattle.module_lang.specs.Program.{Program}
 use Rattle.run_model.specs.declared.bucket.NamedBucket.{NamedBucket}
+use Rattle.run_model.specs.declared.event.Event.{Event}
 use Rattle.run_model.specs.declared.payload.Payload.{Payload}
 use Rattle.run_model.specs.Pools.{Pools}
 use Rattle.run_model.specs.Cutting.{EndsInFile}
@@ -12,15 +13,17 @@ use Rattle.run_model.specs.State.{Configuration}
 use Rattle.run_model.specs.RangesEnd.{LengthsEnd}
 use Rattle.run_model.specs.Steps.{current}
 use Rattle.run_model.specs.Chains.{Frame, Connection, Common, Linked, module_at, configuration, touched_bucket}
+use Rattle.run_model.specs.Passing.{Reads, proceeds}
 use Rattle.run_model.specs.Turns.{all_called, opened, begun}
-use Rattle.run_model.specs.Worlds.{empty_world}
-use Rattle.run_model.specs.ChainFiles.{OfEachBucket, IsShort, ChainEnds, EventKeepsWorldEnds, RunEndsWorld}
+use Rattle.run_model.specs.Worlds.{Told, empty_world}
+use Rattle.run_model.specs.ChainFiles.{OfEachBucket, IsShort, BucketsEnd, ConnectionStepKeepsEnds, BringKeepsEnds, ChainEnds, EventKeepsBucketsEnd, EventKeepsWorldEnds, RunEndsWorld}
 use Rattle.run_model.proofs.RangesEnd.{pieces_end, told_end, step_ends}
 use Rattle.run_model.proofs.chains.EachBucket.{Steps, seen_each, proceeds_each}
 use Rattle.run_model.proofs.chains.EachEvent.{opened_each, begun_each, brought_in_each, request_over_each}
-use Rattle.run_model.proofs.chains.EventTurns.{Turn, Same, Drained, Broke, Faulted, Went, Begun, Brought, FileTaken, Ended}
+use Rattle.run_model.proofs.chains.EachConnection.{Made, OnOpening, OnBegin, OnBring, OnStep, OnEnd, OnTake, opening_turn, steps_so, event_each}
+use Rattle.run_model.proofs.chains.EventTurns.{Turn, Same, Drained, Broke, Faulted, Went, Begun, Brought, FileTaken, Ended, begins_turn, brings_turn, ends_turn}
 use Rattle.run_model.proofs.chains.Proceeds.{proceeds_files}
-use Rattle.run_model.proofs.chains.WorldKept.{TurnsKeep, event_kept, run_kept, empty_kept}
+use Rattle.run_model.proofs.chains.WorldKept.{AnyLength, TurnsKeep, event_kept, run_kept, empty_kept}
 
 abbrev Ends : Pools Payload → NamedBucket → Type 0
 Ends ps x = EndsInFile x.bucket.content
@@ -43,39 +46,68 @@ steps_end chain g c f rest i is h = record {
 abbrev EndsIn : Common → Connection → Type 0
 EndsIn g c = ChainEnds c
 
-opened_ends : (chain : List Program) (g : Common) → ChainEnds (opened chain g).1
+proceeds_end : (chain : List Program) (reads : Reads) (f : Frame) (rest : List Frame) (i : Instr) (g : Common) (c : Connection) → c.stack ≡ f ∷ rest → BucketsEnd c → BucketsEnd (proceeds chain reads i f rest (g, c)).1.1
+proceeds_end chain reads f rest i g c is h = proceeds_each Ends Ends chain g c f reads i rest is (steps_end chain g c f rest i is h) h
+
+pub connection_step_ends : ConnectionStepKeepsEnds
+connection_step_ends memory budget chain reads g c h = steps_so BucketsEnd memory budget chain reads g c h (λ k. record { brigades = h.brigades; loose = h.loose })
+    (λ f rest is. (let left = proceeds_end chain reads f rest (current (module_at chain f.of) f.pc) g c is h in record { brigades = left.brigades; loose = left.loose }))
+
+pub bring_ends : BringKeepsEnds
+bring_ends chain pieces req g c all h = brought_in_each (λ x. EndsInFile x.bucket.content) chain pieces req g c (pieces_end g.next req (g.next + 2) pieces all) h
+
+opened_ends : (chain : List Program) (g : Common) → BucketsEnd (opened chain g).1
+opened_ends chain g = opened_each (λ x. EndsInFile x.bucket.content) chain g
+
+no_lengths : (chain : List Program) (g : Common) → LengthsEnd (opened chain g).1.files
 unfolding opened all_called
-opened_ends chain g = record { ends = opened_each (λ x. EndsInFile x.bucket.content) chain g; lengths = All-nil (λ f. IsShort f.1) }
+no_lengths chain g = All-nil (λ f. IsShort f.1)
 
-begun_ends : (chain : List Program) (g : Common) (c : Connection) → ChainEnds c → ChainEnds (begun chain (g, c)).1
+turn_ends : (chain : List Program) (Lengths : ℕ → Type 0) (g : Common) (c : Connection) (v : Linked) → Turn chain Lengths g c v → ChainEnds c → BucketsEnd v.1
+turn_ends chain Lengths g c v Same h = h.ends
+turn_ends chain Lengths g c v Drained h = record { brigades = h.ends.brigades; loose = h.ends.loose }
+turn_ends chain Lengths g c v (Broke k other) h = record { brigades = h.ends.brigades; loose = h.ends.loose }
+turn_ends chain Lengths g c v (Faulted f rest k whole top is) h = record { brigades = h.ends.brigades; loose = h.ends.loose }
+turn_ends chain Lengths g c v (Went reads f rest whole may) h = (let left = proceeds_end chain reads f rest (current (module_at chain f.of) f.pc) g c may.on_top h.ends in record { brigades = left.brigades; loose = left.loose })
+turn_ends chain Lengths g c v (Begun whole idle none pools next) h = begun_each (λ x. EndsInFile x.bucket.content) chain g c h.ends
+turn_ends chain Lengths g c v (Brought pieces req whole idle is there next) h = bring_ends chain pieces req g c (told_end c.files pieces h.lengths there) h.ends
+turn_ends chain Lengths g c v (FileTaken req file bytes whole idle is short newer last) h = record { brigades = h.ends.brigades; loose = h.ends.loose }
+turn_ends chain Lengths g c v (Ended req whole idle is) h = request_over_each (λ x. EndsInFile x.bucket.content) (λ x. EndsInFile x.bucket.content) req g c idle (λ x e. e) h.ends
+
+turn_lengths : (chain : List Program) (g : Common) (c : Connection) (v : Linked) → Turn chain IsShort g c v → LengthsEnd c.files → LengthsEnd v.1.files
 unfolding begun all_called
-begun_ends chain g c h = record { ends = begun_each (λ x. EndsInFile x.bucket.content) chain g c h.ends; lengths = h.lengths }
+turn_lengths chain g c v Same h = h
+turn_lengths chain g c v Drained h = h
+turn_lengths chain g c v (Broke k other) h = h
+turn_lengths chain g c v (Faulted f rest k whole top is) h = h
+turn_lengths chain g c v (Went reads f rest whole may) h = subst LengthsEnd (sym (proceeds_files chain reads (current (module_at chain f.of) f.pc) f rest g c)) h
+turn_lengths chain g c v (Begun whole idle none pools next) h = h
+turn_lengths chain g c v (Brought pieces req whole idle is there next) h = h
+turn_lengths chain g c v (FileTaken req file bytes whole idle is short newer last) h =
+    All-append (λ f. IsShort f.1) c.files ((file, length bytes) ∷ []) h (All-cons (λ f. IsShort f.1) (file, length bytes) [] short (All-nil (λ f. IsShort f.1)))
+turn_lengths chain g c v (Ended req whole idle is) h = All-nil (λ f. IsShort f.1)
 
-turn_ends : (chain : List Program) (g : Common) (c : Connection) (v : Linked) → Turn chain IsShort g c v → ChainEnds c → ChainEnds v.1
-turn_ends chain g c v Same h = h
-turn_ends chain g c v Drained h = record { ends = record { brigades = h.ends.brigades; loose = h.ends.loose }; lengths = h.lengths }
-turn_ends chain g c v (Broke k other) h = record { ends = record { brigades = h.ends.brigades; loose = h.ends.loose }; lengths = h.lengths }
-turn_ends chain g c v (Faulted f rest k whole top is) h = record { ends = record { brigades = h.ends.brigades; loose = h.ends.loose }; lengths = h.lengths }
-turn_ends chain g c v (Went reads f rest whole may) h =
-    let i : Instr = current (module_at chain f.of) f.pc in
-    let left = proceeds_each Ends Ends chain g c f reads i rest may.on_top (steps_end chain g c f rest i may.on_top h.ends) h.ends in
-    record { ends = record { brigades = left.brigades; loose = left.loose }; lengths = subst LengthsEnd (sym (proceeds_files chain reads i f rest g c)) h.lengths }
-turn_ends chain g c v (Begun whole idle none pools next) h = begun_ends chain g c h
-turn_ends chain g c v (Brought pieces req whole idle is there next) h = record {
-  ends = brought_in_each (λ x. EndsInFile x.bucket.content) chain pieces req g c (pieces_end g.next req (g.next + 2) pieces (told_end c.files pieces h.lengths there)) h.ends;
-  lengths = h.lengths;
-}
-turn_ends chain g c v (FileTaken req file bytes whole idle is short newer last) h = record {
-  ends = record { brigades = h.ends.brigades; loose = h.ends.loose };
-  lengths = All-append (λ f. IsShort f.1) c.files ((file, length bytes) ∷ []) h.lengths (All-cons (λ f. IsShort f.1) (file, length bytes) [] short (All-nil (λ f. IsShort f.1)));
-}
-turn_ends chain g c v (Ended req whole idle is) h = record {
-  ends = request_over_each (λ x. EndsInFile x.bucket.content) (λ x. EndsInFile x.bucket.content) req g c idle (λ x e. e) h.ends;
-  lengths = All-nil (λ f. IsShort f.1);
-}
+abbrev EndIn : Common → Connection → Type 0
+EndIn g c = BucketsEnd c
+
+made_ends : (memory : Bool) (budget : ℕ) (chain : List Program) (told : Told) (g : Common) (c : Connection) (e : Event) (v : Linked) → Made memory budget chain told g c e v → ChainEnds c → BucketsEnd v.1
+made_ends memory budget chain told g c e v (OnOpening name) h = turn_ends chain AnyLength g c v (opening_turn chain g c memory told.opening) h
+made_ends memory budget chain told g c e v OnBegin h = turn_ends chain AnyLength g c v (begins_turn chain AnyLength g c memory) h
+made_ends memory budget chain told g c e v (OnBring pieces) h = turn_ends chain AnyLength g c v (brings_turn chain AnyLength g c memory pieces) h
+made_ends memory budget chain told g c e v OnStep h = connection_step_ends memory budget chain told.reads g c h.ends
+made_ends memory budget chain told g c e v OnEnd h = turn_ends chain AnyLength g c v (ends_turn chain AnyLength g c memory) h
+made_ends memory budget chain told g c e v OnTake h = turn_ends chain AnyLength g c v Drained h
+
+pub event_buckets_end : EventKeepsBucketsEnd
+event_buckets_end memory budget chain told k e w h = event_each EndIn memory budget chain told w (λ j c at. (h j c at).ends) k e (record {
+  made = λ j c v at made. made_ends memory budget chain told w.common c e v made (h j c at);
+  opening = opened_ends chain w.common;
+  beside = λ c v made x there. there;
+  unopened = λ x there. there;
+})
 
 ends_kept : (chain : List Program) → TurnsKeep chain IsShort EndsIn
-ends_kept chain = record { rising = λ g new c rises s h. h; opening = λ g has s. opened_ends chain g; turns = λ g c v has t s new h. turn_ends chain g c v t h }
+ends_kept chain = record { rising = λ g new c rises s h. h; opening = λ g has s. record { ends = opened_ends chain g; lengths = no_lengths chain g }; turns = λ g c v has t s new h. record { ends = turn_ends chain IsShort g c v t h; lengths = turn_lengths chain g c v t h.lengths } }
 
 pub event_keeps_ends : EventKeepsWorldEnds
 event_keeps_ends memory budget chain told k e w chained s short h = (event_kept chain chained IsShort EndsIn (ends_kept chain) memory budget told k e w short (record { sound = s; kept = h })).kept

@@ -15,7 +15,7 @@ use Rattle.run_model.specs.Passing.{Reads, delivered, delivered_by, passed_to, a
 use Rattle.run_model.specs.ChainSound.{IsNested, IsNestedStack, AreNamed, IsPlaced, WaitsAtPass, IsRising, ChainCalls}
 use Rattle.run_model.specs.ChainLaws.{TopKeepsCalls}
 use Rattle.run_model.proofs.Unchanged.{step_changes_only}
-use Rattle.run_model.proofs.Orderly.{Leads}
+use Rattle.run_model.proofs.Handlers.{Leads}
 use Rattle.run_model.proofs.chains.Modules.{module_at_proper, next_in_chain}
 use Rattle.run_model.proofs.chains.Places.{led, SameHandler, stays_in_handler, pass_in_main, after_leads}
 use Rattle.run_model.proofs.chains.Stacks.{nested_alike, nested_touched, named_touched, placed_touched, waiting_touched, named_below, none_next, StandsOnTop, busy_calls, idle_calls, stands_on_top}

@@ -22,7 +22,7 @@ use Rattle.run_model.proofs.Updates.{upd_either}
 use Rattle.run_model.proofs.PoolMap.{created_kept, created_next, cleared_apart, cleared_next, destroyed_apart, destroyed_next}
 use Rattle.run_model.proofs.NamedPools.{made_under_named, own_named}
 use Rattle.run_model.proofs.StepPools.{step_pools}
-use Rattle.run_model.proofs.Orderly.{current_at}
+use Rattle.run_model.proofs.Handlers.{current_at}
 use Rattle.run_model.proofs.AsDeclared.{KeepsOn, KeepsPool, same_on, returned_on, cleared_on, parent_apart, step_declared}
 use Rattle.run_model.proofs.chains.Apart.{under_no_other}
 use Rattle.run_model.proofs.chains.Modules.{module_at_proper}

@@ -90,10 +90,6 @@ sound_of chain g c above f below is s =
 pub sound_top : (chain : List Program) (g : Common) (c : Connection) (f : Frame) (rest : List Frame) → c.stack ≡ f ∷ rest → ChainSound chain g c → Sound (configuration g c f)
 sound_top chain g c f rest is s = sound_of chain g c [] f rest is s
 
--- and the call that waits for it
-pub sound_waiting : (chain : List Program) (g : Common) (c : Connection) (f w : Frame) (rest : List Frame) → c.stack ≡ f ∷ (w ∷ rest) → ChainSound chain g c → Sound (configuration g c w)
-sound_waiting chain g c f w rest is s = sound_of chain g c (f ∷ []) w rest is s
-
 -- An instance of the chain is sound by itself, as it is between calls.
 pub sound_resting : (chain : List Program) (g : Common) (c : Connection) (k : ℕ) → k < length chain → ChainSound chain g c → Sound (configuration g c (record { of = k; call = fresh_call 0; pc = 0 }))
 unfolding configuration

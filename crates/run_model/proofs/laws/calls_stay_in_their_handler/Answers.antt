@@ -1,4 +1,4 @@
-use Rattle.run_model.proofs.Handlers.{calls_begin, step_stays_in_handler, opened_runs, event_runs, run_runs}
+use Rattle.run_model.proofs.chains.Handlers.{calls_begin, step_stays_in_handler, run_places_calls}
 use Rattle.run_model.proofs.laws.calls_stay_in_their_handler.Goals as goal
 
 pub returns-clause-begins : goal.returns-clause-begins
@@ -7,11 +7,5 @@ returns-clause-begins c = calls_begin
 pub returns-clause-step : goal.returns-clause-step
 returns-clause-step c = step_stays_in_handler
 
-pub returns-clause-opened : goal.returns-clause-opened
-returns-clause-opened c = opened_runs
-
-pub returns-clause-event : goal.returns-clause-event
-returns-clause-event c = event_runs
-
 pub returns-clause-run : goal.returns-clause-run
-returns-clause-run c = run_runs
+returns-clause-run c = run_places_calls

@@ -1,11 +1,8 @@
-use Rattle.run_model.proofs.Kept.{aside_lasts, reads_give_the_file, reads_drop_nothing, files_close_last}
+use Rattle.run_model.proofs.Kept.{aside_lasts, reads_drop_nothing, files_close_last}
 use Rattle.run_model.proofs.laws.kept_buckets_last.Goals as goal
 
 pub returns-clause-aside : goal.returns-clause-aside
 returns-clause-aside c = aside_lasts
-
-pub returns-clause-reads : goal.returns-clause-reads
-returns-clause-reads c = reads_give_the_file
 
 pub returns-clause-rest : goal.returns-clause-rest
 returns-clause-rest c = reads_drop_nothing

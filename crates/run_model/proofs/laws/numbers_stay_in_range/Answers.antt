@@ -1,23 +1,25 @@
-use Rattle.run_model.proofs.InRange.{opened_in_range, step_in_range, event_in_range, run_in_range, step_buffer, event_buffer, run_buffer}
+use Rattle.run_model.proofs.InRange.{step_in_range, step_buffer}
+use Rattle.run_model.proofs.chains.CallBuffers.{event_buffers, run_buffers}
+use Rattle.run_model.proofs.chains.InRange.{event_in_range, run_of_bytes, run_in_range}
 use Rattle.run_model.proofs.laws.numbers_stay_in_range.Goals as goal
-
-pub returns-clause-opened : goal.returns-clause-opened
-returns-clause-opened c = opened_in_range
 
 pub returns-clause-step : goal.returns-clause-step
 returns-clause-step c = step_in_range
 
+pub returns-clause-buffer_step : goal.returns-clause-buffer_step
+returns-clause-buffer_step c = step_buffer
+
 pub returns-clause-event : goal.returns-clause-event
 returns-clause-event c = event_in_range
+
+pub returns-clause-runs : goal.returns-clause-runs
+returns-clause-runs c = run_of_bytes
 
 pub returns-clause-run : goal.returns-clause-run
 returns-clause-run c = run_in_range
 
-pub returns-clause-buffer_step : goal.returns-clause-buffer_step
-returns-clause-buffer_step c = step_buffer
-
 pub returns-clause-buffer_event : goal.returns-clause-buffer_event
-returns-clause-buffer_event c = event_buffer
+returns-clause-buffer_event c = event_buffers
 
 pub returns-clause-buffer_run : goal.returns-clause-buffer_run
-returns-clause-buffer_run c = run_buffer
+returns-clause-buffer_run c = run_buffers

@@ -1,5 +1,6 @@
 use Rattle.run_model.proofs.Marks.{use_after_pass, cleaned_is_usable}
-use Rattle.run_model.proofs.Passed.{passes_mark, passed_is_not_used, step_keeps_passed, return_ends_in, event_keeps_passed}
+use Rattle.run_model.proofs.Passed.{passes_mark, passed_is_not_used, step_keeps_passed, return_ends_in}
+use Rattle.run_model.proofs.chains.Passed.{event_keeps_passed}
 use Rattle.run_model.proofs.laws.passed_brigades_are_only_cleaned.Goals as goal
 
 pub returns-clause-marked : goal.returns-clause-marked

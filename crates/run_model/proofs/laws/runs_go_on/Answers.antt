@@ -1,8 +1,5 @@
-use Rattle.run_model.proofs.Runs.{run_goes_on, steps_go_on, steps_are_a_run, ended_steps_are_a_run}
+use Rattle.run_model.proofs.chains.StepRuns.{steps_go_on, steps_are_a_run, ended_steps_are_a_run}
 use Rattle.run_model.proofs.laws.runs_go_on.Goals as goal
-
-pub returns-clause-event : goal.returns-clause-event
-returns-clause-event c = run_goes_on
 
 pub returns-clause-step : goal.returns-clause-step
 returns-clause-step c = steps_go_on
