@@ -41,30 +41,32 @@ module _ {F : Type 0} (device : F → Device) (number : ℕ) (old new : Host F) 
 
 -- What is written where serving fails.
 module _ {H K : Type 0} (site : Site) (handles : H → Method → List ℕ → Outcome → H → Type 0) (tells : K → Said → K → Type 0) (old : H) (before : K) where
-  front_whole : (stream text : List ℕ) (m n : ℕ) (new : H) (after : K) → Responses site handles tells old before stream text n new after → FallsBy site handles tells kind.NoMemory (Some m) old before stream text
-  front_whole stream text m n new after all = inr ((λ none. cc), n, new, after, all)
+  front_whole : (stream text : List ℕ) (unread : Option (List ℕ)) (m n : ℕ) (new : H) (after : K) → Responses site handles tells old before stream text n new after → FallsBy site handles tells kind.NoMemory (Some m) old before stream text unread new after
+  front_whole stream text unread m n new after all = inr ((λ none. cc), n, all)
 
-  lacking : (read was is : Option (List ℕ)) (left : Option ℕ) → Writes read was is (IsFront site handles tells old before) → Writes read was is (FallsBy site handles tells kind.NoMemory left old before)
-  lacking None was is left h = tt
-  lacking (Some stream) was is left h = (h.0, inl h.1, h.2)
+  lacking : (read unread was is : Option (List ℕ)) (left : Option ℕ) (new : H) (after : K) → Writes read was is (IsFront site handles tells old before) → Writes read was is (λ stream text. FallsBy site handles tells kind.NoMemory left old before stream text unread new after)
+  lacking None unread was is left new after h = tt
+  lacking (Some stream) unread was is left new after h = (h.0, inl h.1, h.2)
 
-  pub falls : (read was is : Option (List ℕ)) (left : Option ℕ) (e : FrontKind) → FailsBy site handles tells old before read was is e → Writes read was is (FallsBy site handles tells e left old before)
-  falls read was is left kind.Write h = h
-  falls read was is left kind.Read h = h
-  falls read was is left kind.TooManyReads h = h
-  falls read was is left kind.NoMemory h = lacking read was is left h
-  falls read was is left kind.NamesSpent h = h
+  pub falls : (read unread was is : Option (List ℕ)) (left : Option ℕ) (new : H) (after : K) (e : FrontKind) → FailsBy site handles tells old before read unread was is new after e → Writes read was is (λ stream text. FallsBy site handles tells e left old before stream text unread new after)
+  falls read unread was is left new after kind.Write h = h
+  falls read unread was is left new after kind.Read h = h
+  falls read unread was is left new after kind.TooManyReads h = h
+  falls read unread was is left new after kind.NoMemory h = lacking read unread was is left new after h
+  falls read unread was is left new after kind.NamesSpent h = h
 
-module _ {F K : Type 0} (device : F → Device) (tells : K → Said → K → Type 0) (site : Site) (old : Host F) (before : K) (was is : Option (List ℕ)) where
-  pub none_opened : (new : Host F) (e : FrontFault) (why : Refusal) (read : Option (List ℕ)) → is ≡ was → e.kind ≡ kind_of why → e.left ≡ None → Happened device old new 0 event.Open (Refused why)
-      → IfSome read (λ stream. FailsAt device tells site old before stream e was is new)
-  none_opened new e why None same kind left h = tt
-  none_opened new e why (Some stream) same kind left h = inl record {
+module _ {F K : Type 0} (device : F → Device) (tells : K → Said → K → Type 0) (site : Site) (old : Host F) (before : K) (unread was is : Option (List ℕ)) where
+  pub none_opened : (new : Host F) (e : FrontFault) (why : Refusal) (read : Option (List ℕ)) → unread ≡ read → is ≡ was → e.kind ≡ kind_of why → e.left ≡ None → Happened device old new 0 event.Open (Refused why)
+      → IfSome read (λ stream. FailsAt device tells site old before stream e unread was is new before)
+  none_opened new e why None keeps same kind left h = tt
+  none_opened new e why (Some stream) keeps same kind left h = inl record {
     why = why;
     kind = kind;
     left = left;
     refused = by_event device old new 0 event.Open (Refused why) h;
+    leaves = keeps;
     written = subst (λ (x : Option (List ℕ)). Appends was x []) (sym same) (Appends-nil was);
+    still = refl;
   }
 
   module _ (number : ℕ) (opened served new : Host F) (after : K) (opens : Leads device old opened (λ b c s t. IsOpened b c number s t)) where
@@ -73,7 +75,7 @@ module _ {F K : Type 0} (device : F → Device) (tells : K → Said → K → Ty
     AllSo read s = IfSome read (λ stream. (text : List ℕ) × Responses site (λ o. Handles device o number) tells opened before stream text s.requests served after × Appends was is text)
 
     abbrev FrontSo : Option ℕ → Option (List ℕ) → FrontKind → Type 0
-    FrontSo left read k = IfSome read (λ stream. (text : List ℕ) × FallsBy site (λ o. Handles device o number) tells k left opened before stream text × Appends was is text)
+    FrontSo left read k = IfSome read (λ stream. (text : List ℕ) × FallsBy site (λ o. Handles device o number) tells k left opened before stream text unread served after × Appends was is text)
 
     by_ok : (read : Option (List ℕ)) (r : Result Served FrontKind) (left : Option ℕ) → Leads device served new (λ b c s t. IsClosed b c number left s t) → IfOk r (AllSo read)
         → IfOk (outcome_of r left) (λ s. IfSome read (λ stream. ServesAll device tells site old before stream s.requests was is new after))
@@ -87,12 +89,12 @@ module _ {F K : Type 0} (device : F → Device) (tells : K → Said → K → Ty
     }
 
     by_err : (read : Option (List ℕ)) (r : Result Served FrontKind) (left : Option ℕ) → Leads device served new (λ b c s t. IsClosed b c number left s t) → IfOk r (AllSo read) → IfErr r (λ k. FrontSo left read k)
-        → IfErr (outcome_of r left) (λ e. IfSome read (λ stream. FailsAt device tells site old before stream e was is new))
+        → IfErr (outcome_of r left) (λ e. IfSome read (λ stream. FailsAt device tells site old before stream e unread was is new after))
     by_err read (Ok s) None closes all front = tt
     by_err None (Ok s) (Some n) closes all front = tt
     by_err (Some stream) (Ok s) (Some n) closes (text, all, written) front = inr record {
       text = text;
-      connects = record { number = number; opened = opened; served = served; opens = opens; done = front_whole site (λ o. Handles device o number) tells opened before stream text n s.requests served after all; closes = closes };
+      connects = record { number = number; opened = opened; served = served; opens = opens; done = front_whole site (λ o. Handles device o number) tells opened before stream text unread n s.requests served after all; closes = closes };
       written = written;
     }
     by_err None (Err k) left closes all front = tt
@@ -102,13 +104,13 @@ module _ {F K : Type 0} (device : F → Device) (tells : K → Said → K → Ty
       written = written;
     }
 
-    fails_so : (read : Option (List ℕ)) (r : Result Served FrontKind) (left : Option ℕ) → IfErr r (λ e. FailsBy site (λ o. Handles device o number) tells opened before read was is e) → IfErr r (λ k. FrontSo left read k)
+    fails_so : (read : Option (List ℕ)) (r : Result Served FrontKind) (left : Option ℕ) → IfErr r (λ e. FailsBy site (λ o. Handles device o number) tells opened before read unread was is served after e) → IfErr r (λ k. FrontSo left read k)
     fails_so read (Ok s) left h = tt
-    fails_so read (Err e) left h = falls site (λ o. Handles device o number) tells opened before read was is left e h
+    fails_so read (Err e) left h = falls site (λ o. Handles device o number) tells opened before read unread was is left served after e h
 
     module _ (read : Option (List ℕ)) (r : Result Served FrontKind) (left : Option ℕ) (closes : Leads device served new (λ b c s t. IsClosed b c number left s t)) (all : IfOk r (AllSo read)) (result : Result Served FrontFault) (same : result ≡ outcome_of r left) where
       pub served_ok : IfOk result (λ s. IfSome read (λ stream. ServesAll device tells site old before stream s.requests was is new after))
       served_ok = subst (λ (x : Result Served FrontFault). IfOk x (λ s. IfSome read (λ stream. ServesAll device tells site old before stream s.requests was is new after))) (sym same) (by_ok read r left closes all)
 
-      pub served_err : IfErr r (λ e. FailsBy site (λ o. Handles device o number) tells opened before read was is e) → IfErr result (λ e. IfSome read (λ stream. FailsAt device tells site old before stream e was is new))
-      served_err front = subst (λ (x : Result Served FrontFault). IfErr x (λ e. IfSome read (λ stream. FailsAt device tells site old before stream e was is new))) (sym same) (by_err read r left closes all (fails_so read r left front))
+      pub served_err : IfErr r (λ e. FailsBy site (λ o. Handles device o number) tells opened before read unread was is served after e) → IfErr result (λ e. IfSome read (λ stream. FailsAt device tells site old before stream e unread was is new after))
+      served_err front = subst (λ (x : Result Served FrontFault). IfErr x (λ e. IfSome read (λ stream. FailsAt device tells site old before stream e unread was is new after))) (sym same) (by_err read r left closes all (fails_so read r left front))

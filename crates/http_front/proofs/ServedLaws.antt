@@ -1,7 +1,8 @@
 -- Serving a connection, read by read.
-use Rattle.std.proofs.Common.{◌≡◌, ℕ, ◌⊎◌, inl, inr, List, Option, Result, Ok, Err, refl, sym, subst}
+use Rattle.std.proofs.Common.{◌≡◌, ℕ, ◌⊎◌, inl, inr, List, [], Option, Result, Ok, Err, refl, sym, subst, append-nil}
 use Rattle.http_front.specs.Clocks.{Said}
 use Rattle.http_front.specs.Serving.{Adds, Loses, SoFar, Goes, FailsBy}
+use Rattle.http_front.specs.Turns.{WantsMore}
 use Rattle.http_front.specs.declared.fault.FrontKind.{FrontKind}
 use Rattle.http_front.specs.declared.fault.FrontKind.TheVariants as kind
 use Rattle.http_front.specs.declared.handler.Outcome.{Outcome}
@@ -9,7 +10,7 @@ use Rattle.http_front.specs.declared.reply.Method.{Method}
 use Rattle.http_front.specs.declared.serving.Next.{Next}
 use Rattle.http_front.specs.declared.serving.Next.TheVariants as next
 use Rattle.http_front.specs.declared.site.Site.{Site}
-use Rattle.http_front.proofs.ServingLaws.{far_front, far_read}
+use Rattle.http_front.proofs.ServingLaws.{far_front, far_read, far_wants}
 use Rattle.std.specs.Prelude.{Bool, IfErr}
 
 module _ {H K : Type 0} (site : Site) (handles : H → Method → List ℕ → Outcome → H → Type 0) (tells : K → Said → K → Type 0) where
@@ -25,19 +26,24 @@ module _ {H K : Type 0} (site : Site) (handles : H → Method → List ℕ → O
 
   -- no bytes are added
   pub far_loses : (old : H) (before : K) (r q p w v : Option (List ℕ)) (unread : List ℕ) (n : ℕ) (new : H) (after : K) (e : FrontKind)
-      → SoFar site handles tells old before r q w v unread n new after → Loses q p e → FailsBy site handles tells old before r w v e
-  far_loses old before r q p w v unread n new after e so (read, inl same) = subst (FailsBy site handles tells old before r w v) (sym same) (far_front site handles tells old before r q w v unread n new after so)
-  far_loses old before r q p w v unread n new after e so (read, inr same) = subst (FailsBy site handles tells old before r w v) (sym same) (far_front site handles tells old before r q w v unread n new after so)
+      → SoFar site handles tells old before r q w v unread n new after → WantsMore unread → Loses q p e → FailsBy site handles tells old before r p w v new after e
+  far_loses old before r q p w v unread n new after kind.Read so wants none =
+      far_wants site handles tells old before r p w v unread n new after (far_read site handles tells old before r q p w v unread [] unread n new after so none (sym (append-nil unread))) wants
+  far_loses old before r q p w v unread n new after kind.NoMemory so wants lost = far_front site handles tells old before r q w v unread n new after so
+  far_loses old before r q p w v unread n new after kind.Write so wants lost = absurd lost
+  far_loses old before r q p w v unread n new after kind.TooManyReads so wants lost = absurd lost
+  far_loses old before r q p w v unread n new after kind.NamesSpent so wants lost = absurd lost
 
   -- how a `?` leaves
-  pub fails_err : {T : Type 0} (old : H) (before : K) (r w v : Option (List ℕ)) (result : Result T FrontKind) (y e : FrontKind)
-      → result ≡ Err y → y ≡ e → FailsBy site handles tells old before r w v e → IfErr result (λ k. FailsBy site handles tells old before r w v k)
-  fails_err old before r w v (Ok x) y e is same fails = tt
-  fails_err old before r w v (Err k) y e is same fails = let here : e ≡ k = cc in subst (FailsBy site handles tells old before r w v) here fails
+  pub fails_err : {T : Type 0} (old : H) (before : K) (r q w v : Option (List ℕ)) (new : H) (after : K) (result : Result T FrontKind) (y e : FrontKind)
+      → result ≡ Err y → y ≡ e → FailsBy site handles tells old before r q w v new after e → IfErr result (λ k. FailsBy site handles tells old before r q w v new after k)
+  fails_err old before r q w v new after (Ok x) y e is same fails = tt
+  fails_err old before r q w v new after (Err k) y e is same fails = let here : e ≡ k = cc in subst (FailsBy site handles tells old before r q w v new after) here fails
 
   -- serving goes on
   pub far_next : (old : H) (before : K) (r q w v : Option (List ℕ)) (whole : Bool) (unread : List ℕ) (n : ℕ) (new : H) (after : K) (s : Next)
-      → ¬ (s ≡ next.Over) → Goes site handles tells old before r q w v whole unread n new after (Ok s) → SoFar site handles tells old before r q w v unread n new after
-  far_next old before r q w v whole unread n new after next.Again not goes = goes
-  far_next old before r q w v whole unread n new after next.Reads not goes = goes.0
-  far_next old before r q w v whole unread n new after next.Over not goes = absurd (not refl)
+      → ¬ (s ≡ next.Again) → ¬ (s ≡ next.Over) → Goes site handles tells old before r q w v whole unread n new after (Ok s)
+      → SoFar site handles tells old before r q w v unread n new after × WantsMore unread
+  far_next old before r q w v whole unread n new after next.Again again over goes = absurd (again refl)
+  far_next old before r q w v whole unread n new after next.Reads again over goes = (goes.0, goes.2)
+  far_next old before r q w v whole unread n new after next.Over again over goes = absurd (over refl)

@@ -1,6 +1,6 @@
 -- Serving a connection, turn by turn.
 use Rattle.std.proofs.Common.{◌≡◌, ◌≢◌, ℕ, zero, suc, ◌+◌, ◌<◌, ◌≤◌, ◌⊎◌, inl, inr, Bool, true, false, List, [], ◌∷◌, ◌++◌, length, take, drop, Option, Some, None, IfSome, Result, Ok, Err, refl, ap, sym, subst, ◌∙◌, arith}
-use Rattle.std.proofs.lemmas.List.{append_assoc, append-nil, length-append, take-append-drop}
+use Rattle.std.proofs.lemmas.List.{append_assoc, append-nil, length-append, length-drop, take-append-drop}
 use Rattle.std.proofs.lemmas.Grind.{flat_map-append}
 use Rattle.std.proofs.KnownBytes.{Appends-nil, Appends-trans, Consumes-nil, Consumes-trans}
 use Rattle.std.specs.Io.KnownBytes.{Appends, Consumes, Keeps, IsAtEnd}
@@ -8,7 +8,7 @@ use Rattle.httparse.specs.Grammar.{RequestHead, print_request}
 use Rattle.http_front.specs.Clocks.{Said}
 use Rattle.http_front.specs.Heads.{BeginsWithin, StaysHeadless}
 use Rattle.http_front.specs.Replying.{reply_text}
-use Rattle.http_front.specs.Turns.{Turn, AllStay, Answers, AnswersAll, SendsBad, heads_of, texts_of, head_limit, fields_limit, EndsAll, ClosesAfter, RefusesAfter, Responses, IsFront, IsCut}
+use Rattle.http_front.specs.Turns.{Turn, AllStay, Answers, AnswersAll, AnswersRead, SendsBad, WantsMore, heads_of, texts_of, head_limit, fields_limit, EndsAll, ClosesAfter, RefusesAfter, Responses, IsFront, IsCut, IsNext}
 use Rattle.http_front.specs.Stepping.{Serves, Waits, Steps}
 use Rattle.http_front.specs.Serving.{Writes, SoFar, Goes, EndsWell, FailsBy}
 use Rattle.http_front.specs.declared.fault.FrontKind.{FrontKind}
@@ -122,6 +122,26 @@ module _ {H K : Type 0} (site : Site) (handles : H → Method → List ℕ → O
   far_front old before (Some stream) q w v unread n new after so =
       (texts_of so.turns, front_of old before stream q w v unread n new after so, so.wrote)
 
+  -- Serving fails where all whole requests that were read are answered.
+  pub far_wants : (old : H) (before : K) (r q w v : Option (List ℕ)) (unread : List ℕ) (n : ℕ) (new : H) (after : K)
+      → Far old before r q w v unread n new after → WantsMore unread → Writes r w v (λ stream text. AnswersRead site handles tells old before stream text q new after)
+  far_wants old before None q w v unread n new after so wants = tt
+  far_wants old before (Some stream) q w v unread n new after so wants =
+      let left = left_of stream (heads_of so.turns ++ unread) q so.took in (
+        texts_of so.turns,
+        record {
+          first = heads_of so.turns;
+          seen = unread;
+          unread = left.0;
+          n = n;
+          splits = left.2;
+          responses = record { turns = so.turns; stay = so.stay; answers = so.answers; requests = refl; written = refl; count = so.count };
+          wants = wants;
+          leaves = left.1;
+        },
+        so.wrote,
+      )
+
   -- The stream has ended.
   pub far_done : (old : H) (before : K) (r q w v : Option (List ℕ)) (unread : List ℕ) (n : ℕ) (new : H) (after : K)
       → Far old before r q w v unread n new after → unread ≡ [] → IsAtEnd q → EndsWell site handles tells old before r w v n new after
@@ -198,50 +218,58 @@ module _ {H K : Type 0} (site : Site) (handles : H → Method → List ℕ → O
   unwritten : (old : H) (before : K) (r q w v : Option (List ℕ)) (unread : List ℕ) (n : ℕ) (new : H) (after : K) → Far old before r q w v unread n new after → Far old before r q None None unread n new after
   unwritten old before r q w v unread n new after so = record { turns = so.turns; stay = so.stay; answers = so.answers; count = so.count; took = so.took; wrote = tt }
 
-  whole_again : (front text : List ℕ) (k : ℕ) → (front ++ take k text) ++ drop k text ≡ front ++ text
-  whole_again front text k = append_assoc front (take k text) (drop k text) ∙ ap (λ l. front ++ l) (take-append-drop k text)
+  -- A part of a response is written.
+  cut_of : (old : H) (before : K) (q w v u : Option (List ℕ)) (stream unread : List ℕ) (n k : ℕ) (mid : H) (then : K) (text : List ℕ)
+      → (so : Far old before (Some stream) q w v unread n mid then) → IsNext site handles tells old before stream (texts_of so.turns ++ text) (n + 1)
+      → k < length text → Appends v u (take k text) → Writes (Some stream) w u (IsCut site handles tells old before)
+  unfolding front_of
+  cut_of old before q w v u stream unread n k mid then text so next few wrote = (
+    texts_of so.turns ++ take k text,
+    record {
+      front = texts_of so.turns;
+      part = take k text;
+      more = drop k text;
+      whole = front_of old before stream q w v unread n mid then so;
+      next = subst (λ l. IsNext site handles tells old before stream (texts_of so.turns ++ l) (n + 1)) (sym (take-append-drop k text)) next;
+      some = λ none. let rest = length-drop k text in let zero-is = ap length none in absurd (omega (arith, few, rest, zero-is));
+      written = refl;
+    },
+    Appends-trans w v u (texts_of so.turns) (take k text) so.wrote wrote,
+  )
 
   pub cut_stays : (old : H) (before : K) (r q w v u : Option (List ℕ)) (unread : List ℕ) (n size k : ℕ) (mid new : H) (then after : K) (text : List ℕ)
       → Far old before r q w v unread n mid then → Serves site handles tells mid then unread false size text new after
-      → Appends v u (take k text) → Writes r w u (IsCut site handles tells old before)
-  unfolding far_stays unwritten
-  cut_stays old before None q w v u unread n size k mid new then after text so serves wrote = tt
-  cut_stays old before (Some stream) q w v u unread n size k mid new then after text so serves wrote =
+      → k < length text → Appends v u (take k text) → Writes r w u (IsCut site handles tells old before)
+  unfolding far_stays front_of unwritten
+  cut_stays old before None q w v u unread n size k mid new then after text so serves few wrote = tt
+  cut_stays old before (Some stream) q w v u unread n size k mid new then after text so serves few wrote =
       let bare = unwritten old before (Some stream) q w v unread n mid then so in
       let next = far_stays old before (Some stream) q None None None unread (drop size unread) n (n + 1) size mid new then after text bare serves tt refl refl in
-      let all : texts_of next.turns ≡ texts_of so.turns ++ text = texts_more so.turns serves.turn ∙ ap (λ l. texts_of so.turns ++ l) (sym serves.written) in (
-        texts_of so.turns ++ take k text,
-        (drop k text, inl (subst (IsFront site handles tells old before stream) (all ∙ sym (whole_again (texts_of so.turns) text k)) (front_of old before stream q None None (drop size unread) (n + 1) new after next))),
-        Appends-trans w v u (texts_of so.turns) (take k text) so.wrote wrote,
-      )
+      let all : texts_of next.turns ≡ texts_of so.turns ++ text = texts_more so.turns serves.turn ∙ ap (λ l. texts_of so.turns ++ l) (sym serves.written) in
+      cut_of old before q w v u stream unread n k mid then text so
+      (subst (λ l. IsNext site handles tells old before stream l (n + 1)) all (inl (front_of old before stream q None None (drop size unread) (n + 1) new after next, refl))) few wrote
 
   pub cut_closes : (old : H) (before : K) (r q w v u : Option (List ℕ)) (unread : List ℕ) (n size k : ℕ) (mid new : H) (then after : K) (text : List ℕ)
       → Far old before r q w v unread n mid then → Serves site handles tells mid then unread true size text new after
-      → Appends v u (take k text) → Writes r w u (IsCut site handles tells old before)
-  cut_closes old before None q w v u unread n size k mid new then after text so serves wrote = tt
-  cut_closes old before (Some stream) q w v u unread n size k mid new then after text so serves wrote =
-      let all = closed old before stream q w v unread n (n + 1) size mid new then after text so serves refl in (
-        texts_of so.turns ++ take k text,
-        (drop k text, inr (n + 1, new, after, inr (inl (subst (λ l. ClosesAfter site handles tells old before stream l (n + 1) new after) (sym (whole_again (texts_of so.turns) text k)) all)))),
-        Appends-trans w v u (texts_of so.turns) (take k text) so.wrote wrote,
-      )
+      → k < length text → Appends v u (take k text) → Writes r w u (IsCut site handles tells old before)
+  cut_closes old before None q w v u unread n size k mid new then after text so serves few wrote = tt
+  cut_closes old before (Some stream) q w v u unread n size k mid new then after text so serves few wrote =
+      cut_of old before q w v u stream unread n k mid then text so
+      (inr (new, after, inr (inl (closed old before stream q w v unread n (n + 1) size mid new then after text so serves refl)))) few wrote
 
   pub cut_refused : (old : H) (before : K) (r q w v u : Option (List ℕ)) (unread : List ℕ) (whole : Bool) (n k : ℕ) (mid new : H) (then after : K) (text : List ℕ)
       → Far old before r q w v unread n mid then → (whole ≡ true → IsAtEnd q) → Bad mid then unread whole text new after
-      → Appends v u (take k text) → Writes r w u (IsCut site handles tells old before)
-  cut_refused old before None q w v u unread whole n k mid new then after text so end bad wrote = tt
-  cut_refused old before (Some stream) q w v u unread whole n k mid new then after text so end bad wrote =
-      let all = refused old before stream q w v unread whole n (n + 1) mid new then after text so end bad refl in (
-        texts_of so.turns ++ take k text,
-        (drop k text, inr (n + 1, new, after, inr (inr (subst (λ l. RefusesAfter site handles tells old before stream l (n + 1) new after) (sym (whole_again (texts_of so.turns) text k)) all)))),
-        Appends-trans w v u (texts_of so.turns) (take k text) so.wrote wrote,
-      )
+      → k < length text → Appends v u (take k text) → Writes r w u (IsCut site handles tells old before)
+  cut_refused old before None q w v u unread whole n k mid new then after text so end bad few wrote = tt
+  cut_refused old before (Some stream) q w v u unread whole n k mid new then after text so end bad few wrote =
+      cut_of old before q w v u stream unread n k mid then text so
+      (inr (new, after, inr (inr (refused old before stream q w v unread whole n (n + 1) mid new then after text so end bad refl)))) few wrote
 
   -- Memory or names are lacking.
-  pub far_lacks : (old : H) (before : K) (r q w v : Option (List ℕ)) (unread : List ℕ) (n : ℕ) (new : H) (after : K) (e : FrontKind)
-      → IsLack e → Far old before r q w v unread n new after → FailsBy site handles tells old before r w v e
-  far_lacks old before r q w v unread n new after e (inl same) so = subst (FailsBy site handles tells old before r w v) (sym same) (far_front old before r q w v unread n new after so)
-  far_lacks old before r q w v unread n new after e (inr same) so = subst (FailsBy site handles tells old before r w v) (sym same) (far_front old before r q w v unread n new after so)
+  pub far_lacks : (old : H) (before : K) (r q w v : Option (List ℕ)) (unread : List ℕ) (n : ℕ) (mid new : H) (then after : K) (e : FrontKind)
+      → IsLack e → Far old before r q w v unread n mid then → FailsBy site handles tells old before r q w v new after e
+  far_lacks old before r q w v unread n mid new then after e (inl same) so = subst (FailsBy site handles tells old before r q w v new after) (sym same) (far_front old before r q w v unread n mid then so)
+  far_lacks old before r q w v unread n mid new then after e (inr same) so = subst (FailsBy site handles tells old before r q w v new after) (sym same) (far_front old before r q w v unread n mid then so)
 
   -- How a `?` leaves.
 
@@ -251,7 +279,7 @@ module _ {H K : Type 0} (site : Site) (handles : H → Method → List ℕ → O
   pub fails_lacking : (old : H) (before : K) (r q w v : Option (List ℕ)) (whole : Bool) (unread : List ℕ) (n : ℕ) (mid new : H) (then after : K) (result : Result Next FrontKind) (y e : FrontKind)
       → result ≡ Err y → y ≡ e → IsLack e → Far old before r q w v unread n mid then → GoesOn old before r q w v whole unread n new after result
   fails_lacking old before r q w v whole unread n mid new then after result y e is same lack so =
-      subst (GoesOn old before r q w v whole unread n new after) (sym (is ∙ ap Err same)) (far_lacks old before r q w v unread n mid then e lack so)
+      subst (GoesOn old before r q w v whole unread n new after) (sym (is ∙ ap Err same)) (far_lacks old before r q w v unread n mid new then after e lack so)
 
   pub fails_by : (old : H) (before : K) (r q w v : Option (List ℕ)) (whole : Bool) (unread : List ℕ) (n : ℕ) (new : H) (after : K) (result : Result Next FrontKind) (y e : FrontKind)
       → result ≡ Err y → y ≡ e → e ≡ kind.Write → Writes r w v (IsCut site handles tells old before) → GoesOn old before r q w v whole unread n new after result

@@ -1,8 +1,8 @@
 -- What a step does, from its parts.
 use Rattle.std.proofs.Common.{◌≡◌, ℕ, ◌≤◌, ◌<◌, ◌==◌, Bool, true, false, ◌&&◌, nat_le, Ok, Err, Some, None, List, [], ◌∷◌, ◌++◌, length, take, drop, refl, sym, ◌∙◌, ap, subst, append_assoc, append-nil, take-append-drop, arith, length-take, length-drop, length-append}
 use Rattle.std.specs.Prelude.{Result, IfOk}
-use Rattle.std.proofs.lemmas.Bool.{leb-true, le-leb}
-use Rattle.std.proofs.lemmas.List.{drop_all, take_all}
+use Rattle.std.proofs.lemmas.Bool.{eqb-true, leb-true, le-leb}
+use Rattle.std.proofs.lemmas.List.{drop_all, nil_from_length, take_all}
 use Rattle.httparse.specs.Grammar.{RequestHead, print_request}
 use Rattle.httparse.specs.Spans.{IsRequestAt, IsRequestWithin, span_bytes}
 use Rattle.httparse.specs.declared.spans.HeaderSpan.{HeaderSpan}
@@ -11,12 +11,12 @@ use Rattle.httparse.proofs.GrammarLemmas.{print_request-append}
 use Rattle.percent_encoding.specs.Percent.{percent_decode}
 use Rattle.http_front.specs.Clocks.{Said, IsNoted}
 use Rattle.http_front.specs.Asking.{target_path}
-use Rattle.http_front.specs.Heads.{BeginsWithin, StaysHeadless}
+use Rattle.http_front.specs.Heads.{BeginsWithin, IsHeadlessWithin, StaysHeadless}
 use Rattle.http_front.specs.Looking.{IsFound}
 use Rattle.http_front.specs.Outcomes.{file_at, file_of, IsBadReply}
 use Rattle.http_front.specs.Sites.{route_of}
 use Rattle.http_front.specs.Stepping.{IsReplied, IsWritten, Serves, Steps}
-use Rattle.http_front.specs.Turns.{SendsBad, head_limit, fields_limit}
+use Rattle.http_front.specs.Turns.{SendsBad, WantsMore, head_limit, fields_limit}
 use Rattle.http_front.specs.declared.handler.Outcome.{Outcome}
 use Rattle.http_front.specs.declared.reply.Method.{Method}
 use Rattle.http_front.specs.declared.reply.Reply.{Reply}
@@ -42,6 +42,17 @@ no_file site h target same is = ap (file_at site) (sym is ∙ ap target_path sam
 -- a head has a byte
 some_bytes : (h : RequestHead) → 0 < length (print_request h)
 some_bytes h = omega (arith, simp length-append at (ap length (print_request-append h [])))
+
+-- an empty list begins with no head
+none_headless : (limit room : ℕ) → IsHeadlessWithin limit room []
+none_headless limit room h rest begins =
+    let some = some_bytes h in
+    let long = ap length begins.reads.1 in
+    let both = length-append (print_request h) rest in
+    absurd (omega (arith, some, long, both))
+
+pub none_wants : (seen : List ℕ) → seen ≡ [] → WantsMore seen
+none_wants seen none = subst WantsMore (sym none) (record { few = omega arith; headless = none_headless head_limit fields_limit })
 
 -- a head that a front of the bytes begins with
 begins_wider : (limit : ℕ) (room : ℕ) (seen : List ℕ) (h : RequestHead) (size : ℕ) → size ≤ length (take limit seen)
@@ -77,18 +88,23 @@ headless_wider limit room seen whole never more over h rest begins =
 so_not : {b : Bool} → b ≡ false → b ≡ true → ⊥
 so_not fails holds = cc
 
+pub is_empty : (xs : List ℕ) → true ≡ (length xs == 0) → xs ≡ []
+is_empty xs test = nil_from_length xs (eqb-true (length xs) 0 (sym test))
+
 pub not_empty : (xs : List ℕ) → false ≡ (length xs == 0) → ¬ (xs ≡ [])
 not_empty [] test none = so_not (sym test) refl
 not_empty (x ∷ xs) test none = cc
 
 -- more bytes come, and there is room for them
-more_wider : (limit : ℕ) (seen : List ℕ) (whole : Bool) → (whole && nat_le (length seen) limit) ≡ false → length (take limit seen) < limit
-    → (whole ≡ false) × (length seen < limit)
-more_wider limit seen true is room =
-    let fits : length seen ≤ limit = omega (arith, length-take limit seen) in
-    let yes = le-leb (length seen) limit fits in
+more_wider : (seen : List ℕ) (whole : Bool) → (whole && nat_le (length seen) head_limit) ≡ false → WantsMore (take head_limit seen)
+    → (whole ≡ false) × WantsMore seen
+more_wider seen true is wants =
+    let fits : length seen ≤ head_limit = omega (arith, wants.few, length-take head_limit seen) in
+    let yes = le-leb (length seen) head_limit fits in
     absurd (so_not is yes)
-more_wider limit seen false is room = (refl, omega (arith, length-take limit seen))
+more_wider seen false is wants =
+    let fits : length seen ≤ head_limit = omega (arith, wants.few, length-take head_limit seen) in
+    (refl, subst WantsMore (take_all head_limit seen fits) wants)
 
 done_wider : (limit : ℕ) (seen : List ℕ) (whole : Bool) → (whole && nat_le (length seen) limit) ≡ true → take limit seen ≡ []
     → (whole ≡ true) × (seen ≡ [])
@@ -142,7 +158,7 @@ module _ {H K : Type 0} (site : Site) (handles : H → Method → List ℕ → O
   steps_wider old new before after seen whole text step.Refused x =
       (λ none. x.0 (ap (take head_limit) none), headless_wider head_limit fields_limit seen whole x.1, x.2, x.3)
   steps_wider old new before after seen whole text step.More x =
-      let wider = more_wider head_limit seen whole x.0 x.1 in (wider.0, wider.1, x.2)
+      let wider = more_wider seen whole x.0 x.1 in (wider.0, wider.1, x.2)
   steps_wider old new before after seen whole text step.Done x =
       let wider = done_wider head_limit seen whole x.0 x.1 in (wider.0, wider.1, x.2)
 

@@ -12,7 +12,7 @@ use Rattle.filter_chain.specs.Scenes.{Scene, Acts}
 use Rattle.http_front.specs.Clocks.{Said}
 use Rattle.http_front.specs.Driven.{Leads, Handles}
 use Rattle.http_front.specs.Requests.{Runs}
-use Rattle.http_front.specs.Turns.{IsCut, IsFront, Responses}
+use Rattle.http_front.specs.Turns.{AnswersRead, IsCut, IsFront, Responses}
 use Rattle.http_front.specs.declared.fault.FrontFault.{FrontFault}
 use Rattle.http_front.specs.declared.fault.FrontKind.{FrontKind}
 use Rattle.http_front.specs.declared.fault.FrontKind.TheVariants as kind
@@ -47,16 +47,17 @@ module _ (budget : ℕ) (chain : List Program) (number : ℕ) where
   IsClosed (Some n) old new = (n ≡ number) × (why : Refusal) × Acts budget chain number event.Close old (Refused why) new
 
 module _ {H K : Type 0} (site : Site) (handles : H → Method → List ℕ → Outcome → H → Type 0) (tells : K → Said → K → Type 0) where
-  -- What is written of the responses to a stream, where serving it ends by this kind of fault. Only where the writer failed, the last response
-  -- may be cut. All are written, where no more than the close lacks memory.
-  abbrev pub FallsBy : FrontKind → Option ℕ → H → K → List ℕ → List ℕ → Type 0
-  FallsBy kind.Write left old before stream text = IsCut site handles tells old before stream text
-  FallsBy kind.Read left old before stream text = IsFront site handles tells old before stream text
-  FallsBy kind.TooManyReads left old before stream text = IsFront site handles tells old before stream text
-  FallsBy kind.NamesSpent left old before stream text = IsFront site handles tells old before stream text
-  FallsBy kind.NoMemory left old before stream text =
+  -- What is written of the responses to a stream, where serving it ends by this kind of fault. unread: what the reader has left. Only where the
+  -- writer failed, the last response is cut. Where the reader failed, or gave no end, all whole requests that were read are answered. All
+  -- responses are written, where no more than the close lacks memory.
+  abbrev pub FallsBy : FrontKind → Option ℕ → H → K → List ℕ → List ℕ → Option (List ℕ) → H → K → Type 0
+  FallsBy kind.Write left old before stream text unread new after = IsCut site handles tells old before stream text
+  FallsBy kind.Read left old before stream text unread new after = AnswersRead site handles tells old before stream text unread new after
+  FallsBy kind.TooManyReads left old before stream text unread new after = AnswersRead site handles tells old before stream text unread new after
+  FallsBy kind.NamesSpent left old before stream text unread new after = IsFront site handles tells old before stream text
+  FallsBy kind.NoMemory left old before stream text unread new after =
       IsFront site handles tells old before stream text
-      ⊎ (¬ (left ≡ None) × (n : ℕ) × (new : H) × (after : K) × Responses site handles tells old before stream text n new after)
+      ⊎ (¬ (left ≡ None) × (n : ℕ) × Responses site handles tells old before stream text n new after)
 
 module _ {F K : Type 0} (device : F → Device) (tells : K → Said → K → Type 0) (site : Site) where
   -- A connection is opened, its requests are served so, and it is closed, or left. old, opened, served, new: the host before and after each.
@@ -75,18 +76,22 @@ module _ {F K : Type 0} (device : F → Device) (tells : K → Said → K → Ty
     pub written : Appends was is text
 
   -- The front of the responses is written, as far as the kind of the fault tells.
-  pub record ServesFront (old : Host F) (before : K) (stream : List ℕ) (e : FrontFault) (was is : Option (List ℕ)) (new : Host F) : Type 0 where
+  pub record ServesFront (old : Host F) (before : K) (stream : List ℕ) (e : FrontFault) (unread was is : Option (List ℕ)) (new : Host F) (after : K) : Type 0 where
     pub text : List ℕ
-    pub connects : Connects old new e.left (λ number a z. FallsBy site (λ o. Handles device o number) tells e.kind e.left a before stream text)
+    pub connects : Connects old new e.left (λ number a z. FallsBy site (λ o. Handles device o number) tells e.kind e.left a before stream text unread z after)
     pub written : Appends was is text
 
-  -- No connection is opened, and nothing is written.
-  pub record IsUnopened (old : Host F) (e : FrontFault) (was is : Option (List ℕ)) (new : Host F) : Type 0 where
+  -- No connection is opened, and nothing is read or written. The clock is not asked.
+  pub record IsUnopened (old : Host F) (before : K) (stream : List ℕ) (e : FrontFault) (unread was is : Option (List ℕ)) (new : Host F) (after : K) : Type 0 where
     pub why : Refusal
     pub kind : e.kind ≡ kind_of why
     pub left : e.left ≡ None
     pub refused : Leads device old new (λ b c s t. Acts b c 0 event.Open s (Refused why) t)
+    pub leaves : unread ≡ Some stream
     pub written : Appends was is []
+    pub still : after ≡ before
 
-  abbrev pub FailsAt : Host F → K → List ℕ → FrontFault → Option (List ℕ) → Option (List ℕ) → Host F → Type 0
-  FailsAt old before stream e was is new = IsUnopened old e was is new ⊎ ServesFront old before stream e was is new
+  -- unread: what the reader has left
+  abbrev pub FailsAt : Host F → K → List ℕ → FrontFault → Option (List ℕ) → Option (List ℕ) → Option (List ℕ) → Host F → K → Type 0
+  FailsAt old before stream e unread was is new after =
+      IsUnopened old before stream e unread was is new after ⊎ ServesFront old before stream e unread was is new after

@@ -2,7 +2,7 @@
 use Rattle.std.specs.Prelude.{◌≡◌, ◌≢◌, ℕ, ◌<◌, ◌≤◌, ◌+◌, ◌⊎◌, Bool, true, false, List, [], ◌++◌, length, Option, IfSome, Result, Ok, Err}
 use Rattle.std.specs.Io.KnownBytes.{Consumes, Appends, IsAtEnd}
 use Rattle.http_front.specs.Clocks.{Said}
-use Rattle.http_front.specs.Turns.{Turn, AllStay, AnswersAll, heads_of, texts_of, Responses, IsFront, IsCut}
+use Rattle.http_front.specs.Turns.{Turn, AllStay, AnswersAll, AnswersRead, heads_of, texts_of, Responses, IsFront, IsCut, WantsMore}
 use Rattle.http_front.specs.declared.fault.FrontKind.{FrontKind}
 use Rattle.http_front.specs.declared.fault.FrontKind.TheVariants as kind
 use Rattle.http_front.specs.declared.handler.Outcome.{Outcome}
@@ -23,9 +23,11 @@ pub record Adds (r q : Option (List ℕ)) (old new : List ℕ) (limit : ℕ) (wh
   pub few : length bytes ≤ limit
   pub end : whole ≡ true → IsAtEnd q
 
--- why a read adds nothing
+-- why a read adds nothing: the reader failed and gave no byte, or there was no memory for what it gave
 abbrev pub Loses : Option (List ℕ) → Option (List ℕ) → FrontKind → Type 0
-Loses r q e = ((bytes : List ℕ) × Consumes r q bytes) × ((e ≡ kind.Read) ⊎ (e ≡ kind.NoMemory))
+Loses r q kind.Read = Consumes r q []
+Loses r q kind.NoMemory = (bytes : List ℕ) × Consumes r q bytes
+Loses r q e = ⊥
 
 module _ {H K : Type 0} (site : Site) (handles : H → Method → List ℕ → Outcome → H → Type 0) (tells : K → Said → K → Type 0) where
   -- So many requests are answered, and the connection stays open. r, q: what the reader had left, and has. w, v: what the writer held,
@@ -42,17 +44,18 @@ module _ {H K : Type 0} (site : Site) (handles : H → Method → List ℕ → O
   abbrev pub EndsWell : H → K → Option (List ℕ) → Option (List ℕ) → Option (List ℕ) → ℕ → H → K → Type 0
   EndsWell old before r w v n new after = Writes r w v (λ stream text. Responses site handles tells old before stream text n new after)
 
-  -- Serving fails. Only where the writer failed, a response may be cut.
-  abbrev pub FailsBy : H → K → Option (List ℕ) → Option (List ℕ) → Option (List ℕ) → FrontKind → Type 0
-  FailsBy old before r w v kind.Write = Writes r w v (IsCut site handles tells old before)
-  FailsBy old before r w v kind.Read = Writes r w v (IsFront site handles tells old before)
-  FailsBy old before r w v kind.TooManyReads = Writes r w v (IsFront site handles tells old before)
-  FailsBy old before r w v kind.NoMemory = Writes r w v (IsFront site handles tells old before)
-  FailsBy old before r w v kind.NamesSpent = Writes r w v (IsFront site handles tells old before)
+  -- Serving fails. Only where the writer failed, a response is cut. All whole requests that were read are answered, where the reader failed,
+  -- or gave no end.
+  abbrev pub FailsBy : H → K → Option (List ℕ) → Option (List ℕ) → Option (List ℕ) → Option (List ℕ) → H → K → FrontKind → Type 0
+  FailsBy old before r q w v new after kind.Write = Writes r w v (IsCut site handles tells old before)
+  FailsBy old before r q w v new after kind.Read = Writes r w v (λ stream text. AnswersRead site handles tells old before stream text q new after)
+  FailsBy old before r q w v new after kind.TooManyReads = Writes r w v (λ stream text. AnswersRead site handles tells old before stream text q new after)
+  FailsBy old before r q w v new after kind.NoMemory = Writes r w v (IsFront site handles tells old before)
+  FailsBy old before r q w v new after kind.NamesSpent = Writes r w v (IsFront site handles tells old before)
 
   -- what comes next
   abbrev pub Goes : H → K → Option (List ℕ) → Option (List ℕ) → Option (List ℕ) → Option (List ℕ) → Bool → List ℕ → ℕ → H → K → Result Next FrontKind → Type 0
   Goes old before r q w v whole unread n new after (Ok next.Again) = SoFar old before r q w v unread n new after
-  Goes old before r q w v whole unread n new after (Ok next.Reads) = SoFar old before r q w v unread n new after × (whole ≡ false)
+  Goes old before r q w v whole unread n new after (Ok next.Reads) = SoFar old before r q w v unread n new after × (whole ≡ false) × WantsMore unread
   Goes old before r q w v whole unread n new after (Ok next.Over) = EndsWell old before r w v n new after
-  Goes old before r q w v whole unread n new after (Err e) = FailsBy old before r w v e
+  Goes old before r q w v whole unread n new after (Err e) = FailsBy old before r q w v new after e

@@ -6,7 +6,7 @@ use Rattle.http_front.specs.Clocks.{Said, IsNoted}
 use Rattle.http_front.specs.Heads.{BeginsWithin, StaysHeadless}
 use Rattle.http_front.specs.Outcomes.{IsReplyTo}
 use Rattle.http_front.specs.Replying.{reply_text}
-use Rattle.http_front.specs.Turns.{Turn, head_limit, fields_limit, ComesUnless, IsDated, Answers, SendsBad}
+use Rattle.http_front.specs.Turns.{Turn, head_limit, fields_limit, ComesUnless, IsDated, Answers, SendsBad, WantsMore}
 use Rattle.http_front.specs.declared.handler.Outcome.{Outcome}
 use Rattle.http_front.specs.declared.reply.Method.{Method}
 use Rattle.http_front.specs.declared.reply.Reply.{Reply}
@@ -51,5 +51,5 @@ module _ {H K : Type 0} (site : Site) (handles : H → Method → List ℕ → O
   Steps old before seen whole (step.Closes size) text new after = Serves old before seen true size text new after
   Steps old before seen whole step.Refused text new after =
       ¬ (seen ≡ []) × StaysHeadless head_limit fields_limit seen whole × (new ≡ old) × SendsBad site handles tells before text after
-  Steps old before seen whole step.More text new after = (whole ≡ false) × (length seen < head_limit) × Waits old before text new after
+  Steps old before seen whole step.More text new after = (whole ≡ false) × WantsMore seen × Waits old before text new after
   Steps old before seen whole step.Done text new after = (whole ≡ true) × (seen ≡ []) × Waits old before text new after

@@ -1,5 +1,5 @@
 -- The requests of a connection, one after another, and what is answered (RFC 9112, section 9.3).
-use Rattle.std.specs.Prelude.{◌≡◌, ℕ, ◌≤◌, ◌+◌, true, false, List, [], ◌∷◌, ◌++◌, Option, Some, None, ◌⊎◌, length}
+use Rattle.std.specs.Prelude.{◌≡◌, ℕ, ◌<◌, ◌≤◌, ◌+◌, true, false, List, [], ◌∷◌, ◌++◌, Option, Some, None, ◌⊎◌, length}
 use Rattle.std.specs.List.{flat_map}
 use Rattle.httparse.specs.Grammar.{RequestHead, print_request}
 use Rattle.http_front.specs.Asking.{refusal}
@@ -20,6 +20,11 @@ head_limit = 8192
 
 abbrev pub fields_limit : ℕ
 fields_limit = 64
+
+-- Bytes that want more: they begin with no head within the limits, and are fewer than a head may have.
+pub record WantsMore (seen : List ℕ) : Type 0 where
+  pub few : length seen < head_limit
+  pub headless : IsHeadlessWithin head_limit fields_limit seen
 
 -- A request and its response: the head, the reply, and the Date line.
 pub record Turn : Type 0 where
@@ -139,7 +144,28 @@ module _ {H K : Type 0} (site : Site) (handles : H → Method → List ℕ → O
     pub splits : stream ≡ first ++ rest
     pub responses : EndsAll old before first text n new after
 
-  -- This is cut from the responses to a stream, or to its first requests: the front of them.
-  abbrev pub IsCut : H → K → List ℕ → List ℕ → Type 0
-  IsCut old before stream text =
-      (more : List ℕ) × (IsFront old before stream (text ++ more) ⊎ ((n : ℕ) × (new : H) × (after : K) × Responses old before stream (text ++ more) n new after))
+  -- These are so many responses to a stream, or to its first requests.
+  abbrev pub IsNext : H → K → List ℕ → List ℕ → ℕ → Type 0
+  IsNext old before stream text n =
+      ((front : IsFront old before stream text) × (front.n ≡ n)) ⊎ ((new : H) × (after : K) × Responses old before stream text n new after)
+
+  -- These are the responses to all whole requests that were read. seen: what was read and not answered. left: what the reader has left.
+  pub record AnswersRead (old : H) (before : K) (stream text : List ℕ) (left : Option (List ℕ)) (new : H) (after : K) : Type 0 where
+    pub first : List ℕ
+    pub seen : List ℕ
+    pub unread : List ℕ
+    pub n : ℕ
+    pub splits : stream ≡ first ++ seen ++ unread
+    pub responses : EndsAll old before first text n new after
+    pub wants : WantsMore seen
+    pub leaves : left ≡ Some unread
+
+  -- These are the responses to the first requests of a stream, and a part of one response more: that is cut.
+  pub record IsCut (old : H) (before : K) (stream text : List ℕ) : Type 0 where
+    pub front : List ℕ
+    pub part : List ℕ
+    pub more : List ℕ
+    pub whole : IsFront old before stream front
+    pub next : IsNext old before stream (front ++ (part ++ more)) (whole.n + 1)
+    pub some : ¬ (more ≡ [])
+    pub written : text ≡ front ++ part

@@ -70,7 +70,7 @@ pub fn serve<R: Read, W: Write, F: Files + Drop, K: Clock>(
     requires alive { IsAlive F.device host.old }
     ensures still { IsAlive F.device host.new }
     ensures ok { IfOk result (λ s. IfSome (R.remaining reader.old) (λ stream. ServesAll F.device K.tells site.now host.old clock.old stream s.requests (W.contents writer.old) (W.contents writer.new) host.new clock.new)) }
-    ensures err { IfErr result (λ e. IfSome (R.remaining reader.old) (λ stream. FailsAt F.device K.tells site.now host.old clock.old stream e (W.contents writer.old) (W.contents writer.new) host.new)) }
+    ensures err { IfErr result (λ e. IfSome (R.remaining reader.old) (λ stream. FailsAt F.device K.tells site.now host.old clock.old stream e (R.remaining reader.new) (W.contents writer.old) (W.contents writer.new) host.new clock.new)) }
 {
     match host.open_conn() {
         Ok(number) => {

@@ -60,7 +60,7 @@ impl Progress {
         requires fits { size ≤ length (unread self.old.inbox) }
         requires few { self.old.requests < 2 ^ 63 }
         ensures ok { IfOk result (λ u. Appends (W.contents writer.old) (W.contents writer.new) self.old.text.items) }
-        ensures err { IfErr result (λ e. (e ≡ FrontKind.Write) × ((n : ℕ) × Appends (W.contents writer.old) (W.contents writer.new) (take n self.old.text.items))) }
+        ensures err { IfErr result (λ e. (e ≡ FrontKind.Write) × ((n : ℕ) × (n < length self.old.text.items) × Appends (W.contents writer.old) (W.contents writer.new) (take n self.old.text.items))) }
         ensures whole { self.new.whole ≡ self.old.whole }
         ensures counted { OnOk result (self.new.requests ≡ self.old.requests + 1) }
         ensures skipped { OnOk result (unread self.new.inbox ≡ drop size (unread self.old.inbox)) }
@@ -189,7 +189,7 @@ pub(crate) fn serve_open<R: Read, W: Write, H: Handler, K: Clock>(
     requires { H.is_open handler.old number }
     ensures open { H.is_open handler.new number }
     ensures ok { IfOk result (λ s. EndsWell site.now (λ h. H.handles h number) K.tells handler.old clock.old (R.remaining reader.old) (W.contents writer.old) (W.contents writer.new) s.requests handler.new clock.new) }
-    ensures err { IfErr result (λ e. FailsBy site.now (λ h. H.handles h number) K.tells handler.old clock.old (R.remaining reader.old) (W.contents writer.old) (W.contents writer.new) e) }
+    ensures err { IfErr result (λ e. FailsBy site.now (λ h. H.handles h number) K.tells handler.old clock.old (R.remaining reader.old) (R.remaining reader.new) (W.contents writer.old) (W.contents writer.new) handler.new clock.new e) }
 {
     let mut so_far = Progress::new(alloc);
     for _ in 0..READS {

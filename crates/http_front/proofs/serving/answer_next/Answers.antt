@@ -19,7 +19,7 @@ returns-in_err-put-in-Stays-clause-goes g c old before r q w ends so =
     let p = err_from_is_err_and c.from_residual-in_err-put-in-Stays.result c.from_residual-in_err-put-in-Stays.ensures.1 in
     let e = c.in_err-put-in-Stays.ensures.err in
     fails_by _ _ _ old before r q w _ _ _ _ _ _ c.from_residual-in_err-put-in-Stays.result p.0 c.in_err-put-in-Stays.field-0.0 p.1 p.2 e.0
-    (cut_stays _ _ _ old before r q w _ _ _ _ c.in-Stays.size e.1.0 _ _ _ _ _ so stepped e.1.1)
+    (cut_stays _ _ _ old before r q w _ _ _ _ c.in-Stays.size e.1.0 _ _ _ _ _ so stepped e.1.1 e.1.2)
 
 pub returns-in_err-put-in-Closes-clause-goes : goal.returns-in_err-put-in-Closes-clause-goes
 returns-in_err-put-in-Closes-clause-goes g c old before r q w ends so =
@@ -28,7 +28,7 @@ returns-in_err-put-in-Closes-clause-goes g c old before r q w ends so =
     let p = err_from_is_err_and c.from_residual-in_err-put-in-Closes.result c.from_residual-in_err-put-in-Closes.ensures.1 in
     let e = c.in_err-put-in-Closes.ensures.err in
     fails_by _ _ _ old before r q w _ _ _ _ _ _ c.from_residual-in_err-put-in-Closes.result p.0 c.in_err-put-in-Closes.field-0.0 p.1 p.2 e.0
-    (cut_closes _ _ _ old before r q w _ _ _ _ c.in-Closes.size e.1.0 _ _ _ _ _ so stepped e.1.1)
+    (cut_closes _ _ _ old before r q w _ _ _ _ c.in-Closes.size e.1.0 _ _ _ _ _ so stepped e.1.1 e.1.2)
 
 pub returns-in_err-put-in-Refused-clause-goes : goal.returns-in_err-put-in-Refused-clause-goes
 returns-in_err-put-in-Refused-clause-goes g c old before r q w ends so =
@@ -37,7 +37,7 @@ returns-in_err-put-in-Refused-clause-goes g c old before r q w ends so =
     let p = err_from_is_err_and c.from_residual-in_err-put-in-Refused.result c.from_residual-in_err-put-in-Refused.ensures.1 in
     let e = c.in_err-put-in-Refused.ensures.err in
     fails_by _ _ _ old before r q w _ _ _ _ _ _ c.from_residual-in_err-put-in-Refused.result p.0 c.in_err-put-in-Refused.field-0.0 p.1 p.2 e.0
-    (cut_refused _ _ _ old before r q w _ _ _ _ _ e.1.0 _ _ _ _ _ so ends stepped e.1.1)
+    (cut_refused _ _ _ old before r q w _ _ _ _ _ e.1.0 _ _ _ _ _ so ends stepped e.1.1 e.1.2)
 
 pub returns-in_ok-put-in-Stays-clause-goes : goal.returns-in_ok-put-in-Stays-clause-goes
 returns-in_ok-put-in-Stays-clause-goes g c old before r q w ends so =

@@ -1,8 +1,18 @@
-use Rattle.std.proofs.Common.{ℕ, refl, ◌∙◌, subst}
+use Rattle.std.proofs.Common.{◌≡◌, ℕ, false, [], refl, ◌∙◌, subst}
 use Rattle.http_front.specs.Heads.{StaysHeadless}
 use Rattle.http_front.specs.Turns.{head_limit}
-use Rattle.http_front.proofs.Stepped.{not_empty, ok_gives, sends_bad}
+use Rattle.http_front.proofs.Stepped.{is_empty, none_wants, not_empty, ok_gives, sends_bad}
 use Rattle.http_front.proofs.steps.step_within.Goals as goal
+use Rattle.http_front.proofs.steps.step_within.Goals.{else-is_empty-via-then-is_empty+else-whole, else-is_empty-via-else-is_empty}
+
+pub returns-then-is_empty-2-clause-ok : goal.returns-then-is_empty-2-clause-ok
+returns-then-is_empty-2-clause-ok g c =
+    let none : c.args.seen.now ≡ [] = is_empty c.args.seen.now c.if-is_empty-2.ensures in
+    let follows : c.args.whole ≡ false = elim c.else-is_empty.branch [
+      | else-is_empty-via-then-is_empty+else-whole w ↦ w.if-whole.false
+      | else-is_empty-via-else-is_empty w ↦ absurd (not_empty c.args.seen.now w.if-is_empty.ensures none)
+    ] in
+    (follows, none_wants c.args.seen.now none, record { same = refl; still = refl; none = c.clear.ensures.items })
 
 pub returns-in-Head-clause-ok : goal.returns-in-Head-clause-ok
 returns-in-Head-clause-ok g c =
