@@ -1,4 +1,4 @@
--- Steps and events keep pools and brigades as the module declares them.
+-- Steps keep pools and brigades as the module declares them.
 use Rattle.std.proofs.Common.{◌≡◌, ◌≢◌, ℕ, ◌+◌, ◌<◌, ◌≤◌, Bool, true, false, ◌||◌, not, ◌==◌, nat_lt, cond, List, [], ◌∷◌, ◌++◌, map, filter_map, length, Option, Some, None, ◌⊎◌, inl, inr, refl, sym, ◌∙◌, ap, subst, arith}
 use Rattle.std.proofs.lemmas.Bool.{cases_Bool, cases_eq}
 use Rattle.std.proofs.lemmas.Bool.Decides.{nat_tests}
@@ -382,5 +382,3 @@ step_declared p choice i r may sound s = placed_step (AsDeclared p) (declared_fr
 pub at_end_declared : StepAtEndKeepsDeclared
 unfolding set_brigade
 at_end_declared p i r may sound s = at_end_keeps (AsDeclared p) p i r (step_declared p (choice_at_end i r) i r may sound s) (λ out fs x reads stepped. kept p x _ refl refl refl refl (same_vars x) stepped)
-
--- Events.

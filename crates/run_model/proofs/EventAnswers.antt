@@ -1,5 +1,4 @@
--- From an event of a connection to what it leaves: a refused one leaves the connection as it was, and where none of
--- its tests holds it has happened.
+-- Where no refusal is told, none of its tests holds.
 use Rattle.std.proofs.Common.{◌≡◌, Bool, true, false, List, ◌∷◌, Option, Some, None, refl}
 use Rattle.run_model.specs.declared.event.Refusal.{Refusal}
 use Rattle.run_model.specs.Connection.{first_refusal, refused_if}
@@ -11,5 +10,3 @@ none_first (Some r) ts h = absurd (cc)
 pub none_if : (b : Bool) (r : Refusal) (ts : List (Option Refusal)) → first_refusal (refused_if b r ∷ ts) ≡ None → (b ≡ false) × (first_refusal ts ≡ None)
 none_if true r ts h = absurd (cc)
 none_if false r ts h = (refl, h)
-
--- Where no connection is there, none is made but by an opening.

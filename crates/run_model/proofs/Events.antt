@@ -1,4 +1,4 @@
--- The events of a connection keep its run sound.
+-- A change that leaves brigades, pools and names as they were keeps what is sound.
 use Rattle.std.proofs.Common.{◌≡◌, ℕ, ◌^◌, ◌<◌, ◌≤◌, sym, ◌∙◌, ap, subst, arith}
 use Rattle.run_model.specs.declared.bucket.BrigadeVar.{BrigadeVar}
 use Rattle.run_model.specs.State.{Configuration, items_of}
@@ -25,13 +25,3 @@ pub untouched_sound : (r new : Configuration) → new.instance.brigades ≡ r.in
     → new.call.loose ≡ r.call.loose → Sound r → Sound new
 untouched_sound r new brigades own pools conn req next same s =
     same_sound r new brigades own pools conn req next (λ n. rw same (omega arith)) (λ h. subst ProperList (sym same) h) s
-
--- A file is opened.
-
--- A request begins.
-
--- A brigade is brought.
-
--- A request ends.
-
--- The connection is opened.

@@ -1,4 +1,4 @@
--- What each event keeps: a property of connections that holds where one is opened, and that each event keeps which happens.
+-- An instruction at its place in a module may be executed, where it has no fault and the names that it gives out are there.
 use Rattle.std.proofs.Common.{◌≡◌, ℕ, true, false, length, get_or, None, inl, inr, ap}
 use Rattle.std.proofs.lemmas.Bool.{cases_lt}
 use Rattle.std.proofs.lemmas.List.{get_or_past}
@@ -11,8 +11,6 @@ use Rattle.run_model.specs.Faults.{fault}
 use Rattle.run_model.specs.Steps.{lacks_names, current}
 use Rattle.run_model.specs.Laws.{MayExecute}
 
--- Steps.
-
 -- the instruction at a place fits the module, and so does the return that stands for none
 pub current_fits : (p : Program) → IsModule p → (pc : ℕ) → fits p (current p pc) ≡ true
 unfolding current
@@ -23,7 +21,3 @@ current_fits p m pc = elim (cases_lt pc (length p.code)) [
 
 pub may_execute : (p : Program) (r : Configuration) → IsModule p → fault p r (current p r.pc) ≡ None → lacks_names r (current p r.pc) ≡ false → MayExecute p r (current p r.pc)
 may_execute p r m none last = record { proper = m; fit = current_fits p m r.pc; faultless = none; names_last = last }
-
--- The other events.
-
--- A property that no other one is needed for.

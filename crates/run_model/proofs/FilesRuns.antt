@@ -1,4 +1,4 @@
--- Events keep the files of FILE buckets open, and so do runs.
+-- The buckets of pieces are held, where the request has their files.
 use Rattle.std.proofs.Common.{◌≡◌, ℕ, ◌+◌, Bool, true, false, ◌||◌, not, List, [], ◌∷◌, refl, subst}
 use Rattle.std.specs.List.{list_any}
 use Rattle.std.proofs.lemmas.List.Elements.{All-cons}
@@ -9,10 +9,6 @@ use Rattle.run_model.specs.Pools.{Pools}
 use Rattle.run_model.specs.Connection.{lacks_file, has_range, bucket_of, named_from}
 use Rattle.run_model.specs.Laws.{refers, IsHeld}
 use Rattle.run_model.proofs.StepFiles.{HeldList, none_held}
-
--- Steps.
-
--- Connections.
 
 pub pieces_held : (ps : Pools Payload) (files : List (ℕ × ℕ)) (call req n : ℕ) (xs : List Piece) → list_any (lacks_file files) xs ≡ false
     → ((file end : ℕ) → has_range files file end ≡ true → refers ps req file ≡ true) → HeldList ps (named_from (bucket_of call req) n xs)
@@ -39,7 +35,3 @@ pieces_held ps files call req n (x ∷ xs) there request =
           subst (λ (q : ℕ). refers ps q file ≡ true) same_pool (subst (λ (k : ℕ). refers ps req k ≡ true) same_file (request f _ (has _ lacks)))
       one piece.Flush lacks = λ file start len p e at. absurd (cc)
       one piece.Eos lacks = λ file start len p e at. absurd (cc)
-
--- All events.
-
--- Runs.

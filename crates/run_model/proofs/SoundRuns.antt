@@ -1,4 +1,4 @@
--- Each event keeps what is sound, and so does each run.
+-- A step at the end of a chain keeps what is sound.
 use Rattle.std.proofs.Common.{refl}
 use Rattle.module_lang.specs.declared.instr.Instr.{Instr}
 use Rattle.module_lang.specs.Program.{Program}
@@ -12,8 +12,6 @@ use Rattle.run_model.proofs.StepBuckets.{step_buckets}
 use Rattle.run_model.proofs.StepPools.{step_pools}
 use Rattle.run_model.proofs.Events.{untouched_sound}
 
--- Steps.
-
 succeeds : (p : Program) (i : Instr) (r : Configuration) → MayExecute p r i → Sound r → Sound (step p (choice_at_end i r) i r).state
 succeeds p i r may s = record {
   names = step_names p (choice_at_end i r) i r may s.names;
@@ -23,7 +21,3 @@ succeeds p i r may s = record {
 
 pub at_end_sound : StepAtEndKeeps
 at_end_sound p i r may s = at_end_keeps Sound p i r (succeeds p i r may s) (λ out fs x reads stepped. untouched_sound x _ refl refl refl refl refl refl refl stepped)
-
--- Events.
-
--- Runs.
