@@ -39,7 +39,7 @@ module _ (budget : ℕ) (chain : List Program) (P : Connection → Type 0) (keep
     made = λ j c v at m. made_so memory told w.common c e v (h j c at) m;
     opening = keeps.opening w.common;
     beside = λ c v m x px. px;
-    unopened = λ x px. px
+    unopened = λ x px. px;
   })
 
   pub run_so : (es : List (ℕ × Event)) (answers : List Answer) (w : World) → IsRun budget chain empty_world es answers w → OfEach P w
