@@ -5,8 +5,8 @@
     python3 tests/documents.py --write    # puts the right numbers of lines into tables of files
 
 Checked are, in each Markdown file: that links lead to a file, and to a heading of it; that a file or folder which is named
-`like/this.rt` is there; that a function, definition or clause which is linked `like_this` stands in the file that the link
-names; that a number beside a link in a table is the file's number of lines; that what a transcript shows below
+`like/this.rt` is there; that a function or definition which is linked `like_this` stands in the file that the link names, and the
+clauses named behind it in the contract of that function; that a number beside a link in a table is the file's number of lines; that what a transcript shows below
 `$ cat FILE` and `$ ./host < SCRIPT` is that file, and the answers kept with that script; that docs/TRUST.md names each file of
 definitions; that the words of docs/MODEL.md are there; and that no cell of a table in README.md has more than 30 words.
 """
@@ -87,15 +87,23 @@ def link_faults(path, line):
 
 
 def word_faults(shown, full, behind):
-    """Whether the word that a link shows, and the clauses named behind it, stand in the file that it leads to."""
+    """Whether the word that a link shows stands in the file that it leads to, and the clauses named behind it in its contract."""
     text = read(full)
-    words = [WORD.fullmatch(span) for span in SPAN.findall(shown)]
-    clauses = re.search(r'\), clauses? ((?:`\w+`(?:, | and )?)+)', behind)
-    if clauses:
-        words += [WORD.fullmatch(span) for span in SPAN.findall(clauses[1])]
+    words = [word for word in map(WORD.fullmatch, SPAN.findall(shown)) if word]
     for word in words:
-        if word and not re.search(r'\b%s\b' % word[1], text):
+        if not re.search(r'\b%s\b' % word[1], text):
             yield '%s does not stand in %s' % (word[0], full)
+    named = re.match(r'[^)]*\), clauses? ((?:`\w+`(?:, | and )?)+)', behind)
+    if named and words:
+        clauses = set(SPAN.findall(named[1]))
+        if not any(clauses <= told for told in contracts(text, words[0][1])):
+            yield '%s of %s has no clauses %s' % (words[0][0], full, ', '.join(sorted(clauses)))
+
+
+def contracts(text, name):
+    """The names of the clauses of each function of this name."""
+    heads = re.findall(r'\bfn %s\b.*?^ *\{\}?$' % name, text, re.S | re.M)
+    return [set(re.findall(r'\bensures (\w+) \{', head)) for head in heads]
 
 
 def is_there(name, files):
