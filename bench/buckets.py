@@ -112,12 +112,63 @@ def returns():
         print('a call that returns while %s buckets are kept: %.1f us; ratio %.1f' % (format(size, ','), 1e6 * took / calls, took / calls / first))
 
 
+class Driven:
+    """The program, driven line by line: each answer is read before the next line is sent."""
+
+    def __init__(self, module):
+        self.program = subprocess.Popen([PROGRAM], stdin=subprocess.PIPE, stdout=subprocess.PIPE)
+        self.program.stdin.write((module + 'budget 18446744073709551615\n').encode())
+
+    def ask(self, line, answer):
+        self.program.stdin.write(line.encode() + b'\n')
+        self.program.stdin.flush()
+        said = self.program.stdout.readline().decode().rstrip('\n')
+        if said != answer:
+            raise SystemExit('unexpected answer to %r: %r' % (line[:40], said))
+
+    def end(self):
+        self.program.stdin.close()
+        self.program.wait()
+
+
+SAVER = ('module 1\nbrigade b0 conn\nopen\nbcreate b0\nret ok\ninit\nbclean b0\nret ok\nmain\nbsave b0 in\nret ok\nend\n')
+AT_ONCE = 4_000                          # pieces in one `bring`: a line has at most 65,536 bytes
+
+
+def end_of(count, rounds):
+    """The seconds that the end of a request takes which saved so many files; the best of some."""
+    driven, best = Driven(SAVER), None
+    driven.ask('file a 1 "x"', 'ok')
+    driven.ask('open', 'conn 1')
+    driven.ask('run 1', 'ended ok')
+    for _ in range(rounds):
+        driven.ask('begin 1', 'ok')
+        driven.ask('run 1', 'ended ok')
+        for first in range(0, count, AT_ONCE):
+            driven.ask('bring 1' + ' file a 0 1' * min(AT_ONCE, count - first), 'ok')
+            driven.ask('run 1', 'ended ok')
+        start = time.perf_counter()
+        driven.ask('end 1', 'ok')
+        took = time.perf_counter() - start
+        best = took if best is None else min(best, took)
+    driven.end()
+    return best
+
+
+def ends():
+    """Requests that end when so many files were saved for the next."""
+    first = end_of(KEPT[1], 20)
+    for size, took in ((KEPT[1], first), (KEPT[2], end_of(KEPT[2], 2))):
+        print('the end of a request that saved %s files: %.0f us; ratio %.1f' % (format(size, ','), 1e6 * took, took / first))
+
+
 def main():
     if not os.access(PROGRAM, os.X_OK):
         raise SystemExit('bench/buckets.py: there is no program %s; ./host builds the one of this repository' % PROGRAM)
     steps()
     moves()
     returns()
+    ends()
 
 
 if __name__ == '__main__':

@@ -6,7 +6,8 @@
 One client asks for a file of 2 bytes, of 64 KiB and of 1 MiB on one connection that stays open. What is told is the processor time of
 the server alone, user and system, for each request, and its memory before and behind. Then the file of 2 bytes is asked for on N connections
 of one request each. Where nginx or apache2 is there, it serves the same files in the same run, as one process that reads files and changes
-nothing, and the ratio is told. Where apxs is there as well (apache2-dev), apache2 sends them through a filter in C that passes each brigade
+nothing. So does a server in C that reads each file and writes it once (bench/plain_server.c), where there is a C compiler. The ratio to each
+is told. Where apxs is there as well (apache2-dev), apache2 sends them through a filter in C that passes each brigade
 on (bench/pass_filter.c).
 """
 import argparse
@@ -155,6 +156,11 @@ def servers(program, module, folder):
         with open(os.path.join(folder, 'f%d' % size), 'wb') as file:
             file.write(b'x' * size)
     yield 'serve', lambda port: [program, 'serve', '--site', 'site', '--port', str(port), '--conns', '0', 'module']
+    compiler = shutil.which('cc')
+    if compiler:
+        plain = os.path.join(folder, 'plain_server')
+        subprocess.run([compiler, '-O2', '-o', plain, os.path.join(TOP, 'bench', 'plain_server.c')], check=True)
+        yield 'plain C', lambda port: [plain, str(port)]
     for name, text, words in (('nginx', NGINX, ['-c']), ('apache2', APACHE, ['-X', '-f'])):
         found = shutil.which(name) or shutil.which(name, path='/usr/sbin')
         if found:
