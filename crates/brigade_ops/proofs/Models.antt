@@ -11,7 +11,7 @@ use Rattle.run_model.specs.declared.bucket.Bucket.{Bucket}
 use Rattle.run_model.specs.declared.bucket.NamedBucket.{NamedBucket}
 use Rattle.run_model.specs.declared.event.Piece.{Piece}
 use Rattle.run_model.specs.Buckets.{cleared_bucket}
-use Rattle.run_model.specs.Connection.{named_from}
+use Rattle.run_model.specs.Pieces.{named_from}
 use Rattle.run_model.specs.Cutting.{split_at}
 use Rattle.run_model.specs.declared.payload.Payload.{Payload}
 use Rattle.run_model.specs.Pools.{Pools}

@@ -9,7 +9,7 @@ use Rattle.run_model.specs.declared.bucket.Bucket.{Bucket}
 use Rattle.run_model.specs.Buckets.{cleared_bucket}
 use Rattle.run_model.specs.Cutting.{split_at}
 use Rattle.run_model.specs.BrigadeLists as model
-use Rattle.run_model.specs.Connection.{named_from}
+use Rattle.run_model.specs.Pieces.{named_from}
 use Rattle.run_model.specs.Pools.{Pools}
 use Rattle.run_model.specs.Steps.{aside_named}
 use Rattle.run_model.specs.declared.payload.Payload.{Payload}

@@ -12,7 +12,7 @@ use Rattle.run_model.specs.declared.event.Refusal.{Refusal}
 use Rattle.run_model.specs.declared.event.Stepped.{Stepped}
 use Rattle.run_model.specs.declared.fault.FaultKind.{FaultKind}
 use Rattle.run_model.specs.Clearing.{run_down}
-use Rattle.run_model.specs.Connection.{first_refusal}
+use Rattle.run_model.specs.Refusals.{first_refusal}
 use Rattle.run_model.specs.Faults.{fault}
 use Rattle.run_model.specs.Files.{Files}
 use Rattle.run_model.specs.State.{Configuration, pool_named, with_pools}

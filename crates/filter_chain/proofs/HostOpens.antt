@@ -4,7 +4,7 @@ use Rattle.module_lang.specs.Program.{Program}
 use Rattle.run_model.specs.declared.event.Event.TheVariants as event
 use Rattle.run_model.specs.declared.event.Refusal.{Refusal}
 use Rattle.run_model.specs.declared.event.Refusal.TheVariants as refusal
-use Rattle.run_model.specs.Connection.{first_refusal, refused_if}
+use Rattle.run_model.specs.Refusals.{first_refusal, refused_if}
 use Rattle.run_model.specs.Indexed.{upd}
 use Rattle.run_model.specs.Chains.{Connection, Common, Linked}
 use Rattle.run_model.specs.ChainLaws.{Rises}
@@ -13,7 +13,7 @@ use Rattle.run_model.specs.Turns.{opened, all_called}
 use Rattle.run_model.specs.Worlds.{World, Told, Answer, Refused, Connected, put_conn, opens_if, opens, happens, happens_on}
 use Rattle.run_model.proofs.StepNames.{not_spent}
 use Rattle.run_model.proofs.chains.EventBuckets.{opened_raises}
-use Rattle.run_model.proofs.chains.EventTurns.{both_off}
+use Rattle.run_model.proofs.StepFiles.{neither}
 use Rattle.bucket_kinds.specs.Device.{Device}
 use Rattle.pool_tree.specs.Tree.{map_of}
 use Rattle.brigade_ops.specs.Store.{next_name}
@@ -70,8 +70,8 @@ opened_on d old new w hosts chain budget last s seats modules same lasts left po
     let v = opened programs w.common in
     let all = laws (budget_of old) programs d old.next old.last (seat_at old.seats) w hosts in
     let none = spent_is d old w hosts false lasts in
-    let off = both_off (is_spent (w.last + 1) 1) (is_spent w.common.pools 1 || is_spent w.common.next 1) none in
-    let names = both_off (is_spent w.common.pools 1) (is_spent w.common.next 1) off.1 in
+    let off = neither (is_spent (w.last + 1) 1) (is_spent w.common.pools 1 || is_spent w.common.next 1) none in
+    let names = neither (is_spent w.common.pools 1) (is_spent w.common.next 1) off.1 in
     let rises = opened_raises programs w.common (not_spent w.common.next 1 names.1) (not_spent w.common.pools 1 names.0) in
     let stands = subst (λ (m : List Program). (d : Device) (g : Common) → g.pools ≡ old.next.pool → g.next ≡ old.next.name → LeftAs m s.tree s.store d s.conn (opened m g)) same left in
     let file = opened_file programs w.common in

@@ -5,7 +5,7 @@ use Rattle.run_model.specs.declared.bucket.Home.{Home}
 use Rattle.run_model.specs.declared.bucket.PoolVar.TheVariants as poolvar
 use Rattle.run_model.specs.declared.event.Piece.{Piece}
 use Rattle.run_model.specs.declared.event.Piece.TheVariants as piece
-use Rattle.run_model.specs.Connection.{bucket_of, named_from}
+use Rattle.run_model.specs.Pieces.{bucket_of, named_from}
 use Rattle.run_model.specs.Pools.{is_live}
 use Rattle.run_model.specs.State.{Configuration, Call, Shared, Out}
 use Rattle.life_state.specs.States.{Homes, only_call, CursorKnown, Unset, State}

@@ -12,7 +12,7 @@ use Rattle.run_model.specs.declared.bucket.Home.TheVariants as home
 use Rattle.run_model.specs.declared.bucket.NamedBucket.{NamedBucket}
 use Rattle.run_model.specs.declared.event.Piece.{Piece}
 use Rattle.run_model.specs.declared.event.Piece.TheVariants as piece
-use Rattle.run_model.specs.Connection.{bucket_of, named_from}
+use Rattle.run_model.specs.Pieces.{bucket_of, named_from}
 use Rattle.brigade_ops.specs.declared.store.Brigades.{Brigades}
 use Rattle.brigade_ops.specs.Items.{Item, Items, named, named_item}
 use Rattle.brigade_ops.specs.Store.{lists, next_name}

@@ -9,7 +9,7 @@ use Rattle.module_run.specs.declared.conn.Conn.{Conn}
 use Rattle.module_run.specs.declared.conn.Filter.{Filter}
 use Rattle.module_run.specs.CalledFirst.{Starts}
 use Rattle.module_run.specs.CalledMain.{StartsWith}
-use Rattle.run_model.specs.Connection.{has_range}
+use Rattle.run_model.specs.Pieces.{has_range}
 use Rattle.module_run.specs.declared.conn.OpenFile.{OpenFile}
 use Rattle.module_run.specs.Conns.{filter_at, lengths}
 

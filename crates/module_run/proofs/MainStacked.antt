@@ -22,7 +22,7 @@ use Rattle.brigade_ops.specs.House.{AreOpen}
 use Rattle.brigade_ops.specs.Items.{Items, named}
 use Rattle.brigade_ops.specs.Store.{lists, brigade_of, pool_of, next_name, references}
 use Rattle.brigade_ops.proofs.HouseCalls.{house_paired}
-use Rattle.run_model.specs.Connection.{bucket_of, named_from}
+use Rattle.run_model.specs.Pieces.{bucket_of, named_from}
 use Rattle.module_run.specs.declared.conn.Conn.{Conn}
 use Rattle.module_run.specs.declared.conn.Filter.{Filter}
 use Rattle.ring_run.specs.declared.machine.Call.{Call}

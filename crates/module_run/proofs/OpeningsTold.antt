@@ -12,7 +12,7 @@ use Rattle.run_model.specs.declared.event.Refusal.{Refusal}
 use Rattle.run_model.specs.declared.event.Refusal.TheVariants as refusal
 use Rattle.run_model.specs.declared.payload.Payload.{Payload}
 use Rattle.run_model.specs.Chains.{Linked}
-use Rattle.run_model.specs.Connection.{first_refusal}
+use Rattle.run_model.specs.Refusals.{first_refusal}
 use Rattle.run_model.specs.Pools.{Pools}
 use Rattle.run_model.specs.Steps.{is_spent}
 use Rattle.run_model.specs.Turns.{Opening, Found, Missing, Failing, file_answer, file_taken, opens_file}

@@ -7,7 +7,7 @@ use Rattle.run_model.specs.declared.event.Refusal.{Refusal}
 use Rattle.run_model.specs.declared.event.Refusal.TheVariants as refusal
 use Rattle.run_model.specs.declared.payload.Payload.{Payload}
 use Rattle.run_model.specs.Chains.{Connection, Common, Frame, Linked}
-use Rattle.run_model.specs.Connection.{first_refusal, refused_if}
+use Rattle.run_model.specs.Refusals.{first_refusal, refused_if}
 use Rattle.run_model.specs.Pools.{Pools}
 use Rattle.run_model.specs.Steps.{is_spent}
 use Rattle.run_model.specs.Turns.{Failing, Found, Missing, Opening, begins, begun, brings, brought, ended, ends, file_answer, is_busy, is_failing, is_missing, number_given, opens_file, unless_refused}

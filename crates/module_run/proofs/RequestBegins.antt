@@ -13,7 +13,8 @@ use Rattle.run_model.specs.declared.event.Refusal.{Refusal}
 use Rattle.run_model.specs.declared.event.Refusal.TheVariants as refusal
 use Rattle.run_model.specs.declared.payload.Payload.{Payload}
 use Rattle.run_model.specs.Chains.{Connection, Common, Frame, Linked, configuration, pools_of}
-use Rattle.run_model.specs.Connection.{first_refusal, if_broken, refused_if, data_behind_eos, lacks_file}
+use Rattle.run_model.specs.Refusals.{first_refusal, if_broken, refused_if}
+use Rattle.run_model.specs.Pieces.{data_behind_eos, lacks_file}
 use Rattle.run_model.specs.Pools.{Pools, created, is_empty, is_live}
 use Rattle.run_model.specs.RunOrder.{IsPoolMap}
 use Rattle.run_model.specs.State.{fresh_call}

@@ -5,7 +5,8 @@ use Rattle.run_model.specs.declared.event.Cause.{Cause}
 use Rattle.run_model.specs.declared.event.Piece.{Piece}
 use Rattle.run_model.specs.declared.event.Refusal.{Refusal}
 use Rattle.run_model.specs.declared.event.Refusal.TheVariants as refusal
-use Rattle.run_model.specs.Connection.{refused_if, if_broken, data_behind_eos, lacks_file}
+use Rattle.run_model.specs.Refusals.{refused_if, if_broken}
+use Rattle.run_model.specs.Pieces.{data_behind_eos, lacks_file}
 use Rattle.run_model.specs.Steps.{is_spent}
 
 -- Why a request does not begin, where these are the next names of a pool and of a call.

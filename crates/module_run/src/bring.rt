@@ -3,7 +3,7 @@
 ghost use Rattle.std.specs.Prelude.{◌≡◌, ℕ, ◌+◌, ◌<◌, length, None, Some, is_ok, if◌then◌else◌, IfOk, OnErr, IsErrOf};
 ghost use Rattle.bucket_ring.specs.Lists.{upd};
 ghost use Rattle.bucket_ring.specs.Kept.{NoneRevived};
-ghost use Rattle.run_model.specs.Connection.{bucket_of, named_from};
+ghost use Rattle.run_model.specs.Pieces.{bucket_of, named_from};
 ghost use Rattle.run_model.specs.Pools.{Pools};
 ghost use Rattle.run_model.specs.declared.payload.Payload.{Payload};
 ghost use Rattle.brigade_ops.specs.House.{IsHouse};

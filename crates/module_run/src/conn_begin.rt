@@ -4,7 +4,7 @@ ghost use Rattle.std.specs.Prelude.{◌≡◌, ◌<◌, ◌+◌, ℕ, None, Some
 ghost use Rattle.bucket_ring.specs.Lists.{upd};
 ghost use Rattle.bucket_kinds.specs.Device.{Device};
 ghost use Rattle.run_model.specs.Chains.{Linked};
-ghost use Rattle.run_model.specs.Connection.{first_refusal};
+ghost use Rattle.run_model.specs.Refusals.{first_refusal};
 ghost use Rattle.run_model.specs.Pools.{created, is_live};
 ghost use Rattle.run_model.specs.RunOrder.{IsPoolMap};
 ghost use Rattle.run_model.specs.Turns.{begins};

@@ -4,7 +4,7 @@ ghost use Rattle.std.specs.Prelude.{◌≡◌, ◌≢◌, ◌<◌, ◌∷◌, �
 ghost use Rattle.bucket_kinds.specs.Device.{Device};
 ghost use Rattle.module_lang.specs.Program.{Program};
 ghost use Rattle.run_model.specs.Chains.{Linked};
-ghost use Rattle.run_model.specs.Connection.{first_refusal};
+ghost use Rattle.run_model.specs.Refusals.{first_refusal};
 ghost use Rattle.run_model.specs.Files.{is_referred};
 ghost use Rattle.run_model.specs.Payloads.{labels_in};
 ghost use Rattle.run_model.specs.Pools.{is_live};

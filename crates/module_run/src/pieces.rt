@@ -2,7 +2,7 @@
 
 ghost use Rattle.std.specs.Prelude.{◌≡◌, ◌==◌, ◌&&◌, nat_le, false, ◌+◌, map, IfOk};
 ghost use Rattle.std.specs.List.{list_any};
-ghost use Rattle.run_model.specs.Connection.{bucket_of, is_data_piece, is_eos_piece, data_behind_eos, lacks_file};
+ghost use Rattle.run_model.specs.Pieces.{bucket_of, is_data_piece, is_eos_piece, data_behind_eos, lacks_file};
 ghost use Rattle.module_run.specs.Conns.{lengths};
 ghost use Rattle.ring_run.specs.Pieces.{late_piece};
 

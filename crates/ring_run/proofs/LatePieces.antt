@@ -2,7 +2,7 @@
 use Rattle.std.proofs.Common.{◌≡◌, Bool, true, false, ◌&&◌, ◌||◌, cond, List, [], ◌∷◌, refl, ap, ◌∙◌}
 use Rattle.std.specs.List.{list_any}
 use Rattle.run_model.specs.declared.event.Piece.{Piece}
-use Rattle.run_model.specs.Connection.{bucket_of, is_data_piece, is_eos_piece, data_behind_eos}
+use Rattle.run_model.specs.Pieces.{bucket_of, is_data_piece, is_eos_piece, data_behind_eos}
 use Rattle.ring_run.specs.Pieces.{late_piece}
 use Rattle.ring_run.proofs.LateData.{eos_is_no_data, one_more}
 

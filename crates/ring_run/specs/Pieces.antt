@@ -1,7 +1,7 @@
 -- A test on lists of pieces in the order in which a walk makes it.
 use Rattle.std.specs.Prelude.{Bool, true, false, ◌&&◌, if◌then◌else◌, List, [], ◌∷◌}
 use Rattle.run_model.specs.declared.event.Piece.{Piece}
-use Rattle.run_model.specs.Connection.{is_data_piece, is_eos_piece}
+use Rattle.run_model.specs.Pieces.{is_data_piece, is_eos_piece}
 
 -- whether data stands behind an EOS of the list, or anywhere in it where an EOS came before the list
 abbrev pub late_piece : Bool → List Piece → Bool

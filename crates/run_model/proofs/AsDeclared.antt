@@ -23,10 +23,9 @@ use Rattle.run_model.specs.Buckets.{cleared_bucket}
 use Rattle.run_model.specs.Clearing.{is_reached, cleared_var, run_down}
 use Rattle.run_model.specs.State.{named_at, Configuration, items_of, set_pool, with_pools, set_brigade, set_loose, set_cursor, set_number, name_in, pool_named}
 use Rattle.run_model.specs.Faults.{has_pool_at, is_live_named, has_pool, or_else}
-use Rattle.run_model.specs.Steps.{choice_at_end, with_brigade, do_create, do_pass, do_return, do_clean, cleaned, handed_over, with_items, returned_var, made_on, new_ref, saved_into, pool_cleared, pool_destroyed, label_registered, label_killed, text_of}
+use Rattle.run_model.specs.Steps.{with_brigade, do_create, do_pass, do_return, do_clean, cleaned, handed_over, with_items, returned_var, made_on, new_ref, saved_into, pool_cleared, pool_destroyed, label_registered, label_killed, text_of}
 use Rattle.run_model.specs.Sound.{SoundPools}
-use Rattle.run_model.specs.AsDeclared.{AsDeclared, StepKeepsDeclared, StepAtEndKeepsDeclared}
-use Rattle.run_model.proofs.AtEnd.{at_end_keeps}
+use Rattle.run_model.specs.AsDeclared.{AsDeclared, StepKeepsDeclared}
 use Rattle.run_model.proofs.Updates.{upd_off, upd_either}
 use Rattle.run_model.proofs.Marks.{first_none, second_none}
 use Rattle.run_model.proofs.Names.{at_each, at_two}
@@ -378,7 +377,3 @@ step_declared p choice (instr.BSave o b) r may sound s = on_named (AsDeclared p)
 step_declared p choice (instr.Pass b l) r may sound s = kept p r (do_pass b r) refl refl refl refl (at_each KeepsPool r.instance.brigades b (handed_over (r.instance.brigades b)) (handed_on (r.instance.brigades b)) same_on) s
 step_declared p choice (instr.Ret st) r may sound s = returned_declared p r s
 step_declared p choice i r may sound s = placed_step (AsDeclared p) (declared_frame p) (declared_placed p) p choice i r refl may s
-
-pub at_end_declared : StepAtEndKeepsDeclared
-unfolding set_brigade
-at_end_declared p i r may sound s = at_end_keeps (AsDeclared p) p i r (step_declared p (choice_at_end i r) i r may sound s) (λ out fs x reads stepped. kept p x _ refl refl refl refl (same_vars x) stepped)

@@ -10,7 +10,8 @@ use Rattle.run_model.specs.declared.event.Piece.{Piece}
 use Rattle.run_model.specs.declared.event.Piece.TheVariants as piece
 use Rattle.run_model.specs.Buckets.{is_data_kind, is_eos_kind, has_data, data_after_eos}
 use Rattle.run_model.specs.State.{Instance, items_of}
-use Rattle.run_model.specs.Connection.{bucket_of, named_from, is_data_piece, is_eos_piece, data_behind_eos, first_refusal, refused_if, if_broken}
+use Rattle.run_model.specs.Refusals.{first_refusal, refused_if, if_broken}
+use Rattle.run_model.specs.Pieces.{bucket_of, named_from, is_data_piece, is_eos_piece, data_behind_eos}
 use Rattle.run_model.specs.Chains.{Connection, Common, Linked}
 use Rattle.run_model.specs.Turns.{brought, brings, unless_refused, is_busy}
 use Rattle.run_model.specs.Laws.{BucketsAsPieces}

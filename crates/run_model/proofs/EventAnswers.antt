@@ -1,7 +1,7 @@
 -- Where no refusal is told, none of its tests holds.
 use Rattle.std.proofs.Common.{◌≡◌, Bool, true, false, List, ◌∷◌, Option, Some, None, refl}
 use Rattle.run_model.specs.declared.event.Refusal.{Refusal}
-use Rattle.run_model.specs.Connection.{first_refusal, refused_if}
+use Rattle.run_model.specs.Refusals.{first_refusal, refused_if}
 
 pub none_first : (t : Option Refusal) (ts : List (Option Refusal)) → first_refusal (t ∷ ts) ≡ None → first_refusal ts ≡ None
 none_first None ts h = h

@@ -17,7 +17,7 @@ use Rattle.run_model.specs.State.{Configuration}
 use Rattle.run_model.specs.Cursors.{Spot, Nowhere, AtLoose, Within, AtEndOf, spot}
 use Rattle.run_model.specs.BucketSteps.{content_at, first_of, byte_of, items_at, read_given}
 use Rattle.run_model.specs.Steps.{Choice, step, text_of}
-use Rattle.run_model.specs.Connection.{bucket_of, named_from}
+use Rattle.run_model.specs.Pieces.{bucket_of, named_from}
 use Rattle.run_model.specs.Ranges.{AreBytes, HoldsBytes, GivesBytes, IsOfBytes}
 use Rattle.run_model.proofs.EachBucket.{of_named}
 use Rattle.run_model.proofs.Spots.{Stands, stands}

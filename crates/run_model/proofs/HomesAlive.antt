@@ -27,11 +27,10 @@ use Rattle.run_model.specs.Faults.{WCursor, OnBucket, fault_want, homes_fault, h
 use Rattle.run_model.specs.BrigadeLists.{bucket_named}
 use Rattle.run_model.specs.Cursors.{Spot, Nowhere, AtLoose, Within, AtEndOf, bucket_at, spot}
 use Rattle.run_model.specs.BucketSteps.{items_at, changed_at, aside_into}
-use Rattle.run_model.specs.Steps.{all_referred, choice_at_end, do_create, do_pass, do_return, do_clean, cleaned, handed_over, with_items, returned_var, made_on, new_ref, aside_named, saved_into, pool_cleared, pool_destroyed, label_registered, label_killed, text_of}
+use Rattle.run_model.specs.Steps.{all_referred, do_create, do_pass, do_return, do_clean, cleaned, handed_over, with_items, returned_var, made_on, new_ref, aside_named, saved_into, pool_cleared, pool_destroyed, label_registered, label_killed, text_of}
 use Rattle.run_model.specs.Sound.{SoundPools, Sound, brigade_pool, count_named}
 use Rattle.run_model.specs.Laws.{MatchHome, is_return, changes_pools, ChangesOnly}
-use Rattle.run_model.specs.HomesAlive.{IsAlive, HomesAlive, StepKeepsHomes, StepAtEndKeepsHomes}
-use Rattle.run_model.proofs.AtEnd.{at_end_keeps}
+use Rattle.run_model.specs.HomesAlive.{IsAlive, HomesAlive, StepKeepsHomes}
 use Rattle.run_model.proofs.PoolMap.{created_lives, destroyed_apart, cleared_apart}
 use Rattle.run_model.proofs.Marks.{first_none, second_none}
 use Rattle.run_model.proofs.NamedPools.{on_named, made_under_named}
@@ -257,6 +256,3 @@ step_homes p choice (instr.Aside c q) r may sound named s = on_named HomesAlive 
 step_homes p choice (instr.Ret st) r may sound named s = returned_homes r s
 step_homes p choice i r may sound named s =
     quiet_homes i r _ refl refl (step_changes_only p choice i r) (quiet_leaves (AliveBucket r) p choice i r refl (alive_on r named) (record { brigades = s.brigades; loose = s.loose })) s
-
-pub at_end_homes : StepAtEndKeepsHomes
-at_end_homes p i r may sound named s = at_end_keeps HomesAlive p i r (step_homes p (choice_at_end i r) i r may sound named s) (λ out fs x reads stepped. same x _ refl refl refl stepped.brigades (omega arith) stepped)

@@ -1,5 +1,5 @@
 -- A step keeps numbers and the buffer in range, and what is held bytes.
-use Rattle.std.proofs.Common.{◌≡◌, ℕ, ◌+◌, ◌^◌, ◌<◌, ◌≤◌, Bool, true, false, not, ◌&&◌, ◌||◌, cond, nat_lt, nat_le, min, List, [], ◌∷◌, ◌++◌, length, Option, Some, None, inl, inr, refl, sym, subst, arith}
+use Rattle.std.proofs.Common.{◌≡◌, ℕ, ◌+◌, ◌^◌, ◌<◌, ◌≤◌, Bool, true, false, not, ◌&&◌, cond, nat_lt, nat_le, min, List, [], ◌∷◌, ◌++◌, length, Option, Some, None, inl, inr, refl, sym, subst, arith}
 use Rattle.std.specs.List.{list_any}
 use Rattle.std.proofs.lemmas.Bool.Decides.{nat_tests}
 use Rattle.std.proofs.lemmas.List.Elements.{All-nil, All-cons, All-append}
@@ -26,16 +26,13 @@ use Rattle.run_model.proofs.Updates.{upd_either}
 use Rattle.run_model.proofs.NamedPools.{on_named, with_buffer}
 use Rattle.run_model.proofs.Unchanged.{step_changes_only}
 use Rattle.run_model.proofs.Origins.{Holds}
+use Rattle.run_model.proofs.StepFiles.{neither}
 use Rattle.run_model.proofs.HeldBytes.{OfBytes, step_holds, byte_there}
 
 -- The buffer.
 
 pub bare_buffer : BufferInRange []
 bare_buffer = record { bytes = All-nil (λ b. b ≤ 255); size = omega arith }
-
-neither : (a b : Bool) → (a || b) ≡ false → (a ≡ false) × (b ≡ false)
-neither true b h = absurd (cc)
-neither false b h = (refl, h)
 
 put_buffer : (x : Value) (r : Configuration) → BufferInRange r.call.buffer → BufferInRange (do_put x r).call.buffer
 put_buffer x r s = by_test (is_full r x) refl where

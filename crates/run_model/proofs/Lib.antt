@@ -14,12 +14,9 @@ pub mod Formed
 pub mod NamedPools
 pub mod PoolsKept
 pub mod StepPools
-pub mod Events
 pub mod EventAnswers
-pub mod AtEnd
 pub mod EventsKeep
 pub mod Brought
-pub mod SoundRuns
 pub mod Unchanged
 pub mod Refusals
 pub mod RefusalOrder
@@ -32,7 +29,7 @@ pub mod Kept
 pub mod References
 pub mod MadeBrigades
 pub mod StepFiles
-pub mod FilesRuns
+pub mod PieceFiles
 pub mod Contents
 pub mod HeldBytes
 pub mod InRange

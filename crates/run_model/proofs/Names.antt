@@ -14,7 +14,7 @@ use Rattle.run_model.specs.Buckets.{returned_bucket, cleared_bucket}
 use Rattle.run_model.specs.State.{Configuration, items_of}
 use Rattle.run_model.specs.Steps.{cleaned, with_items, handed_over, returned_var}
 use Rattle.run_model.specs.Clearing.{cleared_var, is_reached}
-use Rattle.run_model.specs.Connection.{named_from}
+use Rattle.run_model.specs.Pieces.{named_from}
 use Rattle.run_model.specs.Laws.{NamesStaySingle}
 use Rattle.run_model.specs.Sound.{NamesStep, sum_below, count_named, count, brigade_name}
 use Rattle.run_model.proofs.Updates.{upd_off, upd_either}

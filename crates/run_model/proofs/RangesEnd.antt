@@ -13,10 +13,9 @@ use Rattle.run_model.specs.declared.event.Piece.{Piece}
 use Rattle.run_model.specs.declared.event.Piece.TheVariants as piece
 use Rattle.run_model.specs.Cutting.{EndsInFile, length_of, front_of, rest_of}
 use Rattle.run_model.specs.State.{Configuration}
-use Rattle.run_model.specs.Steps.{Choice, choice_at_end}
-use Rattle.run_model.specs.Connection.{bucket_of, named_from, has_range, lacks_file}
-use Rattle.run_model.specs.RangesEnd.{RangesEnd, StepKeepsEnds, StepAtEndKeepsEnds, PieceEnds, LengthsEnd}
-use Rattle.run_model.proofs.AtEnd.{at_end_keeps}
+use Rattle.run_model.specs.Steps.{Choice}
+use Rattle.run_model.specs.Pieces.{bucket_of, named_from, has_range, lacks_file}
+use Rattle.run_model.specs.RangesEnd.{RangesEnd, StepKeepsEnds, PieceEnds, LengthsEnd}
 use Rattle.run_model.proofs.StepFiles.{neither}
 use Rattle.run_model.proofs.References.{one_of}
 use Rattle.run_model.proofs.Origins.{Each, PassesParts, Holds, Makes}
@@ -58,9 +57,6 @@ held r s = record { brigades = s.brigades; loose = s.loose }
 
 pub step_ends : StepKeepsEnds
 step_ends p choice i r s = let left = step_contents EndsInFile p choice i r parts (made_ends p choice r i) (held r s) in record { brigades = left.brigades; loose = left.loose }
-
-pub at_end_ends : StepAtEndKeepsEnds
-at_end_ends p i r s = at_end_keeps RangesEnd p i r (step_ends p (choice_at_end i r) i r s) (λ out fs x reads stepped. record { brigades = stepped.brigades; loose = stepped.loose })
 
 -- What is brought.
 

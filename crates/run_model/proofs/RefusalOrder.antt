@@ -14,7 +14,8 @@ use Rattle.run_model.specs.declared.event.Event.TheVariants as event
 use Rattle.run_model.specs.declared.event.Piece.{Piece}
 use Rattle.run_model.specs.declared.event.Stepped.{Stepped}
 use Rattle.run_model.specs.Steps.{is_spent, current}
-use Rattle.run_model.specs.Connection.{lacks_file, data_behind_eos, first_refusal, refused_if, if_broken}
+use Rattle.run_model.specs.Refusals.{first_refusal, refused_if, if_broken}
+use Rattle.run_model.specs.Pieces.{lacks_file, data_behind_eos}
 use Rattle.run_model.specs.Chains.{Frame, Connection, Common, Linked, module_at}
 use Rattle.run_model.specs.Passing.{Reads, proceeds}
 use Rattle.run_model.specs.Turns.{Opening, Found, Missing, Failing, is_missing, is_failing, number_given, unless_refused, is_busy, begins, begun, brings, brought, ends, ended, opens_file, file_answer, steps, step_unless, step_top, watched, executed, unless_fault, counted, broken_by}

@@ -14,7 +14,7 @@ use Rattle.run_model.specs.declared.event.Event.TheVariants as event
 use Rattle.run_model.specs.declared.event.Stepped.{Stepped}
 use Rattle.run_model.specs.declared.event.Stepped.TheVariants as stepped
 use Rattle.run_model.specs.Steps.{lacks_names, grows, current, is_spent}
-use Rattle.run_model.specs.Connection.{first_refusal, if_broken}
+use Rattle.run_model.specs.Refusals.{first_refusal, if_broken}
 use Rattle.run_model.specs.Chains.{Frame, Connection, Common, Linked, module_at, configuration}
 use Rattle.run_model.specs.Passing.{Reads, next_called, returned_from, proceeds}
 use Rattle.run_model.specs.Turns.{Opening, unless_refused, begins, begun, brings, brought, ends, ended, opens_file, file_answer, steps, step_unless, step_top, watched, executed, unless_fault, counted, broken_by, calls_of}

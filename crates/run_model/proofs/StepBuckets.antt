@@ -24,7 +24,7 @@ use Rattle.run_model.specs.Pools.{Pools, is_under, created}
 use Rattle.run_model.specs.State.{Call, Configuration, items_of, set_pool, with_pools, set_brigade, set_loose, pool_named}
 use Rattle.run_model.specs.Steps.{do_create, do_clean, do_concat, do_pass, do_return, cleaned, with_items, handed_over, returned_var, do_pcreate, pool_cleared, pool_destroyed, label_registered, label_killed, text_of, is_above, aside_named, saved_into, made_on}
 use Rattle.run_model.specs.Clearing.{cleared_var, is_reached, run_down}
-use Rattle.run_model.specs.Connection.{bucket_of, named_from}
+use Rattle.run_model.specs.Pieces.{bucket_of, named_from}
 use Rattle.run_model.specs.Sound.{SoundBuckets}
 use Rattle.run_model.specs.Cutting.{LivesAs, FitsKind, form_of, form_of_kind, front_of, rest_of}
 use Rattle.run_model.specs.Cursors.{Spot, Nowhere, AtLoose, Within, AtEndOf, spot}

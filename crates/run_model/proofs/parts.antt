@@ -7,6 +7,7 @@ pub mod Quiet
 pub mod References
 pub mod Steps
 pub mod Alike
+pub mod Tops
 pub mod Spared
 pub mod Joined
 pub mod Lasting

@@ -8,7 +8,7 @@ use Rattle.run_model.specs.declared.bucket.PoolVar.TheVariants as poolvar
 use Rattle.run_model.specs.Pools.{is_live}
 use Rattle.run_model.specs.State.{Configuration, pool_named}
 use Rattle.run_model.specs.Faults.{is_live_named}
-use Rattle.run_model.specs.Steps.{Choice, step, step_at_end}
+use Rattle.run_model.specs.Steps.{Choice, step}
 use Rattle.run_model.specs.Sound.{Sound}
 use Rattle.run_model.specs.Laws.{MayExecute}
 
@@ -23,9 +23,6 @@ pub record AsDeclared (p : Program) (r : Configuration) : Type 0 where
   pub brigades : (b : ℕ) (v : Brigade) → b ≢ 8 → r.instance.brigades b ≡ var.Live v → (v.on ≡ pool_named r (pool_of_brigade p b)) × (is_live_named r.shared.pools v.on ≡ true)
   pub incoming : (v : Brigade) → r.instance.brigades 8 ≡ var.Live v → v.on ≡ None
 
--- A step without a fault keeps it, also at the end of the chain.
+-- A step without a fault keeps it.
 abbrev pub StepKeepsDeclared : Type 0
 StepKeepsDeclared = (p : Program) (choice : Choice) (i : Instr) (r : Configuration) → MayExecute p r i → Sound r → AsDeclared p r → AsDeclared p (step p choice i r).state
-
-abbrev pub StepAtEndKeepsDeclared : Type 0
-StepAtEndKeepsDeclared = (p : Program) (i : Instr) (r : Configuration) → MayExecute p r i → Sound r → AsDeclared p r → AsDeclared p (step_at_end p i r).state

@@ -5,7 +5,7 @@ use Rattle.run_model.specs.declared.event.Piece.{Piece}
 use Rattle.run_model.specs.declared.event.Refusal.TheVariants as refusal
 use Rattle.run_model.specs.Buckets.{data_after_eos}
 use Rattle.run_model.specs.State.{items_of}
-use Rattle.run_model.specs.Connection.{data_behind_eos}
+use Rattle.run_model.specs.Pieces.{data_behind_eos}
 use Rattle.run_model.specs.Chains.{Connection, Common, Linked}
 use Rattle.run_model.specs.Turns.{brings}
 

@@ -9,7 +9,7 @@ use Rattle.run_model.specs.declared.event.Piece.{Piece}
 use Rattle.run_model.specs.Cutting.{EndsInFile}
 use Rattle.run_model.specs.State.{items_of}
 use Rattle.run_model.specs.RangesEnd.{PieceEnds, LengthsEnd}
-use Rattle.run_model.specs.Connection.{has_range}
+use Rattle.run_model.specs.Pieces.{has_range}
 use Rattle.run_model.specs.Laws.{refers, IsHeld}
 use Rattle.run_model.specs.Chains.{Connection, Common, pools_of}
 use Rattle.run_model.specs.Passing.{Reads}

@@ -1,15 +1,11 @@
 -- Files: which can be opened, by name, which are open, by number, and what a read gives.
-use Rattle.std.specs.Prelude.{ℕ, zero, suc, ◌+◌, ◌-◌, ◌/◌, Bool, true, false, ◌&&◌, not, nat_le, min, if◌then◌else◌, List, [], ◌∷◌, ◌++◌, length, take, drop, Option, Some, None}
+use Rattle.std.specs.Prelude.{ℕ, zero, suc, ◌+◌, ◌-◌, ◌/◌, Bool, true, false, ◌&&◌, not, nat_le, if◌then◌else◌, List, length, take, drop, Option, Some, None}
 use Rattle.std.specs.List.{list_any}
 use Rattle.std.specs.Str.{bytes_eq}
-use Rattle.run_model.specs.declared.bucket.Content.{Content}
-use Rattle.run_model.specs.declared.bucket.Content.TheVariants as content
-use Rattle.run_model.specs.declared.bucket.NamedBucket.{NamedBucket}
 use Rattle.run_model.specs.declared.payload.Payload.{Payload}
 use Rattle.run_model.specs.Indexed.{upd, any_below}
 use Rattle.run_model.specs.Pools.{Pools}
 use Rattle.run_model.specs.Payloads.{is_file_ref}
-use Rattle.run_model.specs.Buckets.{is_eos}
 use Rattle.run_model.specs.Cutting.{read_limit}
 
 -- next is the number that is given next. Where fails_in is told, so many reads go on well, and then one fails.
@@ -61,43 +57,6 @@ read_part file at n fs = if fails_now fs.fails_in then None else part_of (fs.ope
 abbrev pub read_done : Files → Files
 read_done fs = record fs { fails_in = after_read fs.fails_in }
 
--- What was taken of buckets: bytes, whether no read failed, and the files afterwards.
-pub record BytesTaken : Type 0 where
-  pub bytes : List ℕ
-  pub whole : Bool
-  pub files : Files
-
-abbrev pub all_taken : List ℕ → Files → BytesTaken
-all_taken bytes fs = record { bytes = bytes; whole = true; files = fs }
-
--- these bytes, and what is taken after them
-abbrev pub and_then : List ℕ → BytesTaken → BytesTaken
-and_then bytes t = record t { bytes = bytes ++ t.bytes }
-
--- nothing is taken behind a read that failed
-abbrev pub unless_failed : Option (List ℕ) → Files → (Files → BytesTaken) → BytesTaken
-unless_failed None fs rest = record { bytes = []; whole = false; files = fs }
-unless_failed (Some bytes) fs rest = and_then bytes (rest fs)
-
--- A range is read in parts of 8000 bytes; so many are left.
-unfoldable pub range_taken : ℕ → ℕ → ℕ → ℕ → Files → BytesTaken
-range_taken zero file start len fs = all_taken [] fs
-range_taken (suc parts) file start len fs =
-    unless_failed (read_part file start (min len read_limit) fs) (read_done fs) (range_taken parts file (start + read_limit) (len - read_limit))
-
--- how many reads a range takes
+-- how many reads a range takes: each is of 8000 bytes at most
 abbrev pub parts_of : ℕ → ℕ
 parts_of len = (len + (read_limit - 1)) / read_limit
-
-abbrev pub content_taken : Content → Files → BytesTaken
-content_taken (content.Bytes bs) fs = all_taken bs fs
-content_taken (content.Range file start len) fs = range_taken (parts_of len) file start len fs
-content_taken content.Nothing fs = all_taken [] fs
-
-abbrev pub followed_by : BytesTaken → (Files → BytesTaken) → BytesTaken
-followed_by t rest = if t.whole then and_then t.bytes (rest t.files) else t
-
--- the bytes of the buckets before the first EOS, up to a read that fails
-unfoldable pub taken_of : List NamedBucket → Files → BytesTaken
-taken_of [] fs = all_taken [] fs
-taken_of (b ∷ bs) fs = if is_eos b then all_taken [] fs else followed_by (content_taken b.bucket.content fs) (taken_of bs)

@@ -5,7 +5,7 @@ use Rattle.module_lang.specs.Program.{Program}
 use Rattle.run_model.specs.declared.bucket.Home.{Home}
 use Rattle.run_model.specs.Pools.{is_live}
 use Rattle.run_model.specs.State.{Configuration, items_of}
-use Rattle.run_model.specs.Steps.{Choice, step, step_at_end}
+use Rattle.run_model.specs.Steps.{Choice, step}
 use Rattle.run_model.specs.Sound.{Sound}
 use Rattle.run_model.specs.Laws.{MayExecute, MatchHome}
 
@@ -19,9 +19,6 @@ pub record HomesAlive (r : Configuration) : Type 0 where
   pub loose : All (λ x. IsAlive r x.bucket.home) r.call.loose
   pub names : 0 < r.shared.next
 
--- A step of a call keeps it where it has no fault, also at the end of the chain. (A call has a name, which is not 0.)
+-- A step of a call keeps it where it has no fault. (A call has a name, which is not 0.)
 abbrev pub StepKeepsHomes : Type 0
 StepKeepsHomes = (p : Program) (choice : Choice) (i : Instr) (r : Configuration) → MayExecute p r i → Sound r → 0 < r.call.name → HomesAlive r → HomesAlive (step p choice i r).state
-
-abbrev pub StepAtEndKeepsHomes : Type 0
-StepAtEndKeepsHomes = (p : Program) (i : Instr) (r : Configuration) → MayExecute p r i → Sound r → 0 < r.call.name → HomesAlive r → HomesAlive (step_at_end p i r).state

@@ -17,8 +17,8 @@ use Rattle.run_model.specs.Cutting.{FitsKind, wanted, read_of}
 use Rattle.run_model.specs.State.{Configuration, items_of}
 use Rattle.run_model.specs.Cursors.{Spot, Nowhere, AtLoose, Within, AtEndOf, spot, read_cursor}
 use Rattle.run_model.specs.Faults.{fault, send_fault, or_else}
-use Rattle.run_model.specs.Steps.{Choice, step, step_at_end, aside_named, lacks_names, names_of, pool_cleared, pool_destroyed}
-use Rattle.run_model.specs.Connection.{bucket_of, named_from, data_behind_eos, has_range}
+use Rattle.run_model.specs.Steps.{Choice, step, aside_named, lacks_names, names_of, pool_cleared, pool_destroyed}
+use Rattle.run_model.specs.Pieces.{bucket_of, named_from, data_behind_eos, has_range}
 use Rattle.run_model.specs.Sound.{NamesStep, SoundNames, SoundBuckets, SoundPools, Sound, brigade_pool}
 use Rattle.run_model.specs.declared.bucket.Kind.TheVariants as kind
 use Rattle.run_model.specs.declared.bucket.Home.{Home}
@@ -59,10 +59,6 @@ StepKeepsBuckets = (p : Program) (choice : Choice) (i : Instr) (r : Configuratio
 -- It keeps each brigade on a live pool.
 abbrev pub StepKeepsPools : Type 0
 StepKeepsPools = (p : Program) (choice : Choice) (i : Instr) (r : Configuration) → MayExecute p r i → SoundPools r → SoundPools (step p choice i r).state
-
--- The same of the last filter's steps.
-abbrev pub StepAtEndKeeps : Type 0
-StepAtEndKeeps = (p : Program) (i : Instr) (r : Configuration) → MayExecute p r i → Sound r → Sound (step_at_end p i r).state
 
 -- whether a cursor stands at a bucket of the brigade in this variable
 abbrev pub is_within : Spot → ℕ → Bool

@@ -14,7 +14,8 @@ pub mod Effects
 pub mod Cursors
 pub mod BucketSteps
 pub mod Steps
-pub mod Connection
+pub mod Refusals
+pub mod Pieces
 pub mod Sound
 pub mod Examples
 pub mod BucketExamples

@@ -14,7 +14,7 @@ use Rattle.run_model.specs.declared.event.Event.{Event}
 use Rattle.run_model.specs.declared.event.Event.TheVariants as event
 use Rattle.run_model.specs.State.{Configuration, items_of}
 use Rattle.run_model.specs.Cursors.{Spot, Nowhere, AtLoose, Within, AtEndOf, spot}
-use Rattle.run_model.specs.Faults.{Want, WUsable, WCursor, wants, fault_want, fault}
+use Rattle.run_model.specs.Faults.{Want, WPool, WBrigade, WUsable, WNew, WNewPool, WCursor, WHomes, WHome, WHomeAcross, WSend, WReturn, wants, fault_want, fault}
 use Rattle.run_model.specs.Steps.{Choice, step, current}
 use Rattle.run_model.specs.Sound.{brigade_name}
 use Rattle.run_model.specs.Chains.{Frame, Connection, module_at}
@@ -31,11 +31,20 @@ is_at (AtLoose x) k = false
 is_at (Within b x) k = k == b
 is_at (AtEndOf b) k = k == b
 
--- whether a want is that of this brigade as a usable one, or of a cursor that stands there
+-- Whether a want is that of this brigade as a usable one, or of a cursor that stands there. (Homes, and what may be sent on, are asked
+-- of operands for which an instruction has such a want too; at a return a passed brigade may be kept.)
 abbrev pub wants_use : Configuration → ℕ → Want → Bool
+wants_use r k (WPool o) = false
+wants_use r k (WBrigade b) = false
 wants_use r k (WUsable b) = k == b
+wants_use r k (WNew o) = false
+wants_use r k (WNewPool q) = false
 wants_use r k (WCursor c f) = is_at (spot r c) k
-wants_use r k w = false
+wants_use r k (WHomes b) = false
+wants_use r k (WHome c) = false
+wants_use r k (WHomeAcross b x) = false
+wants_use r k (WSend b) = false
+wants_use r k WReturn = false
 
 -- whether an instruction uses this brigade
 abbrev pub uses : Program → Configuration → Instr → ℕ → Bool

@@ -1,5 +1,5 @@
 -- What an instruction does to the part of its connection, where the pool map is that of all connections.
-use Rattle.std.specs.Prelude.{◌≡◌, ◌≢◌, ℕ, true, Some, None}
+use Rattle.std.specs.Prelude.{◌≡◌, ◌≢◌, ℕ, true, List, Some, None}
 use Rattle.module_lang.specs.Program.{Program}
 use Rattle.module_lang.specs.declared.instr.Instr.{Instr}
 use Rattle.run_model.specs.declared.payload.Payload.{Payload}
@@ -8,9 +8,11 @@ use Rattle.run_model.specs.Pools.{Pools, is_live, is_under}
 use Rattle.run_model.specs.State.{Configuration}
 use Rattle.run_model.specs.Sound.{brigade_pool}
 use Rattle.run_model.specs.Faults.{fault}
-use Rattle.run_model.specs.Steps.{Choice, Outcome, step, step_at_end, lacks_names}
+use Rattle.run_model.specs.Steps.{Choice, Outcome, step, lacks_names}
 use Rattle.run_model.specs.Laws.{refers}
 use Rattle.run_model.specs.Parts.{part, HasPart}
+use Rattle.run_model.specs.Chains.{Frame, Connection, Common, Linked, module_at, configuration, pools_of}
+use Rattle.run_model.specs.Passing.{Reads, proceeds}
 
 -- what a step sees, with the part of c in place of all pools
 abbrev pub in_part : ℕ → Configuration → Configuration
@@ -39,9 +41,15 @@ pub record LiesIn (c : ℕ) (r : Configuration) : Type 0 where
 abbrev pub StepsStayInPart : Type 0
 StepsStayInPart = (c : ℕ) (p : Program) (choice : Choice) (i : Instr) (r : Configuration) → LiesIn c r → fault p r i ≡ None → step p choice i (in_part c r) ≡ outcome_in_part c (step p choice i r)
 
--- so does one at the end of the chain
-abbrev pub EndStepsStayInPart : Type 0
-EndStepsStayInPart = (c : ℕ) (p : Program) (i : Instr) (r : Configuration) → LiesIn c r → fault p r i ≡ None → step_at_end p i (in_part c r) ≡ outcome_in_part c (step_at_end p i r)
+-- Of a connection of a chain: the same, with the part of d in place of the pools that it has.
+abbrev pub linked_in_part : ℕ → Linked → Linked
+linked_in_part d (g, c) = (g, record c { path = (part d (pools_of g c)).path; payloads = (part d (pools_of g c)).payloads })
+
+-- So does the instruction of the call on top of a chain, wherever its filter stands; what the last one passes reaches the output alike.
+abbrev pub TopStaysInPart : Type 0
+TopStaysInPart = (d : ℕ) (chain : List Program) (reads : Reads) (i : Instr) (f : Frame) (rest : List Frame) (g : Common) (c : Connection)
+    → LiesIn d (configuration g c f) → fault (module_at chain f.of) (configuration g c f) i ≡ None
+    → proceeds chain reads i f rest (linked_in_part d (g, c)) ≡ ((proceeds chain reads i f rest (g, c)).0, linked_in_part d (proceeds chain reads i f rest (g, c)).1)
 
 -- Its fault is told in the part, and the names that are wanting.
 abbrev pub FaultsAlike : Type 0

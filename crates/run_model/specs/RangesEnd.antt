@@ -5,20 +5,17 @@ use Rattle.module_lang.specs.Program.{Program}
 use Rattle.run_model.specs.declared.event.Piece.{Piece}
 use Rattle.run_model.specs.Cutting.{EndsInFile}
 use Rattle.run_model.specs.State.{Configuration, items_of}
-use Rattle.run_model.specs.Steps.{Choice, step, step_at_end}
-use Rattle.run_model.specs.Connection.{bucket_of}
+use Rattle.run_model.specs.Steps.{Choice, step}
+use Rattle.run_model.specs.Pieces.{bucket_of}
 
 -- brigades, loose: each range of a bucket ends below 2^64.
 pub record RangesEnd (r : Configuration) : Type 0 where
   pub brigades : (b : ℕ) → All (λ x. EndsInFile x.bucket.content) (items_of (r.instance.brigades b))
   pub loose : All (λ x. EndsInFile x.bucket.content) r.call.loose
 
--- A step keeps it, also at the end of the chain.
+-- A step keeps it.
 abbrev pub StepKeepsEnds : Type 0
 StepKeepsEnds = (p : Program) (choice : Choice) (i : Instr) (r : Configuration) → RangesEnd r → RangesEnd (step p choice i r).state
-
-abbrev pub StepAtEndKeepsEnds : Type 0
-StepAtEndKeepsEnds = (p : Program) (i : Instr) (r : Configuration) → RangesEnd r → RangesEnd (step_at_end p i r).state
 
 -- the range of a piece ends below 2^64
 abbrev pub PieceEnds : Piece → Type 0

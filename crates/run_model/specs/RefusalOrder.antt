@@ -12,7 +12,7 @@ use Rattle.run_model.specs.declared.event.Event.TheVariants as event
 use Rattle.run_model.specs.declared.event.Stepped.TheVariants as stepped
 use Rattle.run_model.specs.Faults.{fault}
 use Rattle.run_model.specs.Steps.{is_spent, lacks_names, grows, current}
-use Rattle.run_model.specs.Connection.{data_behind_eos, lacks_file}
+use Rattle.run_model.specs.Pieces.{data_behind_eos, lacks_file}
 use Rattle.run_model.specs.Chains.{Frame, Connection, Linked, module_at, configuration}
 use Rattle.run_model.specs.Passing.{Reads, proceeds}
 use Rattle.run_model.specs.Turns.{is_missing, is_failing, number_given, is_busy, calls_of, broken_by, counted, steps}

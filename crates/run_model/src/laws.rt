@@ -3,12 +3,12 @@
 ghost use Rattle.run_model.specs.Examples.{PassRuns, PoolRuns, PoolEnds, KindRuns, FaultRuns, BreakRuns, RefusedRuns, NameRuns, HeldFaults, HeldChanges};
 ghost use Rattle.run_model.specs.ChainExamples.{ChainRuns};
 ghost use Rattle.run_model.specs.Laws.{CreatesKeepOthers, KillsTheNewest, KillsOneLabel, EachStandsOnce, DepthDoesNotMatter};
-ghost use Rattle.run_model.specs.Laws.{StepGivesNames, NamesStaySingle, StepKeepsNames, StepKeepsBuckets, StepKeepsPools, StepAtEndKeeps, StepChangesOnly, BucketsAsPieces, FaultOfCuts, ClearsKeepOthers, ClearsTakeAlong};
+ghost use Rattle.run_model.specs.Laws.{StepGivesNames, NamesStaySingle, StepKeepsNames, StepKeepsBuckets, StepKeepsPools, StepChangesOnly, BucketsAsPieces, FaultOfCuts, ClearsKeepOthers, ClearsTakeAlong};
 ghost use Rattle.run_model.specs.Laws.{AsideLasts, ReadsDropNothing, FilesCloseLast, StepKeepsFiles};
-ghost use Rattle.run_model.specs.AsDeclared.{StepKeepsDeclared, StepAtEndKeepsDeclared};
+ghost use Rattle.run_model.specs.AsDeclared.{StepKeepsDeclared};
 ghost use Rattle.run_model.specs.Registered.{StepKeepsRegistered};
 ghost use Rattle.run_model.specs.ChainRegistered.{EventKeepsWorldRegistered, RunKeepsWorldRegistered};
-ghost use Rattle.run_model.specs.HomesAlive.{StepKeepsHomes, StepAtEndKeepsHomes};
+ghost use Rattle.run_model.specs.HomesAlive.{StepKeepsHomes};
 ghost use Rattle.run_model.specs.BucketReads.{ReadKeepsBytes, StepReadGivesTheFile};
 ghost use Rattle.run_model.specs.ChainBodies.{OutputOfCuts, ReadsGiveTheFile, TopReadGivesTheFile};
 ghost use Rattle.run_model.specs.Handlers.{CallsBegin, StepStaysInHandler, RunPlacesCalls};
@@ -21,7 +21,7 @@ ghost use Rattle.run_model.specs.Marks.{PassesMark, PassedIsNotUsed, UseAfterPas
 ghost use Rattle.run_model.specs.BucketExamples.{CursorRows, MovingRows, MakerRows, CutRows, BrigadeCutRows, CursorFaults, FirstFaults, CursorRuns};
 ghost use Rattle.run_model.specs.Ranges.{StepKeepsInRange, StepKeepsBuffer, StepKeepsRanges};
 ghost use Rattle.run_model.specs.ChainRanges.{EventKeepsBuffers, RunKeepsBuffers, EventKeepsWorldInRange, RunsOfBytesAreRuns, RunIsInRangeWorld, EventKeepsWorldRanges, RunKeepsWorldRanges};
-ghost use Rattle.run_model.specs.RangesEnd.{StepKeepsEnds, StepAtEndKeepsEnds};
+ghost use Rattle.run_model.specs.RangesEnd.{StepKeepsEnds};
 ghost use Rattle.run_model.specs.BrigadeLists.{BrigadeSplitsInOrder, MovesKeepNames, BucketSplitsInOrder, SplitKeepsBytes, PartsAtPoint, ShortIsIncomplete, PartitionKeepsBytes, UnsplitIsUnchanged, MetadataIsNotSplit, PlaceIsBehindFront, PartitionRows, BrigadeSplitRows, BucketSplitRows, MoveRows};
 ghost use Rattle.run_model.specs.ChainLaws.{TopKeepsNames, TopKeepsBuckets, TopKeepsPools, TopKeepsCalls, TopRaisesNames, RisingKeepsSound, EventKeepsWorld, RunKeepsWorld, OthersStay, OpeningStays};
 ghost use Rattle.run_model.specs.ChainFiles.{ConnectionStepKeepsEnds, BringKeepsEnds, EventKeepsBucketsEnd, EventKeepsWorldEnds, RunEndsWorld, EventKeepsWorldFiles, RunKeepsWorldFiles, EventKeepsFilesApart, RunKeepsFilesApart};
@@ -34,7 +34,7 @@ ghost use Rattle.run_model.specs.ChainClears.{MadePoolsAreOwn, OthersKeepBrigade
 ghost use Rattle.run_model.specs.ChainTrees.{EventKeepsPoolsApart, RunKeepsPoolsApart, JoinedIsPoolMap, ReachedPartsJoin};
 ghost use Rattle.run_model.specs.CursorLaws.{StepKeepsCursors, CursorsStandOnce, MadeAreNew, CopiesAreNew, SplitsInOrder, RefusedSplitJumps, BrigadesSplitInOrder, PartitionsInOrder, PastEndJumps};
 ghost use Rattle.run_model.specs.Parts.{PartIsPoolMap, OwnPartChanges, OtherPartsStay, ChangesSpareTheRoot, NewPartIsPlanted, NewPartSparesOthers, PartReadsAlike};
-ghost use Rattle.run_model.specs.PartSteps.{StepsStayInPart, EndStepsStayInPart, FaultsAlike, NamesAlike, StepsSpareOthers};
+ghost use Rattle.run_model.specs.PartSteps.{StepsStayInPart, TopStaysInPart, FaultsAlike, NamesAlike, StepsSpareOthers};
 ghost use Rattle.run_model.specs.JoinedParts.{JoinedPartStays, PartsAreTheWhole};
 ghost use Rattle.run_model.specs.PartsLast.{PartsLast, OldPoolsLast, OwnFilesLast, StepsKeepParts, StepsKeepLies, TouchedLies, OthersLie};
 
@@ -59,14 +59,13 @@ pub fn worked_chains()
 
 /// A step without a fault leaves of each name that was given out no more buckets than there were, and gives each new name once;
 /// such a change keeps names single. So a step keeps what is sound: each name is one bucket's, new names are new, buckets are as their
-/// kinds have them, and brigades lie on live pools. So does a step of the last filter.
+/// kinds have them, and brigades lie on live pools. (`chains_stay_sound` says it of each filter of a chain.)
 pub fn steps_stay_sound()
     ensures new_names { StepGivesNames }
     ensures single { NamesStaySingle }
     ensures names { StepKeepsNames }
     ensures buckets { StepKeepsBuckets }
     ensures pools { StepKeepsPools }
-    ensures at_end { StepAtEndKeeps }
 {}
 
 /// A step changes nothing but what its instruction names, and what the cursors that it names stand at.
@@ -194,11 +193,9 @@ pub fn ranges_lie_in_their_files()
 
 /// In each run of a chain whose opened files have fewer than 2^64 bytes each range of a bucket ends below 2^64: in the brigades of every
 /// instance of every connection, and loose in its calls. Each event keeps it where the file that it opens is so, and the ranges alone
-/// where those of the request are. So does each step, also at the end of the chain, and each brigade that is brought, where the ranges
-/// of its pieces end so.
+/// where those of the request are. So does each step, and each brigade that is brought, where the ranges of its pieces end so.
 pub fn ranges_end_below_2_64()
     ensures step { StepKeepsEnds }
-    ensures at_end { StepAtEndKeepsEnds }
     ensures connection { ConnectionStepKeepsEnds }
     ensures bring { BringKeepsEnds }
     ensures buckets { EventKeepsBucketsEnd }
@@ -211,7 +208,6 @@ pub fn ranges_end_below_2_64()
 /// live, and a brought one on none. (`worlds_are_sound` says it of runs.)
 pub fn variables_stand_as_declared()
     ensures step { StepKeepsDeclared }
-    ensures at_end { StepAtEndKeepsDeclared }
 {}
 
 /// In each run of a chain a live brigade stands once among the payloads of the pool that it is made on, whichever instance holds it, and no
@@ -225,7 +221,6 @@ pub fn brigades_are_registered()
 /// A step of a call keeps each home that has not ended alive: it is the call that runs, which has a name, or a live pool.
 pub fn homes_are_alive_or_ended()
     ensures step { StepKeepsHomes }
-    ensures at_end { StepAtEndKeepsHomes }
 {}
 
 /// A read of a bucket leaves the bytes of its brigade as they were: of a longer range the rest follows. Where the file gives what the read
@@ -440,11 +435,11 @@ pub fn parts_stand_apart()
 {}
 
 /// A step that has no fault does the same over the pools of all connections as over its connection's part, where what it sees lies in
-/// that part (`LiesIn`), and leaves the parts of others, but for the next name. Its fault and the names that are wanting are told
-/// alike.
+/// that part (`LiesIn`), and leaves the parts of others, but for the next name. So does the instruction of the call on top of a chain, at
+/// the end of it too. Its fault and the names that are wanting are told alike.
 pub fn steps_stay_in_their_part()
     ensures steps { StepsStayInPart }
-    ensures at_end { EndStepsStayInPart }
+    ensures top { TopStaysInPart }
     ensures faults { FaultsAlike }
     ensures names { NamesAlike }
     ensures others { StepsSpareOthers }

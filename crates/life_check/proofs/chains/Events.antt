@@ -12,7 +12,8 @@ use Rattle.run_model.specs.declared.event.Stepped.TheVariants as stepped
 use Rattle.run_model.specs.declared.payload.Payload.TheVariants.{FileRef}
 use Rattle.run_model.specs.Indexed.{upd}
 use Rattle.run_model.specs.Pools.{registered}
-use Rattle.run_model.specs.Connection.{if_broken, data_behind_eos}
+use Rattle.run_model.specs.Refusals.{if_broken}
+use Rattle.run_model.specs.Pieces.{data_behind_eos}
 use Rattle.run_model.specs.Chains.{Connection, Common, Linked, pools_of}
 use Rattle.run_model.specs.Turns.{Opening, Found, Missing, Failing, is_busy, unless_refused, opened, begun, begins, file_taken, file_answer, opens_file, brought, brought_in, brings, ended, request_over, ends, steps}
 use Rattle.run_model.specs.Worlds as worlds

@@ -13,7 +13,7 @@ use Rattle.run_model.specs.declared.bucket.Mark.TheVariants.{Usable}
 use Rattle.run_model.specs.declared.event.Piece.{Piece}
 use Rattle.run_model.specs.Indexed.{upd}
 use Rattle.run_model.specs.Pools.{is_in, is_empty, is_live, created}
-use Rattle.run_model.specs.Connection.{bucket_of, named_from, data_behind_eos}
+use Rattle.run_model.specs.Pieces.{bucket_of, named_from, data_behind_eos}
 use Rattle.run_model.specs.State.{Instance, Call, pool_view, named_at, fresh_call}
 use Rattle.run_model.specs.Chains.{Frame, Connection, Common, module_at, configuration, pools_of}
 use Rattle.run_model.specs.Passing.{set_in}

@@ -18,7 +18,8 @@ use Rattle.run_model.specs.Turns.{Opening, Found, Missing, Failing, steps, unles
 use Rattle.run_model.specs.Worlds.{Told, empty_world}
 use Rattle.run_model.specs.ChainRanges.{BuffersInRange, WorldBuffers, EventKeepsBuffers, RunKeepsBuffers}
 use Rattle.run_model.proofs.InRange.{bare_buffer, step_buffer}
-use Rattle.run_model.proofs.chains.EachConnection.{Made, OnOpening, OnBegin, OnBring, OnStep, OnEnd, OnTake, steps_so, event_each, run_each}
+use Rattle.run_model.proofs.chains.EachConnection.{Made, OnOpening, OnBegin, OnBring, OnStep, OnEnd, OnTake, event_each, run_each}
+use Rattle.run_model.proofs.chains.StepCases.{steps_so}
 
 abbrev pub Buffers : List Frame → Type 0
 Buffers fs = All (λ f. BufferInRange f.call.buffer) fs
@@ -104,7 +105,7 @@ module _ (chain : List Program) (g : Common) (c : Connection) (h : BuffersInRang
   ends_buffers memory = unless_buffers _ (ended c.req (g, c)) (ended_buffers c.req)
 
   steps_buffers : (memory : Bool) (budget : ℕ) (reads : Reads) → Left (steps memory budget chain reads (g, c)).1
-  steps_buffers memory budget reads = steps_so BuffersInRange memory budget chain reads g c h (λ k. h) (λ f rest top. proceeds_buffers chain reads (current (module_at chain f.of) f.pc) f rest g c (subst Buffers top h))
+  steps_buffers memory budget reads = steps_so (λ v. BuffersInRange v.1) memory budget chain reads g c h (λ k. h) (λ f rest few ready. proceeds_buffers chain reads (current (module_at chain f.of) f.pc) f rest g c (subst Buffers ready.on_top h))
 
 made_buffers : (memory : Bool) (budget : ℕ) (chain : List Program) (told : Told) (g : Common) (c : Connection) (e : Event) (v : Linked) → Made memory budget chain told g c e v → BuffersInRange c → BuffersInRange v.1
 unfolding opens_file

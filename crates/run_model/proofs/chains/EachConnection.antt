@@ -1,55 +1,18 @@
 -- What is true of each connection, through an event of one of them.
-use Rattle.std.proofs.Common.{◌≡◌, ℕ, ◌+◌, Bool, true, false, cond, nat_le, List, [], ◌∷◌, Option, Some, None, Result, Ok, Err, inl, inr, refl, sym, ◌∙◌, ap, subst}
+use Rattle.std.proofs.Common.{◌≡◌, ℕ, ◌+◌, Bool, true, false, List, [], ◌∷◌, Option, Some, None, Result, Ok, Err, inl, inr, refl, sym, ◌∙◌, ap, subst}
 use Rattle.module_lang.specs.Program.{Program}
-use Rattle.run_model.specs.declared.event.Cause.{Cause}
-use Rattle.run_model.specs.declared.event.Cause.TheVariants as cause
 use Rattle.run_model.specs.declared.event.Event.{Event}
 use Rattle.run_model.specs.declared.event.Event.TheVariants as event
 use Rattle.run_model.specs.declared.event.Piece.{Piece}
 use Rattle.run_model.specs.declared.event.Refusal.{Refusal}
 use Rattle.run_model.specs.declared.event.Stepped.{Stepped}
-use Rattle.run_model.specs.declared.fault.FaultKind.{FaultKind}
-use Rattle.run_model.specs.Faults.{fault}
-use Rattle.run_model.specs.Steps.{current}
-use Rattle.run_model.specs.Chains.{Frame, Connection, Common, Linked, module_at, configuration}
-use Rattle.run_model.specs.Passing.{Reads, proceeds}
-use Rattle.run_model.specs.Turns.{Opening, broken_by, counted, executed, unless_fault, watched, step_top, step_unless, steps, opened, begins, opens_file, brings, ends}
+use Rattle.run_model.specs.Chains.{Connection, Common, Linked}
+use Rattle.run_model.specs.Turns.{Opening, steps, opened, begins, opens_file, brings, ends}
 use Rattle.run_model.specs.Worlds.{World, Told, Answer, put_conn, answered, file_answered, step_answered, closes, opens_if, opens, adds_file, happens_on, happens, IsRun}
 use Rattle.run_model.specs.ChainLaws.{IsChain}
 use Rattle.run_model.proofs.Updates.{upd_either}
 use Rattle.run_model.proofs.chains.EventTurns.{Turn, Drained, OpensAs, begins_turn, brings_turn, opens_file_turn, ends_turn, steps_turn}
 use Rattle.run_model.proofs.chains.WorldKept.{AnyLength}
-
--- A step leaves the connection as it is, or it breaks, or the instruction of the call on top is made.
-module _ (P : Connection → Type 0) (memory : Bool) (budget : ℕ) (chain : List Program) (reads : Reads) (g : Common) (c : Connection) (same : P c) (breaks : (k : Cause) → P (record c { broken = Some k }))
-    (goes : (f : Frame) (rest : List Frame) → c.stack ≡ f ∷ rest → P (counted (proceeds chain reads (current (module_at chain f.of) f.pc) f rest (g, c))).1.1) where
-  executed_so : (f : Frame) (rest : List Frame) → c.stack ≡ f ∷ rest → P (executed memory chain reads (current (module_at chain f.of) f.pc) f rest (g, c)).1.1
-  unfolding executed
-  executed_so f rest top = by_tests _ _ where
-    by_tests : (a b : Bool) → P (cond a (broken_by cause.NamesSpent (g, c)) (cond b (counted (proceeds chain reads (current (module_at chain f.of) f.pc) f rest (g, c))) (broken_by cause.NoMemory (g, c)))).1.1
-    by_tests true b = breaks cause.NamesSpent
-    by_tests false true = goes f rest top
-    by_tests false false = breaks cause.NoMemory
-
-  watched_so : (f : Frame) (rest : List Frame) → c.stack ≡ f ∷ rest → P (watched memory chain reads f rest (g, c)).1.1
-  watched_so f rest top = by_fault (fault (module_at chain f.of) (configuration g c f) (current (module_at chain f.of) f.pc)) where
-    by_fault : (o : Option FaultKind) → P (unless_fault o f (g, c) (executed memory chain reads (current (module_at chain f.of) f.pc) f rest (g, c))).1.1
-    by_fault None = executed_so f rest top
-    by_fault (Some k) = breaks cause.Faulted
-
-  top_so : (stack : List Frame) → c.stack ≡ stack → P (step_top memory budget chain reads stack (g, c)).1.1
-  top_so [] is = same
-  top_so (f ∷ rest) is = by_budget (nat_le budget c.count) where
-    by_budget : (b : Bool) → P (cond b (broken_by cause.OutOfSteps (g, c)) (watched memory chain reads f rest (g, c))).1.1
-    by_budget true = breaks cause.OutOfSteps
-    by_budget false = watched_so f rest is
-
-  pub steps_so : P (steps memory budget chain reads (g, c)).1.1
-  unfolding steps
-  steps_so = by_broken c.broken where
-    by_broken : (b : Option Cause) → P (step_unless b memory budget chain reads (g, c)).1.1
-    by_broken None = top_so c.stack refl
-    by_broken (Some k) = same
 
 -- what an event makes of its connection
 pub data Made (memory : Bool) (budget : ℕ) (chain : List Program) (told : Told) (g : Common) (c : Connection) : Event → Linked → Type 0 where

@@ -10,7 +10,7 @@ use Rattle.run_model.specs.declared.payload.Payload.{Payload}
 use Rattle.run_model.specs.Pools.{Pools, created, destroyed, is_under}
 use Rattle.run_model.specs.Clearing.{run_down}
 use Rattle.run_model.specs.State as state
-use Rattle.run_model.specs.Connection.{bucket_of, named_from}
+use Rattle.run_model.specs.Pieces.{bucket_of, named_from}
 use Rattle.run_model.specs.Chains.{Frame, Connection, Common, configuration, pools_of}
 use Rattle.run_model.specs.Passing.{set_in}
 use Rattle.run_model.specs.Turns.{all_called, with_pools, fresh_connection, opened, begun, brought_in, file_taken, request_over}

@@ -9,9 +9,9 @@ use Rattle.run_model.specs.declared.payload.Payload.{Payload}
 use Rattle.run_model.specs.Indexed.{upd}
 use Rattle.run_model.specs.Pools.{Pools, created, is_under}
 use Rattle.run_model.specs.Clearing.{cleared_var, run_down}
-use Rattle.run_model.specs.State.{Instance, items_of, fresh_call}
+use Rattle.run_model.specs.State.{Instance, items_of}
 use Rattle.run_model.specs.State as state
-use Rattle.run_model.specs.Connection.{bucket_of, named_from}
+use Rattle.run_model.specs.Pieces.{bucket_of, named_from}
 use Rattle.run_model.specs.Sound.{sum_below, count_named, brigade_name}
 use Rattle.run_model.specs.Chains.{Connection, Common, Linked, configuration, pools_of, touched_instance}
 use Rattle.run_model.specs.Passing.{set_in}

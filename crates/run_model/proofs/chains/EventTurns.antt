@@ -1,5 +1,5 @@
 -- What an event makes of its connection: one of a few turns, each with what is known where it is taken.
-use Rattle.std.proofs.Common.{◌≡◌, ◌≢◌, ℕ, ◌+◌, ◌^◌, ◌<◌, ◌≤◌, Bool, true, false, ◌||◌, not, cond, List, [], ◌∷◌, length, Option, Some, None, is_some, Result, Ok, Err, nat_le, nat_lt, refl, arith}
+use Rattle.std.proofs.Common.{◌≡◌, ◌≢◌, ℕ, ◌+◌, ◌^◌, ◌<◌, ◌≤◌, Bool, false, ◌||◌, not, List, [], ◌∷◌, length, Option, Some, None, is_some, Result, Ok, Err, refl, arith}
 use Rattle.std.specs.List.{list_any}
 use Rattle.module_lang.specs.Program.{Program}
 use Rattle.run_model.specs.declared.event.Cause.{Cause}
@@ -9,14 +9,17 @@ use Rattle.run_model.specs.declared.event.Refusal.{Refusal}
 use Rattle.run_model.specs.declared.event.Refusal.TheVariants as refusal
 use Rattle.run_model.specs.declared.fault.FaultKind.{FaultKind}
 use Rattle.run_model.specs.Faults.{fault}
-use Rattle.run_model.specs.Steps.{lacks_names, grows, current, is_spent}
-use Rattle.run_model.specs.Connection.{first_refusal, if_broken, data_behind_eos, lacks_file}
+use Rattle.run_model.specs.Steps.{current, is_spent}
+use Rattle.run_model.specs.Refusals.{first_refusal, if_broken}
+use Rattle.run_model.specs.Pieces.{data_behind_eos, lacks_file}
 use Rattle.run_model.specs.Chains.{Frame, Connection, Common, Linked, module_at, configuration}
-use Rattle.run_model.specs.Passing.{Reads, proceeds}
-use Rattle.run_model.specs.Turns.{Opening, Found, Missing, Failing, is_missing, is_failing, number_given, calls_of, broken_by, counted, executed, unless_fault, watched, step_top, step_unless, steps, unless_refused, is_busy, begun, begins, file_taken, file_answer, opens_file, brought_in, brought, brings, request_over, ended, ends}
+use Rattle.run_model.specs.Passing.{Reads}
+use Rattle.run_model.specs.Turns.{Opening, Found, Missing, Failing, is_missing, is_failing, number_given, steps, unless_refused, is_busy, begun, begins, file_taken, file_answer, opens_file, brought_in, brought, brings, request_over, ended, ends}
 use Rattle.run_model.specs.ChainLaws.{IsChain, MayProceed, after_top}
 use Rattle.run_model.proofs.StepNames.{not_spent}
+use Rattle.run_model.proofs.StepFiles.{neither}
 use Rattle.run_model.proofs.EventAnswers.{none_first, none_if}
+use Rattle.run_model.proofs.chains.StepCases.{step_cases}
 
 -- a file that was opened has one of these lengths
 abbrev pub OpensAs : (ℕ → Type 0) → Result (ℕ × ℕ) Refusal → Type 0
@@ -58,10 +61,6 @@ pub no_request : (req : Option ℕ) → is_some req ≡ false → req ≡ None
 no_request None h = refl
 no_request (Some n) h = absurd (cc)
 
-pub both_off : (a b : Bool) → (a || b) ≡ false → (a ≡ false) × (b ≡ false)
-both_off true b h = absurd (cc)
-both_off false b h = (refl, h)
-
 module _ (chain : List Program) (Lengths : ℕ → Type 0) (g : Common) (c : Connection) where
   unless : (o : Option Refusal) (new : Linked) → (o ≡ None → Turn chain Lengths g c new) → Turn chain Lengths g c (unless_refused o (g, c) new).1
   unless None new h = h refl
@@ -74,7 +73,7 @@ module _ (chain : List Program) (Lengths : ℕ → Type 0) (g : Common) (c : Con
       let b = none_if (is_busy c.stack) refusal.Busy _ a in
       let d = none_if (is_some c.req) refusal.InRequest _ b.1 in
       let e = none_if (is_spent g.pools 1 || is_spent g.next 1) refusal.NamesSpent _ d.1 in
-      let last = both_off (is_spent g.pools 1) (is_spent g.next 1) e.0 in
+      let last = neither (is_spent g.pools 1) (is_spent g.next 1) e.0 in
       Begun (not_broken c.broken _ none) (not_busy c.stack b.0) (no_request c.req d.0) (not_spent g.pools 1 last.0) (not_spent g.next 1 last.1))
 
   brought_turn : (pieces : List Piece) (req : Option ℕ) → c.req ≡ req → c.broken ≡ None → c.stack ≡ [] → list_any (lacks_file c.files) pieces ≡ false → g.next + (2 + length pieces) < 2 ^ 64 → Turn chain Lengths g c (brought chain pieces req (g, c))
@@ -122,41 +121,6 @@ module _ (chain : List Program) (Lengths : ℕ → Type 0) (g : Common) (c : Con
       let b = none_if (is_busy c.stack) refusal.Busy _ a in
       ended_turn c.req refl (not_broken c.broken _ none) (not_busy c.stack b.0))
 
-  -- a step
-  module _ (chained : IsChain chain) (memory : Bool) (budget : ℕ) (reads : Reads) (whole : c.broken ≡ None) where
-    executed_turn : (f : Frame) (rest : List Frame) → c.stack ≡ f ∷ rest → fault (module_at chain f.of) (configuration g c f) (current (module_at chain f.of) f.pc) ≡ None
-        → Turn chain Lengths g c (executed memory chain reads (current (module_at chain f.of) f.pc) f rest (g, c)).1
-    unfolding executed
-    executed_turn f rest top none = by_names (lacks_names (configuration g c f) (current (module_at chain f.of) f.pc) || is_spent g.next (calls_of chain (current (module_at chain f.of) f.pc) f rest c.queue)) refl where
-      by_memory : (b : Bool) → MayProceed chain g c f rest → Turn chain Lengths g c (cond b (counted (proceeds chain reads (current (module_at chain f.of) f.pc) f rest (g, c))) (broken_by cause.NoMemory (g, c))).1
-      by_memory true may = Went reads f rest whole may
-      by_memory false may = Broke cause.NoMemory (λ e. cc)
-
-      by_names : (b : Bool) → (lacks_names (configuration g c f) (current (module_at chain f.of) f.pc) || is_spent g.next (calls_of chain (current (module_at chain f.of) f.pc) f rest c.queue)) ≡ b
-          → Turn chain Lengths g c (cond b (broken_by cause.NamesSpent (g, c)) (cond (memory || not (grows (current (module_at chain f.of) f.pc) || nat_lt 0 (calls_of chain (current (module_at chain f.of) f.pc) f rest c.queue)))
-          (counted (proceeds chain reads (current (module_at chain f.of) f.pc) f rest (g, c))) (broken_by cause.NoMemory (g, c)))).1
-      by_names true spent = Broke cause.NamesSpent (λ e. cc)
-      by_names false there =
-          let last = both_off (lacks_names (configuration g c f) (current (module_at chain f.of) f.pc)) (is_spent g.next (calls_of chain (current (module_at chain f.of) f.pc) f rest c.queue)) there in
-          by_memory _ (record { chained = chained; on_top = top; faultless = none; names_last = last.0; calls_last = last.1 })
-
-    watched_turn : (f : Frame) (rest : List Frame) → c.stack ≡ f ∷ rest → Turn chain Lengths g c (watched memory chain reads f rest (g, c)).1
-    watched_turn f rest top = by_fault (fault (module_at chain f.of) (configuration g c f) (current (module_at chain f.of) f.pc)) refl where
-      by_fault : (o : Option FaultKind) → fault (module_at chain f.of) (configuration g c f) (current (module_at chain f.of) f.pc) ≡ o
-          → Turn chain Lengths g c (unless_fault o f (g, c) (executed memory chain reads (current (module_at chain f.of) f.pc) f rest (g, c))).1
-      by_fault None is = executed_turn f rest top is
-      by_fault (Some k) is = Faulted f rest k whole top is
-
-    top_turn : (stack : List Frame) → c.stack ≡ stack → Turn chain Lengths g c (step_top memory budget chain reads stack (g, c)).1
-    top_turn [] is = Same
-    top_turn (f ∷ rest) is = by_budget (nat_le budget c.count) where
-      by_budget : (b : Bool) → Turn chain Lengths g c (cond b (broken_by cause.OutOfSteps (g, c)) (watched memory chain reads f rest (g, c))).1
-      by_budget true = Broke cause.OutOfSteps (λ e. cc)
-      by_budget false = watched_turn f rest is
-
   pub steps_turn : IsChain chain → (memory : Bool) (budget : ℕ) (reads : Reads) → Turn chain Lengths g c (steps memory budget chain reads (g, c)).1
-  unfolding steps
-  steps_turn chained memory budget reads = by_broken c.broken refl where
-    by_broken : (b : Option Cause) → c.broken ≡ b → Turn chain Lengths g c (step_unless b memory budget chain reads (g, c)).1
-    by_broken None whole = top_turn chained memory budget reads whole c.stack refl
-    by_broken (Some k) whole = Same
+  steps_turn chained memory budget reads = step_cases (Turn chain Lengths g c) memory budget chain reads g c Same Broke Faulted
+      (λ f rest whole few ready. Went reads f rest whole (record { chained = chained; on_top = ready.on_top; faultless = ready.faultless; names_last = ready.names_last; calls_last = ready.calls_last }))

@@ -18,7 +18,7 @@ use Rattle.run_model.specs.State.{Configuration, items_of, pool_named, set_pool,
 use Rattle.run_model.specs.Cursors.{Spot, Nowhere, AtLoose, Within, AtEndOf, spot}
 use Rattle.run_model.specs.BucketSteps.{aside_into}
 use Rattle.run_model.specs.Steps.{Choice, with_brigade, all_referred, step, current, on_pool, label_registered, label_killed, text_of, saved_into, made_on, new_ref, pool_cleared, pool_destroyed}
-use Rattle.run_model.specs.Connection.{has_range}
+use Rattle.run_model.specs.Pieces.{has_range}
 use Rattle.run_model.specs.Laws.{refers, IsHeld, SoundFiles}
 use Rattle.run_model.specs.Chains.{Frame, Connection, Common, Linked, module_at, configuration, pools_of, is_under_named, touched_bucket}
 use Rattle.run_model.specs.Passing.{Reads, proceeds}
@@ -32,7 +32,7 @@ use Rattle.run_model.proofs.NamedPools.{on_named, made_under_named}
 use Rattle.run_model.proofs.MadeBrigades.{brigade_refers}
 use Rattle.run_model.proofs.References.{one_of, created_refers, created_back, registered_refers, registered_back, registered_itself, all_grow, killed_refers, emptied_refers}
 use Rattle.run_model.proofs.StepFiles.{left_home, spared_home, none_held, cleared_emptied, destroyed_emptied, went_and, step_files}
-use Rattle.run_model.proofs.FilesRuns.{pieces_held}
+use Rattle.run_model.proofs.PieceFiles.{pieces_held}
 use Rattle.run_model.proofs.Unchanged.{step_changes_only}
 use Rattle.run_model.proofs.chains.PutBack.{looking}
 use Rattle.run_model.proofs.chains.Views.{sound_top}

@@ -69,9 +69,9 @@ module _ (chain : List Program) (proper : (k : ℕ) → IsModule (module_at chai
 
 pub step_stays_in_handler : StepStaysInHandler
 step_stays_in_handler memory budget chain reads g c chained waits =
-    steps_so (λ v. CallsAfter chain g c c.stack v.1.stack) memory budget chain reads g c chained (Stay c.stack) (λ k. Stay c.stack)
-    (λ f rest few may. subst (λ (fs : List Frame). CallsAfter chain g c fs (counted_top chain reads g c f rest).1.stack) (sym may.on_top)
-    (proceeds_after chain (module_at_proper chain chained) g c f rest reads (current (module_at chain f.of) f.pc) refl (waits f rest may.on_top)))
+    steps_so (λ v. CallsAfter chain g c c.stack v.1.stack) memory budget chain reads g c (Stay c.stack) (λ k. Stay c.stack)
+    (λ f rest few ready. subst (λ (fs : List Frame). CallsAfter chain g c fs (counted_top chain reads g c f rest).1.stack) (sym ready.on_top)
+    (proceeds_after chain (module_at_proper chain chained) g c f rest reads (current (module_at chain f.of) f.pc) refl (waits f rest ready.on_top)))
 
 pub run_places_calls : RunPlacesCalls
 run_places_calls budget chain es answers w k c chained run at = ((run_keeps_world budget chain es answers w chained run).conns k c at).calls.placed

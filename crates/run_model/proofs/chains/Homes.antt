@@ -12,7 +12,7 @@ use Rattle.run_model.specs.Pools.{Pools, is_live, is_under, created, destroyed, 
 use Rattle.run_model.specs.Clearing.{run_down}
 use Rattle.run_model.specs.State.{items_of, with_pools}
 use Rattle.run_model.specs.Steps.{Choice, answer_to, current, step}
-use Rattle.run_model.specs.Connection.{bucket_of, named_from}
+use Rattle.run_model.specs.Pieces.{bucket_of, named_from}
 use Rattle.run_model.specs.Laws.{MayExecute, is_return}
 use Rattle.run_model.specs.Sound.{Sound}
 use Rattle.run_model.specs.Chains.{Frame, Connection, Common, Linked, module_at, is_last, configuration, pools_of, touched_bucket, touched_frame, put_back, stepped_in}

@@ -31,7 +31,8 @@ use Rattle.run_model.proofs.chains.Modules.{module_at_proper}
 use Rattle.run_model.proofs.chains.Names.{left_either}
 use Rattle.run_model.proofs.chains.EachBucket.{LooseOf, no_calls, one_call, seen_each, passed_to_each, given_each, called_each, mapped_each, cleared_each, put_back_each}
 use Rattle.run_model.proofs.chains.EachEvent.{opened_each, begun_each, brought_in_each}
-use Rattle.run_model.proofs.chains.EachConnection.{Made, OnOpening, OnBegin, OnBring, OnStep, OnEnd, OnTake, steps_so, event_each}
+use Rattle.run_model.proofs.chains.EachConnection.{Made, OnOpening, OnBegin, OnBring, OnStep, OnEnd, OnTake, event_each}
+use Rattle.run_model.proofs.chains.StepCases.{steps_so}
 
 abbrev IsOf : NamedBucket → Type 0
 IsOf x = HoldsBytes x.bucket.content
@@ -206,9 +207,9 @@ module _ (chain : List Program) (g : Common) (c : Connection) (h : ChainInRange 
   ends_range memory = unless_range _ (ended c.req (g, c)) (ended_range c.req)
 
   steps_range : IsChain chain → (memory : Bool) (budget : ℕ) (reads : Reads) → ((k : ℕ) (bytes : List ℕ) → reads k ≡ Some bytes → AreBytes bytes) → ChainInRange (steps memory budget chain reads (g, c)).1.1
-  steps_range chained memory budget reads gives = steps_so ChainInRange memory budget chain reads g c h
+  steps_range chained memory budget reads gives = steps_so (λ v. ChainInRange v.1) memory budget chain reads g c h
       (λ k. record { numbers = h.numbers; buffers = h.buffers; held = record { brigades = h.held.brigades; loose = h.held.loose }; opened = h.opened })
-      (λ f rest top. (let left = proceeds_range chain chained reads gives (current (module_at chain f.of) f.pc) f rest g c top (current_fits (module_at chain f.of) (module_at_proper chain chained f.of) f.pc) h in
+      (λ f rest few ready. (let left = proceeds_range chain chained reads gives (current (module_at chain f.of) f.pc) f rest g c ready.on_top (current_fits (module_at chain f.of) (module_at_proper chain chained f.of) f.pc) h in
       record { numbers = left.numbers; buffers = left.buffers; held = record { brigades = left.held.brigades; loose = left.held.loose }; opened = left.opened }))
 
 opened_range : (chain : List Program) (g : Common) → ChainInRange (opened chain g).1

@@ -7,15 +7,15 @@ use Rattle.run_model.specs.declared.event.Refusal.{Refusal}
 use Rattle.run_model.specs.declared.event.Refusal.TheVariants as refusal
 use Rattle.run_model.specs.declared.event.Stepped.{Stepped}
 use Rattle.run_model.specs.Steps.{is_spent}
-use Rattle.run_model.specs.Connection.{first_refusal, refused_if}
+use Rattle.run_model.specs.Refusals.{first_refusal, refused_if}
 use Rattle.run_model.specs.Chains.{Connection, Linked}
 use Rattle.run_model.specs.Turns.{opened}
 use Rattle.run_model.specs.Worlds.{World, Told, Answer, empty_world, put_conn, answered, file_answered, step_answered, closes, opens_if, opens, adds_file, happens_on, IsRun}
 use Rattle.run_model.specs.ChainNumbers.{WorldNumbers, EventKeepsNumbers, RunKeepsNumbers}
+use Rattle.run_model.proofs.StepFiles.{neither}
 use Rattle.run_model.proofs.Updates.{upd_either}
 use Rattle.run_model.proofs.StepNames.{not_spent}
 use Rattle.run_model.proofs.EventAnswers.{none_if}
-use Rattle.run_model.proofs.chains.EventTurns.{both_off}
 
 none_some : (c : Connection) → None ≡ Some c → ⊥
 none_some c e = cc
@@ -61,7 +61,7 @@ opens_numbered memory chain w h = by_refusal _ refl where
   by_refusal (Some r) is = h
   by_refusal None is =
       let spent = none_if (is_spent (w.last + 1) 1 || (is_spent w.common.pools 1 || is_spent w.common.next 1)) refusal.NamesSpent _ is in
-      new_numbered (opened chain w.common) w (not_spent (w.last + 1) 1 (both_off (is_spent (w.last + 1) 1) _ spent.0).0) h
+      new_numbered (opened chain w.common) w (not_spent (w.last + 1) 1 (neither (is_spent (w.last + 1) 1) _ spent.0).0) h
 
 added_numbered : (memory : Bool) (w : World) → WorldNumbers w → WorldNumbers (adds_file memory w).1
 added_numbered false w h = h

@@ -19,9 +19,10 @@ use Rattle.run_model.specs.Passing.{Reads, delivered, delivered_by, passed_to, a
 use Rattle.run_model.specs.Turns.{Opening, Found, Missing, Failing, unless_refused, all_called, opened, begun, begins, file_answer, opens_file, brought, brings, ended, ends, steps}
 use Rattle.run_model.specs.ChainLaws.{IsChain}
 use Rattle.run_model.specs.ChainOrder.{has_call, ChainOrder, EventKeepsWorldOrder, RunKeepsWorldOrder}
+use Rattle.run_model.proofs.StepFiles.{neither}
 use Rattle.run_model.proofs.Updates.{upd_off}
 use Rattle.run_model.proofs.chains.Names.{left_either}
-use Rattle.run_model.proofs.chains.EventTurns.{OpensAs, both_off, Turn, Same, Drained, Broke, Faulted, Went, Begun, Brought, FileTaken, Ended, begins_turn, brings_turn, opens_file_turn, ends_turn, steps_turn}
+use Rattle.run_model.proofs.chains.EventTurns.{OpensAs, Turn, Same, Drained, Broke, Faulted, Went, Begun, Brought, FileTaken, Ended, begins_turn, brings_turn, opens_file_turn, ends_turn, steps_turn}
 use Rattle.run_model.proofs.chains.Proceeds.{proceeds_count}
 use Rattle.run_model.proofs.chains.StepCases.{steps_so}
 use Rattle.run_model.proofs.chains.ConnectionKept.{EventsKeep, event_so, run_so}
@@ -36,7 +37,7 @@ Vacant c = (k : ℕ) → has_call c.stack k ≡ false → (c.instances k).brigad
 others_free : (f : Frame) (rest : List Frame) (k : ℕ) → has_call (f ∷ rest) k ≡ false → (k ≢ f.of) × (has_call rest k ≡ false)
 unfolding has_call
 others_free f rest k h =
-    let parts = both_off (f.of == k) (has_call rest k) h in
+    let parts = neither (f.of == k) (has_call rest k) h in
     (λ same. absurd (let is : (f.of == k) ≡ true = eq-eqb f.of k (sym same) in let no : true ≡ false = sym is ∙ parts.0 in cc), parts.1)
 
 touched_free : (bucket : NamedBucket → NamedBucket) (fs : List Frame) (k : ℕ) → has_call (map (touched_frame bucket) fs) k ≡ has_call fs k
@@ -166,8 +167,8 @@ module _ (budget : ℕ) (chain : List Program) (chained : IsChain chain) where
 
   steps_few : (memory : Bool) (reads : Reads) (g : Common) (c : Connection) → c.count ≤ budget → (steps memory budget chain reads (g, c)).1.1.count ≤ budget
   steps_few memory reads g c h =
-      steps_so (λ v. v.1.count ≤ budget) memory budget chain reads g c chained h (λ k. h)
-      (λ f rest few may. (let same = proceeds_count chain reads (current (module_at chain f.of) f.pc) f rest g c in omega (arith, same, few)))
+      steps_so (λ v. v.1.count ≤ budget) memory budget chain reads g c h (λ k. h)
+      (λ f rest few ready. (let same = proceeds_count chain reads (current (module_at chain f.of) f.pc) f rest g c in omega (arith, same, few)))
 
   order_events : EventsKeep budget chain (ChainOrder budget)
   unfolding opened all_called

@@ -20,7 +20,7 @@ use Rattle.run_model.specs.State.{Instance, Configuration, items_of}
 use Rattle.run_model.specs.Effects.{do_pass, do_return, with_items}
 use Rattle.run_model.specs.Faults.{fault}
 use Rattle.run_model.specs.Steps.{Choice, answer_to, current, step}
-use Rattle.run_model.specs.Connection.{if_broken}
+use Rattle.run_model.specs.Refusals.{if_broken}
 use Rattle.run_model.specs.Chains.{Frame, Connection, Common, Linked, module_at, is_last, configuration, pools_of, touched_var, cleared_by, touched_instance, put_back, stepped_in}
 use Rattle.run_model.specs.Passing.{Reads, set_in, handed_in, delivered, delivered_by, passed_to, given_back, passed_by, returned_to, next_called, returned_from, proceeds}
 use Rattle.run_model.specs.Turns.{Opening, Found, Missing, Failing, unless_refused, is_busy, all_called, begun, begins, file_answer, opens_file, brought, brings, ended, ends, steps}
@@ -212,9 +212,9 @@ module _ (budget : ℕ) (chain : List Program) (chained : IsChain chain) (g : Co
 
   steps_stay : (memory : Bool) (reads : Reads) → top_lets_go chain c.stack j b ≡ false → Kept (steps memory budget chain reads (g, c)).1
   unfolding IsNestedStack
-  steps_stay memory reads other = steps_so Kept memory budget chain reads g c chained unchanged (λ k. unchanged) (λ f rest few may.
-      proceeds_stays chain reads (current (module_at chain f.of) f.pc) f rest g c j b h may.faultless (subst (λ (fs : List Frame). top_lets_go chain fs j b ≡ false) may.on_top other)
-      (order.nothing_brought (f.of + 1) (subst (λ (fs : List Frame). has_call fs (f.of + 1) ≡ false) (sym may.on_top) (later_free f rest (f.of + 1) (subst IsNestedStack may.on_top nested) (omega arith)))))
+  steps_stay memory reads other = steps_so Kept memory budget chain reads g c unchanged (λ k. unchanged) (λ f rest few ready.
+      proceeds_stays chain reads (current (module_at chain f.of) f.pc) f rest g c j b h ready.faultless (subst (λ (fs : List Frame). top_lets_go chain fs j b ≡ false) ready.on_top other)
+      (order.nothing_brought (f.of + 1) (subst (λ (fs : List Frame). has_call fs (f.of + 1) ≡ false) (sym ready.on_top) (later_free f rest (f.of + 1) (subst IsNestedStack ready.on_top nested) (omega arith)))))
 
 -- In a world.
 

@@ -18,7 +18,7 @@ use Rattle.run_model.specs.State.{Configuration, items_of, pool_named, set_pool,
 use Rattle.run_model.specs.Cursors.{spot}
 use Rattle.run_model.specs.BucketSteps.{aside_into}
 use Rattle.run_model.specs.Steps.{Choice, step, current, is_spent, label_registered, label_killed, text_of, saved_into, made_on, new_ref, pool_cleared, pool_destroyed}
-use Rattle.run_model.specs.Connection.{first_refusal, refused_if}
+use Rattle.run_model.specs.Refusals.{first_refusal, refused_if}
 use Rattle.run_model.specs.Sound.{SoundPools}
 use Rattle.run_model.specs.Chains.{Frame, Connection, Common, Linked, module_at, configuration, pools_of}
 use Rattle.run_model.specs.Passing.{Reads}

@@ -23,7 +23,7 @@ use Rattle.run_model.specs.Clearing.{run_down}
 use Rattle.run_model.specs.Files.{Files, is_referred, let_go}
 use Rattle.run_model.specs.State.{Configuration, pool_named, with_pools}
 use Rattle.run_model.specs.Steps.{Choice, step, current, pool_cleared, pool_destroyed}
-use Rattle.run_model.specs.Connection.{bucket_of, named_from, has_range, lacks_file}
+use Rattle.run_model.specs.Pieces.{bucket_of, named_from, has_range, lacks_file}
 use Rattle.run_model.specs.Laws.{refers, IsHeld, SoundFiles}
 use Rattle.run_model.specs.Ranges.{Reaches, LiesInFile, HasLength, SoundRanges}
 use Rattle.run_model.specs.Chains.{Frame, Connection, Common, Linked, module_at, configuration, pools_of, files_of, touched_bucket, cleared_by}
@@ -37,8 +37,9 @@ use Rattle.run_model.specs.ChainRanges.{ChainRanges, WorldRanges, EventKeepsWorl
 use Rattle.run_model.proofs.Updates.{upd_at, upd_off}
 use Rattle.run_model.proofs.NamedPools.{on_named}
 use Rattle.run_model.proofs.References.{one_of, created_back, registered_back, emptied_back}
-use Rattle.run_model.proofs.StepFiles.{left_home, spared_home, destroyed_emptied, neither}
-use Rattle.run_model.proofs.StepRanges.{LieList, none_lie, still_told, step_ranges}
+use Rattle.run_model.proofs.PieceFiles.{no_range, pieces_each}
+use Rattle.run_model.proofs.StepFiles.{left_home, spared_home, destroyed_emptied}
+use Rattle.run_model.proofs.StepRanges.{LieList, still_told, step_ranges}
 use Rattle.run_model.proofs.Unchanged.{step_changes_only}
 use Rattle.run_model.proofs.chains.Views.{sound_top}
 use Rattle.run_model.proofs.chains.TopSteps.{may_step}
@@ -71,27 +72,14 @@ reach_told fs (f ∷ rest) file end h has = elim (one_of (f.0 == file && nat_le 
   reaches n e = grind (arith, nat_tests)
 
 pieces_lie : (fs : Files) (files : List (ℕ × ℕ)) (call req n : ℕ) (xs : List Piece) → list_any (lacks_file files) xs ≡ false → All (HasLength fs) files → LieList fs (named_from (bucket_of call req) n xs)
-pieces_lie fs files call req n [] there lengths = none_lie fs
-pieces_lie fs files call req n (x ∷ xs) there lengths =
-    let parts = neither (lacks_file files x) (list_any (lacks_file files) xs) there in
-    All-cons (LiesInFile fs) _ (named_from (bucket_of call req) (n + 1) xs) (one x parts.0) (pieces_lie fs files call req (n + 1) xs parts.1 lengths) where
-      has : (b : Bool) → not b ≡ false → b ≡ true
-      has true h = refl
-      has false h = absurd (cc)
-
-      one : (y : Piece) → lacks_file files y ≡ false → LiesInFile fs (record { name = n; bucket = bucket_of call req y })
-      one (piece.Heap bytes) lacks = λ file start len p e at. absurd (cc)
-      one (piece.Transient bytes) lacks = λ file start len p e at. absurd (cc)
-      one (piece.Immortal bytes) lacks = λ file start len p e at. absurd (cc)
-      one (piece.Pool bytes) lacks = λ file start len p e at. absurd (cc)
-      one (piece.File f st l) lacks = λ file start len p e at.
+pieces_lie fs files call req n xs there lengths =
+    pieces_each (LiesInFile fs) files call req lies (λ x off. λ file start len p e at. absurd (no_range x.bucket.content file start len off e)) n xs there where
+      lies : (m f st l : ℕ) → has_range files f (st + l) ≡ true → LiesInFile fs (record { name = m; bucket = bucket_of call req (piece.File f st l) })
+      lies m f st l has file start len p e at =
           let same_file : f ≡ file = cc in
           let same_start : st ≡ start = cc in
           let same_len : l ≡ len = cc in
-          let reach = reach_told fs files f (st + l) lengths (has (has_range files f (st + l)) lacks) in
-          subst (λ (k : ℕ). Reaches fs k (start + len)) same_file (subst (λ (k : ℕ). Reaches fs f (start + k)) same_len (subst (λ (k : ℕ). Reaches fs f (k + l)) same_start reach))
-      one piece.Flush lacks = λ file start len p e at. absurd (cc)
-      one piece.Eos lacks = λ file start len p e at. absurd (cc)
+          subst (λ (k : ℕ). Reaches fs k (start + len)) same_file (subst (λ (k : ℕ). Reaches fs f (start + k)) same_len (subst (λ (k : ℕ). Reaches fs f (k + l)) same_start (reach_told fs files f (st + l) lengths has)))
 
 -- What an instruction leaves: a file that is open then held the same before.
 

@@ -20,7 +20,8 @@ use Rattle.run_model.specs.ChainFiles.{OfEachBucket, IsShort, BucketsEnd, Connec
 use Rattle.run_model.proofs.RangesEnd.{pieces_end, told_end, step_ends}
 use Rattle.run_model.proofs.chains.EachBucket.{Steps, seen_each, proceeds_each}
 use Rattle.run_model.proofs.chains.EachEvent.{opened_each, begun_each, brought_in_each, request_over_each}
-use Rattle.run_model.proofs.chains.EachConnection.{Made, OnOpening, OnBegin, OnBring, OnStep, OnEnd, OnTake, opening_turn, steps_so, event_each}
+use Rattle.run_model.proofs.chains.EachConnection.{Made, OnOpening, OnBegin, OnBring, OnStep, OnEnd, OnTake, opening_turn, event_each}
+use Rattle.run_model.proofs.chains.StepCases.{steps_so}
 use Rattle.run_model.proofs.chains.EventTurns.{Turn, Same, Drained, Broke, Faulted, Went, Begun, Brought, FileTaken, Ended, begins_turn, brings_turn, ends_turn}
 use Rattle.run_model.proofs.chains.Proceeds.{proceeds_files}
 use Rattle.run_model.proofs.chains.WorldKept.{AnyLength, TurnsKeep, event_kept, run_kept, empty_kept}
@@ -50,8 +51,8 @@ proceeds_end : (chain : List Program) (reads : Reads) (f : Frame) (rest : List F
 proceeds_end chain reads f rest i g c is h = proceeds_each Ends Ends chain g c f reads i rest is (steps_end chain g c f rest i is h) h
 
 pub connection_step_ends : ConnectionStepKeepsEnds
-connection_step_ends memory budget chain reads g c h = steps_so BucketsEnd memory budget chain reads g c h (λ k. record { brigades = h.brigades; loose = h.loose })
-    (λ f rest is. (let left = proceeds_end chain reads f rest (current (module_at chain f.of) f.pc) g c is h in record { brigades = left.brigades; loose = left.loose }))
+connection_step_ends memory budget chain reads g c h = steps_so (λ v. BucketsEnd v.1) memory budget chain reads g c h (λ k. record { brigades = h.brigades; loose = h.loose })
+    (λ f rest few ready. (let left = proceeds_end chain reads f rest (current (module_at chain f.of) f.pc) g c ready.on_top h in record { brigades = left.brigades; loose = left.loose }))
 
 pub bring_ends : BringKeepsEnds
 bring_ends chain pieces req g c all h = brought_in_each (λ x. EndsInFile x.bucket.content) chain pieces req g c (pieces_end g.next req (g.next + 2) pieces all) h

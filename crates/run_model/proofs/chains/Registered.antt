@@ -21,7 +21,7 @@ use Rattle.run_model.specs.Clearing.{run_down}
 use Rattle.run_model.specs.State.{Instance, Configuration, items_of, set_brigade, with_pools}
 use Rattle.run_model.specs.Effects.{do_pass, do_return, handed_over, with_items}
 use Rattle.run_model.specs.Steps.{Choice, answer_to, current, step}
-use Rattle.run_model.specs.Connection.{bucket_of, named_from}
+use Rattle.run_model.specs.Pieces.{bucket_of, named_from}
 use Rattle.run_model.specs.Sound.{Sound}
 use Rattle.run_model.specs.Laws.{MayExecute}
 use Rattle.run_model.specs.Registered.{IsMadeIn, times_held, AreRegistered, IsMadeInOne}

@@ -8,18 +8,19 @@ use Rattle.run_model.specs.declared.event.Refusal.{Refusal}
 use Rattle.run_model.specs.declared.event.Refusal.TheVariants as refusal
 use Rattle.run_model.specs.declared.event.Stepped.{Stepped}
 use Rattle.run_model.specs.Steps.{is_spent}
-use Rattle.run_model.specs.Connection.{first_refusal, refused_if}
+use Rattle.run_model.specs.Refusals.{first_refusal, refused_if}
 use Rattle.run_model.specs.Chains.{Connection, Common, Linked}
 use Rattle.run_model.specs.Turns.{Opening, opened, opens_file}
 use Rattle.run_model.specs.Worlds.{World, Told, Answer, Opened, empty_world, put_conn, answered, file_answered, step_answered, closes, opens_if, opens, adds_file, happens_on, happens, IsRun}
 use Rattle.run_model.specs.ChainSound.{ChainSound, HasNames, WorldSound}
 use Rattle.run_model.specs.ChainLaws.{IsChain, Rises, EventKeepsWorld, RunKeepsWorld}
 use Rattle.run_model.specs.ChainFiles.{TellsLengths}
+use Rattle.run_model.proofs.StepFiles.{neither}
 use Rattle.run_model.proofs.Updates.{upd_either}
 use Rattle.run_model.proofs.StepNames.{not_spent}
 use Rattle.run_model.proofs.EventAnswers.{none_if}
 use Rattle.run_model.proofs.chains.EventBuckets.{opened_raises}
-use Rattle.run_model.proofs.chains.EventTurns.{Turn, OpensAs, Drained, both_off, begins_turn, brings_turn, opens_file_turn, ends_turn, steps_turn}
+use Rattle.run_model.proofs.chains.EventTurns.{Turn, OpensAs, Drained, begins_turn, brings_turn, opens_file_turn, ends_turn, steps_turn}
 use Rattle.run_model.proofs.chains.TurnsSound.{rising_sound, opened_sound, turn_sound, turn_rises}
 
 -- A property of connections that others' names leave, that an opening makes and each turn keeps, where opened files have these lengths.
@@ -95,7 +96,7 @@ module _ (chain : List Program) (chained : IsChain chain) (Lengths : ℕ → Typ
     by_refusal (Some r) is = h
     by_refusal None is =
         let spent = none_if (is_spent (w.last + 1) 1 || (is_spent w.common.pools 1 || is_spent w.common.next 1)) refusal.NamesSpent _ is in
-        let names = both_off (is_spent w.common.pools 1) (is_spent w.common.next 1) (both_off (is_spent (w.last + 1) 1) _ spent.0).1 in
+        let names = neither (is_spent w.common.pools 1) (is_spent w.common.next 1) (neither (is_spent (w.last + 1) 1) _ spent.0).1 in
         let pools = not_spent w.common.pools 1 names.0 in
         let next = not_spent w.common.next 1 names.1 in
         let sound = opened_sound chain w.common chained h.sound.names next pools in

@@ -1,4 +1,4 @@
--- Faults and names that are wanting are told alike in a part and in the whole, and a step at the end of the chain does the same.
+-- Faults and names that are wanting are told alike in a part and in the whole.
 use Rattle.std.proofs.Common.{◌≡◌, ℕ, Bool, true, false, ◌||◌, not, cond, List, [], ◌∷◌, Option, Some, None, refl, sym, ◌∙◌, ap, ap₂, inl, inr}
 use Rattle.std.proofs.lemmas.Bool.{cases_Bool, both_ways, false_from_ne_true}
 use Rattle.module_lang.specs.declared.instr.Instr.{Instr}
@@ -11,12 +11,11 @@ use Rattle.run_model.specs.Pools.{Pools, is_empty, is_live, is_under}
 use Rattle.run_model.specs.State.{Configuration, named_at, pool_named, is_own_at}
 use Rattle.run_model.specs.Cursors.{spot_of, holder_of, variable_of}
 use Rattle.run_model.specs.Faults.{Want, WPool, WNewPool, is_live_named, has_pool, has_pool_at, cursor_fault, is_stray, keeps_stray, fault_want, first_fault, or_else, wants}
-use Rattle.run_model.specs.Steps.{Choice, Outcome, step, choice_at_end, left_at_end, names_of, pool_names_of, is_spent, lacks_names}
+use Rattle.run_model.specs.Steps.{names_of, pool_names_of, is_spent, lacks_names}
 use Rattle.run_model.specs.Parts.{belongs, part}
-use Rattle.run_model.specs.PartSteps.{in_part, LiesIn, FaultsAlike, NamesAlike, EndStepsStayInPart}
+use Rattle.run_model.specs.PartSteps.{in_part, LiesIn, FaultsAlike, NamesAlike}
 use Rattle.run_model.proofs.parts.Paths.{under_belongs, part_off, live_alike}
-use Rattle.run_model.proofs.parts.Steps.{named_under, steps_alike}
-use Rattle.run_model.proofs.parts.Quiet.{went}
+use Rattle.run_model.proofs.parts.Steps.{named_under}
 
 -- Faults.
 
@@ -61,24 +60,3 @@ names_of_alike c i r = refl
 pub names_alike : NamesAlike
 unfolding lacks_names part
 names_alike c i r = ap (λ (n : ℕ). is_spent r.shared.next n || is_spent r.shared.pools.next (pool_names_of i)) (names_of_alike c i r)
-
--- The end of the chain.
-
-choice_alike : (c : ℕ) (i : Instr) (r : Configuration) → choice_at_end i (in_part c r) ≡ choice_at_end i r
-unfolding spot_of holder_of variable_of
-choice_alike c (instr.PCreate q) r = refl
-choice_alike c i r = refl
-
-left_alike : (c : ℕ) (i : Instr) (r s : Configuration) → left_at_end i (in_part c r) (in_part c s) ≡ in_part c (left_at_end i r s)
-unfolding spot_of holder_of variable_of
-left_alike c (instr.PCreate q) r s = refl
-left_alike c i r s = refl
-
-abbrev finished : Instr → Configuration → Outcome → Outcome
-finished i r o = record o { state = left_at_end i r o.state }
-
-pub end_steps_alike : EndStepsStayInPart
-end_steps_alike c p i r s none =
-    ap (λ (choice : Choice). finished i (in_part c r) (step p choice i (in_part c r))) (choice_alike c i r)
-    ∙ (ap (finished i (in_part c r)) (steps_alike c p (choice_at_end i r) i r s none)
-    ∙ ap (went (step p (choice_at_end i r) i r).exit) (left_alike c i r (step p (choice_at_end i r) i r).state))

@@ -1,7 +1,7 @@
 -- By the new brigade, which is filled or ended again.
 use Rattle.std.proofs.Common.{◌≡◌, ℕ, ◌+◌, ◌<◌, is_some, sym, ap, subst, ◌∙◌}
 use Rattle.bucket_ring.specs.Lists.{numbered}
-use Rattle.run_model.specs.Connection.{bucket_of}
+use Rattle.run_model.specs.Pieces.{bucket_of}
 use Rattle.brigade_ops.specs.Store.{lists, next_name}
 use Rattle.brigade_ops.proofs.Housed.{house_kept}
 use Rattle.brigade_ops.proofs.Models.{lists_are_the_models}

@@ -1,7 +1,7 @@
 -- The buckets so far, and those of the pieces that are left, are all.
 use Rattle.std.proofs.Common.{◌≡◌, ◌++◌, map}
 use Rattle.std.specs.Vec.Iter.{into_iter_items}
-use Rattle.run_model.specs.Connection.{bucket_of}
+use Rattle.run_model.specs.Pieces.{bucket_of}
 use Rattle.module_run.proofs.pieces.buckets_of.Given as goal
 
 abbrev pub invariant-loop-piece : goal.invariant-loop-piece

@@ -1,6 +1,6 @@
 -- A range is one of some file of the request, or of none.
 use Rattle.std.proofs.Common.{◌+◌, not, sym, ap, ◌∙◌}
-use Rattle.run_model.specs.Connection.{lacks_file}
+use Rattle.run_model.specs.Pieces.{lacks_file}
 use Rattle.module_run.specs.Conns.{lengths}
 use Rattle.module_run.proofs.Looked.{any_lengths}
 use Rattle.module_run.proofs.pieces.lacks_file.Goals as goal

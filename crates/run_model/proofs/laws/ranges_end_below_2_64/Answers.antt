@@ -1,12 +1,9 @@
-use Rattle.run_model.proofs.RangesEnd.{step_ends, at_end_ends}
+use Rattle.run_model.proofs.RangesEnd.{step_ends}
 use Rattle.run_model.proofs.chains.RangesEnd.{connection_step_ends, bring_ends, event_buckets_end, event_keeps_ends, run_ends_world}
 use Rattle.run_model.proofs.laws.ranges_end_below_2_64.Goals as goal
 
 pub returns-clause-step : goal.returns-clause-step
 returns-clause-step c = step_ends
-
-pub returns-clause-at_end : goal.returns-clause-at_end
-returns-clause-at_end c = at_end_ends
 
 pub returns-clause-connection : goal.returns-clause-connection
 returns-clause-connection c = connection_step_ends

@@ -1,13 +1,14 @@
 use Rattle.run_model.proofs.parts.Steps.{steps_alike}
-use Rattle.run_model.proofs.parts.Alike.{end_steps_alike, faults_alike, names_alike}
+use Rattle.run_model.proofs.parts.Alike.{faults_alike, names_alike}
 use Rattle.run_model.proofs.parts.Spared.{steps_spare}
+use Rattle.run_model.proofs.parts.Tops.{top_alike}
 use Rattle.run_model.proofs.laws.steps_stay_in_their_part.Goals as goal
 
 pub returns-clause-steps : goal.returns-clause-steps
 returns-clause-steps c = steps_alike
 
-pub returns-clause-at_end : goal.returns-clause-at_end
-returns-clause-at_end c = end_steps_alike
+pub returns-clause-top : goal.returns-clause-top
+returns-clause-top c = top_alike
 
 pub returns-clause-faults : goal.returns-clause-faults
 returns-clause-faults c = faults_alike

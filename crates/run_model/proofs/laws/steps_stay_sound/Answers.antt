@@ -2,7 +2,6 @@ use Rattle.run_model.proofs.Names.{names_stay}
 use Rattle.run_model.proofs.StepNames.{step_gives, step_names}
 use Rattle.run_model.proofs.StepBuckets.{step_buckets}
 use Rattle.run_model.proofs.StepPools.{step_pools}
-use Rattle.run_model.proofs.SoundRuns.{at_end_sound}
 use Rattle.run_model.proofs.laws.steps_stay_sound.Goals as goal
 
 pub returns-clause-new_names : goal.returns-clause-new_names
@@ -19,6 +18,3 @@ returns-clause-buckets c = step_buckets
 
 pub returns-clause-pools : goal.returns-clause-pools
 returns-clause-pools c = step_pools
-
-pub returns-clause-at_end : goal.returns-clause-at_end
-returns-clause-at_end c = at_end_sound

@@ -4,7 +4,7 @@ use Rattle.std.proofs.Math.Path.{fun_ext}
 use Rattle.module_lang.specs.Program.{Program}
 use Rattle.run_model.specs.Steps.{is_spent}
 use Rattle.run_model.proofs.StepNames.{not_spent}
-use Rattle.run_model.proofs.chains.EventTurns.{both_off}
+use Rattle.run_model.proofs.StepFiles.{neither}
 use Rattle.filter_chain.specs.Hosting.{IsHosting, seat_at, chain_of, budget_of}
 use Rattle.filter_chain.proofs.Hosts.{laws}
 use Rattle.filter_chain.proofs.HostOpens.{opens_spent, opens_forgot, opened_on}
@@ -19,7 +19,7 @@ returns-then-lacks_names-clause-event g c w hosts =
 pub overflow_add-number : goal.overflow_add-number
 overflow_add-number g c =
     let host = c.args.self.now in
-    let off = both_off (is_spent (host.last + 1) 1) (is_spent host.next.pool 1 || is_spent host.next.name 1) (sym c.lacks_names.ensures ∙ c.if-lacks_names.false) in
+    let off = neither (is_spent (host.last + 1) 1) (is_spent host.next.pool 1 || is_spent host.next.name 1) (sym c.lacks_names.ensures ∙ c.if-lacks_names.false) in
     let lt = not_spent (host.last + 1) 1 off.0 in
     omega (arith, lt)
 

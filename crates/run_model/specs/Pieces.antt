@@ -1,5 +1,5 @@
--- Of a connection: the tests that refuse its events, and the pieces that are brought to it.
-use Rattle.std.specs.Prelude.{ℕ, ◌+◌, Bool, false, ◌&&◌, ◌||◌, not, nat_le, if◌then◌else◌, List, [], ◌∷◌, Option, Some, None, ◌==◌}
+-- The pieces that are brought: the bucket of each, and those that are refused.
+use Rattle.std.specs.Prelude.{ℕ, ◌+◌, Bool, false, ◌&&◌, ◌||◌, not, nat_le, List, [], ◌∷◌, ◌==◌}
 use Rattle.std.specs.List.{list_any}
 use Rattle.run_model.specs.declared.bucket.Kind.TheVariants as kind
 use Rattle.run_model.specs.declared.bucket.Content.TheVariants as content
@@ -8,23 +8,7 @@ use Rattle.run_model.specs.declared.bucket.Bucket.{Bucket}
 use Rattle.run_model.specs.declared.bucket.NamedBucket.{NamedBucket}
 use Rattle.run_model.specs.declared.event.Piece.{Piece}
 use Rattle.run_model.specs.declared.event.Piece.TheVariants as piece
-use Rattle.run_model.specs.declared.event.Cause.{Cause}
-use Rattle.run_model.specs.declared.event.Refusal.{Refusal}
-use Rattle.run_model.specs.declared.event.Refusal.TheVariants as refusal
 use Rattle.run_model.specs.Buckets.{is_data_kind, is_eos_kind}
-
--- Tests that refuse an event, in their order; the first that holds is told.
-abbrev pub first_refusal : List (Option Refusal) → Option Refusal
-first_refusal [] = None
-first_refusal (None ∷ tests) = first_refusal tests
-first_refusal (Some r ∷ tests) = Some r
-
-abbrev pub refused_if : Bool → Refusal → Option Refusal
-refused_if test r = if test then Some r else None
-
-abbrev pub if_broken : Option Cause → Option Refusal
-if_broken None = None
-if_broken (Some k) = Some (refusal.Broken k)
 
 -- The bucket of a piece that is brought to a call of this name, in a request of this pool.
 abbrev pub bucket_of : ℕ → ℕ → Piece → Bucket
