@@ -1,4 +1,13 @@
 pub mod Counts
 pub mod Counted
 pub mod Changes
+pub mod Walks
+pub mod Linked
+pub mod Shown
+pub mod Parted
+pub mod Kept
+pub mod Taken
+pub mod Read
+pub mod Heads
 pub mod Batches
+pub mod Splices

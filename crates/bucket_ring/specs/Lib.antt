@@ -1,7 +1,7 @@
 pub mod Lists
 pub mod Spots
-pub mod Names
-pub mod Map
 pub mod Kept
 pub mod Laws
+pub mod Walks
+pub mod Links
 pub mod Rows

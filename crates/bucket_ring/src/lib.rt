@@ -1,11 +1,10 @@
 //! Rings of buckets, as in `apr_buckets.h`: many lists of named payloads.
 #![tactic(auto)]
 
-mod entries;
+mod circles;
 mod laws;
-mod lists;
+mod links;
 mod names;
-mod places;
 mod plain;
 mod rings;
 

@@ -1,172 +1,197 @@
-//! Rings as plain lists.
+//! Rings as links between the slots of a slab.
 
-ghost use Rattle.std.specs.Prelude.{◌≡◌, ◌↔◌, ℕ, ◌+◌, ◌<◌, ◌≤◌, ◌^◌, length, List, [], ◌∷◌, ◌++◌, Some, true, is_some, is_ok, if◌then◌else◌, IsOk, IfOk, IfErr, OnOk, OnErr};
-ghost use Rattle.bucket_ring.specs.Lists.{upd, on, list_at, found, without, payloads, by_birth, numbered};
+ghost use Rattle.std.specs.Prelude.{◌≡◌, ◌≢◌, ◌↔◌, ℕ, ◌+◌, ◌<◌, ◌≤◌, ◌^◌, length, List, [], ◌∷◌, ◌++◌, Some, None, true, is_some, is_ok, if◌then◌else◌, IsOk, IfOk, IfErr, OnOk, OnErr};
+ghost use Rattle.bucket_ring.specs.Lists.{upd, on, list_at, found, front, rest, without, same, by_birth, numbered};
 ghost use Rattle.bucket_ring.specs.declared.names.BucketId.{BucketId};
 ghost use Rattle.slab.specs.Slab.{HasRoomFor};
 ghost use Rattle.std.specs.HashMap.{spare};
 ghost use Rattle.bucket_ring.specs.Spots.{placed};
-ghost use Rattle.bucket_ring.specs.Names.{ring_at};
-ghost use Rattle.bucket_ring.specs.Map.{lists_of};
+ghost use Rattle.bucket_ring.specs.Links.{ring_at, lists_of, IsSpot, AreLinked};
 ghost use Rattle.bucket_ring.specs.Kept.{IsKept, NoneRevived};
 
-use crate::entries::{Entries, Spot, alone, name, take_first, unnamed};
-use crate::lists::Lists;
+use crate::links::{Bucket, Links, Spot};
 use crate::names::{BucketId, RingId, RingRefusal};
-use crate::places::Places;
 use crate::rings::Rings;
 use std::alloc::{AllocError, Global};
 
-/// A list cannot have this many buckets.
+/// A ring cannot have this many buckets.
 const LIMIT: usize = 0x8000_0000_0000_0000;
 
-/// Rings as plain lists, with the ring of each bucket in a slab. A call takes time in the length of the ring at hand, whatever
-/// other rings hold.
+/// Rings as links between the slots of a slab. Each call takes constant time, but those that move, make or end many buckets.
 #[derive(Drop)]
 pub struct PlainRings<T> {
-    alloc: Global,
     next: u64,
-    places: Places,
-    lists: Lists<T>,
-    ghost kept: { IsKept (ring_at places) (lists_of lists) next },
+    links: Links<T>,
+    ghost linked: { AreLinked links },
+    ghost kept: { IsKept (ring_at links) (lists_of links) next },
 }
 
 impl<T: Drop> PlainRings<T> {
-    /// Puts a bucket, which has no name yet, into a ring. There is room for it, and a name.
-    fn settle(&mut self, ring: RingId, spot: Spot, node: Entries<T>) -> BucketId
-        requires there { is_some (lists_of self.old.lists ring) ≡ true }
-        requires one { length node ≡ 1 }
-        requires room { HasRoomFor self.old.places.slots 1 }
-        requires few { length (list_at (lists_of self.old.lists) ring) + 1 < 2 ^ 63 }
+    /// Puts a new bucket into a ring. There is room for it, and a name.
+    fn settle(&mut self, ring: RingId, spot: Spot, payload: T) -> BucketId
+        requires there { is_some (lists_of self.old.links ring) ≡ true }
+        requires spot { IsSpot (ring_at self.old.links) ring spot }
+        requires room { HasRoomFor self.old.links.nodes 1 }
+        requires few { length (list_at (lists_of self.old.links) ring) + 1 < 2 ^ 63 }
         requires unspent { self.old.next < u64.MAX }
-        ensures out { (i : BucketId) (x : T) (n : ℕ) → node ≡ (i, x) ∷ [] → lists_of self.new.lists n ≡ on ring (placed spot ((result, x) ∷ [])) (lists_of self.old.lists) n }
+        ensures out { (n : ℕ) → lists_of self.new.links n ≡ on ring (placed spot ((result, payload) ∷ [])) (lists_of self.old.links) n }
         ensures name { result.birth ≡ self.old.next }
         ensures next { self.new.next ≡ self.old.next + 1 }
-        ensures room { (count : ℕ) → HasRoomFor self.old.places.slots (count + 1) → HasRoomFor self.new.places.slots count }
-        ensures names { NoneRevived (ring_at self.old.places) (ring_at self.new.places) self.old.next }
+        ensures room { (count : ℕ) → HasRoomFor self.old.links.nodes (count + 1) → HasRoomFor self.new.links.nodes count }
+        ensures names { NoneRevived (ring_at self.old.links) (ring_at self.new.links) self.old.next }
     {
-        let mut node = node;
-        let id = self.places.fill(self.next, ring);
-        name(&mut node, id);
-        self.lists.put(ring, spot, node);
+        let id = BucketId {
+            slot: self.links.add(),
+            birth: self.next,
+        };
+        self.links.put(
+            id.slot,
+            ring,
+            spot,
+            Bucket {
+                birth: id.birth,
+                payload,
+            },
+        );
         self.next = id.birth + 1;
         id
     }
 
-    /// Puts buckets, which have no names yet, at the tail of a ring. There is room for them, and names.
-    fn settle_all(&mut self, ring: RingId, nodes: Entries<T>)
-        requires there { is_some (lists_of self.old.lists ring) ≡ true }
-        requires room { HasRoomFor self.old.places.slots (length nodes) }
-        requires few { length (list_at (lists_of self.old.lists) ring) + length nodes < 2 ^ 63 }
-        requires unspent { self.old.next + length nodes ≤ u64.MAX }
-        ensures out { (bs : List (BucketId × T)) × (by_birth bs ≡ numbered self.old.next (payloads nodes)) × ((n : ℕ) → lists_of self.new.lists n ≡ on ring (λ xs. xs ++ bs) (lists_of self.old.lists) n) }
-        ensures next { self.new.next ≡ self.old.next + length nodes }
-        ensures names { NoneRevived (ring_at self.old.places) (ring_at self.new.places) self.old.next }
+    /// Puts new buckets at the tail of a ring. There is room for them, and names.
+    fn settle_all(&mut self, ring: RingId, given: Vec<T>)
+        requires there { is_some (lists_of self.old.links ring) ≡ true }
+        requires room { HasRoomFor self.old.links.nodes (length given.items) }
+        requires few { length (list_at (lists_of self.old.links) ring) + length given.items < 2 ^ 63 }
+        requires unspent { self.old.next + length given.items ≤ u64.MAX }
+        ensures out { (bs : List (BucketId × T)) × (by_birth bs ≡ numbered self.old.next given.items) × ((n : ℕ) → lists_of self.new.links n ≡ on ring (λ xs. xs ++ bs) (lists_of self.old.links) n) }
+        ensures next { self.new.next ≡ self.old.next + length given.items }
+        ensures names { NoneRevived (ring_at self.old.links) (ring_at self.new.links) self.old.next }
     {
-        let mut nodes = nodes;
-        while !nodes.is_empty() {
-            let node = take_first(&mut nodes);
-            self.settle(ring, Spot::Tail, node);
+        let mut left = given.into_iter();
+        while let Some(payload) = left.next() {
+            self.settle(ring, Spot::Tail, payload);
         }
     }
 
-    /// Makes new buckets and the room for them, where so many names are left beside some, and a ring would have room for them beside others.
-    fn ready(&mut self, given: Vec<T>, names: u64, others: usize) -> Result<Entries<T>, RingRefusal>
-        requires { names ≤ 2 }
-        ensures given { IfOk result (λ nodes. payloads nodes ≡ given.items) }
-        ensures room { IfOk result (λ nodes. HasRoomFor self.new.places.slots (length nodes)) }
-        ensures few { IfOk result (λ nodes. others + length nodes < 2 ^ 63) }
-        ensures spent { (result ≡ Err RingRefusal.NamesSpent) ↔ (u64.MAX < self.old.next + names + length given.items) }
-        ensures same { (n : ℕ) → lists_of self.new.lists n ≡ lists_of self.old.lists n }
-        ensures still { (id : BucketId) → ring_at self.new.places id ≡ ring_at self.old.places id }
+    /// Makes room for so many slots, and rings.
+    fn reserve(&mut self, slots: usize, rings: usize) -> Result<(), AllocError>
+        ensures room { OnOk result (HasRoomFor self.new.links.nodes slots) }
+        ensures spare { OnOk result (rings ≤ spare self.new.links.heads) }
+        ensures same { (n : ℕ) → lists_of self.new.links n ≡ lists_of self.old.links n }
+        ensures still { (id : BucketId) → ring_at self.new.links id ≡ ring_at self.old.links id }
         ensures next { self.new.next ≡ self.old.next }
     {
-        let count = given.len();
+        self.links.reserve(slots, rings)
+    }
+
+    /// Makes room for so many buckets beside others of their ring, and for rings, where so many names are left.
+    fn ready(&mut self, count: usize, rings: usize, others: usize) -> Result<(), RingRefusal>
+        requires { rings ≤ 2 }
+        ensures room { OnOk result (HasRoomFor self.new.links.nodes (count + rings)) }
+        ensures spare { OnOk result (rings ≤ spare self.new.links.heads) }
+        ensures few { OnOk result (others + count < 2 ^ 63) }
+        ensures spent { (result ≡ Err RingRefusal.NamesSpent) ↔ (u64.MAX < self.old.next + rings + count) }
+        ensures same { (n : ℕ) → lists_of self.new.links n ≡ lists_of self.old.links n }
+        ensures still { (id : BucketId) → ring_at self.new.links id ≡ ring_at self.old.links id }
+        ensures next { self.new.next ≡ self.old.next }
+    {
         let left = u64::MAX - self.next;
-        if left < names || left - names < count as u64 {
+        if left < rings as u64 || left - (rings as u64) < count as u64 {
             return Err(RingRefusal::NamesSpent);
         }
         if others >= LIMIT || count >= LIMIT - others {
             return Err(RingRefusal::NoMemory);
         }
-        let nodes = unnamed(self.alloc, given)?;
-        self.places.reserve(count)?;
-        Ok(nodes)
+        self.reserve(count + rings, rings)?;
+        Ok(())
     }
 
     /// Puts a new bucket into a ring.
     fn add(&mut self, ring: RingId, spot: Spot, payload: T) -> Result<BucketId, (RingRefusal, T)>
-        requires { is_some (lists_of self.old.lists ring) ≡ true }
-        ensures ok { IfOk result (λ id. (n : ℕ) → lists_of self.new.lists n ≡ on ring (placed spot ((id, payload) ∷ [])) (lists_of self.old.lists) n) }
+        requires there { is_some (lists_of self.old.links ring) ≡ true }
+        requires spot { IsSpot (ring_at self.old.links) ring spot }
+        ensures ok { IfOk result (λ id. (n : ℕ) → lists_of self.new.links n ≡ on ring (placed spot ((id, payload) ∷ [])) (lists_of self.old.links) n) }
         ensures name { IfOk result (λ id. id.birth ≡ self.old.next) }
         ensures next { self.new.next ≡ (if is_ok result then self.old.next + 1 else self.old.next) }
-        ensures names { NoneRevived (ring_at self.old.places) (ring_at self.new.places) self.old.next }
+        ensures names { NoneRevived (ring_at self.old.links) (ring_at self.new.links) self.old.next }
         ensures spent { self.old.next ≡ u64.MAX → result ≡ Err (RingRefusal.NamesSpent, payload) }
         ensures unspent { IfErr result (λ why. why.0 ≡ RingRefusal.NamesSpent → self.old.next ≡ u64.MAX) }
-        ensures err { OnErr result ((n : ℕ) → lists_of self.new.lists n ≡ lists_of self.old.lists n) }
+        ensures err { OnErr result ((n : ℕ) → lists_of self.new.links n ≡ lists_of self.old.links n) }
         ensures back { IfErr result (λ why. why.1 ≡ payload) }
     {
         if self.next == u64::MAX {
             return Err((RingRefusal::NamesSpent, payload));
         }
-        if self.lists.len(ring) + 1 >= LIMIT {
+        if self.links.len(ring) + 1 >= LIMIT {
             return Err((RingRefusal::NoMemory, payload));
         }
-        if self.places.reserve(1).is_err() {
-            return Err((RingRefusal::NoMemory, payload));
-        }
-        match alone(self.alloc, payload) {
-            Ok(node) => Ok(self.settle(ring, spot, node)),
-            Err(payload) => Err((RingRefusal::NoMemory, payload)),
+        match self.reserve(1, 0) {
+            Ok(()) => Ok(self.settle(ring, spot, payload)),
+            Err(_) => Err((RingRefusal::NoMemory, payload)),
         }
     }
 
     /// Makes an empty ring. There is room for it, and a name.
     fn put_ring(&mut self) -> RingId
-        requires room { 0 < spare self.old.lists.by_name }
+        requires room { HasRoomFor self.old.links.nodes 1 }
+        requires spare { 0 < spare self.old.links.heads }
         requires unspent { self.old.next < u64.MAX }
         ensures name { result ≡ self.old.next }
-        ensures out { (n : ℕ) → lists_of self.new.lists n ≡ upd (lists_of self.old.lists) result (Some []) n }
+        ensures out { (n : ℕ) → lists_of self.new.links n ≡ upd (lists_of self.old.links) result (Some []) n }
         ensures next { self.new.next ≡ self.old.next + 1 }
-        ensures room { spare self.old.lists.by_name ≤ spare self.new.lists.by_name + 1 }
-        ensures places { self.new.places ≡ self.old.places }
+        ensures room { (count : ℕ) → HasRoomFor self.old.links.nodes (count + 1) → HasRoomFor self.new.links.nodes count }
+        ensures spare { spare self.old.links.heads ≤ spare self.new.links.heads + 1 }
+        ensures places { (id : BucketId) → ring_at self.new.links id ≡ ring_at self.old.links id }
     {
         let name = self.next;
-        self.lists.put_ring(self.alloc, name);
-        self.next += 1;
+        self.links.put_ring(name);
+        self.next = name + 1;
         name
     }
 
     /// The ring that a bucket is in.
     fn ring_with(&self, id: BucketId) -> RingId
-        requires { is_some (ring_at self.now.places id) ≡ true }
-        ensures ring { ring_at self.now.places id ≡ Some result }
-        ensures there { is_some (lists_of self.now.lists result) ≡ true }
-        ensures found { is_some (found id (list_at (lists_of self.now.lists) result)) ≡ true }
+        requires { is_some (ring_at self.now.links id) ≡ true }
+        ensures ring { ring_at self.now.links id ≡ Some result }
+        ensures there { is_some (lists_of self.now.links result) ≡ true }
+        ensures found { is_some (found id (list_at (lists_of self.now.links) result)) ≡ true }
     {
-        match self.places.ring_of(id) {
+        match self.links.ring_of(id) {
             Some(ring) => ring,
             None => unreachable!(),
         }
     }
 
-    /// Moves a bucket to a spot in a ring.
-    fn shift(&mut self, ring: RingId, spot: Spot, id: BucketId) -> Result<(), AllocError>
-        requires ring { is_some (lists_of self.old.lists ring) ≡ true }
-        requires bucket { is_some (ring_at self.old.places id) ≡ true }
-        ensures ok { OnOk result ((q n : ℕ) (x : T) → ring_at self.old.places id ≡ Some q → found id (list_at (lists_of self.old.lists) q) ≡ Some x → lists_of self.new.lists n ≡ on ring (placed spot ((id, x) ∷ [])) (on q (without id) (lists_of self.old.lists)) n) }
-        ensures sure { length (list_at (lists_of self.old.lists) ring) + 1 < 2 ^ 63 → IsOk result }
+    /// Moves a bucket to a spot in a ring, which is not its own.
+    fn carry(&mut self, ring: RingId, spot: Spot, id: BucketId)
+        requires ring { is_some (lists_of self.old.links ring) ≡ true }
+        requires bucket { is_some (ring_at self.old.links id) ≡ true }
+        requires spot { IsSpot (λ j. if same id j then None else ring_at self.old.links j) ring spot }
+        requires few { length (list_at (lists_of self.old.links) ring) + 1 < 2 ^ 63 }
+        ensures out { (q n : ℕ) (x : T) → ring_at self.old.links id ≡ Some q → found id (list_at (lists_of self.old.links) q) ≡ Some x → lists_of self.new.links n ≡ on ring (placed spot ((id, x) ∷ [])) (on q (without id) (lists_of self.old.links)) n }
         ensures next { self.new.next ≡ self.old.next }
-        ensures names { NoneRevived (ring_at self.old.places) (ring_at self.new.places) self.old.next }
-        ensures err { OnErr result ((n : ℕ) → lists_of self.new.lists n ≡ lists_of self.old.lists n) }
+        ensures names { (j : BucketId) → is_some (ring_at self.new.links j) ≡ true → is_some (ring_at self.old.links j) ≡ true }
     {
         let from = self.ring_with(id);
-        if self.lists.len(ring) + 1 >= LIMIT {
+        let bucket = self.links.take(from, id);
+        self.links.put(id.slot, ring, spot, bucket);
+    }
+
+    /// Moves a bucket to a spot in a ring.
+    fn shift(&mut self, ring: RingId, spot: Spot, id: BucketId) -> Result<(), AllocError>
+        requires ring { is_some (lists_of self.old.links ring) ≡ true }
+        requires bucket { is_some (ring_at self.old.links id) ≡ true }
+        requires spot { IsSpot (λ j. if same id j then None else ring_at self.old.links j) ring spot }
+        ensures ok { OnOk result ((q n : ℕ) (x : T) → ring_at self.old.links id ≡ Some q → found id (list_at (lists_of self.old.links) q) ≡ Some x → lists_of self.new.links n ≡ on ring (placed spot ((id, x) ∷ [])) (on q (without id) (lists_of self.old.links)) n) }
+        ensures sure { length (list_at (lists_of self.old.links) ring) + 1 < 2 ^ 63 → IsOk result }
+        ensures next { self.new.next ≡ self.old.next }
+        ensures names { NoneRevived (ring_at self.old.links) (ring_at self.new.links) self.old.next }
+        ensures err { OnErr result ((n : ℕ) → lists_of self.new.links n ≡ lists_of self.old.links n) }
+    {
+        if self.links.len(ring) + 1 >= LIMIT {
             return Err(AllocError);
         }
-        let alone = self.lists.take(self.alloc, from, id);
-        self.places.move_all(&alone, ring);
-        self.lists.put(ring, spot, alone);
+        self.carry(ring, spot, id);
         Ok(())
     }
 }
@@ -174,9 +199,9 @@ impl<T: Drop> PlainRings<T> {
 impl<T: Drop> Rings<T> for PlainRings<T> {
     ghost use Rattle.bucket_ring.specs.Laws.{found_in, in_found, ring_there};
 
-    ghost lists = { λ s. lists_of s.lists };
+    ghost lists = { λ s. lists_of s.links };
 
-    ghost ring_at = { λ s. ring_at s.places };
+    ghost ring_at = { λ s. ring_at s.links };
 
     ghost next_name = { λ s. s.next };
 
@@ -184,11 +209,11 @@ impl<T: Drop> Rings<T> for PlainRings<T> {
 
     ghost counted = { λ s. s.kept.counted };
 
-    ghost found_in = { λ s. found_in (ring_at s.places) (lists_of s.lists) s.next s.kept };
+    ghost found_in = { λ s. found_in (ring_at s.links) (lists_of s.links) s.next s.kept };
 
-    ghost in_found = { λ s. in_found (ring_at s.places) (lists_of s.lists) s.next s.kept };
+    ghost in_found = { λ s. in_found (ring_at s.links) (lists_of s.links) s.next s.kept };
 
-    ghost ring_there = { λ s. ring_there (ring_at s.places) (lists_of s.lists) s.next s.kept };
+    ghost ring_there = { λ s. ring_there (ring_at s.links) (lists_of s.links) s.next s.kept };
 
     ghost young = { λ s. s.kept.young };
 
@@ -200,21 +225,17 @@ impl<T: Drop> Rings<T> for PlainRings<T> {
 
     fn new(alloc: Global, first: u64) -> Self {
         PlainRings {
-            alloc,
             next: first,
-            places: Places::new(alloc),
-            lists: Lists::new(alloc),
+            links: Links::new(alloc),
         }
     }
 
     fn new_ring(&mut self) -> Result<RingId, RingRefusal> {
-        let name = self.next;
-        if name == u64::MAX {
+        if self.next == u64::MAX {
             return Err(RingRefusal::NamesSpent);
         }
-        self.lists.add(self.alloc, name)?;
-        self.next = name + 1;
-        Ok(name)
+        self.reserve(1, 1)?;
+        Ok(self.put_ring())
     }
 
     fn add_tail(&mut self, ring: RingId, payload: T) -> Result<BucketId, (RingRefusal, T)> {
@@ -222,33 +243,32 @@ impl<T: Drop> Rings<T> for PlainRings<T> {
     }
 
     fn add_all(&mut self, ring: RingId, given: Vec<T>) -> Result<(), RingRefusal>
-        requires { is_some (lists_of self.old.lists ring) ≡ true }
-        ensures ok { OnOk result ((bs : List (BucketId × T)) × (by_birth bs ≡ numbered self.old.next given.items) × ((n : ℕ) → lists_of self.new.lists n ≡ on ring (λ xs. xs ++ bs) (lists_of self.old.lists) n)) }
+        requires { is_some (lists_of self.old.links ring) ≡ true }
+        ensures ok { OnOk result ((bs : List (BucketId × T)) × (by_birth bs ≡ numbered self.old.next given.items) × ((n : ℕ) → lists_of self.new.links n ≡ on ring (λ xs. xs ++ bs) (lists_of self.old.links) n)) }
         ensures next { self.new.next ≡ (if is_ok result then self.old.next + length given.items else self.old.next) }
-        ensures names { NoneRevived (ring_at self.old.places) (ring_at self.new.places) self.old.next }
+        ensures names { NoneRevived (ring_at self.old.links) (ring_at self.new.links) self.old.next }
         ensures spent { (result ≡ Err RingRefusal.NamesSpent) ↔ (u64.MAX < self.old.next + length given.items) }
-        ensures err { OnErr result ((n : ℕ) → lists_of self.new.lists n ≡ lists_of self.old.lists n) }
+        ensures err { OnErr result ((n : ℕ) → lists_of self.new.links n ≡ lists_of self.old.links n) }
     {
-        let others = self.lists.len(ring);
-        let nodes = self.ready(given, 0, others)?;
-        self.settle_all(ring, nodes);
+        let others = self.links.len(ring);
+        self.ready(given.len(), 0, others)?;
+        self.settle_all(ring, given);
         Ok(())
     }
 
     fn new_pair(&mut self, given: Vec<T>) -> Result<(RingId, RingId), RingRefusal>
         ensures ok { OnOk result ((bs : List (BucketId × T)) × (by_birth bs ≡ numbered (self.old.next + 2) given.items)
-            × ((n : ℕ) → lists_of self.new.lists n ≡ upd (upd (lists_of self.old.lists) self.old.next (Some [])) (self.old.next + 1) (Some bs) n)) }
+            × ((n : ℕ) → lists_of self.new.links n ≡ upd (upd (lists_of self.old.links) self.old.next (Some [])) (self.old.next + 1) (Some bs) n)) }
         ensures name { IfOk result (λ pair. pair ≡ (self.old.next, self.old.next + 1)) }
         ensures next { self.new.next ≡ (if is_ok result then self.old.next + 2 + length given.items else self.old.next) }
-        ensures names { NoneRevived (ring_at self.old.places) (ring_at self.new.places) self.old.next }
+        ensures names { NoneRevived (ring_at self.old.links) (ring_at self.new.links) self.old.next }
         ensures spent { (result ≡ Err RingRefusal.NamesSpent) ↔ (u64.MAX < self.old.next + 2 + length given.items) }
-        ensures err { OnErr result ((n : ℕ) → lists_of self.new.lists n ≡ lists_of self.old.lists n) }
+        ensures err { OnErr result ((n : ℕ) → lists_of self.new.links n ≡ lists_of self.old.links n) }
     {
-        let nodes = self.ready(given, 2, 0)?;
-        self.lists.reserve_two()?;
+        self.ready(given.len(), 2, 0)?;
         let first = self.put_ring();
         let second = self.put_ring();
-        self.settle_all(second, nodes);
+        self.settle_all(second, given);
         Ok((first, second))
     }
 
@@ -283,16 +303,10 @@ impl<T: Drop> Rings<T> for PlainRings<T> {
     }
 
     fn splice_tail(&mut self, ring: RingId, from: RingId) -> Result<(), AllocError> {
-        if ring == from {
-            return Ok(());
+        match self.links.first(from) {
+            Some(id) => self.splice_from(id, ring),
+            None => Ok(()),
         }
-        if self.lists.len(ring) + self.lists.len(from) >= LIMIT {
-            return Err(AllocError);
-        }
-        let moved = self.lists.take_all(self.alloc, from);
-        self.places.move_all(&moved, ring);
-        self.lists.put(ring, Spot::Tail, moved);
-        Ok(())
     }
 
     fn splice_from(&mut self, id: BucketId, ring: RingId) -> Result<(), AllocError> {
@@ -300,30 +314,32 @@ impl<T: Drop> Rings<T> for PlainRings<T> {
         if ring == from {
             return Ok(());
         }
-        if self.lists.len(ring) + self.lists.len(from) >= LIMIT {
+        if self.links.len(ring) + self.links.len(from) >= LIMIT {
             return Err(AllocError);
         }
-        let tail = self.lists.cut(self.alloc, from, id);
-        self.places.move_all(&tail, ring);
-        self.lists.put(ring, Spot::Tail, tail);
+        let mut here = Some(id);
+        while let Some(id) = here {
+            here = self.links.next(id);
+            self.carry(ring, Spot::Tail, id);
+        }
         Ok(())
     }
 
     fn drop_bucket(&mut self, id: BucketId) {
         let ring = self.ring_with(id);
-        let alone = self.lists.take(self.alloc, ring, id);
-        self.places.forget_all(alone);
+        self.links.take(ring, id);
+        self.links.end(id.slot);
     }
 
     fn drop_all(&mut self, ring: RingId) {
-        let gone = self.lists.take_all(self.alloc, ring);
-        self.places.forget_all(gone);
+        while let Some(id) = self.links.first(ring) {
+            self.drop_bucket(id);
+        }
     }
 
     fn end_ring(&mut self, ring: RingId) {
-        if let Some(gone) = self.lists.end(ring) {
-            self.places.forget_all(gone);
-        }
+        self.drop_all(ring);
+        self.links.end_ring(ring);
     }
 
     fn next_name(&self) -> u64 {
@@ -335,35 +351,30 @@ impl<T: Drop> Rings<T> for PlainRings<T> {
     }
 
     fn has_ring(&self, ring: RingId) -> bool {
-        self.lists.has(ring)
+        self.links.has(ring)
     }
 
     fn first(&self, ring: RingId) -> Option<BucketId> {
-        self.lists.first(ring)
+        self.links.first(ring)
     }
 
     fn next(&self, id: BucketId) -> Result<BucketId, RingId> {
         let ring = self.ring_with(id);
-        match self.lists.next(ring, id) {
+        match self.links.next(id) {
             Some(next) => Ok(next),
             None => Err(ring),
         }
     }
 
     fn ring_of(&self, id: BucketId) -> Option<RingId> {
-        self.places.ring_of(id)
+        self.links.ring_of(id)
     }
 
     fn payload(&self, id: BucketId) -> &T {
-        let ring = self.ring_with(id);
-        match self.lists.payload(ring, id) {
-            Some(payload) => payload,
-            None => unreachable!(),
-        }
+        self.links.payload(id)
     }
 
     fn set_payload(&mut self, id: BucketId, payload: T) -> T {
-        let ring = self.ring_with(id);
-        self.lists.set_payload(ring, id, payload)
+        self.links.set_payload(id, payload)
     }
 }

@@ -1,0 +1,130 @@
+-- What a bucket that is put into a ring or taken out changes.
+use Rattle.std.proofs.Common.{◌≡◌, ◌≢◌, ℕ, ◌==◌, true, if◌then◌else◌, Option, None, Some, is_some, length, refl, ap, sym, ◌∙◌, inl, inr}
+use Rattle.std.specs.Option.{option_map, option_map_or, option_and_then}
+use Rattle.std.proofs.lemmas.Bool.{cases_eq}
+use Rattle.std.proofs.lemmas.Option.{same_Some}
+use Rattle.slab.specs.Slab.{get}
+use Rattle.bucket_ring.specs.declared.names.BucketId.{BucketId}
+use Rattle.bucket_ring.specs.declared.links.Head.{Head}
+use Rattle.bucket_ring.specs.declared.links.Node.{Node}
+use Rattle.bucket_ring.specs.declared.links.Bucket.{Bucket}
+use Rattle.bucket_ring.specs.declared.links.Links.{Links}
+use Rattle.bucket_ring.specs.Lists.{upd, list_at}
+use Rattle.bucket_ring.specs.Walks.{slots, turned}
+use Rattle.bucket_ring.specs.Links.{listed, IsShown, with_name, named_in, sentinel_ring, bucket_ring, behind_of, before_of, mark_of, at_of, bucket_of, head_of, lists_of, AreLinked, Changed, KeepsLinks, KeepsBuckets, KeepsRoom}
+use Rattle.bucket_ring.proofs.Counted.{upd_on, upd_off}
+use Rattle.bucket_ring.proofs.Shown.{ring_length}
+
+pub upd_as : {X : Type 0} (r : ℕ) (x : X) (n : ℕ) (f g : ℕ → X) → ((i : ℕ) → f i ≡ g i) → upd f r x n ≡ upd g r x n
+upd_as r x n f g e =
+    elim (cases_eq n r) [
+      | inl here ↦ rw here (upd_on f r x ∙ sym (upd_on g r x))
+      | inr ne ↦ upd_off f r x n ne ∙ e n ∙ sym (upd_off g r x n ne)
+    ]
+
+turned_same : (f f2 b b2 : ℕ → ℕ) (a k j : ℕ) → ((i : ℕ) → f2 i ≡ f i) → ((i : ℕ) → b2 i ≡ b i) → turned f2 b2 a k j ≡ turned f b a k j
+turned_same f f2 b b2 a k j e_f e_b =
+    ap (λ (n : ℕ). if j == k then a else if j == b2 a then f2 k else n) (e_f j) ∙ ap (λ (n : ℕ). if j == k then a else if j == n then f2 k else f j) (e_b a) ∙ ap (λ (n : ℕ). if j == k then a else if j == b a then n else f j) (e_f k)
+
+module _ {T : Type 0} where
+  pub room_twice : (a b c : Links T) → KeepsRoom a b → KeepsRoom b c → KeepsRoom a c
+  room_twice a b c first second = record {
+    there = λ j. second.there j ∙ first.there j;
+    room = λ n h. second.room n (first.room n h);
+  }
+
+  -- what a slot says of its bucket
+  pub shown_of : (s : Links T) → IsShown (mark_of s) (at_of s) (bucket_of s)
+  unfolding mark_of at_of bucket_of
+  shown_of s = record {
+    named = λ k b e. is_named_in k (get s.nodes k) b e;
+    full = λ k. is_full k (get s.nodes k);
+    empty = λ k r e. is_empty k r (get s.nodes k) e;
+  } where
+    named_so : (k : ℕ) (o : Option (Bucket T)) (b : BucketId × T) → option_map (with_name k) o ≡ Some b → b.0.slot ≡ k
+    named_so k None b e = cc
+    named_so k (Some c) b e = ap (λ (d : BucketId × T). d.0.slot) (sym (same_Some (with_name k c) b e))
+
+    is_named_in : (k : ℕ) (o : Option (Node T)) (b : BucketId × T) → option_and_then (named_in k) o ≡ Some b → b.0.slot ≡ k
+    is_named_in k None b e = cc
+    is_named_in k (Some v) b e = named_so k v.bucket b e
+
+    full_so : (k r : ℕ) (o : Option (Bucket T)) → is_some (option_map_or (λ _. Some r) o None) ≡ is_some (option_map (with_name k) o)
+    full_so k r None = refl
+    full_so k r (Some c) = refl
+
+    is_full : (k : ℕ) (o : Option (Node T)) → is_some (option_and_then bucket_ring o) ≡ is_some (option_and_then (named_in k) o)
+    is_full k None = refl
+    is_full k (Some v) = full_so k v.ring v.bucket
+
+    empty_so : (k r q : ℕ) (o : Option (Bucket T)) → option_map_or (λ _. None) o (Some q) ≡ Some r → option_map (with_name k) o ≡ None
+    empty_so k r q None e = refl
+    empty_so k r q (Some c) e = cc
+
+    is_empty : (k r : ℕ) (o : Option (Node T)) → option_and_then sentinel_ring o ≡ Some r → option_and_then (named_in k) o ≡ None
+    is_empty k r None e = refl
+    is_empty k r (Some v) e = empty_so k r v.ring v.bucket e
+
+  -- a slot that has a bucket or is a sentinel is there
+  pub there_at : (s : Links T) (k r : ℕ) → at_of s k ≡ Some r → is_some (get s.nodes k) ≡ true
+  unfolding at_of
+  there_at s k r e = go (get s.nodes k) e where
+    go : (o : Option (Node T)) → option_and_then bucket_ring o ≡ Some r → is_some o ≡ true
+    go None e = cc
+    go (Some v) e = refl
+
+  pub there_mark : (s : Links T) (k r : ℕ) → mark_of s k ≡ Some r → is_some (get s.nodes k) ≡ true
+  unfolding mark_of
+  there_mark s k r e = go (get s.nodes k) e where
+    go : (o : Option (Node T)) → option_and_then sentinel_ring o ≡ Some r → is_some o ≡ true
+    go None e = cc
+    go (Some v) e = refl
+
+  -- a ring is there where its head is
+  pub lists_there : (s : Links T) (r : ℕ) → is_some (lists_of s r) ≡ is_some (head_of s r)
+  unfolding lists_of
+  lists_there s r = go (head_of s r) where
+    go : (o : Option Head) → is_some (option_map (λ (h : Head). listed (bucket_of s) (slots (behind_of s) (Some h))) o) ≡ is_some o
+    go None = refl
+    go (Some h) = refl
+
+  pub length_of : (s : Links T) (r : ℕ) (h : Head) → AreLinked s → head_of s r ≡ Some h → length (list_at (lists_of s) r) ≡ h.count
+  unfolding lists_of
+  length_of s r h linked e = ring_length (bucket_of s) (mark_of s) (at_of s) (shown_of s) (behind_of s) (before_of s) (head_of s) linked r h e
+
+  pub heads_same : (s t : Links T) → t.heads ≡ s.heads → (n : ℕ) → head_of t n ≡ head_of s n
+  unfolding head_of
+  heads_same s t e n = rw e refl
+
+  pub nodes_same : (s t : Links T) → t.nodes ≡ s.nodes → KeepsLinks s t × KeepsBuckets s t × KeepsRoom s t
+  unfolding behind_of before_of mark_of at_of bucket_of
+  nodes_same s t e = (
+    record { behind = λ j. rw e refl; before = λ j. rw e refl },
+    record { mark = λ j. rw e refl; at = λ j. rw e refl; bucket = λ j. rw e refl },
+    record { there = λ j. rw e refl; room = λ n h. rw e h },
+  )
+
+  -- a bucket is written, the links are turned, and the count is written
+  module _ (s s1 s2 s3 : Links T) (k a r m : ℕ) (w : Option (BucketId × T)) (v : Option ℕ) (h : Head) (bucket : (j : ℕ) → bucket_of s1 j ≡ upd (bucket_of s) k w j) (at : (j : ℕ) → at_of s1 j ≡ upd (at_of s) k v j) (mark : (j : ℕ) → j ≢ k → mark_of s1 j ≡ mark_of s j)
+      (links : KeepsLinks s s1) (room : KeepsRoom s s1) (heads : s1.heads ≡ s.heads) where
+    pub changed_back : AreLinked s → (j : ℕ) → before_of s1 (behind_of s1 j) ≡ j
+    changed_back linked j = links.before (behind_of s1 j) ∙ ap (before_of s) (links.behind j) ∙ linked.back j
+
+    pub changed_forth : AreLinked s → (j : ℕ) → behind_of s1 (before_of s1 j) ≡ j
+    changed_forth linked j = links.behind (before_of s1 j) ∙ ap (behind_of s) (links.before j) ∙ linked.forth j
+
+    pub changed : head_of s r ≡ Some h → ((j : ℕ) → behind_of s2 j ≡ turned (behind_of s1) (before_of s1) a k j) → ((j : ℕ) → before_of s2 j ≡ turned (before_of s1) (behind_of s1) k a j)
+        → KeepsBuckets s1 s2 → KeepsRoom s1 s2 → s2.heads ≡ s1.heads
+        → ((g : Head) → head_of s2 r ≡ Some g → (n : ℕ) → head_of s3 n ≡ upd (head_of s2) r (Some (record { sentinel = g.sentinel; count = m })) n) → s3.nodes ≡ s2.nodes → Changed s s3 k a r w v (record { sentinel = h.sentinel; count = m })
+    changed head behind2 before2 buckets2 room2 heads2 resized nodes3 =
+        let last = nodes_same s2 s3 nodes3 in
+        let all = λ (n : ℕ). heads_same s1 s2 heads2 n ∙ heads_same s s1 heads n in
+        record {
+          behind = λ j. last.0.behind j ∙ behind2 j ∙ turned_same (behind_of s) (behind_of s1) (before_of s) (before_of s1) a k j links.behind links.before;
+          before = λ j. last.0.before j ∙ before2 j ∙ turned_same (before_of s) (before_of s1) (behind_of s) (behind_of s1) k a j links.before links.behind;
+          bucket_new = λ j. last.1.bucket j ∙ buckets2.bucket j ∙ bucket j;
+          at = λ j. last.1.at j ∙ buckets2.at j ∙ at j;
+          mark = λ j ne. last.1.mark j ∙ buckets2.mark j ∙ mark j ne;
+          heads = λ n. resized h (all r ∙ head) n ∙ upd_as r (Some (record { sentinel = h.sentinel; count = m })) n (head_of s2) (head_of s) all;
+          room = room_twice s s2 s3 (room_twice s s1 s2 room room2) last.2;
+        }

@@ -1,0 +1,325 @@
+//! The slots of all rings, each with the slots before and behind it.
+
+ghost use Rattle.std.specs.Prelude.{◌≡◌, ◌≢◌, ℕ, ◌+◌, ◌<◌, ◌≤◌, ◌==◌, if◌then◌else◌, Some, None, true, is_some, OnOk};
+ghost use Rattle.std.specs.Option.{option_map};
+ghost use Rattle.std.specs.HashMap.{spare};
+ghost use Rattle.slab.specs.Slab.{get, HasRoomFor};
+ghost use Rattle.bucket_ring.specs.Lists.{upd};
+ghost use Rattle.bucket_ring.specs.Walks.{id_of, turned};
+ghost use Rattle.bucket_ring.specs.declared.names.BucketId.{BucketId};
+ghost use Rattle.bucket_ring.specs.declared.links.Head.{Head};
+
+use crate::names::{BucketId, RingId};
+use slab::Slab;
+use std::alloc::{AllocError, Global};
+use std::collections::HashMap;
+use std::mem::replace;
+
+/// Where buckets are put in a ring.
+#[derive(Clone, Copy)]
+pub(crate) enum Spot {
+    Tail,
+    Head,
+    Before(BucketId),
+    After(BucketId),
+}
+
+/// A bucket in its slot.
+#[derive(Drop)]
+pub(crate) struct Bucket<T> {
+    pub(crate) birth: u64,
+    pub(crate) payload: T,
+}
+
+/// A slot of a ring. That of its sentinel has no bucket.
+#[derive(Drop)]
+pub(crate) struct Node<T> {
+    pub(crate) ring: RingId,
+    pub(crate) before: usize,
+    pub(crate) behind: usize,
+    pub(crate) bucket: Option<Bucket<T>>,
+}
+
+/// Where a ring begins and ends, and how many buckets it has.
+#[derive(Clone, Copy)]
+pub(crate) struct Head {
+    pub(crate) sentinel: usize,
+    pub(crate) count: usize,
+}
+
+/// The slots of all rings, and the head of each ring by its name.
+#[derive(Drop)]
+pub(crate) struct Links<T> {
+    pub(crate) nodes: Slab<Node<T>>,
+    pub(crate) heads: HashMap<u64, Head>,
+}
+
+#[tactic(auto, unfolding(crate::specs::Links::behind_of, crate::specs::Links::before_of, crate::specs::Links::mark_of, crate::specs::Links::at_of, crate::specs::Links::bucket_of, crate::specs::Links::head_of, crate::specs::Links::ring_at, crate::specs::Lists::upd))]
+impl<T: Drop> Links<T> {
+    ghost use Rattle.bucket_ring.specs.Links.{behind_of, before_of, mark_of, at_of, bucket_of, head_of, ring_at, KeepsLinks, KeepsBuckets, KeepsRoom};
+
+    /// No slot, and no ring.
+    pub(crate) fn new(alloc: Global) -> Self
+        ensures nodes { (j : ℕ) → get result.nodes j ≡ None }
+        ensures heads { (n : ℕ) → head_of result n ≡ None }
+    {
+        Links {
+            nodes: Slab::new(alloc),
+            heads: HashMap::new(alloc),
+        }
+    }
+
+    /// The slot behind one; a slot where nothing is has itself there.
+    pub(crate) fn behind(&self, slot: usize) -> usize
+        ensures { result ≡ behind_of self.now slot }
+    {
+        match self.nodes.get(slot) {
+            Some(node) => node.behind,
+            None => slot,
+        }
+    }
+
+    /// The slot before one.
+    pub(crate) fn before(&self, slot: usize) -> usize
+        ensures { result ≡ before_of self.now slot }
+    {
+        match self.nodes.get(slot) {
+            Some(node) => node.before,
+            None => slot,
+        }
+    }
+
+    /// The name of the bucket in a slot.
+    pub(crate) fn name(&self, slot: usize) -> Option<BucketId>
+        ensures { result ≡ option_map (λ (b : BucketId × T). b.0) (bucket_of self.now slot) }
+    {
+        let node = self.nodes.get(slot)?;
+        match &node.bucket {
+            Some(bucket) => Some(BucketId {
+                slot,
+                birth: bucket.birth,
+            }),
+            None => None,
+        }
+    }
+
+    /// The payload of the bucket in a slot.
+    pub(crate) fn payload_at(&self, slot: usize) -> &T
+        requires { is_some (bucket_of self.now slot) ≡ true }
+        ensures { option_map (λ (b : BucketId × T). b.1) (bucket_of self.now slot) ≡ Some result.now }
+    {
+        if let Some(node) = self.nodes.get(slot) {
+            if let Some(bucket) = &node.bucket {
+                return &bucket.payload;
+            }
+        }
+        unreachable!()
+    }
+
+    /// Makes room for so many more slots and rings.
+    pub(crate) fn reserve(&mut self, slots: usize, rings: usize) -> Result<(), AllocError>
+        ensures room { OnOk result (HasRoomFor self.new.nodes slots) }
+        ensures spare { OnOk result (rings ≤ spare self.new.heads) }
+        ensures links { KeepsLinks self.old self.new }
+        ensures buckets { KeepsBuckets self.old self.new }
+        ensures heads { (n : ℕ) → head_of self.new n ≡ head_of self.old n }
+    {
+        self.nodes.reserve(slots)?;
+        self.heads.reserve(rings)
+    }
+
+    /// Puts the head of a ring, where there is room.
+    pub(crate) fn put_head(&mut self, ring: RingId, head: Head)
+        requires { 0 < spare self.old.heads }
+        ensures heads { (n : ℕ) → head_of self.new n ≡ upd (head_of self.old) ring (Some head) n }
+        ensures nodes { self.new.nodes ≡ self.old.nodes }
+        ensures spare { spare self.old.heads ≤ spare self.new.heads + 1 }
+    {
+        match self.heads.insert(ring, head) {
+            Ok(_) => {}
+            Err(_) => unreachable!(),
+        }
+    }
+
+    /// Ends the head of a ring.
+    pub(crate) fn end_head(&mut self, ring: RingId)
+        ensures heads { (n : ℕ) → head_of self.new n ≡ upd (head_of self.old) ring None n }
+        ensures nodes { self.new.nodes ≡ self.old.nodes }
+    {
+        self.heads.remove(&ring);
+    }
+
+    /// Whether a ring has a head.
+    pub(crate) fn is_head(&self, ring: RingId) -> bool
+        ensures { result ≡ is_some (head_of self.now ring) }
+    {
+        self.heads.get(&ring).is_some()
+    }
+
+    /// The ring of a bucket.
+    pub(crate) fn ring_of(&self, id: BucketId) -> Option<RingId>
+        ensures { result ≡ ring_at self.now id }
+    {
+        let node = self.nodes.get(id.slot)?;
+        match &node.bucket {
+            Some(bucket) if bucket.birth == id.birth => Some(node.ring),
+            _ => None,
+        }
+    }
+
+    /// The head of a ring.
+    pub(crate) fn head(&self, ring: RingId) -> Head
+        requires { is_some (head_of self.now ring) ≡ true }
+        ensures { head_of self.now ring ≡ Some result }
+    {
+        match self.heads.get(&ring) {
+            Some(head) => *head,
+            None => unreachable!(),
+        }
+    }
+
+    /// Writes the slot behind one.
+    fn set_behind(&mut self, slot: usize, to: usize)
+        requires { is_some (get self.old.nodes slot) ≡ true }
+        ensures behind { (j : ℕ) → behind_of self.new j ≡ (if j == slot then to else behind_of self.old j) }
+        ensures before { (j : ℕ) → before_of self.new j ≡ before_of self.old j }
+        ensures buckets { KeepsBuckets self.old self.new }
+        ensures room { KeepsRoom self.old self.new }
+        ensures heads { self.new.heads ≡ self.old.heads }
+    {
+        if let Some(node) = self.nodes.get_mut(slot) {
+            node.behind = to;
+        }
+    }
+
+    /// Writes the slot before one.
+    fn set_before(&mut self, slot: usize, to: usize)
+        requires { is_some (get self.old.nodes slot) ≡ true }
+        ensures before { (j : ℕ) → before_of self.new j ≡ (if j == slot then to else before_of self.old j) }
+        ensures behind { (j : ℕ) → behind_of self.new j ≡ behind_of self.old j }
+        ensures buckets { KeepsBuckets self.old self.new }
+        ensures room { KeepsRoom self.old self.new }
+        ensures heads { self.new.heads ≡ self.old.heads }
+    {
+        if let Some(node) = self.nodes.get_mut(slot) {
+            node.before = to;
+        }
+    }
+
+    /// Puts a bucket of a ring into a slot.
+    pub(crate) fn fill(&mut self, slot: usize, ring: RingId, bucket: Bucket<T>)
+        requires { is_some (get self.old.nodes slot) ≡ true }
+        ensures bucket { (j : ℕ) → bucket_of self.new j ≡ upd (bucket_of self.old) slot (Some (id_of slot bucket.birth, bucket.payload)) j }
+        ensures at { (j : ℕ) → at_of self.new j ≡ upd (at_of self.old) slot (Some ring) j }
+        ensures mark { (j : ℕ) → j ≢ slot → mark_of self.new j ≡ mark_of self.old j }
+        ensures links { KeepsLinks self.old self.new }
+        ensures room { KeepsRoom self.old self.new }
+        ensures heads { self.new.heads ≡ self.old.heads }
+    {
+        if let Some(node) = self.nodes.get_mut(slot) {
+            node.ring = ring;
+            node.bucket = Some(bucket);
+        }
+    }
+
+    /// Takes the bucket out of a slot.
+    pub(crate) fn empty(&mut self, slot: usize) -> Bucket<T>
+        requires { is_some (bucket_of self.old slot) ≡ true }
+        ensures had { bucket_of self.old slot ≡ Some (id_of slot result.birth, result.payload) }
+        ensures bucket { (j : ℕ) → bucket_of self.new j ≡ upd (bucket_of self.old) slot None j }
+        ensures at { (j : ℕ) → at_of self.new j ≡ upd (at_of self.old) slot None j }
+        ensures mark { (j : ℕ) → j ≢ slot → mark_of self.new j ≡ mark_of self.old j }
+        ensures links { KeepsLinks self.old self.new }
+        ensures room { KeepsRoom self.old self.new }
+        ensures heads { self.new.heads ≡ self.old.heads }
+    {
+        if let Some(node) = self.nodes.get_mut(slot) {
+            if let Some(bucket) = node.bucket.take() {
+                return bucket;
+            }
+        }
+        unreachable!()
+    }
+
+    /// Gives the bucket in a slot another payload, and answers what it had.
+    pub(crate) fn replace(&mut self, slot: usize, payload: T) -> T
+        requires { is_some (bucket_of self.old slot) ≡ true }
+        ensures had { option_map (λ (b : BucketId × T). b.1) (bucket_of self.old slot) ≡ Some result }
+        ensures bucket { (j : ℕ) → bucket_of self.new j ≡ upd (bucket_of self.old) slot (option_map (λ (b : BucketId × T). (b.0, payload)) (bucket_of self.old slot)) j }
+        ensures at { (j : ℕ) → at_of self.new j ≡ at_of self.old j }
+        ensures mark { (j : ℕ) → mark_of self.new j ≡ mark_of self.old j }
+        ensures links { KeepsLinks self.old self.new }
+        ensures heads { self.new.heads ≡ self.old.heads }
+    {
+        if let Some(node) = self.nodes.get_mut(slot) {
+            if let Some(bucket) = &mut node.bucket {
+                return replace(&mut bucket.payload, payload);
+            }
+        }
+        unreachable!()
+    }
+
+    /// A new slot, which has no bucket and leads to itself. There is room for it.
+    pub(crate) fn fresh(&mut self, ring: RingId) -> usize
+        requires { HasRoomFor self.old.nodes 1 }
+        ensures was { get self.old.nodes result ≡ None }
+        ensures there { is_some (get self.new.nodes result) ≡ true }
+        ensures mark { (j : ℕ) → mark_of self.new j ≡ upd (mark_of self.old) result (Some ring) j }
+        ensures at { (j : ℕ) → at_of self.new j ≡ at_of self.old j }
+        ensures bucket { (j : ℕ) → bucket_of self.new j ≡ bucket_of self.old j }
+        ensures links { KeepsLinks self.old self.new }
+        ensures room { (n : ℕ) → HasRoomFor self.old.nodes (n + 1) → HasRoomFor self.new.nodes n }
+        ensures heads { self.new.heads ≡ self.old.heads }
+    {
+        let slot = self.nodes.vacant_key();
+        self.nodes.insert_reserved(Node {
+            ring,
+            before: slot,
+            behind: slot,
+            bucket: None,
+        })
+    }
+
+    /// Ends a slot, which leads to itself and has no bucket.
+    pub(crate) fn remove(&mut self, slot: usize)
+        requires links { (behind_of self.old slot ≡ slot) × (before_of self.old slot ≡ slot) }
+        requires bucket { bucket_of self.old slot ≡ None }
+        ensures mark { (j : ℕ) → j ≢ slot → mark_of self.new j ≡ mark_of self.old j }
+        ensures at { (j : ℕ) → at_of self.new j ≡ at_of self.old j }
+        ensures bucket { (j : ℕ) → bucket_of self.new j ≡ bucket_of self.old j }
+        ensures links { KeepsLinks self.old self.new }
+        ensures heads { self.new.heads ≡ self.old.heads }
+    {
+        self.nodes.try_remove(slot);
+    }
+
+    /// Writes how many buckets a ring has.
+    pub(crate) fn resize(&mut self, ring: RingId, count: usize)
+        ensures head { (h : Head) → head_of self.old ring ≡ Some h → (n : ℕ) → head_of self.new n ≡ upd (head_of self.old) ring (Some (record { sentinel = h.sentinel; count = count })) n }
+        ensures nodes { self.new.nodes ≡ self.old.nodes }
+    {
+        if let Some(head) = self.heads.get_mut(&ring) {
+            head.count = count;
+        }
+    }
+
+    /// `slot` comes before `at`, and what was behind `slot` comes behind what was before `at`.
+    pub(crate) fn turn(&mut self, slot: usize, at: usize)
+        requires forth { (j : ℕ) → behind_of self.old (before_of self.old j) ≡ j }
+        requires back { (j : ℕ) → before_of self.old (behind_of self.old j) ≡ j }
+        requires slot { is_some (get self.old.nodes slot) ≡ true }
+        requires at { is_some (get self.old.nodes at) ≡ true }
+        ensures behind { (j : ℕ) → behind_of self.new j ≡ turned (behind_of self.old) (before_of self.old) at slot j }
+        ensures before { (j : ℕ) → before_of self.new j ≡ turned (before_of self.old) (behind_of self.old) slot at j }
+        ensures buckets { KeepsBuckets self.old self.new }
+        ensures room { KeepsRoom self.old self.new }
+        ensures heads { self.new.heads ≡ self.old.heads }
+    {
+        let before = self.before(at);
+        let behind = self.behind(slot);
+        self.set_behind(before, behind);
+        self.set_before(behind, before);
+        self.set_behind(slot, at);
+        self.set_before(at, slot);
+    }
+}
