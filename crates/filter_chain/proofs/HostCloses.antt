@@ -1,5 +1,5 @@
 -- A connection of a host is closed.
-use Rattle.std.proofs.Common.{◌≡◌, ◌≢◌, ℕ, ◌⊎◌, true, false, ◌==◌, cond, List, Option, Some, None, inl, inr, refl, sym, ◌∙◌, ap, subst, arith}
+use Rattle.std.proofs.Common.{◌≡◌, ℕ, true, false, List, Option, Some, None, None, refl, sym, ◌∙◌, ap, arith}
 use Rattle.std.proofs.Math.Path.{fun_ext}
 use Rattle.module_lang.specs.Program.{Program}
 use Rattle.run_model.specs.declared.event.Event.TheVariants as event
@@ -9,18 +9,18 @@ use Rattle.run_model.specs.Chains.{Connection, Linked}
 use Rattle.run_model.specs.Reached.{IsReached}
 use Rattle.run_model.specs.Turns.{closing_labels}
 use Rattle.run_model.specs.Worlds.{World, Refused, Labels, happens, happens_on}
-use Rattle.run_model.proofs.Updates.{upd_at, upd_either, upd_upd}
+use Rattle.run_model.proofs.Updates.{upd_at, upd_upd}
 use Rattle.run_model.proofs.chains.EventTurns.{Same}
 use Rattle.bucket_kinds.specs.Device.{Device}
 use Rattle.filter_chain.specs.declared.next.Next.{Next}
 use Rattle.filter_chain.specs.declared.seat.Seat.{Seat}
 use Rattle.filter_chain.specs.declared.seats.Seats.{Seats}
 use Rattle.filter_chain.specs.declared.host.Host.{Host}
-use Rattle.filter_chain.specs.Hosting.{HoldsWorld, IsHosting, IsSeatOf, Happens, chain_of, budget_of, seat_at}
+use Rattle.filter_chain.specs.Hosting.{HoldsWorld, IsHosting, Happens, chain_of, budget_of, seat_at}
 use Rattle.filter_chain.specs.Scenes.{TellsEvent}
 use Rattle.filter_chain.specs.Seated.{IsLinked, MayServe}
 use Rattle.filter_chain.specs.Spared.{Spares}
-use Rattle.filter_chain.proofs.Hosts.{found, others_still, written_at}
+use Rattle.filter_chain.proofs.Hosts.{found, others_still, seats_put, IsWritten, written}
 use Rattle.filter_chain.proofs.HostEvents.{Serves, nothing_told, happened_on}
 use Rattle.filter_chain.proofs.KnownEvents.{put_same}
 
@@ -45,21 +45,6 @@ abbrev pub without : ℕ → World → World
 without number w = record w { conns = upd w.conns number None }
 
 module _ (budget : ℕ) (chain : List Program) (d : Device) (next : Next) (last : ℕ) (seats : ℕ → Option Seat) (w : World) (h : HoldsWorld budget chain d next last seats w) (number : ℕ) (e : Device) where
-  -- Where it is taken out and the others are there still, all are.
-  module _ (others : (k : ℕ) → k ≢ number → IsSeatOf chain e next (seats k) (w.conns k)) (after : ℕ → Option Seat) (is : (k : ℕ) → after k ≡ upd seats number None k) where
-    as_is : (k : ℕ) (o : Option Seat) (b : Option Connection) → after k ≡ o → upd w.conns number None k ≡ b → IsSeatOf chain e next o b → IsSeatOf chain e next (after k) (upd w.conns number None k)
-    as_is k o b seat conn so = subst (λ (y : Option Seat). IsSeatOf chain e next y (upd w.conns number None k)) (sym seat) (subst (λ (y : Option Connection). IsSeatOf chain e next o y) (sym conn) so)
-
-    each : (k : ℕ) → ((k ≡ number) × (upd seats number None k ≡ None)) ⊎ ((k ≢ number) × (upd seats number None k ≡ seats k))
-        → ((k ≡ number) × (upd w.conns number None k ≡ None)) ⊎ ((k ≢ number) × (upd w.conns number None k ≡ w.conns k)) → IsSeatOf chain e next (after k) (upd w.conns number None k)
-    each k (inl a) (inl b) = as_is k None None (is k ∙ a.1) b.1 tt
-    each k (inl a) (inr b) = absurd (b.0 a.0)
-    each k (inr a) (inl b) = absurd (a.0 b.0)
-    each k (inr a) (inr b) = as_is k (seats k) (w.conns k) (is k ∙ a.1) b.1 (others k a.0)
-
-    seats_taken : (k : ℕ) → IsSeatOf chain e next (after k) (upd w.conns number None k)
-    seats_taken k = each k (upd_either seats number k None) (upd_either w.conns number k None)
-
   -- The others are as they were.
   pub holds_without : (c : Connection) → w.conns number ≡ Some c → Spares d e c → (after : ℕ → Option Seat) → ((k : ℕ) → after k ≡ upd seats number None k) → IsReached budget chain (without number w)
       → HoldsWorld budget chain e next last after (without number w)
@@ -70,13 +55,13 @@ module _ (budget : ℕ) (chain : List Program) (d : Device) (next : Next) (last 
     pools = h.pools;
     names = h.names;
     files = (let le = h.files in let more = spared.rises in omega (arith, le, more));
-    conns = seats_taken (λ k other. others_still budget chain d next last seats w h number c here e spared next (omega arith) (omega arith) k other) after is;
+    conns = seats_put budget chain d next last seats w h number e next None None (others_still budget chain d next last seats w h number c here e spared next (omega arith) (omega arith)) tt after is;
   }
 
 -- Of a host whose connections were looked up by the number.
-module _ {F : Type 0} (host : Host F) (number : ℕ) (s : Seat) (lent : Seats) (written : (k : ℕ) → seat_at lent k ≡ cond (number == k) (Some s) (seat_at host.seats k)) where
+module _ {F : Type 0} (host : Host F) (number : ℕ) (s : Seat) (lent : Seats) (wrote : IsWritten host.seats number s lent) where
   changed : (k : ℕ) → seat_at lent k ≡ upd (seat_at host.seats) number (Some s) k
-  changed k = written k ∙ written_at (seat_at host.seats) number k (Some s)
+  changed k = written host.seats number s lent wrote k
 
   -- What was put back is what is taken.
   pub taken_is : (taken : Option Seat) → taken ≡ seat_at lent number → taken ≡ Some s

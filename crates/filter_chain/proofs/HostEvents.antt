@@ -1,5 +1,5 @@
 -- An event of a host: what is answered, and what the host stands for then.
-use Rattle.std.proofs.Common.{◌≡◌, ℕ, Bool, true, false, ◌==◌, cond, List, Option, Some, None, Result, Ok, Err, refl, sym, ◌∙◌, ap, subst}
+use Rattle.std.proofs.Common.{◌≡◌, ℕ, Bool, true, List, Option, Some, None, refl, sym, ◌∙◌, ap, subst}
 use Rattle.module_lang.specs.Program.{Program}
 use Rattle.run_model.specs.declared.event.Event.{Event}
 use Rattle.run_model.specs.declared.event.Event.TheVariants as event
@@ -24,7 +24,7 @@ use Rattle.filter_chain.specs.Hosting.{HoldsWorld, IsHosting, Happens, chain_of,
 use Rattle.filter_chain.specs.Scenes.{TellsEvent, TellsReads, scene}
 use Rattle.filter_chain.specs.Seated.{IsLinked, MayServe}
 use Rattle.filter_chain.specs.Spared.{Spares}
-use Rattle.filter_chain.proofs.Hosts.{laws, found, missing, holds_put, same_seats, written_at}
+use Rattle.filter_chain.proofs.Hosts.{laws, found, missing, holds_put, same_seats, IsWritten, written}
 
 abbrev pub AnyLength : ℕ → Type 0
 AnyLength n = Unit {0}
@@ -145,12 +145,12 @@ can_serve d host number w hosts modules s same at =
 
 -- It is put back, as it is then. next, files: the next names and the files then.
 pub put_back : {F : Type 0} (d e : Device) (host : Host F) (number : ℕ) (w : World) → IsHosting d host w → (what : Event) (answer : Answer) (s0 s : Seat) (after : Seats) (next : Next) (files : F)
-    → seat_at host.seats number ≡ Some s0 → ((k : ℕ) → seat_at after k ≡ cond (number == k) (Some s) (seat_at host.seats k))
+    → seat_at host.seats number ≡ Some s0 → IsWritten host.seats number s after
     → ((c : Connection) → w.conns number ≡ Some c → MayServe (chain_of host) d host.next s0 (w.common, c) → Serves (budget_of host) (chain_of host) d e w number c what answer next s)
     → Happens d e host (record host { seats = after; next = next; files = files }) number what answer w
 unfolding chain_of budget_of
-put_back d e host number w hosts what answer s0 s after next files at written serve =
-    served_on d e host (record host { seats = after; next = next; files = files }) number w hosts refl refl refl what answer s0 s at (λ k. written k ∙ written_at (seat_at host.seats) number k (Some s)) serve
+put_back d e host number w hosts what answer s0 s after next files at is serve =
+    served_on d e host (record host { seats = after; next = next; files = files }) number w hosts refl refl refl what answer s0 s at (written host.seats number s after is) serve
 
 -- None is found.
 pub none_found : {F : Type 0} (d : Device) (host : Host F) (number : ℕ) (w : World) → IsHosting d host w → (after : Seats) → after.by_number ≡ host.seats.by_number → seat_at host.seats number ≡ None

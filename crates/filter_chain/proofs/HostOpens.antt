@@ -1,16 +1,14 @@
 -- A connection of a host is opened.
-use Rattle.std.proofs.Common.{◌≡◌, ◌≢◌, ℕ, ◌+◌, ◌<◌, ◌≤◌, Bool, true, false, ◌||◌, not, List, [], ◌∷◌, Option, Some, refl, sym, ◌∙◌, ap, subst, arith}
+use Rattle.std.proofs.Common.{◌≡◌, ℕ, ◌+◌, ◌≤◌, Bool, true, false, ◌||◌, not, List, [], ◌∷◌, Some, refl, sym, ◌∙◌, ap, subst, arith}
 use Rattle.module_lang.specs.Program.{Program}
 use Rattle.run_model.specs.declared.event.Event.TheVariants as event
-use Rattle.run_model.specs.declared.event.Refusal.{Refusal}
 use Rattle.run_model.specs.declared.event.Refusal.TheVariants as refusal
 use Rattle.run_model.specs.Refusals.{first_refusal, refused_if}
 use Rattle.run_model.specs.Indexed.{upd}
-use Rattle.run_model.specs.Chains.{Connection, Common, Linked}
-use Rattle.run_model.specs.ChainLaws.{Rises}
+use Rattle.run_model.specs.Chains.{Common}
 use Rattle.run_model.specs.Steps.{is_spent}
 use Rattle.run_model.specs.Turns.{opened, all_called}
-use Rattle.run_model.specs.Worlds.{World, Told, Answer, Refused, Connected, put_conn, opens_if, opens, happens, happens_on}
+use Rattle.run_model.specs.Worlds.{World, Refused, Connected, put_conn, opens_if, opens, happens, happens_on}
 use Rattle.run_model.proofs.StepNames.{not_spent}
 use Rattle.run_model.proofs.chains.EventBuckets.{opened_raises}
 use Rattle.run_model.proofs.StepFiles.{neither}
@@ -18,10 +16,9 @@ use Rattle.bucket_kinds.specs.Device.{Device}
 use Rattle.pool_tree.specs.Tree.{map_of}
 use Rattle.brigade_ops.specs.Store.{next_name}
 use Rattle.module_run.specs.Proceeding.{LeftAs}
-use Rattle.filter_chain.specs.declared.next.Next.{Next}
 use Rattle.filter_chain.specs.declared.seat.Seat.{Seat}
 use Rattle.filter_chain.specs.declared.host.Host.{Host}
-use Rattle.filter_chain.specs.Hosting.{HoldsWorld, IsHosting, Happens, chain_of, budget_of, seat_at}
+use Rattle.filter_chain.specs.Hosting.{IsHosting, Happens, chain_of, budget_of, seat_at}
 use Rattle.filter_chain.specs.Scenes.{TellsEvent}
 use Rattle.filter_chain.specs.Seated.{IsLinked}
 use Rattle.filter_chain.proofs.Hosts.{laws, seats_put, seated_rises}
@@ -90,6 +87,6 @@ opened_on d old new w hosts chain budget last s seats modules same lasts left po
       pools = linked.pools;
       names = linked.names;
       files = linked.files;
-      conns = seats_put (budget_of old) programs d old.next old.last (seat_at old.seats) w hosts (w.last + 1) d new.next s v.1
+      conns = seats_put (budget_of old) programs d old.next old.last (seat_at old.seats) w hosts (w.last + 1) d new.next (Some s) (Some v.1)
           (λ k other. seated_rises (budget_of old) programs d old.next old.last (seat_at old.seats) w hosts new.next higher_pools higher_names k) linked.seated (seat_at new.seats) after;
     })

@@ -1,5 +1,5 @@
 -- What a host tells of one connection.
-use Rattle.std.proofs.Common.{◌≡◌, ℕ, ◌==◌, cond, true, List, [], Option, Some, None, Result, Ok, Err, refl, sym, ◌∙◌, ap, subst}
+use Rattle.std.proofs.Common.{◌≡◌, ℕ, true, List, [], Option, Some, None, Result, Ok, Err, refl, sym, ◌∙◌, ap, subst}
 use Rattle.module_lang.specs.Program.{Program}
 use Rattle.run_model.specs.declared.event.Event.TheVariants as event
 use Rattle.run_model.specs.declared.event.Refusal.{Refusal}
@@ -21,7 +21,7 @@ use Rattle.filter_chain.specs.declared.host.Host.{Host}
 use Rattle.filter_chain.specs.Hosting.{IsHosting, Happens, chain_of, budget_of, output_answer, output_in, seat_at}
 use Rattle.filter_chain.specs.Scenes.{TellsEvent}
 use Rattle.filter_chain.specs.Seated.{IsSeated, drained}
-use Rattle.filter_chain.proofs.Hosts.{found, missing}
+use Rattle.filter_chain.proofs.Hosts.{found, missing, IsWritten}
 use Rattle.filter_chain.proofs.HostEvents.{none_found, nothing_told, put_back, stays_on}
 use Rattle.filter_chain.proofs.KnownEvents.{takes_serves}
 
@@ -55,17 +55,17 @@ conn_at d host number w hosts s at = (let f = found (budget_of host) (chain_of h
 
 -- What was lent is taken. s: the connection, whose output was emptied.
 pub cleared_on : {F : Type 0} (d : Device) (host : Host F) (number : ℕ) (w : World) → IsHosting d host w → (s0 s : Seat) (after : Seats) → seat_at host.seats number ≡ Some s0
-    → ((k : ℕ) → seat_at after k ≡ cond (number == k) (Some s) (seat_at host.seats k))
+    → IsWritten host.seats number s after
     → ((chain : List Program) (d : Device) (next : Next) (c : Connection) → IsSeated chain d next s0 c → IsSeated chain d next s (drained c))
     → (o : Option Connection) → w.conns number ≡ o → Happens d d host (record host { seats = after }) number event.TakeOutput (output_answer (output_in o)) w
-cleared_on d host number w hosts s0 s after at written emptied (Some c) is =
-    put_back d d host number w hosts event.TakeOutput (Output c.out.bytes) s0 s after host.next host.files at written
+cleared_on d host number w hosts s0 s after at wrote emptied (Some c) is =
+    put_back d d host number w hosts event.TakeOutput (Output c.out.bytes) s0 s after host.next host.files at wrote
     (λ conn here may. takes_serves (budget_of host) (chain_of host) d w number conn here host.next s s0 c.out.bytes
     (ap out_of (sym is ∙ here)) may.linked (emptied (chain_of host) d host.next conn may.linked.seated)) where
       out_of : Option Connection → List ℕ
       out_of None = []
       out_of (Some x) = x.out.bytes
-cleared_on d host number w hosts s0 s after at written emptied None is =
+cleared_on d host number w hosts s0 s after at wrote emptied None is =
     absurd (let x = conn_at d host number w hosts s0 at in let both : None ≡ Some x.0 = sym is ∙ x.1 in cc)
 
 -- whether it is there, as the model has it

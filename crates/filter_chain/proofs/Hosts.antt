@@ -1,21 +1,19 @@
 -- What a host stands for, before an event of one connection and after it.
-use Rattle.std.proofs.Common.{◌≡◌, ◌≢◌, ℕ, ◌+◌, ◌<◌, ◌≤◌, ◌⊎◌, Bool, true, List, Option, Some, None, is_some, Result, Ok, Err, ◌==◌, cond, eq-eqb, ne_eqb, inl, inr, refl, sym, ◌∙◌, ap, subst, arith}
-use Rattle.std.specs.Prelude.{nat_eq}
-use Rattle.std.specs.HashMap.{get}
+use Rattle.std.proofs.Common.{◌≡◌, ◌≢◌, ℕ, ◌<◌, ◌≤◌, ◌⊎◌, true, List, Option, Some, None, is_some, Result, Ok, Err, cond, inl, inr, refl, sym, ◌∙◌, ap, subst, arith}
+use Rattle.std.specs.BTreeMap.{get}
+use Rattle.std.specs.Ordering.{nat_cmp, is_eq}
 use Rattle.std.proofs.Math.Path.{fun_ext}
-use Rattle.std.proofs.lemmas.Bool.Decides.{eqb_tells}
+use Rattle.std.proofs.lemmas.Bool.Decides.{nat_tests}
 use Rattle.module_lang.specs.Program.{Program}
-use Rattle.run_model.specs.declared.event.Event.{Event}
 use Rattle.run_model.specs.declared.event.Refusal.{Refusal}
 use Rattle.run_model.specs.declared.event.Stepped.{Stepped}
 use Rattle.run_model.specs.Indexed.{upd}
-use Rattle.run_model.specs.Chains.{Connection, Common, Linked}
-use Rattle.run_model.specs.ChainFiles.{TellsLengths, IsShort}
-use Rattle.run_model.specs.ChainLaws.{IsChain, Rises}
+use Rattle.run_model.specs.Chains.{Connection, Linked}
+use Rattle.run_model.specs.ChainLaws.{Rises}
 use Rattle.run_model.specs.Reached.{IsReached, WorldLaws}
-use Rattle.run_model.specs.Worlds.{World, Told, Answer, put_conn, happens, step_answered}
+use Rattle.run_model.specs.Worlds.{World, put_conn, step_answered}
 use Rattle.run_model.proofs.Updates.{upd_either}
-use Rattle.run_model.proofs.chains.Reached.{event_reaches, reached_holds}
+use Rattle.run_model.proofs.chains.Reached.{reached_holds}
 use Rattle.bucket_kinds.specs.Device.{Held, Device}
 use Rattle.module_run.specs.Proceeding.{MayHold, HasOpen, IsLawful}
 use Rattle.filter_chain.specs.Spared.{Spares}
@@ -118,21 +116,21 @@ module _ (budget : ℕ) (chain : List Program) (d : Device) (next : Next) (last 
       names = (let le = is.names in omega (arith, names));
     }
 
-  -- Where one connection is put and the others are there still, all are.
-  module _ (number : ℕ) (e : Device) (now : Next) (s : Seat) (x : Connection) (others : (k : ℕ) → k ≢ number → IsSeatOf chain e now (seats k) (w.conns k)) (seated : IsSeated chain e now s x)
-      (after : ℕ → Option Seat) (is : (k : ℕ) → after k ≡ upd seats number (Some s) k) where
-    as_is : (k : ℕ) (o : Option Seat) (b : Option Connection) → after k ≡ o → upd w.conns number (Some x) k ≡ b → IsSeatOf chain e now o b → IsSeatOf chain e now (after k) (upd w.conns number (Some x) k)
-    as_is k o b seat conn so = subst (λ (y : Option Seat). IsSeatOf chain e now y (upd w.conns number (Some x) k)) (sym seat) (subst (λ (y : Option Connection). IsSeatOf chain e now o y) (sym conn) so)
+  -- Where one connection is put or taken out and the others are there still, all are.
+  module _ (number : ℕ) (e : Device) (now : Next) (s : Option Seat) (x : Option Connection) (others : (k : ℕ) → k ≢ number → IsSeatOf chain e now (seats k) (w.conns k)) (seated : IsSeatOf chain e now s x)
+      (after : ℕ → Option Seat) (is : (k : ℕ) → after k ≡ upd seats number s k) where
+    as_is : (k : ℕ) (o : Option Seat) (b : Option Connection) → after k ≡ o → upd w.conns number x k ≡ b → IsSeatOf chain e now o b → IsSeatOf chain e now (after k) (upd w.conns number x k)
+    as_is k o b seat conn so = subst (λ (y : Option Seat). IsSeatOf chain e now y (upd w.conns number x k)) (sym seat) (subst (λ (y : Option Connection). IsSeatOf chain e now o y) (sym conn) so)
 
-    each : (k : ℕ) → ((k ≡ number) × (upd seats number (Some s) k ≡ Some s)) ⊎ ((k ≢ number) × (upd seats number (Some s) k ≡ seats k))
-        → ((k ≡ number) × (upd w.conns number (Some x) k ≡ Some x)) ⊎ ((k ≢ number) × (upd w.conns number (Some x) k ≡ w.conns k)) → IsSeatOf chain e now (after k) (upd w.conns number (Some x) k)
-    each k (inl a) (inl b) = as_is k (Some s) (Some x) (is k ∙ a.1) b.1 seated
+    each : (k : ℕ) → ((k ≡ number) × (upd seats number s k ≡ s)) ⊎ ((k ≢ number) × (upd seats number s k ≡ seats k)) → ((k ≡ number) × (upd w.conns number x k ≡ x)) ⊎ ((k ≢ number) × (upd w.conns number x k ≡ w.conns k))
+        → IsSeatOf chain e now (after k) (upd w.conns number x k)
+    each k (inl a) (inl b) = as_is k s x (is k ∙ a.1) b.1 seated
     each k (inl a) (inr b) = absurd (b.0 a.0)
     each k (inr a) (inl b) = absurd (a.0 b.0)
     each k (inr a) (inr b) = as_is k (seats k) (w.conns k) (is k ∙ a.1) b.1 (others k a.0)
 
-    pub seats_put : (k : ℕ) → IsSeatOf chain e now (after k) (upd w.conns number (Some x) k)
-    seats_put k = each k (upd_either seats number k (Some s)) (upd_either w.conns number k (Some x))
+    pub seats_put : (k : ℕ) → IsSeatOf chain e now (after k) (upd w.conns number x k)
+    seats_put k = each k (upd_either seats number k s) (upd_either w.conns number k x)
 
   -- One connection is served, and the others are as they were.
   module _ (number : ℕ) (c : Connection) (here : w.conns number ≡ Some c) (e : Device) (spared : Spares d e c) (now : Next) (s : Seat) (v : Linked) (rises : Rises w.common v.0) (linked : IsLinked chain e now s v) where
@@ -144,7 +142,7 @@ module _ (budget : ℕ) (chain : List Program) (d : Device) (next : Next) (last 
       pools = linked.pools;
       names = linked.names;
       files = linked.files;
-      conns = seats_put number e now s v.1 (others_still number c here e spared now higher_pools higher_names) linked.seated after is;
+      conns = seats_put number e now (Some s) (Some v.1) (others_still number c here e spared now higher_pools higher_names) linked.seated after is;
     } where
       higher_pools : next.pool ≤ now.pool
       higher_pools = (let a = h.pools in let b = linked.pools in let le = rises.pools in omega (arith, a, b))
@@ -160,18 +158,15 @@ step_told k w (Err r, v) = refl
 -- Seats over equal maps are the same.
 pub same_seats : (a b : Seats) → a.by_number ≡ b.by_number → seat_at a ≡ seat_at b
 unfolding seat_at
-same_seats a b e = fun_ext (λ n. ap (λ m. get nat_eq m n) e)
+same_seats a b e = fun_ext (λ n. ap (λ m. get nat_cmp m n) e)
 
--- A map that was written at a key.
-pub written_at : {X : Type 0} (f : ℕ → X) (i k : ℕ) (v : X) → cond (i == k) v (f k) ≡ upd f i v k
+-- A seat was written at a number of the map.
+abbrev pub IsWritten : Seats → ℕ → Seat → Seats → Type 0
+IsWritten old number s new = (k : ℕ) → seat_at new k ≡ cond (is_eq (nat_cmp number k)) (Some s) (seat_at old k)
+
+pub written_at : {X : Type 0} (f : ℕ → X) (i k : ℕ) (v : X) → cond (is_eq (nat_cmp i k)) v (f k) ≡ upd f i v k
 unfolding upd
-written_at f i k v = elim (eqb_tells k i) [
-  | inl p ↦ rw (p.0) (rw (eq-eqb i k (sym p.1)) refl)
-  | inr p ↦ rw (p.0) (rw (ne_eqb i k (λ e. p.1 (sym e))) refl)
-]
+written_at f i k v = grind (arith, nat_tests)
 
-pub other_conn : (a b : Connection) (o : Option Connection) → o ≡ Some a → o ≡ Some b → a ≡ b
-other_conn a b o at_a at_b = (let e : Some a ≡ Some b = sym at_a ∙ at_b in cc)
-
-pub never_there : {P : Type 0} (a : Connection) (o : Option Connection) → o ≡ Some a → o ≡ None → P
-never_there a o at none = absurd (let e : Some a ≡ None = sym at ∙ none in cc)
+pub written : (old : Seats) (number : ℕ) (s : Seat) (new : Seats) → IsWritten old number s new → (k : ℕ) → seat_at new k ≡ upd (seat_at old) number (Some s) k
+written old number s new is k = is k ∙ written_at (seat_at old) number k (Some s)

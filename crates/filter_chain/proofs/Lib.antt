@@ -11,6 +11,7 @@ pub mod HostFiles
 pub mod HostAdds
 pub mod Safety
 pub mod HostCloses
+pub mod InOrder
 pub mod PrintedPools
 pub mod StepCounts
 pub mod Driving

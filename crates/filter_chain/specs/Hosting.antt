@@ -1,7 +1,8 @@
 -- What a host stands for: a world of the model.
-use Rattle.std.specs.Prelude.{◌≡◌, ℕ, ◌≤◌, ◌<◌, List, length, Option, Some, None, Result, Ok, Err, nat_eq, Bool, true, false}
+use Rattle.std.specs.Prelude.{◌≡◌, ℕ, ◌≤◌, List, Option, Some, None, Result, Ok, Err, true, false}
 use Rattle.std.specs.Global.{Vec}
-use Rattle.std.specs.HashMap.{get}
+use Rattle.std.specs.BTreeMap.{get}
+use Rattle.std.specs.Ordering.{nat_cmp}
 use Rattle.module_lang.specs.Program.{Program}
 use Rattle.run_model.specs.declared.event.Event.{Event}
 use Rattle.run_model.specs.declared.event.Event.TheVariants as event
@@ -26,7 +27,7 @@ use Rattle.filter_chain.specs.Seated.{IsSeated}
 
 -- the connection of each number
 unfoldable pub seat_at : Seats → ℕ → Option Seat
-seat_at seats n = get nat_eq seats.by_number n
+seat_at seats n = get nat_cmp seats.by_number n
 
 -- It is there exactly where the model has it, and as the model has it.
 abbrev pub IsSeatOf : List Program → Device → Next → Option Seat → Option Connection → Type 0

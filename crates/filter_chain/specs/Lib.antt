@@ -2,7 +2,6 @@ pub mod Spared
 pub mod Seated
 pub mod Scenes
 pub mod Hosting
-pub mod PartText
 pub mod Safe
 pub mod Led
 pub mod Running

@@ -1,6 +1,6 @@
 //! The text of the pools.
 
-ghost use Rattle.std.specs.Prelude.{◌≡◌, OnOk};
+ghost use Rattle.std.specs.Prelude.{OnOk};
 ghost use Rattle.std.specs.Io.KnownBytes.{Appends};
 ghost use Rattle.run_model.specs.Worlds.{World, tree_of};
 ghost use Rattle.pool_tree.specs.Printed.{payload_text, printed};
@@ -12,18 +12,6 @@ use std::io::Write;
 
 impl<F: Files + Drop> Host<F> {
     ghost use Rattle.filter_chain.specs.Hosting.{IsHosting, files_of};
-    ghost use Rattle.filter_chain.specs.PartText.{part_text};
-
-    /// Writes the text of the pools of one connection, right under the root.
-    fn put_part<W: Write>(&self, out: &mut W, number: u64) -> Result<(), WriteFault>
-        requires { (w : World) × IsHosting (F.device (files_of self.now)) self.now w }
-        ensures { (w : World) → IsHosting (F.device (files_of self.now)) self.now w → OnOk result (Appends (W.contents out.old) (W.contents out.new) (part_text w.common (w.conns number))) }
-    {
-        match self.seats.get(number) {
-            None => Ok(()),
-            Some(seat) => seat.tree.put_pool(out, seat.conn.pool(), 1),
-        }
-    }
 
     /// Writes the text of the pools: a line for the root, and below it those of each connection, in the order of their numbers. Takes stack in
     /// proportion to the depth of the pools.
@@ -32,8 +20,8 @@ impl<F: Files + Drop> Host<F> {
         ensures { (w : World) → IsHosting (F.device (files_of self.now)) self.now w → OnOk result (Appends (W.contents out.old) (W.contents out.new) (printed payload_text (tree_of w) 0 1)) }
     {
         put_all(out, b"pool 1\n")?;
-        for number in 0..self.last {
-            self.put_part(out, number + 1)?;
+        for seat in self.seats.by_number.values() {
+            seat.tree.put_pool(out, seat.conn.pool(), 1)?;
         }
         Ok(())
     }

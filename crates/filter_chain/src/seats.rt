@@ -6,12 +6,12 @@ ghost use Rattle.run_model.specs.Indexed.{upd};
 
 use crate::seat::Seat;
 use std::alloc::{AllocError, Global};
-use std::collections::HashMap;
+use std::collections::BTreeMap;
 
-/// Connections by number.
+/// Connections by number, in the order of their numbers.
 #[derive(Drop)]
 pub(crate) struct Seats {
-    pub(crate) by_number: HashMap<u64, Seat>,
+    pub(crate) by_number: BTreeMap<u64, Seat>,
 }
 
 #[tactic(auto, unfolding(crate::specs::Hosting::seat_at, run_model::specs::Indexed::upd))]
@@ -23,7 +23,7 @@ impl Seats {
         ensures { (n : ℕ) → seat_at result n ≡ None }
     {
         Seats {
-            by_number: HashMap::new(alloc),
+            by_number: BTreeMap::new(alloc),
         }
     }
 
