@@ -4,7 +4,7 @@ use Rattle.bucket_ring.specs.declared.names.BucketId.{BucketId}
 use Rattle.bucket_ring.specs.Lists.{on}
 use Rattle.run_model.specs.declared.bucket.Bucket.{Bucket}
 use Rattle.run_model.specs.Cutting.{wanted, read_of}
-use Rattle.bucket_kinds.specs.Device.{Device, failed}
+use Rattle.bucket_kinds.specs.Device.{Device, HasFailed}
 use Rattle.bucket_kinds.specs.Reading.{GivesFor, EndsWithin}
 use Rattle.brigade_ops.specs.declared.refusal.ReadRefusal.{ReadRefusal}
 use Rattle.brigade_ops.specs.declared.refusal.ReadRefusal.TheVariants as refusal
@@ -16,4 +16,4 @@ pub record IsRead (id : BucketId) (x : Bucket) (at : Option ℕ) (d e : Device) 
   pub rest : IfOk result (λ rest. is_some rest ≡ is_some (read_of [] x).1)
   pub names : after ≡ (if is_ok result && is_some (read_of [] x).1 then next + 1 else next)
   pub unread : wanted x.content ≡ 0 → (result ≡ Ok None) × (e ≡ d)
-  pub fault : result ≡ Err refusal.ReadFault → (e ≡ failed d) ⊎ ((e ≡ d) × EndsWithin d x.content)
+  pub fault : result ≡ Err refusal.ReadFault → HasFailed d e ⊎ ((e ≡ d) × EndsWithin d x.content)

@@ -4,7 +4,7 @@ ghost use Rattle.std.specs.Prelude.{◌≡◌, ◌≢◌, ◌⊎◌, ◌&&◌, �
 ghost use Rattle.bucket_ring.specs.Lists.{on, with_payload};
 ghost use Rattle.bucket_ring.specs.Kept.{NoneRevived};
 ghost use Rattle.run_model.specs.Cutting.{EndsInFile, wanted, read_of};
-ghost use Rattle.bucket_kinds.specs.Device.{failed};
+ghost use Rattle.bucket_kinds.specs.Device.{HasFailed};
 ghost use Rattle.bucket_kinds.specs.Reading.{IsOpenFor, GivesFor, EndsWithin};
 ghost use Rattle.brigade_ops.specs.Items.{replaced, rest_item, range_in};
 ghost use Rattle.brigade_ops.specs.Reads.{IsRead};
@@ -62,7 +62,7 @@ impl<R: Rings<Bucket> + Drop> Brigades<R> {
         ensures unread { wanted bucket.content ≡ 0 → (result ≡ Ok tt) × (F.device files.new ≡ F.device files.old) }
         ensures same { OnOk result (F.device files.new ≡ F.device files.old) }
         ensures fault { OnErr result
-            ((F.device files.new ≡ failed (F.device files.old))
+            (HasFailed (F.device files.old) (F.device files.new)
             ⊎ ((F.device files.new ≡ F.device files.old) × EndsWithin (F.device files.old) bucket.content)) }
         ensures open_files { (F.device files.new).numbered ≡ (F.device files.old).numbered }
         ensures err { OnErr result ((m : ℕ) → lists self.new m ≡ lists self.old m) }
@@ -95,7 +95,7 @@ impl<R: Rings<Bucket> + Drop> Brigades<R> {
         ensures references { references self.new ≡ references self.old }
         ensures same { OnOk result (F.device files.new ≡ F.device files.old) }
         ensures fault { result ≡ Err ReadRefusal.ReadFault
-            → (F.device files.new ≡ failed (F.device files.old))
+            → HasFailed (F.device files.old) (F.device files.new)
             ⊎ ((F.device files.new ≡ F.device files.old) × EndsWithin (F.device files.old) bucket.content) }
         ensures no_memory { result ≡ Err ReadRefusal.NoMemory → F.device files.new ≡ F.device files.old }
         ensures spent { next_name self.old ≡ u64.MAX → result ≡ Err ReadRefusal.NamesSpent }
@@ -133,7 +133,7 @@ impl<R: Rings<Bucket> + Drop> Brigades<R> {
         ensures unread { wanted bucket.content ≡ 0 → (result ≡ Ok None) × (F.device files.new ≡ F.device files.old) }
         ensures same { OnOk result (F.device files.new ≡ F.device files.old) }
         ensures fault { result ≡ Err ReadRefusal.ReadFault
-            → (F.device files.new ≡ failed (F.device files.old))
+            → HasFailed (F.device files.old) (F.device files.new)
             ⊎ ((F.device files.new ≡ F.device files.old) × EndsWithin (F.device files.old) bucket.content) }
         ensures no_memory { result ≡ Err ReadRefusal.NoMemory → F.device files.new ≡ F.device files.old }
         ensures unspent { result ≡ Err ReadRefusal.NamesSpent → (next_name self.old ≡ u64.MAX) × (F.device files.new ≡ F.device files.old) }

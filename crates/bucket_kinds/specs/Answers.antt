@@ -1,6 +1,6 @@
 -- What a device of files answers, and what it is afterwards.
 use Rattle.std.specs.Prelude.{ℕ, ◌≡◌, ◌<◌, ◌≤◌, true, List, ◌++◌, length, take, drop, Result, Ok, Err}
-use Rattle.bucket_kinds.specs.Device.{Held, Missing, Untold, Holds, Device, last_number, is_there, failed, opened}
+use Rattle.bucket_kinds.specs.Device.{Held, Missing, Untold, Holds, Device, last_number, is_there, opened, HasFailed}
 use Rattle.bucket_kinds.specs.declared.refusal.FileFault.{FileFault}
 use Rattle.bucket_kinds.specs.declared.refusal.FileFault.TheVariants as fault
 
@@ -25,11 +25,12 @@ pub record Opens (d : Device) (name : List ℕ) (number len : ℕ) (e : Device) 
   pub after : e ≡ opened name d
   pub is_open : is_there (e.numbered number) ≡ true
 
--- An opening. That there is no such file is told before anything else but a failure, and that numbers are spent before want of memory.
+-- An opening. That there is no such file is told before anything else but a failure, and that numbers are spent before want of memory. Only a
+-- device that may fail fails.
 abbrev pub IsOpening : Device → List ℕ → Result (ℕ × ℕ) FileFault → Device → Type 0
 IsOpening d name (Ok r) e = Opens d name r.0 r.1 e
 IsOpening d name (Err fault.NotThere) e = MayMiss (d.named name) × (e ≡ d)
-IsOpening d name (Err fault.Failed) e = e ≡ failed d
+IsOpening d name (Err fault.Failed) e = HasFailed d e
 IsOpening d name (Err fault.NamesSpent) e = (is_there (d.named name) ≡ true) × (d.next ≡ last_number) × (e ≡ d)
 IsOpening d name (Err fault.NoMemory) e = (is_there (d.named name) ≡ true) × (d.next < last_number) × (e ≡ d)
 
@@ -40,7 +41,7 @@ IsFilled Untold at old n new = n ≤ length old
 IsFilled (Holds bytes) at old n new =
     let part = take (length old) (drop at bytes) in (n ≡ length part) × (new ≡ part ++ drop n old)
 
--- A read at a place. It has no fault but a failure, and after one nothing is said of the buffer.
+-- A read at a place. It has no fault but a failure, of a device that may fail, and after one nothing is said of the buffer.
 abbrev pub IsReading : Device → ℕ → ℕ → List ℕ → Result ℕ FileFault → List ℕ → Device → Type 0
 IsReading d file at old (Ok n) new e = IsFilled (d.numbered file) at old n new × (e ≡ d)
-IsReading d file at old (Err f) new e = (f ≡ fault.Failed) × (e ≡ failed d)
+IsReading d file at old (Err f) new e = (f ≡ fault.Failed) × HasFailed d e

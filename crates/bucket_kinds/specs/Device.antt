@@ -1,5 +1,5 @@
--- What a device of files is: which names have a file, which numbers are open, and how often it failed.
-use Rattle.std.specs.Prelude.{ℕ, ◌+◌, Bool, true, false, ◌==◌, if◌then◌else◌, List}
+-- What a device of files is: which names have a file, which numbers are open, how often it failed, and whether it may fail.
+use Rattle.std.specs.Prelude.{◌≡◌, ℕ, ◌+◌, Bool, true, false, ◌==◌, if◌then◌else◌, List}
 use Rattle.run_model.specs.Indexed.{upd}
 
 -- what stands under a name or a number: no file, a file of which nothing is told, or a file of these bytes
@@ -8,12 +8,14 @@ pub data Held : Type 0 where
   Untold : Held
   Holds : List ℕ → Held
 
--- `named` goes by a file's name, `numbered` by the number of an open file. `next` is the number that is given next.
+-- `named` goes by a file's name, `numbered` by the number of an open file. `next` is the number that is given next. A device that may not fail
+-- gives what its files hold at every opening and read.
 pub record Device : Type 0 where
   pub named : List ℕ → Held
   pub numbered : ℕ → Held
   pub next : ℕ
   pub failures : ℕ
+  pub may_fail : Bool
 
 abbrev pub last_number : ℕ
 last_number = 18446744073709551615
@@ -30,6 +32,14 @@ one_more n = if n == last_number then n else n + 1
 -- The device failed once more, and nothing else changed.
 abbrev pub failed : Device → Device
 failed d = record d { failures = one_more d.failures }
+
+-- So did it, being one that may fail.
+abbrev pub HasFailed : Device → Device → Type 0
+HasFailed d e = (d.may_fail ≡ true) × (e ≡ failed d)
+
+-- The same files stand under the same names, and it may fail, or may not, as before.
+abbrev pub SameFolder : Device → Device → Type 0
+SameFolder d e = (e.named ≡ d.named) × (e.may_fail ≡ d.may_fail)
 
 -- The file of this name is open under the next number.
 abbrev pub opened : List ℕ → Device → Device

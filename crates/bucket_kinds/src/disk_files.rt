@@ -3,7 +3,7 @@
 ghost use Rattle.std.specs.Prelude.{◌≡◌, ◌<◌, ◌≤◌, ℕ, IsSome, IfOk, length, true};
 ghost use Rattle.std.specs.Ordering.{nat_cmp};
 ghost use Rattle.std.specs.BTreeMap.{get};
-ghost use Rattle.bucket_kinds.specs.Device.{failed};
+ghost use Rattle.bucket_kinds.specs.Device.{HasFailed};
 ghost use Rattle.bucket_kinds.specs.DiskDevice.{disk_device, fresh_disk};
 ghost use Rattle.bucket_kinds.specs.declared.refusal.FileFault.TheVariants as fault;
 
@@ -16,7 +16,7 @@ use std::os::unix::fs::FileExt;
 use std::rt::Files as FileSystem;
 use std::{fs, io, str};
 
-/// Files of a disk, reached by a runtime. What they hold is not told. A name is a path: one that is not UTF-8, that holds a
+/// Files of a disk, reached by a runtime. What they hold is not told, and they may always fail. A name is a path: one that is not UTF-8, that holds a
 /// NUL, or that leads to no regular file is `NotThere`. Any other fault of an opening is `Failed`, and is counted.
 #[derive(Drop)]
 pub struct DiskFiles<R: FileSystem + AllocGlobal> {
@@ -71,8 +71,8 @@ where
 
     fn fail(&mut self) -> FileFault
         ensures result { result ≡ fault.Failed }
-        ensures device { disk_device self.new.opened self.new.next self.new.failures
-            ≡ failed (disk_device self.old.opened self.old.next self.old.failures) }
+        ensures device { HasFailed (disk_device self.old.opened self.old.next self.old.failures)
+            (disk_device self.new.opened self.new.next self.new.failures) }
     {
         self.failures = self.failures.saturating_add(1);
         FileFault::Failed

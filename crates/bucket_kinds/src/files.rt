@@ -9,19 +9,19 @@ use crate::refusal::FileFault;
 /// The number of an open file. A device gives none twice.
 pub type FileNo = u64;
 
-/// A device that has files. Contracts see it as its files by name, its open files by number, the next number and
-/// how often it failed; a device need not tell what its files hold.
+/// A device that has files. Contracts see it as its files by name, its open files by number, the next number,
+/// how often it failed and whether it may fail; a device need not tell what its files hold.
 pub trait Files {
     ghost device: { Self → Device };
 
     /// Opens the file of a name, and gives its new number and its length in bytes. `NotThere` is told of a name
-    /// without a file, `Failed` where the device failed, `NamesSpent` where the number would be `u64::MAX`, `NoMemory`
+    /// without a file, `Failed` where the device, being one that may, failed, `NamesSpent` where the number would be `u64::MAX`, `NoMemory`
     /// where there is none for the open file. Refused, no file more is open.
     fn open_file(&mut self, name: &[u8]) -> Result<(FileNo, u64), FileFault>
         ensures { IsOpening (device self.old) name.now result (device self.new) };
 
     /// Fills the buffer from a place of an open file on, as far as the file reaches, and gives how many bytes that
-    /// are. It has no fault but `Failed`; then nothing is said of the buffer.
+    /// are. It has no fault but `Failed`, of a device that may fail; then nothing is said of the buffer.
     fn read_at(&mut self, file: FileNo, at: u64, buffer: &mut [u8]) -> Result<usize, FileFault>
         requires { is_there ((device self.old).numbered file) ≡ true }
         ensures { IsReading (device self.old) file at buffer.old result buffer.new (device self.new) };

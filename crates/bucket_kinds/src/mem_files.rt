@@ -1,6 +1,6 @@
 //! Files in memory.
 
-ghost use Rattle.std.specs.Prelude.{◌≡◌, ◌<◌, ◌==◌, if◌then◌else◌, ℕ, List, length, true, Some, None, IsSome, is_some, MatchOption, OnOk, OnErr, IsErr, ◌↔◌};
+ghost use Rattle.std.specs.Prelude.{◌≡◌, ◌<◌, ◌==◌, if◌then◌else◌, ℕ, List, length, true, false, Some, None, IsSome, is_some, MatchOption, OnOk, OnErr, IsErr, ◌↔◌};
 ghost use Rattle.std.specs.Str.{bytes_eq};
 ghost use Rattle.std.specs.Ordering.{nat_cmp};
 ghost use Rattle.std.specs.BTreeMap.{get};
@@ -23,10 +23,13 @@ pub struct MemFiles {
     next: u64,
     fails_in: Option<u64>,
     failures: u64,
+    may_fail: bool,
 
     // An open file is there, and its number was given.
     ghost there: { (n : ℕ) (name : Bytes) → get nat_cmp opened n ≡ Some name → is_some (under files name.items) ≡ true },
     ghost given: { (n : ℕ) → IsSome (get nat_cmp opened n) → n < next },
+    // A read that is to fail was told to.
+    ghost told: { IsSome fails_in → may_fail ≡ true },
 }
 
 fn find<'a>(files: &'a BTreeMap<Vec<u8>, Vec<u8>>, name: &[u8]) -> Option<&'a Vec<u8>>
@@ -58,16 +61,17 @@ fn copy_from(text: &[u8], at: u64, buffer: &mut [u8]) -> usize
     count
 }
 
-#[tactic(auto, unfolding(crate::specs::MemDevice::files_of, crate::specs::MemDevice::failures_of))]
+#[tactic(auto, unfolding(crate::specs::MemDevice::files_of, crate::specs::MemDevice::failures_of, crate::specs::MemDevice::may_fail_of))]
 impl MemFiles {
     ghost use Rattle.run_model.specs.Files.{no_files, fails_now, read_part, read_done};
-    ghost use Rattle.bucket_kinds.specs.MemDevice.{files_of, failures_of};
+    ghost use Rattle.bucket_kinds.specs.MemDevice.{files_of, failures_of, may_fail_of};
     ghost use Rattle.bucket_kinds.specs.MemAnswers.{IsAdding, IsFileOpening, file_closed, failing_in, failures_after};
 
-    /// No files. It takes no memory.
+    /// No files, of which no read fails before `fail_at` tells it to. It takes no memory.
     pub fn new(alloc: Global) -> Self
         ensures files { files_of result ≡ no_files }
         ensures failures { failures_of result ≡ 0 }
+        ensures may_fail { may_fail_of result ≡ false }
     {
         MemFiles {
             alloc,
@@ -76,6 +80,7 @@ impl MemFiles {
             next: 1,
             fails_in: None,
             failures: 0,
+            may_fail: false,
         }
     }
 
@@ -84,6 +89,7 @@ impl MemFiles {
     pub fn add(&mut self, name: &[u8], bytes: Vec<u8>) -> Result<(), AddRefusal>
         ensures files { IsAdding (files_of self.old) name.now bytes.items result (files_of self.new) }
         ensures failures { failures_of self.new ≡ failures_of self.old }
+        ensures may_fail { may_fail_of self.new ≡ may_fail_of self.old }
     {
         if self.has(name) {
             return Err(AddRefusal::Taken);
@@ -107,12 +113,15 @@ impl MemFiles {
         self.next
     }
 
-    /// From now on `reads` reads go on well, the next one fails, and those after it go on well again.
+    /// From now on `reads` reads go on well, the next one fails, and those after it go on well again. Since then these are files that may
+    /// fail.
     pub fn fail_at(&mut self, reads: u64)
         ensures files { files_of self.new ≡ failing_in reads (files_of self.old) }
         ensures failures { failures_of self.new ≡ failures_of self.old }
+        ensures may_fail { may_fail_of self.new ≡ true }
     {
         self.fails_in = Some(reads);
+        self.may_fail = true;
     }
 
     /// Opens the file of a name, and gives its new number and its length in bytes. `NotThere` is told of a name
@@ -120,6 +129,7 @@ impl MemFiles {
     pub fn open(&mut self, name: &[u8]) -> Result<(FileNo, u64), FileFault>
         ensures files { IsFileOpening (files_of self.old) name.now result (files_of self.new) }
         ensures failures { failures_of self.new ≡ failures_of self.old }
+        ensures may_fail { may_fail_of self.new ≡ may_fail_of self.old }
     {
         let Some(bytes) = find(&self.files, name) else {
             return Err(FileFault::NotThere);
@@ -145,11 +155,13 @@ impl MemFiles {
     }
 
     // Counts a read, and tells whether it fails.
-    #[tactic(auto, using(crate::proofs::ReadLemmas::after_well, crate::proofs::ReadLemmas::well_now), unfolding(crate::specs::MemDevice::files_of, crate::specs::MemDevice::failures_of))]
+    #[tactic(auto, using(crate::proofs::ReadLemmas::after_well, crate::proofs::ReadLemmas::well_now), unfolding(crate::specs::MemDevice::files_of, crate::specs::MemDevice::failures_of, crate::specs::MemDevice::may_fail_of))]
     fn read_fails(&mut self) -> bool
         ensures result { result ≡ fails_now (files_of self.old).fails_in }
+        ensures told { result ≡ true → may_fail_of self.old ≡ true }
         ensures files { files_of self.new ≡ read_done (files_of self.old) }
         ensures failures { failures_of self.new ≡ failures_after (files_of self.old) (failures_of self.old) }
+        ensures may_fail { may_fail_of self.new ≡ may_fail_of self.old }
     {
         match self.fails_in {
             None => false,
@@ -173,6 +185,7 @@ impl MemFiles {
         ensures err { OnErr result (read_part file at (length buffer.old) (files_of self.old) ≡ None) }
         ensures files { files_of self.new ≡ read_done (files_of self.old) }
         ensures failures { failures_of self.new ≡ failures_after (files_of self.old) (failures_of self.old) }
+        ensures may_fail { may_fail_of self.new ≡ may_fail_of self.old }
     {
         if self.read_fails() {
             return Err(ReadFault);
@@ -190,6 +203,7 @@ impl MemFiles {
     pub fn close(&mut self, file: FileNo)
         ensures files { files_of self.new ≡ file_closed file (files_of self.old) }
         ensures failures { failures_of self.new ≡ failures_of self.old }
+        ensures may_fail { may_fail_of self.new ≡ may_fail_of self.old }
     {
         drop_number(&mut self.opened, file);
     }

@@ -2,7 +2,7 @@
 
 ghost use Rattle.std.specs.Prelude.{◌≡◌, ◌≤◌, ◌<◌, ◌⊎◌, ℕ, List, [], Ok, None, true, length, IsOk, IfOk, OnOk, OnErr, IfSome};
 ghost use Rattle.run_model.specs.Cutting.{IsBucket, EndsInFile, wanted, read_of};
-ghost use Rattle.bucket_kinds.specs.Device.{failed, is_there};
+ghost use Rattle.bucket_kinds.specs.Device.{HasFailed, is_there};
 ghost use Rattle.bucket_kinds.specs.Reading.{MayGive, MayEnd, IsOpenFor, GivesFor, EndsWithin};
 
 use crate::files::{FileNo, Files};
@@ -39,7 +39,7 @@ fn fetch<F: Files>(
     ensures given { IfOk result (MayGive ((F.device files.old).numbered file) start (length room)) }
     ensures same { OnOk result (F.device files.new ≡ F.device files.old) }
     ensures fault { OnErr result
-        ((F.device files.new ≡ failed (F.device files.old))
+        (HasFailed (F.device files.old) (F.device files.new)
         ⊎ ((F.device files.new ≡ F.device files.old) × MayEnd ((F.device files.old).numbered file) start (length room))) }
 {
     let count = room.len();
@@ -86,7 +86,7 @@ pub fn read_into<F: Files>(
     ensures unread { wanted bucket.old.content ≡ 0 → (result ≡ Ok None) × (F.device files.new ≡ F.device files.old) }
     ensures same { OnOk result (F.device files.new ≡ F.device files.old) }
     ensures fault { OnErr result
-        ((F.device files.new ≡ failed (F.device files.old))
+        (HasFailed (F.device files.old) (F.device files.new)
         ⊎ ((F.device files.new ≡ F.device files.old) × EndsWithin (F.device files.old) bucket.old.content)) }
     ensures open_files { (F.device files.new).numbered ≡ (F.device files.old).numbered }
     ensures err { OnErr result (bucket.new ≡ bucket.old) }
@@ -113,8 +113,8 @@ pub fn read_into<F: Files>(
 
 /// Reads a bucket. FILE of length at most 8000 becomes HEAP; a longer one becomes HEAP of its first 8000 bytes, and
 /// the rest is given as a FILE bucket with the same home. Any other bucket is left, and there is no rest. Nothing is
-/// read of a range of length 0. `ReadFault` comes where the device failed or the file ends before the last byte that
-/// is read; a refused bucket is as it was.
+/// read of a range of length 0. `ReadFault` comes where the device, being one that may, failed, or the file ends before the last byte
+/// that is read; a refused bucket is as it was.
 pub fn read_bucket<F: Files>(
     alloc: Global,
     bucket: &mut Bucket,
@@ -128,7 +128,7 @@ pub fn read_bucket<F: Files>(
     ensures same { OnOk result (F.device files.new ≡ F.device files.old) }
     ensures no_memory { result ≡ Err ReadError.NoMemory → F.device files.new ≡ F.device files.old }
     ensures fault { result ≡ Err ReadError.ReadFault
-        → (F.device files.new ≡ failed (F.device files.old))
+        → HasFailed (F.device files.old) (F.device files.new)
         ⊎ ((F.device files.new ≡ F.device files.old) × EndsWithin (F.device files.old) bucket.old.content) }
     ensures open_files { (F.device files.new).numbered ≡ (F.device files.old).numbered }
     ensures err { OnErr result (bucket.new ≡ bucket.old) }

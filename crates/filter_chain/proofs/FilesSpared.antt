@@ -19,7 +19,7 @@ use Rattle.run_model.specs.Files.{parts_of}
 use Rattle.run_model.specs.Passing.{Reads}
 use Rattle.run_model.specs.State.{items_of}
 use Rattle.run_model.specs.Steps.{current}
-use Rattle.bucket_kinds.specs.Device.{Device, failed}
+use Rattle.bucket_kinds.specs.Device.{Device, HasFailed, SameFolder}
 use Rattle.ring_run.specs.Delivery.{Unless, PartGiven, PartsGiven, ContentGiven, ReadsGiven}
 use Rattle.ring_run.specs.Given.{MayGive}
 use Rattle.module_run.specs.Proceeding.{TellsReads}
@@ -29,15 +29,15 @@ use Rattle.module_run.specs.Stepping.{TellsAtTop, TellsStep}
 module _ (d e : Device) where
   -- by reads alone, no name and no number changes
   Reads_only : Type 0
-  Reads_only = (e.next ≡ d.next) × (e.numbered ≡ d.numbered) × (e.named ≡ d.named)
+  Reads_only = (e.next ≡ d.next) × (e.numbered ≡ d.numbered) × SameFolder d e
 
   same : e ≡ d → Reads_only
   unfolding Reads_only
-  same is = (ap (λ (x : Device). x.next) is, ap (λ (x : Device). x.numbered) is, ap (λ (x : Device). x.named) is)
+  same is = (ap (λ (x : Device). x.next) is, ap (λ (x : Device). x.numbered) is, (ap (λ (x : Device). x.named) is, ap (λ (x : Device). x.may_fail) is))
 
-  fails : e ≡ failed d → Reads_only
+  fails : HasFailed d e → Reads_only
   unfolding Reads_only
-  fails is = (ap (λ (x : Device). x.next) is, ap (λ (x : Device). x.numbered) is, ap (λ (x : Device). x.named) is)
+  fails (may, is) = (ap (λ (x : Device). x.next) is, ap (λ (x : Device). x.numbered) is, (ap (λ (x : Device). x.named) is, ap (λ (x : Device). x.may_fail) is))
 
   part : (o : Option (List ℕ)) (file start n : ℕ) (next : Type 0) → (next → Reads_only) → PartGiven d e file start n o next → Reads_only
   part (Some bytes) file start n next then given = then given.1
@@ -72,14 +72,14 @@ module _ (d e : Device) where
 
   reads_spare : (c : Connection) → Reads_only → Spares d e c
   unfolding Reads_only
-  reads_spare c only = (let next = only.0 in record { rises = omega (arith, next); named = only.2; others = λ file old none. ap (λ (f : ℕ → _). f file) only.1 })
+  reads_spare c only = (let next = only.0 in record { rises = omega (arith, next); folder = only.2; others = λ file old none. ap (λ (f : ℕ → _). f file) only.1 })
 
   tells_reads : (chain : List Program) (i : Instr) (f : Frame) (v : Linked) (reads : Reads) → TellsReads d e chain i f v reads → Spares d e v.1
   tells_reads chain (instr.Read c l) f v reads told = reads_spare v.1 (gives (content_at (spot (configuration v.0 v.1 f) c)) (reads 0) told)
   tells_reads chain (instr.Pass b l) f v reads told =
       reads_spare v.1 (unless (is_last chain f.of) (Unless v.1.out.ended (e ≡ d) (ReadsGiven d e (items_of ((v.1.instances f.of).brigades b)) reads 0)) (e ≡ d)
       (unless v.1.out.ended (e ≡ d) (ReadsGiven d e (items_of ((v.1.instances f.of).brigades b)) reads 0) same (all_reads (items_of ((v.1.instances f.of).brigades b)) reads 0)) same told)
-  tells_reads chain i f v reads told = (let next = told.1 in record { rises = omega (arith, next); named = told.0; others = λ file old none. told.3 file none })
+  tells_reads chain i f v reads told = (let next = told.1 in record { rises = omega (arith, next); folder = told.0; others = λ file old none. told.3 file none })
 
   at_top : (chain : List Program) (fs : List Frame) (v : Linked) (reads : Reads) → TellsAtTop d e chain fs v reads → Spares d e v.1
   unfolding TellsAtTop

@@ -33,7 +33,7 @@ close_serves budget chain d e w number c here next s linked spared = record {
   told = nothing_told;
   left = (w.common, c);
   is = ap (λ (x : World). (Refused refusal.NoMemory, x)) (sym (put_same number w c here));
-  tells = spared.named;
+  tells = spared.folder;
   short = tt;
   turn = Same;
   linked = linked;
@@ -84,5 +84,5 @@ module _ {F : Type 0} (host : Host F) (number : ℕ) (s : Seat) (lent : Seats) (
       let spared = spares (w.common, f.0) f.2 in
       let is : happens true (budget_of host) (chain_of host) nothing_told number event.Close w ≡ (Labels labels, to) =
       ap (λ (o : Option Connection). happens_on true (budget_of host) (chain_of host) nothing_told event.Close number o w) f.1 ∙ ap (λ (l : List (List ℕ)). (Labels l, to)) (sym (answers (w.common, f.0) f.2)) in
-      happened_on d e host (record host { seats = after; files = files }) number w hosts refl refl event.Close true nothing_told (Labels labels) to is spared.named tt
+      happened_on d e host (record host { seats = after; files = files }) number w hosts refl refl event.Close true nothing_told (Labels labels) to is spared.folder tt
       (holds_without (budget_of host) (chain_of host) d host.next host.last (seat_at host.seats) w hosts number e f.0 f.1 spared (seat_at after) (taken_out after rest))

@@ -24,35 +24,41 @@ use Rattle.filter_chain.specs.Hosting.{HoldsWorld, IsHosting, Happens, chain_of,
 use Rattle.filter_chain.specs.Scenes.{TellsEvent, TellsReads, scene}
 use Rattle.filter_chain.specs.Seated.{IsLinked, MayServe}
 use Rattle.filter_chain.specs.Spared.{Spares}
+use Rattle.module_run.proofs.OpeningsTold.{may_tell_unasked, unasked}
 use Rattle.filter_chain.proofs.Hosts.{laws, found, missing, holds_put, same_seats, IsWritten, written}
 
 abbrev pub AnyLength : ℕ → Type 0
 AnyLength n = Unit {0}
 
--- Only reads tell something. (That it failed a device may always tell.)
+-- Only reads tell something. (What is told of an opening counts for an opening alone.)
 abbrev pub told_reads : Reads → Told
 told_reads reads = record { reads = reads; opening = Failing }
 
 abbrev pub nothing_told : Told
 nothing_told = told_reads (λ k. None)
 
+-- what a device that is not asked might have told
+abbrev pub unasked_in : Device → Event → Told
+unasked_in d (event.OpenFile name) = record { reads = λ k. None; opening = unasked d name }
+unasked_in d e = nothing_told
+
 -- What is refused need not be told anything.
-pub refused_tells : (chain : List Program) (number : ℕ) (what : Event) (w : World) (d : Device) (r : Refusal) → TellsEvent chain number what (scene w d) (Refused r) nothing_told d
+pub refused_tells : (chain : List Program) (number : ℕ) (what : Event) (w : World) (d : Device) (r : Refusal) → TellsEvent chain number what (scene w d) (Refused r) (unasked_in d what) d
 unfolding TellsEvent
 refused_tells chain number event.Open w d r = refl
 refused_tells chain number event.Begin w d r = refl
 refused_tells chain number (event.AddFile name bytes) w d r = refl
-refused_tells chain number (event.OpenFile name) w d r = (tt, refl)
+refused_tells chain number (event.OpenFile name) w d r = (may_tell_unasked d name, (refl, refl))
 refused_tells chain number (event.Bring pieces) w d r = refl
 refused_tells chain number event.Step w d r = by_conn (w.conns number) where
   by_conn : (o : Option Connection) → TellsReads chain (scene w d) o (Refused r) (λ k. None) d
   by_conn None = refl
   by_conn (Some c) = refl
-refused_tells chain number event.End w d r = refl
+refused_tells chain number event.End w d r = (refl, refl)
 refused_tells chain number event.TakeOutput w d r = refl
 refused_tells chain number event.TellLabels w d r = refl
 refused_tells chain number event.TellPools w d r = refl
-refused_tells chain number event.Close w d r = refl
+refused_tells chain number event.Close w d r = (refl, refl)
 
 -- an event of a connection
 abbrev pub IsOfConnection : Event → Type 0
@@ -96,8 +102,8 @@ module _ {F : Type 0} (d : Device) (old new : Host F) (number : ℕ) (w : World)
       (subst (λ (n : Next). HoldsWorld (budget_of old) (chain_of old) d n old.last (seat_at new.seats) w) (sym next)
       (subst (λ (s : ℕ → Option Seat). HoldsWorld (budget_of old) (chain_of old) d old.next old.last s w) (sym seats) hosts)))
 
-  pub refused_on : (what : Event) (memory : Bool) (r : Refusal) → happens memory (budget_of old) (chain_of old) nothing_told number what w ≡ (Refused r, w) → Happens d d old new number what (Refused r) w
-  refused_on what memory r is = stays_on what memory nothing_told (Refused r) is (refused_tells (chain_of old) number what w d r) tt
+  pub refused_on : (what : Event) (memory : Bool) (r : Refusal) → happens memory (budget_of old) (chain_of old) (unasked_in d what) number what w ≡ (Refused r, w) → Happens d d old new number what (Refused r) w
+  refused_on what memory r is = stays_on what memory (unasked_in d what) (Refused r) is (refused_tells (chain_of old) number what w d r) tt
 
   -- There is no such connection.
   pub none_served : seat_at old.seats number ≡ None → (what : Event) → IsOfConnection what → Happens d d old new number what (Refused refusal.NoSuchConn) w
@@ -105,7 +111,7 @@ module _ {F : Type 0} (d : Device) (old new : Host F) (number : ℕ) (w : World)
   none_served at what of =
       let none = missing (budget_of old) (chain_of old) d old.next old.last (seat_at old.seats) w hosts number at in
       refused_on what true refusal.NoSuchConn
-      (ap (λ (o : Option Connection). happens_on true (budget_of old) (chain_of old) nothing_told what number o w) none ∙ none_is true (budget_of old) (chain_of old) nothing_told number w what of)
+      (ap (λ (o : Option Connection). happens_on true (budget_of old) (chain_of old) (unasked_in d what) what number o w) none ∙ none_is true (budget_of old) (chain_of old) (unasked_in d what) number w what of)
 
 -- A connection c that is there answers this, and a seat s stands for what is left of it, by devices d and e. now: the names that are given next then.
 pub record Serves (budget : ℕ) (chain : List Program) (d e : Device) (w : World) (number : ℕ) (c : Connection) (what : Event) (answer : Answer) (now : Next) (s : Seat) : Type 0 where

@@ -48,7 +48,7 @@ opens_serves budget chain d e w number c here now s name answer st =
       told = record { reads = λ k. None; opening = st.opening };
       left = left.1;
       is = opening_told number w c here _ c.req st.opening ∙ ap (λ (r : Result (ℕ × ℕ) Refusal). (file_answer r, put_conn number left.1 w)) st.served.answers;
-      tells = (st.told, st.served.spared.named);
+      tells = (st.told, st.served.spared.folder);
       short = short_file answer st.short;
       turn = opens_file_turn chain AnyLength w.common c (lasted answer) st.opening (any_length left.0);
       linked = st.served.left;

@@ -105,7 +105,7 @@ module _ (budget : ℕ) (chain modules : List Program) (same : modules ≡ chain
 module _ (budget : ℕ) (chain : List Program) (d : Device) (w : World) (number : ℕ) (c : Connection) (here : w.conns number ≡ Some c) (now : Next) (s : Seat) where
   pub ends_serves : (e : Device) (memory : Bool) (answer : Option Refusal) → Served chain d e now s c answer (ends memory (w.common, c)) → Serves budget chain d e w number c event.End (done_answer answer) now s
   unfolding happens_on ends TellsEvent
-  ends_serves e memory answer served = done_serves budget chain d e w number c here now s event.End memory answer _ (ended c.req (w.common, c)) refl (ends_turn chain AnyLength w.common c memory) served.spared.named served
+  ends_serves e memory answer served = done_serves budget chain d e w number c here now s event.End memory answer _ (ended c.req (w.common, c)) refl (ends_turn chain AnyLength w.common c memory) served.spared.folder served
 
   pub takes_serves : (s0 : Seat) (bytes : List ℕ) → bytes ≡ c.out.bytes → IsLinked chain d now s0 (w.common, c) → IsSeated chain d now s (drained c) → Serves budget chain d d w number c event.TakeOutput (Output bytes) now s
   unfolding happens_on TellsEvent

@@ -1,5 +1,6 @@
 -- Lemmas.
 pub mod FilesSpared
+pub mod MayFail
 pub mod FileNumbers
 pub mod Seated
 pub mod Hosts

@@ -161,7 +161,7 @@ lent chain d next old new v same pool name may =
     stands chain d next new v may.lawful (record { seated = same chain d v.1 may.linked.seated; pools = may.linked.pools; names = may.linked.names; files = may.linked.files }) pool name
 
 pub spares_all : (d : Device) (c : Connection) → Spares d d c
-spares_all d c = record { rises = omega arith; named = refl; others = λ file old none. refl }
+spares_all d c = record { rises = omega arith; folder = (refl, refl); others = λ file old none. refl }
 
 -- Files that its pools do not refer to are as they were, and so are those of others.
 module _ (chain : List Program) (d e : Device) (s : Seat) (v : Linked) (so : StandsFor chain s.tree s.store d s.conn v) where
@@ -176,6 +176,6 @@ module _ (chain : List Program) (d e : Device) (s : Seat) (v : Linked) (so : Sta
   pub spares_unreferred : SameButOpen d e → ((file : ℕ) → is_referred (map_of s.tree) file ≡ false → e.numbered file ≡ d.numbered file) → Spares d e v.1
   spares_unreferred same rest = record {
     rises = (let next = same.next in omega (arith, next));
-    named = same.named;
+    folder = (same.named, same.may_fail);
     others = λ file old none. rest file (any_below_none (map_of s.tree).next (λ p. list_any (is_file_ref file) ((map_of s.tree).payloads p)) (λ p below. not_held file p none));
   }

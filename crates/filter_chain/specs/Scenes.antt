@@ -7,7 +7,7 @@ use Rattle.run_model.specs.declared.event.Event.TheVariants as event
 use Rattle.run_model.specs.Chains.{Connection}
 use Rattle.run_model.specs.Passing.{Reads}
 use Rattle.run_model.specs.Worlds.{World, Told, Answer, Done, Step, happens}
-use Rattle.bucket_kinds.specs.Device.{Device, Holds, is_there}
+use Rattle.bucket_kinds.specs.Device.{Device, Holds, SameFolder, is_there}
 use Rattle.module_run.specs.OpenedFile.{MayTell}
 use Rattle.module_run.specs.Stepping.{TellsStep}
 
@@ -29,19 +29,20 @@ TellsReads chain s None answer reads e = e ≡ s.device
 TellsReads chain s (Some c) (Step t) reads e = TellsStep s.device e chain (Ok t) (s.world.common, c) reads
 TellsReads chain s (Some c) answer reads e = e ≡ s.device
 
--- What an event is told is what the device may tell, and the device is e then. Files are closed where pools go, and their names stay.
+-- What an event is told is what the device may tell, and the device is e then. Files are closed where pools go; their names stay,
+-- and so does whether it may fail.
 unfoldable pub TellsEvent : List Program → ℕ → Event → Scene → Answer → Told → Device → Type 0
 TellsEvent chain k event.Open s answer told e = e ≡ s.device
 TellsEvent chain k event.Begin s answer told e = e ≡ s.device
 TellsEvent chain k (event.AddFile name bytes) s answer told e = HasAdded name bytes s.device answer e
-TellsEvent chain k (event.OpenFile name) s answer told e = MayTell s.device name told.opening × (e.named ≡ s.device.named)
+TellsEvent chain k (event.OpenFile name) s answer told e = MayTell s.device name told.opening × SameFolder s.device e
 TellsEvent chain k (event.Bring pieces) s answer told e = e ≡ s.device
 TellsEvent chain k event.Step s answer told e = TellsReads chain s (s.world.conns k) answer told.reads e
-TellsEvent chain k event.End s answer told e = e.named ≡ s.device.named
+TellsEvent chain k event.End s answer told e = SameFolder s.device e
 TellsEvent chain k event.TakeOutput s answer told e = e ≡ s.device
 TellsEvent chain k event.TellLabels s answer told e = e ≡ s.device
 TellsEvent chain k event.TellPools s answer told e = e ≡ s.device
-TellsEvent chain k event.Close s answer told e = e.named ≡ s.device.named
+TellsEvent chain k event.Close s answer told e = SameFolder s.device e
 
 -- An event of the connection of this number is answered so, and leads from one scene to another. memory: whether a growth would succeed.
 pub record Acts (budget : ℕ) (chain : List Program) (number : ℕ) (what : Event) (old : Scene) (answer : Answer) (new : Scene) : Type 0 where

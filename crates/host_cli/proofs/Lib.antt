@@ -12,5 +12,6 @@ pub mod TakenLaws
 pub mod TakingLaws
 pub mod BringLaws
 pub mod Served
+pub mod FaithfulFiles
 pub mod SessionLaws
 pub mod SiteLaws

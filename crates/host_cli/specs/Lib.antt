@@ -13,6 +13,7 @@ pub mod Scripts
 pub mod Refusals
 pub mod Heads
 pub mod Plays
+pub mod Faithful
 pub mod Written
 pub mod Judging
 pub mod Sessions

@@ -45,6 +45,7 @@ pub record IsHosted (s : CodeSession) (v : Session) : Type 0 where
   pub hosts : IsHosting (device s.host) s.host v.scene.world
   pub safe : v.is_checked ≡ true → IsSafe s.host
   pub device : device s.host ≡ v.scene.device
+  pub sound : v.scene.device.may_fail ≡ false
 
 -- A line was taken of a session, and what is told of it is added. was: whether it was a command.
 abbrev pub TakesOne : CodeSession → List ℕ → List ℕ → ℕ → Line → Session → Bool → Type 0

@@ -1,7 +1,8 @@
 -- The text that is written for a script, line by line.
-use Rattle.std.specs.Prelude.{◌≡◌, ℕ, zero, suc, ◌+◌, Bool, true, false, if◌then◌else◌, List, [], ◌∷◌, ◌++◌, map, take, Option, Some, None, MatchOption, ◌⊎◌}
+use Rattle.std.specs.Prelude.{◌≡◌, ◌≢◌, ℕ, zero, suc, ◌+◌, Bool, true, false, if◌then◌else◌, List, [], ◌∷◌, ◌++◌, map, take, Option, Some, None, MatchOption, ◌⊎◌}
 use Rattle.module_lang.specs.Program.{Program}
 use Rattle.module_lang.specs.TextLines.{Line, lines_of}
+use Rattle.run_model.specs.declared.event.Refusal.TheVariants as refusal
 use Rattle.run_model.specs.Files.{no_files}
 use Rattle.run_model.specs.Worlds.{empty_world}
 use Rattle.bucket_kinds.specs.MemDevice.{device_of}
@@ -14,8 +15,10 @@ use Rattle.host_cli.specs.declared.command.Command.{Command}
 use Rattle.host_cli.specs.declared.ended.Ended.{Ended}
 use Rattle.host_cli.specs.declared.ended.Ended.TheVariants as ended
 use Rattle.host_cli.specs.declared.reply.Reply.{Reply}
+use Rattle.host_cli.specs.declared.reply.Reply.TheVariants as answer
 use Rattle.host_cli.specs.declared.texts.Taken.{Taken}
 use Rattle.host_cli.specs.declared.texts.Taken.TheVariants as taken
+use Rattle.host_cli.specs.Faithful.{IsFaithful}
 use Rattle.host_cli.specs.Heads.{ScriptPart, Head, no_head, TakesLine, EndsHead}
 use Rattle.host_cli.specs.Plays.{Serves, due_at, is_fault}
 use Rattle.host_cli.specs.Refusals.{refused_module_line}
@@ -63,9 +66,9 @@ refused_from k (x ∷ xs) = first_of k (refusal_of x) (refused_from (k + 1) xs)
 
 -- The commands begin.
 
--- no connection, and no file
+-- no connection, and no file; none may fail
 abbrev pub first_scene : Scene
-first_scene = scene empty_world (device_of no_files 0)
+first_scene = scene empty_world (device_of no_files 0 false)
 
 abbrev pub codes_of : List ScriptPart → List Program
 codes_of parts = map (λ (x : ScriptPart). x.code) parts
@@ -83,11 +86,13 @@ Begins checked h text s = BeginsUnless (if checked then refused_from 0 h.parts e
 
 -- A line is taken.
 
--- A command answers so. On a chain that was checked no answer is a fault.
+-- A command answers so, over files that give what they hold: none is told to have failed. On a chain that was checked no answer is a fault.
 pub record Replies (c : Command) (s : Session) (text : List ℕ) (t : Stage) : Type 0 where
   pub reply : Reply
   pub after : Scene
   pub serves : Serves s.budget s.chain c s.scene reply after
+  pub faithful : IsFaithful s.scene
+  pub unfailing : reply ≢ answer.Refused refusal.FileFailed
   pub faultless : s.is_checked ≡ true → is_fault reply ≡ false
   pub told : text ≡ reply_line reply
   pub stage : t ≡ Serving (record s { scene = after })

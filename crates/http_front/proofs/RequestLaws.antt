@@ -15,6 +15,7 @@ use Rattle.http_front.specs.declared.fault.FrontKind.{FrontKind}
 use Rattle.http_front.specs.declared.handler.Outcome.{Outcome}
 use Rattle.http_front.specs.declared.reply.Method.{Method}
 use Rattle.http_front.specs.declared.running.Ended.{Ended}
+use Rattle.http_front.specs.declared.running.Ended.TheVariants as ended
 use Rattle.http_front.specs.declared.status.Status.TheVariants.{Success}
 use Rattle.filter_chain.proofs.Driving.{Happened, by_event, leads_as, leads_on, leads_ok}
 
@@ -31,6 +32,13 @@ module _ {F : Type 0} (device : F → Device) (number : ℕ) where
     output_refused o why bare h =
         leads_as device old new (λ b c s t. Acts b c number event.TakeOutput s (Refused why) t) (λ b c s t. TakesOutput b c number s o t)
         (λ b c s t a. record { answer = Err why; acts = a; gives = bare }) (by_event device old new number event.TakeOutput (Refused why) h)
+
+    -- `init` succeeded.
+    pub opened_unless : (r : Result Outcome FrontKind) (init : Ended) (method : Method) (name : List ℕ) → init ≡ ended.Succeeded → Leads device old new (λ b c s t. IfOk r (λ o. Opens b c number init method name s o t))
+        → Leads device old new (λ b c s t. IfOk r (λ o. OpensUnless b c number init method name s o t))
+    opened_unless r init method name is h =
+        subst (λ (i : Ended). Leads device old new (λ b c s t. IfOk r (λ o. OpensUnless b c number i method name s o t))) (sym is)
+        (subst (λ (i : Ended). Leads device old new (λ b c s t. IfOk r (λ o. Opens b c number i method name s o t))) is h)
 
     pub bare_finished : (status : Option Failure) (o : Outcome) → IsUnserved status o → Leads device old new (λ b c s t. EndsRequest b c number s t) → Leads device old new (λ b c s t. EndsBare b c number status s o t)
     bare_finished status o bare = leads_as device old new (λ b c s t. EndsRequest b c number s t) (λ b c s t. EndsBare b c number status s o t) (λ b c s t e. (bare, e))

@@ -6,7 +6,7 @@ use Rattle.std.proofs.Math.Path.{fun_ext}
 use Rattle.std.proofs.lemmas.Bool.{cases_eq, eq-eqb, ne_eqb}
 use Rattle.std.proofs.lemmas.List.{map-append, length-replicate}
 use Rattle.bucket_kinds.specs.Answers.{MayHave, Opens}
-use Rattle.bucket_kinds.specs.Device.{Device, Held, Missing, Untold, Holds, closed, failed, is_there, opened}
+use Rattle.bucket_kinds.specs.Device.{Device, Held, Missing, Untold, Holds, closed, HasFailed, is_there, opened}
 use Rattle.bucket_ring.specs.declared.names.BucketId.{BucketId}
 use Rattle.bucket_ring.specs.declared.rings.Rings.{Ghosts}
 use Rattle.module_lang.specs.Program.{Program}
@@ -77,14 +77,14 @@ module _ {R : Type 0} {g : Ghosts R Bucket} (chain : List Program) (tree : PoolT
 pub kept_same : (d e : Device) → e ≡ d → KeepsFiles d e
 kept_same d e is = record {
   rises = (let next = ap (λ (x : Device). x.next) is in omega (arith, next));
-  named = ap (λ (x : Device). x.named) is;
+  folder = (ap (λ (x : Device). x.named) is, ap (λ (x : Device). x.may_fail) is);
   others = λ file given. ap (λ (x : Device). x.numbered file) is;
 }
 
-pub kept_failed : (d e : Device) → e ≡ failed d → KeepsFiles d e
-kept_failed d e is = record {
+pub kept_failed : (d e : Device) → HasFailed d e → KeepsFiles d e
+kept_failed d e (may, is) = record {
   rises = (let next = ap (λ (x : Device). x.next) is in omega (arith, next));
-  named = ap (λ (x : Device). x.named) is;
+  folder = (ap (λ (x : Device). x.named) is, ap (λ (x : Device). x.may_fail) is);
   others = λ file given. ap (λ (x : Device). x.numbered file) is;
 }
 
@@ -104,7 +104,7 @@ module _ (d e : Device) (name : List ℕ) (number len : ℕ) (opens : Opens d na
   pub kept_open : KeepsFiles d e
   kept_open = record {
     rises = (let next = ap (λ (x : Device). x.next) opens.after in omega (arith, next));
-    named = ap (λ (x : Device). x.named) opens.after;
+    folder = (ap (λ (x : Device). x.named) opens.after, ap (λ (x : Device). x.may_fail) opens.after);
     others = λ file given. numbered_old file (λ same. (let at = opens.number_is in omega (arith, same, at, given)));
   }
 
@@ -119,7 +119,7 @@ module _ (d e : Device) (name : List ℕ) (number len : ℕ) (opens : Opens d na
   pub kept_closed : (last : Device) → last ≡ closed number e → KeepsFiles d last
   kept_closed last is = record {
     rises = (let next = ap (λ (x : Device). x.next) is in let after = ap (λ (x : Device). x.next) opens.after in omega (arith, next, after));
-    named = ap (λ (x : Device). x.named) is ∙ ap (λ (x : Device). x.named) opens.after;
+    folder = (ap (λ (x : Device). x.named) is ∙ ap (λ (x : Device). x.named) opens.after, ap (λ (x : Device). x.may_fail) is ∙ ap (λ (x : Device). x.may_fail) opens.after);
     others = λ file given. ap (λ (x : Device). x.numbered file) is ∙ numbered_closed file;
   }
 

@@ -1,8 +1,9 @@
 -- What is told of an opening that is refused, and of one that is not.
 use Rattle.std.proofs.Common.{◌≡◌, ℕ, ◌+◌, ◌-◌, ◌^◌, ◌<◌, ◌≤◌, nat_lt, Bool, true, false, List, length, Option, Some, None, Result, Ok, Err, refl, sym, ap, subst, ◌∙◌, arith}
 use Rattle.std.proofs.lemmas.Bool.{le-ltb, lt-ltb}
-use Rattle.bucket_kinds.specs.Answers.{IsOpening, Opens}
-use Rattle.bucket_kinds.specs.Device.{Device, failed, last_number, opened}
+use Rattle.bucket_kinds.specs.Answers.{IsOpening, MayMiss, Opens}
+use Rattle.bucket_kinds.specs.Device.{Device, Held, last_number}
+use Rattle.bucket_kinds.specs.Device as device
 use Rattle.bucket_kinds.specs.declared.refusal.FileFault.{FileFault}
 use Rattle.bucket_kinds.specs.declared.refusal.FileFault.TheVariants as fault
 use Rattle.bucket_ring.specs.declared.rings.Rings.{Ghosts}
@@ -42,6 +43,23 @@ not_spent n lt = le-ltb (2 ^ 64 - 1) (n + 1) (omega (arith, lt))
 rest_of : (a b : ℕ) → a ≤ b → a + (b - a) ≡ b
 rest_of a b le = omega (arith, le)
 
+-- What a device that is not asked might have told of a name.
+
+abbrev pub unasked_of : Held → Opening
+unasked_of device.Missing = Missing
+unasked_of device.Untold = Missing
+unasked_of (device.Holds bytes) = Found 0 bytes
+
+abbrev pub unasked : Device → List ℕ → Opening
+unasked d name = unasked_of (d.named name)
+
+pub may_tell_unasked : (d : Device) (name : List ℕ) → MayTell d name (unasked d name)
+may_tell_unasked d name = go (d.named name) refl where
+  go : (h : Held) → d.named name ≡ h → MayTell d name (unasked_of h)
+  go device.Missing is = subst MayMiss (sym is) tt
+  go device.Untold is = subst MayMiss (sym is) tt
+  go (device.Holds bytes) is = subst (λ (h : Held). MayHold h bytes) (sym is) refl
+
 module _ {R : Type 0} {g : Ghosts R Bucket} (chain : List Program) (tree : PoolTree Payload) (store : Brigades R g) (d e : Device) (c : Conn) (name : List ℕ) (v : Linked) where
   pub was_opened : (answer : Result (ℕ × ℕ) Refusal) (opening : Opening) (w : Linked) → MayTell d name opening → opens_file (lasted answer) opening v ≡ (answer, w) → LeftAs chain tree store e c w → w.0.file ≤ e.next → KeepsFiles d e → TellsShort answer
       → WasOpened chain tree store d e c name answer v
@@ -60,9 +78,9 @@ module _ {R : Type 0} {g : Ghosts R Bucket} (chain : List Program) (tree : PoolT
   was_refused fault.NotThere (miss, same) none left below =
       was_opened (Err refusal.NoFile) Missing v miss (open_missing (map_of tree) (lists store) (next_name store) c v left.seen true none)
       (subst (λ (x : Device). LeftAs chain tree store x c v) (sym same) left) (subst (λ (x : Device). v.0.file ≤ x.next) (sym same) below) (kept_same d e same) tt
-  was_refused fault.Failed same none left below =
-      was_opened (Err refusal.FileFailed) Failing v tt (open_failing (map_of tree) (lists store) (next_name store) c v left.seen true none)
-      (left_device chain tree store d e c v (λ file. ap (λ (x : Device). x.numbered file) same) left) (subst (λ (x : Device). v.0.file ≤ x.next) (sym same) below) (kept_failed d e same) tt
+  was_refused fault.Failed (may, same) none left below =
+      was_opened (Err refusal.FileFailed) Failing v may (open_failing (map_of tree) (lists store) (next_name store) c v left.seen true none)
+      (left_device chain tree store d e c v (λ file. ap (λ (x : Device). x.numbered file) same) left) (subst (λ (x : Device). v.0.file ≤ x.next) (sym same) below) (kept_failed d e (may, same)) tt
   was_refused fault.NamesSpent (there, last, same) none left below =
       let bytes = there_bytes (d.named name) there in
       was_opened (Err refusal.NamesSpent) (Found (d.next - v.0.file) bytes.0) v bytes.1

@@ -1,8 +1,8 @@
 -- A file of an opening.
-use Rattle.std.specs.Prelude.{◌≡◌, ℕ, ◌<◌, ◌≤◌, List, Result, Ok, Err}
+use Rattle.std.specs.Prelude.{◌≡◌, true, ℕ, ◌<◌, ◌≤◌, List, Result, Ok, Err}
 use Rattle.module_lang.specs.Program.{Program}
 use Rattle.bucket_kinds.specs.Answers.{MayMiss}
-use Rattle.bucket_kinds.specs.Device.{Device}
+use Rattle.bucket_kinds.specs.Device.{Device, SameFolder}
 use Rattle.bucket_kinds.specs.declared.refusal.FileFault.{FileFault}
 use Rattle.bucket_kinds.specs.declared.refusal.FileFault.TheVariants as fault
 use Rattle.bucket_ring.specs.declared.rings.Rings.{Ghosts}
@@ -19,11 +19,11 @@ use Rattle.module_run.specs.declared.conn.Conn.{Conn}
 use Rattle.module_run.specs.Happened.{Happened, lasted}
 use Rattle.module_run.specs.Proceeding.{MayHold}
 
--- What a device may tell of the file of this name. (That it failed may be told of each.)
+-- What a device may tell of the file of this name. (That it failed may be told of each, where it may fail.)
 abbrev pub MayTell : Device → List ℕ → Opening → Type 0
 MayTell d name (Found skipped bytes) = MayHold (d.named name) bytes
 MayTell d name Missing = MayMiss (d.named name)
-MayTell d name Failing = Unit {0}
+MayTell d name Failing = d.may_fail ≡ true
 
 -- why a file is not opened
 abbrev pub unopened_by : FileFault → Refusal
@@ -32,10 +32,10 @@ unopened_by fault.Failed = refusal.FileFailed
 unopened_by fault.NamesSpent = refusal.NamesSpent
 unopened_by fault.NoMemory = refusal.NoMemory
 
--- A device is e after an opening, and was d: numbers rise, names stay, and a file whose number was given before is as it was.
+-- A device is e after an opening, and was d: numbers rise, names stay and whether it may fail, and a file whose number was given before is as it was.
 pub record KeepsFiles (d e : Device) : Type 0 where
   pub rises : d.next ≤ e.next
-  pub named : e.named ≡ d.named
+  pub folder : SameFolder d e
   pub others : (file : ℕ) → file < d.next → e.numbered file ≡ d.numbered file
 
 -- A file that was opened is short.

@@ -4,7 +4,7 @@ use Rattle.std.proofs.lemmas.Bool.{false≢true, cases_lt}
 use Rattle.std.specs.Prelude.{if◌then◌else◌}
 use Rattle.std.proofs.lemmas.List.{append-nil, length-append, take_at}
 use Rattle.bucket_ring.specs.declared.names.BucketId.{BucketId}
-use Rattle.bucket_kinds.specs.Device.{Device, failed}
+use Rattle.bucket_kinds.specs.Device.{Device, HasFailed}
 use Rattle.bucket_kinds.specs.Reading.{MayGive, MayEnd}
 use Rattle.run_model.specs.declared.bucket.Bucket.{Bucket}
 use Rattle.run_model.specs.declared.bucket.Content.{Content}
@@ -84,12 +84,12 @@ module _ (d e : Device) (file : ℕ) (rs : Reads) (next : ℕ → Type 0) where
       (subst (λ (o : Option (List ℕ)). PartGiven d e file at (min m read_limit) o (PartsGiven d e (parts_of (m - 8000)) file (at + read_limit) (m - read_limit) rs next (j + 1))) (sym read)
       (subst (λ (k : ℕ). MayGive (d.numbered file) at k bytes) is gives, same_given m at n (j + 1) is h))
 
-  failed_given : (m at n j : ℕ) → 0 < m → n ≡ min m 8000 → rs j ≡ None → (e ≡ failed d) ⊎ ((e ≡ d) × MayEnd (d.numbered file) at n) → rest_given m at j
+  failed_given : (m at n j : ℕ) → 0 < m → n ≡ min m 8000 → rs j ≡ None → HasFailed d e ⊎ ((e ≡ d) × MayEnd (d.numbered file) at n) → rest_given m at j
   unfolding PartsGiven
   failed_given m at n j some is read why =
       subst (λ (p : ℕ). PartsGiven d e p file at m rs next j) (sym (parts_more m some))
       (subst (λ (o : Option (List ℕ)). PartGiven d e file at (min m read_limit) o (PartsGiven d e (parts_of (m - 8000)) file (at + read_limit) (m - read_limit) rs next (j + 1))) (sym read)
-      (subst (λ (k : ℕ). (e ≡ failed d) ⊎ ((e ≡ d) × MayEnd (d.numbered file) at k)) is why))
+      (subst (λ (k : ℕ). HasFailed d e ⊎ ((e ≡ d) × MayEnd (d.numbered file) at k)) is why))
 
 -- So many bytes of a range were read.
 pub record RangeSoFar (d : Device) (file start len count : ℕ) (front : List ℕ) : Type 0 where
@@ -133,7 +133,7 @@ module _ (d : Device) (file start len : ℕ) where
     left : past ≡ count + n → len - count - n ≡ len - past
     left e = omega (arith, e)
 
-  pub range_failed : (e : Device) (count n : ℕ) (front out : List ℕ) → RangeSoFar d file start len count front → count < len → n ≡ min (len - count) 8000 → (e ≡ failed d) ⊎ ((e ≡ d) × MayEnd (d.numbered file) (start + count) n) → front ≡ take count out
+  pub range_failed : (e : Device) (count n : ℕ) (front out : List ℕ) → RangeSoFar d file start len count front → count < len → n ≡ min (len - count) 8000 → HasFailed d e ⊎ ((e ≡ d) × MayEnd (d.numbered file) (start + count) n) → front ≡ take count out
       → ContentFilled d e (content.Range file start len) (record { count = count; whole = false }) out
   range_failed e count n front out s below is why here = record {
     reads = s.reads ++ None ∷ [];
@@ -167,10 +167,10 @@ module _ (d : Device) (file start len : ℕ) where
     done e = omega (arith, e)
 
 -- a fault of a device that is as it was
-pub fault_from : (d now e : Device) (file at n k : ℕ) → now ≡ d → k ≡ n → (e ≡ failed now) ⊎ ((e ≡ now) × MayEnd (now.numbered file) at k) → (e ≡ failed d) ⊎ ((e ≡ d) × MayEnd (d.numbered file) at n)
+pub fault_from : (d now e : Device) (file at n k : ℕ) → now ≡ d → k ≡ n → HasFailed now e ⊎ ((e ≡ now) × MayEnd (now.numbered file) at k) → HasFailed d e ⊎ ((e ≡ d) × MayEnd (d.numbered file) at n)
 fault_from d now e file at n k same span why =
-    subst (λ (x : Device). (e ≡ failed x) ⊎ ((e ≡ x) × MayEnd (x.numbered file) at n)) same
-    (subst (λ (j : ℕ). (e ≡ failed now) ⊎ ((e ≡ now) × MayEnd (now.numbered file) at j)) span why)
+    subst (λ (x : Device). HasFailed x e ⊎ ((e ≡ x) × MayEnd (x.numbered file) at n)) same
+    (subst (λ (j : ℕ). HasFailed now e ⊎ ((e ≡ now) × MayEnd (now.numbered file) at j)) span why)
 
 pub gave_from : (d now : Device) (file at n k : ℕ) (bytes : List ℕ) → now ≡ d → k ≡ n → MayGive (now.numbered file) at k bytes → MayGive (d.numbered file) at n bytes
 gave_from d now file at n k bytes same span gave =

@@ -1,6 +1,6 @@
 -- What the end of the chain takes of a brigade, and what the device gives to its reads.
 use Rattle.std.specs.Prelude.{◌≡◌, ◌⊎◌, ℕ, zero, suc, ◌+◌, ◌-◌, Bool, true, false, min, List, [], ◌∷◌, length, take, Option, Some, None}
-use Rattle.bucket_kinds.specs.Device.{Device, failed}
+use Rattle.bucket_kinds.specs.Device.{Device, HasFailed}
 use Rattle.bucket_kinds.specs.Reading.{MayGive, MayEnd}
 use Rattle.run_model.specs.declared.bucket.Content.{Content}
 use Rattle.run_model.specs.declared.bucket.Content.TheVariants as content
@@ -21,7 +21,7 @@ Unless false P Q = Q
 -- What one read of n bytes of a file may give. Where it fails the device is e, and no other read follows; else `next` is so.
 abbrev pub PartGiven : Device → Device → ℕ → ℕ → ℕ → Option (List ℕ) → Type 0 → Type 0
 PartGiven d e file start n (Some bytes) next = MayGive (d.numbered file) start n bytes × next
-PartGiven d e file start n None next = (e ≡ failed d) ⊎ ((e ≡ d) × MayEnd (d.numbered file) start n)
+PartGiven d e file start n None next = HasFailed d e ⊎ ((e ≡ d) × MayEnd (d.numbered file) start n)
 
 -- a range in so many reads, of which the first has the number k; `next` says the same of what follows
 unfoldable pub PartsGiven : Device → Device → ℕ → ℕ → ℕ → ℕ → Reads → (ℕ → Type 0) → ℕ → Type 0

@@ -1,7 +1,7 @@
 //! The end of the chain, where the bytes of brigades become output.
 
 ghost use Rattle.std.specs.Prelude.{◌≡◌, ◌==◌, ◌⊎◌, ◌+◌, ◌<◌, ◌≤◌, ◌^◌, ℕ, Bool, true, false, length, is_some, if◌then◌else◌, All, Some, IfOk, OnOk, OnErr};
-ghost use Rattle.bucket_kinds.specs.Device.{failed, is_there};
+ghost use Rattle.bucket_kinds.specs.Device.{HasFailed, is_there};
 ghost use Rattle.bucket_kinds.specs.Reading.{MayGive, MayEnd, IsOpenFor};
 ghost use Rattle.bucket_ring.specs.declared.names.BucketId.{BucketId};
 ghost use Rattle.bucket_ring.specs.Lists.{list_at};
@@ -46,7 +46,7 @@ fn fetch<F: Files>(files: &mut F, file: FileNo, at: u64, buffer: &mut [u8]) -> b
     ensures given { result ≡ true → MayGive ((F.device files.old).numbered file) at (length buffer.old) buffer.new }
     ensures same { result ≡ true → F.device files.new ≡ F.device files.old }
     ensures fault { result ≡ false
-        → (F.device files.new ≡ failed (F.device files.old))
+        → HasFailed (F.device files.old) (F.device files.new)
         ⊎ ((F.device files.new ≡ F.device files.old) × MayEnd ((F.device files.old).numbered file) at (length buffer.old)) }
     ensures open_files { (F.device files.new).numbered ≡ (F.device files.old).numbered }
     ensures len { length buffer.new ≡ length buffer.old }

@@ -23,7 +23,7 @@ returns g c chain v may =
         answers = h.happened.answers;
         left = linked_after chain e c.next.result (record { tree = c.open_file-outcome.new.tree; store = c.open_file-outcome.new.store; conn = c.open_file-outcome.new.self }) (opens_file (lasted c.open_file-outcome.result) h.opening v).1 h.happened.left
             (sym c.next.ensures.pool) (sym c.next.ensures.name) h.numbers;
-        spared = record { rises = h.kept.rises; named = h.kept.named; others = λ file old none. h.kept.others file old };
+        spared = record { rises = h.kept.rises; folder = h.kept.folder; others = λ file old none. h.kept.others file old };
       };
       short = h.short;
     }

@@ -5,7 +5,7 @@ use Rattle.bucket_kinds.specs.Answers.{Opens}
 use Rattle.bucket_kinds.specs.Device.{Device}
 use Rattle.run_model.specs.declared.event.Refusal.{Refusal}
 use Rattle.run_model.specs.declared.event.Refusal.TheVariants as refusal
-use Rattle.run_model.specs.Turns.{Found, Failing, file_taken}
+use Rattle.run_model.specs.Turns.{Found, file_taken}
 use Rattle.pool_tree.specs.Tree.{map_of}
 use Rattle.brigade_ops.specs.Store.{lists, next_name}
 use Rattle.module_run.specs.declared.conn.Conn.{Conn}
@@ -14,7 +14,7 @@ use Rattle.module_run.specs.Happened.{has_lasted}
 use Rattle.module_run.specs.OpenedFile.{WasOpened}
 use Rattle.module_run.specs.Proceeding.{LeftAs}
 use Rattle.module_run.proofs.FileOpens.{file_left, kept_closed, kept_open, kept_same, left_device, left_refiled, numbered_closed, some_bytes}
-use Rattle.module_run.proofs.OpeningsTold.{not_spent, opening_is, was_opened, was_refused}
+use Rattle.module_run.proofs.OpeningsTold.{may_tell_unasked, not_spent, opening_is, unasked, was_opened, was_refused}
 use Rattle.module_run.proofs.Refusing.{open_left, open_refused}
 use Rattle.module_run.proofs.RequestBegins.{request_live}
 use Rattle.module_run.proofs.Unchanged.{left_same}
@@ -26,8 +26,8 @@ keep_file-requires g c = (let s = c.requires.stands in request_live s.0 c.args.t
 pub returns-in-Err : goal.returns-in-Err
 returns-in-Err g c chain v stands below =
     let d = g.F.Files.device c.args.files.now in
-    was_opened chain c.args.tree.now c.args.store.now d d c.args.self.now c.args.name.now v (Err c.in-Err.why) Failing v tt
-    (open_refused (map_of c.args.tree.now) (lists c.args.store.now) (next_name c.args.store.now) c.args.self.now v stands.left.seen Failing (has_lasted c.in-Err.why) c.in-Err.why (sym c.in-Err.ensures.refusal))
+    was_opened chain c.args.tree.now c.args.store.now d d c.args.self.now c.args.name.now v (Err c.in-Err.why) (unasked d c.args.name.now) v (may_tell_unasked d c.args.name.now)
+    (open_refused (map_of c.args.tree.now) (lists c.args.store.now) (next_name c.args.store.now) c.args.self.now v stands.left.seen (unasked d c.args.name.now) (has_lasted c.in-Err.why) c.in-Err.why (sym c.in-Err.ensures.refusal))
     stands.left below (kept_same d d refl) tt
 
 pub returns-in-Err-open_file : goal.returns-in-Err-open_file

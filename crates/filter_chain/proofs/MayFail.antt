@@ -1,0 +1,107 @@
+-- Whether its files may fail is never changed by an event of a host; and where they may not, no event is told that they did.
+use Rattle.std.proofs.Common.{◌≡◌, ◌≢◌, ℕ, zero, suc, Bool, true, false, List, Option, Some, None, Result, Ok, Err, inl, inr, refl, sym, ap, subst, ◌∙◌}
+use Rattle.std.proofs.lemmas.Bool.{false≢true}
+use Rattle.module_lang.specs.Program.{Program}
+use Rattle.run_model.specs.declared.event.Event.{Event}
+use Rattle.run_model.specs.declared.event.Event.TheVariants as event
+use Rattle.run_model.specs.declared.event.Refusal.{Refusal}
+use Rattle.run_model.specs.declared.event.Refusal.TheVariants as refusal
+use Rattle.run_model.specs.declared.event.Stepped.{Stepped}
+use Rattle.run_model.specs.declared.event.Stepped.TheVariants as stepped
+use Rattle.run_model.specs.Chains.{Connection, Linked}
+use Rattle.run_model.specs.Passing.{Reads}
+use Rattle.run_model.specs.RefusalOrder.{fails_to_open}
+use Rattle.run_model.specs.Turns.{Opening, Found, Missing, Failing, is_failing, steps}
+use Rattle.run_model.specs.Worlds.{World, Answer, Done, Refused, Step, Told, happens_on, step_answered}
+use Rattle.run_model.proofs.RefusalOrder.{first_is_told}
+use Rattle.run_model.proofs.Refusals.{refused_step_breaks}
+use Rattle.bucket_kinds.specs.Device.{Device}
+use Rattle.module_run.specs.OpenedFile.{MayTell}
+use Rattle.filter_chain.specs.Running.{GoesOn}
+use Rattle.filter_chain.specs.Scenes.{Scene, Acts, HasAdded, TellsEvent, TellsReads}
+use Rattle.filter_chain.proofs.FilesSpared.{step_spares}
+
+-- It stays as it is.
+
+same_kind : (d e : Device) → e ≡ d → e.may_fail ≡ d.may_fail
+same_kind d e is = ap (λ (x : Device). x.may_fail) is
+
+added_kind : (name bytes : List ℕ) (d e : Device) (answer : Answer) → HasAdded name bytes d answer e → e.may_fail ≡ d.may_fail
+added_kind name bytes d e Done (free, is) = ap (λ (x : Device). x.may_fail) is
+added_kind name bytes d e answer is = same_kind d e is
+
+reads_kind : (chain : List Program) (s : Scene) (c : Option Connection) (answer : Answer) (reads : Reads) (e : Device) → TellsReads chain s c answer reads e → e.may_fail ≡ s.device.may_fail
+reads_kind chain s None answer reads e is = same_kind s.device e is
+reads_kind chain s (Some c) (Step t) reads e told = (step_spares s.device e chain (Ok t) (s.world.common, c) reads told).folder.1
+reads_kind chain s (Some c) answer reads e is = same_kind s.device e is
+
+tells_kind : (chain : List Program) (k : ℕ) (what : Event) (s : Scene) (answer : Answer) (told : Told) (e : Device) → TellsEvent chain k what s answer told e → e.may_fail ≡ s.device.may_fail
+unfolding TellsEvent
+tells_kind chain k (event.AddFile name bytes) s answer told e tells = added_kind name bytes s.device e answer tells
+tells_kind chain k (event.OpenFile name) s answer told e tells = tells.1.1
+tells_kind chain k event.Step s answer told e tells = reads_kind chain s (s.world.conns k) answer told.reads e tells
+tells_kind chain k event.End s answer told e tells = tells.1
+tells_kind chain k event.Close s answer told e tells = tells.1
+tells_kind chain k what s answer told e tells = same_kind s.device e tells
+
+module _ (budget : ℕ) (chain : List Program) (number : ℕ) where
+  pub acts_kind : (what : Event) (old new : Scene) (answer : Answer) → Acts budget chain number what old answer new → new.device.may_fail ≡ old.device.may_fail
+  acts_kind what old new answer acts = tells_kind chain number what old answer acts.told new.device acts.tells
+
+  pub goes_kind : (n : ℕ) (old new : Scene) → GoesOn budget chain number n old new → new.device.may_fail ≡ old.device.may_fail
+  unfolding GoesOn
+  goes_kind zero old new same = ap (λ (s : Scene). s.device.may_fail) same
+  goes_kind (suc n) old new (mid, acts, rest) = goes_kind n mid new rest ∙ acts_kind event.Step old mid (Step stepped.Went) acts
+
+-- A step tells no failure of a device.
+module _ (memory : Bool) (budget : ℕ) (chain : List Program) (told : Told) (k : ℕ) (w to : World) where
+  by_result : (c : Connection) (x : Result Stepped Refusal × Linked) → steps memory budget chain told.reads (w.common, c) ≡ x → step_answered k w x ≡ (Refused refusal.FileFailed, to) → ⊥
+  by_result c (Ok s, v) from is = (let never : Step s ≡ Refused refusal.FileFailed = ap (λ (a : Answer × World). a.0) is in cc)
+  by_result c (Err r, v) from is =
+      let answered : Refused r ≡ Refused refusal.FileFailed = ap (λ (a : Answer × World). a.0) is in
+      let failed : r ≡ refusal.FileFailed = cc in
+      elim (refused_step_breaks memory budget chain told.reads (w.common, c) v r from) [
+        | inl idle ↦ (let never : refusal.Idle ≡ refusal.FileFailed = sym idle.0 ∙ failed in cc)
+        | inr broken ↦ (let never : refusal.Broken broken.0 ≡ refusal.FileFailed = sym broken.1.0 ∙ failed in cc)
+      ]
+
+  step_unfailing : (c : Option Connection) → happens_on memory budget chain told event.Step k c w ≡ (Refused refusal.FileFailed, to) → ⊥
+  unfolding happens_on
+  step_unfailing None is = (let never : Refused refusal.NoSuchConn ≡ Refused refusal.FileFailed = ap (λ (a : Answer × World). a.0) is in cc)
+  step_unfailing (Some c) is = by_result c (steps memory budget chain told.reads (w.common, c)) refl is
+
+-- An opening that is told to fail is one of a device that may.
+by_opening : (d : Device) (name : List ℕ) (o : Opening) → is_failing o ≡ true → MayTell d name o → d.may_fail ≡ true
+by_opening d name (Found skipped bytes) fails tells = absurd (false≢true fails)
+by_opening d name Missing fails tells = absurd (false≢true fails)
+by_opening d name Failing fails tells = tells
+
+by_event : (chain : List Program) (k : ℕ) (what : Event) (s : Scene) (answer : Answer) (told : Told) (e : Device) → fails_to_open what told ≡ true → TellsEvent chain k what s answer told e → s.device.may_fail ≡ true
+unfolding TellsEvent
+by_event chain k (event.OpenFile name) s answer told e fails tells = by_opening s.device name told.opening fails tells.0
+by_event chain k what s answer told e fails tells = absurd (false≢true fails)
+
+module _ (budget : ℕ) (chain : List Program) (number : ℕ) (old new : Scene) (sound : old.device.may_fail ≡ false) where
+  other : (what : Event) → what ≢ event.Step → Acts budget chain number what old (Refused refusal.FileFailed) new → ⊥
+  other what apart acts =
+      let first = (first_is_told acts.memory budget chain acts.told number what old.world refusal.FileFailed apart).0 (ap (λ (a : Answer × World). a.0) acts.is) in
+      false≢true (sym sound ∙ by_event chain number what old (Refused refusal.FileFailed) acts.told new.device first.holds acts.tells)
+
+  failed_never : (what : Event) → Acts budget chain number what old (Refused refusal.FileFailed) new → ⊥
+  failed_never event.Step acts = step_unfailing acts.memory budget chain acts.told number old.world new.world (old.world.conns number) acts.is
+  failed_never event.Open acts = other event.Open (λ q. cc) acts
+  failed_never (event.AddFile name bytes) acts = other (event.AddFile name bytes) (λ q. cc) acts
+  failed_never event.Begin acts = other event.Begin (λ q. cc) acts
+  failed_never (event.OpenFile name) acts = other (event.OpenFile name) (λ q. cc) acts
+  failed_never (event.Bring pieces) acts = other (event.Bring pieces) (λ q. cc) acts
+  failed_never event.End acts = other event.End (λ q. cc) acts
+  failed_never event.TakeOutput acts = other event.TakeOutput (λ q. cc) acts
+  failed_never event.TellLabels acts = other event.TellLabels (λ q. cc) acts
+  failed_never event.TellPools acts = other event.TellPools (λ q. cc) acts
+  failed_never event.Close acts = other event.Close (λ q. cc) acts
+
+  -- No event answers that the device failed.
+  pub acts_unfailing : (what : Event) (answer : Answer) → Acts budget chain number what old answer new → answer ≢ Refused refusal.FileFailed
+  acts_unfailing what answer acts is = failed_never what (record { memory = acts.memory; told = acts.told; is = acts.is ∙ ap (λ (a : Answer). (a, new.world)) is; tells = tells }) where
+    tells : TellsEvent chain number what old (Refused refusal.FileFailed) acts.told new.device
+    tells = subst (λ (a : Answer). TellsEvent chain number what old a acts.told new.device) is acts.tells
