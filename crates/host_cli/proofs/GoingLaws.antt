@@ -11,9 +11,9 @@ use Rattle.host_cli.specs.declared.fault.PlayFault.TheVariants as fault
 use Rattle.host_cli.specs.declared.player.Player.{Player}
 use Rattle.host_cli.specs.Heads.{no_head}
 use Rattle.host_cli.specs.Plays.{Writes}
-use Rattle.host_cli.specs.Playing.{EndsLine, IsWhole, IsEndFrom, IsSomeOf, IsCutOfSome, IsCutOfEnd, Adds, PlaysOn, PlaysBytes, PlaysEnd}
+use Rattle.host_cli.specs.Playing.{IsEndFrom, IsSomeOf, IsCutOfSome, IsCutOfEnd, Adds, PlaysOn, PlaysBytes, PlaysEnd}
 use Rattle.host_cli.specs.Sessions.{IsAt}
-use Rattle.host_cli.specs.Written.{Stage, Reading, Serving, Over, is_over, TakesAll, EndsAt, IsWrittenFor, IsFrontOf, IsCutOf}
+use Rattle.host_cli.specs.Written.{Stage, Reading, Serving, Over, is_over, TakesAll, EndsAt, EndsLine, IsWhole, HasNoLf, AnswersRead, IsWrittenFor, IsFrontOf, IsCutOf}
 use Rattle.host_cli.proofs.ScriptLines.{lines_append, lines_few, take_front, whole_append}
 use Rattle.host_cli.proofs.TakenLaws.{taken_append, taken_none, taken_over}
 
@@ -65,6 +65,7 @@ pub record Going (from to before after : Option (List ℕ)) (p : Player) (held :
   pub takes : TakesAll 1 (lines_of whole) (Reading no_head) told stage
   pub at : IsAt p stage
   pub running : is_over stage ≡ false
+  pub open : HasNoLf held
   pub lines : p.lines ≡ length (lines_of whole)
   pub read : Consumes from to (whole ++ held)
   pub wrote : Appends before after told
@@ -81,6 +82,7 @@ going_first r w p held at none empty =
       takes = (refl, refl);
       at = at;
       running = refl;
+      open = subst HasNoLf (sym empty) (λ k d less. absurd (omega (arith, less)));
       lines = none;
       read = subst (Consumes r r) (sym empty) (Consumes-nil r);
       wrote = Appends-nil w;
@@ -124,12 +126,35 @@ going_cut from to next before mid after p new held bytes left bound g second (wh
     of_read from next (g.whole ++ (held ++ bytes)) (λ script. (t : List ℕ) × IsCutOf script t × Appends before after t) (read_more from to next g.whole held bytes g.read second)
     (λ last. (g.told ++ text, cut_behind _ (p.lines + 1) (lines_of whole) (lines_of (rest ++ last)) g.stage g.told text (behind from to before mid p held bound g bytes whole rest last is split) k, Appends-trans before mid after g.told text g.wrote added))
 
+-- what is true of what was read and of what is left is true of what the reader had
+of_left : (from to : Option (List ℕ)) (text : List ℕ) (P : List ℕ → Type 0) → Consumes from to text → ((rest : List ℕ) → to ≡ Some rest → P (text ++ rest)) → IfSome from P
+of_left None to text P read all = tt
+of_left (Some x) None text P read all = absurd read
+of_left (Some x) (Some y) text P read all = subst P (sym read) (all y refl)
+
 -- The reader failed, or was read too often.
-pub going_read : (from to before after : Option (List ℕ)) (p : Player) (held : List ℕ) (bound : ℕ) → Going from to before after p held bound → Writes from before after IsFrontOf
-unfolding TakesAll
+pub going_read : (from to before after : Option (List ℕ)) (p : Player) (held : List ℕ) (bound : ℕ) → Going from to before after p held bound → Writes from before after (λ script text. AnswersRead script text to)
 going_read from to before after p held bound g =
-    of_read from to (g.whole ++ held) (λ script. (t : List ℕ) × IsFrontOf script t × Appends before after t) g.read
-    (λ last. (g.told ++ [], front_behind _ (p.lines + 1) [] (lines_of (held ++ last)) g.stage g.told [] (record { done = lines_of g.whole; lines = ap lines_of (append_assoc g.whole held last) ∙ lines_append g.whole (held ++ last) g.is_whole; takes = g.takes; count = let c = g.lines in omega (arith, c) }) (record { count = 0; stage = g.stage; takes = (refl, refl) }), subst (Appends before after) (sym (append-nil g.told)) g.wrote))
+    of_left from to (g.whole ++ held) (λ script. (t : List ℕ) × AnswersRead script t to × Appends before after t) g.read
+    (λ rest leaves. (g.told, record { whole = g.whole; seen = held; unread = rest; stage = g.stage; splits = append_assoc g.whole held rest; is_whole = g.is_whole; open = g.open; takes = g.takes; leaves = leaves }, g.wrote))
+
+-- A read that failed gave nothing.
+pub going_kept : (from to next before after : Option (List ℕ)) (p : Player) (held : List ℕ) (bound : ℕ) → Going from to before after p held bound → Keeps to next → Writes from before after (λ script text. AnswersRead script text next)
+going_kept from to next before after p held bound g kept =
+    going_read from next before after p held bound (record {
+      whole = g.whole;
+      is_whole = g.is_whole;
+      told = g.told;
+      stage = g.stage;
+      takes = g.takes;
+      at = g.at;
+      running = g.running;
+      open = g.open;
+      lines = g.lines;
+      read = Consumes-kept from to next (g.whole ++ held) g.read kept;
+      wrote = g.wrote;
+      few = g.few;
+    })
 
 -- The reader is at its end, behind these last bytes.
 pub record Last (from next before mid : Option (List ℕ)) (p : Player) (last : List ℕ) : Type 0 where
@@ -164,8 +189,8 @@ module _ (from next before mid after : Option (List ℕ)) (p : Player) (last : L
       of_end from next (k.whole ++ last) (λ script. (t : List ℕ) × IsWrittenFor script t e × Appends before after t) k.read k.end
       (k.told ++ text, written_behind _ (p.lines + 1) (lines_of last) k.stage k.told text e k.behind ends, Appends-trans before mid after k.told text k.wrote added)
 
-  pub last_read : (r : Result Ended PlayFault) (k : Last from next before mid p last) → PlaysEnd (p.lines + 1) mid after (lines_of last) k.stage r → r ≡ Err fault.Read → Writes from before after IsFrontOf
-  last_read r k ends is = absurd (subst (λ x. PlaysEnd (p.lines + 1) mid after (lines_of last) k.stage x) is ends)
+  pub last_read : (r : Result Ended PlayFault) (k : Last from next before mid p last) → PlaysEnd (p.lines + 1) mid after (lines_of last) k.stage r → r ≡ Err fault.Read → (P : List ℕ → List ℕ → Type 0) → Writes from before after P
+  last_read r k ends is P = absurd (subst (λ x. PlaysEnd (p.lines + 1) mid after (lines_of last) k.stage x) is ends)
 
   memory_by : (k : Last from next before mid p last) → PlaysEnd (p.lines + 1) mid after (lines_of last) k.stage (Err fault.NoMemory) → Writes from before after IsFrontOf
   memory_by k (text, some, added) =
@@ -191,8 +216,8 @@ module _ (from to next before mid after : Option (List ℕ)) (p new : Player) (h
   abbrev Taken : Result (Unit {0}) PlayFault → Type 0
   Taken r = PlaysBytes p new mid after (held ++ bytes) left g.stage r
 
-  pub bytes_read : (r : Result Ended PlayFault) (y e : PlayFault) → r ≡ Err y → y ≡ e → Taken (Err e) → r ≡ Err fault.Read → Writes from before after IsFrontOf
-  bytes_read r y e is same taken told = absurd (subst (λ f. Taken (Err f)) (same_fault r y e fault.Read is same told) taken)
+  pub bytes_read : (r : Result Ended PlayFault) (y e : PlayFault) → r ≡ Err y → y ≡ e → Taken (Err e) → r ≡ Err fault.Read → (P : List ℕ → List ℕ → Type 0) → Writes from before after P
+  bytes_read r y e is same taken told P = absurd (subst (λ f. Taken (Err f)) (same_fault r y e fault.Read is same told) taken)
 
   pub bytes_memory : (r : Result Ended PlayFault) (y e : PlayFault) → r ≡ Err y → y ≡ e → Taken (Err e) → r ≡ Err fault.NoMemory → Writes from before after IsFrontOf
   bytes_memory r y e is same taken told =
@@ -207,8 +232,8 @@ whole_more a b is (inl none) = subst IsWhole (sym (append-nil a) ∙ ap (λ l. a
 whole_more a b is (inr ends) = inr (whole_append a b ends)
 
 -- The bytes were taken, and the play goes on.
-pub going_on : (from to next before mid after : Option (List ℕ)) (p new : Player) (held bytes left : List ℕ) (bound more : ℕ) (g : Going from to before mid p held bound) → Consumes to next bytes → bound + length bytes ≤ more → (whole : List ℕ) → IsWhole whole → held ++ bytes ≡ whole ++ left → (k : PlaysOn p new mid after (lines_of whole) g.stage) → is_over k.stage ≡ false → Going from next before after new left more
-going_on from to next before mid after p new held bytes left bound more g second wide whole is split k running =
+pub going_on : (from to next before mid after : Option (List ℕ)) (p new : Player) (held bytes left : List ℕ) (bound more : ℕ) (g : Going from to before mid p held bound) → Consumes to next bytes → bound + length bytes ≤ more → (whole : List ℕ) → IsWhole whole → held ++ bytes ≡ whole ++ left → (k : PlaysOn p new mid after (lines_of whole) g.stage) → HasNoLf left → is_over k.stage ≡ false → Going from next before after new left more
+going_on from to next before mid after p new held bytes left bound more g second wide whole is split k open running =
     let lines : lines_of (g.whole ++ whole) ≡ lines_of g.whole ++ lines_of whole = lines_append g.whole whole g.is_whole in
     let count : new.lines ≡ p.lines + length (lines_of whole) = k.lines running in
     let takes = taken_append 1 (lines_of g.whole) (lines_of whole) (Reading no_head) g.stage k.stage g.told k.told g.takes (subst (λ n. TakesAll n (lines_of whole) g.stage k.told k.stage) (let c = g.lines in let e : p.lines + 1 ≡ 1 + length (lines_of g.whole) = omega (arith, c) in e) k.takes) in
@@ -224,6 +249,7 @@ going_on from to next before mid after p new held bytes left bound more g second
       takes = subst (λ ls. TakesAll 1 ls (Reading no_head) (g.told ++ k.told) k.stage) (sym lines) takes;
       at = k.at;
       running = running;
+      open = open;
       lines = let c = g.lines in let long = length-append (lines_of g.whole) (lines_of whole) in let all = ap length lines in omega (arith, c, long, all, count);
       read = subst (Consumes from next) (ap (λ l. g.whole ++ l) split ∙ sym (append_assoc g.whole whole left)) (read_more from to next g.whole held bytes g.read second);
       wrote = Appends-trans before mid after g.told k.told g.wrote k.added;

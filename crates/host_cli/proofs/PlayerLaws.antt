@@ -12,7 +12,7 @@ use Rattle.host_cli.specs.declared.texts.Taken.TheVariants as taken
 use Rattle.host_cli.specs.Heads.{ScriptPart, Head, head_of, seen_part, Tells, TakesLine}
 use Rattle.host_cli.specs.Players.{Leaves, IsReady, HasBegun}
 use Rattle.host_cli.specs.Sessions.{IsHosted, TakesOne, IsStage, Bounded, IsAt, IsBounded}
-use Rattle.host_cli.specs.Written.{Session, Stage, Reading, Serving, Over, Begins, BeginsUnless, TakesAt, Takes, codes_of, refused_from, first_scene, session_of}
+use Rattle.host_cli.specs.Written.{Session, Stage, Reading, Serving, Over, Begins, BeginsUnless, TakesAt, Takes, codes_of, refused_in, first_scene, session_of}
 use Rattle.host_cli.proofs.Bounds.{Kept, line_kept}
 
 -- the head that texts of the code stand for
@@ -23,7 +23,7 @@ head_is old t h is at = subst (λ x. IsStage x (Reading h)) is at
 abbrev first_session : Bool → Texts → Session
 first_session checked t = record { chain = codes_of (map seen_part t.parts.items); budget = t.budget; is_checked = checked; scene = first_scene }
 
-begun_at : (p : Player) (text : List ℕ) (t : Texts) (h : Head) (s : CodeSession) (checked is : Bool) → checked ≡ is → h ≡ head_of t → (if is then refused_from 0 h.parts else None) ≡ None → IsHosted s (first_session is t) → p.stage ≡ code.Session s → Leaves p text text (λ told v. Begins checked h told v)
+begun_at : (p : Player) (text : List ℕ) (t : Texts) (h : Head) (s : CodeSession) (checked is : Bool) → checked ≡ is → h ≡ head_of t → (if is then refused_in h.parts else None) ≡ None → IsHosted s (first_session is t) → p.stage ≡ code.Session s → Leaves p text text (λ told v. Begins checked h told v)
 begun_at p text t h s checked is known same none hosted now =
     let v : Session = session_of is h in
     let to : first_session is t ≡ v = ap (λ (x : Head). session_of is x) (sym same) in
@@ -44,12 +44,12 @@ begun_watched p text old t h s checked was ready unchecked hosted now =
     begun_at p text t h s checked false unchecked (head_is old t h was ready.stage) refl hosted now
 
 -- The chain is accepted, and the commands begin.
-pub begun_checked : {E : Type 0} (r : Result CodeSession E) (p : Player) (text : List ℕ) (old : CodeStage) (t : Texts) (h : Head) (s : CodeSession) (checked : Bool) → old ≡ code.Texts t → IsReady old h → checked ≡ true → r ≡ Ok s → IfOk r (λ x. (refused_from 0 (map seen_part t.parts.items) ≡ None) × IsHosted x (first_session true t)) → p.stage ≡ code.Session s → Leaves p text text (λ told v. Begins checked h told v)
+pub begun_checked : {E : Type 0} (r : Result CodeSession E) (p : Player) (text : List ℕ) (old : CodeStage) (t : Texts) (h : Head) (s : CodeSession) (checked : Bool) → old ≡ code.Texts t → IsReady old h → checked ≡ true → r ≡ Ok s → IfOk r (λ x. (refused_in (map seen_part t.parts.items) ≡ None) × IsHosted x (first_session true t)) → p.stage ≡ code.Session s → Leaves p text text (λ told v. Begins checked h told v)
 begun_checked r p text old t h s checked was ready given is accepted now =
     let same = head_is old t h was ready.stage in
-    let P : Result CodeSession _ → Type 0 = λ q. IfOk q (λ x. (refused_from 0 (map seen_part t.parts.items) ≡ None) × IsHosted x (first_session true t)) in
+    let P : Result CodeSession _ → Type 0 = λ q. IfOk q (λ x. (refused_in (map seen_part t.parts.items) ≡ None) × IsHosted x (first_session true t)) in
     let known = subst P is accepted in
-    begun_at p text t h s checked true given same (ap (λ (x : Head). refused_from 0 x.parts) same ∙ known.0) known.1 now
+    begun_at p text t h s checked true given same (ap (λ (x : Head). refused_in x.parts) same ∙ known.0) known.1 now
 
 -- A command is taken.
 

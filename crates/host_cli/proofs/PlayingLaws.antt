@@ -1,6 +1,7 @@
 -- How a script is played, part by part.
-use Rattle.std.proofs.Common.{◌≡◌, ℕ, ◌+◌, ◌-◌, ◌*◌, ◌<◌, ◌≤◌, ◌⊎◌, inl, inr, Bool, true, false, List, [], ◌∷◌, ◌++◌, length, take, drop, Option, Some, None, IfSome, Result, Ok, Err, IfOk, IfErr, get_or, refl, ap, sym, subst, ◌∙◌, arith}
-use Rattle.std.proofs.lemmas.List.{append_assoc, append-nil, length-append, take-append-drop, take_at}
+use Rattle.std.proofs.Common.{◌≡◌, ◌≢◌, ℕ, ◌+◌, ◌-◌, ◌*◌, ◌<◌, ◌≤◌, ◌⊎◌, inl, inr, Bool, true, false, List, [], ◌∷◌, ◌++◌, length, take, drop, Option, Some, None, IfSome, Result, Ok, Err, IfOk, IfErr, get_or, refl, ap, sym, subst, ◌∙◌, arith}
+use Rattle.std.proofs.lemmas.List.{append_assoc, append-nil, get_or-drop, get_or_default, length-append, length-drop, take-append-drop, take_at}
+use Rattle.std.proofs.lemmas.List.Elements.{All-append}
 use Rattle.std.proofs.Math.Seq.{take-nil}
 use Rattle.std.proofs.KnownBytes.{Appends-nil, Appends-trans, Consumes-nil, Consumes-trans, Consumes-kept, Consumes-whole}
 use Rattle.std.specs.Io.KnownBytes.{Appends, Consumes, Keeps, IsAtEnd}
@@ -12,9 +13,9 @@ use Rattle.host_cli.specs.declared.fault.PlayFault.TheVariants as fault
 use Rattle.host_cli.specs.declared.player.Player.{Player}
 use Rattle.host_cli.specs.Heads.{no_head}
 use Rattle.host_cli.specs.Plays.{Writes}
-use Rattle.host_cli.specs.Playing.{EndsLine, IsWhole, IsEndFrom, IsSomeOf, IsCutOfSome, IsCutOfEnd, Adds, PlaysOn, PlaysLines, PlaysBytes, EndsLines, PlaysEnd}
+use Rattle.host_cli.specs.Playing.{IsEndFrom, IsSomeOf, IsCutOfSome, IsCutOfEnd, Adds, PlaysOn, PlaysLines, PlaysBytes, EndsLines, PlaysEnd}
 use Rattle.host_cli.specs.Sessions.{IsAt, TakesOn, EndsOn}
-use Rattle.host_cli.specs.Written.{Stage, Reading, Serving, Over, is_over, TakesAll, EndsAt, IsWrittenFor, IsFrontOf, IsCutOf}
+use Rattle.host_cli.specs.Written.{Stage, Reading, Serving, Over, is_over, TakesAll, EndsAt, EndsLine, IsWhole, HasNoLf, IsWrittenFor, IsFrontOf, IsCutOf}
 use Rattle.host_cli.proofs.ScriptLines.{lines_append, lines_few, take_front, whole_append, ends_at}
 use Rattle.host_cli.proofs.TakenLaws.{taken_append, taken_over}
 
@@ -142,9 +143,17 @@ pub record Joined (old new : Player) (w v : Option (List ℕ)) (all held rest : 
   pub is_whole : IsWhole whole
   pub split : all ≡ whole ++ (held ++ rest)
   pub plays : PlaysOn old new w v (lines_of whole) s
+  pub open : HasNoLf (held ++ rest)
 
-pub joined_none : (p new : Player) (w v : Option (List ℕ)) (held bytes kept : List ℕ) (n : ℕ) (s : Stage) → n ≤ 0 → IsAt p s → new ≡ p → v ≡ w → kept ≡ held → Joined p new w v (held ++ bytes) kept (drop n bytes) s
-joined_none p new w v held bytes kept n s none at same wrote is =
+-- no LF stands from here on
+no_lf : (bytes : List ℕ) (n : ℕ) → ((k : ℕ) → n ≤ k → k < length bytes → get_or bytes k 0 ≢ 10) → HasNoLf (drop n bytes)
+no_lf bytes n none = λ k d less.
+    let long = length-drop n bytes in
+    let here : get_or (drop n bytes) k d ≡ get_or bytes (n + k) 0 = get_or-drop n bytes k d ∙ get_or_default bytes (n + k) d 0 (omega (arith, less, long)) in
+    subst (λ b. b ≢ 10) (sym here) (none (n + k) (omega arith) (omega (arith, less, long)))
+
+pub joined_none : (p new : Player) (w v : Option (List ℕ)) (held bytes kept : List ℕ) (n : ℕ) (s : Stage) → HasNoLf held → ((k : ℕ) → n ≤ k → k < length bytes → get_or bytes k 0 ≢ 10) → n ≤ 0 → IsAt p s → new ≡ p → v ≡ w → kept ≡ held → Joined p new w v (held ++ bytes) kept (drop n bytes) s
+joined_none p new w v held bytes kept n s open lacks none at same wrote is =
     let zero : n ≡ 0 = omega (arith, none) in
     let P : Player → Option (List ℕ) → Type 0 = λ q o. PlaysOn p q w o (lines_of []) s in
     record {
@@ -152,21 +161,23 @@ joined_none p new w v held bytes kept n s none at same wrote is =
       is_whole = inl refl;
       split = ap (λ k. held ++ drop k bytes) (sym zero) ∙ ap (λ l. l ++ drop n bytes) (sym is);
       plays = subst (λ q. P q v) (sym same) (subst (P p) (sym wrote) (none_played p w w s at (Appends-nil w)));
+      open = subst (λ l. HasNoLf (l ++ drop n bytes)) (sym is) (All-append (λ b. b ≢ 10) held (drop n bytes) open (no_lf bytes n lacks));
     }
 
-pub joined_some : (old new now : Player) (w v u : Option (List ℕ)) (held bytes whole kept : List ℕ) (n : ℕ) (s : Stage) → 0 < n → n ≤ length bytes → get_or bytes (n - 1) 0 ≡ 10 → whole ≡ held ++ take n bytes → PlaysOn old now w u (lines_of whole) s → new ≡ now → v ≡ u → kept ≡ [] → Joined old new w v (held ++ bytes) kept (drop n bytes) s
-joined_some old new now w v u held bytes whole kept n s some within lf is k same wrote none =
+pub joined_some : (old new now : Player) (w v u : Option (List ℕ)) (held bytes whole kept : List ℕ) (n : ℕ) (s : Stage) → ((k : ℕ) → n ≤ k → k < length bytes → get_or bytes k 0 ≢ 10) → 0 < n → n ≤ length bytes → get_or bytes (n - 1) 0 ≡ 10 → whole ≡ held ++ take n bytes → PlaysOn old now w u (lines_of whole) s → new ≡ now → v ≡ u → kept ≡ [] → Joined old new w v (held ++ bytes) kept (drop n bytes) s
+joined_some old new now w v u held bytes whole kept n s lacks some within lf is k same wrote none =
     let P : Player → Option (List ℕ) → Type 0 = λ q o. PlaysOn old q w o (lines_of whole) s in
     record {
       whole = whole;
       is_whole = subst IsWhole (sym is) (whole_front held bytes n some within lf);
       split = front_is held bytes n ∙ ap (λ l. l ++ drop n bytes) (sym is) ∙ ap (λ l. whole ++ (l ++ drop n bytes)) (sym none);
       plays = subst (λ q. P q v) (sym same) (subst (P now) (sym wrote) k);
+      open = subst (λ l. HasNoLf (l ++ drop n bytes)) (sym none) (no_lf bytes n lacks);
     }
 
 -- what is left was held back
 pub joined_held : (old new : Player) (w v : Option (List ℕ)) (all held rest left : List ℕ) (s : Stage) (u : Unit {0}) → Joined old new w v all held rest s → left ≡ held ++ rest → PlaysBytes old new w v all left s (Ok u)
-joined_held old new w v all held rest left s u j is = (j.whole, j.is_whole, j.split ∙ ap (λ l. j.whole ++ l) (sym is), j.plays)
+joined_held old new w v all held rest left s u j is = (j.whole, j.is_whole, j.split ∙ ap (λ l. j.whole ++ l) (sym is), j.plays, subst HasNoLf (sym is) j.open)
 
 -- there was no memory for what is left
 pub joined_lost : (old new : Player) (w v : Option (List ℕ)) (all held rest left : List ℕ) (s : Stage) → Joined old new w v all held rest s → PlaysBytes old new w v all left s (Err fault.NoMemory)

@@ -2,7 +2,7 @@
 use Rattle.std.proofs.Common.{◌≡◌, ℕ, ◌+◌, ◌-◌, ◌<◌, ◌≤◌, ◌⊎◌, inl, inr, Bool, true, false, eqb, get_or, List, [], ◌∷◌, ◌++◌, length, take, drop, refl, ap, sym, ◌∙◌, arith}
 use Rattle.std.proofs.lemmas.List.{append_assoc, take_at, take_more, take-append-drop}
 use Rattle.module_lang.specs.TextLines.{Line, at_front, lines_of}
-use Rattle.host_cli.specs.Playing.{EndsLine, IsWhole}
+use Rattle.host_cli.specs.Written.{EndsLine, IsWhole}
 
 -- a byte in front of the first line leaves the lines behind it
 front_append : (b : ℕ) (l : Line) (ls ms : List Line) → at_front b ((l ∷ ls) ++ ms) ≡ at_front b (l ∷ ls) ++ ms

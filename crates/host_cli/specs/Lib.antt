@@ -15,7 +15,7 @@ pub mod Heads
 pub mod Plays
 pub mod Faithful
 pub mod Written
-pub mod Judging
+pub mod Certified
 pub mod Sessions
 pub mod Players
 pub mod Playing

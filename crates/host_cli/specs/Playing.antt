@@ -6,16 +6,8 @@ use Rattle.host_cli.specs.declared.ended.Ended.{Ended}
 use Rattle.host_cli.specs.declared.fault.PlayFault.{PlayFault}
 use Rattle.host_cli.specs.declared.fault.PlayFault.TheVariants as fault
 use Rattle.host_cli.specs.declared.player.Player.{Player}
-use Rattle.host_cli.specs.Written.{Stage, is_over, TakesAll, EndsAt}
+use Rattle.host_cli.specs.Written.{Stage, is_over, TakesAll, EndsAt, IsWhole, HasNoLf}
 use Rattle.host_cli.specs.Sessions.{IsAt}
-
--- a text that ends with an LF
-abbrev pub EndsLine : List ℕ → Type 0
-EndsLine text = (front : List ℕ) × (text ≡ front ++ 10 ∷ [])
-
--- whole lines: a text that is empty or ends with an LF
-abbrev pub IsWhole : List ℕ → Type 0
-IsWhole text = (text ≡ []) ⊎ EndsLine text
 
 -- What lines from this number on say to their end, and how they end.
 pub record IsEndFrom (number : ℕ) (ls : List Line) (s : Stage) (text : List ℕ) (e : Ended) : Type 0 where
@@ -59,9 +51,9 @@ module _ (old new : Player) (before after : Option (List ℕ)) where
   PlaysLines ls s (Err fault.Write) = Adds before after (IsCutOfSome (old.lines + 1) ls s)
   PlaysLines ls s (Err fault.NoMemory) = Adds before after (IsSomeOf (old.lines + 1) ls s)
 
-  -- The same of the whole lines of these bytes; the rest is held back.
+  -- The same of the whole lines of these bytes; the rest, in which no line ends, is held back.
   abbrev pub PlaysBytes : List ℕ → List ℕ → Stage → Result (Unit {0}) PlayFault → Type 0
-  PlaysBytes bytes held s (Ok u) = (whole : List ℕ) × IsWhole whole × (bytes ≡ whole ++ held) × PlaysOn old new before after (lines_of whole) s
+  PlaysBytes bytes held s (Ok u) = (whole : List ℕ) × IsWhole whole × (bytes ≡ whole ++ held) × PlaysOn old new before after (lines_of whole) s × HasNoLf held
   PlaysBytes bytes held s (Err fault.Read) = ⊥
   PlaysBytes bytes held s (Err fault.Write) = (whole rest : List ℕ) × IsWhole whole × (bytes ≡ whole ++ rest) × Adds before after (IsCutOfSome (old.lines + 1) (lines_of whole) s)
   PlaysBytes bytes held s (Err fault.NoMemory) = (whole rest : List ℕ) × IsWhole whole × (bytes ≡ whole ++ rest) × Adds before after (IsSomeOf (old.lines + 1) (lines_of whole) s)

@@ -1,5 +1,5 @@
 -- The text that is written for a script, line by line.
-use Rattle.std.specs.Prelude.{◌≡◌, ◌≢◌, ℕ, zero, suc, ◌+◌, Bool, true, false, if◌then◌else◌, List, [], ◌∷◌, ◌++◌, map, take, Option, Some, None, MatchOption, ◌⊎◌}
+use Rattle.std.specs.Prelude.{◌≡◌, ◌≢◌, ℕ, zero, suc, ◌+◌, Bool, true, false, if◌then◌else◌, List, [], ◌∷◌, ◌++◌, map, take, All, Option, Some, None, MatchOption, ◌⊎◌}
 use Rattle.module_lang.specs.Program.{Program}
 use Rattle.module_lang.specs.TextLines.{Line, lines_of}
 use Rattle.run_model.specs.declared.event.Refusal.TheVariants as refusal
@@ -55,14 +55,31 @@ cert_of x (Some c) = c
 abbrev pub refusal_of : ScriptPart → Option CheckRefusal
 refusal_of x = first_refusal x.code (cert_of x x.cert)
 
+-- why none can be made, where none is given
+abbrev pub unmade_by : ScriptPart → Option Certificate → Option CheckRefusal
+unmade_by x None = refusal_of x
+unmade_by x (Some c) = None
+
+abbrev pub unmade : ScriptPart → Option CheckRefusal
+unmade x = unmade_by x x.cert
+
 abbrev pub first_of : ℕ → Option CheckRefusal → Option (ℕ × CheckRefusal) → Option (ℕ × CheckRefusal)
 first_of k None others = others
 first_of k (Some r) others = Some (k, r)
 
--- The first module that is refused, of these from the k-th on, and why.
-unfoldable pub refused_from : ℕ → List ScriptPart → Option (ℕ × CheckRefusal)
-refused_from k [] = None
-refused_from k (x ∷ xs) = first_of k (refusal_of x) (refused_from (k + 1) xs)
+-- the first refusal, of those of the k-th module and the ones behind it
+unfoldable pub first_from : ℕ → List (Option CheckRefusal) → Option (ℕ × CheckRefusal)
+first_from k [] = None
+first_from k (o ∷ os) = first_of k o (first_from (k + 1) os)
+
+abbrev pub unless_first : Option (ℕ × CheckRefusal) → Option (ℕ × CheckRefusal) → Option (ℕ × CheckRefusal)
+unless_first None others = others
+unless_first (Some r) others = Some r
+
+-- Which module is refused, and why. Certificates that are missing are made first, from the first module on; then each module is checked
+-- with its certificate.
+abbrev pub refused_in : List ScriptPart → Option (ℕ × CheckRefusal)
+refused_in xs = unless_first (first_from 0 (map unmade xs)) (first_from 0 (map refusal_of xs))
 
 -- The commands begin.
 
@@ -82,7 +99,7 @@ BeginsUnless None checked h text s = (text ≡ []) × (s ≡ Serving (session_of
 BeginsUnless (Some (k, r)) checked h text s = (text ≡ refused_module_line k r.pc r.rule) × (s ≡ Over)
 
 abbrev pub Begins : Bool → Head → List ℕ → Stage → Type 0
-Begins checked h text s = BeginsUnless (if checked then refused_from 0 h.parts else None) checked h text s
+Begins checked h text s = BeginsUnless (if checked then refused_in h.parts else None) checked h text s
 
 -- A line is taken.
 
@@ -132,6 +149,17 @@ TakesAll number [] s text t = (text ≡ []) × (t ≡ s)
 TakesAll number (l ∷ ls) s text t =
     (mid : Stage) × (told more : List ℕ) × Takes number l s told mid × TakesAll (number + 1) ls mid more t × (text ≡ told ++ more)
 
+-- a text that ends with an LF
+abbrev pub EndsLine : List ℕ → Type 0
+EndsLine text = (front : List ℕ) × (text ≡ front ++ 10 ∷ [])
+
+-- whole lines: a text that is empty or ends with an LF
+abbrev pub IsWhole : List ℕ → Type 0
+IsWhole text = (text ≡ []) ⊎ EndsLine text
+
+abbrev pub HasNoLf : List ℕ → Type 0
+HasNoLf text = All (λ b. b ≢ 10) text
+
 -- The script ends.
 
 abbrev pub ended_by : Taken → Ended
@@ -153,6 +181,19 @@ pub record IsWrittenFor (script text : List ℕ) (e : Ended) : Type 0 where
   pub takes : TakesAll 1 (lines_of script) (Reading no_head) answers stage
   pub ends : EndsAt stage last e
   pub written : text ≡ answers ++ last
+
+-- What is written where the reader fails, or gives no end: what is told of all whole lines that were read. seen: what was read of the next
+-- line. left: what the reader has left.
+pub record AnswersRead (script text : List ℕ) (left : Option (List ℕ)) : Type 0 where
+  pub whole : List ℕ
+  pub seen : List ℕ
+  pub unread : List ℕ
+  pub stage : Stage
+  pub splits : script ≡ whole ++ (seen ++ unread)
+  pub is_whole : IsWhole whole
+  pub open : HasNoLf seen
+  pub takes : TakesAll 1 (lines_of whole) (Reading no_head) text stage
+  pub leaves : left ≡ Some unread
 
 -- What is written of its first lines.
 pub record IsFrontOf (script text : List ℕ) : Type 0 where

@@ -4,11 +4,11 @@ ghost use Rattle.std.specs.Prelude.{◌≡◌, ◌<◌, ◌≤◌, None, Some, A
 ghost use Rattle.module_lang.specs.Program.{IsModule};
 ghost use Rattle.life_check.specs.ChainTheorem.{ChainNeverFaults};
 ghost use Rattle.host_cli.specs.Heads.{seen_given, seen_part};
-ghost use Rattle.host_cli.specs.Judging.{IsJudged};
-ghost use Rattle.host_cli.specs.Written.{codes_of, refused_from};
+ghost use Rattle.host_cli.specs.Certified.{AreCertified, IsCertified};
+ghost use Rattle.host_cli.specs.Written.{codes_of, first_from, refused_in, unmade};
 
 use life_cert::{MakeRefusal, make};
-use life_check::{Cert, ChainRefusal, CheckRefusal, CheckedChain, accept_chain, check};
+use life_check::{Cert, ChainRefusal, CheckRefusal, CheckedChain, accept_chain};
 use module_lang::Module;
 use std::alloc::{AllocError, Global};
 
@@ -21,10 +21,10 @@ pub struct Part {
     pub cert: Option<Cert>,
 }
 
-/// A module with a certificate that it is accepted with.
+/// The certificate of a module, or why none can be made.
 #[derive(Drop)]
-enum Judged {
-    Accepted(Cert),
+enum Certified {
+    With(Cert),
     Refused(CheckRefusal),
 }
 
@@ -35,47 +35,61 @@ pub struct Refused {
     pub refusal: CheckRefusal,
 }
 
-/// Checks a module with its certificate, or else with the one that is made.
-fn judge(alloc: Global, code: &Module, cert: Option<Cert>) -> Result<Judged, AllocError>
-    ensures { IfOk result (IsJudged (record { code = code.now; cert = seen_given cert })) }
+/// The certificate that is given, or else one that is made.
+fn certified(alloc: Global, code: &Module, cert: Option<Cert>) -> Result<Certified, AllocError>
+    ensures { IfOk result (IsCertified (record { code = code.now; cert = seen_given cert })) }
 {
-    let Some(cert) = cert else {
-        return match make(alloc, code) {
-            Ok(cert) => Ok(Judged::Accepted(cert)),
-            Err(MakeRefusal::At { pc, rule }) => Ok(Judged::Refused(CheckRefusal { pc, rule })),
-            Err(MakeRefusal::NoMemory) => Err(AllocError),
-        };
-    };
-    match check(code, &cert) {
-        Ok(()) => Ok(Judged::Accepted(cert)),
-        Err(refusal) => Ok(Judged::Refused(refusal)),
+    if let Some(cert) = cert {
+        return Ok(Certified::With(cert));
+    }
+    match make(alloc, code) {
+        Ok(cert) => Ok(Certified::With(cert)),
+        Err(MakeRefusal::At { pc, rule }) => Ok(Certified::Refused(CheckRefusal { pc, rule })),
+        Err(MakeRefusal::NoMemory) => Err(AllocError),
     }
 }
 
-/// The chain of these modules, where each is accepted; else the first that is refused.
+/// The modules, each with its certificate; or the first for which one is missing and none can be made.
+fn certify_all(
+    alloc: Global,
+    parts: Vec<Part>,
+) -> Result<Result<Vec<(Module, Cert)>, Refused>, AllocError>
+    ensures certified { IfOk result (λ r. IfOk r (λ v. AreCertified v.items (map seen_part parts.items))) }
+    ensures count { IfOk result (λ r. IfOk r (λ v. length v.items ≡ length parts.items)) }
+    ensures refused { IfOk result (λ r. IfErr r (λ at. first_from 0 (map unmade (map seen_part parts.items)) ≡ Some (at.index, at.refusal))) }
+{
+    let mut pairs = Vec::new(alloc);
+    for part in parts {
+        let Part { code, cert } = part;
+        match certified(alloc, &code, cert)? {
+            Certified::With(cert) => pairs.push((code, cert))?,
+            Certified::Refused(refusal) => {
+                let index = pairs.len();
+                return Ok(Err(Refused { index, refusal }));
+            }
+        }
+    }
+    Ok(Ok(pairs))
+}
+
+/// The chain of these modules, where each is accepted; else the first that is refused. Certificates that are missing are made before any
+/// module is checked.
 pub fn accept_parts(
     alloc: Global,
     parts: Vec<Part>,
 ) -> Result<Result<CheckedChain, Refused>, AllocError>
     requires some { 0 < length parts.items }
     requires few { length parts.items ≤ 16 }
-    ensures accepted { IfOk result (λ r. IfOk r (λ c. (c ≡ codes_of (map seen_part parts.items)) × (refused_from 0 (map seen_part parts.items) ≡ None) × ChainNeverFaults c)) }
-    ensures refused { IfOk result (λ r. IfErr r (λ at. refused_from 0 (map seen_part parts.items) ≡ Some (at.index, at.refusal))) }
+    ensures accepted { IfOk result (λ r. IfOk r (λ c. (c ≡ codes_of (map seen_part parts.items)) × (refused_in (map seen_part parts.items) ≡ None) × ChainNeverFaults c)) }
+    ensures refused { IfOk result (λ r. IfErr r (λ at. refused_in (map seen_part parts.items) ≡ Some (at.index, at.refusal))) }
 {
-    let mut pairs = Vec::new(alloc);
-    for part in parts {
-        let Part { code, cert } = part;
-        match judge(alloc, &code, cert)? {
-            Judged::Accepted(cert) => pairs.push((code, cert))?,
-            Judged::Refused(refusal) => {
-                let index = pairs.len();
-                return Ok(Err(Refused { index, refusal }));
-            }
-        }
-    }
+    let pairs = match certify_all(alloc, parts)? {
+        Ok(pairs) => pairs,
+        Err(refused) => return Ok(Err(refused)),
+    };
     match accept_chain(alloc, pairs) {
         Ok(chain) => Ok(Ok(chain)),
-        Err(ChainRefusal::At { .. }) => unreachable!(),
+        Err(ChainRefusal::At { index, refusal }) => Ok(Err(Refused { index, refusal })),
         Err(ChainRefusal::NoMemory) => Err(AllocError),
     }
 }

@@ -6,7 +6,7 @@ ghost use Rattle.module_lang.specs.TextLines.{lines_of};
 ghost use Rattle.host_cli.specs.Playing.{PlaysLines, PlaysBytes, PlaysEnd, EndsLines};
 ghost use Rattle.host_cli.specs.Plays.{Writes};
 ghost use Rattle.host_cli.specs.Sessions.{IsAt};
-ghost use Rattle.host_cli.specs.Written.{Stage, IsWrittenFor, IsFrontOf, IsCutOf};
+ghost use Rattle.host_cli.specs.Written.{Stage, HasNoLf, AnswersRead, IsWrittenFor, IsFrontOf, IsCutOf};
 
 use crate::ended::Ended;
 use crate::fault::PlayFault;
@@ -103,6 +103,7 @@ fn take_bytes<W: Write>(
 ) -> Result<(), PlayFault>
     requires at { (s : Stage) × IsAt player.old s }
     requires few { player.old.lines + length held.old.items + length bytes.now < 2 ^ 62 }
+    requires open { HasNoLf held.old.items }
     ensures { (s : Stage) → IsAt player.old s → PlaysBytes player.old player.new (W.contents writer.old) (W.contents writer.new) (held.old.items ++ bytes.now) held.new.items s result }
 {
     let whole = whole_lines(bytes);
@@ -117,7 +118,7 @@ fn take_bytes<W: Write>(
 
 /// Plays the script that a reader gives, and writes the answers. What was read is answered before more is read.
 ///
-/// `Read`: the reader failed, or gave no end within 1,000,000 reads of at most 8192 bytes; the whole lines that were read are answered.
+/// `Read`: the reader failed, or gave no end within 1,000,000 reads of at most 8192 bytes; all whole lines that were read are answered.
 /// `NoMemory`: what was answered so far is written, in whole lines. `Write`: the writer failed or took nothing, and what it
 /// took is the front of the answers.
 ///
@@ -128,7 +129,7 @@ pub fn run_play<R: Read, W: Write>(
     writer: &mut W,
 ) -> Result<Ended, PlayFault>
     ensures ok { IfOk result (λ e. Writes (R.remaining reader.old) (W.contents writer.old) (W.contents writer.new) (λ script text. IsWrittenFor script text e)) }
-    ensures read { result ≡ Err PlayFault.Read → Writes (R.remaining reader.old) (W.contents writer.old) (W.contents writer.new) IsFrontOf }
+    ensures read { result ≡ Err PlayFault.Read → Writes (R.remaining reader.old) (W.contents writer.old) (W.contents writer.new) (λ script text. AnswersRead script text (R.remaining reader.new)) }
     ensures memory { result ≡ Err PlayFault.NoMemory → Writes (R.remaining reader.old) (W.contents writer.old) (W.contents writer.new) IsFrontOf }
     ensures write { result ≡ Err PlayFault.Write → Writes (R.remaining reader.old) (W.contents writer.old) (W.contents writer.new) IsCutOf }
 {

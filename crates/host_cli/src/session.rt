@@ -3,7 +3,7 @@
 ghost use Rattle.std.specs.Prelude.{◌≡◌, ◌<◌, ◌≤◌, None, Some, false, true, length, map, IfErr, IfOk, OnErr};
 ghost use Rattle.host_cli.specs.Heads.{seen_part};
 ghost use Rattle.host_cli.specs.Sessions.{IsHosted, TakesOne};
-ghost use Rattle.host_cli.specs.Written.{Session as ModelSession, codes_of, first_scene, refused_from};
+ghost use Rattle.host_cli.specs.Written.{Session as ModelSession, codes_of, first_scene, refused_in};
 
 use crate::commands::serve;
 use crate::part::{Part, Refused, accept_parts, modules_of};
@@ -29,7 +29,8 @@ impl Session {
         Ok(Session { host })
     }
 
-    /// The same where the chain is accepted; else the first module that is refused. Certificates that are missing are made.
+    /// The same where the chain is accepted; else the first module that is refused. Certificates that are missing are made before any module
+    /// is checked.
     pub fn checked(
         alloc: Global,
         parts: Vec<Part>,
@@ -37,8 +38,8 @@ impl Session {
     ) -> Result<Result<Session, Refused>, AllocError>
         requires some { 0 < length parts.items }
         requires few { length parts.items ≤ 16 }
-        ensures accepted { IfOk result (λ r. IfOk r (λ s. (refused_from 0 (map seen_part parts.items) ≡ None) × IsHosted s (record { chain = codes_of (map seen_part parts.items); budget = budget; is_checked = true; scene = first_scene }))) }
-        ensures refused { IfOk result (λ r. IfErr r (λ at. refused_from 0 (map seen_part parts.items) ≡ Some (at.index, at.refusal))) }
+        ensures accepted { IfOk result (λ r. IfOk r (λ s. (refused_in (map seen_part parts.items) ≡ None) × IsHosted s (record { chain = codes_of (map seen_part parts.items); budget = budget; is_checked = true; scene = first_scene }))) }
+        ensures refused { IfOk result (λ r. IfErr r (λ at. refused_in (map seen_part parts.items) ≡ Some (at.index, at.refusal))) }
     {
         match accept_parts(alloc, parts)? {
             Ok(chain) => {

@@ -120,12 +120,13 @@ module _ {H K : Type 0} (site : Site) (handles : H → Method → List ℕ → O
       → Serves site handles tells old before seen closes head.len text new after
   serves old new before after seen spans head r closes text method target within room found replied sent named written is =
       let says = replied found.0 found.1 in
+      let begins = subst (λ (n : ℕ). BeginsWithin head_limit n seen found.0 (drop head.len seen)) room found.2 in
       record {
         turn = record { head = found.0; reply = r; date = written.date };
-        begins = subst (λ (n : ℕ). BeginsWithin head_limit n seen found.0 (drop head.len seen)) room found.2;
+        begins = begins;
         fits = within.section.len_fits;
         some = subst (λ (n : ℕ). 0 < n) (sym found.1.len) (some_bytes found.0);
-        answers = record { outcome = says.outcome; comes = says.comes; reply = says.reply; then = written.then; dated = written.dated; noted = subst (λ m. IsNoted tells written.then m found.0.target r after) (sent ∙ found.1.method) (subst (λ t. IsNoted tells written.then method t r after) (named ∙ found.1.path) written.noted) };
+        answers = record { valid = begins.reads.0; within = record { size = begins.size; count = begins.count }; outcome = says.outcome; comes = says.comes; reply = says.reply; then = written.then; dated = written.dated; noted = subst (λ m. IsNoted tells written.then m found.0.target r after) (sent ∙ found.1.method) (subst (λ t. IsNoted tells written.then method t r after) (named ∙ found.1.path) written.noted) };
         written = written.written;
         goes_on = is;
       }

@@ -10,7 +10,7 @@ use Rattle.bucket_kinds.specs.Device.{Device}
 use Rattle.filter_chain.specs.declared.host.Host.{Host}
 use Rattle.filter_chain.specs.Scenes.{Scene, Acts}
 use Rattle.http_front.specs.Clocks.{Said}
-use Rattle.http_front.specs.Driven.{Leads, Handles}
+use Rattle.http_front.specs.Driven.{IsAlive, Leads, Handles}
 use Rattle.http_front.specs.Requests.{Runs}
 use Rattle.http_front.specs.Turns.{AnswersRead, IsCut, IsFront, Responses}
 use Rattle.http_front.specs.declared.fault.FrontFault.{FrontFault}
@@ -67,6 +67,7 @@ module _ {F K : Type 0} (device : F → Device) (tells : K → Said → K → Ty
     pub served : Host F
     pub opens : Leads device old opened (λ b c s t. IsOpened b c number s t)
     pub done : serves number opened served
+    pub alive : IsAlive device served
     pub closes : Leads device served new (λ b c s t. IsClosed b c number left s t)
 
   -- All of the stream is served, and the responses are written.

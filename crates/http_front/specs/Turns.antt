@@ -1,7 +1,7 @@
 -- The requests of a connection, one after another, and what is answered (RFC 9112, section 9.3).
 use Rattle.std.specs.Prelude.{◌≡◌, ℕ, ◌<◌, ◌≤◌, ◌+◌, true, false, List, [], ◌∷◌, ◌++◌, Option, Some, None, ◌⊎◌, length}
 use Rattle.std.specs.List.{flat_map}
-use Rattle.httparse.specs.Grammar.{RequestHead, print_request}
+use Rattle.httparse.specs.Grammar.{RequestHead, IsRequestHead, print_request}
 use Rattle.http_front.specs.Asking.{refusal}
 use Rattle.http_front.specs.Clocks.{Said, Moment, IsNoted}
 use Rattle.http_front.specs.Heads.{IsHeadlessWithin}
@@ -69,8 +69,10 @@ module _ {K : Type 0} (tells : K → Said → K → Type 0) where
     pub line : IsDateLine moment date
 
 module _ {H K : Type 0} (site : Site) (handles : H → Method → List ℕ → Outcome → H → Type 0) (tells : K → Said → K → Type 0) where
-  -- One request is answered, and the clock is told of it.
+  -- One request, whose head is one of the grammar and within the limits, is answered, and the clock is told of it.
   pub record Answers (old : H) (before : K) (t : Turn) (new : H) (after : K) : Type 0 where
+    pub valid : IsRequestHead t.head
+    pub within : IsWithin t.head
     pub outcome : Outcome
     pub comes : ComesUnless site handles (refusal t.head) old t.head outcome new
     pub reply : IsReplyTo t.head outcome t.reply

@@ -19,6 +19,9 @@ end_play-requires-clause-few g c =
 pub take_bytes-requires-clause-at : goal.take_bytes-requires-clause-at
 take_bytes-requires-clause-at g c = let k = c.loop.invariant.0 in (k.stage, k.at)
 
+pub take_bytes-requires-clause-open : goal.take_bytes-requires-clause-open
+take_bytes-requires-clause-open g c = c.loop.invariant.0.open
+
 pub take_bytes-requires-clause-few : goal.take_bytes-requires-clause-few
 take_bytes-requires-clause-few g c =
     let few = c.loop.invariant.0.few in
@@ -38,7 +41,7 @@ returns-in-Ok-eq0-clause-read g c =
     let none : c.in-Ok-eq0.field-0 ≡ 0 = first_of (omega arith, cc) in
     let same : length c.read.new.buf ≡ 8192 = c.read.auto.buf ∙ c.loop.invariant.1 in
     let k = going_last _ _ _ _ _ c.loop.player c.loop.held.items c.as_slice.result.now c.read.new.buf _ c.in-Ok-eq0.field-0 c.loop.invariant.0 none c.in-Ok-eq0.ensures.bytes (omega (arith, same)) c.as_slice.ensures.value in
-    last_read _ _ _ _ _ c.loop.player _ c.end_play.result k (c.end_play.ensures k.stage k.at)
+    λ is. last_read _ _ _ _ _ c.loop.player _ c.end_play.result k (c.end_play.ensures k.stage k.at) is _
 
 pub returns-in-Ok-eq0-clause-memory : goal.returns-in-Ok-eq0-clause-memory
 returns-in-Ok-eq0-clause-memory g c =
@@ -58,7 +61,7 @@ pub returns-in_err-take_bytes-in-Ok-clause-read : goal.returns-in_err-take_bytes
 returns-in_err-take_bytes-in-Ok-clause-read g c =
     let p = err_from_is_err_and c.from_residual.result c.from_residual.ensures.1 in
     let k = c.loop.invariant.0 in
-    bytes_read _ _ _ _ _ _ c.loop.player c.take_bytes.new.player _ _ c.take_bytes.new.held.items _ k c.in-Ok.ensures.bytes.0 _ _ _ p.1 p.2 (c.in_err-take_bytes-in-Ok.ensures k.stage k.at)
+    λ is. bytes_read _ _ _ _ _ _ c.loop.player c.take_bytes.new.player _ _ c.take_bytes.new.held.items _ k c.in-Ok.ensures.bytes.0 _ _ _ p.1 p.2 (c.in_err-take_bytes-in-Ok.ensures k.stage k.at) is _
 
 pub returns-in_err-take_bytes-in-Ok-clause-memory : goal.returns-in_err-take_bytes-in-Ok-clause-memory
 returns-in_err-take_bytes-in-Ok-clause-memory g c =
@@ -73,7 +76,7 @@ returns-in_err-take_bytes-in-Ok-clause-write g c =
     bytes_write _ _ _ _ _ _ c.loop.player c.take_bytes.new.player _ _ c.take_bytes.new.held.items _ k c.in-Ok.ensures.bytes.0 _ _ _ p.1 p.2 (c.in_err-take_bytes-in-Ok.ensures k.stage k.at)
 
 pub returns-in-Err-clause-read : goal.returns-in-Err-clause-read
-returns-in-Err-clause-read g c = λ _. going_read _ _ _ _ c.loop.player _ _ c.loop.invariant.0
+returns-in-Err-clause-read g c = λ _. going_kept _ _ _ _ _ c.loop.player _ _ c.loop.invariant.0 c.in-Err.ensures.bytes
 
 pub returns-clause-read : goal.returns-clause-read
 returns-clause-read g c = λ _. going_read _ _ _ _ c.loop.player _ _ c.loop.invariant.0
@@ -90,4 +93,4 @@ loop-preserved g c =
     let t = c.in_ok-take_bytes-in-Ok.ensures k.stage k.at in
     let long = length-take c.in-Ok.count c.read.new.buf in
     let same : length c.read.new.buf ≡ 8192 = c.read.auto.buf ∙ c.loop.invariant.1 in
-    (going_on _ _ _ _ _ _ c.loop.player c.take_bytes.new.player _ _ _ (8192 * c.loop.counter) _ k c.in-Ok.ensures.bytes.0 (omega (arith, long, same)) t.0 t.1 t.2 t.3 (sym (c.is_over.ensures t.3.stage t.3.at) ∙ c.if-is_over.false), same)
+    (going_on _ _ _ _ _ _ c.loop.player c.take_bytes.new.player _ _ _ (8192 * c.loop.counter) _ k c.in-Ok.ensures.bytes.0 (omega (arith, long, same)) t.0 t.1 t.2 t.3 t.4 (sym (c.is_over.ensures t.3.stage t.3.at) ∙ c.if-is_over.false), same)
