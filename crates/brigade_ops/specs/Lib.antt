@@ -6,5 +6,6 @@ pub mod Points
 pub mod Refusals
 pub mod Reads
 pub mod Laws
+pub mod Rows
 pub mod Morphs
 pub mod House
