@@ -126,7 +126,7 @@ def request(target=b'/a', method=b'GET', version=b'1.1', fields=(b'Host: h',), e
     return b''.join(line + end for line in (method + b' ' + target + b' HTTP/' + version, *fields, b''))
 
 
-FILES = {b'/a': b'hi', b'/e': b'', b'/l': b'x' * 65537, b'/p/q-._~': b'p', b'/\xc3\xa9': None}
+FILES = {b'/a': b'hi', b'/e': b'', b'/l': b'x' * 65537, b'/j': b'y' * 65536, b'/p/q-._~': b'p', b'/\xc3\xa9': None}
 FILES = {path: data for path, data in FILES.items() if data is not None}
 GET = request()
 
@@ -148,6 +148,8 @@ def streams():
     yield 'two', GET * 2
     yield 'a pipeline', request(b'/a') + request(b'/b') + request(b'/e') + request(method=b'HEAD') + request(method=b'POST') + GET
     yield 'a large file', request(b'/l') + GET
+    yield 'a large file of an old client', request(b'/l', version=b'1.0', fields=())
+    yield 'large files and others', request(b'/l') + request(b'/j') + request(b'/l', method=b'HEAD') + request(b'/b') + request(b'/l') * 2 + request(b'/e') + GET
     # the table of checks
     yield 'no host', request(fields=())
     yield 'no host in 1.0', request(version=b'1.0', fields=())

@@ -5,11 +5,15 @@ use std::io::{self, ErrorKind, Read, Write};
 use std::net::TcpStream;
 use std::time::{Duration, Instant};
 
-/// When the next head is to be there: not said before it is first waited for. And when bytes last came.
+/// How many milliseconds a read may wait longer than a head may take. So the stream is told a new timeout only where that differs by more.
+const SLACK_MILLIS: u64 = 20;
+
+/// When the next head is to be there: not said before it is first waited for. When bytes last came, and what timeout the stream has.
 #[derive(Drop)]
 pub struct Deadline {
     at: Cell<Option<Instant>>,
     came: Cell<Option<Instant>>,
+    set: Cell<Option<Duration>>,
     patience: Duration,
 }
 
@@ -19,6 +23,7 @@ impl Deadline {
         Deadline {
             at: Cell::new(None),
             came: Cell::new(None),
+            set: Cell::new(None),
             patience,
         }
     }
@@ -51,6 +56,26 @@ impl Deadline {
         }
         Some(left)
     }
+
+    /// Whether the stream has a timeout of that length, or of a little more.
+    fn is_set(&self, left: Duration) -> bool {
+        let Some(set) = self.set.get() else {
+            return false;
+        };
+        match set.checked_sub(left) {
+            Some(more) => more <= Duration::from_millis(SLACK_MILLIS),
+            None => false,
+        }
+    }
+
+    /// Lets a read of the stream wait so long.
+    fn set_timeout(&self, stream: &TcpStream, left: Duration) -> io::Result<()> {
+        if !self.is_set(left) {
+            stream.set_read_timeout(Some(left))?;
+            self.set.set(Some(left));
+        }
+        Ok(())
+    }
 }
 
 /// Reads a stream, as long as the head that is waited for may take.
@@ -67,7 +92,7 @@ impl Read for HeadReader<'_> {
         let Some(left) = self.deadline.left(now) else {
             return Err(io::Error::from(ErrorKind::TimedOut));
         };
-        self.stream.set_read_timeout(Some(left))?;
+        self.deadline.set_timeout(self.stream, left)?;
         let mut stream = self.stream;
         let count = stream.read(buf)?;
         self.deadline.came.set(Instant::now(self.runtime).ok());

@@ -10,3 +10,6 @@ pub mod FeedLaws
 pub mod RequestLaws
 pub mod ConnectLaws
 pub mod ServedLaws
+pub mod Rows
+pub mod Parts
+pub mod FeedRows

@@ -1,5 +1,5 @@
 -- Serving a connection, read by read.
-use Rattle.std.proofs.Common.{◌≡◌, ℕ, ◌⊎◌, inl, inr, List, [], Option, Result, Ok, Err, refl, sym, subst, append-nil}
+use Rattle.std.proofs.Common.{◌≡◌, ℕ, List, [], Option, Result, Ok, Err, refl, sym, subst, append-nil}
 use Rattle.http_front.specs.Clocks.{Said}
 use Rattle.http_front.specs.Serving.{Adds, Loses, SoFar, Goes, FailsBy}
 use Rattle.http_front.specs.Turns.{WantsMore}
@@ -10,7 +10,7 @@ use Rattle.http_front.specs.declared.reply.Method.{Method}
 use Rattle.http_front.specs.declared.serving.Next.{Next}
 use Rattle.http_front.specs.declared.serving.Next.TheVariants as next
 use Rattle.http_front.specs.declared.site.Site.{Site}
-use Rattle.http_front.proofs.ServingLaws.{far_front, far_read, far_wants}
+use Rattle.http_front.proofs.ServingLaws.{far_loses_read, far_read, far_wants}
 use Rattle.std.specs.Prelude.{Bool, IfErr}
 
 module _ {H K : Type 0} (site : Site) (handles : H → Method → List ℕ → Outcome → H → Type 0) (tells : K → Said → K → Type 0) where
@@ -29,7 +29,7 @@ module _ {H K : Type 0} (site : Site) (handles : H → Method → List ℕ → O
       → SoFar site handles tells old before r q w v unread n new after → WantsMore unread → Loses q p e → FailsBy site handles tells old before r p w v new after e
   far_loses old before r q p w v unread n new after kind.Read so wants none =
       far_wants site handles tells old before r p w v unread n new after (far_read site handles tells old before r q p w v unread [] unread n new after so none (sym (append-nil unread))) wants
-  far_loses old before r q p w v unread n new after kind.NoMemory so wants lost = far_front site handles tells old before r q w v unread n new after so
+  far_loses old before r q p w v unread n new after kind.NoMemory so wants lost = far_loses_read site handles tells old before r q p w v unread lost.0 n new after so wants lost.1
   far_loses old before r q p w v unread n new after kind.Write so wants lost = absurd lost
   far_loses old before r q p w v unread n new after kind.TooManyReads so wants lost = absurd lost
   far_loses old before r q p w v unread n new after kind.NamesSpent so wants lost = absurd lost

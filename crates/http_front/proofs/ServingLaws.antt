@@ -1,22 +1,21 @@
 -- Serving a connection, turn by turn.
-use Rattle.std.proofs.Common.{◌≡◌, ◌≢◌, ℕ, zero, suc, ◌+◌, ◌<◌, ◌≤◌, ◌⊎◌, inl, inr, Bool, true, false, List, [], ◌∷◌, ◌++◌, length, take, drop, Option, Some, None, IfSome, Result, Ok, Err, refl, ap, sym, subst, ◌∙◌, arith}
+use Rattle.std.proofs.Common.{◌≡◌, ℕ, ◌+◌, ◌<◌, inl, inr, Bool, true, false, List, [], ◌∷◌, ◌++◌, length, take, drop, Option, Some, None, Result, Err, refl, ap, sym, subst, ◌∙◌, arith}
 use Rattle.std.proofs.lemmas.List.{append_assoc, append-nil, length-append, length-drop, take-append-drop}
 use Rattle.std.proofs.lemmas.Grind.{flat_map-append}
 use Rattle.std.proofs.KnownBytes.{Appends-nil, Appends-trans, Consumes-nil, Consumes-trans}
-use Rattle.std.specs.Io.KnownBytes.{Appends, Consumes, Keeps, IsAtEnd}
-use Rattle.httparse.specs.Grammar.{RequestHead, print_request}
+use Rattle.std.specs.Io.KnownBytes.{Appends, Consumes, IsAtEnd}
+use Rattle.httparse.specs.Grammar.{print_request}
 use Rattle.http_front.specs.Clocks.{Said}
-use Rattle.http_front.specs.Heads.{BeginsWithin, StaysHeadless}
+use Rattle.http_front.specs.Heads.{StaysHeadless}
 use Rattle.http_front.specs.Replying.{reply_text}
-use Rattle.http_front.specs.Turns.{Turn, AllStay, Answers, AnswersAll, AnswersRead, SendsBad, WantsMore, heads_of, texts_of, head_limit, fields_limit, EndsAll, ClosesAfter, RefusesAfter, Responses, IsFront, IsCut, IsNext}
-use Rattle.http_front.specs.Stepping.{Serves, Waits, Steps}
+use Rattle.http_front.specs.Turns.{Turn, AllStay, Answers, AnswersAll, AnswersRead, SendsBad, WantsMore, heads_of, texts_of, head_limit, fields_limit, ClosesAfter, RefusesAfter, IsDue, IsFront, IsCut, IsNext, LacksAt, LacksMemory}
+use Rattle.http_front.specs.Stepping.{Serves, Steps, WantsAnswer}
 use Rattle.http_front.specs.Serving.{Writes, SoFar, Goes, EndsWell, FailsBy}
 use Rattle.http_front.specs.declared.fault.FrontKind.{FrontKind}
 use Rattle.http_front.specs.declared.fault.FrontKind.TheVariants as kind
 use Rattle.http_front.specs.declared.handler.Outcome.{Outcome}
 use Rattle.http_front.specs.declared.reply.Method.{Method}
 use Rattle.http_front.specs.declared.serving.Next.{Next}
-use Rattle.http_front.specs.declared.serving.Next.TheVariants as next
 use Rattle.http_front.specs.declared.site.Site.{Site}
 use Rattle.http_front.specs.declared.steps.Step.{Step}
 use Rattle.http_front.specs.Outcomes.{IsLack}
@@ -35,6 +34,11 @@ stay_more (x ∷ turns) t stay stays = (stay.0, stay_more turns t stay.1 stays)
 
 count_more : (turns : List Turn) (t : Turn) (n : ℕ) → n ≡ length turns → n + 1 ≡ length (turns ++ t ∷ [])
 count_more turns t n count = ap (λ k. k + 1) count ∙ sym (length-append turns (t ∷ []))
+
+-- the answer that is wanted is due
+is_due : (seen left : List ℕ) (whole : Bool) → (whole ≡ true → left ≡ []) → WantsAnswer seen whole → IsDue seen left
+is_due seen left whole over (inl begins) = inl begins
+is_due seen left whole over (inr bad) = inr (bad.0, bad.1 left over)
 
 -- What a reader had left, where it is known, is what was taken and what it has.
 abbrev pub IsLeft : List ℕ → Option (List ℕ) → List ℕ → Type 0
@@ -115,13 +119,6 @@ module _ {H K : Type 0} (site : Site) (handles : H → Method → List ℕ → O
         responses = record { turns = so.turns; stay = so.stay; answers = so.answers; requests = refl; written = refl; count = so.count };
       }
 
-  -- Serving fails with what is written so far.
-  pub far_front : (old : H) (before : K) (r q w v : Option (List ℕ)) (unread : List ℕ) (n : ℕ) (new : H) (after : K)
-      → Far old before r q w v unread n new after → Writes r w v (IsFront site handles tells old before)
-  far_front old before None q w v unread n new after so = tt
-  far_front old before (Some stream) q w v unread n new after so =
-      (texts_of so.turns, front_of old before stream q w v unread n new after so, so.wrote)
-
   -- Serving fails where all whole requests that were read are answered.
   pub far_wants : (old : H) (before : K) (r q w v : Option (List ℕ)) (unread : List ℕ) (n : ℕ) (new : H) (after : K)
       → Far old before r q w v unread n new after → WantsMore unread → Writes r w v (λ stream text. AnswersRead site handles tells old before stream text q new after)
@@ -138,6 +135,52 @@ module _ {H K : Type 0} (site : Site) (handles : H → Method → List ℕ → O
           responses = record { turns = so.turns; stay = so.stay; answers = so.answers; requests = refl; written = refl; count = so.count };
           wants = wants;
           leaves = left.1;
+        },
+        so.wrote,
+      )
+
+  -- Memory or names are lacking for the request at hand.
+  far_lacks : (old : H) (before : K) (r q w v : Option (List ℕ)) (unread : List ℕ) (whole : Bool) (n : ℕ) (new : H) (after : K)
+      → Far old before r q w v unread n new after → (whole ≡ true → IsAtEnd q) → WantsAnswer unread whole → Writes r w v (λ stream text. LacksAt site handles tells old before stream text q)
+  far_lacks old before None q w v unread whole n new after so end wants = tt
+  far_lacks old before (Some stream) q w v unread whole n new after so end wants =
+      let left = left_of stream (heads_of so.turns ++ unread) q so.took in (
+        texts_of so.turns,
+        record {
+          first = heads_of so.turns;
+          seen = unread;
+          unread = left.0;
+          n = n;
+          new = new;
+          after = after;
+          splits = left.2;
+          responses = record { turns = so.turns; stay = so.stay; answers = so.answers; requests = refl; written = refl; count = so.count };
+          due = is_due unread left.0 whole (λ w. at_end q left.0 left.1 (end w)) wants;
+          leaves = left.1;
+        },
+        so.wrote,
+      )
+
+  -- Memory is lacking for bytes that were read.
+  pub far_loses_read : (old : H) (before : K) (r q p w v : Option (List ℕ)) (unread lost : List ℕ) (n : ℕ) (new : H) (after : K)
+      → Far old before r q w v unread n new after → WantsMore unread → Consumes q p lost → Writes r w v (λ stream text. LacksMemory site handles tells old before stream text p)
+  far_loses_read old before None q p w v unread lost n new after so wants took = tt
+  far_loses_read old before (Some stream) q p w v unread lost n new after so wants took =
+      let left = left_of stream (heads_of so.turns ++ unread) q so.took in
+      let rest = left_of left.0 lost p (subst (λ x. Consumes x p lost) left.1 took) in (
+        texts_of so.turns,
+        inr record {
+          first = heads_of so.turns;
+          seen = unread;
+          lost = lost;
+          unread = rest.0;
+          n = n;
+          new = new;
+          after = after;
+          splits = left.2 ∙ ap (λ l. heads_of so.turns ++ unread ++ l) rest.2 ∙ sym (append_assoc (heads_of so.turns ++ unread) lost rest.0);
+          responses = record { turns = so.turns; stay = so.stay; answers = so.answers; requests = refl; written = refl; count = so.count };
+          wants = wants;
+          leaves = rest.1;
         },
         so.wrote,
       )
@@ -265,29 +308,34 @@ module _ {H K : Type 0} (site : Site) (handles : H → Method → List ℕ → O
       cut_of old before q w v u stream unread n k mid then text so
       (inr (new, after, inr (inr (refused old before stream q w v unread whole n (n + 1) mid new then after text so end bad refl)))) few wrote
 
-  -- Memory or names are lacking.
-  pub far_lacks : (old : H) (before : K) (r q w v : Option (List ℕ)) (unread : List ℕ) (n : ℕ) (mid new : H) (then after : K) (e : FrontKind)
-      → IsLack e → Far old before r q w v unread n mid then → FailsBy site handles tells old before r q w v new after e
-  far_lacks old before r q w v unread n mid new then after e (inl same) so = subst (FailsBy site handles tells old before r q w v new after) (sym same) (far_front old before r q w v unread n mid then so)
-  far_lacks old before r q w v unread n mid new then after e (inr same) so = subst (FailsBy site handles tells old before r q w v new after) (sym same) (far_front old before r q w v unread n mid then so)
+  -- Memory or names are lacking, as the kind of the fault says.
+  lack_memory : (r q w v : Option (List ℕ)) (old : H) (before : K) → Writes r w v (λ stream text. LacksAt site handles tells old before stream text q) → Writes r w v (λ stream text. LacksMemory site handles tells old before stream text q)
+  lack_memory None q w v old before h = tt
+  lack_memory (Some stream) q w v old before h = (h.0, inl h.1, h.2)
+
+  far_lacks_by : (old : H) (before : K) (r q w v : Option (List ℕ)) (new : H) (after : K) (e : FrontKind)
+      → IsLack e → Writes r w v (λ stream text. LacksAt site handles tells old before stream text q) → FailsBy site handles tells old before r q w v new after e
+  far_lacks_by old before r q w v new after e (inl same) h = subst (FailsBy site handles tells old before r q w v new after) (sym same) (lack_memory r q w v old before h)
+  far_lacks_by old before r q w v new after e (inr same) h = subst (FailsBy site handles tells old before r q w v new after) (sym same) h
 
   -- How a `?` leaves.
 
   abbrev GoesOn : H → K → Option (List ℕ) → Option (List ℕ) → Option (List ℕ) → Option (List ℕ) → Bool → List ℕ → ℕ → H → K → Result Next FrontKind → Type 0
   GoesOn = Goes site handles tells
 
-  pub fails_lacking : (old : H) (before : K) (r q w v : Option (List ℕ)) (whole : Bool) (unread : List ℕ) (n : ℕ) (mid new : H) (then after : K) (result : Result Next FrontKind) (y e : FrontKind)
-      → result ≡ Err y → y ≡ e → IsLack e → Far old before r q w v unread n mid then → GoesOn old before r q w v whole unread n new after result
-  fails_lacking old before r q w v whole unread n mid new then after result y e is same lack so =
-      subst (GoesOn old before r q w v whole unread n new after) (sym (is ∙ ap Err same)) (far_lacks old before r q w v unread n mid new then after e lack so)
+  pub fails_lacking : (old : H) (before : K) (r q w v : Option (List ℕ)) (whole : Bool) (given unread : List ℕ) (n : ℕ) (mid new : H) (then after : K) (result : Result Next FrontKind) (y e : FrontKind) (left : List ℕ)
+      → result ≡ Err y → y ≡ e → IsLack e → (whole ≡ true → IsAtEnd q) → given ≡ unread → WantsAnswer given whole → Far old before r q w v unread n mid then → GoesOn old before r q w v whole left n new after result
+  fails_lacking old before r q w v whole given unread n mid new then after result y e left is same lack end are wants so =
+      subst (GoesOn old before r q w v whole left n new after) (sym (is ∙ ap Err same))
+      (far_lacks_by old before r q w v new after e lack (far_lacks old before r q w v unread whole n mid then so end (subst (λ l. WantsAnswer l whole) are wants)))
 
   pub fails_by : (old : H) (before : K) (r q w v : Option (List ℕ)) (whole : Bool) (unread : List ℕ) (n : ℕ) (new : H) (after : K) (result : Result Next FrontKind) (y e : FrontKind)
       → result ≡ Err y → y ≡ e → e ≡ kind.Write → Writes r w v (IsCut site handles tells old before) → GoesOn old before r q w v whole unread n new after result
   fails_by old before r q w v whole unread n new after result y e is same write cut =
       subst (GoesOn old before r q w v whole unread n new after) (sym (is ∙ ap Err (same ∙ write))) cut
 
-  -- What a step did with these bytes, by what it answers.
-  pub did : (old : H) (before : K) (given seen : List ℕ) (whole : Bool) (s t : Step) (text : List ℕ) (new : H) (after : K) → given ≡ seen → s ≡ t
-      → Steps site handles tells old before given whole s text new after → Steps site handles tells old before seen whole t text new after
-  did old before given seen whole s t text new after are same h =
-      subst (λ x. Steps site handles tells old before seen whole x text new after) same (subst (λ l. Steps site handles tells old before l whole s text new after) are h)
+  -- What a step did with these bytes, by what it answers. left: the handler behind it, which is as the step left it.
+  pub did : (old : H) (before : K) (given seen : List ℕ) (whole : Bool) (s t : Step) (text : List ℕ) (new left : H) (after : K) → given ≡ seen → s ≡ t → left ≡ new
+      → Steps site handles tells old before given whole s text new after → Steps site handles tells old before seen whole t text left after
+  did old before given seen whole s t text new left after are same still h =
+      subst (λ x. Steps site handles tells old before seen whole x text left after) same (subst (λ l. Steps site handles tells old before l whole s text left after) are (subst (λ x. Steps site handles tells old before given whole s text x after) (sym still) h))

@@ -1,11 +1,11 @@
 -- A path of a site, read as a route, is itself.
-use Rattle.std.proofs.Common.{◌≡◌, ℕ, ◌+◌, ◌<◌, ◌≤◌, List, [], ◌∷◌, ◌++◌, Option, Some, None, Result, Ok, Err, Bool, true, false, cond, refl, sym, ap, ◌∙◌, arith, ◌==◌, ◌&&◌, ltb, append_assoc, append-nil, get_or, slice_index, zero, suc, lit<}
+use Rattle.std.proofs.Common.{◌≡◌, ℕ, ◌<◌, List, [], ◌∷◌, ◌++◌, Option, Some, None, Result, Ok, Err, Bool, true, false, cond, refl, sym, ap, ◌∙◌, arith, ◌==◌, ◌&&◌, ltb, append_assoc, append-nil, zero, suc, lit<}
 use Rattle.std.proofs.lemmas.Bool.Decides.{nat_tests}
 use Rattle.std.proofs.lemmas.Str.{IsUtf8-from_ascii}
 use Rattle.std.specs.Str.{IsAscii, IsUtf8}
 use Rattle.std.specs.List.{list_all}
 use Rattle.matchit.specs.Rows.{RowsOf, comes_before, param_token, catch_all_token}
-use Rattle.matchit.specs.Route.{Scan, scan, scan_start, feed, parse_route, shape_error, outside}
+use Rattle.matchit.specs.Route.{Scan, scan, parse_route, shape_error, outside}
 use Rattle.matchit.specs.Router.{RouteOf, InsertsRead, route_from, map_key}
 use Rattle.matchit.specs.Order.{placed, lookup}
 use Rattle.matchit.specs.Seek.{same_text, first}

@@ -1,6 +1,6 @@
 -- What a step does, from its parts.
-use Rattle.std.proofs.Common.{◌≡◌, ℕ, ◌≤◌, ◌<◌, ◌==◌, Bool, true, false, ◌&&◌, nat_le, Ok, Err, Some, None, List, [], ◌∷◌, ◌++◌, length, take, drop, refl, sym, ◌∙◌, ap, subst, append_assoc, append-nil, take-append-drop, arith, length-take, length-drop, length-append}
-use Rattle.std.specs.Prelude.{Result, IfOk}
+use Rattle.std.proofs.Common.{◌≡◌, ℕ, ◌≤◌, ◌<◌, ◌==◌, Bool, true, false, ◌&&◌, nat_le, Ok, Err, Some, None, List, [], ◌∷◌, ◌++◌, length, take, drop, refl, sym, inl, inr, ◌∙◌, ap, subst, append_assoc, append-nil, take-append-drop, arith, length-take, length-drop, length-append}
+use Rattle.std.specs.Prelude.{Result, IfOk, IfErr}
 use Rattle.std.proofs.lemmas.Bool.{eqb-true, leb-true, le-leb}
 use Rattle.std.proofs.lemmas.List.{drop_all, nil_from_length, take_all}
 use Rattle.httparse.specs.Grammar.{RequestHead, print_request}
@@ -15,7 +15,7 @@ use Rattle.http_front.specs.Heads.{BeginsWithin, IsHeadlessWithin, StaysHeadless
 use Rattle.http_front.specs.Looking.{IsFound}
 use Rattle.http_front.specs.Outcomes.{file_at, file_of, IsBadReply}
 use Rattle.http_front.specs.Sites.{route_of}
-use Rattle.http_front.specs.Stepping.{IsReplied, IsWritten, Serves, Steps}
+use Rattle.http_front.specs.Stepping.{IsReplied, IsWritten, Serves, Steps, WantsAnswer}
 use Rattle.http_front.specs.Turns.{SendsBad, WantsMore, head_limit, fields_limit}
 use Rattle.http_front.specs.declared.handler.Outcome.{Outcome}
 use Rattle.http_front.specs.declared.reply.Method.{Method}
@@ -105,6 +105,26 @@ more_wider seen true is wants =
 more_wider seen false is wants =
     let fits : length seen ≤ head_limit = omega (arith, wants.few, length-take head_limit seen) in
     (refl, subst WantsMore (take_all head_limit seen fits) wants)
+
+-- an answer that is wanted to a front of the bytes is wanted to them all
+answer_wider : (seen : List ℕ) (whole : Bool) → WantsAnswer (take head_limit seen) (whole && nat_le (length seen) head_limit) → WantsAnswer seen whole
+answer_wider seen whole (inl (h, rest, begins)) =
+    let all : seen ≡ print_request h ++ (rest ++ drop head_limit seen) = sym (take-append-drop head_limit seen) ∙ ap (λ x. x ++ drop head_limit seen) begins.reads.1 ∙ append_assoc (print_request h) rest (drop head_limit seen) in
+    inl (h, rest ++ drop head_limit seen, record { reads = (begins.reads.0, all); size = begins.size; count = begins.count })
+answer_wider seen whole (inr bad) = inr ((λ none. bad.0 (ap (take head_limit) none)), headless_wider head_limit fields_limit seen whole bad.1)
+
+-- why a step gets no answer, from a front of the bytes
+pub lack_wider : {E : Type 0} (P : E → Type 0) (seen low : List ℕ) (whole ended : Bool) (r : Result Step E) → low ≡ take head_limit seen → ended ≡ (whole && nat_le (length seen) head_limit)
+    → IfErr r (λ e. P e × WantsAnswer low ended) → IfErr r (λ e. P e × WantsAnswer seen whole)
+lack_wider P seen low whole ended (Ok s) front over h = tt
+lack_wider P seen low whole ended (Err e) front over h =
+    (h.0, answer_wider seen whole (subst (λ (l : List ℕ). WantsAnswer l (whole && nat_le (length seen) head_limit)) front (subst (λ (b : Bool). WantsAnswer low b) over h.1)))
+
+-- a head that was found wants its answer
+pub found_lack : {E : Type 0} (P : E → Type 0) (seen : List ℕ) (whole : Bool) (room : ℕ) (h : RequestHead) (rest : List ℕ) (r : Result Step E) → room ≡ fields_limit → BeginsWithin head_limit room seen h rest
+    → IfErr r P → IfErr r (λ e. P e × WantsAnswer seen whole)
+found_lack P seen whole room h rest (Ok s) same begins lack = tt
+found_lack P seen whole room h rest (Err e) same begins lack = (lack, inl (h, rest, subst (λ (n : ℕ). BeginsWithin head_limit n seen h rest) same begins))
 
 done_wider : (limit : ℕ) (seen : List ℕ) (whole : Bool) → (whole && nat_le (length seen) limit) ≡ true → take limit seen ≡ []
     → (whole ≡ true) × (seen ≡ [])

@@ -3,6 +3,7 @@ pub mod Looking
 pub mod Fields
 pub mod Asking
 pub mod Replying
+pub mod Texts
 pub mod Clocks
 pub mod Routes
 pub mod Sites
@@ -14,3 +15,5 @@ pub mod Requests
 pub mod Driven
 pub mod Connecting
 pub mod Serving
+pub mod Rows
+pub mod FeedRows

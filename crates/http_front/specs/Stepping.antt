@@ -1,5 +1,5 @@
 -- What a step does with the bytes at hand.
-use Rattle.std.specs.Prelude.{◌≡◌, ℕ, ◌<◌, ◌≤◌, Bool, true, false, List, [], length, drop}
+use Rattle.std.specs.Prelude.{◌≡◌, ℕ, ◌<◌, ◌≤◌, ◌⊎◌, Bool, true, false, List, [], length, drop}
 use Rattle.httparse.specs.Grammar.{RequestHead}
 use Rattle.http_front.specs.Asking.{refusal}
 use Rattle.http_front.specs.Clocks.{Said, IsNoted}
@@ -13,6 +13,12 @@ use Rattle.http_front.specs.declared.reply.Reply.{Reply}
 use Rattle.http_front.specs.declared.site.Site.{Site}
 use Rattle.http_front.specs.declared.steps.Step.{Step}
 use Rattle.http_front.specs.declared.steps.Step.TheVariants as step
+
+-- An answer to the bytes is wanted: they begin with a head, or with none, whatever follows. whole: no bytes follow.
+abbrev pub WantsAnswer : List ℕ → Bool → Type 0
+WantsAnswer seen whole =
+    ((h : RequestHead) × (rest : List ℕ) × BeginsWithin head_limit fields_limit seen h rest)
+    ⊎ (¬ (seen ≡ []) × StaysHeadless head_limit fields_limit seen whole)
 
 -- A head comes to this reply.
 pub record IsReplied {H : Type 0} (site : Site) (handles : H → Method → List ℕ → Outcome → H → Type 0) (old : H) (h : RequestHead) (r : Reply) (new : H) : Type 0 where

@@ -4,7 +4,7 @@ use Rattle.std.specs.List.{flat_map}
 use Rattle.httparse.specs.Grammar.{RequestHead, IsRequestHead, print_request}
 use Rattle.http_front.specs.Asking.{refusal}
 use Rattle.http_front.specs.Clocks.{Said, Moment, IsNoted}
-use Rattle.http_front.specs.Heads.{IsHeadlessWithin}
+use Rattle.http_front.specs.Heads.{BeginsWithin, IsHeadlessWithin}
 use Rattle.http_front.specs.Outcomes.{file_of, method_of, IsBare, IsReplyTo, IsBadReply}
 use Rattle.http_front.specs.Replying.{reply_text, IsDateLine}
 use Rattle.http_front.specs.declared.handler.Outcome.{Outcome}
@@ -25,6 +25,13 @@ fields_limit = 64
 pub record WantsMore (seen : List ℕ) : Type 0 where
   pub few : length seen < head_limit
   pub headless : IsHeadlessWithin head_limit fields_limit seen
+
+-- An answer to the bytes that were read is due: they begin with a head, or they begin with none, with what is left behind them. left: what the
+-- reader has left.
+abbrev pub IsDue : List ℕ → List ℕ → Type 0
+IsDue seen left =
+    ((h : RequestHead) × (rest : List ℕ) × BeginsWithin head_limit fields_limit seen h rest)
+    ⊎ (¬ (seen ≡ []) × IsHeadlessWithin head_limit fields_limit (seen ++ left))
 
 -- A request and its response: the head, the reply, and the Date line.
 pub record Turn : Type 0 where
@@ -161,6 +168,37 @@ module _ {H K : Type 0} (site : Site) (handles : H → Method → List ℕ → O
     pub responses : EndsAll old before first text n new after
     pub wants : WantsMore seen
     pub leaves : left ≡ Some unread
+
+  -- These are the responses to all requests before the one that is at hand. seen: what was read and not answered. left: what the reader has left.
+  pub record LacksAt (old : H) (before : K) (stream text : List ℕ) (left : Option (List ℕ)) : Type 0 where
+    pub first : List ℕ
+    pub seen : List ℕ
+    pub unread : List ℕ
+    pub n : ℕ
+    pub new : H
+    pub after : K
+    pub splits : stream ≡ first ++ seen ++ unread
+    pub responses : EndsAll old before first text n new after
+    pub due : IsDue seen unread
+    pub leaves : left ≡ Some unread
+
+  -- These are the responses to all whole requests that were read, before the bytes that are lost.
+  pub record LosesRead (old : H) (before : K) (stream text : List ℕ) (left : Option (List ℕ)) : Type 0 where
+    pub first : List ℕ
+    pub seen : List ℕ
+    pub lost : List ℕ
+    pub unread : List ℕ
+    pub n : ℕ
+    pub new : H
+    pub after : K
+    pub splits : stream ≡ first ++ seen ++ lost ++ unread
+    pub responses : EndsAll old before first text n new after
+    pub wants : WantsMore seen
+    pub leaves : left ≡ Some unread
+
+  -- Memory was lacking: for the request at hand, or for bytes that were read.
+  abbrev pub LacksMemory : H → K → List ℕ → List ℕ → Option (List ℕ) → Type 0
+  LacksMemory old before stream text left = LacksAt old before stream text left ⊎ LosesRead old before stream text left
 
   -- These are the responses to the first requests of a stream, and a part of one response more: that is cut.
   pub record IsCut (old : H) (before : K) (stream text : List ℕ) : Type 0 where

@@ -219,6 +219,8 @@ impl<F: Files + Drop> Handler for Host<F> {
     }
 
     fn give_back(&mut self, body: Seq<u8>) {
-        self.give_back_output(body);
+        if !body.is_empty() {
+            self.give_back_output(body);
+        }
     }
 }

@@ -4,14 +4,16 @@ ghost use Rattle.std.specs.Prelude.{◌≡◌, ◌≢◌, ℕ, List, ◌+◌, �
 ghost use Rattle.std.specs.Io.KnownBytes.{Appends, Consumes, IsAtEnd};
 ghost use Rattle.http_front.specs.Inboxes.{unread};
 ghost use Rattle.http_front.specs.Serving.{SoFar, Goes, EndsWell, FailsBy, Adds, Loses};
+ghost use Rattle.http_front.specs.Texts.{text_of};
 
 use crate::clock::Clock;
 use crate::fault::{FrontKind, Served};
 use crate::handler::Handler;
 use crate::inbox::Inbox;
+use crate::response::ResponseText;
 use crate::site::Site;
 use crate::steps::{Step, take_step};
-use module_lang::{WriteFault, put_all};
+use module_lang::WriteFault;
 use std::alloc::{AllocError, Global};
 use std::io::{Read, Write};
 
@@ -36,7 +38,7 @@ enum Next {
 #[derive(Drop)]
 struct Progress {
     inbox: Inbox,
-    text: Vec<u8>,
+    text: ResponseText,
     requests: u64,
     whole: bool,
 }
@@ -49,24 +51,34 @@ impl Progress {
     {
         Progress {
             inbox: Inbox::new(alloc),
-            text: Vec::new(alloc),
+            text: ResponseText::new(alloc),
             requests: 0,
             whole: false,
         }
     }
 
-    /// Writes the response that was made, for a request of so many bytes.
-    fn put<W: Write>(&mut self, writer: &mut W, size: usize) -> Result<(), FrontKind>
+    /// Writes the response that was made, for a request of so many bytes. Its body goes back to the handler, also where the writer failed.
+    fn put<W: Write, H: Handler>(
+        &mut self,
+        alloc: Global,
+        writer: &mut W,
+        handler: &mut H,
+        size: usize,
+    ) -> Result<(), FrontKind>
         requires fits { size ≤ length (unread self.old.inbox) }
         requires few { self.old.requests < 2 ^ 63 }
-        ensures ok { IfOk result (λ u. Appends (W.contents writer.old) (W.contents writer.new) self.old.text.items) }
-        ensures err { IfErr result (λ e. (e ≡ FrontKind.Write) × ((n : ℕ) × (n < length self.old.text.items) × Appends (W.contents writer.old) (W.contents writer.new) (take n self.old.text.items))) }
+        ensures ok { IfOk result (λ u. Appends (W.contents writer.old) (W.contents writer.new) (text_of self.old.text)) }
+        ensures err { IfErr result (λ e. (e ≡ FrontKind.Write) × ((n : ℕ) × (n < length (text_of self.old.text)) × Appends (W.contents writer.old) (W.contents writer.new) (take n (text_of self.old.text)))) }
         ensures whole { self.new.whole ≡ self.old.whole }
         ensures counted { OnOk result (self.new.requests ≡ self.old.requests + 1) }
         ensures skipped { OnOk result (unread self.new.inbox ≡ drop size (unread self.old.inbox)) }
-        ensures kept { OnErr result (self.new ≡ self.old) }
+        ensures uncounted { OnErr result (self.new.requests ≡ self.old.requests) }
+        ensures kept { OnErr result (self.new.inbox ≡ self.old.inbox) }
+        ensures still { handler.new ≡ handler.old }
     {
-        match put_all(writer, self.text.as_slice()) {
+        let written = self.text.write(writer);
+        self.text.give_back(alloc, handler);
+        match written {
             Ok(()) => {
                 self.requests += 1;
                 self.inbox.skip(size);
@@ -111,16 +123,16 @@ fn answer_next<W: Write, H: Handler, K: Clock>(
         Step::More => Ok(Next::Reads),
         Step::Done => Ok(Next::Over),
         Step::Stays(size) => {
-            so_far.put(writer, size)?;
+            so_far.put(alloc, writer, handler, size)?;
             Ok(Next::Again)
         }
         Step::Closes(size) => {
-            so_far.put(writer, size)?;
+            so_far.put(alloc, writer, handler, size)?;
             Ok(Next::Over)
         }
         Step::Refused => {
             let size = so_far.inbox.unread().len();
-            so_far.put(writer, size)?;
+            so_far.put(alloc, writer, handler, size)?;
             Ok(Next::Over)
         }
     }
@@ -155,13 +167,17 @@ fn answer_all<W: Write, H: Handler, K: Clock>(
     }
 }
 
-/// Reads more bytes, and answers whether the reader is at its end.
-fn read_more<R: Read>(reader: &mut R, inbox: &mut Inbox) -> Result<bool, FrontKind>
+/// Reads more bytes, through a buffer, and answers whether the reader is at its end.
+fn read_more<R: Read>(
+    reader: &mut R,
+    buffer: &mut [u8],
+    inbox: &mut Inbox,
+) -> Result<bool, FrontKind>
+    requires { length buffer.old ≡ 8192 }
     ensures ok { IfOk result (λ whole. Adds (R.remaining reader.old) (R.remaining reader.new) (unread inbox.old) (unread inbox.new) 8192 whole) }
     ensures err { IfErr result (λ e. Loses (R.remaining reader.old) (R.remaining reader.new) e) }
 {
-    let mut buffer = [0; READ_BYTES];
-    match reader.read(&mut buffer) {
+    match reader.read(buffer) {
         Ok(0) => Ok(true),
         Ok(count) => match inbox.add(&buffer[..count]) {
             Ok(()) => Ok(false),
@@ -191,9 +207,10 @@ pub(crate) fn serve_open<R: Read, W: Write, H: Handler, K: Clock>(
     ensures ok { IfOk result (λ s. EndsWell site.now (λ h. H.handles h number) K.tells handler.old clock.old (R.remaining reader.old) (W.contents writer.old) (W.contents writer.new) s.requests handler.new clock.new) }
     ensures err { IfErr result (λ e. FailsBy site.now (λ h. H.handles h number) K.tells handler.old clock.old (R.remaining reader.old) (R.remaining reader.new) (W.contents writer.old) (W.contents writer.new) handler.new clock.new e) }
 {
+    let mut buffer = [0; READ_BYTES];
     let mut so_far = Progress::new(alloc);
     for _ in 0..READS {
-        so_far.whole = read_more(reader, &mut so_far.inbox)?;
+        so_far.whole = read_more(reader, &mut buffer, &mut so_far.inbox)?;
         match answer_all(alloc, &mut so_far, writer, site, handler, number, clock)? {
             Next::Over => {
                 return Ok(Served {

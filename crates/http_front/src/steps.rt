@@ -4,7 +4,8 @@ ghost use Rattle.std.specs.Prelude.{◌≡◌, ◌≤◌, ◌&&◌, ℕ, Bool, L
 ghost use Rattle.httparse.specs.Spans.{IsRequestWithin};
 ghost use Rattle.http_front.specs.Looking.{IsFound};
 ghost use Rattle.http_front.specs.Outcomes.{IsLack};
-ghost use Rattle.http_front.specs.Stepping.{Steps};
+ghost use Rattle.http_front.specs.Stepping.{Steps, WantsAnswer};
+ghost use Rattle.http_front.specs.Texts.{text_of};
 ghost use Rattle.http_front.specs.Turns.{head_limit, fields_limit};
 
 use crate::answering::{bad_reply, reply_to};
@@ -12,6 +13,7 @@ use crate::clock::Clock;
 use crate::fault::FrontKind;
 use crate::handler::Handler;
 use crate::looking::{Look, look_at};
+use crate::response::ResponseText;
 use crate::site::Site;
 use crate::texts::put_reply;
 use httparse::spans::{EMPTY_HEADER_SPAN, HeaderSpan, RequestSpans};
@@ -46,20 +48,20 @@ fn answer_head<H: Handler, K: Clock>(
     handler: &mut H,
     number: u64,
     clock: &mut K,
-    text: &mut Vec<u8>,
+    text: &mut ResponseText,
 ) -> Result<Step, FrontKind>
     requires within { IsRequestWithin seen.now spans.now head }
     requires found { IsFound head_limit seen.now spans.now head }
     requires room { length spans.now ≡ fields_limit }
     requires open { H.is_open handler.old number }
     ensures open { H.is_open handler.new number }
-    ensures ok { IfOk result (λ s. (whole : Bool) → Steps site.now (λ old. H.handles old number) K.tells handler.old clock.old seen.now whole s text.new.items handler.new clock.new) }
+    ensures ok { IfOk result (λ s. (whole : Bool) → Steps site.now (λ old. H.handles old number) K.tells handler.old clock.old seen.now whole s (text_of text.new) handler.new clock.new) }
     ensures err { IfErr result IsLack }
 {
-    let reply = reply_to(alloc, seen, spans, head, site, handler, number)?;
-    let (method, target) = (head.method.of(seen), head.path.of(seen));
-    put_reply(alloc, method, target, &reply, clock, text)?;
+    let mut reply = reply_to(alloc, seen, spans, head, site, handler, number)?;
     let closes = reply.closes;
+    let (method, target) = (head.method.of(seen), head.path.of(seen));
+    put_reply(alloc, method, target, &mut reply, clock, text)?;
     handler.give_back(reply.body);
     if closes {
         return Ok(Step::Closes(head.len));
@@ -77,16 +79,16 @@ fn step_within<H: Handler, K: Clock>(
     handler: &mut H,
     number: u64,
     clock: &mut K,
-    text: &mut Vec<u8>,
+    text: &mut ResponseText,
 ) -> Result<Step, FrontKind>
     requires size { length seen.now ≤ head_limit }
     requires room { length spans.old ≡ fields_limit }
     requires open { H.is_open handler.old number }
     ensures open { H.is_open handler.new number }
-    ensures ok { IfOk result (λ s. Steps site.now (λ old. H.handles old number) K.tells handler.old clock.old seen.now whole s text.new.items handler.new clock.new) }
-    ensures err { IfErr result IsLack }
+    ensures ok { IfOk result (λ s. Steps site.now (λ old. H.handles old number) K.tells handler.old clock.old seen.now whole s (text_of text.new) handler.new clock.new) }
+    ensures err { IfErr result (λ e. IsLack e × WantsAnswer seen.now whole) }
 {
-    text.clear();
+    text.clear(alloc);
     if seen.is_empty() && whole {
         return Ok(Step::Done);
     }
@@ -99,7 +101,7 @@ fn step_within<H: Handler, K: Clock>(
         ),
         Look::More => Ok(Step::More),
         Look::Headless => {
-            put_reply(alloc, &[], &[], &bad_reply(alloc), clock, text)?;
+            put_reply(alloc, &[], &[], &mut bad_reply(alloc), clock, text)?;
             Ok(Step::Refused)
         }
     }
@@ -123,13 +125,14 @@ fn front(bytes: &[u8], limit: usize) -> &[u8]
 
 /// Answers the request that the bytes at hand begin with, if they hold its head (RFC 9112, section 2.1). A head has at most 8192 bytes, the
 /// empty lines before it among them, and 64 fields. The response is left in `text`, which is cleared first and keeps its room; where
-/// nothing is answered it is empty. `whole` says that no bytes follow.
+/// nothing is answered it is empty. A body of more than 64 KiB goes into it as the handler gave it: give it back once it is written
+/// (`ResponseText::give_back`). `whole` says that no bytes follow.
 ///
 /// `handler` is asked where a GET or a HEAD names a file of the site, on the connection of this `number`; `clock` is asked once a response.
 ///
 /// # Errors
 ///
-/// `NoMemory` and `NamesSpent` leave the request without a response, and `text` is of no use.
+/// `NoMemory` and `NamesSpent`: the bytes begin with a head, or with none whatever follows, and get no response; `text` is of no use.
 pub fn take_step<H: Handler, K: Clock>(
     alloc: Global,
     seen: &[u8],
@@ -138,12 +141,12 @@ pub fn take_step<H: Handler, K: Clock>(
     handler: &mut H,
     number: u64,
     clock: &mut K,
-    text: &mut Vec<u8>,
+    text: &mut ResponseText,
 ) -> Result<Step, FrontKind>
     requires { H.is_open handler.old number }
     ensures open { H.is_open handler.new number }
-    ensures ok { IfOk result (λ s. Steps site.now (λ old. H.handles old number) K.tells handler.old clock.old seen.now whole s text.new.items handler.new clock.new) }
-    ensures err { IfErr result IsLack }
+    ensures ok { IfOk result (λ s. Steps site.now (λ old. H.handles old number) K.tells handler.old clock.old seen.now whole s (text_of text.new) handler.new clock.new) }
+    ensures err { IfErr result (λ e. IsLack e × WantsAnswer seen.now whole) }
 {
     let mut spans = [EMPTY_HEADER_SPAN; FIELDS_LIMIT];
     step_within(

@@ -1,7 +1,5 @@
-use Rattle.std.proofs.Common.{◌≡◌, ℕ, ◌+◌, ◌≤◌, List, length, true, Ok, Err, ap, sym, ◌∙◌, arith}
+use Rattle.std.proofs.Common.{Ok, Err, ap, sym, ◌∙◌, arith}
 use Rattle.std.proofs.lemmas.Result.{err_from_is_err_and}
-use Rattle.std.specs.Io.KnownBytes.{IsAtEnd}
-use Rattle.http_front.specs.Inboxes.{unread}
 use Rattle.http_front.proofs.ServedLaws.{next_is}
 use Rattle.http_front.proofs.serving.answer_all.Goals as goal
 

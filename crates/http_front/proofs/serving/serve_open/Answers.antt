@@ -1,4 +1,4 @@
-use Rattle.std.proofs.Common.{◌≡◌, ℕ, ◌++◌, length, Ok, Err, ap, ◌∙◌, arith, length-append}
+use Rattle.std.proofs.Common.{length, Ok, ap, ◌∙◌, arith, length-append}
 use Rattle.std.proofs.lemmas.Result.{err_from_is_err_and}
 use Rattle.http_front.specs.Inboxes.{unread}
 use Rattle.http_front.specs.declared.serving.Next.TheVariants as next

@@ -1,7 +1,7 @@
 use Rattle.std.proofs.Common.{◌≡◌, ℕ, false, [], refl, ◌∙◌, subst}
 use Rattle.http_front.specs.Heads.{StaysHeadless}
 use Rattle.http_front.specs.Turns.{head_limit}
-use Rattle.http_front.proofs.Stepped.{is_empty, none_wants, not_empty, ok_gives, sends_bad}
+use Rattle.http_front.proofs.Stepped.{found_lack, is_empty, none_wants, not_empty, ok_gives, sends_bad}
 use Rattle.http_front.proofs.steps.step_within.Goals as goal
 use Rattle.http_front.proofs.steps.step_within.Goals.{else-is_empty-via-then-is_empty+else-whole, else-is_empty-via-else-is_empty}
 
@@ -12,7 +12,8 @@ returns-then-is_empty-2-clause-ok g c =
       | else-is_empty-via-then-is_empty+else-whole w ↦ w.if-whole.false
       | else-is_empty-via-else-is_empty w ↦ absurd (not_empty c.args.seen.now w.if-is_empty.ensures none)
     ] in
-    (follows, none_wants c.args.seen.now none, record { same = refl; still = refl; none = c.clear.ensures.items })
+    let e = c.clear.ensures in
+    (follows, none_wants c.args.seen.now none, record { same = refl; still = refl; none = rw (e.head, e.body, e.tail) refl })
 
 pub returns-in-Head-clause-ok : goal.returns-in-Head-clause-ok
 returns-in-Head-clause-ok g c =
@@ -26,3 +27,8 @@ returns-in_ok-put_reply-in-Headless-clause-ok g c = (
   refl,
   sends_bad c.args.site.now (λ old. g.H.Handler.handles old c.args.number) g.K.Clock.tells _ _ c.bad_reply.result _ c.bad_reply.ensures c.in_ok-put_reply-in-Headless.ensures,
 )
+
+pub returns-in-Head-clause-err : goal.returns-in-Head-clause-err
+returns-in-Head-clause-err g c =
+    let found = c.in-Head.ensures.looks.1 in
+    found_lack _ c.args.seen.now c.args.whole _ found.0 _ c.answer_head.result (c.look_at.ensures.room ∙ c.requires.room) found.2 c.answer_head.ensures.err

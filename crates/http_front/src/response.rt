@@ -1,0 +1,64 @@
+//! The text of a response, in the parts that are written.
+
+ghost use Rattle.std.specs.Prelude.{◌≡◌, []};
+ghost use Rattle.module_lang.specs.Writes.{Wrote};
+ghost use Rattle.http_front.specs.Texts.{text_of};
+
+use crate::handler::Handler;
+use filter_chain::Seq;
+use module_lang::{WriteFault, put_all};
+use std::alloc::Global;
+use std::io::Write;
+use std::mem;
+
+/// The text of a response, in parts that are written one after another. A body of more than 64 KiB lies as the handler gave it; with a
+/// smaller one the whole text lies in the first part. The buffers keep their room from one response to the next.
+#[derive(Drop)]
+pub struct ResponseText {
+    /// The head, and the line with the size of the chunk. Or the whole text.
+    pub head: Vec<u8>,
+    /// The body, where it is large.
+    pub body: Seq<u8>,
+    /// What follows a large body: the end of its chunks.
+    pub tail: Vec<u8>,
+}
+
+impl ResponseText {
+    /// No text. It takes no memory.
+    pub fn new(alloc: Global) -> ResponseText
+        ensures { text_of result ≡ [] }
+    {
+        ResponseText {
+            head: Vec::new(alloc),
+            body: Seq::new(alloc),
+            tail: Vec::new(alloc),
+        }
+    }
+
+    /// Empties it. The buffers keep their room; that of a body that was not given back is lost.
+    pub(crate) fn clear(&mut self, alloc: Global)
+        ensures head { self.new.head.items ≡ [] }
+        ensures body { self.new.body ≡ [] }
+        ensures tail { self.new.tail.items ≡ [] }
+    {
+        self.head.clear();
+        self.body = Seq::new(alloc);
+        self.tail.clear();
+    }
+
+    /// Writes the parts one after another. Where that fails, a front of the text is written.
+    pub fn write<W: Write>(&self, writer: &mut W) -> Result<(), WriteFault>
+        ensures { Wrote result (W.contents writer.old) (W.contents writer.new) (text_of self.now) }
+    {
+        put_all(writer, self.head.as_slice())?;
+        put_all(writer, self.body.as_slice())?;
+        put_all(writer, self.tail.as_slice())
+    }
+
+    /// Gives a large body back to the handler that it is from, so that its room is used again.
+    pub fn give_back<H: Handler>(&mut self, alloc: Global, handler: &mut H)
+        ensures { handler.new ≡ handler.old }
+    {
+        handler.give_back(mem::replace(&mut self.body, Seq::new(alloc)));
+    }
+}
