@@ -262,18 +262,18 @@ module _ {H K : Type 0} (site : Site) (handles : H → Method → List ℕ → O
   unwritten old before r q w v unread n new after so = record { turns = so.turns; stay = so.stay; answers = so.answers; count = so.count; took = so.took; wrote = tt }
 
   -- A part of a response is written.
-  cut_of : (old : H) (before : K) (q w v u : Option (List ℕ)) (stream unread : List ℕ) (n k : ℕ) (mid : H) (then : K) (text : List ℕ)
-      → (so : Far old before (Some stream) q w v unread n mid then) → IsNext site handles tells old before stream (texts_of so.turns ++ text) (n + 1)
-      → k < length text → Appends v u (take k text) → Writes (Some stream) w u (IsCut site handles tells old before)
+  cut_of : (old : H) (before : K) (q w v u : Option (List ℕ)) (stream unread : List ℕ) (n k : ℕ) (mid new : H) (then after : K) (text : List ℕ)
+      → (so : Far old before (Some stream) q w v unread n mid then) → IsNext site handles tells old before stream (texts_of so.turns ++ text) (n + 1) new after
+      → k < length text → Appends v u (take k text) → Writes (Some stream) w u (λ stream text. IsCut site handles tells old before stream text new after)
   unfolding front_of
-  cut_of old before q w v u stream unread n k mid then text so next few wrote = (
+  cut_of old before q w v u stream unread n k mid new then after text so next few wrote = (
     texts_of so.turns ++ take k text,
     record {
       front = texts_of so.turns;
       part = take k text;
       more = drop k text;
       whole = front_of old before stream q w v unread n mid then so;
-      next = subst (λ l. IsNext site handles tells old before stream (texts_of so.turns ++ l) (n + 1)) (sym (take-append-drop k text)) next;
+      next = subst (λ l. IsNext site handles tells old before stream (texts_of so.turns ++ l) (n + 1) new after) (sym (take-append-drop k text)) next;
       some = λ none. let rest = length-drop k text in let zero-is = ap length none in absurd (omega (arith, few, rest, zero-is));
       written = refl;
     },
@@ -282,31 +282,31 @@ module _ {H K : Type 0} (site : Site) (handles : H → Method → List ℕ → O
 
   pub cut_stays : (old : H) (before : K) (r q w v u : Option (List ℕ)) (unread : List ℕ) (n size k : ℕ) (mid new : H) (then after : K) (text : List ℕ)
       → Far old before r q w v unread n mid then → Serves site handles tells mid then unread false size text new after
-      → k < length text → Appends v u (take k text) → Writes r w u (IsCut site handles tells old before)
+      → k < length text → Appends v u (take k text) → Writes r w u (λ stream text. IsCut site handles tells old before stream text new after)
   unfolding far_stays front_of unwritten
   cut_stays old before None q w v u unread n size k mid new then after text so serves few wrote = tt
   cut_stays old before (Some stream) q w v u unread n size k mid new then after text so serves few wrote =
       let bare = unwritten old before (Some stream) q w v unread n mid then so in
       let next = far_stays old before (Some stream) q None None None unread (drop size unread) n (n + 1) size mid new then after text bare serves tt refl refl in
       let all : texts_of next.turns ≡ texts_of so.turns ++ text = texts_more so.turns serves.turn ∙ ap (λ l. texts_of so.turns ++ l) (sym serves.written) in
-      cut_of old before q w v u stream unread n k mid then text so
-      (subst (λ l. IsNext site handles tells old before stream l (n + 1)) all (inl (front_of old before stream q None None (drop size unread) (n + 1) new after next, refl))) few wrote
+      cut_of old before q w v u stream unread n k mid new then after text so
+      (subst (λ l. IsNext site handles tells old before stream l (n + 1) new after) all (inl (front_of old before stream q None None (drop size unread) (n + 1) new after next, refl, refl, refl))) few wrote
 
   pub cut_closes : (old : H) (before : K) (r q w v u : Option (List ℕ)) (unread : List ℕ) (n size k : ℕ) (mid new : H) (then after : K) (text : List ℕ)
       → Far old before r q w v unread n mid then → Serves site handles tells mid then unread true size text new after
-      → k < length text → Appends v u (take k text) → Writes r w u (IsCut site handles tells old before)
+      → k < length text → Appends v u (take k text) → Writes r w u (λ stream text. IsCut site handles tells old before stream text new after)
   cut_closes old before None q w v u unread n size k mid new then after text so serves few wrote = tt
   cut_closes old before (Some stream) q w v u unread n size k mid new then after text so serves few wrote =
-      cut_of old before q w v u stream unread n k mid then text so
-      (inr (new, after, inr (inl (closed old before stream q w v unread n (n + 1) size mid new then after text so serves refl)))) few wrote
+      cut_of old before q w v u stream unread n k mid new then after text so
+      (inr (inr (inl (closed old before stream q w v unread n (n + 1) size mid new then after text so serves refl)))) few wrote
 
   pub cut_refused : (old : H) (before : K) (r q w v u : Option (List ℕ)) (unread : List ℕ) (whole : Bool) (n k : ℕ) (mid new : H) (then after : K) (text : List ℕ)
       → Far old before r q w v unread n mid then → (whole ≡ true → IsAtEnd q) → Bad mid then unread whole text new after
-      → k < length text → Appends v u (take k text) → Writes r w u (IsCut site handles tells old before)
+      → k < length text → Appends v u (take k text) → Writes r w u (λ stream text. IsCut site handles tells old before stream text new after)
   cut_refused old before None q w v u unread whole n k mid new then after text so end bad few wrote = tt
   cut_refused old before (Some stream) q w v u unread whole n k mid new then after text so end bad few wrote =
-      cut_of old before q w v u stream unread n k mid then text so
-      (inr (new, after, inr (inr (refused old before stream q w v unread whole n (n + 1) mid new then after text so end bad refl)))) few wrote
+      cut_of old before q w v u stream unread n k mid new then after text so
+      (inr (inr (inr (refused old before stream q w v unread whole n (n + 1) mid new then after text so end bad refl)))) few wrote
 
   -- Memory or names are lacking, as the kind of the fault says.
   lack_memory : (r q w v : Option (List ℕ)) (old : H) (before : K) → Writes r w v (λ stream text. LacksAt site handles tells old before stream text q) → Writes r w v (λ stream text. LacksMemory site handles tells old before stream text q)
@@ -330,7 +330,7 @@ module _ {H K : Type 0} (site : Site) (handles : H → Method → List ℕ → O
       (far_lacks_by old before r q w v new after e lack (far_lacks old before r q w v unread whole n mid then so end (subst (λ l. WantsAnswer l whole) are wants)))
 
   pub fails_by : (old : H) (before : K) (r q w v : Option (List ℕ)) (whole : Bool) (unread : List ℕ) (n : ℕ) (new : H) (after : K) (result : Result Next FrontKind) (y e : FrontKind)
-      → result ≡ Err y → y ≡ e → e ≡ kind.Write → Writes r w v (IsCut site handles tells old before) → GoesOn old before r q w v whole unread n new after result
+      → result ≡ Err y → y ≡ e → e ≡ kind.Write → Writes r w v (λ stream text. IsCut site handles tells old before stream text new after) → GoesOn old before r q w v whole unread n new after result
   fails_by old before r q w v whole unread n new after result y e is same write cut =
       subst (GoesOn old before r q w v whole unread n new after) (sym (is ∙ ap Err (same ∙ write))) cut
 

@@ -51,7 +51,7 @@ module _ {H K : Type 0} (site : Site) (handles : H → Method → List ℕ → O
   -- writer failed, the last response is cut. Where the reader failed, or gave no end, all whole requests that were read are answered. Where names
   -- or memory are lacking, all before the one at hand are. All responses are written, where no more than the close lacks memory.
   abbrev pub FallsBy : FrontKind → Option ℕ → H → K → List ℕ → List ℕ → Option (List ℕ) → H → K → Type 0
-  FallsBy kind.Write left old before stream text unread new after = IsCut site handles tells old before stream text
+  FallsBy kind.Write left old before stream text unread new after = IsCut site handles tells old before stream text new after
   FallsBy kind.Read left old before stream text unread new after = AnswersRead site handles tells old before stream text unread new after
   FallsBy kind.TooManyReads left old before stream text unread new after = AnswersRead site handles tells old before stream text unread new after
   FallsBy kind.NamesSpent left old before stream text unread new after = LacksAt site handles tells old before stream text unread

@@ -47,7 +47,7 @@ module _ {H K : Type 0} (site : Site) (handles : H → Method → List ℕ → O
   -- Serving fails. Only where the writer failed, a response is cut. All whole requests that were read are answered, where the reader failed,
   -- or gave no end. All before the one at hand are, where memory or names are lacking.
   abbrev pub FailsBy : H → K → Option (List ℕ) → Option (List ℕ) → Option (List ℕ) → Option (List ℕ) → H → K → FrontKind → Type 0
-  FailsBy old before r q w v new after kind.Write = Writes r w v (IsCut site handles tells old before)
+  FailsBy old before r q w v new after kind.Write = Writes r w v (λ stream text. IsCut site handles tells old before stream text new after)
   FailsBy old before r q w v new after kind.Read = Writes r w v (λ stream text. AnswersRead site handles tells old before stream text q new after)
   FailsBy old before r q w v new after kind.TooManyReads = Writes r w v (λ stream text. AnswersRead site handles tells old before stream text q new after)
   FailsBy old before r q w v new after kind.NoMemory = Writes r w v (λ stream text. LacksMemory site handles tells old before stream text q)

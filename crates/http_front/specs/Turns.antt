@@ -154,9 +154,9 @@ module _ {H K : Type 0} (site : Site) (handles : H → Method → List ℕ → O
     pub responses : EndsAll old before first text n new after
 
   -- These are so many responses to a stream, or to its first requests.
-  abbrev pub IsNext : H → K → List ℕ → List ℕ → ℕ → Type 0
-  IsNext old before stream text n =
-      ((front : IsFront old before stream text) × (front.n ≡ n)) ⊎ ((new : H) × (after : K) × Responses old before stream text n new after)
+  abbrev pub IsNext : H → K → List ℕ → List ℕ → ℕ → H → K → Type 0
+  IsNext old before stream text n new after =
+      ((front : IsFront old before stream text) × (front.n ≡ n) × (front.new ≡ new) × (front.after ≡ after)) ⊎ Responses old before stream text n new after
 
   -- These are the responses to all whole requests that were read. seen: what was read and not answered. left: what the reader has left.
   pub record AnswersRead (old : H) (before : K) (stream text : List ℕ) (left : Option (List ℕ)) (new : H) (after : K) : Type 0 where
@@ -200,12 +200,12 @@ module _ {H K : Type 0} (site : Site) (handles : H → Method → List ℕ → O
   abbrev pub LacksMemory : H → K → List ℕ → List ℕ → Option (List ℕ) → Type 0
   LacksMemory old before stream text left = LacksAt old before stream text left ⊎ LosesRead old before stream text left
 
-  -- These are the responses to the first requests of a stream, and a part of one response more: that is cut.
-  pub record IsCut (old : H) (before : K) (stream text : List ℕ) : Type 0 where
+  -- These are the responses to the first requests of a stream, and a part of one response more: that is cut. Its request was handled, too.
+  pub record IsCut (old : H) (before : K) (stream text : List ℕ) (new : H) (after : K) : Type 0 where
     pub front : List ℕ
     pub part : List ℕ
     pub more : List ℕ
     pub whole : IsFront old before stream front
-    pub next : IsNext old before stream (front ++ (part ++ more)) (whole.n + 1)
+    pub next : IsNext old before stream (front ++ (part ++ more)) (whole.n + 1) new after
     pub some : ¬ (more ≡ [])
     pub written : text ≡ front ++ part

@@ -16,7 +16,7 @@ returns-in_err-step-clause-goes g c old before r q w ends so =
 pub returns-in_err-put-in-Stays-clause-goes : goal.returns-in_err-put-in-Stays-clause-goes
 returns-in_err-put-in-Stays-clause-goes g c old before r q w ends so =
     let one : Steps c.args.site.now (λ h. g.H.Handler.handles h c.args.number) g.K.Clock.tells c.args.handler.now c.args.clock.now c.unread.result.now c.args.so_far.now.whole c.in_ok-step.step (text_of c.take_step.new.text) c.take_step.new.handler c.take_step.new.clock = c.in_ok-step.ensures.ok in
-    let stepped = did c.args.site.now (λ h. g.H.Handler.handles h c.args.number) g.K.Clock.tells c.args.handler.now c.args.clock.now c.unread.result.now (unread c.args.so_far.now.inbox) c.args.so_far.now.whole c.in_ok-step.step (step.Stays c.in-Stays.size) (text_of c.take_step.new.text) c.take_step.new.handler c.take_step.new.handler c.take_step.new.clock c.unread.ensures c.in-Stays.is refl one in
+    let stepped = did c.args.site.now (λ h. g.H.Handler.handles h c.args.number) g.K.Clock.tells c.args.handler.now c.args.clock.now c.unread.result.now (unread c.args.so_far.now.inbox) c.args.so_far.now.whole c.in_ok-step.step (step.Stays c.in-Stays.size) (text_of c.take_step.new.text) c.take_step.new.handler _ c.take_step.new.clock c.unread.ensures c.in-Stays.is c.in_err-put-in-Stays.ensures.still one in
     let p = err_from_is_err_and c.from_residual-in_err-put-in-Stays.result c.from_residual-in_err-put-in-Stays.ensures.1 in
     let e = c.in_err-put-in-Stays.ensures.err in
     fails_by _ _ _ old before r q w _ _ _ _ _ _ c.from_residual-in_err-put-in-Stays.result p.0 c.in_err-put-in-Stays.field-0.0 p.1 p.2 e.0
@@ -25,7 +25,7 @@ returns-in_err-put-in-Stays-clause-goes g c old before r q w ends so =
 pub returns-in_err-put-in-Closes-clause-goes : goal.returns-in_err-put-in-Closes-clause-goes
 returns-in_err-put-in-Closes-clause-goes g c old before r q w ends so =
     let one : Steps c.args.site.now (λ h. g.H.Handler.handles h c.args.number) g.K.Clock.tells c.args.handler.now c.args.clock.now c.unread.result.now c.args.so_far.now.whole c.in_ok-step.step (text_of c.take_step.new.text) c.take_step.new.handler c.take_step.new.clock = c.in_ok-step.ensures.ok in
-    let stepped = did c.args.site.now (λ h. g.H.Handler.handles h c.args.number) g.K.Clock.tells c.args.handler.now c.args.clock.now c.unread.result.now (unread c.args.so_far.now.inbox) c.args.so_far.now.whole c.in_ok-step.step (step.Closes c.in-Closes.size) (text_of c.take_step.new.text) c.take_step.new.handler c.take_step.new.handler c.take_step.new.clock c.unread.ensures c.in-Closes.is refl one in
+    let stepped = did c.args.site.now (λ h. g.H.Handler.handles h c.args.number) g.K.Clock.tells c.args.handler.now c.args.clock.now c.unread.result.now (unread c.args.so_far.now.inbox) c.args.so_far.now.whole c.in_ok-step.step (step.Closes c.in-Closes.size) (text_of c.take_step.new.text) c.take_step.new.handler _ c.take_step.new.clock c.unread.ensures c.in-Closes.is c.in_err-put-in-Closes.ensures.still one in
     let p = err_from_is_err_and c.from_residual-in_err-put-in-Closes.result c.from_residual-in_err-put-in-Closes.ensures.1 in
     let e = c.in_err-put-in-Closes.ensures.err in
     fails_by _ _ _ old before r q w _ _ _ _ _ _ c.from_residual-in_err-put-in-Closes.result p.0 c.in_err-put-in-Closes.field-0.0 p.1 p.2 e.0
@@ -34,7 +34,7 @@ returns-in_err-put-in-Closes-clause-goes g c old before r q w ends so =
 pub returns-in_err-put-in-Refused-clause-goes : goal.returns-in_err-put-in-Refused-clause-goes
 returns-in_err-put-in-Refused-clause-goes g c old before r q w ends so =
     let one : Steps c.args.site.now (λ h. g.H.Handler.handles h c.args.number) g.K.Clock.tells c.args.handler.now c.args.clock.now c.unread.result.now c.args.so_far.now.whole c.in_ok-step.step (text_of c.take_step.new.text) c.take_step.new.handler c.take_step.new.clock = c.in_ok-step.ensures.ok in
-    let stepped = did c.args.site.now (λ h. g.H.Handler.handles h c.args.number) g.K.Clock.tells c.args.handler.now c.args.clock.now c.unread.result.now (unread c.args.so_far.now.inbox) c.args.so_far.now.whole c.in_ok-step.step step.Refused (text_of c.take_step.new.text) c.take_step.new.handler c.take_step.new.handler c.take_step.new.clock c.unread.ensures c.in-Refused.is refl one in
+    let stepped = did c.args.site.now (λ h. g.H.Handler.handles h c.args.number) g.K.Clock.tells c.args.handler.now c.args.clock.now c.unread.result.now (unread c.args.so_far.now.inbox) c.args.so_far.now.whole c.in_ok-step.step step.Refused (text_of c.take_step.new.text) c.take_step.new.handler _ c.take_step.new.clock c.unread.ensures c.in-Refused.is c.in_err-put-in-Refused.ensures.still one in
     let p = err_from_is_err_and c.from_residual-in_err-put-in-Refused.result c.from_residual-in_err-put-in-Refused.ensures.1 in
     let e = c.in_err-put-in-Refused.ensures.err in
     fails_by _ _ _ old before r q w _ _ _ _ _ _ c.from_residual-in_err-put-in-Refused.result p.0 c.in_err-put-in-Refused.field-0.0 p.1 p.2 e.0
