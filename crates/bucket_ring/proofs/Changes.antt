@@ -6,14 +6,13 @@ use Rattle.std.proofs.lemmas.Option.{same_Some}
 use Rattle.std.specs.Option.{option_map}
 use Rattle.bucket_ring.specs.declared.names.BucketId.{BucketId}
 use Rattle.bucket_ring.specs.declared.links.Spot.{Spot}
-use Rattle.bucket_ring.specs.declared.links.Spot.TheVariants.{Tail, Head, Before, After}
 use Rattle.bucket_ring.specs.declared.links.Links.{Links}
 use Rattle.bucket_ring.specs.Lists.{upd, on, list_at, same, times, front, rest, without, found, payload_of}
 use Rattle.bucket_ring.specs.Spots.{placed, picked}
-use Rattle.bucket_ring.specs.Kept.{once_in, IsKept, NoneRevived}
+use Rattle.bucket_ring.specs.Kept.{once_in, IsKept}
 use Rattle.bucket_ring.specs.Laws.{same_slot, same_birth, same_name}
 use Rattle.bucket_ring.specs.Walks.{id_of}
-use Rattle.bucket_ring.specs.Links.{behind_of, before_of, mark_of, at_of, bucket_of, head_of, ring_at, lists_of, IsSpot, AreLinked}
+use Rattle.bucket_ring.specs.Links.{behind_of, before_of, mark_of, at_of, bucket_of, head_of, ring_at, lists_of, AreLinked}
 use Rattle.bucket_ring.proofs.Counts.{parts}
 use Rattle.bucket_ring.proofs.Counted.{items, upd_on, upd_off}
 use Rattle.bucket_ring.proofs.Shown.{head_is, lists_counted}
