@@ -65,7 +65,7 @@ pub record Going (from to before after : Option (List ℕ)) (p : Player) (held :
   pub takes : TakesAll 1 (lines_of whole) (Reading no_head) told stage
   pub at : IsAt p stage
   pub running : is_over stage ≡ false
-  pub open : HasNoLf held
+  pub unended : HasNoLf held
   pub lines : p.lines ≡ length (lines_of whole)
   pub read : Consumes from to (whole ++ held)
   pub wrote : Appends before after told
@@ -82,7 +82,7 @@ going_first r w p held at none empty =
       takes = (refl, refl);
       at = at;
       running = refl;
-      open = subst HasNoLf (sym empty) (λ k d less. absurd (omega (arith, less)));
+      unended = subst HasNoLf (sym empty) (λ k d less. absurd (omega (arith, less)));
       lines = none;
       read = subst (Consumes r r) (sym empty) (Consumes-nil r);
       wrote = Appends-nil w;
@@ -136,7 +136,7 @@ of_left (Some x) (Some y) text P read all = subst P (sym read) (all y refl)
 pub going_read : (from to before after : Option (List ℕ)) (p : Player) (held : List ℕ) (bound : ℕ) → Going from to before after p held bound → Writes from before after (λ script text. AnswersRead script text to)
 going_read from to before after p held bound g =
     of_left from to (g.whole ++ held) (λ script. (t : List ℕ) × AnswersRead script t to × Appends before after t) g.read
-    (λ rest leaves. (g.told, record { whole = g.whole; seen = held; unread = rest; stage = g.stage; splits = append_assoc g.whole held rest; is_whole = g.is_whole; open = g.open; takes = g.takes; leaves = leaves }, g.wrote))
+    (λ rest leaves. (g.told, record { whole = g.whole; seen = held; unread = rest; stage = g.stage; splits = append_assoc g.whole held rest; is_whole = g.is_whole; unended = g.unended; takes = g.takes; leaves = leaves }, g.wrote))
 
 -- A read that failed gave nothing.
 pub going_kept : (from to next before after : Option (List ℕ)) (p : Player) (held : List ℕ) (bound : ℕ) → Going from to before after p held bound → Keeps to next → Writes from before after (λ script text. AnswersRead script text next)
@@ -149,7 +149,7 @@ going_kept from to next before after p held bound g kept =
       takes = g.takes;
       at = g.at;
       running = g.running;
-      open = g.open;
+      unended = g.unended;
       lines = g.lines;
       read = Consumes-kept from to next (g.whole ++ held) g.read kept;
       wrote = g.wrote;
@@ -233,7 +233,7 @@ whole_more a b is (inr ends) = inr (whole_append a b ends)
 
 -- The bytes were taken, and the play goes on.
 pub going_on : (from to next before mid after : Option (List ℕ)) (p new : Player) (held bytes left : List ℕ) (bound more : ℕ) (g : Going from to before mid p held bound) → Consumes to next bytes → bound + length bytes ≤ more → (whole : List ℕ) → IsWhole whole → held ++ bytes ≡ whole ++ left → (k : PlaysOn p new mid after (lines_of whole) g.stage) → HasNoLf left → is_over k.stage ≡ false → Going from next before after new left more
-going_on from to next before mid after p new held bytes left bound more g second wide whole is split k open running =
+going_on from to next before mid after p new held bytes left bound more g second wide whole is split k unended running =
     let lines : lines_of (g.whole ++ whole) ≡ lines_of g.whole ++ lines_of whole = lines_append g.whole whole g.is_whole in
     let count : new.lines ≡ p.lines + length (lines_of whole) = k.lines running in
     let takes = taken_append 1 (lines_of g.whole) (lines_of whole) (Reading no_head) g.stage k.stage g.told k.told g.takes (subst (λ n. TakesAll n (lines_of whole) g.stage k.told k.stage) (let c = g.lines in let e : p.lines + 1 ≡ 1 + length (lines_of g.whole) = omega (arith, c) in e) k.takes) in
@@ -249,7 +249,7 @@ going_on from to next before mid after p new held bytes left bound more g second
       takes = subst (λ ls. TakesAll 1 ls (Reading no_head) (g.told ++ k.told) k.stage) (sym lines) takes;
       at = k.at;
       running = running;
-      open = open;
+      unended = unended;
       lines = let c = g.lines in let long = length-append (lines_of g.whole) (lines_of whole) in let all = ap length lines in omega (arith, c, long, all, count);
       read = subst (Consumes from next) (ap (λ l. g.whole ++ l) split ∙ sym (append_assoc g.whole whole left)) (read_more from to next g.whole held bytes g.read second);
       wrote = Appends-trans before mid after g.told k.told g.wrote k.added;

@@ -143,7 +143,7 @@ pub record Joined (old new : Player) (w v : Option (List ℕ)) (all held rest : 
   pub is_whole : IsWhole whole
   pub split : all ≡ whole ++ (held ++ rest)
   pub plays : PlaysOn old new w v (lines_of whole) s
-  pub open : HasNoLf (held ++ rest)
+  pub unended : HasNoLf (held ++ rest)
 
 -- no LF stands from here on
 no_lf : (bytes : List ℕ) (n : ℕ) → ((k : ℕ) → n ≤ k → k < length bytes → get_or bytes k 0 ≢ 10) → HasNoLf (drop n bytes)
@@ -153,7 +153,7 @@ no_lf bytes n none = λ k d less.
     subst (λ b. b ≢ 10) (sym here) (none (n + k) (omega arith) (omega (arith, less, long)))
 
 pub joined_none : (p new : Player) (w v : Option (List ℕ)) (held bytes kept : List ℕ) (n : ℕ) (s : Stage) → HasNoLf held → ((k : ℕ) → n ≤ k → k < length bytes → get_or bytes k 0 ≢ 10) → n ≤ 0 → IsAt p s → new ≡ p → v ≡ w → kept ≡ held → Joined p new w v (held ++ bytes) kept (drop n bytes) s
-joined_none p new w v held bytes kept n s open lacks none at same wrote is =
+joined_none p new w v held bytes kept n s unended lacks none at same wrote is =
     let zero : n ≡ 0 = omega (arith, none) in
     let P : Player → Option (List ℕ) → Type 0 = λ q o. PlaysOn p q w o (lines_of []) s in
     record {
@@ -161,7 +161,7 @@ joined_none p new w v held bytes kept n s open lacks none at same wrote is =
       is_whole = inl refl;
       split = ap (λ k. held ++ drop k bytes) (sym zero) ∙ ap (λ l. l ++ drop n bytes) (sym is);
       plays = subst (λ q. P q v) (sym same) (subst (P p) (sym wrote) (none_played p w w s at (Appends-nil w)));
-      open = subst (λ l. HasNoLf (l ++ drop n bytes)) (sym is) (All-append (λ b. b ≢ 10) held (drop n bytes) open (no_lf bytes n lacks));
+      unended = subst (λ l. HasNoLf (l ++ drop n bytes)) (sym is) (All-append (λ b. b ≢ 10) held (drop n bytes) unended (no_lf bytes n lacks));
     }
 
 pub joined_some : (old new now : Player) (w v u : Option (List ℕ)) (held bytes whole kept : List ℕ) (n : ℕ) (s : Stage) → ((k : ℕ) → n ≤ k → k < length bytes → get_or bytes k 0 ≢ 10) → 0 < n → n ≤ length bytes → get_or bytes (n - 1) 0 ≡ 10 → whole ≡ held ++ take n bytes → PlaysOn old now w u (lines_of whole) s → new ≡ now → v ≡ u → kept ≡ [] → Joined old new w v (held ++ bytes) kept (drop n bytes) s
@@ -172,12 +172,12 @@ joined_some old new now w v u held bytes whole kept n s lacks some within lf is 
       is_whole = subst IsWhole (sym is) (whole_front held bytes n some within lf);
       split = front_is held bytes n ∙ ap (λ l. l ++ drop n bytes) (sym is) ∙ ap (λ l. whole ++ (l ++ drop n bytes)) (sym none);
       plays = subst (λ q. P q v) (sym same) (subst (P now) (sym wrote) k);
-      open = subst (λ l. HasNoLf (l ++ drop n bytes)) (sym none) (no_lf bytes n lacks);
+      unended = subst (λ l. HasNoLf (l ++ drop n bytes)) (sym none) (no_lf bytes n lacks);
     }
 
 -- what is left was held back
 pub joined_held : (old new : Player) (w v : Option (List ℕ)) (all held rest left : List ℕ) (s : Stage) (u : Unit {0}) → Joined old new w v all held rest s → left ≡ held ++ rest → PlaysBytes old new w v all left s (Ok u)
-joined_held old new w v all held rest left s u j is = (j.whole, j.is_whole, j.split ∙ ap (λ l. j.whole ++ l) (sym is), j.plays, subst HasNoLf (sym is) j.open)
+joined_held old new w v all held rest left s u j is = (j.whole, j.is_whole, j.split ∙ ap (λ l. j.whole ++ l) (sym is), j.plays, subst HasNoLf (sym is) j.unended)
 
 -- there was no memory for what is left
 pub joined_lost : (old new : Player) (w v : Option (List ℕ)) (all held rest left : List ℕ) (s : Stage) → Joined old new w v all held rest s → PlaysBytes old new w v all left s (Err fault.NoMemory)

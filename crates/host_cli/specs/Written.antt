@@ -191,7 +191,7 @@ pub record AnswersRead (script text : List ℕ) (left : Option (List ℕ)) : Typ
   pub stage : Stage
   pub splits : script ≡ whole ++ (seen ++ unread)
   pub is_whole : IsWhole whole
-  pub open : HasNoLf seen
+  pub unended : HasNoLf seen
   pub takes : TakesAll 1 (lines_of whole) (Reading no_head) text stage
   pub leaves : left ≡ Some unread
 

@@ -103,7 +103,7 @@ fn take_bytes<W: Write>(
 ) -> Result<(), PlayFault>
     requires at { (s : Stage) × IsAt player.old s }
     requires few { player.old.lines + length held.old.items + length bytes.now < 2 ^ 62 }
-    requires open { HasNoLf held.old.items }
+    requires unended { HasNoLf held.old.items }
     ensures { (s : Stage) → IsAt player.old s → PlaysBytes player.old player.new (W.contents writer.old) (W.contents writer.new) (held.old.items ++ bytes.now) held.new.items s result }
 {
     let whole = whole_lines(bytes);

@@ -19,8 +19,8 @@ end_play-requires-clause-few g c =
 pub take_bytes-requires-clause-at : goal.take_bytes-requires-clause-at
 take_bytes-requires-clause-at g c = let k = c.loop.invariant.0 in (k.stage, k.at)
 
-pub take_bytes-requires-clause-open : goal.take_bytes-requires-clause-open
-take_bytes-requires-clause-open g c = c.loop.invariant.0.open
+pub take_bytes-requires-clause-unended : goal.take_bytes-requires-clause-unended
+take_bytes-requires-clause-unended g c = c.loop.invariant.0.unended
 
 pub take_bytes-requires-clause-few : goal.take_bytes-requires-clause-few
 take_bytes-requires-clause-few g c =

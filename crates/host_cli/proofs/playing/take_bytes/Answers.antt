@@ -27,7 +27,7 @@ returns-in_err-extend_from_slice-2 g c = λ s at.
           joined_some c.args.player.now c.if-whole-gt0.player w.play_lines.new.player _ _ _ c.args.held.now.items c.args.bytes.now w.as_slice.result.now c.if-whole-gt0.held.items n.result s n.ensures.rest w.if-whole-gt0.true n.ensures.within (n.ensures.ends w.if-whole-gt0.true) (w.as_slice.ensures.value ∙ w.in_ok-extend_from_slice.ensures.items)
           (w.in_ok-play_lines.ensures s at) w.player-is (ap g.W.Write.contents w.writer-is) (cc)
       | else-whole-gt0 w ↦
-          joined_none c.args.player.now c.if-whole-gt0.player _ _ c.args.held.now.items c.args.bytes.now c.if-whole-gt0.held.items n.result s c.requires.open n.ensures.rest w.if-whole-gt0.false at w.player-is (ap g.W.Write.contents w.writer-is) (cc)
+          joined_none c.args.player.now c.if-whole-gt0.player _ _ c.args.held.now.items c.args.bytes.now c.if-whole-gt0.held.items n.result s c.requires.unended n.ensures.rest w.if-whole-gt0.false at w.player-is (ap g.W.Write.contents w.writer-is) (cc)
     ] in
     rw (p.1, p.2) (joined_lost c.args.player.now c.if-whole-gt0.player _ _ _ _ _ c.extend_from_slice-2.new.self.items s j)
 
@@ -40,6 +40,6 @@ returns g c = λ s at.
           joined_some c.args.player.now c.if-whole-gt0.player w.play_lines.new.player _ _ _ c.args.held.now.items c.args.bytes.now w.as_slice.result.now c.if-whole-gt0.held.items n.result s n.ensures.rest w.if-whole-gt0.true n.ensures.within (n.ensures.ends w.if-whole-gt0.true) (w.as_slice.ensures.value ∙ w.in_ok-extend_from_slice.ensures.items)
           (w.in_ok-play_lines.ensures s at) w.player-is (ap g.W.Write.contents w.writer-is) (cc)
       | else-whole-gt0 w ↦
-          joined_none c.args.player.now c.if-whole-gt0.player _ _ c.args.held.now.items c.args.bytes.now c.if-whole-gt0.held.items n.result s c.requires.open n.ensures.rest w.if-whole-gt0.false at w.player-is (ap g.W.Write.contents w.writer-is) (cc)
+          joined_none c.args.player.now c.if-whole-gt0.player _ _ c.args.held.now.items c.args.bytes.now c.if-whole-gt0.held.items n.result s c.requires.unended n.ensures.rest w.if-whole-gt0.false at w.player-is (ap g.W.Write.contents w.writer-is) (cc)
     ] in
     joined_held c.args.player.now c.if-whole-gt0.player _ _ _ _ _ c.extend_from_slice-2.new.self.items s tt j (c.in_ok-extend_from_slice-2.ensures.items ∙ ap (λ l. c.if-whole-gt0.held.items ++ l) (take_rest c.args.bytes.now n.result))
