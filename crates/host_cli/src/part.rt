@@ -36,7 +36,7 @@ pub struct Refused {
 }
 
 /// The certificate that is given, or else one that is made.
-fn certified(alloc: Global, code: &Module, cert: Option<Cert>) -> Result<Certified, AllocError>
+fn certificate_of(alloc: Global, code: &Module, cert: Option<Cert>) -> Result<Certified, AllocError>
     ensures { IfOk result (IsCertified (record { code = code.now; cert = seen_given cert })) }
 {
     if let Some(cert) = cert {
@@ -61,7 +61,7 @@ fn certify_all(
     let mut pairs = Vec::new(alloc);
     for part in parts {
         let Part { code, cert } = part;
-        match certified(alloc, &code, cert)? {
+        match certificate_of(alloc, &code, cert)? {
             Certified::With(cert) => pairs.push((code, cert))?,
             Certified::Refused(refusal) => {
                 let index = pairs.len();

@@ -18,7 +18,7 @@ loop-part-preserved c =
     let all = c.args.parts.items in
     let steps : left ≡ part ∷ rest = c.in-Some.ensures.steps.0 in
     let pushed = c.in_ok-push-in-With.ensures.items in
-    let is = subst (IsCertified (seen_part part)) c.in-With.is c.in_ok-certified.ensures in
+    let is = subst (IsCertified (seen_part part)) c.in-With.is c.in_ok-cert.ensures in
     record {
       codes = maps_on (λ (x : Pair). x.0) (λ (x : ScriptPart). x.code) at.pairs.items c.push.new.self.items left rest all part _ at.invariant.codes steps pushed (search rules);
       refusals = maps_on refusal_with refusal_of at.pairs.items c.push.new.self.items left rest all part _ at.invariant.refusals steps pushed is.1;
@@ -33,4 +33,10 @@ returns-in-Refused-clause-refused c =
     let part = c.in-Some.part in
     let index : c.len-index.result ≡ length at.pairs.items = search rules in
     unmade_at at.pairs.items (into_iter_items at.part-iterator) (into_iter_items c.next.new.self) c.args.parts.items part c.len-index.result c.in-Refused.refusal at.invariant.unmade c.in-Some.ensures.steps.0
-    (subst (IsCertified (seen_part part)) c.in-Refused.is c.in_ok-certified.ensures) index
+    (subst (IsCertified (seen_part part)) c.in-Refused.is c.in_ok-cert.ensures) index
+
+pub returns-clause-certified : goal.returns-clause-certified
+returns-clause-certified c =
+    let at = c.loop-part in
+    let none : into_iter_items at.part-iterator ≡ [] = nothing_left _ _ at.invariant.left c.in-None.ensures.steps.0 in
+    all_certified at.pairs.items (into_iter_items at.part-iterator) c.args.parts.items none at.invariant.codes at.invariant.refusals at.invariant.unmade

@@ -1,7 +1,7 @@
 use Rattle.std.proofs.Common.{◌≡◌, ℕ, ◌+◌, ◌*◌, ◌<◌, ◌≤◌, length, take, false, true, ap, sym, ◌∙◌, arith}
 use Rattle.std.proofs.lemmas.List.{length-take, length-replicate}
 use Rattle.std.proofs.lemmas.Result.{err_from_is_err_and}
-use Rattle.host_cli.proofs.GoingLaws.{going_first, going_last, last_ok, last_read, last_memory, last_write, going_read, bytes_read, bytes_memory, bytes_write, going_on, going_over}
+use Rattle.host_cli.proofs.GoingLaws.{going_first, going_kept, going_last, last_ok, last_read, last_memory, last_write, going_read, bytes_read, bytes_memory, bytes_write, going_on, going_over}
 use Rattle.host_cli.proofs.playing.run_play.Goals as goal
 
 pub loop-init : goal.loop-init
