@@ -114,10 +114,6 @@ unfolding lines_of TakesAll
 none_played p w v s at added =
     record { told = []; stage = s; takes = (refl, refl); at = at; lines = λ _. omega arith; added = added }
 
--- no line became whole, and all is held back
-pub bytes_held : (p : Player) (w : Option (List ℕ)) (bytes held : List ℕ) (s : Stage) (u : Unit {0}) → IsAt p s → held ≡ bytes → PlaysBytes p p w w bytes held s (Ok u)
-bytes_held p w bytes held s u at same = ([], inl refl, sym same, none_played p w w s at (Appends-nil w))
-
 pub bytes_unheld : (p : Player) (w : Option (List ℕ)) (bytes held : List ℕ) (s : Stage) → IsAt p s → PlaysBytes p p w w bytes held s (Err fault.NoMemory)
 unfolding lines_of TakesAll
 bytes_unheld p w bytes held s at =
