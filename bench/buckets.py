@@ -158,7 +158,7 @@ def end_of(count, rounds):
 def ends():
     """Requests that end when so many files were saved for the next."""
     first = end_of(KEPT[1], 20)
-    for size, took in ((KEPT[1], first), (KEPT[2], end_of(KEPT[2], 2))):
+    for size, took in ((KEPT[1], first), (KEPT[2], end_of(KEPT[2], 5))):
         print('the end of a request that saved %s files: %.0f us; ratio %.1f' % (format(size, ','), 1e6 * took, took / first))
 
 
