@@ -84,7 +84,7 @@ module _ (old : Host MemFiles) (files : MemFiles) (name bytes : List ℕ) (w : W
   unfolding happens_on TellsEvent chain_of budget_of
   was_added d e hosts free is = record {
     to = w;
-    acts = record { memory = true; told = told; is = refl; tells = (free, is) };
+    acts = record { memory = true; told = told; is = refl; tells = (free, is); closes = tt };
     hosts = hosts_still d e hosts (ap (λ (x : Device). x.numbered) is) (ap (λ (x : Device). x.next) is);
     chain = refl;
     budget = refl;
@@ -94,7 +94,7 @@ module _ (old : Host MemFiles) (files : MemFiles) (name bytes : List ℕ) (w : W
   unfolding happens_on TellsEvent chain_of budget_of
   not_added d e hosts is = record {
     to = w;
-    acts = record { memory = false; told = told; is = refl; tells = is };
+    acts = record { memory = false; told = told; is = refl; tells = is; closes = tt };
     hosts = hosts_still d e hosts (ap (λ (x : Device). x.numbered) is) (ap (λ (x : Device). x.next) is);
     chain = refl;
     budget = refl;

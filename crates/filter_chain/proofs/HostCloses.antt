@@ -1,23 +1,25 @@
 -- A connection of a host is closed.
-use Rattle.std.proofs.Common.{◌≡◌, ℕ, true, false, List, Option, Some, None, None, refl, sym, ◌∙◌, ap, arith}
+use Rattle.std.proofs.Common.{◌≡◌, ℕ, true, false, List, Option, Some, None, None, refl, sym, ◌∙◌, ap, subst, arith}
 use Rattle.std.proofs.Math.Path.{fun_ext}
 use Rattle.module_lang.specs.Program.{Program}
 use Rattle.run_model.specs.declared.event.Event.TheVariants as event
 use Rattle.run_model.specs.declared.event.Refusal.TheVariants as refusal
 use Rattle.run_model.specs.Indexed.{upd}
-use Rattle.run_model.specs.Chains.{Connection, Linked}
+use Rattle.run_model.specs.Pools.{cleared}
+use Rattle.run_model.specs.Chains.{Connection, Linked, pools_of}
 use Rattle.run_model.specs.Reached.{IsReached}
 use Rattle.run_model.specs.Turns.{closing_labels}
 use Rattle.run_model.specs.Worlds.{World, Refused, Labels, happens, happens_on}
 use Rattle.run_model.proofs.Updates.{upd_at, upd_upd}
 use Rattle.run_model.proofs.chains.EventTurns.{Same}
 use Rattle.bucket_kinds.specs.Device.{Device}
+use Rattle.ring_run.specs.CarriedOut.{ClosedWith}
 use Rattle.filter_chain.specs.declared.next.Next.{Next}
 use Rattle.filter_chain.specs.declared.seat.Seat.{Seat}
 use Rattle.filter_chain.specs.declared.seats.Seats.{Seats}
 use Rattle.filter_chain.specs.declared.host.Host.{Host}
 use Rattle.filter_chain.specs.Hosting.{HoldsWorld, IsHosting, Happens, chain_of, budget_of, seat_at}
-use Rattle.filter_chain.specs.Scenes.{TellsEvent}
+use Rattle.filter_chain.specs.Scenes.{ClosesFiles, TellsEvent}
 use Rattle.filter_chain.specs.Seated.{IsLinked, MayServe}
 use Rattle.filter_chain.specs.Spared.{Spares}
 use Rattle.filter_chain.proofs.Hosts.{found, others_still, seats_put, IsWritten, written}
@@ -25,15 +27,16 @@ use Rattle.filter_chain.proofs.HostEvents.{Serves, nothing_told, happened_on}
 use Rattle.filter_chain.proofs.KnownEvents.{put_same}
 
 -- Where there is no memory it is there as it was.
-pub close_serves : (budget : ℕ) (chain : List Program) (d e : Device) (w : World) (number : ℕ) (c : Connection) → w.conns number ≡ Some c → (next : Next) (s : Seat) → IsLinked chain e next s (w.common, c) → Spares d e c
+pub close_serves : (budget : ℕ) (chain : List Program) (d e : Device) (w : World) (number : ℕ) (c : Connection) → w.conns number ≡ Some c → (next : Next) (s : Seat) → IsLinked chain e next s (w.common, c) → Spares d e c → e ≡ d
     → Serves budget chain d e w number c event.Close (Refused refusal.NoMemory) next s
 unfolding happens_on TellsEvent
-close_serves budget chain d e w number c here next s linked spared = record {
+close_serves budget chain d e w number c here next s linked spared same = record {
   memory = false;
   told = nothing_told;
   left = (w.common, c);
   is = ap (λ (x : World). (Refused refusal.NoMemory, x)) (sym (put_same number w c here));
   tells = spared.folder;
+  closes = same;
   short = tt;
   turn = Same;
   linked = linked;
@@ -76,13 +79,15 @@ module _ {F : Type 0} (host : Host F) (number : ℕ) (s : Seat) (lent : Seats) (
   -- It is closed.
   pub closed_on : (d e : Device) (w : World) → IsHosting d host w → (s0 : Seat) → seat_at host.seats number ≡ Some s0 → (after : Seats) → ((k : ℕ) → seat_at after k ≡ upd (seat_at lent) number None k) → (files : F)
       → (labels : List (List ℕ)) → ((v : Linked) → MayServe (chain_of host) d host.next s0 v → labels ≡ closing_labels v) → ((v : Linked) → MayServe (chain_of host) d host.next s0 v → Spares d e v.1)
+      → ((v : Linked) → MayServe (chain_of host) d host.next s0 v → ClosedWith d e (Some v.1.conn) (pools_of v.0 v.1) (cleared v.1.conn (pools_of v.0 v.1)))
       → Happens d e host (record host { seats = after; files = files }) number event.Close (Labels labels) w
   unfolding IsHosting happens_on TellsEvent chain_of budget_of
-  closed_on d e w hosts s0 at after rest files labels answers spares =
+  closed_on d e w hosts s0 at after rest files labels answers spares closed =
       let f = found (budget_of host) (chain_of host) d host.next host.last (seat_at host.seats) w hosts number s0 at in
       let to = without number w in
       let spared = spares (w.common, f.0) f.2 in
       let is : happens true (budget_of host) (chain_of host) nothing_told number event.Close w ≡ (Labels labels, to) =
       ap (λ (o : Option Connection). happens_on true (budget_of host) (chain_of host) nothing_told event.Close number o w) f.1 ∙ ap (λ (l : List (List ℕ)). (Labels l, to)) (sym (answers (w.common, f.0) f.2)) in
-      happened_on d e host (record host { seats = after; files = files }) number w hosts refl refl event.Close true nothing_told (Labels labels) to is spared.folder tt
+      happened_on d e host (record host { seats = after; files = files }) number w hosts refl refl event.Close true nothing_told (Labels labels) to is spared.folder
+      (subst (λ (o : Option Connection). ClosesFiles d e (chain_of host) event.Close (Labels labels) w.common o to.common (to.conns number)) (sym f.1) (closed (w.common, f.0) f.2)) tt
       (holds_without (budget_of host) (chain_of host) d host.next host.last (seat_at host.seats) w hosts number e f.0 f.1 spared (seat_at after) (taken_out after rest))

@@ -11,12 +11,12 @@ use Rattle.run_model.specs.Turns as turns
 use Rattle.run_model.specs.Worlds.{World, Refused, put_conn, happens_on, file_answered}
 use Rattle.run_model.proofs.chains.EventTurns.{OpensAs, opens_file_turn}
 use Rattle.bucket_kinds.specs.Device.{Device}
-use Rattle.module_run.specs.Happened.{lasted}
-use Rattle.module_run.specs.OpenedFile.{TellsShort}
+use Rattle.module_run.specs.Happened.{lasted, refusal_of}
+use Rattle.module_run.specs.OpenedFile.{IsAfterOpening, TellsShort}
 use Rattle.filter_chain.specs.declared.next.Next.{Next}
 use Rattle.filter_chain.specs.declared.seat.Seat.{Seat}
 use Rattle.filter_chain.specs.Hosting.{file_answer}
-use Rattle.filter_chain.specs.Scenes.{TellsEvent}
+use Rattle.filter_chain.specs.Scenes.{TellsEvent, refusal_in}
 use Rattle.filter_chain.specs.Seated.{OpensFile}
 use Rattle.filter_chain.proofs.HostEvents.{AnyLength, Serves}
 use Rattle.filter_chain.proofs.KnownEvents.{put_same}
@@ -38,6 +38,10 @@ short_file : (answer : Result (ℕ × ℕ) Refusal) → TellsShort answer → Te
 short_file (Ok file) short = short
 short_file (Err r) short = tt
 
+after_answer : (name : List ℕ) (answer : Result (ℕ × ℕ) Refusal) (d e : Device) → IsAfterOpening name (refusal_of answer) d e → IsAfterOpening name (refusal_in (file_answer answer)) d e
+after_answer name (Ok file) d e after = after
+after_answer name (Err r) d e after = after
+
 pub opens_serves : (budget : ℕ) (chain : List Program) (d e : Device) (w : World) (number : ℕ) (c : Connection) → w.conns number ≡ Some c → (now : Next) (s : Seat) (name : List ℕ) (answer : Result (ℕ × ℕ) Refusal)
     → OpensFile chain d e name (w.common, c) now s answer → Serves budget chain d e w number c (event.OpenFile name) (file_answer answer) now s
 unfolding happens_on opens_file TellsEvent
@@ -48,7 +52,8 @@ opens_serves budget chain d e w number c here now s name answer st =
       told = record { reads = λ k. None; opening = st.opening };
       left = left.1;
       is = opening_told number w c here _ c.req st.opening ∙ ap (λ (r : Result (ℕ × ℕ) Refusal). (file_answer r, put_conn number left.1 w)) st.served.answers;
-      tells = (st.told, st.served.spared.folder);
+      tells = (st.told, after_answer name answer d e st.after);
+      closes = tt;
       short = short_file answer st.short;
       turn = opens_file_turn chain AnyLength w.common c (lasted answer) st.opening (any_length left.0);
       linked = st.served.left;

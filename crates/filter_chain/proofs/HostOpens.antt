@@ -46,11 +46,11 @@ module _ {F : Type 0} (d : Device) (old new : Host F) (w : World) (hosts : IsHos
     (seats : seat_at new.seats ≡ seat_at old.seats) where
   pub opens_spent : spent old.last old.next.pool old.next.name ≡ true → Happens d d old new 0 event.Open (Refused refusal.NamesSpent) w
   unfolding happens_on
-  opens_spent is = refused_on d old new 0 w hosts chain budget last next seats event.Open true refusal.NamesSpent (by_names true (chain_of old) w true (spent_is d old w hosts true is))
+  opens_spent is = refused_on d old new 0 w hosts chain budget last next seats event.Open true refusal.NamesSpent (λ q. cc) (by_names true (chain_of old) w true (spent_is d old w hosts true is))
 
   pub opens_forgot : spent old.last old.next.pool old.next.name ≡ false → Happens d d old new 0 event.Open (Refused refusal.NoMemory) w
   unfolding happens_on
-  opens_forgot is = refused_on d old new 0 w hosts chain budget last next seats event.Open false refusal.NoMemory (by_names false (chain_of old) w false (spent_is d old w hosts false is))
+  opens_forgot is = refused_on d old new 0 w hosts chain budget last next seats event.Open false refusal.NoMemory (λ q. cc) (by_names false (chain_of old) w false (spent_is d old w hosts false is))
 
 opened_file : (chain : List Program) (g : Common) → (opened chain g).0.file ≡ g.file
 unfolding opened all_called
@@ -80,7 +80,7 @@ opened_on d old new w hosts chain budget last s seats modules same lasts left po
     let number : w.last + 1 ≡ old.last + 1 = ap (λ (n : ℕ). n + 1) hosts.last_is in
     let after = subst (λ (n : ℕ). (k : ℕ) → seat_at new.seats k ≡ upd (seat_at old.seats) n (Some s) k) (sym number) seats in
     let told : happens true (budget_of old) programs nothing_told 0 event.Open w ≡ (Connected (old.last + 1), to) = is ∙ ap (λ (n : ℕ). (Connected n, to)) number in
-    happened_on d d old new 0 w hosts chain budget event.Open true nothing_told (Connected (old.last + 1)) to told refl tt (λ reached. record {
+    happened_on d d old new 0 w hosts chain budget event.Open true nothing_told (Connected (old.last + 1)) to told refl tt tt (λ reached. record {
       chained = hosts.chained;
       reached = reached;
       last_is = number ∙ sym last;

@@ -35,7 +35,7 @@ labels_on d host number w hosts s labels at told =
     let seen = f.2.linked.seated.seen in
     let same : f.0.labels ≡ labels = ap (λ (c : Connection). c.labels) seen ∙ sym (told (map_of s.tree) (lists s.store) f.0.opened) in
     stays_on d host host number w hosts refl refl refl refl refl event.TellLabels true nothing_told (Labels labels)
-    (ap (λ (o : Option Connection). happens_on true (budget_of host) programs nothing_told event.TellLabels number o w) f.1 ∙ ap (λ (l : List (List ℕ)). (Labels l, w)) same) refl tt
+    (ap (λ (o : Option Connection). happens_on true (budget_of host) programs nothing_told event.TellLabels number o w) f.1 ∙ ap (λ (l : List (List ℕ)). (Labels l, w)) same) refl tt tt
 
 -- its output is lent
 pub output_on : {F : Type 0} (d : Device) (host : Host F) (number : ℕ) (w : World) → IsHosting d host w → (s : Seat) (bytes : List ℕ) → seat_at host.seats number ≡ Some s

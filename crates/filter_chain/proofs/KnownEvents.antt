@@ -1,5 +1,5 @@
 -- How a connection that is there serves each event.
-use Rattle.std.proofs.Common.{◌≡◌, ℕ, Bool, true, List, Option, Some, None, Result, Ok, Err, inl, inr, refl, sym, ◌∙◌, ap, subst}
+use Rattle.std.proofs.Common.{◌≡◌, ℕ, Bool, true, List, Option, Some, None, Result, Ok, Err, OnOk, OnErr, inl, inr, refl, sym, ◌∙◌, ap, subst}
 use Rattle.std.proofs.Math.Path.{fun_ext}
 use Rattle.module_lang.specs.Program.{Program}
 use Rattle.run_model.specs.declared.event.Event.{Event}
@@ -8,7 +8,7 @@ use Rattle.run_model.specs.declared.event.Piece.{Piece}
 use Rattle.run_model.specs.declared.event.Refusal.{Refusal}
 use Rattle.run_model.specs.declared.event.Stepped.{Stepped}
 use Rattle.run_model.specs.Indexed.{upd}
-use Rattle.run_model.specs.Chains.{Connection, Linked}
+use Rattle.run_model.specs.Chains.{Common, Connection, Linked, pools_of}
 use Rattle.run_model.specs.ChainFiles.{TellsLengths, IsShort}
 use Rattle.run_model.specs.Passing.{Reads}
 use Rattle.run_model.specs.Turns.{unless_refused, begun, begins, brought, brings, ended, ends, steps}
@@ -16,11 +16,13 @@ use Rattle.run_model.specs.Worlds.{World, Refused, Output, put_conn, happens_on,
 use Rattle.run_model.proofs.Updates.{upd_either}
 use Rattle.run_model.proofs.chains.EventTurns.{Turn, Drained, begins_turn, brings_turn, ends_turn, steps_turn}
 use Rattle.bucket_kinds.specs.Device.{Device}
-use Rattle.module_run.specs.Stepping.{TellsStep}
+use Rattle.module_run.specs.Happened.{lasted, refusal_of}
+use Rattle.module_run.specs.Stepping.{ClosesStep, TellsStep}
+use Rattle.ring_run.specs.CarriedOut.{ClosedWith}
 use Rattle.filter_chain.specs.declared.next.Next.{Next}
 use Rattle.filter_chain.specs.declared.seat.Seat.{Seat}
 use Rattle.filter_chain.specs.Hosting.{done_answer, step_answer}
-use Rattle.filter_chain.specs.Scenes.{TellsEvent, TellsReads, scene}
+use Rattle.filter_chain.specs.Scenes.{ClosesFiles, TellsEvent, TellsReads, scene}
 use Rattle.filter_chain.specs.Seated.{IsSeated, IsLinked, MayServe, Served, Steps, drained}
 use Rattle.filter_chain.proofs.Hosts.{step_told}
 use Rattle.filter_chain.proofs.HostEvents.{AnyLength, Serves, nothing_told, told_reads}
@@ -54,16 +56,29 @@ step_reads : (chain : List Program) (d e : Device) (w : World) (c : Connection) 
 step_reads chain d e w c (Ok t) reads told = told
 step_reads chain d e w c (Err r) reads told = told
 
+-- and closes
+step_closes : (chain : List Program) (d e : Device) (g h : Common) (c x : Connection) (answer : Result Stepped Refusal) → ClosesStep d e chain answer (g, c) (h, x) → ClosesFiles d e chain event.Step (step_answer answer) g (Some c) h (Some x)
+step_closes chain d e g h c x (Ok t) closed = closed
+step_closes chain d e g h c x (Err r) closed = tt
+
+-- What the end of a request closes.
+end_closes : (chain : List Program) (d e : Device) (v : Linked) (r : Result (Unit {0}) Refusal) → OnOk r (ClosedWith d e v.1.req (pools_of v.0 v.1) (pools_of (ends true v).1.0 (ends true v).1.1)) → OnErr r (e ≡ d)
+    → ClosesFiles d e chain event.End (done_answer (refusal_of r)) v.0 (Some v.1) (ends (lasted r) v).1.0 (Some (ends (lasted r) v).1.1)
+end_closes chain d e v (Ok x) closed unread = closed
+end_closes chain d e v (Err r) closed unread = unread
+
 -- An event that answers whether it happened.
 done_serves : (budget : ℕ) (chain : List Program) (d e : Device) (w : World) (number : ℕ) (c : Connection) → w.conns number ≡ Some c → (now : Next) (s : Seat) (what : Event) (memory : Bool) (answer o : Option Refusal) (new : Linked)
     → happens_on memory budget chain nothing_told what number (Some c) w ≡ answered number w (unless_refused o (w.common, c) new) → Turn chain AnyLength w.common c (unless_refused o (w.common, c) new).1
-    → TellsEvent chain number what (scene w d) (done_answer answer) nothing_told e → Served chain d e now s c answer (unless_refused o (w.common, c) new) → Serves budget chain d e w number c what (done_answer answer) now s
-done_serves budget chain d e w number c here now s what memory answer o new is turn tells served = record {
+    → TellsEvent chain number what (scene w d) (done_answer answer) nothing_told e → ClosesFiles d e chain what (done_answer answer) w.common (Some c) (unless_refused o (w.common, c) new).1.0 (Some (unless_refused o (w.common, c) new).1.1)
+    → Served chain d e now s c answer (unless_refused o (w.common, c) new) → Serves budget chain d e w number c what (done_answer answer) now s
+done_serves budget chain d e w number c here now s what memory answer o new is turn tells closes served = record {
   memory = memory;
   told = nothing_told;
   left = (unless_refused o (w.common, c) new).1;
   is = is ∙ answered_is number w c o new here ∙ ap (λ (r : Option Refusal). (done_answer r, put_conn number (unless_refused o (w.common, c) new).1 w)) served.answers;
   tells = tells;
+  closes = closes;
   short = short_done answer;
   turn = turn;
   linked = served.left;
@@ -76,14 +91,14 @@ module _ (budget : ℕ) (chain modules : List Program) (same : modules ≡ chain
   unfolding happens_on begins TellsEvent
   begins_serves memory answer serve =
       let served = subst (λ (m : List Program). (v : Linked) → MayServe m d before s0 v → Served m d d now s v.1 answer (begins memory m v)) same serve (w.common, c) may in
-      done_serves budget chain d d w number c here now s event.Begin memory answer _ (begun chain (w.common, c)) refl (begins_turn chain AnyLength w.common c memory) refl served
+      done_serves budget chain d d w number c here now s event.Begin memory answer _ (begun chain (w.common, c)) refl (begins_turn chain AnyLength w.common c memory) refl tt served
 
   pub brings_serves : (memory : Bool) (pieces : List Piece) (answer : Option Refusal) → ((v : Linked) → MayServe modules d before s0 v → Served modules d d now s v.1 answer (brings memory modules pieces v))
       → Serves budget chain d d w number c (event.Bring pieces) (done_answer answer) now s
   unfolding happens_on brings TellsEvent
   brings_serves memory pieces answer serve =
       let served = subst (λ (m : List Program). (v : Linked) → MayServe m d before s0 v → Served m d d now s v.1 answer (brings memory m pieces v)) same serve (w.common, c) may in
-      done_serves budget chain d d w number c here now s (event.Bring pieces) memory answer _ (brought chain pieces c.req (w.common, c)) refl (brings_turn chain AnyLength w.common c memory pieces) refl served
+      done_serves budget chain d d w number c here now s (event.Bring pieces) memory answer _ (brought chain pieces c.req (w.common, c)) refl (brings_turn chain AnyLength w.common c memory pieces) refl tt served
 
   pub steps_serves : (e : Device) (answer : Result Stepped Refusal) → ((v : Linked) → MayServe modules d before s0 v → Steps modules budget d e v now s answer) → Serves budget chain d e w number c event.Step (step_answer answer) now s
   unfolding happens_on TellsEvent
@@ -96,6 +111,7 @@ module _ (budget : ℕ) (chain modules : List Program) (same : modules ≡ chain
         left = left;
         is = step_told number w (steps st.memory budget chain st.reads (w.common, c)) ∙ ap (λ (r : Result Stepped Refusal). (step_answer r, put_conn number left w)) st.served.answers;
         tells = subst (λ (o : Option Connection). TellsReads chain (scene w d) o (step_answer answer) st.reads e) (sym here) (step_reads chain d e w c answer st.reads st.told);
+        closes = step_closes chain d e w.common left.0 c left.1 answer st.closed;
         short = short_step answer;
         turn = steps_turn chain AnyLength w.common c may.lawful.chained st.memory budget st.reads;
         linked = st.served.left;
@@ -103,9 +119,11 @@ module _ (budget : ℕ) (chain modules : List Program) (same : modules ≡ chain
       }
 
 module _ (budget : ℕ) (chain : List Program) (d : Device) (w : World) (number : ℕ) (c : Connection) (here : w.conns number ≡ Some c) (now : Next) (s : Seat) where
-  pub ends_serves : (e : Device) (memory : Bool) (answer : Option Refusal) → Served chain d e now s c answer (ends memory (w.common, c)) → Serves budget chain d e w number c event.End (done_answer answer) now s
+  pub ends_serves : (e : Device) (r : Result (Unit {0}) Refusal) → Served chain d e now s c (refusal_of r) (ends (lasted r) (w.common, c))
+      → OnOk r (ClosedWith d e c.req (pools_of w.common c) (pools_of (ends true (w.common, c)).1.0 (ends true (w.common, c)).1.1)) → OnErr r (e ≡ d) → Serves budget chain d e w number c event.End (done_answer (refusal_of r)) now s
   unfolding happens_on ends TellsEvent
-  ends_serves e memory answer served = done_serves budget chain d e w number c here now s event.End memory answer _ (ended c.req (w.common, c)) refl (ends_turn chain AnyLength w.common c memory) served.spared.folder served
+  ends_serves e r served closed unread =
+      done_serves budget chain d e w number c here now s event.End (lasted r) (refusal_of r) _ (ended c.req (w.common, c)) refl (ends_turn chain AnyLength w.common c (lasted r)) served.spared.folder (end_closes chain d e (w.common, c) r closed unread) served
 
   pub takes_serves : (s0 : Seat) (bytes : List ℕ) → bytes ≡ c.out.bytes → IsLinked chain d now s0 (w.common, c) → IsSeated chain d now s (drained c) → Serves budget chain d d w number c event.TakeOutput (Output bytes) now s
   unfolding happens_on TellsEvent
@@ -115,6 +133,7 @@ module _ (budget : ℕ) (chain : List Program) (d : Device) (w : World) (number 
     left = (w.common, drained c);
     is = ap (λ (bs : List ℕ). (Output bs, put_conn number (w.common, drained c) w)) (sym told);
     tells = refl;
+    closes = tt;
     short = tt;
     turn = Drained;
     linked = record { seated = seated; pools = linked.pools; names = linked.names; files = linked.files };

@@ -18,7 +18,8 @@ use Rattle.run_model.proofs.Refusals.{refused_step_breaks}
 use Rattle.bucket_kinds.specs.Device.{Device}
 use Rattle.module_run.specs.OpenedFile.{MayTell}
 use Rattle.filter_chain.specs.Running.{GoesOn}
-use Rattle.filter_chain.specs.Scenes.{Scene, Acts, HasAdded, TellsEvent, TellsReads}
+use Rattle.module_run.proofs.FileOpens.{keeps_files}
+use Rattle.filter_chain.specs.Scenes.{Scene, Acts, ClosesFiles, HasAdded, TellsEvent, TellsReads, refusal_in}
 use Rattle.filter_chain.proofs.FilesSpared.{step_spares}
 
 -- It stays as it is.
@@ -38,7 +39,7 @@ reads_kind chain s (Some c) answer reads e is = same_kind s.device e is
 tells_kind : (chain : List Program) (k : ℕ) (what : Event) (s : Scene) (answer : Answer) (told : Told) (e : Device) → TellsEvent chain k what s answer told e → e.may_fail ≡ s.device.may_fail
 unfolding TellsEvent
 tells_kind chain k (event.AddFile name bytes) s answer told e tells = added_kind name bytes s.device e answer tells
-tells_kind chain k (event.OpenFile name) s answer told e tells = tells.1.1
+tells_kind chain k (event.OpenFile name) s answer told e tells = (keeps_files name s.device e (refusal_in answer) tells.1).folder.1
 tells_kind chain k event.Step s answer told e tells = reads_kind chain s (s.world.conns k) answer told.reads e tells
 tells_kind chain k event.End s answer told e tells = tells.1
 tells_kind chain k event.Close s answer told e tells = tells.1
@@ -71,14 +72,14 @@ module _ (memory : Bool) (budget : ℕ) (chain : List Program) (told : Told) (k 
   step_unfailing (Some c) is = by_result c (steps memory budget chain told.reads (w.common, c)) refl is
 
 -- An opening that is told to fail is one of a device that may.
-by_opening : (d : Device) (name : List ℕ) (o : Opening) → is_failing o ≡ true → MayTell d name o → d.may_fail ≡ true
-by_opening d name (Found skipped bytes) fails tells = absurd (false≢true fails)
-by_opening d name Missing fails tells = absurd (false≢true fails)
-by_opening d name Failing fails tells = tells
+by_opening : (next : ℕ) (d : Device) (name : List ℕ) (o : Opening) → is_failing o ≡ true → MayTell next d name o → d.may_fail ≡ true
+by_opening next d name (Found skipped bytes) fails tells = absurd (false≢true fails)
+by_opening next d name Missing fails tells = absurd (false≢true fails)
+by_opening next d name Failing fails tells = tells
 
 by_event : (chain : List Program) (k : ℕ) (what : Event) (s : Scene) (answer : Answer) (told : Told) (e : Device) → fails_to_open what told ≡ true → TellsEvent chain k what s answer told e → s.device.may_fail ≡ true
 unfolding TellsEvent
-by_event chain k (event.OpenFile name) s answer told e fails tells = by_opening s.device name told.opening fails tells.0
+by_event chain k (event.OpenFile name) s answer told e fails tells = by_opening s.world.common.file s.device name told.opening fails tells.0
 by_event chain k what s answer told e fails tells = absurd (false≢true fails)
 
 module _ (budget : ℕ) (chain : List Program) (number : ℕ) (old new : Scene) (sound : old.device.may_fail ≡ false) where
@@ -102,6 +103,9 @@ module _ (budget : ℕ) (chain : List Program) (number : ℕ) (old new : Scene) 
 
   -- No event answers that the device failed.
   pub acts_unfailing : (what : Event) (answer : Answer) → Acts budget chain number what old answer new → answer ≢ Refused refusal.FileFailed
-  acts_unfailing what answer acts is = failed_never what (record { memory = acts.memory; told = acts.told; is = acts.is ∙ ap (λ (a : Answer). (a, new.world)) is; tells = tells }) where
+  acts_unfailing what answer acts is = failed_never what (record { memory = acts.memory; told = acts.told; is = acts.is ∙ ap (λ (a : Answer). (a, new.world)) is; tells = tells; closes = closes }) where
     tells : TellsEvent chain number what old (Refused refusal.FileFailed) acts.told new.device
     tells = subst (λ (a : Answer). TellsEvent chain number what old a acts.told new.device) is acts.tells
+
+    closes : ClosesFiles old.device new.device chain what (Refused refusal.FileFailed) old.world.common (old.world.conns number) new.world.common (new.world.conns number)
+    closes = subst (λ (a : Answer). ClosesFiles old.device new.device chain what a old.world.common (old.world.conns number) new.world.common (new.world.conns number)) is acts.closes

@@ -14,10 +14,10 @@ use Rattle.brigade_ops.specs.Store.{lists, next_name}
 use Rattle.module_run.specs.Conns.{conn_of}
 use Rattle.module_run.specs.Proceeding.{HasOpen, IsLawful}
 use Rattle.filter_chain.specs.Spared.{Spares}
-use Rattle.module_run.specs.Happened.{lasted}
-use Rattle.module_run.specs.OpenedFile.{MayTell, TellsShort}
+use Rattle.module_run.specs.Happened.{lasted, refusal_of}
+use Rattle.module_run.specs.OpenedFile.{IsAfterOpening, MayTell, TellsShort}
 use Rattle.module_run.specs.Stacked.{IsStacked}
-use Rattle.module_run.specs.Stepping.{TellsStep}
+use Rattle.module_run.specs.Stepping.{ClosesStep, TellsStep}
 use Rattle.filter_chain.specs.declared.next.Next.{Next}
 use Rattle.filter_chain.specs.declared.seat.Seat.{Seat}
 
@@ -60,11 +60,13 @@ pub record Steps (chain : List Program) (budget : ℕ) (d e : Device) (v : Linke
   pub memory : Bool
   pub reads : Reads
   pub told : TellsStep d e chain answer v reads
+  pub closed : ClosesStep d e chain answer v (steps memory budget chain reads v).1
   pub served : Served chain d e next s v.1 answer (steps memory budget chain reads v)
 
 -- A file of this name is opened. short: the length that is told is below 2^64.
 pub record OpensFile (chain : List Program) (d e : Device) (name : List ℕ) (v : Linked) (next : Next) (s : Seat) (answer : Result (ℕ × ℕ) Refusal) : Type 0 where
   pub opening : Opening
-  pub told : MayTell d name opening
+  pub told : MayTell v.0.file d name opening
+  pub after : IsAfterOpening name (refusal_of answer) d e
   pub served : Served chain d e next s v.1 answer (opens_file (lasted answer) opening v)
   pub short : TellsShort answer

@@ -1,12 +1,14 @@
 //! A connection with what is its own.
 
-ghost use Rattle.std.specs.Prelude.{◌≡◌, ◌<◌, List, length, IfOk, OnErr, OnOk};
+ghost use Rattle.std.specs.Prelude.{◌≡◌, ◌<◌, List, Some, length, true, IfOk, OnErr, OnOk};
 ghost use Rattle.module_lang.specs.Program.{Program};
 ghost use Rattle.bucket_kinds.specs.Device.{Device};
-ghost use Rattle.run_model.specs.Chains.{Common, Connection, Linked};
+ghost use Rattle.run_model.specs.Chains.{Common, Connection, Linked, pools_of};
+ghost use Rattle.run_model.specs.Pools.{cleared};
 ghost use Rattle.run_model.specs.Turns.{begins, brings, closing_labels, ends, opened};
 ghost use Rattle.pool_tree.specs.Tree.{map_of};
 ghost use Rattle.brigade_ops.specs.Store.{next_name};
+ghost use Rattle.ring_run.specs.CarriedOut.{ClosedWith};
 ghost use Rattle.module_run.specs.Conns.{labels_handed};
 ghost use Rattle.module_run.specs.Happened.{lasted, refusal_of};
 ghost use Rattle.module_run.specs.Proceeding.{LeftAs};
@@ -128,7 +130,10 @@ impl Seat {
         next: &mut Next,
     ) -> Result<(), Refusal>
         requires { (chain : List Program) × ((v : Linked) × MayServe chain (F.device files.old) next.old self.old v) }
-        ensures { (chain : List Program) (v : Linked) → MayServe chain (F.device files.old) next.old self.old v → Served chain (F.device files.old) (F.device files.new) next.new self.new v.1 (refusal_of result) (ends (lasted result) v) }
+        ensures ends { (chain : List Program) (v : Linked) → MayServe chain (F.device files.old) next.old self.old v → Served chain (F.device files.old) (F.device files.new) next.new self.new v.1 (refusal_of result) (ends (lasted result) v) }
+        ensures closed { OnOk result ((chain : List Program) (v : Linked) → MayServe chain (F.device files.old) next.old self.old v
+            → ClosedWith (F.device files.old) (F.device files.new) v.1.req (pools_of v.0 v.1) (pools_of (ends true v).1.0 (ends true v).1.1)) }
+        ensures unread { OnErr result (F.device files.new ≡ F.device files.old) }
     {
         self.set_next(*next);
         let outcome = self
@@ -182,6 +187,9 @@ impl Seat {
     pub(crate) fn close<F: Files>(&mut self, files: &mut F, next: Next) -> Result<(), AllocError>
         requires { (chain : List Program) × ((v : Linked) × MayServe chain (F.device files.old) next self.old v) }
         ensures labels { OnOk result ((chain : List Program) (v : Linked) → MayServe chain (F.device files.old) next self.old v → labels_handed self.new.conn.labels.items ≡ closing_labels v) }
+        ensures closed { OnOk result ((chain : List Program) (v : Linked) → MayServe chain (F.device files.old) next self.old v
+            → ClosedWith (F.device files.old) (F.device files.new) (Some v.1.conn) (pools_of v.0 v.1) (cleared v.1.conn (pools_of v.0 v.1))) }
+        ensures unread { OnErr result (F.device files.new ≡ F.device files.old) }
         ensures spared { (chain : List Program) (v : Linked) → MayServe chain (F.device files.old) next self.old v → Spares (F.device files.old) (F.device files.new) v.1 }
         ensures err { OnErr result ((chain : List Program) (v : Linked) → MayServe chain (F.device files.old) next self.old v → IsLinked chain (F.device files.new) next self.new v) }
     {

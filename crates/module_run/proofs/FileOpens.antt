@@ -6,11 +6,13 @@ use Rattle.std.proofs.Math.Path.{fun_ext}
 use Rattle.std.proofs.lemmas.Bool.{cases_eq, eq-eqb, ne_eqb}
 use Rattle.std.proofs.lemmas.List.{map-append, length-replicate}
 use Rattle.bucket_kinds.specs.Answers.{MayHave, Opens}
-use Rattle.bucket_kinds.specs.Device.{Device, Held, Missing, Untold, Holds, closed, HasFailed, is_there, opened}
+use Rattle.bucket_kinds.specs.Device.{Device, Held, Missing, Untold, Holds, closed, HasFailed, SameFolder, is_there, opened}
 use Rattle.bucket_ring.specs.declared.names.BucketId.{BucketId}
 use Rattle.bucket_ring.specs.declared.rings.Rings.{Ghosts}
 use Rattle.module_lang.specs.Program.{Program}
 use Rattle.run_model.specs.declared.bucket.Bucket.{Bucket}
+use Rattle.run_model.specs.declared.event.Refusal.{Refusal}
+use Rattle.run_model.specs.declared.event.Refusal.TheVariants as refusal
 use Rattle.run_model.specs.declared.payload.Payload.{Payload}
 use Rattle.run_model.specs.declared.payload.Payload.TheVariants.{FileRef}
 use Rattle.run_model.specs.Chains.{Connection, Linked, pools_of}
@@ -27,7 +29,7 @@ use Rattle.brigade_ops.specs.Store.{lists, brigade_of, pool_of, next_name, refer
 use Rattle.module_run.specs.declared.conn.Conn.{Conn}
 use Rattle.module_run.specs.declared.conn.OpenFile.{OpenFile}
 use Rattle.module_run.specs.Conns.{conn_of, filter_at, lengths}
-use Rattle.module_run.specs.OpenedFile.{KeepsFiles}
+use Rattle.module_run.specs.OpenedFile.{IsAfterOpening}
 use Rattle.module_run.specs.Proceeding.{HasOpen, LeftAs, MayHold}
 use Rattle.module_run.specs.Stacked.{IsStacked, StackedOver}
 use Rattle.module_run.proofs.Alongside.{stacked_beside}
@@ -73,20 +75,52 @@ module _ {R : Type 0} {g : Ghosts R Bucket} (chain : List Program) (tree : PoolT
     with_files : List (ℕ × ℕ) → Connection
     with_files fs = record (conn_of (map_of tree) (lists store) v.1.opened c) { files = fs }
 
--- what a device keeps that opened no file
-pub kept_same : (d e : Device) → e ≡ d → KeepsFiles d e
-kept_same d e is = record {
-  rises = (let next = ap (λ (x : Device). x.next) is in omega (arith, next));
-  folder = (ap (λ (x : Device). x.named) is, ap (λ (x : Device). x.may_fail) is);
-  others = λ file given. ap (λ (x : Device). x.numbered file) is;
-}
+-- A device was d, and is e behind an opening: numbers rise, names stay and whether it may fail, and a file whose number was given before is as it was.
+pub record KeepsFiles (d e : Device) : Type 0 where
+  pub rises : d.next ≤ e.next
+  pub folder : SameFolder d e
+  pub others : (file : ℕ) → file < d.next → e.numbered file ≡ d.numbered file
 
-pub kept_failed : (d e : Device) → HasFailed d e → KeepsFiles d e
-kept_failed d e (may, is) = record {
-  rises = (let next = ap (λ (x : Device). x.next) is in omega (arith, next));
-  folder = (ap (λ (x : Device). x.named) is, ap (λ (x : Device). x.may_fail) is);
-  others = λ file given. ap (λ (x : Device). x.numbered file) is;
-}
+module _ (name : List ℕ) (d e : Device) where
+  kept_same : e ≡ d → KeepsFiles d e
+  kept_same is = record {
+    rises = (let next = ap (λ (x : Device). x.next) is in omega (arith, next));
+    folder = (ap (λ (x : Device). x.named) is, ap (λ (x : Device). x.may_fail) is);
+    others = λ file given. ap (λ (x : Device). x.numbered file) is;
+  }
+
+  kept_failed : HasFailed d e → KeepsFiles d e
+  kept_failed (may, is) = record {
+    rises = (let next = ap (λ (x : Device). x.next) is in omega (arith, next));
+    folder = (ap (λ (x : Device). x.named) is, ap (λ (x : Device). x.may_fail) is);
+    others = λ file given. ap (λ (x : Device). x.numbered file) is;
+  }
+
+  -- another number than the next
+  apart : (file : ℕ) → file < d.next → (h : Held) (at : ℕ → Held) → upd at d.next h file ≡ at file
+  unfolding upd
+  apart file given h at = ap (λ (t : Bool). if t then h else at file) (ne_eqb file d.next (λ q. omega (arith, given, q)))
+
+  kept_open : e ≡ opened name d → KeepsFiles d e
+  kept_open is = record {
+    rises = (let next = ap (λ (x : Device). x.next) is in omega (arith, next));
+    folder = (ap (λ (x : Device). x.named) is, ap (λ (x : Device). x.may_fail) is);
+    others = λ file given. ap (λ (x : Device). x.numbered file) is ∙ apart file given (d.named name) d.numbered;
+  }
+
+  kept_closed : e ≡ closed d.next (opened name d) → KeepsFiles d e
+  kept_closed is = record {
+    rises = (let next = ap (λ (x : Device). x.next) is in omega (arith, next));
+    folder = (ap (λ (x : Device). x.named) is, ap (λ (x : Device). x.may_fail) is);
+    others = λ file given. ap (λ (x : Device). x.numbered file) is ∙ (apart file given Missing (opened name d).numbered ∙ apart file given (d.named name) d.numbered);
+  }
+
+  pub keeps_files : (why : Option Refusal) → IsAfterOpening name why d e → KeepsFiles d e
+  keeps_files None is = kept_open is
+  keeps_files (Some refusal.FileFailed) is = kept_failed is
+  keeps_files (Some refusal.NoMemory) (inl is) = kept_same is
+  keeps_files (Some refusal.NoMemory) (inr is) = kept_closed is
+  keeps_files (Some r) is = kept_same is
 
 -- the files that are open on a device that opened one
 module _ (d e : Device) (name : List ℕ) (number len : ℕ) (opens : Opens d name number len e) where
@@ -101,13 +135,6 @@ module _ (d e : Device) (name : List ℕ) (number len : ℕ) (opens : Opens d na
   unfolding upd
   numbered_old file ne = numbered_at file ∙ ap (λ (t : Bool). if t then d.named name else d.numbered file) (ne_eqb file d.next (λ q. ne (q ∙ sym opens.number_is)))
 
-  pub kept_open : KeepsFiles d e
-  kept_open = record {
-    rises = (let next = ap (λ (x : Device). x.next) opens.after in omega (arith, next));
-    folder = (ap (λ (x : Device). x.named) opens.after, ap (λ (x : Device). x.may_fail) opens.after);
-    others = λ file given. numbered_old file (λ same. (let at = opens.number_is in omega (arith, same, at, given)));
-  }
-
   -- and closed it again
   pub numbered_closed : (file : ℕ) → (closed number e).numbered file ≡ d.numbered file
   unfolding upd
@@ -116,12 +143,8 @@ module _ (d e : Device) (name : List ℕ) (number len : ℕ) (opens : Opens d na
     | inr ne ↦ ap (λ (t : Bool). if t then Missing else e.numbered file) (ne_eqb file number ne) ∙ numbered_old file ne
   ]
 
-  pub kept_closed : (last : Device) → last ≡ closed number e → KeepsFiles d last
-  kept_closed last is = record {
-    rises = (let next = ap (λ (x : Device). x.next) is in let after = ap (λ (x : Device). x.next) opens.after in omega (arith, next, after));
-    folder = (ap (λ (x : Device). x.named) is ∙ ap (λ (x : Device). x.named) opens.after, ap (λ (x : Device). x.may_fail) is ∙ ap (λ (x : Device). x.may_fail) opens.after);
-    others = λ file given. ap (λ (x : Device). x.numbered file) is ∙ numbered_closed file;
-  }
+  pub closed_again : (last : Device) → last ≡ closed number e → last ≡ closed d.next (opened name d)
+  closed_again last is = is ∙ (ap (λ (n : ℕ). closed n e) opens.number_is ∙ ap (closed d.next) opens.after)
 
   module _ {R : Type 0} {g : Ghosts R Bucket} (chain : List Program) (tree newer : PoolTree Payload) (old new : Brigades R g) (c : Conn) (v : Linked) (left : LeftAs chain tree old d c v) (req : ℕ) (bytes : List ℕ)
       (holds : MayHold (d.named name) bytes) (long : len ≡ length bytes) (files : Vec OpenFile) (file : OpenFile) (is_number : file.number ≡ number) (is_len : file.len ≡ len) (more : files.items ≡ c.files.items ++ file ∷ [])

@@ -1,5 +1,5 @@
 -- What is told of an opening that is refused, and of one that is not.
-use Rattle.std.proofs.Common.{◌≡◌, ℕ, ◌+◌, ◌-◌, ◌^◌, ◌<◌, ◌≤◌, nat_lt, Bool, true, false, List, length, Option, Some, None, Result, Ok, Err, refl, sym, ap, subst, ◌∙◌, arith}
+use Rattle.std.proofs.Common.{◌≡◌, ℕ, ◌+◌, ◌-◌, ◌^◌, ◌<◌, ◌≢◌, ◌≤◌, nat_lt, Bool, true, false, List, length, Option, Some, None, Result, Ok, Err, refl, sym, ap, subst, ◌∙◌, inl, arith}
 use Rattle.std.proofs.lemmas.Bool.{le-ltb, lt-ltb}
 use Rattle.bucket_kinds.specs.Answers.{IsOpening, MayMiss, Opens}
 use Rattle.bucket_kinds.specs.Device.{Device, Held, last_number}
@@ -9,6 +9,7 @@ use Rattle.bucket_kinds.specs.declared.refusal.FileFault.TheVariants as fault
 use Rattle.bucket_ring.specs.declared.rings.Rings.{Ghosts}
 use Rattle.module_lang.specs.Program.{Program}
 use Rattle.run_model.specs.declared.bucket.Bucket.{Bucket}
+use Rattle.run_model.specs.declared.event.Cause.{Cause}
 use Rattle.run_model.specs.declared.event.Refusal.{Refusal}
 use Rattle.run_model.specs.declared.event.Refusal.TheVariants as refusal
 use Rattle.run_model.specs.declared.payload.Payload.{Payload}
@@ -24,11 +25,11 @@ use Rattle.brigade_ops.specs.Items.{Items}
 use Rattle.brigade_ops.specs.Store.{lists, next_name}
 use Rattle.module_run.specs.declared.conn.Conn.{Conn}
 use Rattle.module_run.specs.Conns.{IsSeenAs}
-use Rattle.module_run.specs.Happened.{lasted}
-use Rattle.module_run.specs.OpenedFile.{KeepsFiles, MayTell, TellsShort, WasOpened, unopened_by}
+use Rattle.module_run.specs.Happened.{lasted, refusal_of}
+use Rattle.module_run.specs.OpenedFile.{IsAfterOpening, MayTell, TellsShort, WasOpened, unopened_by}
 use Rattle.module_run.specs.Proceeding.{LeftAs, MayHold}
 use Rattle.module_run.specs.Refused.{request_tests}
-use Rattle.module_run.proofs.FileOpens.{kept_failed, kept_same, left_device, some_bytes, there_bytes}
+use Rattle.module_run.proofs.FileOpens.{left_device, some_bytes, there_bytes}
 use Rattle.module_run.proofs.Refusing.{open_failing, open_left, open_missing, open_spent}
 use Rattle.module_run.proofs.RequestBegins.{happened_as, req_is}
 
@@ -40,35 +41,47 @@ pub not_spent : (n : ℕ) → n < last_number → is_spent n 1 ≡ false
 unfolding is_spent
 not_spent n lt = le-ltb (2 ^ 64 - 1) (n + 1) (omega (arith, lt))
 
-rest_of : (a b : ℕ) → a ≤ b → a + (b - a) ≡ b
+pub rest_of : (a b : ℕ) → a ≤ b → a + (b - a) ≡ b
 rest_of a b le = omega (arith, le)
 
 -- What a device that is not asked might have told of a name.
 
-abbrev pub unasked_of : Held → Opening
-unasked_of device.Missing = Missing
-unasked_of device.Untold = Missing
-unasked_of (device.Holds bytes) = Found 0 bytes
+abbrev pub unasked_of : ℕ → Held → Opening
+unasked_of skipped device.Missing = Missing
+unasked_of skipped device.Untold = Missing
+unasked_of skipped (device.Holds bytes) = Found skipped bytes
 
-abbrev pub unasked : Device → List ℕ → Opening
-unasked d name = unasked_of (d.named name)
+abbrev pub unasked : ℕ → Device → List ℕ → Opening
+unasked next d name = unasked_of (d.next - next) (d.named name)
 
-pub may_tell_unasked : (d : Device) (name : List ℕ) → MayTell d name (unasked d name)
-may_tell_unasked d name = go (d.named name) refl where
-  go : (h : Held) → d.named name ≡ h → MayTell d name (unasked_of h)
+pub may_tell_unasked : (next : ℕ) (d : Device) (name : List ℕ) → next ≤ d.next → MayTell next d name (unasked next d name)
+may_tell_unasked next d name below = go (d.named name) refl where
+  go : (h : Held) → d.named name ≡ h → MayTell next d name (unasked_of (d.next - next) h)
   go device.Missing is = subst MayMiss (sym is) tt
   go device.Untold is = subst MayMiss (sym is) tt
-  go (device.Holds bytes) is = subst (λ (h : Held). MayHold h bytes) (sym is) refl
+  go (device.Holds bytes) is = (subst (λ (h : Held). MayHold h bytes) (sym is) refl, rest_of next d.next below)
+
+-- and it is as it was
+pub stays_unasked : (name : List ℕ) (d : Device) (broken : Option Cause) (busy : Bool) (req : Option ℕ) (r : Refusal) → Some r ≡ first_refusal (request_tests broken busy req) → IsAfterOpening name (Some r) d d
+stays_unasked name d (Some cause) busy req r is = subst (λ (o : Option Refusal). IsAfterOpening name o d d) (sym is) refl
+stays_unasked name d None true req r is = subst (λ (o : Option Refusal). IsAfterOpening name o d d) (sym is) refl
+stays_unasked name d None false None r is = subst (λ (o : Option Refusal). IsAfterOpening name o d d) (sym is) refl
+stays_unasked name d None false (Some pool) r is = absurd (cc)
+
+pub refused_after : (name : List ℕ) (d : Device) (r : Refusal) → r ≢ refusal.FileFailed → IsAfterOpening name (Some r) d d
+refused_after name d refusal.FileFailed apart = absurd (apart refl)
+refused_after name d refusal.NoMemory apart = inl refl
+refused_after name d r apart = refl
 
 module _ {R : Type 0} {g : Ghosts R Bucket} (chain : List Program) (tree : PoolTree Payload) (store : Brigades R g) (d e : Device) (c : Conn) (name : List ℕ) (v : Linked) where
-  pub was_opened : (answer : Result (ℕ × ℕ) Refusal) (opening : Opening) (w : Linked) → MayTell d name opening → opens_file (lasted answer) opening v ≡ (answer, w) → LeftAs chain tree store e c w → w.0.file ≤ e.next → KeepsFiles d e → TellsShort answer
+  pub was_opened : (answer : Result (ℕ × ℕ) Refusal) (opening : Opening) (w : Linked) → MayTell v.0.file d name opening → opens_file (lasted answer) opening v ≡ (answer, w) → LeftAs chain tree store e c w → w.0.file ≤ e.next → IsAfterOpening name (refusal_of answer) d e → TellsShort answer
       → WasOpened chain tree store d e c name answer v
-  was_opened answer opening w told is left numbers kept short = record {
+  was_opened answer opening w told is left numbers after short = record {
     opening = opening;
     told = told;
     happened = happened_as chain tree store e c answer (opens_file (lasted answer) opening v) w is left;
     numbers = subst (λ (x : Result (ℕ × ℕ) Refusal × Linked). x.1.0.file ≤ e.next) (sym is) numbers;
-    kept = kept;
+    after = after;
     short = short;
   }
 
@@ -77,20 +90,20 @@ module _ {R : Type 0} {g : Ghosts R Bucket} (chain : List Program) (tree : PoolT
       → WasOpened chain tree store d e c name (Err (unopened_by why)) v
   was_refused fault.NotThere (miss, same) none left below =
       was_opened (Err refusal.NoFile) Missing v miss (open_missing (map_of tree) (lists store) (next_name store) c v left.seen true none)
-      (subst (λ (x : Device). LeftAs chain tree store x c v) (sym same) left) (subst (λ (x : Device). v.0.file ≤ x.next) (sym same) below) (kept_same d e same) tt
+      (subst (λ (x : Device). LeftAs chain tree store x c v) (sym same) left) (subst (λ (x : Device). v.0.file ≤ x.next) (sym same) below) same tt
   was_refused fault.Failed (may, same) none left below =
       was_opened (Err refusal.FileFailed) Failing v may (open_failing (map_of tree) (lists store) (next_name store) c v left.seen true none)
-      (left_device chain tree store d e c v (λ file. ap (λ (x : Device). x.numbered file) same) left) (subst (λ (x : Device). v.0.file ≤ x.next) (sym same) below) (kept_failed d e (may, same)) tt
+      (left_device chain tree store d e c v (λ file. ap (λ (x : Device). x.numbered file) same) left) (subst (λ (x : Device). v.0.file ≤ x.next) (sym same) below) (may, same) tt
   was_refused fault.NamesSpent (there, last, same) none left below =
       let bytes = there_bytes (d.named name) there in
-      was_opened (Err refusal.NamesSpent) (Found (d.next - v.0.file) bytes.0) v bytes.1
+      was_opened (Err refusal.NamesSpent) (Found (d.next - v.0.file) bytes.0) v (bytes.1, rest_of v.0.file d.next below)
       (open_spent (map_of tree) (lists store) (next_name store) c v left.seen true (d.next - v.0.file) bytes.0 none (last_spent (v.0.file + (d.next - v.0.file)) (rest_of v.0.file d.next below ∙ last)))
-      (subst (λ (x : Device). LeftAs chain tree store x c v) (sym same) left) (subst (λ (x : Device). v.0.file ≤ x.next) (sym same) below) (kept_same d e same) tt
+      (subst (λ (x : Device). LeftAs chain tree store x c v) (sym same) left) (subst (λ (x : Device). v.0.file ≤ x.next) (sym same) below) same tt
   was_refused fault.NoMemory (there, lt, same) none left below =
       let bytes = there_bytes (d.named name) there in
-      was_opened (Err refusal.NoMemory) (Found 0 bytes.0) v bytes.1
-      (open_left (map_of tree) (lists store) (next_name store) c v left.seen false 0 bytes.0 none (not_spent (v.0.file + 0) (omega (arith, lt, below))))
-      (subst (λ (x : Device). LeftAs chain tree store x c v) (sym same) left) (subst (λ (x : Device). v.0.file ≤ x.next) (sym same) below) (kept_same d e same) tt
+      was_opened (Err refusal.NoMemory) (Found (d.next - v.0.file) bytes.0) v (bytes.1, rest_of v.0.file d.next below)
+      (open_left (map_of tree) (lists store) (next_name store) c v left.seen false (d.next - v.0.file) bytes.0 none (not_spent (v.0.file + (d.next - v.0.file)) (let at = rest_of v.0.file d.next below in omega (arith, lt, at))))
+      (subst (λ (x : Device). LeftAs chain tree store x c v) (sym same) left) (subst (λ (x : Device). v.0.file ≤ x.next) (sym same) below) (inl same) tt
 
 -- the file was found, and its number and length are told
 pub opening_is : (ps : Pools Payload) (rings : ℕ → Option Items) (next : ℕ) (c : Conn) (v : Linked) → IsSeenAs ps rings next c v → (number len next_number req : ℕ) (bytes : List ℕ) → number ≡ next_number → number < last_number → v.0.file ≤ next_number → len ≡ length bytes → c.req ≡ Some req

@@ -14,6 +14,7 @@ ghost use Rattle.pool_tree.specs.Tree.{map_of};
 ghost use Rattle.brigade_ops.specs.Files.{SameButOpen};
 ghost use Rattle.brigade_ops.specs.House.{IsHouse, AreOpen};
 ghost use Rattle.brigade_ops.specs.Store.{lists, pool_of, references, next_name};
+ghost use Rattle.ring_run.specs.CarriedOut.{ClosedWith};
 ghost use Rattle.module_run.specs.Conns.{labels_handed};
 ghost use Rattle.module_run.specs.Destroyed.{WasDestroyed, quieted, request_left};
 ghost use Rattle.module_run.specs.Happened.{Happened, Stands, lasted, refusal_of};
@@ -109,6 +110,8 @@ impl Conn {
     ) -> Result<(), Refusal>
         requires stands { (chain : List Program) × Stands chain tree.old store.old (F.device files.old) self.old }
         ensures ends { (chain : List Program) (v : Linked) → StandsFor chain tree.old store.old (F.device files.old) self.old v → Happened chain tree.new store.new (F.device files.new) self.new (refusal_of result) (ends (lasted result) v) }
+        ensures closed { OnOk result (ClosedWith (F.device files.old) (F.device files.new) self.old.req (map_of tree.old) (map_of tree.new)) }
+        ensures unread { OnErr result (F.device files.new ≡ F.device files.old) }
         ensures others { SameButOpen (F.device files.old) (F.device files.new) }
         ensures unreferred { (file : ℕ) → is_referred (map_of tree.old) file ≡ false → (F.device files.new).numbered file ≡ (F.device files.old).numbered file }
     {

@@ -41,7 +41,7 @@ returns-in_default-close g c =
     let lent : Seats = record { by_number = c.get_mut.follows.lender s } in
     record {
       event = λ w hosts. put_back d e host c.args.number w hosts event.Close (Refused refusal.NoMemory) c.in-Some.seat.now s lent host.next c.close.new.files at (λ k. ((c.get_mut.follows.holds s).3 there).0 k)
-          (λ conn here may. close_serves (budget_of host) (chain_of host) d e w c.args.number conn here host.next s (c.in_default-close.ensures.err (chain_of host) (w.common, conn) may) (c.close.ensures.spared (chain_of host) (w.common, conn) may));
+          (λ conn here may. close_serves (budget_of host) (chain_of host) d e w c.args.number conn here host.next s (c.in_default-close.ensures.err (chain_of host) (w.common, conn) may) (c.close.ensures.spared (chain_of host) (w.common, conn) may) c.in_default-close.ensures.unread);
     }
 
 pub unreachable-requires : goal.unreachable-requires
@@ -71,5 +71,5 @@ returns g c =
     record {
       event = λ w hosts. closed_on host c.args.number s lent written d e w hosts c.in-Some.seat.now at c.take.new.self c.take.ensures.rest c.close.new.files (labels_handed c.into_labels.result.items)
           (λ v may. ap (λ (x : Vec (Vec (ℕ × Payload))). labels_handed x.items) c.into_labels.ensures ∙ ap (λ (x : Seat). labels_handed x.conn.labels.items) same ∙ c.in-Ok.ensures.labels (chain_of host) v may)
-          (λ v may. c.close.ensures.spared (chain_of host) v may);
+          (λ v may. c.close.ensures.spared (chain_of host) v may) (λ v may. c.in-Ok.ensures.closed (chain_of host) v may);
     }

@@ -2,7 +2,8 @@
 use Rattle.std.proofs.Common.{◌≡◌, refl, sym, ◌∙◌, ap, subst}
 use Rattle.std.specs.Option.{option_copied_mut, IsSome}
 use Rattle.run_model.specs.declared.event.Event.TheVariants as event
-use Rattle.module_run.specs.Happened.{lasted, refusal_of}
+use Rattle.std.proofs.lemmas.Result.{on_ok_weaker}
+use Rattle.module_run.specs.Happened.{refusal_of}
 use Rattle.filter_chain.specs.Hosting.{seat_at, chain_of, budget_of, done_answer}
 use Rattle.filter_chain.proofs.HostEvents.{can_serve, put_back, none_found}
 use Rattle.filter_chain.proofs.KnownEvents.{ends_serves}
@@ -33,5 +34,6 @@ returns-in-Some g c = record {
       let at = sym c.get_mut.ensures.value ∙ ap option_copied_mut c.in-Some.is in
       let there = subst IsSome (sym at) refl in
       put_back d e host c.args.number w hosts event.End (done_answer (refusal_of c.end_request.result)) c.in-Some.seat.now c.end_request.new.self (record { by_number = c.get_mut.follows.lender c.end_request.new.self }) c.end_request.new.next c.end_request.new.files at ((c.get_mut.follows.holds c.end_request.new.self).3 there).0
-      (λ conn here may. ends_serves (budget_of host) (chain_of host) d w c.args.number conn here c.end_request.new.next c.end_request.new.self e (lasted c.end_request.result) (refusal_of c.end_request.result) (c.end_request.ensures (chain_of host) (w.common, conn) may));
+      (λ conn here may. ends_serves (budget_of host) (chain_of host) d w c.args.number conn here c.end_request.new.next c.end_request.new.self e c.end_request.result (c.end_request.ensures.ends (chain_of host) (w.common, conn) may)
+      (on_ok_weaker c.end_request.result (λ closed. closed (chain_of host) (w.common, conn) may) c.end_request.ensures.closed) c.end_request.ensures.unread);
 }

@@ -1,6 +1,7 @@
 -- By what stands while the next names are set.
 use Rattle.std.proofs.Common.{sym, ◌∙◌, arith}
 use Rattle.std.proofs.lemmas.Result.{on_ok_weaker, on_err_weaker}
+use Rattle.filter_chain.proofs.Closings.{close_closes}
 use Rattle.filter_chain.proofs.Seated.{lent, linked_after, spares_unreferred}
 use Rattle.filter_chain.proofs.seat.Seat.close.Goals as goal
 
@@ -31,3 +32,16 @@ returns-clause-err g c =
     linked_after chain e c.args.next (record { tree = c.close.new.tree; store = c.close.new.store; conn = c.close.new.self }) v left (sym left.seen.pools ∙ may.linked.pools) (next ∙ named)
     (let le = may.linked.files in let more = c.close.ensures.others.next in omega (arith, more)))
     c.close.ensures.err
+
+pub returns-clause-closed : goal.returns-clause-closed
+returns-clause-closed g c =
+    let s = c.set_next.ensures in
+    let d = g.F.Files.device c.args.files.now in
+    let e = g.F.Files.device c.close.new.files in
+    let was = c.set_next.new.self in
+    let out = c.close.ensures in
+    close_closes d e was.tree c.close.new.tree was.store was.conn c.close.result
+    (λ chain v may. lent chain d c.args.next c.args.self.now was v s.same s.pool s.name may) out.pools out.closed out.others
+
+pub returns-clause-unread : goal.returns-clause-unread
+returns-clause-unread g c = c.close.ensures.unread

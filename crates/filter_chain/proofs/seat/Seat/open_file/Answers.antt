@@ -1,7 +1,8 @@
 -- By what stands while the next names are set.
 use Rattle.std.proofs.Common.{sym}
 use Rattle.run_model.specs.Turns.{opens_file}
-use Rattle.module_run.specs.Happened.{lasted}
+use Rattle.module_run.specs.Happened.{lasted, refusal_of}
+use Rattle.module_run.proofs.FileOpens.{keeps_files}
 use Rattle.filter_chain.proofs.Seated.{lent, linked_after}
 use Rattle.filter_chain.proofs.seat.Seat.open_file.Goals as goal
 
@@ -16,14 +17,16 @@ returns g c chain v may =
     let e = g.F.Files.device c.open_file-outcome.new.files in
     let so = lent chain d c.args.next.now c.args.self.now c.set_next.new.self v s.same s.pool s.name may in
     let h = c.open_file-outcome.ensures chain v so may.linked.files in
+    let kept = keeps_files c.args.name.now d e (refusal_of c.open_file-outcome.result) h.after in
     record {
       opening = h.opening;
       told = h.told;
+      after = h.after;
       served = record {
         answers = h.happened.answers;
         left = linked_after chain e c.next.result (record { tree = c.open_file-outcome.new.tree; store = c.open_file-outcome.new.store; conn = c.open_file-outcome.new.self }) (opens_file (lasted c.open_file-outcome.result) h.opening v).1 h.happened.left
             (sym c.next.ensures.pool) (sym c.next.ensures.name) h.numbers;
-        spared = record { rises = h.kept.rises; folder = h.kept.folder; others = λ file old none. h.kept.others file old };
+        spared = record { rises = kept.rises; folder = kept.folder; others = λ file old none. kept.others file old };
       };
       short = h.short;
     }

@@ -23,6 +23,7 @@ returns g c v may =
       memory = h.memory;
       reads = h.reads;
       told = h.told;
+      closed = h.closed;
       served = record {
         answers = h.answers;
         left = linked_after c.args.modules.now e c.next.result (record { tree = c.step-outcome.new.tree; store = c.step-outcome.new.store; conn = c.step-outcome.new.self }) (steps h.memory c.args.budget c.args.modules.now h.reads v).1 h.left

@@ -7,6 +7,7 @@ use Rattle.run_model.specs.Chains.{Linked}
 use Rattle.run_model.specs.Turns.{ended, ends, request_over, unless_refused}
 use Rattle.pool_tree.specs.Tree.{map_of}
 use Rattle.brigade_ops.specs.Store.{lists, next_name}
+use Rattle.ring_run.specs.CarriedOut.{ClosedWith}
 use Rattle.module_run.specs.declared.conn.Conn.{Conn}
 use Rattle.module_run.specs.declared.conn.Filter.{Filter}
 use Rattle.module_run.specs.Destroyed.{quieted, request_left}
@@ -59,3 +60,9 @@ returns-clause-ends g c chain v stands =
     (end_passed (map_of c.args.tree.now) (lists c.args.store.now) (next_name c.args.store.now) self v stands.left.seen true none
     ∙ ap (λ (o : Option ℕ). unless_refused None v (ended o v)) (req_is (map_of c.args.tree.now) (lists c.args.store.now) (next_name c.args.store.now) self v stands.left.seen ∙ c.in-Ok.ensures.pool))
     (subst (λ (x : Conn). LeftAs chain c.destroy.new.tree c.destroy.new.store (g.F.Files.device c.destroy.new.files) x (request_over c.in-Ok.pool v)) (sym same) left)
+
+pub returns-clause-closed : goal.returns-clause-closed
+returns-clause-closed g c =
+    let e = c.in-Ok-destroy.ensures in
+    subst (λ (o : Option ℕ). ClosedWith (g.F.Files.device c.args.files.now) (g.F.Files.device c.destroy.new.files) o (map_of c.args.tree.now) (map_of c.destroy.new.tree)) (sym c.in-Ok.ensures.pool)
+    (record { closed = e.ok.closed; others = e.others })

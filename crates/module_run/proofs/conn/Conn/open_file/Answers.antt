@@ -1,5 +1,5 @@
 -- By what is told of the opening.
-use Rattle.std.proofs.Common.{◌≡◌, ◌≤◌, ◌<◌, ℕ, ◌+◌, ◌-◌, ◌^◌, true, false, List, length, Option, Some, None, Result, Ok, Err, refl, sym, ap, subst, ◌∙◌, arith, rules}
+use Rattle.std.proofs.Common.{◌≡◌, ◌≤◌, ◌<◌, ℕ, ◌+◌, ◌-◌, ◌^◌, true, false, List, length, Option, Some, None, Result, Ok, Err, refl, sym, ap, subst, ◌∙◌, inl, inr, arith, rules}
 use Rattle.std.proofs.Math.Path.{fun_ext}
 use Rattle.bucket_kinds.specs.Answers.{Opens}
 use Rattle.bucket_kinds.specs.Device.{Device}
@@ -13,8 +13,8 @@ use Rattle.module_run.specs.declared.conn.OpenFile.{OpenFile}
 use Rattle.module_run.specs.Happened.{has_lasted}
 use Rattle.module_run.specs.OpenedFile.{WasOpened}
 use Rattle.module_run.specs.Proceeding.{LeftAs}
-use Rattle.module_run.proofs.FileOpens.{file_left, kept_closed, kept_open, kept_same, left_device, left_refiled, numbered_closed, some_bytes}
-use Rattle.module_run.proofs.OpeningsTold.{may_tell_unasked, not_spent, opening_is, unasked, was_opened, was_refused}
+use Rattle.module_run.proofs.FileOpens.{closed_again, file_left, left_device, left_refiled, numbered_closed, some_bytes}
+use Rattle.module_run.proofs.OpeningsTold.{may_tell_unasked, not_spent, opening_is, rest_of, stays_unasked, unasked, was_opened, was_refused}
 use Rattle.module_run.proofs.Refusing.{open_left, open_refused}
 use Rattle.module_run.proofs.RequestBegins.{request_live}
 use Rattle.module_run.proofs.Unchanged.{left_same}
@@ -26,9 +26,9 @@ keep_file-requires g c = (let s = c.requires.stands in request_live s.0 c.args.t
 pub returns-in-Err : goal.returns-in-Err
 returns-in-Err g c chain v stands below =
     let d = g.F.Files.device c.args.files.now in
-    was_opened chain c.args.tree.now c.args.store.now d d c.args.self.now c.args.name.now v (Err c.in-Err.why) (unasked d c.args.name.now) v (may_tell_unasked d c.args.name.now)
-    (open_refused (map_of c.args.tree.now) (lists c.args.store.now) (next_name c.args.store.now) c.args.self.now v stands.left.seen (unasked d c.args.name.now) (has_lasted c.in-Err.why) c.in-Err.why (sym c.in-Err.ensures.refusal))
-    stands.left below (kept_same d d refl) tt
+    was_opened chain c.args.tree.now c.args.store.now d d c.args.self.now c.args.name.now v (Err c.in-Err.why) (unasked v.0.file d c.args.name.now) v (may_tell_unasked v.0.file d c.args.name.now below)
+    (open_refused (map_of c.args.tree.now) (lists c.args.store.now) (next_name c.args.store.now) c.args.self.now v stands.left.seen (unasked v.0.file d c.args.name.now) (has_lasted c.in-Err.why) c.in-Err.why (sym c.in-Err.ensures.refusal))
+    stands.left below (stays_unasked c.args.name.now d c.args.self.now.broken c.args.self.now.busy c.args.self.now.req c.in-Err.why c.in-Err.ensures.refusal) tt
 
 pub returns-in-Err-open_file : goal.returns-in-Err-open_file
 returns-in-Err-open_file g c chain v stands below =
@@ -47,14 +47,14 @@ returns-in_default g c chain v stands below =
     let opens : Opens d c.args.name.now told.0 told.1 e = c.in-Ok-open_file.ensures in
     let bytes = some_bytes (d.named c.args.name.now) told.1 opens.length_is in
     let k = c.in_default.ensures in
-    was_opened chain c.keep_file.new.tree c.keep_file.new.store d last c.keep_file.new.self c.args.name.now v (Err refusal.NoMemory) (Found 0 bytes.0) v bytes.1.0
-    (open_left (map_of c.args.tree.now) (lists c.args.store.now) (next_name c.args.store.now) self v stands.left.seen false 0 bytes.0 (sym c.in-Ok.ensures.refusal) (not_spent (v.0.file + 0) (let lt = opens.number_fits in let at = opens.number_is in omega (arith, below, lt, at))))
+    was_opened chain c.keep_file.new.tree c.keep_file.new.store d last c.keep_file.new.self c.args.name.now v (Err refusal.NoMemory) (Found (d.next - v.0.file) bytes.0) v (bytes.1.0, rest_of v.0.file d.next below)
+    (open_left (map_of c.args.tree.now) (lists c.args.store.now) (next_name c.args.store.now) self v stands.left.seen false (d.next - v.0.file) bytes.0 (sym c.in-Ok.ensures.refusal) (not_spent (v.0.file + (d.next - v.0.file)) (let lt = opens.number_fits in let at = opens.number_is in let all = rest_of v.0.file d.next below in omega (arith, all, lt, at))))
     (left_device chain c.keep_file.new.tree c.keep_file.new.store d last c.keep_file.new.self v (λ file. ap (λ (x : Device). x.numbered file) c.close_file.ensures ∙ numbered_closed d e c.args.name.now told.0 told.1 opens file)
     (subst (λ (x : Conn). LeftAs chain c.keep_file.new.tree c.keep_file.new.store d x v) (sym k.rest)
     (left_refiled chain c.keep_file.new.tree c.keep_file.new.store d d self v c.keep_file.new.self.files k.same
     (left_same c.args.store.now c.keep_file.new.store (λ n. ap (λ (f : ℕ → _). f n) k.lists) k.next k.pools chain c.args.tree.now c.keep_file.new.tree d self v k.kept (fun_ext k.uncounted) stands.left))))
     (let next = ap (λ (x : Device). x.next) c.close_file.ensures in let after = ap (λ (x : Device). x.next) opens.after in omega (arith, below, next, after))
-    (kept_closed d e c.args.name.now told.0 told.1 opens last c.close_file.ensures) tt
+    (inr (closed_again d e c.args.name.now told.0 told.1 opens last c.close_file.ensures)) tt
 
 pub returns : goal.returns
 returns g c chain v stands below =
@@ -67,10 +67,10 @@ returns g c chain v stands below =
     let k = c.in-Ok-keep_file.ensures in
     let file : OpenFile = record { number = told.0; len = told.1 } in
     let short : told.1 < 2 ^ 64 = search rules in
-    was_opened chain c.keep_file.new.tree c.keep_file.new.store d e c.keep_file.new.self c.args.name.now v (Ok (told.0, told.1)) (Found (d.next - v.0.file) bytes.0) (file_taken c.in-Ok.pool told.0 bytes.0 v) bytes.1.0
+    was_opened chain c.keep_file.new.tree c.keep_file.new.store d e c.keep_file.new.self c.args.name.now v (Ok (told.0, told.1)) (Found (d.next - v.0.file) bytes.0) (file_taken c.in-Ok.pool told.0 bytes.0 v) (bytes.1.0, rest_of v.0.file d.next below)
     (opening_is (map_of c.args.tree.now) (lists c.args.store.now) (next_name c.args.store.now) self v stands.left.seen told.0 told.1 d.next c.in-Ok.pool bytes.0 opens.number_is opens.number_fits below bytes.1.1 c.in-Ok.ensures.pool (sym c.in-Ok.ensures.refusal))
     (subst (λ (x : Conn). LeftAs chain c.keep_file.new.tree c.keep_file.new.store e x (file_taken c.in-Ok.pool told.0 bytes.0 v)) (sym k.rest)
     (file_left d e c.args.name.now told.0 told.1 opens chain c.args.tree.now c.keep_file.new.tree c.args.store.now c.keep_file.new.store self v stands.left c.in-Ok.pool bytes.0 bytes.1.0 bytes.1.1
     c.keep_file.new.self.files file refl refl k.files k.map k.formed (k.house stands.left.house) k.counted k.lists k.brigades k.pools k.next))
     (let after = ap (λ (x : Device). x.next) opens.after in let at = opens.number_is in omega (arith, after, at))
-    (kept_open d e c.args.name.now told.0 told.1 opens) short
+    opens.after short
