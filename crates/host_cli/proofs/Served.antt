@@ -64,7 +64,7 @@ unfolding Serves happens_on TellsEvent
 pools_served host w text is hosts =
     let told : Told = record { reads = λ k. None; opening = Missing } in
     let acts : Acts (budget_of host) (chain_of host) 0 event.TellPools (scene w (device host)) (Tree (tree_of w)) (scene w (device host)) =
-    record { memory = true; told = told; is = refl; tells = refl } in
+    record { memory = true; told = told; is = refl; tells = refl; closes = tt } in
     record { to = w; serves = record { answer = Tree (tree_of w); acts = acts; told = ap reply.Pools is }; hosts = hosts; chain = refl; budget = refl }
 
 -- A file of a free name.
