@@ -22,7 +22,7 @@ use Rattle.run_model.specs.Steps.{current}
 use Rattle.bucket_kinds.specs.Device.{Device, HasFailed, SameFolder}
 use Rattle.ring_run.specs.Delivery.{Unless, PartGiven, PartsGiven, ContentGiven, ReadsGiven}
 use Rattle.ring_run.specs.Given.{MayGive}
-use Rattle.module_run.specs.Proceeding.{TellsReads}
+use Rattle.module_run.specs.Proceeding.{SameBeside, TellsReads}
 use Rattle.filter_chain.specs.Spared.{Spares}
 use Rattle.module_run.specs.Stepping.{TellsAtTop, TellsStep}
 
@@ -74,12 +74,17 @@ module _ (d e : Device) where
   unfolding Reads_only
   reads_spare c only = (let next = only.0 in record { rises = omega (arith, next); folder = only.2; others = λ file old none. ap (λ (f : ℕ → _). f file) only.1 })
 
+  beside : (v : Linked) → SameBeside d e v.1 → Spares d e v.1
+  beside v told = (let next = told.1 in record { rises = omega (arith, next); folder = told.0; others = λ file old none. told.3 file none })
+
   tells_reads : (chain : List Program) (i : Instr) (f : Frame) (v : Linked) (reads : Reads) → TellsReads d e chain i f v reads → Spares d e v.1
   tells_reads chain (instr.Read c l) f v reads told = reads_spare v.1 (gives (content_at (spot (configuration v.0 v.1 f) c)) (reads 0) told)
   tells_reads chain (instr.Pass b l) f v reads told =
       reads_spare v.1 (unless (is_last chain f.of) (Unless v.1.out.ended (e ≡ d) (ReadsGiven d e (items_of ((v.1.instances f.of).brigades b)) reads 0)) (e ≡ d)
       (unless v.1.out.ended (e ≡ d) (ReadsGiven d e (items_of ((v.1.instances f.of).brigades b)) reads 0) same (all_reads (items_of ((v.1.instances f.of).brigades b)) reads 0)) same told)
-  tells_reads chain i f v reads told = (let next = told.1 in record { rises = omega (arith, next); folder = told.0; others = λ file old none. told.3 file none })
+  tells_reads chain (instr.PClear q) f v reads told = beside v told
+  tells_reads chain (instr.PDestroy q) f v reads told = beside v told
+  tells_reads chain i f v reads told = reads_spare v.1 (same told)
 
   at_top : (chain : List Program) (fs : List Frame) (v : Linked) (reads : Reads) → TellsAtTop d e chain fs v reads → Spares d e v.1
   unfolding TellsAtTop

@@ -47,14 +47,14 @@ written_behind script number ls s told text e b k =
     }
 
 cut_behind : (script : List ℕ) (number : ℕ) (ls rest : List Line) (s : Stage) (told text : List ℕ) → Behind script number ls rest s told → IsCutOfSome number ls s text → IsCutOf script (told ++ text)
-cut_behind script number ls rest s told text b (more, k) =
-    (more, inl (subst (IsFrontOf script) (sym (append_assoc told text more)) (front_behind script number ls rest s told (text ++ more) b k)))
+cut_behind script number ls rest s told text b (more, some, k) =
+    (more, some, inl (subst (IsFrontOf script) (sym (append_assoc told text more)) (front_behind script number ls rest s told (text ++ more) b k)))
 
 cut_end_behind : (script : List ℕ) (number : ℕ) (ls : List Line) (s : Stage) (told text : List ℕ) → Behind script number ls [] s told → IsCutOfEnd number ls s text → IsCutOf script (told ++ text)
-cut_end_behind script number ls s told text b (more, inl k) =
-    (more, inl (subst (IsFrontOf script) (sym (append_assoc told text more)) (front_behind script number ls [] s told (text ++ more) b k)))
-cut_end_behind script number ls s told text b (more, inr (e, k)) =
-    (more, inr (e, subst (λ t. IsWrittenFor script t e) (sym (append_assoc told text more)) (written_behind script number ls s told (text ++ more) e b k)))
+cut_end_behind script number ls s told text b (more, some, inl k) =
+    (more, some, inl (subst (IsFrontOf script) (sym (append_assoc told text more)) (front_behind script number ls [] s told (text ++ more) b k)))
+cut_end_behind script number ls s told text b (more, some, inr (e, k)) =
+    (more, some, inr (e, subst (λ t. IsWrittenFor script t e) (sym (append_assoc told text more)) (written_behind script number ls s told (text ++ more) e b k)))
 
 -- How far a play is: whole lines were taken, and their answers written; a part of a line is held back.
 pub record Going (from to before after : Option (List ℕ)) (p : Player) (held : List ℕ) (bound : ℕ) : Type 0 where
@@ -136,7 +136,7 @@ of_left (Some x) (Some y) text P read all = subst P (sym read) (all y refl)
 pub going_read : (from to before after : Option (List ℕ)) (p : Player) (held : List ℕ) (bound : ℕ) → Going from to before after p held bound → Writes from before after (λ script text. AnswersRead script text to)
 going_read from to before after p held bound g =
     of_left from to (g.whole ++ held) (λ script. (t : List ℕ) × AnswersRead script t to × Appends before after t) g.read
-    (λ rest leaves. (g.told, record { whole = g.whole; seen = held; unread = rest; stage = g.stage; splits = append_assoc g.whole held rest; is_whole = g.is_whole; unended = g.unended; takes = g.takes; leaves = leaves }, g.wrote))
+    (λ rest leaves. (g.told, record { whole = g.whole; seen = held; unread = rest; stage = g.stage; splits = append_assoc g.whole held rest; is_whole = g.is_whole; unended = g.unended; takes = g.takes; running = g.running; leaves = leaves }, g.wrote))
 
 -- A read that failed gave nothing.
 pub going_kept : (from to next before after : Option (List ℕ)) (p : Player) (held : List ℕ) (bound : ℕ) → Going from to before after p held bound → Keeps to next → Writes from before after (λ script text. AnswersRead script text next)

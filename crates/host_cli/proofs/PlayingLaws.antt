@@ -44,10 +44,14 @@ all_some number ls s last told takes =
 
 -- The writer failed, at some front of the answers.
 abbrev pub Wrote : Option (List ℕ) → Option (List ℕ) → List ℕ → PlayFault → Type 0
-Wrote w v text f = (f ≡ fault.Write) × ((n : ℕ) × Appends w v (take n text))
+Wrote w v text f = (f ≡ fault.Write) × ((n : ℕ) × (n < length text) × Appends w v (take n text))
 
-cut_some : (number : ℕ) (w v : Option (List ℕ)) (text : List ℕ) (ls : List Line) (s : Stage) (n : ℕ) → IsSomeOf number ls s text → Appends w v (take n text) → Adds w v (IsCutOfSome number ls s)
-cut_some number w v text ls s n some wrote = (take n text, (drop n text, subst (IsSomeOf number ls s) (sym (take-append-drop n text)) some), wrote)
+-- behind a front that is not all of it something is left
+some_left : (text : List ℕ) (n : ℕ) → n < length text → drop n text ≢ []
+some_left text n lt none = (let long = length-drop n text in let empty : length (drop n text) ≡ 0 = ap (λ (xs : List ℕ). length xs) none in omega (arith, long, empty, lt))
+
+cut_some : (number : ℕ) (w v : Option (List ℕ)) (text : List ℕ) (ls : List Line) (s : Stage) (n : ℕ) → n < length text → IsSomeOf number ls s text → Appends w v (take n text) → Adds w v (IsCutOfSome number ls s)
+cut_some number w v text ls s n lt some wrote = (take n text, (drop n text, some_left text n lt, subst (IsSomeOf number ls s) (sym (take-append-drop n text)) some), wrote)
 
 -- what a player left of its lines
 abbrev pub Took : Player → Player → List ℕ → List ℕ → List Line → Stage → Result (Unit {0}) PlayFault → Type 0
@@ -63,7 +67,7 @@ took_some old new before after ls s (Err e) none other t = some_of (old.lines + 
 pub played_cut : {E : Type 0} (old new : Player) (w v : Option (List ℕ)) (before after text : List ℕ) (ls : List Line) (s : Stage) (r : Result (Unit {0}) E) (f : PlayFault) → before ≡ [] → IfOk r (λ u. TakesOn old new before after ls s) → IfErr r (λ e. SomeTaken (old.lines + 1) ls s before after) → text ≡ after → Wrote w v text f → PlaysLines old new w v ls s (Err f)
 played_cut old new w v before after text ls s r f none ok err same wrote =
     let some = subst (IsSomeOf (old.lines + 1) ls s) (sym same) (took_some old new before after ls s r none ok err) in
-    subst (λ e. PlaysLines old new w v ls s (Err e)) (sym wrote.0) (cut_some (old.lines + 1) w v text ls s wrote.1.0 some wrote.1.1)
+    subst (λ e. PlaysLines old new w v ls s (Err e)) (sym wrote.0) (cut_some (old.lines + 1) w v text ls s wrote.1.0 wrote.1.1 some wrote.1.2)
 
 -- The play ends.
 
@@ -75,17 +79,15 @@ ended_all w v before after s e none ends wrote =
 pub ended_none : (w v : Option (List ℕ)) (before after : List ℕ) (s : Stage) → before ≡ [] → after ≡ before → Appends w v after → EndsLines w v s (Err fault.NoMemory)
 ended_none w v before after s none same wrote = subst (Appends w v) (same ∙ none) wrote
 
-cut_end : (w v : Option (List ℕ)) (after : List ℕ) (s : Stage) (e : Ended) (n : ℕ) → EndsAt s after e → Appends w v (take n after) → EndsLines w v s (Err fault.Write)
-cut_end w v after s e n ends wrote = (take n after, inr (drop n after, e, subst (λ l. EndsAt s l e) (sym (take-append-drop n after)) ends), wrote)
+cut_end : (w v : Option (List ℕ)) (after : List ℕ) (s : Stage) (e : Ended) (n : ℕ) → n < length after → EndsAt s after e → Appends w v (take n after) → EndsLines w v s (Err fault.Write)
+cut_end w v after s e n lt ends wrote = (take n after, (drop n after, some_left after n lt, (e, subst (λ l. EndsAt s l e) (sym (take-append-drop n after)) ends)), wrote)
 
 pub ended_cut : {E : Type 0} (w v : Option (List ℕ)) (before after text : List ℕ) (s : Stage) (r : Result Ended E) (f : PlayFault) → before ≡ [] → IfOk r (λ e. EndsOn before after s e) → IfErr r (λ e. after ≡ before) → text ≡ after → Wrote w v text f → EndsLines w v s (Err f)
 ended_cut w v before after text s (Ok e) f none ends quiet same wrote =
     let told_is : ends.0 ≡ text = sym (same ∙ ends.2 ∙ ap (λ l. l ++ ends.0) none) in
-    subst (λ x. EndsLines w v s (Err x)) (sym wrote.0) (cut_end w v text s e wrote.1.0 (subst (λ l. EndsAt s l e) told_is ends.1) wrote.1.1)
+    subst (λ x. EndsLines w v s (Err x)) (sym wrote.0) (cut_end w v text s e wrote.1.0 wrote.1.1 (subst (λ l. EndsAt s l e) told_is ends.1) wrote.1.2)
 ended_cut w v before after text s (Err e) f none ends quiet same wrote =
-    let n = wrote.1.0 in
-    let empty : take n text ≡ [] = ap (take n) (same ∙ quiet ∙ none) ∙ take-nil n in
-    subst (λ x. EndsLines w v s (Err x)) (sym wrote.0) (take n text, inl empty, wrote.1.1)
+    absurd (let lt = wrote.1.1 in let empty : length text ≡ 0 = ap (λ (xs : List ℕ). length xs) (same ∙ quiet ∙ none) in omega (arith, lt, empty))
 
 -- The last lines are played, and then the play ends.
 pub ends_behind : (old mid : Player) (w u v : Option (List ℕ)) (ls : List Line) (s : Stage) (r : Result Ended PlayFault) → (k : PlaysOn old mid w u ls s) → EndsLines u v k.stage r → PlaysEnd (old.lines + 1) w v ls s r
@@ -94,18 +96,13 @@ ends_behind old mid w u v ls s (Ok e) k (text, ends, added) =
 ends_behind old mid w u v ls s (Err fault.Read) k none = none
 ends_behind old mid w u v ls s (Err fault.NoMemory) k added =
     (k.told, all_some (old.lines + 1) ls s k.stage k.told k.takes, subst (Appends w v) (append-nil k.told) (Appends-trans w u v k.told [] k.added added))
-ends_behind old mid w u v ls s (Err fault.Write) k (text, inl none, added) =
-    let some = all_some (old.lines + 1) ls s k.stage k.told k.takes in
-    let P : List ℕ → Type 0 = IsSomeOf (old.lines + 1) ls s in
-    let Q : List ℕ → Type 0 = λ t. Appends u v t in
-    (k.told, ([], inl (subst P (sym (append-nil k.told)) some)), subst (Appends w v) (append-nil k.told) (Appends-trans w u v k.told [] k.added (subst Q none added)))
-ends_behind old mid w u v ls s (Err fault.Write) k (text, inr (more, e, ends), added) =
-    (k.told ++ text, (more, inr (e, record { stage = k.stage; answers = k.told; last = text ++ more; takes = k.takes; ends = ends; written = append_assoc k.told text more })), Appends-trans w u v k.told text k.added added)
+ends_behind old mid w u v ls s (Err fault.Write) k (text, (more, some, (e, ends)), added) =
+    (k.told ++ text, (more, some, inr (e, record { stage = k.stage; answers = k.told; last = text ++ more; takes = k.takes; ends = ends; written = append_assoc k.told text more })), Appends-trans w u v k.told text k.added added)
 
 pub ends_failed : (old new : Player) (w v : Option (List ℕ)) (ls : List Line) (s : Stage) (f : PlayFault) → PlaysLines old new w v ls s (Err f) → PlaysEnd (old.lines + 1) w v ls s (Err f)
 ends_failed old new w v ls s fault.Read k = k
 ends_failed old new w v ls s fault.NoMemory k = k
-ends_failed old new w v ls s fault.Write (text, (more, some), added) = (text, (more, inl some), added)
+ends_failed old new w v ls s fault.Write (text, (more, left, some), added) = (text, (more, left, inl some), added)
 
 -- Bytes are taken.
 

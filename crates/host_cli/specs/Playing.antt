@@ -1,5 +1,5 @@
 -- What the code that plays a script writes, part by part.
-use Rattle.std.specs.Prelude.{◌≡◌, ℕ, ◌+◌, Bool, false, List, [], ◌∷◌, ◌++◌, length, take, Option, Result, Ok, Err, ◌⊎◌}
+use Rattle.std.specs.Prelude.{◌≡◌, ◌≢◌, ℕ, ◌+◌, Bool, false, List, [], ◌∷◌, ◌++◌, length, take, Option, Result, Ok, Err, ◌⊎◌}
 use Rattle.std.specs.Io.KnownBytes.{Appends}
 use Rattle.module_lang.specs.TextLines.{Line, lines_of}
 use Rattle.host_cli.specs.declared.ended.Ended.{Ended}
@@ -25,10 +25,10 @@ pub record IsSomeOf (number : ℕ) (ls : List Line) (s : Stage) (text : List ℕ
   pub takes : TakesAll number (take count ls) s text stage
 
 abbrev pub IsCutOfSome : ℕ → List Line → Stage → List ℕ → Type 0
-IsCutOfSome number ls s text = (more : List ℕ) × IsSomeOf number ls s (text ++ more)
+IsCutOfSome number ls s text = (more : List ℕ) × (more ≢ []) × IsSomeOf number ls s (text ++ more)
 
 abbrev pub IsCutOfEnd : ℕ → List Line → Stage → List ℕ → Type 0
-IsCutOfEnd number ls s text = (more : List ℕ) × (IsSomeOf number ls s (text ++ more) ⊎ ((e : Ended) × IsEndFrom number ls s (text ++ more) e))
+IsCutOfEnd number ls s text = (more : List ℕ) × (more ≢ []) × (IsSomeOf number ls s (text ++ more) ⊎ ((e : Ended) × IsEndFrom number ls s (text ++ more) e))
 
 -- such a text is written
 abbrev pub Adds : Option (List ℕ) → Option (List ℕ) → (List ℕ → Type 0) → Type 0
@@ -62,7 +62,7 @@ module _ (old new : Player) (before after : Option (List ℕ)) where
 abbrev pub EndsLines : Option (List ℕ) → Option (List ℕ) → Stage → Result Ended PlayFault → Type 0
 EndsLines before after s (Ok e) = Adds before after (λ text. EndsAt s text e)
 EndsLines before after s (Err fault.Read) = ⊥
-EndsLines before after s (Err fault.Write) = Adds before after (λ text. (text ≡ []) ⊎ ((more : List ℕ) × (e : Ended) × EndsAt s (text ++ more) e))
+EndsLines before after s (Err fault.Write) = Adds before after (λ text. (more : List ℕ) × (more ≢ []) × ((e : Ended) × EndsAt s (text ++ more) e))
 EndsLines before after s (Err fault.NoMemory) = Appends before after []
 
 -- The last lines are played, and the play ends.

@@ -193,6 +193,7 @@ pub record AnswersRead (script text : List ℕ) (left : Option (List ℕ)) : Typ
   pub is_whole : IsWhole whole
   pub unended : HasNoLf seen
   pub takes : TakesAll 1 (lines_of whole) (Reading no_head) text stage
+  pub running : is_over stage ≡ false
   pub leaves : left ≡ Some unread
 
 -- What is written of its first lines.
@@ -201,6 +202,6 @@ pub record IsFrontOf (script text : List ℕ) : Type 0 where
   pub stage : Stage
   pub takes : TakesAll 1 (take count (lines_of script)) (Reading no_head) text stage
 
--- What is written where the writer failed: the front of what may be written of the script, or of its first lines.
+-- What is written where the writer failed: the front of what may be written of the script, or of its first lines, but not all of it.
 abbrev pub IsCutOf : List ℕ → List ℕ → Type 0
-IsCutOf script text = (more : List ℕ) × (IsFrontOf script (text ++ more) ⊎ ((e : Ended) × IsWrittenFor script (text ++ more) e))
+IsCutOf script text = (more : List ℕ) × (more ≢ []) × (IsFrontOf script (text ++ more) ⊎ ((e : Ended) × IsWrittenFor script (text ++ more) e))

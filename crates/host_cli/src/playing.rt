@@ -19,7 +19,7 @@ use std::io::{Read, Write};
 /// Writes what is answered.
 fn write_answers<W: Write>(writer: &mut W, answers: &[u8]) -> Result<(), PlayFault>
     ensures ok { OnOk result (Appends (W.contents writer.old) (W.contents writer.new) answers.now) }
-    ensures err { IfErr result (λ f. (f ≡ PlayFault.Write) × ((n : ℕ) × Appends (W.contents writer.old) (W.contents writer.new) (take n answers.now))) }
+    ensures err { IfErr result (λ f. (f ≡ PlayFault.Write) × ((n : ℕ) × (n < length answers.now) × Appends (W.contents writer.old) (W.contents writer.new) (take n answers.now))) }
 {
     match put_all(writer, answers) {
         Ok(()) => Ok(()),

@@ -44,7 +44,7 @@ module _ {H K : Type 0} (site : Site) (handles : H → Method → List ℕ → O
   front_whole : (stream text : List ℕ) (unread : Option (List ℕ)) (m n : ℕ) (new : H) (after : K) → Responses site handles tells old before stream text n new after → FallsBy site handles tells kind.NoMemory (Some m) old before stream text unread new after
   front_whole stream text unread m n new after all = inr ((λ none. cc), n, all)
 
-  lacking : (read unread was is : Option (List ℕ)) (left : Option ℕ) (new : H) (after : K) → Writes read was is (λ stream text. LacksMemory site handles tells old before stream text unread) → Writes read was is (λ stream text. FallsBy site handles tells kind.NoMemory left old before stream text unread new after)
+  lacking : (read unread was is : Option (List ℕ)) (left : Option ℕ) (new : H) (after : K) → Writes read was is (λ stream text. LacksMemory site handles tells old before stream text unread new after) → Writes read was is (λ stream text. FallsBy site handles tells kind.NoMemory left old before stream text unread new after)
   lacking None unread was is left new after h = tt
   lacking (Some stream) unread was is left new after h = (h.0, inl h.1, h.2)
 

@@ -163,9 +163,9 @@ module _ {H K : Type 0} (site : Site) (handles : H → Method → List ℕ → O
 
   -- Memory is lacking for bytes that were read.
   pub far_loses_read : (old : H) (before : K) (r q p w v : Option (List ℕ)) (unread lost : List ℕ) (n : ℕ) (new : H) (after : K)
-      → Far old before r q w v unread n new after → WantsMore unread → Consumes q p lost → Writes r w v (λ stream text. LacksMemory site handles tells old before stream text p)
-  far_loses_read old before None q p w v unread lost n new after so wants took = tt
-  far_loses_read old before (Some stream) q p w v unread lost n new after so wants took =
+      → Far old before r q w v unread n new after → WantsMore unread → length lost ≤ 8192 → Consumes q p lost → Writes r w v (λ stream text. LacksMemory site handles tells old before stream text p new after)
+  far_loses_read old before None q p w v unread lost n new after so wants few took = tt
+  far_loses_read old before (Some stream) q p w v unread lost n new after so wants few took =
       let left = left_of stream (heads_of so.turns ++ unread) q so.took in
       let rest = left_of left.0 lost p (subst (λ x. Consumes x p lost) left.1 took) in (
         texts_of so.turns,
@@ -175,8 +175,7 @@ module _ {H K : Type 0} (site : Site) (handles : H → Method → List ℕ → O
           lost = lost;
           unread = rest.0;
           n = n;
-          new = new;
-          after = after;
+          few = few;
           splits = left.2 ∙ ap (λ l. heads_of so.turns ++ unread ++ l) rest.2 ∙ sym (append_assoc (heads_of so.turns ++ unread) lost rest.0);
           responses = record { turns = so.turns; stay = so.stay; answers = so.answers; requests = refl; written = refl; count = so.count };
           wants = wants;
@@ -309,13 +308,13 @@ module _ {H K : Type 0} (site : Site) (handles : H → Method → List ℕ → O
       (inr (inr (inr (refused old before stream q w v unread whole n (n + 1) mid new then after text so end bad refl)))) few wrote
 
   -- Memory or names are lacking, as the kind of the fault says.
-  lack_memory : (r q w v : Option (List ℕ)) (old : H) (before : K) → Writes r w v (λ stream text. LacksAt site handles tells old before stream text q) → Writes r w v (λ stream text. LacksMemory site handles tells old before stream text q)
-  lack_memory None q w v old before h = tt
-  lack_memory (Some stream) q w v old before h = (h.0, inl h.1, h.2)
+  lack_memory : (r q w v : Option (List ℕ)) (old : H) (before : K) (new : H) (after : K) → Writes r w v (λ stream text. LacksAt site handles tells old before stream text q) → Writes r w v (λ stream text. LacksMemory site handles tells old before stream text q new after)
+  lack_memory None q w v old before new after h = tt
+  lack_memory (Some stream) q w v old before new after h = (h.0, inl h.1, h.2)
 
   far_lacks_by : (old : H) (before : K) (r q w v : Option (List ℕ)) (new : H) (after : K) (e : FrontKind)
       → IsLack e → Writes r w v (λ stream text. LacksAt site handles tells old before stream text q) → FailsBy site handles tells old before r q w v new after e
-  far_lacks_by old before r q w v new after e (inl same) h = subst (FailsBy site handles tells old before r q w v new after) (sym same) (lack_memory r q w v old before h)
+  far_lacks_by old before r q w v new after e (inl same) h = subst (FailsBy site handles tells old before r q w v new after) (sym same) (lack_memory r q w v old before new after h)
   far_lacks_by old before r q w v new after e (inr same) h = subst (FailsBy site handles tells old before r q w v new after) (sym same) h
 
   -- How a `?` leaves.

@@ -56,7 +56,7 @@ module _ {H K : Type 0} (site : Site) (handles : H → Method → List ℕ → O
   FallsBy kind.TooManyReads left old before stream text unread new after = AnswersRead site handles tells old before stream text unread new after
   FallsBy kind.NamesSpent left old before stream text unread new after = LacksAt site handles tells old before stream text unread
   FallsBy kind.NoMemory left old before stream text unread new after =
-      LacksMemory site handles tells old before stream text unread
+      LacksMemory site handles tells old before stream text unread new after
       ⊎ (¬ (left ≡ None) × (n : ℕ) × Responses site handles tells old before stream text n new after)
 
 module _ {F K : Type 0} (device : F → Device) (tells : K → Said → K → Type 0) (site : Site) where

@@ -23,11 +23,11 @@ pub record Adds (r q : Option (List ℕ)) (old new : List ℕ) (limit : ℕ) (wh
   pub few : length bytes ≤ limit
   pub end : whole ≡ true → IsAtEnd q
 
--- why a read adds nothing: the reader failed and gave no byte, or there was no memory for what it gave
-abbrev pub Loses : Option (List ℕ) → Option (List ℕ) → FrontKind → Type 0
-Loses r q kind.Read = Consumes r q []
-Loses r q kind.NoMemory = (bytes : List ℕ) × Consumes r q bytes
-Loses r q e = ⊥
+-- why a read of so many bytes at most adds nothing: the reader failed and gave no byte, or there was no memory for what it gave
+abbrev pub Loses : ℕ → Option (List ℕ) → Option (List ℕ) → FrontKind → Type 0
+Loses limit r q kind.Read = Consumes r q []
+Loses limit r q kind.NoMemory = (bytes : List ℕ) × (length bytes ≤ limit) × Consumes r q bytes
+Loses limit r q e = ⊥
 
 module _ {H K : Type 0} (site : Site) (handles : H → Method → List ℕ → Outcome → H → Type 0) (tells : K → Said → K → Type 0) where
   -- So many requests are answered, and the connection stays open. r, q: what the reader had left, and has. w, v: what the writer held,
@@ -50,7 +50,7 @@ module _ {H K : Type 0} (site : Site) (handles : H → Method → List ℕ → O
   FailsBy old before r q w v new after kind.Write = Writes r w v (λ stream text. IsCut site handles tells old before stream text new after)
   FailsBy old before r q w v new after kind.Read = Writes r w v (λ stream text. AnswersRead site handles tells old before stream text q new after)
   FailsBy old before r q w v new after kind.TooManyReads = Writes r w v (λ stream text. AnswersRead site handles tells old before stream text q new after)
-  FailsBy old before r q w v new after kind.NoMemory = Writes r w v (λ stream text. LacksMemory site handles tells old before stream text q)
+  FailsBy old before r q w v new after kind.NoMemory = Writes r w v (λ stream text. LacksMemory site handles tells old before stream text q new after)
   FailsBy old before r q w v new after kind.NamesSpent = Writes r w v (λ stream text. LacksAt site handles tells old before stream text q)
 
   -- what comes next

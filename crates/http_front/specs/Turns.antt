@@ -182,23 +182,22 @@ module _ {H K : Type 0} (site : Site) (handles : H → Method → List ℕ → O
     pub due : IsDue seen unread
     pub leaves : left ≡ Some unread
 
-  -- These are the responses to all whole requests that were read, before the bytes that are lost.
-  pub record LosesRead (old : H) (before : K) (stream text : List ℕ) (left : Option (List ℕ)) : Type 0 where
+  -- These are the responses to all whole requests that were read, before the bytes that are lost: those of one read.
+  pub record LosesRead (old : H) (before : K) (stream text : List ℕ) (left : Option (List ℕ)) (new : H) (after : K) : Type 0 where
     pub first : List ℕ
     pub seen : List ℕ
     pub lost : List ℕ
     pub unread : List ℕ
     pub n : ℕ
-    pub new : H
-    pub after : K
+    pub few : length lost ≤ 8192
     pub splits : stream ≡ first ++ seen ++ lost ++ unread
     pub responses : EndsAll old before first text n new after
     pub wants : WantsMore seen
     pub leaves : left ≡ Some unread
 
   -- Memory was lacking: for the request at hand, or for bytes that were read.
-  abbrev pub LacksMemory : H → K → List ℕ → List ℕ → Option (List ℕ) → Type 0
-  LacksMemory old before stream text left = LacksAt old before stream text left ⊎ LosesRead old before stream text left
+  abbrev pub LacksMemory : H → K → List ℕ → List ℕ → Option (List ℕ) → H → K → Type 0
+  LacksMemory old before stream text left new after = LacksAt old before stream text left ⊎ LosesRead old before stream text left new after
 
   -- These are the responses to the first requests of a stream, and a part of one response more: that is cut. Its request was handled, too.
   pub record IsCut (old : H) (before : K) (stream text : List ℕ) (new : H) (after : K) : Type 0 where

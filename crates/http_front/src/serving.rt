@@ -175,7 +175,7 @@ fn read_more<R: Read>(
 ) -> Result<bool, FrontKind>
     requires { length buffer.old ≡ 8192 }
     ensures ok { IfOk result (λ whole. Adds (R.remaining reader.old) (R.remaining reader.new) (unread inbox.old) (unread inbox.new) 8192 whole) }
-    ensures err { IfErr result (λ e. Loses (R.remaining reader.old) (R.remaining reader.new) e) }
+    ensures err { IfErr result (λ e. Loses 8192 (R.remaining reader.old) (R.remaining reader.new) e) }
 {
     match reader.read(buffer) {
         Ok(0) => Ok(true),

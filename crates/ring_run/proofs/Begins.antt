@@ -1,9 +1,9 @@
 -- A call begins: what its instance reads as, and what is held.
-use Rattle.std.proofs.Common.{◌≡◌, ◌≢◌, ◌==◌, ℕ, zero, suc, ◌+◌, ◌<◌, Bool, true, false, ◌&&◌, nat_lt, cond, List, [], ◌∷◌, Some, None, Option, is_some, refl, sym, ap, subst, ◌∙◌, inl, inr, arith}
+use Rattle.std.proofs.Common.{◌≡◌, ◌≢◌, ℕ, zero, suc, ◌+◌, ◌<◌, Bool, true, false, ◌&&◌, nat_lt, cond, List, [], ◌∷◌, Some, None, Option, is_some, refl, sym, ap, subst, ◌∙◌, inl, inr, arith}
 use Rattle.std.specs.Prelude.{if◌then◌else◌}
 use Rattle.std.specs.Option.{option_map_or}
 use Rattle.std.proofs.Math.Path.{fun_ext}
-use Rattle.std.proofs.lemmas.Bool.{cases_eq, eq-eqb, ne_eqb, ltb-true}
+use Rattle.std.proofs.lemmas.Bool.{cases_eq, ltb-true}
 use Rattle.bucket_ring.specs.declared.names.BucketId.{BucketId}
 use Rattle.bucket_ring.specs.declared.rings.Rings.{Ghosts}
 use Rattle.bucket_ring.specs.Lists as ring
@@ -18,11 +18,11 @@ use Rattle.run_model.specs.declared.bucket.Home.TheVariants as home
 use Rattle.run_model.specs.declared.bucket.Cursor.{Cursor}
 use Rattle.run_model.specs.declared.bucket.Cursor.TheVariants as cursor
 use Rattle.run_model.specs.declared.bucket.Mark.{Mark}
-use Rattle.run_model.specs.State.{Configuration, fresh_call}
+use Rattle.run_model.specs.State.{Configuration}
 use Rattle.brigade_ops.specs.declared.store.Brigades.{Brigades}
 use Rattle.brigade_ops.specs.Items.{Item, Items, named_item}
 use Rattle.brigade_ops.specs.Store.{lists, brigade_of, pool_of, next_name}
-use Rattle.brigade_ops.proofs.Stores.{in_listed, young, brigades}
+use Rattle.brigade_ops.proofs.Stores.{in_listed, young}
 use Rattle.ring_run.specs.declared.machine.Instance.{Instance}
 use Rattle.ring_run.specs.declared.machine.Call.{Call}
 use Rattle.ring_run.specs.declared.machine.Slot.{Slot}
@@ -30,7 +30,7 @@ use Rattle.ring_run.specs.declared.machine.Slot.TheVariants as slot
 use Rattle.ring_run.specs.declared.machine.Stand.TheVariants as stand
 use Rattle.ring_run.specs.Around.{Around}
 use Rattle.ring_run.specs.Begun.{begun_as}
-use Rattle.ring_run.specs.Held.{HeldOver, IsHeld, WasGiven}
+use Rattle.ring_run.specs.Held.{IsHeld}
 use Rattle.ring_run.specs.Slots.{slot_at, cursor_at, name_in}
 use Rattle.ring_run.specs.Seen.{seen_over, calls_in, is_running, home_in, item_in, shown, shown_as, shown_slot, shown_cursor}
 use Rattle.ring_run.proofs.Changes.{ring_here, ring_off}

@@ -1,6 +1,5 @@
 -- What is wanted of all buckets of a brigade is told by its list in the store.
 use Rattle.std.proofs.Common.{◌≡◌, ℕ, zero, suc, Bool, true, false, cond, Option, Some, None, is_some, refl, sym, ap, ◌∙◌}
-use Rattle.run_model.specs.declared.fault.FaultKind.{FaultKind}
 use Rattle.run_model.specs.declared.fault.FaultKind.TheVariants.{F8}
 use Rattle.run_model.specs.declared.bucket.Mark.TheVariants.{Usable, Passed}
 use Rattle.run_model.specs.declared.bucket.Mark.{Mark}

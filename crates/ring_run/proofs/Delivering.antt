@@ -1,8 +1,8 @@
 -- What is taken of a brigade, read by read.
-use Rattle.std.proofs.Common.{◌≡◌, ◌⊎◌, ℕ, zero, suc, ◌+◌, ◌-◌, ◌<◌, ◌≤◌, Bool, true, false, cond, min, List, [], ◌∷◌, ◌++◌, length, take, Option, Some, None, refl, sym, ap, subst, ⊎_elim, ◌∙◌, append_assoc, arith}
+use Rattle.std.proofs.Common.{◌≡◌, ◌⊎◌, ℕ, zero, suc, ◌+◌, ◌-◌, ◌<◌, ◌≤◌, Bool, true, false, min, List, [], ◌∷◌, ◌++◌, length, Option, Some, None, refl, sym, ap, subst, ⊎_elim, ◌∙◌, append_assoc, arith}
 use Rattle.std.proofs.lemmas.Bool.{false≢true, cases_lt}
 use Rattle.std.specs.Prelude.{if◌then◌else◌}
-use Rattle.std.proofs.lemmas.List.{append-nil, length-append, take_at}
+use Rattle.std.proofs.lemmas.List.{append-nil, length-append}
 use Rattle.bucket_ring.specs.declared.names.BucketId.{BucketId}
 use Rattle.bucket_kinds.specs.Device.{Device, HasFailed}
 use Rattle.bucket_kinds.specs.Reading.{MayGive, MayEnd}
@@ -16,8 +16,7 @@ use Rattle.run_model.specs.Cutting.{read_limit, length_of}
 use Rattle.run_model.specs.Files.{parts_of}
 use Rattle.run_model.specs.Passing.{Reads, Taken, taken_whole, and_taken, unless_unread, parts_taken, content_taken, followed, taken, delivered}
 use Rattle.brigade_ops.specs.Items.{Items, named, named_item, from_place}
-use Rattle.ring_run.specs.declared.output.Filled.{Filled}
-use Rattle.ring_run.specs.Delivery.{Unless, PartGiven, PartsGiven, ContentGiven, ReadsGiven, HasReads, filled, ContentFilled, ItemsFilled, WasDelivered, out_of}
+use Rattle.ring_run.specs.Delivery.{Unless, PartGiven, PartsGiven, ContentGiven, ReadsGiven, HasReads, taken_by, ContentTaken, ItemsTaken, WasDelivered, out_of}
 use Rattle.ring_run.specs.Seen.{shown, item_in}
 
 -- Reads that were made.
@@ -133,16 +132,16 @@ module _ (d : Device) (file start len : ℕ) where
     left : past ≡ count + n → len - count - n ≡ len - past
     left e = omega (arith, e)
 
-  pub range_failed : (e : Device) (count n : ℕ) (front out : List ℕ) → RangeSoFar d file start len count front → count < len → n ≡ min (len - count) 8000 → HasFailed d e ⊎ ((e ≡ d) × MayEnd (d.numbered file) (start + count) n) → front ≡ take count out
-      → ContentFilled d e (content.Range file start len) (record { count = count; whole = false }) out
-  range_failed e count n front out s below is why here = record {
+  pub range_failed : (e : Device) (count n : ℕ) (front : List ℕ) → RangeSoFar d file start len count front → count < len → n ≡ min (len - count) 8000 → HasFailed d e ⊎ ((e ≡ d) × MayEnd (d.numbered file) (start + count) n)
+      → ContentTaken d e (content.Range file start len) front false
+  range_failed e count n front s below is why = record {
     reads = s.reads ++ None ∷ [];
     takes = λ k rs h.
         let p = has_both s.reads (None ∷ []) k (k + length s.reads) rs refl h in
         s.takes k rs p.0
         ∙ (ap (and_taken front) (step_failed (len - count) (k + length s.reads) rs (omega (arith, below)) p.1.0)
-        ∙ (ap (λ (bytes : List ℕ). let t : Taken = record { bytes = bytes; whole = false; reads = k + length s.reads + 1 } in t) (append-nil front ∙ here)
-        ∙ ap (λ (j : ℕ). let t : Taken = record { bytes = take count out; whole = false; reads = j } in t) (sym (one_more s.reads None k))));
+        ∙ (ap (λ (bytes : List ℕ). taken_by bytes false (k + length s.reads + 1)) (append-nil front)
+        ∙ ap (taken_by front false) (sym (one_more s.reads None k))));
     same = λ never. absurd (false≢true never);
     goes_on = λ never. absurd (false≢true never);
     fails = λ _ bs k rs h.
@@ -150,15 +149,14 @@ module _ (d : Device) (file start len : ℕ) where
         s.goes_on e bs k rs p.0 (failed_given d e file rs (λ j. ReadsGiven d e bs rs j) (len - count) (start + count) n (k + length s.reads) (omega (arith, below)) is p.1.0 why);
   }
 
-  pub range_done : (e : Device) (count : ℕ) (front out : List ℕ) → RangeSoFar d file start len count front → len ≤ count → e ≡ d → front ≡ take count out
-      → ContentFilled d e (content.Range file start len) (record { count = count; whole = true }) out
-  range_done e count front out s all same here = record {
+  pub range_done : (e : Device) (count : ℕ) (front : List ℕ) → RangeSoFar d file start len count front → len ≤ count → e ≡ d → ContentTaken d e (content.Range file start len) front true
+  range_done e count front s all same = record {
     reads = s.reads;
     takes = λ k rs h.
         s.takes k rs h
         ∙ (ap (λ (n : ℕ). and_taken front (parts_taken (parts_of n) (k + length s.reads) rs)) (done all)
         ∙ (ap (and_taken front) (none_left (k + length s.reads) rs)
-        ∙ ap (λ (bytes : List ℕ). let t : Taken = record { bytes = bytes; whole = true; reads = k + length s.reads } in t) (append-nil front ∙ here)));
+        ∙ ap (λ (bytes : List ℕ). taken_by bytes true (k + length s.reads)) (append-nil front)));
     same = λ _. same;
     goes_on = λ _ last bs k rs h rest. s.goes_on last bs k rs h (end_given d last file rs (λ j. ReadsGiven d last bs rs j) (len - count) (start + count) (k + length s.reads) (done all) rest);
     fails = λ never. absurd (false≢true (sym never));
@@ -179,19 +177,20 @@ gave_from d now file at n k bytes same span gave =
 
 -- Bytes in memory.
 
-memory : (d : Device) (bs rest : List ℕ) (n : ℕ) → n ≡ length bs → ContentFilled d d (content.Bytes bs) (record { count = n; whole = true }) (bs ++ rest)
-memory d bs rest n long = record {
+memory : (d : Device) (c : Content) (bs : List ℕ) → ((k : ℕ) (rs : Reads) → content_taken c k rs ≡ taken_whole bs k) → ((last : Device) (rs : Reads) (next : ℕ → Type 0) (k : ℕ) → next k → ContentGiven d last c rs next k) → ContentTaken d d c bs true
+memory d c bs takes gives = record {
   reads = [];
-  takes = λ k rs h. ap (λ (bytes : List ℕ). taken_whole bytes k) (sym (take_at bs rest n (sym long))) ∙ ap (λ (j : ℕ). taken_whole (take n (bs ++ rest)) j) (let e : k ≡ k + 0 = omega arith in e);
+  takes = λ k rs h. takes k rs ∙ ap (λ (j : ℕ). taken_whole bs j) (let e : k ≡ k + 0 = omega arith in e);
   same = λ _. refl;
-  goes_on = λ _ last bs k rs h more. subst (λ (j : ℕ). ReadsGiven d last bs rs j) (let e : k + 0 ≡ k = omega arith in e) more;
+  goes_on = λ _ last bs k rs h more. gives last rs (λ j. ReadsGiven d last bs rs j) k (subst (λ (j : ℕ). ReadsGiven d last bs rs j) (let e : k + 0 ≡ k = omega arith in e) more);
   fails = λ never. absurd (false≢true (sym never));
 }
 
-pub memory_filled : (d : Device) (c : Content) (bs written rest : List ℕ) (n : ℕ) → c ≡ content.Bytes bs → written ≡ bs → n ≡ length bs → ContentFilled d d c (record { count = n; whole = true }) (written ++ rest)
-memory_filled d c bs written rest n is copied long =
-    subst (λ (x : Content). ContentFilled d d x (record { count = n; whole = true }) (written ++ rest)) (sym is)
-    (subst (λ (ys : List ℕ). ContentFilled d d (content.Bytes bs) (record { count = n; whole = true }) (ys ++ rest)) (sym copied) (memory d bs rest n long))
+pub memory_taken : (d : Device) (bs : List ℕ) → ContentTaken d d (content.Bytes bs) bs true
+memory_taken d bs = memory d (content.Bytes bs) bs (λ k rs. refl) (λ last rs next k h. h)
+
+pub nothing_taken : (d : Device) → ContentTaken d d content.Nothing [] true
+nothing_taken d = memory d content.Nothing [] (λ k rs. refl) (λ last rs next k h. h)
 
 -- Buckets, one after another.
 
@@ -222,9 +221,9 @@ module _ (b : NamedBucket) (bs : List NamedBucket) (k : ℕ) (rs : Reads) where
   unfolding ReadsGiven
   more_given d e plain h = subst (λ (t : Bool). Unless t (e ≡ d) (ContentGiven d e b.bucket.content rs (λ j. ReadsGiven d e bs rs j) k)) (sym plain) h
 
-nothing_taken : (k : ℕ) (rs : Reads) → taken [] k rs ≡ taken_whole [] k
+none_taken : (k : ℕ) (rs : Reads) → taken [] k rs ≡ taken_whole [] k
 unfolding taken
-nothing_taken k rs = refl
+none_taken k rs = refl
 
 nothing_given : (d e : Device) (k : ℕ) (rs : Reads) → e ≡ d → ReadsGiven d e [] rs k
 unfolding ReadsGiven
@@ -251,14 +250,14 @@ module _ (d : Device) (xs : Items) where
     goes_on = λ runs last k rs h rest. subst (λ (zs : Items). ReadsGiven d last (shown runs zs) rs k) all (subst (λ (j : ℕ). ReadsGiven d last (shown runs left) rs j) (let e : k + 0 ≡ k = omega arith in e) rest);
   }
 
-  pub items_end : (e : Device) (left : Items) (n : ℕ) (front out : List ℕ) → ItemsSoFar d xs left front → left ≡ [] → e ≡ d → front ≡ take n out → ItemsFilled d e xs (record { count = n; whole = true }) out
-  items_end e left n front out s none same here = record {
+  pub items_end : (e : Device) (left : Items) (front : List ℕ) → ItemsSoFar d xs left front → left ≡ [] → e ≡ d → ItemsTaken d e xs front true
+  items_end e left front s none same = record {
     reads = s.reads;
     takes = λ runs k rs h.
         s.takes runs k rs h
         ∙ (ap (λ (zs : Items). and_taken front (taken (shown runs zs) (k + length s.reads) rs)) none
-        ∙ (ap (and_taken front) (nothing_taken (k + length s.reads) rs)
-        ∙ ap (λ (bytes : List ℕ). taken_whole bytes (k + length s.reads)) (append-nil front ∙ here)));
+        ∙ (ap (and_taken front) (none_taken (k + length s.reads) rs)
+        ∙ ap (λ (bytes : List ℕ). taken_whole bytes (k + length s.reads)) (append-nil front)));
     given = λ runs k rs h. s.goes_on runs e k rs h (subst (λ (zs : Items). ReadsGiven d e (shown runs zs) rs (k + length s.reads)) (sym none) (nothing_given d e (k + length s.reads) rs same));
   }
 
@@ -266,54 +265,52 @@ module _ (d : Device) (xs : Items) where
     first : (ℕ → Bool) → NamedBucket
     first runs = named_item (item_in runs (id, x))
 
-    pub items_eos : (e : Device) (n : ℕ) (out : List ℕ) → is_eos_kind x.kind ≡ true → e ≡ d → front ≡ take n out → ItemsFilled d e xs (record { count = n; whole = true }) out
+    pub items_eos : (e : Device) → is_eos_kind x.kind ≡ true → e ≡ d → ItemsTaken d e xs front true
     unfolding first
-    items_eos e n out eos same here = record {
+    items_eos e eos same = record {
       reads = s.reads;
       takes = λ runs k rs h.
           s.takes runs k rs h
           ∙ (ap (λ (zs : Items). and_taken front (taken (shown runs zs) (k + length s.reads) rs)) head
           ∙ (ap (and_taken front) (eos_taken (first runs) (shown runs ys) (k + length s.reads) rs eos)
-          ∙ ap (λ (bytes : List ℕ). taken_whole bytes (k + length s.reads)) (append-nil front ∙ here)));
+          ∙ ap (λ (bytes : List ℕ). taken_whole bytes (k + length s.reads)) (append-nil front)));
       given = λ runs k rs h. s.goes_on runs e k rs h (subst (λ (zs : Items). ReadsGiven d e (shown runs zs) rs (k + length s.reads)) (sym head) (eos_given (first runs) (shown runs ys) (k + length s.reads) rs d e eos same));
     }
 
-    module _ (e : Device) (f : Filled) (part : List ℕ) (plain : is_eos_kind x.kind ≡ false) (c : ContentFilled d e x.content f part) where
+    module _ (e : Device) (whole : Bool) (part : List ℕ) (plain : is_eos_kind x.kind ≡ false) (c : ContentTaken d e x.content part whole) where
       all_reads : List (Option (List ℕ))
       all_reads = s.reads ++ c.reads
 
       all_long : (k : ℕ) → k + length s.reads + length c.reads ≡ k + length (s.reads ++ c.reads)
       all_long k = let l = length-append s.reads c.reads in omega (arith, l)
 
-      pub items_failed : (n : ℕ) (out : List ℕ) → f.whole ≡ false → front ++ take f.count part ≡ take n out → ItemsFilled d e xs (record { count = n; whole = false }) out
+      pub items_failed : whole ≡ false → ItemsTaken d e xs (front ++ part) false
       unfolding first
-      items_failed n out failed here = record {
+      items_failed failed = record {
         reads = s.reads ++ c.reads;
         takes = λ runs k rs h.
             let p = has_both s.reads c.reads k (k + length s.reads) rs refl h in
             s.takes runs k rs p.0
             ∙ (ap (λ (zs : Items). and_taken front (taken (shown runs zs) (k + length s.reads) rs)) head
-            ∙ (ap (and_taken front) (part_taken (first runs) (shown runs ys) (k + length s.reads) rs (take f.count part) f.whole (k + length s.reads + length c.reads) plain (c.takes (k + length s.reads) rs p.1) failed)
-            ∙ (ap (λ (bytes : List ℕ). let t : Taken = record { bytes = bytes; whole = false; reads = k + length s.reads + length c.reads } in t) here
-            ∙ ap (λ (j : ℕ). let t : Taken = record { bytes = take n out; whole = false; reads = j } in t) (all_long k))));
+            ∙ (ap (and_taken front) (part_taken (first runs) (shown runs ys) (k + length s.reads) rs part whole (k + length s.reads + length c.reads) plain (c.takes (k + length s.reads) rs p.1) failed)
+            ∙ ap (taken_by (front ++ part) false) (all_long k)));
         given = λ runs k rs h.
             let p = has_both s.reads c.reads k (k + length s.reads) rs refl h in
             s.goes_on runs e k rs p.0 (subst (λ (zs : Items). ReadsGiven d e (shown runs zs) rs (k + length s.reads)) (sym head)
             (more_given (first runs) (shown runs ys) (k + length s.reads) rs d e plain (c.fails failed (shown runs ys) (k + length s.reads) rs p.1)));
       }
 
-      pub items_more : (more : List ℕ) → f.whole ≡ true → more ≡ front ++ take f.count part → ItemsSoFar d xs ys more
+      pub items_more : whole ≡ true → ItemsSoFar d xs ys (front ++ part)
       unfolding first
-      items_more more went grown = record {
+      items_more went = record {
         reads = s.reads ++ c.reads;
         takes = λ runs k rs h.
             let p = has_both s.reads c.reads k (k + length s.reads) rs refl h in
             s.takes runs k rs p.0
             ∙ (ap (λ (zs : Items). and_taken front (taken (shown runs zs) (k + length s.reads) rs)) head
-            ∙ (ap (and_taken front) (more_taken (first runs) (shown runs ys) (k + length s.reads) rs (take f.count part) f.whole (k + length s.reads + length c.reads) plain (c.takes (k + length s.reads) rs p.1) went)
-            ∙ (both_taken front (take f.count part) (taken (shown runs ys) (k + length s.reads + length c.reads) rs)
-            ∙ (ap (λ (bytes : List ℕ). and_taken bytes (taken (shown runs ys) (k + length s.reads + length c.reads) rs)) (sym grown)
-            ∙ ap (λ (j : ℕ). and_taken more (taken (shown runs ys) j rs)) (all_long k)))));
+            ∙ (ap (and_taken front) (more_taken (first runs) (shown runs ys) (k + length s.reads) rs part whole (k + length s.reads + length c.reads) plain (c.takes (k + length s.reads) rs p.1) went)
+            ∙ (both_taken front part (taken (shown runs ys) (k + length s.reads + length c.reads) rs)
+            ∙ ap (λ (j : ℕ). and_taken (front ++ part) (taken (shown runs ys) j rs)) (all_long k))));
         goes_on = λ runs last k rs h rest.
             let p = has_both s.reads c.reads k (k + length s.reads) rs refl h in
             s.goes_on runs last k rs p.0 (subst (λ (zs : Items). ReadsGiven d last (shown runs zs) rs (k + length s.reads)) (sym head)
@@ -322,8 +319,8 @@ module _ (d : Device) (xs : Items) where
       }
 
 -- a content that was read by a device that was as it is
-pub content_from : (d now e : Device) (c : Content) (f : Filled) (out : List ℕ) → now ≡ d → ContentFilled now e c f out → ContentFilled d e c f out
-content_from d now e c f out same h = subst (λ (x : Device). ContentFilled x e c f out) same h
+pub content_from : (d now e : Device) (c : Content) (bytes : List ℕ) (whole : Bool) → now ≡ d → ContentTaken now e c bytes whole → ContentTaken d e c bytes whole
+content_from d now e c bytes whole same h = subst (λ (x : Device). ContentTaken x e c bytes whole) same h
 
 -- a walk that stands at no bucket
 pub place_end : (place : Option BucketId) (xs : Items) → ((id : BucketId) → place ≡ Some id → ⊥) → from_place place xs ≡ []
@@ -359,18 +356,18 @@ was_ended d bytes ended items is = record {
   told = ap (λ (t : Bool). if t then (out_of bytes ended, true) else (out_of (bytes ++ (taken items 0 (λ k. None)).bytes) (has_eos items), (taken items 0 (λ k. None)).whole)) is;
 }
 
-pub was_delivered : (d e : Device) (runs : ℕ → Bool) (xs : Items) (f : Filled) (buffer bytes after : List ℕ) (ended eos : Bool) → ended ≡ false → ItemsFilled d e xs f buffer → after ≡ bytes ++ take f.count buffer → eos ≡ has_eos (shown runs xs)
-    → WasDelivered d e (out_of bytes ended) (shown runs xs) (out_of after eos) f.whole
+pub was_delivered : (d e : Device) (runs : ℕ → Bool) (xs : Items) (whole : Bool) (more bytes after : List ℕ) (ended eos : Bool) → ended ≡ false → ItemsTaken d e xs more whole → after ≡ bytes ++ more → eos ≡ has_eos (shown runs xs)
+    → WasDelivered d e (out_of bytes ended) (shown runs xs) (out_of after eos) whole
 unfolding delivered
-was_delivered d e runs xs f buffer bytes after ended eos open_to s grown ends =
+was_delivered d e runs xs whole more bytes after ended eos open_to s grown ends =
     let rs = reads_of s.reads in
     let items = shown runs xs in
-    let took : taken items 0 rs ≡ filled f buffer (0 + length s.reads) = s.takes runs 0 rs (has_these s.reads) in
+    let took : taken items 0 rs ≡ taken_by more whole (0 + length s.reads) = s.takes runs 0 rs (has_these s.reads) in
     record {
       reads = rs;
       given = subst (λ (t : Bool). Unless t (e ≡ d) (ReadsGiven d e items rs 0)) (sym open_to) (s.given runs 0 rs (has_these s.reads));
       told =
           ap (λ (t : Bool). if t then (out_of bytes ended, true) else (out_of (bytes ++ (taken items 0 rs).bytes) (has_eos items), (taken items 0 rs).whole)) open_to
           ∙ (ap (λ (t : Taken). (out_of (bytes ++ t.bytes) (has_eos items), t.whole)) took
-          ∙ (ap (λ (ys : List ℕ). (out_of ys (has_eos items), f.whole)) (sym grown) ∙ ap (λ (t : Bool). (out_of after t, f.whole)) (sym ends)));
+          ∙ (ap (λ (ys : List ℕ). (out_of ys (has_eos items), whole)) (sym grown) ∙ ap (λ (t : Bool). (out_of after t, whole)) (sym ends)));
     }

@@ -1,18 +1,16 @@
 -- A brigade is handed over, and taken in.
-use Rattle.std.proofs.Common.{◌≡◌, ◌≢◌, ◌==◌, ℕ, ◌<◌, Bool, true, false, ◌||◌, List, Some, None, Option, is_some, refl, sym, ap, ◌∙◌, ◌⊎◌, inl, inr, arith}
+use Rattle.std.proofs.Common.{◌≡◌, ◌≢◌, ◌==◌, ℕ, ◌<◌, Bool, ◌||◌, List, Some, None, Option, refl, sym, ap, ◌∙◌, ◌⊎◌, inl, inr, arith}
 use Rattle.std.specs.Prelude.{if◌then◌else◌, slice_index_or}
 use Rattle.std.proofs.Math.Path.{fun_ext}
 use Rattle.run_model.specs.declared.bucket.PoolVar.{PoolVar}
 use Rattle.run_model.specs.declared.bucket.PoolVar.TheVariants as poolvar
-use Rattle.std.proofs.lemmas.Bool.{cases_eq, eq-eqb, ne_eqb}
+use Rattle.std.proofs.lemmas.Bool.{cases_eq, ne_eqb}
 use Rattle.bucket_ring.specs.declared.names.BucketId.{BucketId}
 use Rattle.run_model.specs.declared.bucket.BrigadeVar.{BrigadeVar}
-use Rattle.run_model.specs.declared.bucket.Mark.{Mark}
 use Rattle.run_model.specs.declared.bucket.Mark.TheVariants.{Usable, Passed}
 use Rattle.run_model.specs.Buckets.{has_eos}
 use Rattle.run_model.specs.Effects.{do_pass, handed_over}
-use Rattle.run_model.specs.Indexed.{upd}
-use Rattle.run_model.specs.State.{Configuration, set_brigade, items_of}
+use Rattle.run_model.specs.State.{Configuration, set_brigade}
 use Rattle.run_model.proofs.Updates.{upd_upd, upd_at}
 use Rattle.brigade_ops.specs.Items.{Items}
 use Rattle.ring_run.specs.declared.machine.Instance.{Instance}

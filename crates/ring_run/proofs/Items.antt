@@ -1,5 +1,5 @@
 -- The buckets of a variable whose brigade is there, and of one whose brigade is not.
-use Rattle.std.proofs.Common.{◌≡◌, ℕ, true, [], Option, Some, None, is_some, refl, ap, ◌∙◌}
+use Rattle.std.proofs.Common.{◌≡◌, ℕ, true, [], Option, Some, None, is_some, refl}
 use Rattle.bucket_ring.specs.Lists.{list_at}
 use Rattle.run_model.specs.State.{items_of}
 use Rattle.run_model.specs.declared.bucket.Mark.{Mark}

@@ -1,5 +1,5 @@
 -- A brigade that the output took.
-use Rattle.std.proofs.Common.{◌≡◌, ℕ, Bool, true, [], Some, None, Option, is_some, refl, sym, ap, ◌∙◌}
+use Rattle.std.proofs.Common.{◌≡◌, ℕ, Bool, [], Some, None, Option, refl, sym, ap, ◌∙◌}
 use Rattle.bucket_ring.specs.Lists.{on}
 use Rattle.run_model.specs.declared.bucket.BrigadeVar.{BrigadeVar}
 use Rattle.run_model.specs.declared.bucket.Mark.{Mark}

@@ -10,7 +10,7 @@ use Rattle.run_model.specs.Effects.{returned_var}
 use Rattle.brigade_ops.specs.Items.{Items, Item, named_item}
 use Rattle.ring_run.specs.declared.machine.Slot.{Slot}
 use Rattle.ring_run.specs.declared.machine.Slot.TheVariants as slot
-use Rattle.ring_run.specs.Seen.{home_in, bucket_in, item_in, shown, shown_as, shown_slot}
+use Rattle.ring_run.specs.Seen.{home_in, item_in, shown, shown_as, shown_slot}
 
 -- The same calls run, but for one.
 abbrev pub RunsWithout : (ℕ → Bool) → (ℕ → Bool) → ℕ → Type 0

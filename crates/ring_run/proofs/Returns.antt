@@ -1,5 +1,5 @@
 -- A call returns: what its instance reads as, and what is held.
-use Rattle.std.proofs.Common.{◌≡◌, ◌≢◌, ◌==◌, ℕ, zero, suc, ◌<◌, Bool, true, false, ◌&&◌, ◌||◌, not, List, [], ◌∷◌, Some, None, Option, is_some, refl, sym, ap, subst, ◌∙◌, inl, inr, arith}
+use Rattle.std.proofs.Common.{◌≡◌, ◌≢◌, ◌==◌, ℕ, zero, suc, ◌<◌, Bool, true, false, ◌&&◌, ◌||◌, not, List, [], Some, None, Option, is_some, refl, sym, ap, ◌∙◌, inl, inr, arith}
 use Rattle.std.specs.Prelude.{if◌then◌else◌, slice_index_or}
 use Rattle.std.specs.List.{list_any}
 use Rattle.std.specs.Option.{option_map_or}
@@ -17,18 +17,17 @@ use Rattle.run_model.specs.declared.bucket.Mark.{Mark}
 use Rattle.run_model.specs.declared.bucket.PoolVar.{PoolVar}
 use Rattle.run_model.specs.declared.bucket.PoolVar.TheVariants as poolvar
 use Rattle.run_model.specs.Effects.{do_return, returned_var}
-use Rattle.run_model.specs.State.{Configuration, fresh_call}
+use Rattle.run_model.specs.State.{Configuration}
 use Rattle.brigade_ops.specs.Items.{Items}
 use Rattle.ring_run.specs.declared.machine.Instance.{Instance}
 use Rattle.ring_run.specs.declared.machine.Call.{Call}
-use Rattle.ring_run.specs.declared.machine.Slot.{Slot}
 use Rattle.ring_run.specs.declared.machine.Slot.TheVariants as slot
 use Rattle.ring_run.specs.declared.machine.Stand.TheVariants as stand
 use Rattle.ring_run.specs.Around.{Around}
 use Rattle.ring_run.specs.Held.{HeldOver}
 use Rattle.ring_run.specs.Slots.{slot_at, cursor_at, name_in, SameButSlots}
 use Rattle.ring_run.specs.Seen.{seen_over, calls_in, is_running, shown, shown_slot, shown_cursor}
-use Rattle.ring_run.proofs.Changes.{ring_here, ring_off}
+use Rattle.ring_run.proofs.Changes.{ring_off}
 use Rattle.ring_run.proofs.Returned.{RunsWithout, returned_slot}
 use Rattle.ring_run.proofs.Running.{running_waits}
 

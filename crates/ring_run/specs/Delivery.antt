@@ -1,5 +1,5 @@
 -- What the end of the chain takes of a brigade, and what the device gives to its reads.
-use Rattle.std.specs.Prelude.{◌≡◌, ◌⊎◌, ℕ, zero, suc, ◌+◌, ◌-◌, Bool, true, false, min, List, [], ◌∷◌, length, take, Option, Some, None}
+use Rattle.std.specs.Prelude.{◌≡◌, ◌⊎◌, ℕ, zero, suc, ◌+◌, ◌-◌, Bool, true, false, min, List, [], ◌∷◌, ◌++◌, length, take, Option, Some, None}
 use Rattle.bucket_kinds.specs.Device.{Device, HasFailed}
 use Rattle.bucket_kinds.specs.Reading.{MayGive, MayEnd}
 use Rattle.run_model.specs.declared.bucket.Content.{Content}
@@ -11,7 +11,6 @@ use Rattle.run_model.specs.Files.{parts_of}
 use Rattle.run_model.specs.Passing.{Reads, Taken, content_taken, taken, delivered}
 use Rattle.run_model.specs.State.{Out}
 use Rattle.brigade_ops.specs.Items.{Items}
-use Rattle.ring_run.specs.declared.output.Filled.{Filled}
 use Rattle.ring_run.specs.Seen.{shown}
 
 abbrev pub Unless : Bool → Type 0 → Type 0 → Type 0
@@ -47,26 +46,40 @@ pub record WasDelivered (d e : Device) (before : Out) (items : List NamedBucket)
   pub given : Unless before.ended (e ≡ d) (ReadsGiven d e items reads 0)
   pub told : delivered before items reads ≡ (after, well)
 
--- Of a buffer that is filled from its front on.
-
 -- these are the reads from number k on
 abbrev pub HasReads : Reads → ℕ → List (Option (List ℕ)) → Type 0
 HasReads reads k [] = Unit {0}
 HasReads reads k (g ∷ gs) = (reads k ≡ g) × HasReads reads (k + 1) gs
 
-abbrev pub filled : Filled → List ℕ → ℕ → Taken
-filled f out k = record { bytes = take f.count out; whole = f.whole; reads = k }
+abbrev pub taken_by : List ℕ → Bool → ℕ → Taken
+taken_by bytes whole k = record { bytes = bytes; whole = whole; reads = k }
 
--- A content was read into the front of a buffer, by devices d and e. More buckets may follow, where no read failed.
-pub record ContentFilled (d e : Device) (c : Content) (f : Filled) (out : List ℕ) : Type 0 where
+-- These bytes were taken of a content, by devices d and e, and whether no read failed. More buckets may follow, where none did.
+pub record ContentTaken (d e : Device) (c : Content) (bytes : List ℕ) (whole : Bool) : Type 0 where
   pub reads : List (Option (List ℕ))
-  pub takes : (k : ℕ) (rs : Reads) → HasReads rs k reads → content_taken c k rs ≡ filled f out (k + length reads)
-  pub same : f.whole ≡ true → e ≡ d
-  pub goes_on : f.whole ≡ true → (last : Device) (bs : List NamedBucket) (k : ℕ) (rs : Reads) → HasReads rs k reads → ReadsGiven d last bs rs (k + length reads) → ContentGiven d last c rs (λ j. ReadsGiven d last bs rs j) k
-  pub fails : f.whole ≡ false → (bs : List NamedBucket) (k : ℕ) (rs : Reads) → HasReads rs k reads → ContentGiven d e c rs (λ j. ReadsGiven d e bs rs j) k
+  pub takes : (k : ℕ) (rs : Reads) → HasReads rs k reads → content_taken c k rs ≡ taken_by bytes whole (k + length reads)
+  pub same : whole ≡ true → e ≡ d
+  pub goes_on : whole ≡ true → (last : Device) (bs : List NamedBucket) (k : ℕ) (rs : Reads) → HasReads rs k reads → ReadsGiven d last bs rs (k + length reads) → ContentGiven d last c rs (λ j. ReadsGiven d last bs rs j) k
+  pub fails : whole ≡ false → (bs : List NamedBucket) (k : ℕ) (rs : Reads) → HasReads rs k reads → ContentGiven d e c rs (λ j. ReadsGiven d e bs rs j) k
 
 -- So were the buckets of a brigade.
-pub record ItemsFilled (d e : Device) (xs : Items) (f : Filled) (out : List ℕ) : Type 0 where
+pub record ItemsTaken (d e : Device) (xs : Items) (bytes : List ℕ) (whole : Bool) : Type 0 where
   pub reads : List (Option (List ℕ))
-  pub takes : (runs : ℕ → Bool) (k : ℕ) (rs : Reads) → HasReads rs k reads → taken (shown runs xs) k rs ≡ filled f out (k + length reads)
+  pub takes : (runs : ℕ → Bool) (k : ℕ) (rs : Reads) → HasReads rs k reads → taken (shown runs xs) k rs ≡ taken_by bytes whole (k + length reads)
   pub given : (runs : ℕ → Bool) (k : ℕ) (rs : Reads) → HasReads rs k reads → ReadsGiven d e (shown runs xs) rs k
+
+-- They were added to a list.
+
+pub record ContentAdded (d e : Device) (c : Content) (whole : Bool) (old new : List ℕ) : Type 0 where
+  pub added : List ℕ
+  pub grown : new ≡ old ++ added
+  pub taken_so : ContentTaken d e c added whole
+
+pub record ItemsAdded (d e : Device) (xs : Items) (whole : Bool) (old new : List ℕ) : Type 0 where
+  pub added : List ℕ
+  pub grown : new ≡ old ++ added
+  pub taken_so : ItemsTaken d e xs added whole
+
+-- A list has another at its front.
+abbrev pub HasFront : List ℕ → List ℕ → Type 0
+HasFront old new = take (length old) new ≡ old

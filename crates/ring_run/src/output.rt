@@ -13,7 +13,7 @@ ghost use Rattle.run_model.specs.Cutting.{EndsInFile, length_of};
 ghost use Rattle.run_model.specs.declared.bucket.Bucket.{Bucket};
 ghost use Rattle.brigade_ops.specs.Items.{named};
 ghost use Rattle.brigade_ops.specs.Store.{lists, brigade_of, bucket_at};
-ghost use Rattle.ring_run.specs.Delivery.{ContentFilled, ItemsFilled, WasDelivered, out_of};
+ghost use Rattle.ring_run.specs.Delivery.{ContentAdded, HasFront, ItemsAdded, WasDelivered, out_of};
 ghost use Rattle.ring_run.specs.declared.machine.Call.{Call};
 ghost use Rattle.ring_run.specs.Around.{Around};
 ghost use Rattle.ring_run.specs.Ends.{EndInFiles};
@@ -31,14 +31,7 @@ use run_model::{Mark, Seq};
 use std::alloc::AllocError;
 
 /// How many bytes a read takes from a file, at most.
-const READ_LIMIT: usize = 8000;
-
-/// How many bytes were taken, and whether no read failed.
-#[derive(Clone, Copy)]
-struct Filled {
-    count: usize,
-    whole: bool,
-}
+const READ_LIMIT: u64 = 8000;
 
 /// Fills a buffer from a place of a file on, and tells whether that went well.
 fn fetch<F: Files>(files: &mut F, file: FileNo, at: u64, buffer: &mut [u8]) -> bool
@@ -58,94 +51,87 @@ fn fetch<F: Files>(files: &mut F, file: FileNo, at: u64, buffer: &mut [u8]) -> b
     }
 }
 
-/// Reads a range into a buffer of its length, in parts of 8000 bytes, up to a read that fails.
-fn fill_range<F: Files>(out: &mut [u8], files: &mut F, file: FileNo, start: u64) -> Filled
+/// Adds a range to the output, in parts of 8000 bytes, up to a read that fails, and tells whether none did. Each part is filled as soon as
+/// there is room for it. Without memory some parts may have been added.
+fn add_range<F: Files>(
+    out: &mut Seq<u8>,
+    files: &mut F,
+    file: FileNo,
+    start: u64,
+    len: u64,
+) -> Result<bool, AllocError>
     requires open { is_there ((F.device files.old).numbered file) ≡ true }
-    requires ends { start + length out.old < 2 ^ 64 }
-    ensures filled { ContentFilled (F.device files.old) (F.device files.new) (Content.Range file start (length out.old)) result out.new }
-    ensures within { result.count ≤ length out.old }
+    requires ends { start + len < 2 ^ 64 }
+    ensures added { IfOk result (λ whole. ContentAdded (F.device files.old) (F.device files.new) (Content.Range file start len) whole out.old out.new) }
+    ensures front { HasFront out.old out.new }
+    ensures unread { OnErr result (F.device files.new ≡ F.device files.old) }
     ensures open_files { (F.device files.new).numbered ≡ (F.device files.old).numbered }
-    ensures len { length out.new ≡ length out.old }
 {
-    let len = out.len();
     let mut count = 0;
     while count < len {
-        let end = count + READ_LIMIT.min(len - count);
-        if !fetch(files, file, start + count as u64, &mut out[count..end]) {
-            return Filled {
-                count,
-                whole: false,
-            };
+        let part = READ_LIMIT.min(len - count);
+        let at = out.len();
+        out.add_zeros(part as usize)?;
+        if !fetch(files, file, start + count, &mut out.as_mut_slice()[at..]) {
+            out.truncate(at);
+            return Ok(false);
         }
-        count = end;
+        count += part;
     }
-    Filled { count, whole: true }
+    Ok(true)
 }
 
-/// Takes the bytes of a content to the front of a buffer that is long enough.
-fn fill<F: Files>(out: &mut [u8], files: &mut F, content: &Content) -> Filled
-    requires room { length_of content.now ≤ length out.old }
+/// Adds the bytes of a content to the output, up to a read that fails, and tells whether none did. Without memory some may have been added.
+fn add<F: Files>(out: &mut Seq<u8>, files: &mut F, content: &Content) -> Result<bool, AllocError>
     requires ends { EndsInFile content.now }
     requires open { IsOpenFor (F.device files.old) content.now }
-    ensures filled { ContentFilled (F.device files.old) (F.device files.new) content.now result out.new }
-    ensures within { result.count ≤ length_of content.now }
+    ensures added { IfOk result (λ whole. ContentAdded (F.device files.old) (F.device files.new) content.now whole out.old out.new) }
+    ensures front { HasFront out.old out.new }
+    ensures unread { OnErr result (F.device files.new ≡ F.device files.old) }
     ensures open_files { (F.device files.new).numbered ≡ (F.device files.old).numbered }
-    ensures len { length out.new ≡ length out.old }
 {
     match content {
         Content::Bytes(bytes) => {
-            let count = bytes.len();
-            out[..count].copy_from_slice(bytes.as_slice());
-            Filled { count, whole: true }
+            out.extend(bytes.as_slice())?;
+            Ok(true)
         }
-        Content::Range { file, start, len } => {
-            fill_range(&mut out[..*len as usize], files, *file, *start)
-        }
-        Content::Nothing => Filled {
-            count: 0,
-            whole: true,
-        },
+        Content::Range { file, start, len } => add_range(out, files, *file, *start, *len),
+        Content::Nothing => Ok(true),
     }
 }
 
-/// Takes the bytes of a brigade before its first EOS to the front of a buffer that is long enough, up to a read that fails.
-fn fill_all<R: Rings<Bucket> + Drop, F: Files>(
-    out: &mut [u8],
+/// Adds the bytes of a brigade before its first EOS to the output, up to a read that fails, and tells whether none did. Without memory some
+/// may have been added.
+fn add_all<R: Rings<Bucket> + Drop, F: Files>(
+    out: &mut Seq<u8>,
     files: &mut F,
     store: &Brigades<R>,
     b: BrigadeId,
-) -> Filled
+) -> Result<bool, AllocError>
     requires there { is_some (lists store.now b) ≡ true }
-    requires room { length_in (named (list_at (lists store.now) b)) ≤ length out.old }
     requires ends { (id : BucketId) (x : Bucket) → brigade_of store.now id ≡ Some b → bucket_at store.now id ≡ Some x → EndsInFile x.content }
     requires open { (id : BucketId) (x : Bucket) → brigade_of store.now id ≡ Some b → bucket_at store.now id ≡ Some x → IsOpenFor (F.device files.old) x.content }
-    ensures filled { ItemsFilled (F.device files.old) (F.device files.new) (list_at (lists store.now) b) result out.new }
-    ensures within { result.count ≤ length out.old }
+    ensures added { IfOk result (λ whole. ItemsAdded (F.device files.old) (F.device files.new) (list_at (lists store.now) b) whole out.old out.new) }
+    ensures front { HasFront out.old out.new }
+    ensures unread { OnErr result (F.device files.new ≡ F.device files.old) }
     ensures open_files { (F.device files.new).numbered ≡ (F.device files.old).numbered }
-    ensures len { length out.new ≡ length out.old }
 {
-    let mut count = 0;
     let mut place = store.start(b);
     while let Some(id) = place {
         let bucket = store.payload(id);
         if is_eos(bucket.kind) {
-            return Filled { count, whole: true };
+            return Ok(true);
         }
-        let filled = fill(&mut out[count..], files, &bucket.content);
-        count += filled.count;
-        if !filled.whole {
-            return Filled {
-                count,
-                whole: false,
-            };
+        if !add(out, files, &bucket.content)? {
+            return Ok(false);
         }
         place = store.behind(id);
     }
-    Filled { count, whole: true }
+    Ok(true)
 }
 
 /// Adds the bytes of a brigade before its first EOS to the output, up to a read that fails, and tells whether none did. An EOS ends the
-/// output, also behind a read that failed, and what comes after it is ignored. Without memory nothing is changed, and nothing is read.
+/// output, also behind a read that failed, and what comes after it is ignored. Without memory nothing is changed; parts may have been read.
 pub fn deliver<R: Rings<Bucket> + Drop, F: Files>(
     store: &Brigades<R>,
     files: &mut F,
@@ -164,16 +150,13 @@ pub fn deliver<R: Rings<Bucket> + Drop, F: Files>(
     if *ended {
         return Ok(true);
     }
-    let total = store.length(b);
-    if total > usize::MAX as u128 {
-        return Err(AllocError);
-    }
     let len = out.len();
-    out.add_zeros(total as usize)?;
-    let filled = fill_all(&mut out.as_mut_slice()[len..], files, store, b);
-    out.truncate(len + filled.count);
+    let Ok(whole) = add_all(out, files, store, b) else {
+        out.truncate(len);
+        return Err(AllocError);
+    };
     *ended = has_eos(store, b);
-    Ok(filled.whole)
+    Ok(whole)
 }
 
 /// The brigade of a variable was taken by the output: its buckets are destroyed, and the variable is marked passed. It is remembered where
@@ -193,7 +176,7 @@ fn empty_passed<R: Rings<Bucket> + Drop>(instance: &mut Instance, store: &mut Br
 }
 
 /// The last filter passes the brigade of a variable to the end of the chain, and it is told whether that went well. Without memory
-/// nothing is changed, and nothing is read.
+/// nothing is changed; parts may have been read.
 pub fn pass_out<R: Rings<Bucket> + Drop, F: Files>(
     instance: &mut Instance,
     store: &mut Brigades<R>,

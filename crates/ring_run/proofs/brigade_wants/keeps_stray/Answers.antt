@@ -1,5 +1,5 @@
 -- What is asked of a variable is told by its slot.
-use Rattle.std.proofs.Common.{◌≡◌, ◌∙◌, sym, rules}
+use Rattle.std.proofs.Common.{◌∙◌, rules}
 use Rattle.brigade_ops.specs.Store.{lists}
 use Rattle.ring_run.specs.Outside.{with_outside}
 use Rattle.ring_run.specs.Seen.{seen_over, seen, calls_in}

@@ -1,5 +1,5 @@
 -- A slot that keeps a stray bucket decides, and none does where the loop ends.
-use Rattle.std.proofs.Common.{◌≡◌, ℕ, Bool, true, refl, sym, ◌∙◌, arith, rules}
+use Rattle.std.proofs.Common.{◌≡◌, ℕ, Bool, true, refl, sym, ◌∙◌, arith}
 use Rattle.run_model.specs.Faults.{keeps_stray}
 use Rattle.ring_run.specs.Outside.{with_outside}
 use Rattle.ring_run.specs.Seen.{seen}

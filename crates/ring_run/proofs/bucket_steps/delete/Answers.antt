@@ -2,7 +2,7 @@
 use Rattle.brigade_ops.specs.Store.{lists, brigade_of, pool_of, next_name}
 use Rattle.brigade_ops.proofs.Stores.{kept}
 use Rattle.bucket_ring.specs.Lists as ring
-use Rattle.ring_run.proofs.Names.{held_kept, no_less, still_on, by_result}
+use Rattle.ring_run.proofs.Names.{held_kept, no_less, still_on}
 use Rattle.ring_run.proofs.Steps.{delete_step, delete_loose_step}
 use Rattle.ring_run.proofs.LeftAlone.{left_on, ours_slot, ours_loose}
 use Rattle.ring_run.proofs.bucket_steps.delete.Goals as goal

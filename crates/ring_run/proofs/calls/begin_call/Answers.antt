@@ -1,7 +1,7 @@
 -- By the new ring, which is empty.
-use Rattle.std.proofs.Common.{◌≡◌, ◌∙◌, ap, ℕ, [], Some, rules}
+use Rattle.std.proofs.Common.{◌∙◌, ap, ℕ, [], Some}
 use Rattle.bucket_ring.specs.Lists.{upd}
-use Rattle.brigade_ops.specs.Store.{lists, brigade_of, pool_of, next_name}
+use Rattle.brigade_ops.specs.Store.{lists}
 use Rattle.ring_run.proofs.Begins.{held_begun, seen_begun}
 use Rattle.ring_run.proofs.calls.begin_call.Goals as goal
 

@@ -1,5 +1,4 @@
 -- By the rings that are left.
-use Rattle.std.proofs.Common.{◌≡◌}
 use Rattle.brigade_ops.specs.Store.{lists, brigade_of, pool_of, next_name}
 use Rattle.ring_run.proofs.Returns.{held_returned, seen_returned}
 use Rattle.ring_run.proofs.calls.end_call.Goals as goal

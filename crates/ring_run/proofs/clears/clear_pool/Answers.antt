@@ -1,5 +1,5 @@
 -- By what a clear makes of each brigade.
-use Rattle.std.proofs.Common.{◌≡◌, ◌∙◌, refl, ap}
+use Rattle.std.proofs.Common.{◌∙◌, refl, ap}
 use Rattle.run_model.specs.declared.payload.Payload.{Payload}
 use Rattle.run_model.specs.Clearing.{run_down}
 use Rattle.run_model.specs.Effects.{files_let_go}

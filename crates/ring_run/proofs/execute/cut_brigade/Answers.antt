@@ -1,8 +1,7 @@
 -- Brigades that are cut are there, since there is no fault.
-use Rattle.std.proofs.Common.{◌≡◌, None, sym, ap, ◌∙◌}
+use Rattle.std.proofs.Common.{sym, ap, ◌∙◌}
 use Rattle.std.proofs.lemmas.Result.{on_ok_weaker}
 use Rattle.module_lang.specs.declared.instr.Instr.{Instr}
-use Rattle.module_lang.specs.declared.instr.Instr.TheVariants as instr
 use Rattle.run_model.specs.Faults.{fault}
 use Rattle.run_model.specs.Steps.{step}
 use Rattle.brigade_ops.specs.Store.{lists, next_name}

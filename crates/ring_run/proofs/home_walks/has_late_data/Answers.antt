@@ -1,12 +1,12 @@
 -- The bucket at which the walk stands decides, or those behind it.
-use Rattle.std.proofs.Common.{◌≡◌, ◌||◌, drop, Some, sym, ap, ◌∙◌}
+use Rattle.std.proofs.Common.{◌≡◌, drop, Some, sym, ap, ◌∙◌}
 use Rattle.bucket_ring.specs.Lists.{list_at, rest}
 use Rattle.brigade_ops.specs.Items.{from_place}
 use Rattle.brigade_ops.specs.Store.{lists, brigade_of}
 use Rattle.brigade_ops.proofs.Walks.{told_some}
 use Rattle.ring_run.specs.Seen.{shown}
 use Rattle.ring_run.specs.Tests.{late_data}
-use Rattle.ring_run.proofs.Walked.{head_here, shorter, late_stop, late_on, at_end}
+use Rattle.ring_run.proofs.Walked.{head_here, shorter, late_stop, late_on}
 use Rattle.ring_run.proofs.home_walks.has_late_data.Goals as goal
 
 pub returns-then-is_late : goal.returns-then-is_late

@@ -1,5 +1,5 @@
 -- The place of the cursor tells its bucket.
-use Rattle.std.proofs.Common.{◌≡◌, ℕ, Some, is_some, sym, ap, ◌∙◌}
+use Rattle.std.proofs.Common.{is_some, sym, ap, ◌∙◌}
 use Rattle.bucket_ring.specs.Lists.{list_at}
 use Rattle.run_model.specs.Cursors.{Spot, spot}
 use Rattle.run_model.specs.Cursors as model
@@ -7,9 +7,9 @@ use Rattle.brigade_ops.specs.Store.{lists, brigade_of, next_name}
 use Rattle.brigade_ops.specs.Store as store
 use Rattle.brigade_ops.proofs.Saves.{found_some}
 use Rattle.brigade_ops.proofs.Stores.{found_in, found_bucket, given}
-use Rattle.ring_run.specs.Seen.{seen_over, calls_in}
+use Rattle.ring_run.specs.Seen.{calls_in}
 use Rattle.ring_run.proofs.Running.{shown_is}
-use Rattle.ring_run.proofs.Stands.{stands_within, stands_loose, spot_end, spot_nowhere}
+use Rattle.ring_run.proofs.Stands.{stands_within, stands_loose}
 use Rattle.ring_run.proofs.home_wants.bucket_of.Goals as goal
 
 pub returns-in-Within-clause-at : goal.returns-in-Within-clause-at

@@ -2,7 +2,7 @@
 use Rattle.std.proofs.Common.{ℕ, ◌+◌, ◌≤◌, ap, ◌∙◌, arith}
 use Rattle.brigade_ops.specs.Store.{lists, brigade_of, pool_of, next_name}
 use Rattle.ring_run.specs.Seen.{seen_over}
-use Rattle.ring_run.proofs.Names.{apart_in, held_kept, no_less, still_same, by_result}
+use Rattle.ring_run.proofs.Names.{apart_in, held_kept, no_less, still_same}
 use Rattle.ring_run.proofs.Makes.{made, made_held}
 use Rattle.bucket_ring.specs.Lists.{put_tail}
 use Rattle.ring_run.proofs.LeftAlone.{left_on, left_same, ours_loose}

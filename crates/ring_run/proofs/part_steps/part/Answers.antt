@@ -5,7 +5,7 @@ use Rattle.brigade_ops.specs.Store.{lists, brigade_of, pool_of, next_name}
 use Rattle.ring_run.specs.Seen.{seen, shown_cursor}
 use Rattle.ring_run.specs.Slots.{slot_at, name_in}
 use Rattle.ring_run.proofs.Changes.{live_is}
-use Rattle.ring_run.proofs.Names.{held_kept, no_less, by_result}
+use Rattle.ring_run.proofs.Names.{held_kept, no_less}
 use Rattle.ring_run.proofs.Parts.{WasFound, same_ok, parted_step, parted_rises, parted_still, parted_given, parted_off}
 use Rattle.ring_run.proofs.Walks.{held_cursor}
 use Rattle.ring_run.proofs.LeftAlone.{left_off, left_same, ours_slot}

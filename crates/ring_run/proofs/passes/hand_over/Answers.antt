@@ -1,6 +1,6 @@
 -- The variable is marked, and what it holds is told by its list.
 use Rattle.std.specs.Prelude.{if◌then◌else◌}
-use Rattle.std.proofs.Common.{◌≡◌, ◌==◌, ◌∙◌, ap, ◌||◌}
+use Rattle.std.proofs.Common.{◌==◌, ◌∙◌, ap, ◌||◌}
 use Rattle.run_model.specs.declared.bucket.Mark.TheVariants.{Passed}
 use Rattle.brigade_ops.specs.Store.{lists, brigade_of, pool_of, next_name}
 use Rattle.ring_run.specs.declared.machine.Slot.{Slot}

@@ -5,7 +5,7 @@ use Rattle.brigade_ops.specs.Store.{lists, brigade_of, bucket_at, pool_of, next_
 use Rattle.brigade_ops.proofs.Saves.{found_some}
 use Rattle.brigade_ops.proofs.Stores.{found_in, found_bucket}
 use Rattle.ring_run.specs.Seen.{seen_over}
-use Rattle.ring_run.proofs.Names.{apart_in, held_kept, no_less, still_same, by_result}
+use Rattle.ring_run.proofs.Names.{apart_in, held_kept, no_less, still_same}
 use Rattle.ring_run.proofs.Walks.{some_of}
 use Rattle.ring_run.proofs.Makes.{made, made_held}
 use Rattle.ring_run.proofs.LeftAlone.{left_on, left_same, ours_loose}

@@ -16,7 +16,7 @@ use Rattle.brigade_ops.proofs.Stores.{kept, found_in, found_bucket}
 use Rattle.ring_run.specs.Seen.{seen_over, calls_in, item_in}
 use Rattle.ring_run.proofs.Changes.{seen_same}
 use Rattle.ring_run.proofs.Homes.{not_dead}
-use Rattle.ring_run.proofs.Names.{apart_in, held_kept, no_less, still_same, still_on, by_result}
+use Rattle.ring_run.proofs.Names.{apart_in, held_kept, no_less, still_same, still_on}
 use Rattle.ring_run.proofs.Slots.{name_there, given_in}
 use Rattle.ring_run.proofs.Splits.{split_into, not_refused, refused_data, refused_long, done_split, not_split, ok_data, ok_short, err_data, err_long}
 use Rattle.ring_run.proofs.Stands.{stands_within}
