@@ -4,10 +4,10 @@
     bench/serve.py [--program PATH] [--requests N] [--conns N] [--module FILE]
 
 One client asks for a file of 2 bytes, of 64 KiB and of 1 MiB on one connection that stays open. What is told is the processor time of
-the server alone, user and system, for each request, and its memory before and behind. Then the file of 2 bytes is asked for on N connections
+the server alone, user and system, for each request, and how its memory grew. Then the file of 2 bytes is asked for on N connections
 of one request each. Where nginx or apache2 is there, it serves the same files in the same run, as one process that reads files and changes
-nothing. So does a server in C that reads each file and writes it once (bench/plain_server.c), where there is a C compiler. The ratio to each
-is told. Where apxs is there as well (apache2-dev), apache2 sends them through a filter in C that passes each brigade
+nothing. So does a server in C that reads each file and writes it once (bench/plain_server.c), where there is a C compiler. All are asked by
+turns, in rounds, so that a machine that is slower for a while is so for each; told are medians, of times and of the ratios of each round. Where apxs is there as well (apache2-dev), apache2 sends them through a filter in C that passes each brigade
 on (bench/pass_filter.c).
 """
 import argparse
@@ -15,6 +15,7 @@ import os
 import shutil
 import signal
 import socket
+import statistics
 import subprocess
 import tempfile
 import time
@@ -23,6 +24,7 @@ from steps import BUILT, TOP, built
 
 MODULE = os.path.join(TOP, 'filters', 'new.module')
 SIZES = (2, 65536, 1048576)
+ROUNDS = 21
 NGINX = """daemon off; master_process off; pid %(folder)s/nginx.pid; error_log %(folder)s/nginx.err;
 events { worker_connections 64; }
 http { access_log off; client_body_temp_path %(folder)s; proxy_temp_path %(folder)s; fastcgi_temp_path %(folder)s; uwsgi_temp_path %(folder)s;
@@ -103,20 +105,49 @@ def first(link, ask):
     return len(got)
 
 
-def measure(pid, port, size, requests):
-    """Microseconds of the server for each request, and the KiB that it grew by."""
-    ask = b'GET /f%d HTTP/1.1\r\nHost: h\r\n\r\n' % size
-    buffer = bytearray(1 << 20)
-    with connect(port) as link:
-        length = first(link, ask)
-        for _ in range(min(requests, 100)):
-            link.sendall(ask)
-            receive(link, length, buffer)
-        spent, held = processor(pid), memory(pid)
+class Peer:
+    """A server that runs, and a connection to it that stays open."""
+
+    def __init__(self, name, words, folder):
+        self.name = name
+        self.port = free_port()
+        self.server = start(words(self.port), folder)
+        self.link = connect(self.port)
+        self.buffer = bytearray(1 << 20)
+
+    def ask(self, size, length, requests):
+        """Microseconds of the server for each request."""
+        ask = ask_for(size)
+        spent = processor(self.server.pid)
         for _ in range(requests):
-            link.sendall(ask)
-            receive(link, length, buffer)
-        return (processor(pid) - spent) / requests * 1e6, memory(pid) - held
+            self.link.sendall(ask)
+            receive(self.link, length, self.buffer)
+        return (processor(self.server.pid) - spent) / requests * 1e6
+
+    def stop(self):
+        self.link.close()
+        self.server.send_signal(signal.SIGTERM)
+        self.server.wait()
+
+
+def ask_for(size):
+    return b'GET /f%d HTTP/1.1\r\nHost: h\r\n\r\n' % size
+
+
+def by_turns(peers, size, requests):
+    """Asks each server in turn, round by round, and tells the median for each and the median of the ratios of a round."""
+    lengths = [first(peer.link, ask_for(size)) for peer in peers]
+    each = max(requests // ROUNDS, 2)
+    for peer, length in zip(peers, lengths):
+        peer.ask(size, length, each)
+    held = memory(peers[0].server.pid)
+    rounds = [[peer.ask(size, length, each) for peer, length in zip(peers, lengths)] for _ in range(ROUNDS)]
+    grown = memory(peers[0].server.pid) - held
+    for number, peer in enumerate(peers):
+        spent = statistics.median(took[number] for took in rounds)
+        ratio = statistics.median(took[0] / max(took[number], 0.01) for took in rounds)
+        after = ', %+d KiB' % grown if number == 0 else ', serve takes %.2f of it' % ratio
+        print('%-8s %8d bytes: %8.1f us a request over %d in %d rounds%s' % (peer.name, size, spent, each * ROUNDS, ROUNDS, after), flush=True)
 
 
 def connections(pid, port, count):
@@ -183,21 +214,18 @@ def main():
     program = built(options.program)
     with tempfile.TemporaryDirectory() as folder:
         os.chmod(folder, 0o755)
-        base = {}
-        for name, words in servers(program, os.path.abspath(options.module), folder):
-            port = free_port()
-            server = start(words(port), folder)
-            try:
-                for size in SIZES:
-                    count = max(options.requests // (1 + size // 20000), 20)
-                    spent, grown = measure(server.pid, port, size, count)
-                    base.setdefault(size, spent)
-                    ratio = '' if name == 'serve' else ', serve takes %.2f of it' % (base[size] / max(spent, 0.01))
-                    print('%-8s %8d bytes: %8.1f us a request over %d, %+d KiB%s' % (name, size, spent, count, grown, ratio), flush=True)
-                print('%-8s %d connections: %.1f us each, %+d KiB' % ((name, options.conns) + connections(server.pid, port, options.conns)), flush=True)
-            finally:
-                server.send_signal(signal.SIGTERM)
-                server.wait()
+        peers = []
+        try:
+            for name, words in servers(program, os.path.abspath(options.module), folder):
+                peers.append(Peer(name, words, folder))
+            for size in SIZES:
+                by_turns(peers, size, max(options.requests // (1 + size // 20000), 20))
+            for peer in peers:
+                peer.link.close()
+                print('%-8s %d connections: %.1f us each, %+d KiB' % ((peer.name, options.conns) + connections(peer.server.pid, peer.port, options.conns)), flush=True)
+        finally:
+            for peer in peers:
+                peer.stop()
 
 
 if __name__ == '__main__':

@@ -118,7 +118,7 @@ module _ {R : Type 0} {g : Ghosts R Bucket} (chain : List Program) (s : Status) 
         → IsStacked chain new d → Leads chain (instr.Ret s) device device v f rest tree new d answer
     led answer after so opened seen stacked = record {
       reads = no_reads;
-      told = ((refl, refl), refl, refl, λ file none. refl);
+      told = refl;
       closed = tt;
       answers = ap (λ (z : Stepped × Linked). z.0) so;
       left = subst (LeftAs chain tree new device d) (sym (ap (λ (z : Stepped × Linked). z.1) so)) left_after;

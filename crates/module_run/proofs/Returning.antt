@@ -105,7 +105,7 @@ module _ {R : Type 0} {g : Ghosts R Bucket} (chain : List Program) (s : Status) 
     pub returning : Leads chain (instr.Ret s) device device v f rest tree new (with_calls c filters waits) stepped.Went
     returning = record {
       reads = no_reads;
-      told = ((refl, refl), refl, refl, λ file none. refl);
+      told = refl;
       closed = tt;
       answers = ap (λ (z : Stepped × Linked). z.0) proceeds_is;
       left = subst (LeftAs chain tree new device (with_calls c filters waits)) (sym (ap (λ (z : Stepped × Linked). z.1) proceeds_is)) left_after;
