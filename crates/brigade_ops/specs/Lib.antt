@@ -9,6 +9,3 @@ pub mod Laws
 pub mod Rows
 pub mod Morphs
 pub mod House
-pub mod Noted
-pub mod Dependents
-pub mod Due

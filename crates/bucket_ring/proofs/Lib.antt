@@ -11,4 +11,3 @@ pub mod Read
 pub mod Heads
 pub mod Batches
 pub mod Splices
-pub mod Written
