@@ -17,3 +17,6 @@ pub mod House
 pub mod Housed
 pub mod HouseCalls
 pub mod Renumbered
+pub mod Noted
+pub mod DueBuckets
+pub mod Pruned

@@ -9,3 +9,6 @@ pub mod Laws
 pub mod Rows
 pub mod Morphs
 pub mod House
+pub mod Noted
+pub mod Dependents
+pub mod Due

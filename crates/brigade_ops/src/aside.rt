@@ -79,9 +79,9 @@ impl<R: Rings<Bucket> + Drop> Brigades<R> {
         ensures pools { pool_of self.new ≡ pool_of self.old }
         ensures references { references self.new ≡ references self.old }
     {
-        let mut bucket = self.held.rings.set_payload(id, NOTHING);
+        let mut bucket = self.held.set_payload(id, NOTHING);
         aside_bucket(&mut bucket, pool, above);
-        let _nothing = self.held.rings.set_payload(id, bucket);
+        let _nothing = self.held.set_payload(id, bucket);
     }
 
     /// Sets a bucket aside into a pool (`apr_bucket_setaside`). A FILE bucket whose home is not above the pool gets a reference to its

@@ -24,7 +24,7 @@ impl<R: Rings<Bucket> + Drop> Brigades<R> {
     pub fn has(&self, b: BrigadeId) -> bool
         ensures { result ≡ is_some (lists self.now b) }
     {
-        self.held.rings.has_ring(b)
+        self.held.has_ring(b)
     }
 
     /// Makes an empty brigade on a pool (`apr_brigade_create`), which it ends with: it is registered there. `NamesSpent`: the next
@@ -49,7 +49,7 @@ impl<R: Rings<Bucket> + Drop> Brigades<R> {
         ensures kept { OnErr result (map_of tree.new ≡ map_of tree.old) }
         ensures house { IsHouse self.old (map_of tree.old) → IsHouse self.new (map_of tree.new) }
     {
-        let name = self.held.rings.next_name();
+        let name = self.held.next_name();
         if name == u64::MAX {
             return Err(RingRefusal::NamesSpent);
         }
@@ -57,7 +57,7 @@ impl<R: Rings<Bucket> + Drop> Brigades<R> {
         let Ok(()) = tree.register(pool, Payload::Brigade(name)) else {
             return Err(RingRefusal::NoMemory);
         };
-        match self.held.rings.new_ring() {
+        match self.held.new_ring() {
             Ok(b) => {
                 self.pools.put(b, pool);
                 Ok(b)
@@ -80,7 +80,7 @@ impl<R: Rings<Bucket> + Drop> Brigades<R> {
         ensures spent { IsErrOf result RingRefusal.NamesSpent ↔ (next_name self.old ≡ u64.MAX) }
         ensures err { OnErr result ((n : ℕ) → lists self.new n ≡ lists self.old n) }
     {
-        self.held.rings.new_ring()
+        self.held.new_ring()
     }
 
     /// Makes two brigades on no pool, the first empty, the second with new buckets in this order: all, or none. The brigades have the next
@@ -100,7 +100,7 @@ impl<R: Rings<Bucket> + Drop> Brigades<R> {
         ensures spent { (result ≡ Err RingRefusal.NamesSpent) ↔ (u64.MAX < next_name self.old + 2 + length buckets.items) }
         ensures err { OnErr result ((n : ℕ) → lists self.new n ≡ lists self.old n) }
     {
-        self.held.rings.new_pair(buckets)
+        self.held.new_pair(buckets)
     }
 
     /// Ends a brigade that is on no pool, with its buckets.
@@ -113,7 +113,7 @@ impl<R: Rings<Bucket> + Drop> Brigades<R> {
         ensures pools { pool_of self.new ≡ pool_of self.old }
         ensures references { references self.new ≡ references self.old }
     {
-        self.held.rings.end_ring(b);
+        self.held.end_ring(b);
     }
 
     /// Destroys the buckets of a brigade, which stays (`apr_brigade_cleanup`).
@@ -125,7 +125,7 @@ impl<R: Rings<Bucket> + Drop> Brigades<R> {
         ensures pools { pool_of self.new ≡ pool_of self.old }
         ensures references { references self.new ≡ references self.old }
     {
-        self.held.rings.drop_all(b);
+        self.held.drop_all(b);
     }
 
     /// Moves all buckets of `b` to the tail of `a` (`APR_BRIGADE_CONCAT`). Onto an empty brigade it is never refused. Refused,
@@ -143,7 +143,7 @@ impl<R: Rings<Bucket> + Drop> Brigades<R> {
         ensures references { references self.new ≡ references self.old }
         ensures err { OnErr result ((n : ℕ) → lists self.new n ≡ lists self.old n) }
     {
-        self.held.rings.splice_tail(a, b)
+        self.held.splice_tail(a, b)
     }
 
     /// Sets the name that the next brigade or bucket gets. All brigades and buckets that are there have names below it.
@@ -158,6 +158,6 @@ impl<R: Rings<Bucket> + Drop> Brigades<R> {
         ensures references { references self.new ≡ references self.old }
         ensures house { (ps : Pools Payload) → IsHouse self.old ps → IsHouse self.new ps }
     {
-        self.held.rings.set_next(next);
+        self.held.set_next(next);
     }
 }

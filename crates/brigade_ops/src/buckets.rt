@@ -33,7 +33,7 @@ impl<R: Rings<Bucket> + Drop> Brigades<R> {
         ensures err { OnErr result ((n : ℕ) → lists self.new n ≡ lists self.old n) }
         ensures back { IfErr result (λ why. why.1 ≡ bucket) }
     {
-        self.held.rings.add_tail(b, bucket)
+        self.held.add_tail(b, bucket)
     }
 
     /// Puts new buckets at the tail of a brigade, in this order: all, or none. `NamesSpent`: so many names are not left. Refused, nothing is
@@ -48,7 +48,7 @@ impl<R: Rings<Bucket> + Drop> Brigades<R> {
         ensures spent { (result ≡ Err RingRefusal.NamesSpent) ↔ (u64.MAX < next_name self.old + length buckets.items) }
         ensures err { OnErr result ((n : ℕ) → lists self.new n ≡ lists self.old n) }
     {
-        self.held.rings.add_all(b, buckets)
+        self.held.add_all(b, buckets)
     }
 
     /// Puts a new bucket at the head of a brigade (`APR_BRIGADE_INSERT_HEAD`), else as `add_tail`.
@@ -69,7 +69,7 @@ impl<R: Rings<Bucket> + Drop> Brigades<R> {
         ensures err { OnErr result ((n : ℕ) → lists self.new n ≡ lists self.old n) }
         ensures back { IfErr result (λ why. why.1 ≡ bucket) }
     {
-        self.held.rings.add_head(b, bucket)
+        self.held.add_head(b, bucket)
     }
 
     /// Puts a new bucket before another (`APR_BUCKET_INSERT_BEFORE`), else as `add_tail`.
@@ -90,7 +90,7 @@ impl<R: Rings<Bucket> + Drop> Brigades<R> {
         ensures err { OnErr result ((n : ℕ) → lists self.new n ≡ lists self.old n) }
         ensures back { IfErr result (λ why. why.1 ≡ bucket) }
     {
-        self.held.rings.add_before(at, bucket)
+        self.held.add_before(at, bucket)
     }
 
     /// Puts a new bucket behind another (`APR_BUCKET_INSERT_AFTER`), else as `add_tail`.
@@ -111,7 +111,7 @@ impl<R: Rings<Bucket> + Drop> Brigades<R> {
         ensures err { OnErr result ((n : ℕ) → lists self.new n ≡ lists self.old n) }
         ensures back { IfErr result (λ why. why.1 ≡ bucket) }
     {
-        self.held.rings.add_after(at, bucket)
+        self.held.add_after(at, bucket)
     }
 
     /// Moves a bucket to the tail of a brigade, which may be its own. It gets no new name. Refused, nothing is changed.
@@ -126,7 +126,7 @@ impl<R: Rings<Bucket> + Drop> Brigades<R> {
         ensures references { references self.new ≡ references self.old }
         ensures err { OnErr result ((n : ℕ) → lists self.new n ≡ lists self.old n) }
     {
-        self.held.rings.move_tail(b, id)
+        self.held.move_tail(b, id)
     }
 
     /// Moves a bucket to the head of a brigade, else as `move_tail`.
@@ -141,7 +141,7 @@ impl<R: Rings<Bucket> + Drop> Brigades<R> {
         ensures references { references self.new ≡ references self.old }
         ensures err { OnErr result ((n : ℕ) → lists self.new n ≡ lists self.old n) }
     {
-        self.held.rings.move_head(b, id)
+        self.held.move_head(b, id)
     }
 
     /// Moves a bucket before another, else as `move_tail`; before itself, nothing is changed.
@@ -156,7 +156,7 @@ impl<R: Rings<Bucket> + Drop> Brigades<R> {
         ensures references { references self.new ≡ references self.old }
         ensures err { OnErr result ((n : ℕ) → lists self.new n ≡ lists self.old n) }
     {
-        self.held.rings.move_before(at, id)
+        self.held.move_before(at, id)
     }
 
     /// Destroys a bucket (`apr_bucket_delete`).
@@ -168,7 +168,7 @@ impl<R: Rings<Bucket> + Drop> Brigades<R> {
         ensures pools { pool_of self.new ≡ pool_of self.old }
         ensures references { references self.new ≡ references self.old }
     {
-        self.held.rings.drop_bucket(id);
+        self.held.drop_bucket(id);
     }
 
     /// The first bucket of a brigade (`APR_BRIGADE_FIRST`); `None` where its sentinel is first.
@@ -176,7 +176,7 @@ impl<R: Rings<Bucket> + Drop> Brigades<R> {
         requires { is_some (lists self.now b) ≡ true }
         ensures { result ≡ first_of (list_at (lists self.now) b) }
     {
-        self.held.rings.first(b)
+        self.held.first(b)
     }
 
     /// The bucket behind another (`APR_BUCKET_NEXT`); the brigade where its sentinel is behind it.
@@ -184,14 +184,14 @@ impl<R: Rings<Bucket> + Drop> Brigades<R> {
         requires { is_some (brigade_of self.now id) ≡ true }
         ensures { (b : ℕ) → brigade_of self.now id ≡ Some b → result ≡ next_in b id (list_at (lists self.now) b) }
     {
-        self.held.rings.next(id)
+        self.held.next(id)
     }
 
     /// The brigade that a bucket is in; `None` where it was destroyed.
     pub fn ring_of(&self, id: BucketId) -> Option<BrigadeId>
         ensures { result ≡ brigade_of self.now id }
     {
-        self.held.rings.ring_of(id)
+        self.held.ring_of(id)
     }
 
     /// A bucket.
@@ -200,7 +200,7 @@ impl<R: Rings<Bucket> + Drop> Brigades<R> {
         requires { is_some (brigade_of self.now id) ≡ true }
         ensures { bucket_at self.now id ≡ Some result.now }
     {
-        self.held.rings.payload(id)
+        self.held.payload(id)
     }
 
     /// The bytes of a bucket that lie in memory: none of a FILE bucket, and none of metadata.

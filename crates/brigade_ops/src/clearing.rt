@@ -1,6 +1,6 @@
 //! A clear and a destroy of a pool, over the store, the tree and the files together.
 
-ghost use Rattle.std.specs.Prelude.{◌≡◌, ◌≢◌, [], ◌∷◌, ◌≤◌, ◌<◌, ◌+◌, ◌&&◌, not, ℕ, None, Some, true, false, is_some, if◌then◌else◌, IsTrue, IfOk, IfSome, OnOk, OnErr};
+ghost use Rattle.std.specs.Prelude.{◌≡◌, ◌≢◌, [], ◌∷◌, ◌≤◌, ◌<◌, ◌+◌, ◌&&◌, ◌||◌, not, ℕ, None, Some, true, false, is_some, if◌then◌else◌, IsTrue, IfOk, IfSome, OnOk, OnErr};
 ghost use Rattle.std.specs.List.{list_any};
 ghost use Rattle.std.specs.Option.{option_map};
 ghost use Rattle.run_model.specs.Buckets.{to_heap, end_pools};
@@ -11,6 +11,7 @@ ghost use Rattle.run_model.specs.RunOrder.{run_order, IsPoolMap};
 ghost use Rattle.pool_tree.specs.Tree.{map_of};
 ghost use Rattle.bucket_kinds.specs.Device.{Missing, is_there};
 ghost use Rattle.bucket_ring.specs.Kept.{NoneRevived};
+ghost use Rattle.brigade_ops.specs.Due.{kind_reached, home_reached};
 ghost use Rattle.brigade_ops.specs.Files.{refs_in, is_let_go, SameButOpen};
 ghost use Rattle.brigade_ops.specs.House.{IsHouse, AreOpen, cleared_items, cleared_ring, pool_left};
 ghost use Rattle.brigade_ops.specs.Morphs.{morphed, all_morphed, cleared_as, IsAsItWas};
@@ -25,8 +26,9 @@ use run_model::{Bucket, Home, Kind, Payload, Seq};
 use std::alloc::AllocError;
 
 /// Whether a clear of a pool changes a bucket of this kind and home.
-fn depends_on(tree: &PoolTree<Payload>, pool: PoolId, kind: Kind, home: Home) -> bool
+pub(crate) fn depends_on(tree: &PoolTree<Payload>, pool: PoolId, kind: Kind, home: Home) -> bool
     requires { IsTrue (is_live (map_of tree.now) pool) }
+    ensures value { result ≡ (kind_reached (is_under (map_of tree.now) pool) kind || home_reached (is_under (map_of tree.now) pool) home) }
     ensures kind { result ≡ false → to_heap (is_under (map_of tree.now) pool) kind ≡ kind }
     ensures home { result ≡ false → end_pools (is_under (map_of tree.now) pool) home ≡ home }
 {
@@ -92,9 +94,8 @@ impl<R: Rings<Bucket> + Drop> Brigades<R> {
         Ok(())
     }
 
-    /// Makes ready what a clear of a pool makes of the buckets of these brigades: POOL bytes that lie under it go to the heap, and homes
-    /// under it end. A name of no brigade is passed over, and no other brigade is looked at. Nothing is changed.
-    pub fn plan_morphs(
+    /// Makes ready what a clear of a pool makes of the buckets of these brigades, in a walk along each.
+    fn plan_by_walk(
         &self,
         rings: &[BrigadeId],
         pool: PoolId,
@@ -109,7 +110,31 @@ impl<R: Rings<Bucket> + Drop> Brigades<R> {
                 self.plan_ring(&mut found, *ring, pool, tree)?;
             }
         }
-        Ok(Morphs { found })
+        let pools = Seq::new(self.alloc);
+        Ok(Morphs { found, pools })
+    }
+
+    /// Makes ready what a clear of a pool makes of the buckets of these brigades: POOL bytes that lie under it go to the heap, and homes
+    /// under it end. A name of no brigade is passed over, and no other brigade is looked at. Nothing is changed.
+    pub fn plan_morphs(
+        &self,
+        rings: &[BrigadeId],
+        pool: PoolId,
+        tree: &PoolTree<Payload>,
+    ) -> Result<Morphs, AllocError>
+        requires { IsTrue (is_live (map_of tree.now) pool) }
+        ensures { IfOk result (λ morphs. (n : ℕ) → option_map (all_morphed morphs.found) (lists self.now n) ≡ option_map (cleared_items (is_under (map_of tree.now) pool) (is_in n rings.now)) (lists self.now n)) }
+    {
+        if self.held.dependents.is_lost() {
+            return self.plan_by_walk(rings, pool, tree);
+        }
+        let pools = self.held.dependents.reached(tree, pool)?;
+        let names = self.due_names(pools.as_slice(), rings, pool, tree)?;
+        let morphs = self.plan_morphs_of(names.as_slice(), pool, tree)?;
+        Ok(Morphs {
+            found: morphs.found,
+            pools,
+        })
     }
 
     /// Does to the store and the files what goes with a clear that handed these payloads on. It takes no memory.

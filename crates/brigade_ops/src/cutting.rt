@@ -37,7 +37,7 @@ impl<R: Rings<Bucket> + Drop> Brigades<R> {
         ensures unspent { result ≡ Err RingRefusal.NamesSpent → next_name self.old ≡ u64.MAX }
         ensures err { OnErr result ((n : ℕ) → lists self.new n ≡ lists self.old n) }
     {
-        let id = match self.held.rings.add_after(at, bucket) {
+        let id = match self.held.add_after(at, bucket) {
             Ok(id) => id,
             Err((why, _)) => return Err(why),
         };
@@ -64,7 +64,7 @@ impl<R: Rings<Bucket> + Drop> Brigades<R> {
     {
         let (front, rest) = halves(self.alloc, self.payload(id), n)?;
         let new = self.put_behind(id, rest)?;
-        let _whole = self.held.rings.set_payload(id, front);
+        let _whole = self.held.set_payload(id, front);
         Ok(new)
     }
 

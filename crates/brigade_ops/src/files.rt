@@ -84,8 +84,8 @@ impl<R: Rings<Bucket> + Drop> Brigades<R> {
         ensures references { (f : ℕ) → references self.new f ≡ references self.old f }
     {
         self.pools.take(b);
-        if self.held.rings.has_ring(b) {
-            self.held.rings.end_ring(b);
+        if self.held.has_ring(b) {
+            self.held.end_ring(b);
         }
     }
 

@@ -25,10 +25,11 @@ pub(crate) struct Morph {
     pub(crate) home: Home,
 }
 
-/// What a clear of a pool makes of buckets, made ready before it.
+/// What a clear of a pool makes of buckets, made ready before it; and the pools under which it was looked for.
 #[derive(Drop)]
 pub struct Morphs {
     pub(crate) found: Seq<Morph>,
+    pub(crate) pools: Seq<PoolId>,
 }
 
 /// Whether a clear of a pool reaches the pool of a name.
@@ -100,7 +101,8 @@ impl<R: Rings<Bucket> + Drop> Brigades<R> {
             let morph = self.morph_of(tree, pool, *name);
             push_some(&mut found, morph)?;
         }
-        Ok(Morphs { found })
+        let pools = Seq::new(self.alloc);
+        Ok(Morphs { found, pools })
     }
 
     /// Gives a bucket another kind and home.
@@ -113,10 +115,10 @@ impl<R: Rings<Bucket> + Drop> Brigades<R> {
         ensures pools { pool_of self.new ≡ pool_of self.old }
         ensures references { references self.new ≡ references self.old }
     {
-        let mut bucket = self.held.rings.set_payload(morph.id, NOTHING);
+        let mut bucket = self.held.set_payload(morph.id, NOTHING);
         bucket.kind = morph.kind;
         bucket.home = morph.home;
-        let _nothing = self.held.rings.set_payload(morph.id, bucket);
+        let _nothing = self.held.set_payload(morph.id, bucket);
     }
 
     /// Gives a bucket, where it is there still, another kind and home.
@@ -132,6 +134,19 @@ impl<R: Rings<Bucket> + Drop> Brigades<R> {
         }
     }
 
+    /// Does to buckets what was made ready for them.
+    fn apply_found(&mut self, found: Seq<Morph>)
+        ensures out { (n : ℕ) → lists self.new n ≡ option_map (all_morphed found) (lists self.old n) }
+        ensures next { next_name self.new ≡ next_name self.old }
+        ensures names { NoneRevived (brigade_of self.old) (brigade_of self.new) (next_name self.old) }
+        ensures pools { pool_of self.new ≡ pool_of self.old }
+        ensures references { references self.new ≡ references self.old }
+    {
+        for morph in found.as_slice() {
+            self.apply_morph(*morph);
+        }
+    }
+
     /// Does to the buckets of the store what was made ready. It takes no memory.
     pub fn apply_morphs(&mut self, morphs: Morphs)
         ensures out { (n : ℕ) → lists self.new n ≡ option_map (all_morphed morphs.found) (lists self.old n) }
@@ -140,8 +155,8 @@ impl<R: Rings<Bucket> + Drop> Brigades<R> {
         ensures pools { pool_of self.new ≡ pool_of self.old }
         ensures references { references self.new ≡ references self.old }
     {
-        for morph in morphs.found.as_slice() {
-            self.apply_morph(*morph);
-        }
+        let Morphs { found, pools } = morphs;
+        self.apply_found(found);
+        self.held.forget(pools.as_slice());
     }
 }

@@ -68,7 +68,7 @@ impl<R: Rings<Bucket> + Drop> Brigades<R> {
         ensures err { OnErr result ((m : ℕ) → lists self.new m ≡ lists self.old m) }
     {
         let _rest = read_into(&mut bucket, room, files)?;
-        let _unread = self.held.rings.set_payload(id, bucket);
+        let _unread = self.held.set_payload(id, bucket);
         Ok(())
     }
 
@@ -103,12 +103,12 @@ impl<R: Rings<Bucket> + Drop> Brigades<R> {
         ensures open_files { (F.device files.new).numbered ≡ (F.device files.old).numbered }
         ensures err { OnErr result ((m : ℕ) → lists self.new m ≡ lists self.old m) }
     {
-        if self.held.rings.next_name() == u64::MAX {
+        if self.held.next_name() == u64::MAX {
             return Err(ReadRefusal::NamesSpent);
         }
         let _rest = read_into(&mut bucket, room, files)?;
         let new = self.put_behind(id, rest)?;
-        let _unread = self.held.rings.set_payload(id, bucket);
+        let _unread = self.held.set_payload(id, bucket);
         Ok(new)
     }
 

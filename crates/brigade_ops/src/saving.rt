@@ -114,7 +114,7 @@ impl<R: Rings<Bucket> + Drop> Brigades<R> {
         let files = self.files_for(tree, b, pool)?;
         let first = self.start(b);
         refer_all(&mut self.references, tree, pool, files.as_slice())?;
-        if self.held.rings.splice_tail(o, b).is_err() {
+        if self.held.splice_tail(o, b).is_err() {
             unrefer_all(&mut self.references, tree, pool, files.as_slice());
             return Err(AllocError);
         }

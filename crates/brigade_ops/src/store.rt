@@ -1,8 +1,8 @@
 //! The store of brigades.
 
 ghost use Rattle.std.specs.Prelude.{◌≡◌, ℕ, None};
-ghost use Rattle.bucket_ring.specs.Kept.{IsKept};
 
+use crate::held::Held;
 use crate::numbers::Numbers;
 use bucket_ring::{RingId, Rings};
 use run_model::Bucket;
@@ -10,14 +10,6 @@ use std::alloc::Global;
 
 /// The name of a brigade, which is never given again.
 pub type BrigadeId = RingId;
-
-/// Rings of buckets. The ghost field is the law of all rings. By it the type of a store knows its rings, so that what contracts see of a
-/// store takes no argument but the store, and what is true of each store needs none either.
-#[derive(Drop)]
-pub(crate) struct Held<R: Rings<Bucket>> {
-    pub(crate) rings: R,
-    ghost kept: { IsKept (R.ring_at rings) (R.lists rings) (R.next_name rings) },
-}
 
 /// Brigades (apr_buckets.h, `apr_bucket_brigade`): rings of buckets, each on a pool or on none.
 #[derive(Drop)]
@@ -41,9 +33,7 @@ impl<R: Rings<Bucket> + Drop> Brigades<R> {
     {
         Brigades {
             alloc,
-            held: Held {
-                rings: R::new(alloc, first),
-            },
+            held: Held::new(alloc, first),
             pools: Numbers::new(alloc),
             references: Numbers::new(alloc),
         }
@@ -53,6 +43,6 @@ impl<R: Rings<Bucket> + Drop> Brigades<R> {
     pub fn next_name(&self) -> u64
         ensures { result ≡ next_name self.now }
     {
-        self.held.rings.next_name()
+        self.held.next_name()
     }
 }

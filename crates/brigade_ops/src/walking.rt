@@ -65,7 +65,7 @@ impl<R: Rings<Bucket> + Drop> Brigades<R> {
         ensures inside { IfSome result (λ id. brigade_of self.now id ≡ Some b) }
         ensures few { length (list_at (lists self.now) b) < 2 ^ 64 }
     {
-        self.held.rings.first(b)
+        self.held.first(b)
     }
 
     /// Where a walk along a brigade goes on behind a bucket. What was left, with that bucket at its head, is left without it.
@@ -76,7 +76,7 @@ impl<R: Rings<Bucket> + Drop> Brigades<R> {
         ensures others { (b : ℕ) → brigade_of self.now id ≡ Some b → from_place result (list_at (lists self.now) b) ≡ drop 1 (rest id (list_at (lists self.now) b)) }
         ensures inside { (b : ℕ) → brigade_of self.now id ≡ Some b → IfSome result (λ j. brigade_of self.now j ≡ Some b) }
     {
-        match self.held.rings.next(id) {
+        match self.held.next(id) {
             Ok(next) => Some(next),
             Err(_) => None,
         }
@@ -168,11 +168,11 @@ impl<R: Rings<Bucket> + Drop> Brigades<R> {
         ensures err { OnErr result ((n : ℕ) → lists self.new n ≡ lists self.old n) }
     {
         let Some(id) = place else {
-            self.held.rings.drop_all(a);
+            self.held.drop_all(a);
             return Ok(());
         };
-        self.held.rings.splice_from(id, a)?;
-        drop_before(&mut self.held.rings, a, id);
+        self.held.splice_from(id, a)?;
+        drop_before(&mut self.held, a, id);
         Ok(())
     }
 

@@ -9,11 +9,11 @@ use Rattle.brigade_ops.proofs.Lists.{list_on, on_after, set_twice, found_set, st
 use Rattle.brigade_ops.proofs.store.Brigades.put_aside.Goals as goal
 use Rattle.brigade_ops.proofs.store.Brigades.put_aside.Goals.{After-set_payload-bucket}
 
-still : (g : _) (c : After-set_payload-bucket g) (b : ℕ) → g.R.Rings.ring_at c.args.self.now.held.rings c.args.id ≡ Some b → g.R.Rings.ring_at c.set_payload-bucket.new.self c.args.id ≡ Some b
+still : (g : _) (c : After-set_payload-bucket g) (b : ℕ) → g.R.Rings.ring_at c.args.self.now.held.rings c.args.id ≡ Some b → g.R.Rings.ring_at c.set_payload-bucket.new.self.rings c.args.id ≡ Some b
 still g c b at =
     let laws = g.met.R.Rings in
     let s = c.args.self.now.held.rings in
-    let new = c.set_payload-bucket.new.self in
+    let new = c.set_payload-bucket.new.self.rings in
     let xs : Items = list_at (g.R.Rings.lists s) b in
     laws.in_found new c.args.id b
     (ap (λ (ys : Items). is_some (found c.args.id ys)) (list_on b (with_payload c.args.id _) (g.R.Rings.lists s) (g.R.Rings.lists new) (λ n. c.set_payload-bucket.ensures.out b n at) (laws.ring_there s c.args.id b at))
@@ -34,5 +34,5 @@ returns-clause-out g c b m x at is =
     let had : c.set_payload-bucket.result ≡ x = same_Some c.set_payload-bucket.result x (sym (c.set_payload-bucket.ensures.had b at) ∙ here) in
     let put : c.aside_bucket.new.bucket ≡ set_aside c.args.pool c.args.above x = c.aside_bucket.ensures.new ∙ ap (λ (y : Bucket). set_aside c.args.pool c.args.above y) had in
     c.set_payload-nothing.ensures.out b m (still g (goal.at.returns-clause-out g c).After-set_payload-bucket b at)
-    ∙ on_after b m (with_payload id _) (with_payload id c.aside_bucket.new.bucket) (with_payload id (set_aside c.args.pool c.args.above x)) (g.R.Rings.lists s) (g.R.Rings.lists c.set_payload-bucket.new.self) (λ k. c.set_payload-bucket.ensures.out b k at)
+    ∙ on_after b m (with_payload id _) (with_payload id c.aside_bucket.new.bucket) (with_payload id (set_aside c.args.pool c.args.above x)) (g.R.Rings.lists s) (g.R.Rings.lists c.set_payload-bucket.new.self.rings) (λ k. c.set_payload-bucket.ensures.out b k at)
     (set_twice id _ c.aside_bucket.new.bucket xs (laws.found_in s id b at) ∙ ap (λ (y : Bucket). with_payload id y xs) put)

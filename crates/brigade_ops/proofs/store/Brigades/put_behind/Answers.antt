@@ -14,8 +14,8 @@ returns-clause-still g c b at =
     let old = c.args.self.now.held.rings in
     let id = c.args.at in
     let y : Item = (c.in-Ok.id, c.args.bucket) in
-    laws.in_found c.add_after.new.self id b
-    (ap (λ xs. is_some (found id xs)) (list_on b (put_after id y) (g.R.Rings.lists old) (g.R.Rings.lists c.add_after.new.self) (λ n. c.in-Ok.ensures.ok b n at) (laws.ring_there old id b at))
+    laws.in_found c.add_after.new.self.rings id b
+    (ap (λ xs. is_some (found id xs)) (list_on b (put_after id y) (g.R.Rings.lists old) (g.R.Rings.lists c.add_after.new.self.rings) (λ n. c.in-Ok.ensures.ok b n at) (laws.ring_there old id b at))
     ∙ found_behind id y (list_at (g.R.Rings.lists old) b) (laws.found_in old id b at))
 
 absent : (g : _) (c : In-Ok g) → g.R.Rings.ring_at c.args.self.now.held.rings c.in-Ok.id ≡ None
@@ -38,6 +38,6 @@ returns-clause-inside g c b at =
     let y : Item = (new, c.args.bucket) in
     let xs : Items = list_at (g.R.Rings.lists old) b in
     let none : times new xs ≡ 0 = laws.counted old new b ∙ ap (once_in b) (absent g (goal.at.returns-clause-inside g c).In-Ok) in
-    laws.in_found c.add_after.new.self new b
-    (ap (λ (zs : Items). is_some (found new zs)) (list_on b (put_after id y) (g.R.Rings.lists old) (g.R.Rings.lists c.add_after.new.self) (λ n. c.in-Ok.ensures.ok b n at) (laws.ring_there old id b at))
+    laws.in_found c.add_after.new.self.rings new b
+    (ap (λ (zs : Items). is_some (found new zs)) (list_on b (put_after id y) (g.R.Rings.lists old) (g.R.Rings.lists c.add_after.new.self.rings) (λ n. c.in-Ok.ensures.ok b n at) (laws.ring_there old id b at))
     ∙ found_put id y xs (laws.found_in old id b at) none)

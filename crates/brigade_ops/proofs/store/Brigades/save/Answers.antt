@@ -26,7 +26,7 @@ put_all_aside-requires-clause-inside g c =
     let s = c.args.self.now.held.rings in
     let o = c.args.o in
     let b = c.args.b in
-    let new = c.splice_tail.new.self in
+    let new = c.splice_tail.new.self.rings in
     let went = sym c.is_err.ensures.value ∙ c.if-is_err.false in
     let whole : list_at (g.R.Rings.lists new) o ≡ list_at (g.R.Rings.lists s) o ++ list_at (g.R.Rings.lists s) b
     = joined o b (g.R.Rings.lists s) (g.R.Rings.lists new) c.requires.apart c.requires.onto (ok_of c.splice_tail.result _ went c.splice_tail.ensures.ok) in
@@ -47,7 +47,7 @@ returns-clause-ok g c p n at =
     let pool = c.in-Some.pool in
     let ps = map_of c.args.tree.now in
     let first = c.start-first.result in
-    let new = c.splice_tail.new.self in
+    let new = c.splice_tail.new.self.rings in
     let others = on b (λ (xs : Items). []) (g.R.Rings.lists s) in
     let bs : Items = list_at (g.R.Rings.lists s) b in
     let went = sym c.is_err.ensures.value ∙ c.if-is_err.false in
@@ -89,7 +89,7 @@ returns-clause-house g c house =
     let ps = map_of c.args.tree.now in
     let s = g.R.Rings.lists store.held.rings in
     let bs : Items = list_at s b in
-    let moved = g.R.Rings.lists c.splice_tail.new.self in
+    let moved = g.R.Rings.lists c.splice_tail.new.self.rings in
     let went = sym c.is_err.ensures.value ∙ c.if-is_err.false in
     let joined : ((n : ℕ) → moved n ≡ on o (λ xs. xs ++ bs) (on b (λ xs. []) s) n) = ok_of c.splice_tail.result _ went c.splice_tail.ensures.ok in
     subst (AreHoused (lists after) (pool_of after) (references after)) (sym c.in_ok-refer_all.ensures.ok)

@@ -20,7 +20,7 @@ unfolding lists brigade_of
 drop_before-requires g c =
     let laws = g.met.R.Rings in
     let s = c.args.self.now.held.rings in
-    let new = c.splice_from.new.self in
+    let new = c.splice_from.new.self.rings in
     let id = c.in-Some.id in
     let a = c.args.a in
     let b = c.args.b in
@@ -37,7 +37,7 @@ unfolding lists brigade_of
 returns-clause-ok g c n =
     let laws = g.met.R.Rings in
     let s = c.args.self.now.held.rings in
-    let mid = c.splice_from.new.self in
+    let mid = c.splice_from.new.self.rings in
     let id = c.in-Some.id in
     let a = c.args.a in
     let b = c.args.b in

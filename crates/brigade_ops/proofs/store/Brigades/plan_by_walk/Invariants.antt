@@ -6,7 +6,7 @@ use Rattle.pool_tree.specs.Tree.{map_of}
 use Rattle.bucket_ring.specs.declared.names.BucketId.{BucketId}
 use Rattle.brigade_ops.specs.Morphs.{morphed, cleared_as}
 use Rattle.brigade_ops.specs.Store.{brigade_of, bucket_at}
-use Rattle.brigade_ops.proofs.store.Brigades.plan_morphs.Given as goal
+use Rattle.brigade_ops.proofs.store.Brigades.plan_by_walk.Given as goal
 
 abbrev pub invariant-loop-ring : goal.invariant-loop-ring
 invariant-loop-ring g l = (id : BucketId) (b : ℕ) (x : Bucket) → brigade_of l.self id ≡ Some b → bucket_at l.self id ≡ Some x

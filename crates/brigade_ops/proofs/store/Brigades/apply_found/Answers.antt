@@ -8,7 +8,7 @@ use Rattle.brigade_ops.specs.Morphs.{all_morphed}
 use Rattle.bucket_ring.specs.Laws.{none_revived_twice}
 use Rattle.brigade_ops.specs.Store.{lists, brigade_of, next_name}
 use Rattle.brigade_ops.proofs.Cleared.{morphs_step, morphs_none}
-use Rattle.brigade_ops.proofs.store.Brigades.apply_morphs.Goals as goal
+use Rattle.brigade_ops.proofs.store.Brigades.apply_found.Goals as goal
 
 pub loop-morph-init : goal.loop-morph-init
 loop-morph-init g c = record { out = λ n. refl; next = refl; names = λ id there young. there; pools = refl; references = refl }
@@ -17,7 +17,7 @@ pub loop-morph-preserved : goal.loop-morph-preserved
 loop-morph-preserved g c =
     let i = c.loop-morph.morph-index in
     let items = c.as_slice-morph-items.result.now in
-    let found = c.args.morphs.found in
+    let found = c.args.found in
     let none : Morph = record { id = record { slot = 0; birth = 0 }; kind = kind.Heap; home = home.Free } in
     let within : i < length found = subst (λ (xs : List Morph). i < length xs) c.as_slice-morph-items.ensures c.loop-morph-test.true in
     let now = lists c.loop-morph.self in
@@ -36,6 +36,6 @@ loop-morph-preserved g c =
 
 pub returns-clause-out : goal.returns-clause-out
 returns-clause-out g c n =
-    let found = c.args.morphs.found in
+    let found = c.args.found in
     let past : length found ≤ c.loop-morph.morph-index = subst (λ (xs : List Morph). length xs ≤ c.loop-morph.morph-index) c.as_slice-morph-items.ensures c.loop-morph-test.false in
     sym (ap (λ (ms : List Morph). option_map (all_morphed ms) (lists c.loop-morph.self n)) (drop_all c.loop-morph.morph-index found past) ∙ morphs_none (lists c.loop-morph.self n)) ∙ c.loop-morph.invariant.out n

@@ -1,0 +1,73 @@
+-- Names of buckets that depend on a pool no more may be thrown out.
+use Rattle.std.proofs.Common.{◌≡◌, ◌≢◌, ◌==◌, ◌&&◌, ◌||◌, ◌≤◌, ℕ, Bool, true, false, cond, Option, None, Some, List, filter, is_some, [], ◌⊎◌, refl, sym, ap, ◌∙◌, inl, inr}
+use Rattle.std.specs.List.{list_all}
+use Rattle.std.specs.Option.{option_and_then}
+use Rattle.std.proofs.lemmas.Bool.{cases_eq, eq-eqb, ne_eqb, and_parts}
+use Rattle.run_model.specs.declared.bucket.Bucket.{Bucket}
+use Rattle.run_model.specs.declared.bucket.Kind.{Kind}
+use Rattle.run_model.specs.declared.bucket.Kind.TheVariants as kind
+use Rattle.run_model.specs.declared.bucket.Home.{Home}
+use Rattle.run_model.specs.declared.bucket.Home.TheVariants as home
+use Rattle.bucket_ring.specs.declared.names.BucketId.{BucketId}
+use Rattle.bucket_ring.specs.Lists.{list_at, times, found}
+use Rattle.bucket_ring.specs.Kept.{IsKept}
+use Rattle.bucket_ring.specs.Laws.{in_found}
+use Rattle.brigade_ops.specs.declared.dependents.Dependents.{Dependents}
+use Rattle.brigade_ops.specs.Dependents.{names_of, noted}
+use Rattle.brigade_ops.specs.Due.{kind_reached, home_reached, depends}
+use Rattle.brigade_ops.specs.Items.{Items}
+use Rattle.brigade_ops.specs.Morphs.{is_named}
+use Rattle.brigade_ops.specs.Noted.{kind_under, home_under, is_noted, AreNoted, bucket_named, still_under}
+use Rattle.brigade_ops.proofs.DueBuckets.{named_filtered, either_named, first_named, second_named}
+use Rattle.brigade_ops.proofs.Noted.{all_found, listed_by_found, noted_item}
+use Rattle.brigade_ops.proofs.Saves.{here_at}
+use Rattle.brigade_ops.proofs.Walks.{once_listed}
+
+-- What a bucket depends on stays noted, so it stays noted under all of them.
+module _ (names more : ℕ → BucketId → Bool) (id : BucketId) (x : Bucket) (kept : (p : ℕ) → depends (λ q. q == p) x ≡ true → names p id ≡ true → more p id ≡ true) where
+  kind_stays : (k : Kind) → x.kind ≡ k → kind_under (λ p. names p id) k ≡ true → kind_under (λ p. more p id) k ≡ true
+  kind_stays kind.Heap is e = refl
+  kind_stays kind.Transient is e = refl
+  kind_stays kind.Immortal is e = refl
+  kind_stays (kind.Pool p) is e =
+      kept p (first_named (kind_reached (λ q. q == p) x.kind) (home_reached (λ q. q == p) x.home) (ap (kind_reached (λ q. q == p)) is ∙ eq-eqb p p refl)) e
+  kind_stays kind.File is e = refl
+  kind_stays kind.Flush is e = refl
+  kind_stays kind.Eos is e = refl
+
+  home_stays : (h : Home) → x.home ≡ h → home_under (λ p. names p id) h ≡ true → home_under (λ p. more p id) h ≡ true
+  home_stays home.Free is e = refl
+  home_stays (home.Call n) is e = refl
+  home_stays (home.Pool p) is e =
+      kept p (second_named (kind_reached (λ q. q == p) x.kind) (home_reached (λ q. q == p) x.home) (ap (home_reached (λ q. q == p)) is ∙ eq-eqb p p refl)) e
+  home_stays home.Ended is e = refl
+
+  item_stays : is_noted names (id, x) ≡ true → is_noted more (id, x) ≡ true
+  item_stays e =
+      let parts = and_parts (kind_under (λ p. names p id) x.kind) (home_under (λ p. names p id) x.home) e in
+      noted_item more id x (kind_stays x.kind refl parts.0) (home_stays x.home refl parts.1)
+
+-- The names under one pool are put back without those whose buckets are gone or depend on it no more.
+module _ (at : BucketId → Option ℕ) (lists : ℕ → Option Items) (next : ℕ) (law : IsKept at lists next) (old taken new : Dependents) (pool : ℕ)
+    (out : (p : ℕ) → names_of taken p ≡ cond (p == pool) [] (names_of old p)) (still_lost : taken.lost ≡ old.lost)
+    (back : (id : BucketId) → is_named id (filter (λ i. still_under pool (bucket_named at lists i)) (names_of old pool)) ≡ true → noted new pool id ≡ true)
+    (others : (p : ℕ) (id : BucketId) → p ≢ pool → noted taken p id ≡ true → noted new p id ≡ true) (lost : taken.lost ≡ true → new.lost ≡ true) where
+  under_kept : (id : BucketId) (x : Bucket) → bucket_named at lists id ≡ Some x → (p : ℕ) → depends (λ q. q == p) x ≡ true → noted old p id ≡ true → noted new p id ≡ true
+  unfolding noted
+  under_kept id x there p on e = elim (either_named old.lost (is_named id (names_of old p)) e) [
+    | inl gone ↦ first_named new.lost (is_named id (names_of new p)) (lost (still_lost ∙ gone))
+    | inr named ↦ by_pool (cases_eq p pool) named
+  ] where
+    by_pool : (p ≡ pool) ⊎ (p ≢ pool) → is_named id (names_of old p) ≡ true → (new.lost || is_named id (names_of new p)) ≡ true
+    by_pool (inl here) named =
+        ap (λ (q : ℕ). new.lost || is_named id (names_of new q)) here
+        ∙ back id (named_filtered (λ i. still_under pool (bucket_named at lists i)) id (names_of old pool)
+        ∙ rw (ap (still_under pool) there ∙ (ap (λ (q : ℕ). depends (λ n. n == q) x) (sym here) ∙ on), ap (λ (q : ℕ). is_named id (names_of old q)) (sym here) ∙ named) refl)
+    by_pool (inr apart) named = others p id apart (second_named taken.lost (is_named id (names_of taken p)) (ap (is_named id) (out p ∙ rw (ne_eqb p pool apart) refl) ∙ named))
+
+  pub pruned : AreNoted (noted old) lists → AreNoted (noted new) lists
+  pruned are b =
+      listed_by_found (is_noted (noted new)) (list_at lists b) (λ i. once_listed b (at i) (times i (list_at lists b)) (law.counted i b))
+      (λ id x is.
+      let there = here_at (at id) lists id b x (in_found at lists next law id b (ap is_some is)) is in
+      item_stays (noted old) (noted new) id x (under_kept id x there) (all_found (is_noted (noted old)) id x (list_at lists b) (are b) is))

@@ -1,0 +1,15 @@
+-- The names that are noted under a pool.
+use Rattle.std.specs.Prelude.{ℕ, Bool, ◌||◌, List, [], nat_eq}
+use Rattle.std.specs.Option.{option_map_or}
+use Rattle.std.specs.HashMap.{get}
+use Rattle.bucket_ring.specs.declared.names.BucketId.{BucketId}
+use Rattle.brigade_ops.specs.declared.dependents.Dependents.{Dependents}
+use Rattle.brigade_ops.specs.Morphs.{is_named}
+
+-- the names under a pool
+unfoldable pub names_of : Dependents → ℕ → List BucketId
+names_of deps p = option_map_or (λ names. names.ids.items) (get nat_eq deps.names p) []
+
+-- whether a name is under a pool, as far as is known
+unfoldable pub noted : Dependents → ℕ → BucketId → Bool
+noted deps p id = deps.lost || is_named id (names_of deps p)

@@ -1,0 +1,166 @@
+//! Which buckets depend on a pool.
+
+ghost use Rattle.std.specs.Prelude.{◌≡◌, ◌≢◌, ◌==◌, ◌++◌, ℕ, [], ◌∷◌, true, if◌then◌else◌, IsTrue, IfOk, OnOk};
+ghost use Rattle.bucket_ring.specs.declared.names.BucketId.{BucketId};
+ghost use Rattle.run_model.specs.Pools.{is_live, is_under, is_in};
+ghost use Rattle.pool_tree.specs.Tree.{map_of};
+ghost use Rattle.brigade_ops.specs.Morphs.{is_named};
+ghost use Rattle.brigade_ops.specs.Noted.{kind_under, home_under};
+
+use crate::morphs::reaches;
+use bucket_ring::BucketId;
+use pool_tree::{PoolId, PoolTree};
+use run_model::{Home, Kind, Payload, Seq};
+use std::alloc::{AllocError, Global};
+use std::collections::HashMap;
+
+/// So many names come under a pool before it is looked at which of them have gone.
+const FIRST_LIMIT: usize = 8;
+
+/// The names under one pool, and how many there may be before it is looked at which of them have gone.
+#[derive(Drop)]
+pub(crate) struct Names {
+    pub(crate) ids: Vec<BucketId>,
+    pub(crate) limit: usize,
+}
+
+/// For each pool the names of the buckets that depend on it: those whose bytes lie in it, and those whose home it is. Names of buckets
+/// that are gone, or depend on it no more, may linger. Where memory for a name was refused the names are lost, all of them, and then
+/// nothing is said of any pool.
+#[derive(Drop)]
+pub(crate) struct Dependents {
+    pub(crate) alloc: Global,
+    pub(crate) names: HashMap<u64, Names>,
+    pub(crate) lost: bool,
+}
+
+#[tactic(auto, unfolding(crate::specs::Dependents::names_of, crate::specs::Dependents::noted))]
+impl Dependents {
+    ghost use Rattle.brigade_ops.specs.Dependents.{names_of, noted};
+
+    pub(crate) fn new(alloc: Global) -> Self {
+        Dependents {
+            alloc,
+            names: HashMap::new(alloc),
+            lost: false,
+        }
+    }
+
+    /// Whether the names were lost.
+    pub(crate) fn is_lost(&self) -> bool
+        ensures { result ≡ self.now.lost }
+    {
+        self.lost
+    }
+
+    /// The pools that have names and that a clear of a pool reaches.
+    pub(crate) fn reached(
+        &self,
+        tree: &PoolTree<Payload>,
+        pool: PoolId,
+    ) -> Result<Seq<PoolId>, AllocError>
+        requires { IsTrue (is_live (map_of tree.now) pool) }
+        ensures { IfOk result (λ pools. (p : ℕ) (id : BucketId) → is_under (map_of tree.now) pool p ≡ true → is_named id (names_of self.now p) ≡ true → is_in p pools ≡ true) }
+    {
+        let mut pools = Seq::new(self.alloc);
+        for name in self.names.keys() {
+            if reaches(tree, pool, *name) {
+                pools.push(*name)?;
+            }
+        }
+        Ok(pools)
+    }
+
+    /// The names that are noted under a pool.
+    pub(crate) fn names(&self, pool: u64) -> &[BucketId]
+        ensures { result.now ≡ names_of self.now pool }
+    {
+        match self.names.get(&pool) {
+            Some(names) => names.ids.as_slice(),
+            None => &[],
+        }
+    }
+
+    /// Puts a name under a pool.
+    fn push(&mut self, pool: u64, id: BucketId) -> Result<(), AllocError>
+        ensures lost { self.new.lost ≡ self.old.lost }
+        ensures ok { OnOk result ((p : ℕ) → names_of self.new p ≡ (if p == pool then names_of self.old p ++ id ∷ [] else names_of self.old p)) }
+    {
+        if let Some(names) = self.names.get_mut(&pool) {
+            names.ids.push(id)?;
+            return Ok(());
+        }
+        let mut ids = Vec::new(self.alloc);
+        ids.push(id)?;
+        let limit = FIRST_LIMIT;
+        self.names.insert(pool, Names { ids, limit })?;
+        Ok(())
+    }
+
+    /// Gives all names up.
+    fn lose(&mut self)
+        ensures { self.new.lost ≡ true }
+    {
+        self.names.clear();
+        self.lost = true;
+    }
+
+    /// Whether so many names came under a pool that some of them may well have gone.
+    pub(crate) fn is_full(&self, pool: u64) -> bool {
+        match self.names.get(&pool) {
+            Some(names) => names.ids.len() >= names.limit,
+            None => false,
+        }
+    }
+
+    /// Takes the names under a pool out.
+    pub(crate) fn take(&mut self, pool: u64) -> Vec<BucketId>
+        ensures names { result.items ≡ names_of self.old pool }
+        ensures rest { (p : ℕ) → names_of self.new p ≡ (if p == pool then [] else names_of self.old p) }
+        ensures lost { self.new.lost ≡ self.old.lost }
+    {
+        match self.names.remove(&pool) {
+            Some(names) => names.ids,
+            None => Vec::new(self.alloc),
+        }
+    }
+
+    /// Puts names under a pool that has none.
+    pub(crate) fn put_back(&mut self, pool: u64, ids: Vec<BucketId>)
+        ensures here { (id : BucketId) → is_named id ids.items ≡ true → noted self.new pool id ≡ true }
+        ensures kept { (p : ℕ) (id : BucketId) → p ≢ pool → noted self.old p id ≡ true → noted self.new p id ≡ true }
+        ensures lost { self.old.lost ≡ true → self.new.lost ≡ true }
+    {
+        if ids.is_empty() {
+            return;
+        }
+        let limit = ids.len().saturating_mul(2).saturating_add(FIRST_LIMIT);
+        if self.names.insert(pool, Names { ids, limit }).is_err() {
+            self.lose();
+        }
+    }
+
+    /// Notes a bucket under a pool.
+    fn note_under(&mut self, pool: u64, id: BucketId)
+        ensures here { noted self.new pool id ≡ true }
+        ensures kept { (p : ℕ) (j : BucketId) → noted self.old p j ≡ true → noted self.new p j ≡ true }
+    {
+        if !self.lost && self.push(pool, id).is_err() {
+            self.lose();
+        }
+    }
+
+    /// Notes a bucket under the pools that it depends on.
+    pub(crate) fn note(&mut self, id: BucketId, kind: Kind, home: Home)
+        ensures kind { kind_under (λ p. noted self.new p id) kind ≡ true }
+        ensures home { home_under (λ p. noted self.new p id) home ≡ true }
+        ensures kept { (p : ℕ) (j : BucketId) → noted self.old p j ≡ true → noted self.new p j ≡ true }
+    {
+        if let Kind::Pool(pool) = kind {
+            self.note_under(pool, id);
+        }
+        if let Home::Pool(pool) = home {
+            self.note_under(pool, id);
+        }
+    }
+}

@@ -1,0 +1,60 @@
+//! The buckets of a ring are noted under the pools that they depend on.
+
+ghost use Rattle.std.specs.Prelude.{◌≡◌, ◌≤◌, ℕ, drop, Some, true, is_some, IfSome};
+ghost use Rattle.bucket_ring.specs.declared.names.BucketId.{BucketId};
+ghost use Rattle.bucket_ring.specs.Lists.{list_at, rest, found};
+ghost use Rattle.brigade_ops.specs.Dependents.{noted};
+ghost use Rattle.brigade_ops.specs.Items.{from_place};
+ghost use Rattle.brigade_ops.specs.Noted.{is_noted};
+
+use crate::dependents::Dependents;
+use bucket_ring::{BucketId, RingId, Rings};
+use run_model::Bucket;
+
+/// Where a walk along a ring goes on behind a bucket.
+fn after<R: Rings<Bucket>>(rings: &R, ring: RingId, id: BucketId) -> Option<BucketId>
+    requires { R.ring_at rings.now id ≡ Some ring }
+    ensures rest { from_place result (list_at (R.lists rings.now) ring) ≡ drop 1 (rest id (list_at (R.lists rings.now) ring)) }
+    ensures inside { IfSome result (λ j. R.ring_at rings.now j ≡ Some ring) }
+{
+    match rings.next(id) {
+        Ok(next) => Some(next),
+        Err(_) => None,
+    }
+}
+
+/// Notes a bucket of a ring whose birth is not below a name.
+fn note_bucket<R: Rings<Bucket>>(
+    dependents: &mut Dependents,
+    rings: &R,
+    ring: RingId,
+    id: BucketId,
+    from: u64,
+)
+    requires { R.ring_at rings.now id ≡ Some ring }
+    ensures here { (x : Bucket) → found id (list_at (R.lists rings.now) ring) ≡ Some x → from ≤ id.birth → is_noted (noted dependents.new) (id, x) ≡ true }
+    ensures kept { (p : ℕ) (j : BucketId) → noted dependents.old p j ≡ true → noted dependents.new p j ≡ true }
+{
+    if id.birth >= from {
+        let bucket = rings.payload(id);
+        dependents.note(id, bucket.kind, bucket.home);
+    }
+}
+
+/// Notes the buckets of a ring whose births are not below a name.
+pub(crate) fn note_ring<R: Rings<Bucket>>(
+    dependents: &mut Dependents,
+    rings: &R,
+    ring: RingId,
+    from: u64,
+)
+    requires { is_some (R.lists rings.now ring) ≡ true }
+    ensures here { (id : BucketId) (x : Bucket) → found id (list_at (R.lists rings.now) ring) ≡ Some x → from ≤ id.birth → is_noted (noted dependents.new) (id, x) ≡ true }
+    ensures kept { (p : ℕ) (j : BucketId) → noted dependents.old p j ≡ true → noted dependents.new p j ≡ true }
+{
+    let mut place = rings.first(ring);
+    while let Some(id) = place {
+        note_bucket(dependents, rings, ring, id, from);
+        place = after(rings, ring, id);
+    }
+}

@@ -1,0 +1,80 @@
+//! Names of buckets that are gone, or depend on their pool no more, are thrown out.
+
+ghost use Rattle.std.specs.Prelude.{◌≡◌, ◌==◌, ℕ, filter, if◌then◌else◌};
+ghost use Rattle.brigade_ops.specs.Dependents.{names_of, noted};
+ghost use Rattle.brigade_ops.specs.Due.{kind_reached, home_reached};
+ghost use Rattle.brigade_ops.specs.Noted.{bucket_named, still_under, AreNoted};
+
+use crate::dependents::Dependents;
+use bucket_ring::{BucketId, Rings};
+use run_model::{Bucket, Home, Kind};
+
+/// Whether bytes lie in a pool.
+fn lies_in(kind: Kind, pool: u64) -> bool
+    ensures { result ≡ kind_reached (λ p. p == pool) kind }
+{
+    match kind {
+        Kind::Pool(name) => name == pool,
+        Kind::Heap | Kind::Transient | Kind::Immortal | Kind::File | Kind::Flush | Kind::Eos => {
+            false
+        }
+    }
+}
+
+/// Whether a home is a pool.
+fn is_home(home: Home, pool: u64) -> bool
+    ensures { result ≡ home_reached (λ p. p == pool) home }
+{
+    match home {
+        Home::Pool(name) => name == pool,
+        Home::Free | Home::Call(_) | Home::Ended => false,
+    }
+}
+
+/// Whether there is a bucket of this name that depends on a pool.
+fn depends_there<R: Rings<Bucket>>(rings: &R, id: BucketId, pool: u64) -> bool
+    ensures { result ≡ still_under pool (bucket_named (R.ring_at rings.now) (R.lists rings.now) id) }
+{
+    if rings.ring_of(id).is_none() {
+        return false;
+    }
+    let bucket = rings.payload(id);
+    lies_in(bucket.kind, pool) || is_home(bucket.home, pool)
+}
+
+/// Keeps the names of buckets that depend on a pool.
+fn keep_dependent<R: Rings<Bucket>>(names: &mut Vec<BucketId>, rings: &R, pool: u64)
+    ensures { names.new.items ≡ filter (λ id. still_under pool (bucket_named (R.ring_at rings.now) (R.lists rings.now) id)) names.old.items }
+{
+    names.retain(|id| depends_there(rings, *id, pool));
+}
+
+/// Throws out the names under a pool whose buckets are gone or depend on it no more.
+pub(crate) fn prune<R: Rings<Bucket>>(dependents: &mut Dependents, rings: &R, pool: u64)
+    ensures { AreNoted (noted dependents.old) (R.lists rings.now) → AreNoted (noted dependents.new) (R.lists rings.now) }
+{
+    let mut names = dependents.take(pool);
+    keep_dependent(&mut names, rings, pool);
+    dependents.put_back(pool, names);
+}
+
+/// Throws them out where so many names came since the last time that it is worth while.
+fn tidy_pool<R: Rings<Bucket>>(dependents: &mut Dependents, rings: &R, pool: u64)
+    ensures { AreNoted (noted dependents.old) (R.lists rings.now) → AreNoted (noted dependents.new) (R.lists rings.now) }
+{
+    if dependents.is_full(pool) {
+        prune(dependents, rings, pool);
+    }
+}
+
+/// Throws out names under the pools that a bucket depends on, where it is worth while.
+pub(crate) fn tidy<R: Rings<Bucket>>(dependents: &mut Dependents, rings: &R, kind: Kind, home: Home)
+    ensures { AreNoted (noted dependents.old) (R.lists rings.now) → AreNoted (noted dependents.new) (R.lists rings.now) }
+{
+    if let Kind::Pool(pool) = kind {
+        tidy_pool(dependents, rings, pool);
+    }
+    if let Home::Pool(pool) = home {
+        tidy_pool(dependents, rings, pool);
+    }
+}
