@@ -4,13 +4,15 @@ ghost use Rattle.std.specs.Prelude.{◌≡◌, ℕ, None, Some, true, is_some, O
 ghost use Rattle.bucket_ring.specs.Lists.{upd};
 ghost use Rattle.brigade_ops.specs.Numbers.{number_at, HasRoom};
 
+use bucket_ring::NameHasher;
 use std::alloc::{AllocError, Global};
 use std::collections::HashMap;
+use std::hash::BuildHasherDefault;
 
 /// Numbers by number: pools by their brigades, and counts by their files.
 #[derive(Drop)]
 pub(crate) struct Numbers {
-    pub(crate) by_number: HashMap<u64, u64>,
+    pub(crate) by_number: HashMap<u64, u64, BuildHasherDefault<NameHasher>>,
 }
 
 #[tactic(auto, unfolding(crate::specs::Numbers::number_at, crate::specs::Numbers::HasRoom, bucket_ring::specs::Lists::upd))]
@@ -19,7 +21,7 @@ impl Numbers {
         ensures { (n : ℕ) → number_at result n ≡ None }
     {
         Numbers {
-            by_number: HashMap::new(alloc),
+            by_number: HashMap::with_hasher(alloc, BuildHasherDefault::new()),
         }
     }
 

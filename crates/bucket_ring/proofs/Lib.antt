@@ -11,3 +11,4 @@ pub mod Read
 pub mod Heads
 pub mod Batches
 pub mod Splices
+pub mod Written

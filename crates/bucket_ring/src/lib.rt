@@ -2,12 +2,14 @@
 #![tactic(auto)]
 
 mod circles;
+mod hashing;
 mod laws;
 mod links;
 mod names;
 mod plain;
 mod rings;
 
+pub use hashing::NameHasher;
 pub use laws::{names_run_out, worked_moves};
 pub use names::{BucketId, RingId, RingRefusal};
 pub use plain::PlainRings;

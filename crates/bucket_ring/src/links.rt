@@ -9,10 +9,12 @@ ghost use Rattle.bucket_ring.specs.Walks.{id_of, turned};
 ghost use Rattle.bucket_ring.specs.declared.names.BucketId.{BucketId};
 ghost use Rattle.bucket_ring.specs.declared.links.Head.{Head};
 
+use crate::hashing::NameHasher;
 use crate::names::{BucketId, RingId};
 use slab::Slab;
 use std::alloc::{AllocError, Global};
 use std::collections::HashMap;
+use std::hash::BuildHasherDefault;
 use std::mem::replace;
 
 /// Where buckets are put in a ring.
@@ -51,7 +53,7 @@ pub(crate) struct Head {
 #[derive(Drop)]
 pub(crate) struct Links<T> {
     pub(crate) nodes: Slab<Node<T>>,
-    pub(crate) heads: HashMap<u64, Head>,
+    pub(crate) heads: HashMap<u64, Head, BuildHasherDefault<NameHasher>>,
 }
 
 #[tactic(auto, unfolding(crate::specs::Links::behind_of, crate::specs::Links::before_of, crate::specs::Links::mark_of, crate::specs::Links::at_of, crate::specs::Links::bucket_of, crate::specs::Links::head_of, crate::specs::Links::ring_at, crate::specs::Lists::upd))]
@@ -65,7 +67,7 @@ impl<T: Drop> Links<T> {
     {
         Links {
             nodes: Slab::new(alloc),
-            heads: HashMap::new(alloc),
+            heads: HashMap::with_hasher(alloc, BuildHasherDefault::new()),
         }
     }
 
