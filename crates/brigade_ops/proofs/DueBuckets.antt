@@ -1,7 +1,8 @@
 -- The buckets that a clear of pools changes are found under the pools that they depend on.
-use Rattle.std.proofs.Common.{◌≡◌, ℕ, Bool, true, false, ◌&&◌, ◌||◌, cond, Option, None, Some, List, [], ◌∷◌, ◌++◌, ◌⊎◌, ◌==◌, is_some, refl, sym, ap, ◌∙◌, inl, inr}
+use Rattle.std.proofs.Common.{◌≡◌, ℕ, Bool, true, false, ◌&&◌, ◌||◌, cond, Option, None, Some, List, [], ◌∷◌, ◌++◌, ◌⊎◌, ◌==◌, reverse, is_some, refl, sym, ap, ◌∙◌, inl, inr}
 use Rattle.std.specs.List.{filter, list_any}
 use Rattle.std.proofs.lemmas.Bool.{cases_Bool, false≢true, and_parts, eqb-true, eq-eqb}
+use Rattle.std.proofs.lemmas.List.{reverse-append}
 use Rattle.std.proofs.lemmas.List.Folds.{list_any-append}
 use Rattle.std.proofs.lemmas.Map.Views.{any-filter_same}
 use Rattle.std.specs.Option.{option_map_or}
@@ -99,15 +100,6 @@ due_is reached rings at bucket b x in_b is = rw (in_b, is) refl
 pub named_filtered : (test : BucketId → Bool) (id : BucketId) (names : List BucketId) → is_named id (filter test names) ≡ (test id && is_named id names)
 named_filtered test id names = any-filter_same (same id) test (test id) (λ name hit. ap test (sym (same_name id name hit))) names
 
--- a pool among those that pass one
-pub in_filtered : (test : ℕ → Bool) (p : ℕ) (pools : List ℕ) → is_in p (filter test pools) ≡ (test p && is_in p pools)
-in_filtered test p pools = any-filter_same (λ m. m == p) test (test p) (λ m hit. ap test (eqb-true m p hit)) pools
-
--- nothing is named among no names
-pub not_named : {V : Type 0} (items : V → List BucketId) (id : BucketId) (o : Option V) → is_named id (option_map_or items o []) ≡ true → is_some o ≡ true
-not_named items id None is = absurd (false≢true is)
-not_named items id (Some names) is = refl
-
 pub in_pushed : (p name : ℕ) (pools : List ℕ) → is_in p (pools ++ name ∷ []) ≡ true → (is_in p pools ≡ true) ⊎ (name ≡ p)
 in_pushed p name pools is = elim (cases_Bool (is_in p pools)) [
   | inl e ↦ inl e
@@ -132,10 +124,13 @@ pub second_named : (a b : Bool) → b ≡ true → (a || b) ≡ true
 second_named true b e = refl
 second_named false b e = e
 
--- a pool among others, by a test the other way round
-pub turned : (p : ℕ) (pools : List ℕ) → list_any (λ m. p == m) pools ≡ true → is_in p pools ≡ true
-turned p [] is = absurd (false≢true is)
-turned p (q ∷ qs) is = elim (either_named (p == q) (list_any (λ m. p == m) qs) is) [
-  | inl here ↦ first_named (q == p) (is_in p qs) (eq-eqb q p (sym (eqb-true p q here)))
-  | inr later ↦ second_named (q == p) (is_in p qs) (turned p qs later)
-]
+either_way : (a b : Bool) → (a || b) ≡ (b || (a || false))
+either_way true true = refl
+either_way true false = refl
+either_way false true = refl
+either_way false false = refl
+
+-- a pool among others, read from the last on
+pub in_turned : (p : ℕ) (pools : List ℕ) → is_in p pools ≡ is_in p (reverse pools)
+in_turned p [] = refl
+in_turned p (q ∷ qs) = rw (reverse-append (q ∷ []) qs, list_any-append (λ m. m == p) (reverse qs) (q ∷ []), in_turned p qs) (either_way (q == p) (is_in p (reverse qs)))

@@ -18,12 +18,14 @@ use pool_tree::{PoolId, PoolTree};
 use run_model::{Bucket, Content, Home, Kind, Payload};
 use std::alloc::AllocError;
 
-/// Stands in a bucket's place while that is changed.
-pub(crate) const NOTHING: Bucket = Bucket {
-    kind: Kind::Eos,
-    content: Content::Nothing,
-    home: Home::Free,
-};
+/// What stands in a bucket's place while that is changed: its kind and its home, and no bytes.
+pub(crate) fn hollow(bucket: &Bucket) -> Bucket {
+    Bucket {
+        kind: bucket.kind,
+        content: Content::Nothing,
+        home: bucket.home,
+    }
+}
 
 /// Whether the pool of a home is the target or stands above it.
 #[tactic(auto, using(crate::proofs::Above::dead_above, pool_tree::proofs::Trees::tree_formed))]
@@ -79,7 +81,8 @@ impl<R: Rings<Bucket> + Drop> Brigades<R> {
         ensures pools { pool_of self.new ≡ pool_of self.old }
         ensures references { references self.new ≡ references self.old }
     {
-        let mut bucket = self.held.set_payload(id, NOTHING);
+        let nothing = hollow(self.payload(id));
+        let mut bucket = self.held.set_payload(id, nothing);
         aside_bucket(&mut bucket, pool, above);
         let _nothing = self.held.set_payload(id, bucket);
     }

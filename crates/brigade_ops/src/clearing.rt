@@ -16,6 +16,7 @@ ghost use Rattle.brigade_ops.specs.Files.{refs_in, is_let_go, SameButOpen};
 ghost use Rattle.brigade_ops.specs.House.{IsHouse, AreOpen, cleared_items, cleared_ring, pool_left};
 ghost use Rattle.brigade_ops.specs.Morphs.{morphed, all_morphed, cleared_as, IsAsItWas};
 
+use crate::due::reached;
 use crate::morphs::{Morph, Morphs, home_after, kind_after, reaches};
 use crate::saving::push_some;
 use crate::store::{BrigadeId, Brigades};
@@ -110,7 +111,7 @@ impl<R: Rings<Bucket> + Drop> Brigades<R> {
                 self.plan_ring(&mut found, *ring, pool, tree)?;
             }
         }
-        let pools = Seq::new(self.alloc);
+        let pools = Vec::new(self.alloc);
         Ok(Morphs { found, pools })
     }
 
@@ -128,7 +129,7 @@ impl<R: Rings<Bucket> + Drop> Brigades<R> {
         if self.held.dependents.is_lost() {
             return self.plan_by_walk(rings, pool, tree);
         }
-        let pools = self.held.dependents.reached(tree, pool)?;
+        let pools = reached(tree, pool)?;
         let names = self.due_names(pools.as_slice(), rings, pool, tree)?;
         let morphs = self.plan_morphs_of(names.as_slice(), pool, tree)?;
         Ok(Morphs {

@@ -1,16 +1,12 @@
 //! Which buckets depend on a pool.
 
-ghost use Rattle.std.specs.Prelude.{◌≡◌, ◌≢◌, ◌==◌, ◌++◌, ℕ, [], ◌∷◌, true, if◌then◌else◌, IsTrue, IfOk, OnOk};
+ghost use Rattle.std.specs.Prelude.{◌≡◌, ◌≢◌, ◌==◌, ◌++◌, ℕ, [], ◌∷◌, true, if◌then◌else◌, OnOk};
 ghost use Rattle.bucket_ring.specs.declared.names.BucketId.{BucketId};
-ghost use Rattle.run_model.specs.Pools.{is_live, is_under, is_in};
-ghost use Rattle.pool_tree.specs.Tree.{map_of};
 ghost use Rattle.brigade_ops.specs.Morphs.{is_named};
 ghost use Rattle.brigade_ops.specs.Noted.{kind_under, home_under};
 
-use crate::morphs::reaches;
 use bucket_ring::BucketId;
-use pool_tree::{PoolId, PoolTree};
-use run_model::{Home, Kind, Payload, Seq};
+use run_model::{Home, Kind};
 use std::alloc::{AllocError, Global};
 use std::collections::HashMap;
 
@@ -51,24 +47,6 @@ impl Dependents {
         ensures { result ≡ self.now.lost }
     {
         self.lost
-    }
-
-    /// The pools that have names and that a clear of a pool reaches.
-    pub(crate) fn reached(
-        &self,
-        tree: &PoolTree<Payload>,
-        pool: PoolId,
-    ) -> Result<Seq<PoolId>, AllocError>
-        requires { IsTrue (is_live (map_of tree.now) pool) }
-        ensures { IfOk result (λ pools. (p : ℕ) (id : BucketId) → is_under (map_of tree.now) pool p ≡ true → is_named id (names_of self.now p) ≡ true → is_in p pools ≡ true) }
-    {
-        let mut pools = Seq::new(self.alloc);
-        for name in self.names.keys() {
-            if reaches(tree, pool, *name) {
-                pools.push(*name)?;
-            }
-        }
-        Ok(pools)
     }
 
     /// The names that are noted under a pool.

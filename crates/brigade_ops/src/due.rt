@@ -15,6 +15,16 @@ use pool_tree::{PoolId, PoolTree};
 use run_model::{Bucket, Payload, Seq};
 use std::alloc::AllocError;
 
+/// A pool and the pools under it: those that a clear of it reaches.
+pub(crate) fn reached(tree: &PoolTree<Payload>, pool: PoolId) -> Result<Vec<PoolId>, AllocError>
+    requires { IsTrue (is_live (map_of tree.now) pool) }
+    ensures { IfOk result (λ pools. (p : ℕ) → is_under (map_of tree.now) pool p ≡ true → is_in p pools.items ≡ true) }
+{
+    let mut pools = tree.pools_under(pool)?;
+    pools.push(pool)?;
+    Ok(pools)
+}
+
 #[tactic(auto, unfolding(crate::specs::Store::lists, crate::specs::Store::brigade_of, crate::specs::Store::pool_of, crate::specs::Store::next_name, crate::specs::Store::references))]
 impl<R: Rings<Bucket> + Drop> Brigades<R> {
     ghost use Rattle.brigade_ops.specs.Store.{lists, brigade_of, bucket_at, pool_of, next_name, references};
@@ -67,7 +77,7 @@ impl<R: Rings<Bucket> + Drop> Brigades<R> {
         pool: PoolId,
         tree: &PoolTree<Payload>,
     ) -> Result<Seq<BucketId>, AllocError>
-        requires reached { (p : ℕ) (id : BucketId) → is_under (map_of tree.now) pool p ≡ true → is_named id (names_of self.now.held.dependents p) ≡ true → is_in p pools.now ≡ true }
+        requires reached { (p : ℕ) → is_under (map_of tree.now) pool p ≡ true → is_in p pools.now ≡ true }
         requires live { IsTrue (is_live (map_of tree.now) pool) }
         requires noted { self.now.held.dependents.lost ≡ false }
         ensures told { IfOk result (λ names. (id : BucketId) → is_named id names ≡ true → is_due (is_under (map_of tree.now) pool) rings.now (brigade_of self.now id) (bucket_at self.now id) ≡ true) }

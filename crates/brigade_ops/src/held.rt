@@ -8,7 +8,7 @@ ghost use Rattle.brigade_ops.specs.Dependents.{noted};
 ghost use Rattle.brigade_ops.specs.Noted.{AreNoted};
 
 use crate::dependents::Dependents;
-use crate::noting::note_ring;
+use crate::noting::{note_changed, note_ring};
 use crate::pruning::{prune, tidy};
 use bucket_ring::{BucketId, RingId, RingRefusal, Rings};
 use pool_tree::PoolId;
@@ -212,7 +212,7 @@ impl<R: Rings<Bucket> + Drop> Rings<Bucket> for Held<R> {
     fn set_payload(&mut self, id: BucketId, payload: Bucket) -> Bucket {
         let (kind, home) = (payload.kind, payload.home);
         let had = self.rings.set_payload(id, payload);
-        self.dependents.note(id, kind, home);
+        note_changed(&mut self.dependents, id, &had, kind, home);
         tidy(&mut self.dependents, &self.rings, kind, home);
         had
     }

@@ -9,7 +9,7 @@ ghost use Rattle.bucket_ring.specs.Lists.{on, with_payload};
 ghost use Rattle.bucket_ring.specs.Kept.{NoneRevived};
 ghost use Rattle.brigade_ops.specs.Morphs.{morphed, all_morphed, cleared_as, is_named};
 
-use crate::aside::NOTHING;
+use crate::aside::hollow;
 use crate::saving::push_some;
 use crate::store::Brigades;
 use bucket_ring::{BucketId, Rings};
@@ -29,7 +29,7 @@ pub(crate) struct Morph {
 #[derive(Drop)]
 pub struct Morphs {
     pub(crate) found: Seq<Morph>,
-    pub(crate) pools: Seq<PoolId>,
+    pub(crate) pools: Vec<PoolId>,
 }
 
 /// Whether a clear of a pool reaches the pool of a name.
@@ -101,7 +101,7 @@ impl<R: Rings<Bucket> + Drop> Brigades<R> {
             let morph = self.morph_of(tree, pool, *name);
             push_some(&mut found, morph)?;
         }
-        let pools = Seq::new(self.alloc);
+        let pools = Vec::new(self.alloc);
         Ok(Morphs { found, pools })
     }
 
@@ -115,7 +115,8 @@ impl<R: Rings<Bucket> + Drop> Brigades<R> {
         ensures pools { pool_of self.new ≡ pool_of self.old }
         ensures references { references self.new ≡ references self.old }
     {
-        let mut bucket = self.held.set_payload(morph.id, NOTHING);
+        let nothing = hollow(self.payload(morph.id));
+        let mut bucket = self.held.set_payload(morph.id, nothing);
         bucket.kind = morph.kind;
         bucket.home = morph.home;
         let _nothing = self.held.set_payload(morph.id, bucket);

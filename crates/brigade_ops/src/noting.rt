@@ -5,11 +5,12 @@ ghost use Rattle.bucket_ring.specs.declared.names.BucketId.{BucketId};
 ghost use Rattle.bucket_ring.specs.Lists.{list_at, rest, found};
 ghost use Rattle.brigade_ops.specs.Dependents.{noted};
 ghost use Rattle.brigade_ops.specs.Items.{from_place};
-ghost use Rattle.brigade_ops.specs.Noted.{is_noted};
+ghost use Rattle.brigade_ops.specs.Noted.{kind_under, home_under, is_noted};
 
 use crate::dependents::Dependents;
+use crate::pruning::keeps_pools;
 use bucket_ring::{BucketId, RingId, Rings};
-use run_model::Bucket;
+use run_model::{Bucket, Home, Kind};
 
 /// Where a walk along a ring goes on behind a bucket.
 fn after<R: Rings<Bucket>>(rings: &R, ring: RingId, id: BucketId) -> Option<BucketId>
@@ -56,5 +57,22 @@ pub(crate) fn note_ring<R: Rings<Bucket>>(
     while let Some(id) = place {
         note_bucket(dependents, rings, ring, id, from);
         place = after(rings, ring, id);
+    }
+}
+
+/// Notes a bucket that was changed, where it depends on other pools than it did.
+pub(crate) fn note_changed(
+    dependents: &mut Dependents,
+    id: BucketId,
+    had: &Bucket,
+    kind: Kind,
+    home: Home,
+)
+    ensures kind { kind_under (λ p. noted dependents.old p id) had.now.kind ≡ true → kind_under (λ p. noted dependents.new p id) kind ≡ true }
+    ensures home { home_under (λ p. noted dependents.old p id) had.now.home ≡ true → home_under (λ p. noted dependents.new p id) home ≡ true }
+    ensures kept { (p : ℕ) (j : BucketId) → noted dependents.old p j ≡ true → noted dependents.new p j ≡ true }
+{
+    if !keeps_pools(had, kind, home) {
+        dependents.note(id, kind, home);
     }
 }

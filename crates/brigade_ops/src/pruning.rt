@@ -1,9 +1,9 @@
 //! Names of buckets that are gone, or depend on their pool no more, are thrown out.
 
-ghost use Rattle.std.specs.Prelude.{◌≡◌, ◌==◌, ℕ, filter, if◌then◌else◌};
+ghost use Rattle.std.specs.Prelude.{◌≡◌, ◌==◌, ℕ, Bool, true, filter, if◌then◌else◌};
 ghost use Rattle.brigade_ops.specs.Dependents.{names_of, noted};
 ghost use Rattle.brigade_ops.specs.Due.{kind_reached, home_reached};
-ghost use Rattle.brigade_ops.specs.Noted.{bucket_named, still_under, AreNoted};
+ghost use Rattle.brigade_ops.specs.Noted.{bucket_named, kind_under, home_under, still_under, AreNoted};
 
 use crate::dependents::Dependents;
 use bucket_ring::{BucketId, Rings};
@@ -29,6 +29,24 @@ fn is_home(home: Home, pool: u64) -> bool
         Home::Pool(name) => name == pool,
         Home::Free | Home::Call(_) | Home::Ended => false,
     }
+}
+
+/// Whether a bucket that gets this kind and home depends on no pool that it did not depend on before by the like.
+pub(crate) fn keeps_pools(had: &Bucket, kind: Kind, home: Home) -> bool
+    ensures kind { (test : ℕ → Bool) → result ≡ true → kind_under test had.now.kind ≡ true → kind_under test kind ≡ true }
+    ensures home { (test : ℕ → Bool) → result ≡ true → home_under test had.now.home ≡ true → home_under test home ≡ true }
+{
+    let lies = match kind {
+        Kind::Pool(pool) => lies_in(had.kind, pool),
+        Kind::Heap | Kind::Transient | Kind::Immortal | Kind::File | Kind::Flush | Kind::Eos => {
+            true
+        }
+    };
+    let stays = match home {
+        Home::Pool(pool) => is_home(had.home, pool),
+        Home::Free | Home::Call(_) | Home::Ended => true,
+    };
+    lies && stays
 }
 
 /// Whether there is a bucket of this name that depends on a pool.

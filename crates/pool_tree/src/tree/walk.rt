@@ -21,8 +21,8 @@ impl<T: Drop> PoolTree<T> {
         Ok(())
     }
 
-    /// The pools under a pool, without itself, each before all that run before it.
-    pub(super) fn pools_under(&self, pool: PoolId) -> Result<Vec<PoolId>, AllocError>
+    /// The pools under a pool, without itself: read from the last on, in the order in which a clear of it hands them on. It looks at no other pool.
+    pub fn pools_under(&self, pool: PoolId) -> Result<Vec<PoolId>, AllocError>
         ensures { IfOk result (λ found. reverse found.items ≡ order_under (map_of self.now) pool) }
     {
         let mut found = Vec::new(self.alloc);

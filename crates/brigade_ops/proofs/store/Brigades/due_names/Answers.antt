@@ -58,4 +58,4 @@ returns-clause-all g c id due =
     let here = bucket_found store id b x parts.2 parts.3 in
     let is = under_one reached (noted store.held.dependents) id x (all_found (is_noted (noted store.held.dependents)) id x _ (store.held.indexed b) here) parts.4 in
     let named : is_named id (names_of store.held.dependents is.0) ≡ true = ap (λ (l : Bool). l || is_named id (names_of store.held.dependents is.0)) (sym c.requires.noted) ∙ is.2 in
-    c.loop-name.invariant.all is.0 id (ap (is_in is.0) (take_all c.loop-name.name-index pools c.loop-name-test.false) ∙ c.requires.reached is.0 id is.1 named) named due
+    c.loop-name.invariant.all is.0 id (ap (is_in is.0) (take_all c.loop-name.name-index pools c.loop-name-test.false) ∙ c.requires.reached is.0 is.1) named due
