@@ -229,10 +229,6 @@ nothing_given : (d e : Device) (k : ℕ) (rs : Reads) → e ≡ d → ReadsGiven
 unfolding ReadsGiven
 nothing_given d e k rs same = same
 
-pub first_length : (id : BucketId) (x : Bucket) (ys : Items) → length_in (named ((id, x) ∷ ys)) ≡ length_of x.content + length_in (named ys)
-unfolding length_in
-first_length id x ys = refl
-
 -- The buckets before a place were taken.
 pub record ItemsSoFar (d : Device) (xs left : Items) (front : List ℕ) : Type 0 where
   pub reads : List (Option (List ℕ))
