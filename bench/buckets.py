@@ -15,10 +15,12 @@ import time
 TOP = os.path.dirname(os.path.dirname(os.path.abspath(__file__)))
 PROGRAM = sys.argv[1] if len(sys.argv) > 1 else os.path.join(TOP, 'crates', 'host_cli', 'out', 'host_cli')
 
-SIZES = (10, 1_000, 10_000)
+SIZES = (10, 1_000, 10_000, 100_000)
 KEPT = (0, 1_000, 64_000)
 ENOUGH = .1                              # seconds that a loop is to take
 MOST_ROUNDS = 1_000_000
+
+TEN = ' / '.join(['poolb c2 p0 / tail b2 c2'] * 10)
 
 # What is measured: its name, and code that leaves everything as it was. c1 is the first bucket of b0, which has one byte.
 STEPS = [
@@ -31,6 +33,8 @@ STEPS = [
     ('copy, bdelete', 'copy c2 c1 / bdelete c2'),
     ('split, next, bdelete', 'split c1 1 bad / next c2 c1 / bdelete c2'),
     ('read, get', 'read c1 bad / get n2 0 bad'),
+    ('10 of poolb, tail; bclean', '%s / bclean b2' % TEN),
+    ('10 of poolb, tail; pclear, bclean', '%s / pclear p0 / bclean b2' % TEN),
 ]
 
 
@@ -41,7 +45,8 @@ def lines(code):
 def script(setup, code, rounds, calls=0):
     """A script whose first brought brigade runs `setup` and then `code` so many times; later ones return at once."""
     loop = ':round\n%sadd n1 1\njlt n1 %d round\n' % (lines(code), rounds) if rounds else ''
-    module = ('module 1\nbrigade b0 conn\nbrigade b1 conn\nopen\nbcreate b0\nbcreate b1\nret ok\ninit\nret ok\nmain\njeq n7 1 done\n'
+    module = ('module 1\npool p0 conn\nbrigade b0 conn\nbrigade b1 conn\nbrigade b2 conn\nopen\npcreate p0\nbcreate b0\nbcreate b1\nbcreate b2\nret ok\n'
+              'init\nret ok\nmain\njeq n7 1 done\n'
               'set n7 1\n%s%s:done\nret ok\n:bad\nret fail\nend\n' % (lines(setup), loop))
     return module + 'budget 18446744073709551615\nopen\nrun 1\nbegin 1\nrun 1\n' + 'bring 1\nrun 1\n' * (calls + 1)
 
@@ -75,7 +80,7 @@ def each(setup, code):
 
 
 def told(name, where, times):
-    print('%-30s %-20s %s' % (name, where, '  '.join('%8.0f ns (%.1f)' % (1e9 * took, took / times[0]) for took in times)))
+    print('%-34s %-20s %s' % (name, where, '  '.join('%8.0f ns (%.1f)' % (1e9 * took, took / times[0]) for took in times)))
 
 
 def steps():
@@ -89,7 +94,7 @@ def steps():
 
 def moves():
     """A brigade moved bucket by bucket, against a loop of numbers that goes round as often."""
-    for size in SIZES[1:]:
+    for size in SIZES[1:3]:
         setup = filled('b0', size, 'fill')
         move = ':move / first c1 b0 / jend c1 moved / unlink c1 / tail b1 c1 / jump move / :moved / bconcat b0 b1'
         count = 'set n3 0 / :count / add n3 1 / jlt n3 %d count' % size
