@@ -99,8 +99,8 @@ def moves():
         move = ':move / first c1 b0 / jend c1 moved / unlink c1 / tail b1 c1 / jump move / :moved / bconcat b0 b1'
         count = 'set n3 0 / :count / add n3 1 / jlt n3 %d count' % size
         one, other = each(setup, move) / size, each(setup, count) / size
-        print('a bucket of %s moved by `first jend unlink tail jump`: %.0f ns; a round of `add jlt`: %.0f ns; ratio %.1f'
-              % (format(size, ','), 1e9 * one, 1e9 * other, one / other))
+        print('a bucket of %s moved by `first jend unlink tail jump`: %.0f ns; a round of `add jlt`: %.0f ns; ratio of one instruction %.1f'
+              % (format(size, ','), 1e9 * one, 1e9 * other, one / 5 / (other / 2)))
 
 
 def returns():
