@@ -103,18 +103,21 @@ def moves():
               % (format(size, ','), 1e9 * one, 1e9 * other, one / 5 / (other / 2)))
 
 
-def returns():
-    """Calls that return at once, while so many buckets are kept."""
+PASSER = ('module 1\nopen\nret ok\ninit\nret ok\nmain\njeq n7 1 done\nset n7 1\npass in done\n:done\nret ok\nend\n')
+
+
+def returns(keeper, before):
+    """Calls that return at once, while so many buckets are kept; the keeper has the first word in what is printed."""
     first = None
     for size in KEPT:
         setup = filled('b0', size, 'fill') if size else 'set n0 0'
-        calls, base = 100, seconds(script(setup, '', 0))
+        calls, base = 100, seconds(before + script(setup, '', 0))
         took = 0
         while took < ENOUGH and calls < 100_000:
             calls *= 4
-            took = seconds(script(setup, '', 0, calls)) - base
+            took = seconds(before + script(setup, '', 0, calls)) - base
         first = first or took / calls
-        print('a call that returns while %s buckets are kept: %.1f us; ratio %.1f' % (format(size, ','), 1e6 * took / calls, took / calls / first))
+        print('a call that returns while %s keeps %s buckets: %.1f us; ratio %.1f' % (keeper, format(size, ','), 1e6 * took / calls, took / calls / first))
 
 
 class Driven:
@@ -172,7 +175,8 @@ def main():
         raise SystemExit('bench/buckets.py: there is no program %s; ./host builds the one of this repository' % PROGRAM)
     steps()
     moves()
-    returns()
+    returns('its filter', '')
+    returns('the next filter', PASSER)
     ends()
 
 
