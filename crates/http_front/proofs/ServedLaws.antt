@@ -29,7 +29,7 @@ module _ {H K : Type 0} (site : Site) (handles : H → Method → List ℕ → O
       → SoFar site handles tells old before r q w v unread n new after → WantsMore unread → Loses 8192 q p e → FailsBy site handles tells old before r p w v new after e
   far_loses old before r q p w v unread n new after kind.Read so wants none =
       far_wants site handles tells old before r p w v unread n new after (far_read site handles tells old before r q p w v unread [] unread n new after so none (sym (append-nil unread))) wants
-  far_loses old before r q p w v unread n new after kind.NoMemory so wants lost = far_loses_read site handles tells old before r q p w v unread lost.0 n new after so wants lost.1 lost.2
+  far_loses old before r q p w v unread n new after kind.NoMemory so wants lost = far_loses_read site handles tells old before r q p w v unread lost.0 n new after so wants lost.1 lost.2 lost.3
   far_loses old before r q p w v unread n new after kind.Write so wants lost = absurd lost
   far_loses old before r q p w v unread n new after kind.TooManyReads so wants lost = absurd lost
   far_loses old before r q p w v unread n new after kind.NamesSpent so wants lost = absurd lost

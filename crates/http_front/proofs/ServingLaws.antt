@@ -38,7 +38,7 @@ count_more turns t n count = ap (λ k. k + 1) count ∙ sym (length-append turns
 -- the answer that is wanted is due
 is_due : (seen left : List ℕ) (whole : Bool) → (whole ≡ true → left ≡ []) → WantsAnswer seen whole → IsDue seen left
 is_due seen left whole over (inl begins) = inl begins
-is_due seen left whole over (inr bad) = inr (bad.0, bad.1 left over)
+is_due seen left whole over (inr bad) = inr (bad.0, whole, over, bad.1)
 
 -- What a reader had left, where it is known, is what was taken and what it has.
 abbrev pub IsLeft : List ℕ → Option (List ℕ) → List ℕ → Type 0
@@ -163,9 +163,9 @@ module _ {H K : Type 0} (site : Site) (handles : H → Method → List ℕ → O
 
   -- Memory is lacking for bytes that were read.
   pub far_loses_read : (old : H) (before : K) (r q p w v : Option (List ℕ)) (unread lost : List ℕ) (n : ℕ) (new : H) (after : K)
-      → Far old before r q w v unread n new after → WantsMore unread → length lost ≤ 8192 → Consumes q p lost → Writes r w v (λ stream text. LacksMemory site handles tells old before stream text p new after)
-  far_loses_read old before None q p w v unread lost n new after so wants few took = tt
-  far_loses_read old before (Some stream) q p w v unread lost n new after so wants few took =
+      → Far old before r q w v unread n new after → WantsMore unread → ¬ (lost ≡ []) → length lost ≤ 8192 → Consumes q p lost → Writes r w v (λ stream text. LacksMemory site handles tells old before stream text p new after)
+  far_loses_read old before None q p w v unread lost n new after so wants some few took = tt
+  far_loses_read old before (Some stream) q p w v unread lost n new after so wants some few took =
       let left = left_of stream (heads_of so.turns ++ unread) q so.took in
       let rest = left_of left.0 lost p (subst (λ x. Consumes x p lost) left.1 took) in (
         texts_of so.turns,
@@ -175,6 +175,7 @@ module _ {H K : Type 0} (site : Site) (handles : H → Method → List ℕ → O
           lost = lost;
           unread = rest.0;
           n = n;
+          some = some;
           few = few;
           splits = left.2 ∙ ap (λ l. heads_of so.turns ++ unread ++ l) rest.2 ∙ sym (append_assoc (heads_of so.turns ++ unread) lost rest.0);
           responses = record { turns = so.turns; stay = so.stay; answers = so.answers; requests = refl; written = refl; count = so.count };

@@ -52,7 +52,7 @@ none_headless limit room h rest begins =
     absurd (omega (arith, some, long, both))
 
 pub none_wants : (seen : List ℕ) → seen ≡ [] → WantsMore seen
-none_wants seen none = subst WantsMore (sym none) (record { few = omega arith; headless = none_headless head_limit fields_limit })
+none_wants seen none = subst WantsMore (sym none) (record { few = omega arith; hopeful = inl refl; headless = none_headless head_limit fields_limit })
 
 -- a head that a front of the bytes begins with
 begins_wider : (limit : ℕ) (room : ℕ) (seen : List ℕ) (h : RequestHead) (size : ℕ) → size ≤ length (take limit seen)

@@ -1,6 +1,6 @@
 -- What a look at the bytes at hand finds.
 use Rattle.std.specs.Prelude.{◌≡◌, ℕ, ◌<◌, Bool, false, List, drop, length}
-use Rattle.httparse.specs.Grammar.{RequestHead}
+use Rattle.httparse.specs.Grammar.{RequestHead, MayBecomeRequest}
 use Rattle.httparse.specs.Spans.{IsRequestAt, IsRequestWithin}
 use Rattle.httparse.specs.declared.spans.HeaderSpan.{HeaderSpan}
 use Rattle.httparse.specs.declared.spans.RequestSpans.{RequestSpans}
@@ -18,5 +18,5 @@ IsFound limit seen spans r =
 abbrev pub Looks : ℕ → List ℕ → Bool → List HeaderSpan → Look → Type 0
 Looks limit seen whole spans (Head r) = IsRequestWithin seen spans r × IsFound limit seen spans r
 Looks limit seen whole spans More =
-    (whole ≡ false) × (length seen < limit) × IsHeadlessWithin limit (length spans) seen
+    (whole ≡ false) × (length seen < limit) × MayBecomeRequest seen × IsHeadlessWithin limit (length spans) seen
 Looks limit seen whole spans Headless = StaysHeadless limit (length spans) seen whole

@@ -26,7 +26,7 @@ pub record Adds (r q : Option (List ℕ)) (old new : List ℕ) (limit : ℕ) (wh
 -- why a read of so many bytes at most adds nothing: the reader failed and gave no byte, or there was no memory for what it gave
 abbrev pub Loses : ℕ → Option (List ℕ) → Option (List ℕ) → FrontKind → Type 0
 Loses limit r q kind.Read = Consumes r q []
-Loses limit r q kind.NoMemory = (bytes : List ℕ) × (length bytes ≤ limit) × Consumes r q bytes
+Loses limit r q kind.NoMemory = (bytes : List ℕ) × ¬ (bytes ≡ []) × (length bytes ≤ limit) × Consumes r q bytes
 Loses limit r q e = ⊥
 
 module _ {H K : Type 0} (site : Site) (handles : H → Method → List ℕ → Outcome → H → Type 0) (tells : K → Said → K → Type 0) where

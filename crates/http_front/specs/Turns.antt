@@ -1,10 +1,10 @@
 -- The requests of a connection, one after another, and what is answered (RFC 9112, section 9.3).
-use Rattle.std.specs.Prelude.{◌≡◌, ℕ, ◌<◌, ◌≤◌, ◌+◌, true, false, List, [], ◌∷◌, ◌++◌, Option, Some, None, ◌⊎◌, length}
+use Rattle.std.specs.Prelude.{◌≡◌, ℕ, ◌<◌, ◌≤◌, ◌+◌, Bool, true, false, List, [], ◌∷◌, ◌++◌, Option, Some, None, ◌⊎◌, length}
 use Rattle.std.specs.List.{flat_map}
-use Rattle.httparse.specs.Grammar.{RequestHead, IsRequestHead, print_request}
+use Rattle.httparse.specs.Grammar.{RequestHead, IsRequestHead, MayBecomeRequest, print_request}
 use Rattle.http_front.specs.Asking.{refusal}
 use Rattle.http_front.specs.Clocks.{Said, Moment, IsNoted}
-use Rattle.http_front.specs.Heads.{BeginsWithin, IsHeadlessWithin}
+use Rattle.http_front.specs.Heads.{BeginsWithin, IsHeadlessWithin, StaysHeadless}
 use Rattle.http_front.specs.Outcomes.{file_of, method_of, IsBare, IsReplyTo, IsBadReply}
 use Rattle.http_front.specs.Replying.{reply_text, IsDateLine}
 use Rattle.http_front.specs.declared.handler.Outcome.{Outcome}
@@ -21,17 +21,19 @@ head_limit = 8192
 abbrev pub fields_limit : ℕ
 fields_limit = 64
 
--- Bytes that want more: they begin with no head within the limits, and are fewer than a head may have.
+-- Bytes that want more: others behind them may make them a head (or they end inside its target), if there are any; they begin with no head within
+-- the limits yet, and are fewer than a head may have.
 pub record WantsMore (seen : List ℕ) : Type 0 where
   pub few : length seen < head_limit
+  pub hopeful : (seen ≡ []) ⊎ MayBecomeRequest seen
   pub headless : IsHeadlessWithin head_limit fields_limit seen
 
--- An answer to the bytes that were read is due: they begin with a head, or they begin with none, with what is left behind them. left: what the
--- reader has left.
+-- An answer to the bytes that were read is due: they begin with a head; or they never will, whatever follows, or since nothing follows. left: what
+-- the reader has left.
 abbrev pub IsDue : List ℕ → List ℕ → Type 0
 IsDue seen left =
     ((h : RequestHead) × (rest : List ℕ) × BeginsWithin head_limit fields_limit seen h rest)
-    ⊎ (¬ (seen ≡ []) × IsHeadlessWithin head_limit fields_limit (seen ++ left))
+    ⊎ (¬ (seen ≡ []) × (whole : Bool) × (whole ≡ true → left ≡ []) × StaysHeadless head_limit fields_limit seen whole)
 
 -- A request and its response: the head, the reply, and the Date line.
 pub record Turn : Type 0 where
@@ -103,7 +105,7 @@ module _ {H K : Type 0} (site : Site) (handles : H → Method → List ℕ → O
     pub noted : IsNoted tells then [] [] reply after
     pub written : text ≡ reply_text reply date
 
-  -- The stream ends with the last of these requests; or the last of them closes, and what follows is not read; or what follows begins
+  -- The stream ends with the last of these requests; or the last of them closes, and what follows is not served; or what follows begins
   -- with no head.
   pub record EndsAll (old : H) (before : K) (stream text : List ℕ) (n : ℕ) (new : H) (after : K) : Type 0 where
     pub turns : List Turn
@@ -189,6 +191,7 @@ module _ {H K : Type 0} (site : Site) (handles : H → Method → List ℕ → O
     pub lost : List ℕ
     pub unread : List ℕ
     pub n : ℕ
+    pub some : ¬ (lost ≡ [])
     pub few : length lost ≤ 8192
     pub splits : stream ≡ first ++ seen ++ lost ++ unread
     pub responses : EndsAll old before first text n new after
