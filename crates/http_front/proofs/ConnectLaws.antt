@@ -1,5 +1,5 @@
 -- A connection of the host, from its opening to its close.
-use Rattle.std.proofs.Common.{◌≡◌, ℕ, ◌⊎◌, inl, inr, List, [], ◌++◌, Option, Some, None, Result, Ok, Err, IfOk, IfErr, IfSome, refl, sym, subst}
+use Rattle.std.proofs.Common.{◌≡◌, ℕ, inl, inr, List, [], Option, Some, None, Result, Ok, Err, IfOk, IfErr, IfSome, refl, sym, subst}
 use Rattle.std.proofs.KnownBytes.{Appends-nil}
 use Rattle.std.specs.Io.KnownBytes.{Appends}
 use Rattle.run_model.specs.declared.event.Event.TheVariants as event
@@ -10,7 +10,7 @@ use Rattle.filter_chain.specs.declared.host.Host.{Host}
 use Rattle.filter_chain.specs.Scenes.{Acts}
 use Rattle.http_front.specs.Clocks.{Said}
 use Rattle.http_front.specs.Connecting.{FailsAt, FallsBy, IsClosed, IsOpened, ServesAll, kind_of, outcome_of}
-use Rattle.http_front.specs.Driven.{Handles, IsAlive, Leads}
+use Rattle.http_front.specs.Driven.{Beside, Handles, IsAlive, Leads}
 use Rattle.http_front.specs.Requests.{Runs}
 use Rattle.http_front.specs.Serving.{FailsBy, Writes}
 use Rattle.http_front.specs.Turns.{LacksMemory, Responses}
@@ -69,7 +69,7 @@ module _ {F K : Type 0} (device : F → Device) (tells : K → Said → K → Ty
     still = refl;
   }
 
-  module _ (number : ℕ) (opened served new : Host F) (after : K) (opens : Leads device old opened (λ b c s t. IsOpened b c number s t)) (alive : IsAlive device served) where
+  module _ (number : ℕ) (opened served new : Host F) (after : K) (opens : Leads device old opened (λ b c s t. IsOpened b c number s t)) (alive : IsAlive device served) (beside : Beside device opened number served) where
     -- what serving the open connection comes to
     abbrev AllSo : Option (List ℕ) → Served → Type 0
     AllSo read s = IfSome read (λ stream. (text : List ℕ) × Responses site (λ o. Handles device o number) tells opened before stream text s.requests served after × Appends was is text)
@@ -84,7 +84,7 @@ module _ {F K : Type 0} (device : F → Device) (tells : K → Said → K → Ty
     by_ok None (Ok s) None closes all = tt
     by_ok (Some stream) (Ok s) None closes (text, all, written) = record {
       text = text;
-      connects = record { number = number; opened = opened; served = served; opens = opens; done = all; alive = alive; closes = closes };
+      connects = record { number = number; opened = opened; served = served; opens = opens; done = all; alive = alive; beside = beside; closes = closes };
       written = written;
     }
 
@@ -94,13 +94,13 @@ module _ {F K : Type 0} (device : F → Device) (tells : K → Said → K → Ty
     by_err None (Ok s) (Some n) closes all front = tt
     by_err (Some stream) (Ok s) (Some n) closes (text, all, written) front = inr record {
       text = text;
-      connects = record { number = number; opened = opened; served = served; opens = opens; done = front_whole site (λ o. Handles device o number) tells opened before stream text unread n s.requests served after all; alive = alive; closes = closes };
+      connects = record { number = number; opened = opened; served = served; opens = opens; done = front_whole site (λ o. Handles device o number) tells opened before stream text unread n s.requests served after all; alive = alive; beside = beside; closes = closes };
       written = written;
     }
     by_err None (Err k) left closes all front = tt
     by_err (Some stream) (Err k) left closes all (text, some, written) = inr record {
       text = text;
-      connects = record { number = number; opened = opened; served = served; opens = opens; done = some; alive = alive; closes = closes };
+      connects = record { number = number; opened = opened; served = served; opens = opens; done = some; alive = alive; beside = beside; closes = closes };
       written = written;
     }
 

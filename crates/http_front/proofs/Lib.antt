@@ -13,3 +13,4 @@ pub mod ServedLaws
 pub mod Rows
 pub mod Parts
 pub mod FeedRows
+pub mod Beside

@@ -10,7 +10,7 @@ use Rattle.bucket_kinds.specs.Device.{Device}
 use Rattle.filter_chain.specs.declared.host.Host.{Host}
 use Rattle.filter_chain.specs.Scenes.{Scene, Acts}
 use Rattle.http_front.specs.Clocks.{Said}
-use Rattle.http_front.specs.Driven.{IsAlive, Leads, Handles}
+use Rattle.http_front.specs.Driven.{Beside, IsAlive, Leads, Handles}
 use Rattle.http_front.specs.Requests.{Runs}
 use Rattle.http_front.specs.Turns.{AnswersRead, IsCut, LacksAt, LacksMemory, Responses}
 use Rattle.http_front.specs.declared.fault.FrontFault.{FrontFault}
@@ -60,7 +60,8 @@ module _ {H K : Type 0} (site : Site) (handles : H → Method → List ℕ → O
       ⊎ (¬ (left ≡ None) × (n : ℕ) × Responses site handles tells old before stream text n new after)
 
 module _ {F K : Type 0} (device : F → Device) (tells : K → Said → K → Type 0) (site : Site) where
-  -- A connection is opened, its requests are served so, and it is closed, or left. old, opened, served, new: the host before and after each.
+  -- A connection is opened, its requests are served so, and it is closed, or left. old, opened, served, new: the host before and after each. However
+  -- serving ends, nothing happens to the host between but events of this connection.
   pub record Connects (old new : Host F) (left : Option ℕ) (serves : ℕ → Host F → Host F → Type 0) : Type 0 where
     pub number : ℕ
     pub opened : Host F
@@ -68,6 +69,7 @@ module _ {F K : Type 0} (device : F → Device) (tells : K → Said → K → Ty
     pub opens : Leads device old opened (λ b c s t. IsOpened b c number s t)
     pub done : serves number opened served
     pub alive : IsAlive device served
+    pub beside : Beside device opened number served
     pub closes : Leads device served new (λ b c s t. IsClosed b c number left s t)
 
   -- All of the stream is served, and the responses are written.

@@ -69,6 +69,7 @@ fn path_outcome<H: Handler>(
 ) -> Result<Outcome, FrontKind>
     requires { H.is_open handler.old number }
     ensures open { H.is_open handler.new number }
+    ensures beside { (from : H) → H.beside from number handler.old → H.beside from number handler.new }
     ensures ok { IfOk result (λ o. (h : RequestHead) → method ≡ method_of h.method
         → ComesTo site.now (λ old. H.handles old number) (route_of site.now (percent_decode sent.now)) handler.old h o handler.new) }
     ensures err { IfErr result IsLack }
@@ -90,6 +91,7 @@ fn target_outcome<H: Handler>(
 ) -> Result<Outcome, FrontKind>
     requires { H.is_open handler.old number }
     ensures open { H.is_open handler.new number }
+    ensures beside { (from : H) → H.beside from number handler.old → H.beside from number handler.new }
     ensures ok { IfOk result (λ o. (h : RequestHead) → method ≡ method_of h.method → target.now ≡ h.target
         → ComesTo site.now (λ old. H.handles old number) (file_of site.now h) handler.old h o handler.new) }
     ensures err { IfErr result IsLack }
@@ -112,6 +114,7 @@ fn outcome_of<H: Handler>(
     requires within { IsRequestWithin seen.now spans.now head }
     requires open { H.is_open handler.old number }
     ensures open { H.is_open handler.new number }
+    ensures beside { (from : H) → H.beside from number handler.old → H.beside from number handler.new }
     ensures ok { IfOk result (λ o. (h : RequestHead) → IsRequestAt seen.now spans.now head h
         → ComesUnless site.now (λ old. H.handles old number) (refusal h) handler.old h o handler.new) }
     ensures err { IfErr result IsLack }
@@ -139,6 +142,7 @@ pub(crate) fn reply_to<H: Handler>(
     requires within { IsRequestWithin seen.now spans.now head }
     requires open { H.is_open handler.old number }
     ensures open { H.is_open handler.new number }
+    ensures beside { (from : H) → H.beside from number handler.old → H.beside from number handler.new }
     ensures ok { IfOk result (λ r. (h : RequestHead) → IsRequestAt seen.now spans.now head h
         → IsReplied site.now (λ old. H.handles old number) handler.old h r handler.new) }
     ensures err { IfErr result IsLack }

@@ -4,7 +4,7 @@ ghost use Rattle.std.specs.Prelude.{◌≡◌, ◌↔◌, ℕ, List, [], ◌∷�
 ghost use Rattle.module_lang.specs.Program.{Program};
 ghost use Rattle.run_model.specs.declared.event.Piece.TheVariants.{File};
 ghost use Rattle.filter_chain.specs.Scenes.{Scene};
-ghost use Rattle.http_front.specs.Driven.{IsAlive, Leads};
+ghost use Rattle.http_front.specs.Driven.{Beside, IsAlive, Leads};
 ghost use Rattle.http_front.specs.Outcomes.{IsLack};
 ghost use Rattle.http_front.specs.Requests.{Brings, BringsAll, IfSucceeded, brigades_for, brigades_of, last_brigade, piece_bytes};
 
@@ -49,6 +49,7 @@ fn bring_whole<F: Files + Drop>(
 ) -> Result<Ended, FrontKind>
     requires { IsAlive F.device host.old }
     ensures leads { Leads F.device host.old host.new (λ (b : ℕ) (c : List Program) (s t : Scene). IfOk result (λ how. Brings b c number (File file start piece_bytes ∷ []) s how t)) }
+    ensures beside { (from : Host F) → Beside F.device from number host.old → Beside F.device from number host.new }
     ensures err { IfErr result IsLack }
 {
     match whole_brigade(alloc, file, start) {
@@ -67,6 +68,7 @@ fn bring_last<F: Files + Drop>(
 ) -> Result<Ended, FrontKind>
     requires { IsAlive F.device host.old }
     ensures leads { Leads F.device host.old host.new (λ (b : ℕ) (c : List Program) (s t : Scene). IfOk result (λ how. Brings b c number (last_brigade file start len) s how t)) }
+    ensures beside { (from : Host F) → Beside F.device from number host.old → Beside F.device from number host.new }
     ensures err { IfErr result IsLack }
 {
     match last_brigade(alloc, file, start, len) {
@@ -91,6 +93,7 @@ fn bring_file<F: Files + Drop>(
 ) -> Result<Ended, FrontKind>
     requires { IsAlive F.device host.old }
     ensures leads { Leads F.device host.old host.new (λ (b : ℕ) (c : List Program) (s t : Scene). IfOk result (λ how. BringsAll b c number (brigades_of file len) s how t)) }
+    ensures beside { (from : Host F) → Beside F.device from number host.old → Beside F.device from number host.new }
     ensures err { IfErr result IsLack }
 {
     let mut start = 0;
@@ -116,6 +119,7 @@ fn feed_method<F: Files + Drop>(
 ) -> Result<Ended, FrontKind>
     requires { IsAlive F.device host.old }
     ensures leads { Leads F.device host.old host.new (λ (b : ℕ) (c : List Program) (s t : Scene). IfOk result (λ how. BringsAll b c number (brigades_for method file) s how t)) }
+    ensures beside { (from : Host F) → Beside F.device from number host.old → Beside F.device from number host.new }
     ensures err { IfErr result IsLack }
 {
     match method {
@@ -136,6 +140,7 @@ pub(crate) fn feed<F: Files + Drop>(
 ) -> Result<Ended, FrontKind>
     requires { IsAlive F.device host.old }
     ensures leads { Leads F.device host.old host.new (λ (b : ℕ) (c : List Program) (s t : Scene). IfOk result (λ how. IfSucceeded init (BringsAll b c number (brigades_for method file) s how t) ((how ≡ init) × (t ≡ s)))) }
+    ensures beside { (from : Host F) → Beside F.device from number host.old → Beside F.device from number host.new }
     ensures err { IfErr result IsLack }
 {
     match init {

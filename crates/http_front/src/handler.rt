@@ -32,6 +32,9 @@ pub trait Handler {
     // From the first state, a request for this file comes to this outcome, and leaves the second state.
     ghost handles: { Self → ℕ → Method → List ℕ → Outcome → Self → Type 0 };
 
+    // Nothing happened from the first state to the second but what belongs to the connection of this number.
+    ghost beside: { Self → ℕ → Self → Type 0 };
+
     /// Handles a request for a file. `NoMemory` and `NamesSpent` leave the request without an outcome.
     fn handle(
         &mut self,
@@ -43,6 +46,7 @@ pub trait Handler {
         requires { is_open self.old number }
         ensures ok { IfOk result (λ o. handles self.old number method file.now o self.new) }
         ensures open { is_open self.new number }
+        ensures beside { (from : Self) → beside from number self.old → beside from number self.new }
         ensures err { IfErr result IsLack };
 
     /// Gives back the content of an outcome, which has gone out, so that its room is used again. It changes nothing.

@@ -3,7 +3,7 @@
 ghost use Rattle.std.specs.Prelude.{◌≡◌, ℕ, List, IfOk, IfErr};
 ghost use Rattle.module_lang.specs.Program.{Program};
 ghost use Rattle.filter_chain.specs.Scenes.{Scene};
-ghost use Rattle.http_front.specs.Driven.{IsAlive, Leads};
+ghost use Rattle.http_front.specs.Driven.{Beside, IsAlive, Leads};
 ghost use Rattle.http_front.specs.Outcomes.{IsLack, IsUnserved};
 ghost use Rattle.http_front.specs.Requests.{ComesOf, EndsBare, EndsWithOutput, Feeds, Finishes, Inits, Opens, OpensUnless, TakesOutput, unopened};
 
@@ -45,7 +45,8 @@ fn unopened(refusal: Refusal) -> Option<Failure>
 /// Takes the output.
 fn output<F: Files + Drop>(alloc: Global, host: &mut Host<F>, number: u64) -> Outcome
     requires { IsAlive F.device host.old }
-    ensures { Leads F.device host.old host.new (λ (b : ℕ) (c : List Program) (s t : Scene). TakesOutput b c number s result t) }
+    ensures leads { Leads F.device host.old host.new (λ (b : ℕ) (c : List Program) (s t : Scene). TakesOutput b c number s result t) }
+    ensures beside { (from : Host F) → Beside F.device from number host.old → Beside F.device from number host.new }
 {
     match host.take_output(number) {
         Ok(body) => Outcome {
@@ -65,6 +66,7 @@ fn finish_with_output<F: Files + Drop>(
 ) -> Result<Outcome, FrontKind>
     requires { IsAlive F.device host.old }
     ensures leads { Leads F.device host.old host.new (λ (b : ℕ) (c : List Program) (s t : Scene). IfOk result (λ o. EndsWithOutput b c number s o t)) }
+    ensures beside { (from : Host F) → Beside F.device from number host.old → Beside F.device from number host.new }
     ensures err { IfErr result IsLack }
 {
     let outcome = output(alloc, host, number);
@@ -81,6 +83,7 @@ fn finish_bare<F: Files + Drop>(
 ) -> Result<Outcome, FrontKind>
     requires { IsAlive F.device host.old }
     ensures leads { Leads F.device host.old host.new (λ (b : ℕ) (c : List Program) (s t : Scene). IfOk result (λ o. EndsBare b c number failure s o t)) }
+    ensures beside { (from : Host F) → Beside F.device from number host.old → Beside F.device from number host.new }
     ensures err { IfErr result IsLack }
 {
     end_request(host, number)?;
@@ -96,6 +99,7 @@ fn finish<F: Files + Drop>(
 ) -> Result<Outcome, FrontKind>
     requires { IsAlive F.device host.old }
     ensures leads { Leads F.device host.old host.new (λ (b : ℕ) (c : List Program) (s t : Scene). IfOk result (λ o. Finishes b c number how s o t)) }
+    ensures beside { (from : Host F) → Beside F.device from number host.old → Beside F.device from number host.new }
     ensures err { IfErr result IsLack }
 {
     match how {
@@ -116,6 +120,7 @@ fn feed_opened<F: Files + Drop>(
 ) -> Result<Outcome, FrontKind>
     requires { IsAlive F.device host.old }
     ensures leads { Leads F.device host.old host.new (λ (b : ℕ) (c : List Program) (s t : Scene). IfOk result (λ o. Feeds b c number init method file s o t)) }
+    ensures beside { (from : Host F) → Beside F.device from number host.old → Beside F.device from number host.new }
     ensures err { IfErr result IsLack }
 {
     let how = feed(alloc, host, number, init, method, file)?;
@@ -133,6 +138,7 @@ fn open_and_feed<F: Files + Drop>(
 ) -> Result<Outcome, FrontKind>
     requires { IsAlive F.device host.old }
     ensures leads { Leads F.device host.old host.new (λ (b : ℕ) (c : List Program) (s t : Scene). IfOk result (λ o. Opens b c number init method file.now s o t)) }
+    ensures beside { (from : Host F) → Beside F.device from number host.old → Beside F.device from number host.new }
     ensures err { IfErr result IsLack }
 {
     match host.open_file(number, file) {
@@ -155,6 +161,7 @@ fn go_on<F: Files + Drop>(
 ) -> Result<Outcome, FrontKind>
     requires { IsAlive F.device host.old }
     ensures leads { Leads F.device host.old host.new (λ (b : ℕ) (c : List Program) (s t : Scene). IfOk result (λ o. OpensUnless b c number init method file.now s o t)) }
+    ensures beside { (from : Host F) → Beside F.device from number host.old → Beside F.device from number host.new }
     ensures err { IfErr result IsLack }
 {
     match init {
@@ -174,6 +181,7 @@ fn init_and_go_on<F: Files + Drop>(
 ) -> Result<Outcome, FrontKind>
     requires { IsAlive F.device host.old }
     ensures leads { Leads F.device host.old host.new (λ (b : ℕ) (c : List Program) (s t : Scene). IfOk result (λ o. Inits b c number method file.now s o t)) }
+    ensures beside { (from : Host F) → Beside F.device from number host.old → Beside F.device from number host.new }
     ensures err { IfErr result IsLack }
 {
     let init = run_call(host, number);
@@ -190,6 +198,7 @@ fn request<F: Files + Drop>(
 ) -> Result<Outcome, FrontKind>
     requires { IsAlive F.device host.old }
     ensures leads { Leads F.device host.old host.new (λ (b : ℕ) (c : List Program) (s t : Scene). IfOk result (λ o. ComesOf b c number method file.now s o t)) }
+    ensures beside { (from : Host F) → Beside F.device from number host.old → Beside F.device from number host.new }
     ensures err { IfErr result IsLack }
 {
     match host.begin(number) {
@@ -202,9 +211,11 @@ fn request<F: Files + Drop>(
 }
 
 impl<F: Files + Drop> Handler for Host<F> {
-    ghost use Rattle.http_front.specs.Driven.{IsAlive, Handles};
+    ghost use Rattle.http_front.specs.Driven.{Beside, IsAlive, Handles};
 
     ghost is_open = { λ host number. IsAlive F.device host };
+
+    ghost beside = { λ old number new. Beside F.device old number new };
 
     ghost handles = { λ old number method file o new. Handles F.device old number method file o new };
 

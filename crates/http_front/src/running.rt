@@ -3,7 +3,7 @@
 ghost use Rattle.std.specs.Prelude.{◌≡◌, ℕ, List, IfOk, IfErr, OnOk, None};
 ghost use Rattle.module_lang.specs.Program.{Program};
 ghost use Rattle.filter_chain.specs.Scenes.{Scene};
-ghost use Rattle.http_front.specs.Driven.{IsAlive, Leads};
+ghost use Rattle.http_front.specs.Driven.{Beside, IsAlive, Leads};
 ghost use Rattle.http_front.specs.Outcomes.{IsLack};
 ghost use Rattle.http_front.specs.Requests.{Brings, EndsRequest, Runs, ended_of, lack_of};
 
@@ -51,7 +51,8 @@ fn how_ended(answer: Result<Stepped, Refusal>) -> Ended
 /// Makes steps until one answers something else than that it went.
 pub(crate) fn run_call<F: Files + Drop>(host: &mut Host<F>, number: u64) -> Ended
     requires { IsAlive F.device host.old }
-    ensures { Leads F.device host.old host.new (λ (b : ℕ) (c : List Program) (s t : Scene). Runs b c number s result t) }
+    ensures leads { Leads F.device host.old host.new (λ (b : ℕ) (c : List Program) (s t : Scene). Runs b c number s result t) }
+    ensures beside { (from : Host F) → Beside F.device from number host.old → Beside F.device from number host.new }
 {
     how_ended(host.run(number))
 }
@@ -64,6 +65,7 @@ pub(crate) fn bring<F: Files + Drop>(
 ) -> Result<Ended, FrontKind>
     requires { IsAlive F.device host.old }
     ensures leads { Leads F.device host.old host.new (λ (b : ℕ) (c : List Program) (s t : Scene). IfOk result (λ how. Brings b c number pieces s how t)) }
+    ensures beside { (from : Host F) → Beside F.device from number host.old → Beside F.device from number host.new }
     ensures err { IfErr result IsLack }
 {
     match host.bring(number, pieces) {
@@ -79,6 +81,7 @@ pub(crate) fn bring<F: Files + Drop>(
 pub(crate) fn end_request<F: Files + Drop>(host: &mut Host<F>, number: u64) -> Result<(), FrontKind>
     requires { IsAlive F.device host.old }
     ensures leads { Leads F.device host.old host.new (λ (b : ℕ) (c : List Program) (s t : Scene). OnOk result (EndsRequest b c number s t)) }
+    ensures beside { (from : Host F) → Beside F.device from number host.old → Beside F.device from number host.new }
     ensures err { IfErr result IsLack }
 {
     match host.end_request(number) {

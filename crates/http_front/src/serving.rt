@@ -102,6 +102,7 @@ fn answer_next<W: Write, H: Handler, K: Clock>(
     requires open { H.is_open handler.old number }
     requires few { so_far.old.requests + length (unread so_far.old.inbox) < 2 ^ 63 }
     ensures open { H.is_open handler.new number }
+    ensures beside { (from : H) → H.beside from number handler.old → H.beside from number handler.new }
     ensures few { so_far.new.requests + length (unread so_far.new.inbox) ≤ so_far.old.requests + length (unread so_far.old.inbox) }
     ensures whole { so_far.new.whole ≡ so_far.old.whole }
     ensures less { result ≡ Ok Next.Again → length (unread so_far.new.inbox) < length (unread so_far.old.inbox) }
@@ -151,6 +152,7 @@ fn answer_all<W: Write, H: Handler, K: Clock>(
     requires open { H.is_open handler.old number }
     requires few { so_far.old.requests + length (unread so_far.old.inbox) < 2 ^ 63 }
     ensures open { H.is_open handler.new number }
+    ensures beside { (from : H) → H.beside from number handler.old → H.beside from number handler.new }
     ensures few { so_far.new.requests + length (unread so_far.new.inbox) ≤ so_far.old.requests + length (unread so_far.old.inbox) }
     ensures whole { so_far.new.whole ≡ so_far.old.whole }
     ensures stops { result ≢ Ok Next.Again }
@@ -204,6 +206,7 @@ pub(crate) fn serve_open<R: Read, W: Write, H: Handler, K: Clock>(
 ) -> Result<Served, FrontKind>
     requires { H.is_open handler.old number }
     ensures open { H.is_open handler.new number }
+    ensures beside { (from : H) → H.beside from number handler.old → H.beside from number handler.new }
     ensures ok { IfOk result (λ s. EndsWell site.now (λ h. H.handles h number) K.tells handler.old clock.old (R.remaining reader.old) (W.contents writer.old) (W.contents writer.new) s.requests handler.new clock.new) }
     ensures err { IfErr result (λ e. FailsBy site.now (λ h. H.handles h number) K.tells handler.old clock.old (R.remaining reader.old) (R.remaining reader.new) (W.contents writer.old) (W.contents writer.new) handler.new clock.new e) }
 {

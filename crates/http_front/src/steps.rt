@@ -55,6 +55,7 @@ fn answer_head<H: Handler, K: Clock>(
     requires room { length spans.now ≡ fields_limit }
     requires open { H.is_open handler.old number }
     ensures open { H.is_open handler.new number }
+    ensures beside { (from : H) → H.beside from number handler.old → H.beside from number handler.new }
     ensures ok { IfOk result (λ s. (whole : Bool) → Steps site.now (λ old. H.handles old number) K.tells handler.old clock.old seen.now whole s (text_of text.new) handler.new clock.new) }
     ensures err { IfErr result IsLack }
 {
@@ -85,6 +86,7 @@ fn step_within<H: Handler, K: Clock>(
     requires room { length spans.old ≡ fields_limit }
     requires open { H.is_open handler.old number }
     ensures open { H.is_open handler.new number }
+    ensures beside { (from : H) → H.beside from number handler.old → H.beside from number handler.new }
     ensures ok { IfOk result (λ s. Steps site.now (λ old. H.handles old number) K.tells handler.old clock.old seen.now whole s (text_of text.new) handler.new clock.new) }
     ensures err { IfErr result (λ e. IsLack e × WantsAnswer seen.now whole) }
 {
@@ -145,6 +147,7 @@ pub fn take_step<H: Handler, K: Clock>(
 ) -> Result<Step, FrontKind>
     requires { H.is_open handler.old number }
     ensures open { H.is_open handler.new number }
+    ensures beside { (from : H) → H.beside from number handler.old → H.beside from number handler.new }
     ensures ok { IfOk result (λ s. Steps site.now (λ old. H.handles old number) K.tells handler.old clock.old seen.now whole s (text_of text.new) handler.new clock.new) }
     ensures err { IfErr result (λ e. IsLack e × WantsAnswer seen.now whole) }
 {

@@ -1,3 +1,4 @@
+use Rattle.http_front.proofs.Beside.{beside_event}
 use Rattle.http_front.proofs.RequestLaws.{begun, begin_refused}
 use Rattle.http_front.proofs.requests.request.Goals as goal
 
@@ -8,3 +9,12 @@ returns-in-Ok-clause-leads g c =
 pub returns-in_ok-unless_lack-in-Err-clause-leads : goal.returns-in_ok-unless_lack-in-Err-clause-leads
 returns-in_ok-unless_lack-in-Err-clause-leads g c =
     begin_refused g.F.Files.device c.args.number c.args.host.now c.begin.new.self c.args.method c.args.file.now c.in-Err.refusal c.bare.result c.in_ok-unless_lack-in-Err.ensures.ok c.bare.ensures c.in-Err.ensures.event
+
+pub returns-in-Ok-clause-beside : goal.returns-in-Ok-clause-beside
+returns-in-Ok-clause-beside g c from so = c.init_and_go_on.ensures.beside from (beside_event g.F.Files.device c.args.number from c.args.host.now c.begin.new.self so _ _ c.in-Ok.ensures.event)
+
+pub returns-in_err-unless_lack-in-Err-clause-beside : goal.returns-in_err-unless_lack-in-Err-clause-beside
+returns-in_err-unless_lack-in-Err-clause-beside g c from so = beside_event g.F.Files.device c.args.number from c.args.host.now c.begin.new.self so _ _ c.in-Err.ensures.event
+
+pub returns-in_ok-unless_lack-in-Err-clause-beside : goal.returns-in_ok-unless_lack-in-Err-clause-beside
+returns-in_ok-unless_lack-in-Err-clause-beside g c from so = beside_event g.F.Files.device c.args.number from c.args.host.now c.begin.new.self so _ _ c.in-Err.ensures.event

@@ -12,6 +12,7 @@ returns-in_err-answer_next-clause-goes g c old before r q w ends so =
 pub loop-preserved : goal.loop-preserved
 loop-preserved g c = record {
   opened = c.answer_next.ensures.open;
+  beside = λ from so. c.answer_next.ensures.beside from (c.loop.invariant.beside from so);
   few = let one = c.answer_next.ensures.few in let all = c.loop.invariant.few in omega (arith, one, all);
   whole = c.answer_next.ensures.whole ∙ c.loop.invariant.whole;
   goes = λ old before r q w ends so.

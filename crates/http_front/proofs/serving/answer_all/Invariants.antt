@@ -8,6 +8,7 @@ use Rattle.http_front.proofs.serving.answer_all.Given as goal
 abbrev pub invariant-loop : goal.invariant-loop
 invariant-loop g l = record {
   opened : g.H.Handler.is_open l.handler l.fn.number;
+  beside : (from : g.row.H.Denot) → g.H.Handler.beside from l.fn.number l.fn.handler → g.H.Handler.beside from l.fn.number l.handler;
   few : l.so_far.requests + length (unread l.so_far.inbox) ≤ l.fn.so_far.requests + length (unread l.fn.so_far.inbox);
   whole : l.so_far.whole ≡ l.fn.so_far.whole;
   goes : (old : g.row.H.Denot) (before : g.row.K.Denot) (r q w : Option (List ℕ)) → (l.fn.so_far.whole ≡ true → IsAtEnd q)

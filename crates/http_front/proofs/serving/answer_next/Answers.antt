@@ -1,4 +1,3 @@
-use Rattle.std.proofs.Common.{refl}
 use Rattle.std.proofs.lemmas.Result.{err_from_is_err_and}
 use Rattle.http_front.specs.Inboxes.{unread}
 use Rattle.http_front.specs.Stepping.{Steps}

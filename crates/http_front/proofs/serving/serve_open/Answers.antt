@@ -10,6 +10,7 @@ use Rattle.http_front.proofs.serving.serve_open.Goals as goal
 pub loop-init : goal.loop-init
 loop-init g c = record {
   opened = c.requires;
+  beside = λ from so. so;
   few = let long = ap length c.new-so_far.ensures.none in let none = c.new-so_far.ensures.requests in omega (arith, long, none);
   far = far_start _ _ _ _ _ _ _ _ _ c.new-so_far.ensures.none c.new-so_far.ensures.requests;
   wants = none_wants _ c.new-so_far.ensures.none;
@@ -54,6 +55,7 @@ loop-preserved g c =
     (far_adds _ _ _ _ _ _ _ _ _ _ _ _ _ _ _ _ _ c.loop.invariant.far adds)) in
     record {
       opened = c.answer_all.ensures.open;
+      beside = λ from so. c.answer_all.ensures.beside from (c.loop.invariant.beside from so);
       few =
           let one = c.answer_all.ensures.few in
           let all = c.loop.invariant.few in
