@@ -9,7 +9,7 @@ use Rattle.bucket_kinds.specs.Device.{Device}
 use Rattle.filter_chain.specs.declared.host.Host.{Host}
 use Rattle.filter_chain.specs.Scenes.{Acts}
 use Rattle.http_front.specs.Clocks.{Said}
-use Rattle.http_front.specs.Connecting.{FailsAt, FallsBy, IsClosed, IsOpened, ServesAll, kind_of, outcome_of}
+use Rattle.http_front.specs.Connecting.{FailsAt, FallsBy, IsClosed, IsOpened, ServesAll, Visits, kind_of, outcome_of}
 use Rattle.http_front.specs.Driven.{Beside, Handles, IsAlive, Leads}
 use Rattle.http_front.specs.Requests.{Runs}
 use Rattle.http_front.specs.Serving.{FailsBy, Writes}
@@ -114,3 +114,18 @@ module _ {F K : Type 0} (device : F → Device) (tells : K → Said → K → Ty
 
       pub served_err : IfErr r (λ e. FailsBy site (λ o. Handles device o number) tells opened before read unread was is served after e) → IfErr result (λ e. IfSome read (λ stream. FailsAt device tells site old before stream e unread was is new after))
       served_err front = subst (λ (x : Result Served FrontFault). IfErr x (λ e. IfSome read (λ stream. FailsAt device tells site old before stream e unread was is new after))) (sym same) (by_err read r left closes all (fails_so read r left front))
+
+-- Of any reader.
+module _ {F K : Type 0} (device : F → Device) (tells : K → Said → K → Type 0) (site : Site) (old : Host F) where
+  pub not_visited : (new : Host F) (e : FrontFault) (why : Refusal) → Happened device old new 0 event.Open (Refused why) → Visits device tells site old (Err e) new
+  not_visited new e why h = inl (why, by_event device old new 0 event.Open (Refused why) h)
+
+  module _ (number : ℕ) (opened served new : Host F) (opens : Leads device old opened (λ b c s t. IsOpened b c number s t)) (alive : IsAlive device served) (beside : Beside device opened number served) where
+    visits_by : (r : Result Served FrontKind) (left : Option ℕ) → Leads device served new (λ b c s t. IsClosed b c number left s t) → Visits device tells site old (outcome_of r left) new
+    visits_by (Ok s) None closes = record { number = number; opened = opened; served = served; opens = opens; done = tt; alive = alive; beside = beside; closes = closes }
+    visits_by (Ok s) (Some n) closes = inr record { number = number; opened = opened; served = served; opens = opens; done = tt; alive = alive; beside = beside; closes = closes }
+    visits_by (Err k) left closes = inr record { number = number; opened = opened; served = served; opens = opens; done = tt; alive = alive; beside = beside; closes = closes }
+
+    pub visited : (r : Result Served FrontKind) (left : Option ℕ) → Leads device served new (λ b c s t. IsClosed b c number left s t) → (result : Result Served FrontFault) → result ≡ outcome_of r left
+        → Visits device tells site old result new
+    visited r left closes result same = subst (λ (x : Result Served FrontFault). Visits device tells site old x new) (sym same) (visits_by r left closes)

@@ -72,6 +72,12 @@ module _ {F K : Type 0} (device : F → Device) (tells : K → Said → K → Ty
     pub beside : Beside device opened number served
     pub closes : Leads device served new (λ b c s t. IsClosed b c number left s t)
 
+  -- Whatever the reader gives, a connection is opened and closed, or left; or none is opened.
+  abbrev pub Visits : Host F → Result Served FrontFault → Host F → Type 0
+  Visits old (Ok s) new = Connects old new None (λ number a z. Unit {0})
+  Visits old (Err e) new =
+      ((why : Refusal) × Leads device old new (λ b c s t. Acts b c 0 event.Open s (Refused why) t)) ⊎ Connects old new e.left (λ number a z. Unit {0})
+
   -- All of the stream is served, and the responses are written.
   pub record ServesAll (old : Host F) (before : K) (stream : List ℕ) (count : ℕ) (was is : Option (List ℕ)) (new : Host F) (after : K) : Type 0 where
     pub text : List ℕ

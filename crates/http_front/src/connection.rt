@@ -5,7 +5,7 @@ ghost use Rattle.module_lang.specs.Program.{Program};
 ghost use Rattle.run_model.specs.Worlds.{Connected, Refused};
 ghost use Rattle.run_model.specs.declared.event.Event.TheVariants.{Open};
 ghost use Rattle.filter_chain.specs.Scenes.{Scene, Acts};
-ghost use Rattle.http_front.specs.Connecting.{FailsAt, IsClosed, ServesAll, kind_of, outcome_of};
+ghost use Rattle.http_front.specs.Connecting.{FailsAt, IsClosed, ServesAll, Visits, kind_of, outcome_of};
 ghost use Rattle.http_front.specs.Driven.{IsAlive, Leads};
 
 use crate::clock::Clock;
@@ -58,7 +58,8 @@ fn outcome_of(served: Result<Served, FrontKind>, left: Option<u64>) -> Result<Se
 /// `Read`, `TooManyReads` and `Write` of the reader and the writer. The connection is closed at each of them. Where that finds no memory, the
 /// fault names it (`left`), and the host can close it later; the kind is `NoMemory` then where all else went well.
 ///
-/// What is written is promised where it is known what the reader had left and what the writer holds, as of a slice and a `Vec`.
+/// Whatever reader and writer are, nothing happens to the host but the opening of one connection, events of it, and its close. What is written is promised
+/// where it is known what the reader had left and what the writer holds, as of a slice and a `Vec`.
 pub fn serve<R: Read, W: Write, F: Files + Drop, K: Clock>(
     alloc: Global,
     reader: &mut R,
@@ -69,6 +70,7 @@ pub fn serve<R: Read, W: Write, F: Files + Drop, K: Clock>(
 ) -> Result<Served, FrontFault>
     requires alive { IsAlive F.device host.old }
     ensures still { IsAlive F.device host.new }
+    ensures visits { Visits F.device K.tells site.now host.old result host.new }
     ensures ok { IfOk result (λ s. IfSome (R.remaining reader.old) (λ stream. ServesAll F.device K.tells site.now host.old clock.old stream s.requests (W.contents writer.old) (W.contents writer.new) host.new clock.new)) }
     ensures err { IfErr result (λ e. IfSome (R.remaining reader.old) (λ stream. FailsAt F.device K.tells site.now host.old clock.old stream e (R.remaining reader.new) (W.contents writer.old) (W.contents writer.new) host.new clock.new)) }
 {
