@@ -10,6 +10,6 @@ use Rattle.brigade_ops.specs.Morphs.{is_named}
 unfoldable pub names_of : Dependents → ℕ → List BucketId
 names_of deps p = option_map_or (λ names. names.ids.items) (get nat_eq deps.names p) []
 
--- whether a name is under a pool, as far as is known
+-- whether a name may be under a pool: one that is noted there, and every name where names were lost
 unfoldable pub noted : Dependents → ℕ → BucketId → Bool
 noted deps p id = deps.lost || is_named id (names_of deps p)

@@ -2,14 +2,15 @@
 use Rattle.std.specs.Prelude.{◌≡◌, ℕ, ◌+◌, Bool, true, false, ◌==◌, if◌then◌else◌, List}
 use Rattle.run_model.specs.Indexed.{upd}
 
--- what stands under a name or a number: no file, a file of which nothing is told, or a file of these bytes
+-- What stands under a name or a number: no file, a file of which nothing is told, or a file of these bytes. Under a name, `Untold` does not say
+-- either that there is such a file.
 pub data Held : Type 0 where
   Missing : Held
   Untold : Held
   Holds : List ℕ → Held
 
 -- `named` goes by a file's name, `numbered` by the number of an open file. `next` is the number that is given next. A device that may not fail
--- gives what its files hold at every opening and read.
+-- tells of no failure. Of a file of which nothing is told it may still give fewer bytes than were asked for.
 pub record Device : Type 0 where
   pub named : List ℕ → Held
   pub numbered : ℕ → Held

@@ -20,7 +20,7 @@ use Rattle.run_model.specs.Passing.{Reads}
 use Rattle.run_model.specs.State.{items_of}
 use Rattle.run_model.specs.Steps.{current}
 use Rattle.bucket_kinds.specs.Device.{Device, HasFailed, SameFolder}
-use Rattle.ring_run.specs.Delivery.{Unless, PartGiven, PartsGiven, ContentGiven, ReadsGiven}
+use Rattle.ring_run.specs.Delivery.{IfElse, PartGiven, PartsGiven, ContentGiven, ReadsGiven}
 use Rattle.ring_run.specs.Given.{MayGive}
 use Rattle.module_run.specs.Proceeding.{SameBeside, TellsReads}
 use Rattle.filter_chain.specs.Spared.{Spares}
@@ -55,7 +55,7 @@ module _ (d e : Device) where
   by_content (content.Range file start len) reads next k then given = parts (parts_of len) file start len reads next k then given
   by_content content.Nothing reads next k then given = then k given
 
-  unless : (b : Bool) (P Q : Type 0) → (P → Reads_only) → (Q → Reads_only) → Unless b P Q → Reads_only
+  unless : (b : Bool) (P Q : Type 0) → (P → Reads_only) → (Q → Reads_only) → IfElse b P Q → Reads_only
   unless true P Q p q given = p given
   unless false P Q p q given = q given
 
@@ -80,7 +80,7 @@ module _ (d e : Device) where
   tells_reads : (chain : List Program) (i : Instr) (f : Frame) (v : Linked) (reads : Reads) → TellsReads d e chain i f v reads → Spares d e v.1
   tells_reads chain (instr.Read c l) f v reads told = reads_spare v.1 (gives (content_at (spot (configuration v.0 v.1 f) c)) (reads 0) told)
   tells_reads chain (instr.Pass b l) f v reads told =
-      reads_spare v.1 (unless (is_last chain f.of) (Unless v.1.out.ended (e ≡ d) (ReadsGiven d e (items_of ((v.1.instances f.of).brigades b)) reads 0)) (e ≡ d)
+      reads_spare v.1 (unless (is_last chain f.of) (IfElse v.1.out.ended (e ≡ d) (ReadsGiven d e (items_of ((v.1.instances f.of).brigades b)) reads 0)) (e ≡ d)
       (unless v.1.out.ended (e ≡ d) (ReadsGiven d e (items_of ((v.1.instances f.of).brigades b)) reads 0) same (all_reads (items_of ((v.1.instances f.of).brigades b)) reads 0)) same told)
   tells_reads chain (instr.PClear q) f v reads told = beside v told
   tells_reads chain (instr.PDestroy q) f v reads told = beside v told

@@ -28,7 +28,7 @@ use Rattle.module_run.specs.declared.conn.Filter.{Filter}
 use Rattle.module_run.specs.declared.conn.Conn.{Conn}
 use Rattle.ring_run.specs.Around.{Around}
 use Rattle.module_run.specs.Conns.{conn_of, filter_at, top_of, IsSeenAs}
-use Rattle.ring_run.specs.Delivery.{Unless, ReadsGiven, out_of}
+use Rattle.ring_run.specs.Delivery.{IfElse, ReadsGiven, out_of}
 use Rattle.ring_run.specs.Held.{IsHeld}
 use Rattle.ring_run.specs.LeftAlone.{LeavesOthers}
 use Rattle.module_run.specs.Proceeding.{IsReady, LeftAs, Leads, MayHold}
@@ -127,7 +127,7 @@ module _ {R : Type 0} {g : Ghosts R Bucket} (chain : List Program) (b l : ℕ) (
               ∙ ap (put_as (do_pass b (configuration v.0 v.1 f)))
               (ap (λ (n : ℕ). if well then n + 1 else l) (sym (work.pc_top chain (instr.Pass b l) tree old d c v f rest ready x here)) ∙ pass_leads well b l f.pc)
 
-    module _ (reads : Reads) (given : Unless c.ended (e ≡ d) (ReadsGiven d e (items_of ((seen old around x.instance x.call).instance.brigades b)) reads 0))
+    module _ (reads : Reads) (given : IfElse c.ended (e ≡ d) (ReadsGiven d e (items_of ((seen old around x.instance x.call).instance.brigades b)) reads 0))
         (told : delivered (out_of c.out c.ended) (items_of ((seen old around x.instance x.call).instance.brigades b)) reads ≡ (out_of out ended, well))
         (numbered : e.numbered ≡ d.numbered) (last : is_last chain (top_of c) ≡ true) where
       items_are : items_of ((v.1.instances f.of).brigades b) ≡ items_of ((seen old around x.instance x.call).instance.brigades b)
@@ -179,9 +179,9 @@ module _ {R : Type 0} {g : Ghosts R Bucket} (chain : List Program) (b l : ℕ) (
       unfolding proceeds
       delivers = record {
         reads = reads;
-        told = subst (λ (t : Bool). Unless t (Unless v.1.out.ended (e ≡ d) (ReadsGiven d e (items_of ((v.1.instances f.of).brigades b)) reads 0)) (e ≡ d)) (sym last_here)
-            (subst (λ (o : Out). Unless o.ended (e ≡ d) (ReadsGiven d e (items_of ((v.1.instances f.of).brigades b)) reads 0)) (sym out_is)
-            (subst (λ (xs : List NamedBucket). Unless c.ended (e ≡ d) (ReadsGiven d e xs reads 0)) (sym items_are) given));
+        told = subst (λ (t : Bool). IfElse t (IfElse v.1.out.ended (e ≡ d) (ReadsGiven d e (items_of ((v.1.instances f.of).brigades b)) reads 0)) (e ≡ d)) (sym last_here)
+            (subst (λ (o : Out). IfElse o.ended (e ≡ d) (ReadsGiven d e (items_of ((v.1.instances f.of).brigades b)) reads 0)) (sym out_is)
+            (subst (λ (xs : List NamedBucket). IfElse c.ended (e ≡ d) (ReadsGiven d e xs reads 0)) (sym items_are) given));
         closed = tt;
         answers = refl;
         left = subst (λ (w : Linked). LeftAs chain tree new e (with_out then_conn out ended) w) (sym goes) left_then;

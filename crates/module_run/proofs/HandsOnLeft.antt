@@ -32,7 +32,7 @@ use Rattle.module_run.specs.declared.conn.Filter.{Filter}
 use Rattle.module_run.specs.declared.conn.Conn.{Conn}
 use Rattle.ring_run.specs.Around.{Around}
 use Rattle.module_run.specs.Conns.{filter_at, top_of, shown_call}
-use Rattle.ring_run.specs.Delivery.{Unless, ReadsGiven}
+use Rattle.ring_run.specs.Delivery.{IfElse, ReadsGiven}
 use Rattle.ring_run.specs.Handed.{lent}
 use Rattle.ring_run.specs.Held.{IsHeld, WasGiven}
 use Rattle.module_run.specs.Proceeding.{IsReady, LeftAs, Leads}
@@ -170,7 +170,7 @@ module _ {R : Type 0} {g : Ghosts R Bucket} (chain : List Program) (b l : ℕ) (
       unfolding proceeds
       hands_on = record {
         reads = λ n. None;
-        told = subst (λ (t : Bool). Unless t (Unless v.1.out.ended (d ≡ d) (ReadsGiven d d (items_of ((v.1.instances f.of).brigades b)) (λ n. None) 0)) (d ≡ d)) (sym not_last) refl;
+        told = subst (λ (t : Bool). IfElse t (IfElse v.1.out.ended (d ≡ d) (ReadsGiven d d (items_of ((v.1.instances f.of).brigades b)) (λ n. None) 0)) (d ≡ d)) (sym not_last) refl;
         closed = tt;
         answers = refl;
         left = subst (λ (w : Linked). LeftAs chain tree new d (changed c fs ws) w) (sym goes) left_after;

@@ -47,7 +47,7 @@ TellsShort (Ok file) = IsShort file.1
 TellsShort (Err r) = Unit {0}
 
 module _ {R : Type 0} {g : Ghosts R Bucket} where
-  -- The device d told of the file, and is e then. numbers: it has given no number yet from the next one on. short: the length that is told is below 2^64.
+  -- The device d told of the file, and is e then. numbers: the model's next number is at most the device's. short: the length that is told is below 2^64.
   pub record WasOpened (chain : List Program) (tree : PoolTree Payload) (store : Brigades R g) (d e : Device) (c : Conn) (name : List ℕ) (answer : Result (ℕ × ℕ) Refusal) (v : Linked) : Type 0 where
     pub opening : Opening
     pub told : MayTell v.0.file d name opening

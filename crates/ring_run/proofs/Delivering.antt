@@ -16,7 +16,7 @@ use Rattle.run_model.specs.Cutting.{read_limit, length_of}
 use Rattle.run_model.specs.Files.{parts_of}
 use Rattle.run_model.specs.Passing.{Reads, Taken, taken_whole, and_taken, unless_unread, parts_taken, content_taken, followed, taken, delivered}
 use Rattle.brigade_ops.specs.Items.{Items, named, named_item, from_place}
-use Rattle.ring_run.specs.Delivery.{Unless, PartGiven, PartsGiven, ContentGiven, ReadsGiven, HasReads, taken_by, ContentTaken, ItemsTaken, WasDelivered, out_of}
+use Rattle.ring_run.specs.Delivery.{IfElse, PartGiven, PartsGiven, ContentGiven, ReadsGiven, HasReads, taken_by, ContentTaken, ItemsTaken, WasDelivered, out_of}
 use Rattle.ring_run.specs.Seen.{shown, item_in}
 
 -- Reads that were made.
@@ -215,11 +215,11 @@ module _ (b : NamedBucket) (bs : List NamedBucket) (k : ℕ) (rs : Reads) where
 
   eos_given : (d e : Device) → is_eos b ≡ true → e ≡ d → ReadsGiven d e (b ∷ bs) rs k
   unfolding ReadsGiven
-  eos_given d e eos same = subst (λ (t : Bool). Unless t (e ≡ d) (ContentGiven d e b.bucket.content rs (λ j. ReadsGiven d e bs rs j) k)) (sym eos) same
+  eos_given d e eos same = subst (λ (t : Bool). IfElse t (e ≡ d) (ContentGiven d e b.bucket.content rs (λ j. ReadsGiven d e bs rs j) k)) (sym eos) same
 
   more_given : (d e : Device) → is_eos b ≡ false → ContentGiven d e b.bucket.content rs (λ j. ReadsGiven d e bs rs j) k → ReadsGiven d e (b ∷ bs) rs k
   unfolding ReadsGiven
-  more_given d e plain h = subst (λ (t : Bool). Unless t (e ≡ d) (ContentGiven d e b.bucket.content rs (λ j. ReadsGiven d e bs rs j) k)) (sym plain) h
+  more_given d e plain h = subst (λ (t : Bool). IfElse t (e ≡ d) (ContentGiven d e b.bucket.content rs (λ j. ReadsGiven d e bs rs j) k)) (sym plain) h
 
 none_taken : (k : ℕ) (rs : Reads) → taken [] k rs ≡ taken_whole [] k
 unfolding taken
@@ -348,7 +348,7 @@ pub was_ended : (d : Device) (bytes : List ℕ) (ended : Bool) (items : List Nam
 unfolding delivered
 was_ended d bytes ended items is = record {
   reads = λ k. None;
-  given = subst (λ (t : Bool). Unless t (d ≡ d) (ReadsGiven d d items (λ k. None) 0)) (sym is) refl;
+  given = subst (λ (t : Bool). IfElse t (d ≡ d) (ReadsGiven d d items (λ k. None) 0)) (sym is) refl;
   told = ap (λ (t : Bool). if t then (out_of bytes ended, true) else (out_of (bytes ++ (taken items 0 (λ k. None)).bytes) (has_eos items), (taken items 0 (λ k. None)).whole)) is;
 }
 
@@ -361,7 +361,7 @@ was_delivered d e runs xs whole more bytes after ended eos open_to s grown ends 
     let took : taken items 0 rs ≡ taken_by more whole (0 + length s.reads) = s.takes runs 0 rs (has_these s.reads) in
     record {
       reads = rs;
-      given = subst (λ (t : Bool). Unless t (e ≡ d) (ReadsGiven d e items rs 0)) (sym open_to) (s.given runs 0 rs (has_these s.reads));
+      given = subst (λ (t : Bool). IfElse t (e ≡ d) (ReadsGiven d e items rs 0)) (sym open_to) (s.given runs 0 rs (has_these s.reads));
       told =
           ap (λ (t : Bool). if t then (out_of bytes ended, true) else (out_of (bytes ++ (taken items 0 rs).bytes) (has_eos items), (taken items 0 rs).whole)) open_to
           ∙ (ap (λ (t : Taken). (out_of (bytes ++ t.bytes) (has_eos items), t.whole)) took

@@ -13,9 +13,9 @@ use Rattle.run_model.specs.State.{Out}
 use Rattle.brigade_ops.specs.Items.{Items}
 use Rattle.ring_run.specs.Seen.{shown}
 
-abbrev pub Unless : Bool → Type 0 → Type 0 → Type 0
-Unless true P Q = P
-Unless false P Q = Q
+abbrev pub IfElse : Bool → Type 0 → Type 0 → Type 0
+IfElse true P Q = P
+IfElse false P Q = Q
 
 -- What one read of n bytes of a file may give. Where it fails the device is e, and no other read follows; else `next` is so.
 abbrev pub PartGiven : Device → Device → ℕ → ℕ → ℕ → Option (List ℕ) → Type 0 → Type 0
@@ -35,7 +35,7 @@ ContentGiven d e content.Nothing reads next k = next k
 -- The reads of the buckets before the first EOS, from number k on, up to one that fails: the device d may give these, and is e then.
 unfoldable pub ReadsGiven : Device → Device → List NamedBucket → Reads → ℕ → Type 0
 ReadsGiven d e [] reads k = e ≡ d
-ReadsGiven d e (b ∷ bs) reads k = Unless (is_eos b) (e ≡ d) (ContentGiven d e b.bucket.content reads (λ j. ReadsGiven d e bs reads j) k)
+ReadsGiven d e (b ∷ bs) reads k = IfElse (is_eos b) (e ≡ d) (ContentGiven d e b.bucket.content reads (λ j. ReadsGiven d e bs reads j) k)
 
 abbrev pub out_of : List ℕ → Bool → Out
 out_of bytes ended = record { bytes = bytes; ended = ended }
@@ -43,7 +43,7 @@ out_of bytes ended = record { bytes = bytes; ended = ended }
 -- The last filter's brigade was delivered, by devices d and e. Nothing is read where the output has ended.
 pub record WasDelivered (d e : Device) (before : Out) (items : List NamedBucket) (after : Out) (well : Bool) : Type 0 where
   pub reads : Reads
-  pub given : Unless before.ended (e ≡ d) (ReadsGiven d e items reads 0)
+  pub given : IfElse before.ended (e ≡ d) (ReadsGiven d e items reads 0)
   pub told : delivered before items reads ≡ (after, well)
 
 -- these are the reads from number k on
