@@ -1,5 +1,5 @@
 /* The yardstick of bench/serve.py: one connection after another, each request answered by the file of its path, which is read whole into a
-   buffer that is kept, behind the head, and written once. */
+   buffer that is kept, behind the head, and written once. The words are the port and, where reads are to be shorter, how many bytes each takes. */
 #include <arpa/inet.h>
 #include <fcntl.h>
 #include <netinet/tcp.h>
@@ -21,6 +21,14 @@ static int write_all(int link, const char *text, size_t length)
         length -= took;
     }
     return 0;
+}
+
+/* How many bytes a read of a file takes, at most. */
+static size_t read_limit = (size_t)1 << 30;
+
+static size_t least(size_t one, size_t other)
+{
+    return one < other ? one : other;
 }
 
 /* Answers the request, and tells whether the connection stays. */
@@ -46,7 +54,7 @@ static int answer(int link, char *ask, char **room, size_t *size)
     }
     strftime(date, sizeof date, "%a, %d %b %Y %H:%M:%S GMT", gmtime(&now));
     size_t length = sprintf(*room, "HTTP/1.1 200 OK\r\nDate: %s\r\nContent-Length: %lld\r\n\r\n", date, (long long)known.st_size);
-    for (ssize_t took; (took = read(file, *room + length, *size - length)) > 0; length += took)
+    for (ssize_t took; (took = read(file, *room + length, least(read_limit, *size - length))) > 0; length += took)
         ;
     close(file);
     return write_all(link, *room, length) == 0 && !closes;
@@ -79,6 +87,8 @@ int main(int count, char **words)
     size_t size = 0;
 
     at.sin_port = htons(count > 1 ? atoi(words[1]) : 8080);
+    if (count > 2)
+        read_limit = atoi(words[2]);
     setsockopt(door, SOL_SOCKET, SO_REUSEADDR, &on, sizeof on);
     if (bind(door, (struct sockaddr *)&at, sizeof at) < 0 || listen(door, 128) < 0)
         return 1;

@@ -5,10 +5,17 @@
 
 One client asks for a file of 2 bytes, of 64 KiB and of 1 MiB on one connection that stays open. What is told is the processor time of
 the server alone, user and system, for each request, and how its memory grew. Then the file of 2 bytes is asked for on N connections
-of one request each. Where nginx or apache2 is there, it serves the same files in the same run, as one process that reads files and changes
-nothing. So does a server in C that reads each file and writes it once (bench/plain_server.c), where there is a C compiler. All are asked by
-turns, in rounds, so that a machine that is slower for a while is so for each; told are medians, of times and of the ratios of each round. Where apxs is there as well (apache2-dev), apache2 sends them through a filter in C that passes each brigade
-on (bench/pass_filter.c).
+of one request each.
+
+Peers serve the same files in the same run, each as one process that reads files and changes nothing:
+
+- a server in C that reads each file at once and writes it once (bench/plain_server.c), where there is a C compiler; and the same server with
+  reads of 8000 bytes ('C, parts'),
+- nginx and apache2, where they are there; with apxs (apache2-dev), apache2 sends the files through a filter in C that passes each brigade on
+  (bench/pass_filter.c).
+
+All are asked by turns, in rounds, so that a machine that is slower for a while is so for each; told are medians, of times and of the
+ratios of each round.
 """
 import argparse
 import os
@@ -191,7 +198,8 @@ def servers(program, module, folder):
     if compiler:
         plain = os.path.join(folder, 'plain_server')
         subprocess.run([compiler, '-O2', '-o', plain, os.path.join(TOP, 'bench', 'plain_server.c')], check=True)
-        yield 'plain C', lambda port: [plain, str(port)]
+        yield 'C', lambda port: [plain, str(port)]
+        yield 'C, parts', lambda port: [plain, str(port), '8000']
     for name, text, words in (('nginx', NGINX, ['-c']), ('apache2', APACHE, ['-X', '-f'])):
         found = shutil.which(name) or shutil.which(name, path='/usr/sbin')
         if found:
@@ -219,7 +227,7 @@ def main():
             for name, words in servers(program, os.path.abspath(options.module), folder):
                 peers.append(Peer(name, words, folder))
             for size in SIZES:
-                by_turns(peers, size, max(options.requests // (1 + size // 20000), 20))
+                by_turns(peers, size, max(options.requests // (1 + size // 100000), 20))
             for peer in peers:
                 peer.link.close()
                 print('%-8s %d connections: %.1f us each, %+d KiB' % ((peer.name, options.conns) + connections(peer.server.pid, peer.port, options.conns)), flush=True)

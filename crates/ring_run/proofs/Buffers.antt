@@ -1,6 +1,6 @@
 -- Lists of which a part is written.
-use Rattle.std.proofs.Common.{append_assoc, ◌≡◌, ℕ, zero, ◌+◌, ◌-◌, ◌≤◌, List, [], ◌∷◌, ◌++◌, length, take, drop, replicate, sym, ap, ◌∙◌, arith}
-use Rattle.std.proofs.lemmas.List.{append-nil, length-append, length-take, length-drop, length-replicate, length-take-le, nil_from_length, take-append-drop, take_at}
+use Rattle.std.proofs.Common.{append_assoc, ◌≡◌, ℕ, ◌+◌, ◌-◌, ◌≤◌, List, ◌++◌, length, take, drop, replicate, sym, ap, ◌∙◌, arith}
+use Rattle.std.proofs.lemmas.List.{append-nil, length-append, length-take, length-drop, length-replicate, nil_from_length, take-append-drop, take_at}
 use borrow.Rule.Slice.PartMut.{put_mid, post_of}
 
 -- the length of a list in which a part was written

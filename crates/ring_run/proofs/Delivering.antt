@@ -10,12 +10,11 @@ use Rattle.run_model.specs.declared.bucket.Bucket.{Bucket}
 use Rattle.run_model.specs.declared.bucket.Content.{Content}
 use Rattle.run_model.specs.declared.bucket.Content.TheVariants as content
 use Rattle.run_model.specs.declared.bucket.NamedBucket.{NamedBucket}
-use Rattle.run_model.specs.BrigadeLists.{length_in}
 use Rattle.run_model.specs.Buckets.{is_eos, is_eos_kind, has_eos}
-use Rattle.run_model.specs.Cutting.{read_limit, length_of}
+use Rattle.run_model.specs.Cutting.{read_limit}
 use Rattle.run_model.specs.Files.{parts_of}
 use Rattle.run_model.specs.Passing.{Reads, Taken, taken_whole, and_taken, unless_unread, parts_taken, content_taken, followed, taken, delivered}
-use Rattle.brigade_ops.specs.Items.{Items, named, named_item, from_place}
+use Rattle.brigade_ops.specs.Items.{Items, named_item, from_place}
 use Rattle.ring_run.specs.Delivery.{IfElse, PartGiven, PartsGiven, ContentGiven, ReadsGiven, HasReads, taken_by, ContentTaken, ItemsTaken, WasDelivered, out_of}
 use Rattle.ring_run.specs.Seen.{shown, item_in}
 

@@ -48,3 +48,4 @@ pub mod CarriedOut
 pub mod LabelsKept
 pub mod Instructions
 pub mod Pushed
+pub mod Spans

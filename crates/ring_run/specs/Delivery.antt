@@ -12,6 +12,8 @@ use Rattle.run_model.specs.Passing.{Reads, Taken, content_taken, taken, delivere
 use Rattle.run_model.specs.State.{Out}
 use Rattle.brigade_ops.specs.Items.{Items}
 use Rattle.ring_run.specs.Seen.{shown}
+use Rattle.ring_run.specs.declared.output.Fetched.{Fetched}
+use Rattle.ring_run.specs.declared.output.Fetched.TheVariants as fetched
 
 abbrev pub IfElse : Bool → Type 0 → Type 0 → Type 0
 IfElse true P Q = P
@@ -79,6 +81,24 @@ pub record ItemsAdded (d e : Device) (xs : Items) (whole : Bool) (old new : List
   pub added : List ℕ
   pub grown : new ≡ old ++ added
   pub taken_so : ItemsTaken d e xs added whole
+
+-- the bytes that were given: all, or none
+abbrev pub given_of : Fetched → List ℕ → List ℕ
+given_of fetched.All bytes = bytes
+given_of fetched.Ended bytes = []
+given_of fetched.Failed bytes = []
+
+-- What became of n bytes of a file that were asked for, from a place on.
+abbrev pub IsFetched : Device → Device → ℕ → ℕ → ℕ → List ℕ → Fetched → Type 0
+IsFetched d e file at n bytes fetched.All = MayGive (d.numbered file) at n bytes × (e ≡ d)
+IsFetched d e file at n bytes fetched.Ended = MayEnd (d.numbered file) at n × (e ≡ d)
+IsFetched d e file at n bytes fetched.Failed = HasFailed d e
+
+-- They were added to a list where all of them were given.
+pub record SpanAdded (d e : Device) (file at n : ℕ) (fetched : Fetched) (old new : List ℕ) : Type 0 where
+  pub added : List ℕ
+  pub grown : new ≡ old ++ given_of fetched added
+  pub fetched_so : IsFetched d e file at n added fetched
 
 -- A list has another at its front.
 abbrev pub HasFront : List ℕ → List ℕ → Type 0

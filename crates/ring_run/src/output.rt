@@ -1,8 +1,8 @@
 //! The end of the chain, where the bytes of brigades become output.
 
 ghost use Rattle.std.specs.Prelude.{◌≡◌, ◌==◌, ◌⊎◌, ◌+◌, ◌<◌, ◌≤◌, ◌^◌, ℕ, Bool, true, false, length, is_some, if◌then◌else◌, All, Some, IfOk, OnOk, OnErr};
-ghost use Rattle.bucket_kinds.specs.Device.{HasFailed, is_there};
-ghost use Rattle.bucket_kinds.specs.Reading.{MayGive, MayEnd, IsOpenFor};
+ghost use Rattle.bucket_kinds.specs.Device.{is_there};
+ghost use Rattle.bucket_kinds.specs.Reading.{IsOpenFor};
 ghost use Rattle.bucket_ring.specs.declared.names.BucketId.{BucketId};
 ghost use Rattle.bucket_ring.specs.Lists.{list_at};
 ghost use Rattle.run_model.specs.Buckets.{is_eos_kind};
@@ -13,7 +13,7 @@ ghost use Rattle.run_model.specs.Cutting.{EndsInFile, length_of};
 ghost use Rattle.run_model.specs.declared.bucket.Bucket.{Bucket};
 ghost use Rattle.brigade_ops.specs.Items.{named};
 ghost use Rattle.brigade_ops.specs.Store.{lists, brigade_of, bucket_at};
-ghost use Rattle.ring_run.specs.Delivery.{ContentAdded, HasFront, ItemsAdded, WasDelivered, out_of};
+ghost use Rattle.ring_run.specs.Delivery.{ContentAdded, HasFront, IsFetched, ItemsAdded, SpanAdded, WasDelivered, out_of};
 ghost use Rattle.ring_run.specs.declared.machine.Call.{Call};
 ghost use Rattle.ring_run.specs.Around.{Around};
 ghost use Rattle.ring_run.specs.Ends.{EndInFiles};
@@ -33,26 +33,61 @@ use std::alloc::AllocError;
 /// How many bytes a read takes from a file, at most.
 const READ_LIMIT: u64 = 8000;
 
-/// Fills a buffer from a place of a file on, and tells whether that went well.
-fn fetch<F: Files>(files: &mut F, file: FileNo, at: u64, buffer: &mut [u8]) -> bool
+/// How many bytes are asked for at once: those of ten reads. So a file of 64 KiB takes one.
+const SPAN_LIMIT: u64 = 80_000;
+
+/// What became of bytes that were asked for.
+#[derive(Clone, Copy)]
+enum Fetched {
+    /// All of them were given.
+    All,
+    /// The file ends before the last of them.
+    Ended,
+    /// The device failed.
+    Failed,
+}
+
+/// Fills a buffer from a place of a file on, and tells what became of that.
+fn fetch<F: Files>(files: &mut F, file: FileNo, at: u64, buffer: &mut [u8]) -> Fetched
     requires { is_there ((F.device files.old).numbered file) ≡ true }
-    ensures given { result ≡ true → MayGive ((F.device files.old).numbered file) at (length buffer.old) buffer.new }
-    ensures same { result ≡ true → F.device files.new ≡ F.device files.old }
-    ensures fault { result ≡ false
-        → HasFailed (F.device files.old) (F.device files.new)
-        ⊎ ((F.device files.new ≡ F.device files.old) × MayEnd ((F.device files.old).numbered file) at (length buffer.old)) }
+    ensures fetched { IsFetched (F.device files.old) (F.device files.new) file at (length buffer.old) buffer.new result }
     ensures open_files { (F.device files.new).numbered ≡ (F.device files.old).numbered }
     ensures len { length buffer.new ≡ length buffer.old }
 {
     let count = buffer.len();
     match files.read_at(file, at, buffer) {
-        Ok(filled) => filled == count,
-        Err(_) => false,
+        Ok(filled) if filled == count => Fetched::All,
+        Ok(_) => Fetched::Ended,
+        Err(_) => Fetched::Failed,
     }
 }
 
-/// Adds a range to the output, in parts of 8000 bytes, up to a read that fails, and tells whether none did. Each part is filled as soon as
-/// there is room for it. Without memory some parts may have been added.
+/// Adds so many bytes of a file to the output, from a place on, and tells what became of them. Where not all were given, none is added.
+fn add_span<F: Files>(
+    out: &mut Seq<u8>,
+    files: &mut F,
+    file: FileNo,
+    at: u64,
+    count: u64,
+) -> Result<Fetched, AllocError>
+    requires { is_there ((F.device files.old).numbered file) ≡ true }
+    ensures added { IfOk result (λ fetched. SpanAdded (F.device files.old) (F.device files.new) file at count fetched out.old out.new) }
+    ensures unread { OnErr result ((out.new ≡ out.old) × (F.device files.new ≡ F.device files.old)) }
+    ensures open_files { (F.device files.new).numbered ≡ (F.device files.old).numbered }
+{
+    let len = out.len();
+    out.add_zeros(count as usize)?;
+    match fetch(files, file, at, &mut out.as_mut_slice()[len..]) {
+        Fetched::All => Ok(Fetched::All),
+        lacking => {
+            out.truncate(len);
+            Ok(lacking)
+        }
+    }
+}
+
+/// Adds a range to the output, up to a read that fails, and tells whether none did. Ten reads are made as one, and one by one where the
+/// file ends within them. Room is made for no more than is read next. Without memory some parts may have been added.
 fn add_range<F: Files>(
     out: &mut Seq<u8>,
     files: &mut F,
@@ -68,15 +103,14 @@ fn add_range<F: Files>(
     ensures open_files { (F.device files.new).numbered ≡ (F.device files.old).numbered }
 {
     let mut count = 0;
+    let mut limit = SPAN_LIMIT;
     while count < len {
-        let part = READ_LIMIT.min(len - count);
-        let at = out.len();
-        out.add_zeros(part as usize)?;
-        if !fetch(files, file, start + count, &mut out.as_mut_slice()[at..]) {
-            out.truncate(at);
-            return Ok(false);
+        let part = limit.min(len - count);
+        match add_span(out, files, file, start + count, part)? {
+            Fetched::All => count += part,
+            Fetched::Ended if part > READ_LIMIT => limit = READ_LIMIT,
+            _ => return Ok(false),
         }
-        count += part;
     }
     Ok(true)
 }

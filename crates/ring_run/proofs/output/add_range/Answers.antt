@@ -1,50 +1,60 @@
--- Each part is read to its place, or not read.
-use Rattle.std.proofs.Common.{◌≡◌, ◌+◌, ◌-◌, ◌<◌, min, true, false, ◌++◌, length, take, drop, refl, sym, ap, ◌∙◌, arith, rules}
-use Rattle.std.proofs.Math.Seq.{drop-append_seam, take-append_seam}
-use Rattle.std.proofs.lemmas.List.{take_at}
-use Rattle.bucket_kinds.specs.Reading.{MayGive}
-use Rattle.ring_run.proofs.Buffers.{behind, both_parts, room_len, room_written}
-use Rattle.ring_run.proofs.Delivering.{range_read, range_failed, range_done, fault_from, gave_from}
+-- Each span is read to its place, or read part by part, or not read.
+use Rattle.std.proofs.Common.{◌≡◌, ◌-◌, ◌<◌, min, length, drop, refl, arith}
+use Rattle.std.proofs.Math.Seq.{drop-length}
+use Rattle.std.proofs.lemmas.List.{take_all}
+use Rattle.ring_run.proofs.Buffers.{both_parts}
+use Rattle.ring_run.proofs.Delivering.{range_none, range_done}
+use Rattle.ring_run.proofs.Spans.{span_all, span_ended, span_lacks}
 use Rattle.ring_run.proofs.output.add_range.Goals as goal
 
-pub returns-then-not-fetch-clause-added : goal.returns-then-not-fetch-clause-added
-returns-then-not-fetch-clause-added g c =
+pub loop-count-init : goal.loop-count-init
+loop-count-init g c =
+    let old = c.args.out.now in
+    record {
+      within = omega arith;
+      front = take_all (length old) old (omega arith);
+      device = refl;
+      read = range_none (g.F.Files.device c.args.files.now) c.args.file c.args.start c.args.len (drop (length old) old) (drop-length old);
+      span = (10, omega arith, omega arith);
+    }
+
+pub loop-count-preserved-in-All-1 : goal.loop-count-preserved-in-All-1
+loop-count-preserved-in-All-1 g c =
     let l = c.loop-count in
+    let i = l.invariant in
     let d = g.F.Files.device c.args.files.now in
     let n = c.min-part.result in
-    let below : l.count < c.args.len = omega arith in
-    let part : n ≡ min (c.args.len - l.count) 8000 = omega arith in
-    let span = room_len l.out c.add_zeros.new.self c.as_mut_slice.result.now c.len-at.result n c.in_ok-add_zeros.ensures.ok c.as_mut_slice.ensures.value c.len-at.ensures in
-    let written = room_written l.out c.add_zeros.new.self c.as_mut_slice.result.now c.len-at.result n c.in_ok-add_zeros.ensures.ok c.as_mut_slice.ensures.value c.len-at.ensures c.fetch.new.buffer (c.fetch.ensures.len ∙ span) in
-    let unread : c.fetch.result ≡ false = search rules in
-    record {
-      added = drop (length c.args.out.now) l.out;
-      grown = c.truncate.ensures ∙ (ap (take c.len-at.result) written ∙ (take_at l.out c.fetch.new.buffer c.len-at.result (sym c.len-at.ensures) ∙ both_parts c.args.out.now l.out l.invariant.front));
-      taken_so = range_failed d c.args.file c.args.start c.args.len (g.F.Files.device c.fetch.new.files) l.count n (drop (length c.args.out.now) l.out) l.invariant.read below part
-          (fault_from d (g.F.Files.device l.files) (g.F.Files.device c.fetch.new.files) c.args.file (c.args.start + l.count) n _ l.invariant.device span (c.fetch.ensures.fault unread));
-    }
+    let part : n ≡ min l.limit (c.args.len - l.count) = omega arith in
+    let more = span_all d c.args.file c.args.start c.args.len (g.F.Files.device l.files) (g.F.Files.device c.add_span.new.files) l.count n c.args.out.now l.out c.add_span.new.out i.front i.device i.read
+        i.span.0 l.limit c.in_ok-add_span.field-0 i.span.1 part c.in_ok-add_span.ensures.added c.in-All.is in
+    record { within = omega arith; front = more.0; device = more.1; read = more.2; span = i.span }
 
 pub loop-count-preserved : goal.loop-count-preserved
 loop-count-preserved g c =
     let l = c.loop-count in
-    let d = g.F.Files.device c.args.files.now in
-    let old = c.args.out.now in
-    let n = c.min-part.result in
+    let i = l.invariant in
+    let again = span_ended (g.F.Files.device c.args.files.now) c.args.file c.args.start c.args.len (g.F.Files.device l.files) (g.F.Files.device c.add_span.new.files) l.count c.min-part.result c.args.out.now l.out c.add_span.new.out i.front i.device i.read
+        c.in_ok-add_span.field-0 c.in_ok-add_span.ensures.added c.in-Ended.is in
+    record { within = i.within; front = again.0; device = again.1; read = again.2; span = (1, omega arith, omega arith) }
+
+pub returns-in_default-clause-added : goal.returns-in_default-clause-added
+returns-in_default-clause-added g c =
+    let l = c.loop-count in
+    let i = l.invariant in
     let below : l.count < c.args.len = omega arith in
-    let part : n ≡ min (c.args.len - l.count) 8000 = omega arith in
-    let span = room_len l.out c.add_zeros.new.self c.as_mut_slice.result.now c.len-at.result n c.in_ok-add_zeros.ensures.ok c.as_mut_slice.ensures.value c.len-at.ensures in
-    let written = room_written l.out c.add_zeros.new.self c.as_mut_slice.result.now c.len-at.result n c.in_ok-add_zeros.ensures.ok c.as_mut_slice.ensures.value c.len-at.ensures c.fetch.new.buffer (c.fetch.ensures.len ∙ span) in
-    let read : c.fetch.result ≡ true = search rules in
-    let gave : MayGive (d.numbered c.args.file) (c.args.start + l.count) n c.fetch.new.buffer =
-    gave_from d (g.F.Files.device l.files) c.args.file (c.args.start + l.count) n _ c.fetch.new.buffer l.invariant.device span (c.fetch.ensures.given read) in
-    let all = behind old l.out c.fetch.new.buffer _ l.invariant.front written in
-    record {
-      within = omega arith;
-      front = ap (take (length old)) all ∙ take-append_seam old (drop (length old) l.out ++ c.fetch.new.buffer);
-      device = c.fetch.ensures.same read ∙ l.invariant.device;
-      read = range_read d c.args.file c.args.start c.args.len l.count n (l.count + n) (drop (length old) l.out) c.fetch.new.buffer _ l.invariant.read below part gave
-          (ap (drop (length old)) all ∙ drop-append_seam old (drop (length old) l.out ++ c.fetch.new.buffer)) refl;
-    }
+    let of = i.span.1 in
+    let above = i.span.2 in
+    let part : c.min-part.result ≡ min (c.args.len - l.count) 8000 = omega (arith, of, above) in
+    span_lacks (g.F.Files.device c.args.files.now) c.args.file c.args.start c.args.len (g.F.Files.device l.files) (g.F.Files.device c.add_span.new.files) l.count c.min-part.result c.args.out.now l.out c.add_span.new.out i.front i.device i.read
+    c.in_ok-add_span.field-0 below c.in_ok-add_span.ensures.added c.in_default.not-All (λ _. part)
+
+pub returns-in_default-2-clause-added : goal.returns-in_default-2-clause-added
+returns-in_default-2-clause-added g c =
+    let l = c.loop-count in
+    let i = l.invariant in
+    let below : l.count < c.args.len = omega arith in
+    span_lacks (g.F.Files.device c.args.files.now) c.args.file c.args.start c.args.len (g.F.Files.device l.files) (g.F.Files.device c.add_span.new.files) l.count c.min-part.result c.args.out.now l.out c.add_span.new.out i.front i.device i.read
+    c.in_ok-add_span.field-0 below c.in_ok-add_span.ensures.added c.in_default.not-All (λ ended. absurd (cc (ended, c.in_default.is)))
 
 pub returns-clause-added : goal.returns-clause-added
 returns-clause-added g c =

@@ -1,5 +1,5 @@
--- What was read so far and what is left are all.
-use Rattle.std.proofs.Common.{◌≡◌, ◌-◌, ◌≤◌, length, drop}
+-- What was read so far and what is left are all, and as many bytes are asked for at once as some reads take.
+use Rattle.std.proofs.Common.{◌≡◌, ◌+◌, ◌-◌, ◌*◌, ◌<◌, ◌≤◌, ℕ, length, drop}
 use Rattle.ring_run.specs.Delivery.{HasFront}
 use Rattle.ring_run.proofs.Delivering.{RangeSoFar}
 use Rattle.ring_run.proofs.output.add_range.Given as goal
@@ -10,7 +10,8 @@ invariant-loop-count g l = record {
   front : HasFront l.fn.out l.out;
   device : g.F.Files.device l.files ≡ g.F.Files.device l.fn.files;
   read : RangeSoFar (g.F.Files.device l.fn.files) l.file l.start l.len l.count (drop (length l.fn.out) l.out);
+  span : (k : ℕ) × (l.limit ≡ 8000 * k) × (0 < k);
 }
 
 abbrev pub decreases-loop-count : goal.decreases-loop-count
-decreases-loop-count g l = l.len - l.count
+decreases-loop-count g l = l.len - l.count + l.limit
