@@ -8,8 +8,8 @@ use Rattle.httparse.specs.Grammar.{print_request}
 use Rattle.http_front.specs.Clocks.{Said}
 use Rattle.http_front.specs.Heads.{StaysHeadless}
 use Rattle.http_front.specs.Replying.{reply_text}
-use Rattle.http_front.specs.Turns.{Turn, AllStay, Answers, AnswersAll, AnswersRead, SendsBad, WantsMore, heads_of, texts_of, head_limit, fields_limit, ClosesAfter, RefusesAfter, IsDue, IsFront, IsCut, IsNext, LacksAt, LacksMemory}
-use Rattle.http_front.specs.Stepping.{Serves, Steps, WantsAnswer}
+use Rattle.http_front.specs.Turns.{Turn, AllStay, Answers, AnswersAll, AnswersRead, SendsBad, WantsMore, heads_of, texts_of, head_limit, fields_limit, ClosesAfter, RefusesAfter, IsDue, IsFront, IsCut, IsNext, LacksAt, LacksMemory, WantsFile}
+use Rattle.http_front.specs.Stepping.{LacksAnswer, Serves, Steps, WantsAnswer}
 use Rattle.http_front.specs.Serving.{Writes, SoFar, Goes, EndsWell, FailsBy}
 use Rattle.http_front.specs.declared.fault.FrontKind.{FrontKind}
 use Rattle.http_front.specs.declared.fault.FrontKind.TheVariants as kind
@@ -18,7 +18,6 @@ use Rattle.http_front.specs.declared.reply.Method.{Method}
 use Rattle.http_front.specs.declared.serving.Next.{Next}
 use Rattle.http_front.specs.declared.site.Site.{Site}
 use Rattle.http_front.specs.declared.steps.Step.{Step}
-use Rattle.http_front.specs.Outcomes.{IsLack}
 
 -- Lists of turns with one more.
 
@@ -140,10 +139,10 @@ module _ {H K : Type 0} (site : Site) (handles : H → Method → List ℕ → O
       )
 
   -- Memory or names are lacking for the request at hand.
-  far_lacks : (old : H) (before : K) (r q w v : Option (List ℕ)) (unread : List ℕ) (whole : Bool) (n : ℕ) (new : H) (after : K)
-      → Far old before r q w v unread n new after → (whole ≡ true → IsAtEnd q) → WantsAnswer unread whole → Writes r w v (λ stream text. LacksAt site handles tells old before stream text q)
-  far_lacks old before None q w v unread whole n new after so end wants = tt
-  far_lacks old before (Some stream) q w v unread whole n new after so end wants =
+  far_lacks : (Due : List ℕ → List ℕ → Type 0) (old : H) (before : K) (r q w v : Option (List ℕ)) (unread : List ℕ) (n : ℕ) (new : H) (after : K)
+      → Far old before r q w v unread n new after → ((left : List ℕ) → q ≡ Some left → Due unread left) → Writes r w v (λ stream text. LacksAt site handles tells Due old before stream text q)
+  far_lacks Due old before None q w v unread n new after so due = tt
+  far_lacks Due old before (Some stream) q w v unread n new after so due =
       let left = left_of stream (heads_of so.turns ++ unread) q so.took in (
         texts_of so.turns,
         record {
@@ -155,7 +154,7 @@ module _ {H K : Type 0} (site : Site) (handles : H → Method → List ℕ → O
           after = after;
           splits = left.2;
           responses = record { turns = so.turns; stay = so.stay; answers = so.answers; requests = refl; written = refl; count = so.count };
-          due = is_due unread left.0 whole (λ w. at_end q left.0 left.1 (end w)) wants;
+          due = due left.0 left.1;
           leaves = left.1;
         },
         so.wrote,
@@ -309,14 +308,19 @@ module _ {H K : Type 0} (site : Site) (handles : H → Method → List ℕ → O
       (inr (inr (inr (refused old before stream q w v unread whole n (n + 1) mid new then after text so end bad refl)))) few wrote
 
   -- Memory or names are lacking, as the kind of the fault says.
-  lack_memory : (r q w v : Option (List ℕ)) (old : H) (before : K) (new : H) (after : K) → Writes r w v (λ stream text. LacksAt site handles tells old before stream text q) → Writes r w v (λ stream text. LacksMemory site handles tells old before stream text q new after)
+  lack_memory : (r q w v : Option (List ℕ)) (old : H) (before : K) (new : H) (after : K) → Writes r w v (λ stream text. LacksAt site handles tells IsDue old before stream text q) → Writes r w v (λ stream text. LacksMemory site handles tells old before stream text q new after)
   lack_memory None q w v old before new after h = tt
   lack_memory (Some stream) q w v old before new after h = (h.0, inl h.1, h.2)
 
-  far_lacks_by : (old : H) (before : K) (r q w v : Option (List ℕ)) (new : H) (after : K) (e : FrontKind)
-      → IsLack e → Writes r w v (λ stream text. LacksAt site handles tells old before stream text q) → FailsBy site handles tells old before r q w v new after e
-  far_lacks_by old before r q w v new after e (inl same) h = subst (FailsBy site handles tells old before r q w v new after) (sym same) (lack_memory r q w v old before new after h)
-  far_lacks_by old before r q w v new after e (inr same) h = subst (FailsBy site handles tells old before r q w v new after) (sym same) h
+  far_lacks_by : (old : H) (before : K) (r q w v : Option (List ℕ)) (unread : List ℕ) (whole : Bool) (n : ℕ) (mid new : H) (then after : K) (e : FrontKind)
+      → Far old before r q w v unread n mid then → (whole ≡ true → IsAtEnd q) → LacksAnswer site unread whole e → FailsBy site handles tells old before r q w v new after e
+  far_lacks_by old before r q w v unread whole n mid new then after kind.NoMemory so end wants =
+      lack_memory r q w v old before new after (far_lacks IsDue old before r q w v unread n mid then so (λ left leaves. is_due unread left whole (λ is. at_end q left leaves (end is)) wants))
+  far_lacks_by old before r q w v unread whole n mid new then after kind.NamesSpent so end wants =
+      far_lacks (λ seen left. WantsFile site seen) old before r q w v unread n mid then so (λ left leaves. wants)
+  far_lacks_by old before r q w v unread whole n mid new then after kind.Read so end lack = absurd lack
+  far_lacks_by old before r q w v unread whole n mid new then after kind.Write so end lack = absurd lack
+  far_lacks_by old before r q w v unread whole n mid new then after kind.TooManyReads so end lack = absurd lack
 
   -- How a `?` leaves.
 
@@ -324,10 +328,10 @@ module _ {H K : Type 0} (site : Site) (handles : H → Method → List ℕ → O
   GoesOn = Goes site handles tells
 
   pub fails_lacking : (old : H) (before : K) (r q w v : Option (List ℕ)) (whole : Bool) (given unread : List ℕ) (n : ℕ) (mid new : H) (then after : K) (result : Result Next FrontKind) (y e : FrontKind) (left : List ℕ)
-      → result ≡ Err y → y ≡ e → IsLack e → (whole ≡ true → IsAtEnd q) → given ≡ unread → WantsAnswer given whole → Far old before r q w v unread n mid then → GoesOn old before r q w v whole left n new after result
-  fails_lacking old before r q w v whole given unread n mid new then after result y e left is same lack end are wants so =
+      → result ≡ Err y → y ≡ e → (whole ≡ true → IsAtEnd q) → given ≡ unread → LacksAnswer site given whole e → Far old before r q w v unread n mid then → GoesOn old before r q w v whole left n new after result
+  fails_lacking old before r q w v whole given unread n mid new then after result y e left is same end are lack so =
       subst (GoesOn old before r q w v whole left n new after) (sym (is ∙ ap Err same))
-      (far_lacks_by old before r q w v new after e lack (far_lacks old before r q w v unread whole n mid then so end (subst (λ l. WantsAnswer l whole) are wants)))
+      (far_lacks_by old before r q w v unread whole n mid new then after e so end (subst (λ (l : List ℕ). LacksAnswer site l whole e) are lack))
 
   pub fails_by : (old : H) (before : K) (r q w v : Option (List ℕ)) (whole : Bool) (unread : List ℕ) (n : ℕ) (new : H) (after : K) (result : Result Next FrontKind) (y e : FrontKind)
       → result ≡ Err y → y ≡ e → e ≡ kind.Write → Writes r w v (λ stream text. IsCut site handles tells old before stream text new after) → GoesOn old before r q w v whole unread n new after result

@@ -13,10 +13,12 @@ use Rattle.http_front.specs.Clocks.{Said, IsNoted}
 use Rattle.http_front.specs.Asking.{target_path}
 use Rattle.http_front.specs.Heads.{BeginsWithin, IsHeadlessWithin, StaysHeadless}
 use Rattle.http_front.specs.Looking.{IsFound}
-use Rattle.http_front.specs.Outcomes.{file_at, file_of, IsBadReply}
+use Rattle.http_front.specs.Outcomes.{file_at, file_of, IsBadReply, IsLack, ReachesFile}
 use Rattle.http_front.specs.Sites.{route_of}
-use Rattle.http_front.specs.Stepping.{IsReplied, IsWritten, Serves, Steps, WantsAnswer}
+use Rattle.http_front.specs.Stepping.{IsReplied, IsWritten, LacksAnswer, Serves, Steps, WantsAnswer}
 use Rattle.http_front.specs.Turns.{SendsBad, WantsMore, head_limit, fields_limit}
+use Rattle.http_front.specs.declared.fault.FrontKind.{FrontKind}
+use Rattle.http_front.specs.declared.fault.FrontKind.TheVariants as kind
 use Rattle.http_front.specs.declared.handler.Outcome.{Outcome}
 use Rattle.http_front.specs.declared.reply.Method.{Method}
 use Rattle.http_front.specs.declared.reply.Reply.{Reply}
@@ -106,25 +108,41 @@ more_wider seen false is wants =
     let fits : length seen ≤ head_limit = omega (arith, wants.few, length-take head_limit seen) in
     (refl, subst WantsMore (take_all head_limit seen fits) wants)
 
+-- what a front of the bytes begins with, they begin with
+begins_before : (seen : List ℕ) (h : RequestHead) (rest : List ℕ) → BeginsWithin head_limit fields_limit (take head_limit seen) h rest → BeginsWithin head_limit fields_limit seen h (rest ++ drop head_limit seen)
+begins_before seen h rest begins =
+    let all : seen ≡ print_request h ++ (rest ++ drop head_limit seen) = sym (take-append-drop head_limit seen) ∙ ap (λ x. x ++ drop head_limit seen) begins.reads.1 ∙ append_assoc (print_request h) rest (drop head_limit seen) in
+    record { reads = (begins.reads.0, all); size = begins.size; count = begins.count }
+
 -- an answer that is wanted to a front of the bytes is wanted to them all
 answer_wider : (seen : List ℕ) (whole : Bool) → WantsAnswer (take head_limit seen) (whole && nat_le (length seen) head_limit) → WantsAnswer seen whole
-answer_wider seen whole (inl (h, rest, begins)) =
-    let all : seen ≡ print_request h ++ (rest ++ drop head_limit seen) = sym (take-append-drop head_limit seen) ∙ ap (λ x. x ++ drop head_limit seen) begins.reads.1 ∙ append_assoc (print_request h) rest (drop head_limit seen) in
-    inl (h, rest ++ drop head_limit seen, record { reads = (begins.reads.0, all); size = begins.size; count = begins.count })
+answer_wider seen whole (inl (h, rest, begins)) = inl (h, rest ++ drop head_limit seen, begins_before seen h rest begins)
 answer_wider seen whole (inr bad) = inr ((λ none. bad.0 (ap (take head_limit) none)), headless_wider head_limit fields_limit seen whole bad.1)
 
 -- why a step gets no answer, from a front of the bytes
-pub lack_wider : {E : Type 0} (P : E → Type 0) (seen low : List ℕ) (whole ended : Bool) (r : Result Step E) → low ≡ take head_limit seen → ended ≡ (whole && nat_le (length seen) head_limit)
-    → IfErr r (λ e. P e × WantsAnswer low ended) → IfErr r (λ e. P e × WantsAnswer seen whole)
-lack_wider P seen low whole ended (Ok s) front over h = tt
-lack_wider P seen low whole ended (Err e) front over h =
-    (h.0, answer_wider seen whole (subst (λ (l : List ℕ). WantsAnswer l (whole && nat_le (length seen) head_limit)) front (subst (λ (b : Bool). WantsAnswer low b) over h.1)))
+lack_before : (site : Site) (seen : List ℕ) (whole : Bool) (e : FrontKind) → LacksAnswer site (take head_limit seen) (whole && nat_le (length seen) head_limit) e → LacksAnswer site seen whole e
+lack_before site seen whole kind.NoMemory wants = answer_wider seen whole wants
+lack_before site seen whole kind.NamesSpent wants = record { head = wants.head; rest = wants.rest ++ drop head_limit seen; begins = begins_before seen wants.head wants.rest wants.begins; reaches = wants.reaches }
+lack_before site seen whole kind.Read lack = absurd lack
+lack_before site seen whole kind.Write lack = absurd lack
+lack_before site seen whole kind.TooManyReads lack = absurd lack
 
--- a head that was found wants its answer
-pub found_lack : {E : Type 0} (P : E → Type 0) (seen : List ℕ) (whole : Bool) (room : ℕ) (h : RequestHead) (rest : List ℕ) (r : Result Step E) → room ≡ fields_limit → BeginsWithin head_limit room seen h rest
-    → IfErr r P → IfErr r (λ e. P e × WantsAnswer seen whole)
-found_lack P seen whole room h rest (Ok s) same begins lack = tt
-found_lack P seen whole room h rest (Err e) same begins lack = (lack, inl (h, rest, subst (λ (n : ℕ). BeginsWithin head_limit n seen h rest) same begins))
+pub lack_wider : (site : Site) (seen low : List ℕ) (whole ended : Bool) (r : Result Step FrontKind) → low ≡ take head_limit seen → ended ≡ (whole && nat_le (length seen) head_limit)
+    → IfErr r (LacksAnswer site low ended) → IfErr r (LacksAnswer site seen whole)
+lack_wider site seen low whole ended (Ok s) front over h = tt
+lack_wider site seen low whole ended (Err e) front over h =
+    lack_before site seen whole e (subst (λ (l : List ℕ). LacksAnswer site l (whole && nat_le (length seen) head_limit) e) front (subst (λ (b : Bool). LacksAnswer site low b e) over h))
+
+-- why a head that was found gets no answer
+pub found_lack : (site : Site) (seen : List ℕ) (spans : List HeaderSpan) (whole : Bool) (head : RequestSpans) (r : Result Step FrontKind) → length spans ≡ fields_limit → IsFound head_limit seen spans head
+    → IfErr r (λ e. IsLack e × (e ≡ kind.NamesSpent → (h : RequestHead) → IsRequestAt seen spans head h → ReachesFile site h)) → IfErr r (LacksAnswer site seen whole)
+found_lack site seen spans whole head (Ok s) room found lack = tt
+found_lack site seen spans whole head (Err e) room found lack =
+    let begins : BeginsWithin head_limit fields_limit seen found.0 (drop head.len seen) = subst (λ (n : ℕ). BeginsWithin head_limit n seen found.0 (drop head.len seen)) room found.2 in
+    elim lack.0 [
+      | inl memory ↦ subst (LacksAnswer site seen whole) (sym memory) (inl (found.0, drop head.len seen, begins))
+      | inr names ↦ subst (LacksAnswer site seen whole) (sym names) (record { head = found.0; rest = drop head.len seen; begins = begins; reaches = lack.1 names found.0 found.1 })
+    ]
 
 done_wider : (limit : ℕ) (seen : List ℕ) (whole : Bool) → (whole && nat_le (length seen) limit) ≡ true → take limit seen ≡ []
     → (whole ≡ true) × (seen ≡ [])

@@ -12,7 +12,7 @@ use Rattle.filter_chain.specs.Scenes.{Scene, Acts}
 use Rattle.http_front.specs.Clocks.{Said}
 use Rattle.http_front.specs.Driven.{Beside, IsAlive, Leads, Handles}
 use Rattle.http_front.specs.Requests.{Runs}
-use Rattle.http_front.specs.Turns.{AnswersRead, IsCut, LacksAt, LacksMemory, Responses}
+use Rattle.http_front.specs.Turns.{AnswersRead, IsCut, LacksMemory, LacksNames, Responses}
 use Rattle.http_front.specs.declared.fault.FrontFault.{FrontFault}
 use Rattle.http_front.specs.declared.fault.FrontKind.{FrontKind}
 use Rattle.http_front.specs.declared.fault.FrontKind.TheVariants as kind
@@ -49,12 +49,13 @@ module _ (budget : ℕ) (chain : List Program) (number : ℕ) where
 module _ {H K : Type 0} (site : Site) (handles : H → Method → List ℕ → Outcome → H → Type 0) (tells : K → Said → K → Type 0) where
   -- What is written of the responses to a stream, where serving it ends by this kind of fault. unread: what the reader has left. Only where the
   -- writer failed, the last response is cut. Where the reader failed, or gave no end, all whole requests that were read are answered. Where names
-  -- or memory are lacking, all before the one at hand are. All responses are written, where no more than the close lacks memory.
+  -- or memory are lacking, all before the one at hand are: names only for a request that nothing refuses and whose path has a file. All responses
+  -- are written, where no more than the close lacks memory.
   abbrev pub FallsBy : FrontKind → Option ℕ → H → K → List ℕ → List ℕ → Option (List ℕ) → H → K → Type 0
   FallsBy kind.Write left old before stream text unread new after = IsCut site handles tells old before stream text new after
   FallsBy kind.Read left old before stream text unread new after = AnswersRead site handles tells old before stream text unread new after
   FallsBy kind.TooManyReads left old before stream text unread new after = AnswersRead site handles tells old before stream text unread new after
-  FallsBy kind.NamesSpent left old before stream text unread new after = LacksAt site handles tells old before stream text unread
+  FallsBy kind.NamesSpent left old before stream text unread new after = LacksNames site handles tells old before stream text unread
   FallsBy kind.NoMemory left old before stream text unread new after =
       LacksMemory site handles tells old before stream text unread new after
       ⊎ (¬ (left ≡ None) × (n : ℕ) × Responses site handles tells old before stream text n new after)

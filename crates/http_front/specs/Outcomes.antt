@@ -1,8 +1,8 @@
 -- What a request comes to (RFC 9110, sections 9.3 and 15).
-use Rattle.std.specs.Prelude.{◌≡◌, ℕ, ◌==◌, true, ◌||◌, if◌then◌else◌, List, [], Option, Some, None, codes, bytes_eq, ◌⊎◌}
+use Rattle.std.specs.Prelude.{◌≡◌, ℕ, ◌==◌, true, ◌||◌, if◌then◌else◌, List, [], Option, Some, None, IsSome, codes, bytes_eq, ◌⊎◌}
 use Rattle.httparse.specs.Grammar.{RequestHead}
 use Rattle.percent_encoding.specs.Percent.{percent_decode}
-use Rattle.http_front.specs.Asking.{target_path, head_closes, status_closes}
+use Rattle.http_front.specs.Asking.{target_path, refusal, head_closes, status_closes}
 use Rattle.http_front.specs.declared.failure.Failure.{Failure}
 use Rattle.http_front.specs.declared.fault.FrontKind.{FrontKind}
 use Rattle.http_front.specs.declared.fault.FrontKind.TheVariants as kind
@@ -37,6 +37,10 @@ file_at site (Some sent) = route_of site (percent_decode sent)
 -- the file that a head asks for: its path is decoded once, and matched as a whole
 unfoldable pub file_of : Site → RequestHead → Option (List ℕ)
 file_of site h = file_at site (target_path h.target)
+
+-- nothing refuses the head, and its path has a file: such a head alone reaches the handler
+abbrev pub ReachesFile : Site → RequestHead → Type 0
+ReachesFile site h = (refusal h ≡ None) × IsSome (file_of site h)
 
 -- the outcome is this status, without content
 abbrev pub IsBare : Status → Outcome → Type 0

@@ -2,7 +2,7 @@
 use Rattle.std.specs.Prelude.{◌≡◌, ℕ, ◌≤◌, Bool, true, false, List, [], ◌++◌, length, Option, IfSome, Result, Ok, Err}
 use Rattle.std.specs.Io.KnownBytes.{Consumes, Appends, IsAtEnd}
 use Rattle.http_front.specs.Clocks.{Said}
-use Rattle.http_front.specs.Turns.{Turn, AllStay, AnswersAll, AnswersRead, heads_of, texts_of, Responses, IsCut, LacksAt, LacksMemory, WantsMore}
+use Rattle.http_front.specs.Turns.{Turn, AllStay, AnswersAll, AnswersRead, heads_of, texts_of, Responses, IsCut, LacksMemory, LacksNames, WantsMore}
 use Rattle.http_front.specs.declared.fault.FrontKind.{FrontKind}
 use Rattle.http_front.specs.declared.fault.FrontKind.TheVariants as kind
 use Rattle.http_front.specs.declared.handler.Outcome.{Outcome}
@@ -45,13 +45,14 @@ module _ {H K : Type 0} (site : Site) (handles : H → Method → List ℕ → O
   EndsWell old before r w v n new after = Writes r w v (λ stream text. Responses site handles tells old before stream text n new after)
 
   -- Serving fails. Only where the writer failed, a response is cut. All whole requests that were read are answered, where the reader failed,
-  -- or gave no end. All before the one at hand are, where memory or names are lacking.
+  -- or gave no end. All before the one at hand are, where memory or names are lacking: names only for a request that nothing refuses and whose
+  -- path has a file.
   abbrev pub FailsBy : H → K → Option (List ℕ) → Option (List ℕ) → Option (List ℕ) → Option (List ℕ) → H → K → FrontKind → Type 0
   FailsBy old before r q w v new after kind.Write = Writes r w v (λ stream text. IsCut site handles tells old before stream text new after)
   FailsBy old before r q w v new after kind.Read = Writes r w v (λ stream text. AnswersRead site handles tells old before stream text q new after)
   FailsBy old before r q w v new after kind.TooManyReads = Writes r w v (λ stream text. AnswersRead site handles tells old before stream text q new after)
   FailsBy old before r q w v new after kind.NoMemory = Writes r w v (λ stream text. LacksMemory site handles tells old before stream text q new after)
-  FailsBy old before r q w v new after kind.NamesSpent = Writes r w v (λ stream text. LacksAt site handles tells old before stream text q)
+  FailsBy old before r q w v new after kind.NamesSpent = Writes r w v (λ stream text. LacksNames site handles tells old before stream text q)
 
   -- what comes next
   abbrev pub Goes : H → K → Option (List ℕ) → Option (List ℕ) → Option (List ℕ) → Option (List ℕ) → Bool → List ℕ → ℕ → H → K → Result Next FrontKind → Type 0

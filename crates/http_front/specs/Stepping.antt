@@ -6,7 +6,9 @@ use Rattle.http_front.specs.Clocks.{Said, IsNoted}
 use Rattle.http_front.specs.Heads.{BeginsWithin, StaysHeadless}
 use Rattle.http_front.specs.Outcomes.{IsReplyTo}
 use Rattle.http_front.specs.Replying.{reply_text}
-use Rattle.http_front.specs.Turns.{Turn, head_limit, fields_limit, ComesUnless, IsDated, Answers, SendsBad, WantsMore}
+use Rattle.http_front.specs.Turns.{Turn, head_limit, fields_limit, ComesUnless, IsDated, Answers, SendsBad, WantsFile, WantsMore}
+use Rattle.http_front.specs.declared.fault.FrontKind.{FrontKind}
+use Rattle.http_front.specs.declared.fault.FrontKind.TheVariants as kind
 use Rattle.http_front.specs.declared.handler.Outcome.{Outcome}
 use Rattle.http_front.specs.declared.reply.Method.{Method}
 use Rattle.http_front.specs.declared.reply.Reply.{Reply}
@@ -19,6 +21,12 @@ abbrev pub WantsAnswer : List ℕ → Bool → Type 0
 WantsAnswer seen whole =
     ((h : RequestHead) × (rest : List ℕ) × BeginsWithin head_limit fields_limit seen h rest)
     ⊎ (¬ (seen ≡ []) × StaysHeadless head_limit fields_limit seen whole)
+
+-- Why the bytes get no answer: memory is lacking, where one is wanted; or names are, for a request that nothing refuses and whose path has a file.
+abbrev pub LacksAnswer : Site → List ℕ → Bool → FrontKind → Type 0
+LacksAnswer site seen whole kind.NoMemory = WantsAnswer seen whole
+LacksAnswer site seen whole kind.NamesSpent = WantsFile site seen
+LacksAnswer site seen whole e = ⊥
 
 -- A head comes to this reply.
 pub record IsReplied {H : Type 0} (site : Site) (handles : H → Method → List ℕ → Outcome → H → Type 0) (old : H) (h : RequestHead) (r : Reply) (new : H) : Type 0 where

@@ -5,7 +5,7 @@ use Rattle.httparse.specs.Grammar.{RequestHead, IsRequestHead, MayBecomeRequest,
 use Rattle.http_front.specs.Asking.{refusal}
 use Rattle.http_front.specs.Clocks.{Said, Moment, IsNoted}
 use Rattle.http_front.specs.Heads.{BeginsWithin, IsHeadlessWithin, StaysHeadless}
-use Rattle.http_front.specs.Outcomes.{file_of, method_of, IsBare, IsReplyTo, IsBadReply}
+use Rattle.http_front.specs.Outcomes.{ReachesFile, file_of, method_of, IsBare, IsReplyTo, IsBadReply}
 use Rattle.http_front.specs.Replying.{reply_text, IsDateLine}
 use Rattle.http_front.specs.declared.handler.Outcome.{Outcome}
 use Rattle.http_front.specs.declared.reply.Method.{Method}
@@ -34,6 +34,13 @@ abbrev pub IsDue : List ℕ → List ℕ → Type 0
 IsDue seen left =
     ((h : RequestHead) × (rest : List ℕ) × BeginsWithin head_limit fields_limit seen h rest)
     ⊎ (¬ (seen ≡ []) × (whole : Bool) × (whole ≡ true → left ≡ []) × StaysHeadless head_limit fields_limit seen whole)
+
+-- The bytes begin with a head that nothing refuses and whose path has a file.
+pub record WantsFile (site : Site) (seen : List ℕ) : Type 0 where
+  pub head : RequestHead
+  pub rest : List ℕ
+  pub begins : BeginsWithin head_limit fields_limit seen head rest
+  pub reaches : ReachesFile site head
 
 -- A request and its response: the head, the reply, and the Date line.
 pub record Turn : Type 0 where
@@ -172,7 +179,8 @@ module _ {H K : Type 0} (site : Site) (handles : H → Method → List ℕ → O
     pub leaves : left ≡ Some unread
 
   -- These are the responses to all requests before the one that is at hand. seen: what was read and not answered. left: what the reader has left.
-  pub record LacksAt (old : H) (before : K) (stream text : List ℕ) (left : Option (List ℕ)) : Type 0 where
+  -- Due: what is said of both.
+  pub record LacksAt (Due : List ℕ → List ℕ → Type 0) (old : H) (before : K) (stream text : List ℕ) (left : Option (List ℕ)) : Type 0 where
     pub first : List ℕ
     pub seen : List ℕ
     pub unread : List ℕ
@@ -181,7 +189,7 @@ module _ {H K : Type 0} (site : Site) (handles : H → Method → List ℕ → O
     pub after : K
     pub splits : stream ≡ first ++ seen ++ unread
     pub responses : EndsAll old before first text n new after
-    pub due : IsDue seen unread
+    pub due : Due seen unread
     pub leaves : left ≡ Some unread
 
   -- These are the responses to all whole requests that were read, before the bytes that are lost: those of one read.
@@ -200,7 +208,11 @@ module _ {H K : Type 0} (site : Site) (handles : H → Method → List ℕ → O
 
   -- Memory was lacking: for the request at hand, or for bytes that were read.
   abbrev pub LacksMemory : H → K → List ℕ → List ℕ → Option (List ℕ) → H → K → Type 0
-  LacksMemory old before stream text left new after = LacksAt old before stream text left ⊎ LosesRead old before stream text left new after
+  LacksMemory old before stream text left new after = LacksAt IsDue old before stream text left ⊎ LosesRead old before stream text left new after
+
+  -- Names were lacking: for the request at hand, which nothing refuses, and whose path has a file.
+  abbrev pub LacksNames : H → K → List ℕ → List ℕ → Option (List ℕ) → Type 0
+  LacksNames old before stream text left = LacksAt (λ seen unread. WantsFile site seen) old before stream text left
 
   -- These are the responses to the first requests of a stream, and a part of one response more: that is cut. Its request was handled, too.
   pub record IsCut (old : H) (before : K) (stream text : List ℕ) (new : H) (after : K) : Type 0 where

@@ -1,11 +1,11 @@
 //! What a head is answered.
 
-ghost use Rattle.std.specs.Prelude.{◌≡◌, ◌||◌, ℕ, List, IfOk, IfErr};
+ghost use Rattle.std.specs.Prelude.{◌≡◌, ◌||◌, ℕ, List, IfOk, IfErr, IsSome};
 ghost use Rattle.httparse.specs.Grammar.{RequestHead};
 ghost use Rattle.httparse.specs.Spans.{IsRequestAt, IsRequestWithin};
 ghost use Rattle.percent_encoding.specs.Percent.{percent_decode};
 ghost use Rattle.http_front.specs.Asking.{refusal, status_closes};
-ghost use Rattle.http_front.specs.Outcomes.{IsBare, IsBadReply, IsLack, file_of, method_of, version_of};
+ghost use Rattle.http_front.specs.Outcomes.{IsBare, IsBadReply, IsLack, ReachesFile, file_of, method_of, version_of};
 ghost use Rattle.http_front.specs.Sites.{route_of};
 ghost use Rattle.http_front.specs.Stepping.{IsReplied};
 ghost use Rattle.http_front.specs.Turns.{ComesTo, ComesUnless};
@@ -72,7 +72,7 @@ fn path_outcome<H: Handler>(
     ensures beside { (from : H) → H.beside from number handler.old → H.beside from number handler.new }
     ensures ok { IfOk result (λ o. (h : RequestHead) → method ≡ method_of h.method
         → ComesTo site.now (λ old. H.handles old number) (route_of site.now (percent_decode sent.now)) handler.old h o handler.new) }
-    ensures err { IfErr result IsLack }
+    ensures err { IfErr result (λ e. IsLack e × (e ≡ FrontKind.NamesSpent → IsSome (route_of site.now (percent_decode sent.now)))) }
 {
     let path = decoded(alloc, sent)?;
     match site.route(path.as_slice()) {
@@ -94,7 +94,7 @@ fn target_outcome<H: Handler>(
     ensures beside { (from : H) → H.beside from number handler.old → H.beside from number handler.new }
     ensures ok { IfOk result (λ o. (h : RequestHead) → method ≡ method_of h.method → target.now ≡ h.target
         → ComesTo site.now (λ old. H.handles old number) (file_of site.now h) handler.old h o handler.new) }
-    ensures err { IfErr result IsLack }
+    ensures err { IfErr result (λ e. IsLack e × (e ≡ FrontKind.NamesSpent → (h : RequestHead) → target.now ≡ h.target → IsSome (file_of site.now h))) }
 {
     match target_path(target) {
         Some(sent) => path_outcome(alloc, sent, method, site, handler, number),
@@ -117,7 +117,7 @@ fn outcome_of<H: Handler>(
     ensures beside { (from : H) → H.beside from number handler.old → H.beside from number handler.new }
     ensures ok { IfOk result (λ o. (h : RequestHead) → IsRequestAt seen.now spans.now head h
         → ComesUnless site.now (λ old. H.handles old number) (refusal h) handler.old h o handler.new) }
-    ensures err { IfErr result IsLack }
+    ensures err { IfErr result (λ e. IsLack e × (e ≡ FrontKind.NamesSpent → (h : RequestHead) → IsRequestAt seen.now spans.now head h → ReachesFile site.now h)) }
 {
     match refusal(seen, spans, head) {
         Some(status) => Ok(bare(alloc, status)),
@@ -129,7 +129,8 @@ fn outcome_of<H: Handler>(
 }
 
 /// The reply to a head: its refusal (RFC 9110, section 15), or 404 where there is no file at its path, or
-/// what the handler makes of the file. `NoMemory` and `NamesSpent` leave the head without a reply.
+/// what the handler makes of the file. `NoMemory` and `NamesSpent` leave the head without a reply, `NamesSpent`
+/// only one that nothing refuses and whose path has a file.
 pub(crate) fn reply_to<H: Handler>(
     alloc: Global,
     seen: &[u8],
@@ -145,7 +146,7 @@ pub(crate) fn reply_to<H: Handler>(
     ensures beside { (from : H) → H.beside from number handler.old → H.beside from number handler.new }
     ensures ok { IfOk result (λ r. (h : RequestHead) → IsRequestAt seen.now spans.now head h
         → IsReplied site.now (λ old. H.handles old number) handler.old h r handler.new) }
-    ensures err { IfErr result IsLack }
+    ensures err { IfErr result (λ e. IsLack e × (e ≡ FrontKind.NamesSpent → (h : RequestHead) → IsRequestAt seen.now spans.now head h → ReachesFile site.now h)) }
 {
     let outcome = outcome_of(alloc, seen, spans, head, site, handler, number)?;
     Ok(Reply {

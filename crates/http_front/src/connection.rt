@@ -54,9 +54,10 @@ fn outcome_of(served: Result<Served, FrontKind>, left: Option<u64>) -> Result<Se
 
 /// Serves one connection: opens it on the host, answers the requests that the reader gives, one after another, and closes it.
 ///
-/// The kinds of faults: `NamesSpent` and `NoMemory` where no connection is opened, and nothing is read or written then; those of a request;
-/// `Read`, `TooManyReads` and `Write` of the reader and the writer. The connection is closed at each of them. Where that finds no memory, the
-/// fault names it (`left`), and the host can close it later; the kind is `NoMemory` then where all else went well.
+/// The kinds of faults: `NamesSpent` and `NoMemory` where no connection is opened, and nothing is read or written then; those of a request,
+/// `NamesSpent` only of one that nothing refuses and whose path has a file; `Read`, `TooManyReads` and `Write` of the reader and the writer.
+/// The connection is closed at each of them. Where that finds no memory, the fault names it (`left`), and the host can close it later; the kind
+/// is `NoMemory` then where all else went well.
 ///
 /// Whatever reader and writer are, nothing happens to the host but the opening of one connection, events of it, and its close. What is written is promised
 /// where it is known what the reader had left and what the writer holds, as of a slice and a `Vec`.

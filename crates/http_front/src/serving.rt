@@ -192,7 +192,8 @@ fn read_more<R: Read>(
 /// Serves the requests that a reader gives, one after another, and writes their responses. `handler` has opened the connection of this
 /// number. Serving ends where the reader does, or behind a response that closes: what follows is not served.
 /// At most 1,000,000 reads are made, each of at most 8192 bytes: `TooManyReads` where they reach no end. `Read` and `Write`: the reader
-/// or the writer failed. `NoMemory` and `NamesSpent`: memory or names are lacking. Only behind `Write` a response may be cut.
+/// or the writer failed. `NoMemory`: memory is lacking, for a response or for bytes that were read. `NamesSpent`: names are lacking for a
+/// request that nothing refuses and whose path has a file. Only behind `Write` a response may be cut.
 ///
 /// What is written is promised where it is known what the reader had left and what the writer holds, as of a slice and a `Vec`.
 pub(crate) fn serve_open<R: Read, W: Write, H: Handler, K: Clock>(

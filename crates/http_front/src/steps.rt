@@ -1,10 +1,11 @@
 //! One step of a connection: from the bytes at hand to a response.
 
 ghost use Rattle.std.specs.Prelude.{◌≡◌, ◌≤◌, ◌&&◌, ℕ, Bool, List, length, take, nat_le, IfOk, IfErr};
-ghost use Rattle.httparse.specs.Spans.{IsRequestWithin};
+ghost use Rattle.httparse.specs.Grammar.{RequestHead};
+ghost use Rattle.httparse.specs.Spans.{IsRequestAt, IsRequestWithin};
 ghost use Rattle.http_front.specs.Looking.{IsFound};
-ghost use Rattle.http_front.specs.Outcomes.{IsLack};
-ghost use Rattle.http_front.specs.Stepping.{Steps, WantsAnswer};
+ghost use Rattle.http_front.specs.Outcomes.{IsLack, ReachesFile};
+ghost use Rattle.http_front.specs.Stepping.{Steps, LacksAnswer};
 ghost use Rattle.http_front.specs.Texts.{text_of};
 ghost use Rattle.http_front.specs.Turns.{head_limit, fields_limit};
 
@@ -57,7 +58,7 @@ fn answer_head<H: Handler, K: Clock>(
     ensures open { H.is_open handler.new number }
     ensures beside { (from : H) → H.beside from number handler.old → H.beside from number handler.new }
     ensures ok { IfOk result (λ s. (whole : Bool) → Steps site.now (λ old. H.handles old number) K.tells handler.old clock.old seen.now whole s (text_of text.new) handler.new clock.new) }
-    ensures err { IfErr result IsLack }
+    ensures err { IfErr result (λ e. IsLack e × (e ≡ FrontKind.NamesSpent → (h : RequestHead) → IsRequestAt seen.now spans.now head h → ReachesFile site.now h)) }
 {
     let mut reply = reply_to(alloc, seen, spans, head, site, handler, number)?;
     let closes = reply.closes;
@@ -88,7 +89,7 @@ fn step_within<H: Handler, K: Clock>(
     ensures open { H.is_open handler.new number }
     ensures beside { (from : H) → H.beside from number handler.old → H.beside from number handler.new }
     ensures ok { IfOk result (λ s. Steps site.now (λ old. H.handles old number) K.tells handler.old clock.old seen.now whole s (text_of text.new) handler.new clock.new) }
-    ensures err { IfErr result (λ e. IsLack e × WantsAnswer seen.now whole) }
+    ensures err { IfErr result (LacksAnswer site.now seen.now whole) }
 {
     text.clear(alloc);
     if seen.is_empty() && whole {
@@ -134,7 +135,8 @@ fn front(bytes: &[u8], limit: usize) -> &[u8]
 ///
 /// # Errors
 ///
-/// `NoMemory` and `NamesSpent`: the bytes begin with a head, or with none whatever follows, and get no response; `text` is of no use.
+/// `NoMemory`: the bytes begin with a head, or with none whatever follows, and get no response. `NamesSpent`: they begin with a head that
+/// nothing refuses and whose path has a file, and get no response. `text` is of no use then.
 pub fn take_step<H: Handler, K: Clock>(
     alloc: Global,
     seen: &[u8],
@@ -149,7 +151,7 @@ pub fn take_step<H: Handler, K: Clock>(
     ensures open { H.is_open handler.new number }
     ensures beside { (from : H) → H.beside from number handler.old → H.beside from number handler.new }
     ensures ok { IfOk result (λ s. Steps site.now (λ old. H.handles old number) K.tells handler.old clock.old seen.now whole s (text_of text.new) handler.new clock.new) }
-    ensures err { IfErr result (λ e. IsLack e × WantsAnswer seen.now whole) }
+    ensures err { IfErr result (LacksAnswer site.now seen.now whole) }
 {
     let mut spans = [EMPTY_HEADER_SPAN; FIELDS_LIMIT];
     step_within(

@@ -1,4 +1,5 @@
-use Rattle.std.proofs.Common.{subst, rules}
+use Rattle.std.proofs.Common.{IsSome, subst, rules}
+use Rattle.std.proofs.lemmas.Result.{IfErr-weaker}
 use Rattle.http_front.specs.Turns.{ComesTo}
 use Rattle.http_front.proofs.Stepped.{ok_gives, file_at_path, no_file}
 use Rattle.http_front.proofs.answering.target_outcome.Goals as goal
@@ -14,3 +15,9 @@ pub returns-in-None-clause-ok : goal.returns-in-None-clause-ok
 returns-in-None-clause-ok g c h m t =
     subst (λ f. ComesTo c.args.site.now (λ old. g.H.Handler.handles old c.args.number) f c.args.handler.now h c.bare.result c.args.handler.now)
     (no_file c.args.site.now h c.args.target.now t c.in-None.ensures) (search rules)
+
+pub returns-in-Some-clause-err : goal.returns-in-Some-clause-err
+returns-in-Some-clause-err g c =
+    IfErr-weaker c.path_outcome.result _ _
+    (λ e lack. (lack.0, λ names h t. subst (λ f. IsSome f) (file_at_path c.args.site.now h c.args.target.now c.in-Some.sent.now t c.in-Some.ensures) (lack.1 names)))
+    c.path_outcome.ensures.err

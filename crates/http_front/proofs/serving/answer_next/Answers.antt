@@ -9,8 +9,7 @@ use Rattle.http_front.proofs.serving.answer_next.Goals as goal
 pub returns-in_err-step-clause-goes : goal.returns-in_err-step-clause-goes
 returns-in_err-step-clause-goes g c old before r q w ends so =
     let p = err_from_is_err_and c.from_residual.result c.from_residual.ensures.1 in
-    let lack = c.in_err-step.ensures.err in
-    fails_lacking _ _ _ old before r q w _ _ _ _ _ _ _ _ _ c.from_residual.result p.0 c.in_err-step.field-0.0 _ p.1 p.2 lack.0 ends c.unread.ensures lack.1 so
+    fails_lacking c.args.site.now (λ h. g.H.Handler.handles h c.args.number) g.K.Clock.tells old before r q w _ _ _ _ _ _ _ _ _ c.from_residual.result p.0 c.in_err-step.field-0.0 _ p.1 p.2 ends c.unread.ensures c.in_err-step.ensures.err so
 
 pub returns-in_err-put-in-Stays-clause-goes : goal.returns-in_err-put-in-Stays-clause-goes
 returns-in_err-put-in-Stays-clause-goes g c old before r q w ends so =
