@@ -27,9 +27,10 @@ give_first (Holds text) at m n bytes le g = (let long = g.0 in length-take-le m 
 give_rest : (h : Held) (at m n k : ℕ) (bytes : List ℕ) → n ≡ m + k → MayGive h at n bytes → MayGive h (at + m) k (drop m bytes)
 give_rest Missing at m n k bytes is never = absurd never
 give_rest Untold at m n k bytes is g = let all = length-drop m bytes in omega (arith, all, g, is)
-give_rest (Holds text) at m n k bytes is g =
-    (let all = length-drop m bytes in let long = g.0 in omega (arith, all, long, is),
-     ap (drop m) (g.1 ∙ ap (λ j. take j (drop at text)) is) ∙ (drop-take m k (drop at text) ∙ ap (take k) (drop-drop m at text)))
+give_rest (Holds text) at m n k bytes is g = (
+  let all = length-drop m bytes in let long = g.0 in omega (arith, all, long, is),
+  ap (drop m) (g.1 ∙ ap (λ j. take j (drop at text)) is) ∙ (drop-take m k (drop at text) ∙ ap (take k) (drop-drop m at text)),
+)
 
 pub none_given : (f : Fetched) (bytes : List ℕ) → f ≢ fetched.All → given_of f bytes ≡ []
 none_given fetched.All bytes never = absurd (never refl)
@@ -41,7 +42,7 @@ module _ (d : Device) (file start len : ℕ) where
   span_none count n front bytes s none gives =
       subst (λ (c : ℕ). RangeSoFar d file start len c (front ++ bytes)) (let e : count ≡ count + n = omega (arith, none) in e)
       (subst (λ (bs : List ℕ). RangeSoFar d file start len count bs)
-       (sym (ap (λ (bs : List ℕ). front ++ bs) (nil_from_length bytes (given_len (d.numbered file) (start + count) n bytes gives ∙ none)) ∙ append-nil front)) s)
+      (sym (ap (λ (bs : List ℕ). front ++ bs) (nil_from_length bytes (given_len (d.numbered file) (start + count) n bytes gives ∙ none)) ∙ append-nil front)) s)
 
   -- So many bytes are those of k reads, or of fewer at the end of the range.
   pub span_read : (k count n : ℕ) (front bytes : List ℕ) → RangeSoFar d file start len count front → n ≡ min (len - count) (8000 * k) → MayGive (d.numbered file) (start + count) n bytes → RangeSoFar d file start len (count + n) (front ++ bytes)
@@ -49,16 +50,16 @@ module _ (d : Device) (file start len : ℕ) where
   span_read (suc k) count n front bytes s is gives =
       ⊎_elim
       (λ (below : count < len).
-       let m : ℕ = min (len - count) 8000 in
-       let within : m ≤ n = omega (arith, is) in
-       let parts : n ≡ m + (n - m) = omega (arith, within) in
-       let first = range_read d file start len count m (count + m) front (take m bytes) (front ++ take m bytes) s below refl (give_first (d.numbered file) (start + count) m n bytes within gives) refl refl in
-       let on : start + count + m ≡ start + (count + m) = omega arith in
-       let later = span_read k (count + m) (n - m) (front ++ take m bytes) (drop m bytes) first (omega (arith, is, below))
-           (subst (λ (at : ℕ). MayGive (d.numbered file) at (n - m) (drop m bytes)) on (give_rest (d.numbered file) (start + count) m n (n - m) bytes parts gives)) in
-       subst (λ (c : ℕ). RangeSoFar d file start len c (front ++ bytes)) (let e : count + m + (n - m) ≡ count + n = omega (arith, within) in e)
-       (subst (λ (bs : List ℕ). RangeSoFar d file start len (count + m + (n - m)) bs)
-        (append_assoc front (take m bytes) (drop m bytes) ∙ ap (λ (bs : List ℕ). front ++ bs) (take-append-drop m bytes)) later))
+      let m : ℕ = min (len - count) 8000 in
+      let within : m ≤ n = omega (arith, is) in
+      let parts : n ≡ m + (n - m) = omega (arith, within) in
+      let first = range_read d file start len count m (count + m) front (take m bytes) (front ++ take m bytes) s below refl (give_first (d.numbered file) (start + count) m n bytes within gives) refl refl in
+      let on : start + count + m ≡ start + (count + m) = omega arith in
+      let later = span_read k (count + m) (n - m) (front ++ take m bytes) (drop m bytes) first (omega (arith, is, below))
+      (subst (λ (at : ℕ). MayGive (d.numbered file) at (n - m) (drop m bytes)) on (give_rest (d.numbered file) (start + count) m n (n - m) bytes parts gives)) in
+      subst (λ (c : ℕ). RangeSoFar d file start len c (front ++ bytes)) (let e : count + m + (n - m) ≡ count + n = omega (arith, within) in e)
+      (subst (λ (bs : List ℕ). RangeSoFar d file start len (count + m + (n - m)) bs)
+      (append_assoc front (take m bytes) (drop m bytes) ∙ ap (λ (bs : List ℕ). front ++ bs) (take-append-drop m bytes)) later))
       (λ (past : len ≤ count). span_none count n front bytes s (omega (arith, is, past)) gives)
       (cases_lt count len)
 

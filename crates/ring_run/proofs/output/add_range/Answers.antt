@@ -26,7 +26,7 @@ loop-count-preserved-in-All-1 g c =
     let n = c.min-part.result in
     let part : n ≡ min l.limit (c.args.len - l.count) = omega arith in
     let more = span_all d c.args.file c.args.start c.args.len (g.F.Files.device l.files) (g.F.Files.device c.add_span.new.files) l.count n c.args.out.now l.out c.add_span.new.out i.front i.device i.read
-        i.span.0 l.limit c.in_ok-add_span.field-0 i.span.1 part c.in_ok-add_span.ensures.added c.in-All.is in
+    i.span.0 l.limit c.in_ok-add_span.field-0 i.span.1 part c.in_ok-add_span.ensures.added c.in-All.is in
     record { within = omega arith; front = more.0; device = more.1; read = more.2; span = i.span }
 
 pub loop-count-preserved : goal.loop-count-preserved
@@ -34,7 +34,7 @@ loop-count-preserved g c =
     let l = c.loop-count in
     let i = l.invariant in
     let again = span_ended (g.F.Files.device c.args.files.now) c.args.file c.args.start c.args.len (g.F.Files.device l.files) (g.F.Files.device c.add_span.new.files) l.count c.min-part.result c.args.out.now l.out c.add_span.new.out i.front i.device i.read
-        c.in_ok-add_span.field-0 c.in_ok-add_span.ensures.added c.in-Ended.is in
+    c.in_ok-add_span.field-0 c.in_ok-add_span.ensures.added c.in-Ended.is in
     record { within = i.within; front = again.0; device = again.1; read = again.2; span = (1, omega arith, omega arith) }
 
 pub returns-in_default-clause-added : goal.returns-in_default-clause-added
