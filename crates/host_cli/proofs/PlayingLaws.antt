@@ -13,10 +13,10 @@ use Rattle.host_cli.specs.declared.fault.PlayFault.TheVariants as fault
 use Rattle.host_cli.specs.declared.player.Player.{Player}
 use Rattle.host_cli.specs.Heads.{no_head}
 use Rattle.host_cli.specs.Plays.{Writes}
-use Rattle.host_cli.specs.Playing.{IsEndFrom, IsSomeOf, IsCutOfSome, IsCutOfEnd, Adds, PlaysOn, PlaysLines, PlaysBytes, EndsLines, PlaysEnd}
+use Rattle.host_cli.specs.Playing.{IsEndFrom, IsCutOfSome, IsCutOfEnd, Adds, PlaysOn, PlaysLines, PlaysBytes, EndsLines, PlaysEnd}
 use Rattle.host_cli.specs.Sessions.{IsAt, TakesOn, EndsOn}
-use Rattle.host_cli.specs.Written.{Stage, Reading, Serving, Over, is_over, TakesAll, EndsAt, EndsLine, IsWhole, HasNoLf, IsWrittenFor, IsFrontOf, IsCutOf}
-use Rattle.host_cli.proofs.ScriptLines.{lines_append, lines_few, take_front, whole_append, ends_at}
+use Rattle.host_cli.specs.Written.{Stage, Reading, Serving, Over, is_over, TakesAll, IsSomeOf, EndsAt, EndsLine, IsWhole, HasNoLf}
+use Rattle.host_cli.proofs.ScriptLines.{lines_append, lines_few, whole_append, ends_at}
 use Rattle.host_cli.proofs.TakenLaws.{taken_append, taken_over}
 
 -- Lines are played.

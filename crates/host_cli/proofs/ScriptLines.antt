@@ -67,12 +67,10 @@ pub ends_at : (bytes : List ℕ) (n : ℕ) → 0 < n → n ≤ length bytes → 
 ends_at bytes n some within lf =
     (take (n - 1) bytes, ap (λ k. take k bytes) (let e : n ≡ n - 1 + 1 = omega arith in e) ∙ take_more bytes (n - 1) 0 (omega arith) ∙ ap (λ b. take (n - 1) bytes ++ b ∷ []) lf)
 
--- the first lines of a text, and all lines behind it
-pub take_front : {A : Type 0} (xs ys zs : List A) (n : ℕ) → (count : ℕ) × (take count (xs ++ (ys ++ zs)) ≡ xs ++ take n ys)
-take_front xs ys zs n =
-    let front : List _ = xs ++ take n ys in (
+-- the first ones of some are the first ones of more
+pub take_front : {A : Type 0} (ys zs : List A) (n : ℕ) → (count : ℕ) × (take count (ys ++ zs) ≡ take n ys)
+take_front ys zs n =
+    let front : List _ = take n ys in (
       length front,
-      ap (λ l. take (length front) (xs ++ (l ++ zs))) (sym (take-append-drop n ys))
-          ∙ ap (take (length front)) (ap (λ l. xs ++ l) (append_assoc (take n ys) (drop n ys) zs) ∙ sym (append_assoc xs (take n ys) (drop n ys ++ zs)))
-          ∙ take_at front (drop n ys ++ zs) (length front) refl,
+      ap (λ l. take (length front) (l ++ zs)) (sym (take-append-drop n ys)) ∙ ap (take (length front)) (append_assoc (take n ys) (drop n ys) zs) ∙ take_at front (drop n ys ++ zs) (length front) refl,
     )

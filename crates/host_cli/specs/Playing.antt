@@ -1,12 +1,12 @@
 -- What the code that plays a script writes, part by part.
-use Rattle.std.specs.Prelude.{◌≡◌, ◌≢◌, ℕ, ◌+◌, Bool, false, List, [], ◌∷◌, ◌++◌, length, take, Option, Result, Ok, Err, ◌⊎◌}
+use Rattle.std.specs.Prelude.{◌≡◌, ◌≢◌, ℕ, ◌+◌, Bool, false, List, [], ◌∷◌, ◌++◌, length, Option, Result, Ok, Err, ◌⊎◌}
 use Rattle.std.specs.Io.KnownBytes.{Appends}
 use Rattle.module_lang.specs.TextLines.{Line, lines_of}
 use Rattle.host_cli.specs.declared.ended.Ended.{Ended}
 use Rattle.host_cli.specs.declared.fault.PlayFault.{PlayFault}
 use Rattle.host_cli.specs.declared.fault.PlayFault.TheVariants as fault
 use Rattle.host_cli.specs.declared.player.Player.{Player}
-use Rattle.host_cli.specs.Written.{Stage, is_over, TakesAll, EndsAt, IsWhole, HasNoLf}
+use Rattle.host_cli.specs.Written.{Stage, is_over, TakesAll, IsSomeOf, EndsAt, IsWhole, HasNoLf}
 use Rattle.host_cli.specs.Sessions.{IsAt}
 
 -- What lines from this number on say to their end, and how they end.
@@ -17,12 +17,6 @@ pub record IsEndFrom (number : ℕ) (ls : List Line) (s : Stage) (text : List �
   pub takes : TakesAll number ls s answers stage
   pub ends : EndsAt stage last e
   pub written : text ≡ answers ++ last
-
--- What some first of these lines say.
-pub record IsSomeOf (number : ℕ) (ls : List Line) (s : Stage) (text : List ℕ) : Type 0 where
-  pub count : ℕ
-  pub stage : Stage
-  pub takes : TakesAll number (take count ls) s text stage
 
 abbrev pub IsCutOfSome : ℕ → List Line → Stage → List ℕ → Type 0
 IsCutOfSome number ls s text = (more : List ℕ) × (more ≢ []) × IsSomeOf number ls s (text ++ more)

@@ -1,5 +1,5 @@
 -- The text that is written for a script, line by line.
-use Rattle.std.specs.Prelude.{◌≡◌, ◌≢◌, ℕ, zero, suc, ◌+◌, Bool, true, false, if◌then◌else◌, List, [], ◌∷◌, ◌++◌, map, take, All, Option, Some, None, MatchOption, ◌⊎◌}
+use Rattle.std.specs.Prelude.{◌≡◌, ◌≢◌, ℕ, zero, suc, ◌+◌, ◌≤◌, Bool, true, false, if◌then◌else◌, List, [], ◌∷◌, ◌++◌, length, map, take, All, Option, Some, None, MatchOption, ◌⊎◌}
 use Rattle.module_lang.specs.Program.{Program}
 use Rattle.module_lang.specs.TextLines.{Line, lines_of}
 use Rattle.run_model.specs.declared.event.Refusal.TheVariants as refusal
@@ -149,6 +149,12 @@ TakesAll number [] s text t = (text ≡ []) × (t ≡ s)
 TakesAll number (l ∷ ls) s text t =
     (mid : Stage) × (told more : List ℕ) × Takes number l s told mid × TakesAll (number + 1) ls mid more t × (text ≡ told ++ more)
 
+-- What is told of some first of these lines.
+pub record IsSomeOf (number : ℕ) (ls : List Line) (s : Stage) (text : List ℕ) : Type 0 where
+  pub count : ℕ
+  pub stage : Stage
+  pub takes : TakesAll number (take count ls) s text stage
+
 -- a text that ends with an LF
 abbrev pub EndsLine : List ℕ → Type 0
 EndsLine text = (front : List ℕ) × (text ≡ front ++ 10 ∷ [])
@@ -196,12 +202,40 @@ pub record AnswersRead (script text : List ℕ) (left : Option (List ℕ)) : Typ
   pub running : is_over stage ≡ false
   pub leaves : left ≡ Some unread
 
--- What is written of its first lines.
-pub record IsFrontOf (script text : List ℕ) : Type 0 where
-  pub count : ℕ
-  pub stage : Stage
-  pub takes : TakesAll 1 (take count (lines_of script)) (Reading no_head) text stage
+-- A play ends behind its last read. told: what is told of all whole lines that were read before it. held: what was read of the next line before
+-- it. last: what it gave, at the end of the script nothing. left: what the reader has left.
+pub record LastRead (script : List ℕ) (left : Option (List ℕ)) : Type 0 where
+  pub whole : List ℕ
+  pub held : List ℕ
+  pub last : List ℕ
+  pub unread : List ℕ
+  pub mid : Stage
+  pub told : List ℕ
+  pub splits : script ≡ whole ++ (held ++ (last ++ unread))
+  pub is_whole : IsWhole whole
+  pub unended : HasNoLf held
+  pub few : length last ≤ 8192
+  pub takes : TakesAll 1 (lines_of whole) (Reading no_head) told mid
+  pub running : is_over mid ≡ false
+  pub leaves : left ≡ Some unread
 
--- What is written where the writer failed: the front of what may be written of the script, or of its first lines, but not all of it.
-abbrev pub IsCutOf : List ℕ → List ℕ → Type 0
-IsCutOf script text = (more : List ℕ) × (more ≢ []) × (IsFrontOf script (text ++ more) ⊎ ((e : Ended) × IsWrittenFor script (text ++ more) e))
+-- what is told of some first lines behind those
+abbrev pub TellsSome : {script : List ℕ} {left : Option (List ℕ)} → LastRead script left → List ℕ → Type 0
+TellsSome read text = IsSomeOf (1 + length (lines_of read.whole)) (lines_of (read.held ++ (read.last ++ read.unread))) read.mid text
+
+-- What is written where memory is wanting: all lines are answered but those that end in the last 8192 bytes that were read; of these, some first
+-- ones may be.
+pub record IsFrontOf (script text : List ℕ) (left : Option (List ℕ)) : Type 0 where
+  pub read : LastRead script left
+  pub more : List ℕ
+  pub tells : TellsSome read more
+  pub written : text ≡ read.told ++ more
+
+-- What is written where the writer failed: the same lines are answered; of what may follow, part is written and rest is not.
+pub record IsCutOf (script text : List ℕ) (left : Option (List ℕ)) : Type 0 where
+  pub read : LastRead script left
+  pub part : List ℕ
+  pub rest : List ℕ
+  pub some : rest ≢ []
+  pub written : text ≡ read.told ++ part
+  pub next : TellsSome read (part ++ rest) ⊎ ((e : Ended) × IsWrittenFor script (text ++ rest) e)

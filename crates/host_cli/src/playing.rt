@@ -119,8 +119,8 @@ fn take_bytes<W: Write>(
 /// Plays the script that a reader gives, and writes the answers. What was read is answered before more is read.
 ///
 /// `Read`: the reader failed, or gave no end within 1,000,000 reads of at most 8192 bytes; all whole lines that were read are answered.
-/// `NoMemory`: what was answered so far is written, in whole lines. `Write`: the writer failed or took nothing, and what it
-/// took is the front of the answers.
+/// `NoMemory`: all lines are answered but those that end in the last 8192 bytes that were read; of these, some first ones may be.
+/// `Write`: the writer failed or took nothing; the same lines are answered, and of what follows it took a front, but not all of it.
 ///
 /// What is written is promised where it is known what the reader had left and what the writer holds, as of a slice and a `Vec`.
 pub fn run_play<R: Read, W: Write>(
@@ -130,8 +130,8 @@ pub fn run_play<R: Read, W: Write>(
 ) -> Result<Ended, PlayFault>
     ensures ok { IfOk result (λ e. Writes (R.remaining reader.old) (W.contents writer.old) (W.contents writer.new) (λ script text. IsWrittenFor script text e)) }
     ensures read { result ≡ Err PlayFault.Read → Writes (R.remaining reader.old) (W.contents writer.old) (W.contents writer.new) (λ script text. AnswersRead script text (R.remaining reader.new)) }
-    ensures memory { result ≡ Err PlayFault.NoMemory → Writes (R.remaining reader.old) (W.contents writer.old) (W.contents writer.new) IsFrontOf }
-    ensures write { result ≡ Err PlayFault.Write → Writes (R.remaining reader.old) (W.contents writer.old) (W.contents writer.new) IsCutOf }
+    ensures memory { result ≡ Err PlayFault.NoMemory → Writes (R.remaining reader.old) (W.contents writer.old) (W.contents writer.new) (λ script text. IsFrontOf script text (R.remaining reader.new)) }
+    ensures write { result ≡ Err PlayFault.Write → Writes (R.remaining reader.old) (W.contents writer.old) (W.contents writer.new) (λ script text. IsCutOf script text (R.remaining reader.new)) }
 {
     let mut player = Player::new(alloc);
     let mut held = Vec::new(alloc);

@@ -34,28 +34,28 @@ returns-in-Ok-eq0-clause-ok g c =
     let none : c.in-Ok-eq0.field-0 ≡ 0 = first_of (omega arith, cc) in
     let same : length c.read.new.buf ≡ 8192 = c.read.auto.buf ∙ c.loop.invariant.1 in
     let k = going_last _ _ _ _ _ c.loop.player c.loop.held.items c.as_slice.result.now c.read.new.buf _ c.in-Ok-eq0.field-0 c.loop.invariant.0 none c.in-Ok-eq0.ensures.bytes (omega (arith, same)) c.as_slice.ensures.value in
-    last_ok _ _ _ _ _ c.loop.player _ c.end_play.result k (c.end_play.ensures k.stage k.at)
+    last_ok _ _ _ _ _ c.loop.player _ c.end_play.result k (c.end_play.ensures k.going.stage k.going.at)
 
 pub returns-in-Ok-eq0-clause-read : goal.returns-in-Ok-eq0-clause-read
 returns-in-Ok-eq0-clause-read g c =
     let none : c.in-Ok-eq0.field-0 ≡ 0 = first_of (omega arith, cc) in
     let same : length c.read.new.buf ≡ 8192 = c.read.auto.buf ∙ c.loop.invariant.1 in
     let k = going_last _ _ _ _ _ c.loop.player c.loop.held.items c.as_slice.result.now c.read.new.buf _ c.in-Ok-eq0.field-0 c.loop.invariant.0 none c.in-Ok-eq0.ensures.bytes (omega (arith, same)) c.as_slice.ensures.value in
-    λ is. last_read _ _ _ _ _ c.loop.player _ c.end_play.result k (c.end_play.ensures k.stage k.at) is _
+    λ is. last_read _ _ _ _ _ c.loop.player _ c.end_play.result k (c.end_play.ensures k.going.stage k.going.at) is _
 
 pub returns-in-Ok-eq0-clause-memory : goal.returns-in-Ok-eq0-clause-memory
 returns-in-Ok-eq0-clause-memory g c =
     let none : c.in-Ok-eq0.field-0 ≡ 0 = first_of (omega arith, cc) in
     let same : length c.read.new.buf ≡ 8192 = c.read.auto.buf ∙ c.loop.invariant.1 in
     let k = going_last _ _ _ _ _ c.loop.player c.loop.held.items c.as_slice.result.now c.read.new.buf _ c.in-Ok-eq0.field-0 c.loop.invariant.0 none c.in-Ok-eq0.ensures.bytes (omega (arith, same)) c.as_slice.ensures.value in
-    last_memory _ _ _ _ _ c.loop.player _ c.end_play.result k (c.end_play.ensures k.stage k.at)
+    last_memory _ _ _ _ _ c.loop.player _ c.end_play.result k (c.end_play.ensures k.going.stage k.going.at)
 
 pub returns-in-Ok-eq0-clause-write : goal.returns-in-Ok-eq0-clause-write
 returns-in-Ok-eq0-clause-write g c =
     let none : c.in-Ok-eq0.field-0 ≡ 0 = first_of (omega arith, cc) in
     let same : length c.read.new.buf ≡ 8192 = c.read.auto.buf ∙ c.loop.invariant.1 in
     let k = going_last _ _ _ _ _ c.loop.player c.loop.held.items c.as_slice.result.now c.read.new.buf _ c.in-Ok-eq0.field-0 c.loop.invariant.0 none c.in-Ok-eq0.ensures.bytes (omega (arith, same)) c.as_slice.ensures.value in
-    last_write _ _ _ _ _ c.loop.player _ c.end_play.result k (c.end_play.ensures k.stage k.at)
+    last_write _ _ _ _ _ c.loop.player _ c.end_play.result k (c.end_play.ensures k.going.stage k.going.at)
 
 pub returns-in_err-take_bytes-in-Ok-clause-read : goal.returns-in_err-take_bytes-in-Ok-clause-read
 returns-in_err-take_bytes-in-Ok-clause-read g c =
@@ -67,13 +67,17 @@ pub returns-in_err-take_bytes-in-Ok-clause-memory : goal.returns-in_err-take_byt
 returns-in_err-take_bytes-in-Ok-clause-memory g c =
     let p = err_from_is_err_and c.from_residual.result c.from_residual.ensures.1 in
     let k = c.loop.invariant.0 in
-    bytes_memory _ _ _ _ _ _ c.loop.player c.take_bytes.new.player _ _ c.take_bytes.new.held.items _ k c.in-Ok.ensures.bytes.0 _ _ _ p.1 p.2 (c.in_err-take_bytes-in-Ok.ensures k.stage k.at)
+    let long = length-take c.in-Ok.count c.read.new.buf in
+    let same : length c.read.new.buf ≡ 8192 = c.read.auto.buf ∙ c.loop.invariant.1 in
+    bytes_memory _ _ _ _ _ _ c.loop.player c.take_bytes.new.player _ _ c.take_bytes.new.held.items _ k c.in-Ok.ensures.bytes.0 _ _ _ (omega (arith, long, same)) p.1 p.2 (c.in_err-take_bytes-in-Ok.ensures k.stage k.at)
 
 pub returns-in_err-take_bytes-in-Ok-clause-write : goal.returns-in_err-take_bytes-in-Ok-clause-write
 returns-in_err-take_bytes-in-Ok-clause-write g c =
     let p = err_from_is_err_and c.from_residual.result c.from_residual.ensures.1 in
     let k = c.loop.invariant.0 in
-    bytes_write _ _ _ _ _ _ c.loop.player c.take_bytes.new.player _ _ c.take_bytes.new.held.items _ k c.in-Ok.ensures.bytes.0 _ _ _ p.1 p.2 (c.in_err-take_bytes-in-Ok.ensures k.stage k.at)
+    let long = length-take c.in-Ok.count c.read.new.buf in
+    let same : length c.read.new.buf ≡ 8192 = c.read.auto.buf ∙ c.loop.invariant.1 in
+    bytes_write _ _ _ _ _ _ c.loop.player c.take_bytes.new.player _ _ c.take_bytes.new.held.items _ k c.in-Ok.ensures.bytes.0 _ _ _ (omega (arith, long, same)) p.1 p.2 (c.in_err-take_bytes-in-Ok.ensures k.stage k.at)
 
 pub returns-in-Err-clause-read : goal.returns-in-Err-clause-read
 returns-in-Err-clause-read g c = λ _. going_kept _ _ _ _ _ c.loop.player _ _ c.loop.invariant.0 c.in-Err.ensures.bytes
