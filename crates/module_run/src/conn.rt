@@ -1,8 +1,9 @@
 //! A connection: a filter for each module of its chain, and the calls that run.
 
 use brigade_ops::{BrigadeId, FileNo, PoolId};
+use ring_run::OutputBlock;
 use ring_run::machine::{Call, Instance};
-use run_model::{Cause, Payload, Seq};
+use run_model::{Cause, Payload};
 
 /// A filter of a connection: its instance and its call. While the call waits for a pass to return, `lent` is the brigade variable that
 /// was passed.
@@ -37,7 +38,7 @@ pub struct Conn {
     pub(crate) req: Option<PoolId>,
     pub(crate) labels: Vec<Vec<(PoolId, Payload)>>,
     pub(crate) files: Vec<OpenFile>,
-    pub(crate) out: Seq<u8>,
+    pub(crate) out: OutputBlock,
     pub(crate) ended: bool,
     pub(crate) count: u64,
     pub(crate) broken: Option<Cause>,

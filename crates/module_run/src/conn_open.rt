@@ -12,8 +12,9 @@ ghost use Rattle.module_run.specs.Proceeding.{LeftAs};
 use crate::conn::{Conn, Filter};
 use crate::conn_begin::call_and_pool;
 use brigade_ops::{Brigades, Bucket, PoolTree, Rings};
+use ring_run::OutputBlock;
 use ring_run::machine::{Call, Instance};
-use run_model::{Module, Payload, Seq};
+use run_model::{Module, Payload};
 use std::alloc::{AllocError, Global};
 
 impl Filter {
@@ -68,7 +69,7 @@ impl Conn {
             req: None,
             labels: Vec::new(alloc),
             files: Vec::new(alloc),
-            out: Seq::new(alloc),
+            out: OutputBlock::new(alloc),
             ended: false,
             count: 0,
             broken: None,

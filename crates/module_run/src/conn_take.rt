@@ -10,6 +10,7 @@ ghost use Rattle.module_run.specs.Stacked.{StackedOver};
 
 use crate::conn::Conn;
 use brigade_ops::PoolId;
+use ring_run::OutputBlock;
 use run_model::{Payload, Seq};
 use std::mem;
 
@@ -31,7 +32,7 @@ impl Conn {
         self.out.clear();
     }
 
-    /// The output since it was emptied last. Output goes into `room` from now on, the items of which are dropped. It takes no memory, and
+    /// The output since it was emptied last. Output goes into the block `room` from now on, over what stands there. It takes no memory, and
     /// serves in any state.
     #[tactic(auto, using(crate::proofs::Alongside::stacked_beside, crate::proofs::RequestEnds::request_left_as), unfolding(crate::specs::Conns::conn_of, crate::specs::Conns::filter_at))]
     pub fn take_output(&mut self, room: Seq<u8>) -> Seq<u8>
@@ -39,9 +40,7 @@ impl Conn {
         ensures taken { (ps : Pools Payload) (rings : ℕ → Option Items) (opened : ℕ → Option (List ℕ)) → let c = conn_of ps rings opened self.old in conn_of ps rings opened self.new ≡ record c { out = record c.out { bytes = [] } } }
         ensures stacked { (chain : List Program) (at : BucketId → Option ℕ) (rings : ℕ → Option Items) (pools : ℕ → Option ℕ) (next : ℕ) → StackedOver chain at rings pools next self.old → StackedOver chain at rings pools next self.new }
     {
-        let mut emptied = room;
-        emptied.clear();
-        mem::replace(&mut self.out, emptied)
+        mem::replace(&mut self.out, OutputBlock::over(room)).into_seq()
     }
 
     /// The labels that ran, each with its pool, in a list for each clear or end of a pool that ran any, the oldest first. It takes no memory,

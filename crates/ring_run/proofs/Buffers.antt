@@ -1,46 +1,38 @@
 -- Lists of which a part is written.
-use Rattle.std.proofs.Common.{append_assoc, ◌≡◌, ℕ, ◌+◌, ◌-◌, ◌≤◌, List, ◌++◌, length, take, drop, replicate, sym, ap, ◌∙◌, arith}
-use Rattle.std.proofs.lemmas.List.{append-nil, length-append, length-take, length-drop, length-replicate, nil_from_length, take-append-drop, take_at}
+use Rattle.std.proofs.Common.{append_assoc, ◌≡◌, ℕ, ◌-◌, ◌≤◌, List, ◌++◌, length, take, drop, sym, ap, ◌∙◌, arith}
+use Rattle.std.proofs.lemmas.List.{length-append, length-drop, length-take-le, take-append-drop, take-take, take_at}
 use borrow.Rule.Slice.PartMut.{put_mid, post_of}
 
--- the length of a list in which a part was written
-pub put_len : {X : Type 0} (a k : ℕ) (xs ys : List X) → a + k ≤ length xs → length ys ≡ k → length (put_mid a k xs ys) ≡ length xs
-put_len a k xs ys fits same =
-    let all = length-append (take a xs) (ys ++ post_of a k xs) in
-    let more = length-append ys (post_of a k xs) in
-    let front = length-take a xs in
-    let rest = length-drop k (drop a xs) in
+-- how long a part is
+pub part_len : (xs : List ℕ) (a b : ℕ) → a ≤ b → b ≤ length xs → length (take (b - a) (drop a xs)) ≡ b - a
+part_len xs a b order fits =
     let past = length-drop a xs in
-    omega (arith, all, more, front, rest, past, fits, same)
+    length-take-le (b - a) (drop a xs) (omega (arith, past, order, fits))
 
--- the length of what stands behind a place
-pub tail_len : {X : Type 0} (xs : List X) (a : ℕ) → length (take (length xs - a) (drop a xs)) ≡ length xs - a
-tail_len xs a =
-    let front = length-take (length xs - a) (drop a xs) in
-    let back = length-drop a xs in
-    omega (arith, front, back)
+-- A list grew, and a part of it was written: `old` is the list before, and the first `a` of it are in use.
+module _ (old all xs : List ℕ) (a b : ℕ) (ys : List ℕ) (same : xs ≡ all) (front : take (length old) all ≡ old) (there : a ≤ length old) (order : a ≤ b) (fits : b ≤ length all) (size : length ys ≡ length (take (b - a) (drop a xs))) where
+  abbrev written : List ℕ
+  written = take (length all) (put_mid a (b - a) xs ys ++ drop (length (put_mid a (b - a) xs ys)) all)
 
--- a list of which the part behind the place a was written
-put_last : {X : Type 0} (a k : ℕ) (xs ys : List X) → a + k ≡ length xs → put_mid a k xs ys ≡ take a xs ++ ys
-put_last a k xs ys all =
-    let past = length-drop a xs in
-    let rest = length-drop k (drop a xs) in
-    ap (λ zs. take a xs ++ (ys ++ zs)) (nil_from_length (post_of a k xs) (omega (arith, past, rest, all))) ∙ ap (λ zs. take a xs ++ zs) (append-nil ys)
+  pub part_size : length (take (b - a) (drop a xs)) ≡ b - a
+  part_size = part_len xs a b order (let whole = ap length same in omega (arith, fits, whole))
 
--- Behind a list there was room made for n bytes, and they were written.
-module _ (out all shown : List ℕ) (a n : ℕ) (grown : all ≡ out ++ replicate n 0) (value : shown ≡ all) (from : a ≡ length out) where
-  length_shown : length shown ≡ a + n
-  length_shown = (let long = ap length value ∙ (ap length grown ∙ length-append out (replicate n 0)) in let zeros = length-replicate {A = ℕ} n 0 in omega (arith, long, zeros, from))
+  pub part_written : take b written ≡ take a old ++ ys
+  part_written =
+      let rest = drop (length (put_mid a (b - a) xs ys)) all in
+      let before = take a xs in
+      let post = post_of a (b - a) xs in
+      let whole = ap length same in
+      let joined = length-append before ys in
+      let until = length-take-le a xs (omega (arith, order, fits, whole)) in
+      let part = part_size in
+      take-take b (length all) (put_mid a (b - a) xs ys ++ rest) fits
+      ∙ (ap (take b) (append_assoc before (ys ++ post) rest ∙ (ap (λ zs. before ++ zs) (append_assoc ys post rest) ∙ sym (append_assoc before ys (post ++ rest))))
+      ∙ (take_at (before ++ ys) (post ++ rest) b (omega (arith, joined, until, size, part, order))
+      ∙ ap (λ zs. zs ++ ys) (ap (take a) same ∙ (sym (take-take a (length old) all there) ∙ ap (take a) front))))
 
-  pub room_len : length (take (length shown - a) (drop a shown)) ≡ n
-  room_len = (let tail = tail_len shown a in let long = length_shown in omega (arith, tail, long))
-
-  pub room_written : (bytes : List ℕ) → length bytes ≡ n → take (length all) (put_mid a (length shown - a) shown bytes ++ drop (length (put_mid a (length shown - a) shown bytes)) all) ≡ out ++ bytes
-  room_written bytes same =
-      let long = length_shown in
-      take_at _ _ (length all) (put_len a (length shown - a) shown bytes (omega (arith, long)) (omega (arith, long, same)) ∙ ap length value)
-      ∙ (put_last a (length shown - a) shown bytes (omega (arith, long))
-      ∙ ap (λ xs. xs ++ bytes) (ap (take a) (value ∙ grown) ∙ take_at out (replicate n 0) a (sym from)))
+  pub part_unread : take a written ≡ take a old
+  part_unread = sym (take-take a b written order) ∙ (ap (take a) part_written ∙ take_at (take a old) ys a (length-take-le a old there))
 
 -- a list with another at its front is that one, and what comes behind it
 pub both_parts : (old out : List ℕ) → take (length old) out ≡ old → out ≡ old ++ drop (length old) out

@@ -26,6 +26,7 @@ pub mod led_to;
 pub mod machine;
 mod makers;
 pub mod output;
+pub mod output_block;
 pub mod outside;
 mod part_steps;
 pub mod passes;
@@ -42,6 +43,7 @@ pub mod wants;
 
 pub use brigade_ops::{BrigadeId, Brigades, BucketId, PlainRings, PoolId, PoolTree, Rings};
 pub use machine::{Call, Instance, Slot, Stand};
+pub use output_block::OutputBlock;
 pub use outside::Outside;
 pub use run_model::{Bucket, Mark, Payload, PoolVar, Seq};
 pub use setting::Setting;

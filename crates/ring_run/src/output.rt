@@ -13,7 +13,7 @@ ghost use Rattle.run_model.specs.Cutting.{EndsInFile, length_of};
 ghost use Rattle.run_model.specs.declared.bucket.Bucket.{Bucket};
 ghost use Rattle.brigade_ops.specs.Items.{named};
 ghost use Rattle.brigade_ops.specs.Store.{lists, brigade_of, bucket_at};
-ghost use Rattle.ring_run.specs.Delivery.{ContentAdded, HasFront, IsFetched, ItemsAdded, SpanAdded, WasDelivered, out_of};
+ghost use Rattle.ring_run.specs.Delivery.{ContentAdded, HasFront, IsFetched, ItemsAdded, WasDelivered, out_of};
 ghost use Rattle.ring_run.specs.declared.machine.Call.{Call};
 ghost use Rattle.ring_run.specs.Around.{Around};
 ghost use Rattle.ring_run.specs.Ends.{EndInFiles};
@@ -25,9 +25,10 @@ ghost use Rattle.ring_run.specs.Seen.{seen, shown};
 
 use crate::effects::live;
 use crate::machine::Instance;
+use crate::output_block::OutputBlock;
 use crate::passes::{hand_over, has_eos, is_eos};
 use brigade_ops::{BrigadeId, Brigades, Bucket, Content, FileNo, Files, Rings};
-use run_model::{Mark, Seq};
+use run_model::Mark;
 use std::alloc::AllocError;
 
 /// How many bytes a read takes from a file, at most.
@@ -38,7 +39,7 @@ const SPAN_LIMIT: u64 = 80_000;
 
 /// What became of bytes that were asked for.
 #[derive(Clone, Copy)]
-enum Fetched {
+pub(crate) enum Fetched {
     /// All of them were given.
     All,
     /// The file ends before the last of them.
@@ -48,7 +49,7 @@ enum Fetched {
 }
 
 /// Fills a buffer from a place of a file on, and tells what became of that.
-fn fetch<F: Files>(files: &mut F, file: FileNo, at: u64, buffer: &mut [u8]) -> Fetched
+pub(crate) fn fetch<F: Files>(files: &mut F, file: FileNo, at: u64, buffer: &mut [u8]) -> Fetched
     requires { is_there ((F.device files.old).numbered file) ≡ true }
     ensures fetched { IsFetched (F.device files.old) (F.device files.new) file at (length buffer.old) buffer.new result }
     ensures open_files { (F.device files.new).numbered ≡ (F.device files.old).numbered }
@@ -62,34 +63,10 @@ fn fetch<F: Files>(files: &mut F, file: FileNo, at: u64, buffer: &mut [u8]) -> F
     }
 }
 
-/// Adds so many bytes of a file to the output, from a place on, and tells what became of them. Where not all were given, none is added.
-fn add_span<F: Files>(
-    out: &mut Seq<u8>,
-    files: &mut F,
-    file: FileNo,
-    at: u64,
-    count: u64,
-) -> Result<Fetched, AllocError>
-    requires { is_there ((F.device files.old).numbered file) ≡ true }
-    ensures added { IfOk result (λ fetched. SpanAdded (F.device files.old) (F.device files.new) file at count fetched out.old out.new) }
-    ensures unread { OnErr result ((out.new ≡ out.old) × (F.device files.new ≡ F.device files.old)) }
-    ensures open_files { (F.device files.new).numbered ≡ (F.device files.old).numbered }
-{
-    let len = out.len();
-    out.add_zeros(count as usize)?;
-    match fetch(files, file, at, &mut out.as_mut_slice()[len..]) {
-        Fetched::All => Ok(Fetched::All),
-        lacking => {
-            out.truncate(len);
-            Ok(lacking)
-        }
-    }
-}
-
 /// Adds a range to the output, up to a read that fails, and tells whether none did. Ten reads are made as one, and one by one where the
 /// file ends within them. Room is made for no more than is read next. Without memory some parts may have been added.
 fn add_range<F: Files>(
-    out: &mut Seq<u8>,
+    out: &mut OutputBlock,
     files: &mut F,
     file: FileNo,
     start: u64,
@@ -106,7 +83,7 @@ fn add_range<F: Files>(
     let mut limit = SPAN_LIMIT;
     while count < len {
         let part = limit.min(len - count);
-        match add_span(out, files, file, start + count, part)? {
+        match out.add_span(files, file, start + count, part)? {
             Fetched::All => count += part,
             Fetched::Ended if part > READ_LIMIT => limit = READ_LIMIT,
             _ => return Ok(false),
@@ -116,7 +93,11 @@ fn add_range<F: Files>(
 }
 
 /// Adds the bytes of a content to the output, up to a read that fails, and tells whether none did. Without memory some may have been added.
-fn add<F: Files>(out: &mut Seq<u8>, files: &mut F, content: &Content) -> Result<bool, AllocError>
+fn add<F: Files>(
+    out: &mut OutputBlock,
+    files: &mut F,
+    content: &Content,
+) -> Result<bool, AllocError>
     requires ends { EndsInFile content.now }
     requires open { IsOpenFor (F.device files.old) content.now }
     ensures added { IfOk result (λ whole. ContentAdded (F.device files.old) (F.device files.new) content.now whole out.old out.new) }
@@ -137,7 +118,7 @@ fn add<F: Files>(out: &mut Seq<u8>, files: &mut F, content: &Content) -> Result<
 /// Adds the bytes of a brigade before its first EOS to the output, up to a read that fails, and tells whether none did. Without memory some
 /// may have been added.
 fn add_all<R: Rings<Bucket> + Drop, F: Files>(
-    out: &mut Seq<u8>,
+    out: &mut OutputBlock,
     files: &mut F,
     store: &Brigades<R>,
     b: BrigadeId,
@@ -170,7 +151,7 @@ pub fn deliver<R: Rings<Bucket> + Drop, F: Files>(
     store: &Brigades<R>,
     files: &mut F,
     b: BrigadeId,
-    out: &mut Seq<u8>,
+    out: &mut OutputBlock,
     ended: &mut bool,
 ) -> Result<bool, AllocError>
     requires there { is_some (lists store.now b) ≡ true }
@@ -216,7 +197,7 @@ pub fn pass_out<R: Rings<Bucket> + Drop, F: Files>(
     store: &mut Brigades<R>,
     files: &mut F,
     b: u8,
-    out: &mut Seq<u8>,
+    out: &mut OutputBlock,
     ended: &mut bool,
 ) -> Result<bool, AllocError>
     requires slot { b < 9 }

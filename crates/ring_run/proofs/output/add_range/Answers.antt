@@ -25,7 +25,7 @@ loop-count-preserved-in-All-1 g c =
     let d = g.F.Files.device c.args.files.now in
     let n = c.min-part.result in
     let part : n ≡ min l.limit (c.args.len - l.count) = omega arith in
-    let more = span_all d c.args.file c.args.start c.args.len (g.F.Files.device l.files) (g.F.Files.device c.add_span.new.files) l.count n c.args.out.now l.out c.add_span.new.out i.front i.device i.read
+    let more = span_all d c.args.file c.args.start c.args.len (g.F.Files.device l.files) (g.F.Files.device c.add_span.new.files) l.count n c.args.out.now l.out c.add_span.new.self i.front i.device i.read
     i.span.0 l.limit c.in_ok-add_span.field-0 i.span.1 part c.in_ok-add_span.ensures.added c.in-All.is in
     record { within = omega arith; front = more.0; device = more.1; read = more.2; span = i.span }
 
@@ -33,7 +33,7 @@ pub loop-count-preserved : goal.loop-count-preserved
 loop-count-preserved g c =
     let l = c.loop-count in
     let i = l.invariant in
-    let again = span_ended (g.F.Files.device c.args.files.now) c.args.file c.args.start c.args.len (g.F.Files.device l.files) (g.F.Files.device c.add_span.new.files) l.count c.min-part.result c.args.out.now l.out c.add_span.new.out i.front i.device i.read
+    let again = span_ended (g.F.Files.device c.args.files.now) c.args.file c.args.start c.args.len (g.F.Files.device l.files) (g.F.Files.device c.add_span.new.files) l.count c.min-part.result c.args.out.now l.out c.add_span.new.self i.front i.device i.read
     c.in_ok-add_span.field-0 c.in_ok-add_span.ensures.added c.in-Ended.is in
     record { within = i.within; front = again.0; device = again.1; read = again.2; span = (1, omega arith, omega arith) }
 
@@ -45,7 +45,7 @@ returns-in_default-clause-added g c =
     let of = i.span.1 in
     let above = i.span.2 in
     let part : c.min-part.result ≡ min (c.args.len - l.count) 8000 = omega (arith, of, above) in
-    span_lacks (g.F.Files.device c.args.files.now) c.args.file c.args.start c.args.len (g.F.Files.device l.files) (g.F.Files.device c.add_span.new.files) l.count c.min-part.result c.args.out.now l.out c.add_span.new.out i.front i.device i.read
+    span_lacks (g.F.Files.device c.args.files.now) c.args.file c.args.start c.args.len (g.F.Files.device l.files) (g.F.Files.device c.add_span.new.files) l.count c.min-part.result c.args.out.now l.out c.add_span.new.self i.front i.device i.read
     c.in_ok-add_span.field-0 below c.in_ok-add_span.ensures.added c.in_default.not-All (λ _. part)
 
 pub returns-in_default-2-clause-added : goal.returns-in_default-2-clause-added
@@ -53,7 +53,7 @@ returns-in_default-2-clause-added g c =
     let l = c.loop-count in
     let i = l.invariant in
     let below : l.count < c.args.len = omega arith in
-    span_lacks (g.F.Files.device c.args.files.now) c.args.file c.args.start c.args.len (g.F.Files.device l.files) (g.F.Files.device c.add_span.new.files) l.count c.min-part.result c.args.out.now l.out c.add_span.new.out i.front i.device i.read
+    span_lacks (g.F.Files.device c.args.files.now) c.args.file c.args.start c.args.len (g.F.Files.device l.files) (g.F.Files.device c.add_span.new.files) l.count c.min-part.result c.args.out.now l.out c.add_span.new.self i.front i.device i.read
     c.in_ok-add_span.field-0 below c.in_ok-add_span.ensures.added c.in_default.not-All (λ ended. absurd (cc (ended, c.in_default.is)))
 
 pub returns-clause-added : goal.returns-clause-added
