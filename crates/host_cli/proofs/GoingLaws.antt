@@ -1,5 +1,5 @@
 -- How a play goes on, from a reader to a writer.
-use Rattle.std.proofs.Common.{◌≡◌, ℕ, ◌+◌, ◌-◌, ◌*◌, ◌^◌, ◌<◌, ◌≤◌, ◌⊎◌, inl, inr, Bool, true, false, List, [], ◌∷◌, ◌++◌, length, take, drop, Option, Some, None, IfSome, Result, Ok, Err, IfOk, refl, ap, sym, subst, ◌∙◌, arith}
+use Rattle.std.proofs.Common.{◌≡◌, ℕ, ◌+◌, ◌<◌, ◌≤◌, ◌⊎◌, inl, inr, true, false, List, [], ◌++◌, length, take, Option, Some, None, IfSome, Result, Ok, Err, IfOk, refl, ap, sym, subst, ◌∙◌, arith}
 use Rattle.std.proofs.lemmas.List.{append_assoc, append-nil, length-append}
 use Rattle.std.proofs.KnownBytes.{Appends-nil, Appends-trans, Consumes-nil, Consumes-trans, Consumes-kept}
 use Rattle.std.specs.Io.KnownBytes.{Appends, Consumes, Keeps, IsAtEnd}
@@ -13,9 +13,9 @@ use Rattle.host_cli.specs.Heads.{no_head}
 use Rattle.host_cli.specs.Plays.{Writes}
 use Rattle.host_cli.specs.Playing.{IsEndFrom, IsCutOfSome, IsCutOfEnd, PlaysOn, PlaysBytes, PlaysEnd}
 use Rattle.host_cli.specs.Sessions.{IsAt}
-use Rattle.host_cli.specs.Written.{Stage, Reading, Serving, Over, is_over, TakesAll, IsSomeOf, IsWhole, HasNoLf, AnswersRead, LastRead, IsWrittenFor, IsFrontOf, IsCutOf}
-use Rattle.host_cli.proofs.ScriptLines.{lines_append, lines_few, take_front, whole_append}
-use Rattle.host_cli.proofs.TakenLaws.{taken_append, taken_none, taken_over}
+use Rattle.host_cli.specs.Written.{Stage, Reading, Serving, Over, is_over, TakesAll, IsSomeOf, IsWhole, HasNoLf, AnswersRead, LastRead, TellsSome, IsWrittenFor, IsFrontOf, IsCutOf}
+use Rattle.host_cli.proofs.ScriptLines.{lines_append, lines_few, whole_append}
+use Rattle.host_cli.proofs.TakenLaws.{taken_append, taken_over}
 
 -- How far a play is: whole lines were taken, and their answers written; a part of a line is held back.
 pub record Going (from to before after : Option (List ℕ)) (p : Player) (held : List ℕ) (bound : ℕ) : Type 0 where
@@ -89,49 +89,53 @@ module _ (from to before mid : Option (List ℕ)) (p : Player) (held bytes unrea
         written = ap (λ l. g.told ++ l) k.written ∙ sym (append_assoc g.told k.answers k.last);
       }
 
-  some_behind : (ls ms : List Line) (text : List ℕ) → lines_of (held ++ (bytes ++ unread)) ≡ ls ++ ms → IsSomeOf (p.lines + 1) ls g.stage text → IsSomeOf (1 + length (lines_of g.whole)) (lines_of (held ++ (bytes ++ unread))) g.stage text
-  some_behind ls ms text lines k =
-      let cut = take_front ls ms k.count in
-      let front : take cut.0 (lines_of (held ++ (bytes ++ unread))) ≡ take k.count ls = ap (take cut.0) lines ∙ cut.1 in
-      let takes = subst (λ n. TakesAll n (take k.count ls) g.stage text k.stage) number k.takes in
-      record { count = cut.0; stage = k.stage; takes = subst (λ l. TakesAll (1 + length (lines_of g.whole)) l g.stage text k.stage) (sym front) takes }
-
   abbrev last_bytes : (next : Option (List ℕ)) → length bytes ≤ 8192 → next ≡ Some unread → LastRead Script next
   last_bytes next few leaves = record { whole = g.whole; held = held; last = bytes; unread = unread; mid = g.stage; told = g.told; splits = splits; is_whole = g.is_whole; unended = g.unended; few = few; takes = g.takes; running = g.running; leaves = leaves }
 
-  front_behind : (next : Option (List ℕ)) → length bytes ≤ 8192 → next ≡ Some unread → (ls ms : List Line) (text : List ℕ) → lines_of (held ++ (bytes ++ unread)) ≡ ls ++ ms → IsSomeOf (p.lines + 1) ls g.stage text → IsFrontOf Script (g.told ++ text) next
-  front_behind next few leaves ls ms text lines k = record { read = last_bytes next few leaves; more = text; tells = some_behind ls ms text lines k; written = refl }
+  -- these bytes are whole lines, or all that there are
+  abbrev Parts : List ℕ → List ℕ → Type 0
+  Parts seen rest = (held ++ bytes ≡ seen ++ rest) × (IsWhole seen ⊎ ((bytes ≡ []) × (rest ≡ [])))
 
-  cut_behind : (next : Option (List ℕ)) → length bytes ≤ 8192 → next ≡ Some unread → (ls ms : List Line) (text : List ℕ) → lines_of (held ++ (bytes ++ unread)) ≡ ls ++ ms → IsCutOfSome (p.lines + 1) ls g.stage text → IsCutOf Script (g.told ++ text) next
-  cut_behind next few leaves ls ms text lines (rest, some, k) =
-      record { read = last_bytes next few leaves; part = text; rest = rest; some = some; written = refl; next = inl (some_behind ls ms (text ++ rest) lines k) }
+  module _ (next : Option (List ℕ)) (few : length bytes ≤ 8192) (leaves : next ≡ Some unread) (seen rest : List ℕ) (parts : Parts seen rest) (text : List ℕ) where
+    some_behind : (more : List ℕ) → IsSomeOf (p.lines + 1) (lines_of seen) g.stage more → TellsSome (last_bytes next few leaves) more
+    some_behind more k =
+        record {
+          seen = seen;
+          rest = rest;
+          parts = parts.0;
+          whole = parts.1;
+          tells = record { count = k.count; stage = k.stage; takes = subst (λ n. TakesAll n (take k.count (lines_of seen)) g.stage more k.stage) number k.takes };
+        }
 
-  cut_end_behind : (next : Option (List ℕ)) → length bytes ≤ 8192 → next ≡ Some unread → (ls : List Line) (text : List ℕ) → lines_of (held ++ (bytes ++ unread)) ≡ ls → IsCutOfEnd (p.lines + 1) ls g.stage text → IsCutOf Script (g.told ++ text) next
-  cut_end_behind next few leaves ls text lines (rest, some, inl k) = cut_behind next few leaves ls [] text (lines ∙ sym (append-nil ls)) (rest, some, k)
-  cut_end_behind next few leaves ls text lines (rest, some, inr (e, k)) =
-      record {
-        read = last_bytes next few leaves;
-        part = text;
-        rest = rest;
-        some = some;
-        written = refl;
-        next = inr (e, subst (λ t. IsWrittenFor Script t e) (sym (append_assoc g.told text rest)) (written_behind ls (text ++ rest) e lines k));
-      }
+    front_behind : IsSomeOf (p.lines + 1) (lines_of seen) g.stage text → IsFrontOf Script (g.told ++ text) next
+    front_behind k = record { read = last_bytes next few leaves; more = text; tells = some_behind text k; written = refl }
+
+    cut_behind : IsCutOfSome (p.lines + 1) (lines_of seen) g.stage text → IsCutOf Script (g.told ++ text) next
+    cut_behind (tail, some, k) =
+        record { read = last_bytes next few leaves; part = text; rest = tail; some = some; written = refl; next = inl (some_behind (text ++ tail) k) }
+
+    cut_end_behind : lines_of (held ++ (bytes ++ unread)) ≡ lines_of seen → IsCutOfEnd (p.lines + 1) (lines_of seen) g.stage text → IsCutOf Script (g.told ++ text) next
+    cut_end_behind lines (tail, some, inl k) = cut_behind (tail, some, k)
+    cut_end_behind lines (tail, some, inr (e, k)) =
+        record {
+          read = last_bytes next few leaves;
+          part = text;
+          rest = tail;
+          some = some;
+          written = refl;
+          next = inr (e, subst (λ t. IsWrittenFor Script t e) (sym (append_assoc g.told text tail)) (written_behind (lines_of seen) (text ++ tail) e lines k));
+        }
 
 -- Where no memory was left or the writer failed.
 pub going_failed : (from to next before mid after : Option (List ℕ)) (p new : Player) (held bytes left : List ℕ) (bound : ℕ) (g : Going from to before mid p held bound) → Consumes to next bytes → length bytes ≤ 8192 → PlaysBytes p new mid after (held ++ bytes) left g.stage (Err fault.NoMemory) → Writes from before after (λ script text. IsFrontOf script text next)
 going_failed from to next before mid after p new held bytes left bound g second few (whole, rest, is, split, (text, k, added)) =
     of_left from next (g.whole ++ (held ++ bytes)) (λ script. (t : List ℕ) × IsFrontOf script t next × Appends before after t) (read_more from to next g.whole held bytes g.read second)
-    (λ unread leaves.
-    let lines = lines_split held bytes whole rest unread is split in
-    (g.told ++ text, front_behind from to before mid p held bytes unread bound g next few leaves (lines_of whole) (lines_of (rest ++ unread)) text lines k, Appends-trans before mid after g.told text g.wrote added))
+    (λ unread leaves. (g.told ++ text, front_behind from to before mid p held bytes unread bound g next few leaves whole rest (split, inl is) text k, Appends-trans before mid after g.told text g.wrote added))
 
 pub going_cut : (from to next before mid after : Option (List ℕ)) (p new : Player) (held bytes left : List ℕ) (bound : ℕ) (g : Going from to before mid p held bound) → Consumes to next bytes → length bytes ≤ 8192 → PlaysBytes p new mid after (held ++ bytes) left g.stage (Err fault.Write) → Writes from before after (λ script text. IsCutOf script text next)
 going_cut from to next before mid after p new held bytes left bound g second few (whole, rest, is, split, (text, k, added)) =
     of_left from next (g.whole ++ (held ++ bytes)) (λ script. (t : List ℕ) × IsCutOf script t next × Appends before after t) (read_more from to next g.whole held bytes g.read second)
-    (λ unread leaves.
-    let lines = lines_split held bytes whole rest unread is split in
-    (g.told ++ text, cut_behind from to before mid p held bytes unread bound g next few leaves (lines_of whole) (lines_of (rest ++ unread)) text lines k, Appends-trans before mid after g.told text g.wrote added))
+    (λ unread leaves. (g.told ++ text, cut_behind from to before mid p held bytes unread bound g next few leaves whole rest (split, inl is) text k, Appends-trans before mid after g.told text g.wrote added))
 
 -- The reader failed, or was read too often.
 pub going_read : (from to before after : Option (List ℕ)) (p : Player) (held : List ℕ) (bound : ℕ) → Going from to before after p held bound → Writes from before after (λ script text. AnswersRead script text to)
@@ -195,9 +199,7 @@ module _ (from next before mid after : Option (List ℕ)) (p : Player) (last : L
   memory_by : (k : Last from next before mid p last) → PlaysEnd (p.lines + 1) mid after (lines_of last) k.going.stage (Err fault.NoMemory) → Writes from before after (λ script text. IsFrontOf script text next)
   memory_by k (text, some, added) =
       of_end k (λ script. (t : List ℕ) × IsFrontOf script t next × Appends before after t)
-      (λ unread leaves lines.
-      let all = lines ∙ sym (append-nil (lines_of last)) in
-      (k.going.told ++ text, front_behind from next before mid p last [] unread k.bound k.going next (omega arith) leaves (lines_of last) [] text all some, Appends-trans before mid after k.going.told text k.going.wrote added))
+      (λ unread leaves lines. (k.going.told ++ text, front_behind from next before mid p last [] unread k.bound k.going next (omega arith) leaves last [] (refl, inr (refl, refl)) text some, Appends-trans before mid after k.going.told text k.going.wrote added))
 
   pub last_memory : (r : Result Ended PlayFault) (k : Last from next before mid p last) → PlaysEnd (p.lines + 1) mid after (lines_of last) k.going.stage r → r ≡ Err fault.NoMemory → Writes from before after (λ script text. IsFrontOf script text next)
   last_memory r k ends is = memory_by k (subst (λ x. PlaysEnd (p.lines + 1) mid after (lines_of last) k.going.stage x) is ends)
@@ -205,7 +207,7 @@ module _ (from next before mid after : Option (List ℕ)) (p : Player) (last : L
   write_by : (k : Last from next before mid p last) → PlaysEnd (p.lines + 1) mid after (lines_of last) k.going.stage (Err fault.Write) → Writes from before after (λ script text. IsCutOf script text next)
   write_by k (text, cut, added) =
       of_end k (λ script. (t : List ℕ) × IsCutOf script t next × Appends before after t)
-      (λ unread leaves lines. (k.going.told ++ text, cut_end_behind from next before mid p last [] unread k.bound k.going next (omega arith) leaves (lines_of last) text lines cut, Appends-trans before mid after k.going.told text k.going.wrote added))
+      (λ unread leaves lines. (k.going.told ++ text, cut_end_behind from next before mid p last [] unread k.bound k.going next (omega arith) leaves last [] (refl, inr (refl, refl)) text lines cut, Appends-trans before mid after k.going.told text k.going.wrote added))
 
   pub last_write : (r : Result Ended PlayFault) (k : Last from next before mid p last) → PlaysEnd (p.lines + 1) mid after (lines_of last) k.going.stage r → r ≡ Err fault.Write → Writes from before after (λ script text. IsCutOf script text next)
   last_write r k ends is = write_by k (subst (λ x. PlaysEnd (p.lines + 1) mid after (lines_of last) k.going.stage x) is ends)

@@ -1,6 +1,6 @@
 -- The lines of a script that is read piece by piece.
-use Rattle.std.proofs.Common.{◌≡◌, ℕ, ◌+◌, ◌-◌, ◌<◌, ◌≤◌, ◌⊎◌, inl, inr, Bool, true, false, eqb, get_or, List, [], ◌∷◌, ◌++◌, length, take, drop, refl, ap, sym, ◌∙◌, arith}
-use Rattle.std.proofs.lemmas.List.{append_assoc, take_at, take_more, take-append-drop}
+use Rattle.std.proofs.Common.{◌≡◌, ℕ, ◌+◌, ◌-◌, ◌<◌, ◌≤◌, inl, inr, Bool, true, false, eqb, get_or, List, [], ◌∷◌, ◌++◌, length, take, refl, ap, sym, ◌∙◌, arith}
+use Rattle.std.proofs.lemmas.List.{append_assoc, take_more}
 use Rattle.module_lang.specs.TextLines.{Line, at_front, lines_of}
 use Rattle.host_cli.specs.Written.{EndsLine, IsWhole}
 
@@ -66,11 +66,3 @@ whole_append a b ends = (a ++ ends.0, ap (λ l. a ++ l) ends.1 ∙ sym (append_a
 pub ends_at : (bytes : List ℕ) (n : ℕ) → 0 < n → n ≤ length bytes → get_or bytes (n - 1) 0 ≡ 10 → EndsLine (take n bytes)
 ends_at bytes n some within lf =
     (take (n - 1) bytes, ap (λ k. take k bytes) (let e : n ≡ n - 1 + 1 = omega arith in e) ∙ take_more bytes (n - 1) 0 (omega arith) ∙ ap (λ b. take (n - 1) bytes ++ b ∷ []) lf)
-
--- the first ones of some are the first ones of more
-pub take_front : {A : Type 0} (ys zs : List A) (n : ℕ) → (count : ℕ) × (take count (ys ++ zs) ≡ take n ys)
-take_front ys zs n =
-    let front : List _ = take n ys in (
-      length front,
-      ap (λ l. take (length front) (l ++ zs)) (sym (take-append-drop n ys)) ∙ ap (take (length front)) (append_assoc (take n ys) (drop n ys) zs) ∙ take_at front (drop n ys ++ zs) (length front) refl,
-    )

@@ -219,9 +219,13 @@ pub record LastRead (script : List ℕ) (left : Option (List ℕ)) : Type 0 wher
   pub running : is_over mid ≡ false
   pub leaves : left ≡ Some unread
 
--- what is told of some first lines behind those
-abbrev pub TellsSome : {script : List ℕ} {left : Option (List ℕ)} → LastRead script left → List ℕ → Type 0
-TellsSome read text = IsSomeOf (1 + length (lines_of read.whole)) (lines_of (read.held ++ (read.last ++ read.unread))) read.mid text
+-- What is told of some first lines behind those. They are whole ones; at the end of the script the last may have no LF.
+pub record TellsSome {script : List ℕ} {left : Option (List ℕ)} (read : LastRead script left) (text : List ℕ) : Type 0 where
+  pub seen : List ℕ
+  pub rest : List ℕ
+  pub parts : read.held ++ read.last ≡ seen ++ rest
+  pub whole : IsWhole seen ⊎ ((read.last ≡ []) × (rest ≡ []))
+  pub tells : IsSomeOf (1 + length (lines_of read.whole)) (lines_of seen) read.mid text
 
 -- What is written where memory is wanting: all lines are answered but those that end in the last 8192 bytes that were read; of these, some first
 -- ones may be.
