@@ -17,6 +17,7 @@ import sys
 TOP = os.path.dirname(os.path.dirname(os.path.abspath(__file__)))
 LEFT_OUT = {'.git', 'out', '__pycache__'}
 MOST_WORDS = 30
+LONGEST = 200
 
 LINK = re.compile(r'\[([^\]]+)\]\(([^)\s]+)\)')
 SPAN = re.compile(r'`([^`]+)`')
