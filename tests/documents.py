@@ -1,14 +1,15 @@
 #!/usr/bin/env python3
 """Checks the documents, or writes the figures in them.
 
-    python3 tests/documents.py            # tells what is wrong
+    python3 tests/documents.py            # reports what is wrong
     python3 tests/documents.py --write    # puts the right numbers of lines into tables of files
 
 Checked are, in each Markdown file: that links lead to a file, and to a heading of it; that a file or folder which is named
 `like/this.rt` is there; that a function or definition which is linked `like_this` stands in the file that the link names, and the
-clauses named behind it in the contract of that function; that a number beside a link in a table is the file's number of lines; that what a transcript shows below
+clauses named after it in the contract of that function; that a number beside a link in a table is the file's number of lines; that what a transcript shows below
 `$ cat FILE` and `$ ./host < SCRIPT` is that file, and the answers kept with that script; that docs/TRUST.md names each file of
-definitions; that the words of docs/MODEL.md are there; and that no cell of a table in README.md has more than 30 words.
+definitions; that the words of docs/MODEL.md are there; that no cell of a table in README.md has more than 30 words; and that no line but
+one of a table has more than 200 characters (python3 tests/wrap.py lays them out).
 """
 import os
 import re
@@ -88,7 +89,7 @@ def link_faults(path, line):
 
 
 def word_faults(shown, full, behind):
-    """Whether the word that a link shows stands in the file that it leads to, and the clauses named behind it in its contract."""
+    """Whether the word that a link shows stands in the file that it leads to, and the clauses named after it in its contract."""
     text = read(full)
     words = [word for word in map(WORD.fullmatch, SPAN.findall(shown)) if word]
     for word in words:
@@ -194,6 +195,7 @@ def faults():
         for number, line in without_blocks(text):
             told = [*link_faults(path, line), *name_faults(line, files)]
             told += cell_faults(line) if path == 'README.md' else []
+            told += ['a line of %d characters' % len(line)] if len(line) > LONGEST and not line.startswith('|') else []
             found += ['%s:%d: %s' % (path, number, fault) for fault in told]
         found += ['%s:%d: %s' % (path, number, fault) for number, fault in transcript_faults(text)]
         if text != with_figures(path):
