@@ -4,11 +4,12 @@
     python3 tests/relink.py          # prints what it would change, and the links for which it finds no file
     python3 tests/relink.py --write  # changes them
 
-A link is mended where its file is not there, or where the `word` that it shows does not stand in it: it is to lead to the one file of the
-repository with the same name, in a folder of the same name, that has the word.
+A link is mended where its file is not there, or where the `word` that it shows does not stand in it. It is to lead to the file as which git
+knows it now; where git knows none, to the one file with the same name, in a folder of the same name, that has the word.
 """
 import os
 import re
+import subprocess
 import sys
 
 import documents
@@ -26,14 +27,36 @@ def has_words(shown, path):
     return not list(documents.word_faults(shown, path, ''))
 
 
-def moved(shown, full, files):
+def renames():
+    """The paths that git knows as renamed, each with its next one."""
+    told = subprocess.run(['git', 'log', '-M', '--diff-filter=R', '--name-status', '--format='], cwd=documents.TOP, capture_output=True, text=True)
+    found = {}
+    for line in told.stdout.splitlines():
+        _, before, after = line.split('\t')
+        found.setdefault(before, after)
+    return found
+
+
+def renamed(full, known):
+    """The path as which git knows a file now; None where it does not know it."""
+    for _ in range(len(known)):
+        if os.path.exists(os.path.join(documents.TOP, full)) or full not in known:
+            break
+        full = known[full]
+    return full if os.path.exists(os.path.join(documents.TOP, full)) else None
+
+
+def moved(shown, full, files, known):
     """The files to which a link may lead in place of this one."""
+    now = renamed(full, known)
+    if now and now != full and has_words(shown, now):
+        return [now]
     tail = '/'.join(full.split('/')[-2:])
     found = [path for path in files if path.endswith('/' + tail) and has_words(shown, path)]
     return found or [path for path in files if os.path.basename(path) == os.path.basename(full) and has_words(shown, path)]
 
 
-def mended(path, text, files):
+def mended(path, text, files, known):
     """The text with its links mended; prints each change, and each link that is left."""
     folder = os.path.dirname(path)
 
@@ -43,7 +66,7 @@ def mended(path, text, files):
         full = os.path.normpath(os.path.join(folder, name)) if name else path
         if target.startswith(('http:', 'https:')) or (os.path.exists(os.path.join(documents.TOP, full)) and has_words(shown, full)):
             return found[0]
-        choices = moved(shown, full, files)
+        choices = moved(shown, full, files, known)
         if len(choices) != 1:
             print('%s: left: [%s](%s): %s' % (path, shown, target, ', '.join(choices) or 'no such file'))
             return found[0]
@@ -53,10 +76,10 @@ def mended(path, text, files):
 
 
 if __name__ == '__main__':
-    files = sources()
+    files, known = sources(), renames()
     for path in documents.paths():
         text = documents.read(path)
-        new = mended(path, text, files)
+        new = mended(path, text, files, known)
         if new != text and sys.argv[1:] == ['--write']:
             with open(os.path.join(documents.TOP, path), 'w', encoding='utf-8') as file:
                 file.write(new)
