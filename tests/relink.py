@@ -29,9 +29,9 @@ def has_words(shown, path):
 
 def renames():
     """The paths that git knows as renamed, each with its next one."""
-    told = subprocess.run(['git', 'log', '-M', '--diff-filter=R', '--name-status', '--format='], cwd=documents.TOP, capture_output=True, text=True)
+    listed = subprocess.run(['git', 'log', '-M', '--diff-filter=R', '--name-status', '--format='], cwd=documents.TOP, capture_output=True, text=True)
     found = {}
-    for line in told.stdout.splitlines():
+    for line in listed.stdout.splitlines():
         _, before, after = line.split('\t')
         found.setdefault(before, after)
     return found
