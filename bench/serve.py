@@ -193,7 +193,7 @@ def servers(program, module, folder):
     for size in SIZES:
         with open(os.path.join(folder, 'f%d' % size), 'wb') as file:
             file.write(b'x' * size)
-    yield 'serve', lambda port: [program, 'serve', '--site', 'site', '--port', str(port), '--conns', '0', 'module']
+    yield 'serve', lambda port: [program, 'serve', '--site', 'site', '--port', str(port), '--forever', 'module']
     compiler = shutil.which('cc')
     if compiler:
         plain = os.path.join(folder, 'plain_server')

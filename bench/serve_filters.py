@@ -96,7 +96,7 @@ def measure(program, modules, due, made, folder):
     """How many bodies came out right, whether the page did, and megabytes a second."""
     lay_out(folder, {'/large': LARGE, **{'/%d' % at: sent for at, (sent, _) in enumerate(due)}})
     port = free_port()
-    words = [program, 'serve', '--site', folder + '/site', '--port', str(port), '--conns', '0', '--budget', '100000000'] + modules
+    words = [program, 'serve', '--site', folder + '/site', '--port', str(port), '--forever', '--budget', '100000000'] + modules
     with subprocess.Popen(words, stdout=subprocess.PIPE) as server:
         try:
             server.stdout.readline()

@@ -393,10 +393,11 @@ def check_starts(program, folder, told):
     for words, line in lines:
         refused(program, folder, words, told, line, 1)
         count += 1
-    with Server(program, folder, ['--conns', '0']) as server:
+    with Server(program, folder, ['--forever']) as server:
         refused(program, folder, ['--site', 'site', '--port', str(server.port), 'm'], told, b'cannot listen\n', 1)
     for words in (['--site', 'site', 'm'], ['--port', '1', 'm'], at, ['--site', 'site', '--port', '0', 'm'], ['--site', 'site', '--port', '65536', 'm'],
-                  at + ['--timeout', '0', 'm'], at + ['--conns', '4294967296', 'm'], at + ['--budget', '-1', 'm'], at + ['--conns', 'x', 'm'], at + ['m'] * 17):
+                  at + ['--timeout', '0', 'm'], at + ['--conns', '4294967296', 'm'], at + ['--budget', '-1', 'm'], at + ['--conns', 'x', 'm'], at + ['--conns', '2', '--forever', 'm'],
+                  at + ['m'] * 17):
         refused(program, folder, words, told, b'', 2)
         count += 1
     return count + 1
@@ -411,21 +412,24 @@ def check_connections(program, folder, told):
     """One connection does nothing to the next."""
     good = Oracle(FILES).answers(GET)
     broken = b'HTTP/1.1 500 Internal Server Error\r\n' + D + CLOSED
+    with Server(program, folder, ['--conns', '0']) as server:
+        expect(told, 'the line before none', server.line, b'listening on 127.0.0.1:%d\n' % server.port)
+        expect(told, 'the end of none', b'%d' % server.process.wait(PATIENCE), b'0')
     with Server(program, folder, ['--conns', '2']) as server:
         expect(told, 'the line', server.line, b'listening on 127.0.0.1:%d\n' % server.port)
         expect(told, 'one of two', server.ask(GET), good)
         expect(told, 'two of two', server.ask(GET), good)
         expect(told, 'the end', b'%d' % server.process.wait(PATIENCE), b'0')
-    with Server(program, folder, ['--conns', '0', '--budget', '1']) as server:
+    with Server(program, folder, ['--forever', '--budget', '1']) as server:
         expect(told, 'a budget of 1', server.ask(GET * 2), broken)
         expect(told, 'no route with a budget of 1', server.ask(request(b'/b')), Oracle({}).answers(request(b'/b')))
         expect(told, 'no file with a budget of 1', server.ask(request(b'/missing')), broken)
     for module in ('fails', 'loops'):
-        with Server(program, folder, ['--conns', '0', '--budget', '5000'], modules=('m', module)) as server:
+        with Server(program, folder, ['--forever', '--budget', '5000'], modules=('m', module)) as server:
             for _ in range(2):
                 expect(told, module, server.ask(GET * 2), broken)
             expect(told, module + ' with HEAD', server.ask(request(method=b'HEAD')), Oracle(FILES).answers(request(method=b'HEAD')))
-    with Server(program, folder, ['--conns', '0', '--timeout', '1']) as server:
+    with Server(program, folder, ['--forever', '--timeout', '1']) as server:
         expect(told, 'no file', server.ask(request(b'/missing') + GET), Oracle(FILES).answers(request(b'/missing') + GET))
         check_clients(server, good, told)
     return 12
@@ -482,7 +486,7 @@ def check(program):
             print('serve: ' + fault)
     with tempfile.TemporaryDirectory() as folder:
         lay_out(program, folder)
-        with Server(program, folder, ['--conns', '0']) as server:
+        with Server(program, folder, ['--forever']) as server:
             count = check_streams(server, told)
         count += check_starts(program, folder, told) + check_connections(program, folder, told)
     print('serve: %d played, %d not as they should be' % (count, len(faults)))

@@ -137,9 +137,13 @@ def closed(program, script):
     os.close(writer)
     with open('/dev/full', 'wb') as full:
         filled = subprocess.run([program], input=script, stdout=full, stderr=subprocess.PIPE)
+        helped = subprocess.run([program, '--help'], stdout=full, stderr=subprocess.PIPE)
+        unread = subprocess.run([program, 'assemble', 'no such file'], stdout=full, stderr=subprocess.PIPE)
+        unserved = subprocess.run([program, 'serve', '--site', 'no such file', '--port', '1', 'no such file'], stdout=full, stderr=subprocess.PIPE)
     shut = subprocess.run([program], capture_output=True, preexec_fn=lambda: os.close(0))
     faults = []
-    for name, done in (('a pipe that nobody reads', gone), ('a full device', filled)):
+    for name, done in (('a pipe that nobody reads', gone), ('a full device', filled), ('help on a full device', helped),
+                       ('a fault on a full device', unread), ('serve on a full device', unserved)):
         if (done.stderr, done.returncode) != (b'cannot write\n', 1):
             faults.append('%s: %r, status %d' % (name, done.stderr, done.returncode))
     if not is_well(shut, b'cannot read standard input\n', status=1):

@@ -8,7 +8,7 @@ The rules are definitions in crates/life_state/specs; their laws are proved in c
 of these crates, in which life_state is read as source and none of its functions is proved: the rule alone is wrong, not the code.
 In a group several rules are wrong at once. None of them is part of another instruction's rule, so the laws of these instructions
 must be refused, and all others proved. Two rules that others share (ALONE) are tried by themselves.
-module_lang and run_model must be built (rt check in crates/life_check builds them). Each line that is printed is a row of the table in
+module_code, run_model and model_laws must be built (rt check in crates/life_check builds them). Each line that is printed is a row of the table in
 the README of life_check.
 """
 import os
@@ -64,11 +64,11 @@ WRONG = [
      'Loose (classes_of (s.cursors c)) (homes_at s (s.cursors c))) s', 'Loose (classes_of (s.cursors c)) no_homes) s'),
     ('bdelete', 'other cursors at the bucket are kept',
      'after_bdelete c s = move_bucket c Unset s', 'after_bdelete c s = told c Unset s'),
-    ('tail', 'data behind an EOS is not told',
+    ('tail', 'data after an EOS is not noted',
      'tail_content NoLateData s = if s.bytes then Any else NoLateData', 'tail_content NoLateData s = NoLateData'),
-    ('head', 'an EOS before data is not told',
+    ('head', 'an EOS before data is not noted',
      'head_content b s = if s.eos then (if content_le b Flushes then NoLateData else Any) else', 'head_content b s = if s.eos then NoLateData else'),
-    ('before', 'an EOS before data is not told',
+    ('before', 'an EOS before data is not noted',
      'before_eos b = if content_le b Flushes then NoLateData else Any', 'before_eos b = NoLateData'),
     ('heap', 'the new bucket is said to be a FLUSH',
      '(instr.Heap c t) s = goes_on_with (made c only_bytes no_homes s)', '(instr.Heap c t) s = goes_on_with (made c only_flush no_homes s)'),
@@ -157,15 +157,15 @@ class Law:
     def statement(self):
         """As a definition."""
         operands = ' ' + self.operands if self.operands else ''
-        return 'abbrev pub Of_%s : Type 0\nOf_%s = (lives : Home → Bool)%s → LawOf (IsToldBy lives) %s\n' % (
+        return 'abbrev pub Of_%s : Type 0\nOf_%s = (lives : Home → Bool)%s → LawOf (LivesByTest lives) %s\n' % (
             self.word, self.word, operands, self.instruction)
 
     def answer(self):
         """The proof file of the function that has the law for its contract."""
         names = ('lives ' + self.names()).strip()
-        return ('use Rattle.life_check.specs.Soundness.{IsToldBy}\nuse Rattle.life_check.proofs.%s.{%s}\n'
+        return ('use Rattle.life_check.specs.Soundness.{LivesByTest}\nuse Rattle.life_check.proofs.%s.{%s}\n'
                 'use Rattle.life_check.proofs.laws.%s.Goals as goal\n\npub returns : goal.returns\n'
-                'returns c = λ %s. %s {lives = IsToldBy lives} %s\n') % (
+                'returns c = λ %s. %s {lives = LivesByTest lives} %s\n') % (
             self.file, self.name, self.name, names, self.name, self.names())
 
 
@@ -217,11 +217,12 @@ class Copy:
 
     def __init__(self, room):
         self.room, self.crates = room, os.path.join(room, 'crates')
-        for crate in ('module_lang', 'run_model'):
+        for crate in ('module_code', 'run_model', 'model_laws'):
             shutil.copytree(os.path.join(TOP, 'crates', crate), os.path.join(self.crates, crate), copy_function=self.link)
         for crate in ('life_state', 'life_check'):
             shutil.copytree(os.path.join(TOP, 'crates', crate), os.path.join(self.crates, crate), ignore=shutil.ignore_patterns('out', 'must-fail'))
-        write(os.path.join(room, 'crates.txt'), 'module_lang: itoa thiserror\nrun_model: module_lang thiserror\nlife_check: module_lang run_model\n')
+        write(os.path.join(room, 'crates.txt'), 'module_code:\nrun_model: module_code thiserror\nmodel_laws: module_code run_model\n'
+              'life_check: module_code run_model model_laws\n')
         shutil.copy(os.path.join(TOP, 'HANDLES'), room)
         self.check = os.path.join(self.crates, 'life_check')
         self.laws = laws(os.path.join(self.check, 'proofs'))
@@ -239,8 +240,8 @@ class Copy:
         """Puts a function for each law in the place of the functions of laws.rt."""
         shutil.rmtree(os.path.join(self.check, 'proofs', 'laws'))
         imports = sorted({line for law in self.laws.values() for line in law.imports})
-        head = ['use Rattle.std.specs.Prelude.{ℕ, Bool}', 'use Rattle.module_lang.specs.declared.instr.Instr.TheVariants as instr',
-                'use Rattle.run_model.specs.declared.bucket.Home.{Home}', 'use Rattle.life_check.specs.Soundness.{IsToldBy, LawOf}']
+        head = ['use Rattle.std.specs.Prelude.{ℕ, Bool}', 'use Rattle.module_code.specs.declared.instr.Instr.TheVariants as instr',
+                'use Rattle.run_model.specs.declared.bucket.Home.{Home}', 'use Rattle.life_check.specs.Soundness.{LivesByTest, LawOf}']
         statements = [law.statement() for law in self.laws.values()]
         write(os.path.join(self.check, 'specs', 'OneLaw.antt'), '\n'.join(head + imports) + '\n\n' + '\n'.join(statements))
         with open(os.path.join(self.check, 'specs', 'Lib.antt'), 'a', encoding='utf-8') as file:
@@ -254,7 +255,7 @@ class Copy:
     def prove(self, only):
         """What a check of these functions alone prints, and whether they are proved."""
         command = ['rt', 'check', '--jobs', '1', '--only', only, '--extern', 'core=' + self.core,
-                   '--lib', 'life_state:core,std,module_lang,run_model=../life_state/src/lib.rt']
+                   '--lib', 'life_state:core,std,module_code,run_model=../life_state/src/lib.rt']
         done = subprocess.run(command, cwd=self.check, stdin=subprocess.DEVNULL, stdout=subprocess.PIPE, stderr=subprocess.STDOUT, text=True, errors='replace')
         return done.stdout, done.returncode
 

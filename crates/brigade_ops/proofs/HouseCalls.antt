@@ -11,7 +11,7 @@ use Rattle.run_model.specs.declared.bucket.Bucket.{Bucket}
 use Rattle.run_model.specs.declared.payload.Payload.{Payload}
 use Rattle.run_model.specs.Payloads.{is_brigade}
 use Rattle.run_model.specs.Pools.{Pools, is_empty, is_live}
-use Rattle.run_model.specs.Registered.{times_held}
+use Rattle.run_model.specs.Holding.{times_held}
 use Rattle.run_model.specs.RunOrder.{IsPoolMap}
 use Rattle.brigade_ops.specs.declared.store.Brigades.{Brigades}
 use Rattle.brigade_ops.specs.House.{IsHouse, AreOpen}

@@ -7,7 +7,7 @@ use Rattle.run_model.specs.declared.payload.Payload.{Payload}
 use Rattle.run_model.specs.Clearing.{is_reached}
 use Rattle.run_model.specs.Payloads.{is_file_ref}
 use Rattle.run_model.specs.Pools.{Pools}
-use Rattle.run_model.specs.Registered.{times_held}
+use Rattle.run_model.specs.Holding.{times_held}
 use Rattle.run_model.specs.Sound.{sum_below}
 use Rattle.bucket_kinds.specs.Device.{Device, is_there}
 use Rattle.brigade_ops.specs.declared.store.Brigades.{Brigades}

@@ -15,7 +15,7 @@ const FIRST_LIMIT: usize = 8;
 
 /// The names under one pool, and how many there may be before it is looked at which of them have gone.
 #[derive(Drop)]
-pub(crate) struct Names {
+pub(crate) struct DependentNames {
     pub(crate) ids: Vec<BucketId>,
     pub(crate) limit: usize,
 }
@@ -26,7 +26,7 @@ pub(crate) struct Names {
 #[derive(Drop)]
 pub(crate) struct Dependents {
     pub(crate) alloc: Global,
-    pub(crate) names: HashMap<u64, Names>,
+    pub(crate) names: HashMap<u64, DependentNames>,
     pub(crate) lost: bool,
 }
 
@@ -71,7 +71,7 @@ impl Dependents {
         let mut ids = Vec::new(self.alloc);
         ids.push(id)?;
         let limit = FIRST_LIMIT;
-        self.names.insert(pool, Names { ids, limit })?;
+        self.names.insert(pool, DependentNames { ids, limit })?;
         Ok(())
     }
 
@@ -113,7 +113,11 @@ impl Dependents {
             return;
         }
         let limit = ids.len().saturating_mul(2).saturating_add(FIRST_LIMIT);
-        if self.names.insert(pool, Names { ids, limit }).is_err() {
+        if self
+            .names
+            .insert(pool, DependentNames { ids, limit })
+            .is_err()
+        {
             self.lose();
         }
     }

@@ -9,7 +9,7 @@ mod cutting;
 mod dependents;
 mod due;
 mod files;
-mod held;
+mod indexed;
 mod laws;
 mod morphs;
 mod noting;

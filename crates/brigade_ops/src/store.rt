@@ -2,7 +2,7 @@
 
 ghost use Rattle.std.specs.Prelude.{◌≡◌, ℕ, None};
 
-use crate::held::Held;
+use crate::indexed::Indexed;
 use crate::numbers::Numbers;
 use bucket_ring::{RingId, Rings};
 use run_model::Bucket;
@@ -15,7 +15,7 @@ pub type BrigadeId = RingId;
 #[derive(Drop)]
 pub struct Brigades<R: Rings<Bucket>> {
     pub(crate) alloc: Global,
-    pub(crate) held: Held<R>,
+    pub(crate) held: Indexed<R>,
     pub(crate) pools: Numbers,
     pub(crate) references: Numbers,
 }
@@ -33,7 +33,7 @@ impl<R: Rings<Bucket> + Drop> Brigades<R> {
     {
         Brigades {
             alloc,
-            held: Held::new(alloc, first),
+            held: Indexed::new(alloc, first),
             pools: Numbers::new(alloc),
             references: Numbers::new(alloc),
         }

@@ -6,7 +6,7 @@ use Rattle.run_model.specs.Files.{Files, file_opened, read_done, fails_now}
 use Rattle.bucket_kinds.specs.Device.{Device, Held, is_there, opened, closed, HasFailed}
 use Rattle.bucket_kinds.specs.Answers.{MayMiss, MayHave, IsOpening}
 use Rattle.bucket_kinds.specs.MemDevice.{held_of, device_of}
-use Rattle.bucket_kinds.specs.MemAnswers.{OpensFile, IsFileOpening, file_closed, counted_if, failures_after}
+use Rattle.bucket_kinds.specs.MemAnswers.{OpensMemFile, IsFileOpening, file_closed, counted_if, failures_after}
 use Rattle.bucket_kinds.specs.declared.refusal.FileFault.{FileFault}
 use Rattle.bucket_kinds.specs.declared.refusal.FileFault.TheVariants as fault
 use Rattle.bucket_kinds.proofs.OpenNumbers.{open_after}
@@ -32,7 +32,7 @@ there_if : (o : Option (List ℕ)) → is_some o ≡ true → is_there (held_of 
 there_if None h = h
 there_if (Some text) h = refl
 
-has_length : (fs gs : Files) (name : List ℕ) (number len : ℕ) → OpensFile fs name number len gs → MayHave len (held_of (fs.named name))
+has_length : (fs gs : Files) (name : List ℕ) (number len : ℕ) → OpensMemFile fs name number len gs → MayHave len (held_of (fs.named name))
 has_length fs gs name number len h = subst (λ o. MayHave len (held_of o)) (sym h.text_is) h.length_is
 
 opening : (fs gs : Files) (name : List ℕ) (r : Result (ℕ × ℕ) FileFault) (failures : ℕ) (b : Bool)

@@ -15,7 +15,7 @@ IsAdding fs name bytes (Err refusal.Taken) gs = (is_some (fs.named name) ≡ tru
 IsAdding fs name bytes (Err refusal.NoMemory) gs = (fs.named name ≡ None) × (gs ≡ fs)
 
 -- The file of a name is open under the next number, which is new, and its length is told.
-pub record OpensFile (fs : Files) (name : List ℕ) (number len : ℕ) (gs : Files) : Type 0 where
+pub record OpensMemFile (fs : Files) (name : List ℕ) (number len : ℕ) (gs : Files) : Type 0 where
   pub text : List ℕ
   pub text_is : fs.named name ≡ Some text
   pub length_is : len ≡ length text
@@ -26,7 +26,7 @@ pub record OpensFile (fs : Files) (name : List ℕ) (number len : ℕ) (gs : Fil
 
 -- An opening, which never fails. That there is no such file is told before anything else.
 abbrev pub IsFileOpening : Files → List ℕ → Result (ℕ × ℕ) FileFault → Files → Type 0
-IsFileOpening fs name (Ok r) gs = OpensFile fs name r.0 r.1 gs
+IsFileOpening fs name (Ok r) gs = OpensMemFile fs name r.0 r.1 gs
 IsFileOpening fs name (Err fault.NotThere) gs = (fs.named name ≡ None) × (gs ≡ fs)
 IsFileOpening fs name (Err fault.Failed) gs = ⊥
 IsFileOpening fs name (Err fault.NamesSpent) gs = (is_some (fs.named name) ≡ true) × (fs.next ≡ last_number) × (gs ≡ fs)

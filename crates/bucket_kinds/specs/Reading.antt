@@ -6,10 +6,10 @@ use Rattle.run_model.specs.Cutting.{read_limit}
 use Rattle.bucket_kinds.specs.Device.{Held, Missing, Untold, Holds, Device, is_there}
 
 -- These may be the n bytes of the file from a place on.
-abbrev pub MayGive : Held → ℕ → ℕ → List ℕ → Type 0
-MayGive Missing start n bytes = ⊥
-MayGive Untold start n bytes = length bytes ≡ n
-MayGive (Holds text) start n bytes = (length bytes ≡ n) × (bytes ≡ take n (drop start text))
+abbrev pub MayGiveBytes : Held → ℕ → ℕ → List ℕ → Type 0
+MayGiveBytes Missing start n bytes = ⊥
+MayGiveBytes Untold start n bytes = length bytes ≡ n
+MayGiveBytes (Holds text) start n bytes = (length bytes ≡ n) × (bytes ≡ take n (drop start text))
 
 -- The file may end before the last of n bytes from a place on.
 abbrev pub MayEnd : Held → ℕ → ℕ → Type 0
@@ -26,7 +26,7 @@ IsOpenFor d content.Nothing = Unit {0}
 -- These are the bytes that a read takes.
 abbrev pub GivesFor : Device → Content → List ℕ → Type 0
 GivesFor d (content.Bytes bs) bytes = Unit {0}
-GivesFor d (content.Range file start len) bytes = MayGive (d.numbered file) start (min len read_limit) bytes
+GivesFor d (content.Range file start len) bytes = MayGiveBytes (d.numbered file) start (min len read_limit) bytes
 GivesFor d content.Nothing bytes = Unit {0}
 
 -- The file was shorter than what a read takes.

@@ -2,7 +2,7 @@
 
 ghost use Rattle.std.specs.Prelude.{◌≡◌, ◌≤◌, ◌<◌, ◌↔◌, false, true, IsTrue, IfOk, OnErr};
 ghost use Rattle.run_model.specs.Buckets.{is_data_kind};
-ghost use Rattle.run_model.specs.Cutting.{IsBucket, EndsInFile, Form, Memory, form_of, length_of, front_of, rest_of, split_at, set_aside};
+ghost use Rattle.run_model.specs.Cutting.{IsBucket, EndsInFile, BytesIn, Memory, form_of, length_of, front_of, rest_of, split_at, set_aside};
 
 use crate::refusal::SplitError;
 use run_model::{Bucket, Content, Home, Kind, Seq};

@@ -3,7 +3,7 @@
 ghost use Rattle.std.specs.Prelude.{◌≡◌, ◌≤◌, ◌<◌, ◌⊎◌, ℕ, List, [], Ok, None, true, length, IsOk, IfOk, OnOk, OnErr, IfSome};
 ghost use Rattle.run_model.specs.Cutting.{IsBucket, EndsInFile, wanted, read_of};
 ghost use Rattle.bucket_kinds.specs.Device.{HasFailed, is_there};
-ghost use Rattle.bucket_kinds.specs.Reading.{MayGive, MayEnd, IsOpenFor, GivesFor, EndsWithin};
+ghost use Rattle.bucket_kinds.specs.Reading.{MayGiveBytes, MayEnd, IsOpenFor, GivesFor, EndsWithin};
 
 use crate::files::{FileNo, Files};
 use crate::refusal::{ReadError, ReadFault};
@@ -36,7 +36,7 @@ fn fetch<F: Files>(
     mut room: Seq<u8>,
 ) -> Result<Seq<u8>, ReadFault>
     requires { is_there ((F.device files.old).numbered file) ≡ true }
-    ensures given { IfOk result (MayGive ((F.device files.old).numbered file) start (length room)) }
+    ensures given { IfOk result (MayGiveBytes ((F.device files.old).numbered file) start (length room)) }
     ensures same { OnOk result (F.device files.new ≡ F.device files.old) }
     ensures fault { OnErr result
         (HasFailed (F.device files.old) (F.device files.new)

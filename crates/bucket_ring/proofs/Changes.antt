@@ -5,7 +5,7 @@ use Rattle.std.proofs.lemmas.List.{take-append-drop, length-append}
 use Rattle.std.proofs.lemmas.Option.{same_Some}
 use Rattle.std.specs.Option.{option_map}
 use Rattle.bucket_ring.specs.declared.names.BucketId.{BucketId}
-use Rattle.bucket_ring.specs.declared.links.Spot.{Spot}
+use Rattle.bucket_ring.specs.declared.links.Position.{Position}
 use Rattle.bucket_ring.specs.declared.links.Links.{Links}
 use Rattle.bucket_ring.specs.Lists.{upd, on, list_at, same, times, front, rest, without, found, payload_of}
 use Rattle.bucket_ring.specs.Spots.{placed, picked}
@@ -211,11 +211,11 @@ module _ {T : Type 0} where
         mapped_less None = omega arith
         mapped_less (Some bs) = less bs
 
-  pub shifted : (lists between new : ℕ → Option (List (BucketId × T))) (q r n : ℕ) (spot : Spot) (id : BucketId) (x y : T) (birth : ℕ) → birth ≡ id.birth → found id (list_at lists q) ≡ Some y → found id (list_at lists q) ≡ Some x
-      → ((n : ℕ) → between n ≡ on q (without id) lists n) → ((n : ℕ) → new n ≡ on r (placed spot ((id_of id.slot birth, y) ∷ [])) between n) → new n ≡ on r (placed spot ((id, x) ∷ [])) (on q (without id) lists) n
-  shifted lists between new q r n spot id x y birth e had is taken put =
-      put n ∙ on_same r n (placed spot ((id_of id.slot birth, y) ∷ [])) (on q (without id) lists) between taken
-      ∙ ap (λ (b : BucketId × T). on r (placed spot (b ∷ [])) (on q (without id) lists) n) (pair_is (id_of id.slot birth, y) id x (ap (id_of id.slot) e) (same_Some y x (sym had ∙ is)))
+  pub shifted : (lists between new : ℕ → Option (List (BucketId × T))) (q r n : ℕ) (position : Position) (id : BucketId) (x y : T) (birth : ℕ) → birth ≡ id.birth → found id (list_at lists q) ≡ Some y → found id (list_at lists q) ≡ Some x
+      → ((n : ℕ) → between n ≡ on q (without id) lists n) → ((n : ℕ) → new n ≡ on r (placed position ((id_of id.slot birth, y) ∷ [])) between n) → new n ≡ on r (placed position ((id, x) ∷ [])) (on q (without id) lists) n
+  shifted lists between new q r n position id x y birth e had is taken put =
+      put n ∙ on_same r n (placed position ((id_of id.slot birth, y) ∷ [])) (on q (without id) lists) between taken
+      ∙ ap (λ (b : BucketId × T). on r (placed position (b ∷ [])) (on q (without id) lists) n) (pair_is (id_of id.slot birth, y) id x (ap (id_of id.slot) e) (same_Some y x (sym had ∙ is)))
 
   pub nothing_kept : (s : Links T) (next : ℕ) → AreLinked s → ((n : ℕ) → lists_of s n ≡ None) → ((id : BucketId) → ring_at s id ≡ None) → next < 2 ^ 64 → IsKept (ring_at s) (lists_of s) next
   nothing_kept s next linked lists places limit = record {

@@ -5,9 +5,9 @@ use Rattle.std.proofs.lemmas.Bool.{cases_eq}
 use Rattle.std.proofs.lemmas.Option.{same_Some}
 use Rattle.slab.specs.Slab.{get}
 use Rattle.bucket_ring.specs.declared.names.BucketId.{BucketId}
-use Rattle.bucket_ring.specs.declared.links.Head.{Head}
+use Rattle.bucket_ring.specs.declared.links.RingHead.{RingHead}
 use Rattle.bucket_ring.specs.declared.links.Node.{Node}
-use Rattle.bucket_ring.specs.declared.links.Bucket.{Bucket}
+use Rattle.bucket_ring.specs.declared.links.SlotBucket.{SlotBucket}
 use Rattle.bucket_ring.specs.declared.links.Links.{Links}
 use Rattle.bucket_ring.specs.Lists.{upd, list_at}
 use Rattle.bucket_ring.specs.Walks.{slots, turned}
@@ -41,7 +41,7 @@ module _ {T : Type 0} where
     full = λ k. is_full k (get s.nodes k);
     empty = λ k r e. is_empty k r (get s.nodes k) e;
   } where
-    named_so : (k : ℕ) (o : Option (Bucket T)) (b : BucketId × T) → option_map (with_name k) o ≡ Some b → b.0.slot ≡ k
+    named_so : (k : ℕ) (o : Option (SlotBucket T)) (b : BucketId × T) → option_map (with_name k) o ≡ Some b → b.0.slot ≡ k
     named_so k None b e = cc
     named_so k (Some c) b e = ap (λ (d : BucketId × T). d.0.slot) (sym (same_Some (with_name k c) b e))
 
@@ -49,7 +49,7 @@ module _ {T : Type 0} where
     is_named_in k None b e = cc
     is_named_in k (Some v) b e = named_so k v.bucket b e
 
-    full_so : (k r : ℕ) (o : Option (Bucket T)) → is_some (option_map_or (λ _. Some r) o None) ≡ is_some (option_map (with_name k) o)
+    full_so : (k r : ℕ) (o : Option (SlotBucket T)) → is_some (option_map_or (λ _. Some r) o None) ≡ is_some (option_map (with_name k) o)
     full_so k r None = refl
     full_so k r (Some c) = refl
 
@@ -57,7 +57,7 @@ module _ {T : Type 0} where
     is_full k None = refl
     is_full k (Some v) = full_so k v.ring v.bucket
 
-    empty_so : (k r q : ℕ) (o : Option (Bucket T)) → option_map_or (λ _. None) o (Some q) ≡ Some r → option_map (with_name k) o ≡ None
+    empty_so : (k r q : ℕ) (o : Option (SlotBucket T)) → option_map_or (λ _. None) o (Some q) ≡ Some r → option_map (with_name k) o ≡ None
     empty_so k r q None e = refl
     empty_so k r q (Some c) e = cc
 
@@ -84,11 +84,11 @@ module _ {T : Type 0} where
   pub lists_there : (s : Links T) (r : ℕ) → is_some (lists_of s r) ≡ is_some (head_of s r)
   unfolding lists_of
   lists_there s r = go (head_of s r) where
-    go : (o : Option Head) → is_some (option_map (λ (h : Head). listed (bucket_of s) (slots (behind_of s) (Some h))) o) ≡ is_some o
+    go : (o : Option RingHead) → is_some (option_map (λ (h : RingHead). listed (bucket_of s) (slots (behind_of s) (Some h))) o) ≡ is_some o
     go None = refl
     go (Some h) = refl
 
-  pub length_of : (s : Links T) (r : ℕ) (h : Head) → AreLinked s → head_of s r ≡ Some h → length (list_at (lists_of s) r) ≡ h.count
+  pub length_of : (s : Links T) (r : ℕ) (h : RingHead) → AreLinked s → head_of s r ≡ Some h → length (list_at (lists_of s) r) ≡ h.count
   unfolding lists_of
   length_of s r h linked e = ring_length (bucket_of s) (mark_of s) (at_of s) (shown_of s) (behind_of s) (before_of s) (head_of s) linked r h e
 
@@ -105,7 +105,7 @@ module _ {T : Type 0} where
   )
 
   -- a bucket is written, the links are turned, and the count is written
-  module _ (s s1 s2 s3 : Links T) (k a r m : ℕ) (w : Option (BucketId × T)) (v : Option ℕ) (h : Head) (bucket : (j : ℕ) → bucket_of s1 j ≡ upd (bucket_of s) k w j) (at : (j : ℕ) → at_of s1 j ≡ upd (at_of s) k v j) (mark : (j : ℕ) → j ≢ k → mark_of s1 j ≡ mark_of s j)
+  module _ (s s1 s2 s3 : Links T) (k a r m : ℕ) (w : Option (BucketId × T)) (v : Option ℕ) (h : RingHead) (bucket : (j : ℕ) → bucket_of s1 j ≡ upd (bucket_of s) k w j) (at : (j : ℕ) → at_of s1 j ≡ upd (at_of s) k v j) (mark : (j : ℕ) → j ≢ k → mark_of s1 j ≡ mark_of s j)
       (links : KeepsLinks s s1) (room : KeepsRoom s s1) (heads : s1.heads ≡ s.heads) where
     pub changed_back : AreLinked s → (j : ℕ) → before_of s1 (behind_of s1 j) ≡ j
     changed_back linked j = links.before (behind_of s1 j) ∙ ap (before_of s) (links.behind j) ∙ linked.back j
@@ -115,7 +115,7 @@ module _ {T : Type 0} where
 
     pub changed : head_of s r ≡ Some h → ((j : ℕ) → behind_of s2 j ≡ turned (behind_of s1) (before_of s1) a k j) → ((j : ℕ) → before_of s2 j ≡ turned (before_of s1) (behind_of s1) k a j)
         → KeepsBuckets s1 s2 → KeepsRoom s1 s2 → s2.heads ≡ s1.heads
-        → ((g : Head) → head_of s2 r ≡ Some g → (n : ℕ) → head_of s3 n ≡ upd (head_of s2) r (Some (record { sentinel = g.sentinel; count = m })) n) → s3.nodes ≡ s2.nodes → Changed s s3 k a r w v (record { sentinel = h.sentinel; count = m })
+        → ((g : RingHead) → head_of s2 r ≡ Some g → (n : ℕ) → head_of s3 n ≡ upd (head_of s2) r (Some (record { sentinel = g.sentinel; count = m })) n) → s3.nodes ≡ s2.nodes → Changed s s3 k a r w v (record { sentinel = h.sentinel; count = m })
     changed head behind2 before2 buckets2 room2 heads2 resized nodes3 =
         let last = nodes_same s2 s3 nodes3 in
         let all = λ (n : ℕ). heads_same s1 s2 heads2 n ∙ heads_same s s1 heads n in

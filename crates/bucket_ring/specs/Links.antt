@@ -4,24 +4,24 @@ use Rattle.std.specs.Option.{option_map, option_map_or, option_and_then}
 use Rattle.std.specs.HashMap.{get as get_head}
 use Rattle.slab.specs.Slab.{get, HasRoomFor}
 use Rattle.bucket_ring.specs.declared.names.BucketId.{BucketId}
-use Rattle.bucket_ring.specs.declared.links.Spot.{Spot}
-use Rattle.bucket_ring.specs.declared.links.Spot.TheVariants.{Tail, Head as AtHead, Before, After}
-use Rattle.bucket_ring.specs.declared.links.Bucket.{Bucket}
+use Rattle.bucket_ring.specs.declared.links.Position.{Position}
+use Rattle.bucket_ring.specs.declared.links.Position.TheVariants.{Tail, Head as AtHead, Before, After}
+use Rattle.bucket_ring.specs.declared.links.SlotBucket.{SlotBucket}
 use Rattle.bucket_ring.specs.declared.links.Node.{Node}
-use Rattle.bucket_ring.specs.declared.links.Head.{Head}
+use Rattle.bucket_ring.specs.declared.links.RingHead.{RingHead}
 use Rattle.bucket_ring.specs.declared.links.Links.{Links}
 use Rattle.bucket_ring.specs.Lists.{upd, same}
-use Rattle.bucket_ring.specs.Walks.{id_of, slots, turned, IsLinked}
+use Rattle.bucket_ring.specs.Walks.{id_of, slots, turned, SlotsLinked}
 
 -- the spot is in a ring
-abbrev pub IsSpot : (BucketId → Option ℕ) → ℕ → Spot → Type 0
+abbrev pub IsSpot : (BucketId → Option ℕ) → ℕ → Position → Type 0
 IsSpot ring_at r Tail = Unit {0}
 IsSpot ring_at r AtHead = Unit {0}
 IsSpot ring_at r (Before id) = ring_at id ≡ Some r
 IsSpot ring_at r (After id) = ring_at id ≡ Some r
 
 -- the slot that is behind what is put at a spot
-abbrev pub target : (ℕ → ℕ) → Head → Spot → ℕ
+abbrev pub target : (ℕ → ℕ) → RingHead → Position → ℕ
 target behind h Tail = h.sentinel
 target behind h AtHead = behind h.sentinel
 target behind h (Before id) = id.slot
@@ -47,8 +47,8 @@ module _ {T : Type 0} where
   abbrev pub ring_named : (ℕ → Option (BucketId × T)) → (ℕ → Option ℕ) → BucketId → Option ℕ
   ring_named bucket at id = if is_named id (bucket id.slot) then at id.slot else None
 
-  abbrev pub lists_by : (ℕ → ℕ) → (ℕ → Option (BucketId × T)) → (ℕ → Option Head) → ℕ → Option (List (BucketId × T))
-  lists_by behind bucket heads r = option_map (λ (h : Head). listed bucket (slots behind (Some h))) (heads r)
+  abbrev pub lists_by : (ℕ → ℕ) → (ℕ → Option (BucketId × T)) → (ℕ → Option RingHead) → ℕ → Option (List (BucketId × T))
+  lists_by behind bucket heads r = option_map (λ (h : RingHead). listed bucket (slots behind (Some h))) (heads r)
 
   -- a slot where nothing is leads to itself
   unfoldable pub behind_of : Links T → ℕ → ℕ
@@ -63,7 +63,7 @@ module _ {T : Type 0} where
   abbrev pub bucket_ring : Node T → Option ℕ
   bucket_ring node = option_map_or (λ _. Some node.ring) node.bucket None
 
-  abbrev pub with_name : ℕ → Bucket T → BucketId × T
+  abbrev pub with_name : ℕ → SlotBucket T → BucketId × T
   with_name k bucket = (id_of k bucket.birth, bucket.payload)
 
   abbrev pub named_in : ℕ → Node T → Option (BucketId × T)
@@ -81,7 +81,7 @@ module _ {T : Type 0} where
   unfoldable pub bucket_of : Links T → ℕ → Option (BucketId × T)
   bucket_of links k = option_and_then (named_in k) (get links.nodes k)
 
-  unfoldable pub head_of : Links T → ℕ → Option Head
+  unfoldable pub head_of : Links T → ℕ → Option RingHead
   head_of links r = get_head nat_eq links.heads r
 
   -- the slots before and behind each are the same
@@ -115,17 +115,17 @@ module _ {T : Type 0} where
     pub empty : (k r : ℕ) → mark k ≡ Some r → bucket k ≡ None
 
   abbrev pub AreLinked : Links T → Type 0
-  AreLinked links = IsLinked (behind_of links) (before_of links) (mark_of links) (at_of links) (head_of links)
+  AreLinked links = SlotsLinked (behind_of links) (before_of links) (mark_of links) (at_of links) (head_of links)
 
   -- a slot that is in no ring, and leads to itself
-  pub record IsLoose (links : Links T) (k : ℕ) : Type 0 where
+  pub record IsLooseSlot (links : Links T) (k : ℕ) : Type 0 where
     pub there : is_some (get links.nodes k) ≡ true
     pub itself : behind_of links k ≡ k
     pub nowhere : at_of links k ≡ None
-    pub apart : (r : ℕ) (h : Head) → head_of links r ≡ Some h → h.sentinel ≢ k
+    pub apart : (r : ℕ) (h : RingHead) → head_of links r ≡ Some h → h.sentinel ≢ k
 
   -- what changes where slot k, which then comes before slot a, has another bucket in another ring, and ring r another count
-  pub record Changed (old new : Links T) (k a r : ℕ) (bucket : Option (BucketId × T)) (ring : Option ℕ) (head : Head) : Type 0 where
+  pub record Changed (old new : Links T) (k a r : ℕ) (bucket : Option (BucketId × T)) (ring : Option ℕ) (head : RingHead) : Type 0 where
     pub behind : (j : ℕ) → behind_of new j ≡ turned (behind_of old) (before_of old) a k j
     pub before : (j : ℕ) → before_of new j ≡ turned (before_of old) (behind_of old) k a j
     pub bucket_new : (j : ℕ) → bucket_of new j ≡ upd (bucket_of old) k bucket j

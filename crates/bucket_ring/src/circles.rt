@@ -7,30 +7,30 @@ ghost use Rattle.bucket_ring.specs.Lists.{upd, on, list_at, same, rest, without,
 ghost use Rattle.bucket_ring.specs.Spots.{placed};
 ghost use Rattle.bucket_ring.specs.Walks.{id_of};
 
-use crate::links::{Bucket, Head, Links, Spot};
+use crate::links::{Links, Position, RingHead, SlotBucket};
 use crate::names::{BucketId, RingId};
 
 impl<T: Drop> Links<T> {
-    ghost use Rattle.bucket_ring.specs.Links.{behind_of, before_of, mark_of, at_of, bucket_of, head_of, ring_at, lists_of, target, IsSpot, AreLinked, IsLoose, KeepsRoom};
+    ghost use Rattle.bucket_ring.specs.Links.{behind_of, before_of, mark_of, at_of, bucket_of, head_of, ring_at, lists_of, target, IsSpot, AreLinked, IsLooseSlot, KeepsRoom};
 
     /// The slot behind what is put at a spot.
-    fn target(&self, head: Head, spot: Spot) -> usize
-        ensures { result ≡ target (behind_of self.now) head spot }
+    fn target(&self, head: RingHead, position: Position) -> usize
+        ensures { result ≡ target (behind_of self.now) head position }
     {
-        match spot {
-            Spot::Tail => head.sentinel,
-            Spot::Head => self.behind(head.sentinel),
-            Spot::Before(id) => id.slot,
-            Spot::After(id) => self.behind(id.slot),
+        match position {
+            Position::Tail => head.sentinel,
+            Position::Head => self.behind(head.sentinel),
+            Position::Before(id) => id.slot,
+            Position::After(id) => self.behind(id.slot),
         }
     }
 
     /// Takes a bucket out of its ring. Its slot stays.
-    pub(crate) fn take(&mut self, ring: RingId, id: BucketId) -> Bucket<T>
+    pub(crate) fn take(&mut self, ring: RingId, id: BucketId) -> SlotBucket<T>
         requires linked { AreLinked self.old }
         requires bucket { ring_at self.old id ≡ Some ring }
         ensures linked { AreLinked self.new }
-        ensures loose { IsLoose self.new id.slot }
+        ensures loose { IsLooseSlot self.new id.slot }
         ensures had { found id (list_at (lists_of self.old) ring) ≡ Some result.payload }
         ensures birth { result.birth ≡ id.birth }
         ensures lists { (n : ℕ) → lists_of self.new n ≡ on ring (without id) (lists_of self.old) n }
@@ -45,19 +45,25 @@ impl<T: Drop> Links<T> {
     }
 
     /// Puts a bucket into a ring, in a slot that is in none.
-    pub(crate) fn put(&mut self, slot: usize, ring: RingId, spot: Spot, bucket: Bucket<T>)
+    pub(crate) fn put(
+        &mut self,
+        slot: usize,
+        ring: RingId,
+        position: Position,
+        bucket: SlotBucket<T>,
+    )
         requires linked { AreLinked self.old }
-        requires loose { IsLoose self.old slot }
+        requires loose { IsLooseSlot self.old slot }
         requires there { is_some (lists_of self.old ring) ≡ true }
-        requires spot { IsSpot (ring_at self.old) ring spot }
+        requires position { IsSpot (ring_at self.old) ring position }
         requires few { length (list_at (lists_of self.old) ring) + 1 < 2 ^ 63 }
         ensures linked { AreLinked self.new }
-        ensures lists { (n : ℕ) → lists_of self.new n ≡ on ring (placed spot ((id_of slot bucket.birth, bucket.payload) ∷ [])) (lists_of self.old) n }
+        ensures lists { (n : ℕ) → lists_of self.new n ≡ on ring (placed position ((id_of slot bucket.birth, bucket.payload) ∷ [])) (lists_of self.old) n }
         ensures places { (j : _) → ring_at self.new j ≡ (if same (id_of slot bucket.birth) j then Some ring else ring_at self.old j) }
         ensures room { KeepsRoom self.old self.new }
     {
         let head = self.head(ring);
-        let at = self.target(head, spot);
+        let at = self.target(head, position);
         self.fill(slot, ring, bucket);
         self.turn(slot, at);
         self.resize(ring, head.count + 1);
@@ -76,7 +82,7 @@ impl<T: Drop> Links<T> {
         ensures spare { spare self.old.heads ≤ spare self.new.heads + 1 }
     {
         let sentinel = self.fresh(ring);
-        self.put_head(ring, Head { sentinel, count: 0 });
+        self.put_head(ring, RingHead { sentinel, count: 0 });
     }
 
     /// Ends a ring where no bucket is.
@@ -97,7 +103,7 @@ impl<T: Drop> Links<T> {
         requires linked { AreLinked self.old }
         requires room { HasRoomFor self.old.nodes 1 }
         ensures linked { AreLinked self.new }
-        ensures loose { IsLoose self.new result }
+        ensures loose { IsLooseSlot self.new result }
         ensures lists { (n : ℕ) → lists_of self.new n ≡ lists_of self.old n }
         ensures places { (j : _) → ring_at self.new j ≡ ring_at self.old j }
         ensures room { (n : ℕ) → HasRoomFor self.old.nodes (n + 1) → HasRoomFor self.new.nodes n }
@@ -108,7 +114,7 @@ impl<T: Drop> Links<T> {
     /// Ends a slot that is in no ring.
     pub(crate) fn end(&mut self, slot: usize)
         requires linked { AreLinked self.old }
-        requires loose { IsLoose self.old slot }
+        requires loose { IsLooseSlot self.old slot }
         ensures linked { AreLinked self.new }
         ensures lists { (n : ℕ) → lists_of self.new n ≡ lists_of self.old n }
         ensures places { (j : _) → ring_at self.new j ≡ ring_at self.old j }

@@ -7,7 +7,7 @@ ghost use Rattle.slab.specs.Slab.{get, HasRoomFor};
 ghost use Rattle.bucket_ring.specs.Lists.{upd};
 ghost use Rattle.bucket_ring.specs.Walks.{id_of, turned};
 ghost use Rattle.bucket_ring.specs.declared.names.BucketId.{BucketId};
-ghost use Rattle.bucket_ring.specs.declared.links.Head.{Head};
+ghost use Rattle.bucket_ring.specs.declared.links.RingHead.{RingHead};
 
 use crate::hashing::NameHasher;
 use crate::names::{BucketId, RingId};
@@ -19,7 +19,7 @@ use std::mem::replace;
 
 /// Where buckets are put in a ring.
 #[derive(Clone, Copy)]
-pub(crate) enum Spot {
+pub(crate) enum Position {
     Tail,
     Head,
     Before(BucketId),
@@ -28,7 +28,7 @@ pub(crate) enum Spot {
 
 /// A bucket in its slot.
 #[derive(Drop)]
-pub(crate) struct Bucket<T> {
+pub(crate) struct SlotBucket<T> {
     pub(crate) birth: u64,
     pub(crate) payload: T,
 }
@@ -39,12 +39,12 @@ pub(crate) struct Node<T> {
     pub(crate) ring: RingId,
     pub(crate) before: usize,
     pub(crate) behind: usize,
-    pub(crate) bucket: Option<Bucket<T>>,
+    pub(crate) bucket: Option<SlotBucket<T>>,
 }
 
 /// Where a ring begins and ends, and how many buckets it has.
 #[derive(Clone, Copy)]
-pub(crate) struct Head {
+pub(crate) struct RingHead {
     pub(crate) sentinel: usize,
     pub(crate) count: usize,
 }
@@ -53,7 +53,7 @@ pub(crate) struct Head {
 #[derive(Drop)]
 pub(crate) struct Links<T> {
     pub(crate) nodes: Slab<Node<T>>,
-    pub(crate) heads: HashMap<u64, Head, BuildHasherDefault<NameHasher>>,
+    pub(crate) heads: HashMap<u64, RingHead, BuildHasherDefault<NameHasher>>,
 }
 
 #[tactic(auto, unfolding(crate::specs::Links::behind_of, crate::specs::Links::before_of, crate::specs::Links::mark_of, crate::specs::Links::at_of, crate::specs::Links::bucket_of, crate::specs::Links::head_of, crate::specs::Links::ring_at, crate::specs::Lists::upd))]
@@ -131,7 +131,7 @@ impl<T: Drop> Links<T> {
     }
 
     /// Puts the head of a ring, where there is room.
-    pub(crate) fn put_head(&mut self, ring: RingId, head: Head)
+    pub(crate) fn put_head(&mut self, ring: RingId, head: RingHead)
         requires { 0 < spare self.old.heads }
         ensures heads { (n : ℕ) → head_of self.new n ≡ upd (head_of self.old) ring (Some head) n }
         ensures nodes { self.new.nodes ≡ self.old.nodes }
@@ -170,7 +170,7 @@ impl<T: Drop> Links<T> {
     }
 
     /// The head of a ring.
-    pub(crate) fn head(&self, ring: RingId) -> Head
+    pub(crate) fn head(&self, ring: RingId) -> RingHead
         requires { is_some (head_of self.now ring) ≡ true }
         ensures { head_of self.now ring ≡ Some result }
     {
@@ -209,7 +209,7 @@ impl<T: Drop> Links<T> {
     }
 
     /// Puts a bucket of a ring into a slot.
-    pub(crate) fn fill(&mut self, slot: usize, ring: RingId, bucket: Bucket<T>)
+    pub(crate) fn fill(&mut self, slot: usize, ring: RingId, bucket: SlotBucket<T>)
         requires { is_some (get self.old.nodes slot) ≡ true }
         ensures bucket { (j : ℕ) → bucket_of self.new j ≡ upd (bucket_of self.old) slot (Some (id_of slot bucket.birth, bucket.payload)) j }
         ensures at { (j : ℕ) → at_of self.new j ≡ upd (at_of self.old) slot (Some ring) j }
@@ -225,7 +225,7 @@ impl<T: Drop> Links<T> {
     }
 
     /// Takes the bucket out of a slot.
-    pub(crate) fn empty(&mut self, slot: usize) -> Bucket<T>
+    pub(crate) fn empty(&mut self, slot: usize) -> SlotBucket<T>
         requires { is_some (bucket_of self.old slot) ≡ true }
         ensures had { bucket_of self.old slot ≡ Some (id_of slot result.birth, result.payload) }
         ensures bucket { (j : ℕ) → bucket_of self.new j ≡ upd (bucket_of self.old) slot None j }
@@ -297,7 +297,7 @@ impl<T: Drop> Links<T> {
 
     /// Writes how many buckets a ring has.
     pub(crate) fn resize(&mut self, ring: RingId, count: usize)
-        ensures head { (h : Head) → head_of self.old ring ≡ Some h → (n : ℕ) → head_of self.new n ≡ upd (head_of self.old) ring (Some (record { sentinel = h.sentinel; count = count })) n }
+        ensures head { (h : RingHead) → head_of self.old ring ≡ Some h → (n : ℕ) → head_of self.new n ≡ upd (head_of self.old) ring (Some (record { sentinel = h.sentinel; count = count })) n }
         ensures nodes { self.new.nodes ≡ self.old.nodes }
     {
         if let Some(head) = self.heads.get_mut(&ring) {

@@ -9,7 +9,7 @@ ghost use Rattle.bucket_ring.specs.Spots.{placed};
 ghost use Rattle.bucket_ring.specs.Links.{ring_at, lists_of, IsSpot, AreLinked};
 ghost use Rattle.bucket_ring.specs.Kept.{IsKept, NoneRevived};
 
-use crate::links::{Bucket, Links, Spot};
+use crate::links::{Links, Position, SlotBucket};
 use crate::names::{BucketId, RingId, RingRefusal};
 use crate::rings::Rings;
 use std::alloc::{AllocError, Global};
@@ -28,13 +28,13 @@ pub struct PlainRings<T> {
 
 impl<T: Drop> PlainRings<T> {
     /// Puts a new bucket into a ring. There is room for it, and a name.
-    fn settle(&mut self, ring: RingId, spot: Spot, payload: T) -> BucketId
+    fn settle(&mut self, ring: RingId, position: Position, payload: T) -> BucketId
         requires there { is_some (lists_of self.old.links ring) ≡ true }
-        requires spot { IsSpot (ring_at self.old.links) ring spot }
+        requires position { IsSpot (ring_at self.old.links) ring position }
         requires room { HasRoomFor self.old.links.nodes 1 }
         requires few { length (list_at (lists_of self.old.links) ring) + 1 < 2 ^ 63 }
         requires unspent { self.old.next < u64.MAX }
-        ensures out { (n : ℕ) → lists_of self.new.links n ≡ on ring (placed spot ((result, payload) ∷ [])) (lists_of self.old.links) n }
+        ensures out { (n : ℕ) → lists_of self.new.links n ≡ on ring (placed position ((result, payload) ∷ [])) (lists_of self.old.links) n }
         ensures name { result.birth ≡ self.old.next }
         ensures next { self.new.next ≡ self.old.next + 1 }
         ensures room { (count : ℕ) → HasRoomFor self.old.links.nodes (count + 1) → HasRoomFor self.new.links.nodes count }
@@ -47,8 +47,8 @@ impl<T: Drop> PlainRings<T> {
         self.links.put(
             id.slot,
             ring,
-            spot,
-            Bucket {
+            position,
+            SlotBucket {
                 birth: id.birth,
                 payload,
             },
@@ -69,7 +69,7 @@ impl<T: Drop> PlainRings<T> {
     {
         let mut left = given.into_iter();
         while let Some(payload) = left.next() {
-            self.settle(ring, Spot::Tail, payload);
+            self.settle(ring, Position::Tail, payload);
         }
     }
 
@@ -107,10 +107,15 @@ impl<T: Drop> PlainRings<T> {
     }
 
     /// Puts a new bucket into a ring.
-    fn add(&mut self, ring: RingId, spot: Spot, payload: T) -> Result<BucketId, (RingRefusal, T)>
+    fn add(
+        &mut self,
+        ring: RingId,
+        position: Position,
+        payload: T,
+    ) -> Result<BucketId, (RingRefusal, T)>
         requires there { is_some (lists_of self.old.links ring) ≡ true }
-        requires spot { IsSpot (ring_at self.old.links) ring spot }
-        ensures ok { IfOk result (λ id. (n : ℕ) → lists_of self.new.links n ≡ on ring (placed spot ((id, payload) ∷ [])) (lists_of self.old.links) n) }
+        requires position { IsSpot (ring_at self.old.links) ring position }
+        ensures ok { IfOk result (λ id. (n : ℕ) → lists_of self.new.links n ≡ on ring (placed position ((id, payload) ∷ [])) (lists_of self.old.links) n) }
         ensures name { IfOk result (λ id. id.birth ≡ self.old.next) }
         ensures next { self.new.next ≡ (if is_ok result then self.old.next + 1 else self.old.next) }
         ensures names { NoneRevived (ring_at self.old.links) (ring_at self.new.links) self.old.next }
@@ -126,7 +131,7 @@ impl<T: Drop> PlainRings<T> {
             return Err((RingRefusal::NoMemory, payload));
         }
         match self.reserve(1, 0) {
-            Ok(()) => Ok(self.settle(ring, spot, payload)),
+            Ok(()) => Ok(self.settle(ring, position, payload)),
             Err(_) => Err((RingRefusal::NoMemory, payload)),
         }
     }
@@ -163,26 +168,26 @@ impl<T: Drop> PlainRings<T> {
     }
 
     /// Moves a bucket to a spot in a ring, which is not its own.
-    fn carry(&mut self, ring: RingId, spot: Spot, id: BucketId)
+    fn carry(&mut self, ring: RingId, position: Position, id: BucketId)
         requires ring { is_some (lists_of self.old.links ring) ≡ true }
         requires bucket { is_some (ring_at self.old.links id) ≡ true }
-        requires spot { IsSpot (λ j. if same id j then None else ring_at self.old.links j) ring spot }
+        requires position { IsSpot (λ j. if same id j then None else ring_at self.old.links j) ring position }
         requires few { length (list_at (lists_of self.old.links) ring) + 1 < 2 ^ 63 }
-        ensures out { (q n : ℕ) (x : T) → ring_at self.old.links id ≡ Some q → found id (list_at (lists_of self.old.links) q) ≡ Some x → lists_of self.new.links n ≡ on ring (placed spot ((id, x) ∷ [])) (on q (without id) (lists_of self.old.links)) n }
+        ensures out { (q n : ℕ) (x : T) → ring_at self.old.links id ≡ Some q → found id (list_at (lists_of self.old.links) q) ≡ Some x → lists_of self.new.links n ≡ on ring (placed position ((id, x) ∷ [])) (on q (without id) (lists_of self.old.links)) n }
         ensures next { self.new.next ≡ self.old.next }
         ensures names { (j : BucketId) → is_some (ring_at self.new.links j) ≡ true → is_some (ring_at self.old.links j) ≡ true }
     {
         let from = self.ring_with(id);
         let bucket = self.links.take(from, id);
-        self.links.put(id.slot, ring, spot, bucket);
+        self.links.put(id.slot, ring, position, bucket);
     }
 
     /// Moves a bucket to a spot in a ring.
-    fn shift(&mut self, ring: RingId, spot: Spot, id: BucketId) -> Result<(), AllocError>
+    fn shift(&mut self, ring: RingId, position: Position, id: BucketId) -> Result<(), AllocError>
         requires ring { is_some (lists_of self.old.links ring) ≡ true }
         requires bucket { is_some (ring_at self.old.links id) ≡ true }
-        requires spot { IsSpot (λ j. if same id j then None else ring_at self.old.links j) ring spot }
-        ensures ok { OnOk result ((q n : ℕ) (x : T) → ring_at self.old.links id ≡ Some q → found id (list_at (lists_of self.old.links) q) ≡ Some x → lists_of self.new.links n ≡ on ring (placed spot ((id, x) ∷ [])) (on q (without id) (lists_of self.old.links)) n) }
+        requires position { IsSpot (λ j. if same id j then None else ring_at self.old.links j) ring position }
+        ensures ok { OnOk result ((q n : ℕ) (x : T) → ring_at self.old.links id ≡ Some q → found id (list_at (lists_of self.old.links) q) ≡ Some x → lists_of self.new.links n ≡ on ring (placed position ((id, x) ∷ [])) (on q (without id) (lists_of self.old.links)) n) }
         ensures sure { length (list_at (lists_of self.old.links) ring) + 1 < 2 ^ 63 → IsOk result }
         ensures next { self.new.next ≡ self.old.next }
         ensures names { NoneRevived (ring_at self.old.links) (ring_at self.new.links) self.old.next }
@@ -191,7 +196,7 @@ impl<T: Drop> PlainRings<T> {
         if self.links.len(ring) + 1 >= LIMIT {
             return Err(AllocError);
         }
-        self.carry(ring, spot, id);
+        self.carry(ring, position, id);
         Ok(())
     }
 }
@@ -239,7 +244,7 @@ impl<T: Drop> Rings<T> for PlainRings<T> {
     }
 
     fn add_tail(&mut self, ring: RingId, payload: T) -> Result<BucketId, (RingRefusal, T)> {
-        self.add(ring, Spot::Tail, payload)
+        self.add(ring, Position::Tail, payload)
     }
 
     fn add_all(&mut self, ring: RingId, given: Vec<T>) -> Result<(), RingRefusal>
@@ -273,25 +278,25 @@ impl<T: Drop> Rings<T> for PlainRings<T> {
     }
 
     fn add_head(&mut self, ring: RingId, payload: T) -> Result<BucketId, (RingRefusal, T)> {
-        self.add(ring, Spot::Head, payload)
+        self.add(ring, Position::Head, payload)
     }
 
     fn add_before(&mut self, at: BucketId, payload: T) -> Result<BucketId, (RingRefusal, T)> {
         let ring = self.ring_with(at);
-        self.add(ring, Spot::Before(at), payload)
+        self.add(ring, Position::Before(at), payload)
     }
 
     fn add_after(&mut self, at: BucketId, payload: T) -> Result<BucketId, (RingRefusal, T)> {
         let ring = self.ring_with(at);
-        self.add(ring, Spot::After(at), payload)
+        self.add(ring, Position::After(at), payload)
     }
 
     fn move_tail(&mut self, ring: RingId, id: BucketId) -> Result<(), AllocError> {
-        self.shift(ring, Spot::Tail, id)
+        self.shift(ring, Position::Tail, id)
     }
 
     fn move_head(&mut self, ring: RingId, id: BucketId) -> Result<(), AllocError> {
-        self.shift(ring, Spot::Head, id)
+        self.shift(ring, Position::Head, id)
     }
 
     fn move_before(&mut self, at: BucketId, id: BucketId) -> Result<(), AllocError> {
@@ -299,7 +304,7 @@ impl<T: Drop> Rings<T> for PlainRings<T> {
             return Ok(());
         }
         let ring = self.ring_with(at);
-        self.shift(ring, Spot::Before(at), id)
+        self.shift(ring, Position::Before(at), id)
     }
 
     fn splice_tail(&mut self, ring: RingId, from: RingId) -> Result<(), AllocError> {
@@ -320,7 +325,7 @@ impl<T: Drop> Rings<T> for PlainRings<T> {
         let mut here = Some(id);
         while let Some(id) = here {
             here = self.links.next(id);
-            self.carry(ring, Spot::Tail, id);
+            self.carry(ring, Position::Tail, id);
         }
         Ok(())
     }

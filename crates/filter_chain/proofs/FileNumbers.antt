@@ -1,10 +1,10 @@
 -- The next number of a file is the same after an event that opens none.
 use Rattle.std.proofs.Common.{◌≡◌, ℕ, Bool, true, false, ◌||◌, not, cond, List, [], ◌∷◌, Option, Some, None, Result, refl, sym, ◌∙◌, ap}
 use Rattle.std.specs.Prelude.{nat_le, nat_lt}
-use Rattle.module_lang.specs.Program.{Program}
-use Rattle.module_lang.specs.declared.instr.Instr.{Instr}
-use Rattle.module_lang.specs.declared.instr.Instr.TheVariants as instr
-use Rattle.module_lang.specs.declared.instr.PoolRef.TheVariants as pool
+use Rattle.module_code.specs.Program.{Program}
+use Rattle.module_code.specs.declared.instr.Instr.{Instr}
+use Rattle.module_code.specs.declared.instr.Instr.TheVariants as instr
+use Rattle.module_code.specs.declared.instr.PoolRef.TheVariants as pool
 use Rattle.run_model.specs.declared.event.Cause.{Cause}
 use Rattle.run_model.specs.declared.event.Cause.TheVariants as cause
 use Rattle.run_model.specs.declared.event.Piece.{Piece}
@@ -20,9 +20,9 @@ use Rattle.run_model.specs.Steps.{Choice, step, current, grows, lacks_names, is_
 use Rattle.run_model.specs.Chains.{Frame, Connection, Common, Linked, module_at, configuration}
 use Rattle.run_model.specs.Passing.{Reads, proceeds}
 use Rattle.run_model.specs.Turns.{calls_of, broken_by, counted, executed, unless_fault, watched, step_top, step_unless, steps, unless_refused, all_called, begun, begins, brought, brings, ended, ends}
-use Rattle.run_model.proofs.NamedPools.{on_named}
-use Rattle.run_model.proofs.Unchanged.{step_changes_only}
-use Rattle.run_model.proofs.chains.Proceeds.{proceeds_so}
+use Rattle.model_laws.proofs.NamedPools.{on_named}
+use Rattle.model_laws.proofs.Unchanged.{step_changes_only}
+use Rattle.model_laws.proofs.chains.Proceeds.{proceeds_so}
 
 abbrev Same : ℕ → Configuration → Type 0
 Same n s = s.shared.files.next ≡ n

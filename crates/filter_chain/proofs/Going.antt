@@ -1,6 +1,6 @@
 -- Steps that go on, one after another, and the last of them.
 use Rattle.std.proofs.Common.{◌≡◌, ℕ, suc, ◌≤◌, List, Result, Ok, refl, subst, sym, ◌∙◌, arith}
-use Rattle.module_lang.specs.Program.{Program}
+use Rattle.module_code.specs.Program.{Program}
 use Rattle.run_model.specs.declared.event.Event.TheVariants as event
 use Rattle.run_model.specs.declared.event.Refusal.{Refusal}
 use Rattle.run_model.specs.declared.event.Stepped.{Stepped}
@@ -9,10 +9,10 @@ use Rattle.bucket_kinds.specs.Device.{Device}
 use Rattle.life_check.specs.ChainTheorem.{ChainNeverFaults}
 use Rattle.filter_chain.specs.declared.host.Host.{Host}
 use Rattle.filter_chain.specs.Hosting.{budget_of, chain_of, files_of, step_answer}
-use Rattle.filter_chain.specs.Led.{IsAlive, Leads}
-use Rattle.filter_chain.specs.Running.{GoesOn, Runs, StepsOn}
+use Rattle.filter_chain.specs.Led.{IsAlive, Refines}
+use Rattle.filter_chain.specs.Running.{HostGoesOn, StepsToEnd, StepsOn}
 use Rattle.filter_chain.specs.Safe.{IsSafe}
-use Rattle.filter_chain.specs.Scenes.{Scene, Acts, scene}
+use Rattle.filter_chain.specs.HostViews.{HostView, Answers, host_view}
 use Rattle.filter_chain.proofs.Driving.{Happened, by_event, alive_then, leads_on, leads_still}
 use Rattle.filter_chain.proofs.StepCounts.{goes_few, goes_more}
 
@@ -20,52 +20,52 @@ use Rattle.filter_chain.proofs.StepCounts.{goes_few, goes_more}
 pub record IsGoing {F : Type 0} (device : F → Device) (old now : Host F) (number made : ℕ) : Type 0 where
   pub alive : IsAlive device now
   pub chain : chain_of now ≡ chain_of old
-  pub goes : Leads device old now (λ b c s t. GoesOn b c number made s t)
+  pub goes : Refines device old now (λ b c s t. HostGoesOn b c number made s t)
 
 pub safe_still : {F : Type 0} (old now : Host F) → chain_of now ≡ chain_of old → IsSafe old → IsSafe now
 safe_still old now chain safe = subst ChainNeverFaults (sym chain) safe
 
 module _ {F : Type 0} (device : F → Device) (number : ℕ) where
   pub going_begins : (host : Host F) → IsAlive device host → IsGoing device host host number 0
-  unfolding GoesOn
-  going_begins host alive = record { alive = alive; chain = refl; goes = leads_still device host (λ b c s t. GoesOn b c number 0 s t) (λ b c s. refl) }
+  unfolding HostGoesOn
+  going_begins host alive = record { alive = alive; chain = refl; goes = leads_still device host (λ b c s t. HostGoesOn b c number 0 s t) (λ b c s. refl) }
 
   module _ (old now new : Host F) (made : ℕ) (so : IsGoing device old now number made) (answer : Result Stepped Refusal) (step : Happened device now new number event.Step (step_answer answer)) where
     pub going_on : answer ≡ Ok stepped.Went → IsGoing device old new number (suc made)
     going_on went =
         let one = by_event device now new number event.Step (step_answer answer) step in
         record {
-          alive = alive_then device now new (λ b c s t. Acts b c number event.Step s (step_answer answer) t) so.alive one;
+          alive = alive_then device now new (λ b c s t. Answers b c number event.Step s (step_answer answer) t) so.alive one;
           chain = (one so.alive.0 so.alive.1).chain ∙ so.chain;
-          goes = leads_on device old now new (λ b c s t. GoesOn b c number made s t) (λ b c s t. Acts b c number event.Step s (step_answer answer) t) (λ b c s t. GoesOn b c number (suc made) s t)
-              (λ b c s m t g a. goes_more b c number made s m t g (subst (λ (x : Result Stepped Refusal). Acts b c number event.Step m (step_answer x) t) went a)) so.goes one;
+          goes = leads_on device old now new (λ b c s t. HostGoesOn b c number made s t) (λ b c s t. Answers b c number event.Step s (step_answer answer) t) (λ b c s t. HostGoesOn b c number (suc made) s t)
+              (λ b c s m t g a. goes_more b c number made s m t g (subst (λ (x : Result Stepped Refusal). Answers b c number event.Step m (step_answer x) t) went a)) so.goes one;
         }
 
     -- the last of them, by its answer
-    pub going_ends : (more : ℕ) → made ≤ more → (answer ≡ Ok stepped.Went → made ≡ more) → Leads device old new (λ b c s t. StepsOn b c number more s answer t)
+    pub going_ends : (more : ℕ) → made ≤ more → (answer ≡ Ok stepped.Went → made ≡ more) → Refines device old new (λ b c s t. StepsOn b c number more s answer t)
     going_ends more few stops =
-        leads_on device old now new (λ b c s t. GoesOn b c number made s t) (λ b c s t. Acts b c number event.Step s (step_answer answer) t) (λ b c s t. StepsOn b c number more s answer t)
+        leads_on device old now new (λ b c s t. HostGoesOn b c number made s t) (λ b c s t. Answers b c number event.Step s (step_answer answer) t) (λ b c s t. StepsOn b c number more s answer t)
         (λ b c s m t g a. record { count = made; before = m; few = few; goes = g; last = a; stops = stops }) so.goes (by_event device now new number event.Step (step_answer answer) step)
 
 -- As many went as the budget, so that one more does not go on.
-steps_run : (budget : ℕ) (chain : List Program) (number : ℕ) (s t : Scene) (answer : Result Stepped Refusal) → StepsOn budget chain number budget s answer t → Runs budget chain number s answer t
+steps_run : (budget : ℕ) (chain : List Program) (number : ℕ) (s t : HostView) (answer : Result Stepped Refusal) → StepsOn budget chain number budget s answer t → StepsToEnd budget chain number s answer t
 steps_run budget chain number s t answer x = record {
   count = x.count;
   before = x.before;
   few = x.few;
   goes = x.goes;
   last = x.last;
-  stops = λ went. (let few = goes_few budget chain number x.count s x.before t x.goes (subst (λ (a : Result Stepped Refusal). Acts budget chain number event.Step x.before (step_answer a) t) went x.last) in
+  stops = λ went. (let few = goes_few budget chain number x.count s x.before t x.goes (subst (λ (a : Result Stepped Refusal). Answers budget chain number event.Step x.before (step_answer a) t) went x.last) in
       let all = x.stops went in absurd (omega (arith, few, all)));
 }
 
 -- So it is of a host that makes as many steps as its budget, and one more.
 pub runs_whole : {F : Type 0} (device : F → Device) (number : ℕ) (old new : Host F) (answer : Result Stepped Refusal) (more : ℕ) → more ≡ budget_of old
-    → Leads device old new (λ b c s t. StepsOn b c number more s answer t) → Leads device old new (λ b c s t. Runs b c number s answer t)
+    → Refines device old new (λ b c s t. StepsOn b c number more s answer t) → Refines device old new (λ b c s t. StepsToEnd b c number s answer t)
 runs_whole device number old new answer more is h w hosts =
     let x = h w hosts in
-    let d = scene w (device (files_of old)) in
-    let e = scene x.to (device (files_of new)) in
+    let d = host_view w (device (files_of old)) in
+    let e = host_view x.to (device (files_of new)) in
     record {
       to = x.to;
       did = steps_run (budget_of old) (chain_of old) number d e answer (subst (λ (n : ℕ). StepsOn (budget_of old) (chain_of old) number n d answer e) is x.did);

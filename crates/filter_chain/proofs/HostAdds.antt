@@ -2,7 +2,7 @@
 use Rattle.std.proofs.Common.{◌≡◌, ℕ, Bool, true, false, cond, List, Option, Some, None, is_some, Result, Ok, Err, refl, sym, ◌∙◌, ap, subst, arith}
 use Rattle.std.specs.Str.{bytes_eq}
 use Rattle.std.proofs.Math.Path.{fun_ext}
-use Rattle.module_lang.specs.Program.{Program}
+use Rattle.module_code.specs.Program.{Program}
 use Rattle.run_model.specs.declared.event.Event.TheVariants as event
 use Rattle.run_model.specs.declared.event.Refusal.TheVariants as refusal
 use Rattle.run_model.specs.Chains.{Connection}
@@ -16,11 +16,11 @@ use Rattle.bucket_kinds.specs.Device.{Device, Held, Holds, is_there}
 use Rattle.bucket_kinds.specs.MemAnswers.{IsAdding}
 use Rattle.bucket_kinds.specs.MemDevice.{held_of, device_of}
 use Rattle.module_run.specs.Proceeding.{MayHold}
-use Rattle.filter_chain.specs.declared.next.Next.{Next}
-use Rattle.filter_chain.specs.declared.seat.Seat.{Seat}
+use Rattle.filter_chain.specs.declared.next.NextNames.{NextNames}
+use Rattle.filter_chain.specs.declared.hosted_conn.HostedConn.{HostedConn}
 use Rattle.filter_chain.specs.declared.host.Host.{Host}
-use Rattle.filter_chain.specs.Hosting.{HoldsWorld, IsSeatOf, IsHosting, Happens, Stays, TriesToAdd, chain_of, budget_of, seat_at}
-use Rattle.filter_chain.specs.Scenes.{TellsEvent}
+use Rattle.filter_chain.specs.Hosting.{HoldsWorld, IsHostedConnIf, IsHosting, Happens, Stays, TriesToAdd, chain_of, budget_of, hosted_at}
+use Rattle.filter_chain.specs.HostViews.{TellsEvent}
 
 -- The device, after a file is added.
 
@@ -43,7 +43,7 @@ there_then None there = absurd (cc)
 there_then (Some bytes) there = refl
 
 -- The host stands for the same world where its device gives the same numbers, and has the same files under them.
-module _ (budget : ℕ) (chain : List Program) (d e : Device) (next : Next) (last : ℕ) (seats : ℕ → Option Seat) (w : World) (h : HoldsWorld budget chain d next last seats w) (numbered : e.numbered ≡ d.numbered) (same : e.next ≡ d.next) where
+module _ (budget : ℕ) (chain : List Program) (d e : Device) (next : NextNames) (last : ℕ) (seats : ℕ → Option HostedConn) (w : World) (h : HoldsWorld budget chain d next last seats w) (numbered : e.numbered ≡ d.numbered) (same : e.next ≡ d.next) where
   pub renamed_holds : HoldsWorld budget chain e next last seats w
   renamed_holds = record {
     chained = h.chained;
@@ -54,7 +54,7 @@ module _ (budget : ℕ) (chain : List Program) (d e : Device) (next : Next) (las
     files = (let le = h.files in omega (arith, le, same));
     conns = λ k. both (seats k) (w.conns k) (h.conns k);
   } where
-    both : (o : Option Seat) (b : Option Connection) → IsSeatOf chain d next o b → IsSeatOf chain e next o b
+    both : (o : Option HostedConn) (b : Option Connection) → IsHostedConnIf chain d next o b → IsHostedConnIf chain e next o b
     both None None is = is
     both None (Some b) is = absurd is
     both (Some s) None is = absurd is
@@ -78,7 +78,7 @@ module _ (old : Host MemFiles) (files : MemFiles) (name bytes : List ℕ) (w : W
 
   hosts_still : (d e : Device) → IsHosting d old w → e.numbered ≡ d.numbered → e.next ≡ d.next → IsHosting e new w
   unfolding IsHosting chain_of budget_of
-  hosts_still d e hosts numbered same = renamed_holds (budget_of old) (chain_of old) d e old.next old.last (seat_at old.seats) w hosts numbered same
+  hosts_still d e hosts numbered same = renamed_holds (budget_of old) (chain_of old) d e old.next old.last (hosted_at old.seats) w hosts numbered same
 
   was_added : (d e : Device) → IsHosting d old w → is_there (d.named name) ≡ false → e ≡ record d { named = λ q. cond (bytes_eq q name) (Holds bytes) (d.named q) } → Happens d e old new 0 (event.AddFile name bytes) Done w
   unfolding happens_on TellsEvent chain_of budget_of

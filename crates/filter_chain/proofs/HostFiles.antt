@@ -1,23 +1,23 @@
 -- How a connection that is there serves the opening of a file.
 use Rattle.std.proofs.Common.{◌≡◌, ℕ, List, Option, Some, None, Result, Ok, Err, refl, sym, ◌∙◌, ap}
-use Rattle.module_lang.specs.Program.{Program}
+use Rattle.module_code.specs.Program.{Program}
 use Rattle.run_model.specs.declared.event.Event.TheVariants as event
 use Rattle.run_model.specs.declared.event.Refusal.{Refusal}
 use Rattle.run_model.specs.declared.event.Refusal.TheVariants as refusal
 use Rattle.run_model.specs.Chains.{Connection}
-use Rattle.run_model.specs.ChainFiles.{TellsLengths, IsShort}
+use Rattle.model_laws.specs.ChainFiles.{TellsLengths, IsShortLength}
 use Rattle.run_model.specs.Turns.{Opening, Found, Missing, Failing, opens_file}
 use Rattle.run_model.specs.Turns as turns
 use Rattle.run_model.specs.Worlds.{World, Refused, put_conn, happens_on, file_answered}
-use Rattle.run_model.proofs.chains.EventTurns.{OpensAs, opens_file_turn}
+use Rattle.model_laws.proofs.chains.EventTurns.{OpensAs, opens_file_turn}
 use Rattle.bucket_kinds.specs.Device.{Device}
 use Rattle.module_run.specs.Happened.{lasted, refusal_of}
 use Rattle.module_run.specs.OpenedFile.{IsAfterOpening, TellsShort}
-use Rattle.filter_chain.specs.declared.next.Next.{Next}
-use Rattle.filter_chain.specs.declared.seat.Seat.{Seat}
+use Rattle.filter_chain.specs.declared.next.NextNames.{NextNames}
+use Rattle.filter_chain.specs.declared.hosted_conn.HostedConn.{HostedConn}
 use Rattle.filter_chain.specs.Hosting.{file_answer}
-use Rattle.filter_chain.specs.Scenes.{TellsEvent, refusal_in}
-use Rattle.filter_chain.specs.Seated.{OpensFile}
+use Rattle.filter_chain.specs.HostViews.{TellsEvent, refusal_in}
+use Rattle.filter_chain.specs.HostedConns.{OpensFile}
 use Rattle.filter_chain.proofs.HostEvents.{AnyLength, Serves}
 use Rattle.filter_chain.proofs.KnownEvents.{put_same}
 
@@ -34,7 +34,7 @@ any_length : (answer : Result (ℕ × ℕ) Refusal) → OpensAs AnyLength answer
 any_length (Ok file) = tt
 any_length (Err r) = tt
 
-short_file : (answer : Result (ℕ × ℕ) Refusal) → TellsShort answer → TellsLengths IsShort (file_answer answer)
+short_file : (answer : Result (ℕ × ℕ) Refusal) → TellsShort answer → TellsLengths IsShortLength (file_answer answer)
 short_file (Ok file) short = short
 short_file (Err r) short = tt
 
@@ -42,7 +42,7 @@ after_answer : (name : List ℕ) (answer : Result (ℕ × ℕ) Refusal) (d e : D
 after_answer name (Ok file) d e after = after
 after_answer name (Err r) d e after = after
 
-pub opens_serves : (budget : ℕ) (chain : List Program) (d e : Device) (w : World) (number : ℕ) (c : Connection) → w.conns number ≡ Some c → (now : Next) (s : Seat) (name : List ℕ) (answer : Result (ℕ × ℕ) Refusal)
+pub opens_serves : (budget : ℕ) (chain : List Program) (d e : Device) (w : World) (number : ℕ) (c : Connection) → w.conns number ≡ Some c → (now : NextNames) (s : HostedConn) (name : List ℕ) (answer : Result (ℕ × ℕ) Refusal)
     → OpensFile chain d e name (w.common, c) now s answer → Serves budget chain d e w number c (event.OpenFile name) (file_answer answer) now s
 unfolding happens_on opens_file TellsEvent
 opens_serves budget chain d e w number c here now s name answer st =

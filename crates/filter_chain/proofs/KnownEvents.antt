@@ -1,7 +1,7 @@
 -- How a connection that is there serves each event.
 use Rattle.std.proofs.Common.{◌≡◌, ℕ, Bool, true, List, Option, Some, None, Result, Ok, Err, OnOk, OnErr, inl, inr, refl, sym, ◌∙◌, ap, subst}
 use Rattle.std.proofs.Math.Path.{fun_ext}
-use Rattle.module_lang.specs.Program.{Program}
+use Rattle.module_code.specs.Program.{Program}
 use Rattle.run_model.specs.declared.event.Event.{Event}
 use Rattle.run_model.specs.declared.event.Event.TheVariants as event
 use Rattle.run_model.specs.declared.event.Piece.{Piece}
@@ -9,21 +9,21 @@ use Rattle.run_model.specs.declared.event.Refusal.{Refusal}
 use Rattle.run_model.specs.declared.event.Stepped.{Stepped}
 use Rattle.run_model.specs.Indexed.{upd}
 use Rattle.run_model.specs.Chains.{Common, Connection, Linked, pools_of}
-use Rattle.run_model.specs.ChainFiles.{TellsLengths, IsShort}
+use Rattle.model_laws.specs.ChainFiles.{TellsLengths, IsShortLength}
 use Rattle.run_model.specs.Passing.{Reads}
 use Rattle.run_model.specs.Turns.{unless_refused, begun, begins, brought, brings, ended, ends, steps}
 use Rattle.run_model.specs.Worlds.{World, Refused, Output, put_conn, happens_on, answered}
 use Rattle.run_model.proofs.Updates.{upd_either}
-use Rattle.run_model.proofs.chains.EventTurns.{Turn, Drained, begins_turn, brings_turn, ends_turn, steps_turn}
+use Rattle.model_laws.proofs.chains.EventTurns.{Turn, Drained, begins_turn, brings_turn, ends_turn, steps_turn}
 use Rattle.bucket_kinds.specs.Device.{Device}
 use Rattle.module_run.specs.Happened.{lasted, refusal_of}
 use Rattle.module_run.specs.Stepping.{ClosesStep, TellsStep}
 use Rattle.ring_run.specs.CarriedOut.{ClosedWith}
-use Rattle.filter_chain.specs.declared.next.Next.{Next}
-use Rattle.filter_chain.specs.declared.seat.Seat.{Seat}
+use Rattle.filter_chain.specs.declared.next.NextNames.{NextNames}
+use Rattle.filter_chain.specs.declared.hosted_conn.HostedConn.{HostedConn}
 use Rattle.filter_chain.specs.Hosting.{done_answer, step_answer}
-use Rattle.filter_chain.specs.Scenes.{ClosesFiles, TellsEvent, TellsReads, scene}
-use Rattle.filter_chain.specs.Seated.{IsSeated, IsLinked, MayServe, Served, Steps, drained}
+use Rattle.filter_chain.specs.HostViews.{ClosesFiles, TellsEvent, StepTellsReads, host_view}
+use Rattle.filter_chain.specs.HostedConns.{IsHostedConn, IsHostedConnWith, MayServe, RefinesConnEvent, RefinesConnStep, drained}
 use Rattle.filter_chain.proofs.Hosts.{step_told}
 use Rattle.filter_chain.proofs.HostEvents.{AnyLength, Serves, nothing_told, told_reads}
 use Rattle.filter_chain.proofs.Seated.{spares_all}
@@ -43,16 +43,16 @@ answered_is : (k : ℕ) (w : World) (c : Connection) (o : Option Refusal) (new :
 answered_is k w c None new here = refl
 answered_is k w c (Some r) new here = ap (λ (x : World). (Refused r, x)) (sym (put_same k w c here))
 
-short_done : (answer : Option Refusal) → TellsLengths IsShort (done_answer answer)
+short_done : (answer : Option Refusal) → TellsLengths IsShortLength (done_answer answer)
 short_done None = tt
 short_done (Some r) = tt
 
-short_step : (answer : Result Stepped Refusal) → TellsLengths IsShort (step_answer answer)
+short_step : (answer : Result Stepped Refusal) → TellsLengths IsShortLength (step_answer answer)
 short_step (Ok s) = tt
 short_step (Err r) = tt
 
 -- what a step of a connection that is there reads
-step_reads : (chain : List Program) (d e : Device) (w : World) (c : Connection) (answer : Result Stepped Refusal) (reads : Reads) → TellsStep d e chain answer (w.common, c) reads → TellsReads chain (scene w d) (Some c) (step_answer answer) reads e
+step_reads : (chain : List Program) (d e : Device) (w : World) (c : Connection) (answer : Result Stepped Refusal) (reads : Reads) → TellsStep d e chain answer (w.common, c) reads → StepTellsReads chain (host_view w d) (Some c) (step_answer answer) reads e
 step_reads chain d e w c (Ok t) reads told = told
 step_reads chain d e w c (Err r) reads told = told
 
@@ -68,10 +68,10 @@ end_closes chain d e v (Ok x) closed unread = closed
 end_closes chain d e v (Err r) closed unread = unread
 
 -- An event that answers whether it happened.
-done_serves : (budget : ℕ) (chain : List Program) (d e : Device) (w : World) (number : ℕ) (c : Connection) → w.conns number ≡ Some c → (now : Next) (s : Seat) (what : Event) (memory : Bool) (answer o : Option Refusal) (new : Linked)
+done_serves : (budget : ℕ) (chain : List Program) (d e : Device) (w : World) (number : ℕ) (c : Connection) → w.conns number ≡ Some c → (now : NextNames) (s : HostedConn) (what : Event) (memory : Bool) (answer o : Option Refusal) (new : Linked)
     → happens_on memory budget chain nothing_told what number (Some c) w ≡ answered number w (unless_refused o (w.common, c) new) → Turn chain AnyLength w.common c (unless_refused o (w.common, c) new).1
-    → TellsEvent chain number what (scene w d) (done_answer answer) nothing_told e → ClosesFiles d e chain what (done_answer answer) w.common (Some c) (unless_refused o (w.common, c) new).1.0 (Some (unless_refused o (w.common, c) new).1.1)
-    → Served chain d e now s c answer (unless_refused o (w.common, c) new) → Serves budget chain d e w number c what (done_answer answer) now s
+    → TellsEvent chain number what (host_view w d) (done_answer answer) nothing_told e → ClosesFiles d e chain what (done_answer answer) w.common (Some c) (unless_refused o (w.common, c) new).1.0 (Some (unless_refused o (w.common, c) new).1.1)
+    → RefinesConnEvent chain d e now s c answer (unless_refused o (w.common, c) new) → Serves budget chain d e w number c what (done_answer answer) now s
 done_serves budget chain d e w number c here now s what memory answer o new is turn tells closes served = record {
   memory = memory;
   told = nothing_told;
@@ -86,31 +86,31 @@ done_serves budget chain d e w number c here now s what memory answer o new is t
 }
 
 -- before, s0: the next names and the connection before; modules: the chain, as it was handed on.
-module _ (budget : ℕ) (chain modules : List Program) (same : modules ≡ chain) (d : Device) (w : World) (number : ℕ) (c : Connection) (here : w.conns number ≡ Some c) (before now : Next) (s0 s : Seat) (may : MayServe chain d before s0 (w.common, c)) where
-  pub begins_serves : (memory : Bool) (answer : Option Refusal) → ((v : Linked) → MayServe modules d before s0 v → Served modules d d now s v.1 answer (begins memory modules v)) → Serves budget chain d d w number c event.Begin (done_answer answer) now s
+module _ (budget : ℕ) (chain modules : List Program) (same : modules ≡ chain) (d : Device) (w : World) (number : ℕ) (c : Connection) (here : w.conns number ≡ Some c) (before now : NextNames) (s0 s : HostedConn) (may : MayServe chain d before s0 (w.common, c)) where
+  pub begins_serves : (memory : Bool) (answer : Option Refusal) → ((v : Linked) → MayServe modules d before s0 v → RefinesConnEvent modules d d now s v.1 answer (begins memory modules v)) → Serves budget chain d d w number c event.Begin (done_answer answer) now s
   unfolding happens_on begins TellsEvent
   begins_serves memory answer serve =
-      let served = subst (λ (m : List Program). (v : Linked) → MayServe m d before s0 v → Served m d d now s v.1 answer (begins memory m v)) same serve (w.common, c) may in
+      let served = subst (λ (m : List Program). (v : Linked) → MayServe m d before s0 v → RefinesConnEvent m d d now s v.1 answer (begins memory m v)) same serve (w.common, c) may in
       done_serves budget chain d d w number c here now s event.Begin memory answer _ (begun chain (w.common, c)) refl (begins_turn chain AnyLength w.common c memory) refl tt served
 
-  pub brings_serves : (memory : Bool) (pieces : List Piece) (answer : Option Refusal) → ((v : Linked) → MayServe modules d before s0 v → Served modules d d now s v.1 answer (brings memory modules pieces v))
+  pub brings_serves : (memory : Bool) (pieces : List Piece) (answer : Option Refusal) → ((v : Linked) → MayServe modules d before s0 v → RefinesConnEvent modules d d now s v.1 answer (brings memory modules pieces v))
       → Serves budget chain d d w number c (event.Bring pieces) (done_answer answer) now s
   unfolding happens_on brings TellsEvent
   brings_serves memory pieces answer serve =
-      let served = subst (λ (m : List Program). (v : Linked) → MayServe m d before s0 v → Served m d d now s v.1 answer (brings memory m pieces v)) same serve (w.common, c) may in
+      let served = subst (λ (m : List Program). (v : Linked) → MayServe m d before s0 v → RefinesConnEvent m d d now s v.1 answer (brings memory m pieces v)) same serve (w.common, c) may in
       done_serves budget chain d d w number c here now s (event.Bring pieces) memory answer _ (brought chain pieces c.req (w.common, c)) refl (brings_turn chain AnyLength w.common c memory pieces) refl tt served
 
-  pub steps_serves : (e : Device) (answer : Result Stepped Refusal) → ((v : Linked) → MayServe modules d before s0 v → Steps modules budget d e v now s answer) → Serves budget chain d e w number c event.Step (step_answer answer) now s
+  pub steps_serves : (e : Device) (answer : Result Stepped Refusal) → ((v : Linked) → MayServe modules d before s0 v → RefinesConnStep modules budget d e v now s answer) → Serves budget chain d e w number c event.Step (step_answer answer) now s
   unfolding happens_on TellsEvent
   steps_serves e answer serve =
-      let st = subst (λ (m : List Program). (v : Linked) → MayServe m d before s0 v → Steps m budget d e v now s answer) same serve (w.common, c) may in
+      let st = subst (λ (m : List Program). (v : Linked) → MayServe m d before s0 v → RefinesConnStep m budget d e v now s answer) same serve (w.common, c) may in
       let left = (steps st.memory budget chain st.reads (w.common, c)).1 in
       record {
         memory = st.memory;
         told = told_reads st.reads;
         left = left;
         is = step_told number w (steps st.memory budget chain st.reads (w.common, c)) ∙ ap (λ (r : Result Stepped Refusal). (step_answer r, put_conn number left w)) st.served.answers;
-        tells = subst (λ (o : Option Connection). TellsReads chain (scene w d) o (step_answer answer) st.reads e) (sym here) (step_reads chain d e w c answer st.reads st.told);
+        tells = subst (λ (o : Option Connection). StepTellsReads chain (host_view w d) o (step_answer answer) st.reads e) (sym here) (step_reads chain d e w c answer st.reads st.told);
         closes = step_closes chain d e w.common left.0 c left.1 answer st.closed;
         short = short_step answer;
         turn = steps_turn chain AnyLength w.common c may.lawful.chained st.memory budget st.reads;
@@ -118,14 +118,14 @@ module _ (budget : ℕ) (chain modules : List Program) (same : modules ≡ chain
         spared = st.served.spared;
       }
 
-module _ (budget : ℕ) (chain : List Program) (d : Device) (w : World) (number : ℕ) (c : Connection) (here : w.conns number ≡ Some c) (now : Next) (s : Seat) where
-  pub ends_serves : (e : Device) (r : Result (Unit {0}) Refusal) → Served chain d e now s c (refusal_of r) (ends (lasted r) (w.common, c))
+module _ (budget : ℕ) (chain : List Program) (d : Device) (w : World) (number : ℕ) (c : Connection) (here : w.conns number ≡ Some c) (now : NextNames) (s : HostedConn) where
+  pub ends_serves : (e : Device) (r : Result (Unit {0}) Refusal) → RefinesConnEvent chain d e now s c (refusal_of r) (ends (lasted r) (w.common, c))
       → OnOk r (ClosedWith d e c.req (pools_of w.common c) (pools_of (ends true (w.common, c)).1.0 (ends true (w.common, c)).1.1)) → OnErr r (e ≡ d) → Serves budget chain d e w number c event.End (done_answer (refusal_of r)) now s
   unfolding happens_on ends TellsEvent
   ends_serves e r served closed unread =
       done_serves budget chain d e w number c here now s event.End (lasted r) (refusal_of r) _ (ended c.req (w.common, c)) refl (ends_turn chain AnyLength w.common c (lasted r)) served.spared.folder (end_closes chain d e (w.common, c) r closed unread) served
 
-  pub takes_serves : (s0 : Seat) (bytes : List ℕ) → bytes ≡ c.out.bytes → IsLinked chain d now s0 (w.common, c) → IsSeated chain d now s (drained c) → Serves budget chain d d w number c event.TakeOutput (Output bytes) now s
+  pub takes_serves : (s0 : HostedConn) (bytes : List ℕ) → bytes ≡ c.out.bytes → IsHostedConnWith chain d now s0 (w.common, c) → IsHostedConn chain d now s (drained c) → Serves budget chain d d w number c event.TakeOutput (Output bytes) now s
   unfolding happens_on TellsEvent
   takes_serves s0 bytes told linked seated = record {
     memory = true;

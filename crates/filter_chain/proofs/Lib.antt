@@ -14,6 +14,7 @@ pub mod HostAdds
 pub mod Safety
 pub mod HostCloses
 pub mod InOrder
+pub mod PrintedParts
 pub mod PrintedPools
 pub mod StepCounts
 pub mod Driving

@@ -1,7 +1,7 @@
 -- Whether its files may fail is never changed by an event of a host; and where they may not, no event is told that they did.
 use Rattle.std.proofs.Common.{◌≡◌, ◌≢◌, ℕ, zero, suc, Bool, true, false, List, Option, Some, None, Result, Ok, Err, inl, inr, refl, sym, ap, subst, ◌∙◌}
 use Rattle.std.proofs.lemmas.Bool.{false≢true}
-use Rattle.module_lang.specs.Program.{Program}
+use Rattle.module_code.specs.Program.{Program}
 use Rattle.run_model.specs.declared.event.Event.{Event}
 use Rattle.run_model.specs.declared.event.Event.TheVariants as event
 use Rattle.run_model.specs.declared.event.Refusal.{Refusal}
@@ -10,16 +10,16 @@ use Rattle.run_model.specs.declared.event.Stepped.{Stepped}
 use Rattle.run_model.specs.declared.event.Stepped.TheVariants as stepped
 use Rattle.run_model.specs.Chains.{Connection, Linked}
 use Rattle.run_model.specs.Passing.{Reads}
-use Rattle.run_model.specs.RefusalOrder.{fails_to_open}
+use Rattle.model_laws.specs.RefusalOrder.{fails_to_open}
 use Rattle.run_model.specs.Turns.{Opening, Found, Missing, Failing, is_failing, steps}
 use Rattle.run_model.specs.Worlds.{World, Answer, Done, Refused, Step, Told, happens_on, step_answered}
-use Rattle.run_model.proofs.RefusalOrder.{first_is_told}
-use Rattle.run_model.proofs.Refusals.{refused_step_breaks}
+use Rattle.model_laws.proofs.RefusalOrder.{first_is_told}
+use Rattle.model_laws.proofs.Refusals.{refused_step_breaks}
 use Rattle.bucket_kinds.specs.Device.{Device}
 use Rattle.module_run.specs.OpenedFile.{MayTell}
-use Rattle.filter_chain.specs.Running.{GoesOn}
+use Rattle.filter_chain.specs.Running.{HostGoesOn}
 use Rattle.module_run.proofs.FileOpens.{keeps_files}
-use Rattle.filter_chain.specs.Scenes.{Scene, Acts, ClosesFiles, HasAdded, TellsEvent, TellsReads, refusal_in}
+use Rattle.filter_chain.specs.HostViews.{HostView, Answers, ClosesFiles, HasAdded, TellsEvent, StepTellsReads, refusal_in}
 use Rattle.filter_chain.proofs.FilesSpared.{step_spares}
 
 -- It stays as it is.
@@ -31,12 +31,12 @@ added_kind : (name bytes : List ℕ) (d e : Device) (answer : Answer) → HasAdd
 added_kind name bytes d e Done (free, is) = ap (λ (x : Device). x.may_fail) is
 added_kind name bytes d e answer is = same_kind d e is
 
-reads_kind : (chain : List Program) (s : Scene) (c : Option Connection) (answer : Answer) (reads : Reads) (e : Device) → TellsReads chain s c answer reads e → e.may_fail ≡ s.device.may_fail
+reads_kind : (chain : List Program) (s : HostView) (c : Option Connection) (answer : Answer) (reads : Reads) (e : Device) → StepTellsReads chain s c answer reads e → e.may_fail ≡ s.device.may_fail
 reads_kind chain s None answer reads e is = same_kind s.device e is
 reads_kind chain s (Some c) (Step t) reads e told = (step_spares s.device e chain (Ok t) (s.world.common, c) reads told).folder.1
 reads_kind chain s (Some c) answer reads e is = same_kind s.device e is
 
-tells_kind : (chain : List Program) (k : ℕ) (what : Event) (s : Scene) (answer : Answer) (told : Told) (e : Device) → TellsEvent chain k what s answer told e → e.may_fail ≡ s.device.may_fail
+tells_kind : (chain : List Program) (k : ℕ) (what : Event) (s : HostView) (answer : Answer) (told : Told) (e : Device) → TellsEvent chain k what s answer told e → e.may_fail ≡ s.device.may_fail
 unfolding TellsEvent
 tells_kind chain k (event.AddFile name bytes) s answer told e tells = added_kind name bytes s.device e answer tells
 tells_kind chain k (event.OpenFile name) s answer told e tells = (keeps_files name s.device e (refusal_in answer) tells.1).folder.1
@@ -46,12 +46,12 @@ tells_kind chain k event.Close s answer told e tells = tells.1
 tells_kind chain k what s answer told e tells = same_kind s.device e tells
 
 module _ (budget : ℕ) (chain : List Program) (number : ℕ) where
-  pub acts_kind : (what : Event) (old new : Scene) (answer : Answer) → Acts budget chain number what old answer new → new.device.may_fail ≡ old.device.may_fail
+  pub acts_kind : (what : Event) (old new : HostView) (answer : Answer) → Answers budget chain number what old answer new → new.device.may_fail ≡ old.device.may_fail
   acts_kind what old new answer acts = tells_kind chain number what old answer acts.told new.device acts.tells
 
-  pub goes_kind : (n : ℕ) (old new : Scene) → GoesOn budget chain number n old new → new.device.may_fail ≡ old.device.may_fail
-  unfolding GoesOn
-  goes_kind zero old new same = ap (λ (s : Scene). s.device.may_fail) same
+  pub goes_kind : (n : ℕ) (old new : HostView) → HostGoesOn budget chain number n old new → new.device.may_fail ≡ old.device.may_fail
+  unfolding HostGoesOn
+  goes_kind zero old new same = ap (λ (s : HostView). s.device.may_fail) same
   goes_kind (suc n) old new (mid, acts, rest) = goes_kind n mid new rest ∙ acts_kind event.Step old mid (Step stepped.Went) acts
 
 -- A step tells no failure of a device.
@@ -77,18 +77,18 @@ by_opening next d name (Found skipped bytes) fails tells = absurd (false≢true 
 by_opening next d name Missing fails tells = absurd (false≢true fails)
 by_opening next d name Failing fails tells = tells
 
-by_event : (chain : List Program) (k : ℕ) (what : Event) (s : Scene) (answer : Answer) (told : Told) (e : Device) → fails_to_open what told ≡ true → TellsEvent chain k what s answer told e → s.device.may_fail ≡ true
+by_event : (chain : List Program) (k : ℕ) (what : Event) (s : HostView) (answer : Answer) (told : Told) (e : Device) → fails_to_open what told ≡ true → TellsEvent chain k what s answer told e → s.device.may_fail ≡ true
 unfolding TellsEvent
 by_event chain k (event.OpenFile name) s answer told e fails tells = by_opening s.world.common.file s.device name told.opening fails tells.0
 by_event chain k what s answer told e fails tells = absurd (false≢true fails)
 
-module _ (budget : ℕ) (chain : List Program) (number : ℕ) (old new : Scene) (sound : old.device.may_fail ≡ false) where
-  other : (what : Event) → what ≢ event.Step → Acts budget chain number what old (Refused refusal.FileFailed) new → ⊥
+module _ (budget : ℕ) (chain : List Program) (number : ℕ) (old new : HostView) (sound : old.device.may_fail ≡ false) where
+  other : (what : Event) → what ≢ event.Step → Answers budget chain number what old (Refused refusal.FileFailed) new → ⊥
   other what apart acts =
       let first = (first_is_told acts.memory budget chain acts.told number what old.world refusal.FileFailed apart).0 (ap (λ (a : Answer × World). a.0) acts.is) in
       false≢true (sym sound ∙ by_event chain number what old (Refused refusal.FileFailed) acts.told new.device first.holds acts.tells)
 
-  failed_never : (what : Event) → Acts budget chain number what old (Refused refusal.FileFailed) new → ⊥
+  failed_never : (what : Event) → Answers budget chain number what old (Refused refusal.FileFailed) new → ⊥
   failed_never event.Step acts = step_unfailing acts.memory budget chain acts.told number old.world new.world (old.world.conns number) acts.is
   failed_never event.Open acts = other event.Open (λ q. cc) acts
   failed_never (event.AddFile name bytes) acts = other (event.AddFile name bytes) (λ q. cc) acts
@@ -102,7 +102,7 @@ module _ (budget : ℕ) (chain : List Program) (number : ℕ) (old new : Scene) 
   failed_never event.Close acts = other event.Close (λ q. cc) acts
 
   -- No event answers that the device failed.
-  pub acts_unfailing : (what : Event) (answer : Answer) → Acts budget chain number what old answer new → answer ≢ Refused refusal.FileFailed
+  pub acts_unfailing : (what : Event) (answer : Answer) → Answers budget chain number what old answer new → answer ≢ Refused refusal.FileFailed
   acts_unfailing what answer acts is = failed_never what (record { memory = acts.memory; told = acts.told; is = acts.is ∙ ap (λ (a : Answer). (a, new.world)) is; tells = tells; closes = closes }) where
     tells : TellsEvent chain number what old (Refused refusal.FileFailed) acts.told new.device
     tells = subst (λ (a : Answer). TellsEvent chain number what old a acts.told new.device) is acts.tells

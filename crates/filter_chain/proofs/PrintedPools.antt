@@ -5,24 +5,24 @@ use Rattle.std.specs.BTreeMap.{is_at}
 use Rattle.std.specs.List.Sorted.{IsStrictlySortedBy}
 use Rattle.std.specs.Map.{lookup, keys_of, values_of}
 use Rattle.std.specs.Ordering.{nat_cmp}
-use Rattle.module_lang.specs.Program.{Program}
+use Rattle.module_code.specs.Program.{Program}
 use Rattle.run_model.specs.Pools.{is_empty, is_live}
 use Rattle.run_model.specs.Chains.{Connection, Common, pools_of}
 use Rattle.run_model.specs.Worlds.{World, tree_below, tree_of, with_part}
-use Rattle.run_model.specs.ChainTrees.{WorldPoolsApart, tree_up_to}
-use Rattle.run_model.specs.Reached.{WorldLaws}
-use Rattle.run_model.proofs.chains.PoolsApart.{run_keeps_pools_apart}
-use Rattle.run_model.proofs.chains.Reached.{reached_holds}
-use Rattle.run_model.proofs.chains.Trees.{reached_parts_join}
+use Rattle.model_laws.specs.ChainTrees.{WorldPoolsApart, tree_up_to}
+use Rattle.model_laws.specs.Reached.{WorldLaws}
+use Rattle.model_laws.proofs.chains.PoolsApart.{run_keeps_pools_apart}
+use Rattle.model_laws.proofs.chains.Reached.{reached_holds}
+use Rattle.model_laws.proofs.chains.Trees.{reached_parts_join}
 use Rattle.bucket_kinds.specs.Device.{Device}
 use Rattle.pool_tree.specs.Printed.{payload_text, printed}
 use Rattle.pool_tree.specs.Tree.{map_of}
-use Rattle.pool_tree.proofs.PrintedParts.{root_is_printed, part_is_printed, next_is_not_printed}
+use Rattle.filter_chain.proofs.PrintedParts.{root_is_printed, part_is_printed, next_is_not_printed}
 use Rattle.module_run.specs.Conns.{conn_of}
-use Rattle.filter_chain.specs.declared.next.Next.{Next}
-use Rattle.filter_chain.specs.declared.seat.Seat.{Seat}
+use Rattle.filter_chain.specs.declared.next.NextNames.{NextNames}
+use Rattle.filter_chain.specs.declared.hosted_conn.HostedConn.{HostedConn}
 use Rattle.filter_chain.specs.Hosting.{HoldsWorld}
-use Rattle.filter_chain.specs.Seated.{IsSeated}
+use Rattle.filter_chain.specs.HostedConns.{IsHostedConn}
 use Rattle.filter_chain.proofs.Hosts.{found, missing}
 use Rattle.filter_chain.proofs.InOrder.{joined, all_joined, all_values}
 
@@ -35,14 +35,14 @@ abbrev part_of : World → ℕ → List ℕ
 part_of w k = part_text w.common (w.conns k)
 
 -- the same of a connection that is there
-abbrev pub seat_text : Seat → List ℕ
+abbrev pub seat_text : HostedConn → List ℕ
 seat_text s = printed payload_text (map_of s.tree) 1 s.conn.conn
 
 -- Its pool may be printed one pool deep.
-abbrev pub MayPrint : Seat → Type 0
+abbrev pub MayPrint : HostedConn → Type 0
 MayPrint s = (is_live (map_of s.tree) s.conn.conn ≡ true) × (1 ≤ s.conn.conn)
 
-module _ (budget : ℕ) (chain : List Program) (d : Device) (next : Next) (last : ℕ) (seats : ℕ → Option Seat) (w : World) (h : HoldsWorld budget chain d next last seats w) where
+module _ (budget : ℕ) (chain : List Program) (d : Device) (next : NextNames) (last : ℕ) (seats : ℕ → Option HostedConn) (w : World) (h : HoldsWorld budget chain d next last seats w) where
   laws : WorldLaws chain w
   laws = reached_holds budget chain w h.chained h.reached
 
@@ -50,7 +50,7 @@ module _ (budget : ℕ) (chain : List Program) (d : Device) (next : Next) (last 
   apart = run_keeps_pools_apart budget chain h.reached.events h.reached.answers w h.chained h.reached.run
 
   -- The tree of a connection that is there.
-  module _ (number : ℕ) (s : Seat) (c : Connection) (here : w.conns number ≡ Some c) (seated : IsSeated chain d next s c) where
+  module _ (number : ℕ) (s : HostedConn) (c : Connection) (here : w.conns number ≡ Some c) (seated : IsHostedConn chain d next s c) where
     conn_is : c.conn ≡ s.conn.conn
     unfolding conn_of
     conn_is = ap (λ (x : Connection). x.conn) seated.seen
@@ -68,13 +68,13 @@ module _ (budget : ℕ) (chain : List Program) (d : Device) (next : Next) (last 
         ap (λ (x : Connection). printed payload_text (pools_of w.common x) 1 x.conn) seated.seen
         ∙ next_is_not_printed payload_text (map_of s.tree) w.common.pools 1 s.conn.conn seated.formed (let le = seated.pools in let same = h.pools in omega (arith, same)) seat_live
 
-  pub may_print : (number : ℕ) (s : Seat) → seats number ≡ Some s → MayPrint s
+  pub may_print : (number : ℕ) (s : HostedConn) → seats number ≡ Some s → MayPrint s
   may_print number s at =
       let f = found budget chain d next last seats w h number s at in
       let newer : 1 < s.conn.conn = seat_newer number s f.0 f.1 f.2.linked.seated in
       (seat_live number s f.0 f.1 f.2.linked.seated, omega (arith, newer))
 
-  part_seated : (number : ℕ) (s : Seat) → seats number ≡ Some s → part_of w number ≡ seat_text s
+  part_seated : (number : ℕ) (s : HostedConn) → seats number ≡ Some s → part_of w number ≡ seat_text s
   part_seated number s at =
       let f = found budget chain d next last seats w h number s at in
       ap (part_text w.common) f.1 ∙ seat_printed number s f.0 f.1 f.2.linked.seated
@@ -85,7 +85,7 @@ module _ (budget : ℕ) (chain : List Program) (d : Device) (next : Next) (last 
   -- A number that the model does not have is not there.
   not_there : (number : ℕ) → w.conns number ≡ None → seats number ≡ None
   not_there number none = by_seat (seats number) refl where
-    by_seat : (o : Option Seat) → seats number ≡ o → seats number ≡ None
+    by_seat : (o : Option HostedConn) → seats number ≡ o → seats number ≡ None
     by_seat None is = is
     by_seat (Some s) is = absurd (let f = found budget chain d next last seats w h number s is in let both : None ≡ Some f.0 = sym none ∙ f.1 in cc)
 
@@ -121,16 +121,16 @@ module _ (budget : ℕ) (chain : List Program) (d : Device) (next : Next) (last 
       ∙ more_text k
 
   -- Those that are there, in the order of their numbers, are all of them.
-  parts_there : (es : List (ℕ × Seat)) → IsStrictlySortedBy nat_cmp (keys_of es) → ((k : ℕ) → seats k ≡ lookup (is_at (nat_cmp k)) es) → flat_map seat_text (values_of es) ≡ joined (part_of w) last
+  parts_there : (es : List (ℕ × HostedConn)) → IsStrictlySortedBy nat_cmp (keys_of es) → ((k : ℕ) → seats k ≡ lookup (is_at (nat_cmp k)) es) → flat_map seat_text (values_of es) ≡ joined (part_of w) last
   parts_there es sorted is =
       all_joined seats seat_text (part_of w) last part_seated part_missing
       (λ k more. not_there k (laws.numbers.later k (let e = h.last_is in omega (arith, e, more)))) es sorted is (not_there 0 laws.numbers.first)
 
-  pub whole_text : (es : List (ℕ × Seat)) → IsStrictlySortedBy nat_cmp (keys_of es) → ((k : ℕ) → seats k ≡ lookup (is_at (nat_cmp k)) es) → codes "pool 1\n" ++ flat_map seat_text (values_of es) ≡ printed payload_text (tree_of w) 0 1
+  pub whole_text : (es : List (ℕ × HostedConn)) → IsStrictlySortedBy nat_cmp (keys_of es) → ((k : ℕ) → seats k ≡ lookup (is_at (nat_cmp k)) es) → codes "pool 1\n" ++ flat_map seat_text (values_of es) ≡ printed payload_text (tree_of w) 0 1
   whole_text es sorted is =
       ap (λ (xs : List ℕ). codes "pool 1\n" ++ xs) (parts_there es sorted is)
       ∙ parts_whole last
       ∙ ap (λ (k : ℕ). printed payload_text (tree_up_to k w) 0 1) (sym h.last_is)
 
-  pub all_may_print : (es : List (ℕ × Seat)) → IsStrictlySortedBy nat_cmp (keys_of es) → ((k : ℕ) → seats k ≡ lookup (is_at (nat_cmp k)) es) → All MayPrint (values_of es)
+  pub all_may_print : (es : List (ℕ × HostedConn)) → IsStrictlySortedBy nat_cmp (keys_of es) → ((k : ℕ) → seats k ≡ lookup (is_at (nat_cmp k)) es) → All MayPrint (values_of es)
   all_may_print es sorted is = all_values MayPrint es sorted (λ k s at. may_print k s (is k ∙ at))

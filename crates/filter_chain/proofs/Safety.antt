@@ -2,13 +2,13 @@
 use Rattle.std.proofs.Common.{ℕ, List, [], ◌∷◌, ◌++◌}
 use Rattle.run_model.specs.declared.event.Event.{Event}
 use Rattle.run_model.specs.Worlds.{World, Answer, empty_world}
-use Rattle.run_model.proofs.chains.Reached.{world_run_goes_on}
+use Rattle.model_laws.proofs.chains.Reached.{world_run_goes_on}
 use Rattle.bucket_kinds.specs.Device.{Device}
 use Rattle.life_check.specs.ChainTheorem.{IsNoFault, NoFaults}
 use Rattle.filter_chain.specs.declared.host.Host.{Host}
 use Rattle.filter_chain.specs.Hosting.{IsHosting, Happens, chain_of, budget_of}
 use Rattle.filter_chain.specs.Safe.{IsSafe, ReachedWorldsAnswerNoFault}
-use Rattle.filter_chain.specs.Scenes.{scene}
+use Rattle.filter_chain.specs.HostViews.{host_view}
 
 last_well : (answers : List Answer) (a : Answer) → NoFaults (answers ++ a ∷ []) → IsNoFault a
 unfolding NoFaults
@@ -23,4 +23,4 @@ reached_worlds_answer_no_fault budget chain number what old new answer never rea
 -- So it is of each call of a host.
 pub happens_well : {F : Type 0} (d e : Device) (old new : Host F) (number : ℕ) (what : Event) (answer : Answer) (w : World) → IsHosting d old w → IsSafe old → Happens d e old new number what answer w → IsNoFault answer
 unfolding IsHosting
-happens_well d e old new number what answer w hosts safe h = reached_worlds_answer_no_fault (budget_of old) (chain_of old) number what (scene w d) (scene h.to e) answer safe hosts.reached h.acts
+happens_well d e old new number what answer w hosts safe h = reached_worlds_answer_no_fault (budget_of old) (chain_of old) number what (host_view w d) (host_view h.to e) answer safe hosts.reached h.acts

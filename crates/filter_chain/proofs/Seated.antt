@@ -4,11 +4,11 @@ use Rattle.std.specs.Prelude.{count_by, if◌then◌else◌}
 use Rattle.std.specs.List.{list_any}
 use Rattle.std.proofs.Math.Path.{fun_ext}
 use Rattle.std.proofs.lemmas.Bool.{cases_lt}
-use Rattle.module_lang.specs.Program.{Program}
+use Rattle.module_code.specs.Program.{Program}
 use Rattle.bucket_ring.specs.declared.names.BucketId.{BucketId}
 use Rattle.run_model.specs.declared.payload.Payload.{Payload}
 use Rattle.run_model.specs.Files.{is_referred}
-use Rattle.run_model.specs.Laws.{refers}
+use Rattle.run_model.specs.Holding.{refers}
 use Rattle.run_model.specs.Payloads.{is_file_ref}
 use Rattle.run_model.specs.Pools.{Pools, is_live}
 use Rattle.run_model.specs.RunOrder.{IsPoolMap}
@@ -30,12 +30,12 @@ use Rattle.module_run.specs.Proceeding.{MayHold, HasOpen, IsLawful, LeftAs, Stan
 use Rattle.filter_chain.specs.Spared.{Spares}
 use Rattle.module_run.specs.Stacked.{IsStacked}
 use Rattle.ring_run.proofs.Renamed.{held_raised}
-use Rattle.filter_chain.specs.declared.next.Next.{Next}
-use Rattle.filter_chain.specs.declared.seat.Seat.{Seat}
-use Rattle.filter_chain.specs.Seated.{IsSeated, IsLinked, MayServe}
+use Rattle.filter_chain.specs.declared.next.NextNames.{NextNames}
+use Rattle.filter_chain.specs.declared.hosted_conn.HostedConn.{HostedConn}
+use Rattle.filter_chain.specs.HostedConns.{IsHostedConn, IsHostedConnWith, MayServe}
 
 -- What is below the next names.
-module _ (s : Seat) (next : Next) (chain : List Program) (d : Device) (c : Connection) (h : IsSeated chain d next s c) where
+module _ (s : HostedConn) (next : NextNames) (chain : List Program) (d : Device) (c : Connection) (h : IsHostedConn chain d next s c) where
   pub pools_below : (n : ℕ) → is_live (map_of s.tree) n ≡ true → n < next.pool
   pools_below n live = (let below = h.formed.named n live in let le = h.pools in omega arith)
 
@@ -46,10 +46,10 @@ module _ (s : Seat) (next : Next) (chain : List Program) (d : Device) (c : Conne
   births_below id there = (let below = young s.store id there in let le = h.names in omega arith)
 
 -- The next names are set.
-module _ (old new : Seat) (next : Next) (conn : new.conn ≡ old.conn) (tree : map_of new.tree ≡ record (map_of old.tree) { next = next.pool })
+module _ (old new : HostedConn) (next : NextNames) (conn : new.conn ≡ old.conn) (tree : map_of new.tree ≡ record (map_of old.tree) { next = next.pool })
     (same : (b : ℕ) → lists new.store b ≡ lists old.store b) (places : (id : BucketId) → brigade_of new.store id ≡ brigade_of old.store id)
     (on : pool_of new.store ≡ pool_of old.store) (house : (ps : Pools Payload) → IsHouse old.store ps → IsHouse new.store ps) (named : next_name new.store ≡ next.name)
-    (chain : List Program) (d : Device) (c : Connection) (h : IsSeated chain d next old c) where
+    (chain : List Program) (d : Device) (c : Connection) (h : IsHostedConn chain d next old c) where
   shows : c ≡ conn_of (map_of new.tree) (lists new.store) c.opened new.conn
   unfolding conn_of
   shows =
@@ -76,7 +76,7 @@ module _ (old new : Seat) (next : Next) (conn : new.conn ≡ old.conn) (tree : m
     brought = λ m f here name. (let b = st.brought m f here name in (ap (λ (pools : ℕ → Option ℕ). pools m) on ∙ b.0, ap is_some (same m) ∙ b.1));
   })
 
-  pub renamed : IsPoolMap (map_of new.tree) → IsSeated chain d next new c
+  pub renamed : IsPoolMap (map_of new.tree) → IsHostedConn chain d next new c
   renamed formed = record {
     seen = shows;
     opens = h.opens;
@@ -119,8 +119,8 @@ unfolding conn_of
 same_payloads ps rings conn c seen = ap (λ (x : Connection). x.payloads) seen
 
 -- It stands for its connection of the model.
-module _ (chain : List Program) (d : Device) (next : Next) (s : Seat) (v : Linked) where
-  pub stands : IsLawful chain v → IsLinked chain d next s v → (map_of s.tree).next ≡ next.pool → next_name s.store ≡ next.name → StandsFor chain s.tree s.store d s.conn v
+module _ (chain : List Program) (d : Device) (next : NextNames) (s : HostedConn) (v : Linked) where
+  pub stands : IsLawful chain v → IsHostedConnWith chain d next s v → (map_of s.tree).next ≡ next.pool → next_name s.store ≡ next.name → StandsFor chain s.tree s.store d s.conn v
   stands lawful linked pool name = record {
     lawful = lawful;
     left = record {
@@ -137,7 +137,7 @@ module _ (chain : List Program) (d : Device) (next : Next) (s : Seat) (v : Linke
     lasts p file there = lawful.files.lasts p file (subst (λ (payloads : ℕ → List Payload). list_any (is_file_ref file) (payloads p) ≡ true) (sym (same_payloads (map_of s.tree) (lists s.store) s.conn v.1 linked.seated.seen)) there)
 
   -- What is left stands with the names that come next.
-  pub linked_after : LeftAs chain s.tree s.store d s.conn v → (map_of s.tree).next ≡ next.pool → next_name s.store ≡ next.name → v.0.file ≤ d.next → IsLinked chain d next s v
+  pub linked_after : LeftAs chain s.tree s.store d s.conn v → (map_of s.tree).next ≡ next.pool → next_name s.store ≡ next.name → v.0.file ≤ d.next → IsHostedConnWith chain d next s v
   linked_after left pool name files = record {
     seated = record {
       seen = left.seen.conn;
@@ -155,7 +155,7 @@ module _ (chain : List Program) (d : Device) (next : Next) (s : Seat) (v : Linke
   }
 
 -- Its next names were set, and it serves.
-pub lent : (chain : List Program) (d : Device) (next : Next) (old new : Seat) (v : Linked) → ((chain : List Program) (d : Device) (c : Connection) → IsSeated chain d next old c → IsSeated chain d next new c)
+pub lent : (chain : List Program) (d : Device) (next : NextNames) (old new : HostedConn) (v : Linked) → ((chain : List Program) (d : Device) (c : Connection) → IsHostedConn chain d next old c → IsHostedConn chain d next new c)
     → (map_of new.tree).next ≡ next.pool → next_name new.store ≡ next.name → MayServe chain d next old v → StandsFor chain new.tree new.store d new.conn v
 lent chain d next old new v same pool name may =
     stands chain d next new v may.lawful (record { seated = same chain d v.1 may.linked.seated; pools = may.linked.pools; names = may.linked.names; files = may.linked.files }) pool name
@@ -164,7 +164,7 @@ pub spares_all : (d : Device) (c : Connection) → Spares d d c
 spares_all d c = record { rises = omega arith; folder = (refl, refl); others = λ file old none. refl }
 
 -- Files that its pools do not refer to are as they were, and so are those of others.
-module _ (chain : List Program) (d e : Device) (s : Seat) (v : Linked) (so : StandsFor chain s.tree s.store d s.conn v) where
+module _ (chain : List Program) (d e : Device) (s : HostedConn) (v : Linked) (so : StandsFor chain s.tree s.store d s.conn v) where
   not_held : (file p : ℕ) → v.1.opened file ≡ None → list_any (is_file_ref file) ((map_of s.tree).payloads p) ≡ false
   not_held file p none = by_test (list_any (is_file_ref file) ((map_of s.tree).payloads p)) refl where
     by_test : (b : Bool) → list_any (is_file_ref file) ((map_of s.tree).payloads p) ≡ b → list_any (is_file_ref file) ((map_of s.tree).payloads p) ≡ false

@@ -2,8 +2,8 @@
 use Rattle.std.proofs.Common.{◌≡◌, ℕ, zero, suc, ◌+◌, ◌<◌, ◌≤◌, Bool, true, false, cond, List, [], ◌∷◌, Option, Some, None, Result, Ok, Err, refl, ap, sym, subst, ◌∙◌, arith}
 use Rattle.std.proofs.lemmas.Bool.Decides.{nat_tests}
 use Rattle.std.specs.Prelude.{nat_le}
-use Rattle.module_lang.specs.Program.{Program}
-use Rattle.module_lang.specs.declared.instr.Instr.{Instr}
+use Rattle.module_code.specs.Program.{Program}
+use Rattle.module_code.specs.declared.instr.Instr.{Instr}
 use Rattle.run_model.specs.declared.event.Cause.{Cause}
 use Rattle.run_model.specs.declared.event.Cause.TheVariants as cause
 use Rattle.run_model.specs.declared.event.Event.TheVariants as event
@@ -19,8 +19,8 @@ use Rattle.run_model.specs.Turns.{broken_by, counted, executed, unless_fault, wa
 use Rattle.run_model.specs.Worlds.{World, Told, Answer, Step, happens, happens_on, step_answered}
 use Rattle.run_model.proofs.Updates.{upd_at}
 use Rattle.module_run.proofs.Executing.{count_kept}
-use Rattle.filter_chain.specs.Scenes.{Scene, Acts}
-use Rattle.filter_chain.specs.Running.{GoesOn}
+use Rattle.filter_chain.specs.HostViews.{HostView, Answers}
+use Rattle.filter_chain.specs.Running.{HostGoesOn}
 
 -- One step.
 
@@ -101,19 +101,19 @@ module _ (memory : Bool) (budget : ℕ) (chain : List Program) (told : Told) (nu
 -- Many steps.
 
 module _ (budget : ℕ) (chain : List Program) (number : ℕ) where
-  acts_count : (old new : Scene) → Acts budget chain number event.Step old (Step stepped.Went) new → IsCounted budget number old.world new.world
+  acts_count : (old new : HostView) → Answers budget chain number event.Step old (Step stepped.Went) new → IsCounted budget number old.world new.world
   acts_count old new a = world_counts a.memory budget chain a.told number old.world new.world a.is
 
   -- one more at the end
-  pub goes_more : (n : ℕ) (old mid new : Scene) → GoesOn budget chain number n old mid → Acts budget chain number event.Step mid (Step stepped.Went) new → GoesOn budget chain number (suc n) old new
-  unfolding GoesOn
-  goes_more zero old mid new g a = (new, subst (λ (s : Scene). Acts budget chain number event.Step s (Step stepped.Went) new) g a, refl)
+  pub goes_more : (n : ℕ) (old mid new : HostView) → HostGoesOn budget chain number n old mid → Answers budget chain number event.Step mid (Step stepped.Went) new → HostGoesOn budget chain number (suc n) old new
+  unfolding HostGoesOn
+  goes_more zero old mid new g a = (new, subst (λ (s : HostView). Answers budget chain number event.Step s (Step stepped.Went) new) g a, refl)
   goes_more (suc n) old mid new (next, first, g) a = (next, first, goes_more n next mid new g a)
 
-  few_from : (n k : ℕ) (old mid new : Scene) (c : Connection) → old.world.conns number ≡ Some c → k ≤ c.count → GoesOn budget chain number n old mid → Acts budget chain number event.Step mid (Step stepped.Went) new → k + n < budget
-  unfolding GoesOn
+  few_from : (n k : ℕ) (old mid new : HostView) (c : Connection) → old.world.conns number ≡ Some c → k ≤ c.count → HostGoesOn budget chain number n old mid → Answers budget chain number event.Step mid (Step stepped.Went) new → k + n < budget
+  unfolding HostGoesOn
   few_from zero k old mid new c at le g a =
-      let one = acts_count old new (subst (λ (s : Scene). Acts budget chain number event.Step s (Step stepped.Went) new) g a) in
+      let one = acts_count old new (subst (λ (s : HostView). Answers budget chain number event.Step s (Step stepped.Went) new) g a) in
       let both : Some c ≡ Some one.before = sym at ∙ one.is in
       let same : c ≡ one.before = cc in
       let counts = ap (λ (x : Connection). x.count) same in
@@ -129,8 +129,8 @@ module _ (budget : ℕ) (chain : List Program) (number : ℕ) where
       omega (arith, rest)
 
   -- Where a further step goes on, fewer did before than the budget.
-  pub goes_few : (n : ℕ) (old mid new : Scene) → GoesOn budget chain number n old mid → Acts budget chain number event.Step mid (Step stepped.Went) new → n < budget
-  unfolding GoesOn
+  pub goes_few : (n : ℕ) (old mid new : HostView) → HostGoesOn budget chain number n old mid → Answers budget chain number event.Step mid (Step stepped.Went) new → n < budget
+  unfolding HostGoesOn
   goes_few zero old mid new g a = (let below = (acts_count mid new a).below in omega (arith, below))
   goes_few (suc n) old mid new (next, first, g) a =
       let one = acts_count old next first in

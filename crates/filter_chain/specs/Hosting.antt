@@ -3,38 +3,37 @@ use Rattle.std.specs.Prelude.{◌≡◌, ℕ, ◌≤◌, List, Option, Some, Non
 use Rattle.std.specs.Global.{Vec}
 use Rattle.std.specs.BTreeMap.{get}
 use Rattle.std.specs.Ordering.{nat_cmp}
-use Rattle.module_lang.specs.Program.{Program}
+use Rattle.module_code.specs.Program.{Program}
 use Rattle.run_model.specs.declared.event.Event.{Event}
 use Rattle.run_model.specs.declared.event.Event.TheVariants as event
 use Rattle.run_model.specs.declared.event.Refusal.{Refusal}
 use Rattle.run_model.specs.declared.event.Refusal.TheVariants as refusal
 use Rattle.run_model.specs.declared.event.Stepped.{Stepped}
-use Rattle.run_model.specs.Chains.{Connection}
-use Rattle.run_model.specs.ChainLaws.{IsChain}
-use Rattle.run_model.specs.Reached.{IsReached}
+use Rattle.run_model.specs.Chains.{Connection, IsChain}
+use Rattle.model_laws.specs.Reached.{IsReached}
 use Rattle.run_model.specs.declared.payload.Payload.{Payload}
 use Rattle.run_model.specs.Worlds.{World, Answer, Done, Refused, Connected, Opened, Output, Labels, Step}
 use Rattle.bucket_kinds.specs.Device.{Device, is_there}
 use Rattle.bucket_kinds.specs.declared.refusal.AddRefusal.{AddRefusal}
 use Rattle.bucket_kinds.specs.declared.refusal.AddRefusal.TheVariants as added
 use Rattle.module_run.specs.Conns.{labels_handed}
-use Rattle.filter_chain.specs.declared.next.Next.{Next}
-use Rattle.filter_chain.specs.declared.seat.Seat.{Seat}
-use Rattle.filter_chain.specs.declared.seats.Seats.{Seats}
+use Rattle.filter_chain.specs.declared.next.NextNames.{NextNames}
+use Rattle.filter_chain.specs.declared.hosted_conn.HostedConn.{HostedConn}
+use Rattle.filter_chain.specs.declared.hosted_conns.HostedConns.{HostedConns}
 use Rattle.filter_chain.specs.declared.host.Host.{Host}
-use Rattle.filter_chain.specs.Scenes.{Acts, scene}
-use Rattle.filter_chain.specs.Seated.{IsSeated}
+use Rattle.filter_chain.specs.HostViews.{Answers, host_view}
+use Rattle.filter_chain.specs.HostedConns.{IsHostedConn}
 
 -- the connection of each number
-unfoldable pub seat_at : Seats → ℕ → Option Seat
-seat_at seats n = get nat_cmp seats.by_number n
+unfoldable pub hosted_at : HostedConns → ℕ → Option HostedConn
+hosted_at seats n = get nat_cmp seats.by_number n
 
 -- It is there exactly where the model has it, and as the model has it.
-abbrev pub IsSeatOf : List Program → Device → Next → Option Seat → Option Connection → Type 0
-IsSeatOf chain d next None None = Unit {0}
-IsSeatOf chain d next None (Some c) = ⊥
-IsSeatOf chain d next (Some s) None = ⊥
-IsSeatOf chain d next (Some s) (Some c) = IsSeated chain d next s c
+abbrev pub IsHostedConnIf : List Program → Device → NextNames → Option HostedConn → Option Connection → Type 0
+IsHostedConnIf chain d next None None = Unit {0}
+IsHostedConnIf chain d next None (Some c) = ⊥
+IsHostedConnIf chain d next (Some s) None = ⊥
+IsHostedConnIf chain d next (Some s) (Some c) = IsHostedConn chain d next s c
 
 -- what a step answers, and what an event does that answers nothing else
 
@@ -69,14 +68,14 @@ close_answer (Err r) = Refused r
 
 -- Connections stand for a world that is reached from the empty one by some events. last: the number that was given last. pools, names, files: the
 -- names that are given next; a device may have used up numbers of files that no opening told.
-pub record HoldsWorld (budget : ℕ) (chain : List Program) (d : Device) (next : Next) (last : ℕ) (seats : ℕ → Option Seat) (w : World) : Type 0 where
+pub record HoldsWorld (budget : ℕ) (chain : List Program) (d : Device) (next : NextNames) (last : ℕ) (seats : ℕ → Option HostedConn) (w : World) : Type 0 where
   pub chained : IsChain chain
   pub reached : IsReached budget chain w
   pub last_is : w.last ≡ last
   pub pools : w.common.pools ≡ next.pool
   pub names : w.common.next ≡ next.name
   pub files : w.common.file ≤ d.next
-  pub conns : (k : ℕ) → IsSeatOf chain d next (seats k) (w.conns k)
+  pub conns : (k : ℕ) → IsHostedConnIf chain d next (seats k) (w.conns k)
 
 -- the chain and the budget of a host, and its files
 
@@ -91,12 +90,12 @@ files_of host = host.files
 
 -- The host, whose files are this device, stands for this world.
 unfoldable pub IsHosting : {F : Type 0} → Device → Host F → World → Type 0
-IsHosting d host w = HoldsWorld (budget_of host) (chain_of host) d host.next host.last (seat_at host.seats) w
+IsHosting d host w = HoldsWorld (budget_of host) (chain_of host) d host.next host.last (hosted_at host.seats) w
 
 -- An event of the connection of this number was answered. By devices d and e, the host stands for what it leaves, on the same chain, with the same budget.
 pub record Happens {F : Type 0} (d e : Device) (old new : Host F) (number : ℕ) (what : Event) (answer : Answer) (w : World) : Type 0 where
   pub to : World
-  pub acts : Acts (budget_of old) (chain_of old) number what (scene w d) answer (scene to e)
+  pub acts : Answers (budget_of old) (chain_of old) number what (host_view w d) answer (host_view to e)
   pub hosts : IsHosting e new to
   pub chain : chain_of new ≡ chain_of old
   pub budget : budget_of new ≡ budget_of old

@@ -1,6 +1,7 @@
 pub mod Spared
-pub mod Seated
-pub mod Scenes
+pub mod PrintedParts
+pub mod HostedConns
+pub mod HostViews
 pub mod Hosting
 pub mod Safe
 pub mod Led

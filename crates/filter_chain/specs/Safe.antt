@@ -1,14 +1,14 @@
 -- A host on a chain that was checked: no call answers a fault.
 use Rattle.std.specs.Prelude.{◌≡◌, ℕ, List, Result}
-use Rattle.module_lang.specs.Program.{Program}
+use Rattle.module_code.specs.Program.{Program}
 use Rattle.run_model.specs.declared.event.Event.{Event}
 use Rattle.run_model.specs.declared.event.Refusal.{Refusal}
 use Rattle.run_model.specs.declared.event.Stepped.{Stepped}
-use Rattle.run_model.specs.Reached.{IsReached}
+use Rattle.model_laws.specs.Reached.{IsReached}
 use Rattle.life_check.specs.ChainTheorem.{ChainNeverFaults, IsNoFault}
 use Rattle.filter_chain.specs.declared.host.Host.{Host}
 use Rattle.filter_chain.specs.Hosting.{chain_of, step_answer}
-use Rattle.filter_chain.specs.Scenes.{Scene, Acts}
+use Rattle.filter_chain.specs.HostViews.{HostView, Answers}
 
 -- On its chain no run of the model answers a fault, however many connections there are.
 abbrev pub IsSafe : {F : Type 0} → Host F → Type 0
@@ -20,5 +20,5 @@ GoesWell answer = IsNoFault (step_answer answer)
 
 -- Where some events lead to a world, none answers a fault there.
 abbrev pub ReachedWorldsAnswerNoFault : Type 0
-ReachedWorldsAnswerNoFault = (budget : ℕ) (chain : List Program) (number : ℕ) (what : Event) (old new : Scene) (answer : _) → ChainNeverFaults chain → IsReached budget chain old.world
-    → Acts budget chain number what old answer new → IsNoFault answer
+ReachedWorldsAnswerNoFault = (budget : ℕ) (chain : List Program) (number : ℕ) (what : Event) (old new : HostView) (answer : _) → ChainNeverFaults chain → IsReached budget chain old.world
+    → Answers budget chain number what old answer new → IsNoFault answer

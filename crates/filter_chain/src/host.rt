@@ -1,12 +1,12 @@
 //! The host.
 
 ghost use Rattle.std.specs.Prelude.{◌≡◌, ◌<◌};
-ghost use Rattle.run_model.specs.ChainLaws.{IsChain};
+ghost use Rattle.run_model.specs.Chains.{IsChain};
 ghost use Rattle.run_model.specs.Worlds.{empty_world};
 
+use crate::hosted_conns::HostedConns;
 use crate::limits::Limits;
-use crate::next::Next;
-use crate::seats::Seats;
+use crate::next::NextNames;
 use crate::spare::Spare;
 use bucket_kinds::Files;
 use life_check::CheckedChain;
@@ -19,9 +19,9 @@ pub struct Host<F: Files> {
     pub(crate) alloc: Global,
     pub(crate) modules: Vec<Module>,
     pub(crate) budget: u64,
-    pub(crate) seats: Seats,
+    pub(crate) seats: HostedConns,
     pub(crate) last: u64,
-    pub(crate) next: Next,
+    pub(crate) next: NextNames,
     pub(crate) files: F,
     pub(crate) spare: Spare,
 }
@@ -43,9 +43,9 @@ impl<F: Files + Drop> Host<F> {
             alloc,
             modules,
             budget: limits.budget,
-            seats: Seats::new(alloc),
+            seats: HostedConns::new(alloc),
             last: 0,
-            next: Next { pool: 2, name: 1 },
+            next: NextNames { pool: 2, name: 1 },
             files,
             spare: Spare::new(alloc),
         }

@@ -4,23 +4,23 @@
 mod closing;
 mod filing;
 mod host;
+mod hosted_conn;
+mod hosted_conns;
 pub mod laws;
 mod limits;
 mod next;
 mod opening;
 mod pools;
 mod running;
-mod seat;
-mod seats;
 mod serving;
 mod spare;
 mod stepping;
 mod telling;
 
 pub use bucket_kinds::{AddRefusal, FileNo, Files, MemFiles};
+pub use byte_text::WriteFault;
 pub use host::Host;
 pub use life_check::CheckedChain;
 pub use limits::Limits;
-pub use module_lang::WriteFault;
 pub use pool_tree::PoolId;
 pub use run_model::{Cause, Module, Payload, Piece, Refusal, Seq, Stepped};

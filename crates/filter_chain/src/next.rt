@@ -5,7 +5,7 @@ ghost use Rattle.run_model.specs.Steps.{is_spent};
 
 /// The names that are given next, on whatever connection: to a pool, and to a bucket, brigade or call.
 #[derive(Clone, Copy)]
-pub(crate) struct Next {
+pub(crate) struct NextNames {
     pub(crate) pool: u64,
     pub(crate) name: u64,
 }
@@ -25,7 +25,7 @@ pub(crate) fn is_last(number: u64) -> bool
     number >= u64::MAX - 1
 }
 
-impl Next {
+impl NextNames {
     /// Whether no pool or no call can be named any more.
     pub(crate) fn is_spent(self) -> bool
         ensures { result ≡ (is_spent self.pool 1 || is_spent self.name 1) }

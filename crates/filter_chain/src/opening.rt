@@ -6,8 +6,8 @@ ghost use Rattle.run_model.specs.Steps.{is_spent};
 ghost use Rattle.run_model.specs.Worlds.{World};
 
 use crate::host::Host;
+use crate::hosted_conn::HostedConn;
 use crate::next::is_last;
-use crate::seat::Seat;
 use bucket_kinds::Files;
 use run_model::Refusal;
 
@@ -32,7 +32,7 @@ impl<F: Files + Drop> Host<F> {
             return Err(Refusal::NamesSpent);
         }
         let number = self.last + 1;
-        let Ok(seat) = Seat::open(self.alloc, self.modules.as_slice(), self.next) else {
+        let Ok(seat) = HostedConn::open(self.alloc, self.modules.as_slice(), self.next) else {
             return Err(Refusal::NoMemory);
         };
         let next = seat.next();

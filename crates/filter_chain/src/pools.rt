@@ -7,7 +7,7 @@ ghost use Rattle.pool_tree.specs.Printed.{payload_text, printed};
 
 use crate::host::Host;
 use bucket_kinds::Files;
-use module_lang::{WriteFault, put_all};
+use byte_text::{WriteFault, put_all};
 use std::io::Write;
 
 impl<F: Files + Drop> Host<F> {

@@ -1,8 +1,8 @@
 //! Steps, one after another.
 
 ghost use Rattle.std.specs.Prelude.{◌≡◌, ◌↔◌, ◌-◌, ℕ, IsTrue, List, Ok};
-ghost use Rattle.module_lang.specs.Program.{Program};
-ghost use Rattle.filter_chain.specs.Scenes.{Scene};
+ghost use Rattle.module_code.specs.Program.{Program};
+ghost use Rattle.filter_chain.specs.HostViews.{HostView};
 
 use crate::host::Host;
 use bucket_kinds::Files;
@@ -15,14 +15,14 @@ fn went(answer: &Result<Stepped, Refusal>) -> bool
 }
 
 impl<F: Files + Drop> Host<F> {
-    ghost use Rattle.filter_chain.specs.Led.{IsAlive, Leads};
-    ghost use Rattle.filter_chain.specs.Running.{Runs, StepsOn};
+    ghost use Rattle.filter_chain.specs.Led.{IsAlive, Refines};
+    ghost use Rattle.filter_chain.specs.Running.{StepsToEnd, StepsOn};
     ghost use Rattle.filter_chain.specs.Safe.{GoesWell, IsSafe};
 
     /// Makes a step, and up to so many more while each of them goes.
     fn step_on(&mut self, number: u64, more: u64) -> Result<Stepped, Refusal>
         requires { IsAlive F.device self.old }
-        ensures steps { Leads F.device self.old self.new (λ (b : ℕ) (c : List Program) (s t : Scene). StepsOn b c number more s result t) }
+        ensures steps { Refines F.device self.old self.new (λ (b : ℕ) (c : List Program) (s t : HostView). StepsOn b c number more s result t) }
         ensures safe { IsSafe self.old → GoesWell result }
     {
         let mut left = more;
@@ -39,7 +39,7 @@ impl<F: Files + Drop> Host<F> {
     /// of them answers.
     pub fn step_up_to(&mut self, number: u64, most: u64) -> Result<Stepped, Refusal>
         requires { IsAlive F.device self.old }
-        ensures steps { Leads F.device self.old self.new (λ (b : ℕ) (c : List Program) (s t : Scene). StepsOn b c number (most - 1) s result t) }
+        ensures steps { Refines F.device self.old self.new (λ (b : ℕ) (c : List Program) (s t : HostView). StepsOn b c number (most - 1) s result t) }
         ensures safe { IsSafe self.old → GoesWell result }
     {
         self.step_on(number, most.saturating_sub(1))
@@ -49,7 +49,7 @@ impl<F: Files + Drop> Host<F> {
     /// connection. Answers what that step answers. No more steps go than the budget allows.
     pub fn run(&mut self, number: u64) -> Result<Stepped, Refusal>
         requires { IsAlive F.device self.old }
-        ensures runs { Leads F.device self.old self.new (λ (b : ℕ) (c : List Program) (s t : Scene). Runs b c number s result t) }
+        ensures runs { Refines F.device self.old self.new (λ (b : ℕ) (c : List Program) (s t : HostView). StepsToEnd b c number s result t) }
         ensures safe { IsSafe self.old → GoesWell result }
     {
         let budget = self.budget();

@@ -1,63 +1,29 @@
 //! The program: it plays scripts, prints modules, and makes and checks certificates.
 #![tactic(auto)]
 
-mod answer;
-mod assembling;
-mod beginning;
-mod certifying;
-mod checking;
-mod command;
-mod commands;
-mod ended;
-mod fault;
-mod file_line;
-mod front;
-mod front_words;
-mod head_reader;
-mod labels;
-mod left;
-mod lines;
-mod listening;
-mod loading;
-mod named_file;
-mod operands;
-mod part;
-mod pieces;
-mod player;
-mod playing;
-mod recorded;
-mod refused_at;
-mod reply;
-mod request_log;
-mod script;
-mod session;
-mod site_file;
-mod streams;
-mod system_clock;
+mod serve_words;
 mod task;
-#[cfg(test)]
-mod tests;
-mod texts;
-mod words;
 
-use assembling::run_assemble;
-use beginning::run_new;
-use certifying::run_certify;
-use checking::run_check;
 use clap::Error;
 use clap::error::ErrorKind;
-use ended::Ended;
-use fault::PlayFault;
-use front::serve_front;
+use http_serve::serve_front;
 use life_explain::{explain_certify, explain_check, explain_play};
-use named_file::NamedFile;
-use playing::run_play;
-use recorded::{Recorded, RecordedWriter};
+use module_tools::{
+    Ended, NamedFile, PlayFault, Recorded, RecordedWriter, run_assemble, run_certify, run_check,
+    run_new,
+};
+use script_play::run_play;
 use std::alloc::AllocError;
 use std::io::IsTerminal;
 use std::process::ExitCode;
 use std::{env, io};
 use task::{Task, task_of};
+
+/// Tells that a line cannot be written.
+fn end_unwritten(rt: &HostRuntime) -> ExitCode {
+    let _ = rt.eprintln(PlayFault::Write);
+    ExitCode::FAILURE
+}
 
 /// Tells how a task ended, and a fault of the program by one line; the name is that of what could not be read.
 fn end(rt: &HostRuntime, ended: Result<Ended, PlayFault>, name: &str) -> ExitCode {
@@ -66,9 +32,11 @@ fn end(rt: &HostRuntime, ended: Result<Ended, PlayFault>, name: &str) -> ExitCod
         Ok(Ended::Refused) => Ok(()),
         Err(PlayFault::Read) => rt.println(format_args!("{} {name}", PlayFault::Read)),
         Err(fault @ PlayFault::NoMemory) => rt.println(fault),
-        Err(fault @ PlayFault::Write) => rt.eprintln(fault),
+        Err(PlayFault::Write) => return end_unwritten(rt),
     };
-    let _ = told;
+    if told.is_err() {
+        return end_unwritten(rt);
+    }
     ExitCode::FAILURE
 }
 
@@ -77,11 +45,13 @@ fn end_words(rt: &HostRuntime, error: &Error) -> ExitCode {
     if error.kind() == ErrorKind::OutOfMemory {
         return end(rt, Err(PlayFault::NoMemory), "");
     }
-    let _ = error.print(rt);
+    let printed = error.print(rt);
     if error.use_stderr() {
-        ExitCode::from(2)
-    } else {
-        ExitCode::SUCCESS
+        return ExitCode::from(2);
+    }
+    match printed {
+        Ok(()) => ExitCode::SUCCESS,
+        Err(_) => end_unwritten(rt),
     }
 }
 

@@ -1,8 +1,8 @@
 //! What the program is called for.
 
-use crate::front::Front;
-use crate::front_words::{front_of, serve_command};
+use crate::serve_words::{front_of, serve_command};
 use clap::{Arg, ArgAction, Command, Error};
+use http_serve::ServeOptions;
 use std::alloc::{AllocError, Global};
 
 /// What `--explain` does where a module is judged.
@@ -38,7 +38,7 @@ pub enum Task<'a> {
         explains: bool,
     },
     /// Connections are served.
-    Serve(Front<'a>),
+    Serve(ServeOptions<'a>),
 }
 
 fn explain_flag<'a>(alloc: Global, help: &'a str) -> Arg<'a> {

@@ -1,6 +1,6 @@
 -- Events of one connection lead a host on.
 use Rattle.std.proofs.Common.{ℕ, zero, suc, List, [], ◌∷◌, Result, refl, sym, subst}
-use Rattle.module_lang.specs.Program.{Program}
+use Rattle.module_code.specs.Program.{Program}
 use Rattle.run_model.specs.declared.event.Event.{Event}
 use Rattle.run_model.specs.declared.event.Event.TheVariants as event
 use Rattle.run_model.specs.declared.event.Refusal.{Refusal}
@@ -11,37 +11,37 @@ use Rattle.bucket_kinds.specs.Device.{Device}
 use Rattle.filter_chain.specs.declared.host.Host.{Host}
 use Rattle.filter_chain.specs.Hosting.{step_answer}
 use Rattle.filter_chain.specs.Running as steps
-use Rattle.filter_chain.specs.Scenes.{Scene, Acts}
-use Rattle.http_front.specs.Driven.{Leads, GoesBy, Beside}
+use Rattle.filter_chain.specs.HostViews.{HostView, Answers}
+use Rattle.http_front.specs.Driven.{Refines, GoesBy, OnlyEventsOf}
 use Rattle.filter_chain.proofs.Driving.{Happened, by_event, leads_on, leads_still}
 
 -- some events
-abbrev Some-events : ℕ → List Program → ℕ → Scene → Scene → Type 0
+abbrev Some-events : ℕ → List Program → ℕ → HostView → HostView → Type 0
 Some-events b c number s t = (events : List (Event × Answer)) × GoesBy b c number events s t
 
-one_more : (b : ℕ) (c : List Program) (number : ℕ) (what : Event) (answer : Answer) (s m t : Scene) → Some-events b c number s m → Acts b c number what m answer t → Some-events b c number s t
+one_more : (b : ℕ) (c : List Program) (number : ℕ) (what : Event) (answer : Answer) (s m t : HostView) → Some-events b c number s m → Answers b c number what m answer t → Some-events b c number s t
 unfolding GoesBy
 one_more b c number what answer s m t so acts = ((what, answer) ∷ so.0, (m, so.1, acts))
 
-steps_more : (b : ℕ) (c : List Program) (number n : ℕ) (s m t : Scene) → Some-events b c number s m → steps.GoesOn b c number n m t → Some-events b c number s t
-unfolding steps.GoesOn
-steps_more b c number zero s m t so same = subst (λ (x : Scene). Some-events b c number s x) (sym same) so
+steps_more : (b : ℕ) (c : List Program) (number n : ℕ) (s m t : HostView) → Some-events b c number s m → steps.HostGoesOn b c number n m t → Some-events b c number s t
+unfolding steps.HostGoesOn
+steps_more b c number zero s m t so same = subst (λ (x : HostView). Some-events b c number s x) (sym same) so
 steps_more b c number (suc n) s m t so goes = steps_more b c number n s goes.0 t (one_more b c number event.Step (Step stepped.Went) s m goes.0 so goes.1) goes.2
 
 module _ {F : Type 0} (device : F → Device) (number : ℕ) where
-  pub beside_same : (host : Host F) → Beside device host number host
-  unfolding Beside GoesBy
+  pub beside_same : (host : Host F) → OnlyEventsOf device host number host
+  unfolding OnlyEventsOf GoesBy
   beside_same host = leads_still device host (λ b c s t. Some-events b c number s t) (λ b c s. ([], refl))
 
-  module _ (from old new : Host F) (so : Beside device from number old) where
-    pub beside_event : (what : Event) (answer : Answer) → Happened device old new number what answer → Beside device from number new
-    unfolding Beside
+  module _ (from old new : Host F) (so : OnlyEventsOf device from number old) where
+    pub beside_event : (what : Event) (answer : Answer) → Happened device old new number what answer → OnlyEventsOf device from number new
+    unfolding OnlyEventsOf
     beside_event what answer h =
-        leads_on device from old new (λ b c s t. Some-events b c number s t) (λ b c s t. Acts b c number what s answer t) (λ b c s t. Some-events b c number s t)
+        leads_on device from old new (λ b c s t. Some-events b c number s t) (λ b c s t. Answers b c number what s answer t) (λ b c s t. Some-events b c number s t)
         (λ b c s m t x a. one_more b c number what answer s m t x a) so (by_event device old new number what answer h)
 
-    pub beside_runs : (answer : Result Stepped Refusal) → Leads device old new (λ b c s t. steps.Runs b c number s answer t) → Beside device from number new
-    unfolding Beside
+    pub beside_runs : (answer : Result Stepped Refusal) → Refines device old new (λ b c s t. steps.StepsToEnd b c number s answer t) → OnlyEventsOf device from number new
+    unfolding OnlyEventsOf
     beside_runs answer h =
-        leads_on device from old new (λ b c s t. Some-events b c number s t) (λ b c s t. steps.Runs b c number s answer t) (λ b c s t. Some-events b c number s t)
+        leads_on device from old new (λ b c s t. Some-events b c number s t) (λ b c s t. steps.StepsToEnd b c number s answer t) (λ b c s t. Some-events b c number s t)
         (λ b c s m t x r. one_more b c number event.Step (step_answer answer) s r.before t (steps_more b c number r.count s m r.before x r.goes) r.last) so h

@@ -7,40 +7,40 @@ use Rattle.run_model.specs.declared.event.Refusal.{Refusal}
 use Rattle.run_model.specs.Worlds.{Connected, Labels, Refused}
 use Rattle.bucket_kinds.specs.Device.{Device}
 use Rattle.filter_chain.specs.declared.host.Host.{Host}
-use Rattle.filter_chain.specs.Scenes.{Acts}
-use Rattle.http_front.specs.Clocks.{Said}
-use Rattle.http_front.specs.Connecting.{FailsAt, FallsBy, IsClosed, IsOpened, ServesAll, Visits, kind_of, outcome_of}
-use Rattle.http_front.specs.Driven.{Beside, Handles, IsAlive, Leads}
-use Rattle.http_front.specs.Requests.{Runs}
+use Rattle.filter_chain.specs.HostViews.{Answers}
+use Rattle.http_message.specs.Clocks.{Said}
+use Rattle.http_message.specs.declared.reply.Method.{Method}
+use Rattle.http_message.specs.declared.site.Site.{Site}
+use Rattle.http_front.specs.declared.fault.FrontKind.{FrontKind}
+use Rattle.http_front.specs.declared.fault.FrontKind.TheVariants as kind
+use Rattle.http_front.specs.declared.handler.RequestOutcome.{RequestOutcome}
+use Rattle.http_front.specs.Connecting.{ServingFails, FallsBy, IsClosed, IsOpened, ServesAll, Visits, kind_of, outcome_of}
+use Rattle.http_front.specs.Driven.{OnlyEventsOf, Handles, IsAlive, Refines}
+use Rattle.http_front.specs.Requests.{RunsCall}
 use Rattle.http_front.specs.Serving.{FailsBy, Writes}
 use Rattle.http_front.specs.Turns.{LacksMemory, Responses}
 use Rattle.http_front.specs.declared.fault.FrontFault.{FrontFault}
-use Rattle.http_front.specs.declared.fault.FrontKind.{FrontKind}
-use Rattle.http_front.specs.declared.fault.FrontKind.TheVariants as kind
 use Rattle.http_front.specs.declared.fault.Served.{Served}
-use Rattle.http_front.specs.declared.handler.Outcome.{Outcome}
-use Rattle.http_front.specs.declared.reply.Method.{Method}
-use Rattle.http_front.specs.declared.running.Ended.{Ended}
-use Rattle.http_front.specs.declared.site.Site.{Site}
+use Rattle.http_front.specs.declared.running.CallEnd.{CallEnd}
 use Rattle.filter_chain.proofs.Driving.{Happened, by_event, leads_as, leads_on}
 
 module _ {F : Type 0} (device : F → Device) (number : ℕ) (old new : Host F) where
-  pub closed : (left : Option ℕ) (labels : List (List ℕ)) → left ≡ None → Happened device old new number event.Close (Labels labels) → Leads device old new (λ b c s t. IsClosed b c number left s t)
+  pub closed : (left : Option ℕ) (labels : List (List ℕ)) → left ≡ None → Happened device old new number event.Close (Labels labels) → Refines device old new (λ b c s t. IsClosed b c number left s t)
   closed left labels is h =
-      subst (λ (x : Option ℕ). Leads device old new (λ b c s t. IsClosed b c number x s t)) (sym is)
-      (leads_as device old new (λ b c s t. Acts b c number event.Close s (Labels labels) t) (λ b c s t. IsClosed b c number None s t) (λ b c s t a. (labels, a)) (by_event device old new number event.Close (Labels labels) h))
+      subst (λ (x : Option ℕ). Refines device old new (λ b c s t. IsClosed b c number x s t)) (sym is)
+      (leads_as device old new (λ b c s t. Answers b c number event.Close s (Labels labels) t) (λ b c s t. IsClosed b c number None s t) (λ b c s t a. (labels, a)) (by_event device old new number event.Close (Labels labels) h))
 
-  pub kept : (left : Option ℕ) (why : Refusal) → left ≡ Some number → Happened device old new number event.Close (Refused why) → Leads device old new (λ b c s t. IsClosed b c number left s t)
+  pub kept : (left : Option ℕ) (why : Refusal) → left ≡ Some number → Happened device old new number event.Close (Refused why) → Refines device old new (λ b c s t. IsClosed b c number left s t)
   kept left why is h =
-      subst (λ (x : Option ℕ). Leads device old new (λ b c s t. IsClosed b c number x s t)) (sym is)
-      (leads_as device old new (λ b c s t. Acts b c number event.Close s (Refused why) t) (λ b c s t. IsClosed b c number (Some number) s t) (λ b c s t a. (refl, why, a)) (by_event device old new number event.Close (Refused why) h))
+      subst (λ (x : Option ℕ). Refines device old new (λ b c s t. IsClosed b c number x s t)) (sym is)
+      (leads_as device old new (λ b c s t. Answers b c number event.Close s (Refused why) t) (λ b c s t. IsClosed b c number (Some number) s t) (λ b c s t a. (refl, why, a)) (by_event device old new number event.Close (Refused why) h))
 
-  pub opened_conn : (mid : Host F) (how : Ended) → Happened device old mid 0 event.Open (Connected number) → Leads device mid new (λ b c s t. Runs b c number s how t) → Leads device old new (λ b c s t. IsOpened b c number s t)
-  opened_conn mid how h = leads_on device old mid new (λ b c s t. Acts b c 0 event.Open s (Connected number) t) (λ b c s t. Runs b c number s how t) (λ b c s t. IsOpened b c number s t)
+  pub opened_conn : (mid : Host F) (how : CallEnd) → Happened device old mid 0 event.Open (Connected number) → Refines device mid new (λ b c s t. RunsCall b c number s how t) → Refines device old new (λ b c s t. IsOpened b c number s t)
+  opened_conn mid how h = leads_on device old mid new (λ b c s t. Answers b c 0 event.Open s (Connected number) t) (λ b c s t. RunsCall b c number s how t) (λ b c s t. IsOpened b c number s t)
       (λ b c s m t a r. record { mid = m; how = how; acts = a; runs = r }) (by_event device old mid 0 event.Open (Connected number) h)
 
 -- What is written where serving fails.
-module _ {H K : Type 0} (site : Site) (handles : H → Method → List ℕ → Outcome → H → Type 0) (tells : K → Said → K → Type 0) (old : H) (before : K) where
+module _ {H K : Type 0} (site : Site) (handles : H → Method → List ℕ → RequestOutcome → H → Type 0) (tells : K → Said → K → Type 0) (old : H) (before : K) where
   front_whole : (stream text : List ℕ) (unread : Option (List ℕ)) (m n : ℕ) (new : H) (after : K) → Responses site handles tells old before stream text n new after → FallsBy site handles tells kind.NoMemory (Some m) old before stream text unread new after
   front_whole stream text unread m n new after all = inr ((λ none. cc), n, all)
 
@@ -57,7 +57,7 @@ module _ {H K : Type 0} (site : Site) (handles : H → Method → List ℕ → O
 
 module _ {F K : Type 0} (device : F → Device) (tells : K → Said → K → Type 0) (site : Site) (old : Host F) (before : K) (unread was is : Option (List ℕ)) where
   pub none_opened : (new : Host F) (e : FrontFault) (why : Refusal) (read : Option (List ℕ)) → unread ≡ read → is ≡ was → e.kind ≡ kind_of why → e.left ≡ None → Happened device old new 0 event.Open (Refused why)
-      → IfSome read (λ stream. FailsAt device tells site old before stream e unread was is new before)
+      → IfSome read (λ stream. ServingFails device tells site old before stream e unread was is new before)
   none_opened new e why None keeps same kind left h = tt
   none_opened new e why (Some stream) keeps same kind left h = inl record {
     why = why;
@@ -69,7 +69,7 @@ module _ {F K : Type 0} (device : F → Device) (tells : K → Said → K → Ty
     still = refl;
   }
 
-  module _ (number : ℕ) (opened served new : Host F) (after : K) (opens : Leads device old opened (λ b c s t. IsOpened b c number s t)) (alive : IsAlive device served) (beside : Beside device opened number served) where
+  module _ (number : ℕ) (opened served new : Host F) (after : K) (opens : Refines device old opened (λ b c s t. IsOpened b c number s t)) (alive : IsAlive device served) (beside : OnlyEventsOf device opened number served) where
     -- what serving the open connection comes to
     abbrev AllSo : Option (List ℕ) → Served → Type 0
     AllSo read s = IfSome read (λ stream. (text : List ℕ) × Responses site (λ o. Handles device o number) tells opened before stream text s.requests served after × Appends was is text)
@@ -77,7 +77,7 @@ module _ {F K : Type 0} (device : F → Device) (tells : K → Said → K → Ty
     abbrev FrontSo : Option ℕ → Option (List ℕ) → FrontKind → Type 0
     FrontSo left read k = IfSome read (λ stream. (text : List ℕ) × FallsBy site (λ o. Handles device o number) tells k left opened before stream text unread served after × Appends was is text)
 
-    by_ok : (read : Option (List ℕ)) (r : Result Served FrontKind) (left : Option ℕ) → Leads device served new (λ b c s t. IsClosed b c number left s t) → IfOk r (AllSo read)
+    by_ok : (read : Option (List ℕ)) (r : Result Served FrontKind) (left : Option ℕ) → Refines device served new (λ b c s t. IsClosed b c number left s t) → IfOk r (AllSo read)
         → IfOk (outcome_of r left) (λ s. IfSome read (λ stream. ServesAll device tells site old before stream s.requests was is new after))
     by_ok read (Err k) left closes all = tt
     by_ok read (Ok s) (Some n) closes all = tt
@@ -88,8 +88,8 @@ module _ {F K : Type 0} (device : F → Device) (tells : K → Said → K → Ty
       written = written;
     }
 
-    by_err : (read : Option (List ℕ)) (r : Result Served FrontKind) (left : Option ℕ) → Leads device served new (λ b c s t. IsClosed b c number left s t) → IfOk r (AllSo read) → IfErr r (λ k. FrontSo left read k)
-        → IfErr (outcome_of r left) (λ e. IfSome read (λ stream. FailsAt device tells site old before stream e unread was is new after))
+    by_err : (read : Option (List ℕ)) (r : Result Served FrontKind) (left : Option ℕ) → Refines device served new (λ b c s t. IsClosed b c number left s t) → IfOk r (AllSo read) → IfErr r (λ k. FrontSo left read k)
+        → IfErr (outcome_of r left) (λ e. IfSome read (λ stream. ServingFails device tells site old before stream e unread was is new after))
     by_err read (Ok s) None closes all front = tt
     by_err None (Ok s) (Some n) closes all front = tt
     by_err (Some stream) (Ok s) (Some n) closes (text, all, written) front = inr record {
@@ -108,24 +108,24 @@ module _ {F K : Type 0} (device : F → Device) (tells : K → Said → K → Ty
     fails_so read (Ok s) left h = tt
     fails_so read (Err e) left h = falls site (λ o. Handles device o number) tells opened before read unread was is left served after e h
 
-    module _ (read : Option (List ℕ)) (r : Result Served FrontKind) (left : Option ℕ) (closes : Leads device served new (λ b c s t. IsClosed b c number left s t)) (all : IfOk r (AllSo read)) (result : Result Served FrontFault) (same : result ≡ outcome_of r left) where
+    module _ (read : Option (List ℕ)) (r : Result Served FrontKind) (left : Option ℕ) (closes : Refines device served new (λ b c s t. IsClosed b c number left s t)) (all : IfOk r (AllSo read)) (result : Result Served FrontFault) (same : result ≡ outcome_of r left) where
       pub served_ok : IfOk result (λ s. IfSome read (λ stream. ServesAll device tells site old before stream s.requests was is new after))
       served_ok = subst (λ (x : Result Served FrontFault). IfOk x (λ s. IfSome read (λ stream. ServesAll device tells site old before stream s.requests was is new after))) (sym same) (by_ok read r left closes all)
 
-      pub served_err : IfErr r (λ e. FailsBy site (λ o. Handles device o number) tells opened before read unread was is served after e) → IfErr result (λ e. IfSome read (λ stream. FailsAt device tells site old before stream e unread was is new after))
-      served_err front = subst (λ (x : Result Served FrontFault). IfErr x (λ e. IfSome read (λ stream. FailsAt device tells site old before stream e unread was is new after))) (sym same) (by_err read r left closes all (fails_so read r left front))
+      pub served_err : IfErr r (λ e. FailsBy site (λ o. Handles device o number) tells opened before read unread was is served after e) → IfErr result (λ e. IfSome read (λ stream. ServingFails device tells site old before stream e unread was is new after))
+      served_err front = subst (λ (x : Result Served FrontFault). IfErr x (λ e. IfSome read (λ stream. ServingFails device tells site old before stream e unread was is new after))) (sym same) (by_err read r left closes all (fails_so read r left front))
 
 -- Of any reader.
 module _ {F K : Type 0} (device : F → Device) (tells : K → Said → K → Type 0) (site : Site) (old : Host F) where
   pub not_visited : (new : Host F) (e : FrontFault) (why : Refusal) → Happened device old new 0 event.Open (Refused why) → Visits device tells site old (Err e) new
   not_visited new e why h = inl (why, by_event device old new 0 event.Open (Refused why) h)
 
-  module _ (number : ℕ) (opened served new : Host F) (opens : Leads device old opened (λ b c s t. IsOpened b c number s t)) (alive : IsAlive device served) (beside : Beside device opened number served) where
-    visits_by : (r : Result Served FrontKind) (left : Option ℕ) → Leads device served new (λ b c s t. IsClosed b c number left s t) → Visits device tells site old (outcome_of r left) new
+  module _ (number : ℕ) (opened served new : Host F) (opens : Refines device old opened (λ b c s t. IsOpened b c number s t)) (alive : IsAlive device served) (beside : OnlyEventsOf device opened number served) where
+    visits_by : (r : Result Served FrontKind) (left : Option ℕ) → Refines device served new (λ b c s t. IsClosed b c number left s t) → Visits device tells site old (outcome_of r left) new
     visits_by (Ok s) None closes = record { number = number; opened = opened; served = served; opens = opens; done = tt; alive = alive; beside = beside; closes = closes }
     visits_by (Ok s) (Some n) closes = inr record { number = number; opened = opened; served = served; opens = opens; done = tt; alive = alive; beside = beside; closes = closes }
     visits_by (Err k) left closes = inr record { number = number; opened = opened; served = served; opens = opens; done = tt; alive = alive; beside = beside; closes = closes }
 
-    pub visited : (r : Result Served FrontKind) (left : Option ℕ) → Leads device served new (λ b c s t. IsClosed b c number left s t) → (result : Result Served FrontFault) → result ≡ outcome_of r left
+    pub visited : (r : Result Served FrontKind) (left : Option ℕ) → Refines device served new (λ b c s t. IsClosed b c number left s t) → (result : Result Served FrontFault) → result ≡ outcome_of r left
         → Visits device tells site old result new
     visited r left closes result same = subst (λ (x : Result Served FrontFault). Visits device tells site old x new) (sym same) (visits_by r left closes)

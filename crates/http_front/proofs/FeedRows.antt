@@ -1,10 +1,10 @@
 -- The worked brigades and calls, computed.
 use Rattle.std.proofs.Common.{refl}
 use Rattle.run_model.specs.declared.event.Cause.TheVariants as cause
+use Rattle.http_message.specs.declared.failure.Failure.TheVariants as failure
 use Rattle.http_front.specs.FeedRows.{CallRows, FileRows, broken}
 use Rattle.http_front.specs.Requests.{brigades_from, brigades_of}
 use Rattle.http_front.specs.Rows.{failed}
-use Rattle.http_front.specs.declared.failure.Failure.TheVariants as failure
 use Rattle.http_front.proofs.Rows.{same_outcome}
 
 pub file_rows : FileRows

@@ -1,10 +1,5 @@
-pub mod Headless
-pub mod Dated
-pub mod Asked
 pub mod ServingLaws
 pub mod Stepped
-pub mod Literal
-pub mod SitePaths
 pub mod RunLaws
 pub mod FeedLaws
 pub mod RequestLaws

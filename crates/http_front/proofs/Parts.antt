@@ -1,7 +1,7 @@
 -- The parts of a response.
 use Rattle.std.proofs.Common.{◌≡◌, ℕ, ◌<◌, Bool, true, false, cond, List, [], length, refl, subst, arith}
-use Rattle.http_front.specs.Replying.{has_body, middle}
-use Rattle.http_front.specs.declared.reply.Reply.{Reply}
+use Rattle.http_message.specs.Replying.{has_body, middle}
+use Rattle.http_message.specs.declared.reply.Reply.{Reply}
 
 -- what is sent of a body that has a byte is the whole of it
 pub sent_whole : (r : Reply) (sent : List ℕ) (n : ℕ) → sent ≡ middle r → n < length sent → middle r ≡ r.body

@@ -11,41 +11,41 @@ use Rattle.http1.specs.Text.{eq_ignore_case}
 use Rattle.httpdate.specs.Calendar.{days_of_months, days_of_years}
 use Rattle.httpdate.specs.declared.date.HttpDate.{HttpDate}
 use Rattle.percent_encoding.specs.Percent.{percent_decode}
-use Rattle.http_front.specs.Asking.{head_closes, method_refusal, refusal, target_path}
-use Rattle.http_front.specs.Fields.{closes, field_refusal, has_content, hosts_fit, is_bad_length}
-use Rattle.http_front.specs.Heads.{IsHeadlessWithin}
+use Rattle.http_message.specs.Asking.{head_closes, method_refusal, refusal, target_path}
+use Rattle.http_message.specs.Fields.{closes, field_refusal, has_content, hosts_fit, is_bad_length}
+use Rattle.http_message.specs.Heads.{IsHeadlessWithin}
+use Rattle.http_message.specs.Replying.{closing, head_text, middle, opening, reply_text}
+use Rattle.http_message.specs.Routes.{is_site_path}
+use Rattle.http_message.specs.declared.failure.Failure.{Failure}
+use Rattle.http_message.specs.declared.reply.Method.{Method}
+use Rattle.http_message.specs.declared.reply.Reply.{Reply}
+use Rattle.http_message.specs.declared.reply.Version.{Version}
+use Rattle.http_message.specs.declared.status.StatusCode.{StatusCode}
+use Rattle.http_message.proofs.SitePaths.{path-utf8}
 use Rattle.http_front.specs.Outcomes.{file_of}
-use Rattle.http_front.specs.Replying.{closing, head_text, middle, opening, reply_text}
-use Rattle.http_front.specs.Routes.{is_site_path}
+use Rattle.http_front.specs.declared.handler.RequestOutcome.{RequestOutcome}
 use Rattle.http_front.specs.Rows.{Http10, HttpBadHead, HttpConnectionOption, HttpEmptyFile, HttpFailing, HttpGet, HttpGetAbsolute, HttpHead, HttpLargeFile, HttpManyFields, HttpMethods, HttpMissing, HttpRequestBody, RepliesAreThese, bad_reply, bare, failed, host, line, many, reply_of}
 use Rattle.http_front.specs.Turns.{fields_limit, head_limit}
-use Rattle.http_front.specs.declared.failure.Failure.{Failure}
-use Rattle.http_front.specs.declared.handler.Outcome.{Outcome}
-use Rattle.http_front.specs.declared.reply.Method.{Method}
-use Rattle.http_front.specs.declared.reply.Reply.{Reply}
-use Rattle.http_front.specs.declared.reply.Version.{Version}
-use Rattle.http_front.specs.declared.status.Status.{Status}
-use Rattle.http_front.proofs.SitePaths.{path-utf8}
 
 -- replies with the same parts
 same_reply : (r q : Reply) → r.status ≡ q.status → r.version ≡ q.version → r.method ≡ q.method → r.closes ≡ q.closes → r.body ≡ q.body → r.failure ≡ q.failure → r ≡ q
 same_reply r q status version method closes body failure =
-    ap (λ (x : Status). build x r.version r.method r.closes r.body r.failure) status
+    ap (λ (x : StatusCode). build x r.version r.method r.closes r.body r.failure) status
     ∙ ap (λ (x : Version). build q.status x r.method r.closes r.body r.failure) version
     ∙ ap (λ (x : Method). build q.status q.version x r.closes r.body r.failure) method
     ∙ ap (λ (x : Bool). build q.status q.version q.method x r.body r.failure) closes
     ∙ ap (λ (x : List ℕ). build q.status q.version q.method q.closes x r.failure) body
     ∙ ap (λ (x : Option Failure). build q.status q.version q.method q.closes q.body x) failure
   where
-    build : Status → Version → Method → Bool → List ℕ → Option Failure → Reply
+    build : StatusCode → Version → Method → Bool → List ℕ → Option Failure → Reply
     build a b c d e f = record { status = a; version = b; method = c; closes = d; body = e; failure = f }
 
 -- outcomes with the same parts
-pub same_outcome : (o p : Outcome) → o.status ≡ p.status → o.body ≡ p.body → o.failure ≡ p.failure → o ≡ p
+pub same_outcome : (o p : RequestOutcome) → o.status ≡ p.status → o.body ≡ p.body → o.failure ≡ p.failure → o ≡ p
 same_outcome o p status body failure =
-    ap (λ (x : Status). build x o.body o.failure) status ∙ ap (λ (x : List ℕ). build p.status x o.failure) body ∙ ap (λ (x : Option Failure). build p.status p.body x) failure
+    ap (λ (x : StatusCode). build x o.body o.failure) status ∙ ap (λ (x : List ℕ). build p.status x o.failure) body ∙ ap (λ (x : Option Failure). build p.status p.body x) failure
   where
-    build : Status → List ℕ → Option Failure → Outcome
+    build : StatusCode → List ℕ → Option Failure → RequestOutcome
     build a b c = record { status = a; body = b; failure = c }
 
 -- the moment 784111777, as a date

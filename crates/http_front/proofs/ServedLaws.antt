@@ -1,27 +1,27 @@
 -- Serving a connection, read by read.
 use Rattle.std.proofs.Common.{◌≡◌, ℕ, List, [], Option, Result, Ok, Err, refl, sym, subst, append-nil}
-use Rattle.http_front.specs.Clocks.{Said}
-use Rattle.http_front.specs.Serving.{Adds, Loses, SoFar, Goes, FailsBy}
-use Rattle.http_front.specs.Turns.{WantsMore}
+use Rattle.http_message.specs.Clocks.{Said}
+use Rattle.http_message.specs.declared.reply.Method.{Method}
+use Rattle.http_message.specs.declared.site.Site.{Site}
 use Rattle.http_front.specs.declared.fault.FrontKind.{FrontKind}
 use Rattle.http_front.specs.declared.fault.FrontKind.TheVariants as kind
-use Rattle.http_front.specs.declared.handler.Outcome.{Outcome}
-use Rattle.http_front.specs.declared.reply.Method.{Method}
-use Rattle.http_front.specs.declared.serving.Next.{Next}
-use Rattle.http_front.specs.declared.serving.Next.TheVariants as next
-use Rattle.http_front.specs.declared.site.Site.{Site}
+use Rattle.http_front.specs.declared.handler.RequestOutcome.{RequestOutcome}
+use Rattle.http_front.specs.Serving.{AddsBytes, Loses, SoFar, Goes, FailsBy}
+use Rattle.http_front.specs.Turns.{WantsMore}
+use Rattle.http_front.specs.declared.serving.AfterStep.{AfterStep}
+use Rattle.http_front.specs.declared.serving.AfterStep.TheVariants as next
 use Rattle.http_front.proofs.ServingLaws.{far_loses_read, far_read, far_wants}
 use Rattle.std.specs.Prelude.{Bool, IfErr}
 
-module _ {H K : Type 0} (site : Site) (handles : H → Method → List ℕ → Outcome → H → Type 0) (tells : K → Said → K → Type 0) where
+module _ {H K : Type 0} (site : Site) (handles : H → Method → List ℕ → RequestOutcome → H → Type 0) (tells : K → Said → K → Type 0) where
   -- what comes next, by an equal result
-  pub next_is : (old : H) (before : K) (r q w v : Option (List ℕ)) (whole : Bool) (unread : List ℕ) (n : ℕ) (new : H) (after : K) (given result : Result Next FrontKind)
+  pub next_is : (old : H) (before : K) (r q w v : Option (List ℕ)) (whole : Bool) (unread : List ℕ) (n : ℕ) (new : H) (after : K) (given result : Result AfterStep FrontKind)
       → given ≡ result → Goes site handles tells old before r q w v whole unread n new after given → Goes site handles tells old before r q w v whole unread n new after result
   next_is old before r q w v whole unread n new after given result same goes = subst (Goes site handles tells old before r q w v whole unread n new after) same goes
 
   -- bytes are added to those at hand
   pub far_adds : (old : H) (before : K) (r q p w v : Option (List ℕ)) (unread all : List ℕ) (limit : ℕ) (whole : Bool) (n : ℕ) (new : H) (after : K)
-      → SoFar site handles tells old before r q w v unread n new after → Adds q p unread all limit whole → SoFar site handles tells old before r p w v all n new after
+      → SoFar site handles tells old before r q w v unread n new after → AddsBytes q p unread all limit whole → SoFar site handles tells old before r p w v all n new after
   far_adds old before r q p w v unread all limit whole n new after so adds = far_read site handles tells old before r q p w v unread adds.bytes all n new after so adds.took adds.added
 
   -- no bytes are added
@@ -41,7 +41,7 @@ module _ {H K : Type 0} (site : Site) (handles : H → Method → List ℕ → O
   fails_err old before r q w v new after (Err k) y e is same fails = let here : e ≡ k = cc in subst (FailsBy site handles tells old before r q w v new after) here fails
 
   -- serving goes on
-  pub far_next : (old : H) (before : K) (r q w v : Option (List ℕ)) (whole : Bool) (unread : List ℕ) (n : ℕ) (new : H) (after : K) (s : Next)
+  pub far_next : (old : H) (before : K) (r q w v : Option (List ℕ)) (whole : Bool) (unread : List ℕ) (n : ℕ) (new : H) (after : K) (s : AfterStep)
       → ¬ (s ≡ next.Again) → ¬ (s ≡ next.Over) → Goes site handles tells old before r q w v whole unread n new after (Ok s)
       → SoFar site handles tells old before r q w v unread n new after × WantsMore unread
   far_next old before r q w v whole unread n new after next.Again again over goes = absurd (again refl)

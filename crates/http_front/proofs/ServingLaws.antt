@@ -5,19 +5,19 @@ use Rattle.std.proofs.lemmas.Grind.{flat_map-append}
 use Rattle.std.proofs.KnownBytes.{Appends-nil, Appends-trans, Consumes-nil, Consumes-trans}
 use Rattle.std.specs.Io.KnownBytes.{Appends, Consumes, IsAtEnd}
 use Rattle.httparse.specs.Grammar.{print_request}
-use Rattle.http_front.specs.Clocks.{Said}
-use Rattle.http_front.specs.Heads.{StaysHeadless}
-use Rattle.http_front.specs.Replying.{reply_text}
-use Rattle.http_front.specs.Turns.{Turn, AllStay, Answers, AnswersAll, AnswersRead, SendsBad, WantsMore, heads_of, texts_of, head_limit, fields_limit, ClosesAfter, RefusesAfter, IsDue, IsFront, IsCut, IsNext, LacksAt, LacksMemory, WantsFile}
-use Rattle.http_front.specs.Stepping.{LacksAnswer, Serves, Steps, WantsAnswer}
-use Rattle.http_front.specs.Serving.{Writes, SoFar, Goes, EndsWell, FailsBy}
+use Rattle.http_message.specs.Clocks.{Said}
+use Rattle.http_message.specs.Heads.{StaysHeadless}
+use Rattle.http_message.specs.Replying.{reply_text}
+use Rattle.http_message.specs.declared.reply.Method.{Method}
+use Rattle.http_message.specs.declared.site.Site.{Site}
 use Rattle.http_front.specs.declared.fault.FrontKind.{FrontKind}
 use Rattle.http_front.specs.declared.fault.FrontKind.TheVariants as kind
-use Rattle.http_front.specs.declared.handler.Outcome.{Outcome}
-use Rattle.http_front.specs.declared.reply.Method.{Method}
-use Rattle.http_front.specs.declared.serving.Next.{Next}
-use Rattle.http_front.specs.declared.site.Site.{Site}
-use Rattle.http_front.specs.declared.steps.Step.{Step}
+use Rattle.http_front.specs.declared.handler.RequestOutcome.{RequestOutcome}
+use Rattle.http_front.specs.Turns.{Turn, AllStay, AnswersRequest, AnswersAll, AnswersRequestsRead, SendsBad, WantsMore, heads_of, texts_of, head_limit, fields_limit, ClosesAfter, RefusesAfter, IsDue, IsResponsesFront, IsCut, IsNext, LacksAt, LacksMemory, WantsFile}
+use Rattle.http_front.specs.Stepping.{LacksAnswer, ServesRequest, DoesStep, WantsAnswer}
+use Rattle.http_front.specs.Serving.{Writes, SoFar, Goes, EndsWell, FailsBy}
+use Rattle.http_front.specs.declared.serving.AfterStep.{AfterStep}
+use Rattle.http_front.specs.declared.steps.ServeStep.{ServeStep}
 
 -- Lists of turns with one more.
 
@@ -50,16 +50,16 @@ left_of stream taken (Some rest) took = (rest, refl, took)
 at_end : (q : Option (List ℕ)) (rest : List ℕ) → q ≡ Some rest → IsAtEnd q → rest ≡ []
 at_end q rest same end = subst IsAtEnd same end
 
-module _ {H K : Type 0} (site : Site) (handles : H → Method → List ℕ → Outcome → H → Type 0) (tells : K → Said → K → Type 0) where
+module _ {H K : Type 0} (site : Site) (handles : H → Method → List ℕ → RequestOutcome → H → Type 0) (tells : K → Said → K → Type 0) where
   abbrev pub Far : H → K → Option (List ℕ) → Option (List ℕ) → Option (List ℕ) → Option (List ℕ) → List ℕ → ℕ → H → K → Type 0
   Far = SoFar site handles tells
 
   answers_more : (old : H) (before : K) (turns : List Turn) (mid : H) (then : K) (t : Turn) (new : H) (after : K)
-      → AnswersAll site handles tells old before turns mid then → Answers site handles tells mid then t new after
+      → AnswersAll site handles tells old before turns mid then → AnswersRequest site handles tells mid then t new after
       → AnswersAll site handles tells old before (turns ++ t ∷ []) new after
   unfolding AnswersAll
   answers_more old before [] mid then t new after all one =
-      (new, after, subst (λ h. Answers site handles tells h before t new after) all.0 (subst (λ k. Answers site handles tells mid k t new after) all.1 one), (refl, refl))
+      (new, after, subst (λ h. AnswersRequest site handles tells h before t new after) all.0 (subst (λ k. AnswersRequest site handles tells mid k t new after) all.1 one), (refl, refl))
   answers_more old before (x ∷ turns) mid then t new after all one =
       (all.0, all.1, all.2, answers_more all.0 all.1 turns mid then t new after all.3 one)
 
@@ -89,7 +89,7 @@ module _ {H K : Type 0} (site : Site) (handles : H → Method → List ℕ → O
 
   -- A request is answered, and the connection stays open.
   pub far_stays : (old : H) (before : K) (r q w v u : Option (List ℕ)) (unread left : List ℕ) (n m size : ℕ) (mid new : H) (then after : K) (text : List ℕ)
-      → Far old before r q w v unread n mid then → Serves site handles tells mid then unread false size text new after
+      → Far old before r q w v unread n mid then → ServesRequest site handles tells mid then unread false size text new after
       → Appends v u text → left ≡ drop size unread → m ≡ n + 1 → Far old before r q w u left m new after
   far_stays old before r q w v u unread left n m size mid new then after text so serves wrote skipped more =
       let t = serves.turn in
@@ -105,7 +105,7 @@ module _ {H K : Type 0} (site : Site) (handles : H → Method → List ℕ → O
 
   -- The responses so far.
   front_of : (old : H) (before : K) (stream : List ℕ) (q w v : Option (List ℕ)) (unread : List ℕ) (n : ℕ) (new : H) (after : K)
-      → (so : Far old before (Some stream) q w v unread n new after) → IsFront site handles tells old before stream (texts_of so.turns)
+      → (so : Far old before (Some stream) q w v unread n new after) → IsResponsesFront site handles tells old before stream (texts_of so.turns)
   front_of old before stream q w v unread n new after so =
       let left = left_of stream (heads_of so.turns ++ unread) q so.took in
       record {
@@ -120,7 +120,7 @@ module _ {H K : Type 0} (site : Site) (handles : H → Method → List ℕ → O
 
   -- Serving fails where all whole requests that were read are answered.
   pub far_wants : (old : H) (before : K) (r q w v : Option (List ℕ)) (unread : List ℕ) (n : ℕ) (new : H) (after : K)
-      → Far old before r q w v unread n new after → WantsMore unread → Writes r w v (λ stream text. AnswersRead site handles tells old before stream text q new after)
+      → Far old before r q w v unread n new after → WantsMore unread → Writes r w v (λ stream text. AnswersRequestsRead site handles tells old before stream text q new after)
   far_wants old before None q w v unread n new after so wants = tt
   far_wants old before (Some stream) q w v unread n new after so wants =
       let left = left_of stream (heads_of so.turns ++ unread) q so.took in (
@@ -195,7 +195,7 @@ module _ {H K : Type 0} (site : Site) (handles : H → Method → List ℕ → O
 
   -- A request is answered, and the connection closes.
   closed : (old : H) (before : K) (stream : List ℕ) (q w v : Option (List ℕ)) (unread : List ℕ) (n m size : ℕ) (mid new : H) (then after : K) (text : List ℕ)
-      → (so : Far old before (Some stream) q w v unread n mid then) → Serves site handles tells mid then unread true size text new after → m ≡ n + 1
+      → (so : Far old before (Some stream) q w v unread n mid then) → ServesRequest site handles tells mid then unread true size text new after → m ≡ n + 1
       → ClosesAfter site handles tells old before stream (texts_of so.turns ++ text) m new after
   closed old before stream q w v unread n m size mid new then after text so serves more =
       let t = serves.turn in
@@ -214,7 +214,7 @@ module _ {H K : Type 0} (site : Site) (handles : H → Method → List ℕ → O
       }
 
   pub far_closes : (old : H) (before : K) (r q w v u : Option (List ℕ)) (unread : List ℕ) (n m size : ℕ) (mid new : H) (then after : K) (text : List ℕ)
-      → Far old before r q w v unread n mid then → Serves site handles tells mid then unread true size text new after
+      → Far old before r q w v unread n mid then → ServesRequest site handles tells mid then unread true size text new after
       → Appends v u text → m ≡ n + 1 → EndsWell site handles tells old before r w u m new after
   far_closes old before None q w v u unread n m size mid new then after text so serves wrote more = tt
   far_closes old before (Some stream) q w v u unread n m size mid new then after text so serves wrote more =
@@ -280,7 +280,7 @@ module _ {H K : Type 0} (site : Site) (handles : H → Method → List ℕ → O
   )
 
   pub cut_stays : (old : H) (before : K) (r q w v u : Option (List ℕ)) (unread : List ℕ) (n size k : ℕ) (mid new : H) (then after : K) (text : List ℕ)
-      → Far old before r q w v unread n mid then → Serves site handles tells mid then unread false size text new after
+      → Far old before r q w v unread n mid then → ServesRequest site handles tells mid then unread false size text new after
       → k < length text → Appends v u (take k text) → Writes r w u (λ stream text. IsCut site handles tells old before stream text new after)
   unfolding far_stays front_of unwritten
   cut_stays old before None q w v u unread n size k mid new then after text so serves few wrote = tt
@@ -292,7 +292,7 @@ module _ {H K : Type 0} (site : Site) (handles : H → Method → List ℕ → O
       (subst (λ l. IsNext site handles tells old before stream l (n + 1) new after) all (inl (front_of old before stream q None None (drop size unread) (n + 1) new after next, refl, refl, refl))) few wrote
 
   pub cut_closes : (old : H) (before : K) (r q w v u : Option (List ℕ)) (unread : List ℕ) (n size k : ℕ) (mid new : H) (then after : K) (text : List ℕ)
-      → Far old before r q w v unread n mid then → Serves site handles tells mid then unread true size text new after
+      → Far old before r q w v unread n mid then → ServesRequest site handles tells mid then unread true size text new after
       → k < length text → Appends v u (take k text) → Writes r w u (λ stream text. IsCut site handles tells old before stream text new after)
   cut_closes old before None q w v u unread n size k mid new then after text so serves few wrote = tt
   cut_closes old before (Some stream) q w v u unread n size k mid new then after text so serves few wrote =
@@ -324,22 +324,22 @@ module _ {H K : Type 0} (site : Site) (handles : H → Method → List ℕ → O
 
   -- How a `?` leaves.
 
-  abbrev GoesOn : H → K → Option (List ℕ) → Option (List ℕ) → Option (List ℕ) → Option (List ℕ) → Bool → List ℕ → ℕ → H → K → Result Next FrontKind → Type 0
+  abbrev GoesOn : H → K → Option (List ℕ) → Option (List ℕ) → Option (List ℕ) → Option (List ℕ) → Bool → List ℕ → ℕ → H → K → Result AfterStep FrontKind → Type 0
   GoesOn = Goes site handles tells
 
-  pub fails_lacking : (old : H) (before : K) (r q w v : Option (List ℕ)) (whole : Bool) (given unread : List ℕ) (n : ℕ) (mid new : H) (then after : K) (result : Result Next FrontKind) (y e : FrontKind) (left : List ℕ)
+  pub fails_lacking : (old : H) (before : K) (r q w v : Option (List ℕ)) (whole : Bool) (given unread : List ℕ) (n : ℕ) (mid new : H) (then after : K) (result : Result AfterStep FrontKind) (y e : FrontKind) (left : List ℕ)
       → result ≡ Err y → y ≡ e → (whole ≡ true → IsAtEnd q) → given ≡ unread → LacksAnswer site given whole e → Far old before r q w v unread n mid then → GoesOn old before r q w v whole left n new after result
   fails_lacking old before r q w v whole given unread n mid new then after result y e left is same end are lack so =
       subst (GoesOn old before r q w v whole left n new after) (sym (is ∙ ap Err same))
       (far_lacks_by old before r q w v unread whole n mid new then after e so end (subst (λ (l : List ℕ). LacksAnswer site l whole e) are lack))
 
-  pub fails_by : (old : H) (before : K) (r q w v : Option (List ℕ)) (whole : Bool) (unread : List ℕ) (n : ℕ) (new : H) (after : K) (result : Result Next FrontKind) (y e : FrontKind)
+  pub fails_by : (old : H) (before : K) (r q w v : Option (List ℕ)) (whole : Bool) (unread : List ℕ) (n : ℕ) (new : H) (after : K) (result : Result AfterStep FrontKind) (y e : FrontKind)
       → result ≡ Err y → y ≡ e → e ≡ kind.Write → Writes r w v (λ stream text. IsCut site handles tells old before stream text new after) → GoesOn old before r q w v whole unread n new after result
   fails_by old before r q w v whole unread n new after result y e is same write cut =
       subst (GoesOn old before r q w v whole unread n new after) (sym (is ∙ ap Err (same ∙ write))) cut
 
   -- What a step did with these bytes, by what it answers. left: the handler behind it, which is as the step left it.
-  pub did : (old : H) (before : K) (given seen : List ℕ) (whole : Bool) (s t : Step) (text : List ℕ) (new left : H) (after : K) → given ≡ seen → s ≡ t → left ≡ new
-      → Steps site handles tells old before given whole s text new after → Steps site handles tells old before seen whole t text left after
+  pub did : (old : H) (before : K) (given seen : List ℕ) (whole : Bool) (s t : ServeStep) (text : List ℕ) (new left : H) (after : K) → given ≡ seen → s ≡ t → left ≡ new
+      → DoesStep site handles tells old before given whole s text new after → DoesStep site handles tells old before seen whole t text left after
   did old before given seen whole s t text new left after are same still h =
-      subst (λ x. Steps site handles tells old before seen whole x text left after) same (subst (λ l. Steps site handles tells old before l whole s text left after) are (subst (λ x. Steps site handles tells old before given whole s text x after) (sym still) h))
+      subst (λ x. DoesStep site handles tells old before seen whole x text left after) same (subst (λ l. DoesStep site handles tells old before l whole s text left after) are (subst (λ x. DoesStep site handles tells old before given whole s text x after) (sym still) h))

@@ -9,23 +9,23 @@ use Rattle.httparse.specs.declared.spans.HeaderSpan.{HeaderSpan}
 use Rattle.httparse.specs.declared.spans.RequestSpans.{RequestSpans}
 use Rattle.httparse.proofs.GrammarLemmas.{print_request-append}
 use Rattle.percent_encoding.specs.Percent.{percent_decode}
-use Rattle.http_front.specs.Clocks.{Said, IsNoted}
-use Rattle.http_front.specs.Asking.{target_path}
-use Rattle.http_front.specs.Heads.{BeginsWithin, IsHeadlessWithin, StaysHeadless}
-use Rattle.http_front.specs.Looking.{IsFound}
+use Rattle.http_message.specs.Clocks.{Said, IsNoted}
+use Rattle.http_message.specs.Asking.{target_path}
+use Rattle.http_message.specs.Heads.{BeginsWithin, IsHeadlessWithin, StaysHeadless}
+use Rattle.http_message.specs.Looking.{IsFound}
+use Rattle.http_message.specs.Sites.{route_of}
+use Rattle.http_message.specs.declared.reply.Method.{Method}
+use Rattle.http_message.specs.declared.reply.Reply.{Reply}
+use Rattle.http_message.specs.declared.site.Site.{Site}
+use Rattle.http_message.proofs.Headless.{front_only}
 use Rattle.http_front.specs.Outcomes.{file_at, file_of, IsBadReply, IsLack, ReachesFile}
-use Rattle.http_front.specs.Sites.{route_of}
-use Rattle.http_front.specs.Stepping.{IsReplied, IsWritten, LacksAnswer, Serves, Steps, WantsAnswer}
+use Rattle.http_front.specs.Stepping.{IsReplied, IsWritten, LacksAnswer, ServesRequest, DoesStep, WantsAnswer}
 use Rattle.http_front.specs.Turns.{SendsBad, WantsMore, head_limit, fields_limit}
 use Rattle.http_front.specs.declared.fault.FrontKind.{FrontKind}
 use Rattle.http_front.specs.declared.fault.FrontKind.TheVariants as kind
-use Rattle.http_front.specs.declared.handler.Outcome.{Outcome}
-use Rattle.http_front.specs.declared.reply.Method.{Method}
-use Rattle.http_front.specs.declared.reply.Reply.{Reply}
-use Rattle.http_front.specs.declared.site.Site.{Site}
-use Rattle.http_front.specs.declared.steps.Step.{Step}
-use Rattle.http_front.specs.declared.steps.Step.TheVariants as step
-use Rattle.http_front.proofs.Headless.{front_only}
+use Rattle.http_front.specs.declared.handler.RequestOutcome.{RequestOutcome}
+use Rattle.http_front.specs.declared.steps.ServeStep.{ServeStep}
+use Rattle.http_front.specs.declared.steps.ServeStep.TheVariants as step
 
 pub ok_gives : {A E : Type 0} (P Q : A → Type 0) (r : Result A E) → ((a : A) → P a → Q a) → IfOk r P → IfOk r Q
 ok_gives P Q (Ok a) gives p = gives a p
@@ -127,14 +127,14 @@ lack_before site seen whole kind.Read lack = absurd lack
 lack_before site seen whole kind.Write lack = absurd lack
 lack_before site seen whole kind.TooManyReads lack = absurd lack
 
-pub lack_wider : (site : Site) (seen low : List ℕ) (whole ended : Bool) (r : Result Step FrontKind) → low ≡ take head_limit seen → ended ≡ (whole && nat_le (length seen) head_limit)
+pub lack_wider : (site : Site) (seen low : List ℕ) (whole ended : Bool) (r : Result ServeStep FrontKind) → low ≡ take head_limit seen → ended ≡ (whole && nat_le (length seen) head_limit)
     → IfErr r (LacksAnswer site low ended) → IfErr r (LacksAnswer site seen whole)
 lack_wider site seen low whole ended (Ok s) front over h = tt
 lack_wider site seen low whole ended (Err e) front over h =
     lack_before site seen whole e (subst (λ (l : List ℕ). LacksAnswer site l (whole && nat_le (length seen) head_limit) e) front (subst (λ (b : Bool). LacksAnswer site low b e) over h))
 
 -- why a head that was found gets no answer
-pub found_lack : (site : Site) (seen : List ℕ) (spans : List HeaderSpan) (whole : Bool) (head : RequestSpans) (r : Result Step FrontKind) → length spans ≡ fields_limit → IsFound head_limit seen spans head
+pub found_lack : (site : Site) (seen : List ℕ) (spans : List HeaderSpan) (whole : Bool) (head : RequestSpans) (r : Result ServeStep FrontKind) → length spans ≡ fields_limit → IsFound head_limit seen spans head
     → IfErr r (λ e. IsLack e × (e ≡ kind.NamesSpent → (h : RequestHead) → IsRequestAt seen spans head h → ReachesFile site h)) → IfErr r (LacksAnswer site seen whole)
 found_lack site seen spans whole head (Ok s) room found lack = tt
 found_lack site seen spans whole head (Err e) room found lack =
@@ -149,13 +149,13 @@ done_wider : (limit : ℕ) (seen : List ℕ) (whole : Bool) → (whole && nat_le
 done_wider limit seen true is none = (refl, sym (take_all limit seen (leb-true (length seen) limit is)) ∙ none)
 done_wider limit seen false is none = cc
 
-module _ {H K : Type 0} (site : Site) (handles : H → Method → List ℕ → Outcome → H → Type 0) (tells : K → Said → K → Type 0) where
+module _ {H K : Type 0} (site : Site) (handles : H → Method → List ℕ → RequestOutcome → H → Type 0) (tells : K → Said → K → Type 0) where
   -- a head that was found is answered
   pub serves : (old new : H) (before after : K) (seen : List ℕ) (spans : List HeaderSpan) (head : RequestSpans) (r : Reply) (closes : Bool) (text method target : List ℕ)
       → IsRequestWithin seen spans head → length spans ≡ fields_limit → IsFound head_limit seen spans head
       → ((h : RequestHead) → IsRequestAt seen spans head h → IsReplied site handles old h r new)
       → method ≡ span_bytes seen head.method → target ≡ span_bytes seen head.path → IsWritten tells before method target r text after → r.closes ≡ closes
-      → Serves site handles tells old before seen closes head.len text new after
+      → ServesRequest site handles tells old before seen closes head.len text new after
   serves old new before after seen spans head r closes text method target within room found replied sent named written is =
       let says = replied found.0 found.1 in
       let begins = subst (λ (n : ℕ). BeginsWithin head_limit n seen found.0 (drop head.len seen)) room found.2 in
@@ -176,8 +176,8 @@ module _ {H K : Type 0} (site : Site) (handles : H → Method → List ℕ → O
       record { reply = r; date = w.date; bad = bad; then = w.then; dated = w.dated; noted = w.noted; written = w.written }
 
   serves_wider : (old new : H) (before after : K) (seen : List ℕ) (closes : Bool) (size : ℕ) (text : List ℕ)
-      → Serves site handles tells old before (take head_limit seen) closes size text new after
-      → Serves site handles tells old before seen closes size text new after
+      → ServesRequest site handles tells old before (take head_limit seen) closes size text new after
+      → ServesRequest site handles tells old before seen closes size text new after
   serves_wider old new before after seen closes size text s = record {
     turn = s.turn;
     begins = begins_wider head_limit fields_limit seen s.turn.head size s.fits s.begins;
@@ -189,9 +189,9 @@ module _ {H K : Type 0} (site : Site) (handles : H → Method → List ℕ → O
   }
 
   -- a step over a front of the bytes is a step over them all
-  steps_wider : (old new : H) (before after : K) (seen : List ℕ) (whole : Bool) (text : List ℕ) (s : Step)
-      → Steps site handles tells old before (take head_limit seen) (whole && nat_le (length seen) head_limit) s text new after
-      → Steps site handles tells old before seen whole s text new after
+  steps_wider : (old new : H) (before after : K) (seen : List ℕ) (whole : Bool) (text : List ℕ) (s : ServeStep)
+      → DoesStep site handles tells old before (take head_limit seen) (whole && nat_le (length seen) head_limit) s text new after
+      → DoesStep site handles tells old before seen whole s text new after
   steps_wider old new before after seen whole text (step.Stays size) x = serves_wider old new before after seen false size text x
   steps_wider old new before after seen whole text (step.Closes size) x = serves_wider old new before after seen true size text x
   steps_wider old new before after seen whole text step.Refused x =
@@ -201,10 +201,10 @@ module _ {H K : Type 0} (site : Site) (handles : H → Method → List ℕ → O
   steps_wider old new before after seen whole text step.Done x =
       let wider = done_wider head_limit seen whole x.0 x.1 in (wider.0, wider.1, x.2)
 
-  pub steps_front : (old new : H) (before after : K) (seen low : List ℕ) (whole ended : Bool) (text : List ℕ) (s : Step)
+  pub steps_front : (old new : H) (before after : K) (seen low : List ℕ) (whole ended : Bool) (text : List ℕ) (s : ServeStep)
       → low ≡ take head_limit seen → ended ≡ (whole && nat_le (length seen) head_limit)
-      → Steps site handles tells old before low ended s text new after → Steps site handles tells old before seen whole s text new after
+      → DoesStep site handles tells old before low ended s text new after → DoesStep site handles tells old before seen whole s text new after
   steps_front old new before after seen low whole ended text s front over x =
-      let at_front = subst (λ (l : List ℕ). Steps site handles tells old before l ended s text new after) front x in
+      let at_front = subst (λ (l : List ℕ). DoesStep site handles tells old before l ended s text new after) front x in
       steps_wider old new before after seen whole text s
-      (subst (λ (e : Bool). Steps site handles tells old before (take head_limit seen) e s text new after) over at_front)
+      (subst (λ (e : Bool). DoesStep site handles tells old before (take head_limit seen) e s text new after) over at_front)

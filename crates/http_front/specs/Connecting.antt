@@ -1,26 +1,26 @@
 -- A connection of the host: it is opened, its requests are served, and it is closed.
 use Rattle.std.specs.Prelude.{◌≡◌, ℕ, List, [], Option, Some, None, Result, Ok, Err, ◌⊎◌}
 use Rattle.std.specs.Io.KnownBytes.{Appends}
-use Rattle.module_lang.specs.Program.{Program}
+use Rattle.module_code.specs.Program.{Program}
 use Rattle.run_model.specs.declared.event.Event.TheVariants as event
 use Rattle.run_model.specs.declared.event.Refusal.{Refusal}
 use Rattle.run_model.specs.declared.event.Refusal.TheVariants as refusal
 use Rattle.run_model.specs.Worlds.{Connected, Labels, Refused}
 use Rattle.bucket_kinds.specs.Device.{Device}
 use Rattle.filter_chain.specs.declared.host.Host.{Host}
-use Rattle.filter_chain.specs.Scenes.{Scene, Acts}
-use Rattle.http_front.specs.Clocks.{Said}
-use Rattle.http_front.specs.Driven.{Beside, IsAlive, Leads, Handles}
-use Rattle.http_front.specs.Requests.{Runs}
-use Rattle.http_front.specs.Turns.{AnswersRead, IsCut, LacksMemory, LacksNames, Responses}
-use Rattle.http_front.specs.declared.fault.FrontFault.{FrontFault}
+use Rattle.filter_chain.specs.HostViews.{HostView, Answers}
+use Rattle.http_message.specs.Clocks.{Said}
+use Rattle.http_message.specs.declared.reply.Method.{Method}
+use Rattle.http_message.specs.declared.site.Site.{Site}
 use Rattle.http_front.specs.declared.fault.FrontKind.{FrontKind}
 use Rattle.http_front.specs.declared.fault.FrontKind.TheVariants as kind
+use Rattle.http_front.specs.declared.handler.RequestOutcome.{RequestOutcome}
+use Rattle.http_front.specs.Driven.{OnlyEventsOf, IsAlive, Refines, Handles}
+use Rattle.http_front.specs.Requests.{RunsCall}
+use Rattle.http_front.specs.Turns.{AnswersRequestsRead, IsCut, LacksMemory, LacksNames, Responses}
+use Rattle.http_front.specs.declared.fault.FrontFault.{FrontFault}
 use Rattle.http_front.specs.declared.fault.Served.{Served}
-use Rattle.http_front.specs.declared.handler.Outcome.{Outcome}
-use Rattle.http_front.specs.declared.reply.Method.{Method}
-use Rattle.http_front.specs.declared.running.Ended.{Ended}
-use Rattle.http_front.specs.declared.site.Site.{Site}
+use Rattle.http_front.specs.declared.running.CallEnd.{CallEnd}
 
 -- what an opening lacks: names, or else memory
 abbrev pub kind_of : Refusal → FrontKind
@@ -35,26 +35,26 @@ outcome_of (Err k) left = Err (record { kind = k; left = left })
 
 module _ (budget : ℕ) (chain : List Program) (number : ℕ) where
   -- A connection of this number is opened, and its `open` handlers run, however they end.
-  pub record IsOpened (old new : Scene) : Type 0 where
-    pub mid : Scene
-    pub how : Ended
-    pub acts : Acts budget chain 0 event.Open old (Connected number) mid
-    pub runs : Runs budget chain number mid how new
+  pub record IsOpened (old new : HostView) : Type 0 where
+    pub mid : HostView
+    pub how : CallEnd
+    pub acts : Answers budget chain 0 event.Open old (Connected number) mid
+    pub runs : RunsCall budget chain number mid how new
 
   -- It is closed, or it is left.
-  abbrev pub IsClosed : Option ℕ → Scene → Scene → Type 0
-  IsClosed None old new = (labels : List (List ℕ)) × Acts budget chain number event.Close old (Labels labels) new
-  IsClosed (Some n) old new = (n ≡ number) × (why : Refusal) × Acts budget chain number event.Close old (Refused why) new
+  abbrev pub IsClosed : Option ℕ → HostView → HostView → Type 0
+  IsClosed None old new = (labels : List (List ℕ)) × Answers budget chain number event.Close old (Labels labels) new
+  IsClosed (Some n) old new = (n ≡ number) × (why : Refusal) × Answers budget chain number event.Close old (Refused why) new
 
-module _ {H K : Type 0} (site : Site) (handles : H → Method → List ℕ → Outcome → H → Type 0) (tells : K → Said → K → Type 0) where
+module _ {H K : Type 0} (site : Site) (handles : H → Method → List ℕ → RequestOutcome → H → Type 0) (tells : K → Said → K → Type 0) where
   -- What is written of the responses to a stream, where serving it ends by this kind of fault. unread: what the reader has left. Only where the
   -- writer failed, the last response is cut. Where the reader failed, or gave no end, all whole requests that were read are answered. Where names
   -- or memory are lacking, all before the one at hand are: names only for a request that nothing refuses and whose path has a file. All responses
   -- are written, where no more than the close lacks memory.
   abbrev pub FallsBy : FrontKind → Option ℕ → H → K → List ℕ → List ℕ → Option (List ℕ) → H → K → Type 0
   FallsBy kind.Write left old before stream text unread new after = IsCut site handles tells old before stream text new after
-  FallsBy kind.Read left old before stream text unread new after = AnswersRead site handles tells old before stream text unread new after
-  FallsBy kind.TooManyReads left old before stream text unread new after = AnswersRead site handles tells old before stream text unread new after
+  FallsBy kind.Read left old before stream text unread new after = AnswersRequestsRead site handles tells old before stream text unread new after
+  FallsBy kind.TooManyReads left old before stream text unread new after = AnswersRequestsRead site handles tells old before stream text unread new after
   FallsBy kind.NamesSpent left old before stream text unread new after = LacksNames site handles tells old before stream text unread
   FallsBy kind.NoMemory left old before stream text unread new after =
       LacksMemory site handles tells old before stream text unread new after
@@ -67,17 +67,17 @@ module _ {F K : Type 0} (device : F → Device) (tells : K → Said → K → Ty
     pub number : ℕ
     pub opened : Host F
     pub served : Host F
-    pub opens : Leads device old opened (λ b c s t. IsOpened b c number s t)
+    pub opens : Refines device old opened (λ b c s t. IsOpened b c number s t)
     pub done : serves number opened served
     pub alive : IsAlive device served
-    pub beside : Beside device opened number served
-    pub closes : Leads device served new (λ b c s t. IsClosed b c number left s t)
+    pub beside : OnlyEventsOf device opened number served
+    pub closes : Refines device served new (λ b c s t. IsClosed b c number left s t)
 
   -- Whatever the reader gives, a connection is opened and closed, or left; or none is opened.
   abbrev pub Visits : Host F → Result Served FrontFault → Host F → Type 0
   Visits old (Ok s) new = Connects old new None (λ number a z. Unit {0})
   Visits old (Err e) new =
-      ((why : Refusal) × Leads device old new (λ b c s t. Acts b c 0 event.Open s (Refused why) t)) ⊎ Connects old new e.left (λ number a z. Unit {0})
+      ((why : Refusal) × Refines device old new (λ b c s t. Answers b c 0 event.Open s (Refused why) t)) ⊎ Connects old new e.left (λ number a z. Unit {0})
 
   -- All of the stream is served, and the responses are written.
   pub record ServesAll (old : Host F) (before : K) (stream : List ℕ) (count : ℕ) (was is : Option (List ℕ)) (new : Host F) (after : K) : Type 0 where
@@ -96,12 +96,12 @@ module _ {F K : Type 0} (device : F → Device) (tells : K → Said → K → Ty
     pub why : Refusal
     pub kind : e.kind ≡ kind_of why
     pub left : e.left ≡ None
-    pub refused : Leads device old new (λ b c s t. Acts b c 0 event.Open s (Refused why) t)
+    pub refused : Refines device old new (λ b c s t. Answers b c 0 event.Open s (Refused why) t)
     pub leaves : unread ≡ Some stream
     pub written : Appends was is []
     pub still : after ≡ before
 
   -- unread: what the reader has left
-  abbrev pub FailsAt : Host F → K → List ℕ → FrontFault → Option (List ℕ) → Option (List ℕ) → Option (List ℕ) → Host F → K → Type 0
-  FailsAt old before stream e unread was is new after =
+  abbrev pub ServingFails : Host F → K → List ℕ → FrontFault → Option (List ℕ) → Option (List ℕ) → Option (List ℕ) → Host F → K → Type 0
+  ServingFails old before stream e unread was is new after =
       IsUnopened old before stream e unread was is new after ⊎ ServesFront old before stream e unread was is new after

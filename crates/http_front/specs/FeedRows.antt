@@ -1,20 +1,20 @@
 -- What is brought of a file, and what a request comes to by how its calls ended, worked out by hand.
 use Rattle.std.specs.Prelude.{◌≡◌, ℕ, List, [], ◌∷◌, None, Some, Ok, Err}
-use Rattle.module_lang.specs.Program.{Program}
-use Rattle.module_lang.specs.declared.instr.Status.TheVariants as call
+use Rattle.module_code.specs.Program.{Program}
+use Rattle.module_code.specs.declared.instr.Status.TheVariants as call
 use Rattle.run_model.specs.declared.event.Cause.{Cause}
 use Rattle.run_model.specs.declared.event.Cause.TheVariants as cause
 use Rattle.run_model.specs.declared.event.Piece.TheVariants as piece
 use Rattle.run_model.specs.declared.event.Refusal.TheVariants as refusal
 use Rattle.run_model.specs.declared.event.Stepped.TheVariants as stepped
-use Rattle.filter_chain.specs.Scenes.{Scene}
+use Rattle.filter_chain.specs.HostViews.{HostView}
+use Rattle.http_message.specs.declared.failure.Failure.{Failure}
+use Rattle.http_message.specs.declared.failure.Failure.TheVariants as failure
+use Rattle.http_message.specs.declared.reply.Method.TheVariants.{Head}
+use Rattle.http_front.specs.declared.handler.RequestOutcome.{RequestOutcome}
 use Rattle.http_front.specs.Requests.{Finishes, brigades_for, brigades_of, ended_of, unopened}
 use Rattle.http_front.specs.Rows.{failed}
-use Rattle.http_front.specs.declared.failure.Failure.{Failure}
-use Rattle.http_front.specs.declared.failure.Failure.TheVariants as failure
-use Rattle.http_front.specs.declared.handler.Outcome.{Outcome}
-use Rattle.http_front.specs.declared.reply.Method.TheVariants.{Head}
-use Rattle.http_front.specs.declared.running.Ended.TheVariants as ended
+use Rattle.http_front.specs.declared.running.CallEnd.TheVariants as ended
 
 -- the host refused what was needed, since the connection is broken
 abbrev pub broken : Cause → Failure
@@ -34,9 +34,9 @@ pub record CallRows : Type 0 where
   pub succeeded : ended_of (Ok (stepped.CallEnded call.Success)) ≡ ended.Succeeded
   pub fail : ended_of (Ok (stepped.CallEnded call.Fail)) ≡ ended.Failed failure.Filter
   pub budget : ended_of (Err (refusal.Broken cause.OutOfSteps)) ≡ ended.Broke (broken cause.OutOfSteps)
-  pub after_fail : (budget : ℕ) (chain : List Program) (number : ℕ) (old : Scene) (o : Outcome) (new : Scene)
+  pub after_fail : (budget : ℕ) (chain : List Program) (number : ℕ) (old : HostView) (o : RequestOutcome) (new : HostView)
       → Finishes budget chain number (ended.Failed failure.Filter) old o new → o ≡ failed failure.Filter
-  pub after_break : (budget : ℕ) (chain : List Program) (number : ℕ) (old : Scene) (o : Outcome) (new : Scene)
+  pub after_break : (budget : ℕ) (chain : List Program) (number : ℕ) (old : HostView) (o : RequestOutcome) (new : HostView)
       → Finishes budget chain number (ended.Broke (broken cause.OutOfSteps)) old o new → (o ≡ failed (broken cause.OutOfSteps)) × (new ≡ old)
   pub not_there : unopened refusal.NoFile ≡ None
   pub not_opened : unopened refusal.FileFailed ≡ Some (failure.Refused refusal.FileFailed)

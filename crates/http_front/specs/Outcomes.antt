@@ -1,33 +1,23 @@
 -- What a request comes to (RFC 9110, sections 9.3 and 15).
-use Rattle.std.specs.Prelude.{◌≡◌, ℕ, ◌==◌, true, ◌||◌, if◌then◌else◌, List, [], Option, Some, None, IsSome, codes, bytes_eq, ◌⊎◌}
+use Rattle.std.specs.Prelude.{◌≡◌, true, ◌||◌, List, [], ℕ, Option, Some, None, IsSome, ◌⊎◌}
 use Rattle.httparse.specs.Grammar.{RequestHead}
 use Rattle.percent_encoding.specs.Percent.{percent_decode}
-use Rattle.http_front.specs.Asking.{target_path, refusal, head_closes, status_closes}
-use Rattle.http_front.specs.declared.failure.Failure.{Failure}
+use Rattle.http_message.specs.Asking.{method_of, target_path, refusal, head_closes, status_closes, version_of}
+use Rattle.http_message.specs.declared.failure.Failure.{Failure}
+use Rattle.http_message.specs.declared.reply.Method.TheVariants.{Other}
+use Rattle.http_message.specs.declared.reply.Reply.{Reply}
+use Rattle.http_message.specs.declared.reply.Version.TheVariants.{Http11}
+use Rattle.http_message.specs.declared.site.Site.{Site}
+use Rattle.http_message.specs.declared.status.StatusCode.{StatusCode}
+use Rattle.http_message.specs.declared.status.StatusCode.TheVariants.{BadRequest, NotFound, InternalServerError}
+use Rattle.http_message.specs.Sites.{route_of}
 use Rattle.http_front.specs.declared.fault.FrontKind.{FrontKind}
 use Rattle.http_front.specs.declared.fault.FrontKind.TheVariants as kind
-use Rattle.http_front.specs.declared.handler.Outcome.{Outcome}
-use Rattle.http_front.specs.declared.reply.Method.{Method}
-use Rattle.http_front.specs.declared.reply.Method.TheVariants.{Get, Head, Other}
-use Rattle.http_front.specs.declared.reply.Reply.{Reply}
-use Rattle.http_front.specs.declared.reply.Version.{Version}
-use Rattle.http_front.specs.declared.reply.Version.TheVariants.{Http10, Http11}
-use Rattle.http_front.specs.declared.site.Site.{Site}
-use Rattle.http_front.specs.declared.status.Status.{Status}
-use Rattle.http_front.specs.declared.status.Status.TheVariants.{BadRequest, NotFound, InternalServerError}
-use Rattle.http_front.specs.Sites.{route_of}
+use Rattle.http_front.specs.declared.handler.RequestOutcome.{RequestOutcome}
 
 -- memory or names are lacking
 abbrev pub IsLack : FrontKind → Type 0
 IsLack k = (k ≡ kind.NoMemory) ⊎ (k ≡ kind.NamesSpent)
-
--- the version of a head
-abbrev pub version_of : ℕ → Version
-version_of minor = if minor == 0 then Http10 else Http11
-
--- the method of a head, as far as its response depends on it
-abbrev pub method_of : List ℕ → Method
-method_of method = if bytes_eq method (codes "GET") then Get else (if bytes_eq method (codes "HEAD") then Head else Other)
 
 -- the file at a path that was sent
 abbrev pub file_at : Site → Option (List ℕ) → Option (List ℕ)
@@ -43,16 +33,16 @@ abbrev pub ReachesFile : Site → RequestHead → Type 0
 ReachesFile site h = (refusal h ≡ None) × IsSome (file_of site h)
 
 -- the outcome is this status, without content
-abbrev pub IsBare : Status → Outcome → Type 0
+abbrev pub IsBare : StatusCode → RequestOutcome → Type 0
 IsBare status o = (o.status ≡ status) × (o.body ≡ []) × (o.failure ≡ None)
 
 -- the outcome is 500 for a failure, and 404 where there is none, without content
-abbrev pub IsUnserved : Option Failure → Outcome → Type 0
+abbrev pub IsUnserved : Option Failure → RequestOutcome → Type 0
 IsUnserved None o = IsBare NotFound o
 IsUnserved (Some failure) o = (o.status ≡ InternalServerError) × (o.body ≡ []) × (o.failure ≡ Some failure)
 
 -- the reply to a head
-pub record IsReplyTo (h : RequestHead) (o : Outcome) (r : Reply) : Type 0 where
+pub record IsReplyTo (h : RequestHead) (o : RequestOutcome) (r : Reply) : Type 0 where
   pub status : r.status ≡ o.status
   pub version : r.version ≡ version_of h.minor
   pub method : r.method ≡ method_of h.method

@@ -1,7 +1,7 @@
 -- A request on the host of chains: its events, and what it comes to.
 use Rattle.std.specs.Prelude.{◌≡◌, ℕ, zero, suc, ◌+◌, ◌-◌, ◌/◌, List, [], ◌∷◌, Option, Some, None, Result, Ok, Err}
-use Rattle.module_lang.specs.Program.{Program}
-use Rattle.module_lang.specs.declared.instr.Status.TheVariants as call
+use Rattle.module_code.specs.Program.{Program}
+use Rattle.module_code.specs.declared.instr.Status.TheVariants as call
 use Rattle.run_model.specs.declared.event.Cause.TheVariants as cause
 use Rattle.run_model.specs.declared.event.Event.TheVariants as event
 use Rattle.run_model.specs.declared.event.Piece.{Piece}
@@ -12,18 +12,18 @@ use Rattle.run_model.specs.declared.event.Stepped.{Stepped}
 use Rattle.run_model.specs.declared.event.Stepped.TheVariants as stepped
 use Rattle.filter_chain.specs.Hosting.{done_answer, file_answer, output_answer}
 use Rattle.filter_chain.specs.Running as steps
-use Rattle.filter_chain.specs.Scenes.{Scene, Acts}
+use Rattle.filter_chain.specs.HostViews.{HostView, Answers}
+use Rattle.http_message.specs.declared.failure.Failure.{Failure}
+use Rattle.http_message.specs.declared.failure.Failure.TheVariants as failure
+use Rattle.http_message.specs.declared.reply.Method.{Method}
+use Rattle.http_message.specs.declared.reply.Method.TheVariants.{Get, Head, Other}
+use Rattle.http_message.specs.declared.status.StatusCode.TheVariants.{Success}
 use Rattle.http_front.specs.Outcomes.{IsUnserved}
-use Rattle.http_front.specs.declared.failure.Failure.{Failure}
-use Rattle.http_front.specs.declared.failure.Failure.TheVariants as failure
 use Rattle.http_front.specs.declared.fault.FrontKind.{FrontKind}
 use Rattle.http_front.specs.declared.fault.FrontKind.TheVariants as kind
-use Rattle.http_front.specs.declared.handler.Outcome.{Outcome}
-use Rattle.http_front.specs.declared.reply.Method.{Method}
-use Rattle.http_front.specs.declared.reply.Method.TheVariants.{Get, Head, Other}
-use Rattle.http_front.specs.declared.running.Ended.{Ended}
-use Rattle.http_front.specs.declared.running.Ended.TheVariants as ended
-use Rattle.http_front.specs.declared.status.Status.TheVariants.{Success}
+use Rattle.http_front.specs.declared.handler.RequestOutcome.{RequestOutcome}
+use Rattle.http_front.specs.declared.running.CallEnd.{CallEnd}
+use Rattle.http_front.specs.declared.running.CallEnd.TheVariants as ended
 
 -- The brigades of a file.
 
@@ -64,7 +64,7 @@ abbrev pub faulted : Failure
 faulted = failure.Refused (refusal.Broken cause.Faulted)
 
 -- how a call ended, by the answer of its last step
-abbrev pub ended_of : Result Stepped Refusal → Ended
+abbrev pub ended_of : Result Stepped Refusal → CallEnd
 ended_of (Ok (stepped.CallEnded call.Success)) = ended.Succeeded
 ended_of (Ok (stepped.CallEnded call.Fail)) = ended.Failed failure.Filter
 ended_of (Ok stepped.Went) = ended.Broke faulted
@@ -76,13 +76,13 @@ abbrev pub unopened : Refusal → Option Failure
 unopened refusal.NoFile = None
 unopened r = Some (failure.Refused r)
 
-abbrev pub IfSucceeded : Ended → Type 0 → Type 0 → Type 0
+abbrev pub IfSucceeded : CallEnd → Type 0 → Type 0 → Type 0
 IfSucceeded ended.Succeeded then other = then
 IfSucceeded (ended.Failed why) then other = other
 IfSucceeded (ended.Broke why) then other = other
 
 -- a 200 with the output
-abbrev pub IsOutput : Result (List ℕ) Refusal → Outcome → Type 0
+abbrev pub IsOutput : Result (List ℕ) Refusal → RequestOutcome → Type 0
 IsOutput (Ok bytes) o = (o.status ≡ Success) × (o.body ≡ bytes) × (o.failure ≡ None)
 IsOutput (Err r) o = IsUnserved (Some (failure.Refused r)) o
 
@@ -90,92 +90,92 @@ IsOutput (Err r) o = IsUnserved (Some (failure.Refused r)) o
 
 module _ (budget : ℕ) (chain : List Program) (number : ℕ) where
   -- Steps are made until one answers something else than that it went.
-  pub record Runs (old : Scene) (how : Ended) (new : Scene) : Type 0 where
+  pub record RunsCall (old : HostView) (how : CallEnd) (new : HostView) : Type 0 where
     pub answer : Result Stepped Refusal
-    pub runs : steps.Runs budget chain number old answer new
+    pub runs : steps.StepsToEnd budget chain number old answer new
     pub told : how ≡ ended_of answer
 
   -- The request ends, if it does not lack memory.
-  pub record EndsRequest (old new : Scene) : Type 0 where
+  pub record EndsRequest (old new : HostView) : Type 0 where
     pub answer : Option Refusal
-    pub acts : Acts budget chain number event.End old (done_answer answer) new
+    pub acts : Answers budget chain number event.End old (done_answer answer) new
     pub lacks : (r : Refusal) → answer ≡ Some r → lack_of r ≡ None
 
   -- A call was to begin: it runs to its end, or it was refused, for what it does not lack.
-  abbrev pub RunsUnless : Option Refusal → Scene → Ended → Scene → Type 0
-  RunsUnless None old how new = Runs old how new
-  RunsUnless (Some r) old how new = (lack_of r ≡ None) × (how ≡ ended.Failed (failure.Refused r)) × (new ≡ old)
+  abbrev pub RunsCallUnless : Option Refusal → HostView → CallEnd → HostView → Type 0
+  RunsCallUnless None old how new = RunsCall old how new
+  RunsCallUnless (Some r) old how new = (lack_of r ≡ None) × (how ≡ ended.Failed (failure.Refused r)) × (new ≡ old)
 
   -- A brigade is brought, and its call runs to its end.
-  pub record Brings (pieces : List Piece) (old : Scene) (how : Ended) (new : Scene) : Type 0 where
+  pub record BringsBrigade (pieces : List Piece) (old : HostView) (how : CallEnd) (new : HostView) : Type 0 where
     pub answer : Option Refusal
-    pub mid : Scene
-    pub acts : Acts budget chain number (event.Bring pieces) old (done_answer answer) mid
-    pub runs : RunsUnless answer mid how new
+    pub mid : HostView
+    pub acts : Answers budget chain number (event.Bring pieces) old (done_answer answer) mid
+    pub runs : RunsCallUnless answer mid how new
 
   -- Brigades are brought, up to the first that does not succeed.
-  unfoldable pub BringsAll : List (List Piece) → Scene → Ended → Scene → Type 0
+  unfoldable pub BringsAll : List (List Piece) → HostView → CallEnd → HostView → Type 0
   BringsAll [] old how new = (how ≡ ended.Succeeded) × (new ≡ old)
   BringsAll (b ∷ bs) old how new =
-      (first : Ended) × (mid : Scene) × Brings b old first mid × IfSucceeded first (BringsAll bs mid how new) ((how ≡ first) × (new ≡ mid))
+      (first : CallEnd) × (mid : HostView) × BringsBrigade b old first mid × IfSucceeded first (BringsAll bs mid how new) ((how ≡ first) × (new ≡ mid))
 
   -- The request ends without content.
-  abbrev pub EndsBare : Option Failure → Scene → Outcome → Scene → Type 0
+  abbrev pub EndsBare : Option Failure → HostView → RequestOutcome → HostView → Type 0
   EndsBare why old o new = IsUnserved why o × EndsRequest old new
 
   -- The output is taken.
-  pub record TakesOutput (old : Scene) (o : Outcome) (new : Scene) : Type 0 where
+  pub record TakesOutput (old : HostView) (o : RequestOutcome) (new : HostView) : Type 0 where
     pub answer : Result (List ℕ) Refusal
-    pub acts : Acts budget chain number event.TakeOutput old (output_answer answer) new
+    pub acts : Answers budget chain number event.TakeOutput old (output_answer answer) new
     pub gives : IsOutput answer o
 
   -- Then the request ends.
-  abbrev pub EndsWithOutput : Scene → Outcome → Scene → Type 0
-  EndsWithOutput old o new = (mid : Scene) × TakesOutput old o mid × EndsRequest mid new
+  abbrev pub EndsWithOutput : HostView → RequestOutcome → HostView → Type 0
+  EndsWithOutput old o new = (mid : HostView) × TakesOutput old o mid × EndsRequest mid new
 
   -- What a request comes to whose calls ended so. The request of a broken connection does not end.
-  abbrev pub Finishes : Ended → Scene → Outcome → Scene → Type 0
+  abbrev pub Finishes : CallEnd → HostView → RequestOutcome → HostView → Type 0
   Finishes ended.Succeeded old o new = EndsWithOutput old o new
   Finishes (ended.Failed why) old o new = EndsBare (Some why) old o new
   Finishes (ended.Broke why) old o new = IsUnserved (Some why) o × (new ≡ old)
 
   -- The file is brought, unless `init` failed, and the request finishes.
-  pub record Feeds (init : Ended) (method : Method) (file : ℕ × ℕ) (old : Scene) (o : Outcome) (new : Scene) : Type 0 where
-    pub how : Ended
-    pub mid : Scene
+  pub record Feeds (init : CallEnd) (method : Method) (file : ℕ × ℕ) (old : HostView) (o : RequestOutcome) (new : HostView) : Type 0 where
+    pub how : CallEnd
+    pub mid : HostView
     pub brings : IfSucceeded init (BringsAll (brigades_for method file) old how mid) ((how ≡ init) × (mid ≡ old))
     pub finishes : Finishes how mid o new
 
-  abbrev pub FeedsIf : Result (ℕ × ℕ) Refusal → Ended → Method → Scene → Outcome → Scene → Type 0
+  abbrev pub FeedsIf : Result (ℕ × ℕ) Refusal → CallEnd → Method → HostView → RequestOutcome → HostView → Type 0
   FeedsIf (Ok file) init method old o new = Feeds init method file old o new
   FeedsIf (Err r) init method old o new = (lack_of r ≡ None) × EndsBare (unopened r) old o new
 
   -- The file is opened, and the request goes on with it.
-  pub record Opens (init : Ended) (method : Method) (file : List ℕ) (old : Scene) (o : Outcome) (new : Scene) : Type 0 where
+  pub record OpensAndFeeds (init : CallEnd) (method : Method) (file : List ℕ) (old : HostView) (o : RequestOutcome) (new : HostView) : Type 0 where
     pub answer : Result (ℕ × ℕ) Refusal
-    pub mid : Scene
-    pub acts : Acts budget chain number (event.OpenFile file) old (file_answer answer) mid
+    pub mid : HostView
+    pub acts : Answers budget chain number (event.OpenFile file) old (file_answer answer) mid
     pub feeds : FeedsIf answer init method mid o new
 
-  abbrev pub OpensUnless : Ended → Method → List ℕ → Scene → Outcome → Scene → Type 0
-  OpensUnless ended.Succeeded method file old o new = Opens ended.Succeeded method file old o new
-  OpensUnless (ended.Failed why) method file old o new = Opens (ended.Failed why) method file old o new
+  abbrev pub OpensUnless : CallEnd → Method → List ℕ → HostView → RequestOutcome → HostView → Type 0
+  OpensUnless ended.Succeeded method file old o new = OpensAndFeeds ended.Succeeded method file old o new
+  OpensUnless (ended.Failed why) method file old o new = OpensAndFeeds (ended.Failed why) method file old o new
   OpensUnless (ended.Broke why) method file old o new = IsUnserved (Some why) o × (new ≡ old)
 
   -- `init` runs, and the request goes on.
-  pub record Inits (method : Method) (file : List ℕ) (old : Scene) (o : Outcome) (new : Scene) : Type 0 where
-    pub init : Ended
-    pub mid : Scene
-    pub runs : Runs old init mid
+  pub record Inits (method : Method) (file : List ℕ) (old : HostView) (o : RequestOutcome) (new : HostView) : Type 0 where
+    pub init : CallEnd
+    pub mid : HostView
+    pub runs : RunsCall old init mid
     pub opens : OpensUnless init method file mid o new
 
-  abbrev pub InitsIf : Option Refusal → Method → List ℕ → Scene → Outcome → Scene → Type 0
+  abbrev pub InitsIf : Option Refusal → Method → List ℕ → HostView → RequestOutcome → HostView → Type 0
   InitsIf None method file old o new = Inits method file old o new
   InitsIf (Some r) method file old o new = (lack_of r ≡ None) × IsUnserved (Some (failure.Refused r)) o × (new ≡ old)
 
   -- A request for a file comes to this outcome.
-  pub record ComesOf (method : Method) (file : List ℕ) (old : Scene) (o : Outcome) (new : Scene) : Type 0 where
+  pub record ComesOf (method : Method) (file : List ℕ) (old : HostView) (o : RequestOutcome) (new : HostView) : Type 0 where
     pub answer : Option Refusal
-    pub mid : Scene
-    pub acts : Acts budget chain number event.Begin old (done_answer answer) mid
+    pub mid : HostView
+    pub acts : Answers budget chain number event.Begin old (done_answer answer) mid
     pub inits : InitsIf answer method file mid o new

@@ -2,20 +2,20 @@
 use Rattle.std.specs.Prelude.{◌≡◌, ℕ, ◌||◌, Bool, true, false, List, [], ◌∷◌, ◌++◌, length, replicate, Option, Some, None, codes}
 use Rattle.httparse.specs.Grammar.{crlf, Field, RequestHead, print_request}
 use Rattle.percent_encoding.specs.Percent.{percent_decode}
-use Rattle.http_front.specs.Asking.{refusal, head_closes, status_closes, target_path}
-use Rattle.http_front.specs.Heads.{IsHeadlessWithin}
-use Rattle.http_front.specs.Outcomes.{file_of, method_of, version_of, IsBare, IsUnserved, IsReplyTo, IsBadReply}
-use Rattle.http_front.specs.Replying.{IsDateLine, reply_text, size_line}
-use Rattle.http_front.specs.Sites.{route_of}
-use Rattle.http_front.specs.Turns.{IsWithin, head_limit, fields_limit}
-use Rattle.http_front.specs.declared.failure.Failure.{Failure}
-use Rattle.http_front.specs.declared.handler.Outcome.{Outcome}
-use Rattle.http_front.specs.declared.reply.Method.TheVariants.{Head, Other}
-use Rattle.http_front.specs.declared.reply.Reply.{Reply}
-use Rattle.http_front.specs.declared.reply.Version.TheVariants.{Http11}
-use Rattle.http_front.specs.declared.site.Site.{Site}
-use Rattle.http_front.specs.declared.status.Status.{Status}
-use Rattle.http_front.specs.declared.status.Status.TheVariants.{Success, BadRequest, NotFound, MethodNotAllowed, ContentTooLarge, InternalServerError, NotImplemented}
+use Rattle.http_message.specs.Asking.{method_of, refusal, head_closes, status_closes, target_path, version_of}
+use Rattle.http_message.specs.Heads.{IsHeadlessWithin}
+use Rattle.http_message.specs.Replying.{IsDateLine, reply_text, size_line}
+use Rattle.http_message.specs.Sites.{route_of}
+use Rattle.http_message.specs.declared.failure.Failure.{Failure}
+use Rattle.http_message.specs.declared.reply.Method.TheVariants.{Head, Other}
+use Rattle.http_message.specs.declared.reply.Reply.{Reply}
+use Rattle.http_message.specs.declared.reply.Version.TheVariants.{Http11}
+use Rattle.http_message.specs.declared.site.Site.{Site}
+use Rattle.http_message.specs.declared.status.StatusCode.{StatusCode}
+use Rattle.http_message.specs.declared.status.StatusCode.TheVariants.{Success, BadRequest, NotFound, MethodNotAllowed, ContentTooLarge, InternalServerError, NotImplemented}
+use Rattle.http_front.specs.Outcomes.{file_of, IsBare, IsUnserved, IsReplyTo, IsBadReply}
+use Rattle.http_front.specs.declared.handler.RequestOutcome.{RequestOutcome}
+use Rattle.http_front.specs.Turns.{IsWithinLimits, head_limit, fields_limit}
 
 -- Heads.
 
@@ -67,7 +67,7 @@ abbrev pub with_length : List ℕ → RequestHead
 with_length raw = asks (codes "GET") (codes "/a") 1 (host ∷ line (codes "Content-Length") raw ∷ [])
 
 -- what a head asks for, whatever files there are: the status that refuses it, that its client wants no further request, and the path as it was sent
-abbrev pub Asks : RequestHead → Option Status → Bool → Option (List ℕ) → Type 0
+abbrev pub Asks : RequestHead → Option StatusCode → Bool → Option (List ℕ) → Type 0
 Asks h refused closes path = (refusal h ≡ refused) × (head_closes h ≡ closes) × (target_path h.target ≡ path)
 
 -- Responses.
@@ -77,17 +77,17 @@ abbrev pub date : List ℕ
 date = codes "Date: Sun, 06 Nov 1994 08:49:37 GMT\r\n"
 
 -- a file with this content; a status without content; a failure
-abbrev pub served : List ℕ → Outcome
+abbrev pub served : List ℕ → RequestOutcome
 served bytes = record { status = Success; body = bytes; failure = None }
 
-abbrev pub bare : Status → Outcome
+abbrev pub bare : StatusCode → RequestOutcome
 bare status = record { status = status; body = []; failure = None }
 
-abbrev pub failed : Failure → Outcome
+abbrev pub failed : Failure → RequestOutcome
 failed why = record { status = InternalServerError; body = []; failure = Some why }
 
 -- the reply to a head that comes to this
-abbrev pub reply_of : RequestHead → Outcome → Reply
+abbrev pub reply_of : RequestHead → RequestOutcome → Reply
 reply_of h o = record {
   status = o.status;
   version = version_of h.minor;
@@ -102,16 +102,16 @@ abbrev pub bad_reply : Reply
 bad_reply = record { status = BadRequest; version = Http11; method = Other; closes = true; body = []; failure = None }
 
 -- a head that comes to this is answered with this text, and the connection closes behind it or not
-abbrev pub IsAnswered : RequestHead → Outcome → List ℕ → Bool → Type 0
+abbrev pub IsAnswered : RequestHead → RequestOutcome → List ℕ → Bool → Type 0
 IsAnswered h o text closes = (reply_text (reply_of h o) date ≡ text) × ((reply_of h o).closes ≡ closes)
 
 -- The replies and outcomes that are promised are these: that of a head and its outcome, and that where there is no head; a status without
 -- content, and a failure. Each Date line of that moment is this one.
 pub record RepliesAreThese : Type 0 where
-  pub reply : (h : RequestHead) (o : Outcome) (r : Reply) → IsReplyTo h o r → r ≡ reply_of h o
+  pub reply : (h : RequestHead) (o : RequestOutcome) (r : Reply) → IsReplyTo h o r → r ≡ reply_of h o
   pub bad : (r : Reply) → IsBadReply r → r ≡ bad_reply
-  pub without : (status : Status) (o : Outcome) → IsBare status o → o ≡ bare status
-  pub unserved : (why : Failure) (o : Outcome) → IsUnserved (Some why) o → o ≡ failed why
+  pub without : (status : StatusCode) (o : RequestOutcome) → IsBare status o → o ≡ bare status
+  pub unserved : (why : Failure) (o : RequestOutcome) → IsUnserved (Some why) o → o ≡ failed why
   pub dated : (text : List ℕ) → IsDateLine 784111777 text → text ≡ date
 
 pub record HttpGet : Type 0 where
@@ -125,7 +125,7 @@ pub record HttpGetAbsolute : Type 0 where
   pub asks : Asks get_absolute None false (Some (codes "/%61"))
   pub decoded : percent_decode (codes "/%61") ≡ codes "/a"
   pub file : (site : Site) → file_of site get_absolute ≡ route_of site (codes "/a")
-  pub reply : (o : Outcome) → reply_of get_absolute o ≡ reply_of get o
+  pub reply : (o : RequestOutcome) → reply_of get_absolute o ≡ reply_of get o
 
 pub record HttpHead : Type 0 where
   pub sent : print_request head ≡ codes "HEAD /a HTTP/1.1\r\nHost: h\r\n\r\n"
@@ -140,9 +140,9 @@ pub record HttpBadHead : Type 0 where
 
 -- 63 further lines are within the limit, and 64 are not.
 pub record HttpManyFields : Type 0 where
-  pub within : IsWithin (many 63)
+  pub within : IsWithinLimits (many 63)
   pub asks : Asks (many 63) None false (Some (codes "/a"))
-  pub reply : (o : Outcome) → reply_of (many 63) o ≡ reply_of get o
+  pub reply : (o : RequestOutcome) → reply_of (many 63) o ≡ reply_of get o
   pub beyond : IsHeadlessWithin head_limit fields_limit (print_request (many 64))
   pub answered : reply_text bad_reply date ≡ codes "HTTP/1.1 400 Bad Request\r\nDate: Sun, 06 Nov 1994 08:49:37 GMT\r\nConnection: close\r\nContent-Length: 0\r\n\r\n"
 
@@ -178,7 +178,7 @@ pub record HttpRequestBody : Type 0 where
   pub asks : Asks (with_length (codes " 3")) (Some ContentTooLarge) false (Some (codes "/a"))
   pub answered : IsAnswered (with_length (codes " 3")) (bare ContentTooLarge) (codes "HTTP/1.1 413 Content Too Large\r\nDate: Sun, 06 Nov 1994 08:49:37 GMT\r\nConnection: close\r\nContent-Length: 0\r\n\r\n") true
   pub none_asks : Asks (with_length (codes " 0")) None false (Some (codes "/a"))
-  pub none_reply : (o : Outcome) → reply_of (with_length (codes " 0")) o ≡ reply_of get o
+  pub none_reply : (o : RequestOutcome) → reply_of (with_length (codes " 0")) o ≡ reply_of get o
 
 pub record HttpConnectionOption : Type 0 where
   pub asks : Asks get_closing None true (Some (codes "/a"))

@@ -1,22 +1,22 @@
 -- How far serving a connection is, and what it wrote where it is known what the reader had left and what the writer holds.
 use Rattle.std.specs.Prelude.{◌≡◌, ℕ, ◌≤◌, Bool, true, false, List, [], ◌++◌, length, Option, IfSome, Result, Ok, Err}
 use Rattle.std.specs.Io.KnownBytes.{Consumes, Appends, IsAtEnd}
-use Rattle.http_front.specs.Clocks.{Said}
-use Rattle.http_front.specs.Turns.{Turn, AllStay, AnswersAll, AnswersRead, heads_of, texts_of, Responses, IsCut, LacksMemory, LacksNames, WantsMore}
+use Rattle.http_message.specs.Clocks.{Said}
+use Rattle.http_message.specs.declared.reply.Method.{Method}
+use Rattle.http_message.specs.declared.site.Site.{Site}
 use Rattle.http_front.specs.declared.fault.FrontKind.{FrontKind}
 use Rattle.http_front.specs.declared.fault.FrontKind.TheVariants as kind
-use Rattle.http_front.specs.declared.handler.Outcome.{Outcome}
-use Rattle.http_front.specs.declared.reply.Method.{Method}
-use Rattle.http_front.specs.declared.serving.Next.{Next}
-use Rattle.http_front.specs.declared.serving.Next.TheVariants as next
-use Rattle.http_front.specs.declared.site.Site.{Site}
+use Rattle.http_front.specs.declared.handler.RequestOutcome.{RequestOutcome}
+use Rattle.http_front.specs.Turns.{Turn, AllStay, AnswersAll, AnswersRequestsRead, heads_of, texts_of, Responses, IsCut, LacksMemory, LacksNames, WantsMore}
+use Rattle.http_front.specs.declared.serving.AfterStep.{AfterStep}
+use Rattle.http_front.specs.declared.serving.AfterStep.TheVariants as next
 
 -- Where the bytes that were left are known, a text of them was written.
 abbrev pub Writes : Option (List ℕ) → Option (List ℕ) → Option (List ℕ) → (List ℕ → List ℕ → Type 0) → Type 0
 Writes input w v P = IfSome input (λ stream. (text : List ℕ) × P stream text × Appends w v text)
 
 -- What a read adds to the bytes at hand: at most so many. whole: no bytes follow.
-pub record Adds (r q : Option (List ℕ)) (old new : List ℕ) (limit : ℕ) (whole : Bool) : Type 0 where
+pub record AddsBytes (r q : Option (List ℕ)) (old new : List ℕ) (limit : ℕ) (whole : Bool) : Type 0 where
   pub bytes : List ℕ
   pub took : Consumes r q bytes
   pub added : new ≡ old ++ bytes
@@ -29,7 +29,7 @@ Loses limit r q kind.Read = Consumes r q []
 Loses limit r q kind.NoMemory = (bytes : List ℕ) × ¬ (bytes ≡ []) × (length bytes ≤ limit) × Consumes r q bytes
 Loses limit r q e = ⊥
 
-module _ {H K : Type 0} (site : Site) (handles : H → Method → List ℕ → Outcome → H → Type 0) (tells : K → Said → K → Type 0) where
+module _ {H K : Type 0} (site : Site) (handles : H → Method → List ℕ → RequestOutcome → H → Type 0) (tells : K → Said → K → Type 0) where
   -- So many requests are answered, and the connection stays open. r, q: what the reader had left, and has. w, v: what the writer held,
   -- and holds. unread: what is read and not answered.
   pub record SoFar (old : H) (before : K) (r q w v : Option (List ℕ)) (unread : List ℕ) (n : ℕ) (new : H) (after : K) : Type 0 where
@@ -49,13 +49,13 @@ module _ {H K : Type 0} (site : Site) (handles : H → Method → List ℕ → O
   -- path has a file.
   abbrev pub FailsBy : H → K → Option (List ℕ) → Option (List ℕ) → Option (List ℕ) → Option (List ℕ) → H → K → FrontKind → Type 0
   FailsBy old before r q w v new after kind.Write = Writes r w v (λ stream text. IsCut site handles tells old before stream text new after)
-  FailsBy old before r q w v new after kind.Read = Writes r w v (λ stream text. AnswersRead site handles tells old before stream text q new after)
-  FailsBy old before r q w v new after kind.TooManyReads = Writes r w v (λ stream text. AnswersRead site handles tells old before stream text q new after)
+  FailsBy old before r q w v new after kind.Read = Writes r w v (λ stream text. AnswersRequestsRead site handles tells old before stream text q new after)
+  FailsBy old before r q w v new after kind.TooManyReads = Writes r w v (λ stream text. AnswersRequestsRead site handles tells old before stream text q new after)
   FailsBy old before r q w v new after kind.NoMemory = Writes r w v (λ stream text. LacksMemory site handles tells old before stream text q new after)
   FailsBy old before r q w v new after kind.NamesSpent = Writes r w v (λ stream text. LacksNames site handles tells old before stream text q)
 
   -- what comes next
-  abbrev pub Goes : H → K → Option (List ℕ) → Option (List ℕ) → Option (List ℕ) → Option (List ℕ) → Bool → List ℕ → ℕ → H → K → Result Next FrontKind → Type 0
+  abbrev pub Goes : H → K → Option (List ℕ) → Option (List ℕ) → Option (List ℕ) → Option (List ℕ) → Bool → List ℕ → ℕ → H → K → Result AfterStep FrontKind → Type 0
   Goes old before r q w v whole unread n new after (Ok next.Again) = SoFar old before r q w v unread n new after
   Goes old before r q w v whole unread n new after (Ok next.Reads) = SoFar old before r q w v unread n new after × (whole ≡ false) × WantsMore unread
   Goes old before r q w v whole unread n new after (Ok next.Over) = EndsWell old before r w v n new after

@@ -1,20 +1,20 @@
 -- What a step does with the bytes at hand.
 use Rattle.std.specs.Prelude.{◌≡◌, ℕ, ◌<◌, ◌≤◌, ◌⊎◌, Bool, true, false, List, [], length, drop}
 use Rattle.httparse.specs.Grammar.{RequestHead}
-use Rattle.http_front.specs.Asking.{refusal}
-use Rattle.http_front.specs.Clocks.{Said, IsNoted}
-use Rattle.http_front.specs.Heads.{BeginsWithin, StaysHeadless}
+use Rattle.http_message.specs.Asking.{refusal}
+use Rattle.http_message.specs.Clocks.{Said, IsNoted}
+use Rattle.http_message.specs.Heads.{BeginsWithin, StaysHeadless}
+use Rattle.http_message.specs.Replying.{reply_text}
+use Rattle.http_message.specs.declared.reply.Method.{Method}
+use Rattle.http_message.specs.declared.reply.Reply.{Reply}
+use Rattle.http_message.specs.declared.site.Site.{Site}
 use Rattle.http_front.specs.Outcomes.{IsReplyTo}
-use Rattle.http_front.specs.Replying.{reply_text}
-use Rattle.http_front.specs.Turns.{Turn, head_limit, fields_limit, ComesUnless, IsDated, Answers, SendsBad, WantsFile, WantsMore}
+use Rattle.http_front.specs.Turns.{Turn, head_limit, fields_limit, ComesUnless, IsDated, AnswersRequest, SendsBad, WantsFile, WantsMore}
 use Rattle.http_front.specs.declared.fault.FrontKind.{FrontKind}
 use Rattle.http_front.specs.declared.fault.FrontKind.TheVariants as kind
-use Rattle.http_front.specs.declared.handler.Outcome.{Outcome}
-use Rattle.http_front.specs.declared.reply.Method.{Method}
-use Rattle.http_front.specs.declared.reply.Reply.{Reply}
-use Rattle.http_front.specs.declared.site.Site.{Site}
-use Rattle.http_front.specs.declared.steps.Step.{Step}
-use Rattle.http_front.specs.declared.steps.Step.TheVariants as step
+use Rattle.http_front.specs.declared.handler.RequestOutcome.{RequestOutcome}
+use Rattle.http_front.specs.declared.steps.ServeStep.{ServeStep}
+use Rattle.http_front.specs.declared.steps.ServeStep.TheVariants as step
 
 -- An answer to the bytes is wanted: they begin with a head, or with none, whatever follows. whole: no bytes follow.
 abbrev pub WantsAnswer : List ℕ → Bool → Type 0
@@ -29,8 +29,8 @@ LacksAnswer site seen whole kind.NamesSpent = WantsFile site seen
 LacksAnswer site seen whole e = ⊥
 
 -- A head comes to this reply.
-pub record IsReplied {H : Type 0} (site : Site) (handles : H → Method → List ℕ → Outcome → H → Type 0) (old : H) (h : RequestHead) (r : Reply) (new : H) : Type 0 where
-  pub outcome : Outcome
+pub record IsReplied {H : Type 0} (site : Site) (handles : H → Method → List ℕ → RequestOutcome → H → Type 0) (old : H) (h : RequestHead) (r : Reply) (new : H) : Type 0 where
+  pub outcome : RequestOutcome
   pub comes : ComesUnless site handles (refusal h) old h outcome new
   pub reply : IsReplyTo h outcome r
 
@@ -42,28 +42,28 @@ pub record IsWritten {K : Type 0} (tells : K → Said → K → Type 0) (before 
   pub noted : IsNoted tells then method target r after
   pub written : text ≡ reply_text r date
 
-module _ {H K : Type 0} (site : Site) (handles : H → Method → List ℕ → Outcome → H → Type 0) (tells : K → Said → K → Type 0) where
+module _ {H K : Type 0} (site : Site) (handles : H → Method → List ℕ → RequestOutcome → H → Type 0) (tells : K → Said → K → Type 0) where
   -- The bytes begin with a head of this length, within the limits. It is answered, and closes or not.
-  pub record Serves (old : H) (before : K) (seen : List ℕ) (closes : Bool) (size : ℕ) (text : List ℕ) (new : H) (after : K) : Type 0 where
+  pub record ServesRequest (old : H) (before : K) (seen : List ℕ) (closes : Bool) (size : ℕ) (text : List ℕ) (new : H) (after : K) : Type 0 where
     pub turn : Turn
     pub begins : BeginsWithin head_limit fields_limit seen turn.head (drop size seen)
     pub fits : size ≤ length seen
     pub some : 0 < size
-    pub answers : Answers site handles tells old before turn new after
+    pub answers : AnswersRequest site handles tells old before turn new after
     pub written : text ≡ reply_text turn.reply turn.date
     pub goes_on : turn.reply.closes ≡ closes
 
   -- Nothing is answered.
-  pub record Waits (old : H) (before : K) (text : List ℕ) (new : H) (after : K) : Type 0 where
+  pub record WaitsForMore (old : H) (before : K) (text : List ℕ) (new : H) (after : K) : Type 0 where
     pub same : new ≡ old
     pub still : after ≡ before
     pub none : text ≡ []
 
   -- whole: no bytes follow those that are seen
-  abbrev pub Steps : H → K → List ℕ → Bool → Step → List ℕ → H → K → Type 0
-  Steps old before seen whole (step.Stays size) text new after = Serves old before seen false size text new after
-  Steps old before seen whole (step.Closes size) text new after = Serves old before seen true size text new after
-  Steps old before seen whole step.Refused text new after =
+  abbrev pub DoesStep : H → K → List ℕ → Bool → ServeStep → List ℕ → H → K → Type 0
+  DoesStep old before seen whole (step.Stays size) text new after = ServesRequest old before seen false size text new after
+  DoesStep old before seen whole (step.Closes size) text new after = ServesRequest old before seen true size text new after
+  DoesStep old before seen whole step.Refused text new after =
       ¬ (seen ≡ []) × StaysHeadless head_limit fields_limit seen whole × (new ≡ old) × SendsBad site handles tells before text after
-  Steps old before seen whole step.More text new after = (whole ≡ false) × WantsMore seen × Waits old before text new after
-  Steps old before seen whole step.Done text new after = (whole ≡ true) × (seen ≡ []) × Waits old before text new after
+  DoesStep old before seen whole step.More text new after = (whole ≡ false) × WantsMore seen × WaitsForMore old before text new after
+  DoesStep old before seen whole step.Done text new after = (whole ≡ true) × (seen ≡ []) × WaitsForMore old before text new after

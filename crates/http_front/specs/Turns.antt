@@ -2,17 +2,17 @@
 use Rattle.std.specs.Prelude.{◌≡◌, ℕ, ◌<◌, ◌≤◌, ◌+◌, Bool, true, false, List, [], ◌∷◌, ◌++◌, Option, Some, None, ◌⊎◌, length}
 use Rattle.std.specs.List.{flat_map}
 use Rattle.httparse.specs.Grammar.{RequestHead, IsRequestHead, MayBecomeRequest, print_request}
-use Rattle.http_front.specs.Asking.{refusal}
-use Rattle.http_front.specs.Clocks.{Said, Moment, IsNoted}
-use Rattle.http_front.specs.Heads.{BeginsWithin, IsHeadlessWithin, StaysHeadless}
-use Rattle.http_front.specs.Outcomes.{ReachesFile, file_of, method_of, IsBare, IsReplyTo, IsBadReply}
-use Rattle.http_front.specs.Replying.{reply_text, IsDateLine}
-use Rattle.http_front.specs.declared.handler.Outcome.{Outcome}
-use Rattle.http_front.specs.declared.reply.Method.{Method}
-use Rattle.http_front.specs.declared.reply.Reply.{Reply}
-use Rattle.http_front.specs.declared.site.Site.{Site}
-use Rattle.http_front.specs.declared.status.Status.{Status}
-use Rattle.http_front.specs.declared.status.Status.TheVariants.{NotFound}
+use Rattle.http_message.specs.Asking.{method_of, refusal}
+use Rattle.http_message.specs.Clocks.{Said, Moment, IsNoted}
+use Rattle.http_message.specs.Heads.{BeginsWithin, IsHeadlessWithin, StaysHeadless}
+use Rattle.http_message.specs.Replying.{reply_text, IsDateLine}
+use Rattle.http_message.specs.declared.reply.Method.{Method}
+use Rattle.http_message.specs.declared.reply.Reply.{Reply}
+use Rattle.http_message.specs.declared.site.Site.{Site}
+use Rattle.http_message.specs.declared.status.StatusCode.{StatusCode}
+use Rattle.http_message.specs.declared.status.StatusCode.TheVariants.{NotFound}
+use Rattle.http_front.specs.Outcomes.{ReachesFile, file_of, IsBare, IsReplyTo, IsBadReply}
+use Rattle.http_front.specs.declared.handler.RequestOutcome.{RequestOutcome}
 
 -- a head has at most so many bytes, and so many fields
 abbrev pub head_limit : ℕ
@@ -61,18 +61,18 @@ AllStay [] = Unit {0}
 AllStay (t ∷ turns) = (t.reply.closes ≡ false) × AllStay turns
 
 -- the head is within the limits
-pub record IsWithin (h : RequestHead) : Type 0 where
+pub record IsWithinLimits (h : RequestHead) : Type 0 where
   pub size : length (print_request h) ≤ head_limit
   pub count : length h.fields ≤ fields_limit
 
 -- H: what handles requests. handles: how it handles one.
-module _ {H : Type 0} (site : Site) (handles : H → Method → List ℕ → Outcome → H → Type 0) where
+module _ {H : Type 0} (site : Site) (handles : H → Method → List ℕ → RequestOutcome → H → Type 0) where
   -- what a head with this file comes to, where nothing refuses it: 404 where there is no file at its path
-  abbrev pub ComesTo : Option (List ℕ) → H → RequestHead → Outcome → H → Type 0
+  abbrev pub ComesTo : Option (List ℕ) → H → RequestHead → RequestOutcome → H → Type 0
   ComesTo None old h o new = IsBare NotFound o × (new ≡ old)
   ComesTo (Some file) old h o new = handles old (method_of h.method) file o new
 
-  abbrev pub ComesUnless : Option Status → H → RequestHead → Outcome → H → Type 0
+  abbrev pub ComesUnless : Option StatusCode → H → RequestHead → RequestOutcome → H → Type 0
   ComesUnless (Some status) old h o new = IsBare status o × (new ≡ old)
   ComesUnless None old h o new = ComesTo (file_of site h) old h o new
 
@@ -84,12 +84,12 @@ module _ {K : Type 0} (tells : K → Said → K → Type 0) where
     pub told : tells before (Moment moment) after
     pub line : IsDateLine moment date
 
-module _ {H K : Type 0} (site : Site) (handles : H → Method → List ℕ → Outcome → H → Type 0) (tells : K → Said → K → Type 0) where
+module _ {H K : Type 0} (site : Site) (handles : H → Method → List ℕ → RequestOutcome → H → Type 0) (tells : K → Said → K → Type 0) where
   -- One request, whose head is one of the grammar and within the limits, is answered, and the clock is told of it.
-  pub record Answers (old : H) (before : K) (t : Turn) (new : H) (after : K) : Type 0 where
+  pub record AnswersRequest (old : H) (before : K) (t : Turn) (new : H) (after : K) : Type 0 where
     pub valid : IsRequestHead t.head
-    pub within : IsWithin t.head
-    pub outcome : Outcome
+    pub within : IsWithinLimits t.head
+    pub outcome : RequestOutcome
     pub comes : ComesUnless site handles (refusal t.head) old t.head outcome new
     pub reply : IsReplyTo t.head outcome t.reply
     pub then : K
@@ -100,7 +100,7 @@ module _ {H K : Type 0} (site : Site) (handles : H → Method → List ℕ → O
   unfoldable pub AnswersAll : H → K → List Turn → H → K → Type 0
   AnswersAll old before [] new after = (new ≡ old) × (after ≡ before)
   AnswersAll old before (t ∷ turns) new after =
-      (mid : H) × (then : K) × Answers old before t mid then × AnswersAll mid then turns new after
+      (mid : H) × (then : K) × AnswersRequest old before t mid then × AnswersAll mid then turns new after
 
   -- What is sent where the bytes at hand begin with no head. The clock is told of it, without a method or a target.
   pub record SendsBad (before : K) (text : List ℕ) (after : K) : Type 0 where
@@ -153,7 +153,7 @@ module _ {H K : Type 0} (site : Site) (handles : H → Method → List ℕ → O
       EndsAll old before stream text n new after ⊎ (ClosesAfter old before stream text n new after ⊎ RefusesAfter old before stream text n new after)
 
   -- These are the responses to the first requests of a stream.
-  pub record IsFront (old : H) (before : K) (stream text : List ℕ) : Type 0 where
+  pub record IsResponsesFront (old : H) (before : K) (stream text : List ℕ) : Type 0 where
     pub first : List ℕ
     pub rest : List ℕ
     pub n : ℕ
@@ -165,10 +165,10 @@ module _ {H K : Type 0} (site : Site) (handles : H → Method → List ℕ → O
   -- These are so many responses to a stream, or to its first requests.
   abbrev pub IsNext : H → K → List ℕ → List ℕ → ℕ → H → K → Type 0
   IsNext old before stream text n new after =
-      ((front : IsFront old before stream text) × (front.n ≡ n) × (front.new ≡ new) × (front.after ≡ after)) ⊎ Responses old before stream text n new after
+      ((front : IsResponsesFront old before stream text) × (front.n ≡ n) × (front.new ≡ new) × (front.after ≡ after)) ⊎ Responses old before stream text n new after
 
   -- These are the responses to all whole requests that were read. seen: what was read and not answered. left: what the reader has left.
-  pub record AnswersRead (old : H) (before : K) (stream text : List ℕ) (left : Option (List ℕ)) (new : H) (after : K) : Type 0 where
+  pub record AnswersRequestsRead (old : H) (before : K) (stream text : List ℕ) (left : Option (List ℕ)) (new : H) (after : K) : Type 0 where
     pub first : List ℕ
     pub seen : List ℕ
     pub unread : List ℕ
@@ -219,7 +219,7 @@ module _ {H K : Type 0} (site : Site) (handles : H → Method → List ℕ → O
     pub front : List ℕ
     pub part : List ℕ
     pub more : List ℕ
-    pub whole : IsFront old before stream front
+    pub whole : IsResponsesFront old before stream front
     pub next : IsNext old before stream (front ++ (part ++ more)) (whole.n + 1) new after
     pub some : ¬ (more ≡ [])
     pub written : text ≡ front ++ part

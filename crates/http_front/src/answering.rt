@@ -4,56 +4,33 @@ ghost use Rattle.std.specs.Prelude.{◌≡◌, ◌||◌, ℕ, List, IfOk, IfErr,
 ghost use Rattle.httparse.specs.Grammar.{RequestHead};
 ghost use Rattle.httparse.specs.Spans.{IsRequestAt, IsRequestWithin};
 ghost use Rattle.percent_encoding.specs.Percent.{percent_decode};
-ghost use Rattle.http_front.specs.Asking.{refusal, status_closes};
-ghost use Rattle.http_front.specs.Outcomes.{IsBare, IsBadReply, IsLack, ReachesFile, file_of, method_of, version_of};
-ghost use Rattle.http_front.specs.Sites.{route_of};
+ghost use Rattle.http_message.specs.Asking.{method_of, refusal, status_closes};
+ghost use Rattle.http_message.specs.Sites.{route_of};
+ghost use Rattle.http_front.specs.Outcomes.{IsBare, IsBadReply, IsLack, ReachesFile, file_of};
 ghost use Rattle.http_front.specs.Stepping.{IsReplied};
 ghost use Rattle.http_front.specs.Turns.{ComesTo, ComesUnless};
 
-use crate::asks::target_path;
 use crate::fault::FrontKind;
-use crate::handler::{Handler, Outcome};
-use crate::paths::decoded;
-use crate::refusing::{head_closes, refusal, status_closes};
-use crate::reply::{Method, Reply, Version};
-use crate::site::Site;
-use crate::status::Status;
+use crate::handler::{Handler, RequestOutcome};
 use filter_chain::Seq;
+use http_message::{
+    Method, Reply, Site, StatusCode, Version, decoded, head_closes, refusal, status_closes,
+    target_path,
+};
 use httparse::spans::{HeaderSpan, RequestSpans};
 use std::alloc::Global;
 
-fn bare(alloc: Global, status: Status) -> Outcome
+fn bare(alloc: Global, status: StatusCode) -> RequestOutcome
     ensures { IsBare status result }
 {
-    Outcome {
+    RequestOutcome {
         status,
         body: Seq::new(alloc),
         failure: None,
     }
 }
 
-fn version_of(minor: u8) -> Version
-    ensures { result ≡ version_of minor }
-{
-    if minor == 0 {
-        return Version::Http10;
-    }
-    Version::Http11
-}
-
-fn method_of(method: &[u8]) -> Method
-    ensures { result ≡ method_of method.now }
-{
-    if method == b"GET".as_slice() {
-        return Method::Get;
-    }
-    if method == b"HEAD".as_slice() {
-        return Method::Head;
-    }
-    Method::Other
-}
-
-fn closes_with(closes: bool, status: Status) -> bool
+fn closes_with(closes: bool, status: StatusCode) -> bool
     ensures { result ≡ (closes || status_closes status) }
 {
     closes || status_closes(status)
@@ -66,7 +43,7 @@ fn path_outcome<H: Handler>(
     site: &Site,
     handler: &mut H,
     number: u64,
-) -> Result<Outcome, FrontKind>
+) -> Result<RequestOutcome, FrontKind>
     requires { H.is_open handler.old number }
     ensures open { H.is_open handler.new number }
     ensures beside { (from : H) → H.beside from number handler.old → H.beside from number handler.new }
@@ -77,7 +54,7 @@ fn path_outcome<H: Handler>(
     let path = decoded(alloc, sent)?;
     match site.route(path.as_slice()) {
         Some(file) => handler.handle(alloc, number, method, file),
-        None => Ok(bare(alloc, Status::NotFound)),
+        None => Ok(bare(alloc, StatusCode::NotFound)),
     }
 }
 
@@ -88,7 +65,7 @@ fn target_outcome<H: Handler>(
     site: &Site,
     handler: &mut H,
     number: u64,
-) -> Result<Outcome, FrontKind>
+) -> Result<RequestOutcome, FrontKind>
     requires { H.is_open handler.old number }
     ensures open { H.is_open handler.new number }
     ensures beside { (from : H) → H.beside from number handler.old → H.beside from number handler.new }
@@ -98,7 +75,7 @@ fn target_outcome<H: Handler>(
 {
     match target_path(target) {
         Some(sent) => path_outcome(alloc, sent, method, site, handler, number),
-        None => Ok(bare(alloc, Status::NotFound)),
+        None => Ok(bare(alloc, StatusCode::NotFound)),
     }
 }
 
@@ -110,7 +87,7 @@ fn outcome_of<H: Handler>(
     site: &Site,
     handler: &mut H,
     number: u64,
-) -> Result<Outcome, FrontKind>
+) -> Result<RequestOutcome, FrontKind>
     requires within { IsRequestWithin seen.now spans.now head }
     requires open { H.is_open handler.old number }
     ensures open { H.is_open handler.new number }
@@ -122,7 +99,7 @@ fn outcome_of<H: Handler>(
     match refusal(seen, spans, head) {
         Some(status) => Ok(bare(alloc, status)),
         None => {
-            let method = method_of(head.method.of(seen));
+            let method = Method::of(head.method.of(seen));
             target_outcome(alloc, head.path.of(seen), method, site, handler, number)
         }
     }
@@ -151,8 +128,8 @@ pub(crate) fn reply_to<H: Handler>(
     let outcome = outcome_of(alloc, seen, spans, head, site, handler, number)?;
     Ok(Reply {
         status: outcome.status,
-        version: version_of(head.version),
-        method: method_of(head.method.of(seen)),
+        version: Version::of(head.version),
+        method: Method::of(head.method.of(seen)),
         closes: closes_with(head_closes(seen, spans, head), outcome.status),
         body: outcome.body,
         failure: outcome.failure,
@@ -164,7 +141,7 @@ pub(crate) fn bad_reply(alloc: Global) -> Reply
     ensures { IsBadReply result }
 {
     Reply {
-        status: Status::BadRequest,
+        status: StatusCode::BadRequest,
         version: Version::Http11,
         method: Method::Other,
         closes: true,

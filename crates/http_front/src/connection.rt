@@ -1,19 +1,18 @@
 //! A connection of the host, from its opening to its close.
 
 ghost use Rattle.std.specs.Prelude.{◌≡◌, ℕ, List, IfOk, IfErr, IfSome};
-ghost use Rattle.module_lang.specs.Program.{Program};
+ghost use Rattle.module_code.specs.Program.{Program};
 ghost use Rattle.run_model.specs.Worlds.{Connected, Refused};
 ghost use Rattle.run_model.specs.declared.event.Event.TheVariants.{Open};
-ghost use Rattle.filter_chain.specs.Scenes.{Scene, Acts};
-ghost use Rattle.http_front.specs.Connecting.{FailsAt, IsClosed, ServesAll, Visits, kind_of, outcome_of};
-ghost use Rattle.http_front.specs.Driven.{IsAlive, Leads};
+ghost use Rattle.filter_chain.specs.HostViews.{HostView, Answers};
+ghost use Rattle.http_front.specs.Connecting.{ServingFails, IsClosed, ServesAll, Visits, kind_of, outcome_of};
+ghost use Rattle.http_front.specs.Driven.{IsAlive, Refines};
 
-use crate::clock::Clock;
 use crate::fault::{FrontFault, FrontKind, Served};
 use crate::running::run_call;
 use crate::serving::serve_open;
-use crate::site::Site;
 use filter_chain::{Files, Host, Refusal};
+use http_message::{Clock, Site};
 use std::alloc::Global;
 use std::io::{Read, Write};
 
@@ -30,7 +29,7 @@ fn kind_of(refusal: Refusal) -> FrontKind
 /// Closes the connection. Without memory it is left.
 fn close<F: Files + Drop>(host: &mut Host<F>, number: u64) -> Option<u64>
     requires { IsAlive F.device host.old }
-    ensures { Leads F.device host.old host.new (λ (b : ℕ) (c : List Program) (s t : Scene). IsClosed b c number result s t) }
+    ensures { Refines F.device host.old host.new (λ (b : ℕ) (c : List Program) (s t : HostView). IsClosed b c number result s t) }
 {
     match host.close(number) {
         Ok(_) => None,
@@ -73,7 +72,7 @@ pub fn serve<R: Read, W: Write, F: Files + Drop, K: Clock>(
     ensures still { IsAlive F.device host.new }
     ensures visits { Visits F.device K.tells site.now host.old result host.new }
     ensures ok { IfOk result (λ s. IfSome (R.remaining reader.old) (λ stream. ServesAll F.device K.tells site.now host.old clock.old stream s.requests (W.contents writer.old) (W.contents writer.new) host.new clock.new)) }
-    ensures err { IfErr result (λ e. IfSome (R.remaining reader.old) (λ stream. FailsAt F.device K.tells site.now host.old clock.old stream e (R.remaining reader.new) (W.contents writer.old) (W.contents writer.new) host.new clock.new)) }
+    ensures err { IfErr result (λ e. IfSome (R.remaining reader.old) (λ stream. ServingFails F.device K.tells site.now host.old clock.old stream e (R.remaining reader.new) (W.contents writer.old) (W.contents writer.new) host.new clock.new)) }
 {
     match host.open_conn() {
         Ok(number) => {

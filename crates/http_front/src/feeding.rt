@@ -1,17 +1,17 @@
 //! A file, brought to the host of chains.
 
 ghost use Rattle.std.specs.Prelude.{◌≡◌, ◌↔◌, ℕ, List, [], ◌∷◌, IfOk, IfErr, IsTrue};
-ghost use Rattle.module_lang.specs.Program.{Program};
+ghost use Rattle.module_code.specs.Program.{Program};
 ghost use Rattle.run_model.specs.declared.event.Piece.TheVariants.{File};
-ghost use Rattle.filter_chain.specs.Scenes.{Scene};
-ghost use Rattle.http_front.specs.Driven.{Beside, IsAlive, Leads};
+ghost use Rattle.filter_chain.specs.HostViews.{HostView};
 ghost use Rattle.http_front.specs.Outcomes.{IsLack};
-ghost use Rattle.http_front.specs.Requests.{Brings, BringsAll, IfSucceeded, brigades_for, brigades_of, last_brigade, piece_bytes};
+ghost use Rattle.http_front.specs.Driven.{OnlyEventsOf, IsAlive, Refines};
+ghost use Rattle.http_front.specs.Requests.{BringsBrigade, BringsAll, IfSucceeded, brigades_for, brigades_of, last_brigade, piece_bytes};
 
 use crate::fault::FrontKind;
-use crate::reply::Method;
-use crate::running::{Ended, bring};
+use crate::running::{CallEnd, bring};
 use filter_chain::{Files, Host, Piece, Seq};
+use http_message::Method;
 use std::alloc::{AllocError, Global};
 
 /// The most bytes of a file in one brigade.
@@ -46,10 +46,10 @@ fn bring_whole<F: Files + Drop>(
     number: u64,
     file: u64,
     start: u64,
-) -> Result<Ended, FrontKind>
+) -> Result<CallEnd, FrontKind>
     requires { IsAlive F.device host.old }
-    ensures leads { Leads F.device host.old host.new (λ (b : ℕ) (c : List Program) (s t : Scene). IfOk result (λ how. Brings b c number (File file start piece_bytes ∷ []) s how t)) }
-    ensures beside { (from : Host F) → Beside F.device from number host.old → Beside F.device from number host.new }
+    ensures leads { Refines F.device host.old host.new (λ (b : ℕ) (c : List Program) (s t : HostView). IfOk result (λ how. BringsBrigade b c number (File file start piece_bytes ∷ []) s how t)) }
+    ensures beside { (from : Host F) → OnlyEventsOf F.device from number host.old → OnlyEventsOf F.device from number host.new }
     ensures err { IfErr result IsLack }
 {
     match whole_brigade(alloc, file, start) {
@@ -65,10 +65,10 @@ fn bring_last<F: Files + Drop>(
     file: u64,
     start: u64,
     len: u64,
-) -> Result<Ended, FrontKind>
+) -> Result<CallEnd, FrontKind>
     requires { IsAlive F.device host.old }
-    ensures leads { Leads F.device host.old host.new (λ (b : ℕ) (c : List Program) (s t : Scene). IfOk result (λ how. Brings b c number (last_brigade file start len) s how t)) }
-    ensures beside { (from : Host F) → Beside F.device from number host.old → Beside F.device from number host.new }
+    ensures leads { Refines F.device host.old host.new (λ (b : ℕ) (c : List Program) (s t : HostView). IfOk result (λ how. BringsBrigade b c number (last_brigade file start len) s how t)) }
+    ensures beside { (from : Host F) → OnlyEventsOf F.device from number host.old → OnlyEventsOf F.device from number host.new }
     ensures err { IfErr result IsLack }
 {
     match last_brigade(alloc, file, start, len) {
@@ -77,10 +77,10 @@ fn bring_last<F: Files + Drop>(
     }
 }
 
-fn succeeded(how: Ended) -> bool
-    ensures { IsTrue result ↔ how ≡ Ended.Succeeded }
+fn succeeded(how: CallEnd) -> bool
+    ensures { IsTrue result ↔ how ≡ CallEnd.Succeeded }
 {
-    matches!(how, Ended::Succeeded)
+    matches!(how, CallEnd::Succeeded)
 }
 
 /// Brings a file, up to the first brigade that does not succeed.
@@ -90,10 +90,10 @@ fn bring_file<F: Files + Drop>(
     number: u64,
     file: u64,
     len: u64,
-) -> Result<Ended, FrontKind>
+) -> Result<CallEnd, FrontKind>
     requires { IsAlive F.device host.old }
-    ensures leads { Leads F.device host.old host.new (λ (b : ℕ) (c : List Program) (s t : Scene). IfOk result (λ how. BringsAll b c number (brigades_of file len) s how t)) }
-    ensures beside { (from : Host F) → Beside F.device from number host.old → Beside F.device from number host.new }
+    ensures leads { Refines F.device host.old host.new (λ (b : ℕ) (c : List Program) (s t : HostView). IfOk result (λ how. BringsAll b c number (brigades_of file len) s how t)) }
+    ensures beside { (from : Host F) → OnlyEventsOf F.device from number host.old → OnlyEventsOf F.device from number host.new }
     ensures err { IfErr result IsLack }
 {
     let mut start = 0;
@@ -116,16 +116,16 @@ fn feed_method<F: Files + Drop>(
     number: u64,
     method: Method,
     file: (u64, u64),
-) -> Result<Ended, FrontKind>
+) -> Result<CallEnd, FrontKind>
     requires { IsAlive F.device host.old }
-    ensures leads { Leads F.device host.old host.new (λ (b : ℕ) (c : List Program) (s t : Scene). IfOk result (λ how. BringsAll b c number (brigades_for method file) s how t)) }
-    ensures beside { (from : Host F) → Beside F.device from number host.old → Beside F.device from number host.new }
+    ensures leads { Refines F.device host.old host.new (λ (b : ℕ) (c : List Program) (s t : HostView). IfOk result (λ how. BringsAll b c number (brigades_for method file) s how t)) }
+    ensures beside { (from : Host F) → OnlyEventsOf F.device from number host.old → OnlyEventsOf F.device from number host.new }
     ensures err { IfErr result IsLack }
 {
     match method {
         Method::Get => bring_file(alloc, host, number, file.0, file.1),
-        Method::Head => Ok(Ended::Succeeded),
-        Method::Other => Ok(Ended::Succeeded),
+        Method::Head => Ok(CallEnd::Succeeded),
+        Method::Other => Ok(CallEnd::Succeeded),
     }
 }
 
@@ -134,18 +134,18 @@ pub(crate) fn feed<F: Files + Drop>(
     alloc: Global,
     host: &mut Host<F>,
     number: u64,
-    init: Ended,
+    init: CallEnd,
     method: Method,
     file: (u64, u64),
-) -> Result<Ended, FrontKind>
+) -> Result<CallEnd, FrontKind>
     requires { IsAlive F.device host.old }
-    ensures leads { Leads F.device host.old host.new (λ (b : ℕ) (c : List Program) (s t : Scene). IfOk result (λ how. IfSucceeded init (BringsAll b c number (brigades_for method file) s how t) ((how ≡ init) × (t ≡ s)))) }
-    ensures beside { (from : Host F) → Beside F.device from number host.old → Beside F.device from number host.new }
+    ensures leads { Refines F.device host.old host.new (λ (b : ℕ) (c : List Program) (s t : HostView). IfOk result (λ how. IfSucceeded init (BringsAll b c number (brigades_for method file) s how t) ((how ≡ init) × (t ≡ s)))) }
+    ensures beside { (from : Host F) → OnlyEventsOf F.device from number host.old → OnlyEventsOf F.device from number host.new }
     ensures err { IfErr result IsLack }
 {
     match init {
-        Ended::Succeeded => feed_method(alloc, host, number, method, file),
-        Ended::Failed(why) => Ok(Ended::Failed(why)),
-        Ended::Broke(why) => Ok(Ended::Broke(why)),
+        CallEnd::Succeeded => feed_method(alloc, host, number, method, file),
+        CallEnd::Failed(why) => Ok(CallEnd::Failed(why)),
+        CallEnd::Broke(why) => Ok(CallEnd::Broke(why)),
     }
 }

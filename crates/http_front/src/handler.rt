@@ -3,18 +3,16 @@
 ghost use Rattle.std.specs.Prelude.{◌≡◌, ℕ, List, IfOk, IfErr};
 ghost use Rattle.http_front.specs.Outcomes.{IsLack};
 
-use crate::failure::Failure;
 use crate::fault::FrontKind;
-use crate::reply::Method;
-use crate::status::Status;
 use filter_chain::Seq;
+use http_message::{Failure, Method, StatusCode};
 use std::alloc::Global;
 
 /// What a request comes to.
 #[derive(Drop)]
-pub struct Outcome {
+pub struct RequestOutcome {
     /// The status: 200, or why there is no content.
-    pub status: Status,
+    pub status: StatusCode,
     /// The content, where a GET succeeds.
     pub body: Seq<u8>,
     /// Why the status is 500.
@@ -23,14 +21,14 @@ pub struct Outcome {
 
 /// What makes the content of a response from a file, on a connection that it opened.
 pub trait Handler {
-    ghost use Rattle.http_front.specs.declared.reply.Method.{Method};
-    ghost use Rattle.http_front.specs.declared.handler.Outcome.{Outcome};
+    ghost use Rattle.http_message.specs.declared.reply.Method.{Method};
+    ghost use Rattle.http_front.specs.declared.handler.RequestOutcome.{RequestOutcome};
 
     // It can take a request on the connection of this number.
     ghost is_open: { Self → ℕ → Type 0 };
 
     // From the first state, a request for this file comes to this outcome, and leaves the second state.
-    ghost handles: { Self → ℕ → Method → List ℕ → Outcome → Self → Type 0 };
+    ghost handles: { Self → ℕ → Method → List ℕ → RequestOutcome → Self → Type 0 };
 
     // Nothing happened from the first state to the second but what belongs to the connection of this number.
     ghost beside: { Self → ℕ → Self → Type 0 };
@@ -42,7 +40,7 @@ pub trait Handler {
         number: u64,
         method: Method,
         file: &[u8],
-    ) -> Result<Outcome, FrontKind>
+    ) -> Result<RequestOutcome, FrontKind>
         requires { is_open self.old number }
         ensures ok { IfOk result (λ o. handles self.old number method file.now o self.new) }
         ensures open { is_open self.new number }

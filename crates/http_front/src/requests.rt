@@ -1,31 +1,29 @@
 //! A request for a file, on the host of chains.
 
 ghost use Rattle.std.specs.Prelude.{◌≡◌, ℕ, List, IfOk, IfErr};
-ghost use Rattle.module_lang.specs.Program.{Program};
-ghost use Rattle.filter_chain.specs.Scenes.{Scene};
-ghost use Rattle.http_front.specs.Driven.{Beside, IsAlive, Leads};
+ghost use Rattle.module_code.specs.Program.{Program};
+ghost use Rattle.filter_chain.specs.HostViews.{HostView};
 ghost use Rattle.http_front.specs.Outcomes.{IsLack, IsUnserved};
-ghost use Rattle.http_front.specs.Requests.{ComesOf, EndsBare, EndsWithOutput, Feeds, Finishes, Inits, Opens, OpensUnless, TakesOutput, unopened};
+ghost use Rattle.http_front.specs.Driven.{OnlyEventsOf, IsAlive, Refines};
+ghost use Rattle.http_front.specs.Requests.{ComesOf, EndsBare, EndsWithOutput, Feeds, Finishes, Inits, OpensAndFeeds, OpensUnless, TakesOutput, unopened};
 
-use crate::failure::Failure;
 use crate::fault::FrontKind;
 use crate::feeding::feed;
-use crate::handler::{Handler, Outcome};
-use crate::reply::Method;
-use crate::running::{Ended, end_request, run_call, unless_lack};
-use crate::status::Status;
+use crate::handler::{Handler, RequestOutcome};
+use crate::running::{CallEnd, end_request, run_call, unless_lack};
 use filter_chain::{Files, Host, Refusal, Seq};
+use http_message::{Failure, Method, StatusCode};
 use std::alloc::Global;
 
 /// 500 for a failure; 404 where there is none.
-fn bare(alloc: Global, failure: Option<Failure>) -> Outcome
+fn bare(alloc: Global, failure: Option<Failure>) -> RequestOutcome
     ensures { IsUnserved failure result }
 {
     let status = match failure {
-        None => Status::NotFound,
-        Some(_) => Status::InternalServerError,
+        None => StatusCode::NotFound,
+        Some(_) => StatusCode::InternalServerError,
     };
-    Outcome {
+    RequestOutcome {
         status,
         body: Seq::new(alloc),
         failure,
@@ -43,14 +41,14 @@ fn unopened(refusal: Refusal) -> Option<Failure>
 }
 
 /// Takes the output.
-fn output<F: Files + Drop>(alloc: Global, host: &mut Host<F>, number: u64) -> Outcome
+fn output<F: Files + Drop>(alloc: Global, host: &mut Host<F>, number: u64) -> RequestOutcome
     requires { IsAlive F.device host.old }
-    ensures leads { Leads F.device host.old host.new (λ (b : ℕ) (c : List Program) (s t : Scene). TakesOutput b c number s result t) }
-    ensures beside { (from : Host F) → Beside F.device from number host.old → Beside F.device from number host.new }
+    ensures leads { Refines F.device host.old host.new (λ (b : ℕ) (c : List Program) (s t : HostView). TakesOutput b c number s result t) }
+    ensures beside { (from : Host F) → OnlyEventsOf F.device from number host.old → OnlyEventsOf F.device from number host.new }
 {
     match host.take_output(number) {
-        Ok(body) => Outcome {
-            status: Status::Success,
+        Ok(body) => RequestOutcome {
+            status: StatusCode::Success,
             body,
             failure: None,
         },
@@ -63,10 +61,10 @@ fn finish_with_output<F: Files + Drop>(
     alloc: Global,
     host: &mut Host<F>,
     number: u64,
-) -> Result<Outcome, FrontKind>
+) -> Result<RequestOutcome, FrontKind>
     requires { IsAlive F.device host.old }
-    ensures leads { Leads F.device host.old host.new (λ (b : ℕ) (c : List Program) (s t : Scene). IfOk result (λ o. EndsWithOutput b c number s o t)) }
-    ensures beside { (from : Host F) → Beside F.device from number host.old → Beside F.device from number host.new }
+    ensures leads { Refines F.device host.old host.new (λ (b : ℕ) (c : List Program) (s t : HostView). IfOk result (λ o. EndsWithOutput b c number s o t)) }
+    ensures beside { (from : Host F) → OnlyEventsOf F.device from number host.old → OnlyEventsOf F.device from number host.new }
     ensures err { IfErr result IsLack }
 {
     let outcome = output(alloc, host, number);
@@ -80,10 +78,10 @@ fn finish_bare<F: Files + Drop>(
     host: &mut Host<F>,
     number: u64,
     failure: Option<Failure>,
-) -> Result<Outcome, FrontKind>
+) -> Result<RequestOutcome, FrontKind>
     requires { IsAlive F.device host.old }
-    ensures leads { Leads F.device host.old host.new (λ (b : ℕ) (c : List Program) (s t : Scene). IfOk result (λ o. EndsBare b c number failure s o t)) }
-    ensures beside { (from : Host F) → Beside F.device from number host.old → Beside F.device from number host.new }
+    ensures leads { Refines F.device host.old host.new (λ (b : ℕ) (c : List Program) (s t : HostView). IfOk result (λ o. EndsBare b c number failure s o t)) }
+    ensures beside { (from : Host F) → OnlyEventsOf F.device from number host.old → OnlyEventsOf F.device from number host.new }
     ensures err { IfErr result IsLack }
 {
     end_request(host, number)?;
@@ -95,17 +93,17 @@ fn finish<F: Files + Drop>(
     alloc: Global,
     host: &mut Host<F>,
     number: u64,
-    how: Ended,
-) -> Result<Outcome, FrontKind>
+    how: CallEnd,
+) -> Result<RequestOutcome, FrontKind>
     requires { IsAlive F.device host.old }
-    ensures leads { Leads F.device host.old host.new (λ (b : ℕ) (c : List Program) (s t : Scene). IfOk result (λ o. Finishes b c number how s o t)) }
-    ensures beside { (from : Host F) → Beside F.device from number host.old → Beside F.device from number host.new }
+    ensures leads { Refines F.device host.old host.new (λ (b : ℕ) (c : List Program) (s t : HostView). IfOk result (λ o. Finishes b c number how s o t)) }
+    ensures beside { (from : Host F) → OnlyEventsOf F.device from number host.old → OnlyEventsOf F.device from number host.new }
     ensures err { IfErr result IsLack }
 {
     match how {
-        Ended::Succeeded => finish_with_output(alloc, host, number),
-        Ended::Failed(why) => finish_bare(alloc, host, number, Some(why)),
-        Ended::Broke(why) => Ok(bare(alloc, Some(why))),
+        CallEnd::Succeeded => finish_with_output(alloc, host, number),
+        CallEnd::Failed(why) => finish_bare(alloc, host, number, Some(why)),
+        CallEnd::Broke(why) => Ok(bare(alloc, Some(why))),
     }
 }
 
@@ -114,13 +112,13 @@ fn feed_opened<F: Files + Drop>(
     alloc: Global,
     host: &mut Host<F>,
     number: u64,
-    init: Ended,
+    init: CallEnd,
     method: Method,
     file: (u64, u64),
-) -> Result<Outcome, FrontKind>
+) -> Result<RequestOutcome, FrontKind>
     requires { IsAlive F.device host.old }
-    ensures leads { Leads F.device host.old host.new (λ (b : ℕ) (c : List Program) (s t : Scene). IfOk result (λ o. Feeds b c number init method file s o t)) }
-    ensures beside { (from : Host F) → Beside F.device from number host.old → Beside F.device from number host.new }
+    ensures leads { Refines F.device host.old host.new (λ (b : ℕ) (c : List Program) (s t : HostView). IfOk result (λ o. Feeds b c number init method file s o t)) }
+    ensures beside { (from : Host F) → OnlyEventsOf F.device from number host.old → OnlyEventsOf F.device from number host.new }
     ensures err { IfErr result IsLack }
 {
     let how = feed(alloc, host, number, init, method, file)?;
@@ -132,13 +130,13 @@ fn open_and_feed<F: Files + Drop>(
     alloc: Global,
     host: &mut Host<F>,
     number: u64,
-    init: Ended,
+    init: CallEnd,
     method: Method,
     file: &[u8],
-) -> Result<Outcome, FrontKind>
+) -> Result<RequestOutcome, FrontKind>
     requires { IsAlive F.device host.old }
-    ensures leads { Leads F.device host.old host.new (λ (b : ℕ) (c : List Program) (s t : Scene). IfOk result (λ o. Opens b c number init method file.now s o t)) }
-    ensures beside { (from : Host F) → Beside F.device from number host.old → Beside F.device from number host.new }
+    ensures leads { Refines F.device host.old host.new (λ (b : ℕ) (c : List Program) (s t : HostView). IfOk result (λ o. OpensAndFeeds b c number init method file.now s o t)) }
+    ensures beside { (from : Host F) → OnlyEventsOf F.device from number host.old → OnlyEventsOf F.device from number host.new }
     ensures err { IfErr result IsLack }
 {
     match host.open_file(number, file) {
@@ -155,19 +153,19 @@ fn go_on<F: Files + Drop>(
     alloc: Global,
     host: &mut Host<F>,
     number: u64,
-    init: Ended,
+    init: CallEnd,
     method: Method,
     file: &[u8],
-) -> Result<Outcome, FrontKind>
+) -> Result<RequestOutcome, FrontKind>
     requires { IsAlive F.device host.old }
-    ensures leads { Leads F.device host.old host.new (λ (b : ℕ) (c : List Program) (s t : Scene). IfOk result (λ o. OpensUnless b c number init method file.now s o t)) }
-    ensures beside { (from : Host F) → Beside F.device from number host.old → Beside F.device from number host.new }
+    ensures leads { Refines F.device host.old host.new (λ (b : ℕ) (c : List Program) (s t : HostView). IfOk result (λ o. OpensUnless b c number init method file.now s o t)) }
+    ensures beside { (from : Host F) → OnlyEventsOf F.device from number host.old → OnlyEventsOf F.device from number host.new }
     ensures err { IfErr result IsLack }
 {
     match init {
-        Ended::Broke(why) => Ok(bare(alloc, Some(why))),
-        Ended::Succeeded => open_and_feed(alloc, host, number, init, method, file),
-        Ended::Failed(_) => open_and_feed(alloc, host, number, init, method, file),
+        CallEnd::Broke(why) => Ok(bare(alloc, Some(why))),
+        CallEnd::Succeeded => open_and_feed(alloc, host, number, init, method, file),
+        CallEnd::Failed(_) => open_and_feed(alloc, host, number, init, method, file),
     }
 }
 
@@ -178,10 +176,10 @@ fn init_and_go_on<F: Files + Drop>(
     number: u64,
     method: Method,
     file: &[u8],
-) -> Result<Outcome, FrontKind>
+) -> Result<RequestOutcome, FrontKind>
     requires { IsAlive F.device host.old }
-    ensures leads { Leads F.device host.old host.new (λ (b : ℕ) (c : List Program) (s t : Scene). IfOk result (λ o. Inits b c number method file.now s o t)) }
-    ensures beside { (from : Host F) → Beside F.device from number host.old → Beside F.device from number host.new }
+    ensures leads { Refines F.device host.old host.new (λ (b : ℕ) (c : List Program) (s t : HostView). IfOk result (λ o. Inits b c number method file.now s o t)) }
+    ensures beside { (from : Host F) → OnlyEventsOf F.device from number host.old → OnlyEventsOf F.device from number host.new }
     ensures err { IfErr result IsLack }
 {
     let init = run_call(host, number);
@@ -195,10 +193,10 @@ fn request<F: Files + Drop>(
     number: u64,
     method: Method,
     file: &[u8],
-) -> Result<Outcome, FrontKind>
+) -> Result<RequestOutcome, FrontKind>
     requires { IsAlive F.device host.old }
-    ensures leads { Leads F.device host.old host.new (λ (b : ℕ) (c : List Program) (s t : Scene). IfOk result (λ o. ComesOf b c number method file.now s o t)) }
-    ensures beside { (from : Host F) → Beside F.device from number host.old → Beside F.device from number host.new }
+    ensures leads { Refines F.device host.old host.new (λ (b : ℕ) (c : List Program) (s t : HostView). IfOk result (λ o. ComesOf b c number method file.now s o t)) }
+    ensures beside { (from : Host F) → OnlyEventsOf F.device from number host.old → OnlyEventsOf F.device from number host.new }
     ensures err { IfErr result IsLack }
 {
     match host.begin(number) {
@@ -211,11 +209,11 @@ fn request<F: Files + Drop>(
 }
 
 impl<F: Files + Drop> Handler for Host<F> {
-    ghost use Rattle.http_front.specs.Driven.{Beside, IsAlive, Handles};
+    ghost use Rattle.http_front.specs.Driven.{OnlyEventsOf, IsAlive, Handles};
 
     ghost is_open = { λ host number. IsAlive F.device host };
 
-    ghost beside = { λ old number new. Beside F.device old number new };
+    ghost beside = { λ old number new. OnlyEventsOf F.device old number new };
 
     ghost handles = { λ old number method file o new. Handles F.device old number method file o new };
 
@@ -225,7 +223,7 @@ impl<F: Files + Drop> Handler for Host<F> {
         number: u64,
         method: Method,
         file: &[u8],
-    ) -> Result<Outcome, FrontKind> {
+    ) -> Result<RequestOutcome, FrontKind> {
         request(alloc, self, number, method, file)
     }
 

@@ -1,12 +1,12 @@
 //! The text of a response, in the parts that are written.
 
 ghost use Rattle.std.specs.Prelude.{◌≡◌, []};
-ghost use Rattle.module_lang.specs.Writes.{Wrote};
+ghost use Rattle.byte_text.specs.Writes.{Wrote};
 ghost use Rattle.http_front.specs.Texts.{text_of};
 
 use crate::handler::Handler;
+use byte_text::{WriteFault, put_all};
 use filter_chain::Seq;
-use module_lang::{WriteFault, put_all};
 use std::alloc::Global;
 use std::io::Write;
 use std::mem;

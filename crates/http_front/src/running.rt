@@ -1,20 +1,20 @@
 //! Calls on the host of chains, each run to its end.
 
 ghost use Rattle.std.specs.Prelude.{◌≡◌, ℕ, List, IfOk, IfErr, OnOk, None};
-ghost use Rattle.module_lang.specs.Program.{Program};
-ghost use Rattle.filter_chain.specs.Scenes.{Scene};
-ghost use Rattle.http_front.specs.Driven.{Beside, IsAlive, Leads};
+ghost use Rattle.module_code.specs.Program.{Program};
+ghost use Rattle.filter_chain.specs.HostViews.{HostView};
 ghost use Rattle.http_front.specs.Outcomes.{IsLack};
-ghost use Rattle.http_front.specs.Requests.{Brings, EndsRequest, Runs, ended_of, lack_of};
+ghost use Rattle.http_front.specs.Driven.{OnlyEventsOf, IsAlive, Refines};
+ghost use Rattle.http_front.specs.Requests.{BringsBrigade, EndsRequest, RunsCall, ended_of, lack_of};
 
-use crate::failure::Failure;
 use crate::fault::FrontKind;
 use filter_chain::{Cause, Files, Host, Piece, Refusal, Seq, Stepped};
-use module_lang::Status;
+use http_message::Failure;
+use module_code::Status;
 
 /// How a call ended.
 #[derive(Clone, Copy, Debug)]
-pub enum Ended {
+pub enum CallEnd {
     /// It succeeded.
     Succeeded,
     /// It failed.
@@ -35,24 +35,24 @@ pub(crate) fn unless_lack(refusal: Refusal) -> Result<(), FrontKind>
     }
 }
 
-fn how_ended(answer: Result<Stepped, Refusal>) -> Ended
+fn how_ended(answer: Result<Stepped, Refusal>) -> CallEnd
     ensures { result ≡ ended_of answer }
 {
     match answer {
-        Ok(Stepped::CallEnded(Status::Success)) => Ended::Succeeded,
-        Ok(Stepped::CallEnded(Status::Fail)) => Ended::Failed(Failure::Filter),
+        Ok(Stepped::CallEnded(Status::Success)) => CallEnd::Succeeded,
+        Ok(Stepped::CallEnded(Status::Fail)) => CallEnd::Failed(Failure::Filter),
         Ok(Stepped::Went | Stepped::Fault { .. }) => {
-            Ended::Broke(Failure::Refused(Refusal::Broken(Cause::Faulted)))
+            CallEnd::Broke(Failure::Refused(Refusal::Broken(Cause::Faulted)))
         }
-        Err(refusal) => Ended::Broke(Failure::Refused(refusal)),
+        Err(refusal) => CallEnd::Broke(Failure::Refused(refusal)),
     }
 }
 
 /// Makes steps until one answers something else than that it went.
-pub(crate) fn run_call<F: Files + Drop>(host: &mut Host<F>, number: u64) -> Ended
+pub(crate) fn run_call<F: Files + Drop>(host: &mut Host<F>, number: u64) -> CallEnd
     requires { IsAlive F.device host.old }
-    ensures leads { Leads F.device host.old host.new (λ (b : ℕ) (c : List Program) (s t : Scene). Runs b c number s result t) }
-    ensures beside { (from : Host F) → Beside F.device from number host.old → Beside F.device from number host.new }
+    ensures leads { Refines F.device host.old host.new (λ (b : ℕ) (c : List Program) (s t : HostView). RunsCall b c number s result t) }
+    ensures beside { (from : Host F) → OnlyEventsOf F.device from number host.old → OnlyEventsOf F.device from number host.new }
 {
     how_ended(host.run(number))
 }
@@ -62,17 +62,17 @@ pub(crate) fn bring<F: Files + Drop>(
     host: &mut Host<F>,
     number: u64,
     pieces: Seq<Piece>,
-) -> Result<Ended, FrontKind>
+) -> Result<CallEnd, FrontKind>
     requires { IsAlive F.device host.old }
-    ensures leads { Leads F.device host.old host.new (λ (b : ℕ) (c : List Program) (s t : Scene). IfOk result (λ how. Brings b c number pieces s how t)) }
-    ensures beside { (from : Host F) → Beside F.device from number host.old → Beside F.device from number host.new }
+    ensures leads { Refines F.device host.old host.new (λ (b : ℕ) (c : List Program) (s t : HostView). IfOk result (λ how. BringsBrigade b c number pieces s how t)) }
+    ensures beside { (from : Host F) → OnlyEventsOf F.device from number host.old → OnlyEventsOf F.device from number host.new }
     ensures err { IfErr result IsLack }
 {
     match host.bring(number, pieces) {
         Ok(()) => Ok(run_call(host, number)),
         Err(refusal) => {
             unless_lack(refusal)?;
-            Ok(Ended::Failed(Failure::Refused(refusal)))
+            Ok(CallEnd::Failed(Failure::Refused(refusal)))
         }
     }
 }
@@ -80,8 +80,8 @@ pub(crate) fn bring<F: Files + Drop>(
 /// Ends the request.
 pub(crate) fn end_request<F: Files + Drop>(host: &mut Host<F>, number: u64) -> Result<(), FrontKind>
     requires { IsAlive F.device host.old }
-    ensures leads { Leads F.device host.old host.new (λ (b : ℕ) (c : List Program) (s t : Scene). OnOk result (EndsRequest b c number s t)) }
-    ensures beside { (from : Host F) → Beside F.device from number host.old → Beside F.device from number host.new }
+    ensures leads { Refines F.device host.old host.new (λ (b : ℕ) (c : List Program) (s t : HostView). OnOk result (EndsRequest b c number s t)) }
+    ensures beside { (from : Host F) → OnlyEventsOf F.device from number host.old → OnlyEventsOf F.device from number host.new }
     ensures err { IfErr result IsLack }
 {
     match host.end_request(number) {

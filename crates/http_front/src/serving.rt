@@ -2,18 +2,16 @@
 
 ghost use Rattle.std.specs.Prelude.{◌≡◌, ◌≢◌, ℕ, List, ◌+◌, ◌<◌, ◌≤◌, ◌^◌, Option, length, take, drop, [], true, false, Ok, IfOk, IfErr, OnOk, OnErr};
 ghost use Rattle.std.specs.Io.KnownBytes.{Appends, Consumes, IsAtEnd};
-ghost use Rattle.http_front.specs.Inboxes.{unread};
-ghost use Rattle.http_front.specs.Serving.{SoFar, Goes, EndsWell, FailsBy, Adds, Loses};
+ghost use Rattle.http_message.specs.Inboxes.{unread};
 ghost use Rattle.http_front.specs.Texts.{text_of};
+ghost use Rattle.http_front.specs.Serving.{SoFar, Goes, EndsWell, FailsBy, AddsBytes, Loses};
 
-use crate::clock::Clock;
 use crate::fault::{FrontKind, Served};
 use crate::handler::Handler;
-use crate::inbox::Inbox;
 use crate::response::ResponseText;
-use crate::site::Site;
-use crate::steps::{Step, take_step};
-use module_lang::WriteFault;
+use crate::steps::{ServeStep, take_step};
+use byte_text::WriteFault;
+use http_message::{Clock, Inbox, Site};
 use std::alloc::{AllocError, Global};
 use std::io::{Read, Write};
 
@@ -25,7 +23,7 @@ const READ_BYTES: usize = 8192;
 
 /// What comes behind a step.
 #[derive(Clone, Copy, Debug, PartialEq, Eq)]
-enum Next {
+enum AfterStep {
     /// Another step.
     Again,
     /// More bytes are to be read.
@@ -98,14 +96,14 @@ fn answer_next<W: Write, H: Handler, K: Clock>(
     handler: &mut H,
     number: u64,
     clock: &mut K,
-) -> Result<Next, FrontKind>
+) -> Result<AfterStep, FrontKind>
     requires open { H.is_open handler.old number }
     requires few { so_far.old.requests + length (unread so_far.old.inbox) < 2 ^ 63 }
     ensures open { H.is_open handler.new number }
     ensures beside { (from : H) → H.beside from number handler.old → H.beside from number handler.new }
     ensures few { so_far.new.requests + length (unread so_far.new.inbox) ≤ so_far.old.requests + length (unread so_far.old.inbox) }
     ensures whole { so_far.new.whole ≡ so_far.old.whole }
-    ensures less { result ≡ Ok Next.Again → length (unread so_far.new.inbox) < length (unread so_far.old.inbox) }
+    ensures less { result ≡ Ok AfterStep.Again → length (unread so_far.new.inbox) < length (unread so_far.old.inbox) }
     ensures goes { (old : H) (before : K) (r q w : Option (List ℕ)) → (so_far.old.whole ≡ true → IsAtEnd q)
         → SoFar site.now (λ h. H.handles h number) K.tells old before r q w (W.contents writer.old) (unread so_far.old.inbox) so_far.old.requests handler.old clock.old
         → Goes site.now (λ h. H.handles h number) K.tells old before r q w (W.contents writer.new) so_far.new.whole (unread so_far.new.inbox) so_far.new.requests handler.new clock.new result }
@@ -121,20 +119,20 @@ fn answer_next<W: Write, H: Handler, K: Clock>(
         &mut so_far.text,
     )?;
     match step {
-        Step::More => Ok(Next::Reads),
-        Step::Done => Ok(Next::Over),
-        Step::Stays(size) => {
+        ServeStep::More => Ok(AfterStep::Reads),
+        ServeStep::Done => Ok(AfterStep::Over),
+        ServeStep::Stays(size) => {
             so_far.put(alloc, writer, handler, size)?;
-            Ok(Next::Again)
+            Ok(AfterStep::Again)
         }
-        Step::Closes(size) => {
+        ServeStep::Closes(size) => {
             so_far.put(alloc, writer, handler, size)?;
-            Ok(Next::Over)
+            Ok(AfterStep::Over)
         }
-        Step::Refused => {
+        ServeStep::Refused => {
             let size = so_far.inbox.unread().len();
             so_far.put(alloc, writer, handler, size)?;
-            Ok(Next::Over)
+            Ok(AfterStep::Over)
         }
     }
 }
@@ -148,23 +146,23 @@ fn answer_all<W: Write, H: Handler, K: Clock>(
     handler: &mut H,
     number: u64,
     clock: &mut K,
-) -> Result<Next, FrontKind>
+) -> Result<AfterStep, FrontKind>
     requires open { H.is_open handler.old number }
     requires few { so_far.old.requests + length (unread so_far.old.inbox) < 2 ^ 63 }
     ensures open { H.is_open handler.new number }
     ensures beside { (from : H) → H.beside from number handler.old → H.beside from number handler.new }
     ensures few { so_far.new.requests + length (unread so_far.new.inbox) ≤ so_far.old.requests + length (unread so_far.old.inbox) }
     ensures whole { so_far.new.whole ≡ so_far.old.whole }
-    ensures stops { result ≢ Ok Next.Again }
+    ensures stops { result ≢ Ok AfterStep.Again }
     ensures goes { (old : H) (before : K) (r q w : Option (List ℕ)) → (so_far.old.whole ≡ true → IsAtEnd q)
         → SoFar site.now (λ h. H.handles h number) K.tells old before r q w (W.contents writer.old) (unread so_far.old.inbox) so_far.old.requests handler.old clock.old
         → Goes site.now (λ h. H.handles h number) K.tells old before r q w (W.contents writer.new) so_far.new.whole (unread so_far.new.inbox) so_far.new.requests handler.new clock.new result }
 {
     loop {
         match answer_next(alloc, so_far, writer, site, handler, number, clock)? {
-            Next::Again => {}
-            Next::Reads => return Ok(Next::Reads),
-            Next::Over => return Ok(Next::Over),
+            AfterStep::Again => {}
+            AfterStep::Reads => return Ok(AfterStep::Reads),
+            AfterStep::Over => return Ok(AfterStep::Over),
         }
     }
 }
@@ -176,7 +174,7 @@ fn read_more<R: Read>(
     inbox: &mut Inbox,
 ) -> Result<bool, FrontKind>
     requires { length buffer.old ≡ 8192 }
-    ensures ok { IfOk result (λ whole. Adds (R.remaining reader.old) (R.remaining reader.new) (unread inbox.old) (unread inbox.new) 8192 whole) }
+    ensures ok { IfOk result (λ whole. AddsBytes (R.remaining reader.old) (R.remaining reader.new) (unread inbox.old) (unread inbox.new) 8192 whole) }
     ensures err { IfErr result (λ e. Loses 8192 (R.remaining reader.old) (R.remaining reader.new) e) }
 {
     match reader.read(buffer) {
@@ -216,7 +214,7 @@ pub(crate) fn serve_open<R: Read, W: Write, H: Handler, K: Clock>(
     for _ in 0..READS {
         so_far.whole = read_more(reader, &mut buffer, &mut so_far.inbox)?;
         match answer_all(alloc, &mut so_far, writer, site, handler, number, clock)? {
-            Next::Over => {
+            AfterStep::Over => {
                 return Ok(Served {
                     requests: so_far.requests,
                 });

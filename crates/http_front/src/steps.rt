@@ -3,20 +3,18 @@
 ghost use Rattle.std.specs.Prelude.{◌≡◌, ◌≤◌, ◌&&◌, ℕ, Bool, List, length, take, nat_le, IfOk, IfErr};
 ghost use Rattle.httparse.specs.Grammar.{RequestHead};
 ghost use Rattle.httparse.specs.Spans.{IsRequestAt, IsRequestWithin};
-ghost use Rattle.http_front.specs.Looking.{IsFound};
+ghost use Rattle.http_message.specs.Looking.{IsFound};
 ghost use Rattle.http_front.specs.Outcomes.{IsLack, ReachesFile};
-ghost use Rattle.http_front.specs.Stepping.{Steps, LacksAnswer};
 ghost use Rattle.http_front.specs.Texts.{text_of};
+ghost use Rattle.http_front.specs.Stepping.{DoesStep, LacksAnswer};
 ghost use Rattle.http_front.specs.Turns.{head_limit, fields_limit};
 
 use crate::answering::{bad_reply, reply_to};
-use crate::clock::Clock;
 use crate::fault::FrontKind;
 use crate::handler::Handler;
-use crate::looking::{Look, look_at};
 use crate::response::ResponseText;
-use crate::site::Site;
 use crate::texts::put_reply;
+use http_message::{Clock, HeadLook, Site, look_at};
 use httparse::spans::{EMPTY_HEADER_SPAN, HeaderSpan, RequestSpans};
 use std::alloc::Global;
 
@@ -27,7 +25,7 @@ const FIELDS_LIMIT: usize = 64;
 
 /// What a step does.
 #[derive(Clone, Copy, Debug, PartialEq, Eq)]
-pub enum Step {
+pub enum ServeStep {
     /// A request of so many bytes is answered, and the connection stays open.
     Stays(usize),
     /// A request of so many bytes is answered, and the connection closes.
@@ -50,14 +48,14 @@ fn answer_head<H: Handler, K: Clock>(
     number: u64,
     clock: &mut K,
     text: &mut ResponseText,
-) -> Result<Step, FrontKind>
+) -> Result<ServeStep, FrontKind>
     requires within { IsRequestWithin seen.now spans.now head }
     requires found { IsFound head_limit seen.now spans.now head }
     requires room { length spans.now ≡ fields_limit }
     requires open { H.is_open handler.old number }
     ensures open { H.is_open handler.new number }
     ensures beside { (from : H) → H.beside from number handler.old → H.beside from number handler.new }
-    ensures ok { IfOk result (λ s. (whole : Bool) → Steps site.now (λ old. H.handles old number) K.tells handler.old clock.old seen.now whole s (text_of text.new) handler.new clock.new) }
+    ensures ok { IfOk result (λ s. (whole : Bool) → DoesStep site.now (λ old. H.handles old number) K.tells handler.old clock.old seen.now whole s (text_of text.new) handler.new clock.new) }
     ensures err { IfErr result (λ e. IsLack e × (e ≡ FrontKind.NamesSpent → (h : RequestHead) → IsRequestAt seen.now spans.now head h → ReachesFile site.now h)) }
 {
     let mut reply = reply_to(alloc, seen, spans, head, site, handler, number)?;
@@ -66,9 +64,9 @@ fn answer_head<H: Handler, K: Clock>(
     put_reply(alloc, method, target, &mut reply, clock, text)?;
     handler.give_back(reply.body);
     if closes {
-        return Ok(Step::Closes(head.len));
+        return Ok(ServeStep::Closes(head.len));
     }
-    Ok(Step::Stays(head.len))
+    Ok(ServeStep::Stays(head.len))
 }
 
 // A step where the bytes are within the limit.
@@ -82,30 +80,30 @@ fn step_within<H: Handler, K: Clock>(
     number: u64,
     clock: &mut K,
     text: &mut ResponseText,
-) -> Result<Step, FrontKind>
+) -> Result<ServeStep, FrontKind>
     requires size { length seen.now ≤ head_limit }
     requires room { length spans.old ≡ fields_limit }
     requires open { H.is_open handler.old number }
     ensures open { H.is_open handler.new number }
     ensures beside { (from : H) → H.beside from number handler.old → H.beside from number handler.new }
-    ensures ok { IfOk result (λ s. Steps site.now (λ old. H.handles old number) K.tells handler.old clock.old seen.now whole s (text_of text.new) handler.new clock.new) }
+    ensures ok { IfOk result (λ s. DoesStep site.now (λ old. H.handles old number) K.tells handler.old clock.old seen.now whole s (text_of text.new) handler.new clock.new) }
     ensures err { IfErr result (LacksAnswer site.now seen.now whole) }
 {
     text.clear(alloc);
     if seen.is_empty() && whole {
-        return Ok(Step::Done);
+        return Ok(ServeStep::Done);
     }
     if seen.is_empty() {
-        return Ok(Step::More);
+        return Ok(ServeStep::More);
     }
     match look_at(seen, HEAD_LIMIT, whole, spans) {
-        Look::Head(head) => answer_head(
+        HeadLook::Head(head) => answer_head(
             alloc, seen, spans, head, site, handler, number, clock, text,
         ),
-        Look::More => Ok(Step::More),
-        Look::Headless => {
+        HeadLook::More => Ok(ServeStep::More),
+        HeadLook::Headless => {
             put_reply(alloc, &[], &[], &mut bad_reply(alloc), clock, text)?;
-            Ok(Step::Refused)
+            Ok(ServeStep::Refused)
         }
     }
 }
@@ -146,11 +144,11 @@ pub fn take_step<H: Handler, K: Clock>(
     number: u64,
     clock: &mut K,
     text: &mut ResponseText,
-) -> Result<Step, FrontKind>
+) -> Result<ServeStep, FrontKind>
     requires { H.is_open handler.old number }
     ensures open { H.is_open handler.new number }
     ensures beside { (from : H) → H.beside from number handler.old → H.beside from number handler.new }
-    ensures ok { IfOk result (λ s. Steps site.now (λ old. H.handles old number) K.tells handler.old clock.old seen.now whole s (text_of text.new) handler.new clock.new) }
+    ensures ok { IfOk result (λ s. DoesStep site.now (λ old. H.handles old number) K.tells handler.old clock.old seen.now whole s (text_of text.new) handler.new clock.new) }
     ensures err { IfErr result (LacksAnswer site.now seen.now whole) }
 {
     let mut spans = [EMPTY_HEADER_SPAN; FIELDS_LIMIT];

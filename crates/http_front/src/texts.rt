@@ -1,23 +1,21 @@
 //! The text of a response, in buffers that are kept.
 
 ghost use Rattle.std.specs.Prelude.{◌≡◌, OnOk};
-ghost use Rattle.http_front.specs.Clocks.{IsExchange};
-ghost use Rattle.http_front.specs.Replying.{reply_text};
+ghost use Rattle.http_message.specs.Clocks.{IsExchange};
+ghost use Rattle.http_message.specs.Replying.{reply_text};
 ghost use Rattle.http_front.specs.Stepping.{IsWritten};
 ghost use Rattle.http_front.specs.Texts.{text_of};
 
-use crate::clock::{Clock, Exchange};
-use crate::reply::Reply;
-use crate::replying::{closing, date_line, middle, opening};
 use crate::response::ResponseText;
 use filter_chain::Seq;
+use http_message::{Clock, Exchange, Reply, closing, date_line, middle, opening};
 use std::alloc::{AllocError, Global};
 use std::mem;
 
 /// How many bytes a body has at most that is copied behind its head.
 const JOINED_BYTES: usize = 65536;
 
-#[tactic(auto, unfolding(crate::specs::Replying::reply_text))]
+#[tactic(auto, unfolding(http_message::specs::Replying::reply_text))]
 fn put_text(
     alloc: Global,
     reply: &mut Reply,

@@ -3,7 +3,7 @@ use Rattle.std.proofs.Common.{◌≡◌, ℕ, suc, ◌+◌, ◌<◌, ◌≤◌, 
 use Rattle.std.proofs.Math.ListN.{get_or-map}
 use Rattle.std.proofs.lemmas.List.{drop_all, length-map}
 use Rattle.std.proofs.lemmas.List.Elements.{All-nil, All-cons, All-append}
-use Rattle.module_lang.specs.Program.{Program}
+use Rattle.module_code.specs.Program.{Program}
 use Rattle.run_model.proofs.Updates.{upd_either}
 use Rattle.life_state.specs.States.{State}
 use Rattle.life_state.specs.Order.{leq, join}
@@ -13,14 +13,14 @@ use Rattle.life_check.specs.Certificates.{Certificate}
 use Rattle.life_check.specs.Seen.{seen_cert}
 use Rattle.life_cert.specs.declared.growth.Arrival as code
 use Rattle.life_cert.specs.declared.growth.Growth.{Growth}
-use Rattle.life_cert.specs.declared.growth.Place.{Place}
-use Rattle.life_cert.specs.declared.growth.Place.TheVariants as place
+use Rattle.life_cert.specs.declared.growth.StatePlace.{StatePlace}
+use Rattle.life_cert.specs.declared.growth.StatePlace.TheVariants as place
 use Rattle.life_cert.specs.Rounds.{Arrival, Grown, state_at, with_state, grow, arrive_by, arrive, arrived, nothing, begun}
 use Rattle.life_cert.specs.Fitting.{is_inside, IsDeclared, IsFit, IsOf}
 use Rattle.life_cert.specs.SeenGrowth.{seen_arrival, seen_arrivals, seen_growth}
 
 -- what is read where one state was written
-pub read_written : (w v : Place) (s : State) (c : Certificate) → ((v ≡ w) × (state_at (with_state w s c) v ≡ Some s)) ⊎ (state_at (with_state w s c) v ≡ state_at c v)
+pub read_written : (w v : StatePlace) (s : State) (c : Certificate) → ((v ≡ w) × (state_at (with_state w s c) v ≡ Some s)) ⊎ (state_at (with_state w s c) v ≡ state_at c v)
 read_written place.Idle place.Idle s c = inl (refl, refl)
 read_written place.Idle place.Ready s c = inr refl
 read_written place.Idle (place.At k) s c = inr refl
@@ -31,7 +31,7 @@ read_written (place.At pc) place.Idle s c = inr refl
 read_written (place.At pc) place.Ready s c = inr refl
 read_written (place.At pc) (place.At k) s c = elim (upd_either c.at pc k (Some s)) [ inl h ↦ inl (ap place.At (h.0), h.1) | inr h ↦ inr (h.1) ]
 
-lines_written : (w : Place) (s : State) (c : Certificate) → (with_state w s c).lines ≡ c.lines
+lines_written : (w : StatePlace) (s : State) (c : Certificate) → (with_state w s c).lines ≡ c.lines
 lines_written place.Idle s c = refl
 lines_written place.Ready s c = refl
 lines_written (place.At pc) s c = refl
@@ -39,7 +39,7 @@ lines_written (place.At pc) s c = refl
 some_is : {s t : State} → Some s ≡ Some t → s ≡ t
 some_is e = cc
 
-pub grow_keeps : (p : Program) (w : Place) (s : State) (g : Grown) → IsOf p g → is_inside (length p.code) w ≡ true → IsDeclared p s → IsOf p (grow w s g)
+pub grow_keeps : (p : Program) (w : StatePlace) (s : State) (g : Grown) → IsOf p g → is_inside (length p.code) w ≡ true → IsDeclared p s → IsOf p (grow w s g)
 grow_keeps p w s g h inside declared = record {
   few = h.few;
   lines = lines_written w s g.states ∙ h.lines;
@@ -60,7 +60,7 @@ keeps_by p a g (Some t) e h fit =
 pub arrive_keeps : (p : Program) (a : Arrival) (g : Grown) → IsOf p g → IsFit p a → IsOf p (arrive a g)
 arrive_keeps p a g h fit = keeps_by p a g (state_at g.states a.place) refl h fit
 
-nothing_there : (p : Program) (w : Place) (s : State) → state_at (nothing p) w ≡ Some s → IsDeclared p s
+nothing_there : (p : Program) (w : StatePlace) (s : State) → state_at (nothing p) w ≡ Some s → IsDeclared p s
 nothing_there p place.Idle s e = cc
 nothing_there p place.Ready s e = cc
 nothing_there p (place.At pc) s e = cc

@@ -1,7 +1,7 @@
 -- After the rounds, what is handed on stands where it arrives.
 use Rattle.std.proofs.Common.{◌≡◌, ℕ, zero, suc, Bool, true, false, not, ◌==◌, ◌&&◌, if◌then◌else◌, List, [], ◌∷◌, ◌++◌, length, All, ◌⊎◌, inl, inr, Option, Some, None, refl, ap, sym, ◌∙◌, subst, arith, eq-eqb}
 use Rattle.std.proofs.lemmas.List.Elements.{All-nil, All-cons}
-use Rattle.module_lang.specs.Program.{Program, IsModule}
+use Rattle.module_code.specs.Program.{Program, IsModule}
 use Rattle.run_model.proofs.Updates.{upd_at}
 use Rattle.life_state.specs.States.{State}
 use Rattle.life_state.specs.Facts.{is_set, is_apart}
@@ -12,8 +12,8 @@ use Rattle.life_state.proofs.JoinAbove.{join_above}
 use Rattle.life_state.proofs.OrderLaws.{leq_same, leq_trans}
 use Rattle.life_check.specs.Certificates.{Certificate}
 use Rattle.life_check.specs.Typed.{is_below}
-use Rattle.life_cert.specs.declared.growth.Place.{Place}
-use Rattle.life_cert.specs.declared.growth.Place.TheVariants as place
+use Rattle.life_cert.specs.declared.growth.StatePlace.{StatePlace}
+use Rattle.life_cert.specs.declared.growth.StatePlace.TheVariants as place
 use Rattle.life_cert.specs.Rounds.{Arrival, Grown, state_at, with_state, handed_by, handed_on, grow, arrive_by, arrive, arrived, round, nothing, begun, rounds, enough, made}
 use Rattle.life_cert.specs.Fitting.{IsFit, IsOf}
 use Rattle.life_cert.specs.Laws.{HasGrown, is_in_main, StatesAreClosed}
@@ -25,13 +25,13 @@ use Rattle.life_cert.proofs.Enough.{rounds_end}
 abbrev Under : Certificate → Arrival → Type 0
 Under c a = is_below a.state (state_at c a.place) ≡ true
 
-under_grown : (s : State) (o q : Option State) → HasGrown o q → is_below s o ≡ true → is_below s q ≡ true
+pub under_grown : (s : State) (o q : Option State) → HasGrown o q → is_below s o ≡ true → is_below s q ≡ true
 under_grown s None q h k = cc
 under_grown s (Some t) None h k = absurd h
 under_grown s (Some t) (Some u) h k = elim h [ inl e ↦ subst (λ (x : State). leq s x ≡ true) e k | inr le ↦ leq_trans s t u k le ]
 
 -- a state in form is below itself
-below_itself : (p : Program) (call : Bool) (s : State) → IsFormedIn p call s → leq s s ≡ true
+pub below_itself : (p : Program) (call : Bool) (s : State) → IsFormedIn p call s → leq s s ≡ true
 below_itself p call s h = leq_same s (λ c. alone c (s.facts c c) refl)
   where
     no_self : (x y z u : Bool) → x ≡ true → (not x && y && z && u) ≡ true → ⊥
@@ -42,7 +42,7 @@ below_itself p call s h = leq_same s (λ c. alone c (s.facts c c) refl)
     alone c true e = absurd (no_self (c == c) (is_set (s.cursors c)) (is_set (s.cursors c)) (not (is_apart (s.cursors c) (s.cursors c))) (eq-eqb c c refl) (h.formed.facts c c e))
     alone c false e = refl
 
-written : (w : Place) (s : State) (c : Certificate) → state_at (with_state w s c) w ≡ Some s
+written : (w : StatePlace) (s : State) (c : Certificate) → state_at (with_state w s c) w ≡ Some s
 written place.Idle s c = refl
 written place.Ready s c = refl
 written (place.At pc) s c = upd_at c.at pc (Some s)
@@ -74,37 +74,37 @@ arrived_under p (a ∷ rest) g h fit good =
 
 -- Which places grew.
 
-Has : Place → List Place → Type 0
+Has : StatePlace → List StatePlace → Type 0
 Has v [] = ⊥
 Has v (w ∷ ws) = (v ≡ w) ⊎ Has v ws
 
-has_left : (v : Place) (xs ys : List Place) → Has v xs → Has v (xs ++ ys)
+has_left : (v : StatePlace) (xs ys : List StatePlace) → Has v xs → Has v (xs ++ ys)
 unfolding Has
 has_left v [] ys h = absurd h
 has_left v (x ∷ xs) ys h = elim h [ inl e ↦ inl e | inr more ↦ inr (has_left v xs ys more) ]
 
-has_last : (v w : Place) (xs : List Place) → v ≡ w → Has v (xs ++ w ∷ [])
+has_last : (v w : StatePlace) (xs : List StatePlace) → v ≡ w → Has v (xs ++ w ∷ [])
 unfolding Has
 has_last v w [] e = inl e
 has_last v w (x ∷ xs) e = inr (has_last v w xs e)
 
-grow_same : (v w : Place) (s : State) (g : Grown) → Has v (grow w s g).grown ⊎ (state_at (grow w s g).states v ≡ state_at g.states v)
+grow_same : (v w : StatePlace) (s : State) (g : Grown) → Has v (grow w s g).grown ⊎ (state_at (grow w s g).states v ≡ state_at g.states v)
 grow_same v w s g = elim (read_written w v s g.states) [ inl here ↦ inl (has_last v w g.grown (here.0)) | inr other ↦ inr other ]
 
-same_by : (v : Place) (a : Arrival) (g : Grown) (o : Option State) → Has v (arrive_by o a g).grown ⊎ (state_at (arrive_by o a g).states v ≡ state_at g.states v)
+same_by : (v : StatePlace) (a : Arrival) (g : Grown) (o : Option State) → Has v (arrive_by o a g).grown ⊎ (state_at (arrive_by o a g).states v ≡ state_at g.states v)
 same_by v a g None = grow_same v a.place a.state g
 same_by v a g (Some t) = elim (leq a.state t) as (λ b. Has v (if b then g else grow a.place (join t a.state) g).grown ⊎ (state_at (if b then g else grow a.place (join t a.state) g).states v ≡ state_at g.states v)) [ true ↦ inr refl | false ↦ grow_same v a.place (join t a.state) g ]
 
-still_by : (v : Place) (a : Arrival) (g : Grown) (o : Option State) → Has v g.grown → Has v (arrive_by o a g).grown
+still_by : (v : StatePlace) (a : Arrival) (g : Grown) (o : Option State) → Has v g.grown → Has v (arrive_by o a g).grown
 still_by v a g None h = has_left v g.grown (a.place ∷ []) h
 still_by v a g (Some t) h = elim (leq a.state t) as (λ b. Has v (if b then g else grow a.place (join t a.state) g).grown) [ true ↦ h | false ↦ has_left v g.grown (a.place ∷ []) h ]
 
-still : (v : Place) (rest : List Arrival) (g : Grown) → Has v g.grown → Has v (arrived rest g).grown
+still : (v : StatePlace) (rest : List Arrival) (g : Grown) → Has v g.grown → Has v (arrived rest g).grown
 unfolding arrived
 still v [] g h = h
 still v (a ∷ rest) g h = still v rest (arrive a g) (still_by v a g (state_at g.states a.place) h)
 
-arrived_same : (v : Place) (rest : List Arrival) (g : Grown) → Has v (arrived rest g).grown ⊎ (state_at (arrived rest g).states v ≡ state_at g.states v)
+arrived_same : (v : StatePlace) (rest : List Arrival) (g : Grown) → Has v (arrived rest g).grown ⊎ (state_at (arrived rest g).states v ≡ state_at g.states v)
 unfolding arrived
 arrived_same v [] g = inr refl
 arrived_same v (a ∷ rest) g =
@@ -123,26 +123,26 @@ all_back : (Q : Arrival → Type 0) (xs ys : List Arrival) → All Q (xs ++ ys) 
 all_back Q [] ys h = h
 all_back Q (x ∷ xs) ys h = all_back Q xs ys (λ k d below. h (suc k) d (omega arith))
 
-has_handed : (p : Program) (c : Certificate) (Q : Arrival → Type 0) (v : Place) (ws : List Place) → Has v ws → All Q (handed_on p c ws) → All Q (handed_by p v (state_at c v))
+has_handed : (p : Program) (c : Certificate) (Q : Arrival → Type 0) (v : StatePlace) (ws : List StatePlace) → Has v ws → All Q (handed_on p c ws) → All Q (handed_by p v (state_at c v))
 unfolding Has handed_on
 has_handed p c Q v [] has h = absurd has
 has_handed p c Q v (w ∷ ws) has h =
     elim has [
-      | inl e ↦ subst (λ (x : Place). All Q (handed_by p x (state_at c x))) (sym e) (all_front Q (handed_by p w (state_at c w)) (handed_on p c ws) h)
+      | inl e ↦ subst (λ (x : StatePlace). All Q (handed_by p x (state_at c x))) (sym e) (all_front Q (handed_by p w (state_at c w)) (handed_on p c ws) h)
       | inr more ↦ has_handed p c Q v ws more (all_back Q (handed_by p w (state_at c w)) (handed_on p c ws) h)
     ]
 
-all_grown : (c d : Certificate) → ((v : Place) → HasGrown (state_at c v) (state_at d v)) → (rest : List Arrival) → All (Under c) rest → All (Under d) rest
+all_grown : (c d : Certificate) → ((v : StatePlace) → HasGrown (state_at c v) (state_at d v)) → (rest : List Arrival) → All (Under c) rest → All (Under d) rest
 all_grown c d more [] h = All-nil (Under d)
 all_grown c d more (a ∷ rest) h =
     All-cons (Under d) a rest (under_grown a.state (state_at c a.place) (state_at d a.place) (more a.place) (h 0 a (omega arith)))
     (all_grown c d more rest (λ k e below. h (suc k) e (omega arith)))
 
 -- a place grew in the last round, or what it hands on stands where it arrives
-abbrev ClosedBut : Program → Grown → Place → Type 0
+abbrev ClosedBut : Program → Grown → StatePlace → Type 0
 ClosedBut p g w = Has w g.grown ⊎ All (Under g.states) (handed_by p w (state_at g.states w))
 
-begun_closed : (p : Program) (w : Place) → ClosedBut p (begun p) w
+begun_closed : (p : Program) (w : StatePlace) → ClosedBut p (begun p) w
 unfolding Has
 begun_closed p w =
     elim (read_written (place.At 0) w (at_open (length p.pools) (length p.brigades)) (nothing p)) [
@@ -150,12 +150,12 @@ begun_closed p w =
       | inr other ↦ inr (subst (λ (o : Option State). All (Under (begun p).states) (handed_by p w o)) (sym (other ∙ nothing_at w)) (All-nil (Under (begun p).states)))
     ]
   where
-    nothing_at : (v : Place) → state_at (nothing p) v ≡ None
+    nothing_at : (v : StatePlace) → state_at (nothing p) v ≡ None
     nothing_at place.Idle = refl
     nothing_at place.Ready = refl
     nothing_at (place.At pc) = refl
 
-round_closed : (p : Program) → IsModule p → (g : Grown) → IsOf p g → AllFormed p g.states → ((w : Place) → ClosedBut p g w) → (w : Place) → ClosedBut p (round p g) w
+round_closed : (p : Program) → IsModule p → (g : Grown) → IsOf p g → AllFormed p g.states → ((w : StatePlace) → ClosedBut p g w) → (w : StatePlace) → ClosedBut p (round p g) w
 round_closed p m g h formed closed w =
     let start : Grown = record { states = g.states; grown = [] } in
     let rest = handed_on p g.states g.grown in
@@ -171,12 +171,12 @@ round_closed p m g h formed closed w =
           ]))
     ]
 
-rounds_closed : (p : Program) → IsModule p → (n : ℕ) (w : Place) → ClosedBut p (rounds n p (begun p)) w
+rounds_closed : (p : Program) → IsModule p → (n : ℕ) (w : StatePlace) → ClosedBut p (rounds n p (begun p)) w
 unfolding rounds
 rounds_closed p m zero w = begun_closed p w
 rounds_closed p m (suc n) w = round_closed p m (rounds n p (begun p)) (rounds_fit p m n) (rounds_formed p m n) (rounds_closed p m n) w
 
-none_has : (w : Place) (ws : List Place) → ws ≡ [] → Has w ws → ⊥
+none_has : (w : StatePlace) (ws : List StatePlace) → ws ≡ [] → Has w ws → ⊥
 unfolding Has
 none_has w ws e h = subst (Has w) e h
 

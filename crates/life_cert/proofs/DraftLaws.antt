@@ -4,37 +4,37 @@ use Rattle.std.proofs.lemmas.List.{length-replicate}
 use Rattle.std.specs.Prelude.{nat_eq, nat_le, slice_get, IfSome, IsSome}
 use Rattle.std.specs.Cmp.Lexicographic.{pointwise, same_text}
 use Rattle.std.proofs.lemmas.Bool.{leb-true}
-use Rattle.module_lang.specs.Bytes.{after_token, all_printable, token}
-use Rattle.module_lang.specs.Numbers.{constant_of, decimal_below}
+use Rattle.byte_text.specs.Bytes.{after_token, all_printable, token}
+use Rattle.byte_text.specs.Numbers.{constant_of, decimal_below}
 use Rattle.module_lang.proofs.InverseLaws.{tokens}
-use Rattle.module_lang.proofs.NumberLaws.{constant_found}
+use Rattle.byte_text.proofs.NumberLaws.{constant_found}
 use Rattle.life_state.specs.declared.state.State as code
 use Rattle.life_state.specs.Form.{IsFormed}
 use Rattle.life_state.specs.Seen.{seen, seen_some}
 use Rattle.life_state.specs.States.{State}
 use Rattle.life_check.specs.Seen.{seen_line}
-use Rattle.life_cert.specs.declared.draft.Draft.{Draft}
+use Rattle.life_cert.specs.declared.draft.CertDraft.{CertDraft}
 use Rattle.life_cert.specs.declared.due.Due.{Due}
 use Rattle.life_cert.specs.declared.due.Due.TheVariants as due
-use Rattle.life_cert.specs.declared.due.Line.{Line}
-use Rattle.life_cert.specs.declared.due.Line.TheVariants as line
+use Rattle.life_cert.specs.declared.due.CertLine.{CertLine}
+use Rattle.life_cert.specs.declared.due.CertLine.TheVariants as line
 use Rattle.life_cert.specs.declared.refusal.CertCode.{CertCode}
 use Rattle.life_cert.specs.declared.refusal.CertCode.TheVariants as code_of
 use Rattle.life_cert.specs.StateText.{each, state_text}
 use Rattle.life_cert.specs.CertText.{between_line, cert_text, pc_line, state_or_none}
 use Rattle.life_cert.specs.Reading.{due_after, due_line, end_or_pc, pc_due, where_due, HasCode, HasState, IsState, IsStateOrNone, LacksState, left_by}
-use Rattle.life_cert.specs.Drafts.{Counts, IsAdded, IsDraft, seen_draft, text_so_far}
+use Rattle.life_cert.specs.Drafts.{Counts, IsLineAdded, IsCertDraft, seen_draft, text_so_far}
 use Rattle.life_cert.proofs.Lines.{all_formed, formed_at, formed_more, last_some, lines_are, lines_more, lines_text}
 
 -- What is known of a line that is due.
-abbrev pub Found : Due → List ℕ → Line → Type 0
+abbrev pub Found : Due → List ℕ → CertLine → Type 0
 Found d l line.Header = (d ≡ due.Header) × (l ≡ codes "cert 1")
 Found d l line.Idle = (d ≡ due.Idle) × (l ≡ codes "idle" ++ after_token l)
 Found d l line.Ready = (d ≡ due.Ready) × (l ≡ codes "ready" ++ after_token l)
 Found d l (line.Instruction pc) = (next : ℕ) × ((d ≡ due.States next) × (next ≤ pc) × (pc < 1024) × (l ≡ decimal pc ++ after_token l))
 Found d l line.End = (next : ℕ) × ((d ≡ due.States next) × (l ≡ codes "end"))
 
-due_there : (b : Bool) (x y : Line) → where_due b x ≡ Some y → (b ≡ true) × (x ≡ y)
+due_there : (b : Bool) (x y : CertLine) → where_due b x ≡ Some y → (b ≡ true) × (x ≡ y)
 due_there true x y h = (refl, cc h)
 due_there false x y h = cc h
 
@@ -45,7 +45,7 @@ and_there : (a b : Bool) → (a && b) ≡ true → (a ≡ true) × (b ≡ true)
 and_there true b h = (refl, h)
 and_there false b h = cc h
 
-pc_there : (next : ℕ) (l : List ℕ) (o : Option ℕ) (x : Line) → decimal_below (2 ^ 32) (token l) ≡ o → pc_due next o ≡ Some x → Found (due.States next) l x
+pc_there : (next : ℕ) (l : List ℕ) (o : Option ℕ) (x : CertLine) → decimal_below (2 ^ 32) (token l) ≡ o → pc_due next o ≡ Some x → Found (due.States next) l x
 unfolding constant_of
 pc_there next l None x e h = cc h
 pc_there next l (Some pc) x e h =
@@ -56,14 +56,14 @@ pc_there next l (Some pc) x e h =
     let word : l ≡ decimal pc ++ after_token l = tokens l ∙ ap (λ t. t ++ after_token l) (constant_found (token l) pc e).0 in
     subst (Found (due.States next) l) is.1 (next, (refl, low, omega (arith, high), word))
 
-end_there : (next : ℕ) (l : List ℕ) (b : Bool) (x : Line) → pointwise nat_eq l (codes "end") ≡ b → end_or_pc next l ≡ Some x → Found (due.States next) l x
+end_there : (next : ℕ) (l : List ℕ) (b : Bool) (x : CertLine) → pointwise nat_eq l (codes "end") ≡ b → end_or_pc next l ≡ Some x → Found (due.States next) l x
 end_there next l true x e h =
     let is : Some line.End ≡ Some x = rw e at h in
     let end : line.End ≡ x = cc is in
     subst (Found (due.States next) l) end (next, (refl, same_text l (codes "end") (sym e)))
 end_there next l false x e h = pc_there next l (decimal_below (2 ^ 32) (token l)) x refl (rw e at h)
 
-pub found : (d : Due) (l : List ℕ) (x : Line) → due_line d l ≡ Some x → Found d l x
+pub found : (d : Due) (l : List ℕ) (x : CertLine) → due_line d l ≡ Some x → Found d l x
 unfolding due_line
 found due.Header l x h = let is = due_there (pointwise nat_eq l (codes "cert 1")) line.Header x h in subst (Found due.Header l) is.1 (refl, same_text l (codes "cert 1") (sym is.0))
 found due.Idle l x h = let is = due_there (pointwise nat_eq (token l) (codes "idle")) line.Idle x h in subst (Found due.Idle l) is.1 (refl, word_there l (codes "idle") is.0)
@@ -72,12 +72,12 @@ found (due.States next) l x h = end_there next l (pointwise nat_eq l (codes "end
 found due.Nothing l x h = cc h
 
 -- no code fits a line that is due and has its state
-pub right : (d : Due) (l : List ℕ) (x : Line) → all_printable l ≡ true → due_line d l ≡ Some x → HasState x (after_token l) → (c : CertCode) → HasCode d l c → ⊥
+pub right : (d : Due) (l : List ℕ) (x : CertLine) → all_printable l ≡ true → due_line d l ≡ Some x → HasState x (after_token l) → (c : CertCode) → HasCode d l c → ⊥
 right d l x clean is has code_of.BadByte h = cc (clean, h)
 right d l x clean is has code_of.NotDue h = cc (is, h)
-right d l x clean is has code_of.NotState h = let lacks = subst (λ (o : Option Line). LacksState o (after_token l)) is h in lacks has
+right d l x clean is has code_of.NotState h = let lacks = subst (λ (o : Option CertLine). LacksState o (after_token l)) is h in lacks has
 
-pub added : (d : Draft) (l : List ℕ) (e : Draft) (x : Line) → all_printable l ≡ true → due_line d.due l ≡ Some x → HasState x (after_token l) → e.due ≡ due_after x → text_so_far (due_after x) (seen_draft e) ≡ text_so_far d.due (seen_draft d) ++ (l ++ 10 ∷ []) → IsAdded d l e
+pub added : (d : CertDraft) (l : List ℕ) (e : CertDraft) (x : CertLine) → all_printable l ≡ true → due_line d.due l ≡ Some x → HasState x (after_token l) → e.due ≡ due_after x → text_so_far (due_after x) (seen_draft e) ≡ text_so_far d.due (seen_draft d) ++ (l ++ 10 ∷ []) → IsLineAdded d l e
 added d l e x clean is has next text = record {
   right = right d.due l x clean is has;
   due = next ∙ sym (ap (left_by d.due) is);
@@ -85,24 +85,24 @@ added d l e x clean is has next text = record {
 }
 
 -- The texts, line by line.
-abbrev head : Draft → List ℕ
+abbrev head : CertDraft → List ℕ
 head d = codes "cert 1\n" ++ between_line (codes "idle ") (seen_some d.idle)
 
-abbrev tail_of : Draft → List ℕ
+abbrev tail_of : CertDraft → List ℕ
 tail_of d = each 0 (length d.at.items) (λ pc. pc_line pc (seen_line (slice_get d.at.items pc)))
 
-pub header_text : (d e : Draft) (l : List ℕ) → d.due ≡ due.Header → l ≡ codes "cert 1" → text_so_far due.Idle (seen_draft e) ≡ text_so_far d.due (seen_draft d) ++ (l ++ 10 ∷ [])
+pub header_text : (d e : CertDraft) (l : List ℕ) → d.due ≡ due.Header → l ≡ codes "cert 1" → text_so_far due.Idle (seen_draft e) ≡ text_so_far d.due (seen_draft d) ++ (l ++ 10 ∷ [])
 unfolding text_so_far
 header_text d e l at is = sym (ap (λ (u : Due). text_so_far u (seen_draft d) ++ (l ++ 10 ∷ [])) at ∙ ap (λ t. t ++ 10 ∷ []) is)
 
 line_of : (w l : List ℕ) (o : Option State) → l ≡ w ++ after_token l → IsStateOrNone (after_token l) o → l ++ 10 ∷ [] ≡ w ++ (32 ∷ (state_or_none o ++ 10 ∷ []))
 line_of w l o is has = ap (λ t. t ++ 10 ∷ []) (is ∙ ap (λ t. w ++ t) has.1) ∙ append_assoc w (32 ∷ state_or_none o) (10 ∷ [])
 
-pub idle_text : (d e : Draft) (l : List ℕ) → d.due ≡ due.Idle → l ≡ codes "idle" ++ after_token l → IsStateOrNone (after_token l) (seen_some e.idle) → text_so_far due.Ready (seen_draft e) ≡ text_so_far d.due (seen_draft d) ++ (l ++ 10 ∷ [])
+pub idle_text : (d e : CertDraft) (l : List ℕ) → d.due ≡ due.Idle → l ≡ codes "idle" ++ after_token l → IsStateOrNone (after_token l) (seen_some e.idle) → text_so_far due.Ready (seen_draft e) ≡ text_so_far d.due (seen_draft d) ++ (l ++ 10 ∷ [])
 unfolding text_so_far
 idle_text d e l at is has = sym (ap (λ (u : Due). text_so_far u (seen_draft d) ++ (l ++ 10 ∷ [])) at ∙ ap (λ t. codes "cert 1\n" ++ t) (line_of (codes "idle") l (seen_some e.idle) is has))
 
-pub ready_text : (d e : Draft) (l : List ℕ) → d.due ≡ due.Ready → l ≡ codes "ready" ++ after_token l → IsStateOrNone (after_token l) (seen_some e.ready) → seen_some e.idle ≡ seen_some d.idle → length e.at.items ≡ 0 → text_so_far (due.States 0) (seen_draft e) ≡ text_so_far d.due (seen_draft d) ++ (l ++ 10 ∷ [])
+pub ready_text : (d e : CertDraft) (l : List ℕ) → d.due ≡ due.Ready → l ≡ codes "ready" ++ after_token l → IsStateOrNone (after_token l) (seen_some e.ready) → seen_some e.idle ≡ seen_some d.idle → length e.at.items ≡ 0 → text_so_far (due.States 0) (seen_draft e) ≡ text_so_far d.due (seen_draft d) ++ (l ++ 10 ∷ [])
 unfolding text_so_far each
 ready_text d e l at is has idle none =
     let ready = between_line (codes "ready ") (seen_some e.ready) in
@@ -114,7 +114,7 @@ ready_text d e l at is has idle none =
 regroup : (x r e l : List ℕ) → x ++ (r ++ (e ++ l)) ≡ (x ++ (r ++ e)) ++ l
 regroup x r e l = sym (append_assoc x (r ++ e) l ∙ ap (λ t. x ++ t) (append_assoc r e l))
 
-pub pc_text : (d e : Draft) (l : List ℕ) (next pc m : ℕ) (s : code.State) → d.due ≡ due.States next → l ≡ decimal pc ++ after_token l → IsState (after_token l) (seen s) → seen_some e.idle ≡ seen_some d.idle → seen_some e.ready ≡ seen_some d.ready → e.at.items ≡ (d.at.items ++ replicate m None) ++ Some s ∷ [] → pc ≡ length d.at.items + m
+pub pc_text : (d e : CertDraft) (l : List ℕ) (next pc m : ℕ) (s : code.State) → d.due ≡ due.States next → l ≡ decimal pc ++ after_token l → IsState (after_token l) (seen s) → seen_some e.idle ≡ seen_some d.idle → seen_some e.ready ≡ seen_some d.ready → e.at.items ≡ (d.at.items ++ replicate m None) ++ Some s ∷ [] → pc ≡ length d.at.items + m
     → text_so_far (due.States (pc + 1)) (seen_draft e) ≡ text_so_far d.due (seen_draft d) ++ (l ++ 10 ∷ [])
 unfolding text_so_far
 pc_text d e l next pc m s at is has idle ready items long =
@@ -129,7 +129,7 @@ pc_text d e l next pc m s at is has idle ready items long =
     ∙ regroup (head d) r (tail_of d) (l ++ 10 ∷ [])
     ∙ sym (ap (λ (u : Due). text_so_far u (seen_draft d) ++ (l ++ 10 ∷ [])) at)
 
-pub end_text : (d e : Draft) (l : List ℕ) (next : ℕ) → d.due ≡ due.States next → l ≡ codes "end" → seen_draft e ≡ seen_draft d → text_so_far due.Nothing (seen_draft e) ≡ text_so_far d.due (seen_draft d) ++ (l ++ 10 ∷ [])
+pub end_text : (d e : CertDraft) (l : List ℕ) (next : ℕ) → d.due ≡ due.States next → l ≡ codes "end" → seen_draft e ≡ seen_draft d → text_so_far due.Nothing (seen_draft e) ≡ text_so_far d.due (seen_draft d) ++ (l ++ 10 ∷ [])
 unfolding text_so_far cert_text
 end_text d e l next at is same =
     let r = between_line (codes "ready ") (seen_some d.ready) in
@@ -140,11 +140,11 @@ end_text d e l next at is same =
     ∙ sym (ap (λ (u : Due). text_so_far u (seen_draft d) ++ (l ++ 10 ∷ [])) at ∙ ap (λ t. (head d ++ (r ++ tail_of d)) ++ (t ++ 10 ∷ [])) is)
 
 -- The counts of lines.
-pub counts_at : (d : Draft) (u : Due) → IsDraft d → d.due ≡ u → Counts u (length d.at.items)
+pub counts_at : (d : CertDraft) (u : Due) → IsCertDraft d → d.due ≡ u → Counts u (length d.at.items)
 counts_at d u h at = subst (λ (v : Due). Counts v (length d.at.items)) at h.counts
 
 -- a state is added behind instructions that have none
-pub pc_draft : (d e : Draft) (next pc m : ℕ) (s : code.State) → IsDraft d → d.due ≡ due.States next → e.due ≡ due.States (pc + 1) → seen_some e.idle ≡ seen_some d.idle → seen_some e.ready ≡ seen_some d.ready → e.at.items ≡ (d.at.items ++ replicate m None) ++ Some s ∷ [] → pc ≡ length d.at.items + m → pc < 1024 → IsFormed (seen s) → IsDraft e
+pub pc_draft : (d e : CertDraft) (next pc m : ℕ) (s : code.State) → IsCertDraft d → d.due ≡ due.States next → e.due ≡ due.States (pc + 1) → seen_some e.idle ≡ seen_some d.idle → seen_some e.ready ≡ seen_some d.ready → e.at.items ≡ (d.at.items ++ replicate m None) ++ Some s ∷ [] → pc ≡ length d.at.items + m → pc < 1024 → IsFormed (seen s) → IsCertDraft e
 pc_draft d e next pc m s h at due idle ready items long few formed =
     let none : Option code.State = None in
     let before = d.at.items ++ replicate m none in

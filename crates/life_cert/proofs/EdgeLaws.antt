@@ -1,11 +1,11 @@
 -- Where edges lead, and that states keep their variables.
 use Rattle.std.proofs.Common.{◌≡◌, ℕ, Bool, true, false, not, ◌||◌, nat_lt, if◌then◌else◌, Option, Some, None, Ok, refl}
-use Rattle.module_lang.specs.declared.instr.Instr.{Instr}
-use Rattle.module_lang.specs.declared.instr.Instr.TheVariants as instr
-use Rattle.module_lang.specs.declared.instr.PoolRef.{PoolRef}
-use Rattle.module_lang.specs.declared.instr.VarRef.{VarRef}
-use Rattle.module_lang.specs.declared.instr.VarRef.TheVariants as variable
-use Rattle.module_lang.specs.Program.{Program, goes_on}
+use Rattle.module_code.specs.declared.instr.Instr.{Instr}
+use Rattle.module_code.specs.declared.instr.Instr.TheVariants as instr
+use Rattle.module_code.specs.declared.instr.PoolRef.{PoolRef}
+use Rattle.module_code.specs.declared.instr.VarRef.{VarRef}
+use Rattle.module_code.specs.declared.instr.VarRef.TheVariants as variable
+use Rattle.module_code.specs.Program.{Program, goes_on}
 use Rattle.run_model.specs.declared.fault.FaultKind.{FaultKind}
 use Rattle.run_model.specs.Faults.{wants}
 use Rattle.life_state.specs.declared.parts.Classes.{Classes}

@@ -1,13 +1,13 @@
 -- The rounds that are made are enough: each in which a state grows adds to what all states weigh together.
 use Rattle.std.proofs.Common.{◌≡◌, ℕ, zero, suc, ◌+◌, ◌*◌, ◌<◌, ◌≤◌, Bool, true, false, if◌then◌else◌, List, [], ◌∷◌, ◌++◌, length, All, ◌⊎◌, inl, inr, Option, Some, None, refl, ap, sym, ◌∙◌, subst, arith, ltb-true, length-append}
-use Rattle.module_lang.specs.Program.{Program, IsModule}
+use Rattle.module_code.specs.Program.{Program, IsModule}
 use Rattle.run_model.specs.Indexed.{upd}
 use Rattle.run_model.proofs.Updates.{upd_at, upd_off}
 use Rattle.life_state.specs.States.{State}
 use Rattle.life_state.specs.Order.{leq, join}
 use Rattle.life_check.specs.Certificates.{Certificate}
-use Rattle.life_cert.specs.declared.growth.Place.{Place}
-use Rattle.life_cert.specs.declared.growth.Place.TheVariants as place
+use Rattle.life_cert.specs.declared.growth.StatePlace.{StatePlace}
+use Rattle.life_cert.specs.declared.growth.StatePlace.TheVariants as place
 use Rattle.life_cert.specs.Rounds.{Arrival, Grown, state_at, with_state, handed_on, grow, arrive_by, arrive, arrived, round, begun, rounds, enough}
 use Rattle.life_cert.specs.Fitting.{is_inside, IsFit, IsOf}
 use Rattle.life_cert.specs.Laws.{RoundsEnd}
@@ -37,7 +37,7 @@ load_small p c =
     let d = sum_small (length p.code) 511 (λ k. height (c.at k)) (λ k h. height_small (c.at k)) in
     omega arith
 
-heavier : (p : Program) (w : Place) (s : State) (c : Certificate) → is_inside (length p.code) w ≡ true → height (state_at c w) < height (Some s) → load p c < load p (with_state w s c)
+heavier : (p : Program) (w : StatePlace) (s : State) (c : Certificate) → is_inside (length p.code) w ≡ true → height (state_at c w) < height (Some s) → load p c < load p (with_state w s c)
 heavier p place.Idle s c inside more = omega arith
 heavier p place.Ready s c inside more = omega arith
 heavier p (place.At pc) s c inside more =
@@ -50,7 +50,7 @@ heavier p (place.At pc) s c inside more =
 abbrev Paid : Program → Grown → Grown → Type 0
 Paid p g h = load p g.states + length h.grown ≤ load p h.states + length g.grown
 
-grow_paid : (p : Program) (w : Place) (s : State) (g : Grown) → is_inside (length p.code) w ≡ true → height (state_at g.states w) < height (Some s) → Paid p g (grow w s g)
+grow_paid : (p : Program) (w : StatePlace) (s : State) (g : Grown) → is_inside (length p.code) w ≡ true → height (state_at g.states w) < height (Some s) → Paid p g (grow w s g)
 grow_paid p w s g inside more =
     let load_more = heavier p w s g.states inside more in
     let one_more : length (g.grown ++ w ∷ []) ≡ length g.grown + 1 = length-append g.grown (w ∷ []) in
@@ -89,7 +89,7 @@ round_paid p m g h =
     = arrived_paid p (handed_on p g.states g.grown) (record { states = g.states; grown = [] }) (forgotten p g h) (handed_on_fits p m g.states g.grown h.states h.places) in
     omega arith
 
-by_list : (p : Program) (g h : Grown) (n : ℕ) (ws : List Place) → h.grown ≡ ws → n ≤ load p g.states → load p g.states + length h.grown ≤ load p h.states → (h.grown ≡ []) ⊎ (suc n ≤ load p h.states)
+by_list : (p : Program) (g h : Grown) (n : ℕ) (ws : List StatePlace) → h.grown ≡ ws → n ≤ load p g.states → load p g.states + length h.grown ≤ load p h.states → (h.grown ≡ []) ⊎ (suc n ≤ load p h.states)
 by_list p g h n [] e so_far paid = inl e
 by_list p g h n (w ∷ ws) e so_far paid = let long = ap length e in inr (omega arith)
 

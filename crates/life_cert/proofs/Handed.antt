@@ -2,22 +2,22 @@
 use Rattle.std.proofs.Common.{◌≡◌, ℕ, ◌+◌, ◌<◌, ◌≤◌, true, false, nat_lt, if◌then◌else◌, List, [], ◌∷◌, ◌++◌, length, All, Option, Some, None, IfSome, unwrap_or, Result, Ok, Err, slice_get, refl, ap, sym, ◌∙◌, subst, arith, drop, get_or, append_assoc, add-one, drop-cons, lt-ltb}
 use Rattle.std.proofs.lemmas.List.{append-nil, drop_all}
 use Rattle.std.proofs.lemmas.List.Elements.{All-nil, All-cons, All-append}
-use Rattle.module_lang.specs.declared.instr.Instr.{Instr}
-use Rattle.module_lang.specs.declared.instr.Instr.TheVariants as instr
-use Rattle.module_lang.specs.Program.{Program, IsPlaced, target}
+use Rattle.module_code.specs.declared.instr.Instr.{Instr}
+use Rattle.module_code.specs.declared.instr.Instr.TheVariants as instr
+use Rattle.module_code.specs.Program.{Program, IsPlaced, target}
 use Rattle.run_model.specs.declared.fault.FaultKind.{FaultKind}
 use Rattle.life_state.specs.States.{State}
 use Rattle.life_state.specs.Facts.{moved}
 use Rattle.life_state.specs.Rules.{Edges, rule, edges, cleared_under, at_main, at_return, at_end_of_request}
 use Rattle.life_check.specs.Certificates.{Certificate}
-use Rattle.life_cert.specs.declared.growth.Place.{Place}
-use Rattle.life_cert.specs.declared.growth.Place.TheVariants as place
+use Rattle.life_cert.specs.declared.growth.StatePlace.{StatePlace}
+use Rattle.life_cert.specs.declared.growth.StatePlace.TheVariants as place
 use Rattle.life_cert.specs.Rounds.{Arrival, state_at, arriving, left_place, returned, edges_arriving, handed_by_rule, handed_by_line, handed_by, handed_on}
 use Rattle.life_cert.specs.Fitting.{is_inside, IsDeclared, IsFit}
 use Rattle.life_cert.proofs.EdgeLaws.{AreAlike, SomeAlike, edges_alike, goes_on_next, rule_edges}
 
 -- a state that arrives, if there is one, fits
-some_fits : (p : Program) (w : Place) (o : Option State) → ((s : State) → o ≡ Some s → IsFit p (record { place = w; state = s })) → All (IsFit p) (arriving w o)
+some_fits : (p : Program) (w : StatePlace) (o : Option State) → ((s : State) → o ≡ Some s → IsFit p (record { place = w; state = s })) → All (IsFit p) (arriving w o)
 some_fits p w None h = All-nil (IsFit p)
 some_fits p w (Some s) h = All-cons (IsFit p) (record { place = w; state = s }) [] (h s refl) (All-nil (IsFit p))
 
@@ -75,7 +75,7 @@ ready_fits p s main h =
 
 -- One more place has handed on.
 
-pub handed_more : (p : Program) (c : Certificate) (xs : List Place) (i : ℕ) (d : Place) (old new all : List Arrival) → i < length xs
+pub handed_more : (p : Program) (c : Certificate) (xs : List StatePlace) (i : ℕ) (d : StatePlace) (old new all : List Arrival) → i < length xs
     → old ++ handed_on p c (drop i xs) ≡ all → new ≡ old ++ handed_by p (get_or xs i d) (state_at c (get_or xs i d)) → new ++ handed_on p c (drop (i + 1) xs) ≡ all
 unfolding handed_on
 handed_more p c xs i d old new all inside so_far more =
@@ -83,13 +83,13 @@ handed_more p c xs i d old new all inside so_far more =
     ap (λ (hs : List Arrival). hs ++ handed_on p c (drop (i + 1) xs)) more
     ∙ (append_assoc old (handed_by p w (state_at c w)) (handed_on p c (drop (i + 1) xs))
     ∙ (ap (λ (k : ℕ). old ++ (handed_by p w (state_at c w) ++ handed_on p c (drop k xs))) (add-one i)
-    ∙ (ap (λ (ws : List Place). old ++ handed_on p c ws) (sym (drop-cons xs i d inside)) ∙ so_far)))
+    ∙ (ap (λ (ws : List StatePlace). old ++ handed_on p c ws) (sym (drop-cons xs i d inside)) ∙ so_far)))
 
-pub handed_all : (p : Program) (c : Certificate) (xs : List Place) (i : ℕ) (old all : List Arrival) → length xs ≤ i
+pub handed_all : (p : Program) (c : Certificate) (xs : List StatePlace) (i : ℕ) (old all : List Arrival) → length xs ≤ i
     → old ++ handed_on p c (drop i xs) ≡ all → old ≡ all
 unfolding handed_on
 handed_all p c xs i old all past so_far =
-    sym (append-nil old) ∙ (ap (λ (ws : List Place). old ++ handed_on p c ws) (sym (drop_all i xs past)) ∙ so_far)
+    sym (append-nil old) ∙ (ap (λ (ws : List StatePlace). old ++ handed_on p c ws) (sym (drop_all i xs past)) ∙ so_far)
 
 pub fit_more : (p : Program) (old more new : List Arrival) → new ≡ old ++ more → All (IsFit p) old → All (IsFit p) more → All (IsFit p) new
 fit_more p old more new e a b = subst (λ (hs : List Arrival). All (IsFit p) hs) (sym e) (All-append (IsFit p) old more a b)

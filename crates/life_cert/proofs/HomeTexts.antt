@@ -5,57 +5,57 @@ use Rattle.std.proofs.lemmas.Bool.{ltb-true}
 use Rattle.std.proofs.lemmas.Fmt.{decimal_digit}
 use Rattle.life_state.specs.States.{Homes}
 use Rattle.life_state.proofs.Tests.{split2}
-use Rattle.life_cert.specs.declared.print_state.Home.{Home}
-use Rattle.life_cert.specs.declared.print_state.Home.TheVariants as home
+use Rattle.life_cert.specs.declared.print_state.HomeWord.{HomeWord}
+use Rattle.life_cert.specs.declared.print_state.HomeWord.TheVariants as home
 use Rattle.life_cert.specs.StateText.{where_holds, homes, home_text, has_home, more_homes, some_homes, homes_text}
 use Rattle.life_cert.specs.StateFromText.{behind, homes_from, homes_past, homes_read, more_there, past, past_more, past_some, some_there, starts}
 use Rattle.life_cert.proofs.Taking.{Ended, not_begun, behind_self, skips, starts_self, word_is, word_past}
 
 -- the two bytes by which a home's name begins, and the others
-abbrev first : Home → ℕ
+abbrev first : HomeWord → ℕ
 first home.Call = 99
 first home.Req = 114
 first (home.Own q) = 112
 first home.Dead = 100
 
-abbrev second : Home → ℕ
+abbrev second : HomeWord → ℕ
 second home.Call = 97
 second home.Req = 101
 second (home.Own q) = 48 + q
 second home.Dead = 101
 
-abbrev others : Home → List ℕ
+abbrev others : HomeWord → List ℕ
 others home.Call = codes "ll"
 others home.Req = codes "q"
 others (home.Own q) = []
 others home.Dead = codes "ad"
 
-abbrev is_small : Home → Bool
+abbrev is_small : HomeWord → Bool
 is_small (home.Own q) = nat_lt q 10
 is_small _ = true
 
-named : (x : Home) → is_small x ≡ true → home_text x ≡ first x ∷ (second x ∷ others x)
+named : (x : HomeWord) → is_small x ≡ true → home_text x ≡ first x ∷ (second x ∷ others x)
 named home.Call h = refl
 named home.Req h = refl
 named (home.Own q) h = ap (λ t. 112 ∷ t) (decimal_digit q (ltb-true q 10 h))
 named home.Dead h = refl
 
 -- the names of homes tell them apart
-abbrev pub are_apart : Home → Home → Bool
+abbrev pub are_apart : HomeWord → HomeWord → Bool
 are_apart x y = not (eqb (first y) (first x) && eqb (second y) (second x))
 
-abbrev pub is_apart_from : Home → List Home → Bool
+abbrev pub is_apart_from : HomeWord → List HomeWord → Bool
 is_apart_from x [] = true
 is_apart_from x (y ∷ ys) = (is_small y && are_apart x y) && is_apart_from x ys
 
-abbrev pub all_apart : List Home → Bool
+abbrev pub all_apart : List HomeWord → Bool
 all_apart [] = true
 all_apart (x ∷ xs) = (is_small x && is_apart_from x xs) && all_apart xs
 
 pub homes_apart : all_apart homes ≡ true
 homes_apart = refl
 
-apart : (x y : Home) (m : List ℕ) → is_small x ≡ true → is_small y ≡ true → are_apart x y ≡ true → starts (home_text x) (home_text y ++ m) ≡ false
+apart : (x y : HomeWord) (m : List ℕ) → is_small x ≡ true → is_small y ≡ true → are_apart x y ≡ true → starts (home_text x) (home_text y ++ m) ≡ false
 apart x y m p q h =
     ap (λ t. starts t (home_text y ++ m)) (named x p) ∙ ap (λ t. starts (first x ∷ (second x ∷ others x)) (t ++ m)) (named y q)
     ∙ by (eqb (first y) (first x)) (eqb (second y) (second x)) h
@@ -66,11 +66,11 @@ apart x y m p q h =
     by false b k = refl
 
 -- which of these are meant
-abbrev pub bits : Homes → List Home → List Bool
+abbrev pub bits : Homes → List HomeWord → List Bool
 bits h [] = []
 bits h (x ∷ xs) = has_home h x ∷ bits h xs
 
-no_more : (x : Home) (ys : List Home) (h : Homes) (m : List ℕ) → is_small x ≡ true → is_apart_from x ys ≡ true → Ended m → starts (44 ∷ home_text x) (more_homes h ys ++ m) ≡ false
+no_more : (x : HomeWord) (ys : List HomeWord) (h : Homes) (m : List ℕ) → is_small x ≡ true → is_apart_from x ys ≡ true → Ended m → starts (44 ∷ home_text x) (more_homes h ys ++ m) ≡ false
 no_more x [] h m p a e = not_begun 44 (home_text x) m e refl refl refl
 no_more x (y ∷ ys) h m p a e =
     let two = split2 (is_small y && are_apart x y) (is_apart_from x ys) a in
@@ -79,11 +79,11 @@ no_more x (y ∷ ys) h m p a e =
     ap (starts (44 ∷ home_text x)) (append_assoc (where_holds (has_home h y) (44 ∷ home_text y)) (more_homes h ys) m)
     ∙ skips (44 ∷ home_text x) (44 ∷ home_text y) (has_home h y) rest (apart x y rest p one.0 one.1) (no_more x ys h m p two.1 e)
 
-pub record MoreTaken (xs : List Home) (h : Homes) (m t : List ℕ) : Type 0 where
+pub record MoreTaken (xs : List HomeWord) (h : Homes) (m t : List ℕ) : Type 0 where
   pub there : more_there xs t ≡ bits h xs
   pub more : past_more xs t ≡ m
 
-pub more_taken : (xs : List Home) (h : Homes) (m : List ℕ) → all_apart xs ≡ true → Ended m → MoreTaken xs h m (more_homes h xs ++ m)
+pub more_taken : (xs : List HomeWord) (h : Homes) (m : List ℕ) → all_apart xs ≡ true → Ended m → MoreTaken xs h m (more_homes h xs ++ m)
 more_taken [] h m a e = record { there = refl; more = refl }
 more_taken (x ∷ xs) h m a e =
     let two = split2 (is_small x && is_apart_from x xs) (all_apart xs) a in
@@ -99,16 +99,16 @@ more_taken (x ∷ xs) h m a e =
       more = ap (past_more xs) after ∙ on.more;
     }
 
-no_dash : (x : Home) (m : List ℕ) → is_small x ≡ true → starts (home_text x) (45 ∷ m) ≡ false
+no_dash : (x : HomeWord) (m : List ℕ) → is_small x ≡ true → starts (home_text x) (45 ∷ m) ≡ false
 no_dash x m p = ap (λ t. starts t (45 ∷ m)) (named x p) ∙ by x
   where
-    by : (x : Home) → (eqb 45 (first x) && starts (second x ∷ others x) m) ≡ false
+    by : (x : HomeWord) → (eqb 45 (first x) && starts (second x ∷ others x) m) ≡ false
     by home.Call = refl
     by home.Req = refl
     by (home.Own q) = refl
     by home.Dead = refl
 
-no_some : (x : Home) (ys : List Home) (h : Homes) (m : List ℕ) → is_small x ≡ true → is_apart_from x ys ≡ true → starts (home_text x) (some_homes h ys ++ m) ≡ false
+no_some : (x : HomeWord) (ys : List HomeWord) (h : Homes) (m : List ℕ) → is_small x ≡ true → is_apart_from x ys ≡ true → starts (home_text x) (some_homes h ys ++ m) ≡ false
 no_some x [] h m p a = no_dash x m p
 no_some x (y ∷ ys) h m p a =
     let two = split2 (is_small y && are_apart x y) (is_apart_from x ys) a in
@@ -119,11 +119,11 @@ no_some x (y ∷ ys) h m p a =
     by true small far on = ap (starts (home_text x)) (append_assoc (home_text y) (more_homes h ys) m) ∙ apart x y (more_homes h ys ++ m) p small far
     by false small far on = on
 
-pub record SomeTaken (xs : List Home) (h : Homes) (m t : List ℕ) : Type 0 where
+pub record SomeTaken (xs : List HomeWord) (h : Homes) (m t : List ℕ) : Type 0 where
   pub there : some_there xs t ≡ bits h xs
   pub more : past_some xs t ≡ m
 
-some_taken : (xs : List Home) (h : Homes) (m : List ℕ) → all_apart xs ≡ true → Ended m → SomeTaken xs h m (some_homes h xs ++ m)
+some_taken : (xs : List HomeWord) (h : Homes) (m : List ℕ) → all_apart xs ≡ true → Ended m → SomeTaken xs h m (some_homes h xs ++ m)
 some_taken [] h m a e = record { there = refl; more = refl }
 some_taken (x ∷ xs) h m a e =
     let two = split2 (is_small x && is_apart_from x xs) (all_apart xs) a in

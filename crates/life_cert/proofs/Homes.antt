@@ -2,16 +2,16 @@
 use Rattle.std.proofs.Common.{◌≡◌, ℕ, ◌+◌, ◌<◌, Bool, true, false, not, List, [], ◌∷◌, ◌++◌, length, get_or, drop, codes, Option, refl, ap, subst, ◌∙◌, add-one, drop-cons}
 use Rattle.std.specs.Prelude.{Result, is_err, if◌then◌else◌}
 use Rattle.std.specs.Io.KnownBytes.{Appends}
-use Rattle.module_lang.specs.Writes.{Wrote}
-use Rattle.module_lang.proofs.WritingLaws.{Leaves, leaves_all, leaves_fault, leaves_last, leaves_less}
+use Rattle.byte_text.specs.Writes.{Wrote}
+use Rattle.byte_text.proofs.WritingLaws.{Leaves, leaves_all, leaves_fault, leaves_last, leaves_less}
 use Rattle.life_state.specs.States.{Homes}
 use Rattle.life_cert.proofs.Writing.{Front}
-use Rattle.life_cert.specs.declared.print_state.Home.{Home}
-use Rattle.life_cert.specs.declared.print_state.Home.TheVariants as home
+use Rattle.life_cert.specs.declared.print_state.HomeWord.{HomeWord}
+use Rattle.life_cert.specs.declared.print_state.HomeWord.TheVariants as home
 use Rattle.life_cert.specs.StateText.{where_holds, homes, home_text, has_home, more_homes, some_homes, homes_text}
 
 -- what is left to be written of these homes, by whether one was written
-abbrev pub rest_homes : Bool → Homes → List Home → List ℕ
+abbrev pub rest_homes : Bool → Homes → List HomeWord → List ℕ
 rest_homes true h xs = more_homes h xs
 rest_homes false h xs = some_homes h xs
 
@@ -23,11 +23,11 @@ pub homes_begin : (a : Option (List ℕ)) (h : Homes) → LeavesHomes a a false 
 unfolding homes_text
 homes_begin a h = record { left = leaves_all a (homes_text h) }
 
-rest_has : (any : Bool) (h : Homes) (x : Home) (xs : List Home) → has_home h x ≡ true → rest_homes any h (x ∷ xs) ≡ where_holds any (codes ",") ++ (home_text x ++ more_homes h xs)
+rest_has : (any : Bool) (h : Homes) (x : HomeWord) (xs : List HomeWord) → has_home h x ≡ true → rest_homes any h (x ∷ xs) ≡ where_holds any (codes ",") ++ (home_text x ++ more_homes h xs)
 rest_has true h x xs has = ap (λ (b : Bool). where_holds b (codes "," ++ home_text x) ++ more_homes h xs) has
 rest_has false h x xs has = ap (λ (b : Bool). if b then home_text x ++ more_homes h xs else some_homes h xs) has
 
-rest_lacks : (any : Bool) (h : Homes) (x : Home) (xs : List Home) → has_home h x ≡ false → rest_homes any h (x ∷ xs) ≡ rest_homes any h xs
+rest_lacks : (any : Bool) (h : Homes) (x : HomeWord) (xs : List HomeWord) → has_home h x ≡ false → rest_homes any h (x ∷ xs) ≡ rest_homes any h xs
 rest_lacks true h x xs has = ap (λ (b : Bool). where_holds b (codes "," ++ home_text x) ++ more_homes h xs) has
 rest_lacks false h x xs has = ap (λ (b : Bool). if b then home_text x ++ more_homes h xs else some_homes h xs) has
 

@@ -3,33 +3,33 @@ use Rattle.std.proofs.Common.{◌≡◌, ℕ, zero, suc, ◌+◌, ◌<◌, Bool,
 use Rattle.std.specs.Prelude.{slice_index_or}
 use Rattle.std.proofs.Math.Path.{fun_ext}
 use Rattle.std.proofs.lemmas.Fmt.{decimal_digit}
-use Rattle.module_lang.specs.declared.instr.PoolRef.{PoolRef}
-use Rattle.module_lang.specs.declared.instr.PoolRef.TheVariants as pool
+use Rattle.module_code.specs.declared.instr.PoolRef.{PoolRef}
+use Rattle.module_code.specs.declared.instr.PoolRef.TheVariants as pool
 use Rattle.std.proofs.Math.ListN.{length-set}
 use Rattle.std.proofs.Math.Seq.{take-suc-set}
 use Rattle.std.proofs.lemmas.List.{take_all}
 use Rattle.life_state.specs.Seen.{seen_homes, seen_pools}
 use Rattle.life_state.specs.States.{Homes}
-use Rattle.life_cert.specs.declared.print_state.Home.{Home}
-use Rattle.life_cert.specs.declared.print_state.Home.TheVariants as home
+use Rattle.life_cert.specs.declared.print_state.HomeWord.{HomeWord}
+use Rattle.life_cert.specs.declared.print_state.HomeWord.TheVariants as home
 use Rattle.life_cert.specs.StateText.{home_text, homes, where_holds}
 use Rattle.life_cert.specs.StateFromText.{at_from, behind, dead_from, homes_from, homes_past, homes_read, more_there, own_from, past, past_more, past_some, some_there, starts}
 use Rattle.life_cert.proofs.StateWords.{past_found}
 use Rattle.life_cert.proofs.Taking.{past_none}
 
 -- which of these are written, and what is left behind them, by whether one stands before them
-abbrev pub there : Bool → List Home → List ℕ → List Bool
+abbrev pub there : Bool → List HomeWord → List ℕ → List Bool
 there true xs t = more_there xs t
 there false xs t = some_there xs t
 
-abbrev pub past_these : Bool → List Home → List ℕ → List ℕ
+abbrev pub past_these : Bool → List HomeWord → List ℕ → List ℕ
 past_these true xs t = past_more xs t
 past_these false xs t = past_some xs t
 
-abbrev pub next_word : Bool → Home → List ℕ
+abbrev pub next_word : Bool → HomeWord → List ℕ
 next_word any x = where_holds any (codes ",") ++ home_text x
 
-pub there_next : (any : Bool) (x : Home) (xs : List Home) (t : List ℕ) → there any (x ∷ xs) t ≡ starts (next_word any x) t ∷ there (any || starts (next_word any x) t) xs (past (next_word any x) t)
+pub there_next : (any : Bool) (x : HomeWord) (xs : List HomeWord) (t : List ℕ) → there any (x ∷ xs) t ≡ starts (next_word any x) t ∷ there (any || starts (next_word any x) t) xs (past (next_word any x) t)
 there_next true x xs t = refl
 there_next false x xs t = by (starts (home_text x) t) refl
   where
@@ -37,7 +37,7 @@ there_next false x xs t = by (starts (home_text x) t) refl
     by true e = ap (λ r. true ∷ more_there xs r) (sym (past_found (home_text x) t e))
     by false e = ap (λ r. false ∷ some_there xs r) (past_none (home_text x) t e)
 
-pub past_next : (any : Bool) (x : Home) (xs : List Home) (t : List ℕ) → past_these any (x ∷ xs) t ≡ past_these (any || starts (next_word any x) t) xs (past (next_word any x) t)
+pub past_next : (any : Bool) (x : HomeWord) (xs : List HomeWord) (t : List ℕ) → past_these any (x ∷ xs) t ≡ past_these (any || starts (next_word any x) t) xs (past (next_word any x) t)
 past_next true x xs t = refl
 past_next false x xs t = by (starts (home_text x) t) refl
   where
@@ -46,7 +46,7 @@ past_next false x xs t = by (starts (home_text x) t) refl
     by false e = ap (past_some xs) (past_none (home_text x) t e)
 
 -- the pools of the variables, and what is dead
-abbrev pub owns : List Home
+abbrev pub owns : List HomeWord
 owns = drop 2 homes
 
 own_next : (q : ℕ) → q < 8 → drop q owns ≡ home.Own q ∷ drop (q + 1) owns
@@ -66,10 +66,10 @@ pub record OwnsRead (t : List ℕ) (call req any : Bool) (own : List Bool) (u : 
   pub left : past_some homes t ≡ past_these any (drop q owns) u
   pub eight : length own ≡ 8
 
-there_step : (any : Bool) (x : Home) (xs : List Home) (t : List ℕ) (b : Bool) (u : List ℕ) → b ≡ starts (next_word any x) t → u ≡ past (next_word any x) t → there any (x ∷ xs) t ≡ b ∷ there (any || b) xs u
+there_step : (any : Bool) (x : HomeWord) (xs : List HomeWord) (t : List ℕ) (b : Bool) (u : List ℕ) → b ≡ starts (next_word any x) t → u ≡ past (next_word any x) t → there any (x ∷ xs) t ≡ b ∷ there (any || b) xs u
 there_step any x xs t b u is on = there_next any x xs t ∙ sym (ap (λ (c : Bool). c ∷ there (any || c) xs u) is ∙ ap (λ r. starts (next_word any x) t ∷ there (any || starts (next_word any x) t) xs r) on)
 
-past_step : (any : Bool) (x : Home) (xs : List Home) (t : List ℕ) (b : Bool) (u : List ℕ) → b ≡ starts (next_word any x) t → u ≡ past (next_word any x) t → past_these any (x ∷ xs) t ≡ past_these (any || b) xs u
+past_step : (any : Bool) (x : HomeWord) (xs : List HomeWord) (t : List ℕ) (b : Bool) (u : List ℕ) → b ≡ starts (next_word any x) t → u ≡ past (next_word any x) t → past_these any (x ∷ xs) t ≡ past_these (any || b) xs u
 past_step any x xs t b u is on = past_next any x xs t ∙ sym (ap (λ (c : Bool). past_these (any || c) xs u) is ∙ ap (past_these (any || starts (next_word any x) t) xs) on)
 
 pub owns_begin : (t : List ℕ) (call req : Bool) (u v : List ℕ) → call ≡ starts (codes "call") t → u ≡ past (codes "call") t → req ≡ starts (where_holds call (codes ",") ++ codes "req") u → v ≡ past (where_holds call (codes ",") ++ codes "req") u → OwnsRead t call req (call || req) (false ∷ (false ∷ (false ∷ (false ∷ (false ∷ (false ∷ (false ∷ (false ∷ [])))))))) v 0

@@ -27,5 +27,8 @@ pub mod StateReading
 pub mod TextFacts
 pub mod OneState
 pub mod PrintedStates
+pub mod TextLengths
 pub mod PrintedCert
 pub mod OneCert
+pub mod Least
+pub mod LeastTyped

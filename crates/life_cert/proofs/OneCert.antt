@@ -5,8 +5,8 @@ use Rattle.std.proofs.lemmas.Bool.{cases_eq, ltb-false, ltb-true}
 use Rattle.std.proofs.lemmas.Fmt.{decimal_injective}
 use Rattle.std.proofs.lemmas.List.{append_cancel_left}
 use Rattle.std.proofs.lemmas.Option.{slice_get_past}
-use Rattle.module_lang.specs.Bytes.{begins, token}
-use Rattle.module_lang.proofs.NumberLaws.{decimal_begins, decimal_without}
+use Rattle.byte_text.specs.Bytes.{begins, token}
+use Rattle.byte_text.proofs.NumberLaws.{decimal_begins, decimal_without}
 use Rattle.module_lang.proofs.SpellingLaws.{token_again}
 use Rattle.life_state.specs.Form.{IsFormed}
 use Rattle.life_state.specs.States.{State}
@@ -17,10 +17,11 @@ use Rattle.life_cert.specs.declared.refusal.CertRefusal.{CertRefusal}
 use Rattle.life_cert.specs.declared.refusal.CertRefusal.TheVariants.{Fault, NoMemory}
 use Rattle.life_cert.specs.StateText.{each, sent_text, state_text}
 use Rattle.life_cert.specs.CertText.{between_line, cert_text, pc_line, state_or_none}
-use Rattle.life_cert.specs.Reading.{HaveSameStates, IsCertificate, IsPrinted, IsTextOf, IsTold, IsWritable}
+use Rattle.life_cert.specs.Reading.{HaveSameStates, IsCertificate, IsPrinted, IsCertText, IsTold, IsWritable}
 use Rattle.life_cert.proofs.OneState.{read_as, state_back}
 use Rattle.life_cert.proofs.PrintedCert.{no_fault}
 use Rattle.life_cert.proofs.StateReading.{from_pools, parts}
+use Rattle.life_cert.proofs.TextLengths.{all_lines}
 
 -- A state, or none, before the end of a line.
 one_state_line : (s t : State) (m n : List ℕ) → IsFormed s → IsFormed t → state_text s ++ (10 ∷ m) ≡ state_text t ++ (10 ∷ n) → (s ≡ t) × (m ≡ n)
@@ -107,25 +108,6 @@ module _ (at bt : ℕ → Option State) (f : (pc : ℕ) → IfSome (at pc) IsFor
       (λ (ne : i ≡ pc → ⊥). one_each n (pc + 1) (omega (arith, high)) both.1 i (omega (arith, low, ne)) (omega (arith, below)))
       (cases_eq i pc)
 
--- Lines that are not there are empty.
-none_each : (f : ℕ → List ℕ) (n k : ℕ) → ((i : ℕ) → k ≤ i → f i ≡ []) → each k n f ≡ []
-unfolding each
-none_each f zero k h = refl
-none_each f (suc n) k h = ap (λ t. t ++ each (k + 1) n f) (h k (omega arith)) ∙ none_each f n (k + 1) (λ i low. h i (omega (arith, low)))
-
-more_each : (f : ℕ → List ℕ) (n m k : ℕ) → n ≤ m → ((i : ℕ) → k + n ≤ i → f i ≡ []) → each k n f ≡ each k m f
-unfolding each
-more_each f zero m k few h = sym (none_each f m k (λ i low. h i (omega (arith, low))))
-more_each f (suc n) zero k few h = absurd (omega (arith, few))
-more_each f (suc n) (suc m) k few h = ap (λ t. f k ++ t) (more_each f n m (k + 1) (omega (arith, few)) (λ i low. h i (omega (arith, low))))
-
-all_lines : (c : Certificate) → IsWritable c → each 0 c.lines (λ i. pc_line i (c.at i)) ≡ each 0 1024 (λ i. pc_line i (c.at i))
-all_lines c h = by (nat_lt c.lines 1024) refl
-  where
-    by : (x : Bool) → nat_lt c.lines 1024 ≡ x → each 0 c.lines (λ i. pc_line i (c.at i)) ≡ each 0 1024 (λ i. pc_line i (c.at i))
-    by true e = more_each (λ i. pc_line i (c.at i)) c.lines 1024 0 (let low = ltb-true c.lines 1024 e in omega (arith, low)) (λ i low. ap (pc_line i) (h.none i (omega (arith, low))))
-    by false e = sym (more_each (λ i. pc_line i (c.at i)) 1024 c.lines 0 (ltb-false c.lines 1024 e) (λ i low. ap (pc_line i) (h.few i (omega (arith, low)))))
-
 at_pc : (c d : Certificate) → IsWritable c → IsWritable d → pcs 0 1024 c.at ≡ pcs 0 1024 d.at → (pc : ℕ) (x : Bool) → nat_lt pc 1024 ≡ x → c.at pc ≡ d.at pc
 at_pc c d f g e pc true low = let below = ltb-true pc 1024 low in one_each c.at d.at f.at g.at 1024 0 (omega arith) e pc (omega arith) (omega (arith, below))
 at_pc c d f g e pc false high = let past = ltb-false pc 1024 high in f.few pc past ∙ sym (g.few pc past)
@@ -150,12 +132,12 @@ seen_writable r h =
     record { idle = h.idle; ready = h.ready; at = h.at; none = gone; few = λ pc high. gone pc (omega (arith, few, high)) }
 
 -- What was printed is read again.
-pub read_again : (text : List ℕ) (r : Result Cert CertRefusal) → IfOk r (λ x. IsTextOf text (seen_cert x)) → IfErr r (λ e. IsTold text e) → (c : Certificate) → IsPrinted text c → MatchResult r (λ x. HaveSameStates (seen_cert x) c) (λ e. e ≡ NoMemory)
+pub read_again : (text : List ℕ) (r : Result Cert CertRefusal) → IfOk r (λ x. IsCertText text (seen_cert x)) → IfErr r (λ e. IsTold text e) → (c : Certificate) → IsPrinted text c → MatchResult r (λ x. HaveSameStates (seen_cert x) c) (λ e. e ≡ NoMemory)
 read_again text (Ok x) is told c p = one_cert (seen_cert x) c (seen_writable x is.sound) p.writable (sym is.whole ∙ p.whole)
 read_again text (Err (Fault n k)) is told c p = absurd (no_fault text c n k p told.fits)
 read_again text (Err NoMemory) is told c p = refl
 
 -- as the reader of lines tells it
-pub read_short : (text : List ℕ) (r : Result Cert CertRefusal) → IfOk r (λ x. (false ≡ false) × IsTextOf text (seen_cert x)) → IfErr r (λ e. IsTold text e) → (c : Certificate) → IsPrinted text c → MatchResult r (λ x. HaveSameStates (seen_cert x) c) (λ e. e ≡ NoMemory)
+pub read_short : (text : List ℕ) (r : Result Cert CertRefusal) → IfOk r (λ x. (false ≡ false) × IsCertText text (seen_cert x)) → IfErr r (λ e. IsTold text e) → (c : Certificate) → IsPrinted text c → MatchResult r (λ x. HaveSameStates (seen_cert x) c) (λ e. e ≡ NoMemory)
 read_short text (Ok x) is told c p = read_again text (Ok x) is.1 told c p
 read_short text (Err e) is told c p = read_again text (Err e) is told c p

@@ -5,11 +5,11 @@ use Rattle.std.specs.List.{list_all}
 use Rattle.std.specs.Cmp.Lexicographic.{pointwise}
 use Rattle.std.proofs.lemmas.Bool.{le-leb, le-ltb, ltb-false, ltb-true}
 use Rattle.std.proofs.lemmas.List.{take_all}
-use Rattle.module_lang.specs.Bytes.{after_token, all_printable, begins, is_printable}
-use Rattle.module_lang.specs.Numbers.{constant_of}
-use Rattle.module_lang.specs.TextLines.{lines_from, rest_from}
+use Rattle.byte_text.specs.Bytes.{after_token, all_printable, begins, is_printable}
+use Rattle.byte_text.specs.Numbers.{constant_of}
+use Rattle.byte_text.specs.TextLines.{lines_from, rest_from}
 use Rattle.module_lang.specs.Texts.{joined}
-use Rattle.module_lang.proofs.NumberLaws.{constant_again, decimal_begins, decimal_without}
+use Rattle.byte_text.proofs.NumberLaws.{constant_again, decimal_begins, decimal_without}
 use Rattle.module_lang.proofs.SpellingLaws.{after_again, token_again}
 use Rattle.life_state.specs.Form.{IsFormed}
 use Rattle.life_state.specs.States.{State}
@@ -17,15 +17,16 @@ use Rattle.life_state.proofs.Tests.{split2}
 use Rattle.life_check.specs.Certificates.{Certificate}
 use Rattle.life_cert.specs.declared.due.Due.{Due}
 use Rattle.life_cert.specs.declared.due.Due.TheVariants as due
-use Rattle.life_cert.specs.declared.due.Line.{Line}
-use Rattle.life_cert.specs.declared.due.Line.TheVariants as line
+use Rattle.life_cert.specs.declared.due.CertLine.{CertLine}
+use Rattle.life_cert.specs.declared.due.CertLine.TheVariants as line
 use Rattle.life_cert.specs.declared.refusal.CertCode.{CertCode}
 use Rattle.life_cert.specs.declared.refusal.CertCode.TheVariants as code
 use Rattle.life_cert.specs.StateText.{each, state_text}
 use Rattle.life_cert.specs.CertText.{between_line, cert_text, pc_line, state_or_none}
-use Rattle.life_cert.specs.Reading.{HasLineCode, HasState, IsPrinted, IsWritable, LinesHaveCode, due_after, due_line, goes_on, left_by}
+use Rattle.life_cert.specs.Reading.{HasCertLineCode, HasState, IsPrinted, IsWritable, CertLinesHaveCode, due_after, due_line, goes_on, left_by}
 use Rattle.life_cert.proofs.DraftLaws.{right}
 use Rattle.life_cert.proofs.PrintedStates.{IsClean, both, decimal_clean, plain, state_clean}
+use Rattle.life_cert.proofs.TextLengths.{printed_is_short}
 
 -- The lines.
 abbrev pub more_lines : ℕ → Option State → List (List ℕ) → List (List ℕ)
@@ -122,12 +123,12 @@ module _ (c : Certificate) (h : IsWritable c) where
 
 -- No line of these has a fault, where this line is due first.
 abbrev pub NoFaults : Due → List (List ℕ) → Type 0
-NoFaults d ls = (n m : ℕ) (k : CertCode) → LinesHaveCode false d n ls m k → ⊥
+NoFaults d ls = (n m : ℕ) (k : CertCode) → CertLinesHaveCode false d n ls m k → ⊥
 
-no_faults : (d : Due) (l : List ℕ) (ls : List (List ℕ)) (x : Line) → IsClean l → due_line d l ≡ Some x → HasState x (after_token l) → NoFaults (due_after x) ls → NoFaults d (l ∷ ls)
+no_faults : (d : Due) (l : List ℕ) (ls : List (List ℕ)) (x : CertLine) → IsClean l → due_line d l ≡ Some x → HasState x (after_token l) → NoFaults (due_after x) ls → NoFaults d (l ∷ ls)
 unfolding all_printable
 no_faults d l ls x clean is has more n m k (inl f) = right d l x clean.clean is has k f.1
-no_faults d l ls x clean is has more n m k (inr f) = more (n + 1) m k (subst (λ (u : Due). LinesHaveCode false u (n + 1) ls m k) (ap (left_by d) is) f)
+no_faults d l ls x clean is has more n m k (inr f) = more (n + 1) m k (subst (λ (u : Due). CertLinesHaveCode false u (n + 1) ls m k) (ap (left_by d) is) f)
 
 none_after : NoFaults due.Nothing []
 none_after n m code.BadByte h = cc (h.1)
@@ -176,10 +177,11 @@ module _ (c : Certificate) (h : IsWritable c) where
       (no_faults due.Ready (codes "ready" ++ (32 ∷ r)) third line.Ready clean.1.1.0 ready_is (c.ready, (h.ready, after_again (codes "ready") (32 ∷ r) refl refl)) (pcs_right 0 0 c.lines (omega arith))))
 
 -- What was printed has no fault.
-pub no_fault : (text : List ℕ) (c : Certificate) (n : ℕ) (k : CertCode) → IsPrinted text c → HasLineCode text n k → ⊥
+pub no_fault : (text : List ℕ) (c : Certificate) (n : ℕ) (k : CertCode) → IsPrinted text c → HasCertLineCode text n k → ⊥
 no_fault text c n k p f =
-    let cut : take 4194304 text ≡ joined (cert_lines c) = take_all 4194304 text p.small ∙ p.whole ∙ sym (cert_joined c) in
+    let small = printed_is_short text c p in
+    let cut : take 4194304 text ≡ joined (cert_lines c) = take_all 4194304 text small ∙ p.whole ∙ sym (cert_joined c) in
     let found = lines_found (cert_lines c) (lines_clean c p.writable) in
     let lines : lines_from [] (take 4194304 text) ≡ cert_lines c = ap (λ t. lines_from [] t) cut ∙ found.0 in
-    let over : goes_on text ≡ false = ap (λ (r : List ℕ). nat_lt 4194304 (length text) || not (eqb (length r) 0)) (ap (λ t. rest_from [] t) cut ∙ found.1) ∙ ap (λ (b : Bool). b || false) (le-ltb 4194304 (length text) p.small) in
-    lines_right c p.writable 1 n k (subst (λ (b : Bool). LinesHaveCode b due.Header 1 (cert_lines c) n k) over (subst (λ (ls : List (List ℕ)). LinesHaveCode (goes_on text) due.Header 1 ls n k) lines f))
+    let over : goes_on text ≡ false = ap (λ (r : List ℕ). nat_lt 4194304 (length text) || not (eqb (length r) 0)) (ap (λ t. rest_from [] t) cut ∙ found.1) ∙ ap (λ (b : Bool). b || false) (le-ltb 4194304 (length text) small) in
+    lines_right c p.writable 1 n k (subst (λ (b : Bool). CertLinesHaveCode b due.Header 1 (cert_lines c) n k) over (subst (λ (ls : List (List ℕ)). CertLinesHaveCode (goes_on text) due.Header 1 ls n k) lines f))

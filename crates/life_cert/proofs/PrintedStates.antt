@@ -2,15 +2,15 @@
 use Rattle.std.proofs.Common.{◌≡◌, ℕ, zero, suc, ◌+◌, ◌^◌, ◌%◌, ◌<◌, Bool, true, false, ◌==◌, if◌then◌else◌, List, [], ◌∷◌, ◌++◌, codes, decimal, refl, arith}
 use Rattle.std.specs.List.{list_all}
 use Rattle.std.proofs.lemmas.Fmt.{decimal_by_steps}
-use Rattle.module_lang.specs.Bytes.{is_printable}
+use Rattle.byte_text.specs.Bytes.{is_printable}
 use Rattle.module_lang.proofs.PrintedLabels.{all_joined}
 use Rattle.life_state.specs.declared.parts.Classes.{Classes}
 use Rattle.life_state.specs.declared.parts.Contents.{Contents}
 use Rattle.life_state.specs.declared.parts.Contents.TheVariants.{Empty, Flushes, NoEos, NoLateData, Any}
 use Rattle.life_state.specs.Form.{FormedCursor, IsFormed}
 use Rattle.life_state.specs.States.{BrigadeKnown, CursorKnown, End, Homes, In, InOrEnd, Loose, State, Unset}
-use Rattle.life_cert.specs.declared.print_state.Home.{Home}
-use Rattle.life_cert.specs.declared.print_state.Home.TheVariants as home
+use Rattle.life_cert.specs.declared.print_state.HomeWord.{HomeWord}
+use Rattle.life_cert.specs.declared.print_state.HomeWord.TheVariants as home
 use Rattle.life_cert.specs.StateText.{brigade_name, brigade_text, classes_text, content_text, cursor_name, cursor_text, each, fact_text, facts_text, has_home, home_text, homes, homes_text, in_text, live_text, more_homes, place_text_of, pool_text, sent_text, set_text, some_homes, state_text, usable_text, where_holds}
 
 -- each of these bytes is printable
@@ -40,7 +40,7 @@ each_clean f k zero h = plain [] refl
 each_clean f k (suc n) h = both (f k) (each (k + 1) n f) (h k (omega arith)) (each_clean f (k + 1) n (λ i below. h i (omega (arith, below))))
 
 -- Homes.
-abbrev AreClean : List Home → Type 0
+abbrev AreClean : List HomeWord → Type 0
 AreClean [] = Unit {0}
 AreClean (x ∷ xs) = IsClean (home_text x) × AreClean xs
 
@@ -50,11 +50,11 @@ own_clean q low = both (codes "p") (decimal q) (plain (codes "p") refl) (decimal
 homes_clean : AreClean homes
 homes_clean = (plain (codes "call") refl, (plain (codes "req") refl, (own_clean 0 (omega arith), (own_clean 1 (omega arith), (own_clean 2 (omega arith), (own_clean 3 (omega arith), (own_clean 4 (omega arith), (own_clean 5 (omega arith), (own_clean 6 (omega arith), (own_clean 7 (omega arith), (plain (codes "dead") refl, tt)))))))))))
 
-more_clean : (h : Homes) (xs : List Home) → AreClean xs → IsClean (more_homes h xs)
+more_clean : (h : Homes) (xs : List HomeWord) → AreClean xs → IsClean (more_homes h xs)
 more_clean h [] c = plain [] refl
 more_clean h (x ∷ xs) c = both (where_holds (has_home h x) (codes "," ++ home_text x)) (more_homes h xs) (where_clean (has_home h x) (codes "," ++ home_text x) (both (codes ",") (home_text x) (plain (codes ",") refl) c.0)) (more_clean h xs c.1)
 
-some_clean : (h : Homes) (xs : List Home) → AreClean xs → IsClean (some_homes h xs)
+some_clean : (h : Homes) (xs : List HomeWord) → AreClean xs → IsClean (some_homes h xs)
 some_clean h [] c = plain (codes "-") refl
 some_clean h (x ∷ xs) c = by (has_home h x) (some_clean h xs c.1)
   where

@@ -3,10 +3,10 @@ use Rattle.std.proofs.Common.{◌≡◌, ℕ, suc, ◌+◌, ◌≤◌, Bool, tru
 use Rattle.std.specs.Prelude.{Result, IfErr, nat_lt}
 use Rattle.std.proofs.lemmas.Bool.{eqb-true, le-ltb}
 use Rattle.std.proofs.lemmas.List.{take_all}
-use Rattle.module_lang.specs.LineReading.{AreTaken, IsFirstRefused}
-use Rattle.module_lang.specs.TextLines.{lines_from, rest_from}
+use Rattle.byte_text.specs.LineReading.{AreTaken, IsFirstRefused}
+use Rattle.byte_text.specs.TextLines.{lines_from, rest_from}
 use Rattle.module_lang.specs.Texts.{joined}
-use Rattle.life_cert.specs.declared.draft.Draft.{Draft}
+use Rattle.life_cert.specs.declared.draft.CertDraft.{CertDraft}
 use Rattle.life_cert.specs.declared.due.Due.{Due}
 use Rattle.life_cert.specs.declared.due.Due.TheVariants as due
 use Rattle.life_cert.specs.declared.refusal.CertCode.{CertCode}
@@ -14,14 +14,14 @@ use Rattle.life_cert.specs.declared.refusal.CertRefusal.{CertRefusal}
 use Rattle.life_cert.specs.declared.refusal.CertRefusal.TheVariants.{Fault, NoMemory}
 use Rattle.life_cert.specs.Codes.{code_number}
 use Rattle.life_cert.specs.CertText.{cert_text}
-use Rattle.life_cert.specs.Reading.{EndTold, IsCertificate, IsTextOf, IsTold, IsToldBy, IsToldFirst, IsToldOf, LinesHaveCode, goes_on, is_over, left, more_than}
-use Rattle.life_cert.specs.Drafts.{Counts, IsAdded, IsDraft, IsRefused, LineAdded, seen_draft, text_so_far}
+use Rattle.life_cert.specs.Reading.{EndTold, IsCertificate, IsCertText, IsTold, IsToldBy, IsToldFirst, IsToldOf, CertLinesHaveCode, goes_on, is_over, left, more_than}
+use Rattle.life_cert.specs.Drafts.{Counts, IsLineAdded, IsCertDraft, IsRefused, LineAdded, seen_draft, text_so_far}
 
 -- the text of lines that were taken
-pub taken_text : (ls : List (List ℕ)) (d e : Draft) (n : ℕ) → AreTaken LineAdded d n ls e → text_so_far e.due (seen_draft e) ≡ text_so_far d.due (seen_draft d) ++ joined ls
-taken_text [] d e n h = ap (λ (x : Draft). text_so_far x.due (seen_draft x)) (sym h) ∙ sym (append-nil (text_so_far d.due (seen_draft d)))
+pub taken_text : (ls : List (List ℕ)) (d e : CertDraft) (n : ℕ) → AreTaken LineAdded d n ls e → text_so_far e.due (seen_draft e) ≡ text_so_far d.due (seen_draft d) ++ joined ls
+taken_text [] d e n h = ap (λ (x : CertDraft). text_so_far x.due (seen_draft x)) (sym h) ∙ sym (append-nil (text_so_far d.due (seen_draft d)))
 taken_text (l ∷ ls) d e n h =
-    let one : IsAdded d l h.0 = h.1 in
+    let one : IsLineAdded d l h.0 = h.1 in
     let t = text_so_far d.due (seen_draft d) in
     taken_text ls h.0 e (n + 1) h.2 ∙ ap (λ x. x ++ joined ls) one.text ∙ append_assoc t (l ++ 10 ∷ []) (joined ls) ∙ ap (λ x. t ++ x) (append_assoc l (10 ∷ []) (joined ls))
 
@@ -38,58 +38,58 @@ text_lines (b ∷ bs) cur = by (eqb b 10) refl (text_lines bs []) (text_lines bs
     by false e line on = sym (append_assoc cur (b ∷ []) bs) ∙ on
 
 -- no line has a number below the first
-low : (more : Bool) (d : Due) (n : ℕ) (ls : List (List ℕ)) (m : ℕ) (c : CertCode) → LinesHaveCode more d n ls m c → n ≤ m
+low : (more : Bool) (d : Due) (n : ℕ) (ls : List (List ℕ)) (m : ℕ) (c : CertCode) → CertLinesHaveCode more d n ls m c → n ≤ m
 low more d n [] m c h = let e = h.0 in omega (arith, e)
 low more d n (l ∷ ls) m c (inl h) = let e = h.0 in omega (arith, e)
 low more d n (l ∷ ls) m c (inr h) = let e = low more (left d l) (n + 1) ls m c h in omega (arith, e)
 
 -- lines that were taken have no code: one that some line has is one of the others
-behind : (more : Bool) (before tail : List (List ℕ)) (d s : Draft) (n : ℕ) (m : ℕ) (c : CertCode) → AreTaken LineAdded d n before s → LinesHaveCode more d.due n (before ++ tail) m c → LinesHaveCode more s.due (n + length before) tail m c
+behind : (more : Bool) (before tail : List (List ℕ)) (d s : CertDraft) (n : ℕ) (m : ℕ) (c : CertCode) → AreTaken LineAdded d n before s → CertLinesHaveCode more d.due n (before ++ tail) m c → CertLinesHaveCode more s.due (n + length before) tail m c
 behind more [] tail d s n m c h k =
     let same : n ≡ n + 0 = omega arith in
-    subst (λ (x : ℕ). LinesHaveCode more s.due x tail m c) same (subst (λ (x : Draft). LinesHaveCode more x.due n tail m c) h k)
-behind more (l ∷ ls) tail d s n m c h (inl k) = let one : IsAdded d l h.0 = h.1 in absurd (one.right c k.1)
+    subst (λ (x : ℕ). CertLinesHaveCode more s.due x tail m c) same (subst (λ (x : CertDraft). CertLinesHaveCode more x.due n tail m c) h k)
+behind more (l ∷ ls) tail d s n m c h (inl k) = let one : IsLineAdded d l h.0 = h.1 in absurd (one.right c k.1)
 behind more (l ∷ ls) tail d s n m c h (inr k) =
-    let one : IsAdded d l h.0 = h.1 in
+    let one : IsLineAdded d l h.0 = h.1 in
     let same : n + 1 + length ls ≡ n + suc (length ls) = omega arith in
-    subst (λ (x : ℕ). LinesHaveCode more s.due x tail m c) same
-    (behind more ls tail h.0 s (n + 1) m c h.2 (subst (λ (x : Due). LinesHaveCode more x (n + 1) (ls ++ tail) m c) (sym one.due) k))
+    subst (λ (x : ℕ). CertLinesHaveCode more s.due x tail m c) same
+    (behind more ls tail h.0 s (n + 1) m c h.2 (subst (λ (x : Due). CertLinesHaveCode more x (n + 1) (ls ++ tail) m c) (sym one.due) k))
 
 -- and the others way round
-ahead : (more : Bool) (before tail : List (List ℕ)) (d s : Draft) (n : ℕ) (m : ℕ) (c : CertCode) → AreTaken LineAdded d n before s → LinesHaveCode more s.due (n + length before) tail m c → LinesHaveCode more d.due n (before ++ tail) m c
+ahead : (more : Bool) (before tail : List (List ℕ)) (d s : CertDraft) (n : ℕ) (m : ℕ) (c : CertCode) → AreTaken LineAdded d n before s → CertLinesHaveCode more s.due (n + length before) tail m c → CertLinesHaveCode more d.due n (before ++ tail) m c
 ahead more [] tail d s n m c h k =
     let same : n + 0 ≡ n = omega arith in
-    subst (λ (x : Draft). LinesHaveCode more x.due n tail m c) (sym h) (subst (λ (x : ℕ). LinesHaveCode more s.due x tail m c) same k)
+    subst (λ (x : CertDraft). CertLinesHaveCode more x.due n tail m c) (sym h) (subst (λ (x : ℕ). CertLinesHaveCode more s.due x tail m c) same k)
 ahead more (l ∷ ls) tail d s n m c h k =
-    let one : IsAdded d l h.0 = h.1 in
+    let one : IsLineAdded d l h.0 = h.1 in
     let same : n + suc (length ls) ≡ n + 1 + length ls = omega arith in
-    inr (subst (λ (x : Due). LinesHaveCode more x (n + 1) (ls ++ tail) m c) one.due (ahead more ls tail h.0 s (n + 1) m c h.2 (subst (λ (x : ℕ). LinesHaveCode more s.due x tail m c) same k)))
+    inr (subst (λ (x : Due). CertLinesHaveCode more x (n + 1) (ls ++ tail) m c) one.due (ahead more ls tail h.0 s (n + 1) m c h.2 (subst (λ (x : ℕ). CertLinesHaveCode more s.due x tail m c) same k)))
 
-told_at : (more : Bool) (before after : List (List ℕ)) (line : List ℕ) (d s : Draft) (m : ℕ) (c : CertCode) → AreTaken LineAdded d 1 before s → m ≡ length before + 1 → IsRefused s line c → IsToldFirst (LinesHaveCode more d.due 1 (before ++ line ∷ after)) m c
+told_at : (more : Bool) (before after : List (List ℕ)) (line : List ℕ) (d s : CertDraft) (m : ℕ) (c : CertCode) → AreTaken LineAdded d 1 before s → m ≡ length before + 1 → IsRefused s line c → IsToldFirst (CertLinesHaveCode more d.due 1 (before ++ line ∷ after)) m c
 told_at more before after line d s m c taken at r = record {
   fits = ahead more before (line ∷ after) d s 1 m c taken (inl (omega (arith, at), r.fits));
   line = λ k e h. let first = low more s.due (1 + length before) (line ∷ after) k e (behind more before (line ∷ after) d s 1 k e taken h) in omega (arith, at, first);
   lowest = λ e h. here e (behind more before (line ∷ after) d s 1 m e taken h);
 }
   where
-    here : (e : CertCode) → LinesHaveCode more s.due (1 + length before) (line ∷ after) m e → code_number c ≤ code_number e
+    here : (e : CertCode) → CertLinesHaveCode more s.due (1 + length before) (line ∷ after) m e → code_number c ≤ code_number e
     here e (inl h) = r.lowest e h.1
     here e (inr h) = let past = low more (left s.due line) (1 + length before + 1) after m e h in absurd (omega (arith, at, past))
 
 -- a line is refused
-pub refused_told : (more : Bool) (lines : List (List ℕ)) (d t : Draft) (e : CertRefusal) → d.due ≡ due.Header → IsFirstRefused LineAdded d lines e t → IsToldBy (LinesHaveCode more due.Header 1 lines) e
+pub refused_told : (more : Bool) (lines : List (List ℕ)) (d t : CertDraft) (e : CertRefusal) → d.due ≡ due.Header → IsFirstRefused LineAdded d lines e t → IsToldBy (CertLinesHaveCode more due.Header 1 lines) e
 refused_told more lines d t NoMemory at r = tt
 refused_told more lines d t (Fault m c) at r =
     let told = told_at more r.before r.after r.line d r.state m c r.taken r.refused.0 r.refused.1 in
-    subst (λ (u : Due). IsToldFirst (LinesHaveCode more u 1 lines) m c) at (subst (λ (ls : List (List ℕ)). IsToldFirst (LinesHaveCode more d.due 1 ls) m c) (sym r.whole) told)
+    subst (λ (u : Due). IsToldFirst (CertLinesHaveCode more u 1 lines) m c) at (subst (λ (ls : List (List ℕ)). IsToldFirst (CertLinesHaveCode more d.due 1 ls) m c) (sym r.whole) told)
 
 -- what stands behind the lines is refused
-pub end_told : (more : Bool) (lines : List (List ℕ)) (d s : Draft) (n : ℕ) (e : CertRefusal) → d.due ≡ due.Header → AreTaken LineAdded d 1 lines s → n ≡ length lines + 1 → EndTold more s.due n (Err e) → IsToldBy (LinesHaveCode more due.Header 1 lines) e
+pub end_told : (more : Bool) (lines : List (List ℕ)) (d s : CertDraft) (n : ℕ) (e : CertRefusal) → d.due ≡ due.Header → AreTaken LineAdded d 1 lines s → n ≡ length lines + 1 → EndTold more s.due n (Err e) → IsToldBy (CertLinesHaveCode more due.Header 1 lines) e
 end_told more lines d s n NoMemory at taken count r = tt
 end_told more lines d s n (Fault m c) at taken count r =
-    subst (λ (u : Due). IsToldFirst (LinesHaveCode more u 1 lines) m c) at (subst (λ (ls : List (List ℕ)). IsToldFirst (LinesHaveCode more d.due 1 ls) m c) (append-nil lines) told)
+    subst (λ (u : Due). IsToldFirst (CertLinesHaveCode more u 1 lines) m c) at (subst (λ (ls : List (List ℕ)). IsToldFirst (CertLinesHaveCode more d.due 1 ls) m c) (append-nil lines) told)
   where
-    told : IsToldFirst (LinesHaveCode more d.due 1 (lines ++ [])) m c
+    told : IsToldFirst (CertLinesHaveCode more d.due 1 (lines ++ [])) m c
     told = record {
       fits = ahead more lines [] d s 1 m c taken (omega (arith, count, r.0), r.1);
       line = λ k e h. let first = (behind more lines [] d s 1 k e taken h).0 in omega (arith, count, r.0, first);
@@ -104,7 +104,7 @@ no_bytes : (xs : List ℕ) → not (eqb (length xs) 0) ≡ false → xs ≡ []
 no_bytes [] h = refl
 no_bytes (x ∷ xs) h = absurd (grind (arith, h))
 
-over : (d : Draft) → IsDraft d → is_over d.due ≡ true → (d.due ≡ due.Nothing) × IsCertificate (seen_draft d)
+over : (d : CertDraft) → IsCertDraft d → is_over d.due ≡ true → (d.due ≡ due.Nothing) × IsCertificate (seen_draft d)
 over d h is = by d.due refl is
   where
     by : (u : Due) → d.due ≡ u → is_over u ≡ true → (d.due ≡ due.Nothing) × IsCertificate (seen_draft d)
@@ -115,7 +115,7 @@ over d h is = by d.due refl is
     by due.Nothing e t = (e, record { idle = h.idle; ready = h.ready; at = h.at; few = subst (λ (u : Due). Counts u (length d.at.items)) e h.counts; last = h.last })
 
 -- the text is read to its end
-pub read_whole : (long : Bool) (text : List ℕ) (d s : Draft) (n : ℕ) → d.due ≡ due.Header → IsDraft s → AreTaken LineAdded d 1 (lines_from [] text) s → EndTold (more_than long (rest_from [] text)) s.due n (Ok tt) → length text ≤ 4194304 → (long ≡ false) × IsTextOf text (seen_draft s)
+pub read_whole : (long : Bool) (text : List ℕ) (d s : CertDraft) (n : ℕ) → d.due ≡ due.Header → IsCertDraft s → AreTaken LineAdded d 1 (lines_from [] text) s → EndTold (more_than long (rest_from [] text)) s.due n (Ok tt) → length text ≤ 4194304 → (long ≡ false) × IsCertText text (seen_draft s)
 unfolding text_so_far
 read_whole long text d s n at sound taken r small =
     let both = or_there long (not (eqb (length (rest_from [] text)) 0)) r.0 in
@@ -133,8 +133,8 @@ told_short text e short h =
     let whole : cut ≡ text = take_all 4194304 text short in
     let no : nat_lt 4194304 (length text) ≡ false = le-ltb 4194304 (length text) short in
     let on : more_than false (rest_from [] cut) ≡ goes_on text = ap (λ (b : Bool). b || not (eqb (length (rest_from [] cut)) 0)) (sym no) in
-    subst (λ (b : Bool). IsToldBy (LinesHaveCode b due.Header 1 (lines_from [] cut)) e) on
-    (subst (λ (t : List ℕ). IsToldBy (LinesHaveCode (more_than false (rest_from [] t)) due.Header 1 (lines_from [] t)) e) (sym whole) h)
+    subst (λ (b : Bool). IsToldBy (CertLinesHaveCode b due.Header 1 (lines_from [] cut)) e) on
+    (subst (λ (t : List ℕ). IsToldBy (CertLinesHaveCode (more_than false (rest_from [] t)) due.Header 1 (lines_from [] t)) e) (sym whole) h)
 
 pub all_told : {X : Type 0} (text : List ℕ) (r : Result X CertRefusal) → length text ≤ 4194304 → IfErr r (λ e. IsToldOf false text e) → IfErr r (λ e. IsTold text e)
 all_told text (Ok x) short h = h

@@ -1,16 +1,16 @@
 -- The states of all rounds are of the module, and only grow.
 use Rattle.std.proofs.Common.{◌≡◌, ℕ, zero, suc, ◌<◌, true, false, ◌==◌, if◌then◌else◌, List, [], ◌∷◌, length, All, inl, inr, Option, Some, None, slice_get, refl, sym, ◌∙◌, subst, arith, lt-ltb, ltb-true, eq-eqb}
 use Rattle.std.proofs.lemmas.List.Elements.{All-nil, All-cons, All-append}
-use Rattle.module_lang.specs.declared.instr.Instr.{Instr}
-use Rattle.module_lang.specs.Program.{Program, IsModule}
+use Rattle.module_code.specs.declared.instr.Instr.{Instr}
+use Rattle.module_code.specs.Program.{Program, IsModule}
 use Rattle.life_state.specs.States.{State}
 use Rattle.life_state.specs.Order.{same_variables, leq, join}
 use Rattle.life_state.proofs.JoinAbove.{join_above}
 use Rattle.life_state.proofs.OrderLaws.{leq_trans}
 use Rattle.life_state.proofs.Tests.{and2}
 use Rattle.life_check.specs.Certificates.{Certificate}
-use Rattle.life_cert.specs.declared.growth.Place.{Place}
-use Rattle.life_cert.specs.declared.growth.Place.TheVariants as place
+use Rattle.life_cert.specs.declared.growth.StatePlace.{StatePlace}
+use Rattle.life_cert.specs.declared.growth.StatePlace.TheVariants as place
 use Rattle.life_cert.specs.Rounds.{Arrival, Grown, state_at, handed_by_line, handed_by, handed_on, grow, arrive_by, arrive, arrived, round, begun, rounds}
 use Rattle.life_cert.specs.Fitting.{is_inside, IsDeclared, IsFit, IsOf}
 use Rattle.life_cert.specs.Laws.{HasGrown, StatesOnlyGrow}
@@ -23,14 +23,14 @@ line_by : (p : Program) → IsModule p → (pc : ℕ) (s : State) (o : Option In
 line_by p m pc s None e inside h = subst (λ (o : Option Instr). All (IsFit p) (handed_by_line p pc o s)) (sym e) (All-nil (IsFit p))
 line_by p m pc s (Some i) e inside h = line_fits p pc i s e inside (m.placed pc i e) h
 
-handed_by_fits : (p : Program) → IsModule p → (w : Place) (o : Option State) → is_inside (length p.code) w ≡ true → ((s : State) → o ≡ Some s → IsDeclared p s) → All (IsFit p) (handed_by p w o)
+handed_by_fits : (p : Program) → IsModule p → (w : StatePlace) (o : Option State) → is_inside (length p.code) w ≡ true → ((s : State) → o ≡ Some s → IsDeclared p s) → All (IsFit p) (handed_by p w o)
 handed_by_fits p m w None inside h = All-nil (IsFit p)
 handed_by_fits p m place.Idle (Some s) inside h =
     All-cons (IsFit p) (record { place = place.At p.init; state = s }) [] (record { inside = lt-ltb p.init (length p.code) m.inits; declared = h s refl }) (All-nil (IsFit p))
 handed_by_fits p m place.Ready (Some s) inside h = ready_fits p s m.mains (h s refl)
 handed_by_fits p m (place.At pc) (Some s) inside h = line_by p m pc s (slice_get p.code pc) refl (ltb-true pc (length p.code) inside) (h s refl)
 
-pub handed_on_fits : (p : Program) → IsModule p → (c : Certificate) (ws : List Place) → ((w : Place) (s : State) → state_at c w ≡ Some s → IsDeclared p s)
+pub handed_on_fits : (p : Program) → IsModule p → (c : Certificate) (ws : List StatePlace) → ((w : StatePlace) (s : State) → state_at c w ≡ Some s → IsDeclared p s)
     → All (λ w. is_inside (length p.code) w ≡ true) ws → All (IsFit p) (handed_on p c ws)
 unfolding handed_on
 handed_on_fits p m c [] h inside = All-nil (IsFit p)
@@ -59,14 +59,14 @@ pub alike : (p : Program) (s t : State) → IsDeclared p s → IsDeclared p t �
 alike p s t h k =
     and2 (s.pool_count == t.pool_count) (s.brigade_count == t.brigade_count) (eq-eqb s.pool_count t.pool_count (h.pools ∙ sym k.pools)) (eq-eqb s.brigade_count t.brigade_count (h.brigades ∙ sym k.brigades))
 
-grown_at : (w v : Place) (s : State) (g : Grown) → HasGrown (state_at g.states w) (Some s) → HasGrown (state_at g.states v) (state_at (grow w s g).states v)
+grown_at : (w v : StatePlace) (s : State) (g : Grown) → HasGrown (state_at g.states w) (Some s) → HasGrown (state_at g.states v) (state_at (grow w s g).states v)
 grown_at w v s g h =
     elim (read_written w v s g.states) [
-      | inl here ↦ subst (HasGrown (state_at g.states v)) (sym (here.1)) (subst (λ (x : Place). HasGrown (state_at g.states x) (Some s)) (sym (here.0)) h)
+      | inl here ↦ subst (HasGrown (state_at g.states v)) (sym (here.1)) (subst (λ (x : StatePlace). HasGrown (state_at g.states x) (Some s)) (sym (here.0)) h)
       | inr other ↦ subst (HasGrown (state_at g.states v)) (sym other) (grown_same (state_at g.states v))
     ]
 
-grows_by : (p : Program) (a : Arrival) (g : Grown) (o : Option State) → state_at g.states a.place ≡ o → IsOf p g → IsFit p a → (v : Place) → HasGrown (state_at g.states v) (state_at (arrive_by o a g).states v)
+grows_by : (p : Program) (a : Arrival) (g : Grown) (o : Option State) → state_at g.states a.place ≡ o → IsOf p g → IsFit p a → (v : StatePlace) → HasGrown (state_at g.states v) (state_at (arrive_by o a g).states v)
 grows_by p a g None e h fit v = grown_at a.place v a.state g (subst (λ (x : Option State). HasGrown x (Some a.state)) (sym e) tt)
 grows_by p a g (Some t) e h fit v =
     elim (leq a.state t) as (λ b. HasGrown (state_at g.states v) (state_at (if b then g else grow a.place (join t a.state) g).states v)) [
@@ -79,7 +79,7 @@ unfolding arrived
 arrived_fits p [] g h fit = h
 arrived_fits p (a ∷ rest) g h fit = arrived_fits p rest (arrive a g) (arrive_keeps p a g h (fit 0 a (omega arith))) (λ k d below. fit (suc k) d (omega arith))
 
-pub arrived_grows : (p : Program) (rest : List Arrival) (g : Grown) → IsOf p g → All (IsFit p) rest → (v : Place) → HasGrown (state_at g.states v) (state_at (arrived rest g).states v)
+pub arrived_grows : (p : Program) (rest : List Arrival) (g : Grown) → IsOf p g → All (IsFit p) rest → (v : StatePlace) → HasGrown (state_at g.states v) (state_at (arrived rest g).states v)
 unfolding arrived
 arrived_grows p [] g h fit v = grown_same (state_at g.states v)
 arrived_grows p (a ∷ rest) g h fit v =

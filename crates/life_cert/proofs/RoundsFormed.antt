@@ -3,9 +3,9 @@ use Rattle.std.proofs.Common.{◌≡◌, ℕ, zero, suc, ◌+◌, ◌-◌, ◌<�
 use Rattle.std.proofs.lemmas.Bool.{cases_eq, cases_lt, le-leb, lt-leb}
 use Rattle.std.proofs.lemmas.Option.{slice_get_within}
 use Rattle.std.proofs.lemmas.List.Elements.{All-nil, All-cons, All-append}
-use Rattle.module_lang.specs.declared.instr.Instr.{Instr}
-use Rattle.module_lang.specs.declared.instr.Instr.TheVariants as instr
-use Rattle.module_lang.specs.Program.{Program, IsModule, target, goes_on}
+use Rattle.module_code.specs.declared.instr.Instr.{Instr}
+use Rattle.module_code.specs.declared.instr.Instr.TheVariants as instr
+use Rattle.module_code.specs.Program.{Program, IsModule, target, goes_on}
 use Rattle.run_model.specs.declared.fault.FaultKind.{FaultKind}
 use Rattle.life_state.specs.States.{State}
 use Rattle.life_state.specs.Order.{leq, join}
@@ -15,8 +15,8 @@ use Rattle.life_state.proofs.FormRules.{rules_keep_form}
 use Rattle.life_state.proofs.FormJoins.{joins_keep_form}
 use Rattle.life_state.proofs.FormEntries.{entries_are_formed}
 use Rattle.life_check.specs.Certificates.{Certificate}
-use Rattle.life_cert.specs.declared.growth.Place.{Place}
-use Rattle.life_cert.specs.declared.growth.Place.TheVariants as place
+use Rattle.life_cert.specs.declared.growth.StatePlace.{StatePlace}
+use Rattle.life_cert.specs.declared.growth.StatePlace.TheVariants as place
 use Rattle.life_cert.specs.Rounds.{Arrival, Grown, state_at, arriving, left_place, returned, edges_arriving, handed_by_rule, handed_by_line, handed_by, handed_on, grow, arrive_by, arrive, arrived, nothing, begun, rounds}
 use Rattle.life_cert.specs.Laws.{is_in_main, StatesAreFormed}
 use Rattle.life_cert.proofs.EdgeLaws.{goes_on_next, rule_edges}
@@ -86,7 +86,7 @@ next_side p m pc i here on = record {
 abbrev pub Good : Program → Arrival → Type 0
 Good p a = IsFormedIn p (is_in_main p a.place) a.state
 
-some_good : (p : Program) (w : Place) (o : Option State) → ((s : State) → o ≡ Some s → IsFormedIn p (is_in_main p w) s) → All (Good p) (arriving w o)
+some_good : (p : Program) (w : StatePlace) (o : Option State) → ((s : State) → o ≡ Some s → IsFormedIn p (is_in_main p w) s) → All (Good p) (arriving w o)
 some_good p w None h = All-nil (Good p)
 some_good p w (Some s) h = All-cons (Good p) (record { place = w; state = s }) [] (h s refl) (All-nil (Good p))
 
@@ -123,7 +123,7 @@ line_good p m pc s None e h = subst (λ (o : Option Instr). All (Good p) (handed
 line_good p m pc s (Some i) e h =
     subst (λ (o : Option Instr). All (Good p) (handed_by_line p pc o s)) (sym e) (rule_good p m pc i s (rule p i s) refl e (slice_get_within p.code pc i e) h)
 
-by_good : (p : Program) → IsModule p → (w : Place) (o : Option State) → ((s : State) → o ≡ Some s → IsFormedIn p (is_in_main p w) s) → All (Good p) (handed_by p w o)
+by_good : (p : Program) → IsModule p → (w : StatePlace) (o : Option State) → ((s : State) → o ≡ Some s → IsFormedIn p (is_in_main p w) s) → All (Good p) (handed_by p w o)
 by_good p m w None h = All-nil (Good p)
 by_good p m place.Idle (Some s) h =
     let some = m.initial.some in
@@ -137,24 +137,24 @@ by_good p m (place.At pc) (Some s) h = line_good p m pc s (slice_get p.code pc) 
 
 -- each state is in form, where it stands
 pub record AllFormed (p : Program) (c : Certificate) : Type 0 where
-  pub each : (w : Place) (s : State) → state_at c w ≡ Some s → IsFormedIn p (is_in_main p w) s
+  pub each : (w : StatePlace) (s : State) → state_at c w ≡ Some s → IsFormedIn p (is_in_main p w) s
 
-pub on_good : (p : Program) → IsModule p → (c : Certificate) (ws : List Place) → AllFormed p c → All (Good p) (handed_on p c ws)
+pub on_good : (p : Program) → IsModule p → (c : Certificate) (ws : List StatePlace) → AllFormed p c → All (Good p) (handed_on p c ws)
 unfolding handed_on
 on_good p m c [] h = All-nil (Good p)
 on_good p m c (w ∷ ws) h = All-append (Good p) (handed_by p w (state_at c w)) (handed_on p c ws) (by_good p m w (state_at c w) (h.each w)) (on_good p m c ws h)
 
 -- What has arrived.
 
-grow_formed : (p : Program) (w : Place) (s : State) (g : Grown) → AllFormed p g.states → IsFormedIn p (is_in_main p w) s → AllFormed p (grow w s g).states
+grow_formed : (p : Program) (w : StatePlace) (s : State) (g : Grown) → AllFormed p g.states → IsFormedIn p (is_in_main p w) s → AllFormed p (grow w s g).states
 grow_formed p w s g h new = record {
   each = λ v t e. elim (read_written w v s g.states) [
-    | inl here ↦ subst (λ (x : Place). IsFormedIn p (is_in_main p x) t) (sym (here.0)) (subst (IsFormedIn p (is_in_main p w)) (some_is (sym (here.1) ∙ e)) new)
+    | inl here ↦ subst (λ (x : StatePlace). IsFormedIn p (is_in_main p x) t) (sym (here.0)) (subst (IsFormedIn p (is_in_main p w)) (some_is (sym (here.1) ∙ e)) new)
     | inr other ↦ h.each v t (sym other ∙ e)
   ];
 }
 
-formed_by : (p : Program) (a : Arrival) (g : Grown) (o : Option State) → state_at g.states a.place ≡ o → AllFormed p g.states → Good p a → AllFormed p (arrive_by o a g).states
+pub formed_by : (p : Program) (a : Arrival) (g : Grown) (o : Option State) → state_at g.states a.place ≡ o → AllFormed p g.states → Good p a → AllFormed p (arrive_by o a g).states
 formed_by p a g None e h good = grow_formed p a.place a.state g h good
 formed_by p a g (Some t) e h good =
     elim (leq a.state t) as (λ b. AllFormed p (if b then g else grow a.place (join t a.state) g).states)
@@ -171,7 +171,7 @@ arrived_formed p (a ∷ rest) g h good =
 none_formed : (p : Program) → AllFormed p (nothing p)
 none_formed p = record { each = no_state }
   where
-    no_state : (w : Place) (s : State) → state_at (nothing p) w ≡ Some s → IsFormedIn p (is_in_main p w) s
+    no_state : (w : StatePlace) (s : State) → state_at (nothing p) w ≡ Some s → IsFormedIn p (is_in_main p w) s
     no_state place.Idle s e = cc
     no_state place.Ready s e = cc
     no_state (place.At pc) s e = cc

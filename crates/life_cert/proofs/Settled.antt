@@ -1,14 +1,14 @@
 -- Where no state grew in the last round, none grows in those that follow.
 use Rattle.std.proofs.Common.{◌≡◌, ℕ, zero, suc, ◌+◌, ◌-◌, ◌≤◌, List, [], ap, sym, ◌∙◌, add-zero, arith}
-use Rattle.module_lang.specs.Program.{Program}
-use Rattle.life_cert.specs.declared.growth.Place.{Place}
+use Rattle.module_code.specs.Program.{Program}
+use Rattle.life_cert.specs.declared.growth.StatePlace.{StatePlace}
 use Rattle.life_cert.specs.Rounds.{Grown, handed_on, arrived, round, rounds, begun, enough, made}
 
 pub settled : (p : Program) (g : Grown) → g.grown ≡ [] → round p g ≡ g
 unfolding handed_on arrived
 settled p g none =
-    let of : List Place → Grown = λ ws. record { states = g.states; grown = ws } in
-    ap (λ (ws : List Place). arrived (handed_on p g.states ws) (of [])) none ∙ ap of (sym none)
+    let of : List StatePlace → Grown = λ ws. record { states = g.states; grown = ws } in
+    ap (λ (ws : List StatePlace). arrived (handed_on p g.states ws) (of [])) none ∙ ap of (sym none)
 
 stays : (p : Program) (g : Grown) (n k : ℕ) → (rounds n p g).grown ≡ [] → rounds (n + k) p g ≡ rounds n p g
 unfolding rounds

@@ -4,7 +4,7 @@ use Rattle.std.proofs.lemmas.List.{take_all}
 use Rattle.std.specs.Prelude.{nat_eq, ◌==◌, if◌then◌else◌}
 use Rattle.std.specs.Cmp.Lexicographic.{pointwise}
 use Rattle.std.proofs.lemmas.Bool.{eqb-true, eqb-false}
-use Rattle.module_lang.specs.Bytes.{begins}
+use Rattle.byte_text.specs.Bytes.{begins}
 use Rattle.life_state.specs.declared.parts.Contents.TheVariants.{Empty, Flushes, NoEos, NoLateData, Any}
 use Rattle.life_cert.specs.StateFromText.{at_past, at_read, behind, behind_name, classes_past, classes_read, content_read, number_in, past, starts}
 use Rattle.life_state.specs.States.{In, InOrEnd}

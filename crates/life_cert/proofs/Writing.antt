@@ -2,8 +2,8 @@
 use Rattle.std.proofs.Common.{◌≡◌, ℕ, suc, ◌+◌, ◌-◌, ◌<◌, ◌≤◌, List, [], ◌++◌, length, take, Option, Bool, true, Ok, Err, ap, subst, arith}
 use Rattle.std.specs.Prelude.{Result, is_err}
 use Rattle.std.specs.Io.KnownBytes.{Appends}
-use Rattle.module_lang.specs.Writes.{Wrote}
-use Rattle.module_lang.proofs.WritingLaws.{Leaves, leaves_all, leaves_fault, leaves_less, leaves_none, leaves_whole}
+use Rattle.byte_text.specs.Writes.{Wrote}
+use Rattle.byte_text.proofs.WritingLaws.{Leaves, leaves_all, leaves_fault, leaves_less, leaves_none, leaves_whole}
 use Rattle.life_cert.specs.StateText.{each, where_holds}
 
 -- The writer took a front of a text.

@@ -5,7 +5,7 @@ use Rattle.life_state.specs.Form.{IsFormed}
 use Rattle.life_state.specs.States.{State}
 use Rattle.life_check.specs.Certificates.{Certificate}
 use Rattle.life_check.specs.Seen.{seen_line}
-use Rattle.life_cert.specs.declared.draft.Draft.{Draft}
+use Rattle.life_cert.specs.declared.draft.CertDraft.{CertDraft}
 use Rattle.life_cert.specs.declared.due.Due.{Due}
 use Rattle.life_cert.specs.declared.due.Due.TheVariants as due
 use Rattle.life_cert.specs.declared.refusal.CertCode.{CertCode}
@@ -17,7 +17,7 @@ use Rattle.life_cert.specs.StateText.{each, state_text}
 use Rattle.life_cert.specs.CertText.{between_line, pc_line, cert_text}
 use Rattle.life_cert.specs.Reading.{HasCode, IsState, IsStateOrNone, left}
 
-abbrev pub seen_draft : Draft → Certificate
+abbrev pub seen_draft : CertDraft → Certificate
 seen_draft d = record {
   idle = seen_some d.idle;
   ready = seen_some d.ready;
@@ -40,7 +40,7 @@ Counts (due.States n) lines = (lines ≡ n) × (n ≤ 1024)
 Counts due.Nothing lines = lines ≤ 1024
 Counts _ lines = lines ≡ 0
 
-pub record IsDraft (d : Draft) : Type 0 where
+pub record IsCertDraft (d : CertDraft) : Type 0 where
   pub idle : IfSome (seen_some d.idle) IsFormed
   pub ready : IfSome (seen_some d.ready) IsFormed
   pub at : (pc : ℕ) → IfSome (seen_line (slice_get d.at.items pc)) IsFormed
@@ -48,18 +48,18 @@ pub record IsDraft (d : Draft) : Type 0 where
   pub last : (pc : ℕ) → length d.at.items ≡ pc + 1 → IsSome (seen_line (slice_get d.at.items pc))
 
 -- a line that has no fault is added
-pub record IsAdded (d : Draft) (l : List ℕ) (e : Draft) : Type 0 where
+pub record IsLineAdded (d : CertDraft) (l : List ℕ) (e : CertDraft) : Type 0 where
   pub right : (c : CertCode) → HasCode d.due l c → ⊥
   pub due : e.due ≡ left d.due l
   pub text : text_so_far e.due (seen_draft e) ≡ text_so_far d.due (seen_draft d) ++ (l ++ 10 ∷ [])
 
 -- a line is refused by a code that fits it, and no lower one does
-pub record IsRefused (d : Draft) (l : List ℕ) (c : CertCode) : Type 0 where
+pub record IsRefused (d : CertDraft) (l : List ℕ) (c : CertCode) : Type 0 where
   pub fits : HasCode d.due l c
   pub lowest : (e : CertCode) → HasCode d.due l e → code_number c ≤ code_number e
 
-abbrev pub LineAdded : Draft → ℕ → List ℕ → Result (Unit {0}) CertRefusal → Draft → Type 0
-LineAdded d n l (Ok u) e = IsAdded d l e
+abbrev pub LineAdded : CertDraft → ℕ → List ℕ → Result (Unit {0}) CertRefusal → CertDraft → Type 0
+LineAdded d n l (Ok u) e = IsLineAdded d l e
 LineAdded d n l (Err (Fault m c)) e = (m ≡ n) × IsRefused d l c
 LineAdded d n l (Err NoMemory) e = Unit {0}
 

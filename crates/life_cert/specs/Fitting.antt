@@ -1,13 +1,13 @@
 -- What is true of the states of a module while they grow.
 use Rattle.std.specs.Prelude.{◌≡◌, ◌≤◌, ℕ, Bool, true, nat_lt, length, All, Some}
-use Rattle.module_lang.specs.Program.{Program}
+use Rattle.module_code.specs.Program.{Program}
 use Rattle.life_state.specs.States.{State}
-use Rattle.life_cert.specs.declared.growth.Place.{Place}
-use Rattle.life_cert.specs.declared.growth.Place.TheVariants as place
+use Rattle.life_cert.specs.declared.growth.StatePlace.{StatePlace}
+use Rattle.life_cert.specs.declared.growth.StatePlace.TheVariants as place
 use Rattle.life_cert.specs.Rounds.{Arrival, Grown, state_at}
 
 -- a place of a module with so many instructions
-abbrev pub is_inside : ℕ → Place → Bool
+abbrev pub is_inside : ℕ → StatePlace → Bool
 is_inside n place.Idle = true
 is_inside n place.Ready = true
 is_inside n (place.At pc) = nat_lt pc n
@@ -25,5 +25,5 @@ pub record IsFit (p : Program) (a : Arrival) : Type 0 where
 pub record IsOf (p : Program) (g : Grown) : Type 0 where
   pub few : length p.pools ≤ 8
   pub lines : g.states.lines ≡ length p.code
-  pub states : (w : Place) (s : State) → state_at g.states w ≡ Some s → IsDeclared p s
+  pub states : (w : StatePlace) (s : State) → state_at g.states w ≡ Some s → IsDeclared p s
   pub places : All (λ w. is_inside (length p.code) w ≡ true) g.grown

@@ -6,10 +6,12 @@ pub mod CertText
 pub mod Reading
 pub mod Drafts
 pub mod Examples
-pub use Rattle.module_lang.specs.Program
+pub use Rattle.module_code.specs.Program
 pub use Rattle.life_check.specs.Typed
 pub mod Rounds
 pub mod SeenGrowth
 pub mod Fitting
 pub mod Made
 pub mod Laws
+pub mod Least
+pub mod Lengths

@@ -1,6 +1,6 @@
 -- What the maker answers.
 use Rattle.std.specs.Prelude.{◌≡◌, Some, Result, Ok, Err}
-use Rattle.module_lang.specs.Program.{Program}
+use Rattle.module_code.specs.Program.{Program}
 use Rattle.life_check.specs.declared.cert.Cert.{Cert}
 use Rattle.life_check.specs.Seen.{seen_cert}
 use Rattle.life_check.specs.Typed.{refusal, first_refusal}
@@ -13,3 +13,9 @@ abbrev pub IsMade : Program → Result Cert MakeRefusal → Type 0
 IsMade p (Ok c) = seen_cert c ≡ made p
 IsMade p (Err (At pc rule)) = first_refusal p (made p) ≡ Some (refusal pc rule)
 IsMade p (Err NoMemory) = Unit {0}
+
+-- the module is refused: it was not that memory was wanting
+abbrev pub IsRefused : Result Cert MakeRefusal → Type 0
+IsRefused (Ok c) = ⊥
+IsRefused (Err (At pc rule)) = Unit {0}
+IsRefused (Err NoMemory) = ⊥

@@ -1,16 +1,16 @@
 -- What a text is: a certificate's, or one with a first faulty line.
 use Rattle.std.specs.Prelude.{◌≡◌, ℕ, ◌+◌, ◌^◌, ◌≤◌, Bool, true, false, ◌&&◌, ◌||◌, not, nat_lt, nat_le, nat_eq, ◌==◌, if◌then◌else◌, List, [], ◌∷◌, ◌++◌, length, take, codes, Option, Some, None, Result, Ok, Err, IfSome, IsSome, ◌⊎◌}
 use Rattle.std.specs.Cmp.Lexicographic.{pointwise}
-use Rattle.module_lang.specs.Bytes.{after_token, all_printable, token}
-use Rattle.module_lang.specs.Numbers.{decimal_below}
-use Rattle.module_lang.specs.TextLines.{lines_from, rest_from}
+use Rattle.byte_text.specs.Bytes.{after_token, all_printable, token}
+use Rattle.byte_text.specs.Numbers.{decimal_below}
+use Rattle.byte_text.specs.TextLines.{lines_from, rest_from}
 use Rattle.life_state.specs.States.{State}
 use Rattle.life_state.specs.Form.{IsFormed}
 use Rattle.life_check.specs.Certificates.{Certificate}
 use Rattle.life_cert.specs.declared.due.Due.{Due}
 use Rattle.life_cert.specs.declared.due.Due.TheVariants as due
-use Rattle.life_cert.specs.declared.due.Line.{Line}
-use Rattle.life_cert.specs.declared.due.Line.TheVariants as line
+use Rattle.life_cert.specs.declared.due.CertLine.{CertLine}
+use Rattle.life_cert.specs.declared.due.CertLine.TheVariants as line
 use Rattle.life_cert.specs.declared.refusal.CertCode.{CertCode}
 use Rattle.life_cert.specs.declared.refusal.CertCode.TheVariants as code
 use Rattle.life_cert.specs.declared.refusal.CertRefusal.{CertRefusal}
@@ -27,7 +27,7 @@ pub record IsCertificate (c : Certificate) : Type 0 where
   pub few : c.lines ≤ 1024
   pub last : (pc : ℕ) → c.lines ≡ pc + 1 → IsSome (c.at pc)
 
-pub record IsTextOf (text : List ℕ) (c : Certificate) : Type 0 where
+pub record IsCertText (text : List ℕ) (c : Certificate) : Type 0 where
   pub sound : IsCertificate c
   pub whole : text ≡ cert_text c
   pub small : length text ≤ 4194304
@@ -44,7 +44,6 @@ pub record IsWritable (c : Certificate) : Type 0 where
 pub record IsPrinted (text : List ℕ) (c : Certificate) : Type 0 where
   pub writable : IsWritable c
   pub whole : text ≡ cert_text c
-  pub small : length text ≤ 4194304
 
 -- two certificates say the same; lines at the end that have no state say nothing
 pub record HaveSameStates (c d : Certificate) : Type 0 where
@@ -54,20 +53,20 @@ pub record HaveSameStates (c d : Certificate) : Type 0 where
 
 -- Lines.
 
-abbrev pub where_due : Bool → Line → Option Line
+abbrev pub where_due : Bool → CertLine → Option CertLine
 where_due b l = if b then Some l else None
 
 -- the number of an instruction may stand there
-abbrev pub pc_due : ℕ → Option ℕ → Option Line
+abbrev pub pc_due : ℕ → Option ℕ → Option CertLine
 pc_due next None = None
 pc_due next (Some pc) = where_due (nat_le next pc && nat_le pc 1023) (line.Instruction pc)
 
 -- `end`, or the number of an instruction, which is no lower than this one
-abbrev pub end_or_pc : ℕ → List ℕ → Option Line
+abbrev pub end_or_pc : ℕ → List ℕ → Option CertLine
 end_or_pc next l = if pointwise nat_eq l (codes "end") then Some line.End else pc_due next (decimal_below (2 ^ 32) (token l))
 
 -- which line stands there, if it is due
-unfoldable pub due_line : Due → List ℕ → Option Line
+unfoldable pub due_line : Due → List ℕ → Option CertLine
 due_line due.Header l = where_due (pointwise nat_eq l (codes "cert 1")) line.Header
 due_line due.Idle l = where_due (pointwise nat_eq (token l) (codes "idle")) line.Idle
 due_line due.Ready l = where_due (pointwise nat_eq (token l) (codes "ready")) line.Ready
@@ -75,7 +74,7 @@ due_line (due.States next) l = end_or_pc next l
 due_line due.Nothing l = None
 
 -- which line is due behind it
-abbrev pub due_after : Line → Due
+abbrev pub due_after : CertLine → Due
 due_after line.Header = due.Idle
 due_after line.Idle = due.Ready
 due_after line.Ready = due.States 0
@@ -89,7 +88,7 @@ IsState rest s = IsFormed s × (rest ≡ codes " " ++ state_text s)
 abbrev pub IsStateOrNone : List ℕ → Option State → Type 0
 IsStateOrNone rest o = IfSome o IsFormed × (rest ≡ codes " " ++ state_or_none o)
 
-abbrev pub HasState : Line → List ℕ → Type 0
+abbrev pub HasState : CertLine → List ℕ → Type 0
 HasState line.Header rest = Unit {0}
 HasState line.Idle rest = (o : Option State) × IsStateOrNone rest o
 HasState line.Ready rest = (o : Option State) × IsStateOrNone rest o
@@ -98,7 +97,7 @@ HasState line.End rest = Unit {0}
 
 -- Faults: each code fits a line by itself, where the lines before it leave this line due.
 
-abbrev pub LacksState : Option Line → List ℕ → Type 0
+abbrev pub LacksState : Option CertLine → List ℕ → Type 0
 LacksState None rest = ⊥
 LacksState (Some l) rest = HasState l rest → ⊥
 
@@ -108,7 +107,7 @@ HasCode d l code.NotDue = due_line d l ≡ None
 HasCode d l code.NotState = LacksState (due_line d l) (after_token l)
 
 -- what a line leaves due; it is not asked what follows a faulty one
-abbrev pub left_by : Due → Option Line → Due
+abbrev pub left_by : Due → Option CertLine → Due
 left_by d None = d
 left_by d (Some l) = due_after l
 
@@ -126,9 +125,9 @@ EndHasCode more d code.NotDue = is_over d ≡ false
 EndHasCode more d code.NotState = ⊥
 
 -- Line m of these lines has this code, where the first is line n; what stands behind the last LF is a line too.
-abbrev pub LinesHaveCode : Bool → Due → ℕ → List (List ℕ) → ℕ → CertCode → Type 0
-LinesHaveCode more d n [] m c = (m ≡ n) × EndHasCode more d c
-LinesHaveCode more d n (l ∷ ls) m c = ((m ≡ n) × HasCode d l c) ⊎ LinesHaveCode more (left d l) (n + 1) ls m c
+abbrev pub CertLinesHaveCode : Bool → Due → ℕ → List (List ℕ) → ℕ → CertCode → Type 0
+CertLinesHaveCode more d n [] m c = (m ≡ n) × EndHasCode more d c
+CertLinesHaveCode more d n (l ∷ ls) m c = ((m ≡ n) × HasCode d l c) ⊎ CertLinesHaveCode more (left d l) (n + 1) ls m c
 
 -- a text as far as its length is allowed: its lines that end with an LF, and whether more stands behind them
 abbrev pub lines_of : List ℕ → List (List ℕ)
@@ -137,8 +136,8 @@ lines_of text = lines_from [] (take 4194304 text)
 abbrev pub goes_on : List ℕ → Bool
 goes_on text = nat_lt 4194304 (length text) || not (length (rest_from [] (take 4194304 text)) == 0)
 
-abbrev pub HasLineCode : List ℕ → ℕ → CertCode → Type 0
-HasLineCode text n c = LinesHaveCode (goes_on text) due.Header 1 (lines_of text) n c
+abbrev pub HasCertLineCode : List ℕ → ℕ → CertCode → Type 0
+HasCertLineCode text n c = CertLinesHaveCode (goes_on text) due.Header 1 (lines_of text) n c
 
 -- the code fits this line, no lower one does, and no line before it has a code
 pub record IsToldFirst (P : ℕ → CertCode → Type 0) (n : ℕ) (c : CertCode) : Type 0 where
@@ -152,14 +151,14 @@ IsToldBy P (Fault n c) = IsToldFirst P n c
 IsToldBy P NoMemory = Unit {0}
 
 abbrev pub IsTold : List ℕ → CertRefusal → Type 0
-IsTold text e = IsToldBy (HasLineCode text) e
+IsTold text e = IsToldBy (HasCertLineCode text) e
 
 -- the same of a text that is short enough, and goes on where it is `long`
 abbrev pub more_than : Bool → List ℕ → Bool
 more_than long rest = long || not (length rest == 0)
 
 abbrev pub IsToldOf : Bool → List ℕ → CertRefusal → Type 0
-IsToldOf long text e = IsToldBy (LinesHaveCode (more_than long (rest_from [] text)) due.Header 1 (lines_from [] text)) e
+IsToldOf long text e = IsToldBy (CertLinesHaveCode (more_than long (rest_from [] text)) due.Header 1 (lines_from [] text)) e
 
 -- what is told of what stands behind the last LF
 abbrev pub EndTold : Bool → Due → ℕ → Result (Unit {0}) CertRefusal → Type 0

@@ -1,47 +1,47 @@
 -- How the states of a certificate grow, from none, in rounds over all instructions at once.
 use Rattle.std.specs.Prelude.{ℕ, zero, suc, ◌+◌, ◌*◌, nat_lt, if◌then◌else◌, List, [], ◌∷◌, ◌++◌, length, Option, Some, None, Result, Ok, Err, slice_get, unwrap_or}
-use Rattle.module_lang.specs.declared.instr.Instr.{Instr}
-use Rattle.module_lang.specs.declared.instr.Instr.TheVariants as instr
-use Rattle.module_lang.specs.Program.{Program, target}
+use Rattle.module_code.specs.declared.instr.Instr.{Instr}
+use Rattle.module_code.specs.declared.instr.Instr.TheVariants as instr
+use Rattle.module_code.specs.Program.{Program, target}
 use Rattle.run_model.specs.declared.fault.FaultKind.{FaultKind}
 use Rattle.run_model.specs.Indexed.{upd}
 use Rattle.life_state.specs.States.{State}
 use Rattle.life_state.specs.Order.{leq, join}
 use Rattle.life_state.specs.Rules.{Edges, rule, at_open, at_main, at_return, at_end_of_request}
 use Rattle.life_check.specs.Certificates.{Certificate}
-use Rattle.life_cert.specs.declared.growth.Place.{Place}
-use Rattle.life_cert.specs.declared.growth.Place.TheVariants as place
+use Rattle.life_cert.specs.declared.growth.StatePlace.{StatePlace}
+use Rattle.life_cert.specs.declared.growth.StatePlace.TheVariants as place
 
 -- a state that is handed on to a place: `idle`, `ready`, or an instruction
 pub record Arrival : Type 0 where
-  pub place : Place
+  pub place : StatePlace
   pub state : State
 
 -- the states so far, and the places whose states grew in the last round
 pub record Grown : Type 0 where
   pub states : Certificate
-  pub grown : List Place
+  pub grown : List StatePlace
 
 -- The state of a place.
 
-abbrev pub state_at : Certificate → Place → Option State
+abbrev pub state_at : Certificate → StatePlace → Option State
 state_at c place.Idle = c.idle
 state_at c place.Ready = c.ready
 state_at c (place.At pc) = c.at pc
 
-abbrev pub with_state : Place → State → Certificate → Certificate
+abbrev pub with_state : StatePlace → State → Certificate → Certificate
 with_state place.Idle s c = record c { idle = Some s }
 with_state place.Ready s c = record c { ready = Some s }
 with_state (place.At pc) s c = record c { at = upd c.at pc (Some s) }
 
 -- What is handed on.
 
-abbrev pub arriving : Place → Option State → List Arrival
+abbrev pub arriving : StatePlace → Option State → List Arrival
 arriving w None = []
 arriving w (Some s) = record { place = w; state = s } ∷ []
 
 -- where the calls of the instruction's handler leave their state
-abbrev pub left_place : Program → ℕ → Place
+abbrev pub left_place : Program → ℕ → StatePlace
 left_place p pc = if nat_lt pc p.init then place.Idle else place.Ready
 
 abbrev pub returned : Instr → State → Option State
@@ -61,19 +61,19 @@ handed_by_line p pc None s = []
 handed_by_line p pc (Some i) s = handed_by_rule p pc i s (rule p i s)
 
 -- `idle` begins `init`; `ready` begins `main`, and becomes `idle` where the request ends
-abbrev pub handed_by : Program → Place → Option State → List Arrival
+abbrev pub handed_by : Program → StatePlace → Option State → List Arrival
 handed_by p w None = []
 handed_by p place.Idle (Some s) = arriving (place.At p.init) (Some s)
 handed_by p place.Ready (Some s) = arriving (place.At p.main) (Some (at_main s)) ++ arriving place.Idle (Some (at_end_of_request p s))
 handed_by p (place.At pc) (Some s) = handed_by_line p pc (slice_get p.code pc) s
 
-unfoldable pub handed_on : Program → Certificate → List Place → List Arrival
+unfoldable pub handed_on : Program → Certificate → List StatePlace → List Arrival
 handed_on p c [] = []
 handed_on p c (w ∷ ws) = handed_by p w (state_at c w) ++ handed_on p c ws
 
 -- What arrives.
 
-abbrev pub grow : Place → State → Grown → Grown
+abbrev pub grow : StatePlace → State → Grown → Grown
 grow w s g = record { states = with_state w s g.states; grown = g.grown ++ w ∷ [] }
 
 -- the state that is there grows, where it does not already stand above

@@ -1,15 +1,15 @@
 -- How the text of a state is read: from its front, part by part, in the order in which they are written. Of any other text
 -- something is read, too.
 use Rattle.std.specs.Prelude.{ℕ, zero, suc, ◌+◌, ◌-◌, Bool, true, false, ◌&&◌, ◌==◌, if◌then◌else◌, List, [], ◌∷◌, ◌++◌, codes}
-use Rattle.module_lang.specs.declared.instr.PoolRef.{PoolRef}
-use Rattle.module_lang.specs.declared.instr.PoolRef.TheVariants as pool
+use Rattle.module_code.specs.declared.instr.PoolRef.{PoolRef}
+use Rattle.module_code.specs.declared.instr.PoolRef.TheVariants as pool
 use Rattle.life_state.specs.declared.parts.Classes.{Classes}
 use Rattle.life_state.specs.declared.parts.Contents.{Contents}
 use Rattle.life_state.specs.declared.parts.Contents.TheVariants.{Empty, Flushes, NoEos, NoLateData, Any}
 use Rattle.life_state.specs.declared.parts.PoolState.{PoolState}
 use Rattle.life_state.specs.States.{Homes, no_homes, BrigadeKnown, never_made, CursorKnown, Unset, Loose, In, End, InOrEnd, State, set_pool, set_brigade}
 use Rattle.life_state.specs.Build.{with_cursor, with_fact}
-use Rattle.life_cert.specs.declared.print_state.Home.{Home}
+use Rattle.life_cert.specs.declared.print_state.HomeWord.{HomeWord}
 use Rattle.life_cert.specs.StateText.{homes, home_text, cursor_name}
 
 -- whether a text begins with a word, and what stands behind a word as long
@@ -43,21 +43,21 @@ count_each w p zero t = 0
 count_each w p (suc most) t = if starts w t then suc (count_each w p most (p t)) else 0
 
 -- Homes: which of these are written, each behind a comma, and what is left behind them.
-abbrev pub more_there : List Home → List ℕ → List Bool
+abbrev pub more_there : List HomeWord → List ℕ → List Bool
 more_there [] t = []
 more_there (x ∷ xs) t = starts (44 ∷ home_text x) t ∷ more_there xs (past (44 ∷ home_text x) t)
 
-abbrev pub past_more : List Home → List ℕ → List ℕ
+abbrev pub past_more : List HomeWord → List ℕ → List ℕ
 past_more [] t = t
 past_more (x ∷ xs) t = past_more xs (past (44 ∷ home_text x) t)
 
 -- the same, without a comma before the first; a dash for none
-abbrev pub some_there : List Home → List ℕ → List Bool
+abbrev pub some_there : List HomeWord → List ℕ → List Bool
 some_there [] t = []
 some_there (x ∷ xs) t =
     if starts (home_text x) t then true ∷ more_there xs (behind (home_text x) t) else false ∷ some_there xs t
 
-abbrev pub past_some : List Home → List ℕ → List ℕ
+abbrev pub past_some : List HomeWord → List ℕ → List ℕ
 past_some [] t = behind (codes "-") t
 past_some (x ∷ xs) t = if starts (home_text x) t then past_more xs (behind (home_text x) t) else past_some xs t
 

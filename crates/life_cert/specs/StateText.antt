@@ -1,14 +1,14 @@
 -- How a state is written: words with one space between them.
 use Rattle.std.specs.Prelude.{ℕ, zero, suc, ◌+◌, Bool, ◌&&◌, nat_lt, ◌==◌, if◌then◌else◌, List, [], ◌∷◌, ◌++◌, codes, decimal}
-use Rattle.module_lang.specs.declared.instr.PoolRef.TheVariants as pool
+use Rattle.module_code.specs.declared.instr.PoolRef.TheVariants as pool
 use Rattle.life_state.specs.declared.parts.Classes.{Classes}
 use Rattle.life_state.specs.declared.parts.Contents.{Contents}
 use Rattle.life_state.specs.declared.parts.Contents.TheVariants.{Empty, Flushes, NoEos, NoLateData, Any}
 use Rattle.life_state.specs.declared.parts.PoolState.{PoolState}
 use Rattle.life_state.specs.States.{Homes, BrigadeKnown, CursorKnown, Unset, Loose, In, End, InOrEnd, State}
 use Rattle.life_state.specs.Facts.{is_set}
-use Rattle.life_cert.specs.declared.print_state.Home.{Home}
-use Rattle.life_cert.specs.declared.print_state.Home.TheVariants as home
+use Rattle.life_cert.specs.declared.print_state.HomeWord.{HomeWord}
+use Rattle.life_cert.specs.declared.print_state.HomeWord.TheVariants as home
 
 -- a text, where this holds
 abbrev pub where_holds : Bool → List ℕ → List ℕ
@@ -39,30 +39,30 @@ abbrev pub numbered : List ℕ → ℕ → List ℕ
 numbered letter k = letter ++ decimal k
 
 -- homes, in the order in which they are written
-abbrev pub homes : List Home
+abbrev pub homes : List HomeWord
 homes =
     home.Call ∷ (home.Req ∷ (home.Own 0 ∷ (home.Own 1 ∷ (home.Own 2 ∷ (home.Own 3
     ∷ (home.Own 4 ∷ (home.Own 5 ∷ (home.Own 6 ∷ (home.Own 7 ∷ (home.Dead ∷ []))))))))))
 
-abbrev pub home_text : Home → List ℕ
+abbrev pub home_text : HomeWord → List ℕ
 home_text home.Call = codes "call"
 home_text home.Req = codes "req"
 home_text (home.Own q) = numbered (codes "p") q
 home_text home.Dead = codes "dead"
 
-abbrev pub has_home : Homes → Home → Bool
+abbrev pub has_home : Homes → HomeWord → Bool
 has_home h home.Call = h.call
 has_home h home.Req = h.at pool.Req
 has_home h (home.Own q) = h.at (pool.Own q)
 has_home h home.Dead = h.dead
 
 -- those of these homes that are meant, each behind a comma
-abbrev pub more_homes : Homes → List Home → List ℕ
+abbrev pub more_homes : Homes → List HomeWord → List ℕ
 more_homes h [] = []
 more_homes h (x ∷ xs) = where_holds (has_home h x) (codes "," ++ home_text x) ++ more_homes h xs
 
 -- the same, without a comma before the first; a dash for none
-abbrev pub some_homes : Homes → List Home → List ℕ
+abbrev pub some_homes : Homes → List HomeWord → List ℕ
 some_homes h [] = codes "-"
 some_homes h (x ∷ xs) = if has_home h x then home_text x ++ more_homes h xs else some_homes h xs
 

@@ -1,7 +1,7 @@
 //! What the lines of a certificate text say, taken one after another.
 
 ghost use Rattle.std.specs.Prelude.{◌≡◌, ◌<◌, ◌≤◌, ◌++◌, ◌∷◌, ◌-◌, [], true, IfOk, IfErr, IfSome, OnOk, MatchResult, Some, None, length, replicate, codes};
-ghost use Rattle.module_lang.specs.Bytes.{after_token};
+ghost use Rattle.byte_text.specs.Bytes.{after_token};
 ghost use Rattle.life_state.specs.Form.{IsFormed};
 ghost use Rattle.life_state.specs.Seen.{seen, seen_some};
 ghost use Rattle.life_cert.specs.StateText.{state_text};
@@ -9,17 +9,17 @@ ghost use Rattle.life_cert.specs.Drafts.{IsNoState, IsReadState, NoStateIsIn, No
 ghost use Rattle.life_cert.specs.Reading.{IsState, IsStateOrNone};
 ghost use Rattle.life_cert.specs.declared.refusal.CertRefusal.TheVariants.{Fault, NoMemory};
 
-use crate::due::{Due, Line, due_line};
+use crate::due::{CertLine, Due, due_line};
 use crate::print_state::put_state;
 use crate::refusal::{CertCode, CertRefusal};
 use crate::state_text::told_state;
+use byte_text::{TakesLines, after_token, all_printable, begins, is_text, tail};
 use life_state::State;
-use module_lang::text::{TakesLines, after_token, all_printable, begins, is_text, tail};
 use std::alloc::{AllocError, Global};
 
 /// What the lines so far say.
 #[derive(Drop)]
-pub(crate) struct Draft {
+pub(crate) struct CertDraft {
     pub(crate) due: Due,
     pub(crate) idle: Option<State>,
     pub(crate) ready: Option<State>,
@@ -89,16 +89,16 @@ fn state_or_none(alloc: Global, number: usize, line: &[u8]) -> Result<Option<Sta
     }
 }
 
-impl Draft {
-    ghost use Rattle.module_lang.specs.Bytes.{all_printable};
-    ghost use Rattle.life_cert.specs.Drafts.{IsAdded, IsDraft};
+impl CertDraft {
+    ghost use Rattle.byte_text.specs.Bytes.{all_printable};
+    ghost use Rattle.life_cert.specs.Drafts.{IsLineAdded, IsCertDraft};
     ghost use Rattle.life_cert.specs.Reading.{due_line, due_after, LacksState};
 
-    pub(crate) fn new(alloc: Global) -> Draft
-        ensures draft { IsDraft result }
+    pub(crate) fn new(alloc: Global) -> CertDraft
+        ensures draft { IsCertDraft result }
         ensures due { result.due ≡ Due.Header }
     {
-        Draft {
+        CertDraft {
             due: Due::Header,
             idle: None,
             ready: None,
@@ -110,7 +110,7 @@ impl Draft {
     fn add_state(&mut self, pc: usize, state: State) -> Result<(), AllocError>
         requires after { length self.old.at.items ≤ pc }
         requires few { pc < 1024 }
-        ensures others { OnOk result (self.new ≡ record (self.old) { due = due_after (Line.Instruction pc); at = self.new.at }) }
+        ensures others { OnOk result (self.new ≡ record (self.old) { due = due_after (CertLine.Instruction pc); at = self.new.at }) }
         ensures items { OnOk result (self.new.at.items ≡ (self.old.at.items ++ replicate (pc - length self.old.at.items) None) ++ Some state ∷ []) }
     {
         self.at.resize(pc, None)?;
@@ -125,41 +125,41 @@ impl Draft {
         alloc: Global,
         number: usize,
         bytes: &[u8],
-        line: Line,
+        line: CertLine,
     ) -> Result<(), CertRefusal>
-        requires draft { IsDraft self.old }
+        requires draft { IsCertDraft self.old }
         requires printable { all_printable bytes.now ≡ true }
         requires due { due_line self.old.due bytes.now ≡ Some line }
-        ensures draft { OnOk result (IsDraft self.new) }
-        ensures added { OnOk result (IsAdded self.old bytes.now self.new) }
+        ensures draft { OnOk result (IsCertDraft self.new) }
+        ensures added { OnOk result (IsLineAdded self.old bytes.now self.new) }
         ensures refused { IfErr result (λ e. IsNoState number (LacksState (Some line) (after_token bytes.now)) e) }
     {
         match line {
-            Line::Header => self.due = Due::Idle,
-            Line::Idle => {
+            CertLine::Header => self.due = Due::Idle,
+            CertLine::Idle => {
                 self.idle = state_or_none(alloc, number, bytes)?;
                 self.due = Due::Ready;
             }
-            Line::Ready => {
+            CertLine::Ready => {
                 self.ready = state_or_none(alloc, number, bytes)?;
                 self.due = Due::States(0);
             }
-            Line::Instruction(pc) => {
+            CertLine::Instruction(pc) => {
                 let state = state_behind(alloc, number, bytes)?;
                 self.add_state(pc, state)?;
             }
-            Line::End => self.due = Due::Nothing,
+            CertLine::End => self.due = Due::Nothing,
         }
         Ok(())
     }
 }
 
-impl TakesLines for Draft {
-    ghost use Rattle.life_cert.specs.Drafts.{IsDraft, LineAdded};
+impl TakesLines for CertDraft {
+    ghost use Rattle.life_cert.specs.Drafts.{IsCertDraft, LineAdded};
 
     type Refusal = CertRefusal;
 
-    ghost can_take = { λ draft. IsDraft draft };
+    ghost can_take = { λ draft. IsCertDraft draft };
 
     ghost takes = { λ draft number line answer next. LineAdded draft number line answer next };
 

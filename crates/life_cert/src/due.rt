@@ -3,7 +3,7 @@
 ghost use Rattle.std.specs.Prelude.{◌≡◌};
 ghost use Rattle.life_cert.specs.Reading.{where_due, due_line, end_or_pc, is_over};
 
-use module_lang::text::{decimal_u32, is_text, token};
+use byte_text::{decimal_u32, is_text, token};
 
 /// Which line is due.
 #[derive(Clone, Copy)]
@@ -22,7 +22,7 @@ pub(crate) enum Due {
 
 /// A line, by its first word.
 #[derive(Clone, Copy)]
-pub(crate) enum Line {
+pub(crate) enum CertLine {
     Header,
     Idle,
     Ready,
@@ -30,31 +30,31 @@ pub(crate) enum Line {
     End,
 }
 
-fn where_due(holds: bool, line: Line) -> Option<Line>
+fn where_due(holds: bool, line: CertLine) -> Option<CertLine>
     ensures { result ≡ where_due holds line }
 {
     if holds { Some(line) } else { None }
 }
 
-fn end_or_pc(next: usize, bytes: &[u8]) -> Option<Line>
+fn end_or_pc(next: usize, bytes: &[u8]) -> Option<CertLine>
     ensures { result ≡ end_or_pc next bytes.now }
 {
     if is_text(bytes, b"end") {
-        return Some(Line::End);
+        return Some(CertLine::End);
     }
     let pc = decimal_u32(token(bytes))? as usize;
-    where_due((next <= pc) & (pc <= 1023), Line::Instruction(pc))
+    where_due((next <= pc) & (pc <= 1023), CertLine::Instruction(pc))
 }
 
 /// Which line stands there, if it is due.
 #[tactic(auto, unfolding(crate::specs::Reading::due_line))]
-pub(crate) fn due_line(due: Due, bytes: &[u8]) -> Option<Line>
+pub(crate) fn due_line(due: Due, bytes: &[u8]) -> Option<CertLine>
     ensures { result ≡ due_line due bytes.now }
 {
     match due {
-        Due::Header => where_due(is_text(bytes, b"cert 1"), Line::Header),
-        Due::Idle => where_due(is_text(token(bytes), b"idle"), Line::Idle),
-        Due::Ready => where_due(is_text(token(bytes), b"ready"), Line::Ready),
+        Due::Header => where_due(is_text(bytes, b"cert 1"), CertLine::Header),
+        Due::Idle => where_due(is_text(token(bytes), b"idle"), CertLine::Idle),
+        Due::Ready => where_due(is_text(token(bytes), b"ready"), CertLine::Ready),
         Due::States(next) => end_or_pc(next, bytes),
         Due::Nothing => None,
     }

@@ -1,6 +1,7 @@
 //! States that grow.
 
 ghost use Rattle.std.specs.Prelude.{◌≡◌, ◌<◌, ◌≤◌, true, length, Some, OnOk, IfOk};
+ghost use Rattle.module_code.specs.Program.{IsModule};
 ghost use Rattle.life_state.specs.States.{State as known};
 ghost use Rattle.life_state.specs.Seen.{seen, seen_some};
 ghost use Rattle.life_check.specs.Seen.{seen_cert};
@@ -10,12 +11,12 @@ ghost use Rattle.life_cert.specs.SeenGrowth.{seen_arrival, seen_growth};
 
 use life_check::Cert;
 use life_state::{State, at_open, join, leq};
-use module_lang::Module;
+use module_code::Module;
 use std::alloc::{AllocError, Global};
 
 /// What has a state: what lies between calls, before `init` or from then on, and each instruction.
 #[derive(Clone, Copy)]
-pub(crate) enum Place {
+pub(crate) enum StatePlace {
     /// Between calls, before `init`.
     Idle,
     /// Between calls, from `init` on.
@@ -27,7 +28,7 @@ pub(crate) enum Place {
 /// A state that is handed on to a place.
 #[derive(Clone, Copy)]
 pub(crate) struct Arrival {
-    pub(crate) place: Place,
+    pub(crate) place: StatePlace,
     pub(crate) state: State,
 }
 
@@ -35,17 +36,17 @@ pub(crate) struct Arrival {
 #[derive(Drop)]
 pub(crate) struct Growth {
     pub(crate) cert: Cert,
-    pub(crate) grown: Vec<Place>,
+    pub(crate) grown: Vec<StatePlace>,
 }
 
-fn put(cert: &mut Cert, place: Place, state: State)
+fn put(cert: &mut Cert, place: StatePlace, state: State)
     requires { is_inside (length cert.old.at.items) place ≡ true }
     ensures { seen_cert cert.new ≡ with_state place (seen state) (seen_cert cert.old) }
 {
     match place {
-        Place::Idle => cert.idle = Some(state),
-        Place::Ready => cert.ready = Some(state),
-        Place::At(pc) => cert.at[pc] = Some(state),
+        StatePlace::Idle => cert.idle = Some(state),
+        StatePlace::Ready => cert.ready = Some(state),
+        StatePlace::At(pc) => cert.at[pc] = Some(state),
     }
 }
 
@@ -55,6 +56,7 @@ impl Growth {
         ensures begun { IfOk result (λ g. seen_growth g ≡ begun code.now) }
         ensures some { 0 < length code.now.code }
         ensures few { length code.now.pools ≤ 8 }
+        ensures proper { IsModule code.now }
     {
         let has_code = code.init() < code.len();
         prove!(has_code);
@@ -64,23 +66,23 @@ impl Growth {
             ready: None,
             at: vec![in alloc; None; code.len()]?,
         };
-        put(&mut cert, Place::At(0), first);
-        let grown = vec![in alloc; Place::At(0)]?;
+        put(&mut cert, StatePlace::At(0), first);
+        let grown = vec![in alloc; StatePlace::At(0)]?;
         Ok(Growth { cert, grown })
     }
 
     /// The state of a place.
-    pub(crate) fn state(&self, place: Place) -> Option<State>
+    pub(crate) fn state(&self, place: StatePlace) -> Option<State>
         ensures { seen_some result ≡ state_at (seen_cert self.now.cert) place }
     {
         match place {
-            Place::Idle => self.cert.idle,
-            Place::Ready => self.cert.ready,
-            Place::At(pc) => self.cert.state(pc),
+            StatePlace::Idle => self.cert.idle,
+            StatePlace::Ready => self.cert.ready,
+            StatePlace::At(pc) => self.cert.state(pc),
         }
     }
 
-    fn grow(&mut self, place: Place, state: State) -> Result<(), AllocError>
+    fn grow(&mut self, place: StatePlace, state: State) -> Result<(), AllocError>
         requires { is_inside (length self.old.cert.at.items) place ≡ true }
         ensures { OnOk result (seen_growth self.new ≡ grow place (seen state) (seen_growth self.old)) }
     {

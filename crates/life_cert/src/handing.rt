@@ -7,14 +7,18 @@ ghost use Rattle.life_cert.specs.Rounds.{state_at, arriving, left_place, returne
 ghost use Rattle.life_cert.specs.Fitting.{is_inside, IsDeclared, IsFit, IsOf};
 ghost use Rattle.life_cert.specs.SeenGrowth.{seen_arrivals, seen_growth};
 
-use crate::growth::{Arrival, Growth, Place};
+use crate::growth::{Arrival, Growth, StatePlace};
 use life_check::target;
 use life_state::{State, Successors, after, at_end_of_request, at_main, at_return};
-use module_lang::{Instr, Module};
+use module_code::{Instr, Module};
 use std::alloc::{AllocError, Global};
 
 // The state, if there is one, is handed on to a place.
-fn hand(arrivals: &mut Vec<Arrival>, place: Place, state: Option<State>) -> Result<(), AllocError>
+fn hand(
+    arrivals: &mut Vec<Arrival>,
+    place: StatePlace,
+    state: Option<State>,
+) -> Result<(), AllocError>
     ensures { OnOk result (seen_arrivals arrivals.new.items ≡ seen_arrivals arrivals.old.items ++ arriving place (seen_some state)) }
 {
     if let Some(state) = state {
@@ -24,13 +28,13 @@ fn hand(arrivals: &mut Vec<Arrival>, place: Place, state: Option<State>) -> Resu
 }
 
 // Where the calls of the instruction's handler leave their state.
-fn left_place(code: &Module, pc: usize) -> Place
+fn left_place(code: &Module, pc: usize) -> StatePlace
     ensures { result ≡ left_place code.now pc }
 {
     if pc < code.init() {
-        Place::Idle
+        StatePlace::Idle
     } else {
-        Place::Ready
+        StatePlace::Ready
     }
 }
 
@@ -53,8 +57,8 @@ fn hand_edges(
     requires { pc < 1024 }
     ensures { OnOk result (seen_arrivals arrivals.new.items ≡ seen_arrivals arrivals.old.items ++ edges_arriving pc instr (seen_edges edges.now)) }
 {
-    hand(arrivals, Place::At(pc + 1), edges.next)?;
-    hand(arrivals, Place::At(target(instr)), edges.jump)
+    hand(arrivals, StatePlace::At(pc + 1), edges.next)?;
+    hand(arrivals, StatePlace::At(target(instr)), edges.jump)
 }
 
 // An instruction hands on the states on its edges, and what it leaves behind. One that refuses hands on nothing.
@@ -87,12 +91,16 @@ fn hand_from_ready(
 ) -> Result<(), AllocError>
     requires declared { IsDeclared code.now (seen state.now) }
     requires few { length code.now.pools ≤ 8 }
-    ensures handed { OnOk result (seen_arrivals arrivals.new.items ≡ seen_arrivals arrivals.old.items ++ handed_by code.now Place.Ready (Some (seen state.now))) }
-    ensures fit { All (IsFit code.now) (handed_by code.now Place.Ready (Some (seen state.now))) }
+    ensures handed { OnOk result (seen_arrivals arrivals.new.items ≡ seen_arrivals arrivals.old.items ++ handed_by code.now StatePlace.Ready (Some (seen state.now))) }
+    ensures fit { All (IsFit code.now) (handed_by code.now StatePlace.Ready (Some (seen state.now))) }
 {
-    let main = Place::At(code.main());
+    let main = StatePlace::At(code.main());
     hand(arrivals, main, Some(at_main(state)))?;
-    hand(arrivals, Place::Idle, Some(at_end_of_request(code, state)))
+    hand(
+        arrivals,
+        StatePlace::Idle,
+        Some(at_end_of_request(code, state)),
+    )
 }
 
 // Between calls, before `init`, a call of `init` begins.
@@ -102,16 +110,16 @@ fn hand_from_idle(
     arrivals: &mut Vec<Arrival>,
 ) -> Result<(), AllocError>
     requires { IsDeclared code.now (seen state.now) }
-    ensures handed { OnOk result (seen_arrivals arrivals.new.items ≡ seen_arrivals arrivals.old.items ++ handed_by code.now Place.Idle (Some (seen state.now))) }
-    ensures fit { All (IsFit code.now) (handed_by code.now Place.Idle (Some (seen state.now))) }
+    ensures handed { OnOk result (seen_arrivals arrivals.new.items ≡ seen_arrivals arrivals.old.items ++ handed_by code.now StatePlace.Idle (Some (seen state.now))) }
+    ensures fit { All (IsFit code.now) (handed_by code.now StatePlace.Idle (Some (seen state.now))) }
 {
-    hand(arrivals, Place::At(code.init()), Some(*state))
+    hand(arrivals, StatePlace::At(code.init()), Some(*state))
 }
 
 fn hand_from(
     code: &Module,
     growth: &Growth,
-    place: Place,
+    place: StatePlace,
     arrivals: &mut Vec<Arrival>,
 ) -> Result<(), AllocError>
     requires growing { IsOf code.now (seen_growth growth.now) }
@@ -122,9 +130,9 @@ fn hand_from(
     match growth.state(place) {
         None => Ok(()),
         Some(state) => match place {
-            Place::Idle => hand_from_idle(code, &state, arrivals),
-            Place::Ready => hand_from_ready(code, &state, arrivals),
-            Place::At(pc) => hand_from_line(code, pc, &state, arrivals),
+            StatePlace::Idle => hand_from_idle(code, &state, arrivals),
+            StatePlace::Ready => hand_from_ready(code, &state, arrivals),
+            StatePlace::At(pc) => hand_from_line(code, pc, &state, arrivals),
         },
     }
 }

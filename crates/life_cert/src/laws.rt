@@ -1,6 +1,7 @@
 //! Laws of the definitions. Each function does nothing: what its contract says holds of the definitions alone.
 
 ghost use Rattle.life_cert.specs.Examples.{WorkedTexts};
+ghost use Rattle.life_cert.specs.Lengths.{StateTextsAreShort, CertTextsAreShort};
 ghost use Rattle.life_cert.specs.Reading.{TextsTellStates};
 ghost use Rattle.life_cert.specs.Laws.{StatesOnlyGrow, RoundsEnd, StatesAreFormed, StatesAreClosed};
 
@@ -30,4 +31,11 @@ pub fn states_are_closed()
 /// No two states in form have one text: a text tells its state.
 pub fn texts_tell_states()
     ensures { TextsTellStates }
+{}
+
+/// The text of a state in form has 1,187 bytes at most, and that of a certificate of such states 1,224,030: no certificate that is
+/// printed is longer than a text may be.
+pub fn texts_are_short()
+    ensures states { StateTextsAreShort }
+    ensures certificates { CertTextsAreShort }
 {}

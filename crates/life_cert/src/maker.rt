@@ -1,19 +1,22 @@
 //! The maker of certificates.
 
 ghost use Rattle.std.specs.Prelude.{◌≡◌, ◌∷◌, [], OnOk, IfOk};
+ghost use Rattle.module_code.specs.Program.{IsModule};
+ghost use Rattle.life_check.specs.Certificates.{Certificate, AreFormed};
 ghost use Rattle.life_check.specs.Seen.{seen_cert};
 ghost use Rattle.life_check.specs.ChainTheorem.{ChainNeverFaults};
 ghost use Rattle.life_check.specs.Typed.{IsTyped};
 ghost use Rattle.life_cert.specs.Rounds.{round, enough, made};
 ghost use Rattle.life_cert.specs.Fitting.{IsOf};
 ghost use Rattle.life_cert.specs.SeenGrowth.{seen_growth};
-ghost use Rattle.life_cert.specs.Made.{IsMade};
+ghost use Rattle.life_cert.specs.Made.{IsMade, IsRefused};
+ghost use Rattle.life_cert.specs.Least.{IsBelow};
 
 use crate::growth::Growth;
 use crate::handing::handed_on;
 use crate::refusal::MakeRefusal;
 use life_check::{Cert, check};
-use module_lang::Module;
+use module_code::Module;
 use std::alloc::{AllocError, Global};
 
 // So many rounds that no state grows in the last. Each growth of a state adds to what it says may be: `sent`; 3 of a pool; 5, 4 steps
@@ -41,7 +44,8 @@ fn round(alloc: Global, code: &Module, growth: &mut Growth) -> Result<(), AllocE
 
 // The states after so many rounds that none grows any more.
 fn grown(alloc: Global, code: &Module) -> Result<Cert, AllocError>
-    ensures { IfOk result (λ c. seen_cert c ≡ made code.now) }
+    ensures made { IfOk result (λ c. seen_cert c ≡ made code.now) }
+    ensures proper { IsModule code.now }
 {
     let mut growth = Growth::new(alloc, code)?;
     for _ in 0..enough(code) {
@@ -55,11 +59,13 @@ fn grown(alloc: Global, code: &Module) -> Result<Cert, AllocError>
 
 /// Makes a certificate. The states grow from none, in rounds over all instructions at once: each hands on what it leads to, where its
 /// state grew in the round before, and one that may have a fault hands on nothing. The certificate is accepted by `check`, and so no run of the module alone answers a fault; where it
-/// is not, the refusal is the first of `check`, which is at the lowest instruction that may have a fault. It takes a line for each
-/// instruction, and `NoMemory` comes where these or what is handed on cannot be held.
+/// is not, the refusal is the first of `check`, which is at the lowest instruction that may have a fault. Of all certificates that `check` accepts it is the least, and a module is
+/// refused only where there is none. It takes a line for each instruction, and `NoMemory` comes where these or what is handed on cannot be held.
 pub fn make(alloc: Global, code: &Module) -> Result<Cert, MakeRefusal>
     ensures typed { IfOk result (λ c. IsTyped code.now (seen_cert c)) }
     ensures made { IsMade code.now result }
+    ensures least { IfOk result (λ c. (other : Certificate) → AreFormed other → IsTyped code.now other → IsBelow (seen_cert c) other) }
+    ensures complete { IsRefused result → (other : Certificate) → AreFormed other → IsTyped code.now other → ⊥ }
     ensures safe { OnOk result (ChainNeverFaults (code.now ∷ [])) }
 {
     let cert = grown(alloc, code)?;

@@ -1,17 +1,17 @@
 //! Certificates as they are written.
 
 ghost use Rattle.std.specs.Prelude.{◌≡◌, length, Some, slice_get};
-ghost use Rattle.module_lang.specs.Writes.{Wrote};
+ghost use Rattle.byte_text.specs.Writes.{Wrote};
 ghost use Rattle.life_state.specs.Seen.{seen, seen_some};
 ghost use Rattle.life_check.specs.Seen.{seen_cert, seen_line};
 ghost use Rattle.life_cert.specs.CertText.{state_or_none, between_line, pc_line, cert_text};
 ghost use Rattle.life_cert.specs.StateText.{each};
 
 use crate::print_state::put_state;
+use byte_text::{WriteFault, put_all};
 use itoa::Buffer;
 use life_check::Cert;
 use life_state::State;
-use module_lang::{WriteFault, put_all};
 use std::io::Write;
 
 fn put_state_or_none<W: Write>(out: &mut W, state: &Option<State>) -> Result<(), WriteFault>

@@ -1,19 +1,20 @@
 //! States as they are written.
 
 ghost use Rattle.std.specs.Prelude.{◌≡◌, ◌++◌, codes};
-ghost use Rattle.module_lang.specs.Writes.{Wrote};
+ghost use Rattle.byte_text.specs.Writes.{Wrote};
 ghost use Rattle.life_state.specs.Seen.{seen, seen_homes, seen_brigade, seen_cursor};
 ghost use Rattle.life_state.specs.States.{Loose};
 ghost use Rattle.life_cert.specs.StateText.{where_holds, numbered, has_home, home_text, homes_text, set_text, classes_text, content_text, usable_text, live_text, pool_text, brigade_text, brigade_name, cursor_name, place_text_of, cursor_text, fact_text, facts_text, sent_text, state_text, each};
 
+use byte_text::{WriteFault, put_all};
 use itoa::Buffer;
 use life_state::{BrigadeState, Classes, Contents, CursorState, HomeSet, PoolState, State};
-use module_lang::{PoolRef, WriteFault, put_all};
+use module_code::PoolRef;
 use std::io::Write;
 
 /// What a bucket may live as long as, as it is named.
 #[derive(Clone, Copy)]
-enum Home {
+enum HomeWord {
     Call,
     Req,
     Own(u8),
@@ -21,18 +22,18 @@ enum Home {
 }
 
 /// In the order in which they are written.
-const HOMES: [Home; 11] = [
-    Home::Call,
-    Home::Req,
-    Home::Own(0),
-    Home::Own(1),
-    Home::Own(2),
-    Home::Own(3),
-    Home::Own(4),
-    Home::Own(5),
-    Home::Own(6),
-    Home::Own(7),
-    Home::Dead,
+const HOMES: [HomeWord; 11] = [
+    HomeWord::Call,
+    HomeWord::Req,
+    HomeWord::Own(0),
+    HomeWord::Own(1),
+    HomeWord::Own(2),
+    HomeWord::Own(3),
+    HomeWord::Own(4),
+    HomeWord::Own(5),
+    HomeWord::Own(6),
+    HomeWord::Own(7),
+    HomeWord::Dead,
 ];
 
 /// A text, if it is to be written.
@@ -51,25 +52,25 @@ fn put_numbered<W: Write>(out: &mut W, letter: &[u8], number: u8) -> Result<(), 
     put_all(out, digits.format(number).as_bytes())
 }
 
-fn has_home(homes: &HomeSet, home: Home) -> bool
+fn has_home(homes: &HomeSet, home: HomeWord) -> bool
     ensures { result ≡ has_home (seen_homes homes.now) home }
 {
     match home {
-        Home::Call => homes.call,
-        Home::Req => homes.pools.has(PoolRef::Req),
-        Home::Own(pool) => homes.pools.has(PoolRef::Own(pool)),
-        Home::Dead => homes.dead,
+        HomeWord::Call => homes.call,
+        HomeWord::Req => homes.pools.has(PoolRef::Req),
+        HomeWord::Own(pool) => homes.pools.has(PoolRef::Own(pool)),
+        HomeWord::Dead => homes.dead,
     }
 }
 
-fn put_home<W: Write>(out: &mut W, home: Home) -> Result<(), WriteFault>
+fn put_home<W: Write>(out: &mut W, home: HomeWord) -> Result<(), WriteFault>
     ensures { Wrote result (W.contents out.old) (W.contents out.new) (home_text home) }
 {
     match home {
-        Home::Call => put_all(out, b"call"),
-        Home::Req => put_all(out, b"req"),
-        Home::Own(pool) => put_numbered(out, b"p", pool),
-        Home::Dead => put_all(out, b"dead"),
+        HomeWord::Call => put_all(out, b"call"),
+        HomeWord::Req => put_all(out, b"req"),
+        HomeWord::Own(pool) => put_numbered(out, b"p", pool),
+        HomeWord::Dead => put_all(out, b"dead"),
     }
 }
 

@@ -3,14 +3,14 @@
 ghost use Rattle.std.specs.Prelude.{◌≡◌, ◌≤◌, ◌<◌, ◌++◌, IfOk, IfErr, MatchResult, OnOk, Result, length, take, not, ◌||◌, ◌==◌, true, false};
 ghost use Rattle.life_check.specs.Certificates.{Certificate};
 ghost use Rattle.life_check.specs.Seen.{seen_cert};
-ghost use Rattle.life_cert.specs.Reading.{HaveSameStates, IsPrinted, IsTextOf, IsTold, IsToldOf, EndTold, more_than};
+ghost use Rattle.life_cert.specs.Reading.{HaveSameStates, IsPrinted, IsCertText, IsTold, IsToldOf, EndTold, more_than};
 ghost use Rattle.life_cert.specs.declared.refusal.CertRefusal.TheVariants.{NoMemory};
 
-use crate::draft::Draft;
+use crate::draft::CertDraft;
 use crate::due::{Due, is_over};
 use crate::refusal::{CertCode, CertRefusal};
+use byte_text::take_lines;
 use life_check::Cert;
-use module_lang::text::take_lines;
 use std::alloc::Global;
 
 /// How many bytes a certificate text has at most.
@@ -38,13 +38,13 @@ fn end_lines(due: Due, number: usize, rest: &[u8], long: bool) -> Result<(), Cer
 /// What the lines of a text say, of which more follows where it is `long`.
 fn read_lines(alloc: Global, text: &[u8], long: bool) -> Result<Cert, CertRefusal>
     requires { length text.now ≤ 4194304 }
-    ensures right { IfOk result (λ c. (long ≡ false) × IsTextOf text.now (seen_cert c)) }
+    ensures right { IfOk result (λ c. (long ≡ false) × IsCertText text.now (seen_cert c)) }
     ensures told { IfErr result (λ e. IsToldOf long text.now e) }
 {
-    let mut draft = Draft::new(alloc);
+    let mut draft = CertDraft::new(alloc);
     let last = take_lines(alloc, &mut draft, text)?;
     end_lines(draft.due, last.number, &text[last.start..], long)?;
-    let Draft {
+    let CertDraft {
         due: _,
         idle,
         ready,
@@ -56,7 +56,7 @@ fn read_lines(alloc: Global, text: &[u8], long: bool) -> Result<Cert, CertRefusa
 /// The certificate that a text spells, or its first faulty line, from 1, with the lowest code that fits it. A text has at
 /// most 4,194,304 bytes; `NoMemory` is the answer where memory was wanting.
 pub fn read_cert(alloc: Global, text: &[u8]) -> Result<Cert, CertRefusal>
-    ensures right { IfOk result (λ c. IsTextOf text.now (seen_cert c)) }
+    ensures right { IfOk result (λ c. IsCertText text.now (seen_cert c)) }
     ensures told { IfErr result (λ e. IsTold text.now e) }
     ensures again { (c : Certificate) → IsPrinted text.now c → MatchResult result (λ r. HaveSameStates (seen_cert r) c) (λ e. e ≡ NoMemory) }
 {

@@ -2,14 +2,14 @@
 use Rattle.std.proofs.Common.{◌≡◌, ℕ, zero, suc, ◌+◌, ◌<◌, ◌≤◌, List, [], ◌∷◌, length, take, All, Some, None, slice_get, slice_index_or, sym, ap, subst, arith}
 use Rattle.std.proofs.lemmas.List.Elements.{All-head, All-tail, All-map, All-weaker, All-more, All-same}
 use Rattle.std.proofs.lemmas.List.{length-map, take_all}
-use Rattle.module_lang.specs.Program.{IsModule}
+use Rattle.module_code.specs.Program.{IsModule}
 use Rattle.run_model.specs.Chains.{module_at}
-use Rattle.life_check.specs.Accepted.{Part, modules_of, IsAccepted, IsChecked, IsCheckedChain}
+use Rattle.life_check.specs.Accepted.{CertifiedModule, modules_of, IsAccepted, IsChecked, IsCheckedChain}
 use Rattle.life_check.specs.Certificates.{Certificate}
 use Rattle.life_check.specs.ChainTheorem.{AllTyped}
 use Rattle.life_check.specs.Seen.{seen_cert}
 
-pub all_accepted : (parts : List Part) → All IsChecked parts → All IsAccepted parts
+pub all_accepted : (parts : List CertifiedModule) → All IsChecked parts → All IsAccepted parts
 all_accepted parts all = All-weaker IsChecked IsAccepted (λ x h. h.typed) parts all
 
 -- The certificates of a chain, by the places of their modules.
@@ -17,22 +17,22 @@ all_accepted parts all = All-weaker IsChecked IsAccepted (λ x h. h.typed) parts
 no_cert : Certificate
 no_cert = record { idle = None; ready = None; at = λ pc. None; lines = 0 }
 
-abbrev cert_at : List Part → ℕ → Certificate
+abbrev cert_at : List CertifiedModule → ℕ → Certificate
 cert_at [] k = no_cert
 cert_at (x ∷ xs) zero = seen_cert x.1
 cert_at (x ∷ xs) (suc k) = cert_at xs k
 
-all_typed : (parts : List Part) → All IsChecked parts → AllTyped (modules_of parts) (cert_at parts)
+all_typed : (parts : List CertifiedModule) → All IsChecked parts → AllTyped (modules_of parts) (cert_at parts)
 unfolding module_at
 all_typed [] all k inside = absurd (omega arith)
 all_typed (x ∷ xs) all zero inside = (let h : IsChecked x = All-head IsChecked x xs all in (h.bounded, h.typed))
 all_typed (x ∷ xs) all (suc k) inside = all_typed xs (All-tail IsChecked x xs all) k (omega arith)
 
-pub checked_chain : (parts : List Part) → 0 < length parts → length parts ≤ 16 → All IsChecked parts → IsCheckedChain (modules_of parts)
+pub checked_chain : (parts : List CertifiedModule) → 0 < length parts → length parts ≤ 16 → All IsChecked parts → IsCheckedChain (modules_of parts)
 checked_chain parts some few all =
-    let same : length (modules_of parts) ≡ length parts = length-map parts (λ (x : Part). x.0) in
+    let same : length (modules_of parts) ≡ length parts = length-map parts (λ (x : CertifiedModule). x.0) in
     record {
-      chained = record { modules = All-map IsModule (λ (x : Part). x.0) parts (All-weaker IsChecked (λ x. IsModule x.0) (λ x h. h.proper) parts all); some = subst (λ (n : ℕ). 0 < n) (sym same) some };
+      chained = record { modules = All-map IsModule (λ (x : CertifiedModule). x.0) parts (All-weaker IsChecked (λ x. IsModule x.0) (λ x h. h.proper) parts all); some = subst (λ (n : ℕ). 0 < n) (sym same) some };
       few = subst (λ (n : ℕ). n ≤ 16) (sym same) few;
       certs = cert_at parts;
       typed = all_typed parts all;
@@ -40,13 +40,13 @@ checked_chain parts some few all =
 
 -- The module at the index.
 
-pub some_at : (parts : List Part) (i : ℕ) (x : Part) → i < length parts → x ≡ slice_index_or parts i x → slice_get parts i ≡ Some x
+pub some_at : (parts : List CertifiedModule) (i : ℕ) (x : CertifiedModule) → i < length parts → x ≡ slice_index_or parts i x → slice_get parts i ≡ Some x
 some_at [] i x inside is = absurd (omega arith)
-some_at (y ∷ ys) zero x inside is = ap (λ (z : Part). Some z) (sym is)
+some_at (y ∷ ys) zero x inside is = ap (λ (z : CertifiedModule). Some z) (sym is)
 some_at (y ∷ ys) (suc i) x inside is = some_at ys i x (omega arith) is
 
-pub one_more : (parts : List Part) (i : ℕ) (x : Part) → i < length parts → x ≡ slice_index_or parts i x → IsChecked x → All IsChecked (take i parts) → All IsChecked (take (i + 1) parts)
+pub one_more : (parts : List CertifiedModule) (i : ℕ) (x : CertifiedModule) → i < length parts → x ≡ slice_index_or parts i x → IsChecked x → All IsChecked (take i parts) → All IsChecked (take (i + 1) parts)
 one_more parts i x inside is here all = All-more IsChecked parts i x inside all (subst IsChecked is here)
 
-pub all_taken : (parts : List Part) (i : ℕ) → length parts ≤ i → All IsChecked (take i parts) → All IsChecked parts
+pub all_taken : (parts : List CertifiedModule) (i : ℕ) → length parts ≤ i → All IsChecked (take i parts) → All IsChecked parts
 all_taken parts i past all = All-same IsChecked parts (take i parts) (sym (take_all i parts past)) all

@@ -1,11 +1,11 @@
 -- Buckets that are set aside (apr_bucket_setaside), and the law of aside.
 use Rattle.std.proofs.Common.{◌≡◌, ◌≢◌, ◌⊎◌, ℕ, ◌<◌, arith, Bool, true, false, ◌==◌, ◌&&◌, nat_lt, zero, suc, cond, List, [], ◌∷◌, filter_map, Option, Some, None, inl, inr, refl, sym, ◌∙◌, ap, subst, eq-eqb, ne_eqb}
 use Rattle.std.specs.Prelude.{get_or}
-use Rattle.module_lang.specs.Program.{Program, IsModule}
-use Rattle.module_lang.specs.declared.instr.Instr.TheVariants as instr
-use Rattle.module_lang.specs.declared.instr.PoolRef.{PoolRef}
-use Rattle.module_lang.specs.declared.instr.PoolRef.TheVariants as pool
-use Rattle.run_model.specs.AsDeclared.{AsDeclared}
+use Rattle.module_code.specs.Program.{Program, IsModule}
+use Rattle.module_code.specs.declared.instr.Instr.TheVariants as instr
+use Rattle.module_code.specs.declared.instr.PoolRef.{PoolRef}
+use Rattle.module_code.specs.declared.instr.PoolRef.TheVariants as pool
+use Rattle.model_laws.specs.AsDeclared.{AsDeclared}
 use Rattle.run_model.specs.declared.bucket.Bucket.{Bucket}
 use Rattle.run_model.specs.declared.bucket.Home.{Home}
 use Rattle.run_model.specs.declared.bucket.Home.TheVariants as home
@@ -17,12 +17,12 @@ use Rattle.run_model.specs.Buckets.{is_data_kind, is_eos_kind}
 use Rattle.run_model.specs.BrigadeLists.{bucket_named}
 use Rattle.run_model.specs.BucketSteps.{changed_at, ref_taken, items_at, aside_into, do_aside}
 use Rattle.run_model.specs.Cutting.{FitsKind, LivesAs, IsFree, IsOfPool, set_aside, set_aside_as}
-use Rattle.run_model.specs.Cursors.{Spot, Within, AtLoose, spot}
+use Rattle.run_model.specs.Cursors.{Place, Within, AtLoose, spot}
 use Rattle.run_model.specs.Faults.{WPool, WHome, WCursor, OnBucket, or_else, fault_want, has_pool, has_pool_at, is_live_named, usable_fault}
 use Rattle.run_model.specs.declared.fault.FaultKind.TheVariants.{F5}
 use Rattle.run_model.specs.declared.bucket.PoolVar.TheVariants as poolvar
-use Rattle.run_model.proofs.Marks.{first_none, second_none}
-use Rattle.run_model.proofs.NamedPools.{own_named}
+use Rattle.model_laws.proofs.Marks.{first_none, second_none}
+use Rattle.model_laws.proofs.NamedPools.{own_named}
 use Rattle.std.proofs.lemmas.Bool.{cases_lt}
 use Rattle.std.proofs.lemmas.Bool.Decides.{nat_tests}
 use Rattle.run_model.specs.declared.bucket.Cursor.{Cursor}
@@ -32,7 +32,7 @@ use Rattle.run_model.specs.Pools.{Pools, is_live, is_under}
 use Rattle.run_model.specs.Sound.{Sound, SoundNames}
 use Rattle.run_model.proofs.EachBucket.{each_changed, of_named}
 use Rattle.run_model.proofs.Spots.{named_is}
-use Rattle.run_model.proofs.StepPools.{referred_path, wanted_pool, named_lives}
+use Rattle.model_laws.proofs.StepPools.{referred_path, wanted_pool, named_lives}
 use Rattle.run_model.specs.State.{Configuration, pool_view, pool_named, named_at, with_pools, set_brigade, set_loose}
 use Rattle.life_state.specs.declared.parts.Classes.{Classes}
 use Rattle.life_state.specs.Facts.{move_bucket}
@@ -40,10 +40,10 @@ use Rattle.life_state.specs.Rules.{cursor_need, pool_need, homes_need, homes_at,
 use Rattle.life_check.proofs.Wants.{unless_some}
 use Rattle.life_state.specs.PoolOrder.{is_clearable, under_within, is_under as is_declared_under}
 use Rattle.life_state.specs.States.{Homes, home_in, both_homes, with_homes, is_home, BrigadeKnown, CursorKnown, Unset, Loose, In, End, InOrEnd, State, set_brigade as set_brigade_known}
-use Rattle.life_check.specs.Meaning.{class_has, IsIn, IsLoose, FitsCursor, CoversPool, ByConnection, ByMember, ByDead, ByCall, Covers, Fits}
-use Rattle.life_check.specs.Soundness.{Outside, LawOf}
+use Rattle.life_check.specs.Meaning.{class_has, IsAtBucketOf, IsAtLoose, FitsCursor, CoversPool, ByConnection, ByMember, ByDead, ByCall, Covers, Fits}
+use Rattle.life_check.specs.Soundness.{LivesOutside, LawOf}
 use Rattle.run_model.proofs.RunOrderLaws.{under_itself}
-use Rattle.run_model.proofs.chains.Apart.{some_is}
+use Rattle.model_laws.proofs.chains.Apart.{some_is}
 use Rattle.life_check.proofs.Filled.{covers_first, covers_second, IsFull, full_of, rearranged_stays, rearranged_brigades, finds_kept, bucket_moved}
 use Rattle.life_check.proofs.Standing.{Stays, Finds, finds_same, loose_stays, in_stays, end_stays, usable_below, spot_in, spot_loose}
 use Rattle.life_check.proofs.Lists.{IsSorted, named_map, map_found, holds_map, each_of_all, all_of_each}
@@ -65,7 +65,7 @@ above_conn (suc looks) p pool.Req is = above_conn looks p pool.Req is
 above_conn (suc looks) p (pool.Own i) is = above_conn looks p (pool.Own i) is
 
 -- What setting aside into the pool at q makes of a home: it is covered by that place alone.
-module _ {lives : Home → Type 0} (p : Program) (r : Configuration) (q : PoolRef) (target : ℕ) (proper : IsModule p) (sound : Sound r) (declared : AsDeclared p r) (outside : Outside r lives)
+module _ {lives : Home → Type 0} (p : Program) (r : Configuration) (q : PoolRef) (target : ℕ) (proper : IsModule p) (sound : Sound r) (declared : AsDeclared p r) (outside : LivesOutside r lives)
     (named : pool_named r q ≡ Some target) (live : is_live r.shared.pools target ≡ true) (place : (is_clearable q ≡ true) ⊎ (q ≡ pool.Conn)) where
   at_member : (k : PoolRef) (n : ℕ) → is_clearable k ≡ true → pool_named r k ≡ Some n → is_under r.shared.pools n target ≡ true → CoversPool p (pool_view r) lives (home_in q) n
   at_member k n kc is above =
@@ -182,7 +182,7 @@ module _ (n : ℕ) (ps : Pools Payload) (target : ℕ) where
   aside_found m x xs is = named_map m put_aside aside_name xs ∙ ap (map_found put_aside) is
 
 -- A bucket at c is set aside into the pool at q.
-module _ {lives : Home → Type 0} (p : Program) (r : Configuration) (s : State) (c : ℕ) (q : PoolRef) (target : ℕ) (x : NamedBucket) (proper : IsModule p) (sound : Sound r) (declared : AsDeclared p r) (outside : Outside r lives)
+module _ {lives : Home → Type 0} (p : Program) (r : Configuration) (s : State) (c : ℕ) (q : PoolRef) (target : ℕ) (x : NamedBucket) (proper : IsModule p) (sound : Sound r) (declared : AsDeclared p r) (outside : LivesOutside r lives)
     (named : pool_named r q ≡ Some target) (live : is_live r.shared.pools target ≡ true) (place : (is_clearable q ≡ true) ⊎ (q ≡ pool.Conn)) (fits : Fits (Covers p (pool_view r) lives) s r) where
   abbrev left : Configuration
   left = ref_taken target x r
@@ -276,7 +276,7 @@ module _ {lives : Home → Type 0} (p : Program) (r : Configuration) (s : State)
     others m off = finds_kept D m r.call.loose (changed_at x.name (aside_named r.shared.pools target) r.call.loose)
         (λ y is. aside_found x.name r.shared.pools target m y r.call.loose is ∙ ap (λ z. Some z) (off_name x.name r.shared.pools target y (λ same. off (sym (named_is m r.call.loose y is) ∙ same))))
 
-    here : IsLoose D left_loose (r.call.cursors c) t (home_in q)
+    here : IsAtLoose D left_loose (r.call.cursors c) t (home_in q)
     unfolding set_loose with_pools
     here = record {
       bucket = aside_named r.shared.pools target x;
@@ -328,14 +328,14 @@ law_aside {lives} c q p choice r s ready = by_pool (pool_named r q) refl where
   by_known : (target : ℕ) → pool_named r q ≡ Some target → (k : CursorKnown) → s.cursors c ≡ k → cursor_need OnBucket k ≡ None → homes_need (homes_at s k) ≡ None
       → Fits (Covers p (pool_view (do_aside (spot r c) (Some target) r)) lives) (after_aside c q k s) (do_aside (spot r c) (Some target) r)
   by_known target named (In b t) is met home =
-      let i : IsIn r (r.call.cursors c) b t = subst (λ (k : CursorKnown). FitsCursor C r k (r.call.cursors c)) is (ready.fits.cursors c) in
-      subst (λ (at : Spot). Fits (Covers p (pool_view (do_aside at (Some target) r)) lives) (after_aside c q (In b t) s) (do_aside at (Some target) r)) (sym (spot_in r (r.call.cursors c) b t ready.sound.names i))
+      let i : IsAtBucketOf r (r.call.cursors c) b t = subst (λ (k : CursorKnown). FitsCursor C r k (r.call.cursors c)) is (ready.fits.cursors c) in
+      subst (λ (at : Place). Fits (Covers p (pool_view (do_aside at (Some target) r)) lives) (after_aside c q (In b t) s) (do_aside at (Some target) r)) (sym (spot_in r (r.call.cursors c) b t ready.sound.names i))
       (subst (λ (few : Bool). Fits (Covers p (pool_view (aside_into (Within b i.bucket) target r)) lives) (cond few (set_brigade_known b (with_homes (both_homes (home_in q)) (s.brigades b)) s) s) (aside_into (Within b i.bucket) target r))
       (sym (let lt : b < 9 = usable_below r b ready.sound.names i.usable in is_below b 9 lt))
       (within_fits p r s c q target i.bucket ready.may.proper ready.sound ready.declared ready.outside named (named_lives r q target there named) (clearable p r q target ready.declared named) ready.fits b i.usable (unless_some (s.brigades b).homes.dead F5 home)))
   by_known target named (Loose t h) is met home =
-      let i : IsLoose C r (r.call.cursors c) t h = subst (λ (k : CursorKnown). FitsCursor C r k (r.call.cursors c)) is (ready.fits.cursors c) in
-      subst (λ (at : Spot). Fits (Covers p (pool_view (do_aside at (Some target) r)) lives) (after_aside c q (Loose t h) s) (do_aside at (Some target) r)) (sym (spot_loose C r (r.call.cursors c) t h ready.sound.names i))
+      let i : IsAtLoose C r (r.call.cursors c) t h = subst (λ (k : CursorKnown). FitsCursor C r k (r.call.cursors c)) is (ready.fits.cursors c) in
+      subst (λ (at : Place). Fits (Covers p (pool_view (do_aside at (Some target) r)) lives) (after_aside c q (Loose t h) s) (do_aside at (Some target) r)) (sym (spot_loose C r (r.call.cursors c) t h ready.sound.names i))
       (loose_fits p r s c q target i.bucket ready.may.proper ready.sound ready.declared ready.outside named (named_lives r q target there named) (clearable p r q target ready.declared named) ready.fits t h i.at i.there i.classed i.covered (unless_some h.dead F5 home))
   by_known target named k is met home = absurd (cc)
 

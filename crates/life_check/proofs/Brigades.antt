@@ -1,8 +1,8 @@
 -- Brigades that are made, cleaned and joined.
 use Rattle.std.proofs.Common.{◌≡◌, ◌≢◌, ℕ, Bool, true, false, ◌==◌, cond, List, [], ◌++◌, Option, Some, None, ◌⊎◌, inl, inr, refl, sym, ◌∙◌, ap, subst, eq-eqb, eqb-true}
 use Rattle.std.proofs.lemmas.Bool.{cases_eq}
-use Rattle.module_lang.specs.declared.instr.Instr.TheVariants as instr
-use Rattle.module_lang.specs.Program.{pool_of_brigade}
+use Rattle.module_code.specs.declared.instr.Instr.TheVariants as instr
+use Rattle.module_code.specs.Program.{pool_of_brigade}
 use Rattle.run_model.specs.declared.bucket.BrigadeVar.{BrigadeVar}
 use Rattle.run_model.specs.declared.bucket.BrigadeVar.TheVariants as var
 use Rattle.run_model.specs.declared.bucket.Cursor.{Cursor}
@@ -16,17 +16,17 @@ use Rattle.run_model.specs.Indexed.{upd}
 use Rattle.run_model.specs.Sound.{SoundNames, brigade_name}
 use Rattle.run_model.specs.State.{Call, Configuration, pool_view, pool_named, items_of, set_brigade as set_variable}
 use Rattle.run_model.specs.Steps.{do_create, do_clean, do_concat, cleaned, with_items}
-use Rattle.run_model.proofs.MadeBrigades.{brigade_lives}
-use Rattle.run_model.proofs.Marks.{first_none, second_none}
+use Rattle.model_laws.proofs.MadeBrigades.{brigade_lives}
+use Rattle.model_laws.proofs.Marks.{first_none, second_none}
 use Rattle.run_model.proofs.Names.{at_each, at_two}
-use Rattle.run_model.proofs.Operands.{two_brigades}
+use Rattle.model_laws.proofs.Operands.{two_brigades}
 use Rattle.run_model.proofs.Updates.{upd_at, upd_off, upd_either, upd_swap}
 use Rattle.life_state.specs.declared.parts.Classes.{Classes}
 use Rattle.life_state.specs.declared.parts.Contents.TheVariants.{Empty}
 use Rattle.life_state.specs.Facts.{known, moved}
 use Rattle.life_state.specs.States.{Homes, no_homes, both_homes, holds, BrigadeKnown, CursorKnown, Unset, Loose, In, End, InOrEnd, State}
 use Rattle.life_state.specs.Rules.{joined_content, emptied, carried, after_join}
-use Rattle.life_check.specs.Meaning.{Covers, Each, FitsPool, FitsBrigade, Differ, IsIn, IsEndOf, FitsCursor, Fits}
+use Rattle.life_check.specs.Meaning.{Covers, Each, FitsPool, FitsBrigade, Differ, IsAtBucketOf, IsEndOf, FitsCursor, Fits}
 use Rattle.life_check.specs.Soundness.{LawOf}
 use Rattle.life_check.proofs.Filled.{covers_first, covers_second, IsFull, full_of, full_fits, filled_items, filled_name, filled_usable}
 use Rattle.life_check.proofs.Lists.{each_append, each_more, each_none, holds_joined, named_front, named_behind}
@@ -95,7 +95,7 @@ cleaned_fits C (var.Live v) live = (refl, (refl, refl, tt))
 -- A brigade is cleaned.
 
 -- a cursor at another brigade stays
-beside_in : (C : Homes → Home → Type 0) (r new : Configuration) (v : Cursor) (a : ℕ) (t : Classes) → new.instance.brigades a ≡ r.instance.brigades a → IsIn r v a t → IsIn new v a t
+beside_in : (C : Homes → Home → Type 0) (r new : Configuration) (v : Cursor) (a : ℕ) (t : Classes) → new.instance.brigades a ≡ r.instance.brigades a → IsAtBucketOf r v a t → IsAtBucketOf new v a t
 beside_in C r new v a t same f =
     in_stays C C r new v a a t (λ n at. finds_same C C n (items_at r a) (items_at new a) (λ h x c. c) (ap (λ (x : BrigadeVar). bucket_named n (items_of x)) same)) (ap usable_fault same ∙ f.usable) f
 
@@ -115,7 +115,7 @@ law_bclean {lives} b p choice r s ready = record {
   new : Configuration
   new = do_clean b r
 
-  within : (a : ℕ) (t : Classes) (v : Cursor) → (tell : Bool) → (a == b) ≡ tell → IsIn r v a t → FitsCursor C new (cond tell Unset (In a t)) v
+  within : (a : ℕ) (t : Classes) (v : Cursor) → (tell : Bool) → (a == b) ≡ tell → IsAtBucketOf r v a t → FitsCursor C new (cond tell Unset (In a t)) v
   within a t v true is f = tt
   within a t v false is f = beside_in C r new v a t (upd_off r.instance.brigades b a (cleaned (r.instance.brigades b)) (λ same. absurd (let both : true ≡ false = sym (eq-eqb a b same) ∙ is in cc))) f
 
@@ -129,7 +129,7 @@ law_bclean {lives} b p choice r s ready = record {
   cursor_stays (In a t) v f = within a t v (a == b) refl f
   cursor_stays (End a) v f = end a v f
   cursor_stays (InOrEnd a t) v f = by_test (a == b) refl f where
-    by_test : (tell : Bool) → (a == b) ≡ tell → IsIn r v a t ⊎ IsEndOf r v a → FitsCursor C new (cond tell Unset (InOrEnd a t)) v
+    by_test : (tell : Bool) → (a == b) ≡ tell → IsAtBucketOf r v a t ⊎ IsEndOf r v a → FitsCursor C new (cond tell Unset (InOrEnd a t)) v
     by_test true is f = tt
     by_test false is (inl i) = inl (within a t v false is i)
     by_test false is (inr e) = inr (end a v e)
@@ -200,7 +200,7 @@ module _ (C D : Homes → Home → Type 0) (r new : Configuration) (a b : ℕ) (
   end_joined : (k : ℕ) (v : Cursor) → IsEndOf r v k → IsEndOf new v k
   end_joined k v f = end_stays C D r new v k (name_kept k) (usable_kept k ∙ f.usable) f
 
-  in_joined : (k : ℕ) (t : Classes) (v : Cursor) → k ≢ b → IsIn r v k t → IsIn new v k t
+  in_joined : (k : ℕ) (t : Classes) (v : Cursor) → k ≢ b → IsAtBucketOf r v k t → IsAtBucketOf new v k t
   in_joined k t v away f = in_stays C D r new v k k t (λ n at. stay k n away) (usable_kept k ∙ f.usable) f
 
   apart_from : (k : ℕ) → (k == b) ≡ false → k ≢ b
@@ -211,11 +211,11 @@ module _ (C D : Homes → Home → Type 0) (r new : Configuration) (a b : ℕ) (
   cursor_joined names (Loose t h) v f = loose_stays C D r new v t h (λ n at. finds_same C D n r.call.loose new.call.loose j.more (ap (λ (c : Call). bucket_named n c.loose) j.call)) f
   cursor_joined names (In k t) v f = by_test (k == b) refl where
     by_test : (c : Bool) → (k == b) ≡ c → FitsCursor D new (cond c (In a t) (In k t)) v
-    by_test true is = in_stays AnyHome AnyHome r new v b a t (λ n at. come names n) (usable_kept a ∙ j.first) (subst (λ (i : ℕ). IsIn r v i t) (eqb-true k b is) f)
+    by_test true is = in_stays AnyHome AnyHome r new v b a t (λ n at. come names n) (usable_kept a ∙ j.first) (subst (λ (i : ℕ). IsAtBucketOf r v i t) (eqb-true k b is) f)
     by_test false is = in_joined k t v (apart_from k is) f
   cursor_joined names (End k) v f = end_joined k v f
   cursor_joined names (InOrEnd k t) v f = by_test (k == b) refl f where
-    by_test : (c : Bool) → (k == b) ≡ c → IsIn r v k t ⊎ IsEndOf r v k → FitsCursor D new (cond c Unset (InOrEnd k t)) v
+    by_test : (c : Bool) → (k == b) ≡ c → IsAtBucketOf r v k t ⊎ IsEndOf r v k → FitsCursor D new (cond c Unset (InOrEnd k t)) v
     by_test true is f = tt
     by_test false is (inl i) = inl (in_joined k t v (apart_from k is) i)
     by_test false is (inr e) = inr (end_joined k v e)

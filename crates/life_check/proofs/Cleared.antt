@@ -1,11 +1,11 @@
 -- What is left where a pool goes with all under it, and what a state says then: a clear, a destroy, and the end of a request.
 use Rattle.std.proofs.Common.{◌≡◌, ◌≢◌, ℕ, Bool, true, false, ◌&&◌, ◌||◌, not, cond, List, [], map, Option, Some, None, ◌⊎◌, inl, inr, refl, sym, ◌∙◌, ap, subst, eq-eqb, eqb-true}
 use Rattle.std.proofs.lemmas.Bool.{ltb-true, cases_Bool, cases_eq, cases_lt, lt-ltb}
-use Rattle.module_lang.specs.declared.instr.PoolRef.{PoolRef}
-use Rattle.module_lang.specs.declared.instr.PoolRef.TheVariants as pool
-use Rattle.module_lang.specs.declared.instr.Instr.TheVariants as instr
-use Rattle.module_lang.specs.Program.{Program, IsModule, pool_of_brigade}
-use Rattle.run_model.specs.AsDeclared.{AsDeclared}
+use Rattle.module_code.specs.declared.instr.PoolRef.{PoolRef}
+use Rattle.module_code.specs.declared.instr.PoolRef.TheVariants as pool
+use Rattle.module_code.specs.declared.instr.Instr.TheVariants as instr
+use Rattle.module_code.specs.Program.{Program, IsModule, pool_of_brigade}
+use Rattle.model_laws.specs.AsDeclared.{AsDeclared}
 use Rattle.run_model.specs.declared.bucket.Brigade.{Brigade}
 use Rattle.run_model.specs.declared.bucket.BrigadeVar.{BrigadeVar}
 use Rattle.run_model.specs.declared.bucket.BrigadeVar.TheVariants as var
@@ -32,12 +32,12 @@ use Rattle.run_model.specs.Steps.{on_pool, pool_cleared, pool_destroyed}
 use Rattle.life_check.specs.Soundness.{request_ended}
 use Rattle.run_model.specs.Indexed.{upd}
 use Rattle.run_model.proofs.Formed.{path_live}
-use Rattle.run_model.proofs.NamedPools.{own_named}
+use Rattle.model_laws.proofs.NamedPools.{own_named}
 use Rattle.run_model.proofs.RunOrderLaws.{under_itself}
 use Rattle.run_model.proofs.Updates.{upd_either}
 use Rattle.run_model.proofs.PoolMap.{cleared_path, cleared_apart, cleared_itself, cleared_under as pools_cleared_under, destroyed_path, destroyed_apart, destroyed_under}
-use Rattle.run_model.proofs.StepPools.{wanted_pool, named_lives}
-use Rattle.run_model.proofs.chains.Apart.{some_is}
+use Rattle.model_laws.proofs.StepPools.{wanted_pool, named_lives}
+use Rattle.model_laws.proofs.chains.Apart.{some_is}
 use Rattle.run_model.specs.State.{Configuration, with_pools, pool_view, named_at, pool_named, name_in, items_of}
 use Rattle.life_state.specs.declared.parts.Classes.{Classes}
 use Rattle.life_state.specs.declared.parts.PoolState.{PoolState}
@@ -48,7 +48,7 @@ use Rattle.life_state.specs.States.{Homes, any_place, dead_where, ended_pool, en
 use Rattle.life_state.proofs.Below.{some_below}
 use Rattle.life_state.proofs.Tests.{or_left, or_right}
 use Rattle.life_state.proofs.UnderLaws.{conn_is_under, brigade_past}
-use Rattle.life_check.specs.Meaning.{NoneLives, CoversPool, ByConnection, ByMember, ByDead, ByCall, Covers, class_has, FitsPool, FitsMark, FitsBrigade, IsIn, IsEndOf, FitsCursor, Differ, Fits}
+use Rattle.life_check.specs.Meaning.{NoneLives, CoversPool, ByConnection, ByMember, ByDead, ByCall, Covers, class_has, FitsPool, FitsMark, FitsBrigade, IsAtBucketOf, IsEndOf, FitsCursor, Differ, Fits}
 use Rattle.life_check.proofs.Lists.{each_map, IsSorted, holds_map, map_found, named_map}
 use Rattle.life_check.specs.Soundness.{LawOf, RequestEndLands}
 use Rattle.life_check.proofs.Pools.{same_live, same_names}
@@ -233,7 +233,7 @@ module _ (p : Program) (r new : Configuration) (lives : Home → Type 0) (top : 
   found_left : (k : ℕ) (x : NamedBucket) (xs ys : List NamedBucket) → ys ≡ map (cleared_bucket reached) xs → bucket_named k xs ≡ Some x → bucket_named k ys ≡ Some (cleared_bucket reached x)
   found_left k x xs ys are there = ap (bucket_named k) are ∙ (named_map k (cleared_bucket reached) (λ x. refl) xs ∙ ap (map_found (cleared_bucket reached)) there)
 
-  in_went : (v : Cursor) (b : ℕ) (t : Classes) → lies_under p gone b ≡ false → IsIn r v b t → IsIn new v b t
+  in_went : (v : Cursor) (b : ℕ) (t : Classes) → lies_under p gone b ≡ false → IsAtBucketOf r v b t → IsAtBucketOf new v b t
   in_went v b t off f = (let left = left_so b off in record {
     bucket = cleared_bucket reached f.bucket;
     at = f.at;

@@ -1,8 +1,8 @@
 -- The laws of split, read and bpart.
 use Rattle.std.proofs.Common.{◌≡◌, ℕ, Bool, true, false, cond, List, Option, Some, None, is_some, refl, sym, subst}
-use Rattle.module_lang.specs.declared.instr.Instr.TheVariants as instr
-use Rattle.module_lang.specs.declared.instr.Value.{Value}
-use Rattle.module_lang.specs.Program.{Program}
+use Rattle.module_code.specs.declared.instr.Instr.TheVariants as instr
+use Rattle.module_code.specs.declared.instr.Value.{Value}
+use Rattle.module_code.specs.Program.{Program}
 use Rattle.run_model.specs.declared.bucket.Cursor.{Cursor}
 use Rattle.run_model.specs.declared.bucket.Cursor.TheVariants as cursor
 use Rattle.run_model.specs.declared.bucket.Home.{Home}
@@ -10,19 +10,19 @@ use Rattle.run_model.specs.declared.bucket.NamedBucket.{NamedBucket}
 use Rattle.run_model.specs.declared.fault.FaultKind.{FaultKind}
 use Rattle.run_model.specs.BrigadeLists.{SplitRefusal, split_refusal, bucket_split}
 use Rattle.run_model.specs.BucketSteps.{items_at, set_items, bucket_read, read_given, read_within, has_rest, names_if, names_given, do_read, is_unread, is_unsplit, split_there}
-use Rattle.run_model.specs.Cursors.{Spot, Within, spot}
+use Rattle.run_model.specs.Cursors.{Place, Within, spot}
 use Rattle.run_model.specs.Faults.{InBrigade, or_else}
 use Rattle.run_model.specs.Sound.{Sound, SoundNames}
 use Rattle.run_model.specs.State.{Configuration, set_brigade, set_cursor, pool_view}
 use Rattle.run_model.specs.Steps.{value_of, jumps_if}
 use Rattle.run_model.specs.Cutting.{FitsKind}
 use Rattle.run_model.proofs.EachBucket.{of_named}
-use Rattle.run_model.proofs.StepNames.{step_names}
+use Rattle.model_laws.proofs.StepNames.{step_names}
 use Rattle.life_state.specs.Facts.{known}
 use Rattle.life_state.specs.declared.parts.Classes.{Classes}
 use Rattle.life_state.specs.Rules.{cursor_need, both_with, edges_read, no_other}
 use Rattle.life_state.specs.States.{Homes, CursorKnown, Unset, Loose, In, End, InOrEnd, State}
-use Rattle.life_check.specs.Meaning.{Covers, Differ, IsIn, FitsCursor, Fits}
+use Rattle.life_check.specs.Meaning.{Covers, Differ, IsAtBucketOf, FitsCursor, Fits}
 use Rattle.life_check.specs.Soundness.{Lands, LawOf}
 use Rattle.life_check.proofs.FinerFits.{finer_fits}
 use Rattle.life_check.proofs.Standing.{known_differ, spot_in}
@@ -62,10 +62,10 @@ abbrev ReadLands : (Home → Type 0) → Program → Configuration → State →
 ReadLands lives p r s c unread left = Lands lives p (edges_read c s) s (jumps_if unread) left
 
 -- a bucket that a cursor is at fits its kind
-each_kind : {r : Configuration} {v : Cursor} {t : Classes} → Sound r → (b : ℕ) → (at : IsIn r v b t) → FitsKind at.bucket.bucket
+each_kind : {r : Configuration} {v : Cursor} {t : Classes} → Sound r → (b : ℕ) → (at : IsAtBucketOf r v b t) → FitsKind at.bucket.bucket
 each_kind {r} sound b at = of_named (λ x. FitsKind x.bucket) at.bucket.name at.bucket (items_at r b) at.there (sound.buckets.brigades b)
 
-abbrev SplitLands : (Home → Type 0) → Program → Configuration → State → ℕ → Spot → Bool → Type 0
+abbrev SplitLands : (Home → Type 0) → Program → Configuration → State → ℕ → Place → Bool → Type 0
 SplitLands lives p r s n g refused = Lands lives p (both_with s) s (jumps_if refused) (cond refused r (split_there n g r))
 
 module _ {lives : Home → Type 0} where
@@ -78,7 +78,7 @@ module _ {lives : Home → Type 0} where
     known : KnownIn (s.cursors c)
     known = in_brigade_known (s.cursors c) (first_met _ _ ready.met).0
 
-    stands : IsIn r (r.call.cursors c) known.brigade known.classes
+    stands : IsAtBucketOf r (r.call.cursors c) known.brigade known.classes
     stands = subst (λ k. FitsCursor C r k (r.call.cursors c)) known.is (ready.fits.cursors c)
 
     -- where it is refused nothing changes
@@ -92,7 +92,7 @@ module _ {lives : Home → Type 0} where
     by_spot is = subst (λ g. SplitLands lives p r s (value_of r x) g (is_unsplit (value_of r x) g)) (sym is) (by_refusal (split_refusal (value_of r x) stands.bucket) refl)
 
   -- a read of the bucket at c, which is x in the brigade of b
-  read_lands : (p : Program) (r : Configuration) (s : State) (c b : ℕ) (t : Classes) (given : Option (List ℕ)) (o : Option (List ℕ)) (at : IsIn r (r.call.cursors c) b t)
+  read_lands : (p : Program) (r : Configuration) (s : State) (c b : ℕ) (t : Classes) (given : Option (List ℕ)) (o : Option (List ℕ)) (at : IsAtBucketOf r (r.call.cursors c) b t)
       → Sound r → Fits (Covers p (pool_view r) lives) s r → read_given given at.bucket.bucket.content ≡ o
       → SoundNames (read_within b at.bucket o r) → ReadLands lives p r s c (is_unread given (Within b at.bucket)) (read_within b at.bucket o r)
   unfolding set_cursor set_brigade
@@ -130,7 +130,7 @@ module _ {lives : Home → Type 0} where
         known_in : KnownIn (s.cursors c)
         known_in = in_brigade_known (s.cursors c) (first_met _ _ ready.met).0
 
-        stands : IsIn r (r.call.cursors c) known_in.brigade known_in.classes
+        stands : IsAtBucketOf r (r.call.cursors c) known_in.brigade known_in.classes
         stands = subst (λ k. FitsCursor (Covers p (pool_view r) lives) r k (r.call.cursors c)) known_in.is (ready.fits.cursors c)
 
         is_there : spot r c ≡ Within known_in.brigade stands.bucket

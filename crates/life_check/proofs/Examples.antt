@@ -1,17 +1,18 @@
 -- The worked certificates compute, and so does a run to a fault.
 use Rattle.std.proofs.Common.{◌≡◌, ℕ, zero, suc, ◌+◌, ◌<◌, ◌≤◌, Bool, true, false, List, [], ◌∷◌, Option, Some, None, slice_get, slice_index_or, refl, subst, arith}
-use Rattle.module_lang.specs.declared.draft.Part.{Part}
-use Rattle.module_lang.specs.declared.draft.Part.TheVariants as part
-use Rattle.module_lang.specs.declared.instr.Instr.{Instr}
-use Rattle.module_lang.specs.declared.instr.Instr.TheVariants as instr
-use Rattle.module_lang.specs.declared.instr.Status.TheVariants.{Success, Fail}
-use Rattle.module_lang.specs.Program.{Program, pool_of_brigade, pool_of_pool, goes_on, IsPlaced, IsInside, IsModule}
+use Rattle.module_code.specs.declared.part.Part.{Part}
+use Rattle.module_code.specs.declared.part.Part.TheVariants as part
+use Rattle.module_code.specs.declared.instr.Instr.{Instr}
+use Rattle.module_code.specs.declared.instr.Instr.TheVariants as instr
+use Rattle.module_code.specs.declared.instr.Status.TheVariants.{Success, Fail}
+use Rattle.module_code.specs.Program.{Program, pool_of_brigade, pool_of_pool, goes_on, IsPlaced, IsInside, IsModule}
 use Rattle.run_model.specs.declared.event.Event.{Event}
 use Rattle.run_model.specs.Indexed.{upd, any_below}
 use Rattle.run_model.proofs.Updates.{upd_off}
 use Rattle.life_state.specs.declared.parts.Contents.TheVariants.{Empty}
 use Rattle.life_state.specs.Examples.{identity, resting, serving, brought}
 use Rattle.life_state.specs.Facts.{known, facts_of, moved}
+use Rattle.life_state.specs.InForm.{is_formed}
 use Rattle.life_state.specs.Order.{all_below, brigade_le, leq}
 use Rattle.life_state.specs.PoolOrder.{under_within}
 use Rattle.life_state.specs.Rules.{cleared_under, at_end_of_request}
@@ -21,16 +22,16 @@ use Rattle.life_state.specs.Bounded.{IsBounded}
 use Rattle.life_check.specs.Certificates.{IsBoundedSome, AllBounded}
 use Rattle.life_check.specs.Typed.{first_below, first_refusal}
 use Rattle.life_check.proofs.TypedLaws.{typed_of}
-use Rattle.run_model.specs.Examples.{bare, told_by, left_by, answers_from, never_creates}
-use Rattle.run_model.specs.ChainExamples.{cleans_none}
+use Rattle.model_laws.specs.Examples.{bare, told_by, left_by, answers_from, never_creates}
+use Rattle.model_laws.specs.ChainExamples.{cleans_none}
 use Rattle.run_model.specs.Worlds.{World, empty_world, happens, IsRun}
-use Rattle.run_model.proofs.ChainExamples.{chain_runs}
+use Rattle.model_laws.proofs.ChainExamples.{chain_runs}
 use Rattle.life_check.specs.ChainTheorem.{NoFaults, ChainNeverFaults}
 use Rattle.life_check.proofs.chains.Never.{typed_alone_never_faults}
 
 pub identity_answers : IdentityAnswers
-unfolding pool_of_brigade pool_of_pool upd any_below known facts_of moved all_below brigade_le leq under_within cleared_under at_end_of_request first_below first_refusal
-identity_answers = record { accepted = refl; unreached = refl; no_eos = refl; empty = refl; nowhere = refl }
+unfolding pool_of_brigade pool_of_pool upd any_below known facts_of moved all_below brigade_le leq under_within cleared_under at_end_of_request is_formed first_below first_refusal
+identity_answers = record { accepted = refl; unreached = refl; out_of_form = refl; no_eos = refl; empty = refl; nowhere = refl }
 
 -- Its states have no more variables than there are.
 

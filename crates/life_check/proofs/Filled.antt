@@ -1,6 +1,6 @@
 -- Where the buckets of one brigade, and the loose ones, are others: what the brigade holds then, and which cursors stay.
 use Rattle.std.proofs.Common.{◌≡◌, ◌≢◌, ℕ, true, cond, List, Some, None, refl, sym, ◌∙◌, ap, subst}
-use Rattle.module_lang.specs.Program.{Program}
+use Rattle.module_code.specs.Program.{Program}
 use Rattle.run_model.specs.declared.bucket.BrigadeVar.{BrigadeVar}
 use Rattle.run_model.specs.declared.bucket.BrigadeVar.TheVariants as var
 use Rattle.run_model.specs.declared.bucket.Cursor.{Cursor}
@@ -22,7 +22,7 @@ use Rattle.run_model.proofs.Updates.{upd_at}
 use Rattle.life_state.specs.States.{Homes, both_homes, BrigadeKnown, CursorKnown, State}
 use Rattle.life_state.specs.Facts.{known, moved, forgotten, move_bucket}
 use Rattle.life_state.proofs.Tests.{or_left, or_right}
-use Rattle.life_check.specs.Meaning.{CoversPool, ByConnection, ByMember, ByDead, ByCall, Covers, Each, Holds, FitsMark, FitsBrigade, FitsCursor, Differ, Fits}
+use Rattle.life_check.specs.Meaning.{CoversPool, ByConnection, ByMember, ByDead, ByCall, Covers, Each, HoldsContents, FitsMark, FitsBrigade, FitsCursor, Differ, Fits}
 use Rattle.life_check.proofs.Standing.{upd_both, upd_first, upd_second, moved_facts, Finds, finds_same, Stays, cursor_stays, forgotten_fits}
 
 -- Homes of which there are more.
@@ -59,7 +59,7 @@ module _ (C : Homes → Home → Type 0) where
   pub record IsFull (k : BrigadeKnown) (xs : List NamedBucket) : Type 0 where
     pub live : k.live ≡ true
     pub usable : k.usable ≡ true
-    pub holds : Holds k.content xs
+    pub holds : HoldsContents k.content xs
     pub homes : Each (λ x. C k.homes x.bucket.home) xs
 
   pub full_of : (k : BrigadeKnown) (v : BrigadeVar) → usable_fault v ≡ None → FitsBrigade C k v → IsFull k (items_of v)

@@ -9,7 +9,7 @@ use Rattle.life_state.specs.declared.parts.Contents.{Contents}
 use Rattle.life_state.specs.declared.parts.Contents.TheVariants.{Empty, Flushes, NoEos, NoLateData, Any}
 use Rattle.life_state.specs.declared.parts.Classes.{Classes}
 use Rattle.life_state.specs.States.{Homes}
-use Rattle.life_check.specs.Meaning.{class_has, Each, Holds}
+use Rattle.life_check.specs.Meaning.{class_has, Each, HoldsContents}
 
 -- Looking for a bucket by its name.
 here : (n : ℕ) (y : NamedBucket) (ys : List NamedBucket) → (y.name == n) ≡ true → bucket_named n (y ∷ ys) ≡ Some y
@@ -99,7 +99,7 @@ module _ (C : Homes → Home → Type 0) where
   no_longer new ys [] f is = f
   no_longer new ys (x ∷ xs) f is = absurd (cc)
 
-  pub finer_holds : (new : ℕ) (ys xs : List NamedBucket) (k : Contents) → Finer new ys xs → Holds k xs → Holds k ys
+  pub finer_holds : (new : ℕ) (ys xs : List NamedBucket) (k : Contents) → Finer new ys xs → HoldsContents k xs → HoldsContents k ys
   finer_holds new ys xs Empty f h = no_longer new ys xs f h
   finer_holds new ys xs Flushes f h = (finer_data new ys xs f ∙ h.0, finer_eos new ys xs f ∙ h.1)
   finer_holds new ys xs NoEos f h = finer_eos new ys xs f ∙ h

@@ -15,11 +15,11 @@ use Rattle.run_model.specs.Faults.{usable_fault}
 use Rattle.run_model.specs.Indexed.{upd}
 use Rattle.run_model.specs.Sound.{SoundNames, brigade_name, count_named}
 use Rattle.run_model.specs.State.{Configuration, items_of, set_brigade}
-use Rattle.run_model.proofs.CursorNames.{given_out, found_there}
+use Rattle.model_laws.proofs.CursorNames.{given_out, found_there}
 use Rattle.run_model.proofs.Updates.{upd_either}
 use Rattle.life_state.specs.declared.parts.Classes.{Classes}
 use Rattle.life_state.specs.States.{Homes, BrigadeKnown, CursorKnown, Unset, Loose, In, End, InOrEnd, State}
-use Rattle.life_check.specs.Meaning.{FitsMark, FitsBrigade, IsIn, IsEndOf, FitsCursor, Fits}
+use Rattle.life_check.specs.Meaning.{FitsMark, FitsBrigade, IsAtBucketOf, IsEndOf, FitsCursor, Fits}
 use Rattle.life_check.proofs.Finer.{Finer, FoundLike, finer_holds, finer_covered, finer_found}
 
 -- A bucket that is in a brigade has a name that was given out.
@@ -59,13 +59,13 @@ module _ (C : Homes → Home → Type 0) where
     abbrev pub after : Configuration
     after = set_items b ys (names_given k r)
 
-    in_stays : (v : Cursor) (a : ℕ) (t : Classes) → IsIn r v a t → IsIn after v a t
+    in_stays : (v : Cursor) (a : ℕ) (t : Classes) → IsAtBucketOf r v a t → IsAtBucketOf after v a t
     unfolding set_brigade upd
     in_stays v a t w = elim (upd_either r.instance.brigades b a (with_items ys (r.instance.brigades b))) [
       | inl h ↦ here h.0 h.1
       | inr h ↦ record { bucket = w.bucket; at = w.at; there = ap (λ g. bucket_named w.bucket.name (items_of g)) h.1 ∙ w.there; classed = w.classed; usable = ap usable_fault h.1 ∙ w.usable }
     ] where
-      here : a ≡ b → upd r.instance.brigades b (with_items ys (r.instance.brigades b)) a ≡ with_items ys (r.instance.brigades b) → IsIn after v a t
+      here : a ≡ b → upd r.instance.brigades b (with_items ys (r.instance.brigades b)) a ≡ with_items ys (r.instance.brigades b) → IsAtBucketOf after v a t
       here same is =
           let there : bucket_named w.bucket.name (items_at r b) ≡ Some w.bucket = ap (λ m. bucket_named w.bucket.name (items_at r m)) (sym same) ∙ w.there in
           let f : FoundLike C w.bucket.name w.bucket ys = finer_found C r.shared.next w.bucket.name w.bucket ys (items_at r b) finer (not_new r b w.bucket.name w.bucket names there) there in

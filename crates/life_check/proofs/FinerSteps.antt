@@ -15,7 +15,7 @@ use Rattle.run_model.specs.Buckets.{is_data_kind, is_eos_kind, is_data}
 use Rattle.run_model.specs.BrigadeLists.{buckets_before, buckets_from, first_bucket, bucket_named, Metadata, TooLong, split_refusal, first_bytes, rest_as, first_split, bucket_split, front_to, back_from, is_short, partitioned}
 use Rattle.run_model.specs.BucketSteps.{first_read, bucket_read, rest_named}
 use Rattle.run_model.specs.Cutting.{FitsKind, form_of, form_of_kind, length_of, read_limit, read_as, heap_of, rest_of}
-use Rattle.run_model.proofs.BrigadeLists.{bytes_are_data}
+use Rattle.model_laws.proofs.BrigadeLists.{bytes_are_data}
 use Rattle.life_state.specs.States.{Homes}
 use Rattle.life_check.specs.Meaning.{class_has}
 use Rattle.life_check.proofs.Finer.{Like, AreParts, Finer, like_itself, finer_same}

@@ -1,5 +1,5 @@
 -- The laws of all instructions.
-use Rattle.module_lang.specs.declared.instr.Instr.TheVariants as instr
+use Rattle.module_code.specs.declared.instr.Instr.TheVariants as instr
 use Rattle.run_model.specs.declared.bucket.Home.{Home}
 use Rattle.life_check.specs.Soundness.{StepLands}
 use Rattle.life_check.proofs.Asides.{law_aside}

@@ -11,16 +11,16 @@ use Rattle.run_model.specs.Buckets.{is_data_kind, is_eos_kind, is_data, is_eos, 
 use Rattle.run_model.specs.BrigadeLists.{buckets_before, buckets_from, first_bucket, bucket_named, taken_out, put_head, put_tail, put_before}
 use Rattle.run_model.specs.BucketSteps.{changed_at}
 use Rattle.run_model.specs.Sound.{count_named}
-use Rattle.run_model.proofs.BrigadeLists.{before_and_from}
+use Rattle.model_laws.proofs.BrigadeLists.{before_and_from}
 use Rattle.run_model.proofs.EachBucket as buckets
 use Rattle.run_model.proofs.Spots.{named_is}
-use Rattle.run_model.proofs.CursorNames.{found_there}
+use Rattle.model_laws.proofs.CursorNames.{found_there}
 use Rattle.life_state.specs.declared.parts.Contents.{Contents}
 use Rattle.life_state.specs.declared.parts.Contents.TheVariants.{Empty, Flushes, NoEos, NoLateData, Any}
 use Rattle.life_state.specs.declared.parts.Classes.{Classes}
 use Rattle.life_state.specs.Order.{content_le, greater}
 use Rattle.life_state.specs.Rules.{joined_content, content_of, tail_content, head_content, before_eos, before_data, before_content}
-use Rattle.life_check.specs.Meaning.{class_has, Each, Holds}
+use Rattle.life_check.specs.Meaning.{class_has, Each, HoldsContents}
 
 -- What is true of each bucket.
 
@@ -232,7 +232,7 @@ no_data_late (x ∷ xs) none =
     or_from (is_eos x && has_data xs) (data_after_eos xs) (both_false (is_eos x) (has_data xs) (parts.1)) (no_data_late xs (parts.1))
 
 -- what holds so much holds more
-pub holds_more : (a b : Contents) (xs : List NamedBucket) → content_le a b ≡ true → Holds a xs → Holds b xs
+pub holds_more : (a b : Contents) (xs : List NamedBucket) → content_le a b ≡ true → HoldsContents a xs → HoldsContents b xs
 holds_more Empty Empty xs le h = h
 holds_more Empty Flushes xs le h = (ap has_data h, ap has_eos h)
 holds_more Empty NoEos xs le h = ap has_eos h
@@ -304,7 +304,7 @@ thins_one (x ∷ xs) = thins_tail x xs
 pub thins_taken_out : (n : ℕ) (xs : List NamedBucket) → Thins xs (taken_out n xs)
 thins_taken_out n xs = subst (λ (zs : List NamedBucket). Thins zs (taken_out n xs)) (before_and_from n xs) (thins_behind (buckets_before n xs) (buckets_from n xs) (drop 1 (buckets_from n xs)) (thins_one (buckets_from n xs)))
 
-pub holds_thinner : (k : Contents) (xs ys : List NamedBucket) → Thins xs ys → Holds k xs → Holds k ys
+pub holds_thinner : (k : Contents) (xs ys : List NamedBucket) → Thins xs ys → HoldsContents k xs → HoldsContents k ys
 holds_thinner Empty xs ys t h = t.empty h
 holds_thinner Flushes xs ys t h = (t.bytes (h.0), t.eos (h.1))
 holds_thinner NoEos xs ys t h = t.eos h
@@ -330,7 +330,7 @@ map_late f s (x ∷ xs) =
     ap (λ (b : Bool). (b && has_data (map f xs)) || data_after_eos (map f xs)) (s.eos x)
     ∙ (ap (λ (b : Bool). (is_eos x && b) || data_after_eos (map f xs)) (map_data f s xs) ∙ ap (λ (b : Bool). (is_eos x && has_data xs) || b) (map_late f s xs))
 
-pub holds_map : (k : Contents) (f : NamedBucket → NamedBucket) → IsSorted f → (xs : List NamedBucket) → Holds k xs → Holds k (map f xs)
+pub holds_map : (k : Contents) (f : NamedBucket → NamedBucket) → IsSorted f → (xs : List NamedBucket) → HoldsContents k xs → HoldsContents k (map f xs)
 holds_map Empty f s xs h = ap (map f) h
 holds_map Flushes f s xs h = (map_data f s xs ∙ h.0, map_eos f s xs ∙ h.1)
 holds_map NoEos f s xs h = map_eos f s xs ∙ h
@@ -359,8 +359,8 @@ joined_ahead (x ∷ xs) ys h none =
     let parts = or_parts (is_eos x && has_data xs) (data_after_eos xs) h in
     or_from (is_eos x && has_data (xs ++ ys)) (data_after_eos (xs ++ ys)) (and_less (is_eos x) (has_data xs) (has_data (xs ++ ys)) (λ e. joined_data xs ys e none) (parts.0)) (joined_ahead xs ys (parts.1) none)
 
-pub holds_joined : (a b : Contents) (xs ys : List NamedBucket) → Holds a xs → Holds b ys → Holds (joined_content a b) (xs ++ ys)
-holds_joined Empty b xs ys h k = subst (λ (zs : List NamedBucket). Holds b (zs ++ ys)) (sym h) k
+pub holds_joined : (a b : Contents) (xs ys : List NamedBucket) → HoldsContents a xs → HoldsContents b ys → HoldsContents (joined_content a b) (xs ++ ys)
+holds_joined Empty b xs ys h k = subst (λ (zs : List NamedBucket). HoldsContents b (zs ++ ys)) (sym h) k
 holds_joined Flushes Empty xs ys h k = (joined_data xs ys (h.0) (ap has_data k), joined_eos xs ys (h.1) (ap has_eos k))
 holds_joined Flushes Flushes xs ys h k = (joined_data xs ys (h.0) (k.0), joined_eos xs ys (h.1) (k.1))
 holds_joined Flushes NoEos xs ys h k = joined_eos xs ys (h.1) k
@@ -381,23 +381,23 @@ holds_joined Any b xs ys h k = tt
 -- One bucket.
 
 -- a bucket of these classes alone
-pub one_holds : (t : Classes) (x : NamedBucket) → class_has t x.bucket.kind ≡ true → Holds (content_of t) (x ∷ [])
+pub one_holds : (t : Classes) (x : NamedBucket) → class_has t x.bucket.kind ≡ true → HoldsContents (content_of t) (x ∷ [])
 one_holds t x has = by_class t.eos t.bytes refl refl where
-  by_class : (eos bytes : Bool) → t.eos ≡ eos → t.bytes ≡ bytes → Holds (cond eos NoLateData (cond bytes NoEos Flushes)) (x ∷ [])
+  by_class : (eos bytes : Bool) → t.eos ≡ eos → t.bytes ≡ bytes → HoldsContents (cond eos NoLateData (cond bytes NoEos Flushes)) (x ∷ [])
   by_class true bytes e d = or_from (is_eos x && false) false (both_false (is_eos x) false refl) refl
   by_class false true e d = or_from (is_eos x) false (no_eos t x.bucket.kind has e) refl
   by_class false false e d = (or_from (is_data x) false (no_data t x.bucket.kind has d) refl, or_from (is_eos x) false (no_eos t x.bucket.kind has e) refl)
 
-pub holds_tail : (k : Contents) (t : Classes) (x : NamedBucket) (xs : List NamedBucket) → class_has t x.bucket.kind ≡ true → Holds k xs → Holds (tail_content k t) (put_tail x xs)
+pub holds_tail : (k : Contents) (t : Classes) (x : NamedBucket) (xs : List NamedBucket) → class_has t x.bucket.kind ≡ true → HoldsContents k xs → HoldsContents (tail_content k t) (put_tail x xs)
 holds_tail Empty t x xs has h = more t.eos t.bytes (holds_joined Empty (content_of t) xs (x ∷ []) h (one_holds t x has)) where
-  more : (eos bytes : Bool) → Holds (cond eos NoLateData (cond bytes NoEos Flushes)) (put_tail x xs) → Holds (greater Empty (cond eos NoLateData (cond bytes NoEos Flushes))) (put_tail x xs)
+  more : (eos bytes : Bool) → HoldsContents (cond eos NoLateData (cond bytes NoEos Flushes)) (put_tail x xs) → HoldsContents (greater Empty (cond eos NoLateData (cond bytes NoEos Flushes))) (put_tail x xs)
   more true bytes h = h
   more false true h = h
   more false false h = h
 holds_tail Flushes t x xs has h = holds_joined Flushes (content_of t) xs (x ∷ []) h (one_holds t x has)
 holds_tail NoEos t x xs has h = holds_joined NoEos (content_of t) xs (x ∷ []) h (one_holds t x has)
 holds_tail NoLateData t x xs has h = by_class t.bytes refl where
-  by_class : (bytes : Bool) → t.bytes ≡ bytes → Holds (cond bytes Any NoLateData) (put_tail x xs)
+  by_class : (bytes : Bool) → t.bytes ≡ bytes → HoldsContents (cond bytes Any NoLateData) (put_tail x xs)
   by_class true d = tt
   by_class false d = joined_ahead xs (x ∷ []) h (or_from (is_data x) false (no_data t x.bucket.kind has d) refl)
 holds_tail Any t x xs has h = tt
@@ -423,8 +423,8 @@ head_joined k t = by_class k t.eos t.bytes where
   by_class NoLateData false false = refl
   by_class Any false false = refl
 
-pub holds_head : (k : Contents) (t : Classes) (x : NamedBucket) (xs : List NamedBucket) → class_has t x.bucket.kind ≡ true → Holds k xs → Holds (head_content k t) (put_head x xs)
-holds_head k t x xs has h = subst (λ (c : Contents). Holds c (x ∷ xs)) (head_joined k t) (holds_joined (content_of t) k (x ∷ []) xs (one_holds t x has) h)
+pub holds_head : (k : Contents) (t : Classes) (x : NamedBucket) (xs : List NamedBucket) → class_has t x.bucket.kind ≡ true → HoldsContents k xs → HoldsContents (head_content k t) (put_head x xs)
+holds_head k t x xs has h = subst (λ (c : Contents). HoldsContents c (x ∷ xs)) (head_joined k t) (holds_joined (content_of t) k (x ∷ []) xs (one_holds t x has) h)
 
 -- Before another bucket.
 
@@ -454,30 +454,30 @@ module _ (at : ℕ) (x : NamedBucket) (xs : List NamedBucket) where
       joined_behind (buckets_before at xs) (x ∷ buckets_from at xs) ((thins_before at xs).eos plain)
       (or_from (is_eos x && has_data (buckets_from at xs)) (data_after_eos (buckets_from at xs)) (both_false (is_eos x) (has_data (buckets_from at xs)) ((thins_from at xs).bytes none)) (no_data_late (buckets_from at xs) ((thins_from at xs).bytes none)))
 
-  eos_before : (k : Contents) → Holds k xs → Holds (before_eos k) (put_before at x xs)
+  eos_before : (k : Contents) → HoldsContents k xs → HoldsContents (before_eos k) (put_before at x xs)
   eos_before Empty h = put_any (ap has_data h) (ap has_eos h)
   eos_before Flushes h = put_any (h.0) (h.1)
   eos_before NoEos h = tt
   eos_before NoLateData h = tt
   eos_before Any h = tt
 
-  data_before : (k : Contents) → is_eos x ≡ false → Holds k xs → Holds (before_data k) (put_before at x xs)
+  data_before : (k : Contents) → is_eos x ≡ false → HoldsContents k xs → HoldsContents (before_data k) (put_before at x xs)
   data_before Empty plain h = put_eos plain (ap has_eos h)
   data_before Flushes plain h = put_eos plain (h.1)
   data_before NoEos plain h = put_eos plain h
   data_before NoLateData plain h = tt
   data_before Any plain h = tt
 
-  flush_before : (k : Contents) → is_data x ≡ false → is_eos x ≡ false → Holds k xs → Holds (greater k Flushes) (put_before at x xs)
+  flush_before : (k : Contents) → is_data x ≡ false → is_eos x ≡ false → HoldsContents k xs → HoldsContents (greater k Flushes) (put_before at x xs)
   flush_before Empty none plain h = (put_data none (ap has_data h), put_eos plain (ap has_eos h))
   flush_before Flushes none plain h = (put_data none (h.0), put_eos plain (h.1))
   flush_before NoEos none plain h = put_eos plain h
   flush_before NoLateData none plain h = put_late none plain h
   flush_before Any none plain h = tt
 
-  pub holds_before : (k : Contents) (t : Classes) → class_has t x.bucket.kind ≡ true → Holds k xs → Holds (before_content k t) (put_before at x xs)
+  pub holds_before : (k : Contents) (t : Classes) → class_has t x.bucket.kind ≡ true → HoldsContents k xs → HoldsContents (before_content k t) (put_before at x xs)
   holds_before k t has h = by_class t.eos t.bytes refl refl where
-    by_class : (eos bytes : Bool) → t.eos ≡ eos → t.bytes ≡ bytes → Holds (cond eos (before_eos k) (cond bytes (before_data k) (greater k Flushes))) (put_before at x xs)
+    by_class : (eos bytes : Bool) → t.eos ≡ eos → t.bytes ≡ bytes → HoldsContents (cond eos (before_eos k) (cond bytes (before_data k) (greater k Flushes))) (put_before at x xs)
     by_class true bytes e d = eos_before k h
     by_class false true e d = data_before k (no_eos t x.bucket.kind has e) h
     by_class false false e d = flush_before k (no_data t x.bucket.kind has d) (no_eos t x.bucket.kind has e) h

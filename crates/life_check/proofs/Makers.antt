@@ -1,7 +1,7 @@
 -- New buckets, and copies.
 use Rattle.std.proofs.Common.{◌≡◌, ◌≢◌, ℕ, true, cond, Option, None, Some, refl, sym, ◌∙◌, ap, subst, arith}
-use Rattle.module_lang.specs.declared.instr.PoolRef.{PoolRef}
-use Rattle.module_lang.specs.declared.instr.Instr.TheVariants as instr
+use Rattle.module_code.specs.declared.instr.PoolRef.{PoolRef}
+use Rattle.module_code.specs.declared.instr.Instr.TheVariants as instr
 use Rattle.run_model.specs.declared.bucket.Bucket.{Bucket}
 use Rattle.run_model.specs.declared.bucket.Cursor.TheVariants as cursor
 use Rattle.run_model.specs.declared.bucket.Home.{Home}
@@ -9,16 +9,16 @@ use Rattle.run_model.specs.declared.bucket.NamedBucket.{NamedBucket}
 use Rattle.run_model.specs.declared.fault.FaultKind.TheVariants.{F1}
 use Rattle.run_model.specs.BrigadeLists.{put_tail}
 use Rattle.run_model.specs.BucketSteps.{items_at, new_loose, do_copy, do_poolb, pool_bucket}
-use Rattle.run_model.specs.Cursors.{Spot, spot}
+use Rattle.run_model.specs.Cursors.{Place, spot}
 use Rattle.run_model.specs.Faults.{OnBucket, has_pool_at, has_pool, is_live_named}
 use Rattle.run_model.specs.Sound.{SoundNames, count}
 use Rattle.run_model.specs.State.{Configuration, pool_view, pool_named, set_cursor, set_loose}
-use Rattle.run_model.proofs.Marks.{first_none}
+use Rattle.model_laws.proofs.Marks.{first_none}
 use Rattle.life_state.specs.declared.parts.Classes.{Classes}
 use Rattle.life_state.specs.States.{Homes, no_homes, only_call, CursorKnown, Loose, In, State}
 use Rattle.life_state.specs.Facts.{is_set}
 use Rattle.life_state.specs.Rules.{cursor_need, classes_of, homes_at, all_others, only_bytes, only_flush, only_eos, made}
-use Rattle.life_check.specs.Meaning.{class_has, Covers, IsIn, IsLoose, FitsCursor, Differ, Fits}
+use Rattle.life_check.specs.Meaning.{class_has, Covers, IsAtBucketOf, IsAtLoose, FitsCursor, Differ, Fits}
 use Rattle.life_check.specs.Soundness.{LawOf}
 use Rattle.life_check.proofs.Lists.{each_named, named_put_tail, new_put_tail}
 use Rattle.life_check.proofs.Standing.{spot_in, spot_loose, set_there}
@@ -95,13 +95,13 @@ law_copy {lives = lives} d c p choice r s ready = by_known (s.cursors c) refl (f
   by_known : (k : CursorKnown) → s.cursors c ≡ k → cursor_need OnBucket k ≡ None → Fits (Covers p (pool_view (do_copy d (spot r c) r)) lives) (made d (classes_of k) (homes_at s k) s) (do_copy d (spot r c) r)
   by_known (In b t) is met =
       let C : Homes → Home → Type 0 = Covers p (pool_view r) lives in
-      let i : IsIn r (r.call.cursors c) b t = subst (λ (k : CursorKnown). FitsCursor C r k (r.call.cursors c)) is (ready.fits.cursors c) in
-      subst (λ (at : Spot). Fits (Covers p (pool_view (do_copy d at r)) lives) (made d t (s.brigades b).homes s) (do_copy d at r)) (sym (spot_in r (r.call.cursors c) b t ready.sound.names i))
+      let i : IsAtBucketOf r (r.call.cursors c) b t = subst (λ (k : CursorKnown). FitsCursor C r k (r.call.cursors c)) is (ready.fits.cursors c) in
+      subst (λ (at : Place). Fits (Covers p (pool_view (do_copy d at r)) lives) (made d t (s.brigades b).homes s) (do_copy d at r)) (sym (spot_in r (r.call.cursors c) b t ready.sound.names i))
       (made_fits C r s ready.sound.names ready.fits d t (s.brigades b).homes i.bucket.bucket i.classed
       (each_named (λ y. C (s.brigades b).homes y.bucket.home) i.bucket.name (items_at r b) i.bucket i.there (full_of C (s.brigades b) (r.instance.brigades b) i.usable (ready.fits.brigades b)).homes))
   by_known (Loose t h) is met =
       let C : Homes → Home → Type 0 = Covers p (pool_view r) lives in
-      let i : IsLoose C r (r.call.cursors c) t h = subst (λ (k : CursorKnown). FitsCursor C r k (r.call.cursors c)) is (ready.fits.cursors c) in
-      subst (λ (at : Spot). Fits (Covers p (pool_view (do_copy d at r)) lives) (made d t h s) (do_copy d at r)) (sym (spot_loose C r (r.call.cursors c) t h ready.sound.names i))
+      let i : IsAtLoose C r (r.call.cursors c) t h = subst (λ (k : CursorKnown). FitsCursor C r k (r.call.cursors c)) is (ready.fits.cursors c) in
+      subst (λ (at : Place). Fits (Covers p (pool_view (do_copy d at r)) lives) (made d t h s) (do_copy d at r)) (sym (spot_loose C r (r.call.cursors c) t h ready.sound.names i))
       (made_fits C r s ready.sound.names ready.fits d t h i.bucket.bucket i.classed i.covered)
   by_known k is met = absurd (cc)

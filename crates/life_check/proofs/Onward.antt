@@ -1,15 +1,15 @@
 -- Where an instruction leads, and what it may want.
 use Rattle.std.proofs.Common.{◌≡◌, ℕ, suc, ◌<◌, ◌≤◌, Bool, true, false, ◌&&◌, ◌||◌, not, nat_lt, ◌==◌, cond, List, [], ◌∷◌, Option, Some, None, is_some, is_none, Result, Ok, refl, sym, ap, arith}
 use Rattle.std.proofs.lemmas.Bool.Decides.{nat_tests}
-use Rattle.module_lang.specs.Args.{op_of}
-use Rattle.module_lang.specs.Tables.{misplaced, touches_req, any_touches_req, has_main_only, is_main, under_req}
-use Rattle.module_lang.specs.Spelling.{operands_of}
-use Rattle.module_lang.specs.declared.draft.Part.TheVariants as part
-use Rattle.module_lang.specs.declared.instr.Instr.{Instr}
-use Rattle.module_lang.specs.declared.instr.Instr.TheVariants as instr
-use Rattle.module_lang.specs.declared.instr.PoolRef.{PoolRef}
-use Rattle.module_lang.specs.declared.instr.PoolRef.TheVariants as pool
-use Rattle.module_lang.specs.Program.{Program, pool_of_pool, pool_of_brigade}
+use Rattle.module_code.specs.Args.{op_of}
+use Rattle.module_code.specs.Tables.{misplaced, touches_req, any_touches_req, has_main_only, is_main, under_req}
+use Rattle.module_code.specs.Spelling.{operands_of}
+use Rattle.module_code.specs.declared.part.Part.TheVariants as part
+use Rattle.module_code.specs.declared.instr.Instr.{Instr}
+use Rattle.module_code.specs.declared.instr.Instr.TheVariants as instr
+use Rattle.module_code.specs.declared.instr.PoolRef.{PoolRef}
+use Rattle.module_code.specs.declared.instr.PoolRef.TheVariants as pool
+use Rattle.module_code.specs.Program.{Program, pool_of_pool, pool_of_brigade}
 use Rattle.run_model.specs.declared.event.Exit.{Exit}
 use Rattle.run_model.specs.declared.event.Exit.TheVariants.{GoOn, Jump, Return}
 use Rattle.run_model.specs.declared.event.Refusal.{Refusal}
@@ -20,7 +20,7 @@ use Rattle.run_model.specs.BrigadeLists.{partition_answer}
 use Rattle.run_model.specs.BucketSteps.{byte_of, content_at, is_incomplete, is_unread, is_unsplit, items_at, kind_is}
 use Rattle.run_model.specs.Cursors.{spot, bucket_at, is_end, read_cursor}
 use Rattle.run_model.specs.Faults.{Want, WPool, wants}
-use Rattle.run_model.specs.Laws.{is_return}
+use Rattle.model_laws.specs.Laws.{is_return}
 use Rattle.run_model.specs.Pools.{is_empty}
 use Rattle.run_model.specs.State.{Configuration, items_of}
 use Rattle.run_model.specs.Steps.{Choice, step, jumps_if, is_null, is_fail, is_full, value_of}

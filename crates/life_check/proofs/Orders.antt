@@ -1,9 +1,9 @@
 -- A state above one that describes a run describes it.
 use Rattle.std.proofs.Common.{◌≡◌, ℕ, Bool, true, false, ◌&&◌, ◌==◌, cond, List, inl, inr, refl, sym, subst, eqb-true}
 use Rattle.std.proofs.lemmas.Bool.{ltb-true, cases_lt}
-use Rattle.module_lang.specs.declared.instr.PoolRef.{PoolRef}
-use Rattle.module_lang.specs.declared.instr.PoolRef.TheVariants as pool
-use Rattle.module_lang.specs.Program.{Program}
+use Rattle.module_code.specs.declared.instr.PoolRef.{PoolRef}
+use Rattle.module_code.specs.declared.instr.PoolRef.TheVariants as pool
+use Rattle.module_code.specs.Program.{Program}
 use Rattle.run_model.specs.declared.bucket.BrigadeVar.{BrigadeVar}
 use Rattle.run_model.specs.declared.bucket.BrigadeVar.TheVariants as var
 use Rattle.run_model.specs.declared.bucket.Cursor.{Cursor}
@@ -27,7 +27,7 @@ use Rattle.life_state.specs.States.{Homes, BrigadeKnown, only_null, never_made, 
 use Rattle.life_state.specs.Laws.{Below}
 use Rattle.life_state.proofs.OrderLaws.{leq_says}
 use Rattle.life_state.proofs.Tests.{split2, split3, implies_says, all_at}
-use Rattle.life_check.specs.Meaning.{CoversPool, ByConnection, ByMember, ByDead, ByCall, Covers, class_has, FitsPool, FitsMark, FitsBrigade, IsIn, IsEndOf, FitsCursor}
+use Rattle.life_check.specs.Meaning.{CoversPool, ByConnection, ByMember, ByDead, ByCall, Covers, class_has, FitsPool, FitsMark, FitsBrigade, IsAtBucketOf, IsEndOf, FitsCursor}
 use Rattle.life_check.specs.Soundness.{GreaterFits}
 use Rattle.life_check.proofs.Standing.{known_differ}
 use Rattle.life_check.proofs.Lists.{each_more, holds_more}
@@ -109,10 +109,10 @@ brigade_more C a b (var.Live v) grows h e = (implies_says a.live b.live ((variab
 same_place : (a b : ℕ) (s t : Classes) → (a == b && classes_le s t) ≡ true → (a ≡ b) × (classes_le s t ≡ true)
 same_place a b s t h = let two = split2 (a == b) (classes_le s t) h in (eqb-true a b (two.0), two.1)
 
-in_more : (r : Configuration) (v : Cursor) (a b : ℕ) (s t : Classes) → (a == b && classes_le s t) ≡ true → IsIn r v a s → IsIn r v b t
+in_more : (r : Configuration) (v : Cursor) (a b : ℕ) (s t : Classes) → (a == b && classes_le s t) ≡ true → IsAtBucketOf r v a s → IsAtBucketOf r v b t
 in_more r v a b s t h e =
     let same = same_place a b s t h in
-    subst (λ (k : ℕ). IsIn r v k t) (same.0) (record { bucket = e.bucket; at = e.at; there = e.there; classed = class_more s t e.bucket.bucket.kind (same.1) e.classed; usable = e.usable })
+    subst (λ (k : ℕ). IsAtBucketOf r v k t) (same.0) (record { bucket = e.bucket; at = e.at; there = e.there; classed = class_more s t e.bucket.bucket.kind (same.1) e.classed; usable = e.usable })
 
 end_more : (r : Configuration) (v : Cursor) (a b : ℕ) → (a == b) ≡ true → IsEndOf r v a → IsEndOf r v b
 end_more r v a b h e = subst (λ (k : ℕ). IsEndOf r v k) (eqb-true a b h) e

@@ -1,8 +1,8 @@
 -- A partition of a brigade at a point: its buckets are finer, and a cursor is set to the place that is found.
 use Rattle.std.proofs.Common.{◌≡◌, ℕ, ◌≤◌, List, Some, None, All, refl, sym, ◌∙◌, ap, subst}
-use Rattle.module_lang.specs.declared.instr.Instr.TheVariants as instr
-use Rattle.module_lang.specs.declared.instr.Value.{Value}
-use Rattle.module_lang.specs.Program.{Program}
+use Rattle.module_code.specs.declared.instr.Instr.TheVariants as instr
+use Rattle.module_code.specs.declared.instr.Value.{Value}
+use Rattle.module_code.specs.Program.{Program}
 use Rattle.run_model.specs.declared.bucket.BrigadeVar.{BrigadeVar}
 use Rattle.run_model.specs.declared.bucket.BrigadeVar.TheVariants as var
 use Rattle.run_model.specs.declared.bucket.Cursor.{Cursor}
@@ -16,9 +16,9 @@ use Rattle.run_model.specs.Faults.{usable_fault}
 use Rattle.run_model.specs.Sound.{SoundNames, brigade_name, count_named}
 use Rattle.run_model.specs.State.{Configuration, items_of, pool_view, set_brigade, set_cursor}
 use Rattle.run_model.specs.Steps.{value_of, jumps_if}
-use Rattle.run_model.proofs.CursorNames.{part_there}
-use Rattle.run_model.proofs.Marks.{first_none}
-use Rattle.run_model.proofs.StepNames.{step_names}
+use Rattle.model_laws.proofs.CursorNames.{part_there}
+use Rattle.model_laws.proofs.Marks.{first_none}
+use Rattle.model_laws.proofs.StepNames.{step_names}
 use Rattle.run_model.proofs.Updates.{upd_at}
 use Rattle.life_state.specs.States.{Homes, End, State}
 use Rattle.life_state.specs.Rules.{no_other, edges_bpart}

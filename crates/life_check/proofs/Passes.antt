@@ -2,9 +2,9 @@
 use Rattle.std.proofs.Common.{◌≡◌, ◌≢◌, ℕ, zero, suc, ◌<◌, ◌≤◌, Bool, true, false, ◌&&◌, ◌==◌, cond, List, map, None, inl, inr, ◌⊎◌, ⊎_elim, refl, ap, sym, ◌∙◌, subst, arith, eq-eqb, ne_eqb}
 use Rattle.std.proofs.lemmas.Bool.{or_parts, cases_eq, cases_lt}
 use Rattle.std.proofs.lemmas.Bool.Decides.{eqb_tells}
-use Rattle.module_lang.specs.declared.instr.Instr.TheVariants as instr
-use Rattle.module_lang.specs.declared.instr.Status.{Status}
-use Rattle.module_lang.specs.Program.{Program}
+use Rattle.module_code.specs.declared.instr.Instr.TheVariants as instr
+use Rattle.module_code.specs.declared.instr.Status.{Status}
+use Rattle.module_code.specs.Program.{Program}
 use Rattle.run_model.specs.declared.bucket.BrigadeVar.{BrigadeVar}
 use Rattle.run_model.specs.declared.bucket.BrigadeVar.TheVariants as var
 use Rattle.run_model.specs.declared.bucket.Cursor.{Cursor}
@@ -30,7 +30,7 @@ use Rattle.life_state.specs.Facts.{known, facts_of, moved}
 use Rattle.life_state.proofs.Tests.{or_either, or_left, or_right}
 use Rattle.life_state.specs.Rules.{left, may_end, after_pass, keeps_call, need}
 use Rattle.life_state.specs.States.{Homes, BrigadeKnown, never_made, passed_on, CursorKnown, Unset, Loose, In, End, InOrEnd, State}
-use Rattle.life_check.specs.Meaning.{CoversPool, ByConnection, ByMember, ByDead, ByCall, Covers, NoneLives, Holds, FitsMark, FitsBrigade, IsIn, IsEndOf, FitsCursor, Fits}
+use Rattle.life_check.specs.Meaning.{CoversPool, ByConnection, ByMember, ByDead, ByCall, Covers, NoneLives, HoldsContents, FitsMark, FitsBrigade, IsAtBucketOf, IsEndOf, FitsCursor, Fits}
 use Rattle.life_check.specs.Soundness.{LawOf}
 use Rattle.life_check.proofs.Orders.{never}
 use Rattle.life_check.proofs.Lists.{IsSorted, holds_map, each_map}
@@ -41,7 +41,7 @@ use Rattle.life_check.proofs.Wants.{both_none, unless_some, usable_items}
 -- A pass.
 
 -- what holds an EOS may hold one
-may_hold : (k : Contents) (xs : List NamedBucket) → Holds k xs → has_eos xs ≡ true → may_end k ≡ true
+may_hold : (k : Contents) (xs : List NamedBucket) → HoldsContents k xs → has_eos xs ≡ true → may_end k ≡ true
 may_hold Empty xs h e = absurd (never e (ap has_eos h))
 may_hold Flushes xs h e = absurd (never e (h.1))
 may_hold NoEos xs h e = absurd (never e h)
@@ -53,7 +53,7 @@ passed_fits C var.Gone h = cc
 passed_fits C (var.Live v) h = (refl, refl)
 
 module _ (C : Homes → Home → Type 0) (r new : Configuration) (b : ℕ) (loose : new.call.loose ≡ r.call.loose) (others : (k : ℕ) → k ≢ b → new.instance.brigades k ≡ r.instance.brigades k) where
-  other_in : (v : Cursor) (a : ℕ) (t : Classes) → a ≢ b → IsIn r v a t → IsIn new v a t
+  other_in : (v : Cursor) (a : ℕ) (t : Classes) → a ≢ b → IsAtBucketOf r v a t → IsAtBucketOf new v a t
   other_in v a t ne e = record {
     bucket = e.bucket;
     at = e.at;
@@ -78,7 +78,7 @@ module _ (C : Homes → Home → Type 0) (r new : Configuration) (b : ℕ) (loos
     by_place (inl p) = subst (λ (x : Bool). FitsCursor C new (cond x Unset (End a)) v) (sym (p.0)) tt
     by_place (inr p) = subst (λ (x : Bool). FitsCursor C new (cond x Unset (End a)) v) (sym (p.0)) (other_end v a (p.1) e)
   left_fits (InOrEnd a t) v e = by_place (eqb_tells a b) e where
-    by_place : (((a == b) ≡ true) × (a ≡ b)) ⊎ (((a == b) ≡ false) × (a ≢ b)) → IsIn r v a t ⊎ IsEndOf r v a → FitsCursor C new (cond (a == b) Unset (InOrEnd a t)) v
+    by_place : (((a == b) ≡ true) × (a ≡ b)) ⊎ (((a == b) ≡ false) × (a ≢ b)) → IsAtBucketOf r v a t ⊎ IsEndOf r v a → FitsCursor C new (cond (a == b) Unset (InOrEnd a t)) v
     by_place (inl p) e = subst (λ (x : Bool). FitsCursor C new (cond x Unset (InOrEnd a t)) v) (sym (p.0)) tt
     by_place (inr p) (inl e) = subst (λ (x : Bool). FitsCursor C new (cond x Unset (InOrEnd a t)) v) (sym (p.0)) (inl (other_in v a t (p.1) e))
     by_place (inr p) (inr e) = subst (λ (x : Bool). FitsCursor C new (cond x Unset (InOrEnd a t)) v) (sym (p.0)) (inr (other_end v a (p.1) e))

@@ -1,7 +1,7 @@
 -- A cursor that is set to the first bucket of a brigade, or to the next one.
 use Rattle.std.proofs.Common.{◌≡◌, ◌≢◌, ℕ, ◌≤◌, Bool, true, false, ◌==◌, cond, List, [], ◌∷◌, ◌++◌, drop, Option, None, Some, ◌⊎◌, inl, inr, refl, sym, ◌∙◌, ap, subst, arith, eq-eqb, eqb-true}
 use Rattle.std.proofs.lemmas.Bool.{or_parts}
-use Rattle.module_lang.specs.declared.instr.Instr.TheVariants as instr
+use Rattle.module_code.specs.declared.instr.Instr.TheVariants as instr
 use Rattle.run_model.specs.declared.bucket.BrigadeVar.{BrigadeVar}
 use Rattle.run_model.specs.declared.bucket.BrigadeVar.TheVariants as var
 use Rattle.run_model.specs.declared.bucket.Cursor.{Cursor}
@@ -13,12 +13,12 @@ use Rattle.run_model.specs.declared.bucket.NamedBucket.{NamedBucket}
 use Rattle.run_model.specs.Buckets.{is_data_kind, is_eos_kind, is_data, is_eos, has_data, has_eos}
 use Rattle.run_model.specs.BrigadeLists.{buckets_before, buckets_from, bucket_named, first_place, next_place, taken_out}
 use Rattle.run_model.specs.BucketSteps.{items_at, end_called, cursor_at, do_next}
-use Rattle.run_model.specs.Cursors.{Spot, spot}
+use Rattle.run_model.specs.Cursors.{Place, spot}
 use Rattle.run_model.specs.Faults.{InBrigade, usable_fault}
 use Rattle.run_model.specs.Sound.{SoundNames, brigade_name, count_named}
 use Rattle.run_model.specs.State.{Configuration, pool_view, set_cursor}
-use Rattle.run_model.proofs.Marks.{first_none}
-use Rattle.run_model.proofs.BrigadeLists.{before_and_from, moves_keep_names}
+use Rattle.model_laws.proofs.Marks.{first_none}
+use Rattle.model_laws.proofs.BrigadeLists.{before_and_from, moves_keep_names}
 use Rattle.run_model.proofs.Spots.{named_is}
 use Rattle.run_model.proofs.Names.{count_none, count_append, count_cons}
 use Rattle.life_state.specs.declared.parts.Classes.{Classes}
@@ -27,7 +27,7 @@ use Rattle.life_state.specs.declared.parts.Contents.TheVariants.{Empty, Flushes,
 use Rattle.life_state.specs.States.{Homes, CursorKnown, In, State}
 use Rattle.life_state.specs.Facts.{is_set, set_cursor as known_set}
 use Rattle.life_state.specs.Rules.{cursor_need, bucket_or_end, after_next, no_other}
-use Rattle.life_check.specs.Meaning.{class_has, Covers, Each, Holds, IsIn, IsEndOf, FitsCursor, Differ, Fits}
+use Rattle.life_check.specs.Meaning.{class_has, Covers, Each, HoldsContents, IsAtBucketOf, IsEndOf, FitsCursor, Differ, Fits}
 use Rattle.life_check.specs.Soundness.{LawOf}
 use Rattle.life_check.proofs.Lists.{named_first, named_later, each_named}
 use Rattle.life_check.proofs.Standing.{spot_in, once_in, Stays, cursor_stays}
@@ -77,15 +77,15 @@ flush_class kind.Immortal none plain = absurd (cc)
 flush_class (kind.Pool p) none plain = absurd (cc)
 flush_class kind.File none plain = absurd (cc)
 
-in_of_classes : (r : Configuration) (v : Cursor) (b : ℕ) (t : Classes) → (i : IsIn r v b all_classes) → class_has t i.bucket.bucket.kind ≡ true → IsIn r v b t
+in_of_classes : (r : Configuration) (v : Cursor) (b : ℕ) (t : Classes) → (i : IsAtBucketOf r v b all_classes) → class_has t i.bucket.bucket.kind ≡ true → IsAtBucketOf r v b t
 in_of_classes r v b t i classed = record { bucket = i.bucket; at = i.at; there = i.there; classed = classed; usable = i.usable }
 
-not_in_empty : (r : Configuration) (v : Cursor) (b : ℕ) → items_at r b ≡ [] → IsIn r v b all_classes → ⊥
+not_in_empty : (r : Configuration) (v : Cursor) (b : ℕ) → items_at r b ≡ [] → IsAtBucketOf r v b all_classes → ⊥
 unfolding buckets_from
 not_in_empty r v b none i = (let both : None ≡ Some i.bucket = sym (ap (bucket_named i.bucket.name) none) ∙ i.there in cc)
 
 -- a cursor at a bucket of a brigade or at its end, by the brigade's contents
-pub bucket_or_end_fits : (C : Homes → Home → Type 0) (r : Configuration) (v : Cursor) (b : ℕ) (k : Contents) → Holds k (items_at r b) → IsIn r v b all_classes ⊎ IsEndOf r v b → FitsCursor C r (bucket_or_end b k) v
+pub bucket_or_end_fits : (C : Homes → Home → Type 0) (r : Configuration) (v : Cursor) (b : ℕ) (k : Contents) → HoldsContents k (items_at r b) → IsAtBucketOf r v b all_classes ⊎ IsEndOf r v b → FitsCursor C r (bucket_or_end b k) v
 bucket_or_end_fits C r v b Empty h at = elim at [ inl i ↦ absurd (not_in_empty r v b h i) | inr e ↦ e ]
 bucket_or_end_fits C r v b Flushes h at = elim at [
   | inl i ↦ inl (in_of_classes r v b _ i (flush_class i.bucket.bucket.kind
@@ -137,7 +137,7 @@ named_brigade (var.Live v) usable = (v.name, refl)
 
 -- a place is one of its buckets or its end
 pub place_stands : (r : Configuration) (b : ℕ) (place : Option ℕ) → usable_fault (r.instance.brigades b) ≡ None → ((n : ℕ) → place ≡ Some n → 1 ≤ count_named n (items_at r b))
-    → IsIn r (cursor_at (r.instance.brigades b) place) b all_classes ⊎ IsEndOf r (cursor_at (r.instance.brigades b) place) b
+    → IsAtBucketOf r (cursor_at (r.instance.brigades b) place) b all_classes ⊎ IsEndOf r (cursor_at (r.instance.brigades b) place) b
 place_stands r b None usable there = (let n = named_brigade (r.instance.brigades b) usable in inr (record { called = n.0; at = ap end_called (n.1); there = n.1; usable = usable }))
 place_stands r b (Some n) usable there =
     let x = found_named n (items_at r b) (there n refl) in
@@ -185,7 +185,7 @@ name_at var.Gone None n is = absurd (cc)
 name_at (var.Live v) None n is = absurd (cc)
 
 -- so a cursor that is set to it is not at x
-next_away : (r : Configuration) (b c k n : ℕ) (t : Classes) → SoundNames r → (i : IsIn r (r.call.cursors c) b t) → (k == c) ≡ true
+next_away : (r : Configuration) (b c k n : ℕ) (t : Classes) → SoundNames r → (i : IsAtBucketOf r (r.call.cursors c) b t) → (k == c) ≡ true
     → cursor_at (r.instance.brigades b) (next_place i.bucket.name (items_at r b)) ≡ cursor.At n → r.call.cursors k ≡ cursor.At n → ⊥
 next_away r b c k n t names i same at too =
     let here : cursor.At n ≡ cursor.At i.bucket.name = sym too ∙ (ap r.call.cursors (eqb-true k c same) ∙ i.at) in
@@ -198,9 +198,9 @@ law_next {lives = lives} d c p choice r s ready = by_known (s.cursors c) refl (f
   by_known : (k : CursorKnown) → s.cursors c ≡ k → cursor_need InBrigade k ≡ None → Fits (Covers p (pool_view (do_next d (spot r c) r)) lives) (after_next d c k s) (do_next d (spot r c) r)
   by_known (In b t) is met =
       let C : Homes → Home → Type 0 = Covers p (pool_view r) lives in
-      let i : IsIn r (r.call.cursors c) b t = subst (λ (k : CursorKnown). FitsCursor C r k (r.call.cursors c)) is (ready.fits.cursors c) in
+      let i : IsAtBucketOf r (r.call.cursors c) b t = subst (λ (k : CursorKnown). FitsCursor C r k (r.call.cursors c)) is (ready.fits.cursors c) in
       let place : Option ℕ = next_place i.bucket.name (items_at r b) in
-      subst (λ (at : Spot). Fits (Covers p (pool_view (do_next d at r)) lives) (after_next d c (In b t) s) (do_next d at r)) (sym (spot_in r (r.call.cursors c) b t ready.sound.names i))
+      subst (λ (at : Place). Fits (Covers p (pool_view (do_next d at r)) lives) (after_next d c (In b t) s) (do_next d at r)) (sym (spot_in r (r.call.cursors c) b t ready.sound.names i))
       (placed_fits C r s ready.sound.names ready.fits d b place (λ k. k == c) i.usable (λ n at. next_there i.bucket.name n (items_at r b) at)
       (λ k differ set same n at too. next_away r b c k n t ready.sound.names i same at too))
   by_known k is met = absurd (cc)

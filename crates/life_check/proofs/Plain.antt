@@ -1,13 +1,13 @@
 -- Laws of the instructions that leave brigades and pools as they are: jumps, numbers, the buffer, and tests of one variable or
 -- bucket.
 use Rattle.std.proofs.Common.{◌≡◌, ℕ, Bool, true, false, ◌||◌, ◌==◌, nat_lt, min, not, cond, List, [], ◌∷◌, ◌++◌, ◌+◌, ◌-◌, is_none, Option, Some, None, inl, inr, refl, ap, sym, ◌∙◌, subst}
-use Rattle.module_lang.specs.declared.instr.Instr.TheVariants as instr
-use Rattle.module_lang.specs.declared.instr.KindTest.{KindTest}
-use Rattle.module_lang.specs.declared.instr.KindTest.TheVariants as test
-use Rattle.module_lang.specs.declared.instr.Value.{Value}
-use Rattle.module_lang.specs.declared.instr.VarRef.{VarRef}
-use Rattle.module_lang.specs.declared.instr.VarRef.TheVariants as variable
-use Rattle.module_lang.specs.Program.{Program}
+use Rattle.module_code.specs.declared.instr.Instr.TheVariants as instr
+use Rattle.module_code.specs.declared.instr.KindTest.{KindTest}
+use Rattle.module_code.specs.declared.instr.KindTest.TheVariants as test
+use Rattle.module_code.specs.declared.instr.Value.{Value}
+use Rattle.module_code.specs.declared.instr.VarRef.{VarRef}
+use Rattle.module_code.specs.declared.instr.VarRef.TheVariants as variable
+use Rattle.module_code.specs.Program.{Program}
 use Rattle.run_model.specs.declared.bucket.BrigadeVar.{BrigadeVar}
 use Rattle.run_model.specs.declared.bucket.BrigadeVar.TheVariants as var
 use Rattle.run_model.specs.declared.bucket.Cursor.{Cursor}
@@ -43,7 +43,7 @@ use Rattle.life_check.proofs.Orders.{never}
 use Rattle.life_check.proofs.Lists.{each_none}
 use Rattle.life_check.proofs.Standing.{cursor_stays, finds_same, upd_first, moved_facts, spot_loose, spot_in, spot_end}
 use Rattle.life_check.proofs.Wants.{both_none, usable_items}
-use Rattle.life_check.specs.Meaning.{Differ, class_has, Covers, Holds, FitsPool, FitsMark, FitsBrigade, FitsCursor, Fits}
+use Rattle.life_check.specs.Meaning.{Differ, class_has, Covers, HoldsContents, FitsPool, FitsMark, FitsBrigade, FitsCursor, Fits}
 use Rattle.life_check.specs.Soundness.{FitsSome, Lands, LawOf}
 
 -- What a state says of is as it was.
@@ -207,7 +207,7 @@ law_jnull {lives = lives} (variable.Brigade b) l p choice r s ready = null_briga
 
 -- Whether a brigade is empty.
 
-some_there : (C : Homes → Home → Type 0) (k : Contents) (x : NamedBucket) (xs : List NamedBucket) → Holds k (x ∷ xs) → not (holds_none k) ≡ true
+some_there : (C : Homes → Home → Type 0) (k : Contents) (x : NamedBucket) (xs : List NamedBucket) → HoldsContents k (x ∷ xs) → not (holds_none k) ≡ true
 some_there C Empty x xs e = cc
 some_there C k x xs e = refl
 
@@ -220,7 +220,7 @@ empty_brigade : (lives : Home → Type 0) (p : Program) (s : State) (r : Configu
 empty_brigade lives p s r b var.Null is h e f = cc
 empty_brigade lives p s r b var.Gone is h e f = cc
 empty_brigade lives p s r b (var.Live v) is h e f = by_items v.items refl (usable_items (Covers p (pool_view r) lives) (s.brigades b) (var.Live v) e h).0 where
-  by_items : (xs : List NamedBucket) → v.items ≡ xs → Holds (s.brigades b).content xs → Lands lives p (edges_jempty b s) s (jumps_if (is_empty xs)) r
+  by_items : (xs : List NamedBucket) → v.items ≡ xs → HoldsContents (s.brigades b).content xs → Lands lives p (edges_jempty b s) s (jumps_if (is_empty xs)) r
   by_items [] none has =
       brigade_told (Covers p (pool_view r) lives) s r b (holds Empty no_homes) f
       (subst (λ (y : BrigadeVar). FitsBrigade (Covers p (pool_view r) lives) (holds Empty no_homes) y) (sym is)

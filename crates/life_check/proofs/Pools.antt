@@ -1,9 +1,9 @@
 -- New pools and labels, and what a state says where pools and brigades change but no cursor does.
 use Rattle.std.proofs.Common.{◌≡◌, ℕ, Bool, true, false, not, cond, List, Option, Some, None, inl, inr, refl, sym, ◌∙◌, ap, subst}
-use Rattle.module_lang.specs.declared.instr.PoolRef.{PoolRef}
-use Rattle.module_lang.specs.declared.instr.PoolRef.TheVariants as pool
-use Rattle.module_lang.specs.declared.instr.Instr.TheVariants as instr
-use Rattle.module_lang.specs.Program.{Program, pool_of_pool}
+use Rattle.module_code.specs.declared.instr.PoolRef.{PoolRef}
+use Rattle.module_code.specs.declared.instr.PoolRef.TheVariants as pool
+use Rattle.module_code.specs.declared.instr.Instr.TheVariants as instr
+use Rattle.module_code.specs.Program.{Program, pool_of_pool}
 use Rattle.run_model.specs.declared.bucket.BrigadeVar.{BrigadeVar}
 use Rattle.run_model.specs.declared.bucket.BrigadeVar.TheVariants as var
 use Rattle.run_model.specs.declared.bucket.Cursor.{Cursor}
@@ -24,15 +24,15 @@ use Rattle.run_model.specs.RunOrder.{killed}
 use Rattle.run_model.specs.Sound.{brigade_name, Sound}
 use Rattle.run_model.specs.State.{Configuration, PoolView, pool_view, named_at, pool_named, items_of, with_pools, name_in, set_pool as set_variable}
 use Rattle.run_model.specs.Steps.{on_pool, label_registered, label_killed, text_of}
-use Rattle.run_model.proofs.Marks.{first_none, second_none}
+use Rattle.model_laws.proofs.Marks.{first_none, second_none}
 use Rattle.run_model.proofs.PoolMap.{created_lives, new_lives, created_kept}
-use Rattle.run_model.proofs.StepPools.{wanted_pool}
+use Rattle.model_laws.proofs.StepPools.{wanted_pool}
 use Rattle.run_model.proofs.Updates.{upd_either}
 use Rattle.life_state.specs.declared.parts.Classes.{Classes}
 use Rattle.life_state.specs.declared.parts.PoolState.{PoolState}
 use Rattle.life_state.specs.States.{Homes, BrigadeKnown, CursorKnown, Unset, Loose, In, End, InOrEnd, State, only_live, set_pool}
 use Rattle.life_state.specs.Rules.{after_pcreate}
-use Rattle.life_check.specs.Meaning.{CoversPool, ByConnection, ByMember, ByDead, ByCall, Covers, FitsPool, FitsMark, FitsBrigade, IsIn, IsEndOf, FitsCursor, Differ, Fits}
+use Rattle.life_check.specs.Meaning.{CoversPool, ByConnection, ByMember, ByDead, ByCall, Covers, FitsPool, FitsMark, FitsBrigade, IsAtBucketOf, IsEndOf, FitsCursor, Differ, Fits}
 use Rattle.life_check.specs.Soundness.{LawOf}
 use Rattle.life_check.proofs.Lists.{each_more}
 use Rattle.life_check.proofs.Standing.{upd_both}
@@ -85,7 +85,7 @@ module _ (C D : Homes → Home → Type 0) (more : (h : Homes) (x : Home) → C 
 
   -- where loose buckets and usable brigades are as they were
   module _ (r new : Configuration) (loose : new.call.loose ≡ r.call.loose) (same : (b : ℕ) → usable_fault (r.instance.brigades b) ≡ None → new.instance.brigades b ≡ r.instance.brigades b) where
-    in_more : (v : Cursor) (b : ℕ) (t : Classes) → IsIn r v b t → IsIn new v b t
+    in_more : (v : Cursor) (b : ℕ) (t : Classes) → IsAtBucketOf r v b t → IsAtBucketOf new v b t
     in_more v b t f = record {
       bucket = f.bucket;
       at = f.at;

@@ -1,11 +1,11 @@
 -- Brigades whose buckets are set aside into another.
 use Rattle.std.proofs.Common.{◌≡◌, ◌≢◌, ℕ, ◌<◌, ◌==◌, not, length, arith, Bool, true, false, nat_lt, cond, List, [], ◌∷◌, ◌++◌, map, filter_map, Option, Some, None, ◌⊎◌, inl, inr, refl, sym, ◌∙◌, ap}
 use Rattle.std.proofs.lemmas.Bool.{ltb-true}
-use Rattle.module_lang.specs.declared.instr.PoolRef.{PoolRef}
-use Rattle.module_lang.specs.declared.instr.PoolRef.TheVariants as pool
-use Rattle.module_lang.specs.declared.instr.Instr.TheVariants as instr
-use Rattle.module_lang.specs.Program.{Program, IsModule, fits, is_brigade, pool_of_brigade}
-use Rattle.run_model.specs.AsDeclared.{AsDeclared}
+use Rattle.module_code.specs.declared.instr.PoolRef.{PoolRef}
+use Rattle.module_code.specs.declared.instr.PoolRef.TheVariants as pool
+use Rattle.module_code.specs.declared.instr.Instr.TheVariants as instr
+use Rattle.module_code.specs.Program.{Program, IsModule, fits, is_brigade, pool_of_brigade}
+use Rattle.model_laws.specs.AsDeclared.{AsDeclared}
 use Rattle.run_model.specs.declared.bucket.Bucket.{Bucket}
 use Rattle.run_model.specs.declared.bucket.BrigadeVar.{BrigadeVar}
 use Rattle.run_model.specs.declared.bucket.BrigadeVar.TheVariants as var
@@ -23,16 +23,16 @@ use Rattle.run_model.specs.Cutting.{FitsKind, set_aside_as}
 use Rattle.run_model.specs.Pools.{Pools, is_live}
 use Rattle.run_model.specs.State.{Configuration, pool_view, pool_named, with_pools, set_brigade as set_variable}
 use Rattle.run_model.specs.Steps.{is_above, aside_named, new_ref, made_on, on_pool, saved_into}
-use Rattle.run_model.proofs.Marks.{first_none, second_none}
-use Rattle.run_model.proofs.Operands.{saved_brigades}
-use Rattle.run_model.proofs.StepPools.{referred_path}
+use Rattle.model_laws.proofs.Marks.{first_none, second_none}
+use Rattle.model_laws.proofs.Operands.{saved_brigades}
+use Rattle.model_laws.proofs.StepPools.{referred_path}
 use Rattle.life_state.specs.declared.parts.Classes.{Classes}
 use Rattle.life_state.specs.PoolOrder.{is_clearable}
 use Rattle.life_state.specs.Rules.{homes_need, usable_need, first_need, joined_content, after_bsave}
 use Rattle.life_state.specs.States.{Homes, both_homes, home_in, holds, State}
 use Rattle.life_state.proofs.Tests.{split3}
 use Rattle.life_check.specs.Meaning.{Covers, class_has, Each, Fits}
-use Rattle.life_check.specs.Soundness.{Ready, LawOf}
+use Rattle.life_check.specs.Soundness.{MeetsNeeds, LawOf}
 use Rattle.life_check.proofs.Asides.{aside_covered}
 use Rattle.life_check.proofs.Brigades.{Joins, joined_fits}
 use Rattle.life_check.proofs.Filled.{covers_first, covers_second, IsFull, full_of}
@@ -91,7 +91,7 @@ made_there p r d o ne var.Gone at usable = absurd (cc)
 made_there p r d o ne (var.Live v) at usable = d.brigades o v ne at
 
 -- o takes what is set aside of b's buckets, where o lies on the pool target
-module _ (p : Program) (lives : Home → Type 0) (o b target : ℕ) (r : Configuration) (s : State) (ready : Ready lives p (instr.BSave o b) r s) where
+module _ (p : Program) (lives : Home → Type 0) (o b target : ℕ) (r : Configuration) (s : State) (ready : MeetsNeeds lives p (instr.BSave o b) r s) where
   abbrev C : Homes → Home → Type 0
   C = Covers p (pool_view r) lives
 

@@ -1,8 +1,8 @@
 -- Brigades that are cut: a split at a cursor, and a partition at a point.
 use Rattle.std.proofs.Common.{◌≡◌, ◌≢◌, ℕ, Bool, true, false, ◌&&◌, not, nat_lt, ◌==◌, cond, List, [], ◌∷◌, Option, Some, None, ◌⊎◌, inl, inr, refl, sym, ◌∙◌, ap, subst, eq-eqb}
 use Rattle.std.proofs.lemmas.Bool.Decides.{eqb_tells}
-use Rattle.module_lang.specs.Program.{Program, fits, is_brigade}
-use Rattle.module_lang.specs.declared.instr.Instr.TheVariants as instr
+use Rattle.module_code.specs.Program.{Program, fits, is_brigade}
+use Rattle.module_code.specs.declared.instr.Instr.TheVariants as instr
 use Rattle.run_model.specs.declared.bucket.BrigadeVar.{BrigadeVar}
 use Rattle.run_model.specs.declared.bucket.Cursor.{Cursor}
 use Rattle.run_model.specs.declared.bucket.Cursor.TheVariants as cursor
@@ -12,12 +12,12 @@ use Rattle.run_model.specs.declared.fault.FaultKind.TheVariants.{F9}
 use Rattle.run_model.specs.Indexed.{upd}
 use Rattle.run_model.specs.BrigadeLists.{bucket_named, buckets_from, first_bucket, stays, moves}
 use Rattle.run_model.specs.BucketSteps.{items_at, set_items, do_bsplit}
-use Rattle.run_model.specs.Cursors.{Spot, spot}
+use Rattle.run_model.specs.Cursors.{Place, spot}
 use Rattle.run_model.specs.Effects.{with_items}
 use Rattle.run_model.specs.Faults.{InThis, within_fault, end_fault, cursor_fault, usable_fault}
 use Rattle.run_model.specs.Sound.{SoundNames, brigade_name}
 use Rattle.run_model.specs.State.{Configuration, pool_view, items_of, set_brigade}
-use Rattle.run_model.proofs.Marks.{first_none, second_none}
+use Rattle.model_laws.proofs.Marks.{first_none, second_none}
 use Rattle.run_model.proofs.Updates.{upd_at, upd_off}
 use Rattle.life_state.specs.declared.parts.Classes.{Classes}
 use Rattle.life_state.specs.States.{Homes, no_homes, BrigadeKnown, holds, CursorKnown, Unset, Loose, In, End, InOrEnd, State, set_brigade as set_known}
@@ -25,7 +25,7 @@ use Rattle.life_state.specs.Facts.{is_end, known, moved}
 use Rattle.life_state.specs.Rules.{cursor_need, usable_need, emptied, carried, split_off, split_part, after_bsplit}
 use Rattle.life_state.specs.declared.parts.Contents.TheVariants.{Empty}
 use Rattle.life_state.proofs.Tests.{split2, not_true}
-use Rattle.life_check.specs.Meaning.{Covers, Each, IsIn, IsEndOf, FitsBrigade, FitsCursor, Fits}
+use Rattle.life_check.specs.Meaning.{Covers, Each, IsAtBucketOf, IsEndOf, FitsBrigade, FitsCursor, Fits}
 use Rattle.life_check.specs.Soundness.{LawOf}
 use Rattle.life_check.proofs.Lists.{each_none, each_before, each_from, Thins, thins_none, thins_same, thins_before, thins_from, holds_thinner}
 use Rattle.life_check.proofs.Standing.{upd_both, upd_second, moved_facts, spot_in, spot_end, finds_same, loose_stays, in_stays, end_stays}
@@ -117,7 +117,7 @@ module _ (C : Homes → Home → Type 0) (r : Configuration) (b a : ℕ) (place 
   split_others : (k : ℕ) → k ≢ a → k ≢ b → items_of (upd between a back k) ≡ items_at r k
   split_others k not_a not_b = ap items_of (upd_off between a k back not_a ∙ upd_off r.instance.brigades b k front not_b)
 
-  at_other : (j : ℕ) (t : Classes) (v : Cursor) → j ≢ a → j ≢ b → IsIn r v j t → IsIn (split_there b place a r) v j t
+  at_other : (j : ℕ) (t : Classes) (v : Cursor) → j ≢ a → j ≢ b → IsAtBucketOf r v j t → IsAtBucketOf (split_there b place a r) v j t
   unfolding set_brigade
   at_other j t v not_a not_b i =
       in_stays C C r (split_there b place a r) v j j t
@@ -194,7 +194,7 @@ in_this v b met = by_place (eqb_tells v b) where
 
 -- a cursor at a bucket that moves
 moves_along : (C : Homes → Home → Type 0) (r : Configuration) (b a : ℕ) (t : Classes) (v : Cursor) (differ : a ≢ b) (usable_b : usable_fault (r.instance.brigades b) ≡ None) (usable_a : usable_fault (r.instance.brigades a) ≡ None)
-    → (i : IsIn r v b t) → IsIn (split_there b (Some i.bucket.name) a r) v a t
+    → (i : IsAtBucketOf r v b t) → IsAtBucketOf (split_there b (Some i.bucket.name) a r) v a t
 unfolding set_brigade
 moves_along C r b a t v differ usable_b usable_a i =
     let new = split_there b (Some i.bucket.name) a r in
@@ -212,14 +212,14 @@ module _ (p : Program) (lives : Home → Type 0) (r : Configuration) (s : State)
   abbrev C : Homes → Home → Type 0
   C = Covers p (pool_view r) lives
 
-  abbrev IsSplit : Spot → Type 0
+  abbrev IsSplit : Place → Type 0
   IsSplit at = Fits (Covers p (pool_view (do_bsplit b at a r)) lives) (after_bsplit b c a s) (do_bsplit b at a r)
 
   old_full : IsFull C (s.brigades b) (items_at r b)
   old_full = full_of C (s.brigades b) (r.instance.brigades b) usable_b (f.brigades b)
 
   -- c is at the bucket of i
-  split_within : (t : Classes) → is_end (s.cursors c) ≡ false → (i : IsIn r (r.call.cursors c) b t)
+  split_within : (t : Classes) → is_end (s.cursors c) ≡ false → (i : IsAtBucketOf r (r.call.cursors c) b t)
       → FitsCursor C (split_there b (Some i.bucket.name) a r) (carried a b (s.cursors c)) (r.call.cursors c) → IsSplit (spot r c)
   unfolding set_brigade
   split_within t bucket i here =
@@ -241,7 +241,7 @@ module _ (p : Program) (lives : Home → Type 0) (r : Configuration) (s : State)
   split_in : (t : Classes) → s.cursors c ≡ In b t → IsSplit (spot r c)
   unfolding set_brigade
   split_in t is =
-      let i : IsIn r (r.call.cursors c) b t = subst (λ (k : CursorKnown). FitsCursor C r k (r.call.cursors c)) is (f.cursors c) in
+      let i : IsAtBucketOf r (r.call.cursors c) b t = subst (λ (k : CursorKnown). FitsCursor C r k (r.call.cursors c)) is (f.cursors c) in
       split_within t (ap is_end is) i
       (subst (λ (k : CursorKnown). FitsCursor C (split_there b (Some i.bucket.name) a r) (carried a b k) (r.call.cursors c)) (sym is)
       (subst (λ (e : Bool). FitsCursor C (split_there b (Some i.bucket.name) a r) (cond e (In a t) (In b t)) (r.call.cursors c)) (sym (eq-eqb b b refl)) (moves_along C r b a t (r.call.cursors c) differ usable_b usable_a i)))
@@ -261,7 +261,7 @@ module _ (p : Program) (lives : Home → Type 0) (r : Configuration) (s : State)
         subst (λ (k : CursorKnown). FitsCursor C (split_there b place a r) (carried a b k) (r.call.cursors c)) (sym is)
         (subst (λ (e : Bool). FitsCursor C (split_there b place a r) (cond e Unset (InOrEnd b t)) (r.call.cursors c)) (sym (eq-eqb b b refl)) tt)
 
-    by_place : IsIn r (r.call.cursors c) b t ⊎ IsEndOf r (r.call.cursors c) b → IsSplit (spot r c)
+    by_place : IsAtBucketOf r (r.call.cursors c) b t ⊎ IsEndOf r (r.call.cursors c) b → IsSplit (spot r c)
     by_place (inl i) = split_within t (ap is_end is) i (unset (Some i.bucket.name))
     by_place (inr i) = split_end i (unset None)
 

@@ -9,20 +9,20 @@ use Rattle.run_model.specs.declared.bucket.Cursor.TheVariants as cursor
 use Rattle.run_model.specs.Indexed.{upd}
 use Rattle.run_model.specs.BrigadeLists.{bucket_named}
 use Rattle.run_model.specs.BucketSteps.{items_at}
-use Rattle.run_model.specs.Cursors.{Spot, Nowhere, AtLoose, Within, AtEndOf, spot_of}
-use Rattle.run_model.specs.CursorLaws.{LooseOnce, WithinOnce, BucketOnce, BrigadeOnce}
+use Rattle.run_model.specs.Cursors.{Place, Nowhere, AtLoose, Within, AtEndOf, spot_of}
+use Rattle.model_laws.specs.CursorLaws.{LooseOnce, WithinOnce, BucketOnce, BrigadeOnce}
 use Rattle.run_model.specs.Faults.{usable_fault}
 use Rattle.run_model.specs.Sound.{SoundNames, brigade_name, count_named, count}
 use Rattle.run_model.specs.State.{Configuration}
 use Rattle.run_model.proofs.Updates.{upd_at, upd_off}
 use Rattle.run_model.proofs.Spots.{named_is}
-use Rattle.run_model.proofs.CursorNames.{in_brigade, found_there}
-use Rattle.run_model.proofs.CursorSpots.{cursors_stand_once}
+use Rattle.model_laws.proofs.CursorNames.{in_brigade, found_there}
+use Rattle.model_laws.proofs.CursorSpots.{cursors_stand_once}
 use Rattle.life_state.specs.declared.parts.Classes.{Classes}
 use Rattle.life_state.specs.States.{Homes, CursorKnown, Unset, Loose, In, End, InOrEnd, State}
 use Rattle.life_state.specs.Facts.{is_set, is_end, place_of, is_apart, known, facts_of, known_but, forgotten}
 use Rattle.life_state.proofs.Tests.{or_either}
-use Rattle.life_check.specs.Meaning.{class_has, IsLoose, IsIn, IsEndOf, FitsCursor, Differ, Fits}
+use Rattle.life_check.specs.Meaning.{class_has, IsAtLoose, IsAtBucketOf, IsEndOf, FitsCursor, Differ, Fits}
 
 -- Two functions of an index that are both written at one, and one of them.
 
@@ -69,7 +69,7 @@ within_at r n b x s is = of_spot (spot_of r (cursor.At n)) (cursors_stand_once r
   same : (k : ℕ) → (b ≢ k → count_named n (items_at r b) ≡ 0) → k ≡ b
   same k others = elim (cases_eq b k) [ inl e ↦ sym e | inr ne ↦ absurd (omega (arith, others ne, one)) ]
 
-  of_spot : (at : Spot) → BucketOnce r n at → at ≡ Within b x
+  of_spot : (at : Place) → BucketOnce r n at → at ≡ Within b x
   of_spot Nowhere none = absurd (omega (arith, none, in_brigade b n r s, one))
   of_spot (AtLoose y) once = absurd (omega (arith, once.brigades b, one))
   of_spot (Within k y) once =
@@ -82,7 +82,7 @@ loose_at r n x s is = of_spot (spot_of r (cursor.At n)) (cursors_stand_once r (c
   one : 1 ≤ count_named n r.call.loose
   one = there n x r.call.loose is
 
-  of_spot : (at : Spot) → BucketOnce r n at → at ≡ AtLoose x
+  of_spot : (at : Place) → BucketOnce r n at → at ≡ AtLoose x
   of_spot Nowhere none = absurd (omega (arith, none, one))
   of_spot (AtLoose y) once = ap AtLoose (some_is y x (sym once.there ∙ is))
   of_spot (Within k y) once = absurd (omega (arith, once.loose, one))
@@ -90,26 +90,26 @@ loose_at r n x s is = of_spot (spot_of r (cursor.At n)) (cursors_stand_once r (c
 
 pub end_at : (r : Configuration) (n b : ℕ) → SoundNames r → brigade_name (r.instance.brigades b) ≡ Some n → spot_of r (cursor.End n) ≡ AtEndOf b
 end_at r n b s is = of_spot (spot_of r (cursor.End n)) (cursors_stand_once r (cursor.End n) s) where
-  of_spot : (at : Spot) → BrigadeOnce r n at → at ≡ AtEndOf b
+  of_spot : (at : Place) → BrigadeOnce r n at → at ≡ AtEndOf b
   of_spot Nowhere none = absurd (none b is)
   of_spot (AtLoose x) once = absurd once
   of_spot (Within k x) once = absurd once
   of_spot (AtEndOf k) once = ap AtEndOf (sym (once.others b is))
 
-pub spot_loose : (C : Homes → Home → Type 0) (r : Configuration) (v : Cursor) (t : Classes) (h : Homes) → SoundNames r → (i : IsLoose C r v t h) → spot_of r v ≡ AtLoose i.bucket
+pub spot_loose : (C : Homes → Home → Type 0) (r : Configuration) (v : Cursor) (t : Classes) (h : Homes) → SoundNames r → (i : IsAtLoose C r v t h) → spot_of r v ≡ AtLoose i.bucket
 spot_loose C r v t h s i = ap (spot_of r) i.at ∙ loose_at r i.bucket.name i.bucket s i.there
 
-pub spot_in : (r : Configuration) (v : Cursor) (b : ℕ) (t : Classes) → SoundNames r → (i : IsIn r v b t) → spot_of r v ≡ Within b i.bucket
+pub spot_in : (r : Configuration) (v : Cursor) (b : ℕ) (t : Classes) → SoundNames r → (i : IsAtBucketOf r v b t) → spot_of r v ≡ Within b i.bucket
 spot_in r v b t s i = ap (spot_of r) i.at ∙ within_at r i.bucket.name b i.bucket s i.there
 
 pub spot_end : (r : Configuration) (v : Cursor) (b : ℕ) → SoundNames r → IsEndOf r v b → spot_of r v ≡ AtEndOf b
 spot_end r v b s i = ap (spot_of r) i.at ∙ end_at r i.called b s i.there
 
 -- it is in that list alone
-pub once_in : (r : Configuration) (v : Cursor) (b : ℕ) (t : Classes) → SoundNames r → (i : IsIn r v b t) → WithinOnce r i.bucket.name b i.bucket
+pub once_in : (r : Configuration) (v : Cursor) (b : ℕ) (t : Classes) → SoundNames r → (i : IsAtBucketOf r v b t) → WithinOnce r i.bucket.name b i.bucket
 once_in r v b t s i = subst (BucketOnce r i.bucket.name) (within_at r i.bucket.name b i.bucket s i.there) (cursors_stand_once r (cursor.At i.bucket.name) s)
 
-pub once_loose : (C : Homes → Home → Type 0) (r : Configuration) (v : Cursor) (t : Classes) (h : Homes) → SoundNames r → (i : IsLoose C r v t h) → LooseOnce r i.bucket.name i.bucket
+pub once_loose : (C : Homes → Home → Type 0) (r : Configuration) (v : Cursor) (t : Classes) (h : Homes) → SoundNames r → (i : IsAtLoose C r v t h) → LooseOnce r i.bucket.name i.bucket
 once_loose C r v t h s i = subst (BucketOnce r i.bucket.name) (loose_at r i.bucket.name i.bucket s i.there) (cursors_stand_once r (cursor.At i.bucket.name) s)
 
 -- Cursors at different buckets.
@@ -128,7 +128,7 @@ one_place r n i j s (WithinThere a x is here) (WithinThere b y too there) = (let
 name_is : (m n : ℕ) (v : Cursor) → v ≡ cursor.At m → v ≡ cursor.At n → m ≡ n
 name_is m n v is too = (let both = sym is ∙ too in cc)
 
-in_placed : (r : Configuration) (v : Cursor) (b n : ℕ) (t : Classes) → v ≡ cursor.At n → IsIn r v b t → IsPlaced r n (b + 1)
+in_placed : (r : Configuration) (v : Cursor) (b n : ℕ) (t : Classes) → v ≡ cursor.At n → IsAtBucketOf r v b t → IsPlaced r n (b + 1)
 in_placed r v b n t at i = WithinThere b i.bucket (ap (λ (k : ℕ). bucket_named k (items_at r b)) (sym (name_is i.bucket.name n v i.at at)) ∙ i.there) refl
 
 not_end : (r : Configuration) (v : Cursor) (b n : ℕ) → v ≡ cursor.At n → IsEndOf r v b → ⊥
@@ -246,9 +246,9 @@ pub finds_same : (C D : Homes → Home → Type 0) (n : ℕ) (xs ys : List Named
 finds_same C D n xs ys more same x is = record { bucket = x; there = same ∙ is; classed = λ t e. e; covered = λ h e. more h x.bucket.home e }
 
 module _ (C D : Homes → Home → Type 0) (r new : Configuration) (v : Cursor) where
-  pub loose_stays : (t : Classes) (h : Homes) → ((n : ℕ) → v ≡ cursor.At n → Finds C D n r.call.loose new.call.loose) → IsLoose C r v t h → IsLoose D new v t h
+  pub loose_stays : (t : Classes) (h : Homes) → ((n : ℕ) → v ≡ cursor.At n → Finds C D n r.call.loose new.call.loose) → IsAtLoose C r v t h → IsAtLoose D new v t h
   loose_stays t h finds i = found (finds i.bucket.name i.at i.bucket i.there) where
-    found : IsFound C D i.bucket.name i.bucket new.call.loose → IsLoose D new v t h
+    found : IsFound C D i.bucket.name i.bucket new.call.loose → IsAtLoose D new v t h
     found y =
         let name : y.bucket.name ≡ i.bucket.name = named_is i.bucket.name new.call.loose y.bucket y.there in
         record {
@@ -260,9 +260,9 @@ module _ (C D : Homes → Home → Type 0) (r new : Configuration) (v : Cursor) 
         }
 
   -- in a brigade, which may have come to another variable
-  pub in_stays : (a b : ℕ) (t : Classes) → ((n : ℕ) → v ≡ cursor.At n → Finds C D n (items_at r a) (items_at new b)) → usable_fault (new.instance.brigades b) ≡ None → IsIn r v a t → IsIn new v b t
+  pub in_stays : (a b : ℕ) (t : Classes) → ((n : ℕ) → v ≡ cursor.At n → Finds C D n (items_at r a) (items_at new b)) → usable_fault (new.instance.brigades b) ≡ None → IsAtBucketOf r v a t → IsAtBucketOf new v b t
   in_stays a b t finds usable i = found (finds i.bucket.name i.at i.bucket i.there) where
-    found : IsFound C D i.bucket.name i.bucket (items_at new b) → IsIn new v b t
+    found : IsFound C D i.bucket.name i.bucket (items_at new b) → IsAtBucketOf new v b t
     found y =
         let name : y.bucket.name ≡ i.bucket.name = named_is i.bucket.name (items_at new b) y.bucket y.there in
         record {
@@ -283,7 +283,7 @@ module _ (C D : Homes → Home → Type 0) (r new : Configuration) (v : Cursor) 
     pub names : (b : ℕ) → brigade_name (new.instance.brigades b) ≡ brigade_name (r.instance.brigades b)
     pub usable : (b : ℕ) → usable_fault (r.instance.brigades b) ≡ None → usable_fault (new.instance.brigades b) ≡ None
 
-  in_place : (b : ℕ) (t : Classes) → Stays → IsIn r v b t → IsIn new v b t
+  in_place : (b : ℕ) (t : Classes) → Stays → IsAtBucketOf r v b t → IsAtBucketOf new v b t
   in_place b t s i = in_stays b b t (s.within b) (s.usable b i.usable) i
 
   end_place : (b : ℕ) → Stays → IsEndOf r v b → IsEndOf new v b

@@ -1,6 +1,6 @@
 -- What is known where a call begins, of the instance and of what is brought.
-use Rattle.std.proofs.Common.{◌≡◌, ℕ, ◌+◌, true, not, List, [], ◌∷◌, Option, Some, None, refl, sym, subst}
-use Rattle.module_lang.specs.Program.{Program}
+use Rattle.std.proofs.Common.{◌≡◌, ℕ, ◌+◌, true, ◌&&◌, not, List, [], ◌∷◌, Option, Some, None, refl, sym, subst}
+use Rattle.module_code.specs.Program.{Program}
 use Rattle.run_model.specs.declared.bucket.Home.{Home}
 use Rattle.run_model.specs.declared.bucket.PoolVar.TheVariants as poolvar
 use Rattle.run_model.specs.declared.event.Piece.{Piece}
@@ -9,7 +9,8 @@ use Rattle.run_model.specs.Pieces.{bucket_of, named_from}
 use Rattle.run_model.specs.Pools.{is_live}
 use Rattle.run_model.specs.State.{Configuration, Call, Shared, Out}
 use Rattle.life_state.specs.States.{Homes, only_call, CursorKnown, Unset, State}
-use Rattle.life_state.proofs.Tests.{split3}
+use Rattle.life_state.specs.InForm.{is_formed}
+use Rattle.life_state.proofs.Tests.{split2, split3}
 use Rattle.life_check.specs.Certificates.{IsBoundedSome}
 use Rattle.life_check.specs.Meaning.{ByCall, Each, FitsCursor, Differ, Fits, InCall}
 use Rattle.life_check.specs.Typed.{declares, has_in, has_no_cursor, fits_between}
@@ -34,7 +35,7 @@ calm_fits C D s r call shared pc out unset facts more lives f =
 -- what is known between calls has no cursors
 pub between_unset : (p : Program) (o : Option State) (s : State) → IsBoundedSome o → fits_between p o ≡ true → o ≡ Some s → (c : ℕ) → s.cursors c ≡ Unset
 between_unset p None s bounded fit is = cc
-between_unset p (Some t) s bounded fit is = subst (λ (x : State). (c : ℕ) → x.cursors c ≡ Unset) (same is) (no_cursors t bounded (split3 (declares p t) (not (has_in t)) (has_no_cursor t) fit).2) where
+between_unset p (Some t) s bounded fit is = subst (λ (x : State). (c : ℕ) → x.cursors c ≡ Unset) (same is) (no_cursors t bounded (split3 (declares p t) (not (has_in t)) (has_no_cursor t) (split2 (declares p t && not (has_in t) && has_no_cursor t) (is_formed t) fit).0).2) where
   same : Some t ≡ Some s → t ≡ s
   same e = cc
 

@@ -1,21 +1,21 @@
 -- Buckets that are taken out: unlink and delete.
 use Rattle.std.proofs.Common.{◌≡◌, ℕ, None, refl, sym, ◌∙◌, subst}
-use Rattle.module_lang.specs.declared.instr.Instr.TheVariants as instr
+use Rattle.module_code.specs.declared.instr.Instr.TheVariants as instr
 use Rattle.run_model.specs.declared.bucket.Home.{Home}
 use Rattle.run_model.specs.Indexed.{upd}
 use Rattle.run_model.specs.BrigadeLists.{taken_out, put_tail}
 use Rattle.run_model.specs.BucketSteps.{items_at, do_unlink, do_delete}
-use Rattle.run_model.specs.Cursors.{Spot, Within, AtLoose, spot}
+use Rattle.run_model.specs.Cursors.{Place, Within, AtLoose, spot}
 use Rattle.run_model.specs.Effects.{with_items}
 use Rattle.run_model.specs.Faults.{InBrigade, OnBucket, usable_fault}
 use Rattle.run_model.specs.Sound.{SoundNames}
 use Rattle.run_model.specs.State.{Configuration, pool_view, set_brigade, set_loose}
-use Rattle.run_model.proofs.Marks.{first_none}
+use Rattle.model_laws.proofs.Marks.{first_none}
 use Rattle.life_state.specs.declared.parts.Classes.{Classes}
 use Rattle.life_state.specs.States.{Homes, CursorKnown, Unset, Loose, In, State}
 use Rattle.life_state.specs.Facts.{move_bucket}
 use Rattle.life_state.specs.Rules.{cursor_need, classes_of, homes_at}
-use Rattle.life_check.specs.Meaning.{Covers, IsIn, IsLoose, FitsBrigade, FitsCursor, Fits}
+use Rattle.life_check.specs.Meaning.{Covers, IsAtBucketOf, IsAtLoose, FitsBrigade, FitsCursor, Fits}
 use Rattle.life_check.specs.Soundness.{LawOf}
 use Rattle.life_check.proofs.Lists.{each_taken_out, each_named, named_taken_out, named_put_tail, new_put_tail, thins_taken_out, holds_thinner}
 use Rattle.life_check.proofs.Standing.{upd_second, once_in, spot_in, spot_loose}
@@ -38,7 +38,7 @@ module _ (C : Homes → Home → Type 0) (r : Configuration) (s : State) (names 
       upd_second (λ j v. FitsBrigade C (s.brigades j) v) r.instance.brigades b (with_items (taken_out n (items_at r b)) (r.instance.brigades b))
       (full_fits C (s.brigades b) (r.instance.brigades b) (taken_out n (items_at r b)) usable (left_full n b usable)) (λ j differ. f.brigades j)
 
-  unlinked : (c b : ℕ) (t : Classes) → (i : IsIn r (r.call.cursors c) b t) → Fits C (move_bucket c (Loose t (s.brigades b).homes) s) (do_unlink (Within b i.bucket) r)
+  unlinked : (c b : ℕ) (t : Classes) → (i : IsAtBucketOf r (r.call.cursors c) b t) → Fits C (move_bucket c (Loose t (s.brigades b).homes) s) (do_unlink (Within b i.bucket) r)
   unfolding set_brigade set_loose
   unlinked c b t i =
       let x = i.bucket in
@@ -55,7 +55,7 @@ module _ (C : Homes → Home → Type 0) (r : Configuration) (s : State) (names 
         covered = each_named (λ y. C (s.brigades b).homes y.bucket.home) x.name (items_at r b) x i.there (full_of C (s.brigades b) (r.instance.brigades b) i.usable (f.brigades b)).homes;
       })
 
-  deleted_in : (c b : ℕ) (t : Classes) → (i : IsIn r (r.call.cursors c) b t) → Fits C (move_bucket c Unset s) (do_delete (Within b i.bucket) r)
+  deleted_in : (c b : ℕ) (t : Classes) → (i : IsAtBucketOf r (r.call.cursors c) b t) → Fits C (move_bucket c Unset s) (do_delete (Within b i.bucket) r)
   unfolding set_brigade set_loose
   deleted_in c b t i =
       let x = i.bucket in
@@ -66,7 +66,7 @@ module _ (C : Homes → Home → Type 0) (r : Configuration) (s : State) (names 
       (λ m at. finds_kept C m r.call.loose r.call.loose (λ y is. is)))
       tt
 
-  deleted_loose : (c : ℕ) (t : Classes) (h : Homes) → (i : IsLoose C r (r.call.cursors c) t h) → Fits C (move_bucket c Unset s) (do_delete (AtLoose i.bucket) r)
+  deleted_loose : (c : ℕ) (t : Classes) (h : Homes) → (i : IsAtLoose C r (r.call.cursors c) t h) → Fits C (move_bucket c Unset s) (do_delete (AtLoose i.bucket) r)
   unfolding set_loose
   deleted_loose c t h i =
       let x = i.bucket in
@@ -84,8 +84,8 @@ unfolding set_brigade set_loose
 law_unlink {lives = lives} c p choice r s ready = by_known (s.cursors c) refl (first_none (cursor_need InBrigade (s.cursors c)) None ready.met) where
   by_known : (k : CursorKnown) → s.cursors c ≡ k → cursor_need InBrigade k ≡ None → Fits (Covers p (pool_view (do_unlink (spot r c) r)) lives) (move_bucket c (Loose (classes_of k) (homes_at s k)) s) (do_unlink (spot r c) r)
   by_known (In b t) is met =
-      let i : IsIn r (r.call.cursors c) b t = subst (λ (k : CursorKnown). FitsCursor (Covers p (pool_view r) lives) r k (r.call.cursors c)) is (ready.fits.cursors c) in
-      subst (λ (at : Spot). Fits (Covers p (pool_view (do_unlink at r)) lives) (move_bucket c (Loose t (s.brigades b).homes) s) (do_unlink at r)) (sym (spot_in r (r.call.cursors c) b t ready.sound.names i))
+      let i : IsAtBucketOf r (r.call.cursors c) b t = subst (λ (k : CursorKnown). FitsCursor (Covers p (pool_view r) lives) r k (r.call.cursors c)) is (ready.fits.cursors c) in
+      subst (λ (at : Place). Fits (Covers p (pool_view (do_unlink at r)) lives) (move_bucket c (Loose t (s.brigades b).homes) s) (do_unlink at r)) (sym (spot_in r (r.call.cursors c) b t ready.sound.names i))
       (unlinked (Covers p (pool_view r) lives) r s ready.sound.names ready.fits c b t i)
   by_known k is met = absurd (cc)
 
@@ -94,11 +94,11 @@ unfolding set_brigade set_loose
 law_bdelete {lives = lives} c p choice r s ready = by_known (s.cursors c) refl (first_none (cursor_need OnBucket (s.cursors c)) None ready.met) where
   by_known : (k : CursorKnown) → s.cursors c ≡ k → cursor_need OnBucket k ≡ None → Fits (Covers p (pool_view (do_delete (spot r c) r)) lives) (move_bucket c Unset s) (do_delete (spot r c) r)
   by_known (In b t) is met =
-      let i : IsIn r (r.call.cursors c) b t = subst (λ (k : CursorKnown). FitsCursor (Covers p (pool_view r) lives) r k (r.call.cursors c)) is (ready.fits.cursors c) in
-      subst (λ (at : Spot). Fits (Covers p (pool_view (do_delete at r)) lives) (move_bucket c Unset s) (do_delete at r)) (sym (spot_in r (r.call.cursors c) b t ready.sound.names i))
+      let i : IsAtBucketOf r (r.call.cursors c) b t = subst (λ (k : CursorKnown). FitsCursor (Covers p (pool_view r) lives) r k (r.call.cursors c)) is (ready.fits.cursors c) in
+      subst (λ (at : Place). Fits (Covers p (pool_view (do_delete at r)) lives) (move_bucket c Unset s) (do_delete at r)) (sym (spot_in r (r.call.cursors c) b t ready.sound.names i))
       (deleted_in (Covers p (pool_view r) lives) r s ready.sound.names ready.fits c b t i)
   by_known (Loose t h) is met =
-      let i : IsLoose (Covers p (pool_view r) lives) r (r.call.cursors c) t h = subst (λ (k : CursorKnown). FitsCursor (Covers p (pool_view r) lives) r k (r.call.cursors c)) is (ready.fits.cursors c) in
-      subst (λ (at : Spot). Fits (Covers p (pool_view (do_delete at r)) lives) (move_bucket c Unset s) (do_delete at r)) (sym (spot_loose (Covers p (pool_view r) lives) r (r.call.cursors c) t h ready.sound.names i))
+      let i : IsAtLoose (Covers p (pool_view r) lives) r (r.call.cursors c) t h = subst (λ (k : CursorKnown). FitsCursor (Covers p (pool_view r) lives) r k (r.call.cursors c)) is (ready.fits.cursors c) in
+      subst (λ (at : Place). Fits (Covers p (pool_view (do_delete at r)) lives) (move_bucket c Unset s) (do_delete at r)) (sym (spot_loose (Covers p (pool_view r) lives) r (r.call.cursors c) t h ready.sound.names i))
       (deleted_loose (Covers p (pool_view r) lives) r s ready.sound.names ready.fits c t h i)
   by_known k is met = absurd (cc)

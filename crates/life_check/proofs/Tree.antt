@@ -2,18 +2,18 @@
 use Rattle.std.proofs.Common.{◌≡◌, ℕ, zero, suc, ◌+◌, ◌<◌, Bool, true, false, ◌||◌, ◌==◌, ◌∷◌, Some, inl, inr, refl, sym, ◌∙◌, ap, subst, arith, eq-eqb, ne_eqb, eqb-true}
 use Rattle.std.proofs.lemmas.Bool.{ltb-true, cases_lt}
 use Rattle.std.proofs.lemmas.Bool.Decides.{eqb_tells}
-use Rattle.module_lang.specs.declared.instr.PoolRef.{PoolRef}
-use Rattle.module_lang.specs.declared.instr.PoolRef.TheVariants as pool
-use Rattle.module_lang.specs.Program.{Program, IsModule, pool_of_pool}
-use Rattle.run_model.specs.AsDeclared.{AsDeclared}
+use Rattle.module_code.specs.declared.instr.PoolRef.{PoolRef}
+use Rattle.module_code.specs.declared.instr.PoolRef.TheVariants as pool
+use Rattle.module_code.specs.Program.{Program, IsModule, pool_of_pool}
+use Rattle.model_laws.specs.AsDeclared.{AsDeclared}
 use Rattle.run_model.specs.declared.bucket.PoolVar.TheVariants as poolvar
 use Rattle.run_model.specs.Pools.{is_in, is_live, is_under}
 use Rattle.run_model.specs.Sound.{Sound}
 use Rattle.run_model.specs.State.{Configuration, named_at, pool_named}
 use Rattle.run_model.proofs.Formed.{formed_older}
-use Rattle.run_model.proofs.NamedPools.{own_named}
+use Rattle.model_laws.proofs.NamedPools.{own_named}
 use Rattle.run_model.proofs.PoolMap.{not_under}
-use Rattle.run_model.proofs.chains.Apart.{rank, parent_rank, some_is}
+use Rattle.model_laws.proofs.chains.Apart.{rank, parent_rank, some_is}
 use Rattle.run_model.proofs.RunOrderLaws.{under_itself}
 use Rattle.life_state.specs.PoolOrder.{is_same_place, parent_of, under_within, is_under as is_declared_under, is_clearable}
 use Rattle.life_state.proofs.Tests.{or_either, or_right}

@@ -1,13 +1,14 @@
 -- No refusal, and no rule that refuses.
-use Rattle.std.proofs.Common.{◌≡◌, ℕ, zero, suc, ◌<◌, [], ◌∷◌, arith, true, not, nat_lt, nat_le, if◌then◌else◌, List, IsOk, ◌↔◌, length, subst, rules, Option, Some, None, Result, Ok, Err, slice_get, refl, ap, sym, ◌∙◌}
+use Rattle.std.proofs.Common.{◌≡◌, ℕ, zero, suc, ◌<◌, [], ◌∷◌, arith, true, ◌&&◌, not, nat_lt, nat_le, if◌then◌else◌, List, IsOk, ◌↔◌, length, subst, rules, Option, Some, None, Result, Ok, Err, slice_get, refl, ap, sym, ◌∙◌}
 use Rattle.std.proofs.lemmas.Option.{slice_get_within}
-use Rattle.module_lang.specs.declared.instr.Instr.{Instr}
-use Rattle.module_lang.specs.Program.{Program}
+use Rattle.module_code.specs.declared.instr.Instr.{Instr}
+use Rattle.module_code.specs.Program.{Program}
 use Rattle.run_model.specs.declared.fault.FaultKind.{FaultKind}
+use Rattle.life_state.specs.InForm.{is_formed}
 use Rattle.life_state.specs.States.{State}
 use Rattle.life_state.specs.Rules.{Edges, rule}
 use Rattle.life_state.specs.declared.state.State as code
-use Rattle.life_state.proofs.Tests.{split3, all_at}
+use Rattle.life_state.proofs.Tests.{split2, split3, all_at}
 use Rattle.life_check.specs.Seen.{seen_line, seen_cert}
 use Rattle.life_check.specs.declared.cert.Cert.{Cert}
 use Rattle.life_check.specs.declared.refusal.CheckRefusal.{CheckRefusal}
@@ -89,7 +90,8 @@ declared_at p c pc s shape line =
     let m = seen_cert c in
     let lines = (split3 (fits_between p m.idle) (fits_between p m.ready) (fits_lines p m) shape).2 in
     let fits = all_at m.lines pc (λ k. fits_line p k (m.at k)) lines (within c.at.items pc s (slice_get c.at.items pc) refl line) in
-    (split3 (declares p s) (nat_lt pc (length p.code)) (if nat_le p.main pc then has_in s else not (has_in s)) (sym (ap (fits_line p pc) line) ∙ fits)).0
+    let part = if nat_le p.main pc then has_in s else not (has_in s) in
+    (split3 (declares p s) (nat_lt pc (length p.code)) part (split2 (declares p s && nat_lt pc (length p.code) && part) (is_formed s) (sym (ap (fits_line p pc) line) ∙ fits)).0).0
 
 none_past : (xs : List Instr) (i : ℕ) → slice_get xs i ≡ None → i < length xs → ⊥
 none_past [] i e h = omega arith

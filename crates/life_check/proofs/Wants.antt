@@ -2,11 +2,11 @@
 use Rattle.std.proofs.Common.{◌≡◌, ℕ, zero, suc, ◌-◌, ◌<◌, Bool, true, false, ◌&&◌, ◌||◌, not, ◌==◌, nat_le, cond, List, [], ◌∷◌, Option, Some, None, is_some, inl, inr, ⊎_elim, refl, ap, sym, ◌∙◌, subst, arith, eq-eqb, eqb-true}
 use Rattle.std.proofs.lemmas.Bool.{ltb-true, or_parts, cases_eq}
 use Rattle.std.specs.List.{list_any}
-use Rattle.module_lang.specs.declared.instr.Instr.{Instr}
-use Rattle.module_lang.specs.declared.instr.Instr.TheVariants as instr
-use Rattle.module_lang.specs.declared.instr.PoolRef.{PoolRef}
-use Rattle.module_lang.specs.declared.instr.PoolRef.TheVariants as pool
-use Rattle.module_lang.specs.Program.{Program}
+use Rattle.module_code.specs.declared.instr.Instr.{Instr}
+use Rattle.module_code.specs.declared.instr.Instr.TheVariants as instr
+use Rattle.module_code.specs.declared.instr.PoolRef.{PoolRef}
+use Rattle.module_code.specs.declared.instr.PoolRef.TheVariants as pool
+use Rattle.module_code.specs.Program.{Program}
 use Rattle.run_model.specs.declared.bucket.BrigadeVar.{BrigadeVar}
 use Rattle.run_model.specs.declared.bucket.BrigadeVar.TheVariants as var
 use Rattle.run_model.specs.declared.bucket.Cursor.{Cursor}
@@ -27,7 +27,7 @@ use Rattle.run_model.specs.BucketSteps.{items_at}
 use Rattle.run_model.specs.Cursors.{spot_of, bucket_at}
 use Rattle.run_model.specs.Cutting.{length_of}
 use Rattle.run_model.specs.Effects.{value_of}
-use Rattle.run_model.specs.Faults.{Want, WPool, WBrigade, WUsable, WNew, WNewPool, WCursor, WHomes, WHome, WHomeAcross, WSend, WReturn, wants, is_live_named, has_pool_at, brigade_fault, usable_fault, passed_fault, within_fault, end_fault, cursor_fault, Footing, first_fault, new_fault, home_fault, send_fault, is_stray, keeps_stray, fault_want, or_else}
+use Rattle.run_model.specs.Faults.{Want, WPool, WBrigade, WUsable, WNew, WNewPool, WCursor, WHomes, WHome, WHomeAcross, WSend, WReturn, wants, is_live_named, has_pool_at, brigade_fault, usable_fault, passed_fault, within_fault, end_fault, cursor_fault, Need, first_fault, new_fault, home_fault, send_fault, is_stray, keeps_stray, fault_want, or_else}
 use Rattle.run_model.specs.Pools.{Pools, is_empty, is_live}
 use Rattle.run_model.specs.Sound.{SoundNames, SoundPools, Sound}
 use Rattle.run_model.specs.State.{Configuration, PoolView, pool_view, named_at, is_own_at, is_named, name_in, items_of, is_passed}
@@ -42,7 +42,7 @@ use Rattle.life_state.specs.Rules.{cursor_need, pool_need, brigade_need, usable_
 use Rattle.life_state.specs.States.{Homes, is_live_alone, BrigadeKnown, is_live_brigade, is_usable_alone, CursorKnown, Unset, Loose, In, End, InOrEnd, State}
 use Rattle.life_state.proofs.PartsOrder.{content_trans}
 use Rattle.life_state.proofs.Tests.{split2, split3, and2, not_true, or_either, or_left, or_right}
-use Rattle.life_check.specs.Meaning.{CoversPool, ByConnection, ByMember, ByDead, ByCall, Covers, Each, Holds, FitsPool, FitsMark, FitsBrigade, FitsCursor, IsIn, IsEndOf, Fits}
+use Rattle.life_check.specs.Meaning.{CoversPool, ByConnection, ByMember, ByDead, ByCall, Covers, Each, HoldsContents, FitsPool, FitsMark, FitsBrigade, FitsCursor, IsAtBucketOf, IsEndOf, Fits}
 use Rattle.life_check.specs.Soundness.{wants_request, MetIsFaultless}
 use Rattle.life_check.proofs.Orders.{never}
 use Rattle.life_check.proofs.Lists.{each_named, no_late_data, holds_more}
@@ -135,11 +135,11 @@ new_met C v (var.Live x) e h = absurd (never (e.0) h)
 
 -- what is known of the buckets of a brigade that may be used
 pub usable_items : (C : Homes → Home → Type 0) (v : BrigadeKnown) (x : BrigadeVar) → FitsBrigade C v x → usable_fault x ≡ None
-    → Holds v.content (items_of x) × Each (λ y. C v.homes y.bucket.home) (items_of x)
+    → HoldsContents v.content (items_of x) × Each (λ y. C v.homes y.bucket.home) (items_of x)
 usable_items C v var.Null e h = cc
 usable_items C v var.Gone e h = cc
 usable_items C v (var.Live x) e h = by_mark x.mark (e.1) h where
-  by_mark : (m : Mark) → FitsMark C v m x.items → cond (is_passed m) (Some F7) None ≡ None → Holds v.content x.items × Each (λ y. C v.homes y.bucket.home) x.items
+  by_mark : (m : Mark) → FitsMark C v m x.items → cond (is_passed m) (Some F7) None ≡ None → HoldsContents v.content x.items × Each (λ y. C v.homes y.bucket.home) x.items
   by_mark Usable e h = (e.1, e.2)
   by_mark Passed e h = cc
 
@@ -170,14 +170,14 @@ across_alive C h (suc n) (x ∷ xs) ended live e = by_length (nat_le (length_of 
 
 -- What is sent on.
 
-sent_met : (a : Contents) (xs : List NamedBucket) (s : Bool) → content_le a (send_limit s) ≡ true → Holds a xs → (data_after_eos xs || (s && has_data xs)) ≡ false
+sent_met : (a : Contents) (xs : List NamedBucket) (s : Bool) → content_le a (send_limit s) ≡ true → HoldsContents a xs → (data_after_eos xs || (s && has_data xs)) ≡ false
 sent_met a xs true h e =
     let few = holds_more a Flushes xs h e in
     ap (λ b. b || has_data xs) (no_late_data xs (few.1)) ∙ few.0
 sent_met a xs false h e = ap (λ b. b || false) (holds_more a NoLateData xs h e)
 
 -- an EOS was passed only where the state tells so
-pub send_met : (v : BrigadeKnown) (xs : List NamedBucket) (known sent : Bool) → (sent ≡ true → known ≡ true) → content_le v.content (send_limit known) ≡ true → Holds v.content xs
+pub send_met : (v : BrigadeKnown) (xs : List NamedBucket) (known sent : Bool) → (sent ≡ true → known ≡ true) → content_le v.content (send_limit known) ≡ true → HoldsContents v.content xs
     → send_fault sent xs ≡ None
 send_met v xs known true told h e =
     ap (λ b. cond b (Some F8) None) (sent_met v.content xs true (ap (λ b. content_le v.content (send_limit b)) (sym (told refl)) ∙ h) e)
@@ -266,15 +266,15 @@ not_passed (var.Live v) h = h
 both_met : (a b : Option FaultKind) → a ≡ None → b ≡ None → or_else a b ≡ None
 both_met a b h e = ap (λ o. or_else o b) h ∙ e
 
-within_met : (r : Configuration) (f : Footing) (v : Cursor) (b : ℕ) (t : Classes) → SoundNames r → IsIn r v b t → within_fault f b ≡ None → cursor_fault r f (spot_of r v) ≡ None
+within_met : (r : Configuration) (f : Need) (v : Cursor) (b : ℕ) (t : Classes) → SoundNames r → IsAtBucketOf r v b t → within_fault f b ≡ None → cursor_fault r f (spot_of r v) ≡ None
 unfolding cursor_fault
 within_met r f v b t names i h = ap (cursor_fault r f) (spot_in r v b t names i) ∙ both_met (passed_fault (r.instance.brigades b)) (within_fault f b) (not_passed (r.instance.brigades b) i.usable) h
 
-end_met : (r : Configuration) (f : Footing) (v : Cursor) (b : ℕ) → SoundNames r → IsEndOf r v b → end_fault f b ≡ None → cursor_fault r f (spot_of r v) ≡ None
+end_met : (r : Configuration) (f : Need) (v : Cursor) (b : ℕ) → SoundNames r → IsEndOf r v b → end_fault f b ≡ None → cursor_fault r f (spot_of r v) ≡ None
 unfolding cursor_fault
 end_met r f v b names i h = ap (cursor_fault r f) (spot_end r v b names i) ∙ both_met (passed_fault (r.instance.brigades b)) (end_fault f b) (not_passed (r.instance.brigades b) i.usable) h
 
-cursor_met : (C : Homes → Home → Type 0) (r : Configuration) (f : Footing) (k : CursorKnown) (v : Cursor) → SoundNames r → FitsCursor C r k v → cursor_need f k ≡ None
+cursor_met : (C : Homes → Home → Type 0) (r : Configuration) (f : Need) (k : CursorKnown) (v : Cursor) → SoundNames r → FitsCursor C r k v → cursor_need f k ≡ None
     → cursor_fault r f (spot_of r v) ≡ None
 unfolding cursor_fault
 cursor_met C r f Unset v names e h = cc
@@ -288,7 +288,7 @@ cursor_met C r f (InOrEnd b t) v names (inr e) h = end_met r f v b names e ((bot
 found_alive : (C : Homes → Home → Type 0) (h : Homes) (x : NamedBucket) → EndedIsDead C → homes_need h ≡ None → C h x.bucket.home → home_fault (Some x) ≡ None
 found_alive C h x ended live c = ap (λ b. cond b (Some F5) None) (home_met C h x.bucket.home ended (unless_some h.dead F5 live) c)
 
-within_alive : (C : Homes → Home → Type 0) (r : Configuration) (s : State) (v : Cursor) (b : ℕ) (t : Classes) → EndedIsDead C → SoundNames r → Fits C s r → IsIn r v b t
+within_alive : (C : Homes → Home → Type 0) (r : Configuration) (s : State) (v : Cursor) (b : ℕ) (t : Classes) → EndedIsDead C → SoundNames r → Fits C s r → IsAtBucketOf r v b t
     → homes_need (s.brigades b).homes ≡ None → home_fault (bucket_at (spot_of r v)) ≡ None
 within_alive C r s v b t ended names f i h =
     ap (λ at. home_fault (bucket_at at)) (spot_in r v b t names i)
@@ -365,7 +365,7 @@ use_met s b [] met h = cc
 use_met s b (w ∷ ws) met h =
     ⊎_elim (λ (here : is_use b w ≡ true). is_use_met s b w here (met.0)) (λ (later : list_any (is_use b) ws ≡ true). use_met s b ws (met.1) later) (or_either (is_use b w) (list_any (is_use b) ws) h)
 
-set_where : (f : Footing) (k : CursorKnown) → cursor_need f k ≡ None → is_set k ≡ true
+set_where : (f : Need) (k : CursorKnown) → cursor_need f k ≡ None → is_set k ≡ true
 set_where f Unset h = cc
 set_where f k h = refl
 
@@ -379,7 +379,7 @@ standing_met s c (w ∷ ws) met h =
     ⊎_elim (λ (here : is_standing c w ≡ true). is_standing_met s c w here (met.0)) (λ (later : list_any (is_standing c) ws ≡ true). standing_met s c ws (met.1) later) (or_either (is_standing c w) (list_any (is_standing c) ws) h)
 
 module _ (C : Homes → Home → Type 0) (r : Configuration) (s : State) (ended : EndedIsDead C) (tells : CallTells C r) (sound : Sound r) (f : Fits C s r) where
-  items_met : (b : ℕ) → usable_need (s.brigades b) ≡ None → Holds (s.brigades b).content (items_at r b) × Each (λ y. C (s.brigades b).homes y.bucket.home) (items_at r b)
+  items_met : (b : ℕ) → usable_need (s.brigades b) ≡ None → HoldsContents (s.brigades b).content (items_at r b) × Each (λ y. C (s.brigades b).homes y.bucket.home) (items_at r b)
   items_met b h = usable_items C (s.brigades b) (r.instance.brigades b) (f.brigades b) (usable_met C (s.brigades b) (r.instance.brigades b) (f.brigades b) h)
 
   want_met : (before : List Want) (w : Want) → AllMet s before → is_led before w ≡ true → (wants_request (w ∷ []) ≡ true → is_some r.shared.req ≡ true) → need s w ≡ None → fault_want r w ≡ None
@@ -388,7 +388,7 @@ module _ (C : Homes → Home → Type 0) (r : Configuration) (s : State) (ended 
   want_met before (WUsable b) met led asked h = usable_met C (s.brigades b) (r.instance.brigades b) (f.brigades b) h
   want_met before (WNew b) met led asked h = new_met C (s.brigades b) (r.instance.brigades b) (f.brigades b) (unless_some (s.brigades b).live F10 h)
   want_met before (WNewPool q) met led asked h = new_pool_met C r s q f h
-  want_met before (WCursor c footing) met led asked h = cursor_met C r footing (s.cursors c) (r.call.cursors c) sound.names (f.cursors c) h
+  want_met before (WCursor c need) met led asked h = cursor_met C r need (s.cursors c) (r.call.cursors c) sound.names (f.cursors c) h
   want_met before (WHomes b) met led asked h =
       ap (λ x. cond x (Some F5) None) (none_dead C (s.brigades b).homes (items_at r b) ended (unless_some (s.brigades b).homes.dead F5 h) ((items_met b (use_met s b before met led)).1))
   want_met before (WHome c) met led asked h = home_at_met C r s (s.cursors c) (r.call.cursors c) ended sound.names f (f.cursors c) (standing_met s c before met led) h

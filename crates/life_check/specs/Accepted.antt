@@ -1,7 +1,7 @@
 -- When a chain is accepted: each module with its certificate.
 use Rattle.std.specs.Prelude.{◌≡◌, ℕ, ◌≤◌, List, length, map, take, All, Some, slice_get}
-use Rattle.module_lang.specs.Program.{Program, IsModule}
-use Rattle.run_model.specs.ChainLaws.{IsChain}
+use Rattle.module_code.specs.Program.{Program, IsModule}
+use Rattle.run_model.specs.Chains.{IsChain}
 use Rattle.life_check.specs.declared.cert.Cert.{Cert}
 use Rattle.life_check.specs.declared.refusal.ChainRefusal.{ChainRefusal}
 use Rattle.life_check.specs.declared.refusal.ChainRefusal.TheVariants.{At, NoMemory}
@@ -11,22 +11,22 @@ use Rattle.life_check.specs.Seen.{seen_cert}
 use Rattle.life_check.specs.Typed.{IsTyped, first_refusal}
 
 -- a module with its certificate
-abbrev pub Part : Type 0
-Part = Program × Cert
+abbrev pub CertifiedModule : Type 0
+CertifiedModule = Program × Cert
 
-abbrev pub modules_of : List Part → List Program
-modules_of parts = map (λ (x : Part). x.0) parts
+abbrev pub modules_of : List CertifiedModule → List Program
+modules_of parts = map (λ (x : CertifiedModule). x.0) parts
 
-abbrev pub IsAccepted : Part → Type 0
+abbrev pub IsAccepted : CertifiedModule → Type 0
 IsAccepted x = IsTyped x.0 (seen_cert x.1)
 
 -- The module at the index is refused, as the first; or all are accepted.
-abbrev pub IsChainRefusal : List Part → ChainRefusal → Type 0
-IsChainRefusal parts (At index refusal) = (x : Part) × (slice_get parts index ≡ Some x) × (first_refusal x.0 (seen_cert x.1) ≡ Some refusal) × All IsAccepted (take index parts)
+abbrev pub IsChainRefusal : List CertifiedModule → ChainRefusal → Type 0
+IsChainRefusal parts (At index refusal) = (x : CertifiedModule) × (slice_get parts index ≡ Some x) × (first_refusal x.0 (seen_cert x.1) ≡ Some refusal) × All IsAccepted (take index parts)
 IsChainRefusal parts NoMemory = All IsAccepted parts
 
 -- what is known of a module that was accepted
-pub record IsChecked (x : Part) : Type 0 where
+pub record IsChecked (x : CertifiedModule) : Type 0 where
   pub proper : IsModule x.0
   pub bounded : AllBounded (seen_cert x.1)
   pub typed : IsTyped x.0 (seen_cert x.1)

@@ -2,8 +2,8 @@
 -- fits what is known of it between calls.
 use Rattle.std.specs.Prelude.{◌≡◌, ◌⊎◌, ℕ, ◌+◌, ◌<◌, ◌==◌, Bool, true, false, if◌then◌else◌, List, [], ◌∷◌, length, Option, Some, None, slice_get}
 use Rattle.std.specs.List.{list_any}
-use Rattle.module_lang.specs.Program.{Program}
-use Rattle.module_lang.specs.declared.instr.Instr.TheVariants as instr
+use Rattle.module_code.specs.Program.{Program}
+use Rattle.module_code.specs.declared.instr.Instr.TheVariants as instr
 use Rattle.run_model.specs.declared.bucket.Brigade.{Brigade}
 use Rattle.run_model.specs.declared.bucket.BrigadeVar.TheVariants as var
 use Rattle.run_model.specs.declared.bucket.Mark.TheVariants.{Passed}
@@ -41,13 +41,13 @@ abbrev pub FitsFrame : List Program → Common → Connection → State → Fram
 FitsFrame chain g c s f rest = Fits (Covers (module_at chain f.of) (pool_view (configuration g c f)) (Lives c f rest)) s (configuration g c f)
 
 -- The call on top stands at an instruction whose state it fits.
-pub record Runs (chain : List Program) (certs : ℕ → Certificate) (g : Common) (c : Connection) (f : Frame) (rest : List Frame) : Type 0 where
+pub record TopFits (chain : List Program) (certs : ℕ → Certificate) (g : Common) (c : Connection) (f : Frame) (rest : List Frame) : Type 0 where
   pub state : State
   pub given : (certs f.of).at f.pc ≡ Some state
   pub fits : FitsFrame chain g c state f rest
 
 -- A call that waits stands at its pass, whose brigade is passed. What is known of it then flows to both places where it may go on.
-pub record Waits (chain : List Program) (certs : ℕ → Certificate) (g : Common) (c : Connection) (w : Frame) (rest : List Frame) : Type 0 where
+pub record WaitingFits (chain : List Program) (certs : ℕ → Certificate) (g : Common) (c : Connection) (w : Frame) (rest : List Frame) : Type 0 where
   pub passes : ℕ
   pub to : ℕ
   pub at : slice_get (module_at chain w.of).code w.pc ≡ Some (instr.Pass passes to)
@@ -60,11 +60,11 @@ pub record Waits (chain : List Program) (certs : ℕ → Certificate) (g : Commo
 
 unfoldable pub AllWait : List Program → (ℕ → Certificate) → Common → Connection → List Frame → Type 0
 AllWait chain certs g c [] = Unit {0}
-AllWait chain certs g c (w ∷ rest) = Waits chain certs g c w rest × AllWait chain certs g c rest
+AllWait chain certs g c (w ∷ rest) = WaitingFits chain certs g c w rest × AllWait chain certs g c rest
 
 abbrev pub StackStands : List Program → (ℕ → Certificate) → Common → Connection → List Frame → Type 0
 StackStands chain certs g c [] = Unit {0}
-StackStands chain certs g c (f ∷ rest) = Runs chain certs g c f rest × AllWait chain certs g c rest
+StackStands chain certs g c (f ∷ rest) = TopFits chain certs g c f rest × AllWait chain certs g c rest
 
 -- What is known of an instance between calls: without a request, and in one; and where its `open`, or its `init`, is still to run.
 

@@ -1,11 +1,10 @@
 -- The lifetime theorem for chains: where each module of a chain is typed, no run of any number of connections answers a fault.
 use Rattle.std.specs.Prelude.{ℕ, ◌<◌, List, [], ◌∷◌, length}
-use Rattle.module_lang.specs.Program.{Program}
+use Rattle.module_code.specs.Program.{Program}
 use Rattle.run_model.specs.declared.event.Event.{Event}
 use Rattle.run_model.specs.declared.event.Stepped.TheVariants as stepped
-use Rattle.run_model.specs.Chains.{module_at}
+use Rattle.run_model.specs.Chains.{module_at, IsChain}
 use Rattle.run_model.specs.Worlds.{World, Answer, Done, Refused, Connected, Step, Output, Opened, Labels, Tree, empty_world, IsRun}
-use Rattle.run_model.specs.ChainLaws.{IsChain}
 use Rattle.life_check.specs.Certificates.{Certificate, AllBounded}
 use Rattle.life_check.specs.Typed.{IsTyped}
 

@@ -1,11 +1,11 @@
 -- Worked certificates, by hand, of the module that passes on what it gets until an EOS was passed, and drops it from then on; and
 -- which modules never fault.
 use Rattle.std.specs.Prelude.{◌≡◌, true, false, List, [], ◌∷◌, Option, Some, None, slice_index_or, length}
-use Rattle.run_model.specs.Examples.{never_creates}
-use Rattle.life_state.specs.declared.parts.Contents.TheVariants.{Empty}
+use Rattle.model_laws.specs.Examples.{never_creates}
+use Rattle.life_state.specs.declared.parts.Contents.TheVariants.{Empty, Any}
 use Rattle.life_state.specs.States.{no_homes, holds, passed_on, State}
 use Rattle.life_state.specs.Examples.{identity, resting, serving, brought}
-use Rattle.life_check.specs.declared.refusal.Rule.TheVariants.{Entry, Flow, Exit}
+use Rattle.life_check.specs.declared.refusal.Rule.TheVariants.{Shape, Entry, Flow, Exit}
 use Rattle.life_check.specs.Certificates.{Certificate}
 use Rattle.life_check.specs.ChainTheorem.{ChainNeverFaults}
 use Rattle.life_check.specs.Typed.{refusal, first_refusal}
@@ -28,6 +28,8 @@ pub record IdentityAnswers : Type 0 where
   pub accepted : first_refusal identity (given (resting true) whole) ≡ None
   -- the `pass` leads to line 4
   pub unreached : first_refusal identity (given (resting true) (begun (None ∷ ended))) ≡ Some (refusal 3 Flow)
+  -- a passed brigade has no contents: no text says so
+  pub out_of_form : first_refusal identity (given (resting true) (begun (Some (serving true (record passed_on { content = Any })) ∷ ended))) ≡ Some (refusal 0 Shape)
   -- after the `pass` an EOS may have been passed
   pub no_eos : first_refusal identity (given (resting false) whole) ≡ Some (refusal 4 Exit)
   -- `open`'s first instruction has no state

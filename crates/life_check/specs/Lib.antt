@@ -1,4 +1,4 @@
-pub use Rattle.module_lang.specs.Program
+pub use Rattle.module_code.specs.Program
 pub use Rattle.life_state.specs.Rules
 pub mod Certificates
 pub mod Seen

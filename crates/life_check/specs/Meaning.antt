@@ -1,7 +1,7 @@
 -- What a state means: which instances and calls it describes.
 use Rattle.std.specs.Prelude.{◌≡◌, ◌⊎◌, ℕ, Bool, true, false, if◌then◌else◌, List, [], ◌∷◌, Option, Some, None}
-use Rattle.module_lang.specs.Program.{Program}
-use Rattle.module_lang.specs.declared.instr.PoolRef.{PoolRef}
+use Rattle.module_code.specs.Program.{Program}
+use Rattle.module_code.specs.declared.instr.PoolRef.{PoolRef}
 use Rattle.run_model.specs.declared.bucket.BrigadeVar.{BrigadeVar}
 use Rattle.run_model.specs.declared.bucket.BrigadeVar.TheVariants as var
 use Rattle.run_model.specs.declared.bucket.Cursor.{Cursor}
@@ -78,12 +78,12 @@ Each P [] = Unit {0}
 Each P (x ∷ xs) = P x × Each P xs
 
 -- what may stand in a brigade of these contents
-abbrev pub Holds : Contents → List NamedBucket → Type 0
-Holds Empty xs = xs ≡ []
-Holds Flushes xs = (has_data xs ≡ false) × (has_eos xs ≡ false)
-Holds NoEos xs = has_eos xs ≡ false
-Holds NoLateData xs = data_after_eos xs ≡ false
-Holds Any xs = Unit {0}
+abbrev pub HoldsContents : Contents → List NamedBucket → Type 0
+HoldsContents Empty xs = xs ≡ []
+HoldsContents Flushes xs = (has_data xs ≡ false) × (has_eos xs ≡ false)
+HoldsContents NoEos xs = has_eos xs ≡ false
+HoldsContents NoLateData xs = data_after_eos xs ≡ false
+HoldsContents Any xs = Unit {0}
 
 -- Variables. C h x: the homes h cover the home x.
 
@@ -92,7 +92,7 @@ FitsPool ps s poolvar.Null = s.null ≡ true
 FitsPool ps s (poolvar.Made n) = (if is_live ps n then s.live else s.gone) ≡ true
 
 abbrev pub FitsMark : (Homes → Home → Type 0) → BrigadeKnown → Mark → List NamedBucket → Type 0
-FitsMark C s Usable xs = (s.usable ≡ true) × Holds s.content xs × Each (λ x. C s.homes x.bucket.home) xs
+FitsMark C s Usable xs = (s.usable ≡ true) × HoldsContents s.content xs × Each (λ x. C s.homes x.bucket.home) xs
 FitsMark C s Passed xs = s.passed ≡ true
 
 abbrev pub FitsBrigade : (Homes → Home → Type 0) → BrigadeKnown → BrigadeVar → Type 0
@@ -103,7 +103,7 @@ FitsBrigade C s (var.Live v) = (s.live ≡ true) × FitsMark C s v.mark v.items
 -- Cursors.
 
 -- at a loose bucket
-pub record IsLoose (C : Homes → Home → Type 0) (r : Configuration) (v : Cursor) (t : Classes) (h : Homes) : Type 0 where
+pub record IsAtLoose (C : Homes → Home → Type 0) (r : Configuration) (v : Cursor) (t : Classes) (h : Homes) : Type 0 where
   pub bucket : NamedBucket
   pub at : v ≡ cursor.At bucket.name
   pub there : bucket_named bucket.name r.call.loose ≡ Some bucket
@@ -111,7 +111,7 @@ pub record IsLoose (C : Homes → Home → Type 0) (r : Configuration) (v : Curs
   pub covered : C h bucket.bucket.home
 
 -- at a bucket of the brigade of b, which may be used
-pub record IsIn (r : Configuration) (v : Cursor) (b : ℕ) (t : Classes) : Type 0 where
+pub record IsAtBucketOf (r : Configuration) (v : Cursor) (b : ℕ) (t : Classes) : Type 0 where
   pub bucket : NamedBucket
   pub at : v ≡ cursor.At bucket.name
   pub there : bucket_named bucket.name (items_at r b) ≡ Some bucket
@@ -127,10 +127,10 @@ pub record IsEndOf (r : Configuration) (v : Cursor) (b : ℕ) : Type 0 where
 
 abbrev pub FitsCursor : (Homes → Home → Type 0) → Configuration → CursorKnown → Cursor → Type 0
 FitsCursor C r Unset v = Unit {0}
-FitsCursor C r (Loose t h) v = IsLoose C r v t h
-FitsCursor C r (In b t) v = IsIn r v b t
+FitsCursor C r (Loose t h) v = IsAtLoose C r v t h
+FitsCursor C r (In b t) v = IsAtBucketOf r v b t
 FitsCursor C r (End b) v = IsEndOf r v b
-FitsCursor C r (InOrEnd b t) v = IsIn r v b t ⊎ IsEndOf r v b
+FitsCursor C r (InOrEnd b t) v = IsAtBucketOf r v b t ⊎ IsEndOf r v b
 
 -- two cursors are not at one bucket
 abbrev pub Differ : Cursor → Cursor → Type 0

@@ -1,18 +1,18 @@
 -- The laws of single steps: where a state describes a configuration and no need of an instruction fails in it, the step has no
 -- fault, and the state on the edge that it takes describes what it leaves.
 use Rattle.std.specs.Prelude.{◌≡◌, ◌⊎◌, ℕ, Bool, true, false, List, [], ◌∷◌, Option, Some, None, is_some}
-use Rattle.module_lang.specs.Program.{Program, IsModule, fits}
-use Rattle.module_lang.specs.declared.instr.Instr.{Instr}
-use Rattle.module_lang.specs.declared.instr.PoolRef.{PoolRef}
-use Rattle.module_lang.specs.declared.instr.PoolRef.TheVariants as pool
-use Rattle.run_model.specs.AsDeclared.{AsDeclared}
+use Rattle.module_code.specs.Program.{Program, IsModule, fits}
+use Rattle.module_code.specs.declared.instr.Instr.{Instr}
+use Rattle.module_code.specs.declared.instr.PoolRef.{PoolRef}
+use Rattle.module_code.specs.declared.instr.PoolRef.TheVariants as pool
+use Rattle.model_laws.specs.AsDeclared.{AsDeclared}
 use Rattle.run_model.specs.declared.bucket.Home.{Home}
 use Rattle.run_model.specs.declared.bucket.Home.TheVariants as home
 use Rattle.run_model.specs.declared.bucket.PoolVar.TheVariants as poolvar
 use Rattle.run_model.specs.declared.event.Exit.{Exit}
 use Rattle.run_model.specs.declared.event.Exit.TheVariants.{GoOn, Jump, Return}
 use Rattle.run_model.specs.Faults.{Want, WPool, wants, fault, is_stray}
-use Rattle.run_model.specs.Laws.{MayExecute}
+use Rattle.model_laws.specs.Laws.{MayExecute}
 use Rattle.run_model.specs.Pools.{is_live, is_under}
 use Rattle.run_model.specs.Sound.{Sound}
 use Rattle.run_model.specs.State.{Configuration, pool_view, pool_named}
@@ -25,14 +25,14 @@ use Rattle.life_state.specs.Bounded.{IsBounded}
 
 -- What lives through a call is outside the instance. stays: a pool of the instance has none of it under it. over: what lives and
 -- stands above a place of the instance is the request's pool or the connection's. this: the call itself lives.
-pub record Outside (r : Configuration) (lives : Home → Type 0) : Type 0 where
+pub record LivesOutside (r : Configuration) (lives : Home → Type 0) : Type 0 where
   pub stays : (q n m : ℕ) → r.instance.pools q ≡ poolvar.Made n → is_live r.shared.pools n ≡ true → lives (home.Pool m) → is_under r.shared.pools n m ≡ false
   pub over : (k : PoolRef) (target m : ℕ) → pool_named r k ≡ Some target → lives (home.Pool m) → is_under r.shared.pools m target ≡ true → (r.shared.req ≡ Some m) ⊎ (m ≡ r.shared.conn)
   pub this : lives (home.Call r.call.name)
 
 -- what lives by a test
-abbrev pub IsToldBy : (Home → Bool) → Home → Type 0
-IsToldBy lives x = lives x ≡ true
+abbrev pub LivesByTest : (Home → Bool) → Home → Type 0
+LivesByTest lives x = lives x ≡ true
 
 abbrev pub FitsSome : (Homes → Home → Type 0) → Option State → Configuration → Type 0
 FitsSome C None r = ⊥
@@ -46,8 +46,8 @@ Lands lives p e s Jump r = FitsSome (Covers p (pool_view r) lives) e.jump r
 Lands lives p e s Return r = Fits (Between p r) (at_return s) r
 
 -- An instruction whose needs are met, in a configuration that the state describes.
-pub record Ready (lives : Home → Type 0) (p : Program) (i : Instr) (r : Configuration) (s : State) : Type 0 where
-  pub outside : Outside r lives
+pub record MeetsNeeds (lives : Home → Type 0) (p : Program) (i : Instr) (r : Configuration) (s : State) : Type 0 where
+  pub outside : LivesOutside r lives
   pub may : MayExecute p r i
   pub sound : Sound r
   pub declared : AsDeclared p r
@@ -56,7 +56,7 @@ pub record Ready (lives : Home → Type 0) (p : Program) (i : Instr) (r : Config
 
 -- the law of one instruction
 abbrev pub LawOf : (Home → Type 0) → Instr → Type 0
-LawOf lives i = (p : Program) (choice : Choice) (r : Configuration) (s : State) → Ready lives p i r s → Lands lives p (edges p i s) s (step p choice i r).exit (step p choice i r).state
+LawOf lives i = (p : Program) (choice : Choice) (r : Configuration) (s : State) → MeetsNeeds lives p i r s → Lands lives p (edges p i s) s (step p choice i r).exit (step p choice i r).state
 
 abbrev pub StepLands : (Home → Type 0) → Type 0
 StepLands lives = (i : Instr) → LawOf lives i

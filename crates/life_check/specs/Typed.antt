@@ -1,12 +1,13 @@
 -- When a module is accepted with a certificate. No state is below none. An edge that cannot be taken, and an idle or ready that is
 -- none, ask for nothing.
 use Rattle.std.specs.Prelude.{◌≡◌, ℕ, zero, suc, ◌+◌, Bool, true, false, ◌&&◌, not, ◌==◌, nat_lt, nat_le, if◌then◌else◌, length, Option, Some, None, Result, Ok, Err, slice_get, unwrap_or}
-use Rattle.module_lang.specs.declared.instr.Instr.{Instr}
-use Rattle.module_lang.specs.declared.instr.Instr.TheVariants as instr
-use Rattle.module_lang.specs.Program.{Program, target}
+use Rattle.module_code.specs.declared.instr.Instr.{Instr}
+use Rattle.module_code.specs.declared.instr.Instr.TheVariants as instr
+use Rattle.module_code.specs.Program.{Program, target}
 use Rattle.run_model.specs.declared.fault.FaultKind.{FaultKind}
 use Rattle.life_state.specs.States.{State}
 use Rattle.life_state.specs.Facts.{is_set}
+use Rattle.life_state.specs.InForm.{is_formed}
 use Rattle.life_state.specs.Order.{all_below, leq}
 use Rattle.life_state.specs.Rules.{Edges, rule, at_open, at_main, at_return, at_end_of_request}
 use Rattle.life_check.specs.declared.refusal.CheckRefusal.{CheckRefusal}
@@ -24,7 +25,7 @@ abbrev pub flows : Option State → Option State → Bool
 flows None t = true
 flows (Some s) t = is_below s t
 
--- The shape.
+-- The shape. Each state is in form.
 
 -- the state is of the module's variables
 abbrev pub declares : Program → State → Bool
@@ -40,12 +41,12 @@ has_no_cursor s = all_below 9 (λ k. not (is_set (s.cursors k)))
 -- between calls there is neither `in` nor a cursor
 abbrev pub fits_between : Program → Option State → Bool
 fits_between p None = true
-fits_between p (Some s) = declares p s && not (has_in s) && has_no_cursor s
+fits_between p (Some s) = declares p s && not (has_in s) && has_no_cursor s && is_formed s
 
 -- a line is for an instruction, and has `in` exactly in `main`
 abbrev pub fits_line : Program → ℕ → Option State → Bool
 fits_line p pc None = true
-fits_line p pc (Some s) = declares p s && nat_lt pc (length p.code) && (if nat_le p.main pc then has_in s else not (has_in s))
+fits_line p pc (Some s) = declares p s && nat_lt pc (length p.code) && (if nat_le p.main pc then has_in s else not (has_in s)) && is_formed s
 
 abbrev pub fits_lines : Program → Certificate → Bool
 fits_lines p c = all_below c.lines (λ pc. fits_line p pc (c.at pc))

@@ -7,7 +7,7 @@ ghost use Rattle.life_check.specs.ChainTheorem.{ChainNeverFaults};
 use crate::cert::Cert;
 use crate::checked::check_all;
 use crate::refusal::ChainRefusal;
-use module_lang::Module;
+use module_code::Module;
 use std::alloc::{AllocError, Global};
 use std::marker::Model;
 
@@ -19,7 +19,7 @@ pub struct CheckedChain {
 
 impl Model for CheckedChain {
     ghost use Rattle.std.specs.Prelude.{List};
-    ghost use Rattle.module_lang.specs.Program.{Program};
+    ghost use Rattle.module_code.specs.Program.{Program};
     ghost use Rattle.life_check.specs.Accepted.{IsCheckedChain};
 
     ghost Value = { List Program };

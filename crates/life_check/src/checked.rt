@@ -1,9 +1,9 @@
 //! The check of a certificate.
 
 ghost use Rattle.std.specs.Prelude.{◌≤◌, ◌↔◌, ◌∷◌, [], length, IsOk};
-ghost use Rattle.module_lang.specs.Program.{IsModule};
+ghost use Rattle.module_code.specs.Program.{IsModule};
 ghost use Rattle.life_check.specs.Seen.{seen_cert};
-ghost use Rattle.life_check.specs.Certificates.{AllBounded};
+ghost use Rattle.life_check.specs.Certificates.{AllBounded, AreFormed};
 ghost use Rattle.life_check.specs.ChainTheorem.{ChainNeverFaults};
 ghost use Rattle.life_check.specs.Typed.{entry_refusal, first_refusal, IsAnswer, IsTyped};
 
@@ -12,7 +12,7 @@ use crate::entries::{inits, opens, requests, serves};
 use crate::lines::{check_lines, unless};
 use crate::refusal::{CheckRefusal, Rule};
 use crate::shape::has_shape;
-use module_lang::Module;
+use module_code::Module;
 
 fn check_entries(code: &Module, cert: &Cert) -> Result<(), CheckRefusal>
     ensures first { IsAnswer (entry_refusal code.now (seen_cert cert.now)) result }
@@ -27,6 +27,7 @@ fn check_entries(code: &Module, cert: &Cert) -> Result<(), CheckRefusal>
 pub(crate) fn check_all(code: &Module, cert: &Cert) -> Result<(), CheckRefusal>
     ensures first { IsAnswer (first_refusal code.now (seen_cert cert.now)) result }
     ensures bounded { IsOk result → AllBounded (seen_cert cert.now) }
+    ensures formed { IsOk result → AreFormed (seen_cert cert.now) }
     ensures proper { IsOk result → IsModule code.now }
 {
     let shaped = has_shape(code, cert);
@@ -42,13 +43,14 @@ pub(crate) fn check_all(code: &Module, cert: &Cert) -> Result<(), CheckRefusal>
 }
 
 /// Whether the states of a certificate follow from one another by the rules, so that no instruction has a fault: Ok exactly where
-/// no rule refuses. Else the first refusal: by the shape of the states; where a handler begins; at the lowest instruction with a
+/// no rule refuses, and then each state is in form. Else the first refusal: by the shape of the states; where a handler begins; at the lowest instruction with a
 /// state by a fault that it may have, by where it leads, or by what it leaves where it returns; at the end of the request. It
 /// takes no memory. No run of a chain that is this module alone answers a fault, on however many connections, and whatever is found
 /// and read, or cannot be.
 pub fn check(code: &Module, cert: &Cert) -> Result<(), CheckRefusal>
     ensures first { IsAnswer (first_refusal code.now (seen_cert cert.now)) result }
     ensures accepts { IsOk result ↔ IsTyped code.now (seen_cert cert.now) }
+    ensures formed { IsOk result → AreFormed (seen_cert cert.now) }
     ensures safe { IsOk result → ChainNeverFaults (code.now ∷ []) }
 {
     check_all(code, cert)

@@ -7,7 +7,7 @@ ghost use Rattle.life_check.specs.Typed.{is_below, flows, main_from, fits_betwee
 
 use crate::cert::Cert;
 use life_state::{State, at_end_of_request, at_main, at_open, leq};
-use module_lang::Module;
+use module_code::Module;
 
 /// Whether the state is below the one that is given; none is below none.
 pub(crate) fn is_below(state: &State, given: Option<State>) -> bool

@@ -1,13 +1,13 @@
 //! Laws of the definitions. Each function does nothing: what its contract says holds of the definitions alone.
 
 ghost use Rattle.std.specs.Prelude.{Bool};
-ghost use Rattle.module_lang.specs.Program.{Program};
+ghost use Rattle.module_code.specs.Program.{Program};
 ghost use Rattle.run_model.specs.declared.bucket.Home.{Home};
 ghost use Rattle.run_model.specs.State.{PoolView};
 ghost use Rattle.life_check.specs.ChainTheorem.{TypedChainNeverFaults};
 ghost use Rattle.life_check.specs.Examples.{FaultRows, IdentityAnswers};
 ghost use Rattle.life_check.specs.Meaning.{Covers};
-ghost use Rattle.life_check.specs.Soundness.{IsToldBy, StepLands, MetIsFaultless, GreaterFits, RequestEndLands};
+ghost use Rattle.life_check.specs.Soundness.{LivesByTest, StepLands, MetIsFaultless, GreaterFits, RequestEndLands};
 
 /// Certificates worked out by hand, of a module that passes on what it gets; a module that never faults, and one that does.
 pub fn worked_certificates()
@@ -25,8 +25,8 @@ pub fn typed_chains_never_fault()
 /// takes. Where no need fails, there is no fault. A greater state describes what a lesser one does. The state after the end of a
 /// request describes what that leaves.
 pub fn rules_are_sound()
-    ensures steps { (lives : Home → Bool) → StepLands (IsToldBy lives) }
-    ensures needs { (lives : Home → Bool) (p : Program) (v : PoolView) → MetIsFaultless (Covers p v (IsToldBy lives)) }
-    ensures greater { (lives : Home → Bool) → GreaterFits (IsToldBy lives) }
+    ensures steps { (lives : Home → Bool) → StepLands (LivesByTest lives) }
+    ensures needs { (lives : Home → Bool) (p : Program) (v : PoolView) → MetIsFaultless (Covers p v (LivesByTest lives)) }
+    ensures greater { (lives : Home → Bool) → GreaterFits (LivesByTest lives) }
     ensures ends { RequestEndLands }
 {}

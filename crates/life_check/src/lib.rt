@@ -8,11 +8,7 @@ mod entries;
 pub mod laws;
 mod lines;
 mod refusal;
-#[cfg(test)]
-mod refused_tests;
 mod shape;
-#[cfg(test)]
-mod tests;
 
 pub use cert::Cert;
 pub use chain::{CheckedChain, accept_chain};

@@ -1,8 +1,8 @@
 //! What instructions lead to.
 
 ghost use Rattle.std.specs.Prelude.{◌≡◌, ◌<◌, ◌+◌, true, length, Some, slice_get, unwrap_or};
-ghost use Rattle.module_lang.specs.declared.instr.Instr as instr;
-ghost use Rattle.module_lang.specs.Program.{IsModule, target};
+ghost use Rattle.module_code.specs.declared.instr.Instr as instr;
+ghost use Rattle.module_code.specs.Program.{IsModule, target};
 ghost use Rattle.life_state.specs.Rules.{rule};
 ghost use Rattle.life_state.specs.Seen.{seen, seen_some, seen_edges, seen_answer};
 ghost use Rattle.life_check.specs.Seen.{seen_cert};
@@ -12,7 +12,7 @@ use crate::cert::Cert;
 use crate::entries::{flows, is_below};
 use crate::refusal::{CheckRefusal, Rule};
 use life_state::{State, Successors, after, at_return};
-use module_lang::{Instr, Module};
+use module_code::{Instr, Module};
 use run_model::FaultKind;
 
 /// The instruction that an instruction names as its target; 0 where it names none.

@@ -1,16 +1,17 @@
-//! Whether states are those of a module's variables, and stand where they may.
+//! Whether states are in form and of a module's variables, and stand where they may.
 
-ghost use Rattle.std.specs.Prelude.{◌≡◌, ℕ, true, nat_le, not, if◌then◌else◌};
+ghost use Rattle.std.specs.Prelude.{◌≡◌, ℕ, true, nat_le, not, if◌then◌else◌, IfSome};
+ghost use Rattle.life_state.specs.Form.{IsFormed};
 ghost use Rattle.life_state.specs.Facts.{is_set};
 ghost use Rattle.life_state.specs.Seen.{seen, seen_cursor, seen_some};
 ghost use Rattle.life_check.specs.Seen.{seen_cert};
-ghost use Rattle.life_check.specs.Certificates.{AllBounded, IsBoundedSome};
+ghost use Rattle.life_check.specs.Certificates.{AllBounded, AreFormed, IsBoundedSome};
 ghost use Rattle.life_check.specs.Typed.{declares, has_in, has_no_cursor, fits_between, fits_line, fits_lines, has_shape};
 
 use crate::cert::Cert;
 use life_state::laws::states_are_bounded;
 use life_state::{CursorState, State};
-use module_lang::Module;
+use module_code::Module;
 
 fn declares(code: &Module, state: &State) -> bool
     ensures { result ≡ declares code.now (seen state.now) }
@@ -51,12 +52,14 @@ fn has_no_cursor(state: &State) -> bool
 fn fits_between(code: &Module, state: Option<State>) -> bool
     ensures value { result ≡ fits_between code.now (seen_some state) }
     ensures bounded { IsBoundedSome (seen_some state) }
+    ensures formed { result ≡ true → IfSome (seen_some state) IsFormed }
 {
     match state {
         None => true,
         Some(state) => {
             states_are_bounded(&state);
-            declares(code, &state) & !has_in(&state) & has_no_cursor(&state)
+            let fits = declares(code, &state) & !has_in(&state) & has_no_cursor(&state);
+            fits & state.is_formed()
         }
     }
 }
@@ -74,12 +77,16 @@ fn stands_in_part(code: &Module, pc: usize, state: &State) -> bool
 fn fits_line(code: &Module, pc: usize, state: Option<State>) -> bool
     ensures value { result ≡ fits_line code.now pc (seen_some state) }
     ensures bounded { IsBoundedSome (seen_some state) }
+    ensures formed { result ≡ true → IfSome (seen_some state) IsFormed }
 {
     match state {
         None => true,
         Some(state) => {
             states_are_bounded(&state);
-            declares(code, &state) & (pc < code.len()) & stands_in_part(code, pc, &state)
+            let stands = declares(code, &state)
+                & (pc < code.len())
+                & stands_in_part(code, pc, &state);
+            stands & state.is_formed()
         }
     }
 }
@@ -87,6 +94,7 @@ fn fits_line(code: &Module, pc: usize, state: Option<State>) -> bool
 fn fits_lines(code: &Module, cert: &Cert) -> bool
     ensures value { result ≡ fits_lines code.now (seen_cert cert.now) }
     ensures bounded { result ≡ true → (pc : ℕ) → IsBoundedSome ((seen_cert cert.now).at pc) }
+    ensures formed { result ≡ true → (pc : ℕ) → IfSome ((seen_cert cert.now).at pc) IsFormed }
 {
     for pc in 0..cert.at.len() {
         let fits = fits_line(code, pc, cert.state(pc));
@@ -100,6 +108,7 @@ fn fits_lines(code: &Module, cert: &Cert) -> bool
 pub(crate) fn has_shape(code: &Module, cert: &Cert) -> bool
     ensures value { result ≡ has_shape code.now (seen_cert cert.now) }
     ensures bounded { result ≡ true → AllBounded (seen_cert cert.now) }
+    ensures formed { result ≡ true → AreFormed (seen_cert cert.now) }
 {
     fits_between(code, cert.idle) & fits_between(code, cert.ready) & fits_lines(code, cert)
 }

@@ -1,13 +1,13 @@
 //! A refusal with what is known around it, and lines that might be written.
 
 use crate::doubt::{Doubt, home_of};
-use crate::flow::{Place, Refusal, instr_at};
+use crate::flow::{FlowRefusal, StatePlace, instr_at};
 use crate::pattern::{Pattern, pattern_of};
 use crate::source::{Edit, Source, copied};
 use crate::trail::{Origin, Trail};
 use life_check::Cert;
 use life_state::{Classes, CursorState, State};
-use module_lang::{Instr, Module, PoolRef};
+use module_code::{Instr, Module, PoolRef};
 use std::alloc::{AllocError, Global};
 
 /// A refusal with what is known around it.
@@ -18,7 +18,7 @@ pub struct Case<'a> {
     pub code: &'a Module,
     pub states: &'a Cert,
     pub trail: &'a Trail,
-    pub refusal: Refusal,
+    pub refusal: FlowRefusal,
 }
 
 /// Edits that might make an end of a refusal.
@@ -72,7 +72,7 @@ impl Case<'_> {
     /// The instruction that made it so, with its number.
     pub fn maker(&self) -> Option<(usize, Instr)> {
         match self.trail.origin {
-            Origin::Made(Place::At(pc)) => Some((pc, instr_at(self.code, pc)?)),
+            Origin::Made(StatePlace::At(pc)) => Some((pc, instr_at(self.code, pc)?)),
             _ => None,
         }
     }

@@ -1,12 +1,12 @@
 //! What a certificate says against its module.
 
-use crate::flow::{Place, Way, add_ways_of, state_at};
+use crate::flow::{StatePlace, Way, add_ways_of, state_at};
 use crate::source::Source;
-use crate::told::{Told, handler_name};
+use crate::told::{Advice, handler_name};
 use crate::words::{brigade_text, cursor_text, variable_text};
 use life_check::{Cert, CheckRefusal, Rule};
 use life_state::{State, at_open, leq};
-use module_lang::Module;
+use module_code::Module;
 use std::alloc::{AllocError, Global};
 
 fn pool_text(alloc: Global, state: &State, q: u8) -> Result<String, AllocError> {
@@ -84,11 +84,11 @@ fn difference(alloc: Global, state: &State, given: &State) -> Result<(String, St
     ))
 }
 
-fn place_name(alloc: Global, source: &Source, place: Place) -> Result<String, AllocError> {
+fn place_name(alloc: Global, source: &Source, place: StatePlace) -> Result<String, AllocError> {
     match place {
-        Place::Idle => String::from_str(alloc, "`idle`"),
-        Place::Ready => String::from_str(alloc, "`ready`"),
-        Place::At(pc) => {
+        StatePlace::Idle => String::from_str(alloc, "`idle`"),
+        StatePlace::Ready => String::from_str(alloc, "`ready`"),
+        StatePlace::At(pc) => {
             let line = source.number_of(pc);
             let instruction = source.instruction(pc);
             format!(in alloc; "line {line}, `{instruction}`")
@@ -96,12 +96,12 @@ fn place_name(alloc: Global, source: &Source, place: Place) -> Result<String, Al
     }
 }
 
-impl Told {
+impl Advice {
     // Tells how a state that comes to a place is not below the one that the certificate has there.
     fn not_below(
         &mut self,
         source: &Source,
-        place: Place,
+        place: StatePlace,
         state: &State,
         given: Option<State>,
     ) -> Result<(), AllocError> {
@@ -138,7 +138,7 @@ impl Told {
         source: &Source,
         code: &Module,
         cert: &Cert,
-        place: Place,
+        place: StatePlace,
     ) -> Result<(), AllocError> {
         let Some(state) = state_at(cert, place) else {
             return Ok(());
@@ -156,12 +156,12 @@ impl Told {
         pc: usize,
     ) -> Result<(), AllocError> {
         if pc == code.main() {
-            self.from_place(source, code, cert, Place::Ready)
+            self.from_place(source, code, cert, StatePlace::Ready)
         } else if pc == code.init() {
-            self.from_place(source, code, cert, Place::Idle)
+            self.from_place(source, code, cert, StatePlace::Idle)
         } else {
             let first = at_open(code.pool_count(), code.brigade_count());
-            self.not_below(source, Place::At(0), &first, cert.state(0))
+            self.not_below(source, StatePlace::At(0), &first, cert.state(0))
         }
     }
 
@@ -181,7 +181,7 @@ impl Told {
             ),
             Rule::Request => {
                 self.say("the end of a request leaves what `idle` does not allow")?;
-                self.from_place(source, code, cert, Place::Ready)
+                self.from_place(source, code, cert, StatePlace::Ready)
             }
             Rule::Entry => {
                 let handler = handler_name(code, refusal.pc);
@@ -196,14 +196,14 @@ impl Told {
                     self.text,
                     "line {line}: `{instruction}` leaves what the certificate does not allow between calls"
                 )?;
-                self.from_place(source, code, cert, Place::At(refusal.pc))
+                self.from_place(source, code, cert, StatePlace::At(refusal.pc))
             }
             Rule::Flow | Rule::May(_) => {
                 writeln!(
                     self.text,
                     "line {line}: `{instruction}` leads to what the certificate does not allow"
                 )?;
-                self.from_place(source, code, cert, Place::At(refusal.pc))
+                self.from_place(source, code, cert, StatePlace::At(refusal.pc))
             }
         }
     }

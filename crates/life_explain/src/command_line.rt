@@ -4,8 +4,8 @@ use crate::faulty_line::{tell_bad_byte, tell_form};
 use crate::forms::{COMMAND_FORMS, form_of, near_word};
 use crate::line_words::{shown, word, word_text};
 use crate::script::{Script, ScriptLine, is_skipped};
-use crate::told::Told;
-use module_lang::text::{all_printable, begins, is_text, token};
+use crate::told::Advice;
+use byte_text::{all_printable, begins, is_text, token};
 use std::alloc::AllocError;
 
 /// How many bytes a command line has at most, without its LF.
@@ -37,7 +37,7 @@ fn file_line(script: &Script<'_>, line: &ScriptLine<'_>) -> Option<usize> {
     None
 }
 
-fn tell_unknown(told: &mut Told, line: &ScriptLine<'_>) -> Result<(), AllocError> {
+fn tell_unknown(told: &mut Advice, line: &ScriptLine<'_>) -> Result<(), AllocError> {
     match near_word(&COMMAND_FORMS, token(line.text)) {
         Some(near) => writeln!(told.text, "  perhaps `{near}` is meant"),
         None => told.say(
@@ -47,7 +47,7 @@ fn tell_unknown(told: &mut Told, line: &ScriptLine<'_>) -> Result<(), AllocError
 }
 
 // What is wrong with the bytes of a line, whatever its words; whether that was told.
-fn tell_bytes(told: &mut Told, line: &ScriptLine<'_>) -> Result<bool, AllocError> {
+fn tell_bytes(told: &mut Advice, line: &ScriptLine<'_>) -> Result<bool, AllocError> {
     if !all_printable(line.text) || !line.ended {
         tell_bad_byte(told, line, "")?;
         return Ok(true);
@@ -70,7 +70,7 @@ fn tell_bytes(told: &mut Told, line: &ScriptLine<'_>) -> Result<bool, AllocError
 }
 
 fn tell_words(
-    told: &mut Told,
+    told: &mut Advice,
     script: &Script<'_>,
     line: &ScriptLine<'_>,
 ) -> Result<(), AllocError> {
@@ -96,7 +96,7 @@ fn tell_words(
 
 /// Tells why a line of this number is no command that may stand there.
 pub fn tell_script_fault(
-    told: &mut Told,
+    told: &mut Advice,
     script: &Script<'_>,
     number: usize,
 ) -> Result<(), AllocError> {

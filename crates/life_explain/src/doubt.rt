@@ -1,7 +1,7 @@
 //! What may be so before an instruction, and may not where its rule is met.
 
 use life_state::{Contents, CursorState, State};
-use module_lang::{Instr, Module, PoolRef};
+use module_code::{Instr, Module, PoolRef};
 
 /// What may be so in a state, though a rule wants that it cannot. Pools, brigades and cursors are numbered as in a state.
 #[derive(Clone, Copy)]

@@ -3,10 +3,10 @@
 use crate::forms::{DECLARATIONS, MODULE_FORMS, form_of, letter_text, near_word};
 use crate::line_words::{ends_with, has_two_spaces, is_variable, shown, text_of, word, word_text};
 use crate::script::{ScriptLine, ScriptText, lines_of};
-use crate::told::Told;
+use crate::told::Advice;
+use byte_text::{after_token, begins, is_printable, is_text, tail, token, unindented};
 use life_cert::CertCode;
 use module_lang::Code;
-use module_lang::text::{after_token, begins, is_printable, is_text, tail, token, unindented};
 use std::alloc::AllocError;
 
 // A faulty line, and those before and behind it.
@@ -60,7 +60,11 @@ fn label_of(line: &[u8]) -> &[u8] {
 }
 
 /// Tells which byte may not stand on a line, of a text that may have so many bytes.
-pub fn tell_bad_byte(told: &mut Told, line: &ScriptLine<'_>, most: &str) -> Result<(), AllocError> {
+pub fn tell_bad_byte(
+    told: &mut Advice,
+    line: &ScriptLine<'_>,
+    most: &str,
+) -> Result<(), AllocError> {
     if ends_with(line.text, b'\r') {
         return told.say("  it ends with CR LF; each line ends with LF alone, so take out the CR");
     }
@@ -92,7 +96,7 @@ impl Faulty<'_> {
         None
     }
 
-    fn tell_unknown(&self, told: &mut Told) -> Result<(), AllocError> {
+    fn tell_unknown(&self, told: &mut Advice) -> Result<(), AllocError> {
         match near_word(&MODULE_FORMS, token(unindented(self.there.text))) {
             Some(near) => writeln!(told.text, "  perhaps `{near}` is meant"),
             None => told.say(
@@ -101,7 +105,7 @@ impl Faulty<'_> {
         }
     }
 
-    fn tell_operands(&self, told: &mut Told) -> Result<(), AllocError> {
+    fn tell_operands(&self, told: &mut Advice) -> Result<(), AllocError> {
         let text = unindented(self.there.text);
         if begins(text, b':') {
             return told.say(
@@ -132,7 +136,7 @@ impl Faulty<'_> {
         })
     }
 
-    fn tell_undeclared(&self, told: &mut Told) -> Result<(), AllocError> {
+    fn tell_undeclared(&self, told: &mut Advice) -> Result<(), AllocError> {
         let text = unindented(self.there.text);
         let is_declaration = form_of(&DECLARATIONS, word_text(text, 0)).is_some();
         let first = if is_declaration { 2 } else { 1usize };
@@ -155,7 +159,7 @@ impl Faulty<'_> {
         Ok(())
     }
 
-    fn tell_doubled(&self, told: &mut Told) -> Result<(), AllocError> {
+    fn tell_doubled(&self, told: &mut Advice) -> Result<(), AllocError> {
         match self.label_line(label_of(self.there.text)) {
             Some(number) => writeln!(
                 told.text,
@@ -165,7 +169,7 @@ impl Faulty<'_> {
         }
     }
 
-    fn tell_lost(&self, told: &mut Told) -> Result<(), AllocError> {
+    fn tell_lost(&self, told: &mut Advice) -> Result<(), AllocError> {
         if begins(unindented(self.there.text), b':') {
             return told.say("  no instruction of its handler follows it");
         }
@@ -180,7 +184,7 @@ impl Faulty<'_> {
         }
     }
 
-    fn tell(&self, told: &mut Told, code: Code) -> Result<(), AllocError> {
+    fn tell(&self, told: &mut Advice, code: Code) -> Result<(), AllocError> {
         match code {
             Code::BadByte => tell_bad_byte(told, &self.there, "1,048,576"),
             Code::NotDue => Ok(()),
@@ -203,7 +207,7 @@ impl Faulty<'_> {
 
 /// Tells what is due on a line that begins with this word, and what is wrong with its spaces.
 pub fn tell_form(
-    told: &mut Told,
+    told: &mut Advice,
     forms: &[(&'static str, &'static str)],
     line: &[u8],
 ) -> Result<(), AllocError> {
@@ -234,7 +238,7 @@ pub fn tell_form(
 
 /// Tells what is wrong with the first faulty line of a module text, by its number in the text.
 pub fn tell_asm_fault(
-    told: &mut Told,
+    told: &mut Advice,
     text: ScriptText<'_>,
     line: usize,
     code: Code,
@@ -263,7 +267,7 @@ pub fn tell_asm_fault(
 
 /// Tells what is wrong with the first faulty line of a certificate text, by its number in the text.
 pub fn tell_cert_fault(
-    told: &mut Told,
+    told: &mut Advice,
     text: ScriptText<'_>,
     line: usize,
     code: CertCode,

@@ -2,18 +2,18 @@
 
 use crate::doubt::{Doubt, doubt_of};
 use crate::mend::mend;
-use crate::names::fault_name;
 use life_check::{Cert, target};
 use life_state::{
     State, Successors, after, at_end_of_request, at_main, at_open, at_return, join, leq,
 };
-use module_lang::{Instr, Module};
+use module_code::{Instr, Module};
 use run_model::FaultKind;
+use script_text::fault_name;
 use std::alloc::{AllocError, Global};
 
 /// What has a state: what lies between calls, before `init` or from then on, and each instruction.
 #[derive(Clone, Copy, PartialEq, Eq, Drop)]
-pub enum Place {
+pub enum StatePlace {
     At(usize),
     Idle,
     Ready,
@@ -22,8 +22,8 @@ pub enum Place {
 /// A way from one place to another, and the state that comes by it.
 #[derive(Clone, Copy)]
 pub struct Way {
-    pub from: Place,
-    pub to: Place,
+    pub from: StatePlace,
+    pub to: StatePlace,
     /// Whether it goes to the instruction's label.
     pub jumps: bool,
     pub state: State,
@@ -31,18 +31,18 @@ pub struct Way {
 
 /// A refusal: an instruction that may have a fault.
 #[derive(Clone, Copy)]
-pub struct Refusal {
+pub struct FlowRefusal {
     pub pc: usize,
     pub kind: FaultKind,
     pub doubt: Doubt,
 }
 
 /// The state of a place.
-pub fn state_at(states: &Cert, place: Place) -> Option<State> {
+pub fn state_at(states: &Cert, place: StatePlace) -> Option<State> {
     match place {
-        Place::At(pc) => states.state(pc),
-        Place::Idle => states.idle,
-        Place::Ready => states.ready,
+        StatePlace::At(pc) => states.state(pc),
+        StatePlace::Idle => states.idle,
+        StatePlace::Ready => states.ready,
     }
 }
 
@@ -96,8 +96,8 @@ fn led_to(code: &Module, pc: usize, state: &State, goes_on: bool) -> Option<Succ
 
 fn add_way(
     ways: &mut Vec<Way>,
-    from: Place,
-    to: Place,
+    from: StatePlace,
+    to: StatePlace,
     jumps: bool,
     state: Option<State>,
 ) -> Result<(), AllocError> {
@@ -119,17 +119,23 @@ fn ways_of_line(
     goes_on: bool,
     ways: &mut Vec<Way>,
 ) -> Result<(), AllocError> {
-    let from = Place::At(pc);
+    let from = StatePlace::At(pc);
     let (Some(led), Some(instr)) = (led_to(code, pc, state, goes_on), instr_at(code, pc)) else {
         return Ok(());
     };
-    add_way(ways, from, Place::At(pc.saturating_add(1)), false, led.next)?;
-    add_way(ways, from, Place::At(target(instr)), true, led.jump)?;
+    add_way(
+        ways,
+        from,
+        StatePlace::At(pc.saturating_add(1)),
+        false,
+        led.next,
+    )?;
+    add_way(ways, from, StatePlace::At(target(instr)), true, led.jump)?;
     if let Instr::Ret(_) = instr {
         let left = if pc < code.init() {
-            Place::Idle
+            StatePlace::Idle
         } else {
-            Place::Ready
+            StatePlace::Ready
         };
         add_way(ways, from, left, false, Some(at_return(state)))?;
     }
@@ -147,18 +153,30 @@ fn end_of_request(code: &Module, state: &State) -> Option<State> {
 /// Adds the ways that lead from a place with this state.
 pub fn add_ways_of(
     code: &Module,
-    place: Place,
+    place: StatePlace,
     state: &State,
     goes_on: bool,
     ways: &mut Vec<Way>,
 ) -> Result<(), AllocError> {
     match place {
-        Place::At(pc) => ways_of_line(code, pc, state, goes_on, ways),
-        Place::Idle => add_way(ways, place, Place::At(code.init()), false, Some(*state)),
-        Place::Ready => {
-            let main = Place::At(code.main());
+        StatePlace::At(pc) => ways_of_line(code, pc, state, goes_on, ways),
+        StatePlace::Idle => add_way(
+            ways,
+            place,
+            StatePlace::At(code.init()),
+            false,
+            Some(*state),
+        ),
+        StatePlace::Ready => {
+            let main = StatePlace::At(code.main());
             add_way(ways, place, main, false, Some(at_main(state)))?;
-            add_way(ways, place, Place::Idle, false, end_of_request(code, state))
+            add_way(
+                ways,
+                place,
+                StatePlace::Idle,
+                false,
+                end_of_request(code, state),
+            )
         }
     }
 }
@@ -166,7 +184,7 @@ pub fn add_ways_of(
 fn add_ways(
     code: &Module,
     states: &Cert,
-    place: Place,
+    place: StatePlace,
     goes_on: bool,
     ways: &mut Vec<Way>,
 ) -> Result<(), AllocError> {
@@ -181,18 +199,18 @@ fn add_ways(
 pub fn all_ways(alloc: Global, code: &Module, states: &Cert) -> Result<Vec<Way>, AllocError> {
     let mut ways = Vec::new(alloc);
     for pc in 0..code.len() {
-        add_ways(code, states, Place::At(pc), true, &mut ways)?;
+        add_ways(code, states, StatePlace::At(pc), true, &mut ways)?;
     }
-    add_ways(code, states, Place::Idle, true, &mut ways)?;
-    add_ways(code, states, Place::Ready, true, &mut ways)?;
+    add_ways(code, states, StatePlace::Idle, true, &mut ways)?;
+    add_ways(code, states, StatePlace::Ready, true, &mut ways)?;
     Ok(ways)
 }
 
-fn put(states: &mut Cert, place: Place, state: State) {
+fn put(states: &mut Cert, place: StatePlace, state: State) {
     match place {
-        Place::Idle => states.idle = Some(state),
-        Place::Ready => states.ready = Some(state),
-        Place::At(pc) => {
+        StatePlace::Idle => states.idle = Some(state),
+        StatePlace::Ready => states.ready = Some(state),
+        StatePlace::At(pc) => {
             if let Some(slot) = states.at.get_mut(pc) {
                 *slot = Some(state);
             }
@@ -217,7 +235,7 @@ fn grown_by(there: Option<State>, state: &State) -> Option<State> {
     }
 }
 
-fn arrive(states: &mut Cert, grown: &mut Vec<Place>, way: &Way) -> Result<(), AllocError> {
+fn arrive(states: &mut Cert, grown: &mut Vec<StatePlace>, way: &Way) -> Result<(), AllocError> {
     if let Some(state) = grown_by(state_at(states, way.to), &way.state) {
         put(states, way.to, state);
         grown.push(way.to)?;
@@ -225,7 +243,11 @@ fn arrive(states: &mut Cert, grown: &mut Vec<Place>, way: &Way) -> Result<(), Al
     Ok(())
 }
 
-fn arrive_all(states: &mut Cert, ways: &[Way], grown: &mut Vec<Place>) -> Result<(), AllocError> {
+fn arrive_all(
+    states: &mut Cert,
+    ways: &[Way],
+    grown: &mut Vec<StatePlace>,
+) -> Result<(), AllocError> {
     for way in ways {
         arrive(states, grown, way)?;
     }
@@ -239,7 +261,7 @@ fn begun(alloc: Global, code: &Module) -> Result<Cert, AllocError> {
         at: vec![in alloc; None; code.len()]?,
     };
     let first = at_open(code.pool_count(), code.brigade_count());
-    put(&mut states, Place::At(0), first);
+    put(&mut states, StatePlace::At(0), first);
     Ok(states)
 }
 
@@ -247,7 +269,7 @@ fn ways_from(
     alloc: Global,
     code: &Module,
     states: &Cert,
-    places: &[Place],
+    places: &[StatePlace],
     goes_on: bool,
 ) -> Result<Vec<Way>, AllocError> {
     let mut ways = Vec::new(alloc);
@@ -261,7 +283,7 @@ fn ways_from(
 /// where this goes on, where it would if its rule were met.
 pub fn states_of(alloc: Global, code: &Module, goes_on: bool) -> Result<Cert, AllocError> {
     let mut states = begun(alloc, code)?;
-    let mut places = vec![in alloc; Place::At(0)]?;
+    let mut places = vec![in alloc; StatePlace::At(0)]?;
     // No state grows more than 511 times.
     for _ in 0..512 * (code.len() + 2) {
         if places.is_empty() {
@@ -274,12 +296,12 @@ pub fn states_of(alloc: Global, code: &Module, goes_on: bool) -> Result<Cert, Al
     Ok(states)
 }
 
-fn refusal_at(code: &Module, pc: usize, state: &State) -> Option<Refusal> {
+fn refusal_at(code: &Module, pc: usize, state: &State) -> Option<FlowRefusal> {
     match answer(code, pc, state)? {
         Ok(_) => None,
         Err(kind) => {
             let doubt = doubt_of(code, instr_at(code, pc)?, state)?;
-            Some(Refusal { pc, kind, doubt })
+            Some(FlowRefusal { pc, kind, doubt })
         }
     }
 }
@@ -299,12 +321,12 @@ pub fn failures(code: &Module, pc: usize, state: &State) -> usize {
 }
 
 /// The refusal of an instruction, if it has one in these states.
-pub fn refusal_of(code: &Module, states: &Cert, pc: usize) -> Option<Refusal> {
+pub fn refusal_of(code: &Module, states: &Cert, pc: usize) -> Option<FlowRefusal> {
     refusal_at(code, pc, &states.state(pc)?)
 }
 
 /// The refusal of an instruction by a fault of this name, if it has one in these states.
-pub fn refusal_by(code: &Module, states: &Cert, pc: usize, name: &str) -> Option<Refusal> {
+pub fn refusal_by(code: &Module, states: &Cert, pc: usize, name: &str) -> Option<FlowRefusal> {
     let mut state = states.state(pc)?;
     for _ in 0..TESTS {
         let refusal = refusal_at(code, pc, &state)?;
@@ -317,7 +339,11 @@ pub fn refusal_by(code: &Module, states: &Cert, pc: usize, name: &str) -> Option
 }
 
 /// The instructions that may have a fault in these states.
-pub fn refusals(alloc: Global, code: &Module, states: &Cert) -> Result<Vec<Refusal>, AllocError> {
+pub fn refusals(
+    alloc: Global,
+    code: &Module,
+    states: &Cert,
+) -> Result<Vec<FlowRefusal>, AllocError> {
     let mut found = Vec::new(alloc);
     for pc in 0..code.len() {
         if let Some(refusal) = refusal_of(code, states, pc) {

@@ -3,10 +3,10 @@
 use crate::line_words::is_near;
 
 /// A word, and what stands behind it.
-type Form = (&'static str, &'static str);
+type WordForm = (&'static str, &'static str);
 
 /// The words of module texts. The letters are those of `LETTERS`.
-pub const MODULE_FORMS: [Form; 53] = [
+pub const MODULE_FORMS: [WordForm; 53] = [
     ("module", "1"),
     ("pool", "pI PARENT"),
     ("brigade", "bI P"),
@@ -63,10 +63,10 @@ pub const MODULE_FORMS: [Form; 53] = [
 ];
 
 /// The words of declarations, and what they declare.
-pub const DECLARATIONS: [Form; 2] = [("pool", "pI"), ("brigade", "bI")];
+pub const DECLARATIONS: [WordForm; 2] = [("pool", "pI"), ("brigade", "bI")];
 
 /// The words of commands.
-pub const COMMAND_FORMS: [Form; 11] = [
+pub const COMMAND_FORMS: [WordForm; 11] = [
     ("open", ""),
     ("begin", "C"),
     ("bring", "C PIECES"),
@@ -81,7 +81,7 @@ pub const COMMAND_FORMS: [Form; 11] = [
 ];
 
 /// What the letters of the forms stand for.
-const LETTERS: [Form; 20] = [
+const LETTERS: [WordForm; 20] = [
     ("pI", "the next pool, from `p0` to `p7`"),
     ("bI", "the next brigade, from `b0` to `b7`"),
     ("PARENT", "`conn`, `req` or a pool that is declared before"),
@@ -123,7 +123,7 @@ const LETTERS: [Form; 20] = [
 ];
 
 /// What stands behind a word, if there is such a word.
-pub fn form_of(forms: &[Form], word: &str) -> Option<&'static str> {
+pub fn form_of(forms: &[WordForm], word: &str) -> Option<&'static str> {
     for form in forms {
         if form.0 == word {
             return Some(form.1);
@@ -133,7 +133,7 @@ pub fn form_of(forms: &[Form], word: &str) -> Option<&'static str> {
 }
 
 /// The word that may be meant.
-pub fn near_word(forms: &[Form], word: &[u8]) -> Option<&'static str> {
+pub fn near_word(forms: &[WordForm], word: &[u8]) -> Option<&'static str> {
     for form in forms {
         if is_near(word, form.0.as_bytes()) {
             return Some(form.0);

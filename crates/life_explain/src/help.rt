@@ -5,14 +5,15 @@ use crate::flow::states_of;
 use crate::script::{ScriptText, TextKind};
 use crate::session::tell_refusals;
 use crate::source::Source;
-use crate::told::Told;
+use crate::told::Advice;
 use life_cert::{CertRefusal, MakeRefusal, make, read_cert};
 use life_check::{Cert, CheckRefusal, Rule, check};
-use module_lang::{AsmRefusal, Module, assemble};
+use module_code::Module;
+use module_lang::{AsmRefusal, assemble};
 use std::alloc::{AllocError, Global};
 
 /// The module of a text; nothing where its fault is told.
-pub fn module_of(told: &mut Told, text: ScriptText<'_>) -> Result<Option<Module>, AllocError> {
+pub fn module_of(told: &mut Advice, text: ScriptText<'_>) -> Result<Option<Module>, AllocError> {
     match assemble(told.alloc, text.text) {
         Ok(code) => Ok(Some(code)),
         Err(AsmRefusal::Fault { line, code }) => {
@@ -24,7 +25,7 @@ pub fn module_of(told: &mut Told, text: ScriptText<'_>) -> Result<Option<Module>
 }
 
 /// The certificate of a text; nothing where its fault is told.
-pub fn cert_of(told: &mut Told, text: ScriptText<'_>) -> Result<Option<Cert>, AllocError> {
+pub fn cert_of(told: &mut Advice, text: ScriptText<'_>) -> Result<Option<Cert>, AllocError> {
     match read_cert(told.alloc, text.text) {
         Ok(cert) => Ok(Some(cert)),
         Err(CertRefusal::Fault { line, code }) => {
@@ -46,7 +47,7 @@ fn alone(kind: TextKind, text: &[u8]) -> ScriptText<'_> {
 
 /// Tells what is wrong with the texts of a script, or why a module is refused, alone or with its certificate.
 pub fn tell_texts(
-    told: &mut Told,
+    told: &mut Advice,
     text: ScriptText<'_>,
     cert: Option<ScriptText<'_>>,
 ) -> Result<(), AllocError> {
@@ -66,7 +67,7 @@ pub fn tell_texts(
     }
 }
 
-fn without_certificate(told: &mut Told, source: Source, code: &Module) -> Result<(), AllocError> {
+fn without_certificate(told: &mut Advice, source: Source, code: &Module) -> Result<(), AllocError> {
     match make(told.alloc, code) {
         Ok(_) => Ok(()),
         Err(MakeRefusal::NoMemory) => Err(AllocError),
@@ -79,13 +80,13 @@ fn without_certificate(told: &mut Told, source: Source, code: &Module) -> Result
 
 /// Why no certificate of a module text is made, in words; nothing where one is made.
 pub fn explain_certify(alloc: Global, text: &[u8]) -> Result<String, AllocError> {
-    let mut told = Told::new(alloc);
+    let mut told = Advice::new(alloc);
     tell_texts(&mut told, alone(TextKind::Module, text), None)?;
     Ok(told.text)
 }
 
 // Tells whether there is another certificate with which the module is accepted.
-fn tell_other(told: &mut Told, code: &Module) -> Result<(), AllocError> {
+fn tell_other(told: &mut Advice, code: &Module) -> Result<(), AllocError> {
     match make(told.alloc, code) {
         Ok(_) => told.say("`certify` makes a certificate with which the module is accepted"),
         Err(MakeRefusal::NoMemory) => Err(AllocError),
@@ -96,7 +97,7 @@ fn tell_other(told: &mut Told, code: &Module) -> Result<(), AllocError> {
 }
 
 fn with_certificate(
-    told: &mut Told,
+    told: &mut Advice,
     source: Source,
     code: &Module,
     cert: &Cert,
@@ -113,7 +114,7 @@ fn with_certificate(
 
 /// Why a module text is refused with a certificate text, in words; nothing where it is accepted.
 pub fn explain_check(alloc: Global, text: &[u8], cert: &[u8]) -> Result<String, AllocError> {
-    let mut told = Told::new(alloc);
+    let mut told = Advice::new(alloc);
     let cert = alone(TextKind::Cert, cert);
     tell_texts(&mut told, alone(TextKind::Module, text), Some(cert))?;
     Ok(told.text)

@@ -11,7 +11,6 @@ mod forms;
 mod help;
 mod line_words;
 mod mend;
-mod names;
 mod pattern;
 mod play;
 mod refused;
@@ -25,5 +24,5 @@ mod trail;
 mod words;
 
 pub use help::{explain_certify, explain_check};
-pub use names::fault_name;
 pub use play::explain_play;
+pub use script_text::fault_name;

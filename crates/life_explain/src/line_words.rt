@@ -1,6 +1,6 @@
 //! The words of a line.
 
-use module_lang::text::{after_token, begins, decimal_u64, is_printable, tail, token};
+use byte_text::{after_token, begins, decimal_u64, is_printable, tail, token};
 use std::alloc::{AllocError, Global};
 use std::str;
 

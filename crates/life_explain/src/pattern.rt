@@ -1,7 +1,7 @@
 //! The patterns by name, and what to do where no lines could be tried.
 
 use crate::doubt::Doubt;
-use module_lang::Instr;
+use module_code::Instr;
 use run_model::FaultKind;
 
 /// What an accepted module has in place of what is refused. `docs/FILTERS.md` has each, with a module before and after.

@@ -3,15 +3,15 @@
 use crate::command_line::tell_script_fault;
 use crate::help::{cert_of, module_of, tell_texts};
 use crate::line_words::{number, shown, word_text};
-use crate::names::fault_name;
 use crate::refused::{Answered, is_told, tell_refused};
 use crate::script::{Script, TextKind, lines_of};
 use crate::session::tell_fault;
 use crate::source::Source;
-use crate::told::Told;
+use crate::told::Advice;
 use crate::words::fault_text;
-use module_lang::text::is_text;
+use byte_text::is_text;
 use run_model::FaultKind;
+use script_text::fault_name;
 use std::alloc::{AllocError, Global};
 
 /// How many answers are explained at most.
@@ -33,7 +33,7 @@ const KINDS: [FaultKind; 10] = [
 
 // What an answer line is.
 #[derive(Clone, Copy, PartialEq, Eq, Drop)]
-enum Kind {
+enum AnswerKind {
     Fault,
     Refused,
     RefusedModule,
@@ -43,21 +43,24 @@ enum Kind {
     Well,
 }
 
-fn kind_of(answer: &[u8]) -> Kind {
+fn kind_of(answer: &[u8]) -> AnswerKind {
     match (word_text(answer, 0), word_text(answer, 1)) {
-        ("fault", _) => Kind::Fault,
-        ("refused", "module") => Kind::RefusedModule,
-        ("refused", _) => Kind::Refused,
-        ("asm", "line") => Kind::Asm,
-        ("cert", "line") => Kind::Cert,
-        ("script", "line") => Kind::Script,
-        _ => Kind::Well,
+        ("fault", _) => AnswerKind::Fault,
+        ("refused", "module") => AnswerKind::RefusedModule,
+        ("refused", _) => AnswerKind::Refused,
+        ("asm", "line") => AnswerKind::Asm,
+        ("cert", "line") => AnswerKind::Cert,
+        ("script", "line") => AnswerKind::Script,
+        _ => AnswerKind::Well,
     }
 }
 
 // Whether it answers a command, and does not tell where the play ended.
 fn is_of_command(answer: &[u8]) -> bool {
-    matches!(kind_of(answer), Kind::Fault | Kind::Refused | Kind::Well)
+    matches!(
+        kind_of(answer),
+        AnswerKind::Fault | AnswerKind::Refused | AnswerKind::Well
+    )
 }
 
 // The lines of the answers, each with its command. Of `pools` the last line alone is that of the next command.
@@ -93,7 +96,7 @@ fn fault_kind(name: &str) -> Option<FaultKind> {
 
 // Tells what a fault means, where it is and what to write instead.
 fn tell_fault_of(
-    told: &mut Told,
+    told: &mut Advice,
     script: &Script<'_>,
     answered: &Answered<'_>,
 ) -> Result<(), AllocError> {
@@ -122,7 +125,7 @@ fn tell_fault_of(
     tell_fault(told, &source, pc, kind)
 }
 
-fn tell_module(told: &mut Told, script: &Script<'_>, answer: &[u8]) -> Result<(), AllocError> {
+fn tell_module(told: &mut Advice, script: &Script<'_>, answer: &[u8]) -> Result<(), AllocError> {
     let Some(index) = number(answer, 2) else {
         return Ok(());
     };
@@ -138,7 +141,7 @@ fn tell_module(told: &mut Told, script: &Script<'_>, answer: &[u8]) -> Result<()
 }
 
 // Tells what is wrong with the text that a line of this number is of.
-fn tell_text(told: &mut Told, script: &Script<'_>, answer: &[u8]) -> Result<(), AllocError> {
+fn tell_text(told: &mut Advice, script: &Script<'_>, answer: &[u8]) -> Result<(), AllocError> {
     let Some(text) = script.text_with(number(answer, 2).unwrap_or(0)) else {
         return Ok(());
     };
@@ -155,22 +158,22 @@ fn tell_text(told: &mut Told, script: &Script<'_>, answer: &[u8]) -> Result<(), 
 
 // Tells what an answer means; whether there was something to tell.
 fn tell_answer(
-    told: &mut Told,
+    told: &mut Advice,
     script: &Script<'_>,
     earlier: &[Answered<'_>],
     answered: &Answered<'_>,
 ) -> Result<bool, AllocError> {
     match kind_of(answered.answer) {
-        Kind::Fault => tell_fault_of(told, script, answered)?,
-        Kind::Refused => tell_refused(told, script, earlier, answered)?,
-        Kind::RefusedModule => tell_module(told, script, answered.answer)?,
-        Kind::Asm | Kind::Cert => tell_text(told, script, answered.answer)?,
-        Kind::Script => {
+        AnswerKind::Fault => tell_fault_of(told, script, answered)?,
+        AnswerKind::Refused => tell_refused(told, script, earlier, answered)?,
+        AnswerKind::RefusedModule => tell_module(told, script, answered.answer)?,
+        AnswerKind::Asm | AnswerKind::Cert => tell_text(told, script, answered.answer)?,
+        AnswerKind::Script => {
             if let Some(line) = number(answered.answer, 2) {
                 tell_script_fault(told, script, line)?;
             }
         }
-        Kind::Well => return Ok(false),
+        AnswerKind::Well => return Ok(false),
     }
     Ok(true)
 }
@@ -184,7 +187,7 @@ pub fn explain_play<'a>(
 ) -> Result<String, AllocError> {
     let script = Script::of(alloc, script)?;
     let answered = answered(alloc, &script, answers)?;
-    let mut told = Told::new(alloc);
+    let mut told = Advice::new(alloc);
     let mut done = Vec::new(alloc);
     for (index, answer) in answered.iter().enumerate() {
         if done.len() == MOST {

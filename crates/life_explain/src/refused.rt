@@ -2,8 +2,8 @@
 
 use crate::line_words::{shown, text_of, word, word_text};
 use crate::script::{Script, ScriptLine};
-use crate::told::Told;
-use module_lang::text::{begins, is_text, token};
+use crate::told::Advice;
+use byte_text::{begins, is_text, token};
 use std::alloc::AllocError;
 
 /// A line of the answers, with the command that it answers, if it answers one.
@@ -78,7 +78,7 @@ fn last_done<'a>(earlier: &[Answered<'a>], words: &[&str], conn: &[u8]) -> Optio
     found
 }
 
-fn tell_busy(told: &mut Told, earlier: &[Answered<'_>], conn: &[u8]) -> Result<(), AllocError> {
+fn tell_busy(told: &mut Advice, earlier: &[Answered<'_>], conn: &[u8]) -> Result<(), AllocError> {
     let name = text_of(conn);
     let Some(begun) = last_done(earlier, &["open", "begin", "bring"], conn) else {
         return Ok(());
@@ -94,7 +94,11 @@ fn tell_busy(told: &mut Told, earlier: &[Answered<'_>], conn: &[u8]) -> Result<(
     )
 }
 
-fn tell_no_conn(told: &mut Told, earlier: &[Answered<'_>], conn: &[u8]) -> Result<(), AllocError> {
+fn tell_no_conn(
+    told: &mut Advice,
+    earlier: &[Answered<'_>],
+    conn: &[u8],
+) -> Result<(), AllocError> {
     match last_done(earlier, &["close"], conn) {
         Some(closed) => {
             let number = closed.number();
@@ -107,7 +111,7 @@ fn tell_no_conn(told: &mut Told, earlier: &[Answered<'_>], conn: &[u8]) -> Resul
     }
 }
 
-fn tell_broken(told: &mut Told, earlier: &[Answered<'_>], conn: &[u8]) -> Result<(), AllocError> {
+fn tell_broken(told: &mut Advice, earlier: &[Answered<'_>], conn: &[u8]) -> Result<(), AllocError> {
     for answered in earlier {
         if answered.is_fault_of(conn) {
             let number = answered.number();
@@ -118,7 +122,7 @@ fn tell_broken(told: &mut Told, earlier: &[Answered<'_>], conn: &[u8]) -> Result
 }
 
 fn tell_in_request(
-    told: &mut Told,
+    told: &mut Advice,
     earlier: &[Answered<'_>],
     conn: &[u8],
 ) -> Result<(), AllocError> {
@@ -135,7 +139,7 @@ fn tell_in_request(
     }
 }
 
-fn tell_budget(told: &mut Told, script: &Script<'_>) -> Result<(), AllocError> {
+fn tell_budget(told: &mut Advice, script: &Script<'_>) -> Result<(), AllocError> {
     for line in script.lines.iter().take(script.before) {
         if is_text(token(line.text), b"budget") {
             let number = line.number;
@@ -152,7 +156,7 @@ fn tell_budget(told: &mut Told, script: &Script<'_>) -> Result<(), AllocError> {
 }
 
 fn tell_wanted(
-    told: &mut Told,
+    told: &mut Advice,
     script: &Script<'_>,
     earlier: &[Answered<'_>],
     name: &str,
@@ -197,7 +201,7 @@ pub fn is_told(explained: &[Answered<'_>], answered: &Answered<'_>) -> bool {
 
 /// Tells what a refused command wants first, where these were answered before it.
 pub fn tell_refused(
-    told: &mut Told,
+    told: &mut Advice,
     script: &Script<'_>,
     earlier: &[Answered<'_>],
     refused: &Answered<'_>,

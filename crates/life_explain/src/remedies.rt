@@ -2,12 +2,12 @@
 
 use crate::case::{Case, Remedy, classes_at};
 use crate::doubt::Doubt;
-use crate::flow::{Place, instr_at};
+use crate::flow::{StatePlace, instr_at};
 use crate::pattern::Pattern;
 use crate::source::last_word;
 use crate::words::brigade_name;
 use life_state::CursorState;
-use module_lang::{Instr, PoolRef, Status};
+use module_code::{Instr, PoolRef, Status};
 use std::alloc::AllocError;
 
 type Remedies = Vec<Remedy>;
@@ -409,7 +409,7 @@ impl Case<'_> {
 
     fn add_reads_on_ways(&self, found: &mut Remedies, line: &str) -> Result<(), AllocError> {
         for step in &self.trail.steps {
-            if let (Place::At(from), true) = (step.from, step.jumps) {
+            if let (StatePlace::At(from), true) = (step.from, step.jumps) {
                 let mut remedy = Remedy::new(self.alloc, Pattern::ReadOnEachWay);
                 self.before(&mut remedy, from, &[line])?;
                 found.push(remedy)?;

@@ -7,7 +7,7 @@ use crate::pattern::Pattern;
 use crate::source::last_word;
 use crate::words::brigade_name;
 use life_state::CursorState;
-use module_lang::{Instr, PoolRef, Status};
+use module_code::{Instr, PoolRef, Status};
 use std::alloc::AllocError;
 
 type Remedies = Vec<Remedy>;

@@ -1,6 +1,6 @@
 //! The texts and the commands of a script.
 
-use module_lang::text::{begins, first_line, is_text, token, unindented};
+use byte_text::{begins, first_line, is_text, token, unindented};
 use std::alloc::{AllocError, Global};
 
 /// How many modules a chain has at most.
@@ -38,7 +38,7 @@ pub struct ScriptText<'a> {
 
 // What a line may be.
 #[derive(Clone, Copy)]
-enum Place {
+enum ScriptPlace {
     InText(TextKind),
     Behind(TextKind),
     /// Behind lines that are skipped, which belong to a module text.
@@ -61,7 +61,7 @@ pub struct Script<'a> {
 struct Reading<'a> {
     script: &'a [u8],
     texts: Vec<ScriptText<'a>>,
-    place: Place,
+    place: ScriptPlace,
     // Where the text begins that is read, and how many lines stand before it.
     start: usize,
     before: usize,
@@ -120,7 +120,7 @@ impl<'a> Reading<'a> {
         count
     }
 
-    fn begin(&mut self, line: &ScriptLine<'a>, place: Place) {
+    fn begin(&mut self, line: &ScriptLine<'a>, place: ScriptPlace) {
         self.start = line.start;
         self.before = line.number.saturating_sub(1);
         self.place = place;
@@ -130,24 +130,24 @@ impl<'a> Reading<'a> {
         let text = cut(self.script, self.start, end);
         let before = self.before;
         self.texts.push(ScriptText { kind, before, text })?;
-        self.place = Place::Behind(kind);
+        self.place = ScriptPlace::Behind(kind);
         Ok(())
     }
 
     fn take(&mut self, line: &ScriptLine<'a>) -> Result<(), AllocError> {
         match self.place {
-            Place::InText(kind) => {
+            ScriptPlace::InText(kind) => {
                 if line.ended && is_text(unindented(line.text), b"end") {
                     self.close(kind, line.end)?;
                 }
             }
-            Place::Behind(kind) => self.take_behind(line, kind),
-            Place::BehindSkipped if is_skipped(line.text) => {}
-            Place::BehindSkipped if self.begins_module(line) => {
-                self.place = Place::InText(TextKind::Module);
+            ScriptPlace::Behind(kind) => self.take_behind(line, kind),
+            ScriptPlace::BehindSkipped if is_skipped(line.text) => {}
+            ScriptPlace::BehindSkipped if self.begins_module(line) => {
+                self.place = ScriptPlace::InText(TextKind::Module);
             }
-            Place::BehindSkipped | Place::BehindBudget => self.take_heading(line),
-            Place::AtCommands => {}
+            ScriptPlace::BehindSkipped | ScriptPlace::BehindBudget => self.take_heading(line),
+            ScriptPlace::AtCommands => {}
         }
         Ok(())
     }
@@ -158,20 +158,20 @@ impl<'a> Reading<'a> {
 
     fn take_behind(&mut self, line: &ScriptLine<'a>, kind: TextKind) {
         if is_skipped(line.text) {
-            self.begin(line, Place::BehindSkipped);
+            self.begin(line, ScriptPlace::BehindSkipped);
         } else if kind == TextKind::Module && is_text(token(line.text), b"cert") {
-            self.begin(line, Place::InText(TextKind::Cert));
+            self.begin(line, ScriptPlace::InText(TextKind::Cert));
         } else if self.begins_module(line) {
-            self.begin(line, Place::InText(TextKind::Module));
+            self.begin(line, ScriptPlace::InText(TextKind::Module));
         } else if is_text(token(line.text), b"budget") {
-            self.place = Place::BehindBudget;
+            self.place = ScriptPlace::BehindBudget;
         } else {
             self.take_heading(line);
         }
     }
 
     fn take_heading(&mut self, line: &ScriptLine<'a>) {
-        self.place = Place::AtCommands;
+        self.place = ScriptPlace::AtCommands;
         self.commands = if is_text(line.text, b"checked") {
             line.number
         } else {
@@ -187,7 +187,7 @@ impl<'a> Script<'a> {
         let mut reading = Reading {
             script,
             texts: Vec::new(alloc),
-            place: Place::InText(TextKind::Module),
+            place: ScriptPlace::InText(TextKind::Module),
             start: 0,
             before: 0,
             commands: lines.len(),
@@ -195,7 +195,7 @@ impl<'a> Script<'a> {
         for line in &lines {
             reading.take(line)?;
         }
-        if let Place::InText(kind) = reading.place {
+        if let ScriptPlace::InText(kind) = reading.place {
             reading.close(kind, script.len())?;
         }
         let Reading {

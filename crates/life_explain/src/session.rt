@@ -2,15 +2,16 @@
 
 use crate::case::{Case, Remedy};
 use crate::doubt::Doubt;
-use crate::flow::{Refusal, all_ways, failures, refusal_by, refusal_of, refusals, states_of};
-use crate::names::fault_name;
+use crate::flow::{FlowRefusal, all_ways, failures, refusal_by, refusal_of, refusals, states_of};
 use crate::pattern::{Pattern, pattern_of_fault};
 use crate::source::Source;
-use crate::told::Told;
+use crate::told::Advice;
 use crate::trail::{Known, trail_to};
 use life_check::Cert;
-use module_lang::{AsmRefusal, Module, assemble};
+use module_code::Module;
+use module_lang::{AsmRefusal, assemble};
 use run_model::FaultKind;
+use script_text::fault_name;
 use std::alloc::{AllocError, Global};
 
 /// How many refusals are told of a module at most.
@@ -24,7 +25,7 @@ const TRIES: usize = 40;
 struct Study {
     code: Module,
     states: Cert,
-    refusals: Vec<Refusal>,
+    refusals: Vec<FlowRefusal>,
     failures: usize,
 }
 
@@ -102,7 +103,7 @@ fn tried(case: &Case<'_>, remedy: Remedy) -> Result<Option<(Mended, bool)>, Allo
 }
 
 // Whether the line is refused.
-fn refuses(source: &Source, refusals: &[Refusal], line: usize) -> bool {
+fn refuses(source: &Source, refusals: &[FlowRefusal], line: usize) -> bool {
     refusals
         .iter()
         .any(|refusal| source.number_of(refusal.pc) == line)
@@ -167,7 +168,11 @@ fn pruned(case: &Case<'_>, mended: Mended) -> Result<Mended, AllocError> {
 }
 
 // Tells what to write, as it was tried, or in words.
-fn tell_remedy(told: &mut Told, case: &Case<'_>, now: usize) -> Result<Option<Mended>, AllocError> {
+fn tell_remedy(
+    told: &mut Advice,
+    case: &Case<'_>,
+    now: usize,
+) -> Result<Option<Mended>, AllocError> {
     if now == 0 {
         return Ok(None);
     }
@@ -181,10 +186,10 @@ fn tell_remedy(told: &mut Told, case: &Case<'_>, now: usize) -> Result<Option<Me
 
 // Tells a refusal in these states. It gives the source as it is mended, where lines were found that help.
 fn tell(
-    told: &mut Told,
+    told: &mut Advice,
     source: &Source,
     module: (&Module, &Cert),
-    refusal: Refusal,
+    refusal: FlowRefusal,
     now: usize,
 ) -> Result<Option<Mended>, AllocError> {
     let Some(state) = module.1.state(refusal.pc) else {
@@ -196,10 +201,10 @@ fn tell(
 
 // Tells where what may be so comes from, and what to write. It gives the source as it is mended, where lines were found that help.
 fn tell_cause(
-    told: &mut Told,
+    told: &mut Advice,
     source: &Source,
     module: (&Module, &Cert),
-    refusal: Refusal,
+    refusal: FlowRefusal,
     now: usize,
 ) -> Result<Option<Mended>, AllocError> {
     let (code, states) = module;
@@ -225,7 +230,7 @@ fn tell_cause(
 }
 
 // The first refusal whose line was not told yet.
-fn next_refusal(source: &Source, refusals: &[Refusal], seen: &[usize]) -> Option<Refusal> {
+fn next_refusal(source: &Source, refusals: &[FlowRefusal], seen: &[usize]) -> Option<FlowRefusal> {
     for refusal in refusals {
         if !seen.contains(&source.number_of(refusal.pc)) {
             return Some(*refusal);
@@ -234,7 +239,7 @@ fn next_refusal(source: &Source, refusals: &[Refusal], seen: &[usize]) -> Option
     None
 }
 
-fn tell_rest(told: &mut Told, source: Source, seen: Vec<usize>) -> Result<(), AllocError> {
+fn tell_rest(told: &mut Advice, source: Source, seen: Vec<usize>) -> Result<(), AllocError> {
     let mut source = source;
     let mut seen = seen;
     for _ in 0..MOST {
@@ -270,7 +275,7 @@ fn lessens(mended: &Option<Mended>, now: usize) -> bool {
 
 /// Tells why an instruction of a module is refused in these states, and why others are that do not follow from it.
 pub fn tell_refusals(
-    told: &mut Told,
+    told: &mut Advice,
     source: Source,
     code: &Module,
     states: &Cert,
@@ -302,7 +307,7 @@ pub fn tell_refusals(
 
 /// Tells what the rule of an instruction wants that had this fault, where that comes from, and what to write instead.
 pub fn tell_fault(
-    told: &mut Told,
+    told: &mut Advice,
     source: &Source,
     pc: usize,
     kind: FaultKind,

@@ -1,12 +1,12 @@
 //! The lines of a module text, as they are or as they would be written.
 
-use module_lang::text::{begins, is_printable, is_text, token};
+use byte_text::{begins, is_printable, is_text, token};
 use std::alloc::{AllocError, Global};
 use std::str;
 
 /// A line of a module text.
 #[derive(Drop)]
-pub struct Line {
+pub struct ModuleLine {
     /// Its number, from 1 on; 0 of a line that is not there yet.
     pub number: usize,
     /// What stands on it, without the spaces before it.
@@ -39,12 +39,12 @@ impl Edit {
 /// A module text.
 #[derive(Drop)]
 pub struct Source {
-    pub lines: Vec<Line>,
+    pub lines: Vec<ModuleLine>,
 }
 
 // What a line is.
 #[derive(Clone, Copy, PartialEq, Eq, Drop)]
-enum Kind {
+enum LineKind {
     Skipped,
     Open,
     Header,
@@ -52,17 +52,17 @@ enum Kind {
     Word,
 }
 
-fn kind_of(line: &[u8]) -> Kind {
+fn kind_of(line: &[u8]) -> LineKind {
     if line.is_empty() || begins(line, b'#') {
-        Kind::Skipped
+        LineKind::Skipped
     } else if begins(line, b':') {
-        Kind::Label
+        LineKind::Label
     } else if is_text(line, b"open") {
-        Kind::Open
+        LineKind::Open
     } else if is_text(line, b"init") || is_text(line, b"main") || is_text(line, b"end") {
-        Kind::Header
+        LineKind::Header
     } else {
-        Kind::Word
+        LineKind::Word
     }
 }
 
@@ -98,8 +98,8 @@ pub fn first_word(line: &str) -> &str {
     str::from_utf8(token(line.as_bytes())).unwrap_or("")
 }
 
-impl Line {
-    fn kind(&self) -> Kind {
+impl ModuleLine {
+    fn kind(&self) -> LineKind {
         kind_of(self.text.as_bytes())
     }
 
@@ -108,10 +108,10 @@ impl Line {
         self.text.as_str() == text
     }
 
-    fn copied(&self, alloc: Global) -> Result<Line, AllocError> {
+    fn copied(&self, alloc: Global) -> Result<ModuleLine, AllocError> {
         let text = copied(alloc, self.text.as_str())?;
         let number = self.number;
-        Ok(Line { number, text })
+        Ok(ModuleLine { number, text })
     }
 }
 
@@ -123,7 +123,7 @@ impl Source {
         for byte in text {
             if *byte == b'\n' {
                 let number = before.saturating_add(lines.len()).saturating_add(1);
-                lines.push(Line { number, text: line })?;
+                lines.push(ModuleLine { number, text: line })?;
                 line = String::new(alloc);
             } else if *byte != b' ' || !line.is_empty() {
                 line.push(shown(*byte))?;
@@ -148,8 +148,8 @@ impl Source {
         let mut in_code = false;
         for (index, line) in self.lines.iter().enumerate() {
             match line.kind() {
-                Kind::Open => in_code = true,
-                Kind::Word if in_code => {
+                LineKind::Open => in_code = true,
+                LineKind::Word if in_code => {
                     if next == pc {
                         return Some(index);
                     }
@@ -213,9 +213,9 @@ impl Source {
                 break;
             }
             match line.kind() {
-                Kind::Label => label = unmarked(alloc, line.text.as_str())?,
-                Kind::Skipped => {}
-                Kind::Open | Kind::Header | Kind::Word => label.clear(),
+                LineKind::Label => label = unmarked(alloc, line.text.as_str())?,
+                LineKind::Skipped => {}
+                LineKind::Open | LineKind::Header | LineKind::Word => label.clear(),
             }
         }
         Ok(label)
@@ -242,7 +242,7 @@ impl Source {
         let mut labels = Vec::new(alloc);
         let main = self.find("main").unwrap_or(0);
         for line in self.lines.iter().skip(main) {
-            if line.kind() == Kind::Label {
+            if line.kind() == LineKind::Label {
                 labels.push(unmarked(alloc, line.text.as_str())?)?;
             }
         }
@@ -278,17 +278,21 @@ fn is_removed(edits: &[Edit], index: usize) -> bool {
     edits.iter().any(|edit| edit.removes && edit.at == index)
 }
 
-fn add_lines(alloc: Global, lines: &mut Vec<Line>, written: &[String]) -> Result<(), AllocError> {
+fn add_lines(
+    alloc: Global,
+    lines: &mut Vec<ModuleLine>,
+    written: &[String],
+) -> Result<(), AllocError> {
     for text in written {
         let text = copied(alloc, text.as_str())?;
-        lines.push(Line { number: 0, text })?;
+        lines.push(ModuleLine { number: 0, text })?;
     }
     Ok(())
 }
 
 fn add_written(
     alloc: Global,
-    lines: &mut Vec<Line>,
+    lines: &mut Vec<ModuleLine>,
     edits: &[Edit],
     index: usize,
 ) -> Result<(), AllocError> {

@@ -2,19 +2,19 @@
 
 use crate::case::Remedy;
 use crate::doubt::Doubt;
-use crate::flow::{Place, Refusal, instr_at};
-use crate::names::fault_name;
+use crate::flow::{FlowRefusal, StatePlace, instr_at};
 use crate::pattern::Pattern;
 use crate::source::{Edit, Source};
-use crate::trail::{Origin, Step, Trail};
+use crate::trail::{Origin, Trail, TrailStep};
 use crate::words::{cursor_name, fault_text, found, wanted};
 use life_state::State;
-use module_lang::{Instr, Module};
+use module_code::{Instr, Module};
+use script_text::fault_name;
 use std::alloc::{AllocError, Global};
 
 /// What was told so far.
 #[derive(Drop)]
-pub struct Told {
+pub struct Advice {
     pub alloc: Global,
     pub text: String,
 }
@@ -49,10 +49,10 @@ fn deed(doubt: Doubt) -> &'static str {
     }
 }
 
-impl Told {
+impl Advice {
     /// Nothing yet.
-    pub fn new(alloc: Global) -> Told {
-        Told {
+    pub fn new(alloc: Global) -> Advice {
+        Advice {
             alloc,
             text: String::new(alloc),
         }
@@ -69,7 +69,7 @@ impl Told {
         &mut self,
         source: &Source,
         state: &State,
-        refusal: &Refusal,
+        refusal: &FlowRefusal,
     ) -> Result<(), AllocError> {
         let line = source.number_of(refusal.pc);
         let instruction = source.instruction(refusal.pc);
@@ -99,7 +99,10 @@ impl Told {
         doubt: Doubt,
     ) -> Result<(), AllocError> {
         self.origin(source, code, trail.origin, doubt)?;
-        let made_between = matches!(trail.origin, Origin::Made(Place::Idle | Place::Ready));
+        let made_between = matches!(
+            trail.origin,
+            Origin::Made(StatePlace::Idle | StatePlace::Ready)
+        );
         for step in trail.steps.iter().skip(usize::from(made_between)) {
             self.step(source, step, doubt)?;
         }
@@ -114,7 +117,7 @@ impl Told {
         doubt: Doubt,
     ) -> Result<(), AllocError> {
         match origin {
-            Origin::Made(Place::At(pc)) => {
+            Origin::Made(StatePlace::At(pc)) => {
                 let line = source.number_of(pc);
                 let instruction = source.instruction(pc);
                 write!(self.text, "  from: line {line}, `{instruction}`, ")?;
@@ -128,7 +131,7 @@ impl Told {
                 let handler = handler_name(code, pc);
                 writeln!(self.text, "  from: `{handler}` begins so")
             }
-            Origin::Met(Place::At(pc)) => {
+            Origin::Met(StatePlace::At(pc)) => {
                 let line = source.number_of(pc);
                 let instruction = source.instruction(pc);
                 writeln!(
@@ -152,9 +155,9 @@ impl Told {
         self.say(deed(doubt))
     }
 
-    fn step(&mut self, source: &Source, step: &Step, doubt: Doubt) -> Result<(), AllocError> {
+    fn step(&mut self, source: &Source, step: &TrailStep, doubt: Doubt) -> Result<(), AllocError> {
         match (step.from, step.to) {
-            (Place::At(pc), Place::Idle | Place::Ready) => {
+            (StatePlace::At(pc), StatePlace::Idle | StatePlace::Ready) => {
                 let line = source.number_of(pc);
                 let instruction = source.instruction(pc);
                 writeln!(
@@ -162,10 +165,10 @@ impl Told {
                     "  then: line {line}, `{instruction}`, ends a call so, and a later call begins with it"
                 )
             }
-            (Place::Ready, Place::Idle) => self.say(
+            (StatePlace::Ready, StatePlace::Idle) => self.say(
                 "  then: the request ends so, and the next begins with it",
             ),
-            (Place::At(pc), Place::At(_)) if step.jumps && doubt.is_of_cursor() => {
+            (StatePlace::At(pc), StatePlace::At(_)) if step.jumps && doubt.is_of_cursor() => {
                 let line = source.number_of(pc);
                 let instruction = source.instruction(pc);
                 writeln!(

@@ -1,10 +1,10 @@
 //! Where what may be so at an instruction comes from.
 
 use crate::doubt::Doubt;
-use crate::flow::{Place, Way, add_ways_of, state_at};
+use crate::flow::{StatePlace, Way, add_ways_of, state_at};
 use crate::mend::mend;
 use life_check::Cert;
-use module_lang::Module;
+use module_code::Module;
 use std::alloc::{AllocError, Global};
 
 /// A module with its states and the ways between them.
@@ -20,18 +20,18 @@ pub struct Known<'a> {
 #[derive(Clone, Copy)]
 pub enum Origin {
     /// What stands there made it so: an instruction, or the end of a request.
-    Made(Place),
+    Made(StatePlace),
     /// It is so where a handler begins.
     Begun(usize),
     /// Ways meet there that know different things.
-    Met(Place),
+    Met(StatePlace),
 }
 
 /// A part of the way from there on.
 #[derive(Clone, Copy)]
-pub struct Step {
-    pub from: Place,
-    pub to: Place,
+pub struct TrailStep {
+    pub from: StatePlace,
+    pub to: StatePlace,
     pub jumps: bool,
 }
 
@@ -40,14 +40,16 @@ pub struct Step {
 pub struct Trail {
     pub origin: Origin,
     /// From where it began up to the instruction.
-    pub steps: Vec<Step>,
+    pub steps: Vec<TrailStep>,
 }
 
 impl Trail {
     /// The return by which it left a call, if it came from an earlier one.
     pub fn ending_call(&self) -> Option<usize> {
         for step in &self.steps {
-            if let (Place::At(pc), Place::Idle | Place::Ready) = (step.from, step.to) {
+            if let (StatePlace::At(pc), StatePlace::Idle | StatePlace::Ready) = (
+                step.from, step.to,
+            ) {
                 return Some(pc);
             }
         }
@@ -57,21 +59,21 @@ impl Trail {
 
 // A place that was looked at, and how it leads on: by a step to the place of this number.
 #[derive(Clone, Copy)]
-struct Node {
-    place: Place,
+struct TrailNode {
+    place: StatePlace,
     jumps: bool,
     next: usize,
 }
 
-fn is_between_calls(place: Place) -> bool {
+fn is_between_calls(place: StatePlace) -> bool {
     match place {
-        Place::Idle | Place::Ready => true,
-        Place::At(_) => false,
+        StatePlace::Idle | StatePlace::Ready => true,
+        StatePlace::At(_) => false,
     }
 }
 
 // Whether it comes by this way.
-fn comes_by(way: &Way, place: Place, doubt: Doubt) -> bool {
+fn comes_by(way: &Way, place: StatePlace, doubt: Doubt) -> bool {
     let ends = doubt.is_of_cursor() && is_between_calls(way.from);
     way.to == place && !ends && doubt.holds(&way.state)
 }
@@ -93,7 +95,7 @@ fn is_made(known: &Known<'_>, way: &Way, doubt: Doubt) -> Result<bool, AllocErro
 }
 
 // The way by which it comes to a place from one that makes it so.
-fn maker(known: &Known<'_>, place: Place, doubt: Doubt) -> Result<Option<Way>, AllocError> {
+fn maker(known: &Known<'_>, place: StatePlace, doubt: Doubt) -> Result<Option<Way>, AllocError> {
     for way in known.ways {
         if comes_by(way, place, doubt) && is_made(known, way, doubt)? {
             return Ok(Some(*way));
@@ -102,16 +104,16 @@ fn maker(known: &Known<'_>, place: Place, doubt: Doubt) -> Result<Option<Way>, A
     Ok(None)
 }
 
-fn is_seen(nodes: &[Node], place: Place) -> bool {
+fn is_seen(nodes: &[TrailNode], place: StatePlace) -> bool {
     nodes.iter().any(|node| node.place == place)
 }
 
 // Adds the places from which it comes to the place of this number; tells whether there is one.
 fn add_sources(
-    nodes: &mut Vec<Node>,
+    nodes: &mut Vec<TrailNode>,
     ways: &[Way],
     number: usize,
-    place: Place,
+    place: StatePlace,
     doubt: Doubt,
 ) -> Result<bool, AllocError> {
     let mut comes = false;
@@ -119,7 +121,7 @@ fn add_sources(
         if comes_by(way, place, doubt) {
             comes = true;
             if !is_seen(nodes.as_slice(), way.from) {
-                nodes.push(Node {
+                nodes.push(TrailNode {
                     place: way.from,
                     jumps: way.jumps,
                     next: number,
@@ -131,7 +133,11 @@ fn add_sources(
 }
 
 // The steps from a place that was looked at up to the first.
-fn steps_from(alloc: Global, nodes: &[Node], number: usize) -> Result<Vec<Step>, AllocError> {
+fn steps_from(
+    alloc: Global,
+    nodes: &[TrailNode],
+    number: usize,
+) -> Result<Vec<TrailStep>, AllocError> {
     let mut steps = Vec::new(alloc);
     let mut at = number;
     for _ in 0..nodes.len() {
@@ -142,7 +148,7 @@ fn steps_from(alloc: Global, nodes: &[Node], number: usize) -> Result<Vec<Step>,
         if at == 0 {
             break;
         }
-        steps.push(Step {
+        steps.push(TrailStep {
             from: node.place,
             to: next.place,
             jumps: node.jumps,
@@ -152,9 +158,14 @@ fn steps_from(alloc: Global, nodes: &[Node], number: usize) -> Result<Vec<Step>,
     Ok(steps)
 }
 
-fn made_by(alloc: Global, nodes: &[Node], number: usize, way: &Way) -> Result<Trail, AllocError> {
+fn made_by(
+    alloc: Global,
+    nodes: &[TrailNode],
+    number: usize,
+    way: &Way,
+) -> Result<Trail, AllocError> {
     let mut steps = vec![in alloc;
-        Step {
+        TrailStep {
             from: way.from,
             to: way.to,
             jumps: way.jumps,
@@ -167,9 +178,11 @@ fn made_by(alloc: Global, nodes: &[Node], number: usize, way: &Way) -> Result<Tr
     Ok(Trail { origin, steps })
 }
 
-fn begins_at(code: &Module, place: Place) -> Origin {
+fn begins_at(code: &Module, place: StatePlace) -> Origin {
     match place {
-        Place::At(pc) if pc == 0 || pc == code.init() || pc == code.main() => Origin::Begun(pc),
+        StatePlace::At(pc) if pc == 0 || pc == code.init() || pc == code.main() => Origin::Begun(
+            pc,
+        ),
         _ => Origin::Met(place),
     }
 }
@@ -177,9 +190,9 @@ fn begins_at(code: &Module, place: Place) -> Origin {
 /// How it came to an instruction, by the fewest steps.
 pub fn trail_to(known: &Known<'_>, pc: usize, doubt: Doubt) -> Result<Trail, AllocError> {
     let Known { alloc, code, .. } = *known;
-    let start = Place::At(pc);
+    let start = StatePlace::At(pc);
     let mut nodes = vec![in alloc;
-        Node {
+        TrailNode {
             place: start,
             jumps: false,
             next: 0

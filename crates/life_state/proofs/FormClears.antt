@@ -1,7 +1,7 @@
 -- What a clear leaves of a state in form is in form.
 use Rattle.std.proofs.Common.{◌≡◌, ℕ, Bool, true, false, not, if◌then◌else◌, refl, ap, ◌∙◌, inl, inr}
-use Rattle.module_lang.specs.declared.instr.PoolRef.{PoolRef}
-use Rattle.module_lang.specs.Program.{Program, IsModule}
+use Rattle.module_code.specs.declared.instr.PoolRef.{PoolRef}
+use Rattle.module_code.specs.Program.{Program, IsModule}
 use Rattle.life_state.specs.States.{dead_where, only_null, ended_pool, never_made, is_live_brigade, ended_brigade, with_homes, CursorKnown, Unset, Loose, In, End, InOrEnd, State}
 use Rattle.life_state.specs.Order.{is_at_hand}
 use Rattle.life_state.specs.PoolOrder.{is_under, is_clearable}

@@ -1,7 +1,7 @@
 -- Where handlers begin and end, and where a request ends.
 use Rattle.std.proofs.Common.{Bool, true, false, length, inl, inr, refl}
-use Rattle.module_lang.specs.declared.instr.PoolRef.TheVariants as pool
-use Rattle.module_lang.specs.Program.{Program, IsModule}
+use Rattle.module_code.specs.declared.instr.PoolRef.TheVariants as pool
+use Rattle.module_code.specs.Program.{Program, IsModule}
 use Rattle.life_state.specs.declared.parts.Contents.TheVariants.{NoLateData}
 use Rattle.life_state.specs.States.{only_call, never_made, holds, State}
 use Rattle.life_state.specs.Rules.{cleared, at_open, at_main, at_return, at_end_of_request}

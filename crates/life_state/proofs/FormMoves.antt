@@ -1,6 +1,6 @@
 -- A state in form stays so where one variable changes, or where cursors move.
 use Rattle.std.proofs.Common.{◌≡◌, ◌≢◌, ℕ, ◌<◌, ◌≤◌, Bool, true, false, not, ◌==◌, if◌then◌else◌, length, refl, ap, sym, subst, ◌∙◌, ◌⊎◌, inl, inr, arith}
-use Rattle.module_lang.specs.Program.{Program}
+use Rattle.module_code.specs.Program.{Program}
 use Rattle.run_model.specs.Indexed.{upd}
 use Rattle.run_model.proofs.Updates.{upd_at, upd_off, upd_either}
 use Rattle.life_state.specs.declared.parts.PoolState.{PoolState}

@@ -1,12 +1,12 @@
 -- What needs that are met say of a state in form.
 use Rattle.std.proofs.Common.{◌≡◌, ℕ, ◌<◌, ◌≤◌, Bool, true, false, ◌&&◌, if◌then◌else◌, Option, Some, None, refl, ap, sym, ◌∙◌, ⊎_elim, arith}
 use Rattle.std.proofs.lemmas.Bool.{cases_lt, lt-ltb}
-use Rattle.module_lang.specs.declared.instr.PoolRef.{PoolRef}
-use Rattle.module_lang.specs.declared.instr.PoolRef.TheVariants as pool
-use Rattle.module_lang.specs.Tables.{place_is_declared}
+use Rattle.module_code.specs.declared.instr.PoolRef.{PoolRef}
+use Rattle.module_code.specs.declared.instr.PoolRef.TheVariants as pool
+use Rattle.module_code.specs.Tables.{place_is_declared}
 use Rattle.run_model.specs.declared.fault.FaultKind.{FaultKind}
 use Rattle.run_model.specs.declared.fault.FaultKind.TheVariants.{F1, F2, F4, F7}
-use Rattle.run_model.specs.Faults.{Footing, OnBucket, OnLoose, InBrigade, end_fault, or_else}
+use Rattle.run_model.specs.Faults.{Need, OnBucket, OnLoose, InBrigade, end_fault, or_else}
 use Rattle.life_state.specs.States.{is_live_alone, BrigadeKnown, is_live_brigade, is_usable_alone, CursorKnown, Unset, Loose, In, End, InOrEnd, State}
 use Rattle.life_state.specs.Order.{is_at_hand}
 use Rattle.life_state.specs.Rules.{cursor_need, pool_need, brigade_need, usable_need}
@@ -55,7 +55,7 @@ place_there s (pool.Own q) f h = lt-ltb q s.pool_count (pool_there s q f h)
 
 -- Cursors.
 
-bucket_there : (f : Footing) (x : CursorKnown) → ((b : ℕ) → end_fault f b ≡ None → ⊥) → cursor_need f x ≡ None → AtBucket x
+bucket_there : (f : Need) (x : CursorKnown) → ((b : ℕ) → end_fault f b ≡ None → ⊥) → cursor_need f x ≡ None → AtBucket x
 bucket_there f Unset ends h = cc
 bucket_there f (Loose t k) ends h = tt
 bucket_there f (In b t) ends h = tt

@@ -1,9 +1,9 @@
 -- The forms of brigades and homes, by what makes them.
 use Rattle.std.proofs.Common.{◌≡◌, ℕ, ◌<◌, Bool, true, false, ◌&&◌, ◌||◌, not, ◌==◌, nat_lt, refl, ap, ap₂, sym, subst, ◌∙◌, ⊎_elim}
 use Rattle.std.proofs.lemmas.Bool.{eqb-true, ltb-true}
-use Rattle.module_lang.specs.declared.instr.PoolRef.{PoolRef}
-use Rattle.module_lang.specs.declared.instr.PoolRef.TheVariants as pool
-use Rattle.module_lang.specs.Tables.{place_is_declared}
+use Rattle.module_code.specs.declared.instr.PoolRef.{PoolRef}
+use Rattle.module_code.specs.declared.instr.PoolRef.TheVariants as pool
+use Rattle.module_code.specs.Tables.{place_is_declared}
 use Rattle.life_state.specs.declared.parts.Contents.{Contents}
 use Rattle.life_state.specs.declared.parts.PoolState.{PoolState}
 use Rattle.life_state.specs.States.{Homes, no_homes, only_call, home_in, both_homes, dead_where, ended_pool, BrigadeKnown, never_made, holds, passed_on, is_live_brigade, is_usable_alone, ended_brigade, with_homes, State}

@@ -1,15 +1,18 @@
 -- States in form pass the test of form.
-use Rattle.std.proofs.Common.{◌≡◌, ℕ, ◌<◌, ◌≤◌, Bool, true, false, ◌&&◌, ◌||◌, not, inl, inr, ◌⊎◌, refl, sym, ap, subst, ◌∙◌, ◌≢◌}
+use Rattle.std.proofs.Common.{◌≡◌, ℕ, ◌<◌, ◌≤◌, Bool, true, false, ◌&&◌, ◌||◌, not, nat_lt, nat_le, inl, inr, ◌⊎◌, refl, sym, ap, subst, ◌∙◌, ◌≢◌}
 use Rattle.std.proofs.Math.Dec.{eqb, ltb}
 use Rattle.std.proofs.Math.Bool.{beq}
-use Rattle.std.proofs.lemmas.Bool.{cases_lt, cases_eq, lt-ltb, eq-eqb}
-use Rattle.module_lang.specs.declared.instr.PoolRef.TheVariants as pool
+use Rattle.std.proofs.lemmas.Bool.{cases_lt, cases_eq, lt-ltb, le-leb, eq-eqb}
+use Rattle.module_code.specs.declared.instr.PoolRef.TheVariants as pool
 use Rattle.life_state.specs.declared.parts.PoolState.{PoolState}
-use Rattle.life_state.specs.Rules.{is_empty}
-use Rattle.life_state.specs.States.{Homes, BrigadeKnown, State, is_live_brigade, never_made, no_homes, only_null}
-use Rattle.life_state.specs.Form.{some_pool, FormedBrigade}
+use Rattle.life_state.specs.Order.{all_below, is_at_hand}
+use Rattle.life_state.specs.Rules.{is_empty, some_class}
+use Rattle.life_state.specs.States.{Homes, BrigadeKnown, CursorKnown, Unset, Loose, In, End, InOrEnd, State, is_live_brigade, never_made, no_homes, only_null}
+use Rattle.life_state.specs.Form.{some_pool, FormedBrigade, AtHand, FormedCursor, is_to_write, IsFormed}
 use Rattle.life_state.specs.FormTests.{NamesBelow, FormedPool, FormedPlace}
-use Rattle.life_state.proofs.Tests.{and2, or_left, or_right}
+use Rattle.life_state.specs.InForm.{names_below, is_free, is_null, is_unmade, is_formed_pool, is_formed_brigade, is_formed_place, has_at_hand, is_formed_cursor, is_formed_fact, is_formed_at, is_formed}
+use Rattle.life_state.proofs.Below.{all_below_holds}
+use Rattle.life_state.proofs.Tests.{and2, and3, or_left, or_right}
 
 beq_same : (a b : Bool) → a ≡ b → beq a b ≡ true
 beq_same true true h = refl
@@ -35,6 +38,11 @@ below_or q n b h = at (cases_lt q n)
     at : (q < n) ⊎ (n ≤ q) → (ltb q n || b) ≡ true
     at (inl k) = or_left (ltb q n) b (lt-ltb q n k)
     at (inr k) = or_right (ltb q n) b (h k)
+
+-- one that is there only where it is low
+pub low_or_none : (q n : ℕ) (b : Bool) → (b ≡ true → q < n) → (nat_lt q n || not b) ≡ true
+low_or_none q n true h = or_left (nat_lt q n) false (lt-ltb q n (h refl))
+low_or_none q n false h = or_right (nat_lt q n) true refl
 
 pub passes_pool : (s : State) (q : ℕ) (v : PoolState) (null : Bool) → v ≡ s.pools q → (v ≡ only_null → null ≡ true) → FormedPool s q → (((v.null || v.gone) || v.live) && (ltb q s.pool_count || null)) ≡ true
 passes_pool s q v null at is f =
@@ -69,3 +77,60 @@ passes_in v unmade is (inr h) = or_right unmade ((v.live && not v.null) && not v
     part true true c h = h
     part true false c h = cc h
     part false b c h = cc h
+
+-- The whole test.
+
+pub passes_homes : (n : ℕ) (h : Homes) → NamesBelow n h → names_below n h ≡ true
+passes_homes n h f =
+    and2 (not (h.at pool.Conn)) (all_below 8 (λ q. nat_lt q n || not (h.at (pool.Own q)))) (ap not (f.0))
+    (all_below_holds 8 (λ q. nat_lt q n || not (h.at (pool.Own q))) (λ q low. low_or_none q n (h.at (pool.Own q)) (f.1 q)))
+
+passes_one : (v : BrigadeKnown) → FormedBrigade v → is_formed_brigade v ≡ true
+passes_one v f = passes_brigade v (is_free v.homes) (λ e. passes_free v.homes (names_below 0 v.homes) (passes_homes 0 v.homes) e) f
+
+passes_hand : (s : State) (b : ℕ) → AtHand s b → has_at_hand s b ≡ true
+passes_hand s b h = and2 (nat_lt b 9) (is_at_hand (s.brigades b)) (lt-ltb b 9 (h.0)) (h.1)
+
+passes_cursor : (s : State) (x : CursorKnown) → FormedCursor s x → is_formed_cursor s x ≡ true
+passes_cursor s Unset f = refl
+passes_cursor s (Loose t h) f = and2 (some_class t) (names_below s.pool_count h) (f.0) (passes_homes s.pool_count h (f.1))
+passes_cursor s (In b t) f = and2 (some_class t) (has_at_hand s b) (f.0) (passes_hand s b (f.1))
+passes_cursor s (End b) f = passes_hand s b f
+passes_cursor s (InOrEnd b t) f = and2 (some_class t) (has_at_hand s b) (f.0) (passes_hand s b (f.1))
+
+-- written only where it has to be
+due_or_none : (due written : Bool) → (written ≡ true → due ≡ true) → (due || not written) ≡ true
+due_or_none due true h = or_left due false (h refl)
+due_or_none due false h = or_right due true refl
+
+pub passes_form : (s : State) → IsFormed s → is_formed s ≡ true
+unfolding is_formed
+passes_form s f =
+    and2 (counts && few && brought && all_below 8 (is_formed_pool s)) (all_below 9 (is_formed_at s))
+    (and2 (counts && few && brought) (all_below 8 (is_formed_pool s))
+    (and3 counts few brought (le-leb s.pool_count 8 f.pool_count) (le-leb s.brigade_count 8 f.brigade_count) (passes_in (s.brigades 8) (is_unmade (s.brigades 8)) (λ e. ap is_unmade e) f.brought))
+    (all_below_holds 8 (is_formed_pool s) (λ q low. passes_pool s q (s.pools q) (is_null (s.pools q)) refl (λ e. ap is_null e) (f.pools q, f.no_pools q))))
+    (all_below_holds 9 (is_formed_at s) at)
+  where
+    counts : Bool
+    counts = nat_le s.pool_count 8
+
+    few : Bool
+    few = nat_le s.brigade_count 8
+
+    brought : Bool
+    brought = is_unmade (s.brigades 8) || is_live_brigade (s.brigades 8)
+
+    place : (b : ℕ) → is_formed_place s b ≡ true
+    place b =
+        let v = s.brigades b in
+        passes_place s b v (is_formed_brigade v) (names_below s.pool_count v.homes) (is_unmade v) refl (passes_one v) (passes_homes s.pool_count v.homes) (λ e. ap is_unmade e)
+        (f.brigades b, (f.homes b, f.no_brigades b))
+
+    fact : (c d : ℕ) → is_formed_fact s c d ≡ true
+    fact c d = and2 (is_to_write s c d || not (s.facts c d)) (beq (s.facts c d) (s.facts d c)) (due_or_none (is_to_write s c d) (s.facts c d) (f.facts c d)) (beq_same (s.facts c d) (s.facts d c) (f.symmetric c d))
+
+    at : (k : ℕ) → k < 9 → is_formed_at s k ≡ true
+    at k low =
+        and3 (is_formed_place s k) (is_formed_cursor s (s.cursors k)) (all_below 9 (is_formed_fact s k)) (place k) (passes_cursor s (s.cursors k) (f.cursors k))
+        (all_below_holds 9 (is_formed_fact s k) (λ d below. fact k d))

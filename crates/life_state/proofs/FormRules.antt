@@ -2,15 +2,15 @@
 use Rattle.std.proofs.Common.{◌≡◌, ℕ, ◌<◌, ◌≤◌, Bool, true, false, ◌||◌, not, nat_lt, length, List, [], ◌∷◌, Option, Some, None, IfSome, IfOk, refl, ap, sym, subst, ◌∙◌, inl, ⊎_elim, arith, slice_index_or}
 use Rattle.std.proofs.lemmas.Option.{slice_get-get_or}
 use Rattle.std.proofs.lemmas.Bool.{ltb-true, lt-ltb, cases_lt}
-use Rattle.module_lang.specs.declared.instr.Instr.{Instr}
-use Rattle.module_lang.specs.declared.instr.Instr.TheVariants as instr
-use Rattle.module_lang.specs.declared.instr.PoolRef.TheVariants as pool
-use Rattle.module_lang.specs.declared.instr.VarRef.{VarRef}
-use Rattle.module_lang.specs.declared.instr.VarRef.TheVariants as variable
-use Rattle.module_lang.specs.Args.{args}
-use Rattle.module_lang.specs.Tables.{place_is_declared}
-use Rattle.module_lang.specs.Program.{Program, IsModule, is_variable, pool_of_brigade}
-use Rattle.module_lang.proofs.FitLaws.{AreFit, fits_parts}
+use Rattle.module_code.specs.declared.instr.Instr.{Instr}
+use Rattle.module_code.specs.declared.instr.Instr.TheVariants as instr
+use Rattle.module_code.specs.declared.instr.PoolRef.TheVariants as pool
+use Rattle.module_code.specs.declared.instr.VarRef.{VarRef}
+use Rattle.module_code.specs.declared.instr.VarRef.TheVariants as variable
+use Rattle.module_code.specs.Args.{args}
+use Rattle.module_code.specs.Tables.{place_is_declared}
+use Rattle.module_code.specs.Program.{Program, IsModule, is_variable, pool_of_brigade}
+use Rattle.module_code.proofs.FitLaws.{AreFit, fits_parts}
 use Rattle.run_model.specs.declared.fault.FaultKind.{FaultKind}
 use Rattle.run_model.specs.Faults.{Want, WUsable, wants}
 use Rattle.life_state.specs.declared.parts.Classes.{Classes}

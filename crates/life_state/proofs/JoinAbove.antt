@@ -1,8 +1,8 @@
 -- Two states of the same variables are below their join.
 use Rattle.std.proofs.Common.{◌≡◌, ℕ, ◌+◌, ◌<◌, Bool, true, false, ◌&&◌, ◌||◌, not, ◌==◌, if◌then◌else◌, refl, sym, arith}
 use Rattle.std.proofs.lemmas.Bool.{leb-false, le-leb, eqb-true, eq-eqb}
-use Rattle.module_lang.specs.declared.instr.PoolRef.{PoolRef}
-use Rattle.module_lang.specs.declared.instr.PoolRef.TheVariants as pool
+use Rattle.module_code.specs.declared.instr.PoolRef.{PoolRef}
+use Rattle.module_code.specs.declared.instr.PoolRef.TheVariants as pool
 use Rattle.life_state.specs.declared.parts.Contents.{Contents}
 use Rattle.life_state.specs.declared.parts.Classes.{Classes}
 use Rattle.life_state.specs.States.{Homes, both_homes, BrigadeKnown, CursorKnown, Unset, Loose, In, End, InOrEnd, State}
@@ -23,10 +23,10 @@ homes_above pick up a b =
     (and2 (implies (one pool.Req) (both pool.Req)) (all_below 8 (λ i. implies (one (pool.Own i)) (both (pool.Own i)))) (up (a.at pool.Req) (b.at pool.Req))
     (all_below_holds 8 (λ i. implies (one (pool.Own i)) (both (pool.Own i))) (λ i h. up (a.at (pool.Own i)) (b.at (pool.Own i)))))
 
-homes_left : (a b : Homes) → homes_le a (both_homes a b) ≡ true
+pub homes_left : (a b : Homes) → homes_le a (both_homes a b) ≡ true
 homes_left = homes_above (λ x y. x) implies_left
 
-homes_right : (a b : Homes) → homes_le b (both_homes a b) ≡ true
+pub homes_right : (a b : Homes) → homes_le b (both_homes a b) ≡ true
 homes_right = homes_above (λ x y. y) implies_right
 
 content_left : (a b : Contents) → content_le a (greater a b) ≡ true

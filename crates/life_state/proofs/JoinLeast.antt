@@ -1,8 +1,8 @@
 -- The join of two states in form is below each state in form that is above both.
 use Rattle.std.proofs.Common.{◌≡◌, ℕ, ◌<◌, Bool, true, false, ◌&&◌, ◌||◌, not, ◌==◌, if◌then◌else◌, refl, ap, sym, ◌∙◌, ⊎_elim}
 use Rattle.std.proofs.lemmas.Bool.{eqb-true, eq-eqb}
-use Rattle.module_lang.specs.declared.instr.PoolRef.{PoolRef}
-use Rattle.module_lang.specs.declared.instr.PoolRef.TheVariants as pool
+use Rattle.module_code.specs.declared.instr.PoolRef.{PoolRef}
+use Rattle.module_code.specs.declared.instr.PoolRef.TheVariants as pool
 use Rattle.life_state.specs.declared.parts.Contents.{Contents}
 use Rattle.life_state.specs.declared.parts.Classes.{Classes}
 use Rattle.life_state.specs.declared.parts.PoolState.{PoolState}
@@ -52,7 +52,7 @@ pool_least s t u p q =
     and3 (implies (s.null || t.null) u.null) (implies (s.gone || t.gone) u.gone) (implies (s.live || t.live) u.live)
     (implies_or s.null t.null u.null (p3.0) (q3.0)) (implies_or s.gone t.gone u.gone (p3.1) (q3.1)) (implies_or s.live t.live u.live (p3.2) (q3.2))
 
-homes_least : (a b u : Homes) → homes_le a u ≡ true → homes_le b u ≡ true → homes_le (both_homes a b) u ≡ true
+pub homes_least : (a b u : Homes) → homes_le a u ≡ true → homes_le b u ≡ true → homes_le (both_homes a b) u ≡ true
 homes_least a b u p q =
     let p3 = split3 (implies a.call u.call) (implies a.dead u.dead) (places_le a.at u.at) p in
     let q3 = split3 (implies b.call u.call) (implies b.dead u.dead) (places_le b.at u.at) q in

@@ -26,3 +26,7 @@ pub mod Picks
 pub mod Sets
 pub mod Tests
 pub mod UnderLaws
+pub mod Within
+pub mod WithinParts
+pub mod WithinNeeds
+pub mod WithinRules

@@ -1,8 +1,8 @@
 -- The parts of the order: each is reflexive and transitive, and what is joined is above both.
 use Rattle.std.proofs.Common.{◌≡◌, ℕ, ◌+◌, ◌≤◌, Bool, true, ◌&&◌, ◌||◌, not, ◌==◌, refl, ap, ◌∙◌, ⊎_elim, arith}
 use Rattle.std.proofs.lemmas.Bool.{leb-true, le-leb, eqb-true, eq-eqb}
-use Rattle.module_lang.specs.declared.instr.PoolRef.{PoolRef}
-use Rattle.module_lang.specs.declared.instr.PoolRef.TheVariants as pool
+use Rattle.module_code.specs.declared.instr.PoolRef.{PoolRef}
+use Rattle.module_code.specs.declared.instr.PoolRef.TheVariants as pool
 use Rattle.life_state.specs.declared.parts.Contents.{Contents}
 use Rattle.life_state.specs.declared.parts.Classes.{Classes}
 use Rattle.life_state.specs.declared.parts.PoolState.{PoolState}
@@ -174,7 +174,7 @@ le_set (In b s) y p q = refl
 le_set (End b) y p q = refl
 le_set (InOrEnd b s) y p q = refl
 
-le_end : (x y : CursorKnown) → cursor_le x y ≡ true → is_end y ≡ true → is_end x ≡ true
+pub le_end : (x y : CursorKnown) → cursor_le x y ≡ true → is_end y ≡ true → is_end x ≡ true
 le_end (End b) y p q = refl
 le_end x Unset p q = cc
 le_end x (Loose t k) p q = cc

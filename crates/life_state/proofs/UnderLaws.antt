@@ -2,9 +2,9 @@
 use Rattle.std.proofs.Common.{◌≡◌, ℕ, zero, suc, ◌≤◌, ◌<◌, true, false, ◌||◌, length, slice_index_or, refl, ap, ◌∙◌, arith, ne_eqb}
 use Rattle.std.proofs.lemmas.List.{get_or_past}
 use Rattle.std.proofs.lemmas.Bool.{ltb-true}
-use Rattle.module_lang.specs.declared.instr.PoolRef.{PoolRef}
-use Rattle.module_lang.specs.declared.instr.PoolRef.TheVariants as pool
-use Rattle.module_lang.specs.Program.{Program, pool_of_pool, pool_of_brigade}
+use Rattle.module_code.specs.declared.instr.PoolRef.{PoolRef}
+use Rattle.module_code.specs.declared.instr.PoolRef.TheVariants as pool
+use Rattle.module_code.specs.Program.{Program, pool_of_pool, pool_of_brigade}
 use Rattle.life_state.specs.PoolOrder.{is_same_place, under_within, is_under, is_clearable}
 
 not_conn : (top : PoolRef) → is_clearable top ≡ true → is_same_place top pool.Conn ≡ false

@@ -1,10 +1,10 @@
 -- Worked states, by hand. The identity module passes `in` on until an EOS was passed, and cleans it from then on:
 -- open: ret ok [0]; init: ret ok [1]; main: jsent 5 [2], pass in 7 [3], ret ok [4], bclean in [5], ret ok [6], ret fail [7].
 use Rattle.std.specs.Prelude.{◌≡◌, Bool, true, false, ◌&&◌, [], ◌∷◌, Option, Some, None, Result, Ok, Err}
-use Rattle.module_lang.specs.declared.instr.Instr.TheVariants as instr
-use Rattle.module_lang.specs.declared.instr.Status.TheVariants as status
-use Rattle.module_lang.specs.declared.instr.PoolRef.TheVariants as pool
-use Rattle.module_lang.specs.Program.{Program, program}
+use Rattle.module_code.specs.declared.instr.Instr.TheVariants as instr
+use Rattle.module_code.specs.declared.instr.Status.TheVariants as status
+use Rattle.module_code.specs.declared.instr.PoolRef.TheVariants as pool
+use Rattle.module_code.specs.Program.{Program, program}
 use Rattle.run_model.specs.declared.fault.FaultKind.{FaultKind}
 use Rattle.run_model.specs.declared.fault.FaultKind.TheVariants.{F5, F6, F7, F8}
 use Rattle.run_model.specs.Indexed.{upd}

@@ -1,6 +1,6 @@
 -- The form of a state: each thing is said in one way.
 use Rattle.std.specs.Prelude.{◌≡◌, ℕ, ◌<◌, ◌≤◌, ◌≢◌, Bool, true, false, ◌&&◌, ◌||◌, not, ◌==◌, ◌⊎◌}
-use Rattle.module_lang.specs.declared.instr.PoolRef.TheVariants as pool
+use Rattle.module_code.specs.declared.instr.PoolRef.TheVariants as pool
 use Rattle.life_state.specs.declared.parts.Contents.TheVariants.{Empty}
 use Rattle.life_state.specs.declared.parts.PoolState.{PoolState}
 use Rattle.life_state.specs.States.{Homes, no_homes, only_null, BrigadeKnown, never_made, is_live_brigade, CursorKnown, Unset, Loose, In, End, InOrEnd, State}

@@ -1,7 +1,7 @@
 -- Rules, joins, and where calls begin and end lead from states in form to such states, of the same variables.
 use Rattle.std.specs.Prelude.{◌≡◌, Bool, true, false, not, length, IfSome, Ok}
-use Rattle.module_lang.specs.declared.instr.Instr.{Instr}
-use Rattle.module_lang.specs.Program.{Program, IsModule, fits}
+use Rattle.module_code.specs.declared.instr.Instr.{Instr}
+use Rattle.module_code.specs.Program.{Program, IsModule, fits}
 use Rattle.life_state.specs.States.{State}
 use Rattle.life_state.specs.Order.{leq, join}
 use Rattle.life_state.specs.Rules.{Edges, rule, at_open, at_main, at_return, at_end_of_request}

@@ -1,6 +1,6 @@
 -- The form of a state, part by part, as it is tested.
 use Rattle.std.specs.Prelude.{◌≡◌, ℕ, ◌<◌, ◌≤◌, ◌≢◌, true, false}
-use Rattle.module_lang.specs.declared.instr.PoolRef.TheVariants as pool
+use Rattle.module_code.specs.declared.instr.PoolRef.TheVariants as pool
 use Rattle.life_state.specs.States.{Homes, only_null, never_made, State}
 use Rattle.life_state.specs.Form.{some_pool, FormedBrigade, FormedCursor, is_to_write}
 

@@ -1,4 +1,4 @@
-pub use Rattle.module_lang.specs.Program
+pub use Rattle.module_code.specs.Program
 pub use Rattle.run_model.specs.Faults
 pub mod States
 pub mod Bounded
@@ -11,5 +11,7 @@ pub mod Examples
 pub mod Build
 pub mod Form
 pub mod FormTests
+pub mod InForm
 pub mod Laws
 pub mod FormLaws
+pub mod Monotone

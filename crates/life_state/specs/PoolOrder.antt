@@ -1,8 +1,8 @@
 -- Which pools lie under which, as the module declares them.
 use Rattle.std.specs.Prelude.{ℕ, zero, suc, Bool, true, false, ◌||◌, ◌==◌, nat_lt}
-use Rattle.module_lang.specs.declared.instr.PoolRef.{PoolRef}
-use Rattle.module_lang.specs.declared.instr.PoolRef.TheVariants as pool
-use Rattle.module_lang.specs.Program.{Program, pool_of_pool}
+use Rattle.module_code.specs.declared.instr.PoolRef.{PoolRef}
+use Rattle.module_code.specs.declared.instr.PoolRef.TheVariants as pool
+use Rattle.module_code.specs.Program.{Program, pool_of_pool}
 
 abbrev pub is_same_place : PoolRef → PoolRef → Bool
 is_same_place pool.Conn pool.Conn = true

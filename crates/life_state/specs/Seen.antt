@@ -1,7 +1,7 @@
 -- What the code's values stand for.
 use Rattle.std.specs.Prelude.{ℕ, Bool, true, false, ◌==◌, List, [], replicate, slice_index_or, Option, Some, None, Result, Ok, Err}
-use Rattle.module_lang.specs.declared.instr.PoolRef.{PoolRef}
-use Rattle.module_lang.specs.declared.instr.PoolRef.TheVariants as pool
+use Rattle.module_code.specs.declared.instr.PoolRef.{PoolRef}
+use Rattle.module_code.specs.declared.instr.PoolRef.TheVariants as pool
 use Rattle.life_state.specs.declared.parts.Contents.TheVariants.{Empty}
 use Rattle.life_state.specs.declared.parts.PoolSet.{PoolSet}
 use Rattle.life_state.specs.declared.parts.PoolState.{PoolState}

@@ -1,8 +1,8 @@
 //! Pools that go, with what lies under them.
 
 ghost use Rattle.std.specs.Prelude.{◌≡◌, ◌<◌, ◌≤◌, ℕ, length, slice_index_or, false, true};
-ghost use Rattle.module_lang.specs.declared.instr.PoolRef.TheVariants as pool;
-ghost use Rattle.module_lang.specs.Program.{pool_of_brigade};
+ghost use Rattle.module_code.specs.declared.instr.PoolRef.TheVariants as pool;
+ghost use Rattle.module_code.specs.Program.{pool_of_brigade};
 ghost use Rattle.life_state.specs.PoolOrder.{is_same_place, parent_of, is_under, is_clearable};
 ghost use Rattle.life_state.specs.Rules.{is_subpool, lies_under, cleared_pool, cleared_brigade, cleared_cursor, cleared_cursors, cleared_under, cleared};
 ghost use Rattle.life_state.specs.Seen.{seen, seen_pools, seen_pool_states, seen_brigade, seen_brigades, seen_cursor, seen_cursors};
@@ -10,7 +10,7 @@ ghost use Rattle.life_state.specs.Seen.{seen, seen_pools, seen_pool_states, seen
 use crate::facts::Keep;
 use crate::parts::{BrigadeState, CursorState, PoolSet, PoolState};
 use crate::state::State;
-use module_lang::{Module, PoolRef};
+use module_code::{Module, PoolRef};
 
 fn is_same_place(a: PoolRef, b: PoolRef) -> bool
     ensures { result ≡ is_same_place a b }
@@ -22,7 +22,7 @@ fn is_same_place(a: PoolRef, b: PoolRef) -> bool
     }
 }
 
-#[tactic(auto, unfolding(module_lang::specs::Program::pool_of_pool))]
+#[tactic(auto, unfolding(module_code::specs::Program::pool_of_pool))]
 fn parent_of(code: &Module, count: u8, pool: PoolRef) -> PoolRef
     requires { count ≡ length code.now.pools }
     ensures { result ≡ parent_of code.now pool }
@@ -77,7 +77,7 @@ fn pools_under(code: &Module, count: u8, top: PoolRef) -> PoolSet
     }
 }
 
-#[tactic(auto, unfolding(module_lang::specs::Program::pool_of_brigade))]
+#[tactic(auto, unfolding(module_code::specs::Program::pool_of_brigade))]
 pub(crate) fn pool_of_brigade(code: &Module, count: u8, b: u8) -> PoolRef
     requires { count ≡ length code.now.brigades }
     ensures { result ≡ pool_of_brigade code.now b }

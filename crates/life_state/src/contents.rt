@@ -5,7 +5,7 @@ ghost use Rattle.life_state.specs.Rules.{joined_content, content_of, tail_conten
 ghost use Rattle.life_state.specs.Seen.{seen_cursor};
 
 use crate::parts::{Classes, Contents, CursorState};
-use module_lang::KindTest;
+use module_code::KindTest;
 
 impl Contents {
     /// One brigade behind another.

@@ -1,8 +1,10 @@
 //! Whether a state is in form: each thing is said in one way.
 
-ghost use Rattle.std.specs.Prelude.{◌≡◌, ◌<◌, ℕ, true, false, length, ◌⊎◌};
+ghost use Rattle.std.specs.Prelude.{◌≡◌, ◌<◌, ℕ, true, false, ◌||◌, length, ◌⊎◌};
 ghost use Rattle.life_state.specs.Form.{AtHand, FormedBrigade, FormedCursor, IsFormed};
 ghost use Rattle.life_state.specs.FormTests.{NamesBelow, FormedPool, FormedPlace, FormedFact, FormedAt};
+ghost use Rattle.life_state.specs.InForm.{names_below, is_free, is_null, is_unmade, is_formed_pool, is_formed_brigade, is_formed_place, has_at_hand, is_formed_cursor, is_formed_fact, is_formed_at, is_formed};
+ghost use Rattle.life_state.specs.Order.{all_below};
 ghost use Rattle.life_state.specs.Rules.{some_class};
 ghost use Rattle.life_state.specs.Seen.{seen, seen_homes, seen_brigade};
 ghost use Rattle.life_state.specs.States.{no_homes, only_null, never_made, is_live_brigade};
@@ -11,6 +13,7 @@ use crate::parts::{BrigadeState, Classes, CursorState, HomeSet, PoolState};
 use crate::state::State;
 
 fn is_null(pool: PoolState) -> bool
+    ensures value { result ≡ is_null pool }
     ensures sound { result ≡ true → pool ≡ only_null }
     ensures complete { pool ≡ only_null → result ≡ true }
 {
@@ -18,6 +21,7 @@ fn is_null(pool: PoolState) -> bool
 }
 
 fn is_unmade(brigade: &BrigadeState) -> bool
+    ensures value { result ≡ is_unmade (seen_brigade brigade.now) }
     ensures sound { result ≡ true → (brigade.now.null ≡ true) × (brigade.now.gone ≡ false) × (brigade.now.live ≡ false) }
     ensures complete { seen_brigade brigade.now ≡ never_made → result ≡ true }
 {
@@ -40,6 +44,7 @@ fn width(row: &[bool; 9]) -> u8
 
 /// Whether no homes are told.
 fn is_free(homes: &HomeSet) -> bool
+    ensures value { result ≡ is_free (seen_homes homes.now) }
     ensures sound { result ≡ true → seen_homes homes.now ≡ no_homes }
     ensures complete { seen_homes homes.now ≡ no_homes → result ≡ true }
 {
@@ -49,6 +54,7 @@ fn is_free(homes: &HomeSet) -> bool
 
 /// Whether the pools among the homes have numbers below this one.
 fn are_declared(homes: &HomeSet, count: u8) -> bool
+    ensures value { result ≡ names_below count (seen_homes homes.now) }
     ensures sound { result ≡ true → NamesBelow count (seen_homes homes.now) }
     ensures complete { NamesBelow count (seen_homes homes.now) → result ≡ true }
 {
@@ -63,6 +69,7 @@ fn are_declared(homes: &HomeSet, count: u8) -> bool
 
 /// Whether a brigade has a mark exactly where it may be live, and contents and homes only where it may be usable.
 fn is_formed_brigade(brigade: &BrigadeState) -> bool
+    ensures value { result ≡ is_formed_brigade (seen_brigade brigade.now) }
     ensures sound { result ≡ true → FormedBrigade (seen_brigade brigade.now) }
     ensures complete { FormedBrigade (seen_brigade brigade.now) → result ≡ true }
 {
@@ -73,6 +80,7 @@ fn is_formed_brigade(brigade: &BrigadeState) -> bool
 
 impl State {
     fn is_formed_pool(&self, q: u8) -> bool
+        ensures value { result ≡ is_formed_pool (seen self.now) q }
         ensures sound { result ≡ true → FormedPool (seen self.now) q }
         ensures complete { FormedPool (seen self.now) q → result ≡ true }
     {
@@ -82,6 +90,7 @@ impl State {
     }
 
     fn is_formed_brigade(&self, b: u8) -> bool
+        ensures value { result ≡ is_formed_place (seen self.now) b }
         ensures sound { result ≡ true → FormedPlace (seen self.now) b }
         ensures complete { FormedPlace (seen self.now) b → result ≡ true }
     {
@@ -94,6 +103,7 @@ impl State {
 
     /// `in` is not given, or live.
     fn is_formed_in(&self) -> bool
+        ensures value { result ≡ is_unmade ((seen self.now).brigades 8) || is_live_brigade ((seen self.now).brigades 8) }
         ensures sound { result ≡ true → FormedBrigade ((seen self.now).brigades 8) → ((seen self.now).brigades 8 ≡ never_made) ⊎ (is_live_brigade ((seen self.now).brigades 8) ≡ true) }
         ensures complete { ((seen self.now).brigades 8 ≡ never_made) ⊎ (is_live_brigade ((seen self.now).brigades 8) ≡ true) → result ≡ true }
     {
@@ -102,14 +112,16 @@ impl State {
     }
 
     fn is_at_hand(&self, b: u8) -> bool
+        ensures value { result ≡ has_at_hand (seen self.now) b }
         ensures sound { result ≡ true → AtHand (seen self.now) b }
         ensures complete { AtHand (seen self.now) b → result ≡ true }
     {
         let brigade = self.brigade(b);
-        b < 9 && brigade.live & !brigade.null & !brigade.gone & brigade.usable & !brigade.passed
+        b < 9 && brigade.is_at_hand()
     }
 
     fn is_formed_cursor(&self, c: u8) -> bool
+        ensures value { result ≡ is_formed_cursor (seen self.now) ((seen self.now).cursors c) }
         ensures sound { result ≡ true → FormedCursor (seen self.now) ((seen self.now).cursors c) }
         ensures complete { FormedCursor (seen self.now) ((seen self.now).cursors c) → result ≡ true }
     {
@@ -127,17 +139,19 @@ impl State {
 
     /// A fact is written both ways, and only where it has to be.
     fn is_formed_fact(&self, c: u8, d: u8) -> bool
+        ensures value { result ≡ is_formed_fact (seen self.now) c d }
         ensures sound { result ≡ true → FormedFact (seen self.now) c d }
         ensures complete { FormedFact (seen self.now) c d → result ≡ true }
     {
         let first = self.cursor(c);
         let second = self.cursor(d);
-        let is_due = c != d && first.is_set() & second.is_set() & !first.is_apart(&second);
+        let is_due = (c != d) & first.is_set() & second.is_set() & !first.is_apart(&second);
         (is_due | !self.fact(c, d)) & (self.fact(c, d) == self.fact(d, c))
     }
 
     fn are_formed_facts(&self, c: u8) -> bool
         requires { c < 9 }
+        ensures value { result ≡ all_below 9 (is_formed_fact (seen self.now) c) }
         ensures sound { result ≡ true → (d : ℕ) → FormedFact (seen self.now) c d }
         ensures complete { ((d : ℕ) → FormedFact (seen self.now) c d) → result ≡ true }
     {
@@ -151,6 +165,7 @@ impl State {
     }
 
     fn are_formed_pools(&self) -> bool
+        ensures value { result ≡ all_below 8 (is_formed_pool (seen self.now)) }
         ensures sound { result ≡ true → (q : ℕ) → q < 8 → FormedPool (seen self.now) q }
         ensures complete { ((q : ℕ) → q < 8 → FormedPool (seen self.now) q) → result ≡ true }
     {
@@ -164,6 +179,7 @@ impl State {
     }
 
     fn are_formed_places(&self) -> bool
+        ensures value { result ≡ all_below 9 (is_formed_at (seen self.now)) }
         ensures sound { result ≡ true → (k : ℕ) → k < 9 → FormedAt (seen self.now) k }
         ensures complete { ((k : ℕ) → k < 9 → FormedAt (seen self.now) k) → result ≡ true }
     {
@@ -181,6 +197,7 @@ impl State {
 
     /// Whether the state is in form: whether what it says is said in the one way in which it may be written.
     pub fn is_formed(&self) -> bool
+        ensures value { result ≡ is_formed (seen self.now) }
         ensures sound { result ≡ true → IsFormed (seen self.now) }
         ensures complete { IsFormed (seen self.now) → result ≡ true }
     {

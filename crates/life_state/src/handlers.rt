@@ -6,7 +6,7 @@ ghost use Rattle.life_state.specs.Seen.{seen};
 
 use crate::parts::{BrigadeState, Contents, CursorState, HomeSet, PoolState};
 use crate::state::State;
-use module_lang::{Module, PoolRef};
+use module_code::{Module, PoolRef};
 
 /// The state in which `open` begins, of a module with so many pools and brigades: all are null, and no EOS was passed.
 #[tactic(auto, unfolding(crate::specs::Seen::seen))]

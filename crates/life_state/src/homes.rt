@@ -7,7 +7,7 @@ ghost use Rattle.life_state.specs.Seen.{seen_pools, seen_homes};
 
 use crate::parts::{HomeSet, PoolSet};
 use crate::pools::implies;
-use module_lang::PoolRef;
+use module_code::PoolRef;
 
 impl HomeSet {
     /// Buckets that depend on nothing, or on the connection's pool.

@@ -4,6 +4,7 @@ ghost use Rattle.life_state.specs.Bounded.{IsBounded};
 ghost use Rattle.life_state.specs.Examples.{IdentityRows, OtherRows};
 ghost use Rattle.life_state.specs.FormLaws.{RulesKeepForm, JoinsKeepForm, JoinsAbsorb, EntriesAreFormed};
 ghost use Rattle.life_state.specs.Laws.{LeqSays, LeqHolds, LeqIsReflexive, LeqIsTransitive, LeqIsAntisymmetric, JoinIsAbove, JoinIsLeast};
+ghost use Rattle.life_state.specs.Monotone.{RulesAreMonotone, EntriesAreMonotone};
 ghost use Rattle.life_state.specs.Seen.{seen};
 
 use crate::state::State;
@@ -48,4 +49,11 @@ pub fn states_stay_in_form()
     ensures joins { JoinsKeepForm }
     ensures absorb { JoinsAbsorb }
     ensures entries { EntriesAreFormed }
+{}
+
+/// The rules are monotone: of two states in form of which one is below the other, the smaller one refuses less, and leads to smaller
+/// states. So is what lies between handlers.
+pub fn rules_are_monotone()
+    ensures rules { RulesAreMonotone }
+    ensures entries { EntriesAreMonotone }
 {}

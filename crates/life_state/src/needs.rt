@@ -1,7 +1,7 @@
 //! What instructions need of a state: one test for each want.
 
 ghost use Rattle.std.specs.Prelude.{◌≡◌, ◌≤◌, ◌<◌, true, length};
-ghost use Rattle.module_lang.specs.Program.{fits};
+ghost use Rattle.module_code.specs.Program.{fits};
 ghost use Rattle.run_model.specs.Indexed.{any_below};
 ghost use Rattle.run_model.specs.Faults.{Anywhere, OnBucket, OnLoose, InBrigade, InThis, WPool, WBrigade, WUsable, WNew, WNewPool, WCursor, WHomes, WHome, WSend, WReturn, or_else, wants};
 ghost use Rattle.life_state.specs.Rules.{cursor_need, pool_need, brigade_need, usable_need, homes_need, homes_at, send_need, keeps_call, need, first_need};
@@ -9,7 +9,7 @@ ghost use Rattle.life_state.specs.Seen.{seen, seen_homes, seen_brigade, seen_cur
 
 use crate::parts::{BrigadeState, Contents, CursorState, HomeSet};
 use crate::state::State;
-use module_lang::{Instr, Module, PoolRef};
+use module_code::{Instr, Module, PoolRef};
 use run_model::FaultKind;
 
 fn or_else(first: Option<FaultKind>, second: Option<FaultKind>) -> Option<FaultKind>

@@ -7,7 +7,7 @@ ghost use Rattle.life_state.specs.Order.{implies, all_below, places_le};
 ghost use Rattle.life_state.specs.Seen.{seen_pools};
 
 use crate::parts::PoolSet;
-use module_lang::PoolRef;
+use module_code::PoolRef;
 
 /// Whether the second holds where the first does.
 pub(crate) fn implies(first: bool, second: bool) -> bool

@@ -1,9 +1,9 @@
 //! The rules: what each instruction needs of a state, and the states that it leads to.
 
 ghost use Rattle.std.specs.Prelude.{◌≡◌, ◌<◌, ◌≤◌, true, length, Some, slice_get};
-ghost use Rattle.module_lang.specs.declared.instr.Instr as instr;
-ghost use Rattle.module_lang.specs.declared.instr.VarRef.TheVariants as variable;
-ghost use Rattle.module_lang.specs.Program.{fits};
+ghost use Rattle.module_code.specs.declared.instr.Instr as instr;
+ghost use Rattle.module_code.specs.declared.instr.VarRef.TheVariants as variable;
+ghost use Rattle.module_code.specs.Program.{fits};
 ghost use Rattle.life_state.specs.Facts.{known, set_cursor};
 ghost use Rattle.life_state.specs.States.{no_homes, only_call, set_pool, set_brigade};
 ghost use Rattle.life_state.specs.Rules.{no_other, made, only_bytes, after_bsave, edges_bpart, edges_jempty, edges_jend, told_classes, edges_jkind, edges_read, edges_jnull, edges_jsent, edges, rule};
@@ -14,7 +14,7 @@ use crate::facts::Others;
 use crate::parts::{BrigadeState, Classes, CursorState, HomeSet, PoolState};
 use crate::state::State;
 use crate::successors::{Successors, some_if};
-use module_lang::{Instr, KindTest, Module, VarRef};
+use module_code::{Instr, KindTest, Module, VarRef};
 use run_model::FaultKind;
 
 #[tactic(auto)]

@@ -10,7 +10,7 @@ use crate::facts::Others;
 use crate::motions::Motion;
 use crate::parts::{BrigadeState, Classes, Contents, CursorState, HomeSet, PoolState};
 use crate::state::State;
-use module_lang::{Module, PoolRef};
+use module_code::{Module, PoolRef};
 
 #[tactic(auto)]
 impl State {

@@ -3,33 +3,34 @@ use Rattle.std.proofs.Common.{◌≡◌, ℕ, Bool, true, false, ◌||◌, List,
 use Rattle.std.specs.Prelude.{IfSome}
 use Rattle.std.proofs.lemmas.Bool.{ltb-true, or_parts}
 use Rattle.std.proofs.lemmas.List.{drop_at}
-use Rattle.module_lang.specs.Args.{first_some, names_target, names_text, or_else}
-use Rattle.module_lang.specs.Bytes.{tail}
+use Rattle.module_code.specs.Args.{first_some, names_target, names_text, or_else}
+use Rattle.byte_text.specs.Bytes.{tail}
 use Rattle.module_lang.specs.Entries.{from_quote, step_texts}
 use Rattle.module_lang.specs.Handlers.{arg_in, args_in}
 use Rattle.module_lang.specs.Lines.{has_text, is_text_operand}
-use Rattle.module_lang.specs.Names.{is_name}
+use Rattle.module_code.specs.Names.{is_name}
 use Rattle.module_lang.specs.Operands.{after_operand, of_kind, operand_at, operand_kind_is_nothing, operand_kind_is_text, operands_at}
-use Rattle.module_lang.specs.Quoted.{quoted, text_of}
-use Rattle.module_lang.specs.Spelling.{operand_of}
-use Rattle.module_lang.specs.Texts as grammar
+use Rattle.byte_text.specs.Quoted.{quoted, text_of}
+use Rattle.module_code.specs.Spelling.{operand_of}
+use Rattle.byte_text.specs.QuotedTexts as quotes
 use Rattle.module_lang.specs.Texts.{arg_texts, args_texts, operands_text}
-use Rattle.module_lang.specs.Words.{op_kinds, op_text}
-use Rattle.module_lang.specs.declared.arg.Args.{Args}
-use Rattle.module_lang.specs.declared.instr.PoolRef.TheVariants as pool
-use Rattle.module_lang.specs.declared.instr.Value.TheVariants as value
-use Rattle.module_lang.specs.declared.operand.Operand.{Operand}
-use Rattle.module_lang.specs.declared.operand.Operand.TheVariants as operand
-use Rattle.module_lang.specs.declared.operand.Operands.{Operands}
-use Rattle.module_lang.specs.declared.word.OperandKind.{OperandKind}
-use Rattle.module_lang.specs.declared.word.OperandKind.TheVariants as kind
-use Rattle.module_lang.specs.declared.word.Op.{Op}
-use Rattle.module_lang.specs.declared.word.Op.TheVariants as op
+use Rattle.module_code.specs.Words.{op_kinds, op_text}
+use Rattle.module_code.specs.declared.arg.Args.{Args}
+use Rattle.module_code.specs.declared.instr.PoolRef.TheVariants as pool
+use Rattle.module_code.specs.declared.instr.Value.TheVariants as value
+use Rattle.module_code.specs.declared.operand.Operand.{Operand}
+use Rattle.module_code.specs.declared.operand.Operand.TheVariants as operand
+use Rattle.module_code.specs.declared.operand.Operands.{Operands}
+use Rattle.module_code.specs.declared.word.OperandKind.{OperandKind}
+use Rattle.module_code.specs.declared.word.OperandKind.TheVariants as kind
+use Rattle.module_code.specs.declared.word.Op.{Op}
+use Rattle.module_code.specs.declared.word.Op.TheVariants as op
 use Rattle.module_lang.proofs.ArgLaws.{is_label, is_version, op_formed, picked}
 use Rattle.module_lang.proofs.InverseLaws.{Spells, own_is, read_token, text_behind, text_taken, token_spelled, token_unquoted}
 use Rattle.module_lang.proofs.OperandLaws.{chain, kinds_read, made, read_kind}
-use Rattle.module_lang.proofs.QuoteFound.{quoted_found}
-use Rattle.module_lang.proofs.QuoteLaws.{quote_behind, quoted_again, unquoted}
+use Rattle.byte_text.proofs.QuoteFound.{quoted_found}
+use Rattle.module_lang.proofs.QuoteLaws.{quote_behind, unquoted}
+use Rattle.byte_text.proofs.QuoteAgain.{quoted_again}
 use Rattle.module_lang.proofs.SpellingLaws.{padded}
 
 -- An operand that was read is spelled in front of what follows: a label by its name, a text by its spelling.
@@ -40,7 +41,7 @@ pub record Found (k : OperandKind) (rest : List ℕ) (o : Operand) (x : ℕ) : T
   pub whole : (n s : List ℕ) (os : List (List ℕ)) → (is_label k ≡ true → n ≡ name) → (operand_kind_is_text k ≡ true → s ≡ spelled) → after_operand k rest ≡ operands_text os → rest ≡ operands_text (arg_texts (arg_in k o x 0) n s ++ os)
   pub same : (n : List ℕ) (len : ℕ) → (is_label k ≡ true → n ≡ name) → (operand_kind_is_text k ≡ true → len ≡ length text) → o ≡ operand_of (arg_in k o x 0) (padded n) len
   pub named : is_label k ≡ true → is_name name ≡ true
-  pub right : operand_kind_is_text k ≡ true → grammar.Spells spelled text × (o ≡ operand.Text (length text))
+  pub right : operand_kind_is_text k ≡ true → quotes.Spells spelled text × (o ≡ operand.Text (length text))
   pub at : operand_kind_is_text k ≡ true → from_quote rest ≡ spelled ++ after_operand k rest
   pub bare : operand_kind_is_text k ≡ false → from_quote rest ≡ from_quote (after_operand k rest)
 
@@ -170,7 +171,7 @@ pub record AreFound (i : Op) (o : Operands) (x : ℕ) (rest : List ℕ) : Type 0
   pub same : o ≡ written_as (args_in (op_kinds i) o x 0) (padded name) (length text)
   pub named : IfSome (first_some (names_target (arg_in (op_kinds i).first o.first x 0)) (names_target (arg_in (op_kinds i).second o.second x 0)) (names_target (arg_in (op_kinds i).third o.third x 0)) (names_target (arg_in (op_kinds i).fourth o.fourth x 0))) (λ _. is_name name ≡ true)
   pub has : has_text o ≡ operand_kind_is_text (op_kinds i).second
-  pub right : operand_kind_is_text (op_kinds i).second ≡ true → grammar.Spells spelled text × (o.second ≡ operand.Text (length text))
+  pub right : operand_kind_is_text (op_kinds i).second ≡ true → quotes.Spells spelled text × (o.second ≡ operand.Text (length text))
   pub behind : operand_kind_is_text (op_kinds i).second ≡ true → (word : List ℕ) → unquoted word ≡ true → text_of (quoted (from_quote (word ++ rest))) ≡ Some text
 
 pub ops_found : (i : Op) (o : Operands) (x : ℕ) (rest : List ℕ) → operands_at (op_kinds i) rest ≡ Ok o → AreFound i o x rest
@@ -226,11 +227,11 @@ word_unquoted op.ClearBuf = refl
 word_unquoted _ = refl
 
 -- the text of an instruction is the one in its line
-pub texted : (i : Op) (o : Operands) (x : ℕ) (rest : List ℕ) (f : AreFound i o x rest) (bytes : List ℕ) → from_quote bytes ≡ from_quote (op_text i ++ rest) → IfSome (first_some (names_text (arg_in (op_kinds i).first o.first x 0)) (names_text (arg_in (op_kinds i).second o.second x 0)) (names_text (arg_in (op_kinds i).third o.third x 0)) (names_text (arg_in (op_kinds i).fourth o.fourth x 0))) (λ _. (w : List ℕ) × (step_texts o bytes ≡ w ∷ []) × grammar.Spells f.spelled w)
+pub texted : (i : Op) (o : Operands) (x : ℕ) (rest : List ℕ) (f : AreFound i o x rest) (bytes : List ℕ) → from_quote bytes ≡ from_quote (op_text i ++ rest) → IfSome (first_some (names_text (arg_in (op_kinds i).first o.first x 0)) (names_text (arg_in (op_kinds i).second o.second x 0)) (names_text (arg_in (op_kinds i).third o.third x 0)) (names_text (arg_in (op_kinds i).fourth o.fourth x 0))) (λ _. (w : List ℕ) × (step_texts o bytes ≡ w ∷ []) × quotes.Spells f.spelled w)
 texted i o x rest f bytes e =
     let k = op_kinds i in
     let g = op_formed i in
-    let Q : Type 0 = (w : List ℕ) × (step_texts o bytes ≡ w ∷ []) × grammar.Spells f.spelled w in
+    let Q : Type 0 = (w : List ℕ) × (step_texts o bytes ≡ w ∷ []) × quotes.Spells f.spelled w in
     let none : (b : Bool) → b ≡ false → b ≡ true → Q = λ b p q. absurd (cc (sym p ∙ q)) in
     let read : operand_kind_is_text k.second ≡ true → text_of (quoted (from_quote bytes)) ≡ Some f.text = λ t. ap (λ y. text_of (quoted y)) e ∙ f.behind t (op_text i) (word_unquoted i) in
     first_if _ _ _ _ Q (text_if k.first o.first x 0 Q (none (operand_kind_is_text k.first) g.first)) (text_if k.second o.second x 0 Q (λ t. (f.text, rw (f.has ∙ t, read t) refl, (f.right t).0))) (text_if k.third o.third x 0 Q (none (operand_kind_is_text k.third) g.third)) (text_if k.fourth o.fourth x 0 Q (none (operand_kind_is_text k.fourth) g.fourth))

@@ -7,9 +7,9 @@ use Rattle.module_lang.specs.Assembling.{program_of, draft_read, lines_read}
 use Rattle.module_lang.specs.Codes.{Gives, Tells, ◌>>=◌}
 use Rattle.module_lang.specs.Drafts.{empty_draft}
 use Rattle.module_lang.specs.Handlers.{IsSeen, handler_resolved}
-use Rattle.module_lang.specs.Program.{Program, program}
+use Rattle.module_code.specs.Program.{Program, program}
 use Rattle.module_lang.specs.declared.draft.Draft.{Draft}
-use Rattle.module_lang.specs.declared.instr.Instr.{Instr}
+use Rattle.module_code.specs.declared.instr.Instr.{Instr}
 use Rattle.module_lang.specs.declared.refusal.AsmRefusal.{AsmRefusal}
 use Rattle.module_lang.specs.declared.refusal.AsmRefusal.TheVariants.{Fault, NoMemory}
 

@@ -5,40 +5,42 @@ use Rattle.std.proofs.lemmas.Bool.{eq-eqb}
 use Rattle.std.specs.List.{cons_option, range_with_len}
 use Rattle.std.proofs.lemmas.List.{length-map, map-append}
 use Rattle.std.proofs.lemmas.List.Elements.{filter_map-append}
-use Rattle.module_lang.specs.Bytes.{unindented}
+use Rattle.byte_text.specs.Bytes.{unindented}
 use Rattle.module_lang.specs.Drafts.{label_added, step_added, with_line, with_more}
 use Rattle.module_lang.specs.Entries.{from_quote, step_text, step_texts}
 use Rattle.module_lang.specs.Lines.{has_text, is_due, is_handler, judged, misplaced, instruction_count, place_is_declared}
-use Rattle.module_lang.specs.Names.{is_name}
-use Rattle.module_lang.specs.Program.{Program, IsModule, fits, target, text_at, text_of_instr}
-use Rattle.module_lang.specs.Args.{args, names_text, op_of}
-use Rattle.module_lang.specs.Quoted.{quoted, text_of}
-use Rattle.module_lang.specs.Spelling.{operands_of}
-use Rattle.module_lang.specs.Texts.{CodeLine, Spells, label, step, arg_texts, brigade_text, cursor_text, number_text, operands_text, status_text, value_text, code_text, instr_word, line_text, instrs, operand_texts, pool_texts, brigade_texts, place_text, own_text}
-use Rattle.module_lang.specs.Words.{kind_test_text, word_text, word_kinds}
-use Rattle.module_lang.specs.declared.arg.Arg.{Arg}
-use Rattle.module_lang.specs.declared.arg.Arg.TheVariants as arg
+use Rattle.module_code.specs.Names.{is_name}
+use Rattle.module_code.specs.Program.{Program, IsModule, fits, target, text_at, text_of_instr}
+use Rattle.module_code.specs.Args.{args, names_text, op_of}
+use Rattle.byte_text.specs.Quoted.{quoted, text_of}
+use Rattle.module_code.specs.Spelling.{operands_of}
+use Rattle.module_lang.specs.Texts.{CodeLine, label, step, arg_texts, brigade_text, cursor_text, number_text, operands_text, status_text, value_text, code_text, instr_word, line_text, instrs, operand_texts, pool_texts, brigade_texts, place_text, own_text}
+use Rattle.byte_text.specs.QuotedTexts.{Spells}
+use Rattle.module_code.specs.Words.{kind_test_text, word_text, word_kinds}
+use Rattle.module_code.specs.declared.arg.Arg.{Arg}
+use Rattle.module_code.specs.declared.arg.Arg.TheVariants as arg
 use Rattle.module_lang.specs.declared.draft.Draft.{Draft}
-use Rattle.module_lang.specs.declared.draft.Handler.{Handler}
+use Rattle.module_lang.specs.declared.draft.HandlerLines.{HandlerLines}
 use Rattle.module_lang.specs.declared.draft.Label.{Label}
-use Rattle.module_lang.specs.declared.draft.Part.{Part}
-use Rattle.module_lang.specs.declared.draft.Part.TheVariants as part
-use Rattle.module_lang.specs.declared.draft.Step.{Step}
-use Rattle.module_lang.specs.declared.instr.Instr.{Instr}
-use Rattle.module_lang.specs.declared.instr.PoolRef.{PoolRef}
-use Rattle.module_lang.specs.declared.instr.PoolRef.TheVariants as pool
-use Rattle.module_lang.specs.declared.instr.VarRef.TheVariants as variable
-use Rattle.module_lang.specs.declared.operand.Operand.TheVariants as operand
-use Rattle.module_lang.specs.declared.operand.Operands.{Operands}
-use Rattle.module_lang.specs.declared.word.Op.{Op}
-use Rattle.module_lang.specs.declared.word.OperandKind.TheVariants as kind
-use Rattle.module_lang.specs.declared.word.Word.TheVariants as word
+use Rattle.module_code.specs.declared.part.Part.{Part}
+use Rattle.module_code.specs.declared.part.Part.TheVariants as part
+use Rattle.module_lang.specs.declared.draft.DraftStep.{DraftStep}
+use Rattle.module_code.specs.declared.instr.Instr.{Instr}
+use Rattle.module_code.specs.declared.instr.PoolRef.{PoolRef}
+use Rattle.module_code.specs.declared.instr.PoolRef.TheVariants as pool
+use Rattle.module_code.specs.declared.instr.VarRef.TheVariants as variable
+use Rattle.module_code.specs.declared.operand.Operand.TheVariants as operand
+use Rattle.module_code.specs.declared.operand.Operands.{Operands}
+use Rattle.module_code.specs.declared.word.Op.{Op}
+use Rattle.module_code.specs.declared.word.OperandKind.TheVariants as kind
+use Rattle.module_code.specs.declared.word.Word.TheVariants as word
 use Rattle.module_lang.proofs.ArgLaws.{formed}
 use Rattle.module_lang.proofs.ArgsFound.{word_unquoted}
 use Rattle.module_lang.proofs.DraftLaws.{has_text_of}
 use Rattle.module_lang.proofs.InverseLaws.{token_unquoted}
-use Rattle.module_lang.proofs.ListLaws.{number_at, some_both}
-use Rattle.module_lang.proofs.QuoteLaws.{place_unquoted, quote_behind, quote_unindented, quoted_again}
+use Rattle.byte_text.proofs.ListLaws.{number_at, some_both}
+use Rattle.module_lang.proofs.QuoteLaws.{place_unquoted, quote_behind, quote_unindented}
+use Rattle.byte_text.proofs.QuoteAgain.{quoted_again}
 use Rattle.module_lang.proofs.RunLaws.{Goes, IsAt, goes_item, goes_label, instr_judged}
 use Rattle.module_lang.proofs.SpellingLaws.{AreSaid, IsSaid, args_said, instr_again, word_of_instr, padded, operands, pool_operand, place_operand, own_operand, two_again, declared_up, text_len}
 
@@ -60,7 +62,7 @@ bares p (step i name s ∷ ls) = written p i name ∷ bares p ls
 abbrev pub mark : Label → List ℕ × ℕ
 mark l = (l.name, l.place)
 
-abbrev pub bare : Step → Op × Operands × Option ℕ
+abbrev pub bare : DraftStep → Op × Operands × Option ℕ
 bare s = (s.op, s.operands, step_text s)
 
 pub bares-length : (p : Program) (code : List CodeLine) → length (bares p code) ≡ length (instrs code)
@@ -91,14 +93,14 @@ bares-step p (label x ∷ ls) i name s = bares-step p ls i name s
 bares-step p (step j x y ∷ ls) i name s = ap (λ bs. written p j x ∷ bs) (bares-step p ls i name s)
 
 -- a handler of a draft has these lines
-pub record Matches (p : Program) (code : List CodeLine) (h : Handler) : Type 0 where
+pub record Matches (p : Program) (code : List CodeLine) (h : HandlerLines) : Type 0 where
   pub labels : map mark h.labels ≡ marks_from 0 code
   pub steps : map bare h.steps ≡ bares p code
 
-pub steps-length : (p : Program) (code : List CodeLine) (h : Handler) → Matches p code h → length h.steps ≡ length (instrs code)
+pub steps-length : (p : Program) (code : List CodeLine) (h : HandlerLines) → Matches p code h → length h.steps ≡ length (instrs code)
 steps-length p code h m = sym (length-map h.steps bare) ∙ ap length m.steps ∙ bares-length p code
 
-label_matches : (p : Program) (code : List CodeLine) (h : Handler) (n : ℕ) (name : List ℕ) → Matches p code h → Matches p (code ++ label name ∷ []) (with_line h n (padded name))
+label_matches : (p : Program) (code : List CodeLine) (h : HandlerLines) (n : ℕ) (name : List ℕ) → Matches p code h → Matches p (code ++ label name ∷ []) (with_line h n (padded name))
 label_matches p code h n name m =
     let size : length h.steps ≡ 0 + length (bares p code) = let e : length h.steps ≡ length (bares p code) = sym (length-map h.steps bare) ∙ ap length m.steps in omega arith in
     let x : Label = record { line = n; name = padded name; place = length h.steps } in
@@ -107,7 +109,7 @@ label_matches p code h n name m =
       steps = m.steps ∙ sym (bares-label p code name);
     }
 
-step_matches : (p : Program) (code : List CodeLine) (h : Handler) (x : Step) (i : Instr) (name s : List ℕ) → bare x ≡ written p i name → Matches p code h → Matches p (code ++ step i name s ∷ []) (with_more h x)
+step_matches : (p : Program) (code : List CodeLine) (h : HandlerLines) (x : DraftStep) (i : Instr) (name s : List ℕ) → bare x ≡ written p i name → Matches p code h → Matches p (code ++ step i name s ∷ []) (with_more h x)
 step_matches p code h x i name s e m = record {
   labels = m.labels ∙ sym (marks-step 0 code i name s);
   steps = map-append bare h.steps (x ∷ []) ∙ ap (λ bs. bs ++ bare x ∷ []) m.steps ∙ ap (λ y. bares p code ++ y ∷ []) e ∙ sym (bares-step p code i name s);
@@ -134,7 +136,7 @@ pub record Holds (p : Program) (q : Part) (a b c : List CodeLine) (d : Draft) : 
   pub texts : d.texts ≡ texts_of p ((instrs a ++ instrs b) ++ instrs c)
 
 -- an instruction, and its text, in the handler that is being read
-abbrev pub step_with : Program → Part → Instr → Draft → Step → Draft
+abbrev pub step_with : Program → Part → Instr → Draft → DraftStep → Draft
 step_with p q i d x = step_added q (record d { texts = d.texts ++ text_list p (text_of_instr i) }) x
 
 -- what the lines of a handler keep of a draft, where these instructions stand before the handler
@@ -145,7 +147,7 @@ pub record IsStage (p : Program) (q : Part) (front : List Instr) (H : List CodeL
   pub count : (code : List CodeLine) (d : Draft) → H code d → instruction_count d ≡ length (front ++ instrs code)
   pub texts : (code : List CodeLine) (d : Draft) → H code d → d.texts ≡ texts_of p (front ++ instrs code)
   pub labels : (code : List CodeLine) (d : Draft) (n : ℕ) (name : List ℕ) → H code d → H (code ++ label name ∷ []) (label_added q d n (padded name))
-  pub steps : (code : List CodeLine) (d : Draft) (x : Step) (i : Instr) (name s : List ℕ) → bare x ≡ written p i name → H code d → H (code ++ step i name s ∷ []) (step_with p q i d x)
+  pub steps : (code : List CodeLine) (d : Draft) (x : DraftStep) (i : Instr) (name s : List ℕ) → bare x ≡ written p i name → H code d → H (code ++ step i name s ∷ []) (step_with p q i d x)
 
 -- what is due of each line of a handler
 abbrev pub IsRight : Program → Part → CodeLine → Type 0
@@ -161,7 +163,7 @@ instrs-append [] ys = refl
 instrs-append (label n ∷ xs) ys = instrs-append xs ys
 instrs-append (step i n s ∷ xs) ys = ap (λ is. i ∷ is) (instrs-append xs ys)
 
-abbrev pub step_of : ℕ → Op → Operands → Draft → Step
+abbrev pub step_of : ℕ → Op → Operands → Draft → DraftStep
 step_of n i o d = record { line = n; op = i; operands = o; text = length d.texts }
 
 -- the number of a text is how many stand before it, where all instructions of a module are known

@@ -6,40 +6,41 @@ use Rattle.std.proofs.lemmas.Bool.{and_parts, or_parts, eqb-true, ltb-true, ltb-
 use Rattle.std.proofs.lemmas.List.Elements.{All-push, filter_map-append}
 use Rattle.module_lang.specs.Codes.{◌>>=◌, unless}
 use Rattle.module_lang.specs.Drafts.{with_step, step_added, label_added, with_line}
-use Rattle.module_lang.specs.Entries.{IsDraft, IsStep, early_steps, entered, from_quote, item_entered, step_numbers, step_text, step_texts, step_entered}
-use Rattle.module_lang.specs.Bytes.{unindented}
+use Rattle.module_lang.specs.Entries.{IsDraft, IsDraftStep, early_steps, entered, from_quote, item_entered, step_numbers, step_text, step_texts, step_entered}
+use Rattle.byte_text.specs.Bytes.{unindented}
 use Rattle.module_lang.specs.Lines.{instruction_count, is_due, judged, op_judged, declaration_judged, is_next, is_declared, place_is_declared, has_equal_brigades, has_long_text, is_long_text, are_declared, is_misplaced, has_room, has_text}
 use Rattle.module_lang.specs.Operands.{of_kind, operand_kind_is_text, operand_place}
-use Rattle.module_lang.specs.Program.{text_of_instr}
-use Rattle.module_lang.specs.Quoted.{quoted, text_of}
-use Rattle.module_lang.specs.Spelling.{operands_of}
-use Rattle.module_lang.specs.Words.{word_kinds, word_text, op_kinds, op_text}
+use Rattle.module_code.specs.Program.{text_of_instr}
+use Rattle.byte_text.specs.Quoted.{quoted, text_of}
+use Rattle.module_code.specs.Spelling.{operands_of}
+use Rattle.module_code.specs.Words.{word_kinds, word_text, op_kinds, op_text}
 use Rattle.module_lang.specs.declared.draft.Draft.{Draft}
 use Rattle.module_lang.specs.declared.draft.Label.{Label}
-use Rattle.module_lang.specs.declared.draft.Part.{Part}
-use Rattle.module_lang.specs.declared.draft.Part.TheVariants as part
-use Rattle.module_lang.specs.declared.draft.Step.{Step}
-use Rattle.module_lang.specs.declared.instr.Instr.{Instr}
-use Rattle.module_lang.specs.declared.instr.Instr.TheVariants as instr
-use Rattle.module_lang.specs.declared.instr.PoolRef.{PoolRef}
-use Rattle.module_lang.specs.declared.instr.PoolRef.TheVariants as pool
-use Rattle.module_lang.specs.declared.instr.VarRef.TheVariants as variable
+use Rattle.module_code.specs.declared.part.Part.{Part}
+use Rattle.module_code.specs.declared.part.Part.TheVariants as part
+use Rattle.module_lang.specs.declared.draft.DraftStep.{DraftStep}
+use Rattle.module_code.specs.declared.instr.Instr.{Instr}
+use Rattle.module_code.specs.declared.instr.Instr.TheVariants as instr
+use Rattle.module_code.specs.declared.instr.PoolRef.{PoolRef}
+use Rattle.module_code.specs.declared.instr.PoolRef.TheVariants as pool
+use Rattle.module_code.specs.declared.instr.VarRef.TheVariants as variable
 use Rattle.module_lang.specs.declared.lines.Line.{Line}
 use Rattle.module_lang.specs.declared.lines.Line.TheVariants as line
-use Rattle.module_lang.specs.declared.operand.Operand.{Operand}
-use Rattle.module_lang.specs.declared.operand.Operand.TheVariants as operand
-use Rattle.module_lang.specs.declared.operand.Operands.{Operands}
+use Rattle.module_code.specs.declared.operand.Operand.{Operand}
+use Rattle.module_code.specs.declared.operand.Operand.TheVariants as operand
+use Rattle.module_code.specs.declared.operand.Operands.{Operands}
 use Rattle.module_lang.specs.declared.refusal.Code.TheVariants as code
-use Rattle.module_lang.specs.declared.word.OperandKind.TheVariants as kind
-use Rattle.module_lang.specs.declared.word.Op.{Op}
-use Rattle.module_lang.specs.declared.word.Word.{Word}
-use Rattle.module_lang.specs.declared.word.Word.TheVariants as word
+use Rattle.module_code.specs.declared.word.OperandKind.TheVariants as kind
+use Rattle.module_code.specs.declared.word.Op.{Op}
+use Rattle.module_code.specs.declared.word.Word.{Word}
+use Rattle.module_code.specs.declared.word.Word.TheVariants as word
 use Rattle.module_lang.proofs.ArgsFound.{AreFound, ops_found, word_unquoted}
 use Rattle.module_lang.proofs.InverseLaws.{Item, TextFound}
 use Rattle.module_lang.proofs.LineLaws.{bind_ok, unless_ok}
-use Rattle.module_lang.proofs.ListLaws.{empty_list, range_more}
+use Rattle.byte_text.proofs.ListLaws.{empty_list, range_more}
 use Rattle.module_lang.proofs.OperandLaws.{kinds_read}
-use Rattle.module_lang.proofs.QuoteLaws.{quote_unindented, spelled_bytes}
+use Rattle.module_lang.proofs.QuoteLaws.{quote_unindented}
+use Rattle.byte_text.proofs.QuoteAgain.{spelled_bytes}
 use Rattle.module_lang.proofs.SaysLaws.{Says}
 use Rattle.module_lang.proofs.SliceLaws.{none_of, pushed_item}
 
@@ -167,9 +168,9 @@ pool_keeps d b o s h =
       short = s.short;
       bytes = s.bytes;
       none = early_pools d.part d (d.pools ++ q ∷ []) ∙ s.none;
-      opening = none_of (IsStep (d.pools ++ q ∷ []) d.brigades part.Open) d.open.steps (omega arith);
-      init = none_of (IsStep (d.pools ++ q ∷ []) d.brigades part.Init) d.init.steps (omega arith);
-      main = none_of (IsStep (d.pools ++ q ∷ []) d.brigades part.Main) d.main.steps (omega arith);
+      opening = none_of (IsDraftStep (d.pools ++ q ∷ []) d.brigades part.Open) d.open.steps (omega arith);
+      init = none_of (IsDraftStep (d.pools ++ q ∷ []) d.brigades part.Init) d.init.steps (omega arith);
+      main = none_of (IsDraftStep (d.pools ++ q ∷ []) d.brigades part.Main) d.main.steps (omega arith);
     }
 
 brigade_keeps : (d : Draft) (b : List ℕ) (o : Operands) → IsDraft d → Item d b word.Brigade o → IsDraft (record d { part = part.Brigades; brigades = d.brigades ++ operand_place o.second ∷ [] })
@@ -192,9 +193,9 @@ brigade_keeps d b o s h =
       short = s.short;
       bytes = s.bytes;
       none = zero;
-      opening = none_of (IsStep d.pools (d.brigades ++ q ∷ []) part.Open) d.open.steps (omega arith);
-      init = none_of (IsStep d.pools (d.brigades ++ q ∷ []) part.Init) d.init.steps (omega arith);
-      main = none_of (IsStep d.pools (d.brigades ++ q ∷ []) part.Main) d.main.steps (omega arith);
+      opening = none_of (IsDraftStep d.pools (d.brigades ++ q ∷ []) part.Open) d.open.steps (omega arith);
+      init = none_of (IsDraftStep d.pools (d.brigades ++ q ∷ []) part.Init) d.init.steps (omega arith);
+      main = none_of (IsDraftStep d.pools (d.brigades ++ q ∷ []) part.Main) d.main.steps (omega arith);
     }
 
 record IsSound (d : Draft) (i : Op) (o : Operands) : Type 0 where
@@ -223,36 +224,36 @@ sound_op d i o h =
     }
 
 -- a text that an instruction adds to a draft
-record IsText (d : Draft) (ts : List (List ℕ)) (s : Step) : Type 0 where
+record IsText (d : Draft) (ts : List (List ℕ)) (s : DraftStep) : Type 0 where
   few : length (d.texts ++ ts) ≤ 64
   short : All (λ t. length t ≤ 255) (d.texts ++ ts)
   bytes : All (λ t. All (λ b. b < 256) t) (d.texts ++ ts)
   numbers : range_with_len 0 (length d.texts) ++ step_numbers (s ∷ []) ≡ range_with_len 0 (length (d.texts ++ ts))
 
-pushed : (a : List Step) (t : Step) → step_numbers (a ++ t ∷ []) ≡ step_numbers a ++ step_numbers (t ∷ [])
+pushed : (a : List DraftStep) (t : DraftStep) → step_numbers (a ++ t ∷ []) ≡ step_numbers a ++ step_numbers (t ∷ [])
 pushed a t = filter_map-append step_text a (t ∷ [])
 
-open_numbers : (a b c : List Step) (t : Step) (n m : ℕ) → length b + length c ≡ 0 → step_numbers a ++ (step_numbers b ++ step_numbers c) ≡ range_with_len 0 n → range_with_len 0 n ++ step_numbers (t ∷ []) ≡ range_with_len 0 m → step_numbers (a ++ t ∷ []) ++ (step_numbers b ++ step_numbers c) ≡ range_with_len 0 m
+open_numbers : (a b c : List DraftStep) (t : DraftStep) (n m : ℕ) → length b + length c ≡ 0 → step_numbers a ++ (step_numbers b ++ step_numbers c) ≡ range_with_len 0 n → range_with_len 0 n ++ step_numbers (t ∷ []) ≡ range_with_len 0 m → step_numbers (a ++ t ∷ []) ++ (step_numbers b ++ step_numbers c) ≡ range_with_len 0 m
 open_numbers a b c t n m z e f =
     let none_b = empty_list b (omega arith) in
     let none_c = empty_list c (omega arith) in
     let before : step_numbers a ++ [] ≡ range_with_len 0 n = rw (none_b, none_c) at e in
     rw (none_b, none_c) (append-nil (step_numbers (a ++ t ∷ [])) ∙ pushed a t ∙ ap (λ x. x ++ step_numbers (t ∷ [])) (sym (append-nil (step_numbers a)) ∙ before) ∙ f)
 
-init_numbers : (a b c : List Step) (t : Step) (n m : ℕ) → length c ≡ 0 → step_numbers a ++ (step_numbers b ++ step_numbers c) ≡ range_with_len 0 n → range_with_len 0 n ++ step_numbers (t ∷ []) ≡ range_with_len 0 m → step_numbers a ++ (step_numbers (b ++ t ∷ []) ++ step_numbers c) ≡ range_with_len 0 m
+init_numbers : (a b c : List DraftStep) (t : DraftStep) (n m : ℕ) → length c ≡ 0 → step_numbers a ++ (step_numbers b ++ step_numbers c) ≡ range_with_len 0 n → range_with_len 0 n ++ step_numbers (t ∷ []) ≡ range_with_len 0 m → step_numbers a ++ (step_numbers (b ++ t ∷ []) ++ step_numbers c) ≡ range_with_len 0 m
 init_numbers a b c t n m z e f =
     let none_c = empty_list c z in
     let before : step_numbers a ++ (step_numbers b ++ []) ≡ range_with_len 0 n = rw none_c at e in
     let join : step_numbers a ++ step_numbers b ≡ range_with_len 0 n = ap (λ x. step_numbers a ++ x) (sym (append-nil (step_numbers b))) ∙ before in
     rw none_c (ap (λ x. step_numbers a ++ x) (append-nil (step_numbers (b ++ t ∷ [])) ∙ pushed b t) ∙ sym (append_assoc (step_numbers a) (step_numbers b) (step_numbers (t ∷ []))) ∙ ap (λ x. x ++ step_numbers (t ∷ [])) join ∙ f)
 
-main_numbers : (a b c : List Step) (t : Step) (n m : ℕ) → step_numbers a ++ (step_numbers b ++ step_numbers c) ≡ range_with_len 0 n → range_with_len 0 n ++ step_numbers (t ∷ []) ≡ range_with_len 0 m → step_numbers a ++ (step_numbers b ++ step_numbers (c ++ t ∷ [])) ≡ range_with_len 0 m
+main_numbers : (a b c : List DraftStep) (t : DraftStep) (n m : ℕ) → step_numbers a ++ (step_numbers b ++ step_numbers c) ≡ range_with_len 0 n → range_with_len 0 n ++ step_numbers (t ∷ []) ≡ range_with_len 0 m → step_numbers a ++ (step_numbers b ++ step_numbers (c ++ t ∷ [])) ≡ range_with_len 0 m
 main_numbers a b c t n m e f =
     let one = step_numbers (t ∷ []) in
     ap (λ x. step_numbers a ++ (step_numbers b ++ x)) (pushed c t) ∙ ap (λ x. step_numbers a ++ x) (sym (append_assoc (step_numbers b) (step_numbers c) one)) ∙ sym (append_assoc (step_numbers a) (step_numbers b ++ step_numbers c) one) ∙ ap (λ x. x ++ one) e ∙ f
 
 -- an instruction in the handler that is being read, with its text
-added_keeps : (p : Part) (i : Op) (d : Draft) (ts : List (List ℕ)) (s : Step) → is_due p (word.Op i) ≡ true → instruction_count d < 1024 → IsDraft d → d.part ≡ p → IsStep d.pools d.brigades p s → IsText d ts s → IsDraft (step_added p (record d { texts = d.texts ++ ts }) s)
+added_keeps : (p : Part) (i : Op) (d : Draft) (ts : List (List ℕ)) (s : DraftStep) → is_due p (word.Op i) ≡ true → instruction_count d < 1024 → IsDraft d → d.part ≡ p → IsDraftStep d.pools d.brigades p s → IsText d ts s → IsDraft (step_added p (record d { texts = d.texts ++ ts }) s)
 added_keeps part.Open i d ts t due low s e h x =
     let one : length (d.open.steps ++ t ∷ []) ≡ length d.open.steps + 1 = length-append d.open.steps (t ∷ []) in
     let early : early_steps part.Open d ≡ 0 = ap (λ q. early_steps q d) (sym e) ∙ s.none in
@@ -267,7 +268,7 @@ added_keeps part.Open i d ts t due low s e h x =
       short = x.short;
       bytes = x.bytes;
       none = ap (λ q. early_steps q (step_added part.Open (record d { texts = d.texts ++ ts }) t)) e ∙ early;
-      opening = All-push (IsStep d.pools d.brigades part.Open) d.open.steps t s.opening h;
+      opening = All-push (IsDraftStep d.pools d.brigades part.Open) d.open.steps t s.opening h;
       init = s.init;
       main = s.main;
     }
@@ -286,7 +287,7 @@ added_keeps part.Init i d ts t due low s e h x =
       bytes = x.bytes;
       none = ap (λ q. early_steps q (step_added part.Init (record d { texts = d.texts ++ ts }) t)) e ∙ early;
       opening = s.opening;
-      init = All-push (IsStep d.pools d.brigades part.Init) d.init.steps t s.init h;
+      init = All-push (IsDraftStep d.pools d.brigades part.Init) d.init.steps t s.init h;
       main = s.main;
     }
 added_keeps part.Main i d ts t due low s e h x =
@@ -305,7 +306,7 @@ added_keeps part.Main i d ts t due low s e h x =
       none = ap (λ q. early_steps q (step_added part.Main (record d { texts = d.texts ++ ts }) t)) e ∙ refl;
       opening = s.opening;
       init = s.init;
-      main = All-push (IsStep d.pools d.brigades part.Main) d.main.steps t s.main h;
+      main = All-push (IsDraftStep d.pools d.brigades part.Main) d.main.steps t s.main h;
     }
 added_keeps _ i d ts t due low s e h x = absurd (cc due)
 
@@ -359,7 +360,7 @@ op_keeps d n bytes i o s h = texts (text_has i d (unindented bytes) o h)
 
     added : (ts : List (List ℕ)) → step_texts o bytes ≡ ts → IsText d ts (record { line = n; op = i; operands = o; text = length d.texts }) → IsDraft (step_entered d n bytes i o)
     added ts e x =
-        let t : Step = record { line = n; op = i; operands = o; text = length d.texts } in
+        let t : DraftStep = record { line = n; op = i; operands = o; text = length d.texts } in
         subst (λ xs. IsDraft (with_step (record d { texts = d.texts ++ xs }) t)) (sym e) (added_keeps d.part i d ts t h.due (ltb-true (instruction_count d) 1024 room.0) s refl (record {
           kinds = kinds_read (word_kinds (word.Op i)) h.rest o h.read;
           declared = sound.declared;

@@ -3,8 +3,8 @@ use Rattle.std.proofs.Common.{◌≡◌, ◌≢◌, ℕ, ltb, List, [], length, 
 use Rattle.module_lang.specs.Assembling.{assembling, draft_read, program_of}
 use Rattle.module_lang.specs.Codes.{Gives, ◌>>=◌}
 use Rattle.module_lang.specs.Drafts.{empty_draft}
-use Rattle.module_lang.specs.FirstFault.{HasLineCode, HasModuleCode, IsFirst, IsFirstFault, Reads, draft_of, goes_on, lines_of}
-use Rattle.module_lang.specs.Program.{Program}
+use Rattle.module_lang.specs.FirstFault.{HasLineCode, HasModuleCode, IsFirst, IsFirstFault, IsReadAs, draft_of, goes_on, lines_of}
+use Rattle.module_code.specs.Program.{Program}
 use Rattle.module_lang.specs.declared.handler.LineFault.{LineFault}
 use Rattle.module_lang.specs.declared.refusal.AsmRefusal.{AsmRefusal}
 use Rattle.module_lang.specs.declared.refusal.AsmRefusal.TheVariants.{Fault, NoMemory}
@@ -68,22 +68,22 @@ one_first text n m c e (inr x) (inl y) = absurd (x.0 m e y.holds)
 one_first text n m c e (inr x) (inr y) = same_first (HasModuleCode text) n m c e x.1 y.1
 
 -- a text is a module, or has a first fault
-pub reads_some : (text : List ℕ) → (r : Result Program AsmRefusal) × Reads text r
+pub reads_some : (text : List ℕ) → (r : Result Program AsmRefusal) × IsReadAs text r
 reads_some text = by (assembling text) refl (judged text)
   where
-    by : (r : Result Program AsmRefusal) → assembling text ≡ r → Judged text r → (s : Result Program AsmRefusal) × Reads text s
+    by : (r : Result Program AsmRefusal) → assembling text ≡ r → Judged text r → (s : Result Program AsmRefusal) × IsReadAs text s
     by (Ok p) q j = (Ok p, text_found text p q)
     by (Err (Fault n c)) q j = (Err (Fault n c), j)
     by (Err NoMemory) q j = absurd j
 
 -- an answer says what the text is, or there was no memory
-pub answer_reads : (text : List ℕ) (r : Result Program AsmRefusal) → Gives (λ m. m) r (assembling text) → r ≢ Err NoMemory → Reads text r
+pub answer_reads : (text : List ℕ) (r : Result Program AsmRefusal) → Gives (λ m. m) r (assembling text) → r ≢ Err NoMemory → IsReadAs text r
 answer_reads text (Ok m) h some = text_found text m h
 answer_reads text (Err NoMemory) h some = absurd (some refl)
 answer_reads text (Err (Fault n c)) h some = fault_first text n c h
 
 -- what a text is is answered, or there was no memory
-pub reads_told : (text : List ℕ) (r s : Result Program AsmRefusal) → Gives (λ m. m) r (assembling text) → Reads text s → Gives (λ m. m) r s
+pub reads_told : (text : List ℕ) (r s : Result Program AsmRefusal) → Gives (λ m. m) r (assembling text) → IsReadAs text s → Gives (λ m. m) r s
 reads_told text r (Ok p) h x = rw (text_again text p x) at h
 reads_told text r (Err NoMemory) h x = absurd x
 reads_told text (Ok m) (Err (Fault n c)) h x = absurd (module_none text m h n c x)
@@ -91,7 +91,7 @@ reads_told text (Err NoMemory) (Err (Fault n c)) h x = tt
 reads_told text (Err (Fault m e)) (Err (Fault n c)) h x = let s = one_first text n m c e x (fault_first text m e h) in rw (s.0, s.1) refl
 
 -- a text is one module, or has one first fault
-pub reads_once : (text : List ℕ) (r s : Result Program AsmRefusal) → Reads text r → Reads text s → r ≡ s
+pub reads_once : (text : List ℕ) (r s : Result Program AsmRefusal) → IsReadAs text r → IsReadAs text s → r ≡ s
 reads_once text (Ok p) (Ok q) x y = sym (text_again text p x) ∙ text_again text q y
 reads_once text (Ok p) (Err (Fault n c)) x y = absurd (module_none text p (text_again text p x) n c y)
 reads_once text (Ok p) (Err NoMemory) x y = absurd y

@@ -3,7 +3,7 @@ use Rattle.std.proofs.Common.{◌≡◌, ℕ, ◌<◌, ◌≤◌, Bool, true, fa
 use Rattle.std.proofs.lemmas.Bool.{leb-false, leb-true}
 use Rattle.module_lang.specs.Codes.{code_number}
 use Rattle.module_lang.specs.FirstFault.{IsFirst}
-use Rattle.module_lang.specs.Args.{or_else}
+use Rattle.module_code.specs.Args.{or_else}
 use Rattle.module_lang.specs.Handlers.{fault, sooner}
 use Rattle.module_lang.specs.declared.handler.LineFault.{LineFault}
 use Rattle.module_lang.specs.declared.refusal.Code.{Code}

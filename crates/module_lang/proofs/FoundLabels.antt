@@ -4,14 +4,14 @@ use Rattle.std.specs.Prelude.{IfSome, is_some, map, option_map, unwrap_or}
 use Rattle.std.specs.Cmp.Lexicographic.{pointwise, same_text}
 use Rattle.module_lang.specs.Handlers.{is_named, is_lost, is_missing, jump_fault, label_fault, label_of, op_instr, fault, place_from, step_code, target_place}
 use Rattle.module_lang.specs.Labels.{place_of}
-use Rattle.module_lang.specs.Names.{is_name}
-use Rattle.module_lang.specs.Program.{target}
-use Rattle.module_lang.specs.Spelling.{operands_of}
+use Rattle.module_code.specs.Names.{is_name}
+use Rattle.module_code.specs.Program.{target}
+use Rattle.module_code.specs.Spelling.{operands_of}
 use Rattle.module_lang.specs.Texts.{AreDistinct, IsAimed, IsApart, IsLabel}
 use Rattle.module_lang.specs.declared.draft.Label.{Label}
-use Rattle.module_lang.specs.declared.operand.Operands.{Operands}
+use Rattle.module_code.specs.declared.operand.Operands.{Operands}
 use Rattle.module_lang.specs.declared.refusal.Code.TheVariants as code
-use Rattle.module_lang.specs.declared.word.Op.{Op}
+use Rattle.module_code.specs.declared.word.Op.{Op}
 use Rattle.module_lang.proofs.ArgLaws.{label_target, target_moved}
 use Rattle.module_lang.proofs.RawLines.{AreBuilt, Raw, marked, did, raw_steps}
 use Rattle.module_lang.proofs.FoundModule.{line_of, unnamed_apart}

@@ -11,28 +11,28 @@ use Rattle.module_lang.specs.Entries.{from_quote, item_entered}
 use Rattle.module_lang.specs.Lines.{is_due, is_handler, is_next, judged}
 use Rattle.module_lang.specs.Operands.{of_kind, operand_place}
 use Rattle.module_lang.specs.Texts.{line_text, place_text, own_text, pool_texts, brigade_texts}
-use Rattle.module_lang.specs.declared.draft.Part.{Part}
-use Rattle.module_lang.specs.declared.draft.Part.TheVariants as part
-use Rattle.module_lang.specs.declared.instr.PoolRef.{PoolRef}
-use Rattle.module_lang.specs.declared.instr.PoolRef.TheVariants as pool
+use Rattle.module_code.specs.declared.part.Part.{Part}
+use Rattle.module_code.specs.declared.part.Part.TheVariants as part
+use Rattle.module_code.specs.declared.instr.PoolRef.{PoolRef}
+use Rattle.module_code.specs.declared.instr.PoolRef.TheVariants as pool
 use Rattle.module_lang.proofs.DraftLaws.{declaration}
 use Rattle.module_lang.specs.Handlers.{op_instr}
-use Rattle.module_lang.specs.Names.{is_name}
-use Rattle.module_lang.specs.Program.{target, text_of_instr}
+use Rattle.module_code.specs.Names.{is_name}
+use Rattle.module_code.specs.Program.{target, text_of_instr}
 use Rattle.module_lang.specs.Texts.{operands_text}
-use Rattle.module_lang.specs.Words.{word_text, word_kinds}
+use Rattle.module_code.specs.Words.{word_text, word_kinds}
 use Rattle.module_lang.specs.declared.draft.Draft.{Draft}
 use Rattle.module_lang.specs.declared.draft.Label.{Label}
-use Rattle.module_lang.specs.declared.draft.Step.{Step}
-use Rattle.module_lang.specs.declared.operand.Operand.{Operand}
-use Rattle.module_lang.specs.declared.operand.Operand.TheVariants as operand
-use Rattle.module_lang.specs.declared.operand.Operands.{Operands}
-use Rattle.module_lang.specs.declared.word.OperandKind.TheVariants as kind
-use Rattle.module_lang.specs.declared.word.Op.{Op}
-use Rattle.module_lang.specs.declared.word.Word.{Word}
+use Rattle.module_lang.specs.declared.draft.DraftStep.{DraftStep}
+use Rattle.module_code.specs.declared.operand.Operand.{Operand}
+use Rattle.module_code.specs.declared.operand.Operand.TheVariants as operand
+use Rattle.module_code.specs.declared.operand.Operands.{Operands}
+use Rattle.module_code.specs.declared.word.OperandKind.TheVariants as kind
+use Rattle.module_code.specs.declared.word.Op.{Op}
+use Rattle.module_code.specs.declared.word.Word.{Word}
 use Rattle.module_lang.specs.declared.lines.Line.{Line}
 use Rattle.module_lang.specs.declared.lines.Line.TheVariants as line
-use Rattle.module_lang.specs.declared.word.Word.TheVariants as word
+use Rattle.module_code.specs.declared.word.Word.TheVariants as word
 use Rattle.module_lang.proofs.InverseLaws.{Item, Spells, none_spelled, one_taken, two_taken, own_is}
 use Rattle.module_lang.proofs.InverseLaws.{Spelled}
 use Rattle.module_lang.proofs.ModuleLaws as modules
@@ -294,7 +294,7 @@ tell_end d n ss s o h t = record {
   texts_c = t.texts_c;
 }
 
-did_open : (d : Draft) (us : List (List ℕ)) (ss : List (List ℕ)) (s : List ℕ) (st : Step) (name w : List ℕ) → Told part.Open d ss → s ≡ raw_text (did st name w) → IsWritten st name → IfSome (target (op_instr st.op st.operands st.text 0)) (λ _. is_name name ≡ true) → IsTexted (d.texts ++ us) st w → Told part.Open (step_added part.Open (record d { texts = d.texts ++ us }) st) (ss ++ s ∷ [])
+did_open : (d : Draft) (us : List (List ℕ)) (ss : List (List ℕ)) (s : List ℕ) (st : DraftStep) (name w : List ℕ) → Told part.Open d ss → s ≡ raw_text (did st name w) → IsWritten st name → IfSome (target (op_instr st.op st.operands st.text 0)) (λ _. is_name name ≡ true) → IsTexted (d.texts ++ us) st w → Told part.Open (step_added part.Open (record d { texts = d.texts ++ us }) st) (ss ++ s ∷ [])
 did_open d us ss s st name w t e same named one =
     record {
       a = t.a ++ did st name w ∷ [];
@@ -327,7 +327,7 @@ marked_open d n ss s name t e named =
       texts_c = t.texts_c;
     }
 
-did_init : (d : Draft) (us : List (List ℕ)) (ss : List (List ℕ)) (s : List ℕ) (st : Step) (name w : List ℕ) → Told part.Init d ss → s ≡ raw_text (did st name w) → IsWritten st name → IfSome (target (op_instr st.op st.operands st.text 0)) (λ _. is_name name ≡ true) → IsTexted (d.texts ++ us) st w → Told part.Init (step_added part.Init (record d { texts = d.texts ++ us }) st) (ss ++ s ∷ [])
+did_init : (d : Draft) (us : List (List ℕ)) (ss : List (List ℕ)) (s : List ℕ) (st : DraftStep) (name w : List ℕ) → Told part.Init d ss → s ≡ raw_text (did st name w) → IsWritten st name → IfSome (target (op_instr st.op st.operands st.text 0)) (λ _. is_name name ≡ true) → IsTexted (d.texts ++ us) st w → Told part.Init (step_added part.Init (record d { texts = d.texts ++ us }) st) (ss ++ s ∷ [])
 did_init d us ss s st name w t e same named one =
     record {
       a = t.a;
@@ -360,7 +360,7 @@ marked_init d n ss s name t e named =
       texts_c = t.texts_c;
     }
 
-did_main : (d : Draft) (us : List (List ℕ)) (ss : List (List ℕ)) (s : List ℕ) (st : Step) (name w : List ℕ) → Told part.Main d ss → s ≡ raw_text (did st name w) → IsWritten st name → IfSome (target (op_instr st.op st.operands st.text 0)) (λ _. is_name name ≡ true) → IsTexted (d.texts ++ us) st w → Told part.Main (step_added part.Main (record d { texts = d.texts ++ us }) st) (ss ++ s ∷ [])
+did_main : (d : Draft) (us : List (List ℕ)) (ss : List (List ℕ)) (s : List ℕ) (st : DraftStep) (name w : List ℕ) → Told part.Main d ss → s ≡ raw_text (did st name w) → IsWritten st name → IfSome (target (op_instr st.op st.operands st.text 0)) (λ _. is_name name ≡ true) → IsTexted (d.texts ++ us) st w → Told part.Main (step_added part.Main (record d { texts = d.texts ++ us }) st) (ss ++ s ∷ [])
 did_main d us ss s st name w t e same named one =
     record {
       a = t.a;
@@ -427,23 +427,23 @@ on_op : (q : Part) (i : Op) (d : Draft) (n : ℕ) (bytes : List ℕ) (ss : List 
 on_op part.Open i d n bytes ss s o e due u h t =
     let x = op_spelled d s i o (length d.texts) h in
     let texts = d.texts ++ step_texts o bytes in
-    let st : Step = record { line = n; op = i; operands = o; text = length d.texts } in
+    let st : DraftStep = record { line = n; op = i; operands = o; text = length d.texts } in
     let one = text_last (text_of_instr (op_instr i o (length d.texts) 0)) (length d.texts) d.texts (step_texts o bytes) x.text (modules.own_text i o (length d.texts) 0) refl (x.texted bytes u) in
-    let z : Step → Draft = step_added part.Open (record d { texts = texts }) in
+    let z : DraftStep → Draft = step_added part.Open (record d { texts = texts }) in
     subst (λ y. Told (step_added y (record d { texts = texts }) st).part (step_added y (record d { texts = texts }) st) (ss ++ s ∷ [])) (sym e) (subst (λ y. Told y (z st) (ss ++ s ∷ [])) (sym e) (did_open d (step_texts o bytes) ss s st x.name x.text t x.spelled (x.len, x.same) x.named one))
 on_op part.Init i d n bytes ss s o e due u h t =
     let x = op_spelled d s i o (length d.texts) h in
     let texts = d.texts ++ step_texts o bytes in
-    let st : Step = record { line = n; op = i; operands = o; text = length d.texts } in
+    let st : DraftStep = record { line = n; op = i; operands = o; text = length d.texts } in
     let one = text_last (text_of_instr (op_instr i o (length d.texts) 0)) (length d.texts) d.texts (step_texts o bytes) x.text (modules.own_text i o (length d.texts) 0) refl (x.texted bytes u) in
-    let z : Step → Draft = step_added part.Init (record d { texts = texts }) in
+    let z : DraftStep → Draft = step_added part.Init (record d { texts = texts }) in
     subst (λ y. Told (step_added y (record d { texts = texts }) st).part (step_added y (record d { texts = texts }) st) (ss ++ s ∷ [])) (sym e) (subst (λ y. Told y (z st) (ss ++ s ∷ [])) (sym e) (did_init d (step_texts o bytes) ss s st x.name x.text t x.spelled (x.len, x.same) x.named one))
 on_op part.Main i d n bytes ss s o e due u h t =
     let x = op_spelled d s i o (length d.texts) h in
     let texts = d.texts ++ step_texts o bytes in
-    let st : Step = record { line = n; op = i; operands = o; text = length d.texts } in
+    let st : DraftStep = record { line = n; op = i; operands = o; text = length d.texts } in
     let one = text_last (text_of_instr (op_instr i o (length d.texts) 0)) (length d.texts) d.texts (step_texts o bytes) x.text (modules.own_text i o (length d.texts) 0) refl (x.texted bytes u) in
-    let z : Step → Draft = step_added part.Main (record d { texts = texts }) in
+    let z : DraftStep → Draft = step_added part.Main (record d { texts = texts }) in
     subst (λ y. Told (step_added y (record d { texts = texts }) st).part (step_added y (record d { texts = texts }) st) (ss ++ s ∷ [])) (sym e) (subst (λ y. Told y (z st) (ss ++ s ∷ [])) (sym e) (did_main d (step_texts o bytes) ss s st x.name x.text t x.spelled (x.len, x.same) x.named one))
 on_op _ i d n bytes ss s o e due u h t = absurd (cc due)
 

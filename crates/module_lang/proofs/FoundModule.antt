@@ -4,15 +4,16 @@ use Rattle.std.specs.Prelude.{All, IfSome}
 use Rattle.std.specs.Cmp.Lexicographic.{pointwise}
 use Rattle.std.proofs.lemmas.Bool.{both_ways, or_parts}
 use Rattle.module_lang.specs.Handlers.{is_named, label_of, op_instr, step_code, target_place}
-use Rattle.module_lang.specs.Texts.{CodeLine, Spells, label, step, code_text, instrs, labels_from, AreLabels, AreSpelled, IsApart}
-use Rattle.module_lang.specs.Program.{Program, text_at, text_of_instr}
+use Rattle.module_lang.specs.Texts.{CodeLine, label, step, code_text, instrs, labels_from, AreLabels, AreSpelled, IsApart}
+use Rattle.byte_text.specs.QuotedTexts.{Spells}
+use Rattle.module_code.specs.Program.{Program, text_at, text_of_instr}
 use Rattle.module_lang.specs.declared.draft.Label.{Label}
-use Rattle.module_lang.specs.declared.operand.Operands.{Operands}
-use Rattle.module_lang.specs.declared.word.Op.{Op}
-use Rattle.module_lang.specs.declared.word.Op.TheVariants as op
+use Rattle.module_code.specs.declared.operand.Operands.{Operands}
+use Rattle.module_code.specs.declared.word.Op.{Op}
+use Rattle.module_code.specs.declared.word.Op.TheVariants as op
 use Rattle.module_lang.proofs.RawLines.{AreBuilt, AreTexted, Raw, marked, did, raw_labels, raw_steps, raw_text}
 use Rattle.module_lang.proofs.LabelLaws.{Marked, Named, same_name}
-use Rattle.module_lang.proofs.ListLaws.{all_tail, some_both}
+use Rattle.byte_text.proofs.ListLaws.{all_tail, some_both}
 use Rattle.module_lang.proofs.SpellingLaws.{padded}
 
 -- a line of code, with the instruction that it makes

@@ -3,7 +3,7 @@ use Rattle.std.proofs.Common.{◌≡◌, ℕ, ◌+◌, Bool, true, false, not, c
 use Rattle.std.specs.Prelude.{All}
 use Rattle.std.proofs.lemmas.Bool.{eqb-true}
 use Rattle.module_lang.specs.Assembling.{lines_read, lines_ended, is_end}
-use Rattle.module_lang.specs.Bytes.{all_printable, begins, tail, unindented}
+use Rattle.byte_text.specs.Bytes.{all_printable, begins, tail, unindented}
 use Rattle.module_lang.specs.Codes.{◌>>=◌}
 use Rattle.module_lang.specs.Entries.{entered}
 use Rattle.module_lang.specs.Lines.{line_taken, taken}
@@ -19,7 +19,7 @@ use Rattle.module_lang.specs.declared.refusal.Code.TheVariants as code
 use Rattle.module_lang.proofs.FoundLaws.{Told, on_line}
 use Rattle.module_lang.proofs.InverseLaws.{Spelled, item_spelled, label_said}
 use Rattle.module_lang.proofs.LineLaws.{bind_ok}
-use Rattle.module_lang.proofs.ListLaws.{all_cons}
+use Rattle.byte_text.proofs.ListLaws.{all_cons}
 use Rattle.module_lang.proofs.QuoteLaws.{quote_unindented}
 use Rattle.module_lang.proofs.RunLaws.{Fold}
 

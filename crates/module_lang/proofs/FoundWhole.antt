@@ -4,22 +4,22 @@ use Rattle.std.specs.Prelude.{All, codes, slice_get}
 use Rattle.std.proofs.lemmas.Bool.{ltb-false}
 use Rattle.std.proofs.lemmas.List.{length-map}
 use Rattle.module_lang.specs.Assembling.{assembling, draft_read, program_of, is_end}
-use Rattle.module_lang.specs.Bytes.{all_printable}
+use Rattle.byte_text.specs.Bytes.{all_printable}
 use Rattle.module_lang.specs.Drafts.{empty_draft}
 use Rattle.module_lang.specs.Codes.{◌>>=◌}
 use Rattle.module_lang.specs.Entries.{IsDraft, entered}
 use Rattle.module_lang.specs.Lines.{line_taken, taken}
 use Rattle.module_lang.specs.Handlers.{handler_resolved, jump_fault, step_code}
 use Rattle.module_lang.specs.Lines.{line_read}
-use Rattle.module_lang.specs.Program.{Program, program}
+use Rattle.module_code.specs.Program.{Program, program}
 use Rattle.module_lang.specs.Texts.{AreDistinct, CodeLine, IsCode, IsTextOf, instrs, joined, labels_from, module_texts, pool_texts, brigade_texts, statements}
 use Rattle.module_lang.specs.declared.draft.Draft.{Draft}
-use Rattle.module_lang.specs.declared.draft.Handler.{Handler}
+use Rattle.module_lang.specs.declared.draft.HandlerLines.{HandlerLines}
 use Rattle.module_lang.specs.declared.draft.Label.{Label}
-use Rattle.module_lang.specs.declared.draft.Part.{Part}
-use Rattle.module_lang.specs.declared.draft.Part.TheVariants as part
-use Rattle.module_lang.specs.declared.instr.Instr.{Instr}
-use Rattle.module_lang.specs.declared.instr.PoolRef.{PoolRef}
+use Rattle.module_code.specs.declared.part.Part.{Part}
+use Rattle.module_code.specs.declared.part.Part.TheVariants as part
+use Rattle.module_code.specs.declared.instr.Instr.{Instr}
+use Rattle.module_code.specs.declared.instr.PoolRef.{PoolRef}
 use Rattle.module_lang.specs.declared.lines.Line.{Line}
 use Rattle.module_lang.specs.declared.refusal.Code.{Code}
 use Rattle.module_lang.specs.declared.refusal.AsmRefusal.{AsmRefusal}
@@ -122,16 +122,16 @@ read_as text d h =
     }
 
 -- a handler's lines of code, as a grammar has them
-abbrev body_of : ℕ → Handler → List Raw → List CodeLine
+abbrev body_of : ℕ → HandlerLines → List Raw → List CodeLine
 body_of base h rs = map (line_of base h.labels) rs
 
-record HasLines (m : Program) (bs : List (List ℕ × ℕ)) (h : Handler) (rs : List Raw) (code after : List Instr) : Type 0 where
+record HasLines (m : Program) (bs : List (List ℕ × ℕ)) (h : HandlerLines) (rs : List Raw) (code after : List Instr) : Type 0 where
   whole : after ≡ code ++ instrs (body_of (length code) h rs)
   good : IsCode m (length code) (body_of (length code) h rs)
   named : Named h.labels (labels_from (length code) (body_of (length code) h rs))
   distinct : AreDistinct (bs ++ labels_from (length code) (body_of (length code) h rs))
 
-handler_lines : (m : Program) (before : List Label) (bs : List (List ℕ × ℕ)) (h : Handler) (rs : List Raw) (code after : List Instr) → Built rs h → handler_resolved before h code ≡ Ok after → Named before bs → AreDistinct bs → AreTexted m.texts rs → HasLines m bs h rs code after
+handler_lines : (m : Program) (before : List Label) (bs : List (List ℕ × ℕ)) (h : HandlerLines) (rs : List Raw) (code after : List Instr) → Built rs h → handler_resolved before h code ≡ Ok after → Named before bs → AreDistinct bs → AreTexted m.texts rs → HasLines m bs h rs code after
 handler_lines m before bs h rs code after b e n d w =
     let r = resolved before h code after e in
     let base = length code in

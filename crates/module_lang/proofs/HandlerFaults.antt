@@ -3,17 +3,17 @@ use Rattle.std.proofs.Common.{◌≡◌, ℕ, ◌+◌, ◌<◌, ◌≤◌, Bool,
 use Rattle.module_lang.specs.Assembling.{is_end, program_of}
 use Rattle.module_lang.specs.Codes.{◌>>=◌, code_number}
 use Rattle.module_lang.specs.FirstFault.{DraftHasCode, HandlerHasCode, LabelsHaveCode, StepsHaveCode, header_has_code, label_has_code, step_has_code}
-use Rattle.module_lang.specs.Args.{or_else}
+use Rattle.module_code.specs.Args.{or_else}
 use Rattle.module_lang.specs.Handlers.{code_or_fault, ends_open, fault, handler_fault, handler_resolved, is_lost, is_named, jump_fault, label_fault, sooner, step_code}
-use Rattle.module_lang.specs.Program.{Program, program}
+use Rattle.module_code.specs.Program.{Program, program}
 use Rattle.module_lang.specs.declared.draft.Draft.{Draft}
-use Rattle.module_lang.specs.declared.draft.Handler.{Handler}
+use Rattle.module_lang.specs.declared.draft.HandlerLines.{HandlerLines}
 use Rattle.module_lang.specs.declared.draft.Label.{Label}
-use Rattle.module_lang.specs.declared.draft.Part.{Part}
-use Rattle.module_lang.specs.declared.draft.Part.TheVariants as part
-use Rattle.module_lang.specs.declared.draft.Step.{Step}
+use Rattle.module_code.specs.declared.part.Part.{Part}
+use Rattle.module_code.specs.declared.part.Part.TheVariants as part
+use Rattle.module_lang.specs.declared.draft.DraftStep.{DraftStep}
 use Rattle.module_lang.specs.declared.handler.LineFault.{LineFault}
-use Rattle.module_lang.specs.declared.instr.Instr.{Instr}
+use Rattle.module_code.specs.declared.instr.Instr.{Instr}
 use Rattle.module_lang.specs.declared.refusal.Code.{Code}
 use Rattle.module_lang.specs.declared.refusal.Code.TheVariants as code
 use Rattle.module_lang.proofs.FirstOf.{Tells, or_later, tells_else, tells_here, tells_sooner}
@@ -23,7 +23,7 @@ use Rattle.module_lang.proofs.TextFaults.{or_fault}
 abbrev label_line : Label → ℕ
 label_line l = l.line
 
-abbrev step_line : Step → ℕ
+abbrev step_line : DraftStep → ℕ
 step_line s = s.line
 
 labels_within : (before : List Label) (count k n : ℕ) (ls : List Label) (m : ℕ) (c : Code) → Rises label_line k n ls → LabelsHaveCode before count ls m c → (k ≤ m) × (m < n)
@@ -31,7 +31,7 @@ labels_within before count k n [] m c r h = absurd h
 labels_within before count k n (l ∷ ls) m c r (inl h) = let x = h.0 in let y = r.0 in let z = rises_le label_line (l.line + 1) n ls r.1 in (omega (arith, x, y), omega (arith, x, z))
 labels_within before count k n (l ∷ ls) m c r (inr h) = let x = labels_within (before ++ l ∷ []) count (l.line + 1) n ls m c r.1 h in let y = r.0 in let z = x.0 in (omega (arith, y, z), x.1)
 
-steps_within : (labels : List Label) (k n : ℕ) (ss : List Step) (m : ℕ) (c : Code) → Rises step_line k n ss → StepsHaveCode labels ss m c → (k ≤ m) × (m < n)
+steps_within : (labels : List Label) (k n : ℕ) (ss : List DraftStep) (m : ℕ) (c : Code) → Rises step_line k n ss → StepsHaveCode labels ss m c → (k ≤ m) × (m < n)
 steps_within labels k n [] m c r h = absurd h
 steps_within labels k n (s ∷ ss) m c r (inl h) = let x = h.0 in let y = r.0 in let z = rises_le step_line (s.line + 1) n ss r.1 in (omega (arith, x, y), omega (arith, x, z))
 steps_within labels k n (s ∷ ss) m c r (inr h) = let x = steps_within labels (s.line + 1) n ss m c r.1 h in let y = r.0 in let z = x.0 in (omega (arith, y, z), x.1)
@@ -46,7 +46,7 @@ labels_tell before count k n (l ∷ ls) r =
     same false true o = refl
     same false false o = refl
 
-steps_tell : (labels : List Label) (k n : ℕ) (ss : List Step) → Rises step_line k n ss → Tells (jump_fault labels ss) (StepsHaveCode labels ss)
+steps_tell : (labels : List Label) (k n : ℕ) (ss : List DraftStep) → Rises step_line k n ss → Tells (jump_fault labels ss) (StepsHaveCode labels ss)
 steps_tell labels k n [] r = λ m c h. h
 steps_tell labels k n (s ∷ ss) r =
     subst (λ o. Tells o (StepsHaveCode labels (s ∷ ss))) (same (is_lost labels s.operands) (jump_fault labels ss)) (tells_here s.line (step_has_code labels s) (StepsHaveCode labels ss) (jump_fault labels ss) (λ m c h. let x = (steps_within labels (s.line + 1) n ss m c r.1 h).0 in omega (arith, x)) (steps_tell labels (s.line + 1) n ss r.1))
@@ -66,7 +66,7 @@ label_low before count (l ∷ ls) m c (inl h) = by c h.1
     by code.LostLabel e = omega arith
     by _ e = absurd (cc e)
 
-step_high : (labels : List Label) (ss : List Step) (m : ℕ) (c : Code) → StepsHaveCode labels ss m c → 8 ≤ code_number c
+step_high : (labels : List Label) (ss : List DraftStep) (m : ℕ) (c : Code) → StepsHaveCode labels ss m c → 8 ≤ code_number c
 step_high labels [] m c h = absurd h
 step_high labels (s ∷ ss) m c (inr h) = step_high labels ss m c h
 step_high labels (s ∷ ss) m c (inl h) = by c h.1
@@ -75,7 +75,7 @@ step_high labels (s ∷ ss) m c (inl h) = by c h.1
     by code.LostLabel e = omega arith
     by _ e = absurd (cc e)
 
-module _ (before : List Label) (n : ℕ) (h : Handler) (o : HasLines n h) where
+module _ (before : List Label) (n : ℕ) (h : HandlerLines) (o : HasLines n h) where
   abbrev Labels : ℕ → Code → Type 0
   Labels m c = LabelsHaveCode before (length h.steps) h.labels m c
 

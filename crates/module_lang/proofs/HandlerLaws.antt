@@ -1,7 +1,7 @@
 -- The labels of a handler by a map and a set, against the lists.
 use Rattle.std.specs.Prelude.{All}
 use Rattle.std.proofs.Common.{◌≡◌, ℕ, ◌+◌, ◌<◌, ◌≤◌, Bool, true, false, ◌||◌, not, cond, List, [], ◌∷◌, ◌++◌, length, get_or, drop, Option, Some, None, refl, sym, ◌∙◌, ap, add-one, subst, arith}
-use Rattle.std.proofs.Math.Seq.{drop-cons}
+use Rattle.byte_text.proofs.ListLaws.{drop_here}
 use Rattle.std.proofs.lemmas.List.Folds.{list_any-append}
 use Rattle.std.proofs.lemmas.Bool.{le-leb, lt-leb}
 use Rattle.std.specs.BTreeMap.{BTreeMap}
@@ -14,10 +14,6 @@ use Rattle.module_lang.specs.Handlers.{HasPlacesBelow, IsPlaces, IsSeen, place_f
 use Rattle.module_lang.specs.Labels.{place_of}
 use Rattle.module_lang.specs.declared.draft.Label.{Label}
 use Rattle.module_lang.specs.declared.refusal.Code.TheVariants as code
-
--- what is left of a list begins with the next item
-pub drop_here : {X : Type 0} (xs : List X) (i : ℕ) (d : X) → i < length xs → drop i xs ≡ get_or xs i d ∷ drop (i + 1) xs
-drop_here xs i d h = rw add-one (drop-cons xs i d h)
 
 place_from-push : (f : Option ℕ) (q : List ℕ) (ls : List Label) (l : Label) → place_from f q (ls ++ l ∷ []) ≡ cond (has_name q l) (Some l.place) (place_from f q ls)
 place_from-push f q [] l = refl

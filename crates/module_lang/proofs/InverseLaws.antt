@@ -4,33 +4,34 @@ use Rattle.std.specs.Prelude.{All, slice_index, codes, option_map, find}
 use Rattle.std.specs.Cmp.Lexicographic.{pointwise, same_text}
 use Rattle.std.proofs.lemmas.Bool.{and_parts, leb-true, eqb-true, lt-ltb, ltb-true, ne_eqb}
 use Rattle.std.specs.List.{list_all}
-use Rattle.module_lang.specs.Bytes.{begins, tail, token, token_len, after_token}
+use Rattle.byte_text.specs.Bytes.{begins, tail, token, token_len, after_token}
 use Rattle.module_lang.specs.Codes.{◌>>=◌, unless}
 use Rattle.module_lang.specs.Lines.{is_due, judged, known_word, or_unknown, label_read, item_read, or_no_label, is_handler}
 use Rattle.module_lang.specs.Entries.{from_quote}
-use Rattle.module_lang.specs.Names.{all_name_bytes, is_letter, is_name, is_name_byte, name_of}
-use Rattle.module_lang.specs.Numbers.{constant_of, is_value}
+use Rattle.module_code.specs.Names.{all_name_bytes, is_letter, is_name, is_name_byte, name_of}
+use Rattle.byte_text.specs.Numbers.{constant_of}
+use Rattle.module_code.specs.Args.{is_value}
 use Rattle.module_lang.specs.Operands.{kind_test_at, numbered, operand_in, operand_at, after_operand, operands_at, operand_kind_is_nothing, operand_kind_is_text, or_wrong, text_measured, text_operand}
-use Rattle.module_lang.specs.Quoted.{Quoted, quoted, measure_of, text_of}
+use Rattle.byte_text.specs.Quoted.{Quoted, quoted, measure_of, text_of}
 use Rattle.module_lang.specs.Texts.{place_text, own_text, brigade_text, cursor_text, status_text, value_text, operands_text}
-use Rattle.module_lang.specs.Words.{all_kind_tests, all_words, kind_test_text, word_at, word_text, word_kinds, two_operands, one_operand, no_operand}
+use Rattle.module_code.specs.Words.{all_kind_tests, all_words, kind_test_text, word_at, word_text, word_kinds, two_operands, one_operand, no_operand}
 use Rattle.module_lang.specs.declared.draft.Draft.{Draft}
-use Rattle.module_lang.specs.declared.instr.KindTest.{KindTest}
-use Rattle.module_lang.specs.declared.instr.KindTest.TheVariants as kind_test
-use Rattle.module_lang.specs.declared.instr.PoolRef.TheVariants as pool
-use Rattle.module_lang.specs.declared.instr.Status.TheVariants as status
-use Rattle.module_lang.specs.declared.instr.Value.TheVariants as value
+use Rattle.module_code.specs.declared.instr.KindTest.{KindTest}
+use Rattle.module_code.specs.declared.instr.KindTest.TheVariants as kind_test
+use Rattle.module_code.specs.declared.instr.PoolRef.TheVariants as pool
+use Rattle.module_code.specs.declared.instr.Status.TheVariants as status
+use Rattle.module_code.specs.declared.instr.Value.TheVariants as value
 use Rattle.module_lang.specs.declared.lines.Line.{Line}
 use Rattle.module_lang.specs.declared.lines.Line.TheVariants as line
-use Rattle.module_lang.specs.declared.operand.Operand.{Operand}
-use Rattle.module_lang.specs.declared.operand.Operand.TheVariants as operand
-use Rattle.module_lang.specs.declared.operand.Operands.{Operands}
+use Rattle.module_code.specs.declared.operand.Operand.{Operand}
+use Rattle.module_code.specs.declared.operand.Operand.TheVariants as operand
+use Rattle.module_code.specs.declared.operand.Operands.{Operands}
 use Rattle.module_lang.specs.declared.refusal.Code.TheVariants as code
-use Rattle.module_lang.specs.declared.word.OperandKind.{OperandKind}
-use Rattle.module_lang.specs.declared.word.OperandKind.TheVariants as kind
-use Rattle.module_lang.specs.declared.word.Word.{Word}
+use Rattle.module_code.specs.declared.word.OperandKind.{OperandKind}
+use Rattle.module_code.specs.declared.word.OperandKind.TheVariants as kind
+use Rattle.module_code.specs.declared.word.Word.{Word}
 use Rattle.module_lang.proofs.LineLaws.{bind_ok, unless_ok, not_false}
-use Rattle.module_lang.proofs.NumberLaws.{constant_found, decimal_without}
+use Rattle.byte_text.proofs.NumberLaws.{constant_found, decimal_without}
 use Rattle.module_lang.proofs.OperandLaws.{chain}
 use Rattle.module_lang.proofs.OperandLaws.{cond_some, numbered_below}
 use Rattle.module_lang.proofs.QuoteLaws.{unquoted, place_unquoted}

@@ -6,7 +6,7 @@ use Rattle.std.specs.Cmp.Lexicographic.{pointwise, same_text}
 use Rattle.std.proofs.lemmas.Bool.{and_parts, ne_eqb, lt-leb, false_from_ne_true}
 use Rattle.std.proofs.lemmas.Cmp.{nat_list_eq_equiv}
 use Rattle.module_lang.specs.Handlers.{has_name, is_named, label_fault, place_from}
-use Rattle.module_lang.specs.Names.{is_name, is_name_byte, is_letter, all_name_bytes}
+use Rattle.module_code.specs.Names.{is_name, is_name_byte, is_letter, all_name_bytes}
 use Rattle.module_lang.specs.Texts.{CodeLine, label, step, labels_from, AreDistinct, AreLabels, IsApart, IsLabel}
 use Rattle.module_lang.specs.declared.draft.Label.{Label}
 use Rattle.module_lang.proofs.BodyLaws.{mark, marks_from}

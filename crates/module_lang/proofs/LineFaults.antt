@@ -3,29 +3,29 @@ use Rattle.std.specs.Prelude.{replicate}
 use Rattle.std.proofs.Common.{◌≡◌, ℕ, ◌+◌, ◌-◌, ◌++◌, ◌<◌, ◌≤◌, Bool, true, false, ◌&&◌, ◌||◌, not, cond, eqb, leb, ltb, List, length, Option, Some, None, inl, inr, ◌⊎◌, Result, Ok, Err, refl, sym, ◌∙◌, ap, arith}
 use Rattle.std.proofs.lemmas.Bool.{cases_lt}
 use Rattle.std.proofs.lemmas.Bool.Decides.{nat_tests}
-use Rattle.module_lang.specs.Bytes.{after_token, all_printable, begins, tail, token, unindented}
+use Rattle.byte_text.specs.Bytes.{after_token, all_printable, begins, tail, token, unindented}
 use Rattle.module_lang.specs.Codes.{◌>>=◌, code_number, unless}
 use Rattle.module_lang.specs.FirstFault.{Statement, are_misplaced, are_undeclared, are_wrong, has_code, has_faulty_text, has_operands, has_wrong_operands, have, is_faulty_text, is_not_due, is_too_many, is_unknown, item, item_line, item_of, label, label_line, line_of, nothing, statement, takes_text, unindented_statement}
 use Rattle.module_lang.specs.Lines.{are_declared, has_equal_brigades, has_long_text, has_room, has_text, instruction_count, is_declared, is_due, is_handler, is_misplaced, is_next, is_text_operand, item_read, judged, label_read, line_read, or_no_label, or_unknown, unindented_read}
-use Rattle.module_lang.specs.Names.{is_name, name_of}
+use Rattle.module_code.specs.Names.{is_name, name_of}
 use Rattle.module_lang.specs.Operands.{after_operand, of_kind, operand_at, operand_in, operand_kind_is_nothing, operand_kind_is_text, operands_at, text_measured, text_operand, or_wrong}
-use Rattle.module_lang.specs.Quoted.{measure_of, quoted}
+use Rattle.byte_text.specs.Quoted.{measure_of, quoted}
 use Rattle.module_lang.specs.Texts.{is_skipped}
-use Rattle.module_lang.specs.Words.{op_kinds, word_at, word_kinds}
+use Rattle.module_code.specs.Words.{op_kinds, word_at, word_kinds}
 use Rattle.module_lang.specs.declared.draft.Draft.{Draft}
 use Rattle.module_lang.specs.declared.lines.Line.{Line}
 use Rattle.module_lang.specs.declared.lines.Line.TheVariants as line
-use Rattle.module_lang.specs.declared.operand.Operand.{Operand}
-use Rattle.module_lang.specs.declared.operand.Operand.TheVariants as operand
-use Rattle.module_lang.specs.declared.operand.Operands.{Operands}
-use Rattle.module_lang.specs.declared.quoted.Measured.{Measured}
+use Rattle.module_code.specs.declared.operand.Operand.{Operand}
+use Rattle.module_code.specs.declared.operand.Operand.TheVariants as operand
+use Rattle.module_code.specs.declared.operand.Operands.{Operands}
+use Rattle.byte_text.specs.declared.quoted.Measured.{Measured}
 use Rattle.module_lang.specs.declared.refusal.Code.{Code}
 use Rattle.module_lang.specs.declared.refusal.Code.TheVariants as code
-use Rattle.module_lang.specs.declared.word.OperandKind.{OperandKind}
-use Rattle.module_lang.specs.declared.word.OperandKind.TheVariants as kind
-use Rattle.module_lang.specs.declared.word.OperandKinds.{OperandKinds}
-use Rattle.module_lang.specs.declared.word.Word.{Word}
-use Rattle.module_lang.specs.declared.word.Word.TheVariants as word
+use Rattle.module_code.specs.declared.word.OperandKind.{OperandKind}
+use Rattle.module_code.specs.declared.word.OperandKind.TheVariants as kind
+use Rattle.module_code.specs.declared.word.OperandKinds.{OperandKinds}
+use Rattle.module_code.specs.declared.word.Word.{Word}
+use Rattle.module_code.specs.declared.word.Word.TheVariants as word
 use Rattle.module_lang.proofs.OperandLaws.{kinds_read}
 
 -- an answer tells the lowest code that fits, or that none fits

@@ -1,22 +1,22 @@
 -- The lines of a draft's handlers rise: in a handler, and from handler to handler.
 use Rattle.std.proofs.Common.{◌≡◌, ℕ, ◌+◌, ◌≤◌, true, List, [], ◌∷◌, ◌++◌, length, Ok, refl, sym, subst, arith}
-use Rattle.module_lang.specs.Bytes.{unindented}
+use Rattle.byte_text.specs.Bytes.{unindented}
 use Rattle.module_lang.specs.Drafts.{empty_draft, label_added, step_added, with_line, with_more}
 use Rattle.module_lang.specs.Entries.{entered, item_entered, step_texts}
 use Rattle.module_lang.specs.Lines.{line_read}
-use Rattle.module_lang.specs.Tables.{is_due, is_handler}
+use Rattle.module_code.specs.Tables.{is_due, is_handler}
 use Rattle.module_lang.specs.declared.draft.Draft.{Draft}
-use Rattle.module_lang.specs.declared.draft.Handler.{Handler}
+use Rattle.module_lang.specs.declared.draft.HandlerLines.{HandlerLines}
 use Rattle.module_lang.specs.declared.draft.Label.{Label}
-use Rattle.module_lang.specs.declared.draft.Part.{Part}
-use Rattle.module_lang.specs.declared.draft.Part.TheVariants as part
-use Rattle.module_lang.specs.declared.draft.Step.{Step}
+use Rattle.module_code.specs.declared.part.Part.{Part}
+use Rattle.module_code.specs.declared.part.Part.TheVariants as part
+use Rattle.module_lang.specs.declared.draft.DraftStep.{DraftStep}
 use Rattle.module_lang.specs.declared.lines.Line.{Line}
 use Rattle.module_lang.specs.declared.lines.Line.TheVariants as line
-use Rattle.module_lang.specs.declared.operand.Operands.{Operands}
-use Rattle.module_lang.specs.declared.word.Op.{Op}
-use Rattle.module_lang.specs.declared.word.Word.{Word}
-use Rattle.module_lang.specs.declared.word.Word.TheVariants as word
+use Rattle.module_code.specs.declared.operand.Operands.{Operands}
+use Rattle.module_code.specs.declared.word.Op.{Op}
+use Rattle.module_code.specs.declared.word.Word.{Word}
+use Rattle.module_code.specs.declared.word.Word.TheVariants as word
 use Rattle.module_lang.proofs.SaysLaws.{Says, line_says}
 
 -- numbers rise from one number to another
@@ -37,25 +37,25 @@ rises_push f k n [] y e h = (omega (arith, e, h), omega (arith, e))
 rises_push f k n (x ∷ xs) y e h = (h.0, rises_push f (f x + 1) n xs y e h.1)
 
 -- the lines of a handler stand behind its own, and before line n
-pub record HasLines (n : ℕ) (h : Handler) : Type 0 where
+pub record HasLines (n : ℕ) (h : HandlerLines) : Type 0 where
   pub labels : Rises (λ (l : Label). l.line) (h.line + 1) n h.labels
-  pub steps : Rises (λ (s : Step). s.line) (h.line + 1) n h.steps
+  pub steps : Rises (λ (s : DraftStep). s.line) (h.line + 1) n h.steps
 
-pub record IsBlank (h : Handler) : Type 0 where
+pub record IsBlank (h : HandlerLines) : Type 0 where
   pub labels : h.labels ≡ []
   pub steps : h.steps ≡ []
 
-more_lines : (n : ℕ) (h : Handler) → HasLines n h → HasLines (n + 1) h
-more_lines n h x = record { labels = rises_up (λ (l : Label). l.line) (h.line + 1) n h.labels x.labels; steps = rises_up (λ (s : Step). s.line) (h.line + 1) n h.steps x.steps }
+more_lines : (n : ℕ) (h : HandlerLines) → HasLines n h → HasLines (n + 1) h
+more_lines n h x = record { labels = rises_up (λ (l : Label). l.line) (h.line + 1) n h.labels x.labels; steps = rises_up (λ (s : DraftStep). s.line) (h.line + 1) n h.steps x.steps }
 
-first_lines : (n : ℕ) (h : Handler) → IsBlank h → HasLines (n + 1) (record h { line = n })
-first_lines n h b = record { labels = subst (Rises (λ (l : Label). l.line) (n + 1) (n + 1)) (sym b.labels) (omega arith); steps = subst (Rises (λ (s : Step). s.line) (n + 1) (n + 1)) (sym b.steps) (omega arith) }
+first_lines : (n : ℕ) (h : HandlerLines) → IsBlank h → HasLines (n + 1) (record h { line = n })
+first_lines n h b = record { labels = subst (Rises (λ (l : Label). l.line) (n + 1) (n + 1)) (sym b.labels) (omega arith); steps = subst (Rises (λ (s : DraftStep). s.line) (n + 1) (n + 1)) (sym b.steps) (omega arith) }
 
-label_lines : (n : ℕ) (h : Handler) (name : List ℕ) → HasLines n h → HasLines (n + 1) (with_line h n name)
+label_lines : (n : ℕ) (h : HandlerLines) (name : List ℕ) → HasLines n h → HasLines (n + 1) (with_line h n name)
 label_lines n h name x = let m = more_lines n h x in record { labels = rises_push (λ (l : Label). l.line) (h.line + 1) n h.labels _ refl x.labels; steps = m.steps }
 
-step_lines : (n : ℕ) (h : Handler) (s : Step) → s.line ≡ n → HasLines n h → HasLines (n + 1) (with_more h s)
-step_lines n h s e x = let m = more_lines n h x in record { labels = m.labels; steps = rises_push (λ (s : Step). s.line) (h.line + 1) n h.steps s e x.steps }
+step_lines : (n : ℕ) (h : HandlerLines) (s : DraftStep) → s.line ≡ n → HasLines n h → HasLines (n + 1) (with_more h s)
+step_lines n h s e x = let m = more_lines n h x in record { labels = m.labels; steps = rises_push (λ (s : DraftStep). s.line) (h.line + 1) n h.steps s e x.steps }
 
 -- the handlers of a draft in a part, where line n comes next
 abbrev pub Ordered : Part → ℕ → Draft → Type 0
@@ -80,7 +80,7 @@ label_ordered part.Init n d name e v h = subst (λ q. Ordered q (n + 1) (label_a
 label_ordered part.Main n d name e v h = subst (λ q. Ordered q (n + 1) (label_added part.Main d n name)) e (h.0, h.1, label_lines n d.main name h.2)
 label_ordered _ n d name e v h = absurd (cc v)
 
-step_ordered : (p : Part) (n : ℕ) (d : Draft) (ts : List (List ℕ)) (s : Step) (i : Op) → s.line ≡ n → p ≡ d.part → is_due p (word.Op i) ≡ true → Ordered p n d → IsOrdered (n + 1) (step_added p (record d { texts = ts }) s)
+step_ordered : (p : Part) (n : ℕ) (d : Draft) (ts : List (List ℕ)) (s : DraftStep) (i : Op) → s.line ≡ n → p ≡ d.part → is_due p (word.Op i) ≡ true → Ordered p n d → IsOrdered (n + 1) (step_added p (record d { texts = ts }) s)
 step_ordered part.Open n d ts s i l e v h = subst (λ q. Ordered q (n + 1) (step_added part.Open (record d { texts = ts }) s)) e (step_lines n d.open s l h.0, h.1, h.2)
 step_ordered part.Init n d ts s i l e v h = subst (λ q. Ordered q (n + 1) (step_added part.Init (record d { texts = ts }) s)) e (h.0, step_lines n d.init s l h.1, h.2)
 step_ordered part.Main n d ts s i l e v h = subst (λ q. Ordered q (n + 1) (step_added part.Main (record d { texts = ts }) s)) e (h.0, h.1, step_lines n d.main s l h.2)
@@ -88,7 +88,7 @@ step_ordered _ n d ts s i l e v h = absurd (cc v)
 
 op_ordered : (p : Part) (n : ℕ) (d : Draft) (bytes : List ℕ) (i : Op) (o : Operands) → p ≡ d.part → is_due p (word.Op i) ≡ true → Ordered p n d → IsOrdered (n + 1) (item_entered d n bytes (word.Op i) o)
 op_ordered p n d bytes i o e v h =
-    let s : Step = record { line = n; op = i; operands = o; text = length d.texts } in
+    let s : DraftStep = record { line = n; op = i; operands = o; text = length d.texts } in
     let ts = d.texts ++ step_texts o bytes in
     subst (λ q. IsOrdered (n + 1) (step_added q (record d { texts = ts }) s)) e (step_ordered p n d ts s i refl e v h)
 

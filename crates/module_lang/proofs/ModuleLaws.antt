@@ -6,47 +6,47 @@ use Rattle.std.specs.List.{range_with_len}
 use Rattle.std.proofs.lemmas.List.{length-map}
 use Rattle.std.proofs.lemmas.List.Elements.{filter_map-append}
 use Rattle.std.proofs.lemmas.Option.{slice_get-map, slice_get_within}
-use Rattle.module_lang.specs.Entries.{IsDraft, IsStep, step_numbers, step_text}
+use Rattle.module_lang.specs.Entries.{IsDraft, IsDraftStep, step_numbers, step_text}
 use Rattle.module_lang.specs.Handlers.{handler_fault, handler_resolved, code_or_fault, ends_open, last_goes_on, sooner, fault, label_fault, jump_fault, is_lost, is_missing, arg_in, args_in, label_of, place_from, target_place, step_code, op_instr, operand_index, is_named}
 use Rattle.module_lang.specs.Labels.{place_of}
-use Rattle.module_lang.specs.Words.{op_goes_on}
+use Rattle.module_code.specs.Words.{op_goes_on}
 use Rattle.module_lang.specs.Lines.{are_declared, has_equal_brigades, is_declared, is_text_operand, misplaced, same_brigade, has_text, place_is_declared}
 use Rattle.module_lang.specs.Operands.{IsOfKinds, of_kind, operand_kind_is_text}
-use Rattle.module_lang.specs.Program.{Program, program, IsHandler, IsInside, IsModule, IsPlaced, all_of, apart, fit_tests, fits, goes_on, target, tests, text_of_instr}
-use Rattle.module_lang.specs.Args.{op_of}
-use Rattle.module_lang.specs.Spelling.{operands_of}
-use Rattle.module_lang.specs.Words.{op_kinds}
-use Rattle.module_lang.specs.declared.arg.Args.{Args}
+use Rattle.module_code.specs.Program.{Program, program, IsHandler, IsInside, IsModule, IsPlaced, all_of, apart, fit_tests, fits, goes_on, target, tests, text_of_instr}
+use Rattle.module_code.specs.Args.{op_of}
+use Rattle.module_code.specs.Spelling.{operands_of}
+use Rattle.module_code.specs.Words.{op_kinds}
+use Rattle.module_code.specs.declared.arg.Args.{Args}
 use Rattle.module_lang.specs.declared.draft.Draft.{Draft}
-use Rattle.module_lang.specs.declared.draft.Handler.{Handler}
+use Rattle.module_lang.specs.declared.draft.HandlerLines.{HandlerLines}
 use Rattle.module_lang.specs.declared.draft.Label.{Label}
-use Rattle.module_lang.specs.declared.draft.Part.{Part}
-use Rattle.module_lang.specs.declared.draft.Part.TheVariants as part
-use Rattle.module_lang.specs.declared.draft.Step.{Step}
+use Rattle.module_code.specs.declared.part.Part.{Part}
+use Rattle.module_code.specs.declared.part.Part.TheVariants as part
+use Rattle.module_lang.specs.declared.draft.DraftStep.{DraftStep}
 use Rattle.module_lang.specs.declared.handler.LineFault.{LineFault}
-use Rattle.module_lang.specs.declared.instr.Instr.{Instr}
-use Rattle.module_lang.specs.declared.instr.Instr.TheVariants as instr
-use Rattle.module_lang.specs.declared.instr.PoolRef.{PoolRef}
-use Rattle.module_lang.specs.declared.instr.PoolRef.TheVariants as pool
-use Rattle.module_lang.specs.declared.instr.Value.TheVariants as value
-use Rattle.module_lang.specs.declared.operand.Operand.{Operand}
-use Rattle.module_lang.specs.declared.operand.Operand.TheVariants as operand
-use Rattle.module_lang.specs.declared.operand.Operands.{Operands}
+use Rattle.module_code.specs.declared.instr.Instr.{Instr}
+use Rattle.module_code.specs.declared.instr.Instr.TheVariants as instr
+use Rattle.module_code.specs.declared.instr.PoolRef.{PoolRef}
+use Rattle.module_code.specs.declared.instr.PoolRef.TheVariants as pool
+use Rattle.module_code.specs.declared.instr.Value.TheVariants as value
+use Rattle.module_code.specs.declared.operand.Operand.{Operand}
+use Rattle.module_code.specs.declared.operand.Operand.TheVariants as operand
+use Rattle.module_code.specs.declared.operand.Operands.{Operands}
 use Rattle.module_lang.specs.declared.refusal.Code.TheVariants as codes
-use Rattle.module_lang.specs.declared.word.OperandKind.{OperandKind}
-use Rattle.module_lang.specs.declared.word.OperandKind.TheVariants as kind
-use Rattle.module_lang.specs.declared.word.Op.{Op}
-use Rattle.module_lang.specs.declared.word.Op.TheVariants as op
+use Rattle.module_code.specs.declared.word.OperandKind.{OperandKind}
+use Rattle.module_code.specs.declared.word.OperandKind.TheVariants as kind
+use Rattle.module_code.specs.declared.word.Op.{Op}
+use Rattle.module_code.specs.declared.word.Op.TheVariants as op
 use Rattle.module_lang.proofs.ArgLaws.{args_of_read, parts_in, target_moved}
 use Rattle.module_lang.proofs.DraftLaws.{has_text_of}
-use Rattle.module_lang.proofs.FitLaws.{Every, parts_fit}
+use Rattle.module_code.proofs.FitLaws.{Every, parts_fit}
 use Rattle.module_lang.proofs.HandlerLaws.{place_from-below}
-use Rattle.module_lang.proofs.ListLaws.{AllBelow, all_cons, all_head, all_tail, below_back, below_front, numbers_below, range_below}
+use Rattle.byte_text.proofs.ListLaws.{AllBelow, all_cons, all_head, all_tail, below_back, below_front, numbers_below, range_below}
 use Rattle.module_lang.proofs.OperandLaws.{shape, brigade_is, source_is}
 use Rattle.module_lang.proofs.SliceLaws.{front_item, back_item, item_of}
 
 -- what is known of a handler that was resolved
-pub record IsResolved (before : List Label) (h : Handler) (code after : List Instr) : Type 0 where
+pub record IsResolved (before : List Label) (h : HandlerLines) (code after : List Instr) : Type 0 where
   pub whole : after ≡ code ++ map (step_code (length code) h.labels) h.steps
   pub closed : ends_open h.steps ≡ false
   pub labels : label_fault before (length h.steps) h.labels ≡ None
@@ -62,7 +62,7 @@ sooner_none (Some x) (Some y) h = absurd (never (leb x.line y.line) h)
     never true h = cc h
     never false h = cc h
 
-pub resolved : (before : List Label) (h : Handler) (code after : List Instr) → handler_resolved before h code ≡ Ok after → IsResolved before h code after
+pub resolved : (before : List Label) (h : HandlerLines) (code after : List Instr) → handler_resolved before h code ≡ Ok after → IsResolved before h code after
 unfolding handler_resolved handler_fault
 resolved before h code after e = open_end (ends_open h.steps) refl e
   where
@@ -93,7 +93,7 @@ labels_below before n (l ∷ ls) h = named (is_named l.name before) (labels_belo
     named false rest h = lost rest (leb n l.place) refl h
 
 -- each label that is named is there
-jumps_found : (ls : List Label) (ss : List Step) → jump_fault ls ss ≡ None → All (λ s. is_lost ls s.operands ≡ false) ss
+jumps_found : (ls : List Label) (ss : List DraftStep) → jump_fault ls ss ≡ None → All (λ s. is_lost ls s.operands ≡ false) ss
 jumps_found ls [] h = λ k d lt. absurd (omega arith)
 jumps_found ls (s ∷ ss) h = lost (is_lost ls s.operands) (jumps_found ls ss) refl h
   where
@@ -224,22 +224,22 @@ number_low true x n h e = h
 number_low false x n h e = absurd (cc e)
 
 -- the texts of the code of a handler are those of its lines
-code_numbers : (base : ℕ) (ls : List Label) (ps bs : List PoolRef) (q : Part) (steps : List Step) → All (IsStep ps bs q) steps → filter_map text_of_instr (map (step_code base ls) steps) ≡ step_numbers steps
+code_numbers : (base : ℕ) (ls : List Label) (ps bs : List PoolRef) (q : Part) (steps : List DraftStep) → All (IsDraftStep ps bs q) steps → filter_map text_of_instr (map (step_code base ls) steps) ≡ step_numbers steps
 unfolding step_code
 code_numbers base ls ps bs q [] h = refl
 code_numbers base ls ps bs q (s ∷ ss) h =
-    let first = all_head (IsStep ps bs q) s ss h in
-    rw (text_same s.op s.operands s.text (base + target_place ls (label_of s.operands)) first.kinds, code_numbers base ls ps bs q ss (all_tail (IsStep ps bs q) s ss h)) refl
+    let first = all_head (IsDraftStep ps bs q) s ss h in
+    rw (text_same s.op s.operands s.text (base + target_place ls (label_of s.operands)) first.kinds, code_numbers base ls ps bs q ss (all_tail (IsDraftStep ps bs q) s ss h)) refl
 
 -- the code of a handler, item by item
-step_at : (g : Step → Instr) (h : Handler) (code after rest : List Instr) (pc : ℕ) (i : Instr) → after ≡ code ++ map g h.steps → length code ≤ pc → pc < length after → slice_get (after ++ rest) pc ≡ Some i → (s : Step) × (slice_get h.steps (pc - length code) ≡ Some s) × (g s ≡ i)
+step_at : (g : DraftStep → Instr) (h : HandlerLines) (code after rest : List Instr) (pc : ℕ) (i : Instr) → after ≡ code ++ map g h.steps → length code ≤ pc → pc < length after → slice_get (after ++ rest) pc ≡ Some i → (s : DraftStep) × (slice_get h.steps (pc - length code) ≡ Some s) × (g s ≡ i)
 step_at g h code after rest pc i whole low high e =
     let front = front_item after rest pc high in
     let back = back_item code (map g h.steps) pc low in
     let mapped = slice_get-map g h.steps (pc - length code) in
     mapped_some (slice_get h.steps (pc - length code)) refl (sym mapped ∙ sym back ∙ ap (λ x. slice_get x pc) (sym whole) ∙ sym front ∙ e)
   where
-    mapped_some : (o : Option Step) → slice_get h.steps (pc - length code) ≡ o → option_map g o ≡ Some i → (s : Step) × (slice_get h.steps (pc - length code) ≡ Some s) × (g s ≡ i)
+    mapped_some : (o : Option DraftStep) → slice_get h.steps (pc - length code) ≡ o → option_map g o ≡ Some i → (s : DraftStep) × (slice_get h.steps (pc - length code) ≡ Some s) × (g s ≡ i)
     mapped_some None q h = absurd (cc h)
     mapped_some (Some s) q h = (s, q, cc h)
 
@@ -249,14 +249,14 @@ record IsPart (p : Program) (q : Part) (from to : ℕ) : Type 0 where
   fitting : (pc : ℕ) (i : Instr) → from ≤ pc → pc < to → slice_get p.code pc ≡ Some i → fits p i ≡ true
 
 -- the last instruction of a handler that does not end open
-closed_last : (steps : List Step) → ends_open steps ≡ false → (s : Step) × (slice_get steps (length steps - 1) ≡ Some s) × (op_goes_on s.op ≡ false)
+closed_last : (steps : List DraftStep) → ends_open steps ≡ false → (s : DraftStep) × (slice_get steps (length steps - 1) ≡ Some s) × (op_goes_on s.op ≡ false)
 closed_last steps h = last (slice_get steps (length steps - 1)) refl h
   where
-    last : (o : Option Step) → slice_get steps (length steps - 1) ≡ o → last_goes_on o ≡ false → (s : Step) × (slice_get steps (length steps - 1) ≡ Some s) × (op_goes_on s.op ≡ false)
+    last : (o : Option DraftStep) → slice_get steps (length steps - 1) ≡ o → last_goes_on o ≡ false → (s : DraftStep) × (slice_get steps (length steps - 1) ≡ Some s) × (op_goes_on s.op ≡ false)
     last None q h = absurd (cc h)
     last (Some s) q h = (s, q, h)
 
-part_of : (p : Program) (q : Part) (h : Handler) (before : List Label) (code after rest : List Instr) → p.code ≡ after ++ rest → IsResolved before h code after → All (IsStep p.pools p.brigades q) h.steps → All (λ s. IfSome (step_text s) (λ t. t < length p.texts)) h.steps → IsPart p q (length code) (length after)
+part_of : (p : Program) (q : Part) (h : HandlerLines) (before : List Label) (code after rest : List Instr) → p.code ≡ after ++ rest → IsResolved before h code after → All (IsDraftStep p.pools p.brigades q) h.steps → All (λ s. IfSome (step_text s) (λ t. t < length p.texts)) h.steps → IsPart p q (length code) (length after)
 unfolding step_code
 part_of p q h before code after rest whole r all numbers =
     let g = step_code (length code) h.labels in
@@ -276,10 +276,10 @@ part_of p q h before code after rest whole r all numbers =
             let s = at (length after - 1) i low high e in
             let k : length after - 1 - length code ≡ n - 1 = omega arith in
             let same : last.0 ≡ s.0 = let a : Some last.0 ≡ Some s.0 = sym last.1 ∙ ap (slice_get h.steps) (sym k) ∙ s.1 in cc a in
-            ap goes_on (sym s.2) ∙ sym (ap op_goes_on (same_op s.0.op s.0.operands s.0.text (length code + target_place h.labels (label_of s.0.operands)))) ∙ ap (λ (x : Step). op_goes_on x.op) (sym same) ∙ last.2;
+            ap goes_on (sym s.2) ∙ sym (ap op_goes_on (same_op s.0.op s.0.operands s.0.text (length code + target_place h.labels (label_of s.0.operands)))) ∙ ap (λ (x : DraftStep). op_goes_on x.op) (sym same) ∙ last.2;
         inside = λ pc i low high e.
             let s = at pc i low high e in
-            let fine = item_of (IsStep p.pools p.brigades q) h.steps (pc - length code) s.0 all s.1 in
+            let fine = item_of (IsDraftStep p.pools p.brigades q) h.steps (pc - length code) s.0 all s.1 in
             let there = item_of (λ x. is_lost h.labels x.operands ≡ false) h.steps (pc - length code) s.0 found s.1 in
             let t = length code + target_place h.labels (label_of s.0.operands) in
             let near = found_below h.labels n (label_of s.0.operands) below (omega arith) there in
@@ -290,7 +290,7 @@ part_of p q h before code after rest whole r all numbers =
       };
       fitting = λ pc i low high e.
           let s = at pc i low high e in
-          let fine = item_of (IsStep p.pools p.brigades q) h.steps (pc - length code) s.0 all s.1 in
+          let fine = item_of (IsDraftStep p.pools p.brigades q) h.steps (pc - length code) s.0 all s.1 in
           let low = item_of (λ x. IfSome (step_text x) (λ t. t < length p.texts)) h.steps (pc - length code) s.0 numbers s.1 in
           subst (λ x. fits p x ≡ true) s.2 (fit p s.0.op s.0.operands s.0.text (length code + target_place h.labels (label_of s.0.operands)) fine.kinds fine.declared fine.apart (number_low (has_text s.0.operands) s.0.text (length p.texts) low));
     }

@@ -3,33 +3,33 @@ use Rattle.std.proofs.Common.{◌≡◌, ℕ, ◌-◌, ◌^◌, ◌<◌, Bool, t
 use Rattle.std.specs.Prelude.{option_map, slice_index, codes}
 use Rattle.std.specs.Cmp.Lexicographic.{pointwise}
 use Rattle.std.proofs.lemmas.Bool.{and_parts, eqb-true, leb-true, lt-ltb, or_parts}
-use Rattle.module_lang.specs.Bytes.{begins, tail, token}
+use Rattle.byte_text.specs.Bytes.{begins, tail, token}
 use Rattle.module_lang.specs.Codes.{◌>>=◌, unless}
 use Rattle.module_lang.specs.Handlers.{arg_in, op_instr, operand_index, operand_status, operand_value, operand_variable}
-use Rattle.module_lang.specs.Names.{name_of}
-use Rattle.module_lang.specs.Numbers.{constant_of}
+use Rattle.module_code.specs.Names.{name_of}
+use Rattle.byte_text.specs.Numbers.{constant_of}
 use Rattle.module_lang.specs.Operands.{IsOfKinds, kind_test_at, numbered, of_kind, operand_in, operand_at, operand_place, operand_kind_is_text, or_wrong, text_operand, text_measured, operands_at, after_operand}
-use Rattle.module_lang.specs.Quoted.{quoted, measure_of}
-use Rattle.module_lang.specs.Spelling.{number_operand, operand_of, operands_of, own_pool, variable_operand}
-use Rattle.module_lang.specs.Words.{op_kinds}
-use Rattle.module_lang.specs.declared.arg.Args.{Args}
-use Rattle.module_lang.specs.declared.instr.KindTest.{KindTest}
-use Rattle.module_lang.specs.declared.instr.PoolRef.TheVariants as pool
-use Rattle.module_lang.specs.declared.instr.Status.TheVariants as status
-use Rattle.module_lang.specs.declared.instr.Value.TheVariants as value
-use Rattle.module_lang.specs.declared.operand.Operand.{Operand}
-use Rattle.module_lang.specs.declared.operand.Operand.TheVariants as operand
-use Rattle.module_lang.specs.declared.operand.Operands.{Operands}
-use Rattle.module_lang.specs.declared.quoted.Measured.{Measured}
+use Rattle.byte_text.specs.Quoted.{quoted, measure_of}
+use Rattle.module_code.specs.Spelling.{number_operand, operand_of, operands_of, own_pool, variable_operand}
+use Rattle.module_code.specs.Words.{op_kinds}
+use Rattle.module_code.specs.declared.arg.Args.{Args}
+use Rattle.module_code.specs.declared.instr.KindTest.{KindTest}
+use Rattle.module_code.specs.declared.instr.PoolRef.TheVariants as pool
+use Rattle.module_code.specs.declared.instr.Status.TheVariants as status
+use Rattle.module_code.specs.declared.instr.Value.TheVariants as value
+use Rattle.module_code.specs.declared.operand.Operand.{Operand}
+use Rattle.module_code.specs.declared.operand.Operand.TheVariants as operand
+use Rattle.module_code.specs.declared.operand.Operands.{Operands}
+use Rattle.byte_text.specs.declared.quoted.Measured.{Measured}
 use Rattle.module_lang.specs.declared.refusal.Code.{Code}
 use Rattle.module_lang.specs.declared.refusal.Code.TheVariants as code
-use Rattle.module_lang.specs.declared.word.OperandKind.{OperandKind}
-use Rattle.module_lang.specs.declared.word.OperandKind.TheVariants as kind
-use Rattle.module_lang.specs.declared.word.OperandKinds.{OperandKinds}
-use Rattle.module_lang.specs.declared.word.Op.{Op}
+use Rattle.module_code.specs.declared.word.OperandKind.{OperandKind}
+use Rattle.module_code.specs.declared.word.OperandKind.TheVariants as kind
+use Rattle.module_code.specs.declared.word.OperandKinds.{OperandKinds}
+use Rattle.module_code.specs.declared.word.Op.{Op}
 use Rattle.module_lang.proofs.ArgLaws.{args_of_read, is_label, is_version, op_formed, picked}
 use Rattle.module_lang.proofs.LineLaws.{bind_ok, not_false, unless_ok}
-use Rattle.module_lang.proofs.NumberLaws.{constant_found}
+use Rattle.byte_text.proofs.NumberLaws.{constant_found}
 
 abbrev pub made : Operand → Operand → Operand → Operand → Operands
 made a b c d = record { first = a; second = b; third = c; fourth = d }

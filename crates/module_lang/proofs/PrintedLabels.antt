@@ -6,11 +6,11 @@ use Rattle.std.proofs.Math.Nat.{eq-or-lt_of_le}
 use Rattle.std.proofs.lemmas.Bool.{le-leb, eq-eqb, or_right}
 use Rattle.std.proofs.lemmas.Fmt.{decimal_injective, decimal_by_steps, length-decimal-le}
 use Rattle.std.proofs.lemmas.List.Folds.{list_all-append}
-use Rattle.module_lang.specs.Names.{is_name, is_name_byte, all_name_bytes}
+use Rattle.module_code.specs.Names.{is_name, is_name_byte, all_name_bytes}
 use Rattle.module_lang.specs.Printing.{target_name, aim, is_number, is_target, printed_code, quoted_text}
-use Rattle.module_lang.specs.Program.{target, text_of_instr}
+use Rattle.module_code.specs.Program.{target, text_of_instr}
 use Rattle.module_lang.specs.Texts.{CodeLine, label, step, instrs, labels_from, AreDistinct, AreLabels, IsAimed, IsApart, IsLabel}
-use Rattle.module_lang.specs.declared.instr.Instr.{Instr}
+use Rattle.module_code.specs.declared.instr.Instr.{Instr}
 
 pub line_instrs : (b : Bool) (x : List ℕ) (i : Instr) (y s : List ℕ) (ls : List CodeLine) → instrs (cond b (label x ∷ []) [] ++ step i y s ∷ ls) ≡ i ∷ instrs ls
 line_instrs true x i y s ls = refl

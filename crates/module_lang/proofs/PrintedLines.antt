@@ -5,32 +5,32 @@ use Rattle.std.specs.List.{cons_option, list_all}
 use Rattle.std.proofs.lemmas.Bool.{ne_eqb, ltb-true}
 use Rattle.std.proofs.lemmas.Fmt.{decimal_by_steps, length-decimal-le}
 use Rattle.std.proofs.lemmas.List.Folds.{list_all-append}
-use Rattle.module_lang.specs.Args.{args, names_text}
-use Rattle.module_lang.specs.Bytes.{all_printable, is_printable, unindented}
+use Rattle.module_code.specs.Args.{args, names_text}
+use Rattle.byte_text.specs.Bytes.{all_printable, is_printable, unindented}
 use Rattle.module_lang.specs.Printing.{target_name, aim, is_target, printed_code, quoted_text}
-use Rattle.module_lang.specs.Program.{Program, fits, target, tests, text_of_instr}
+use Rattle.module_code.specs.Program.{Program, fits, target, tests, text_of_instr}
 use Rattle.module_lang.specs.Lines.{place_is_declared}
 use Rattle.module_lang.specs.Texts.{CodeLine, label, step, arg_texts, brigade_text, brigade_texts, code_text, cursor_text, instr_word, is_skipped, joined, line_text, operand_texts, number_text, operands_text, own_text, place_text, pool_texts, statements, status_text, value_text}
-use Rattle.module_lang.specs.Words.{kind_test_text}
-use Rattle.module_lang.specs.declared.arg.Arg.{Arg}
-use Rattle.module_lang.specs.declared.arg.Arg.TheVariants as arg
-use Rattle.module_lang.specs.declared.instr.Instr.{Instr}
-use Rattle.module_lang.specs.declared.instr.Instr.TheVariants as instr
-use Rattle.module_lang.specs.declared.instr.KindTest.{KindTest}
-use Rattle.module_lang.specs.declared.instr.KindTest.TheVariants as kind_test
-use Rattle.module_lang.specs.declared.instr.PoolRef.{PoolRef}
-use Rattle.module_lang.specs.declared.instr.PoolRef.TheVariants as pool
-use Rattle.module_lang.specs.Numbers.{is_value}
-use Rattle.module_lang.specs.declared.instr.Value.{Value}
-use Rattle.module_lang.specs.declared.instr.Value.TheVariants as value
-use Rattle.module_lang.specs.declared.instr.VarRef.TheVariants as variable
-use Rattle.module_lang.specs.declared.instr.Status.{Status}
-use Rattle.module_lang.specs.declared.instr.Status.TheVariants as status
+use Rattle.module_code.specs.Words.{kind_test_text}
+use Rattle.module_code.specs.declared.arg.Arg.{Arg}
+use Rattle.module_code.specs.declared.arg.Arg.TheVariants as arg
+use Rattle.module_code.specs.declared.instr.Instr.{Instr}
+use Rattle.module_code.specs.declared.instr.Instr.TheVariants as instr
+use Rattle.module_code.specs.declared.instr.KindTest.{KindTest}
+use Rattle.module_code.specs.declared.instr.KindTest.TheVariants as kind_test
+use Rattle.module_code.specs.declared.instr.PoolRef.{PoolRef}
+use Rattle.module_code.specs.declared.instr.PoolRef.TheVariants as pool
+use Rattle.module_code.specs.Args.{is_value}
+use Rattle.module_code.specs.declared.instr.Value.{Value}
+use Rattle.module_code.specs.declared.instr.Value.TheVariants as value
+use Rattle.module_code.specs.declared.instr.VarRef.TheVariants as variable
+use Rattle.module_code.specs.declared.instr.Status.{Status}
+use Rattle.module_code.specs.declared.instr.Status.TheVariants as status
 use Rattle.module_lang.proofs.ArgLaws.{formed}
-use Rattle.module_lang.proofs.FitLaws.{Every, fits_parts}
+use Rattle.module_code.proofs.FitLaws.{Every, fits_parts}
 use Rattle.module_lang.proofs.PrintedLabels.{all_joined}
 use Rattle.module_lang.proofs.ShownLaws.{operands_text-append}
-use Rattle.module_lang.proofs.ListLaws.{all_cons, all_head, all_tail}
+use Rattle.byte_text.proofs.ListLaws.{all_cons, all_head, all_tail}
 
 -- printable bytes, of which the first is neither a space nor `#`
 abbrev pub IsPlain : List ℕ → Type 0

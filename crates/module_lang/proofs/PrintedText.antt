@@ -9,18 +9,19 @@ use Rattle.std.proofs.lemmas.List.FromFn.{length-range_with_len}
 use Rattle.std.proofs.lemmas.Option.{slice_get_within}
 use Rattle.module_lang.specs.Lines.{place_is_declared}
 use Rattle.module_lang.specs.Printing.{aim, is_target, printed, printed_code, printed_handler, quoted_text, target_name}
-use Rattle.module_lang.specs.Program.{Program, IsModule, IsHandler, fits, target, text_at, text_of_instr}
-use Rattle.module_lang.specs.Texts.{AreDistinct, AreSpelled, CodeLine, IsCode, IsLabel, IsTextOf, Spells, joined, label, step, brigade_texts, code_text, labels_from, module_texts, pool_texts}
-use Rattle.module_lang.specs.declared.draft.Part.{Part}
-use Rattle.module_lang.specs.declared.draft.Part.TheVariants as part
-use Rattle.module_lang.specs.declared.instr.Instr.{Instr}
-use Rattle.module_lang.specs.declared.instr.PoolRef.{PoolRef}
-use Rattle.module_lang.specs.declared.instr.PoolRef.TheVariants as pool
-use Rattle.module_lang.proofs.ListLaws.{all_cons}
+use Rattle.module_code.specs.Program.{Program, IsModule, IsHandler, fits, target, text_at, text_of_instr}
+use Rattle.module_lang.specs.Texts.{AreDistinct, AreSpelled, CodeLine, IsCode, IsLabel, IsTextOf, joined, label, step, brigade_texts, code_text, labels_from, module_texts, pool_texts}
+use Rattle.byte_text.specs.QuotedTexts.{Spells}
+use Rattle.module_code.specs.declared.part.Part.{Part}
+use Rattle.module_code.specs.declared.part.Part.TheVariants as part
+use Rattle.module_code.specs.declared.instr.Instr.{Instr}
+use Rattle.module_code.specs.declared.instr.PoolRef.{PoolRef}
+use Rattle.module_code.specs.declared.instr.PoolRef.TheVariants as pool
+use Rattle.byte_text.proofs.ListLaws.{all_cons}
 use Rattle.module_lang.proofs.PrintedLabels.{aimed_printed, instrs_printed, is_target_of, labels_printed, marked, marks, marks-append, marks_distinct, marks_named}
 use Rattle.module_lang.proofs.PrintedLines.{IsFew, IsPlain, IsPrintable, QuotedShown, brigades_plain, code_plain, plain-append, plain_clean, plain_statements, pools_plain}
 use Rattle.module_lang.proofs.ShownLaws.{joined-append, text_there}
-use Rattle.module_lang.proofs.SpelledLaws.{spelling_clean, spelling_short, spelling_spells}
+use Rattle.byte_text.proofs.SpelledLaws.{spelling_clean, spelling_short, spelling_spells}
 use Rattle.module_lang.proofs.SliceLaws.{back_item, front_item}
 
 -- what is true of each item that is got is true of all

@@ -4,32 +4,32 @@ use Rattle.std.specs.Prelude.{All, IfSome, is_some}
 use Rattle.std.specs.List.{list_all}
 use Rattle.std.proofs.lemmas.Bool.{and_parts, ne_eqb, lt-ltb, le-ltb, not-true}
 use Rattle.module_lang.specs.Assembling.{lines_read, lines_ended, is_end}
-use Rattle.module_lang.specs.Bytes.{all_printable, is_printable, unindented}
+use Rattle.byte_text.specs.Bytes.{all_printable, is_printable, unindented}
 use Rattle.module_lang.specs.Codes.{◌>>=◌}
 use Rattle.module_lang.specs.Drafts.{label_added}
 use Rattle.module_lang.specs.Entries.{item_entered}
 use Rattle.module_lang.specs.Lines.{line_taken, taken}
 use Rattle.module_lang.specs.Lines.{line_read, unindented_read, is_due, is_handler, judged, has_equal_brigades, has_long_text, are_declared, misplaced, has_room, instruction_count, is_declared, is_long_text, same_brigade}
-use Rattle.module_lang.specs.Names.{is_name}
+use Rattle.module_code.specs.Names.{is_name}
 use Rattle.module_lang.specs.Operands.{operands_at}
-use Rattle.module_lang.specs.Program.{Program, apart, fits, tests, text_of_instr}
-use Rattle.module_lang.specs.Args.{args, op_of}
-use Rattle.module_lang.specs.Spelling.{operand_of, operands_of}
+use Rattle.module_code.specs.Program.{Program, apart, fits, tests, text_of_instr}
+use Rattle.module_code.specs.Args.{args, op_of}
+use Rattle.module_code.specs.Spelling.{operand_of, operands_of}
 use Rattle.module_lang.specs.Texts.{is_skipped, statements, joined, line_text, operands_text}
-use Rattle.module_lang.specs.Words.{word_text, word_kinds}
-use Rattle.module_lang.specs.declared.arg.Arg.{Arg}
-use Rattle.module_lang.specs.declared.arg.Arg.TheVariants as arg
+use Rattle.module_code.specs.Words.{word_text, word_kinds}
+use Rattle.module_code.specs.declared.arg.Arg.{Arg}
+use Rattle.module_code.specs.declared.arg.Arg.TheVariants as arg
 use Rattle.module_lang.specs.declared.draft.Draft.{Draft}
-use Rattle.module_lang.specs.declared.draft.Part.{Part}
-use Rattle.module_lang.specs.declared.instr.Instr.{Instr}
-use Rattle.module_lang.specs.declared.instr.VarRef.TheVariants as variable
-use Rattle.module_lang.specs.declared.operand.Operands.{Operands}
-use Rattle.module_lang.specs.declared.word.Word.{Word}
-use Rattle.module_lang.specs.declared.word.Word.TheVariants as word
+use Rattle.module_code.specs.declared.part.Part.{Part}
+use Rattle.module_code.specs.declared.instr.Instr.{Instr}
+use Rattle.module_code.specs.declared.instr.VarRef.TheVariants as variable
+use Rattle.module_code.specs.declared.operand.Operands.{Operands}
+use Rattle.module_code.specs.declared.word.Word.{Word}
+use Rattle.module_code.specs.declared.word.Word.TheVariants as word
 use Rattle.module_lang.proofs.ArgLaws.{formed, mixes}
 use Rattle.module_lang.proofs.DraftLaws.{has_text_of}
-use Rattle.module_lang.proofs.FitLaws.{Every, fits_parts}
-use Rattle.module_lang.proofs.ListLaws.{all_head, all_tail}
+use Rattle.module_code.proofs.FitLaws.{Every, fits_parts}
+use Rattle.byte_text.proofs.ListLaws.{all_head, all_tail}
 use Rattle.module_lang.proofs.ModuleLaws.{unnamed}
 use Rattle.module_lang.proofs.SpellingLaws.{item_again, statement_plain, name_again, padded}
 

@@ -1,9 +1,9 @@
 -- What is known of a line that says something.
 use Rattle.std.proofs.Common.{◌||◌, ◌≡◌, Bool, true, false, cond, List, ℕ, ◌==◌, not, length, Ok, Err, Option, Some, None, subst}
-use Rattle.module_lang.specs.Bytes.{all_printable, begins, tail, unindented}
+use Rattle.byte_text.specs.Bytes.{all_printable, begins, tail, unindented}
 use Rattle.module_lang.specs.Codes.{unless}
 use Rattle.module_lang.specs.Lines.{is_handler, label_read, item_read, unindented_read, line_read, or_no_label}
-use Rattle.module_lang.specs.Names.{name_of}
+use Rattle.module_code.specs.Names.{name_of}
 use Rattle.module_lang.specs.declared.draft.Draft.{Draft}
 use Rattle.module_lang.specs.declared.lines.Line.{Line}
 use Rattle.module_lang.specs.declared.lines.Line.TheVariants as line

@@ -3,22 +3,22 @@ use Rattle.std.proofs.Common.{◌≡◌, ℕ, suc, ◌+◌, ◌-◌, ◌<◌, �
 use Rattle.std.specs.Prelude.{IfSome, codes, slice_get, slice_range}
 use Rattle.std.proofs.lemmas.Bool.{eqb-true, lt-ltb, ltb-true}
 use Rattle.std.proofs.lemmas.Option.{slice_get_within, get_or_from_slice_get}
-use Rattle.module_lang.specs.Args.{args, names_text, no_arg, two_args}
+use Rattle.module_code.specs.Args.{args, names_text, no_arg, two_args}
 use Rattle.module_lang.specs.Printing.{aim, is_target, label_line, quoted_text, printed, printed_code, printed_handler, target_name}
-use Rattle.module_lang.specs.Program.{Program, fits, target, tests, text_of_instr}
-use Rattle.module_lang.specs.Shown.{AreShort, IsShort, own_texts, shown_arg, shown_args, shown_code, shown_declarations, shown_handler, shown_line, shown_step}
+use Rattle.module_code.specs.Program.{Program, fits, target, tests, text_of_instr}
+use Rattle.module_lang.specs.Shown.{AreShort, IsShortArg, own_texts, shown_arg, shown_args, shown_code, shown_declarations, shown_handler, shown_line, shown_step}
 use Rattle.module_lang.specs.Texts.{CodeLine, brigade_texts, code_text, instr_word, joined, label, line_text, operand_texts, operands_text, own_text, place_text, pool_texts, step}
-use Rattle.module_lang.specs.declared.arg.Arg.{Arg}
-use Rattle.module_lang.specs.declared.arg.Arg.TheVariants as arg
-use Rattle.module_lang.specs.declared.arg.Args.{Args}
-use Rattle.module_lang.specs.declared.instr.Instr.{Instr}
-use Rattle.module_lang.specs.declared.instr.Instr.TheVariants as instr
-use Rattle.module_lang.specs.declared.instr.PoolRef.{PoolRef}
-use Rattle.module_lang.specs.declared.instr.PoolRef.TheVariants as pool
-use Rattle.module_lang.specs.declared.instr.VarRef.TheVariants as variable
+use Rattle.module_code.specs.declared.arg.Arg.{Arg}
+use Rattle.module_code.specs.declared.arg.Arg.TheVariants as arg
+use Rattle.module_code.specs.declared.arg.Args.{Args}
+use Rattle.module_code.specs.declared.instr.Instr.{Instr}
+use Rattle.module_code.specs.declared.instr.Instr.TheVariants as instr
+use Rattle.module_code.specs.declared.instr.PoolRef.{PoolRef}
+use Rattle.module_code.specs.declared.instr.PoolRef.TheVariants as pool
+use Rattle.module_code.specs.declared.instr.VarRef.TheVariants as variable
 use Rattle.module_lang.proofs.ArgLaws.{formed}
-use Rattle.module_lang.proofs.FitLaws.{Every, fits_parts}
-use Rattle.module_lang.proofs.HandlerLaws.{drop_here}
+use Rattle.module_code.proofs.FitLaws.{Every, fits_parts}
+use Rattle.byte_text.proofs.ListLaws.{drop_here}
 use Rattle.module_lang.proofs.SpellingLaws.{declared_up}
 
 pub joined-append : (xs ys : List (List ℕ)) → joined (xs ++ ys) ≡ joined xs ++ joined ys
@@ -58,7 +58,7 @@ pub step_shown : (ts : List (List ℕ)) (i : Instr) → shown_line ts (instr_wor
 step_shown ts i = line_shown ts (instr_word i) (args i) ∙ ap (λ z. line_text (instr_word i) z ++ 10 ∷ []) (instr_texts ts i)
 
 -- the operands of an instruction of a module can be printed
-one_short : (p : Program) (a : Arg) → length p.pools ≤ 8 → length p.brigades ≤ 8 → Every (tests p a) → IsShort p.texts a
+one_short : (p : Program) (a : Arg) → length p.pools ≤ 8 → length p.brigades ≤ 8 → Every (tests p a) → IsShortArg p.texts a
 one_short p arg.Nothing few small h = tt
 one_short p (arg.Place q) few small h = declared_up (length p.pools) 8 q few h.0
 one_short p (arg.Pool q) few small h = let low = ltb-true q (length p.pools) h.0 in omega arith

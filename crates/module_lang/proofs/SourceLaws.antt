@@ -4,20 +4,20 @@ use Rattle.std.specs.Prelude.{IfSome, slice_get, option_map}
 use Rattle.std.proofs.lemmas.Option.{slice_get-map, slice_get_within}
 use Rattle.module_lang.specs.Handlers.{handler_fault, handler_resolved, ends_open, last_goes_on, jump_fault, is_lost, is_missing, label_of, target_place, step_code, op_instr}
 use Rattle.module_lang.specs.Labels.{place_of}
-use Rattle.module_lang.specs.Words.{op_goes_on}
+use Rattle.module_code.specs.Words.{op_goes_on}
 use Rattle.module_lang.specs.Lines.{has_text, misplaced}
-use Rattle.module_lang.specs.Names.{is_name}
-use Rattle.module_lang.specs.Program.{Program, IsHandler, IsModule, fits, goes_on, target, text_of_instr}
-use Rattle.module_lang.specs.Args.{op_of}
-use Rattle.module_lang.specs.Spelling.{operands_of}
+use Rattle.module_code.specs.Names.{is_name}
+use Rattle.module_code.specs.Program.{Program, IsHandler, IsModule, fits, goes_on, target, text_of_instr}
+use Rattle.module_code.specs.Args.{op_of}
+use Rattle.module_code.specs.Spelling.{operands_of}
 use Rattle.module_lang.specs.Texts.{CodeLine, label, step, instrs, labels_from, AreDistinct, AreSpelled, IsAimed, IsCode, IsLabel}
-use Rattle.module_lang.specs.declared.draft.Handler.{Handler}
+use Rattle.module_lang.specs.declared.draft.HandlerLines.{HandlerLines}
 use Rattle.module_lang.specs.declared.draft.Label.{Label}
-use Rattle.module_lang.specs.declared.draft.Part.{Part}
-use Rattle.module_lang.specs.declared.draft.Step.{Step}
-use Rattle.module_lang.specs.declared.instr.Instr.{Instr}
-use Rattle.module_lang.specs.declared.operand.Operands.{Operands}
-use Rattle.module_lang.specs.declared.word.Op.{Op}
+use Rattle.module_code.specs.declared.part.Part.{Part}
+use Rattle.module_lang.specs.declared.draft.DraftStep.{DraftStep}
+use Rattle.module_code.specs.declared.instr.Instr.{Instr}
+use Rattle.module_code.specs.declared.operand.Operands.{Operands}
+use Rattle.module_code.specs.declared.word.Op.{Op}
 use Rattle.module_lang.proofs.ArgLaws.{instr_again, label_target}
 use Rattle.module_lang.proofs.BodyLaws.{AreRight, Matches, bare, bares, steps-length, written}
 use Rattle.module_lang.proofs.LabelLaws.{AreNamed, Marked, Named, labels_right, marked_from, names_of, place_again}
@@ -64,7 +64,7 @@ number_of b x None e = tt
 number_of true x (Some t) e = cc e
 number_of false x (Some t) e = absurd (cc e)
 
-steps_right : (p : Program) (n : ℕ) (labels : List Label) (xs : List (List ℕ × ℕ)) → AreHandled n labels xs → (body : List CodeLine) (steps : List Step) → map bare steps ≡ bares p body → IsAimed xs body → (jump_fault labels steps ≡ None) × (map (step_code n labels) steps ≡ instrs body)
+steps_right : (p : Program) (n : ℕ) (labels : List Label) (xs : List (List ℕ × ℕ)) → AreHandled n labels xs → (body : List CodeLine) (steps : List DraftStep) → map bare steps ≡ bares p body → IsAimed xs body → (jump_fault labels steps ≡ None) × (map (step_code n labels) steps ≡ instrs body)
 unfolding step_code
 steps_right p n labels xs h [] [] e a = (refl, refl)
 steps_right p n labels xs h [] (s ∷ ss) e a = absurd (cc e)
@@ -90,11 +90,11 @@ bares-get p (step j x w ∷ body) zero i e =
     ((o, text_of_instr j), ap (λ y. Some (op_of y, o, text_of_instr j)) s)
 bares-get p (step j x w ∷ body) (suc k) i e = bares-get p body k i e
 
-bare_op : (o : Option Step) (i : Op) (os : Operands) (t : Option ℕ) → option_map bare o ≡ Some (i, os, t) → last_goes_on o ≡ op_goes_on i
+bare_op : (o : Option DraftStep) (i : Op) (os : Operands) (t : Option ℕ) → option_map bare o ≡ Some (i, os, t) → last_goes_on o ≡ op_goes_on i
 bare_op None i os t e = absurd (cc e)
 bare_op (Some s) i os t e = let first : bare s ≡ (i, os, t) = cc e in ap (λ (z : Op × Operands × Option ℕ). op_goes_on z.0) first
 
-ends_again : (p : Program) (body : List CodeLine) (h : Handler) (i : Instr) → Matches p body h → slice_get (instrs body) (length (instrs body) - 1) ≡ Some i → goes_on i ≡ false → ends_open h.steps ≡ false
+ends_again : (p : Program) (body : List CodeLine) (h : HandlerLines) (i : Instr) → Matches p body h → slice_get (instrs body) (length (instrs body) - 1) ≡ Some i → goes_on i ≡ false → ends_open h.steps ≡ false
 ends_again p body h i m e g =
     let size = steps-length p body h m in
     let b = bares-get p body (length (instrs body) - 1) i e in
@@ -102,7 +102,7 @@ ends_again p body h i m e g =
     bare_op (slice_get h.steps (length h.steps - 1)) (op_of i) b.0.0 b.0.1 at ∙ g
 
 -- a handler that is spelled is resolved as its instructions
-pub resolve_again : (p : Program) (before : List Label) (bs : List (List ℕ × ℕ)) (h : Handler) (code : List Instr) (body : List CodeLine) → Named before bs → AreNamed bs → Matches p body h → IsCode p (length code) body → AreDistinct (bs ++ labels_from (length code) body) → ends_open h.steps ≡ false → handler_resolved before h code ≡ Ok (code ++ instrs body)
+pub resolve_again : (p : Program) (before : List Label) (bs : List (List ℕ × ℕ)) (h : HandlerLines) (code : List Instr) (body : List CodeLine) → Named before bs → AreNamed bs → Matches p body h → IsCode p (length code) body → AreDistinct (bs ++ labels_from (length code) body) → ends_open h.steps ≡ false → handler_resolved before h code ≡ Ok (code ++ instrs body)
 unfolding handler_resolved handler_fault
 resolve_again p before bs h code body b v m r d e =
     let n = length code in
@@ -140,7 +140,7 @@ part_right p q from to front mid back s h whole low high j i e =
     ((s.placed (from + j) i at).fit, (h.inside (from + j) i (omega arith) (omega arith) at).allowed)
 
 -- the last instruction of a handler of a module
-pub part_ends : (p : Program) (q : Part) (from to : ℕ) (front : List Instr) (body : List CodeLine) (back : List Instr) (x : Handler) → IsHandler p q from to → p.code ≡ front ++ (instrs body ++ back) → length front ≡ from → from + length (instrs body) ≡ to → Matches p body x → ends_open x.steps ≡ false
+pub part_ends : (p : Program) (q : Part) (from to : ℕ) (front : List Instr) (body : List CodeLine) (back : List Instr) (x : HandlerLines) → IsHandler p q from to → p.code ≡ front ++ (instrs body ++ back) → length front ≡ from → from + length (instrs body) ≡ to → Matches p body x → ends_open x.steps ≡ false
 part_ends p q from to front body back x h whole low high m =
     let mid = instrs body in
     let some = h.some in

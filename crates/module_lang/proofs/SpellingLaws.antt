@@ -4,44 +4,46 @@ use Rattle.std.specs.Prelude.{slice_index, codes, replicate, IfSome}
 use Rattle.std.specs.List.{list_all}
 use Rattle.std.proofs.lemmas.Bool.{and_parts, not-true, le-leb, eq-eqb, ne_eqb, eqb-true, ltb-true, lt-ltb}
 use Rattle.std.proofs.lemmas.List.{take_at, drop_at}
-use Rattle.module_lang.specs.Bytes.{token, token_len, after_token, begins}
+use Rattle.byte_text.specs.Bytes.{token, token_len, after_token, begins}
 use Rattle.module_lang.specs.Lines.{item_read, unindented_read, is_due, judged, place_is_declared}
-use Rattle.module_lang.specs.Program.{Program, fits, target, tests, text_at, text_of_instr}
-use Rattle.module_lang.specs.Names.{is_letter, is_name, is_name_byte, all_name_bytes, name_of}
-use Rattle.module_lang.specs.Numbers.{is_value}
+use Rattle.module_code.specs.Program.{Program, fits, target, tests, text_at, text_of_instr}
+use Rattle.module_code.specs.Names.{is_letter, is_name, is_name_byte, all_name_bytes, name_of}
+use Rattle.module_code.specs.Args.{is_value}
 use Rattle.module_lang.specs.Operands.{numbered, operand_in, operand_at, after_operand, operands_at, operand_kind_is_nothing, operand_kind_is_text}
-use Rattle.module_lang.specs.Args.{args, is_of, names_target, names_text, op_of, or_else}
-use Rattle.module_lang.specs.Spelling.{number_operand, operand_of, operands_of}
-use Rattle.module_lang.specs.Texts.{Spells, arg_texts, place_text, own_text, brigade_text, cursor_text, number_text, status_text, value_text, operands_text, line_text, operand_texts, instr_word, is_skipped}
-use Rattle.module_lang.specs.Words.{kind_test_text, word_text, word_at, word_kinds, op_kinds, two_operands, one_operand, no_operand}
-use Rattle.module_lang.specs.declared.arg.Arg.{Arg}
-use Rattle.module_lang.specs.declared.arg.Arg.TheVariants as arg
-use Rattle.module_lang.specs.declared.arg.Args.{Args}
+use Rattle.module_code.specs.Args.{args, is_of, names_target, names_text, op_of, or_else}
+use Rattle.module_code.specs.Spelling.{number_operand, operand_of, operands_of}
+use Rattle.byte_text.specs.QuotedTexts.{Spells}
+use Rattle.module_lang.specs.Texts.{arg_texts, place_text, own_text, brigade_text, cursor_text, number_text, status_text, value_text, operands_text, line_text, operand_texts, instr_word, is_skipped}
+use Rattle.module_code.specs.Words.{kind_test_text, word_text, word_at, word_kinds, op_kinds, two_operands, one_operand, no_operand}
+use Rattle.module_code.specs.declared.arg.Arg.{Arg}
+use Rattle.module_code.specs.declared.arg.Arg.TheVariants as arg
+use Rattle.module_code.specs.declared.arg.Args.{Args}
 use Rattle.module_lang.specs.declared.draft.Draft.{Draft}
-use Rattle.module_lang.specs.declared.instr.Instr.{Instr}
-use Rattle.module_lang.specs.declared.instr.Instr.TheVariants as instr
-use Rattle.module_lang.specs.declared.instr.KindTest.{KindTest}
-use Rattle.module_lang.specs.declared.instr.KindTest.TheVariants as kind_test
-use Rattle.module_lang.specs.declared.instr.PoolRef.{PoolRef}
-use Rattle.module_lang.specs.declared.instr.PoolRef.TheVariants as pool
-use Rattle.module_lang.specs.declared.instr.Status.{Status}
-use Rattle.module_lang.specs.declared.instr.Status.TheVariants as status
+use Rattle.module_code.specs.declared.instr.Instr.{Instr}
+use Rattle.module_code.specs.declared.instr.Instr.TheVariants as instr
+use Rattle.module_code.specs.declared.instr.KindTest.{KindTest}
+use Rattle.module_code.specs.declared.instr.KindTest.TheVariants as kind_test
+use Rattle.module_code.specs.declared.instr.PoolRef.{PoolRef}
+use Rattle.module_code.specs.declared.instr.PoolRef.TheVariants as pool
+use Rattle.module_code.specs.declared.instr.Status.{Status}
+use Rattle.module_code.specs.declared.instr.Status.TheVariants as status
 use Rattle.module_lang.specs.declared.lines.Line.TheVariants as line
-use Rattle.module_lang.specs.declared.instr.Value.{Value}
-use Rattle.module_lang.specs.declared.instr.Value.TheVariants as value
-use Rattle.module_lang.specs.declared.instr.VarRef.TheVariants as variable
-use Rattle.module_lang.specs.declared.operand.Operand.{Operand}
-use Rattle.module_lang.specs.declared.operand.Operand.TheVariants as operand
-use Rattle.module_lang.specs.declared.operand.Operands.{Operands}
-use Rattle.module_lang.specs.declared.word.OperandKind.{OperandKind}
-use Rattle.module_lang.specs.declared.word.OperandKind.TheVariants as kind
-use Rattle.module_lang.specs.declared.word.Op.TheVariants as op
-use Rattle.module_lang.specs.declared.word.Word.{Word}
-use Rattle.module_lang.specs.declared.word.Word.TheVariants as word
-use Rattle.module_lang.proofs.ArgLaws.{formed, split_again}
-use Rattle.module_lang.proofs.FitLaws.{Every, fits_parts}
-use Rattle.module_lang.proofs.NumberLaws.{constant_again, decimal_begins, decimal_without}
-use Rattle.module_lang.proofs.QuoteLaws.{quoted_again}
+use Rattle.module_code.specs.declared.instr.Value.{Value}
+use Rattle.module_code.specs.declared.instr.Value.TheVariants as value
+use Rattle.module_code.specs.declared.instr.VarRef.TheVariants as variable
+use Rattle.module_code.specs.declared.operand.Operand.{Operand}
+use Rattle.module_code.specs.declared.operand.Operand.TheVariants as operand
+use Rattle.module_code.specs.declared.operand.Operands.{Operands}
+use Rattle.module_code.specs.declared.word.OperandKind.{OperandKind}
+use Rattle.module_code.specs.declared.word.OperandKind.TheVariants as kind
+use Rattle.module_code.specs.declared.word.Op.TheVariants as op
+use Rattle.module_code.specs.declared.word.Word.{Word}
+use Rattle.module_code.specs.declared.word.Word.TheVariants as word
+use Rattle.module_lang.proofs.ArgLaws.{formed}
+use Rattle.module_code.proofs.PartsLaws.{split_again}
+use Rattle.module_code.proofs.FitLaws.{Every, fits_parts}
+use Rattle.byte_text.proofs.NumberLaws.{constant_again, decimal_begins, decimal_without}
+use Rattle.byte_text.proofs.QuoteAgain.{quoted_again}
 
 -- no space among these bytes
 abbrev pub unspaced : List ℕ → Bool

@@ -5,18 +5,18 @@ use Rattle.module_lang.specs.Assembling.{assembling, draft_read, lines_read, is_
 use Rattle.module_lang.specs.Drafts.{empty_draft, with_part}
 use Rattle.module_lang.specs.Lines.{is_due, judged}
 use Rattle.module_lang.specs.Operands.{operand_in}
-use Rattle.module_lang.specs.Program.{Program, program, IsModule, text_at}
+use Rattle.module_code.specs.Program.{Program, program, IsModule, text_at}
 use Rattle.module_lang.specs.Texts.{CodeLine, code_text, instrs, labels_from, AreDistinct, IsApart, IsTextOf, module_texts, pool_texts, brigade_texts}
-use Rattle.module_lang.specs.Words.{word_text, word_kinds}
+use Rattle.module_code.specs.Words.{word_text, word_kinds}
 use Rattle.module_lang.specs.declared.draft.Draft.{Draft}
-use Rattle.module_lang.specs.declared.draft.Part.TheVariants as part
-use Rattle.module_lang.specs.declared.operand.Operand.TheVariants as operand
-use Rattle.module_lang.specs.declared.word.OperandKind.TheVariants as kind
-use Rattle.module_lang.specs.declared.word.Word.TheVariants as word
+use Rattle.module_code.specs.declared.part.Part.TheVariants as part
+use Rattle.module_code.specs.declared.operand.Operand.TheVariants as operand
+use Rattle.module_code.specs.declared.word.OperandKind.TheVariants as kind
+use Rattle.module_code.specs.declared.word.Word.TheVariants as word
 use Rattle.module_lang.proofs.AssemblingLaws.{done, read_short}
 use Rattle.module_lang.proofs.BodyLaws.{AreRight, Declares, Holds, Matches, body_goes, brigades_go, homes_from, init_stage, lower_from, main_stage, open_stage, pools_go, texts_of}
 use Rattle.module_lang.proofs.LabelLaws.{AreNamed-append, marked_from, named-append, named_of, names_of}
-use Rattle.module_lang.proofs.ListLaws.{items_of}
+use Rattle.byte_text.proofs.ListLaws.{items_of}
 use Rattle.module_lang.proofs.RunLaws.{Goes, fold_read, goes_item, run}
 use Rattle.module_lang.proofs.SourceLaws.{part_ends, part_right, resolve_again, right_from}
 use Rattle.module_lang.proofs.SpellingLaws.{IsOperand, no_operands, one_again, operands}

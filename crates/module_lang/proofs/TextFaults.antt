@@ -5,7 +5,7 @@ use Rattle.module_lang.specs.Codes.{◌>>=◌}
 use Rattle.module_lang.specs.Lines.{line_taken, taken}
 use Rattle.module_lang.specs.FirstFault.{LinesHaveCode, all_left, end_has_code, has_code, left, line_of, statement}
 use Rattle.module_lang.specs.Lines.{line_read}
-use Rattle.module_lang.specs.TextLines.{lines_from, rest_from}
+use Rattle.byte_text.specs.TextLines.{lines_from, rest_from}
 use Rattle.module_lang.specs.declared.draft.Draft.{Draft}
 use Rattle.module_lang.specs.declared.handler.LineFault.{LineFault}
 use Rattle.module_lang.specs.declared.refusal.AsmRefusal.{AsmRefusal}

@@ -4,8 +4,8 @@ use Rattle.std.proofs.lemmas.List.{take_all}
 use Rattle.module_lang.specs.Assembling.{lines_ended, lines_read}
 use Rattle.module_lang.specs.Codes.{Gives, Tells, ◌>>=◌}
 use Rattle.module_lang.specs.Lines.{line_taken}
-use Rattle.module_lang.specs.LineReading.{AreTaken, IsFirstRefused, LineTakes}
-use Rattle.module_lang.specs.TextLines.{lines_from, rest_from}
+use Rattle.byte_text.specs.LineReading.{AreTaken, IsFirstRefused, LineTakes}
+use Rattle.byte_text.specs.TextLines.{lines_from, rest_from}
 use Rattle.module_lang.specs.declared.draft.Draft.{Draft}
 use Rattle.module_lang.specs.declared.refusal.AsmRefusal.{AsmRefusal}
 use Rattle.module_lang.specs.declared.refusal.AsmRefusal.TheVariants.{Fault, NoMemory}

@@ -4,10 +4,10 @@ use Rattle.module_lang.specs.Codes.{◌>>=◌}
 use Rattle.module_lang.specs.Drafts.{empty_draft}
 use Rattle.module_lang.specs.Lines.{line_taken}
 use Rattle.module_lang.specs.Handlers.{handler_resolved}
-use Rattle.module_lang.specs.Program.{Program}
-pub use Rattle.module_lang.specs.Tables.{is_end}
+use Rattle.module_code.specs.Program.{Program}
+pub use Rattle.module_code.specs.Tables.{is_end}
 use Rattle.module_lang.specs.declared.draft.Draft.{Draft}
-use Rattle.module_lang.specs.declared.draft.Part.{Part}
+use Rattle.module_code.specs.declared.part.Part.{Part}
 use Rattle.module_lang.specs.declared.refusal.AsmRefusal.{AsmRefusal}
 use Rattle.module_lang.specs.declared.refusal.AsmRefusal.TheVariants.{Fault}
 use Rattle.module_lang.specs.declared.refusal.Code.TheVariants as code

@@ -1,12 +1,12 @@
 -- What the lines of a module text have said so far.
-use Rattle.std.specs.Prelude.{ℕ, List, [], ◌∷◌, ◌++◌, length}
+use Rattle.std.specs.Prelude.{ℕ, List, [], ◌∷◌, ◌++◌, length, ◌+◌}
 use Rattle.module_lang.specs.declared.draft.Draft.{Draft}
-use Rattle.module_lang.specs.declared.draft.Handler.{Handler}
-use Rattle.module_lang.specs.declared.draft.Part.{Part}
-use Rattle.module_lang.specs.declared.draft.Part.TheVariants as part
-use Rattle.module_lang.specs.declared.draft.Step.{Step}
+use Rattle.module_lang.specs.declared.draft.HandlerLines.{HandlerLines}
+use Rattle.module_code.specs.declared.part.Part.{Part}
+use Rattle.module_code.specs.declared.part.Part.TheVariants as part
+use Rattle.module_lang.specs.declared.draft.DraftStep.{DraftStep}
 
-abbrev pub empty_handler : Handler
+abbrev pub empty_handler : HandlerLines
 empty_handler = record { line = 0; labels = []; steps = [] }
 
 abbrev pub empty_draft : Draft
@@ -27,7 +27,7 @@ with_part d part.Init n = record d { part = part.Init; init = record d.init { li
 with_part d part.Main n = record d { part = part.Main; main = record d.main { line = n } }
 with_part d p n = record d { part = p }
 
-abbrev pub with_line : Handler → ℕ → List ℕ → Handler
+abbrev pub with_line : HandlerLines → ℕ → List ℕ → HandlerLines
 with_line h n name = record h { labels = h.labels ++ record { line = n; name = name; place = length h.steps } ∷ [] }
 
 -- a label in the handler that is being read
@@ -39,14 +39,18 @@ label_added _ d n name = record d { main = with_line d.main n name }
 abbrev pub with_label : Draft → ℕ → List ℕ → Draft
 with_label d n name = label_added d.part d n name
 
-abbrev pub with_more : Handler → Step → Handler
+abbrev pub with_more : HandlerLines → DraftStep → HandlerLines
 with_more h s = record h { steps = h.steps ++ s ∷ [] }
 
 -- an instruction in the handler that is being read
-abbrev pub step_added : Part → Draft → Step → Draft
+abbrev pub step_added : Part → Draft → DraftStep → Draft
 step_added part.Open d s = record d { «open» = with_more d.open s }
 step_added part.Init d s = record d { init = with_more d.init s }
 step_added _ d s = record d { main = with_more d.main s }
 
-abbrev pub with_step : Draft → Step → Draft
+abbrev pub with_step : Draft → DraftStep → Draft
 with_step d s = step_added d.part d s
+
+-- how many instructions were read
+abbrev pub instruction_count : Draft → ℕ
+instruction_count d = length d.open.steps + length d.init.steps + length d.main.steps

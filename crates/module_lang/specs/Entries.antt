@@ -2,21 +2,22 @@
 use Rattle.std.specs.Prelude.{◌≡◌, All, true, false, slice_get, Option, Some, None, filter_map, ℕ, ◌+◌, ◌<◌, ◌≤◌, ◌==◌, if◌then◌else◌, List, [], ◌∷◌, ◌++◌, length, option_to_list}
 use Rattle.std.specs.List.{range_with_len}
 use Rattle.module_lang.specs.Drafts.{with_label, with_part, with_step}
-use Rattle.module_lang.specs.Tables.{are_declared, has_equal_brigades, has_text, instruction_count, misplaced, place_is_declared}
+use Rattle.module_code.specs.Tables.{are_declared, has_equal_brigades, has_text, misplaced, place_is_declared}
+use Rattle.module_lang.specs.Drafts.{instruction_count}
 use Rattle.module_lang.specs.Operands.{IsOfKinds, operand_place}
-use Rattle.module_lang.specs.Quoted.{quoted, text_of}
-use Rattle.module_lang.specs.Words.{op_kinds}
+use Rattle.byte_text.specs.Quoted.{quoted, text_of}
+use Rattle.module_code.specs.Words.{op_kinds}
 use Rattle.module_lang.specs.declared.draft.Draft.{Draft}
-use Rattle.module_lang.specs.declared.draft.Part.{Part}
-use Rattle.module_lang.specs.declared.draft.Step.{Step}
-use Rattle.module_lang.specs.declared.draft.Part.TheVariants as part
-use Rattle.module_lang.specs.declared.instr.PoolRef.{PoolRef}
+use Rattle.module_code.specs.declared.part.Part.{Part}
+use Rattle.module_lang.specs.declared.draft.DraftStep.{DraftStep}
+use Rattle.module_code.specs.declared.part.Part.TheVariants as part
+use Rattle.module_code.specs.declared.instr.PoolRef.{PoolRef}
 use Rattle.module_lang.specs.declared.lines.Line.{Line}
 use Rattle.module_lang.specs.declared.lines.Line.TheVariants as line
-use Rattle.module_lang.specs.declared.operand.Operands.{Operands}
-use Rattle.module_lang.specs.declared.word.Op.{Op}
-use Rattle.module_lang.specs.declared.word.Word.{Word}
-use Rattle.module_lang.specs.declared.word.Word.TheVariants as word
+use Rattle.module_code.specs.declared.operand.Operands.{Operands}
+use Rattle.module_code.specs.declared.word.Op.{Op}
+use Rattle.module_code.specs.declared.word.Word.{Word}
+use Rattle.module_code.specs.declared.word.Word.TheVariants as word
 
 -- the bytes from the first quote on
 abbrev pub from_quote : List ℕ → List ℕ
@@ -49,7 +50,7 @@ entered d n bytes (line.Label name) = with_label d n name
 entered d n bytes (line.Item w o) = item_entered d n bytes w o
 
 -- what is true of an instruction that was taken in a handler
-pub record IsStep (pools brigades : List PoolRef) (p : Part) (s : Step) : Type 0 where
+pub record IsDraftStep (pools brigades : List PoolRef) (p : Part) (s : DraftStep) : Type 0 where
   pub kinds : IsOfKinds (op_kinds s.op) s.operands
   pub declared : are_declared (length pools) (length brigades) s.operands ≡ true
   pub apart : has_equal_brigades s.operands ≡ false
@@ -64,11 +65,11 @@ early_steps part.End d = 0
 early_steps _ d = instruction_count d
 
 -- the number of an instruction's text, if it has one
-abbrev pub step_text : Step → Option ℕ
+abbrev pub step_text : DraftStep → Option ℕ
 step_text s = if has_text s.operands then Some s.text else None
 
 -- the numbers of the texts of instructions
-abbrev pub step_numbers : List Step → List ℕ
+abbrev pub step_numbers : List DraftStep → List ℕ
 step_numbers steps = filter_map step_text steps
 
 -- what is true of each draft
@@ -83,6 +84,6 @@ pub record IsDraft (d : Draft) : Type 0 where
   pub short : All (λ t. length t ≤ 255) d.texts
   pub bytes : All (λ t. All (λ b. b < 256) t) d.texts
   pub none : early_steps d.part d ≡ 0
-  pub opening : All (IsStep d.pools d.brigades part.Open) d.open.steps
-  pub init : All (IsStep d.pools d.brigades part.Init) d.init.steps
-  pub main : All (IsStep d.pools d.brigades part.Main) d.main.steps
+  pub opening : All (IsDraftStep d.pools d.brigades part.Open) d.open.steps
+  pub init : All (IsDraftStep d.pools d.brigades part.Init) d.init.steps
+  pub main : All (IsDraftStep d.pools d.brigades part.Main) d.main.steps

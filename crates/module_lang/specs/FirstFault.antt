@@ -3,33 +3,34 @@
 -- operands are read, in Operands.antt; what a line adds to the draft, in Entries.antt; and which labels there are, in
 -- Labels.antt.
 use Rattle.std.specs.Prelude.{◌≡◌, ℕ, ◌+◌, ◌≤◌, Bool, true, false, ◌&&◌, ◌||◌, not, nat_lt, nat_le, ◌==◌, if◌then◌else◌, List, [], ◌∷◌, ◌++◌, length, take, Option, Some, None, Result, Ok, Err, ◌⊎◌}
-use Rattle.module_lang.specs.Bytes.{after_token, all_printable, begins, tail, token, unindented}
+use Rattle.byte_text.specs.Bytes.{after_token, all_printable, begins, tail, token, unindented}
 use Rattle.module_lang.specs.Codes.{code_number}
 use Rattle.module_lang.specs.Drafts.{empty_draft}
 use Rattle.module_lang.specs.Entries.{entered}
 use Rattle.module_lang.specs.Labels.{ends_open, is_lost, is_named}
-use Rattle.module_lang.specs.Names.{is_name, name_of}
+use Rattle.module_code.specs.Names.{is_name, name_of}
 use Rattle.module_lang.specs.Operands.{operand_kind_is_text, operands_at}
-use Rattle.module_lang.specs.Program.{Program}
-use Rattle.module_lang.specs.Tables.{are_declared, has_equal_brigades, has_long_text, instruction_count, is_declared, is_due, is_end, is_handler, is_next, misplaced}
-use Rattle.module_lang.specs.TextLines.{lines_from, rest_from}
+use Rattle.module_code.specs.Program.{Program}
+use Rattle.module_code.specs.Tables.{are_declared, has_equal_brigades, has_long_text, is_declared, is_due, is_end, is_handler, is_next, misplaced}
+use Rattle.module_lang.specs.Drafts.{instruction_count}
+use Rattle.byte_text.specs.TextLines.{lines_from, rest_from}
 use Rattle.module_lang.specs.Texts.{IsTextOf, is_skipped}
-use Rattle.module_lang.specs.Words.{op_kinds, word_at, word_kinds}
+use Rattle.module_code.specs.Words.{op_kinds, word_at, word_kinds}
 use Rattle.module_lang.specs.declared.draft.Draft.{Draft}
-use Rattle.module_lang.specs.declared.draft.Handler.{Handler}
+use Rattle.module_lang.specs.declared.draft.HandlerLines.{HandlerLines}
 use Rattle.module_lang.specs.declared.draft.Label.{Label}
-use Rattle.module_lang.specs.declared.draft.Part.{Part}
-use Rattle.module_lang.specs.declared.draft.Step.{Step}
+use Rattle.module_code.specs.declared.part.Part.{Part}
+use Rattle.module_lang.specs.declared.draft.DraftStep.{DraftStep}
 use Rattle.module_lang.specs.declared.lines.Line.{Line}
 use Rattle.module_lang.specs.declared.lines.Line.TheVariants as line
-use Rattle.module_lang.specs.declared.operand.Operands.{Operands}
+use Rattle.module_code.specs.declared.operand.Operands.{Operands}
 use Rattle.module_lang.specs.declared.refusal.AsmRefusal.{AsmRefusal}
 use Rattle.module_lang.specs.declared.refusal.AsmRefusal.TheVariants.{Fault, NoMemory}
 use Rattle.module_lang.specs.declared.refusal.Code.{Code}
 use Rattle.module_lang.specs.declared.refusal.Code.TheVariants as code
-use Rattle.module_lang.specs.declared.word.Op.{Op}
-use Rattle.module_lang.specs.declared.word.Word.{Word}
-use Rattle.module_lang.specs.declared.word.Word.TheVariants as word
+use Rattle.module_code.specs.declared.word.Op.{Op}
+use Rattle.module_code.specs.declared.word.Word.{Word}
+use Rattle.module_code.specs.declared.word.Word.TheVariants as word
 
 -- What a line is, whether or not it may stand there: empty or a comment, a label and what follows its colon, a line whose
 -- first word is unknown, or a word and what follows it.
@@ -199,21 +200,21 @@ LabelsHaveCode before count (l ∷ ls) m c =
     ((m ≡ l.line) × (label_has_code before count l c ≡ true)) ⊎ LabelsHaveCode (before ++ l ∷ []) count ls m c
 
 -- code 8: an instruction names a label, and none of the handler's labels has that name
-abbrev pub step_has_code : List Label → Step → Code → Bool
+abbrev pub step_has_code : List Label → DraftStep → Code → Bool
 step_has_code labels s code.LostLabel = is_lost labels s.operands
 step_has_code labels s _ = false
 
-abbrev pub StepsHaveCode : List Label → List Step → ℕ → Code → Type 0
+abbrev pub StepsHaveCode : List Label → List DraftStep → ℕ → Code → Type 0
 StepsHaveCode labels [] m c = ⊥
 StepsHaveCode labels (s ∷ ss) m c = ((m ≡ s.line) × (step_has_code labels s c ≡ true)) ⊎ StepsHaveCode labels ss m c
 
 -- code 10: the handler is empty, or its last instruction goes on
-abbrev pub header_has_code : Handler → Code → Bool
+abbrev pub header_has_code : HandlerLines → Code → Bool
 header_has_code h code.OpenEnd = ends_open h.steps
 header_has_code h _ = false
 
 -- a line of a handler has this code, where these labels stand before the handler in the module
-abbrev pub HandlerHasCode : List Label → Handler → ℕ → Code → Type 0
+abbrev pub HandlerHasCode : List Label → HandlerLines → ℕ → Code → Type 0
 HandlerHasCode before h m c =
     ((m ≡ h.line) × (header_has_code h c ≡ true))
     ⊎ (LabelsHaveCode before (length h.steps) h.labels m c ⊎ StepsHaveCode h.labels h.steps m c)
@@ -241,7 +242,7 @@ IsFirstFault text n c =
     ⊎ (((m : ℕ) (d : Code) → HasLineCode text m d → ⊥) × IsFirst (HasModuleCode text) n c)
 
 -- What a text is: a module, or a text whose first faulty line has this number and this code.
-abbrev pub Reads : List ℕ → Result Program AsmRefusal → Type 0
-Reads text (Ok p) = IsTextOf text p
-Reads text (Err (Fault n c)) = IsFirstFault text n c
-Reads text (Err NoMemory) = ⊥
+abbrev pub IsReadAs : List ℕ → Result Program AsmRefusal → Type 0
+IsReadAs text (Ok p) = IsTextOf text p
+IsReadAs text (Err (Fault n c)) = IsFirstFault text n c
+IsReadAs text (Err NoMemory) = ⊥

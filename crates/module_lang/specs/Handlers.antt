@@ -4,38 +4,38 @@ use Rattle.std.specs.Cmp.Lexicographic.{slice_cmp}
 use Rattle.std.specs.Ordering.{nat_cmp}
 use Rattle.std.specs.BTreeMap.{BTreeMap, get}
 use Rattle.std.specs.BTreeSet.{BTreeSet, contains}
-use Rattle.module_lang.specs.Args.{made}
+use Rattle.module_code.specs.Args.{made}
 pub use Rattle.module_lang.specs.Labels.{ends_open, has_name, is_lost, is_missing, is_named, label_of, last_goes_on, operand_label, place_from, place_of}
 use Rattle.module_lang.specs.Operands.{operand_place}
-use Rattle.module_lang.specs.Words.{op_kinds}
-use Rattle.module_lang.specs.declared.arg.Arg.{Arg}
-use Rattle.module_lang.specs.declared.arg.Arg.TheVariants as arg
-use Rattle.module_lang.specs.declared.arg.Args.{Args}
-use Rattle.module_lang.specs.declared.draft.Handler.{Handler}
+use Rattle.module_code.specs.Words.{op_kinds}
+use Rattle.module_code.specs.declared.arg.Arg.{Arg}
+use Rattle.module_code.specs.declared.arg.Arg.TheVariants as arg
+use Rattle.module_code.specs.declared.arg.Args.{Args}
+use Rattle.module_lang.specs.declared.draft.HandlerLines.{HandlerLines}
 use Rattle.module_lang.specs.declared.draft.Label.{Label}
-use Rattle.module_lang.specs.declared.draft.Step.{Step}
+use Rattle.module_lang.specs.declared.draft.DraftStep.{DraftStep}
 use Rattle.module_lang.specs.declared.handler.LineFault.{LineFault}
-use Rattle.module_lang.specs.declared.instr.Instr.{Instr}
-use Rattle.module_lang.specs.declared.instr.KindTest.{KindTest}
-use Rattle.module_lang.specs.declared.instr.KindTest.TheVariants as kind_test
-use Rattle.module_lang.specs.declared.instr.PoolRef.TheVariants as pool
-use Rattle.module_lang.specs.declared.instr.Status.{Status}
-use Rattle.module_lang.specs.declared.instr.Status.TheVariants as status
-use Rattle.module_lang.specs.declared.instr.Value.{Value}
-use Rattle.module_lang.specs.declared.instr.Value.TheVariants as value
-use Rattle.module_lang.specs.declared.instr.VarRef.{VarRef}
-use Rattle.module_lang.specs.declared.instr.VarRef.TheVariants as variable
-use Rattle.module_lang.specs.declared.operand.Operand.{Operand}
-use Rattle.module_lang.specs.declared.operand.Operand.TheVariants as operand
-use Rattle.module_lang.specs.declared.operand.Operands.{Operands}
+use Rattle.module_code.specs.declared.instr.Instr.{Instr}
+use Rattle.module_code.specs.declared.instr.KindTest.{KindTest}
+use Rattle.module_code.specs.declared.instr.KindTest.TheVariants as kind_test
+use Rattle.module_code.specs.declared.instr.PoolRef.TheVariants as pool
+use Rattle.module_code.specs.declared.instr.Status.{Status}
+use Rattle.module_code.specs.declared.instr.Status.TheVariants as status
+use Rattle.module_code.specs.declared.instr.Value.{Value}
+use Rattle.module_code.specs.declared.instr.Value.TheVariants as value
+use Rattle.module_code.specs.declared.instr.VarRef.{VarRef}
+use Rattle.module_code.specs.declared.instr.VarRef.TheVariants as variable
+use Rattle.module_code.specs.declared.operand.Operand.{Operand}
+use Rattle.module_code.specs.declared.operand.Operand.TheVariants as operand
+use Rattle.module_code.specs.declared.operand.Operands.{Operands}
 use Rattle.module_lang.specs.declared.refusal.AsmRefusal.{AsmRefusal}
 use Rattle.module_lang.specs.declared.refusal.AsmRefusal.TheVariants.{Fault}
 use Rattle.module_lang.specs.declared.refusal.Code.{Code}
 use Rattle.module_lang.specs.declared.refusal.Code.TheVariants as code
-use Rattle.module_lang.specs.declared.word.OperandKind.{OperandKind}
-use Rattle.module_lang.specs.declared.word.OperandKind.TheVariants as kind
-use Rattle.module_lang.specs.declared.word.OperandKinds.{OperandKinds}
-use Rattle.module_lang.specs.declared.word.Op.{Op}
+use Rattle.module_code.specs.declared.word.OperandKind.{OperandKind}
+use Rattle.module_code.specs.declared.word.OperandKind.TheVariants as kind
+use Rattle.module_code.specs.declared.word.OperandKinds.{OperandKinds}
+use Rattle.module_code.specs.declared.word.Op.{Op}
 
 -- the map has the places of the labels
 unfoldable pub IsPlaces : BTreeMap (List ℕ) ℕ → List Label → Type 0
@@ -59,7 +59,7 @@ label_fault before count (l ∷ ls) =
     if is_named l.name before then fault l.line code.DoubledLabel
     else (if nat_le count l.place then fault l.line code.LostLabel else label_fault (before ++ l ∷ []) count ls)
 
-abbrev pub jump_fault : List Label → List Step → Option LineFault
+abbrev pub jump_fault : List Label → List DraftStep → Option LineFault
 jump_fault labels [] = None
 jump_fault labels (s ∷ ss) = if is_lost labels s.operands then fault s.line code.LostLabel else jump_fault labels ss
 
@@ -70,7 +70,7 @@ sooner (Some x) None = Some x
 sooner (Some x) (Some y) = if nat_le x.line y.line then Some x else Some y
 
 -- the first fault of a handler, whose own line comes first; some labels stand before it in the module
-unfoldable pub handler_fault : List Label → Handler → Option LineFault
+unfoldable pub handler_fault : List Label → HandlerLines → Option LineFault
 handler_fault before h =
     if ends_open h.steps then fault h.line code.OpenEnd
     else sooner (label_fault before (length h.steps) h.labels) (jump_fault h.labels h.steps)
@@ -130,7 +130,7 @@ args_in k o x t = record {
 abbrev pub op_instr : Op → Operands → ℕ → ℕ → Instr
 op_instr i o x t = made i (args_in (op_kinds i) o x t)
 
-abbrev pub instr_of : Step → ℕ → Instr
+abbrev pub instr_of : DraftStep → ℕ → Instr
 instr_of s t = op_instr s.op s.operands s.text t
 
 -- the place of the label that an instruction names, where one names none, 0
@@ -138,7 +138,7 @@ abbrev pub target_place : List Label → Option (List ℕ) → ℕ
 target_place labels None = 0
 target_place labels (Some name) = unwrap_or (place_of name labels) 0
 
-unfoldable pub step_code : ℕ → List Label → Step → Instr
+unfoldable pub step_code : ℕ → List Label → DraftStep → Instr
 step_code base labels s = instr_of s (base + target_place labels (label_of s.operands))
 
 abbrev pub code_or_fault : Option LineFault → List Instr → Result (List Instr) AsmRefusal
@@ -146,6 +146,6 @@ code_or_fault None code = Ok code
 code_or_fault (Some f) code = Err (Fault f.line f.code)
 
 -- the code with the instructions of a handler behind it, unless the handler has a fault
-unfoldable pub handler_resolved : List Label → Handler → List Instr → Result (List Instr) AsmRefusal
+unfoldable pub handler_resolved : List Label → HandlerLines → List Instr → Result (List Instr) AsmRefusal
 handler_resolved before h code =
     code_or_fault (handler_fault before h) (code ++ map (step_code (length code) h.labels) h.steps)

@@ -2,13 +2,13 @@
 use Rattle.std.specs.Prelude.{ℕ, ◌-◌, Bool, true, false, not, nat_eq, if◌then◌else◌, List, [], ◌∷◌, length, slice_get, Option, Some, None, is_some}
 use Rattle.std.specs.Cmp.Lexicographic.{pointwise}
 use Rattle.std.specs.List.{list_any}
-use Rattle.module_lang.specs.Args.{first_some}
-use Rattle.module_lang.specs.Words.{op_goes_on}
+use Rattle.module_code.specs.Args.{first_some}
+use Rattle.module_code.specs.Words.{op_goes_on}
 use Rattle.module_lang.specs.declared.draft.Label.{Label}
-use Rattle.module_lang.specs.declared.draft.Step.{Step}
-use Rattle.module_lang.specs.declared.operand.Operand.{Operand}
-use Rattle.module_lang.specs.declared.operand.Operand.TheVariants as operand
-use Rattle.module_lang.specs.declared.operand.Operands.{Operands}
+use Rattle.module_lang.specs.declared.draft.DraftStep.{DraftStep}
+use Rattle.module_code.specs.declared.operand.Operand.{Operand}
+use Rattle.module_code.specs.declared.operand.Operand.TheVariants as operand
+use Rattle.module_code.specs.declared.operand.Operands.{Operands}
 
 abbrev pub has_name : List ℕ → Label → Bool
 has_name name l = pointwise nat_eq l.name name
@@ -41,10 +41,10 @@ is_missing labels (Some name) = not (is_some (place_of name labels))
 abbrev pub is_lost : List Label → Operands → Bool
 is_lost labels o = is_missing labels (label_of o)
 
-abbrev pub last_goes_on : Option Step → Bool
+abbrev pub last_goes_on : Option DraftStep → Bool
 last_goes_on None = true
 last_goes_on (Some s) = op_goes_on s.op
 
 -- there is no instruction, or the last goes on
-abbrev pub ends_open : List Step → Bool
+abbrev pub ends_open : List DraftStep → Bool
 ends_open steps = last_goes_on (slice_get steps (length steps - 1))

@@ -1,23 +1,24 @@
 -- What a line says, and whether it may say so there. The tests of a line stand in the order of their codes.
-pub use Rattle.module_lang.specs.Tables.{any_touches_req, are_declared, has_equal_brigades, has_long_text, has_main_only, has_text, instruction_count, is_declared, is_due, is_handler, is_long_text, is_main, is_main_only, is_next, is_open, is_pass, is_text_operand, misplaced, place_is_declared, same_brigade, touches_req, under_req}
+pub use Rattle.module_code.specs.Tables.{any_touches_req, are_declared, has_equal_brigades, has_long_text, has_main_only, has_text, is_declared, is_due, is_handler, is_long_text, is_main, is_main_only, is_next, is_open, is_pass, is_text_operand, misplaced, place_is_declared, same_brigade, touches_req, under_req}
+pub use Rattle.module_lang.specs.Drafts.{instruction_count}
 use Rattle.std.specs.Prelude.{ℕ, Bool, ◌&&◌, ◌||◌, not, nat_lt, ◌==◌, if◌then◌else◌, List, length, Option, Some, None, Result, Ok, Err}
-use Rattle.module_lang.specs.Bytes.{all_printable, begins, tail, token, after_token, unindented}
+use Rattle.byte_text.specs.Bytes.{all_printable, begins, tail, token, after_token, unindented}
 use Rattle.module_lang.specs.Codes.{◌>>=◌, unless}
 use Rattle.module_lang.specs.Entries.{entered}
-use Rattle.module_lang.specs.Names.{name_of}
+use Rattle.module_code.specs.Names.{name_of}
 use Rattle.module_lang.specs.Operands.{operands_at}
-use Rattle.module_lang.specs.Words.{word_at, word_kinds}
+use Rattle.module_code.specs.Words.{word_at, word_kinds}
 use Rattle.module_lang.specs.declared.draft.Draft.{Draft}
 use Rattle.module_lang.specs.declared.lines.Line.{Line}
 use Rattle.module_lang.specs.declared.lines.Line.TheVariants as line
-use Rattle.module_lang.specs.declared.operand.Operands.{Operands}
+use Rattle.module_code.specs.declared.operand.Operands.{Operands}
 use Rattle.module_lang.specs.declared.refusal.AsmRefusal.{AsmRefusal}
 use Rattle.module_lang.specs.declared.refusal.AsmRefusal.TheVariants.{Fault}
 use Rattle.module_lang.specs.declared.refusal.Code.{Code}
 use Rattle.module_lang.specs.declared.refusal.Code.TheVariants as code
-use Rattle.module_lang.specs.declared.word.Op.{Op}
-use Rattle.module_lang.specs.declared.word.Word.{Word}
-use Rattle.module_lang.specs.declared.word.Word.TheVariants as word
+use Rattle.module_code.specs.declared.word.Op.{Op}
+use Rattle.module_code.specs.declared.word.Word.{Word}
+use Rattle.module_code.specs.declared.word.Word.TheVariants as word
 
 abbrev pub is_misplaced : Draft → Op → Operands → Bool
 is_misplaced d i o = misplaced d.part d.pools d.brigades i o

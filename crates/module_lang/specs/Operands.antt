@@ -1,26 +1,27 @@
 -- The operands of a line.
 use Rattle.std.specs.Prelude.{◌≡◌, ℕ, ◌-◌, nat_lt, Bool, true, false, ◌&&◌, not, nat_eq, nat_le, ◌==◌, if◌then◌else◌, List, length, drop, slice_index, codes, find, Option, Some, None, option_map, Result, Ok, Err}
 use Rattle.std.specs.Cmp.Lexicographic.{pointwise}
-use Rattle.module_lang.specs.Bytes.{begins, tail, token, after_token}
+use Rattle.byte_text.specs.Bytes.{begins, tail, token, after_token}
 use Rattle.module_lang.specs.Codes.{◌>>=◌, unless}
-use Rattle.module_lang.specs.Names.{name_of}
-use Rattle.module_lang.specs.Numbers.{constant_of, is_value}
-use Rattle.module_lang.specs.Quoted.{quoted, measure_of}
-use Rattle.module_lang.specs.Words.{all_kind_tests, kind_test_text}
-use Rattle.module_lang.specs.declared.instr.KindTest.{KindTest}
-use Rattle.module_lang.specs.declared.instr.PoolRef.{PoolRef}
-use Rattle.module_lang.specs.declared.instr.PoolRef.TheVariants as pool
-use Rattle.module_lang.specs.declared.instr.Status.TheVariants as status
-use Rattle.module_lang.specs.declared.instr.Value.TheVariants as value
-use Rattle.module_lang.specs.declared.operand.Operand.{Operand}
-use Rattle.module_lang.specs.declared.operand.Operand.TheVariants as operand
-use Rattle.module_lang.specs.declared.operand.Operands.{Operands}
-use Rattle.module_lang.specs.declared.quoted.Measured.{Measured}
+use Rattle.module_code.specs.Names.{name_of}
+use Rattle.byte_text.specs.Numbers.{constant_of}
+use Rattle.module_code.specs.Args.{is_value}
+use Rattle.byte_text.specs.Quoted.{quoted, measure_of}
+use Rattle.module_code.specs.Words.{all_kind_tests, kind_test_text}
+use Rattle.module_code.specs.declared.instr.KindTest.{KindTest}
+use Rattle.module_code.specs.declared.instr.PoolRef.{PoolRef}
+use Rattle.module_code.specs.declared.instr.PoolRef.TheVariants as pool
+use Rattle.module_code.specs.declared.instr.Status.TheVariants as status
+use Rattle.module_code.specs.declared.instr.Value.TheVariants as value
+use Rattle.module_code.specs.declared.operand.Operand.{Operand}
+use Rattle.module_code.specs.declared.operand.Operand.TheVariants as operand
+use Rattle.module_code.specs.declared.operand.Operands.{Operands}
+use Rattle.byte_text.specs.declared.quoted.Measured.{Measured}
 use Rattle.module_lang.specs.declared.refusal.Code.{Code}
 use Rattle.module_lang.specs.declared.refusal.Code.TheVariants as code
-use Rattle.module_lang.specs.declared.word.OperandKind.{OperandKind}
-use Rattle.module_lang.specs.declared.word.OperandKind.TheVariants as kind
-use Rattle.module_lang.specs.declared.word.OperandKinds.{OperandKinds}
+use Rattle.module_code.specs.declared.word.OperandKind.{OperandKind}
+use Rattle.module_code.specs.declared.word.OperandKind.TheVariants as kind
+use Rattle.module_code.specs.declared.word.OperandKinds.{OperandKinds}
 
 -- the number of the variable that is written by this letter and a digit from 0 to 7
 abbrev pub numbered : ℕ → List ℕ → Option ℕ

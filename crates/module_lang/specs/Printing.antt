@@ -1,10 +1,10 @@
 -- The text that a module is printed as.
 use Rattle.std.specs.Prelude.{ℕ, ◌+◌, Bool, false, ◌==◌, if◌then◌else◌, List, [], ◌∷◌, ◌++◌, length, slice_index_or, slice_range, decimal, Option, Some, None}
 use Rattle.std.specs.List.{list_any}
-use Rattle.module_lang.specs.Program.{Program, target, text_of_instr}
-use Rattle.module_lang.specs.Quoted.{spelling}
+use Rattle.module_code.specs.Program.{Program, target, text_of_instr}
+use Rattle.byte_text.specs.Quoted.{spelling}
 use Rattle.module_lang.specs.Texts.{CodeLine, label, step, joined, module_texts}
-use Rattle.module_lang.specs.declared.instr.Instr.{Instr}
+use Rattle.module_code.specs.declared.instr.Instr.{Instr}
 
 -- the name of the label before the instruction of this number: `i5` for 5
 abbrev pub target_name : ℕ → List ℕ

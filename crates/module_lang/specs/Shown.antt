@@ -1,17 +1,17 @@
 -- The parts of a printed line.
 use Rattle.std.specs.Prelude.{◌≡◌, ◌<◌, ℕ, true, ◌||◌, nat_lt, ◌==◌, List, [], ◌∷◌, ◌++◌, codes, length, map, slice_range}
-use Rattle.module_lang.specs.Args.{names_target, names_text, no_arg}
+use Rattle.module_code.specs.Args.{names_target, names_text, no_arg}
 use Rattle.module_lang.specs.Lines.{place_is_declared}
-use Rattle.module_lang.specs.Numbers.{is_value}
+use Rattle.module_code.specs.Args.{is_value}
 use Rattle.module_lang.specs.Printing.{aim, printed_code, quoted_text}
-use Rattle.module_lang.specs.Program.{Program, target, text_of_instr}
+use Rattle.module_code.specs.Program.{Program, target, text_of_instr}
 use Rattle.module_lang.specs.Texts.{arg_texts, brigade_texts, code_text, joined, operands_text, pool_texts, step}
-use Rattle.module_lang.specs.declared.arg.Arg.{Arg}
-use Rattle.module_lang.specs.declared.arg.Arg.TheVariants as arg
-use Rattle.module_lang.specs.declared.arg.Args.{Args}
-use Rattle.module_lang.specs.declared.instr.Instr.{Instr}
-use Rattle.module_lang.specs.declared.instr.VarRef.{VarRef}
-use Rattle.module_lang.specs.declared.instr.VarRef.TheVariants as variable
+use Rattle.module_code.specs.declared.arg.Arg.{Arg}
+use Rattle.module_code.specs.declared.arg.Arg.TheVariants as arg
+use Rattle.module_code.specs.declared.arg.Args.{Args}
+use Rattle.module_code.specs.declared.instr.Instr.{Instr}
+use Rattle.module_code.specs.declared.instr.VarRef.{VarRef}
+use Rattle.module_code.specs.declared.instr.VarRef.TheVariants as variable
 
 -- an operand of a module with these texts
 abbrev pub own_texts : List (List ℕ) → Arg → List (List ℕ)
@@ -29,26 +29,26 @@ HasDigit (variable.Pool q) = q < 8
 HasDigit (variable.Brigade b) = b < 8
 
 -- the number of a variable or cursor has one digit, a constant is below 2^32, and a text is one of these
-abbrev pub IsShort : List (List ℕ) → Arg → Type 0
-IsShort ts arg.Nothing = Unit {0}
-IsShort ts (arg.Place p) = place_is_declared 8 p ≡ true
-IsShort ts (arg.Pool q) = q < 8
-IsShort ts (arg.Brigade b) = b < 8
-IsShort ts (arg.Source b) = (nat_lt b 8 || (b == 8)) ≡ true
-IsShort ts (arg.Ending s) = Unit {0}
-IsShort ts (arg.Target t) = Unit {0}
-IsShort ts (arg.Text t) = t < length ts
-IsShort ts (arg.Variable v) = HasDigit v
-IsShort ts (arg.Number m) = m < 8
-IsShort ts (arg.Value v) = is_value v ≡ true
-IsShort ts (arg.Cursor c) = c < 8
-IsShort ts (arg.KindTest k) = Unit {0}
+abbrev pub IsShortArg : List (List ℕ) → Arg → Type 0
+IsShortArg ts arg.Nothing = Unit {0}
+IsShortArg ts (arg.Place p) = place_is_declared 8 p ≡ true
+IsShortArg ts (arg.Pool q) = q < 8
+IsShortArg ts (arg.Brigade b) = b < 8
+IsShortArg ts (arg.Source b) = (nat_lt b 8 || (b == 8)) ≡ true
+IsShortArg ts (arg.Ending s) = Unit {0}
+IsShortArg ts (arg.Target t) = Unit {0}
+IsShortArg ts (arg.Text t) = t < length ts
+IsShortArg ts (arg.Variable v) = HasDigit v
+IsShortArg ts (arg.Number m) = m < 8
+IsShortArg ts (arg.Value v) = is_value v ≡ true
+IsShortArg ts (arg.Cursor c) = c < 8
+IsShortArg ts (arg.KindTest k) = Unit {0}
 
 pub record AreShort (ts : List (List ℕ)) (a : Args) : Type 0 where
-  pub first : IsShort ts a.first
-  pub second : IsShort ts a.second
-  pub third : IsShort ts a.third
-  pub fourth : IsShort ts a.fourth
+  pub first : IsShortArg ts a.first
+  pub second : IsShortArg ts a.second
+  pub third : IsShortArg ts a.third
+  pub fourth : IsShortArg ts a.fourth
 
 -- a line of a word and its operands, with its LF
 abbrev pub shown_line : List (List ℕ) → List ℕ → Args → List ℕ

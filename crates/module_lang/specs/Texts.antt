@@ -1,23 +1,23 @@
 -- Module texts as they are written: the grammar.
 use Rattle.std.specs.Prelude.{◌≡◌, ◌≢◌, ℕ, ◌+◌, ◌*◌, ◌<◌, ◌≤◌, Bool, true, ◌&&◌, ◌||◌, not, nat_lt, ◌==◌, if◌then◌else◌, List, [], ◌∷◌, ◌++◌, length, map, codes, decimal, All, IfSome, ◌⊎◌}
-use Rattle.module_lang.specs.Args.{args, op_of}
-use Rattle.module_lang.specs.Bytes.{all_printable, begins, is_printable, unindented}
-use Rattle.module_lang.specs.Names.{is_name}
-use Rattle.module_lang.specs.Program.{IsModule, Program, target, text_at, text_of_instr}
-use Rattle.module_lang.specs.Quoted.{hex_digit}
-use Rattle.module_lang.specs.Words.{kind_test_text, op_text}
-use Rattle.module_lang.specs.declared.arg.Arg.{Arg}
-use Rattle.module_lang.specs.declared.arg.Arg.TheVariants as arg
-use Rattle.module_lang.specs.declared.arg.Args.{Args}
-use Rattle.module_lang.specs.declared.instr.Instr.{Instr}
-use Rattle.module_lang.specs.declared.instr.PoolRef.{PoolRef}
-use Rattle.module_lang.specs.declared.instr.PoolRef.TheVariants as pool
-use Rattle.module_lang.specs.declared.instr.Value.{Value}
-use Rattle.module_lang.specs.declared.instr.Value.TheVariants as value
-use Rattle.module_lang.specs.declared.instr.VarRef.{VarRef}
-use Rattle.module_lang.specs.declared.instr.VarRef.TheVariants as variable
-use Rattle.module_lang.specs.declared.instr.Status.{Status}
-use Rattle.module_lang.specs.declared.instr.Status.TheVariants as status
+use Rattle.module_code.specs.Args.{args, op_of}
+use Rattle.byte_text.specs.Bytes.{all_printable, begins, is_printable, unindented}
+use Rattle.module_code.specs.Names.{is_name}
+use Rattle.module_code.specs.Program.{IsModule, Program, target, text_at, text_of_instr}
+use Rattle.byte_text.specs.QuotedTexts.{Spells}
+use Rattle.module_code.specs.Words.{kind_test_text, op_text}
+use Rattle.module_code.specs.declared.arg.Arg.{Arg}
+use Rattle.module_code.specs.declared.arg.Arg.TheVariants as arg
+use Rattle.module_code.specs.declared.arg.Args.{Args}
+use Rattle.module_code.specs.declared.instr.Instr.{Instr}
+use Rattle.module_code.specs.declared.instr.PoolRef.{PoolRef}
+use Rattle.module_code.specs.declared.instr.PoolRef.TheVariants as pool
+use Rattle.module_code.specs.declared.instr.Value.{Value}
+use Rattle.module_code.specs.declared.instr.Value.TheVariants as value
+use Rattle.module_code.specs.declared.instr.VarRef.{VarRef}
+use Rattle.module_code.specs.declared.instr.VarRef.TheVariants as variable
+use Rattle.module_code.specs.declared.instr.Status.{Status}
+use Rattle.module_code.specs.declared.instr.Status.TheVariants as status
 
 -- `conn`, `req`, and `p0` to `p7`
 abbrev pub place_text : PoolRef → List ℕ
@@ -61,55 +61,6 @@ operands_text (o ∷ os) = 32 ∷ (o ++ operands_text os)
 
 abbrev pub line_text : List ℕ → List (List ℕ) → List ℕ
 line_text word os = word ++ operands_text os
-
--- how one byte of a text is written: as it is, or by `\"`, `\\`, `\n`, `\r` or `\xHH`
-pub data Piece : Type 0 where
-  plain : ℕ → Piece
-  quote : Piece
-  backslash : Piece
-  line_feed : Piece
-  carriage_return : Piece
-  hex : ℕ → ℕ → Piece
-
-abbrev pub piece_text : Piece → List ℕ
-piece_text (plain b) = b ∷ []
-piece_text quote = 92 ∷ 34 ∷ []
-piece_text backslash = 92 ∷ 92 ∷ []
-piece_text line_feed = 92 ∷ 110 ∷ []
-piece_text carriage_return = 92 ∷ 114 ∷ []
-piece_text (hex high low) = 92 ∷ 120 ∷ hex_digit high ∷ hex_digit low ∷ []
-
-abbrev pub piece_byte : Piece → ℕ
-piece_byte (plain b) = b
-piece_byte quote = 34
-piece_byte backslash = 92
-piece_byte line_feed = 10
-piece_byte carriage_return = 13
-piece_byte (hex high low) = 16 * high + low
-
--- a printable byte but `"` and `\`, or two digits in lower case
-abbrev pub is_piece : Piece → Bool
-is_piece (plain b) = is_printable b && not (b == 34) && not (b == 92)
-is_piece (hex high low) = nat_lt high 16 && nat_lt low 16
-is_piece _ = true
-
-abbrev pub pieces_text : List Piece → List ℕ
-pieces_text [] = []
-pieces_text (c ∷ cs) = piece_text c ++ pieces_text cs
-
--- a text in quotes, and the bytes that it spells
-pub record Spells (spelled bytes : List ℕ) : Type 0 where
-  pub pieces : List Piece
-  pub right : All (λ c. is_piece c ≡ true) pieces
-  pub whole : spelled ≡ 34 ∷ (pieces_text pieces ++ 34 ∷ [])
-  pub same : bytes ≡ map piece_byte pieces
-
--- some bytes begin with a text in quotes
-pub record StandsIn (text bytes : List ℕ) : Type 0 where
-  pub spelled : List ℕ
-  pub rest : List ℕ
-  pub right : Spells spelled text
-  pub whole : bytes ≡ spelled ++ rest
 
 -- an operand, where a target has this name and a text is spelled so
 abbrev pub arg_texts : Arg → List ℕ → List ℕ → List (List ℕ)

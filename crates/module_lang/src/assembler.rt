@@ -5,17 +5,16 @@ ghost use Rattle.module_lang.specs.Assembling.{is_end, lines_read, lines_ended, 
 ghost use Rattle.module_lang.specs.Codes.{Gives};
 ghost use Rattle.module_lang.specs.Drafts.{empty_draft};
 ghost use Rattle.module_lang.specs.Entries.{IsDraft};
-ghost use Rattle.module_lang.specs.FirstFault.{Reads};
+ghost use Rattle.module_lang.specs.FirstFault.{IsReadAs};
 ghost use Rattle.module_lang.specs.Printing.{printed};
-ghost use Rattle.module_lang.specs.Program.{IsModule, Program};
+ghost use Rattle.module_code.specs.Program.{IsModule, Program};
 ghost use Rattle.module_lang.specs.declared.refusal.AsmRefusal.TheVariants.{NoMemory};
 
-use crate::draft::{Draft, Part};
+use crate::draft::Draft;
 use crate::handler::resolve_handler;
-use crate::line_reader::take_lines;
-use crate::module::Module;
 use crate::refusal::{AsmRefusal, Code};
-use crate::seq::Seq;
+use byte_text::take_lines;
+use module_code::{Module, Part, Seq};
 use std::alloc::Global;
 use std::collections::BTreeSet;
 
@@ -111,10 +110,10 @@ fn read_module(alloc: Global, text: &[u8]) -> Result<Module, AsmRefusal>
 pub fn assemble(alloc: Global, text: &[u8]) -> Result<Module, AsmRefusal>
     // A text is a module by the grammar, or has a first faulty line: one of these, and one alone. What is answered it is,
     // and what it is is answered, memory apart.
-    ensures some { (r : Result Program AsmRefusal) × Reads text.now r }
-    ensures one { (r s : Result Program AsmRefusal) → Reads text.now r → Reads text.now s → r ≡ s }
-    ensures reads { result ≢ Err NoMemory → Reads text.now result }
-    ensures told { (r : Result Program AsmRefusal) → Reads text.now r → Gives (λ m. m) result r }
+    ensures some { (r : Result Program AsmRefusal) × IsReadAs text.now r }
+    ensures one { (r s : Result Program AsmRefusal) → IsReadAs text.now r → IsReadAs text.now s → r ≡ s }
+    ensures reads { result ≢ Err NoMemory → IsReadAs text.now result }
+    ensures told { (r : Result Program AsmRefusal) → IsReadAs text.now r → Gives (λ m. m) result r }
 
     // The text that a module is printed as is taken as that module, memory apart.
     ensures again { (p : Program) → IsModule p → text.now ≡ printed p → Gives (λ m. m) result (Ok p) }

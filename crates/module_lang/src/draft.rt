@@ -3,31 +3,8 @@
 ghost use Rattle.std.specs.Prelude.{◌≡◌, [], OnOk};
 ghost use Rattle.module_lang.specs.Drafts.{empty_draft, empty_handler, with_label, with_step, with_line, with_part};
 
-use crate::instr::PoolRef;
-use crate::name::Name;
-use crate::operand::Operands;
-use crate::seq::Seq;
-use crate::word::Op;
+use module_code::{Name, Op, Operands, Part, PoolRef, Seq};
 use std::alloc::{AllocError, Global};
-
-/// Which lines are due.
-#[derive(Clone, Copy)]
-pub enum Part {
-    /// The first line.
-    Start,
-    /// Declarations of pools and what follows them.
-    Pools,
-    /// Declarations of brigades and what follows them.
-    Brigades,
-    /// The code of the handler `open`.
-    Open,
-    /// The code of the handler `init`.
-    Init,
-    /// The code of the handler `main`.
-    Main,
-    /// None.
-    End,
-}
 
 /// A label line.
 #[derive(Clone, Copy)]
@@ -41,7 +18,7 @@ pub struct Label {
 
 /// An instruction, as it is written.
 #[derive(Clone, Copy)]
-pub struct Step {
+pub struct DraftStep {
     /// The line, counted from 1.
     pub line: usize,
     pub op: Op,
@@ -52,18 +29,18 @@ pub struct Step {
 
 /// The lines of a handler.
 #[derive(Drop)]
-pub struct Handler {
+pub struct HandlerLines {
     /// The line of the handler's name, counted from 1.
     pub line: usize,
     pub labels: Seq<Label>,
-    pub steps: Seq<Step>,
+    pub steps: Seq<DraftStep>,
 }
 
-impl Handler {
+impl HandlerLines {
     fn new(alloc: Global) -> Self
         ensures { result ≡ empty_handler }
     {
-        Handler {
+        HandlerLines {
             line: 0,
             labels: Seq::new(alloc),
             steps: Seq::new(alloc),
@@ -78,9 +55,9 @@ pub struct Draft {
     pub pools: Seq<PoolRef>,
     pub brigades: Seq<PoolRef>,
     pub texts: Seq<Seq<u8>>,
-    pub open: Handler,
-    pub init: Handler,
-    pub main: Handler,
+    pub open: HandlerLines,
+    pub init: HandlerLines,
+    pub main: HandlerLines,
 }
 
 impl Draft {
@@ -93,9 +70,9 @@ impl Draft {
             pools: Seq::new(alloc),
             brigades: Seq::new(alloc),
             texts: Seq::new(alloc),
-            open: Handler::new(alloc),
-            init: Handler::new(alloc),
-            main: Handler::new(alloc),
+            open: HandlerLines::new(alloc),
+            init: HandlerLines::new(alloc),
+            main: HandlerLines::new(alloc),
         }
     }
 
@@ -124,7 +101,7 @@ impl Draft {
     }
 
     /// Adds an instruction to the handler that is being read.
-    pub fn add_step(&mut self, step: Step) -> Result<(), AllocError>
+    pub fn add_step(&mut self, step: DraftStep) -> Result<(), AllocError>
         ensures { OnOk result (self.new ≡ with_step self.old step) }
     {
         match self.part {
@@ -135,7 +112,7 @@ impl Draft {
     }
 }
 
-impl Handler {
+impl HandlerLines {
     fn add_label(&mut self, line: usize, name: Name) -> Result<(), AllocError>
         ensures { OnOk result (self.new ≡ with_line self.old line name) }
     {

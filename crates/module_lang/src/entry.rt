@@ -3,14 +3,12 @@
 ghost use Rattle.std.specs.Prelude.{◌≡◌, ◌++◌, [], OnOk, option_to_list};
 ghost use Rattle.module_lang.specs.Entries.{from_quote, step_texts};
 
-use crate::draft::{Draft, Part, Step};
-use crate::line_reader::TakesLines;
+use crate::draft::{Draft, DraftStep};
 use crate::lines::{Line, has_text, read_line};
-use crate::operand::{Operands, operand_place};
-use crate::quoted::unquote;
+use crate::operand::operand_place;
 use crate::refusal::AsmRefusal;
-use crate::seq::Seq;
-use crate::word::{Op, Word};
+use byte_text::{TakesLines, unquote};
+use module_code::{Op, Operands, Part, Seq, Word};
 use std::alloc::{AllocError, Global};
 
 /// The bytes from the first quote on.
@@ -69,7 +67,7 @@ impl Draft {
     {
         let text = self.texts.len() as u8;
         add_texts(alloc, &mut self.texts, line, operands)?;
-        self.add_step(Step {
+        self.add_step(DraftStep {
             line: number,
             op,
             operands,

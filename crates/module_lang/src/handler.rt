@@ -8,15 +8,14 @@ ghost use Rattle.module_lang.specs.declared.draft.Label.{Label};
 ghost use Rattle.module_lang.specs.Codes.{Tells};
 ghost use Rattle.module_lang.specs.Handlers.{IsPlaces, IsSeen, label_fault, operand_label, label_of, is_lost, jump_fault, ends_open, sooner, place_of, handler_fault, operand_index, operand_kind_test, operand_status, operand_variable, operand_value, arg_in, args_in, instr_of, target_place, step_code, handler_resolved, HasPlacesBelow};
 
-use crate::arg::{Arg, Args};
-use crate::draft::{Handler, Label, Step};
-use crate::instr::{Instr, KindTest, PoolRef, Status, Value, VarRef};
-use crate::name::Name;
-use crate::operand::{Operand, Operands, operand_place};
-use crate::parts::made;
+use crate::draft::{DraftStep, HandlerLines, Label};
+use crate::operand::operand_place;
 use crate::refusal::{AsmRefusal, Code};
-use crate::seq::Seq;
-use crate::word::{OperandKind, OperandKinds};
+use module_code::parts::made;
+use module_code::{
+    Arg, Args, Instr, KindTest, Name, Operand, OperandKind, OperandKinds, Operands, PoolRef, Seq,
+    Status, Value, VarRef,
+};
 use std::alloc::{AllocError, Global};
 use std::collections::{BTreeMap, BTreeSet};
 
@@ -104,7 +103,7 @@ fn is_lost(places: &BTreeMap<Name, usize>, operands: Operands) -> bool
 }
 
 /// The first instruction that names a label which is not in the handler.
-fn jump_fault(places: &BTreeMap<Name, usize>, steps: &[Step]) -> Option<LineFault>
+fn jump_fault(places: &BTreeMap<Name, usize>, steps: &[DraftStep]) -> Option<LineFault>
     ensures { (labels : List Label) → IsPlaces places.now labels → result ≡ jump_fault labels steps.now }
 {
     for step in steps {
@@ -119,7 +118,7 @@ fn jump_fault(places: &BTreeMap<Name, usize>, steps: &[Step]) -> Option<LineFaul
 }
 
 /// Whether a handler is empty, or its last instruction is neither `jump` nor `ret`.
-fn ends_open(steps: &[Step]) -> bool
+fn ends_open(steps: &[DraftStep]) -> bool
     ensures { result ≡ ends_open steps.now }
 {
     match steps.last() {
@@ -144,7 +143,7 @@ fn sooner(a: Option<LineFault>, b: Option<LineFault>) -> Option<LineFault>
 #[tactic(auto, unfolding(crate::specs::Handlers::handler_fault))]
 fn handler_fault(
     seen: &mut BTreeSet<Name>,
-    handler: &Handler,
+    handler: &HandlerLines,
     places: &BTreeMap<Name, usize>,
 ) -> Result<Option<LineFault>, AllocError>
     ensures fault { IfOk result
@@ -246,7 +245,7 @@ fn args_in(kinds: OperandKinds, operands: Operands, text: u8, target: u16) -> Ar
 }
 
 /// The instruction that is written so, with the number of its target.
-fn instr_of(step: &Step, target: u16) -> Instr
+fn instr_of(step: &DraftStep, target: u16) -> Instr
     ensures { result ≡ instr_of step.now target }
 {
     let args = args_in(step.op.kinds(), step.operands, step.text, target);
@@ -271,7 +270,7 @@ fn add_code(
     code: &mut Seq<Instr>,
     base: usize,
     places: &BTreeMap<Name, usize>,
-    steps: &[Step],
+    steps: &[DraftStep],
 ) -> Result<(), AllocError>
     requires base { base ≤ 1024 }
     requires below { HasPlacesBelow places.now 1024 }
@@ -290,7 +289,7 @@ fn add_code(
 pub fn resolve_handler(
     alloc: Global,
     seen: &mut BTreeSet<Name>,
-    handler: &Handler,
+    handler: &HandlerLines,
     code: &mut Seq<Instr>,
 ) -> Result<(), AsmRefusal>
     requires { length code.old + length handler.now.steps ≤ 1024 }

@@ -4,13 +4,11 @@ ghost use Rattle.std.specs.Prelude.{◌≡◌, ◌≤◌, ◌+◌, length, not, 
 ghost use Rattle.module_lang.specs.Codes.{unless};
 ghost use Rattle.module_lang.specs.Lines.{is_due, is_handler, is_main, is_open, known_word, same_brigade, has_equal_brigades, is_long_text, has_long_text, is_text_operand, has_text, place_is_declared, is_declared, are_declared, under_req, is_main_only, has_main_only, touches_req, any_touches_req, is_misplaced, instruction_count, has_room, is_next, declaration_judged, op_judged, judged, label_read, item_read, line_read};
 
-use crate::bytes::{after_token, all_printable, begins, tail, token, unindented};
-use crate::draft::{Draft, Part};
-use crate::instr::{PoolRef, Status};
-use crate::name::{Name, name_of};
-use crate::operand::{Operand, Operands, operands_at};
+use crate::draft::Draft;
+use crate::operand::operands_at;
 use crate::refusal::Code;
-use crate::word::{Op, Word, word_of};
+use byte_text::{after_token, all_printable, begins, tail, token, unindented};
+use module_code::{Name, Op, Operand, Operands, Part, PoolRef, Status, Word, name_of, word_of};
 
 /// What a line says.
 #[derive(Clone, Copy)]

@@ -1,50 +1,14 @@
 //! The operands of a line.
 
 ghost use Rattle.std.specs.Prelude.{◌≡◌, ◌<◌, ◌≤◌, length, IsTrue};
-ghost use Rattle.module_lang.specs.Bytes.{begins, tail};
+ghost use Rattle.byte_text.specs.Bytes.{begins, tail};
 ghost use Rattle.module_lang.specs.Operands.{numbered, is_one, place_in, pool_in, brigade_in, source_in, ending_in, label_in, variable_in, number_in, constant_in, value_in, cursor_in, kind_test_at, kind_test_in, operand_place, operand_in, text_operand, operand_at, after_text, after_operand, operands_at, operand_kind_is_nothing, operand_kind_is_text};
 
-use crate::bytes::{after_token, begins, is_text, tail, token};
-use crate::instr::{KindTest, PoolRef, Status, Value};
-use crate::name::{Name, name_of};
-use crate::number::constant_of;
-use crate::quoted::measure;
 use crate::refusal::Code;
-use crate::word::{OperandKind, OperandKinds};
-
-/// An operand of a line.
-#[derive(Clone, Copy)]
-pub enum Operand {
-    /// None.
-    Nothing,
-    /// The version.
-    One,
-    /// A pool.
-    Place(PoolRef),
-    /// A brigade variable, or 8 for `in`.
-    Brigade(u8),
-    /// How a call ends.
-    Ending(Status),
-    /// A label.
-    Label(Name),
-    /// A text of so many bytes.
-    Text(usize),
-    /// A number variable or a constant.
-    Value(Value),
-    /// A cursor.
-    Cursor(u8),
-    /// What is asked of a bucket's kind.
-    KindTest(KindTest),
-}
-
-/// The operands of a line, `Nothing` behind the last.
-#[derive(Clone, Copy)]
-pub struct Operands {
-    pub first: Operand,
-    pub second: Operand,
-    pub third: Operand,
-    pub fourth: Operand,
-}
+use byte_text::{after_token, begins, constant_of, is_text, measure, tail, token};
+use module_code::{
+    KindTest, Name, Operand, OperandKind, OperandKinds, Operands, PoolRef, Status, Value, name_of,
+};
 
 /// The number of the variable that is written by this letter and a digit from 0 to 7.
 fn numbered(letter: u8, token: &[u8]) -> Option<u8>

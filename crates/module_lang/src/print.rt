@@ -2,22 +2,19 @@
 
 ghost use Rattle.std.specs.Prelude.{◌≡◌, ℕ, ◌<◌, ◌≤◌, ◌∷◌, ◌++◌, [], Some, true, All, List, decimal, length, map, slice_get, is_some};
 ghost use Rattle.module_lang.specs.Lines.{place_is_declared};
-ghost use Rattle.module_lang.specs.Numbers.{is_value};
+ghost use Rattle.module_code.specs.Args.{is_value};
 ghost use Rattle.module_lang.specs.Printing.{is_number, label_line, is_target, printed, target_name};
-ghost use Rattle.module_lang.specs.Program.{IsModule, fits, target};
-ghost use Rattle.module_lang.specs.Quoted.{spelling};
-ghost use Rattle.module_lang.specs.Shown.{shown_arg, shown_args, AreShort, HasDigit, IsShort, shown_line, shown_step, shown_code, shown_declarations, shown_handler};
+ghost use Rattle.module_code.specs.Program.{IsModule, fits, target};
+ghost use Rattle.byte_text.specs.Quoted.{spelling};
+ghost use Rattle.module_lang.specs.Shown.{shown_arg, shown_args, AreShort, HasDigit, IsShortArg, shown_line, shown_step, shown_code, shown_declarations, shown_handler};
 ghost use Rattle.module_lang.specs.Texts.{brigade_text, brigade_texts, code_text, cursor_text, joined, operands_text, own_text, place_text, pool_texts, status_text, value_text, variable_text, IsTextOf};
-ghost use Rattle.module_lang.specs.Words.{kind_test_text};
-ghost use Rattle.module_lang.specs.Writes.{Wrote};
+ghost use Rattle.module_code.specs.Words.{kind_test_text};
+ghost use Rattle.byte_text.specs.Writes.{Wrote};
 
-use crate::arg::{Arg, Args};
-use crate::instr::{Instr, KindTest, PoolRef, Status, Value, VarRef};
-use crate::module::Module;
-use crate::parts::parts;
-use crate::quoted::print_text;
-use crate::writer::{WriteFault, put_all};
+use byte_text::{WriteFault, print_text, put_all};
 use itoa::Buffer;
+use module_code::parts::parts;
+use module_code::{Arg, Args, Instr, KindTest, Module, PoolRef, Status, Value, VarRef};
 use std::io::Write;
 use std::ops::Range;
 
@@ -80,7 +77,7 @@ fn put_own<W: Write>(out: &mut W, brigade: u8) -> Result<(), WriteFault>
 }
 
 fn put_source<W: Write>(out: &mut W, brigade: u8) -> Result<(), WriteFault>
-    requires { IsShort [] (Arg.Source brigade) }
+    requires { IsShortArg [] (Arg.Source brigade) }
     ensures { Wrote result (W.contents out.old) (W.contents out.new) (operands_text (brigade_text brigade ∷ [])) }
 {
     if brigade == 8 {
@@ -148,9 +145,9 @@ fn put_text<W: Write>(out: &mut W, text: &[u8]) -> Result<(), WriteFault>
 }
 
 /// An operand, with the space before it.
-#[tactic(auto, unfolding(crate::specs::Program::text_at))]
+#[tactic(auto, unfolding(module_code::specs::Program::text_at))]
 fn put_arg<W: Write>(out: &mut W, module: &Module, arg: Arg) -> Result<(), WriteFault>
-    requires { IsShort «module».now.texts arg }
+    requires { IsShortArg «module».now.texts arg }
     ensures { Wrote result (W.contents out.old) (W.contents out.new) (shown_arg «module».now.texts arg) }
 {
     match arg {

@@ -4,7 +4,7 @@ use Rattle.std.specs.Global.{Vec}
 use Rattle.bucket_ring.specs.declared.names.BucketId.{BucketId}
 use Rattle.bucket_kinds.specs.Device.{Device}
 use Rattle.bucket_ring.specs.declared.rings.Rings.{Ghosts}
-use Rattle.module_lang.specs.Program.{Program}
+use Rattle.module_code.specs.Program.{Program}
 use Rattle.run_model.specs.declared.bucket.Bucket.{Bucket}
 use Rattle.run_model.specs.Chains.{Connection, Linked}
 use Rattle.pool_tree.specs.declared.tree.PoolTree.{PoolTree}

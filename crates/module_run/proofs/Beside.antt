@@ -1,7 +1,7 @@
 -- Faults do not depend on labels, files and output.
 use Rattle.std.proofs.Common.{◌≡◌, ℕ, List, [], ◌∷◌, refl, ap₂}
-use Rattle.module_lang.specs.Program.{Program}
-use Rattle.module_lang.specs.declared.instr.Instr.{Instr}
+use Rattle.module_code.specs.Program.{Program}
+use Rattle.module_code.specs.declared.instr.Instr.{Instr}
 use Rattle.run_model.specs.Cursors.{spot_of, holder_of, variable_of}
 use Rattle.run_model.specs.Faults.{Want, fault, fault_want, first_fault, or_else, wants, has_pool_at, cursor_fault, is_stray, keeps_stray}
 use Rattle.run_model.specs.Files.{Files}

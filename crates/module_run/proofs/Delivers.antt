@@ -3,8 +3,8 @@ use Rattle.std.proofs.Common.{◌≡◌, ◌≢◌, ◌==◌, ℕ, ◌+◌, ◌<
 use Rattle.std.specs.Prelude.{if◌then◌else◌}
 use Rattle.std.specs.Global.{Vec}
 use Rattle.std.proofs.lemmas.Bool.{cases_eq, eq-eqb, ne_eqb}
-use Rattle.module_lang.specs.Program.{Program}
-use Rattle.module_lang.specs.declared.instr.Instr.TheVariants as instr
+use Rattle.module_code.specs.Program.{Program}
+use Rattle.module_code.specs.declared.instr.Instr.TheVariants as instr
 use Rattle.bucket_kinds.specs.Device.{Device, Held, is_there}
 use Rattle.bucket_ring.specs.declared.rings.Rings.{Ghosts}
 use Rattle.bucket_ring.specs.Kept.{once_in}
@@ -31,7 +31,7 @@ use Rattle.module_run.specs.Conns.{conn_of, filter_at, top_of, IsSeenAs}
 use Rattle.ring_run.specs.Delivery.{IfElse, ReadsGiven, out_of}
 use Rattle.ring_run.specs.Held.{IsHeld}
 use Rattle.ring_run.specs.LeftAlone.{LeavesOthers}
-use Rattle.module_run.specs.Proceeding.{IsReady, LeftAs, Leads, MayHold}
+use Rattle.module_run.specs.Proceeding.{IsReady, LeftAs, RefinesStep, MayHold}
 use Rattle.ring_run.specs.Seen.{seen, seen_over}
 use Rattle.ring_run.specs.Slots.{slot_at, cursor_at, name_in, marked}
 use Rattle.module_run.proofs.AtWork as work
@@ -175,7 +175,7 @@ module _ {R : Type 0} {g : Ghosts R Bucket} (chain : List Program) (b l : ℕ) (
             (held_cursors (brigade_of new) (lists new) (pool_of new) (next_name new) i x.call passed_on.call refl (λ k. refl) (kept x.call (work.held_top chain (instr.Pass b l) tree old d c v f rest ready x here))));
       })
 
-      pub delivers : Leads chain (instr.Pass b l) d e v f rest tree new (with_out then_conn out ended) stepped.Went
+      pub delivers : RefinesStep chain (instr.Pass b l) d e v f rest tree new (with_out then_conn out ended) stepped.Went
       unfolding proceeds
       delivers = record {
         reads = reads;

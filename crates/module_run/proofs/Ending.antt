@@ -6,9 +6,9 @@ use Rattle.std.proofs.lemmas.Bool.{cases_eq, false≢true}
 use Rattle.bucket_ring.specs.declared.rings.Rings.{Ghosts}
 use Rattle.bucket_ring.specs.Kept.{NoneRevived}
 use Rattle.bucket_kinds.specs.Device.{Device}
-use Rattle.module_lang.specs.Program.{Program}
-use Rattle.module_lang.specs.declared.instr.Instr.TheVariants as instr
-use Rattle.module_lang.specs.declared.instr.Status.{Status}
+use Rattle.module_code.specs.Program.{Program}
+use Rattle.module_code.specs.declared.instr.Instr.TheVariants as instr
+use Rattle.module_code.specs.declared.instr.Status.{Status}
 use Rattle.run_model.specs.declared.bucket.Bucket.{Bucket}
 use Rattle.run_model.specs.declared.event.Stepped.TheVariants as stepped
 use Rattle.run_model.specs.declared.payload.Payload.{Payload}
@@ -23,7 +23,7 @@ use Rattle.module_run.specs.declared.conn.Conn.{Conn}
 use Rattle.module_run.specs.declared.conn.Filter.{Filter}
 use Rattle.module_run.specs.Conns.{call_name, conn_of, counting, filter_at, runs_of, shown_filter, shown_frame, waiting}
 use Rattle.ring_run.specs.Held.{IsHeld}
-use Rattle.module_run.specs.Proceeding.{IsReady, Leads}
+use Rattle.module_run.specs.Proceeding.{IsReady, RefinesStep}
 use Rattle.ring_run.specs.Seen.{is_running}
 use Rattle.module_run.proofs.EndedLast.{EndsLast, each_left, idle, left_as, stays, waits_none}
 use Rattle.module_run.proofs.Finishing.{led, nine, returned_so, top_first}
@@ -89,7 +89,7 @@ module _ {R : Type 0} {g : Ghosts R Bucket} (chain : List Program) (s : Status) 
 
   pub ending : length filters.items ≡ length c.filters.items → c.queue ≡ length c.filters.items → ((k : ℕ) → k ≢ c.first → filter_at d k ≡ filter_at c k)
       → next_name new ≡ next_name store → pool_of new ≡ pool_of store → references new ≡ references store → NoneRevived (brigade_of store) (brigade_of new) (next_name store) → IsHeld new x.ended.instance x.ended.call
-      → Leads chain (instr.Ret s) device device v f rest tree new d (stepped.CallEnded s)
+      → RefinesStep chain (instr.Ret s) device device v f rest tree new d (stepped.CallEnded s)
   unfolding conn_of
   ending count last others next pools refs names held =
       led chain s tree store device c v f rest ready none new d x pools refs (stepped.CallEnded s) after

@@ -6,7 +6,7 @@ use Rattle.bucket_ring.specs.Lists as ring
 use Rattle.brigade_ops.specs.Items.{Items}
 use Rattle.ring_run.specs.declared.machine.Instance.{Instance}
 use Rattle.ring_run.specs.declared.machine.Slot.TheVariants as slot
-use Rattle.ring_run.specs.Held.{AreApart}
+use Rattle.ring_run.specs.Held.{VariablesApart}
 use Rattle.ring_run.specs.Slots.{name_in, slot_at}
 use Rattle.ring_run.proofs.Changes.{ring_off}
 use Rattle.module_run.proofs.ReturnedParts.{AreAsWere}
@@ -21,7 +21,7 @@ named_still i new nulled b n is = elim (cases_eq b 8) [
   | inr ne ↦ (ne, sym (ap name_in (nulled b ∙ ap (λ (t : Bool). if t then slot.Null else slot_at i b) (ne_eqb b 8 ne))) ∙ is)
 ]
 
-pub held_off : (L M : ℕ → Option Items) (i new : Instance) (m : ℕ) → AreApart i → name_in (slot_at i 8) ≡ Some m → ((a : ℕ) → slot_at new a ≡ (if a == 8 then slot.Null else slot_at i a))
+pub held_off : (L M : ℕ → Option Items) (i new : Instance) (m : ℕ) → VariablesApart i → name_in (slot_at i 8) ≡ Some m → ((a : ℕ) → slot_at new a ≡ (if a == 8 then slot.Null else slot_at i a))
     → ((n : ℕ) → M n ≡ ring.upd L m None n) → AreAsWere L M new
 held_off L M i new m apart named nulled over b n is =
     let was = named_still i new nulled b n is in

@@ -9,7 +9,7 @@ use Rattle.bucket_kinds.specs.Answers.{MayHave, Opens}
 use Rattle.bucket_kinds.specs.Device.{Device, Held, Missing, Untold, Holds, closed, HasFailed, SameFolder, is_there, opened}
 use Rattle.bucket_ring.specs.declared.names.BucketId.{BucketId}
 use Rattle.bucket_ring.specs.declared.rings.Rings.{Ghosts}
-use Rattle.module_lang.specs.Program.{Program}
+use Rattle.module_code.specs.Program.{Program}
 use Rattle.run_model.specs.declared.bucket.Bucket.{Bucket}
 use Rattle.run_model.specs.declared.event.Refusal.{Refusal}
 use Rattle.run_model.specs.declared.event.Refusal.TheVariants as refusal

@@ -3,9 +3,9 @@ use Rattle.std.proofs.Common.{◌≡◌, ◌≢◌, ℕ, zero, suc, ◌+◌, ◌
 use Rattle.bucket_ring.specs.declared.rings.Rings.{Ghosts}
 use Rattle.bucket_ring.specs.Kept.{once_in}
 use Rattle.bucket_kinds.specs.Device.{Device}
-use Rattle.module_lang.specs.Program.{Program}
-use Rattle.module_lang.specs.declared.instr.Instr.TheVariants as instr
-use Rattle.module_lang.specs.declared.instr.Status.{Status}
+use Rattle.module_code.specs.Program.{Program}
+use Rattle.module_code.specs.declared.instr.Instr.TheVariants as instr
+use Rattle.module_code.specs.declared.instr.Status.{Status}
 use Rattle.run_model.specs.declared.bucket.Bucket.{Bucket}
 use Rattle.run_model.specs.declared.bucket.BrigadeVar.{BrigadeVar}
 use Rattle.run_model.specs.declared.bucket.BrigadeVar.TheVariants as var
@@ -29,7 +29,7 @@ use Rattle.ring_run.specs.declared.machine.Instance.{Instance}
 use Rattle.ring_run.specs.declared.machine.Slot.{Slot}
 use Rattle.ring_run.specs.declared.machine.Slot.TheVariants as slot
 use Rattle.module_run.specs.Conns.{IsSeenAs, conn_of, filter_at, lent_by, runs_of, shown_filter, shown_frame, shown_instance, stack_up, top_of, waiting}
-use Rattle.module_run.specs.Proceeding.{IsReady, Leads, LeftAs}
+use Rattle.module_run.specs.Proceeding.{IsReady, RefinesStep, LeftAs}
 use Rattle.ring_run.specs.Seen.{shown_as, shown_slot}
 use Rattle.ring_run.specs.Slots.{slot_at}
 use Rattle.module_run.specs.Stacked.{IsStacked}
@@ -115,7 +115,7 @@ module _ {R : Type 0} {g : Ghosts R Bucket} (chain : List Program) (s : Status) 
 
     -- what it leads to
     pub led : (answer : Stepped) (after : Linked) → proceeds chain no_reads (instr.Ret s) f rest v ≡ (answer, after) → after.1.opened ≡ v.1.opened → IsSeenAs (map_of tree) (lists new) (next_name new) d after
-        → IsStacked chain new d → Leads chain (instr.Ret s) device device v f rest tree new d answer
+        → IsStacked chain new d → RefinesStep chain (instr.Ret s) device device v f rest tree new d answer
     led answer after so opened seen stacked = record {
       reads = no_reads;
       told = refl;

@@ -9,7 +9,7 @@ use Rattle.bucket_ring.specs.declared.rings.Rings.{Ghosts}
 use Rattle.bucket_ring.specs.Kept.{NoneRevived}
 use Rattle.bucket_ring.specs.Lists as ring
 use Rattle.bucket_ring.specs.Lists.{list_at}
-use Rattle.module_lang.specs.Program.{Program}
+use Rattle.module_code.specs.Program.{Program}
 use Rattle.run_model.specs.declared.bucket.Bucket.{Bucket}
 use Rattle.run_model.specs.declared.bucket.BrigadeVar.{BrigadeVar}
 use Rattle.run_model.specs.declared.bucket.Cursor.{Cursor}
@@ -34,7 +34,7 @@ use Rattle.module_run.specs.Conns.{call_name, conn_of, counting, filter_at, labe
 use Rattle.ring_run.specs.Held.{HeldOver, IsHeld, WasGiven}
 use Rattle.ring_run.specs.Seen.{is_running, shown, shown_cursor, shown_slot}
 use Rattle.ring_run.specs.Slots.{cursor_at, slot_at, name_in}
-use Rattle.module_run.specs.Stacked.{AreApart, AreCalled, IsStacked, StackedOver, is_called, is_waiting, named_at, names_up}
+use Rattle.module_run.specs.Stacked.{FiltersApart, AreCalled, IsStacked, StackedOver, is_called, is_waiting, named_at, names_up}
 use Rattle.ring_run.proofs.Begins.{by_slot, held_begun}
 use Rattle.ring_run.proofs.Changes.{ring_here, ring_off}
 use Rattle.module_run.proofs.Looked.{some_same}

@@ -8,13 +8,13 @@ use Rattle.bucket_ring.specs.declared.rings.Rings.{Ghosts}
 use Rattle.bucket_ring.specs.Kept.{NoneRevived}
 use Rattle.bucket_ring.specs.Lists as ring
 use Rattle.bucket_kinds.specs.Device.{Device}
-use Rattle.module_lang.specs.Program.{Program}
-use Rattle.module_lang.specs.declared.instr.Instr.TheVariants as instr
-use Rattle.module_lang.specs.declared.instr.Status.{Status}
+use Rattle.module_code.specs.Program.{Program}
+use Rattle.module_code.specs.declared.instr.Instr.TheVariants as instr
+use Rattle.module_code.specs.declared.instr.Status.{Status}
 use Rattle.run_model.specs.declared.bucket.Bucket.{Bucket}
 use Rattle.run_model.specs.declared.payload.Payload.{Payload}
 use Rattle.run_model.specs.Chains.{Frame, Connection, Linked}
-use Rattle.run_model.specs.ChainSound.{IsRising}
+use Rattle.model_laws.specs.ChainSound.{IsRising}
 use Rattle.run_model.specs.Turns.{calls_of}
 use Rattle.pool_tree.specs.declared.tree.PoolTree.{PoolTree}
 use Rattle.brigade_ops.specs.declared.store.Brigades.{Brigades}

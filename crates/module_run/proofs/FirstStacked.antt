@@ -6,7 +6,7 @@ use Rattle.bucket_ring.specs.declared.names.BucketId.{BucketId}
 use Rattle.bucket_ring.specs.declared.rings.Rings.{Ghosts}
 use Rattle.bucket_ring.specs.Kept.{NoneRevived}
 use Rattle.bucket_ring.specs.Lists as ring
-use Rattle.module_lang.specs.Program.{Program}
+use Rattle.module_code.specs.Program.{Program}
 use Rattle.run_model.specs.declared.bucket.Bucket.{Bucket}
 use Rattle.run_model.specs.declared.payload.Payload.{Payload}
 use Rattle.run_model.specs.Chains.{Connection, Common, Linked, module_at}
@@ -30,7 +30,7 @@ use Rattle.module_run.specs.Conns.{conn_of, IsSeenAs, filter_at, top_of, waiting
 use Rattle.ring_run.specs.Held.{HeldOver, IsHeld, WasGiven}
 use Rattle.module_run.specs.Proceeding.{LeftAs}
 use Rattle.ring_run.specs.Slots.{slot_at, name_in}
-use Rattle.module_run.specs.Stacked.{AreApart, AreCalled, IsStacked, StackedOver, is_called, is_waiting, named_at, names_up}
+use Rattle.module_run.specs.Stacked.{FiltersApart, AreCalled, IsStacked, StackedOver, is_called, is_waiting, named_at, names_up}
 use Rattle.ring_run.proofs.Begins.{held_begun}
 use Rattle.ring_run.proofs.Changes.{ring_off}
 use Rattle.module_run.proofs.FirstCalls.{Was, was, started, others_stay, waits_are, first_is, none_waiting, top_is, starts, before, before_is, after, after_is, conn_called, no_call, nothing_in, not_lent, none_between, no_lent, true_false}
@@ -104,7 +104,7 @@ module _ {R : Type 0} {g : Ghosts R Bucket} (chain : List Program) (old new : Br
   is_first zero f is pos = refl
   is_first (suc k) f is pos = absurd (let e = name_of (suc k) f (there (suc k) f is) (λ e. omega (arith, e)) in omega (arith, e, pos))
 
-  apart_called : AreApart d
+  apart_called : FiltersApart d
   apart_called = record {
     own = λ i j a b m f e la lb fi ej na nb. (let w = there i f fi in let u = there j e ej in stacked.apart.own i j a b m w.filter u.filter la lb w.is u.is (named_so i a m f w na) (named_so j b m e u nb));
     later = λ i j b m f e lt lb fi ej nf. absurd (not_in i f fi m nf);

@@ -6,9 +6,9 @@ use Rattle.std.proofs.Math.Path.{fun_ext}
 use Rattle.std.proofs.lemmas.Bool.{cases_eq, eq-eqb, ne_eqb, lt-ltb, le-ltb, le-leb}
 use Rattle.bucket_ring.specs.declared.names.BucketId.{BucketId}
 use Rattle.bucket_ring.specs.Lists as ring
-use Rattle.module_lang.specs.Program.{Program}
-use Rattle.module_lang.specs.declared.instr.Instr.{Instr}
-use Rattle.module_lang.specs.declared.instr.Status.{Status}
+use Rattle.module_code.specs.Program.{Program}
+use Rattle.module_code.specs.declared.instr.Instr.{Instr}
+use Rattle.module_code.specs.declared.instr.Status.{Status}
 use Rattle.run_model.specs.declared.bucket.NamedBucket.{NamedBucket}
 use Rattle.run_model.specs.declared.bucket.BrigadeVar.TheVariants as var
 use Rattle.run_model.specs.declared.payload.Payload.{Payload}

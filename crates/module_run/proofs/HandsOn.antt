@@ -12,7 +12,7 @@ use Rattle.module_run.specs.declared.conn.Filter.{Filter}
 use Rattle.module_run.specs.declared.conn.Conn.{Conn}
 use Rattle.module_run.specs.Conns.{filter_at, top_of}
 use Rattle.ring_run.specs.Slots.{slot_at, name_in, marked}
-use Rattle.module_run.specs.Stacked.{AreApart, is_called, is_waiting, named_at}
+use Rattle.module_run.specs.Stacked.{FiltersApart, is_called, is_waiting, named_at}
 
 -- a connection with other filters and other calls that wait
 abbrev pub changed : Conn → Vec Filter → Vec ℕ → Conn
@@ -139,7 +139,7 @@ module _ (c : Conn) (fs : Vec Filter) (ws : Vec ℕ) (next b m : ℕ) (x e y z :
   ]
 
   -- x.call.name and the names of others stay below `next`, which is the name of the call that began
-  pub apart_after : AreNamed c next → AreApart c → ((j : ℕ) (f : Filter) → filter_at c j ≡ Some f → is_called c j ≡ false → named_at f 8 ≡ None) → AreApart (changed c fs ws)
+  pub apart_after : AreNamed c next → FiltersApart c → ((j : ℕ) (f : Filter) → filter_at c j ≡ Some f → is_called c j ≡ false → named_at f 8 ≡ None) → FiltersApart (changed c fs ws)
   apart_after names apart incoming = record {
     own = λ i j a n k f g a_low n_low fi gj fa gn.
         (let p = before i f fi in let q = before j g gj in

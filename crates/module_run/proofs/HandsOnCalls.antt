@@ -3,8 +3,8 @@ use Rattle.std.proofs.Common.{◌≡◌, ◌≢◌, ℕ, suc, ◌+◌, ◌<◌, 
 use Rattle.std.specs.Prelude.{if◌then◌else◌}
 use Rattle.std.specs.Global.{Vec}
 use Rattle.std.proofs.lemmas.Bool.{cases_eq, eq-eqb, lt-ltb, le-ltb, le-leb, false≢true}
-use Rattle.module_lang.specs.Program.{Program}
-use Rattle.module_lang.specs.declared.instr.Instr.TheVariants as instr
+use Rattle.module_code.specs.Program.{Program}
+use Rattle.module_code.specs.declared.instr.Instr.TheVariants as instr
 use Rattle.run_model.specs.declared.bucket.Mark.TheVariants.{Passed}
 use Rattle.run_model.specs.Chains.{module_at}
 use Rattle.run_model.specs.Steps.{current}

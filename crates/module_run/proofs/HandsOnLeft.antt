@@ -3,8 +3,8 @@ use Rattle.std.proofs.Common.{◌≡◌, ℕ, ◌+◌, ◌<◌, Bool, true, fals
 use Rattle.std.specs.Prelude.{if◌then◌else◌}
 use Rattle.std.specs.Global.{Vec}
 use Rattle.std.proofs.lemmas.Bool.{cases_eq}
-use Rattle.module_lang.specs.Program.{Program}
-use Rattle.module_lang.specs.declared.instr.Instr.TheVariants as instr
+use Rattle.module_code.specs.Program.{Program}
+use Rattle.module_code.specs.declared.instr.Instr.TheVariants as instr
 use Rattle.bucket_kinds.specs.Device.{Device}
 use Rattle.bucket_ring.specs.declared.names.BucketId.{BucketId}
 use Rattle.bucket_ring.specs.declared.rings.Rings.{Ghosts}
@@ -35,7 +35,7 @@ use Rattle.module_run.specs.Conns.{filter_at, top_of, shown_call}
 use Rattle.ring_run.specs.Delivery.{IfElse, ReadsGiven}
 use Rattle.ring_run.specs.Handed.{lent}
 use Rattle.ring_run.specs.Held.{IsHeld, WasGiven}
-use Rattle.module_run.specs.Proceeding.{IsReady, LeftAs, Leads}
+use Rattle.module_run.specs.Proceeding.{IsReady, LeftAs, RefinesStep}
 use Rattle.ring_run.specs.Seen.{seen, calls_in, is_running, shown_slot}
 use Rattle.ring_run.specs.Slots.{name_in, live_in}
 use Rattle.module_run.specs.Stacked.{IsStacked, named_at}
@@ -166,7 +166,7 @@ module _ {R : Type 0} {g : Ghosts R Bucket} (chain : List Program) (b l : ℕ) (
         stacked = stacked_after;
       }
 
-      pub hands_on : Leads chain (instr.Pass b l) d d v f rest tree new (changed c fs ws) stepped.Went
+      pub hands_on : RefinesStep chain (instr.Pass b l) d d v f rest tree new (changed c fs ws) stepped.Went
       unfolding proceeds
       hands_on = record {
         reads = λ n. None;

@@ -1,13 +1,13 @@
 -- The only call of a connection ended, and no other one runs, or a new one of one filter: what is true of the filters and calls.
 use Rattle.std.proofs.Common.{◌≡◌, ◌≢◌, ◌⊎◌, ℕ, ◌<◌, ◌≤◌, ◌&&◌, nat_le, nat_lt, true, false, List, length, Option, Some, None, is_some, sym, ap, ◌∙◌, inl, inr, arith}
 use Rattle.bucket_ring.specs.declared.names.BucketId.{BucketId}
-use Rattle.module_lang.specs.Program.{Program}
+use Rattle.module_code.specs.Program.{Program}
 use Rattle.brigade_ops.specs.Items.{Items}
 use Rattle.module_run.specs.declared.conn.Conn.{Conn}
 use Rattle.module_run.specs.declared.conn.Filter.{Filter}
 use Rattle.module_run.specs.Conns.{filter_at, top_of, waiting}
 use Rattle.ring_run.specs.Held.{HeldOver}
-use Rattle.module_run.specs.Stacked.{AreApart, AreCalled, StackedOver, is_called, named_at, names_up}
+use Rattle.module_run.specs.Stacked.{FiltersApart, AreCalled, StackedOver, is_called, named_at, names_up}
 use Rattle.module_run.proofs.EndedLast.{CameLone, EndsLast, HasNine, came, none_between}
 use Rattle.module_run.proofs.Known.{no_names}
 
@@ -29,7 +29,7 @@ module _ (chain : List Program) (at : BucketId → Option ℕ) (L M : ℕ → Op
   not_lent : (k b : ℕ) (e : Filter) → filter_at d k ≡ Some e → e.lent ≡ Some b → ⊥
   not_lent k b e is lent = (let n : None ≡ Some b = sym (from k e is).1.lent ∙ lent in cc)
 
-  pub apart_lone : AreApart d
+  pub apart_lone : FiltersApart d
   apart_lone = record {
     own = λ i j a b m f e low high is_i is_j n_i n_j. st.apart.own i j a b m (from i f is_i).0 (from j e is_j).0 low high (from i f is_i).1.was (from j e is_j).1.was ((from i f is_i).1.names a m n_i) ((from j e is_j).1.names b m n_j);
     later = λ i j b m f e lt low is_i is_j n_i. absurd (no_in i m f is_i n_i);

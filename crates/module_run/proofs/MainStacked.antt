@@ -7,7 +7,7 @@ use Rattle.bucket_ring.specs.declared.names.BucketId.{BucketId}
 use Rattle.bucket_ring.specs.declared.rings.Rings.{Ghosts}
 use Rattle.bucket_ring.specs.Kept.{NoneRevived}
 use Rattle.bucket_ring.specs.Lists as ring
-use Rattle.module_lang.specs.Program.{Program}
+use Rattle.module_code.specs.Program.{Program}
 use Rattle.run_model.specs.declared.bucket.Bucket.{Bucket}
 use Rattle.run_model.specs.declared.bucket.Mark.{Mark}
 use Rattle.run_model.specs.declared.bucket.Mark.TheVariants.{Usable}
@@ -29,13 +29,13 @@ use Rattle.ring_run.specs.declared.machine.Call.{Call}
 use Rattle.ring_run.specs.declared.machine.Instance.{Instance}
 use Rattle.ring_run.specs.declared.machine.Slot.{Slot}
 use Rattle.ring_run.specs.declared.machine.Slot.TheVariants as slot
-use Rattle.ring_run.specs.declared.machine.Stand.TheVariants as stand
+use Rattle.ring_run.specs.declared.machine.CursorValue.TheVariants as stand
 use Rattle.module_run.specs.CalledMain.{CalledMain, StartsWith}
 use Rattle.module_run.specs.Conns.{conn_of, IsSeenAs, filter_at, top_of, waiting}
 use Rattle.ring_run.specs.Held.{HeldOver, IsHeld, WasGiven}
 use Rattle.module_run.specs.Proceeding.{LeftAs}
 use Rattle.ring_run.specs.Slots.{cursor_at, slot_at, name_in}
-use Rattle.module_run.specs.Stacked.{AreApart, AreCalled, IsStacked, is_called, is_waiting, named_at, names_up}
+use Rattle.module_run.specs.Stacked.{FiltersApart, AreCalled, IsStacked, is_called, is_waiting, named_at, names_up}
 use Rattle.ring_run.proofs.Changes.{ring_here, ring_off}
 use Rattle.module_run.proofs.FirstCalls.{no_call, no_lent, none_between, not_lent, nothing_in, true_false}
 use Rattle.module_run.proofs.FirstStacked.{no_names}
@@ -195,7 +195,7 @@ module _ {R : Type 0} {g : Ghosts R Bucket} (chain : List Program) (old new : Br
     | inr w ↦ not_lent chain old c stacked idle k f w.1
   ]
 
-  apart_then : AreApart d
+  apart_then : FiltersApart d
   apart_then = record {
     own = λ i j a b m f e la lb fi ej na nb. (let w = own_was i a m f fi la na in let u = own_was j b m e ej lb nb in stacked.apart.own i j a b m w.0 u.0 la lb w.1.0 u.1.0 w.1.1 u.1.1);
     later = λ i j b m f e lt lb fi ej nf ne. (let came = came_in i m f fi nf in let low = own_below j b m e ej lb ne in let same = came.1 in omega (arith, same, low));

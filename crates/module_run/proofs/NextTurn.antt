@@ -7,9 +7,9 @@ use Rattle.std.proofs.lemmas.Bool.{cases_eq, false≢true, le-leb}
 use Rattle.bucket_ring.specs.declared.rings.Rings.{Ghosts}
 use Rattle.bucket_ring.specs.Kept.{NoneRevived}
 use Rattle.bucket_kinds.specs.Device.{Device}
-use Rattle.module_lang.specs.Program.{Program}
-use Rattle.module_lang.specs.declared.instr.Instr.TheVariants as instr
-use Rattle.module_lang.specs.declared.instr.Status.{Status}
+use Rattle.module_code.specs.Program.{Program}
+use Rattle.module_code.specs.declared.instr.Instr.TheVariants as instr
+use Rattle.module_code.specs.declared.instr.Status.{Status}
 use Rattle.run_model.specs.declared.bucket.Bucket.{Bucket}
 use Rattle.run_model.specs.declared.event.Stepped.TheVariants as stepped
 use Rattle.run_model.specs.declared.payload.Payload.{Payload}
@@ -24,11 +24,11 @@ use Rattle.brigade_ops.specs.Store.{lists, brigade_of, pool_of, references, next
 use Rattle.module_run.specs.declared.conn.Conn.{Conn}
 use Rattle.module_run.specs.declared.conn.Filter.{Filter}
 use Rattle.ring_run.specs.declared.machine.Instance.{Instance}
-use Rattle.ring_run.specs.declared.machine.Stand.TheVariants as stand
+use Rattle.ring_run.specs.declared.machine.CursorValue.TheVariants as stand
 use Rattle.ring_run.specs.Begun.{IsBegun}
 use Rattle.module_run.specs.Conns.{call_name, conn_of, counting, filter_at, runs_of, shown_filter, shown_frame, stack_of, stack_up, top_of, waiting}
 use Rattle.ring_run.specs.Held.{IsHeld}
-use Rattle.module_run.specs.Proceeding.{IsReady, Leads}
+use Rattle.module_run.specs.Proceeding.{IsReady, RefinesStep}
 use Rattle.ring_run.specs.Seen.{is_running}
 use Rattle.module_run.specs.Stacked.{is_called}
 use Rattle.module_run.proofs.EndedLast.{EndsLast, each_left, idle, left_as, only_one, stays, stays_after, waits_none}
@@ -181,7 +181,7 @@ module _ {R : Type 0} {g : Ghosts R Bucket} (chain : List Program) (s : Status) 
       ])
     ]
 
-    pub turning : references new ≡ references store → Leads chain (instr.Ret s) device device v f rest tree new d stepped.Went
+    pub turning : references new ≡ references store → RefinesStep chain (instr.Ret s) device device v f rest tree new d stepped.Went
     unfolding conn_of
     turning refs =
         led chain s tree store device c v f rest ready none new d x pools refs stepped.Went after

@@ -7,7 +7,7 @@ use Rattle.bucket_kinds.specs.Device as device
 use Rattle.bucket_kinds.specs.declared.refusal.FileFault.{FileFault}
 use Rattle.bucket_kinds.specs.declared.refusal.FileFault.TheVariants as fault
 use Rattle.bucket_ring.specs.declared.rings.Rings.{Ghosts}
-use Rattle.module_lang.specs.Program.{Program}
+use Rattle.module_code.specs.Program.{Program}
 use Rattle.run_model.specs.declared.bucket.Bucket.{Bucket}
 use Rattle.run_model.specs.declared.event.Cause.{Cause}
 use Rattle.run_model.specs.declared.event.Refusal.{Refusal}

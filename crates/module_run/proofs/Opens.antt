@@ -7,7 +7,7 @@ use Rattle.bucket_kinds.specs.Device.{Device}
 use Rattle.bucket_ring.specs.declared.rings.Rings.{Ghosts}
 use Rattle.bucket_ring.specs.Kept.{NoneRevived, once_in}
 use Rattle.bucket_ring.specs.Lists as ring
-use Rattle.module_lang.specs.Program.{Program}
+use Rattle.module_code.specs.Program.{Program}
 use Rattle.run_model.specs.declared.bucket.Bucket.{Bucket}
 use Rattle.run_model.specs.declared.bucket.BrigadeVar.{BrigadeVar}
 use Rattle.run_model.specs.declared.bucket.BrigadeVar.TheVariants as var
@@ -41,7 +41,7 @@ use Rattle.module_run.specs.Opening.{AreNew, IsNewFilter}
 use Rattle.module_run.specs.Proceeding.{LeftAs}
 use Rattle.ring_run.specs.Seen.{shown_slot}
 use Rattle.ring_run.specs.Slots.{slot_at, name_in}
-use Rattle.module_run.specs.Stacked.{AreApart, AreCalled, IsStacked, is_called, is_waiting, named_at, names_up}
+use Rattle.module_run.specs.Stacked.{FiltersApart, AreCalled, IsStacked, is_called, is_waiting, named_at, names_up}
 use Rattle.module_run.proofs.FirstCalls.{none_between, no_lent, true_false}
 use Rattle.module_run.proofs.FirstStacked.{left_called, no_names}
 use Rattle.module_run.proofs.Looked.{some_same}
@@ -107,7 +107,7 @@ module _ {R : Type 0} {g : Ghosts R Bucket} (chain : List Program) (tree : PoolT
   none_waits : waiting c ≡ 0
   none_waits = ap (λ (xs : List ℕ). length xs) is.waits
 
-  new_apart : AreApart c
+  new_apart : FiltersApart c
   new_apart = record {
     own = λ i j a b m f e la lb fi ej na nb. absurd (none_named i a m f fi na);
     later = λ i j b m f e lt lb fi ej nf. absurd (none_named i 8 m f fi nf);

@@ -1,7 +1,7 @@
 -- The output of a connection alone changes.
 use Rattle.std.proofs.Common.{ℕ, Bool, List, refl, sym, ◌∙◌, ap}
 use Rattle.bucket_ring.specs.declared.names.BucketId.{BucketId}
-use Rattle.module_lang.specs.Program.{Program}
+use Rattle.module_code.specs.Program.{Program}
 use Rattle.run_model.specs.declared.payload.Payload.{Payload}
 use Rattle.run_model.specs.Chains.{Connection, Linked}
 use Rattle.run_model.specs.Pools.{Pools}
@@ -10,14 +10,14 @@ use Rattle.std.specs.Prelude.{Option}
 use Rattle.module_run.specs.declared.conn.Conn.{Conn}
 use Rattle.module_run.specs.Conns.{conn_of, filter_at, waiting, IsSeenAs}
 use Rattle.ring_run.specs.Delivery.{out_of}
-use Rattle.module_run.specs.Stacked.{AreApart, AreCalled, StackedOver}
+use Rattle.module_run.specs.Stacked.{FiltersApart, AreCalled, StackedOver}
 use Rattle.module_run.proofs.Stacking.{names_same}
 
 module _ (c : Conn) (out : List ℕ) (ended : Bool) where
   abbrev pub with_out : Conn
   with_out = record c { out = out; ended = ended }
 
-  apart_out : AreApart c → AreApart with_out
+  apart_out : FiltersApart c → FiltersApart with_out
   unfolding filter_at
   apart_out a = record { own = a.own; later = a.later; handed = a.handed; loose = a.loose; calls = a.calls }
 

@@ -8,7 +8,7 @@ use Rattle.std.proofs.Math.Path.{fun_ext}
 use Rattle.std.proofs.lemmas.Option.{slice_get-map}
 use Rattle.bucket_kinds.specs.Device.{Device, Held, Missing}
 use Rattle.bucket_ring.specs.declared.rings.Rings.{Ghosts}
-use Rattle.module_lang.specs.Program.{Program}
+use Rattle.module_code.specs.Program.{Program}
 use Rattle.run_model.specs.declared.bucket.Bucket.{Bucket}
 use Rattle.run_model.specs.declared.bucket.BrigadeVar.{BrigadeVar}
 use Rattle.run_model.specs.declared.event.Cause.{Cause}
@@ -39,7 +39,7 @@ use Rattle.ring_run.specs.Held.{HeldOver, IsHeld}
 use Rattle.module_run.specs.Proceeding.{HasOpen, LeftAs, MayHold, StandsFor}
 use Rattle.ring_run.specs.Seen.{is_running, shown_slot}
 use Rattle.ring_run.specs.Slots.{slot_at, name_in}
-use Rattle.module_run.specs.Stacked.{AreApart, AreCalled, IsStacked, is_called, is_waiting, named_at, names_up}
+use Rattle.module_run.specs.Stacked.{FiltersApart, AreCalled, IsStacked, is_called, is_waiting, named_at, names_up}
 use Rattle.ring_run.proofs.Cleared.{by_slot, held_cleared}
 use Rattle.module_run.proofs.FirstCalls.{no_call, no_lent, none_between, not_called, not_lent, nothing_in, none_waits, not_waiting, true_false}
 use Rattle.module_run.proofs.FirstStacked.{no_names}

@@ -5,15 +5,15 @@ use Rattle.std.specs.Global.{Vec}
 use Rattle.bucket_ring.specs.declared.rings.Rings.{Ghosts}
 use Rattle.bucket_ring.specs.Kept.{NoneRevived, once_in}
 use Rattle.bucket_kinds.specs.Device.{Device}
-use Rattle.module_lang.specs.Program.{Program}
-use Rattle.module_lang.specs.declared.instr.Instr.TheVariants as instr
-use Rattle.module_lang.specs.declared.instr.Status.{Status}
+use Rattle.module_code.specs.Program.{Program}
+use Rattle.module_code.specs.declared.instr.Instr.TheVariants as instr
+use Rattle.module_code.specs.declared.instr.Status.{Status}
 use Rattle.run_model.specs.declared.bucket.Bucket.{Bucket}
 use Rattle.run_model.specs.declared.event.Stepped.{Stepped}
 use Rattle.run_model.specs.declared.event.Stepped.TheVariants as stepped
 use Rattle.run_model.specs.declared.payload.Payload.{Payload}
 use Rattle.run_model.specs.Chains.{Frame, Connection, Linked, module_at}
-use Rattle.run_model.specs.ChainSound.{IsPlaced, WaitsAtPass}
+use Rattle.model_laws.specs.ChainSound.{IsFramePlaced, WaitsAtPass}
 use Rattle.run_model.specs.Passing.{Reads, proceeds, went}
 use Rattle.run_model.specs.Steps.{current}
 use Rattle.pool_tree.specs.declared.tree.PoolTree.{PoolTree}
@@ -25,7 +25,7 @@ use Rattle.module_run.specs.declared.conn.Conn.{Conn}
 use Rattle.module_run.specs.declared.conn.Filter.{Filter}
 use Rattle.module_run.specs.Conns.{conn_of, filter_at, runs_of, shown_frame, stack_up, top_of, waiting}
 use Rattle.ring_run.specs.Held.{IsHeld}
-use Rattle.module_run.specs.Proceeding.{IsReady, Leads, LeftAs}
+use Rattle.module_run.specs.Proceeding.{IsReady, RefinesStep, LeftAs}
 use Rattle.ring_run.proofs.Changes.{ring_off}
 use Rattle.module_run.proofs.GivenBack.{GivesBack, returned_is, runs_top, with_calls}
 use Rattle.module_run.proofs.StackedBack.{stacked_back}
@@ -44,8 +44,8 @@ module _ {R : Type 0} {g : Ghosts R Bucket} (chain : List Program) (s : Status) 
   -- the one that waits stands at an instruction of its module
   pub wait_placed : (w : ℕ) (t : Filter) → waiting c ≡ suc w → filter_at c (c.first + w) ≡ Some t → t.call.pc < length (module_at chain (c.first + w)).code
   wait_placed w t many is = (placed 1 f (omega arith)).at where
-    placed : All (IsPlaced chain v.1.req) (f ∷ shown_frame (runs_of c) (lists store) (c.first + w) (Some t) ∷ stack_up (frame_at (lists store) c) c.first w)
-    placed = subst (All (IsPlaced chain v.1.req)) (ready.on_top ∙ ap (λ (fs : List Frame). f ∷ fs) (below_frames w t many is)) ready.stands.lawful.sound.calls.placed
+    placed : All (IsFramePlaced chain v.1.req) (f ∷ shown_frame (runs_of c) (lists store) (c.first + w) (Some t) ∷ stack_up (frame_at (lists store) c) c.first w)
+    placed = subst (All (IsFramePlaced chain v.1.req)) (ready.on_top ∙ ap (λ (fs : List Frame). f ∷ fs) (below_frames w t many is)) ready.stands.lawful.sound.calls.placed
 
   -- at its pass
   pub wait_passes : (w : ℕ) (t : Filter) → waiting c ≡ suc w → filter_at c (c.first + w) ≡ Some t → (b : ℕ) × (l : ℕ) × (current (module_at chain (c.first + w)) t.call.pc ≡ instr.Pass b l)
@@ -102,7 +102,7 @@ module _ {R : Type 0} {g : Ghosts R Bucket} (chain : List Program) (s : Status) 
           stacked = stacked_back chain s (brigade_of store) (brigade_of new) (lists store) (lists new) (pool_of store) (pool_of new) (next_name store) (next_name new) c filters waits w left.stacked x next pools names held;
         }
 
-    pub returning : Leads chain (instr.Ret s) device device v f rest tree new (with_calls c filters waits) stepped.Went
+    pub returning : RefinesStep chain (instr.Ret s) device device v f rest tree new (with_calls c filters waits) stepped.Went
     returning = record {
       reads = no_reads;
       told = refl;

@@ -3,7 +3,7 @@ use Rattle.std.proofs.Common.{◌≡◌, ℕ, suc, ◌+◌, ◌-◌, ◌<◌, �
 use Rattle.std.specs.Prelude.{slice_get, if◌then◌else◌}
 use Rattle.std.specs.Global.{Vec}
 use Rattle.std.proofs.Math.Path.{fun_ext}
-use Rattle.module_lang.specs.Program.{Program}
+use Rattle.module_code.specs.Program.{Program}
 use Rattle.bucket_kinds.specs.Device.{Device}
 use Rattle.bucket_ring.specs.declared.rings.Rings.{Ghosts}
 use Rattle.bucket_ring.specs.Kept.{NoneRevived, once_in}
@@ -21,7 +21,7 @@ use Rattle.module_run.specs.declared.conn.Conn.{Conn}
 use Rattle.module_run.specs.Conns.{conn_of, filter_at, call_name, top_of, runs_of, stack_up, shown_frame, shown_filter, counting}
 use Rattle.module_run.specs.Proceeding.{LeftAs}
 use Rattle.ring_run.specs.Seen.{is_running}
-use Rattle.module_run.specs.Stacked.{AreApart, AreCalled, IsStacked, is_called, is_waiting, names_up}
+use Rattle.module_run.specs.Stacked.{FiltersApart, AreCalled, IsStacked, is_called, is_waiting, names_up}
 use Rattle.module_run.proofs.HandsOn.{changed}
 use Rattle.ring_run.proofs.Names.{held_kept, no_less, still_same}
 use Rattle.module_run.proofs.Stacking.{names_same}
@@ -43,7 +43,7 @@ module _ (c : Conn) (fs : Vec Filter) (ws : Vec ℕ) (filters : fs.items ≡ c.f
   same_waiting : (k : ℕ) → is_waiting (changed c fs ws) k ≡ is_waiting c k
   same_waiting k = ap (λ (t : ℕ). nat_le c.first k && nat_lt k t) same_top
 
-  apart_spared : AreApart c → AreApart (changed c fs ws)
+  apart_spared : FiltersApart c → FiltersApart (changed c fs ws)
   apart_spared apart = record {
     own = λ i j a b m f e low less is that. apart.own i j a b m f e low less (was_at i f is) (was_at j e that);
     later = λ i j b m f e less low is that. apart.later i j b m f e less low (was_at i f is) (was_at j e that);

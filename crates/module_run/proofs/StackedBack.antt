@@ -5,9 +5,9 @@ use Rattle.std.specs.Global.{Vec}
 use Rattle.std.proofs.lemmas.Bool.{cases_eq, eq-eqb, ne_eqb, lt-ltb, le-ltb, le-leb, lt-leb, leb-true, ltb-true, false≢true}
 use Rattle.bucket_ring.specs.declared.names.BucketId.{BucketId}
 use Rattle.bucket_ring.specs.Kept.{NoneRevived}
-use Rattle.module_lang.specs.Program.{Program}
-use Rattle.module_lang.specs.declared.instr.Instr.TheVariants as instr
-use Rattle.module_lang.specs.declared.instr.Status.{Status}
+use Rattle.module_code.specs.Program.{Program}
+use Rattle.module_code.specs.declared.instr.Instr.TheVariants as instr
+use Rattle.module_code.specs.declared.instr.Status.{Status}
 use Rattle.run_model.specs.declared.bucket.Mark.TheVariants.{Passed}
 use Rattle.run_model.specs.Chains.{module_at}
 use Rattle.run_model.specs.Steps.{current}
@@ -20,7 +20,7 @@ use Rattle.ring_run.specs.declared.machine.Slot.TheVariants as slot
 use Rattle.module_run.specs.Conns.{call_name, filter_at, top_of}
 use Rattle.ring_run.specs.Held.{HeldOver}
 use Rattle.ring_run.specs.Slots.{marked, name_in, slot_at}
-use Rattle.module_run.specs.Stacked.{AreApart, AreCalled, StackedOver, is_called, is_waiting, named_at, names_up}
+use Rattle.module_run.specs.Stacked.{FiltersApart, AreCalled, StackedOver, is_called, is_waiting, named_at, names_up}
 use Rattle.module_run.proofs.GivenBack.{GivesBack, alone, called_before, stays, loose_stays, top_now, waited, waiting_after, with_calls}
 use Rattle.ring_run.proofs.HeldAlike.{held_cursors}
 use Rattle.module_run.proofs.HeldStays.{held_stays}
@@ -148,7 +148,7 @@ module _ (chain : List Program) (s : Status) (at new_at : BucketId → Option �
   real_name : (j b : ℕ) (e : Filter) → filter_at c j ≡ Some e → named_at e b ≡ Some 0 → ⊥
   real_name j b e is named = (let p = (st.held j e is).real b 0 named in omega (arith, p))
 
-  apart_after : AreApart d
+  apart_after : FiltersApart d
   apart_after = record {
     own = λ i j a b m f e low high is_i is_j n_i n_j. st.apart.own i j a b m (came i f is_i).0 (came j e is_j).0 low high (came i f is_i).1.was (came j e is_j).1.was ((came i f is_i).1.names a m n_i) ((came j e is_j).1.names b m n_j);
     later = λ i j b m f e lt low is_i is_j n_i n_j. st.apart.later i j b m (came i f is_i).0 (came j e is_j).0 lt low (came i f is_i).1.was (came j e is_j).1.was ((came i f is_i).1.names 8 m n_i) ((came j e is_j).1.names b m n_j);

@@ -1,9 +1,9 @@
 -- The call of a connection's first filter begins.
 use Rattle.std.specs.Prelude.{◌≡◌, ◌≢◌, ℕ, true, List, [], length, Some}
-use Rattle.module_lang.specs.Program.{Program}
+use Rattle.module_code.specs.Program.{Program}
 use Rattle.run_model.specs.Chains.{module_at}
 use Rattle.run_model.specs.Passing.{handler_at}
-use Rattle.ring_run.specs.declared.machine.Stand.TheVariants.{Unset}
+use Rattle.ring_run.specs.declared.machine.CursorValue.TheVariants.{Unset}
 use Rattle.module_run.specs.declared.conn.Filter.{Filter}
 use Rattle.module_run.specs.declared.conn.Conn.{Conn}
 use Rattle.module_run.specs.Conns.{filter_at}

@@ -1,10 +1,10 @@
 -- A brigade is brought to the first filter of a connection.
 use Rattle.std.specs.Prelude.{◌≡◌, ◌≢◌, ◌==◌, ℕ, true, List, [], length, Some, None, if◌then◌else◌}
-use Rattle.module_lang.specs.Program.{Program}
+use Rattle.module_code.specs.Program.{Program}
 use Rattle.run_model.specs.declared.bucket.Mark.TheVariants.{Usable}
 use Rattle.run_model.specs.Chains.{module_at}
 use Rattle.ring_run.specs.declared.machine.Slot.TheVariants.{Made}
-use Rattle.ring_run.specs.declared.machine.Stand.TheVariants.{Unset}
+use Rattle.ring_run.specs.declared.machine.CursorValue.TheVariants.{Unset}
 use Rattle.module_run.specs.declared.conn.Filter.{Filter}
 use Rattle.module_run.specs.declared.conn.Conn.{Conn}
 use Rattle.module_run.specs.Conns.{filter_at}

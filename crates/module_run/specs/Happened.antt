@@ -1,6 +1,6 @@
 -- What an event of a connection answers and leaves, over its pools, its store of brigades and a device of files.
 use Rattle.std.specs.Prelude.{◌≡◌, Bool, true, false, List, Option, Some, None, Result, Ok, Err}
-use Rattle.module_lang.specs.Program.{Program}
+use Rattle.module_code.specs.Program.{Program}
 use Rattle.bucket_ring.specs.declared.rings.Rings.{Ghosts}
 use Rattle.run_model.specs.declared.bucket.Bucket.{Bucket}
 use Rattle.run_model.specs.declared.event.Refusal.{Refusal}

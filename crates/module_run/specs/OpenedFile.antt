@@ -1,6 +1,6 @@
 -- A file of an opening.
 use Rattle.std.specs.Prelude.{◌≡◌, ◌⊎◌, true, ℕ, ◌+◌, ◌≤◌, List, Option, Some, None, Result, Ok, Err}
-use Rattle.module_lang.specs.Program.{Program}
+use Rattle.module_code.specs.Program.{Program}
 use Rattle.bucket_kinds.specs.Answers.{MayMiss}
 use Rattle.bucket_kinds.specs.Device.{Device, HasFailed, opened, closed}
 use Rattle.bucket_kinds.specs.declared.refusal.FileFault.{FileFault}
@@ -10,7 +10,7 @@ use Rattle.run_model.specs.declared.bucket.Bucket.{Bucket}
 use Rattle.run_model.specs.declared.event.Refusal.{Refusal}
 use Rattle.run_model.specs.declared.event.Refusal.TheVariants as refusal
 use Rattle.run_model.specs.declared.payload.Payload.{Payload}
-use Rattle.run_model.specs.ChainFiles.{IsShort}
+use Rattle.model_laws.specs.ChainFiles.{IsShortLength}
 use Rattle.run_model.specs.Chains.{Linked}
 use Rattle.run_model.specs.Turns.{Opening, Found, Missing, Failing, opens_file}
 use Rattle.pool_tree.specs.declared.tree.PoolTree.{PoolTree}
@@ -43,7 +43,7 @@ unopened_by fault.NoMemory = refusal.NoMemory
 
 -- A file that was opened is short.
 abbrev pub TellsShort : Result (ℕ × ℕ) Refusal → Type 0
-TellsShort (Ok file) = IsShort file.1
+TellsShort (Ok file) = IsShortLength file.1
 TellsShort (Err r) = Unit {0}
 
 module _ {R : Type 0} {g : Ghosts R Bucket} where

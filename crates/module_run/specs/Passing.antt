@@ -1,7 +1,7 @@
 -- A connection whose call on top is at a pass.
 use Rattle.std.specs.Prelude.{ℕ, List}
-use Rattle.module_lang.specs.Program.{Program}
-use Rattle.module_lang.specs.declared.instr.Instr.TheVariants as instr
+use Rattle.module_code.specs.Program.{Program}
+use Rattle.module_code.specs.declared.instr.Instr.TheVariants as instr
 use Rattle.bucket_ring.specs.declared.rings.Rings.{Ghosts}
 use Rattle.bucket_kinds.specs.Device.{Device}
 use Rattle.run_model.specs.declared.bucket.Bucket.{Bucket}

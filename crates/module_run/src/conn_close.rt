@@ -3,7 +3,7 @@
 ghost use Rattle.std.specs.Prelude.{◌≡◌, ◌&&◌, not, false, if◌then◌else◌, ℕ, List, OnOk, OnErr};
 ghost use Rattle.std.specs.List.{list_any};
 ghost use Rattle.bucket_kinds.specs.Device.{Missing};
-ghost use Rattle.module_lang.specs.Program.{Program};
+ghost use Rattle.module_code.specs.Program.{Program};
 ghost use Rattle.run_model.specs.Chains.{Linked};
 ghost use Rattle.run_model.specs.Files.{is_referred};
 ghost use Rattle.run_model.specs.Payloads.{is_file_ref};
@@ -19,7 +19,7 @@ ghost use Rattle.module_run.specs.Proceeding.{LeftAs, StandsFor};
 
 use crate::conn::Conn;
 use brigade_ops::{Brigades, Bucket, Files, PoolTree, Rings};
-use ring_run::labels::hand_on;
+use ring_run::labels::add_labels;
 use run_model::Payload;
 use std::alloc::AllocError;
 
@@ -45,7 +45,7 @@ impl Conn {
     {
         self.labels.reserve(1)?;
         let ran = store.clear(&[], tree, files, self.conn)?;
-        hand_on(&mut self.labels, ran);
+        add_labels(&mut self.labels, ran);
         Ok(())
     }
 }

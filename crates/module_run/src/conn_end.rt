@@ -2,7 +2,7 @@
 
 ghost use Rattle.std.specs.Prelude.{◌≡◌, ◌≢◌, ◌<◌, ◌∷◌, ◌++◌, [], ℕ, List, None, Some, false, map, IsTrue, IfOk, OnOk, OnErr};
 ghost use Rattle.bucket_kinds.specs.Device.{Device};
-ghost use Rattle.module_lang.specs.Program.{Program};
+ghost use Rattle.module_code.specs.Program.{Program};
 ghost use Rattle.run_model.specs.Chains.{Linked};
 ghost use Rattle.run_model.specs.Refusals.{first_refusal};
 ghost use Rattle.run_model.specs.Files.{is_referred};
@@ -23,7 +23,7 @@ ghost use Rattle.module_run.specs.Refused.{request_tests};
 
 use crate::conn::{Conn, Filter};
 use brigade_ops::{Brigades, Bucket, Files, PoolId, PoolTree, Rings};
-use ring_run::labels::hand_on;
+use ring_run::labels::add_labels;
 use run_model::{Payload, Refusal};
 use std::alloc::{AllocError, Global};
 
@@ -83,7 +83,7 @@ impl Conn {
         let rings = self.rings(alloc)?;
         self.labels.reserve(1)?;
         let ran = store.destroy(rings.as_slice(), tree, files, pool)?;
-        hand_on(&mut self.labels, ran);
+        add_labels(&mut self.labels, ran);
         Ok(())
     }
 

@@ -2,7 +2,7 @@
 
 ghost use Rattle.std.specs.Prelude.{◌≡◌, ◌<◌, ◌≤◌, ◌==◌, ◌+◌, ◌∷◌, ◌++◌, [], ℕ, List, Some, IsTrue, OnOk, OnErr, if◌then◌else◌};
 ghost use Rattle.bucket_ring.specs.Kept.{NoneRevived};
-ghost use Rattle.module_lang.specs.Program.{Program};
+ghost use Rattle.module_code.specs.Program.{Program};
 ghost use Rattle.run_model.specs.Chains.{Linked};
 ghost use Rattle.run_model.specs.Pools.{is_live, registered};
 ghost use Rattle.run_model.specs.RunOrder.{IsPoolMap};

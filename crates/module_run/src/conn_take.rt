@@ -2,7 +2,7 @@
 
 ghost use Rattle.std.specs.Prelude.{◌≡◌, [], ℕ, Option, List};
 ghost use Rattle.bucket_ring.specs.declared.names.BucketId.{BucketId};
-ghost use Rattle.module_lang.specs.Program.{Program};
+ghost use Rattle.module_code.specs.Program.{Program};
 ghost use Rattle.run_model.specs.Pools.{Pools};
 ghost use Rattle.brigade_ops.specs.Items.{Items};
 ghost use Rattle.module_run.specs.Conns.{conn_of, labels_handed};

@@ -3,7 +3,7 @@
 ghost use Rattle.std.specs.Prelude.{◌≡◌, ◌<◌, ℕ, List, length};
 ghost use Rattle.bucket_kinds.specs.Device.{Device};
 ghost use Rattle.run_model.specs.Chains.{Frame, Linked};
-ghost use Rattle.module_run.specs.Looking.{Looks, LacksNames, calls_at};
+ghost use Rattle.module_run.specs.Looking.{IsNextInstr, step_lacks_names, calls_at};
 ghost use Rattle.module_run.specs.Conns.{top_of};
 ghost use Rattle.module_run.specs.Stepping.{IsOnTop};
 
@@ -16,7 +16,7 @@ use run_model::{FaultKind, Instr, Module, Payload};
 
 /// The next instruction of the call on top: the number of its module and its own, and its fault, if it has one.
 #[derive(Clone, Copy)]
-pub(crate) struct Look {
+pub(crate) struct NextInstr {
     pub(crate) of: usize,
     pub(crate) pc: usize,
     pub(crate) instr: Instr,
@@ -31,9 +31,9 @@ impl Conn {
         modules: &[Module],
         tree: &PoolTree<Payload>,
         store: &Brigades<R>,
-    ) -> Look
+    ) -> NextInstr
         requires on_top { (d : Device) × ((v : Linked) × ((f : Frame) × ((rest : List Frame) × IsOnTop modules.now tree.now store.now d self.now v f rest))) }
-        ensures { (d : Device) (v : Linked) (f : Frame) (rest : List Frame) → IsOnTop modules.now tree.now store.now d self.now v f rest → Looks modules.now v f result }
+        ensures { (d : Device) (v : Linked) (f : Frame) (rest : List Frame) → IsOnTop modules.now tree.now store.now d self.now v f rest → IsNextInstr modules.now v f result }
     {
         let of = self.top();
         let (Some(filter), Some(code)) = (self.filters.get(of), modules.get(of)) else {
@@ -48,7 +48,7 @@ impl Conn {
             waits: self.waits.as_slice(),
         };
         let fault = fault(code, &filter.instance, &filter.call, &outside, store, instr);
-        Look {
+        NextInstr {
             of,
             pc,
             instr,
@@ -76,10 +76,10 @@ impl Conn {
         modules: &[Module],
         tree: &PoolTree<Payload>,
         store: &Brigades<R>,
-        look: Look,
+        look: NextInstr,
     ) -> bool
-        requires on_top { (d : Device) × ((v : Linked) × ((f : Frame) × ((rest : List Frame) × (IsOnTop modules.now tree.now store.now d self.now v f rest × Looks modules.now v f look)))) }
-        ensures { (d : Device) (v : Linked) (f : Frame) (rest : List Frame) → IsOnTop modules.now tree.now store.now d self.now v f rest → Looks modules.now v f look → result ≡ LacksNames modules.now v f rest look }
+        requires on_top { (d : Device) × ((v : Linked) × ((f : Frame) × ((rest : List Frame) × (IsOnTop modules.now tree.now store.now d self.now v f rest × IsNextInstr modules.now v f look)))) }
+        ensures { (d : Device) (v : Linked) (f : Frame) (rest : List Frame) → IsOnTop modules.now tree.now store.now d self.now v f rest → IsNextInstr modules.now v f look → result ≡ step_lacks_names modules.now v f rest look }
     {
         let of = self.top();
         let (Some(filter), Some(code)) = (self.filters.get(of), modules.get(of)) else {

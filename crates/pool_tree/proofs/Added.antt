@@ -4,14 +4,14 @@ use Rattle.std.proofs.Common.{sym, ◌∙◌, ap, subst, inl, inr, arith}
 use Rattle.std.proofs.lemmas.Bool.{eq-eqb, ne_eqb, cases_Bool, both_ways, cases_eq}
 use Rattle.pool_tree.specs.declared.records.Pool.{Pool}
 use Rattle.pool_tree.specs.Records.{names, parent_of, newest_of, older_of, younger_of}
-use Rattle.pool_tree.specs.Links.{newest_below, map_at, IsLinked, IsAdded}
+use Rattle.pool_tree.specs.Links.{newest_below, map_at, RecordsLinked, IsChildAdded}
 use Rattle.run_model.specs.Indexed.{upd}
 use Rattle.run_model.specs.Pools.{created}
 use Rattle.pool_tree.proofs.Paths.{place_of, placed_path, place_same, place_at, parent_at, map_path_same, pools_same, step, map_next, map_payloads}
 use Rattle.pool_tree.proofs.Newest.{named_is, names_at, newest_child, newest_same, below_here, below_there, pick, none_from, parent_live, newest_live, older_live, younger_live}
 
-module _ {T : Type 0} (root next parent : ℕ) (old new : ℕ → Option (Pool T)) (linked : IsLinked root next old)
-    (live : is_some (old parent) ≡ true) (added : IsAdded next parent old new) where
+module _ {T : Type 0} (root next parent : ℕ) (old new : ℕ → Option (Pool T)) (linked : RecordsLinked root next old)
+    (live : is_some (old parent) ≡ true) (added : IsChildAdded next parent old new) where
   parent_below : parent < next
   parent_below = linked.named parent live
 
@@ -233,7 +233,7 @@ module _ {T : Type 0} (root next parent : ℕ) (old new : ℕ → Option (Pool T
             ]
       ]
 
-  pub added_linked : IsLinked root (suc next) new
+  pub added_linked : RecordsLinked root (suc next) new
   added_linked = record {
     root_live = old_live root linked.root_live;
     root_above = new_root;

@@ -6,7 +6,7 @@ use Rattle.std.proofs.lemmas.Bool.{eq-eqb, ne_eqb, cases_Bool, both_ways, cases_
 use Rattle.run_model.specs.Indexed.{upd}
 use Rattle.pool_tree.specs.declared.records.Pool.{Pool}
 use Rattle.pool_tree.specs.Records.{names, changed, parent_of, newest_of, older_of, younger_of, payloads_of}
-use Rattle.pool_tree.specs.Links.{IsAdded, HasNeighbours, IsRemoved}
+use Rattle.pool_tree.specs.Links.{IsChildAdded, HasNeighbours, IsRemoved}
 use Rattle.pool_tree.proofs.Newest.{named_is}
 
 keep_link : {T : Type 0} (g : Pool T → Option ℕ) (f : Pool T → Pool T) → ((q : Pool T) → g (f q) ≡ g q) → (b : Bool) (o : Option (Pool T)) → option_and_then g (if b then option_map f o else o) ≡ option_and_then g o
@@ -115,7 +115,7 @@ module _ {T : Type 0} (old r1 r2 new : ℕ → Option (Pool T)) (name parent : �
       ∙ ap (λ o. option_map_or (λ q. q.payloads.items) o []) (puts n) ∙ put_payloads pool (n == name) (old n)
       ∙ ap (λ xs. if n == name then xs else payloads_of old n) has_payloads
 
-  pub added_by : IsAdded name parent old new
+  pub added_by : IsChildAdded name parent old new
   added_by = record {
     live = λ n. live_3 n ∙ live_2 n ∙ live_1 n;
     parents = λ n. link_3 (λ q. q.parent) (λ _. refl) n ∙ link_2 (λ q. q.parent) (λ _. refl) n ∙ link_1 (λ q. q.parent) n ∙ ap (λ o. if n == name then o else parent_of old n) has_parent;

@@ -6,7 +6,7 @@ use Rattle.run_model.specs.Pools.{is_live, is_under, is_in, cleared}
 use Rattle.run_model.proofs.RunOrderLaws.{under_itself, under_above}
 use Rattle.pool_tree.specs.declared.records.Pool.{Pool}
 use Rattle.pool_tree.specs.Records.{names, parent_of, newest_of, older_of, younger_of}
-use Rattle.pool_tree.specs.Links.{newest_below, map_at, IsLinked, IsCleared}
+use Rattle.pool_tree.specs.Links.{newest_below, map_at, RecordsLinked, IsCleared}
 use Rattle.pool_tree.proofs.Newest.{named_is, newest_child, newest_same, older_live}
 use Rattle.pool_tree.proofs.Planted.{newest_none}
 use Rattle.pool_tree.proofs.Paths.{place_same, place_none, placed_path, parent_at, map_path_same, pools_same, step, formed, live_is, root_path, under_at, map_next, map_payloads}
@@ -32,7 +32,7 @@ and_only : (b : Bool) → (b && not false) ≡ b
 and_only true = refl
 and_only false = refl
 
-module _ {T : Type 0} (root next : ℕ) (old : ℕ → Option (Pool T)) (linked : IsLinked root next old) where
+module _ {T : Type 0} (root next : ℕ) (old : ℕ → Option (Pool T)) (linked : RecordsLinked root next old) where
   -- a pool with an older one beside it is a child, as that one
   pub siblings : (n m : ℕ) → older_of old m ≡ Some n → (q : ℕ) × ((parent_of old m ≡ Some q) × (parent_of old n ≡ Some q))
   siblings n m at =
@@ -44,7 +44,7 @@ module _ {T : Type 0} (root next : ℕ) (old : ℕ → Option (Pool T)) (linked 
         | inr under ↦ (under.0, (under.1, (newest_child old under.0 m n (sym (linked.older m under.0 under.1) ∙ at)).0))
       ]
 
-module _ {T : Type 0} (root next p : ℕ) (goes : ℕ → Bool) (old new : ℕ → Option (Pool T)) (linked : IsLinked root next old)
+module _ {T : Type 0} (root next p : ℕ) (goes : ℕ → Bool) (old new : ℕ → Option (Pool T)) (linked : RecordsLinked root next old)
     (live : is_some (old p) ≡ true)
     (is : (n : ℕ) → goes n ≡ (is_under (map_at next old) p n && not (n == p))) (clear : IsCleared p goes old new) where
   map_live : is_live (map_at next old) p ≡ true
@@ -189,7 +189,7 @@ module _ {T : Type 0} (root next p : ℕ) (goes : ℕ → Bool) (old new : ℕ �
         ]
       ]
 
-  pub cleared_linked : IsLinked root next new
+  pub cleared_linked : RecordsLinked root next new
   cleared_linked = record {
     root_live = kept_live root (top_stays root linked.root_above linked.root_live) ∙ linked.root_live;
     root_above = kept_parent root (top_stays root linked.root_above linked.root_live) ∙ linked.root_above;

@@ -14,7 +14,6 @@ pub mod Destroyed
 pub mod Removed
 pub mod Writing
 pub mod Printing
-pub mod PrintedParts
 pub mod Below
 pub mod Hashing
 pub mod Renamed

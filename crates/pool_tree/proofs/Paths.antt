@@ -7,7 +7,7 @@ use Rattle.run_model.specs.Pools.{Pools, is_live, is_under, is_in, is_empty}
 use Rattle.run_model.specs.RunOrder.{leads_to, is_child, children_below, IsPoolMap}
 use Rattle.pool_tree.specs.declared.records.Pool.{Pool}
 use Rattle.pool_tree.specs.Records.{names, parent_of, payloads_of}
-use Rattle.pool_tree.specs.Links.{linked_path, path_within, map_at, newest_below, IsLinked}
+use Rattle.pool_tree.specs.Links.{linked_path, path_within, map_at, newest_below, RecordsLinked}
 
 -- where a pool stands: nowhere, at the root, or under a pool
 abbrev pub place_of : {T : Type 0} → (ℕ → Option (Pool T)) → ℕ → Option (Option ℕ)
@@ -79,7 +79,7 @@ is_some_map : {A B : Type 0} (f : A → B) (o : Option A) → is_some (option_ma
 is_some_map f None = refl
 is_some_map f (Some x) = refl
 
-module _ {T : Type 0} (root next : ℕ) (records : ℕ → Option (Pool T)) (linked : IsLinked root next records) where
+module _ {T : Type 0} (root next : ℕ) (records : ℕ → Option (Pool T)) (linked : RecordsLinked root next records) where
   pub step : (n : ℕ) → (map_at next records).path n ≡ placed_path (map_at next records).path n (place_of records n)
   step n = path_step records linked.rises next n
 
@@ -126,7 +126,7 @@ leads_placed : (above : ℕ → List ℕ) (n p q : ℕ) → (xs : List ℕ) → 
 leads_placed above n p q [] at some first = cc
 leads_placed above n p q (k ∷ ys) at some first = ap (λ m. m == p) (first k ys refl)
 
-module _ {T : Type 0} (root next : ℕ) (records : ℕ → Option (Pool T)) (linked : IsLinked root next records) where
+module _ {T : Type 0} (root next : ℕ) (records : ℕ → Option (Pool T)) (linked : RecordsLinked root next records) where
   first : (n m : ℕ) (above : List ℕ) → (map_at next records).path n ≡ m ∷ above → m ≡ n
   first n m above at = first_placed (map_at next records).path n m above (place_of records n) (sym (step root next records linked n) ∙ at)
 
@@ -216,12 +216,12 @@ top_placed_path : {T : Type 0} (above : ℕ → List ℕ) (n : ℕ) (pool : Opti
 top_placed_path above n None live at = cc
 top_placed_path above n (Some pool) live at = ap (λ o. placed_path above n (Some o)) at
 
-pub root_path : {T : Type 0} (root next : ℕ) (records : ℕ → Option (Pool T)) → IsLinked root next records → (map_at next records).path root ≡ root ∷ []
+pub root_path : {T : Type 0} (root next : ℕ) (records : ℕ → Option (Pool T)) → RecordsLinked root next records → (map_at next records).path root ≡ root ∷ []
 root_path root next records linked =
     step root next records linked root ∙ top_placed_path (map_at next records).path root (records root) linked.root_live linked.root_above
 
 -- what a child is under
-pub under_at : {T : Type 0} (root next : ℕ) (records : ℕ → Option (Pool T)) → IsLinked root next records → (p n q : ℕ) → parent_of records n ≡ Some q
+pub under_at : {T : Type 0} (root next : ℕ) (records : ℕ → Option (Pool T)) → RecordsLinked root next records → (p n q : ℕ) → parent_of records n ≡ Some q
     → is_under (map_at next records) p n ≡ ((n == p) || is_under (map_at next records) p q)
 unfolding is_under
 under_at root next records linked p n q at =

@@ -7,7 +7,7 @@ use Rattle.run_model.specs.Indexed.{upd}
 use Rattle.run_model.specs.Pools.{planted}
 use Rattle.pool_tree.specs.declared.records.Pool.{Pool}
 use Rattle.pool_tree.specs.Records.{names, parent_of}
-use Rattle.pool_tree.specs.Links.{newest_below, map_at, IsLinked}
+use Rattle.pool_tree.specs.Links.{newest_below, map_at, RecordsLinked}
 use Rattle.pool_tree.proofs.Newest.{below_there, pick}
 use Rattle.pool_tree.proofs.Paths.{placed_path, pools_same, step, map_next, map_payloads}
 
@@ -36,7 +36,7 @@ module _ {T : Type 0} (first : ℕ) (empty records : ℕ → Option (Pool T)) (p
   is_first : (n : ℕ) → is_some (records n) ≡ true → n ≡ first
   is_first n live = elim (here_or_none n) [ inl here ↦ here.0 | inr there ↦ (let bad : false ≡ true = sym (ap is_some there.1) ∙ live in cc) ]
 
-  pub planted_linked : IsLinked first (suc first) records
+  pub planted_linked : RecordsLinked first (suc first) records
   planted_linked = record {
     root_live = ap is_some at_first;
     root_above = no_link (λ q. q.parent) has_parent first;

@@ -10,11 +10,11 @@ use Rattle.run_model.specs.Indexed.{upd}
 use Rattle.run_model.specs.RunOrder.{last_that, without_last}
 use Rattle.pool_tree.specs.declared.records.Pool.{Pool}
 use Rattle.pool_tree.specs.Records.{names, parent_of, payloads_of}
-use Rattle.pool_tree.specs.Links.{newest_below, map_at, IsLinked, IsRefilled}
+use Rattle.pool_tree.specs.Links.{newest_below, map_at, RecordsLinked, IsRefilled}
 use Rattle.pool_tree.proofs.Newest.{newest_same}
 use Rattle.pool_tree.proofs.Paths.{place_same, parent_at, map_path_same, pools_same, map_next, map_payloads}
 
-module _ {T : Type 0} (root next name : ℕ) (items : List T) (old new : ℕ → Option (Pool T)) (linked : IsLinked root next old) (refilled : IsRefilled name items old new) where
+module _ {T : Type 0} (root next name : ℕ) (items : List T) (old new : ℕ → Option (Pool T)) (linked : RecordsLinked root next old) (refilled : IsRefilled name items old new) where
   below : (p m : ℕ) → newest_below new p m ≡ newest_below old p m
   below p m = newest_same new old p m (λ k _. ap (λ o. names o p) (refilled.parents k))
 
@@ -24,7 +24,7 @@ module _ {T : Type 0} (root next name : ℕ) (items : List T) (old new : ℕ →
   was_live : (n : ℕ) → is_some (new n) ≡ true → is_some (old n) ≡ true
   was_live n live = sym (refilled.live n) ∙ live
 
-  pub refilled_linked : IsLinked root next new
+  pub refilled_linked : RecordsLinked root next new
   refilled_linked = record {
     root_live = refilled.live root ∙ linked.root_live;
     root_above = refilled.parents root ∙ linked.root_above;

@@ -6,7 +6,7 @@ use Rattle.run_model.specs.Pools.{is_live, is_under, destroyed}
 use Rattle.run_model.proofs.RunOrderLaws.{under_itself, under_above, branch}
 use Rattle.pool_tree.specs.declared.records.Pool.{Pool}
 use Rattle.pool_tree.specs.Records.{names, parent_of, newest_of, older_of, younger_of}
-use Rattle.pool_tree.specs.Links.{newest_below, map_at, IsLinked, IsRemoved}
+use Rattle.pool_tree.specs.Links.{newest_below, map_at, RecordsLinked, IsRemoved}
 use Rattle.pool_tree.proofs.Newest.{named_is, names_at, newest_child, newest_greatest, newest_same, below_here, below_there, parent_live}
 use Rattle.pool_tree.proofs.Planted.{newest_none}
 use Rattle.pool_tree.proofs.Cleared.{choose, siblings}
@@ -53,7 +53,7 @@ kept_beside p f g new_f new_g back by_f by_g not_itself n m at =
       ]
     ]
 
-module _ {T : Type 0} (root next p q : ℕ) (old new : ℕ → Option (Pool T)) (linked : IsLinked root next old)
+module _ {T : Type 0} (root next p q : ℕ) (old new : ℕ → Option (Pool T)) (linked : RecordsLinked root next old)
     (live : is_some (old p) ≡ true) (above : parent_of old p ≡ Some q) (childless : newest_of old p ≡ None) (removed : IsRemoved p old new) where
   no_child : (n : ℕ) → parent_of old n ≡ Some p → ⊥
   no_child n at =
@@ -243,7 +243,7 @@ module _ {T : Type 0} (root next p q : ℕ) (old new : ℕ → Option (Pool T)) 
         | inr rest ↦ rest.1 ∙ linked.root_alone
       ]
 
-  pub removed_linked : IsLinked root next new
+  pub removed_linked : RecordsLinked root next new
   removed_linked = record {
     root_live = kept_live root root_apart ∙ linked.root_live;
     root_above = kept_parent root root_apart ∙ linked.root_above;

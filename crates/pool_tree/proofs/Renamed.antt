@@ -4,7 +4,7 @@ use Rattle.std.proofs.Common.{sym, ◌∙◌, inl, inr, arith}
 use Rattle.std.proofs.lemmas.Bool.{cases_Bool, cases_eq, cases_lt}
 use Rattle.pool_tree.specs.declared.records.Pool.{Pool}
 use Rattle.pool_tree.specs.Records.{names, parent_of, newest_of}
-use Rattle.pool_tree.specs.Links.{newest_below, IsLinked}
+use Rattle.pool_tree.specs.Links.{newest_below, RecordsLinked}
 use Rattle.pool_tree.proofs.Newest.{named_is, below_there, parent_live}
 
 module _ {T : Type 0} (records : ℕ → Option (Pool T)) (bound : ℕ) (named : (n : ℕ) → is_some (records n) ≡ true → n < bound) where
@@ -25,7 +25,7 @@ module _ {T : Type 0} (records : ℕ → Option (Pool T)) (bound : ℕ) (named :
         | inr apart ↦ below_there records p n (none_above p n (omega (arith, apart))) ∙ newest_from p n (omega (arith, apart))
       ]
 
-module _ {T : Type 0} (root old new : ℕ) (records : ℕ → Option (Pool T)) (linked : IsLinked root old records)
+module _ {T : Type 0} (root old new : ℕ) (records : ℕ → Option (Pool T)) (linked : RecordsLinked root old records)
     (named : (n : ℕ) → is_some (records n) ≡ true → n < new) where
   new_newest : (p : ℕ) → newest_of records p ≡ newest_below records p new
   new_newest p =
@@ -34,7 +34,7 @@ module _ {T : Type 0} (root old new : ℕ) (records : ℕ → Option (Pool T)) (
         | inr less ↦ linked.newest p ∙ newest_from records new named p old less
       ]
 
-  pub renamed_linked : IsLinked root new records
+  pub renamed_linked : RecordsLinked root new records
   renamed_linked = record {
     root_live = linked.root_live;
     root_above = linked.root_above;

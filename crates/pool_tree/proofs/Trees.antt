@@ -11,7 +11,7 @@ use Rattle.pool_tree.specs.declared.tree.PoolTree.{PoolTree}
 use Rattle.pool_tree.specs.Records.{record_of, parent_of, newest_of, payloads_of}
 use Rattle.pool_tree.proofs.Newest.{newest_child, parent_live, older_live}
 use Rattle.pool_tree.proofs.Cleared.{siblings, top_or_under}
-use Rattle.pool_tree.specs.Links.{map_at, IsLinked, HasNeighbours}
+use Rattle.pool_tree.specs.Links.{map_at, RecordsLinked, HasNeighbours}
 use Rattle.pool_tree.specs.Tree.{map_of}
 use Rattle.pool_tree.proofs.Paths.{placed_path, place_at, step, formed, live_is, map_next, map_payloads, root_path}
 
@@ -21,8 +21,8 @@ top_cases above n a None apart at = refl
 top_cases above n a (Some pool) apart at = rw (at, ne_eqb n a apart)
 
 -- records that are equal at each name keep the links, and have the same pool map
-pub same_linked : {T : Type 0} (root next : ℕ) (old new : ℕ → Option (Pool T)) → ((n : ℕ) → new n ≡ old n) → IsLinked root next old → IsLinked root next new
-same_linked root next old new same linked = let e : old ≡ new = λ i n. sym (same n) i in subst (IsLinked root next) e linked
+pub same_linked : {T : Type 0} (root next : ℕ) (old new : ℕ → Option (Pool T)) → ((n : ℕ) → new n ≡ old n) → RecordsLinked root next old → RecordsLinked root next new
+same_linked root next old new same linked = let e : old ≡ new = λ i n. sym (same n) i in subst (RecordsLinked root next) e linked
 
 pub same_map : {T : Type 0} (next : ℕ) (old new : ℕ → Option (Pool T)) → ((n : ℕ) → new n ≡ old n) → map_at next new ≡ map_at next old
 same_map next old new same = let e : new ≡ old = λ i n. same n i in ap (map_at next) e

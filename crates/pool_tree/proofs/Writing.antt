@@ -1,7 +1,7 @@
 -- One text written after another.
 use Rattle.std.specs.Prelude.{◌≡◌, ℕ, zero, suc, ◌+◌, ◌<◌, Option, None, Some, Result, Ok, Err, OnOk, List, [], ◌∷◌, ◌++◌, length, take, refl, true, false, not}
 use Rattle.std.specs.Io.KnownBytes.{Appends}
-use Rattle.module_lang.specs.Writes.{Wrote}
+use Rattle.byte_text.specs.Writes.{Wrote}
 use Rattle.run_model.specs.Pools.{is_empty}
 use Rattle.std.proofs.Common.{sym, ◌∙◌, ap, subst, get_or, add-one}
 use Rattle.std.proofs.lemmas.List.{append_assoc, append-nil, take_more}

@@ -3,7 +3,6 @@ pub mod Links
 pub mod Payloads
 pub mod Handed
 pub mod Printed
-pub mod PrintedParts
 pub mod Room
 pub mod Tree
 pub mod Names

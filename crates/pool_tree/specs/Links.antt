@@ -26,7 +26,7 @@ newest_below records p (suc n) = if names (parent_of records n) p then Some n el
 
 -- What is true of the records: each pool but the root has a live pool above it with a smaller name, and the links
 -- to the newest child and between the children of a pool are those of the names.
-pub record IsLinked {T : Type 0} (root next : ℕ) (records : ℕ → Option (Pool T)) : Type 0 where
+pub record RecordsLinked {T : Type 0} (root next : ℕ) (records : ℕ → Option (Pool T)) : Type 0 where
   pub root_live : is_some (records root) ≡ true
   pub root_above : parent_of records root ≡ None
   pub root_alone : older_of records root ≡ None
@@ -42,7 +42,7 @@ pub record IsLinked {T : Type 0} (root next : ℕ) (records : ℕ → Option (Po
   pub last : (p n : ℕ) → newest_of records p ≡ Some n → younger_of records n ≡ None
 
 -- A child was added to a pool, under a name that was no pool's.
-pub record IsAdded {T : Type 0} (name parent : ℕ) (old new : ℕ → Option (Pool T)) : Type 0 where
+pub record IsChildAdded {T : Type 0} (name parent : ℕ) (old new : ℕ → Option (Pool T)) : Type 0 where
   pub live : (n : ℕ) → is_some (new n) ≡ (if n == name then true else is_some (old n))
   pub parents : (n : ℕ) → parent_of new n ≡ (if n == name then Some parent else parent_of old n)
   pub newest : (n : ℕ) → newest_of new n ≡ (if n == parent then Some name else if n == name then None else newest_of old n)

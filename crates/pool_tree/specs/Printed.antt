@@ -2,7 +2,7 @@
 -- oldest first.
 use Rattle.std.specs.Prelude.{ℕ, zero, suc, ◌+◌, List, [], ◌∷◌, ◌++◌, reverse, codes, decimal}
 use Rattle.std.specs.List.{flat_map}
-use Rattle.module_lang.specs.Quoted.{spelling}
+use Rattle.byte_text.specs.Quoted.{spelling}
 use Rattle.run_model.specs.declared.payload.Payload.{Payload}
 use Rattle.run_model.specs.declared.payload.Payload.TheVariants.{Label, FileRef, Brigade}
 use Rattle.run_model.specs.Pools.{Pools}

@@ -11,7 +11,7 @@ ghost use Rattle.pool_tree.specs.Handed.{own_of, IsOnce};
 use crate::records::Records;
 
 /// Moves payloads to the end of a list that has room for them, the last first.
-fn hand_on<T: Drop>(ran: &mut Vec<(u64, T)>, name: u64, payloads: &mut Vec<T>)
+fn move_payloads<T: Drop>(ran: &mut Vec<(u64, T)>, name: u64, payloads: &mut Vec<T>)
     requires { vec_len ran.old + vec_len payloads.old ≤ vec_capacity ran.old }
     ensures items { ran.new.items ≡ ran.old.items ++ map (λ x. (name, x)) (reverse payloads.old.items) }
     ensures emptied { payloads.new.items ≡ [] }
@@ -31,7 +31,7 @@ fn take_pool<T: Drop>(records: &mut Records<T>, name: u64, ran: &mut Vec<(u64, T
     ensures room { vec_capacity ran.old ≤ vec_capacity ran.new }
 {
     if let Some(mut pool) = records.take(name) {
-        hand_on(ran, name, &mut pool.payloads);
+        move_payloads(ran, name, &mut pool.payloads);
     }
 }
 
@@ -61,6 +61,6 @@ pub(crate) fn empty_pool<T: Drop>(records: &mut Records<T>, name: u64, ran: &mut
 {
     if let Some(pool) = records.by_name.get_mut(&name) {
         pool.newest = None;
-        hand_on(ran, name, &mut pool.payloads);
+        move_payloads(ran, name, &mut pool.payloads);
     }
 }

@@ -2,7 +2,6 @@
 #![tactic(auto)]
 
 mod handed;
-pub mod laws;
 mod links;
 mod names;
 mod payloads;
@@ -11,7 +10,7 @@ mod refusal;
 mod text;
 mod tree;
 
-pub use module_lang::WriteFault;
+pub use byte_text::WriteFault;
 pub use refusal::PoolError;
 pub use text::PoolText;
 pub use tree::{PoolId, PoolTree, Room};

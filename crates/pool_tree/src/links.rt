@@ -2,7 +2,7 @@
 
 ghost use Rattle.std.specs.Prelude.{◌≡◌, ℕ, None, Some, is_some, true, if◌then◌else◌, OnOk, OnErr};
 ghost use Rattle.pool_tree.specs.Records.{record_of, newest_of};
-ghost use Rattle.pool_tree.specs.Links.{IsAdded, HasNeighbours, IsRemoved};
+ghost use Rattle.pool_tree.specs.Links.{IsChildAdded, HasNeighbours, IsRemoved};
 
 use crate::records::{Pool, Records};
 use std::alloc::{AllocError, Global};
@@ -17,7 +17,7 @@ pub(crate) fn add_child<T: Drop>(
     requires free { record_of records.old name ≡ None }
     requires live { is_some (record_of records.old parent) ≡ true }
     requires last { (n : ℕ) → newest_of (record_of records.old) parent ≡ Some n → is_some (record_of records.old n) ≡ true }
-    ensures ok { OnOk result (IsAdded name parent (record_of records.old) (record_of records.new)) }
+    ensures ok { OnOk result (IsChildAdded name parent (record_of records.old) (record_of records.new)) }
     ensures err { OnErr result ((n : ℕ) → record_of records.new n ≡ record_of records.old n) }
 {
     let older = records.newest(parent);

@@ -1,11 +1,11 @@
 //! Texts of payloads.
 
 ghost use Rattle.std.specs.Prelude.{◌≡◌, not};
-ghost use Rattle.module_lang.specs.Writes.{Wrote};
+ghost use Rattle.byte_text.specs.Writes.{Wrote};
 ghost use Rattle.run_model.specs.Pools.{is_empty};
 ghost use Rattle.pool_tree.specs.Printed.{payload_text};
 
-use module_lang::{WriteFault, print_text};
+use byte_text::{WriteFault, print_text};
 use run_model::Payload;
 use std::io::Write;
 

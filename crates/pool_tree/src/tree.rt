@@ -1,7 +1,7 @@
 //! The tree of pools.
 
 ghost use Rattle.std.specs.Prelude.{◌≡◌, ℕ, ◌<◌, length, slice_index_or, remove, is_some, IsTrue, ◌↔◌, [], ◌∷◌, IfOk, OnOk, OnErr, IfErr, IsErrOf};
-ghost use Rattle.pool_tree.specs.Links.{IsLinked};
+ghost use Rattle.pool_tree.specs.Links.{RecordsLinked};
 ghost use Rattle.pool_tree.specs.Records.{record_of};
 
 mod clear;
@@ -25,7 +25,7 @@ pub struct PoolTree<T> {
     root: u64,
     next: u64,
     records: Records<T>,
-    ghost linked: { IsLinked root next (record_of records) },
+    ghost linked: { RecordsLinked root next (record_of records) },
 }
 
 #[tactic(auto, using(crate::proofs::Trees::tree_formed, crate::proofs::Trees::tree_next))]

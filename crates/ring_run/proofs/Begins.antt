@@ -27,7 +27,7 @@ use Rattle.ring_run.specs.declared.machine.Instance.{Instance}
 use Rattle.ring_run.specs.declared.machine.Call.{Call}
 use Rattle.ring_run.specs.declared.machine.Slot.{Slot}
 use Rattle.ring_run.specs.declared.machine.Slot.TheVariants as slot
-use Rattle.ring_run.specs.declared.machine.Stand.TheVariants as stand
+use Rattle.ring_run.specs.declared.machine.CursorValue.TheVariants as cursor_value
 use Rattle.ring_run.specs.Around.{Around}
 use Rattle.ring_run.specs.Begun.{begun_as}
 use Rattle.ring_run.specs.Held.{IsHeld}
@@ -74,7 +74,7 @@ items_begun k waits (x ∷ xs) older =
         go false = there
 
 module _ {R : Type 0} {g : Ghosts R Bucket} (old new : Brigades R g) (i : Instance) (call begun : Call) (held : IsHeld old i call)
-    (idle : call.name ≡ 0) (over : (n : ℕ) → lists new n ≡ ring.upd (lists old) (next_name old) (Some []) n) (name : begun.name ≡ next_name old) (unset : (c : ℕ) → cursor_at begun c ≡ stand.Unset) where
+    (idle : call.name ≡ 0) (over : (n : ℕ) → lists new n ≡ ring.upd (lists old) (next_name old) (Some []) n) (name : begun.name ≡ next_name old) (unset : (c : ℕ) → cursor_at begun c ≡ cursor_value.Unset) where
   as_was : (n : ℕ) → n < next_name old → lists new n ≡ lists old n
   as_was n below = over n ∙ ring_off (lists old) (next_name old) n (Some []) (λ e. omega (arith, below, e))
 
@@ -113,7 +113,7 @@ module _ {R : Type 0} {g : Ghosts R Bucket} (old new : Brigades R g) (i : Instan
   held_begun next names pools free = record {
     apart = held.apart;
     loose = λ b e. (let a = held.named b (next_name old) (e ∙ ap (λ (n : ℕ). Some n) name) in omega (arith, a));
-    given = λ c id e. absurd (let x : stand.Unset ≡ stand.At id = sym (unset c) ∙ e in cc);
+    given = λ c id e. absurd (let x : cursor_value.Unset ≡ cursor_value.At id = sym (unset c) ∙ e in cc);
     named = λ b n e. (let a = held.named b n e in omega (arith, a, next));
     real = held.real;
     called = omega (arith, name, next);

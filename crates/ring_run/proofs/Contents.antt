@@ -10,7 +10,7 @@ use Rattle.std.specs.List.{list_any}
 use Rattle.run_model.specs.State.{items_of}
 use Rattle.run_model.specs.Faults.{homes_fault, send_fault, home_fault, keeps_stray, is_stray}
 use Rattle.run_model.specs.BrigadeLists.{bucket_across}
-use Rattle.module_lang.specs.declared.instr.Value.{Value}
+use Rattle.module_code.specs.declared.instr.Value.{Value}
 use Rattle.run_model.specs.Effects.{value_of}
 use Rattle.brigade_ops.specs.Items.{Items}
 use Rattle.ring_run.specs.declared.machine.Instance.{Instance}

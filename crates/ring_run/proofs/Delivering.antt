@@ -5,7 +5,7 @@ use Rattle.std.specs.Prelude.{if◌then◌else◌}
 use Rattle.std.proofs.lemmas.List.{append-nil, length-append}
 use Rattle.bucket_ring.specs.declared.names.BucketId.{BucketId}
 use Rattle.bucket_kinds.specs.Device.{Device, HasFailed}
-use Rattle.bucket_kinds.specs.Reading.{MayGive, MayEnd}
+use Rattle.bucket_kinds.specs.Reading.{MayGiveBytes, MayEnd}
 use Rattle.run_model.specs.declared.bucket.Bucket.{Bucket}
 use Rattle.run_model.specs.declared.bucket.Content.{Content}
 use Rattle.run_model.specs.declared.bucket.Content.TheVariants as content
@@ -75,12 +75,12 @@ module _ (d e : Device) (file : ℕ) (rs : Reads) (next : ℕ → Type 0) where
       (λ (le : 8000 ≤ m). subst (λ (k : ℕ). rest_given (m - k) (at + k) j) (let w : n ≡ 8000 = omega (arith, le, is) in w) h)
       (cases_lt m 8000)
 
-  step_given : (m at n j : ℕ) (bytes : List ℕ) → 0 < m → n ≡ min m 8000 → rs j ≡ Some bytes → MayGive (d.numbered file) at n bytes → rest_given (m - n) (at + n) (j + 1) → rest_given m at j
+  step_given : (m at n j : ℕ) (bytes : List ℕ) → 0 < m → n ≡ min m 8000 → rs j ≡ Some bytes → MayGiveBytes (d.numbered file) at n bytes → rest_given (m - n) (at + n) (j + 1) → rest_given m at j
   unfolding PartsGiven
   step_given m at n j bytes some is read gives h =
       subst (λ (p : ℕ). PartsGiven d e p file at m rs next j) (sym (parts_more m some))
       (subst (λ (o : Option (List ℕ)). PartGiven d e file at (min m read_limit) o (PartsGiven d e (parts_of (m - 8000)) file (at + read_limit) (m - read_limit) rs next (j + 1))) (sym read)
-      (subst (λ (k : ℕ). MayGive (d.numbered file) at k bytes) is gives, same_given m at n (j + 1) is h))
+      (subst (λ (k : ℕ). MayGiveBytes (d.numbered file) at k bytes) is gives, same_given m at n (j + 1) is h))
 
   failed_given : (m at n j : ℕ) → 0 < m → n ≡ min m 8000 → rs j ≡ None → HasFailed d e ⊎ ((e ≡ d) × MayEnd (d.numbered file) at n) → rest_given m at j
   unfolding PartsGiven
@@ -106,7 +106,7 @@ module _ (d : Device) (file start len : ℕ) where
         (subst (λ (i : ℕ). rest_given d last file rs (λ j. ReadsGiven d last bs rs j) (len - 0) (start + 0) i) (let e : k + 0 ≡ k = omega arith in e) rest));
   }
 
-  pub range_read : (count n past : ℕ) (front bytes more : List ℕ) → RangeSoFar d file start len count front → count < len → n ≡ min (len - count) 8000 → MayGive (d.numbered file) (start + count) n bytes → more ≡ front ++ bytes → past ≡ count + n
+  pub range_read : (count n past : ℕ) (front bytes more : List ℕ) → RangeSoFar d file start len count front → count < len → n ≡ min (len - count) 8000 → MayGiveBytes (d.numbered file) (start + count) n bytes → more ≡ front ++ bytes → past ≡ count + n
       → RangeSoFar d file start len past more
   range_read count n past front bytes more s below is gives grown on = record {
     reads = s.reads ++ Some bytes ∷ [];
@@ -169,10 +169,10 @@ fault_from d now e file at n k same span why =
     subst (λ (x : Device). HasFailed x e ⊎ ((e ≡ x) × MayEnd (x.numbered file) at n)) same
     (subst (λ (j : ℕ). HasFailed now e ⊎ ((e ≡ now) × MayEnd (now.numbered file) at j)) span why)
 
-pub gave_from : (d now : Device) (file at n k : ℕ) (bytes : List ℕ) → now ≡ d → k ≡ n → MayGive (now.numbered file) at k bytes → MayGive (d.numbered file) at n bytes
+pub gave_from : (d now : Device) (file at n k : ℕ) (bytes : List ℕ) → now ≡ d → k ≡ n → MayGiveBytes (now.numbered file) at k bytes → MayGiveBytes (d.numbered file) at n bytes
 gave_from d now file at n k bytes same span gave =
-    subst (λ (x : Device). MayGive (x.numbered file) at n bytes) same
-    (subst (λ (j : ℕ). MayGive (now.numbered file) at j bytes) span gave)
+    subst (λ (x : Device). MayGiveBytes (x.numbered file) at n bytes) same
+    (subst (λ (j : ℕ). MayGiveBytes (now.numbered file) at j bytes) span gave)
 
 -- Bytes in memory.
 

@@ -19,7 +19,7 @@ use Rattle.run_model.specs.declared.bucket.NamedBucket.{NamedBucket}
 use Rattle.run_model.specs.declared.payload.Payload.{Payload}
 use Rattle.run_model.specs.Buckets.{is_dead, is_ended}
 use Rattle.run_model.specs.BucketSteps.{content_at}
-use Rattle.run_model.specs.Cursors.{Spot, Nowhere, AtLoose, Within, AtEndOf, spot, bucket_at}
+use Rattle.run_model.specs.Cursors.{Place, Nowhere, AtLoose, Within, AtEndOf, spot, bucket_at}
 use Rattle.run_model.specs.Effects.{file_of, is_above, new_ref}
 use Rattle.run_model.specs.Faults.{home_fault, homes_fault}
 use Rattle.run_model.specs.Pools.{Pools}
@@ -30,7 +30,7 @@ use Rattle.run_model.proofs.Spots.{Stands, stands}
 use Rattle.brigade_ops.specs.Files.{times_in}
 use Rattle.brigade_ops.specs.House as house
 use Rattle.brigade_ops.specs.Items.{Items, named, file_for, count_for}
-use Rattle.ring_run.specs.Given.{HasOpen, HasOpenAlive, RangesOpen}
+use Rattle.ring_run.specs.Given.{RangeIsOpen, HasOpenAlive, RangesOpen}
 use Rattle.ring_run.specs.Seen.{shown}
 use Rattle.ring_run.proofs.Homes.{not_dead}
 
@@ -38,38 +38,38 @@ not_ended : (h : Home) → is_ended h ≡ false → h ≢ home.Ended
 not_ended h live e = false≢true (sym live ∙ ap is_ended e)
 
 -- what is opens where its home has not ended is opens
-alive_open : (d : Device) (x : NamedBucket) → HasOpenAlive d x → is_dead x ≡ false → HasOpen d x
+alive_open : (d : Device) (x : NamedBucket) → HasOpenAlive d x → is_dead x ≡ false → RangeIsOpen d x
 alive_open d x opens live = opens (not_ended x.bucket.home live)
 
 -- the bucket at a cursor
 pub open_spot : (d : Device) (r : Configuration) (c : ℕ) → RangesOpen d r → home_fault (bucket_at (spot r c)) ≡ None → IsOpenFor d (content_at (spot r c))
 open_spot d r c opens = go (spot r c) (stands r (r.call.cursors c)) where
-  go : (s : Spot) → Stands r s → home_fault (bucket_at s) ≡ None → IsOpenFor d (content_at s)
+  go : (s : Place) → Stands r s → home_fault (bucket_at s) ≡ None → IsOpenFor d (content_at s)
   go Nowhere at e = tt
   go (AtLoose x) at e = alive_open d x (of_named (HasOpenAlive d) x.name x r.call.loose at opens.loose) (not_dead x e)
   go (Within b x) at e = alive_open d x (of_named (HasOpenAlive d) x.name x (items_of (r.instance.brigades b)) at.1 (opens.brigades b)) (not_dead x e)
   go (AtEndOf b) at e = tt
 
-each_open : (d : Device) (xs : List NamedBucket) → All (HasOpenAlive d) xs → list_any is_dead xs ≡ false → All (HasOpen d) xs
-each_open d [] opens none = All-nil (HasOpen d)
+each_open : (d : Device) (xs : List NamedBucket) → All (HasOpenAlive d) xs → list_any is_dead xs ≡ false → All (RangeIsOpen d) xs
+each_open d [] opens none = All-nil (RangeIsOpen d)
 each_open d (y ∷ ys) opens none = go (is_dead y) refl none (each_open d ys (All-tail (HasOpenAlive d) y ys opens)) where
-  go : (t : Bool) → is_dead y ≡ t → (t || list_any is_dead ys) ≡ false → (list_any is_dead ys ≡ false → All (HasOpen d) ys) → All (HasOpen d) (y ∷ ys)
+  go : (t : Bool) → is_dead y ≡ t → (t || list_any is_dead ys) ≡ false → (list_any is_dead ys ≡ false → All (RangeIsOpen d) ys) → All (RangeIsOpen d) (y ∷ ys)
   go true dead f later = absurd (cc)
-  go false live f later = All-cons (HasOpen d) y ys (alive_open d y (All-head (HasOpenAlive d) y ys opens) live) (later f)
+  go false live f later = All-cons (RangeIsOpen d) y ys (alive_open d y (All-head (HasOpenAlive d) y ys opens) live) (later f)
 
 -- the buckets of a brigade
-pub open_items : (d : Device) (xs : List NamedBucket) → All (HasOpenAlive d) xs → homes_fault xs ≡ None → All (HasOpen d) xs
+pub open_items : (d : Device) (xs : List NamedBucket) → All (HasOpenAlive d) xs → homes_fault xs ≡ None → All (RangeIsOpen d) xs
 open_items d xs opens e = each_open d xs opens (none_dead (list_any is_dead xs) refl e) where
   none_dead : (t : Bool) → list_any is_dead xs ≡ t → (if t then Some F5 else None) ≡ None → list_any is_dead xs ≡ false
   none_dead true is f = absurd (cc)
   none_dead false is f = is
 
 -- one of them, by its name
-pub open_found : (d : Device) (runs : ℕ → Bool) (id : BucketId) (x : Bucket) (xs : Items) → All (HasOpen d) (shown runs xs) → found id xs ≡ Some x → IsOpenFor d x.content
+pub open_found : (d : Device) (runs : ℕ → Bool) (id : BucketId) (x : Bucket) (xs : Items) → All (RangeIsOpen d) (shown runs xs) → found id xs ≡ Some x → IsOpenFor d x.content
 open_found d runs id x [] opens is = absurd (cc)
-open_found d runs id x (y ∷ ys) opens is = go (same y.0 id) refl (open_found d runs id x ys (All-tail (HasOpen d) _ (shown runs ys) opens)) where
+open_found d runs id x (y ∷ ys) opens is = go (same y.0 id) refl (open_found d runs id x ys (All-tail (RangeIsOpen d) _ (shown runs ys) opens)) where
   go : (t : Bool) → same y.0 id ≡ t → (found id ys ≡ Some x → IsOpenFor d x.content) → IsOpenFor d x.content
-  go true hit later = let first : Some y.1 ≡ Some x = rw hit at is in let e : y.1 ≡ x = cc in subst (λ (z : Bucket). IsOpenFor d z.content) e (All-head (HasOpen d) _ (shown runs ys) opens)
+  go true hit later = let first : Some y.1 ≡ Some x = rw hit at is in let e : y.1 ≡ x = cc in subst (λ (z : Bucket). IsOpenFor d z.content) e (All-head (RangeIsOpen d) _ (shown runs ys) opens)
   go false miss later = later (rw miss at is)
 
 -- References.
@@ -105,20 +105,20 @@ refs_one d ps pool x old new counts opens all file held = go (file_for ps pool x
   ]
 
 -- A file of which setting aside takes references is opens.
-refs_open : (d : Device) (runs : ℕ → Bool) (ps : Pools Payload) (pool file : ℕ) (xs : Items) → All (HasOpen d) (shown runs xs) → 0 < times_in file (filter_map (new_ref ps pool) (named xs)) → is_there (d.numbered file) ≡ true
+refs_open : (d : Device) (runs : ℕ → Bool) (ps : Pools Payload) (pool file : ℕ) (xs : Items) → All (RangeIsOpen d) (shown runs xs) → 0 < times_in file (filter_map (new_ref ps pool) (named xs)) → is_there (d.numbered file) ≡ true
 unfolding times_in
 refs_open d runs ps pool file [] opens some = absurd (let n = some in omega (arith, n))
-refs_open d runs ps pool file (y ∷ ys) opens some = go (if is_above ps pool y.1.home then None else file_of y.1.kind y.1.content) refl (refs_open d runs ps pool file ys (All-tail (HasOpen d) _ (shown runs ys) opens)) some where
+refs_open d runs ps pool file (y ∷ ys) opens some = go (if is_above ps pool y.1.home then None else file_of y.1.kind y.1.content) refl (refs_open d runs ps pool file ys (All-tail (RangeIsOpen d) _ (shown runs ys) opens)) some where
   go : (o : Option ℕ) → (if is_above ps pool y.1.home then None else file_of y.1.kind y.1.content) ≡ o → (0 < times_in file (filter_map (new_ref ps pool) (named ys)) → is_there (d.numbered file) ≡ true)
       → 0 < times_in file (cons_option o (filter_map (new_ref ps pool) (named ys))) → is_there (d.numbered file) ≡ true
   go None is later more = later more
   go (Some f) is later more = elim (cases_eq f file) [
-    | inl e ↦ subst (λ (n : ℕ). is_there (d.numbered n) ≡ true) e (ref_open d (is_above ps pool y.1.home) y.1.kind y.1.content f is (All-head (HasOpen d) _ (shown runs ys) opens))
+    | inl e ↦ subst (λ (n : ℕ). is_there (d.numbered n) ≡ true) e (ref_open d (is_above ps pool y.1.home) y.1.kind y.1.content f is (All-head (RangeIsOpen d) _ (shown runs ys) opens))
     | inr ne ↦ later (rw (ne_eqb f file ne) at more)
   ]
 
 -- those of a brigade
-pub refs_all : (d : Device) (runs : ℕ → Bool) (ps : Pools Payload) (pool : ℕ) (xs : Items) (old new : ℕ → ℕ) → ((f : ℕ) → new f ≡ old f + times_in f (filter_map (new_ref ps pool) (named xs))) → All (HasOpen d) (shown runs xs)
+pub refs_all : (d : Device) (runs : ℕ → Bool) (ps : Pools Payload) (pool : ℕ) (xs : Items) (old new : ℕ → ℕ) → ((f : ℕ) → new f ≡ old f + times_in f (filter_map (new_ref ps pool) (named xs))) → All (RangeIsOpen d) (shown runs xs)
     → house.AreOpen old d → house.AreOpen new d
 refs_all d runs ps pool xs old new counts opens all file held = by_count (old file) refl where
   by_count : (n : ℕ) → old file ≡ n → is_there (d.numbered file) ≡ true

@@ -22,7 +22,7 @@ use Rattle.brigade_ops.specs.Items.{Items}
 use Rattle.ring_run.specs.declared.machine.Instance.{Instance}
 use Rattle.ring_run.specs.declared.machine.Call.{Call}
 use Rattle.ring_run.specs.declared.machine.Slot.TheVariants as slot
-use Rattle.ring_run.specs.declared.machine.Stand.TheVariants as stand
+use Rattle.ring_run.specs.declared.machine.CursorValue.TheVariants as cursor_value
 use Rattle.ring_run.specs.Around.{Around}
 use Rattle.ring_run.specs.Held.{HeldOver}
 use Rattle.ring_run.specs.Slots.{slot_at, cursor_at, name_in, SameButSlots}
@@ -71,11 +71,11 @@ module _ (L M : ℕ → Option Items) (i new : Instance) (call ended : Call)
   pub stays : (b n : ℕ) (pool : Option ℕ) (mark : Mark) → slot_at i b ≡ slot.Made n pool mark → M n ≡ L n
   stays b n pool mark is = over n ∙ ring_off L call.name n None (λ e. loose b (ap name_in is ∙ ap (λ (j : ℕ). Some j) e))
 
-  pub held_returned : (at new_at : BucketId → Option ℕ) (p q : ℕ → Option ℕ) (k l : ℕ) → l ≡ k → q ≡ p → p 0 ≡ None → ended.name ≡ 0 → ((c : ℕ) → cursor_at ended c ≡ stand.Unset) → HeldOver at L p k i call → HeldOver new_at M q l new ended
+  pub held_returned : (at new_at : BucketId → Option ℕ) (p q : ℕ → Option ℕ) (k l : ℕ) → l ≡ k → q ≡ p → p 0 ≡ None → ended.name ≡ 0 → ((c : ℕ) → cursor_at ended c ≡ cursor_value.Unset) → HeldOver at L p k i call → HeldOver new_at M q l new ended
   held_returned at new_at p q k l next pools free name unset held = record {
     apart = λ a b n e f. held.apart a b n (was_named a n e).1 (was_named b n f).1;
     loose = λ b e. (let pos = held.real b 0 ((was_named b 0 (e ∙ ap (λ (n : ℕ). Some n) name)).1) in omega (arith, pos));
-    given = λ c id e. absurd (let x : stand.Unset ≡ stand.At id = sym (unset c) ∙ e in cc);
+    given = λ c id e. absurd (let x : cursor_value.Unset ≡ cursor_value.At id = sym (unset c) ∙ e in cc);
     named = λ b n e. let a = held.named b n (was_named b n e).1 in omega (arith, a, next);
     real = λ b n e. held.real b n (was_named b n e).1;
     called = let a = held.called in omega (arith, a, next, name);
@@ -86,7 +86,7 @@ module _ (L M : ℕ → Option Items) (i new : Instance) (call ended : Call)
     incoming = λ n pool mark is. absurd ((was 8 n pool mark is).0 refl);
   }
 
-  pub seen_returned : (k l : ℕ) (around : Around) → l ≡ k → SameButSlots i new → L 0 ≡ None → 0 < call.name → ended.name ≡ 0 → ((c : ℕ) → cursor_at ended c ≡ stand.Unset) → ended.buffer ≡ [] → ended.pc ≡ call.pc
+  pub seen_returned : (k l : ℕ) (around : Around) → l ≡ k → SameButSlots i new → L 0 ≡ None → 0 < call.name → ended.name ≡ 0 → ((c : ℕ) → cursor_at ended c ≡ cursor_value.Unset) → ended.buffer ≡ [] → ended.pc ≡ call.pc
       → list_any (λ w. call.name == w) around.waits ≡ false → seen_over M l around new ended ≡ do_return (seen_over L k around i call)
   unfolding seen_over
   seen_returned k l around next same none pos name unset empty at other =

@@ -4,7 +4,7 @@ use Rattle.std.proofs.Math.Seq.{drop-append_seam, take-append_seam}
 use Rattle.std.proofs.lemmas.Bool.{cases_lt}
 use Rattle.std.proofs.lemmas.List.{append-nil, length-take-le, length-drop, nil_from_length, take-take, drop-take, drop-drop, take-append-drop}
 use Rattle.bucket_kinds.specs.Device.{Held, Missing, Untold, Holds, Device, HasFailed}
-use Rattle.bucket_kinds.specs.Reading.{MayGive, MayEnd}
+use Rattle.bucket_kinds.specs.Reading.{MayGiveBytes, MayEnd}
 use Rattle.run_model.specs.declared.bucket.Content.TheVariants as content
 use Rattle.ring_run.specs.Delivery.{ContentAdded, HasFront, SpanAdded, given_of}
 use Rattle.ring_run.specs.declared.output.Fetched.{Fetched}
@@ -12,19 +12,19 @@ use Rattle.ring_run.specs.declared.output.Fetched.TheVariants as fetched
 use Rattle.ring_run.proofs.Buffers.{behind, both_parts}
 use Rattle.ring_run.proofs.Delivering.{RangeSoFar, range_read, range_failed}
 
-given_len : (h : Held) (at n : ℕ) (bytes : List ℕ) → MayGive h at n bytes → length bytes ≡ n
+given_len : (h : Held) (at n : ℕ) (bytes : List ℕ) → MayGiveBytes h at n bytes → length bytes ≡ n
 given_len Missing at n bytes never = absurd never
 given_len Untold at n bytes is = is
 given_len (Holds text) at n bytes g = g.0
 
 -- the first bytes of those that were given
-give_first : (h : Held) (at m n : ℕ) (bytes : List ℕ) → m ≤ n → MayGive h at n bytes → MayGive h at m (take m bytes)
+give_first : (h : Held) (at m n : ℕ) (bytes : List ℕ) → m ≤ n → MayGiveBytes h at n bytes → MayGiveBytes h at m (take m bytes)
 give_first Missing at m n bytes le never = absurd never
 give_first Untold at m n bytes le is = length-take-le m bytes (omega (arith, le, is))
 give_first (Holds text) at m n bytes le g = (let long = g.0 in length-take-le m bytes (omega (arith, le, long)), ap (take m) g.1 ∙ take-take m n (drop at text) le)
 
 -- those behind them
-give_rest : (h : Held) (at m n k : ℕ) (bytes : List ℕ) → n ≡ m + k → MayGive h at n bytes → MayGive h (at + m) k (drop m bytes)
+give_rest : (h : Held) (at m n k : ℕ) (bytes : List ℕ) → n ≡ m + k → MayGiveBytes h at n bytes → MayGiveBytes h (at + m) k (drop m bytes)
 give_rest Missing at m n k bytes is never = absurd never
 give_rest Untold at m n k bytes is g = let all = length-drop m bytes in omega (arith, all, g, is)
 give_rest (Holds text) at m n k bytes is g = (
@@ -38,14 +38,14 @@ none_given fetched.Ended bytes _ = refl
 none_given fetched.Failed bytes _ = refl
 
 module _ (d : Device) (file start len : ℕ) where
-  span_none : (count n : ℕ) (front bytes : List ℕ) → RangeSoFar d file start len count front → n ≡ 0 → MayGive (d.numbered file) (start + count) n bytes → RangeSoFar d file start len (count + n) (front ++ bytes)
+  span_none : (count n : ℕ) (front bytes : List ℕ) → RangeSoFar d file start len count front → n ≡ 0 → MayGiveBytes (d.numbered file) (start + count) n bytes → RangeSoFar d file start len (count + n) (front ++ bytes)
   span_none count n front bytes s none gives =
       subst (λ (c : ℕ). RangeSoFar d file start len c (front ++ bytes)) (let e : count ≡ count + n = omega (arith, none) in e)
       (subst (λ (bs : List ℕ). RangeSoFar d file start len count bs)
       (sym (ap (λ (bs : List ℕ). front ++ bs) (nil_from_length bytes (given_len (d.numbered file) (start + count) n bytes gives ∙ none)) ∙ append-nil front)) s)
 
   -- So many bytes are those of k reads, or of fewer at the end of the range.
-  pub span_read : (k count n : ℕ) (front bytes : List ℕ) → RangeSoFar d file start len count front → n ≡ min (len - count) (8000 * k) → MayGive (d.numbered file) (start + count) n bytes → RangeSoFar d file start len (count + n) (front ++ bytes)
+  pub span_read : (k count n : ℕ) (front bytes : List ℕ) → RangeSoFar d file start len count front → n ≡ min (len - count) (8000 * k) → MayGiveBytes (d.numbered file) (start + count) n bytes → RangeSoFar d file start len (count + n) (front ++ bytes)
   span_read zero count n front bytes s is gives = span_none count n front bytes s (omega (arith, is)) gives
   span_read (suc k) count n front bytes s is gives =
       ⊎_elim
@@ -56,7 +56,7 @@ module _ (d : Device) (file start len : ℕ) where
       let first = range_read d file start len count m (count + m) front (take m bytes) (front ++ take m bytes) s below refl (give_first (d.numbered file) (start + count) m n bytes within gives) refl refl in
       let on : start + count + m ≡ start + (count + m) = omega arith in
       let later = span_read k (count + m) (n - m) (front ++ take m bytes) (drop m bytes) first (omega (arith, is, below))
-      (subst (λ (at : ℕ). MayGive (d.numbered file) at (n - m) (drop m bytes)) on (give_rest (d.numbered file) (start + count) m n (n - m) bytes parts gives)) in
+      (subst (λ (at : ℕ). MayGiveBytes (d.numbered file) at (n - m) (drop m bytes)) on (give_rest (d.numbered file) (start + count) m n (n - m) bytes parts gives)) in
       subst (λ (c : ℕ). RangeSoFar d file start len c (front ++ bytes)) (let e : count + m + (n - m) ≡ count + n = omega (arith, within) in e)
       (subst (λ (bs : List ℕ). RangeSoFar d file start len (count + m + (n - m)) bs)
       (append_assoc front (take m bytes) (drop m bytes) ∙ ap (λ (bs : List ℕ). front ++ bs) (take-append-drop m bytes)) later))
@@ -75,7 +75,7 @@ module _ (d : Device) (file start len : ℕ) where
     span_all k limit fetched.All of is a _ =
         let kept : List ℕ = drop (length before) out in
         let all : new ≡ before ++ (kept ++ a.added) = behind before out a.added new front a.grown in
-        let gives : MayGive (d.numbered file) (start + count) n a.added = subst (λ (x : Device). MayGive (x.numbered file) (start + count) n a.added) same a.fetched_so.0 in (
+        let gives : MayGiveBytes (d.numbered file) (start + count) n a.added = subst (λ (x : Device). MayGiveBytes (x.numbered file) (start + count) n a.added) same a.fetched_so.0 in (
           ap (take (length before)) all ∙ take-append_seam before (kept ++ a.added),
           a.fetched_so.1 ∙ same,
           subst (λ (bs : List ℕ). RangeSoFar d file start len (count + n) bs) (sym (ap (drop (length before)) all ∙ drop-append_seam before (kept ++ a.added)))

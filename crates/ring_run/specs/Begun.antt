@@ -2,7 +2,7 @@
 use Rattle.std.specs.Prelude.{◌≡◌, ℕ, ◌+◌, []}
 use Rattle.run_model.specs.State.{Configuration, fresh_call}
 use Rattle.ring_run.specs.declared.machine.Call.{Call}
-use Rattle.ring_run.specs.declared.machine.Stand.TheVariants as stand
+use Rattle.ring_run.specs.declared.machine.CursorValue.TheVariants as cursor_value
 use Rattle.ring_run.specs.Slots.{cursor_at}
 
 -- a call of the next name, at this instruction
@@ -12,6 +12,6 @@ begun_as pc r = record r { call = fresh_call r.shared.next; shared = record r.sh
 -- a call of this name as it begins at an instruction
 pub record IsBegun (name pc : ℕ) (call : Call) : Type 0 where
   pub named : call.name ≡ name
-  pub cursors : (c : ℕ) → cursor_at call c ≡ stand.Unset
+  pub cursors : (c : ℕ) → cursor_at call c ≡ cursor_value.Unset
   pub buffer : call.buffer ≡ []
   pub at : call.pc ≡ pc

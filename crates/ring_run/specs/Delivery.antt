@@ -1,7 +1,7 @@
 -- What the end of the chain takes of a brigade, and what the device gives to its reads.
 use Rattle.std.specs.Prelude.{◌≡◌, ◌⊎◌, ℕ, zero, suc, ◌+◌, ◌-◌, Bool, true, false, min, List, [], ◌∷◌, ◌++◌, length, take, Option, Some, None}
 use Rattle.bucket_kinds.specs.Device.{Device, HasFailed}
-use Rattle.bucket_kinds.specs.Reading.{MayGive, MayEnd}
+use Rattle.bucket_kinds.specs.Reading.{MayGiveBytes, MayEnd}
 use Rattle.run_model.specs.declared.bucket.Content.{Content}
 use Rattle.run_model.specs.declared.bucket.Content.TheVariants as content
 use Rattle.run_model.specs.declared.bucket.NamedBucket.{NamedBucket}
@@ -21,7 +21,7 @@ IfElse false P Q = Q
 
 -- What one read of n bytes of a file may give. Where it fails the device is e, and no other read follows; else `next` is so.
 abbrev pub PartGiven : Device → Device → ℕ → ℕ → ℕ → Option (List ℕ) → Type 0 → Type 0
-PartGiven d e file start n (Some bytes) next = MayGive (d.numbered file) start n bytes × next
+PartGiven d e file start n (Some bytes) next = MayGiveBytes (d.numbered file) start n bytes × next
 PartGiven d e file start n None next = HasFailed d e ⊎ ((e ≡ d) × MayEnd (d.numbered file) start n)
 
 -- a range in so many reads, of which the first has the number k; `next` says the same of what follows
@@ -90,7 +90,7 @@ given_of fetched.Failed bytes = []
 
 -- What became of n bytes of a file that were asked for, from a place on.
 abbrev pub IsFetched : Device → Device → ℕ → ℕ → ℕ → List ℕ → Fetched → Type 0
-IsFetched d e file at n bytes fetched.All = MayGive (d.numbered file) at n bytes × (e ≡ d)
+IsFetched d e file at n bytes fetched.All = MayGiveBytes (d.numbered file) at n bytes × (e ≡ d)
 IsFetched d e file at n bytes fetched.Ended = MayEnd (d.numbered file) at n × (e ≡ d)
 IsFetched d e file at n bytes fetched.Failed = HasFailed d e
 

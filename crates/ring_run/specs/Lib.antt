@@ -4,7 +4,7 @@ pub mod Held
 pub mod Seen
 pub mod Places
 pub mod Ends
-pub mod Footings
+pub mod Needs
 pub mod Outside
 pub mod Shown
 pub mod Tests

@@ -15,7 +15,7 @@ ghost use Rattle.ring_run.specs.LeftAlone.{LeavesRest};
 ghost use Rattle.ring_run.specs.Seen.{seen};
 
 use crate::machine::{Call, Instance};
-use crate::spots::{Spot, place_of};
+use crate::places::{Place, place_of};
 use brigade_ops::{Brigades, PoolId, PoolTree, Rings};
 use run_model::{Bucket, Payload};
 use std::alloc::AllocError;
@@ -43,8 +43,8 @@ pub(crate) fn aside<R: Rings<Bucket> + Drop>(
         → AreOpen (references store.old) d → AreOpen (references store.new) d }
 {
     match place_of(instance, call, store, c) {
-        Spot::Within(_, id) => store.aside(tree, id, pool),
-        Spot::Loose(id) => store.aside(tree, id, pool),
-        Spot::Nowhere | Spot::End(_) => Ok(()),
+        Place::Within(_, id) => store.aside(tree, id, pool),
+        Place::Loose(id) => store.aside(tree, id, pool),
+        Place::Nowhere | Place::End(_) => Ok(()),
     }
 }

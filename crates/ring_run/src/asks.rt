@@ -1,7 +1,7 @@
 //! What is asked of the state before an instruction runs: the tests that decide where it leads, and whether there are names enough.
 
 ghost use Rattle.std.specs.Prelude.{◌≡◌, ◌<◌, ◌≤◌, ℕ, true, is_some, IfSome, length};
-ghost use Rattle.module_lang.specs.Program.{fits, is_variable};
+ghost use Rattle.module_code.specs.Program.{fits, is_variable};
 ghost use Rattle.run_model.specs.BrigadeLists.{is_short, split_refusal};
 ghost use Rattle.run_model.specs.BucketSteps.{has_rest, is_of_kind, is_unsplit, items_at, kind_is, names_to_part, names_to_read, names_to_split};
 ghost use Rattle.run_model.specs.Cursors.{bucket_at as model_bucket_at, is_end, spot};
@@ -24,8 +24,8 @@ use crate::effects::live;
 use crate::home_wants::bucket_of;
 use crate::machine::{Call, Instance, Slot};
 use crate::outside::Outside;
+use crate::places::{Place, place_of};
 use crate::pool_wants;
-use crate::spots::{Spot, place_of};
 use crate::values::value_of;
 use brigade_ops::{Brigades, Bucket, BucketId, Content, Kind, Rings};
 use bucket_kinds::length;
@@ -45,7 +45,7 @@ pub(crate) fn is_end<R: Rings<Bucket> + Drop>(
     requires held { IsHeld store.now instance.now call.now }
     ensures { (around : Around) → result ≡ is_end (spot (seen store.now around instance.now call.now) c) }
 {
-    matches!(place_of(instance, call, store, c), Spot::End(_))
+    matches!(place_of(instance, call, store, c), Place::End(_))
 }
 
 /// The bucket of a brigade at which a cursor stands.
@@ -61,10 +61,10 @@ fn bucket_within<R: Rings<Bucket> + Drop>(
     ensures there { IfSome result (λ id. is_some (brigade_of store.now id) ≡ true) }
 {
     match place_of(instance, call, store, c) {
-        Spot::Within(_, id) => Some(id),
-        Spot::Loose(_) => None,
-        Spot::Nowhere => None,
-        Spot::End(_) => None,
+        Place::Within(_, id) => Some(id),
+        Place::Loose(_) => None,
+        Place::Nowhere => None,
+        Place::End(_) => None,
     }
 }
 

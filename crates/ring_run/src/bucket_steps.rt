@@ -10,7 +10,7 @@ ghost use Rattle.ring_run.specs.Seen.{seen};
 
 use crate::effects::live;
 use crate::machine::{Call, Instance};
-use crate::spots::{Spot, place_of};
+use crate::places::{Place, place_of};
 use brigade_ops::{Brigades, Bucket, Rings};
 use std::alloc::AllocError;
 
@@ -30,8 +30,8 @@ pub(crate) fn unlink<R: Rings<Bucket> + Drop>(
     ensures left { LeavesOthers store.old store.new instance.now call.now }
 {
     match place_of(instance, call, store, c) {
-        Spot::Within(_, id) => store.move_tail(call.name, id),
-        Spot::Nowhere | Spot::Loose(_) | Spot::End(_) => Ok(()),
+        Place::Within(_, id) => store.move_tail(call.name, id),
+        Place::Nowhere | Place::Loose(_) | Place::End(_) => Ok(()),
     }
 }
 
@@ -49,9 +49,9 @@ pub(crate) fn delete<R: Rings<Bucket> + Drop>(
     ensures left { LeavesOthers store.old store.new instance.now call.now }
 {
     match place_of(instance, call, store, c) {
-        Spot::Within(_, id) => store.drop_bucket(id),
-        Spot::Loose(id) => store.drop_bucket(id),
-        Spot::Nowhere | Spot::End(_) => {}
+        Place::Within(_, id) => store.drop_bucket(id),
+        Place::Loose(id) => store.drop_bucket(id),
+        Place::Nowhere | Place::End(_) => {}
     }
 }
 
@@ -71,7 +71,7 @@ pub(crate) fn tail<R: Rings<Bucket> + Drop>(
     ensures held { IsHeld store.new instance.now call.now }
     ensures left { LeavesOthers store.old store.new instance.now call.now }
 {
-    let Spot::Loose(id) = place_of(instance, call, store, c) else {
+    let Place::Loose(id) = place_of(instance, call, store, c) else {
         return Ok(());
     };
     let Some(to) = live(instance, store, b) else {
@@ -97,7 +97,7 @@ pub(crate) fn head<R: Rings<Bucket> + Drop>(
     ensures held { IsHeld store.new instance.now call.now }
     ensures left { LeavesOthers store.old store.new instance.now call.now }
 {
-    let Spot::Loose(id) = place_of(instance, call, store, c) else {
+    let Place::Loose(id) = place_of(instance, call, store, c) else {
         return Ok(());
     };
     let Some(to) = live(instance, store, b) else {
@@ -127,7 +127,7 @@ pub(crate) fn before<R: Rings<Bucket> + Drop>(
         place_of(instance, call, store, c),
         place_of(instance, call, store, d),
     ) {
-        (Spot::Loose(id), Spot::Within(_, at)) => store.move_before(at, id),
+        (Place::Loose(id), Place::Within(_, at)) => store.move_before(at, id),
         _ => Ok(()),
     }
 }

@@ -12,7 +12,7 @@ ghost use Rattle.ring_run.specs.Held.{IsHeld};
 ghost use Rattle.ring_run.specs.Seen.{seen};
 ghost use Rattle.ring_run.specs.Slots.{cursor_at, slot_at, SameButSlots};
 
-use crate::machine::{Call, Instance, Slot, Stand};
+use crate::machine::{Call, CursorValue, Instance, Slot};
 use brigade_ops::{BrigadeId, Brigades, Bucket, RingRefusal, Rings};
 
 impl Call {
@@ -20,12 +20,12 @@ impl Call {
     #[tactic(auto, unfolding(crate::specs::Slots::cursor_at))]
     pub fn start(&mut self, name: BrigadeId, pc: usize)
         ensures name { self.new.name ≡ name }
-        ensures cursors { (c : ℕ) → cursor_at self.new c ≡ Stand.Unset }
+        ensures cursors { (c : ℕ) → cursor_at self.new c ≡ CursorValue.Unset }
         ensures buffer { self.new.buffer ≡ [] }
         ensures pc { self.new.pc ≡ pc }
     {
         self.name = name;
-        self.cursors = [Stand::Unset; 9];
+        self.cursors = [CursorValue::Unset; 9];
         self.buffer.clear();
         self.pc = pc;
     }
@@ -46,12 +46,12 @@ impl Call {
     #[tactic(auto, unfolding(crate::specs::Slots::cursor_at))]
     fn end(&mut self)
         ensures name { self.new.name ≡ 0 }
-        ensures cursors { (c : ℕ) → cursor_at self.new c ≡ Stand.Unset }
+        ensures cursors { (c : ℕ) → cursor_at self.new c ≡ CursorValue.Unset }
         ensures buffer { self.new.buffer ≡ [] }
         ensures pc { self.new.pc ≡ self.old.pc }
     {
         self.name = 0;
-        self.cursors = [Stand::Unset; 9];
+        self.cursors = [CursorValue::Unset; 9];
         self.buffer.clear();
     }
 }
@@ -105,7 +105,7 @@ pub fn end_call<R: Rings<Bucket> + Drop>(
     ensures slots { (a : ℕ) → slot_at instance.new a ≡ (if a == 8 then Slot.Null else slot_at instance.old a) }
     ensures rest { SameButSlots instance.old instance.new }
     ensures name { call.new.name ≡ 0 }
-    ensures cursors { (c : ℕ) → cursor_at call.new c ≡ Stand.Unset }
+    ensures cursors { (c : ℕ) → cursor_at call.new c ≡ CursorValue.Unset }
     ensures buffer { call.new.buffer ≡ [] }
     ensures pc { call.new.pc ≡ call.old.pc }
 {

@@ -1,7 +1,7 @@
 //! What makes a brigade (apr_brigade_create).
 
 ghost use Rattle.std.specs.Prelude.{◌≡◌, ◌<◌, Some, IsTrue, OnOk, OnErr};
-ghost use Rattle.module_lang.specs.Program.{Program, pool_of_brigade};
+ghost use Rattle.module_code.specs.Program.{Program, pool_of_brigade};
 ghost use Rattle.run_model.specs.Pools.{is_live};
 ghost use Rattle.run_model.specs.State.{pool_named};
 ghost use Rattle.run_model.specs.Steps.{do_create};

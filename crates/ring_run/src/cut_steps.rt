@@ -14,22 +14,26 @@ ghost use Rattle.ring_run.specs.Slots.{slot_at, name_in};
 ghost use Rattle.ring_run.specs.Seen.{seen, seen_over, shown_cursor};
 
 use crate::effects::live;
-use crate::machine::{Call, Instance, Stand};
-use crate::spots::{Spot, place_of};
+use crate::machine::{Call, CursorValue, Instance};
+use crate::places::{Place, place_of};
 use brigade_ops::{Brigades, Bucket, BucketId, Rings};
 
 /// The first place of a brigade: its first bucket or its end.
-fn first_stand<R: Rings<Bucket> + Drop>(instance: &Instance, store: &Brigades<R>, b: u8) -> Stand
+fn first_cursor_value<R: Rings<Bucket> + Drop>(
+    instance: &Instance,
+    store: &Brigades<R>,
+    b: u8,
+) -> CursorValue
     requires { b < 9 }
     ensures place { (around : Around) (call : Call) → let r = seen store.now around instance.now call in shown_cursor result ≡ cursor_at (r.instance.brigades b) (first_place (items_at r b)) }
-    ensures given { (id : BucketId) → result ≡ Stand.At id → WasGiven store.now id }
+    ensures given { (id : BucketId) → result ≡ CursorValue.At id → WasGiven store.now id }
 {
     let Some(name) = live(instance, store, b) else {
-        return Stand::Unset;
+        return CursorValue::Unset;
     };
     match store.first(name) {
-        Some(id) => Stand::At(id),
-        None => Stand::End(name),
+        Some(id) => CursorValue::At(id),
+        None => CursorValue::End(name),
     }
 }
 
@@ -48,20 +52,20 @@ pub(crate) fn first<R: Rings<Bucket> + Drop>(
     ensures held { IsHeld store.now instance.now call.new }
     ensures name { call.new.name ≡ call.old.name }
 {
-    let stand = first_stand(instance, store, b);
-    call.set_cursor(c, stand);
+    let cursor_value = first_cursor_value(instance, store, b);
+    call.set_cursor(c, cursor_value);
 }
 
 /// The place behind a bucket: the next bucket, or the end of its brigade.
-fn stand_behind<R: Rings<Bucket> + Drop>(store: &Brigades<R>, id: BucketId) -> Stand
+fn cursor_value_after<R: Rings<Bucket> + Drop>(store: &Brigades<R>, id: BucketId) -> CursorValue
     requires { is_some (brigade_of store.now id) ≡ true }
     ensures place { (around : Around) (i : Instance) (call : Call) (b n : ℕ) → name_in (slot_at i b) ≡ Some n → brigade_of store.now id ≡ Some n
         → let r = seen store.now around i call in shown_cursor result ≡ cursor_at (r.instance.brigades b) (next_place id.birth (items_at r b)) }
-    ensures given { (j : BucketId) → result ≡ Stand.At j → WasGiven store.now j }
+    ensures given { (j : BucketId) → result ≡ CursorValue.At j → WasGiven store.now j }
 {
     match store.next(id) {
-        Ok(next) => Stand::At(next),
-        Err(name) => Stand::End(name),
+        Ok(next) => CursorValue::At(next),
+        Err(name) => CursorValue::End(name),
     }
 }
 
@@ -81,10 +85,10 @@ pub(crate) fn next<R: Rings<Bucket> + Drop>(
     ensures name { call.new.name ≡ call.old.name }
 {
     match place_of(instance, call, store, c) {
-        Spot::Within(_, id) => {
-            let stand = stand_behind(store, id);
-            call.set_cursor(d, stand);
+        Place::Within(_, id) => {
+            let cursor_value = cursor_value_after(store, id);
+            call.set_cursor(d, cursor_value);
         }
-        Spot::Nowhere | Spot::Loose(_) | Spot::End(_) => {}
+        Place::Nowhere | Place::Loose(_) | Place::End(_) => {}
     }
 }

@@ -5,7 +5,7 @@ ghost use Rattle.run_model.specs.Steps.{do_clean, do_concat};
 ghost use Rattle.brigade_ops.specs.Store.{lists};
 ghost use Rattle.ring_run.specs.declared.machine.Call.{Call};
 ghost use Rattle.ring_run.specs.Around.{Around};
-ghost use Rattle.ring_run.specs.Held.{AreApart, IsHeld};
+ghost use Rattle.ring_run.specs.Held.{VariablesApart, IsHeld};
 ghost use Rattle.ring_run.specs.LeftAlone.{LeavesOthers};
 ghost use Rattle.ring_run.specs.Slots.{live_in, name_in, slot_at};
 ghost use Rattle.ring_run.specs.Seen.{seen};
@@ -40,7 +40,7 @@ pub(crate) fn concat<R: Rings<Bucket> + Drop>(
     requires first { a < 9 }
     requires second { b < 9 }
     requires apart { a ≢ b }
-    requires held { AreApart instance.now }
+    requires held { VariablesApart instance.now }
     ensures ok { OnOk result ((around : Around) (call : Call) → IsHeld store.old instance.now call → seen store.new around instance.now call ≡ do_concat a b (seen store.old around instance.now call)) }
     ensures err { OnErr result ((around : Around) (call : Call) → seen store.new around instance.now call ≡ seen store.old around instance.now call) }
     ensures held { (call : Call) → IsHeld store.old instance.now call → IsHeld store.new instance.now call }

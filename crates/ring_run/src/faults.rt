@@ -5,7 +5,7 @@ ghost use Rattle.run_model.specs.Faults.{WBrigade, WUsable, WNew, fault_want, or
 ghost use Rattle.brigade_ops.specs.Store.{lists};
 ghost use Rattle.ring_run.specs.declared.machine.Call.{Call};
 ghost use Rattle.ring_run.specs.Around.{Around};
-ghost use Rattle.ring_run.specs.Footings.{bare, mark_in};
+ghost use Rattle.ring_run.specs.Needs.{bare, mark_in};
 ghost use Rattle.ring_run.specs.Seen.{seen};
 ghost use Rattle.ring_run.specs.Slots.{slot_at};
 

@@ -16,7 +16,7 @@ ghost use Rattle.ring_run.specs.Shown.{shown_at};
 
 use crate::machine::{Call, Instance};
 use crate::outside::Outside;
-use crate::spots::{Spot, place_of};
+use crate::places::{Place, place_of};
 use brigade_ops::{BrigadeId, Brigades, Bucket, BucketId, Rings};
 use run_model::{FaultKind, Home};
 
@@ -87,9 +87,9 @@ pub(crate) fn bucket_of<R: Rings<Bucket> + Drop>(
     ensures there { IfSome result (λ id. is_some (brigade_of store.now id) ≡ true) }
 {
     match place_of(instance, call, store, c) {
-        Spot::Within(_, id) => Some(id),
-        Spot::Loose(id) => Some(id),
-        Spot::Nowhere | Spot::End(_) => None,
+        Place::Within(_, id) => Some(id),
+        Place::Loose(id) => Some(id),
+        Place::Nowhere | Place::End(_) => None,
     }
 }
 

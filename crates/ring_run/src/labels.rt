@@ -49,7 +49,7 @@ fn keep_labels(ran: &mut Vec<(PoolId, Payload)>)
 }
 
 /// Adds the labels among what a clear handed on, where there is room. Where there are none, nothing is added.
-pub fn hand_on(handed: &mut Vec<Vec<(PoolId, Payload)>>, ran: Vec<(PoolId, Payload)>)
+pub fn add_labels(handed: &mut Vec<Vec<(PoolId, Payload)>>, ran: Vec<(PoolId, Payload)>)
     requires { vec_len handed.old < vec_capacity handed.old }
     ensures told { labels_handed handed.new.items ≡ labels_handed handed.old.items ++ labels_in ran.items }
     ensures none { labels_in ran.items ≡ [] → handed.new.items ≡ handed.old.items }

@@ -1,7 +1,7 @@
 //! Which instruction comes next.
 
 ghost use Rattle.std.specs.Prelude.{◌≡◌, ◌<◌, ◌^◌, unwrap_or};
-ghost use Rattle.module_lang.specs.Program.{target};
+ghost use Rattle.module_code.specs.Program.{target};
 ghost use Rattle.run_model.specs.Chains.{led_to};
 
 use run_model::{Exit, Instr};

@@ -23,7 +23,7 @@ pub enum Slot {
 
 /// A cursor.
 #[derive(Clone, Copy)]
-pub enum Stand {
+pub enum CursorValue {
     /// It was not set.
     Unset,
     /// The bucket of this name.
@@ -47,7 +47,7 @@ pub struct Instance {
 #[derive(Drop)]
 pub struct Call {
     pub name: BrigadeId,
-    pub cursors: [Stand; 9],
+    pub cursors: [CursorValue; 9],
     pub buffer: Seq<u8>,
     pub pc: usize,
 }
@@ -125,13 +125,13 @@ impl Call {
     /// No call, as it is between calls.
     #[tactic(auto, unfolding(crate::specs::Slots::cursor_at))]
     pub fn none(alloc: Global) -> Self
-        ensures cursors { (c : ℕ) → cursor_at result c ≡ Stand.Unset }
+        ensures cursors { (c : ℕ) → cursor_at result c ≡ CursorValue.Unset }
         ensures name { result.name ≡ 0 }
         ensures held { (at : BucketId → Option ℕ) (rings : ℕ → Option Items) (pools : ℕ → Option ℕ) (next : ℕ) (i : Instance) → ((b : ℕ) → slot_at i b ≡ Slot.Null) → 0 < next → pools 0 ≡ None → HeldOver at rings pools next i result }
     {
         Call {
             name: 0,
-            cursors: [Stand::Unset; 9],
+            cursors: [CursorValue::Unset; 9],
             buffer: Seq::new(alloc),
             pc: 0,
         }
@@ -139,7 +139,7 @@ impl Call {
 
     /// A cursor.
     #[tactic(auto, unfolding(crate::specs::Slots::cursor_at))]
-    pub fn cursor(&self, c: u8) -> Stand
+    pub fn cursor(&self, c: u8) -> CursorValue
         requires { c < 9 }
         ensures { result ≡ cursor_at self.now c }
     {
@@ -148,12 +148,12 @@ impl Call {
 
     /// Sets a cursor.
     #[tactic(auto, unfolding(crate::specs::Seen::seen_over, crate::specs::Slots::cursor_at, run_model::specs::State::set_cursor, run_model::specs::Indexed::upd))]
-    pub fn set_cursor(&mut self, c: u8, stand: Stand)
+    pub fn set_cursor(&mut self, c: u8, cursor_value: CursorValue)
         requires { c < 9 }
-        ensures seen { (rings : ℕ → Option Items) (next : ℕ) (around : Around) (i : Instance) → seen_over rings next around i self.new ≡ set_cursor c (shown_cursor stand) (seen_over rings next around i self.old) }
-        ensures cursors { (d : ℕ) → cursor_at self.new d ≡ (if d == c then stand else cursor_at self.old d) }
+        ensures seen { (rings : ℕ → Option Items) (next : ℕ) (around : Around) (i : Instance) → seen_over rings next around i self.new ≡ set_cursor c (shown_cursor cursor_value) (seen_over rings next around i self.old) }
+        ensures cursors { (d : ℕ) → cursor_at self.new d ≡ (if d == c then cursor_value else cursor_at self.old d) }
         ensures name { self.new.name ≡ self.old.name }
     {
-        self.cursors[usize::from(c)] = stand;
+        self.cursors[usize::from(c)] = cursor_value;
     }
 }

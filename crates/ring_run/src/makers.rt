@@ -10,7 +10,7 @@ ghost use Rattle.ring_run.specs.Held.{IsHeld};
 ghost use Rattle.ring_run.specs.LeftAlone.{LeavesOthers};
 ghost use Rattle.ring_run.specs.Seen.{seen, bucket_in, calls_in};
 
-use crate::machine::{Call, Stand};
+use crate::machine::{Call, CursorValue};
 use brigade_ops::{Brigades, PoolId, Rings};
 use run_model::{Bucket, Content, Home, Kind, Module, Seq};
 use std::alloc::{AllocError, Global};
@@ -34,12 +34,12 @@ fn add_loose<R: Rings<Bucket> + Drop>(
     let Ok(id) = store.add_tail(call.name, bucket) else {
         return Err(AllocError);
     };
-    call.set_cursor(c, Stand::At(id));
+    call.set_cursor(c, CursorValue::At(id));
     Ok(())
 }
 
 /// The bytes of a text operand, or where there is no memory none.
-#[tactic(auto, unfolding(run_model::specs::Steps::text_of, module_lang::specs::Program::text_at))]
+#[tactic(auto, unfolding(run_model::specs::Steps::text_of, module_code::specs::Program::text_at))]
 pub(crate) fn text(alloc: Global, code: &Module, text: u8) -> Result<Seq<u8>, AllocError>
     requires { text < length code.now.texts }
     ensures { IfOk result (λ bytes. bytes ≡ text_of code.now text) }

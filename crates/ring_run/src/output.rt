@@ -17,7 +17,7 @@ ghost use Rattle.ring_run.specs.Delivery.{ContentAdded, HasFront, IsFetched, Ite
 ghost use Rattle.ring_run.specs.declared.machine.Call.{Call};
 ghost use Rattle.ring_run.specs.Around.{Around};
 ghost use Rattle.ring_run.specs.Ends.{EndInFiles};
-ghost use Rattle.ring_run.specs.Given.{HasOpen};
+ghost use Rattle.ring_run.specs.Given.{RangeIsOpen};
 ghost use Rattle.ring_run.specs.Held.{IsHeld};
 ghost use Rattle.ring_run.specs.LeftAlone.{LeavesOthers};
 ghost use Rattle.ring_run.specs.Slots.{live_in, marked, slot_at};
@@ -147,7 +147,7 @@ fn add_all<R: Rings<Bucket> + Drop, F: Files>(
 
 /// Adds the bytes of a brigade before its first EOS to the output, up to a read that fails, and tells whether none did. An EOS ends the
 /// output, also behind a read that failed, and what comes after it is ignored. Without memory nothing is changed; parts may have been read.
-pub fn deliver<R: Rings<Bucket> + Drop, F: Files>(
+pub fn add_brigade<R: Rings<Bucket> + Drop, F: Files>(
     store: &Brigades<R>,
     files: &mut F,
     b: BrigadeId,
@@ -203,7 +203,7 @@ pub fn pass_out<R: Rings<Bucket> + Drop, F: Files>(
     requires slot { b < 9 }
     requires live { is_some (live_in (lists store.old) (slot_at instance.old b)) ≡ true }
     requires ends { EndInFiles store.old instance.old }
-    requires open { (around : Around) × (call : Call) × All (HasOpen (F.device files.old)) (items_of ((seen store.old around instance.old call).instance.brigades b)) }
+    requires open { (around : Around) × (call : Call) × All (RangeIsOpen (F.device files.old)) (items_of ((seen store.old around instance.old call).instance.brigades b)) }
     ensures delivered { IfOk result (λ well. (around : Around) (call : Call) → WasDelivered (F.device files.old) (F.device files.new) (out_of out.old ended.old) (items_of ((seen store.old around instance.old call).instance.brigades b)) (out_of out.new ended.new) well) }
     ensures passed { OnOk result ((around : Around) (call : Call) → IsHeld store.old instance.old call → seen store.new around instance.new call ≡ do_pass b (seen store.old around instance.old call)) }
     ensures held { (call : Call) → IsHeld store.old instance.old call → IsHeld store.new instance.new call }
@@ -218,7 +218,7 @@ pub fn pass_out<R: Rings<Bucket> + Drop, F: Files>(
     let Some(name) = live(instance, store, b) else {
         unreachable!()
     };
-    let well = deliver(store, files, name, out, ended)?;
+    let well = add_brigade(store, files, name, out, ended)?;
     empty_passed(instance, store, b);
     Ok(well)
 }

@@ -13,13 +13,13 @@ ghost use Rattle.ring_run.specs.Around.{Around};
 ghost use Rattle.ring_run.specs.Ends.{EndInFiles};
 ghost use Rattle.ring_run.specs.Held.{IsHeld};
 ghost use Rattle.ring_run.specs.LeftAlone.{LeavesOthers};
-ghost use Rattle.ring_run.specs.Places.{stand_of};
+ghost use Rattle.ring_run.specs.Places.{cursor_value_of};
 ghost use Rattle.ring_run.specs.Slots.{live_in, name_in, slot_at};
 ghost use Rattle.ring_run.specs.Seen.{seen, shown, calls_in};
 
 use crate::effects::live;
-use crate::machine::{Call, Instance, Stand};
-use crate::spots::{Spot, place_of};
+use crate::machine::{Call, CursorValue, Instance};
+use crate::places::{Place, place_of};
 use crate::values::value_of;
 use brigade_ops::{BrigadeId, Brigades, Bucket, BucketId, Cut, Rings};
 use run_model::Value;
@@ -42,10 +42,10 @@ fn place_in<R: Rings<Bucket> + Drop>(
     ensures moves { (around : Around) → let r = seen store.now around instance.now call.now in shown (calls_in around call.now) (from_place result (list_at (lists store.now) name)) ≡ moves (place_at (spot r c)) (items_at r b) }
 {
     match place_of(instance, call, store, c) {
-        Spot::Within(k, id) => { if k == b { Some(id) } else { None } }
-        Spot::Nowhere => None,
-        Spot::Loose(_) => None,
-        Spot::End(_) => None,
+        Place::Within(k, id) => { if k == b { Some(id) } else { None } }
+        Place::Nowhere => None,
+        Place::Loose(_) => None,
+        Place::End(_) => None,
     }
 }
 
@@ -81,13 +81,13 @@ pub(crate) fn bsplit<R: Rings<Bucket> + Drop>(
 }
 
 /// Where a cursor is set by what a partition answers.
-fn stand_of(b: BrigadeId, cut: Cut) -> Stand
-    ensures { result ≡ stand_of b cut }
+fn cursor_value_of(b: BrigadeId, cut: Cut) -> CursorValue
+    ensures { result ≡ cursor_value_of b cut }
 {
     match cut {
-        Cut::Found(id) => Stand::At(id),
-        Cut::AtEnd => Stand::End(b),
-        Cut::Incomplete => Stand::End(b),
+        Cut::Found(id) => CursorValue::At(id),
+        Cut::AtEnd => CursorValue::End(b),
+        Cut::Incomplete => CursorValue::End(b),
     }
 }
 
@@ -117,7 +117,7 @@ fn part<R: Rings<Bucket> + Drop>(
     let Ok(cut) = store.partition(name, point) else {
         return Err(AllocError);
     };
-    call.set_cursor(c, stand_of(name, cut));
+    call.set_cursor(c, cursor_value_of(name, cut));
     Ok(())
 }
 

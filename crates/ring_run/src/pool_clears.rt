@@ -2,7 +2,7 @@
 
 ghost use Rattle.std.specs.Prelude.{◌≡◌, ◌≢◌, ◌∷◌, ◌&&◌, not, if◌then◌else◌, [], ℕ, Some, true, IsTrue, IfOk, OnOk, OnErr};
 ghost use Rattle.std.specs.List.{list_any};
-ghost use Rattle.module_lang.specs.Program.{Program};
+ghost use Rattle.module_code.specs.Program.{Program};
 ghost use Rattle.bucket_kinds.specs.Device.{Missing};
 ghost use Rattle.bucket_ring.specs.Kept.{NoneRevived};
 ghost use Rattle.run_model.specs.Files.{is_referred};

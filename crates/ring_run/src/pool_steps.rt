@@ -1,7 +1,7 @@
 //! What instructions do to pools that stay: they are made, and labels are registered with them and taken out.
 
 ghost use Rattle.std.specs.Prelude.{◌≡◌, ◌<◌, ℕ, Option, Some, length, IsTrue, OnOk, OnErr};
-ghost use Rattle.module_lang.specs.Program.{Program, pool_of_pool};
+ghost use Rattle.module_code.specs.Program.{Program, pool_of_pool};
 ghost use Rattle.run_model.specs.Pools.{is_live};
 ghost use Rattle.run_model.specs.State.{pool_named};
 ghost use Rattle.run_model.specs.Steps.{do_pcreate, label_killed, label_registered, on_pool, text_of};

@@ -13,8 +13,8 @@ ghost use Rattle.ring_run.specs.Held.{IsHeld};
 ghost use Rattle.ring_run.specs.LeftAlone.{LeavesOthers};
 ghost use Rattle.ring_run.specs.Seen.{seen};
 
-use crate::machine::{Call, Instance, Stand};
-use crate::spots::{Spot, place_of};
+use crate::machine::{Call, CursorValue, Instance};
+use crate::places::{Place, place_of};
 use brigade_ops::{Brigades, Bucket, Files, ReadRefusal, Rings};
 use std::alloc::AllocError;
 
@@ -44,16 +44,16 @@ pub(crate) fn read<R: Rings<Bucket> + Drop, F: Files>(
     ensures held { IsHeld store.new instance.now call.new }
     ensures name { call.new.name ≡ call.old.name }
 {
-    let Spot::Within(_, id) = place_of(instance, call, store, c) else {
+    let Place::Within(_, id) = place_of(instance, call, store, c) else {
         return Ok(true);
     };
     match store.read(files, id) {
         Ok(_) => {
-            call.set_cursor(READ_CURSOR, Stand::At(id));
+            call.set_cursor(READ_CURSOR, CursorValue::At(id));
             Ok(true)
         }
         Err(ReadRefusal::ReadFault) => {
-            call.set_cursor(READ_CURSOR, Stand::Unset);
+            call.set_cursor(READ_CURSOR, CursorValue::Unset);
             Ok(false)
         }
         Err(ReadRefusal::NoMemory) => Err(AllocError),

@@ -10,8 +10,8 @@ ghost use Rattle.brigade_ops.specs.House.{AreOpen, IsHouse};
 ghost use Rattle.brigade_ops.specs.Store.{lists, pool_of, references};
 ghost use Rattle.ring_run.specs.declared.machine.Call.{Call};
 ghost use Rattle.ring_run.specs.Around.{Around};
-ghost use Rattle.ring_run.specs.Given.{HasOpen};
-ghost use Rattle.ring_run.specs.Held.{AreApart, AreOn, IsHeld};
+ghost use Rattle.ring_run.specs.Given.{RangeIsOpen};
+ghost use Rattle.ring_run.specs.Held.{VariablesApart, AreOn, IsHeld};
 ghost use Rattle.ring_run.specs.LeftAlone.{LeavesRest};
 ghost use Rattle.ring_run.specs.Slots.{live_in, slot_at};
 ghost use Rattle.ring_run.specs.Seen.{seen};
@@ -34,7 +34,7 @@ pub(crate) fn save<R: Rings<Bucket> + Drop>(
     requires first { o < 8 }
     requires second { b < 9 }
     requires apart { o ≢ b }
-    requires held { AreApart instance.now }
+    requires held { VariablesApart instance.now }
     requires on { AreOn (lists store.old) (pool_of store.old) instance.now }
     requires live { (n p : ℕ) → live_in (lists store.old) (slot_at instance.now o) ≡ Some n → pool_of store.old n ≡ Some p → IsTrue (is_live (map_of tree.old) p) }
     ensures ok { OnOk result ((around : Around) (call : Call) → IsHeld store.old instance.now call
@@ -44,7 +44,7 @@ pub(crate) fn save<R: Rings<Bucket> + Drop>(
     ensures held { (call : Call) → IsHeld store.old instance.now call → IsHeld store.new instance.now call }
     ensures house { IsHouse store.old (map_of tree.old) → IsHouse store.new (map_of tree.new) }
     ensures left { (call : Call) → LeavesRest store.old store.new instance.now call }
-    ensures open { (d : Device) (around : Around) (call : Call) → All (HasOpen d) (items_of ((seen store.old around instance.now call).instance.brigades b))
+    ensures open { (d : Device) (around : Around) (call : Call) → All (RangeIsOpen d) (items_of ((seen store.old around instance.now call).instance.brigades b))
         → AreOpen (references store.old) d → AreOpen (references store.new) d }
 {
     let Slot::Made(to, on, _) = instance.slot(o) else {

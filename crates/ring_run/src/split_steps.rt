@@ -13,8 +13,8 @@ ghost use Rattle.ring_run.specs.Held.{IsHeld};
 ghost use Rattle.ring_run.specs.LeftAlone.{LeavesOthers};
 ghost use Rattle.ring_run.specs.Seen.{seen, bucket_in, calls_in};
 
-use crate::machine::{Call, Instance, Stand};
-use crate::spots::{Spot, place_of};
+use crate::machine::{Call, CursorValue, Instance};
+use crate::places::{Place, place_of};
 use brigade_ops::{Brigades, Bucket, BucketId, Rings, SplitRefusal};
 use std::alloc::AllocError;
 
@@ -35,7 +35,7 @@ pub(crate) fn split<R: Rings<Bucket> + Drop>(
     ensures held { IsHeld store.new instance.now call.now }
     ensures left { LeavesOthers store.old store.new instance.now call.now }
 {
-    let Spot::Within(_, id) = place_of(instance, call, store, c) else {
+    let Place::Within(_, id) = place_of(instance, call, store, c) else {
         return Ok(());
     };
     match store.split(id, n) {
@@ -67,7 +67,7 @@ fn add_copy<R: Rings<Bucket> + Drop>(
     let Ok(new) = store.copy(id, call.name) else {
         return Err(AllocError);
     };
-    call.set_cursor(d, Stand::At(new));
+    call.set_cursor(d, CursorValue::At(new));
     Ok(())
 }
 
@@ -90,8 +90,8 @@ pub(crate) fn copy<R: Rings<Bucket> + Drop>(
     ensures left { LeavesOthers store.old store.new instance.now call.old }
 {
     match place_of(instance, call, store, c) {
-        Spot::Within(_, id) => add_copy(call, store, d, id),
-        Spot::Loose(id) => add_copy(call, store, d, id),
-        Spot::Nowhere | Spot::End(_) => Ok(()),
+        Place::Within(_, id) => add_copy(call, store, d, id),
+        Place::Loose(id) => add_copy(call, store, d, id),
+        Place::Nowhere | Place::End(_) => Ok(()),
     }
 }

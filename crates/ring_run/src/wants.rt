@@ -1,7 +1,7 @@
 //! The faults of an instruction.
 
 ghost use Rattle.std.specs.Prelude.{◌≡◌, ◌≤◌, true, length};
-ghost use Rattle.module_lang.specs.Program.{fits};
+ghost use Rattle.module_code.specs.Program.{fits};
 ghost use Rattle.run_model.specs.Faults.{fault};
 ghost use Rattle.ring_run.specs.Around.{Around};
 ghost use Rattle.ring_run.specs.Held.{IsHeld};
@@ -11,9 +11,9 @@ ghost use Rattle.ring_run.specs.Seen.{seen};
 use crate::brigade_wants::{want_home_across, want_homes, want_return, want_send};
 use crate::bytes::RD;
 use crate::faults::{or_else, want_brigade, want_new, want_usable};
-use crate::footings::{Footing, want_cursor};
 use crate::home_wants::want_home;
 use crate::machine::{Call, Instance};
+use crate::needs::{Need, want_cursor};
 use crate::outside::Outside;
 use crate::pool_wants::{want_new_pool, want_pool};
 use brigade_ops::{Brigades, Bucket, Rings};
@@ -54,7 +54,7 @@ pub fn fault<R: Rings<Bucket> + Drop>(
         Instr::BSplit(b, c, a) => or_else(
             want_usable(instance, store, b),
             or_else(
-                want_cursor(instance, call, store, c, Footing::InThis(b)),
+                want_cursor(instance, call, store, c, Need::InThis(b)),
                 want_usable(instance, store, a),
             ),
         ),
@@ -78,36 +78,36 @@ pub fn fault<R: Rings<Bucket> + Drop>(
             ),
         ),
         Instr::Next(_, c) | Instr::Unlink(c) => {
-            want_cursor(instance, call, store, c, Footing::InBrigade)
+            want_cursor(instance, call, store, c, Need::InBrigade)
         }
-        Instr::JEnd(c, _) => want_cursor(instance, call, store, c, Footing::Anywhere),
+        Instr::JEnd(c, _) => want_cursor(instance, call, store, c, Need::Anywhere),
         Instr::JKind(c, _, _) | Instr::BDelete(c) | Instr::Len(_, c) => {
-            want_cursor(instance, call, store, c, Footing::OnBucket)
+            want_cursor(instance, call, store, c, Need::OnBucket)
         }
         Instr::Tail(b, c) | Instr::Head(b, c) => or_else(
             want_usable(instance, store, b),
-            want_cursor(instance, call, store, c, Footing::OnLoose),
+            want_cursor(instance, call, store, c, Need::OnLoose),
         ),
         Instr::Before(c, d) => or_else(
-            want_cursor(instance, call, store, c, Footing::OnLoose),
-            want_cursor(instance, call, store, d, Footing::InBrigade),
+            want_cursor(instance, call, store, c, Need::OnLoose),
+            want_cursor(instance, call, store, d, Need::InBrigade),
         ),
         Instr::Split(c, _, _) | Instr::Read(c, _) => or_else(
-            want_cursor(instance, call, store, c, Footing::InBrigade),
+            want_cursor(instance, call, store, c, Need::InBrigade),
             want_home(instance, call, outside, store, c),
         ),
         Instr::Copy(_, c) => or_else(
-            want_cursor(instance, call, store, c, Footing::OnBucket),
+            want_cursor(instance, call, store, c, Need::OnBucket),
             want_home(instance, call, outside, store, c),
         ),
         Instr::Aside(c, pool) => or_else(
-            want_cursor(instance, call, store, c, Footing::OnBucket),
+            want_cursor(instance, call, store, c, Need::OnBucket),
             or_else(
                 want_pool(instance, outside, pool),
                 want_home(instance, call, outside, store, c),
             ),
         ),
-        Instr::Get(_, _, _) => want_cursor(instance, call, store, RD, Footing::OnBucket),
+        Instr::Get(_, _, _) => want_cursor(instance, call, store, RD, Need::OnBucket),
         Instr::Heap(_, _)
         | Instr::Immortal(_, _)
         | Instr::FromBuf(_)

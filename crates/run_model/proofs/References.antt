@@ -7,14 +7,15 @@ use Rattle.std.proofs.lemmas.List.Folds.{list_any-append}
 use Rattle.run_model.specs.declared.payload.Payload.{Payload}
 use Rattle.run_model.specs.declared.payload.Payload.TheVariants.{Label, FileRef, Brigade}
 use Rattle.run_model.specs.Indexed.{any_below}
-use Rattle.run_model.specs.Pools.{Pools, is_under, created, registered}
+use Rattle.run_model.specs.Pools.{Pools, is_under, created, registered, cleared, destroyed}
 use Rattle.run_model.specs.RunOrder.{IsPoolMap, without_last, killed}
 use Rattle.run_model.specs.Payloads.{is_label, is_file_ref}
 use Rattle.run_model.specs.Files.{is_referred}
 use Rattle.run_model.specs.Steps.{all_referred}
-use Rattle.run_model.specs.Laws.{refers}
+use Rattle.run_model.specs.Holding.{refers}
 use Rattle.run_model.proofs.Updates.{upd_either}
 use Rattle.run_model.proofs.Formed.{formed_fresh}
+use Rattle.run_model.proofs.PoolMap.{cleared_apart, cleared_payloads, cleared_next, destroyed_apart, destroyed_under, destroyed_next}
 
 pub one_of : (x y : Bool) → (x || y) ≡ true → (x ≡ true) ⊎ (y ≡ true)
 one_of true y h = inl refl
@@ -169,3 +170,9 @@ emptied_back n ps new e p file h = by_test (is_under ps n p) refl where
   by_test : (b : Bool) → is_under ps n p ≡ b → (b ≡ false) × (refers ps p file ≡ true)
   by_test true is = absurd (empty_refers file (new.payloads p) (e.gone p is) h)
   by_test false is = (refl, sym (ap (list_any (is_file_ref file)) (e.kept p is)) ∙ h)
+
+pub cleared_emptied : (n : ℕ) (ps : Pools Payload) → Emptied n ps (cleared n ps)
+cleared_emptied n ps = record { kept = λ m off. (cleared_apart n ps m off).1; gone = λ m under. cleared_payloads n ps m under; next = cleared_next n ps }
+
+pub destroyed_emptied : (n : ℕ) (ps : Pools Payload) → Emptied n ps (destroyed n ps)
+destroyed_emptied n ps = record { kept = λ m off. (destroyed_apart n ps m off).1; gone = λ m under. (destroyed_under n ps m under).1; next = destroyed_next n ps }

@@ -10,17 +10,17 @@ use Rattle.run_model.specs.declared.bucket.Home.TheVariants as home
 use Rattle.run_model.specs.declared.bucket.Bucket.{Bucket}
 
 -- where the bytes of a bucket are
-pub data Form : Type 0 where
-  Memory : Form
-  OpenFile : Form
-  Nowhere : Form
+pub data BytesIn : Type 0 where
+  Memory : BytesIn
+  OpenFile : BytesIn
+  Nowhere : BytesIn
 
-abbrev pub form_of : Content → Form
+abbrev pub form_of : Content → BytesIn
 form_of (content.Bytes bs) = Memory
 form_of (content.Range file start len) = OpenFile
 form_of content.Nothing = Nowhere
 
-abbrev pub form_of_kind : Kind → Form
+abbrev pub form_of_kind : Kind → BytesIn
 form_of_kind kind.Heap = Memory
 form_of_kind kind.Transient = Memory
 form_of_kind kind.Immortal = Memory

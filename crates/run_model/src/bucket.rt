@@ -1,6 +1,6 @@
 //! Buckets, brigades, and what variables and cursors hold.
 
-use module_lang::Seq;
+use module_code::Seq;
 
 /// The type of a bucket (apr_buckets.h, 'bucket types').
 #[derive(Clone, Copy)]

@@ -1,7 +1,7 @@
 //! The events of a connection, and what they answer.
 
 use crate::fault::FaultKind;
-use module_lang::{Seq, Status};
+use module_code::{Seq, Status};
 use thiserror::Error;
 
 /// A part of a brought brigade.

@@ -5,7 +5,6 @@
 mod bucket;
 mod event;
 mod fault;
-pub mod laws;
 mod payload;
 
 pub use bucket::{
@@ -13,5 +12,5 @@ pub use bucket::{
 };
 pub use event::{Cause, Event, Exit, Piece, Refusal, StepRefusal, Stepped};
 pub use fault::FaultKind;
-pub use module_lang::{Instr, KindTest, Module, PoolRef, Seq, Status, Value, VarRef};
+pub use module_code::{Instr, KindTest, Module, PoolRef, Seq, Status, Value, VarRef};
 pub use payload::Payload;

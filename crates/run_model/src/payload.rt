@@ -4,7 +4,7 @@ ghost use Rattle.std.specs.Prelude.{◌≡◌};
 ghost use Rattle.run_model.specs.Payloads.{payload_eq};
 ghost use Rattle.run_model.specs.SamePayload.{payload_per};
 
-use module_lang::Seq;
+use module_code::Seq;
 
 /// What a pool hands on when it is cleared (apr_pools.h, 'cleanups').
 #[derive(Drop)]

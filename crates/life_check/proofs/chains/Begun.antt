@@ -1,21 +1,21 @@
 -- A call begins: what is known of its instance between calls, or before the first, is known of the call.
 use Rattle.std.proofs.Common.{◌≡◌, ◌≢◌, ℕ, ◌<◌, true, false, ◌==◌, List, [], ◌∷◌, Option, Some, None, inl, inr, refl, sym, ◌∙◌, ap, subst, arith, eq-eqb, ne_eqb}
 use Rattle.std.proofs.lemmas.Bool.{or_parts, or_from}
-use Rattle.module_lang.specs.Program.{Program}
+use Rattle.module_code.specs.Program.{Program}
 use Rattle.run_model.specs.declared.bucket.BrigadeVar.{BrigadeVar}
 use Rattle.run_model.specs.declared.bucket.Cursor.TheVariants as cursor
 use Rattle.run_model.specs.declared.bucket.Home.{Home}
 use Rattle.run_model.specs.Indexed.{upd}
 use Rattle.run_model.specs.State.{Instance, Configuration, pool_view, fresh_call}
 use Rattle.run_model.specs.Chains.{Frame, Connection, Common, module_at, configuration}
-use Rattle.run_model.specs.ChainSound.{IsNested}
+use Rattle.model_laws.specs.ChainSound.{IsNested}
 use Rattle.run_model.specs.Passing.{set_in}
 use Rattle.run_model.proofs.Updates.{upd_either}
 use Rattle.life_state.specs.declared.parts.Contents.TheVariants.{NoLateData}
 use Rattle.life_state.specs.Rules.{at_main}
 use Rattle.life_state.specs.States.{Homes, only_call, holds, CursorKnown, Unset, State}
 use Rattle.life_check.specs.Certificates.{Certificate}
-use Rattle.life_check.specs.ChainMeaning.{Lives, Runs, is_on}
+use Rattle.life_check.specs.ChainMeaning.{Lives, TopFits, is_on}
 use Rattle.life_check.specs.Meaning.{Covers, Between, FitsBrigade, FitsCursor, Fits}
 use Rattle.life_check.specs.Soundness.{FitsSome}
 use Rattle.life_check.proofs.Starting.{calm_fits}
@@ -25,7 +25,7 @@ use Rattle.life_check.proofs.Standing.{upd_both}
 
 -- the call on top runs where the state of its instruction describes it
 pub runs_of : (chain : List Program) (certs : ℕ → Certificate) (g : Common) (c : Connection) (f : Frame) (rest : List Frame) (o : Option State) → (certs f.of).at f.pc ≡ o
-    → FitsSome (Covers (module_at chain f.of) (pool_view (configuration g c f)) (Lives c f rest)) o (configuration g c f) → Runs chain certs g c f rest
+    → FitsSome (Covers (module_at chain f.of) (pool_view (configuration g c f)) (Lives c f rest)) o (configuration g c f) → TopFits chain certs g c f rest
 runs_of chain certs g c f rest None is h = absurd h
 runs_of chain certs g c f rest (Some s) is h = record { state = s; given = is; fits = h }
 

@@ -1,7 +1,7 @@
 -- What stands in a connection does not speak of what was put out, of files and payloads, of counts, and of names that others take.
 use Rattle.std.proofs.Common.{◌≡◌, ℕ, true, List, [], ◌∷◌, Option, Some, None, refl, inl, inr, sym, ◌∙◌}
-use Rattle.module_lang.specs.declared.instr.PoolRef.{PoolRef}
-use Rattle.module_lang.specs.Program.{Program}
+use Rattle.module_code.specs.declared.instr.PoolRef.{PoolRef}
+use Rattle.module_code.specs.Program.{Program}
 use Rattle.run_model.specs.declared.bucket.Home.{Home}
 use Rattle.run_model.specs.declared.bucket.Home.TheVariants as home
 use Rattle.run_model.specs.declared.bucket.PoolVar.TheVariants as poolvar
@@ -11,7 +11,7 @@ use Rattle.run_model.specs.State.{Configuration, Shared, Out, PoolView, pool_vie
 use Rattle.run_model.specs.Chains.{Frame, Connection, Common, module_at, configuration}
 use Rattle.life_state.specs.States.{Homes, State}
 use Rattle.life_check.specs.Certificates.{Certificate}
-use Rattle.life_check.specs.ChainMeaning.{IsNamedIn, Lives, Runs, Waits, AllWait, StackStands, RestsIn, known_of, resting_frame, ChainStands}
+use Rattle.life_check.specs.ChainMeaning.{IsNamedIn, Lives, TopFits, WaitingFits, AllWait, StackStands, RestsIn, known_of, resting_frame, ChainStands}
 use Rattle.life_check.specs.Meaning.{Covers, CoversPool, ByConnection, ByMember, ByDead, ByCall, NoneLives, Fits}
 use Rattle.life_check.proofs.Pools.{pool_kept, brigade_more, cursor_more}
 
@@ -73,10 +73,10 @@ module _ (chain : List Program) (certs : ℕ → Certificate) (g h : Common) (c 
       fits_among (Covers p (pool_view r) lives) (Covers p (pool_view new) more) s r new.shared new.pc new.out
       (covers_more p (pool_view r) (pool_view new) lives more refl (λ n live. live) (λ k n is. is) still) (λ q n made. refl) fits
 
-  runs_beside : (f : Frame) (rest : List Frame) → Runs chain certs g c f rest → Runs chain certs h now f rest
+  runs_beside : (f : Frame) (rest : List Frame) → TopFits chain certs g c f rest → TopFits chain certs h now f rest
   runs_beside f rest runs = record { state = runs.state; given = runs.given; fits = fits_beside (Lives c f rest) (Lives now f rest) (lives_beside f rest) runs.state f runs.fits }
 
-  waits_beside : (w : Frame) (rest : List Frame) → Waits chain certs g c w rest → Waits chain certs h now w rest
+  waits_beside : (w : Frame) (rest : List Frame) → WaitingFits chain certs g c w rest → WaitingFits chain certs h now w rest
   waits_beside w rest waits = record {
     passes = waits.passes;
     to = waits.to;

@@ -1,23 +1,23 @@
 -- The return of a first call: nothing is left to run, or the handler of the next module in the queue begins.
 use Rattle.std.proofs.Common.{◌≡◌, ◌≢◌, ℕ, ◌+◌, Bool, true, false, ◌||◌, cond, List, [], ◌∷◌, length, Option, Some, None, refl, sym, ◌∙◌, ap, subst, arith, eq-eqb, ne_eqb}
 use Rattle.std.proofs.lemmas.List.Elements.{All-head}
-use Rattle.module_lang.specs.declared.instr.Instr.TheVariants as instr
-use Rattle.module_lang.specs.declared.instr.Status.{Status}
-use Rattle.module_lang.specs.Program.{Program}
+use Rattle.module_code.specs.declared.instr.Instr.TheVariants as instr
+use Rattle.module_code.specs.declared.instr.Status.{Status}
+use Rattle.module_code.specs.Program.{Program}
 use Rattle.run_model.specs.Pools.{is_in}
 use Rattle.run_model.specs.Sound.{Sound}
 use Rattle.run_model.specs.State.{Instance, pool_view, fresh_call}
 use Rattle.run_model.specs.Chains.{Frame, Connection, Common, Linked, module_at, configuration}
-use Rattle.run_model.specs.ChainSound.{ChainSound, IsPlaced, IsRising}
+use Rattle.model_laws.specs.ChainSound.{ChainSound, IsFramePlaced, IsRising}
 use Rattle.run_model.specs.Passing.{handler_at}
 use Rattle.life_state.specs.Rules.{at_open, at_return}
 use Rattle.life_state.specs.States.{Unset, State}
 use Rattle.life_state.proofs.Tests.{split3}
 use Rattle.life_check.specs.Certificates.{Certificate, AllBounded}
-use Rattle.life_check.specs.ChainMeaning.{Lives, Runs, AllWait, between, before, RestsIn, resting_frame, is_on, ChainStands}
+use Rattle.life_check.specs.ChainMeaning.{Lives, TopFits, AllWait, between, before, RestsIn, resting_frame, is_on, ChainStands}
 use Rattle.life_check.specs.ChainTheorem.{AllTyped}
 use Rattle.life_check.specs.Meaning.{Covers}
-use Rattle.life_check.specs.Soundness.{FitsSome, Ready}
+use Rattle.life_check.specs.Soundness.{FitsSome, MeetsNeeds}
 use Rattle.life_check.specs.Typed.{IsTyped, flows, is_below, left_by, fits_between, fits_lines}
 use Rattle.life_check.proofs.Starting.{between_unset}
 use Rattle.life_check.proofs.Orders.{greater_fits}
@@ -39,7 +39,7 @@ before_flows p m None typed = typed.opens
 before_flows p m (Some n) typed = typed.inits
 
 module _ (chain : List Program) (certs : ℕ → Certificate) (g : Common) (c : Connection) (f : Frame) (t : Status) (s : State)
-    (ready : Ready (Lives c f []) (module_at chain f.of) (instr.Ret t) (configuration g c f) s) (bounded : AllBounded (certs f.of)) (placed : IsPlaced chain c.req f)
+    (ready : MeetsNeeds (Lives c f []) (module_at chain f.of) (instr.Ret t) (configuration g c f) s) (bounded : AllBounded (certs f.of)) (placed : IsFramePlaced chain c.req f)
     (below : is_below (at_return s) (left_by (module_at chain f.of) (certs f.of) f.pc) ≡ true) (stands : ChainStands chain certs g c) (top : c.stack ≡ f ∷ []) where
   abbrev instances : ℕ → Instance
   instances = returned chain certs g c f
@@ -71,7 +71,7 @@ module _ (chain : List Program) (certs : ℕ → Certificate) (g : Common) (c : 
     handler_fits (Some u) unset h = handler_begins (module_at chain k) (Lives after.1 called_frame []) u (configuration after.0 after.1 (resting_frame k)) g.next called_frame.pc (unset u refl) h
 
     handler_runs : AllBounded (certs k) → IsTyped (module_at chain k) (certs k) → ChainSound chain after.0 after.1 → Sound (configuration after.0 after.1 called_frame)
-        → RestsIn chain after.0 after.1 k (before (module_at chain k) (certs k) c.req) → Runs chain certs after.0 after.1 called_frame []
+        → RestsIn chain after.0 after.1 k (before (module_at chain k) (certs k) c.req) → TopFits chain certs after.0 after.1 called_frame []
     handler_runs all typed sound sounds rests =
         let p = module_at chain k in
         let m = certs k in
@@ -85,7 +85,7 @@ module _ (chain : List Program) (certs : ℕ → Certificate) (g : Common) (c : 
         → ChainStands chain certs after.0 after.1
     unfolding IsRising AllWait
     called_stands typed rising sound sounds left =
-        let next : IsPlaced chain c.req called_frame = All-head (IsPlaced chain c.req) called_frame [] sound.calls.placed in
+        let next : IsFramePlaced chain c.req called_frame = All-head (IsFramePlaced chain c.req) called_frame [] sound.calls.placed in
         let differ : k ≢ f.of = λ e. absurd (omega (arith, e, rising.0)) in
         let was : RestsIn chain g c k (before (module_at chain k) (certs k) c.req) =
         subst (λ (b : Bool). RestsIn chain g c k (cond b (before (module_at chain k) (certs k) c.req) (between (certs k) c.req))) (ap (is_in k) queue ∙ here) (stands.rests k next.of (off_stack k differ)) in

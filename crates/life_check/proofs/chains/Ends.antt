@@ -1,7 +1,7 @@
 -- What stands where a request ends.
 use Rattle.std.proofs.Common.{◌≡◌, ℕ, ◌<◌, cond, List, [], length, Option, Some, None, refl, sym, subst}
-use Rattle.module_lang.specs.Program.{Program, IsModule}
-use Rattle.run_model.specs.AsDeclared.{AsDeclared}
+use Rattle.module_code.specs.Program.{Program, IsModule}
+use Rattle.model_laws.specs.AsDeclared.{AsDeclared}
 use Rattle.life_check.specs.Soundness.{request_ended}
 use Rattle.run_model.specs.Pools.{is_in}
 use Rattle.run_model.specs.Clearing.{run_down}
@@ -9,8 +9,8 @@ use Rattle.run_model.specs.Sound.{Sound}
 use Rattle.run_model.specs.State.{Configuration, with_pools}
 use Rattle.run_model.specs.Chains.{Connection, Common, module_at, configuration}
 use Rattle.run_model.specs.Turns.{request_over}
-use Rattle.run_model.specs.ChainSound.{ChainSound}
-use Rattle.run_model.proofs.chains.Views.{sound_resting}
+use Rattle.model_laws.specs.ChainSound.{ChainSound}
+use Rattle.model_laws.proofs.chains.Views.{sound_resting}
 use Rattle.life_state.specs.States.{State}
 use Rattle.life_check.specs.Certificates.{Certificate}
 use Rattle.life_check.specs.ChainMeaning.{StackStands, before, between, resting_frame, RestsIn, ChainStands}

@@ -1,7 +1,7 @@
 -- Each event leaves what stands, and answers no fault.
 use Rattle.std.proofs.Common.{◌≡◌, ℕ, ◌+◌, Bool, true, false, not, List, [], ◌∷◌, ◌++◌, length, Option, Some, None, is_some, Result, Ok, Err, refl, sym, ◌∙◌, subst, inl, inr}
 use Rattle.std.proofs.lemmas.Bool.{cases_eq}
-use Rattle.module_lang.specs.Program.{Program}
+use Rattle.module_code.specs.Program.{Program}
 use Rattle.run_model.specs.declared.event.Event.{Event}
 use Rattle.run_model.specs.declared.event.Event.TheVariants as event
 use Rattle.run_model.specs.declared.event.Piece.{Piece}
@@ -14,15 +14,14 @@ use Rattle.run_model.specs.Indexed.{upd}
 use Rattle.run_model.specs.Pools.{registered}
 use Rattle.run_model.specs.Refusals.{if_broken}
 use Rattle.run_model.specs.Pieces.{data_behind_eos}
-use Rattle.run_model.specs.Chains.{Connection, Common, Linked, pools_of}
+use Rattle.run_model.specs.Chains.{Connection, Common, Linked, pools_of, IsChain}
 use Rattle.run_model.specs.Turns.{Opening, Found, Missing, Failing, is_busy, unless_refused, opened, begun, begins, file_taken, file_answer, opens_file, brought, brought_in, brings, ended, request_over, ends, steps}
 use Rattle.run_model.specs.Worlds as worlds
 use Rattle.run_model.specs.Worlds.{World, Answer, put_conn, answered, file_answered, step_answered, opens_if, opens, adds_file, closes, happens_on, happens}
-use Rattle.run_model.specs.ChainSound.{ChainSound, WorldSound}
-use Rattle.run_model.specs.ChainLaws.{IsChain}
-use Rattle.run_model.proofs.EventAnswers.{none_first, none_if}
+use Rattle.model_laws.specs.ChainSound.{ChainSound, WorldSound}
+use Rattle.model_laws.proofs.EventAnswers.{none_first, none_if}
 use Rattle.run_model.proofs.Updates.{upd_at, upd_off}
-use Rattle.run_model.proofs.chains.EventTurns.{not_broken, not_busy, no_request}
+use Rattle.model_laws.proofs.chains.EventTurns.{not_broken, not_busy, no_request}
 use Rattle.life_check.specs.Certificates.{Certificate}
 use Rattle.life_check.specs.ChainMeaning.{ChainStands}
 use Rattle.life_check.specs.ChainTheorem.{IsNoFault}

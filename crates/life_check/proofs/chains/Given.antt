@@ -16,7 +16,7 @@ use Rattle.run_model.specs.Steps.{with_items}
 use Rattle.run_model.proofs.Updates.{upd_off}
 use Rattle.life_state.specs.declared.parts.Classes.{Classes}
 use Rattle.life_state.specs.States.{Homes, BrigadeKnown, CursorKnown, Unset, Loose, In, End, InOrEnd, State}
-use Rattle.life_check.specs.Meaning.{FitsMark, FitsBrigade, IsIn, IsEndOf, FitsCursor, Fits}
+use Rattle.life_check.specs.Meaning.{FitsMark, FitsBrigade, IsAtBucketOf, IsEndOf, FitsCursor, Fits}
 use Rattle.life_check.proofs.Standing.{upd_second}
 use Rattle.run_model.specs.Passing.{given_back}
 
@@ -34,7 +34,7 @@ module _ (C : Homes → Home → Type 0) (r : Configuration) (b : ℕ) (left : L
   off : (a : ℕ) → usable_fault (r.instance.brigades a) ≡ None → given.instance.brigades a ≡ r.instance.brigades a
   off a usable = upd_off r.instance.brigades b a (with_items left (r.instance.brigades b)) (not_here a usable)
 
-  in_given : (w : Cursor) (a : ℕ) (t : Classes) → IsIn r w a t → IsIn given w a t
+  in_given : (w : Cursor) (a : ℕ) (t : Classes) → IsAtBucketOf r w a t → IsAtBucketOf given w a t
   in_given w a t i = record {
     bucket = i.bucket;
     at = i.at;

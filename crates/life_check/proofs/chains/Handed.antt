@@ -1,9 +1,9 @@
 -- A pass to the next filter: the call that passes waits, and `main` of the next one begins.
 use Rattle.std.proofs.Common.{◌≡◌, ◌≢◌, ℕ, ◌+◌, ◌<◌, true, false, cond, List, [], ◌∷◌, length, Option, Some, None, is_some, slice_get, refl, sym, ◌∙◌, ap, subst, arith}
 use Rattle.std.proofs.lemmas.List.Elements.{All-head}
-use Rattle.module_lang.specs.declared.instr.Instr.TheVariants as instr
-use Rattle.module_lang.specs.declared.instr.Status.TheVariants.{Success}
-use Rattle.module_lang.specs.Program.{Program, IsModule}
+use Rattle.module_code.specs.declared.instr.Instr.TheVariants as instr
+use Rattle.module_code.specs.declared.instr.Status.TheVariants.{Success}
+use Rattle.module_code.specs.Program.{Program, IsModule}
 use Rattle.run_model.specs.declared.bucket.Brigade.{Brigade}
 use Rattle.run_model.specs.declared.bucket.BrigadeVar.{BrigadeVar}
 use Rattle.run_model.specs.declared.bucket.BrigadeVar.TheVariants as var
@@ -18,7 +18,7 @@ use Rattle.run_model.specs.Sound.{Sound}
 use Rattle.run_model.specs.State.{Instance, Configuration, pool_view, fresh_call, set_brigade}
 use Rattle.run_model.specs.Steps.{do_pass, handed_over}
 use Rattle.run_model.specs.Chains.{Frame, Connection, Common, Linked, module_at, configuration, shared_of}
-use Rattle.run_model.specs.ChainSound.{ChainSound, IsNested, IsNestedStack, IsPlaced}
+use Rattle.model_laws.specs.ChainSound.{ChainSound, IsNested, IsNestedStack, IsFramePlaced}
 use Rattle.run_model.specs.Passing.{handed_in, set_in}
 use Rattle.run_model.proofs.Updates.{upd_at, upd_off}
 use Rattle.life_state.specs.declared.parts.Contents.TheVariants.{NoLateData}
@@ -26,10 +26,10 @@ use Rattle.life_state.specs.Rules.{edges, need, after_pass, at_main}
 use Rattle.life_state.specs.States.{only_call, holds, State}
 use Rattle.life_state.proofs.Tests.{split2, split3}
 use Rattle.life_check.specs.Certificates.{Certificate, AllBounded, IsBoundedSome}
-use Rattle.life_check.specs.ChainMeaning.{Lives, Runs, Waits, AllWait, StackStands, between, before, known_of, RestsIn, is_on, ChainStands}
+use Rattle.life_check.specs.ChainMeaning.{Lives, TopFits, WaitingFits, AllWait, StackStands, between, before, known_of, RestsIn, is_on, ChainStands}
 use Rattle.life_check.specs.ChainTheorem.{AllTyped}
 use Rattle.life_check.specs.Meaning.{Covers, NoneLives, FitsBrigade, Fits}
-use Rattle.life_check.specs.Soundness.{FitsSome, Ready}
+use Rattle.life_check.specs.Soundness.{FitsSome, MeetsNeeds}
 use Rattle.life_check.specs.Typed.{IsTyped, flows, fits_between, fits_lines, leads_on, main_from}
 use Rattle.life_check.proofs.Starting.{between_unset}
 use Rattle.life_check.proofs.Orders.{greater_fits}
@@ -93,7 +93,7 @@ module _ (chain : List Program) (certs : ℕ → Certificate) (g : Common) (c : 
   more : (w : Frame) (waiting : List Frame) (x : Home) → Lives c w waiting x → Lives after.1 w waiting x
   more = lives_same c after.1 refl own
 
-  module _ (s : State) (ready : Ready (Lives c f rest) (module_at chain f.of) (instr.Pass b l) seen s) where
+  module _ (s : State) (ready : MeetsNeeds (Lives c f rest) (module_at chain f.of) (instr.Pass b l) seen s) where
     usable : usable_fault (seen.instance.brigades b) ≡ None
     usable = (both_none (fault_want seen (WUsable b)) (or_else (fault_want seen (WHomes b)) (or_else (fault_want seen (WSend b)) None)) ready.may.faultless).0
 
@@ -111,7 +111,7 @@ module _ (chain : List Program) (certs : ℕ → Certificate) (g : Common) (c : 
         caller f.call (shared_of g c) (shared_of after.0 after.1) f.pc f.pc c.out c.out refl (after_pass b s) (law_pass b l p (record { answer = Success; given = None }) seen s ready))
 
     caller_waits : slice_get (module_at chain f.of).code f.pc ≡ Some (instr.Pass b l)
-        → leads_on (certs f.of) f.pc (instr.Pass b l) (edges (module_at chain f.of) (instr.Pass b l) s) ≡ true → Waits chain certs after.0 after.1 f rest
+        → leads_on (certs f.of) f.pc (instr.Pass b l) (edges (module_at chain f.of) (instr.Pass b l) s) ≡ true → WaitingFits chain certs after.0 after.1 f rest
     unfolding configuration set_brigade
     caller_waits at leads =
         let m = certs f.of in
@@ -165,7 +165,7 @@ module _ (chain : List Program) (certs : ℕ → Certificate) (g : Common) (c : 
         (main_begins q lives incoming t resting g.next (g.next + 1) callee.pc (between_unset q (Some t) t bounded fit refl) incoming_fits h)
 
     callee_runs : AllBounded (certs (f.of + 1)) → IsTyped (module_at chain (f.of + 1)) (certs (f.of + 1)) → ChainSound chain after.0 after.1 → Sound (configuration after.0 after.1 callee)
-        → RestsIn chain g c (f.of + 1) (certs (f.of + 1)).ready → Runs chain certs after.0 after.1 callee (f ∷ rest)
+        → RestsIn chain g c (f.of + 1) (certs (f.of + 1)).ready → TopFits chain certs after.0 after.1 callee (f ∷ rest)
     callee_runs bounded typed sound sounds rests =
         let q = module_at chain (f.of + 1) in
         let m = certs (f.of + 1) in
@@ -196,7 +196,7 @@ module _ (chain : List Program) (certs : ℕ → Certificate) (g : Common) (c : 
     unfolding IsNestedStack AllWait
     handed_stands proper typed sound new_sound sounds stands top at leads =
         let k = f.of + 1 in
-        let placed : IsPlaced chain c.req callee = All-head (IsPlaced chain c.req) callee (f ∷ rest) new_sound.calls.placed in
+        let placed : IsFramePlaced chain c.req callee = All-head (IsFramePlaced chain c.req) callee (f ∷ rest) new_sound.calls.placed in
         let nested : IsNested f rest = subst IsNestedStack top sound.calls.nested in
         let waiting : AllWait chain certs g c rest = (subst (StackStands chain certs g c) top stands.stack).1 in
         let off : is_on k c.stack ≡ false = subst (λ (fs : List Frame). is_on k fs ≡ false) (sym top) (above_off k f rest nested (omega arith)) in

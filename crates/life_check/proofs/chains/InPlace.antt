@@ -1,29 +1,28 @@
 -- An instruction of the call on top that is executed in place leaves what stands.
 use Rattle.std.proofs.Common.{◌≡◌, ℕ, ◌+◌, ◌<◌, Bool, true, false, ◌||◌, ◌==◌, cond, List, [], ◌∷◌, map, length, unwrap_or, Option, Some, None, refl, sym, ◌∙◌, ap, subst, arith, eq-eqb}
-use Rattle.module_lang.specs.Program.{Program, IsModule, target}
+use Rattle.module_code.specs.Program.{Program, IsModule, target}
 use Rattle.run_model.specs.declared.bucket.Home.{Home}
 use Rattle.run_model.specs.declared.bucket.Home.TheVariants as home
 use Rattle.run_model.specs.declared.bucket.NamedBucket.{NamedBucket}
 use Rattle.run_model.specs.declared.event.Exit.{Exit}
 use Rattle.run_model.specs.declared.event.Exit.TheVariants.{GoOn, Jump, Return}
-use Rattle.run_model.specs.Laws.{ChangesOnly, is_return}
+use Rattle.model_laws.specs.Laws.{ChangesOnly, is_return}
 use Rattle.run_model.specs.Pools.{is_in}
 use Rattle.run_model.specs.State.{Instance, Configuration, Out, PoolView, pool_view}
 use Rattle.run_model.specs.Steps.{Choice, Outcome, step, lacks_names}
-use Rattle.run_model.specs.Chains.{Frame, Connection, Common, Linked, module_at, configuration, files_of, put_back, led_to, touched_var, touched_bucket, touched_instance, touched_frame}
-use Rattle.run_model.specs.ChainLaws.{IsChain}
-use Rattle.run_model.specs.ChainSound.{ChainSound}
-use Rattle.run_model.proofs.chains.Modules.{module_at_proper}
-use Rattle.run_model.proofs.chains.Views.{sound_top}
-use Rattle.run_model.proofs.Unchanged.{step_changes_only}
+use Rattle.run_model.specs.Chains.{Frame, Connection, Common, Linked, module_at, configuration, files_of, put_back, led_to, touched_var, touched_bucket, touched_instance, touched_frame, IsChain}
+use Rattle.model_laws.specs.ChainSound.{ChainSound}
+use Rattle.model_laws.proofs.chains.Modules.{module_at_proper}
+use Rattle.model_laws.proofs.chains.Views.{sound_top}
+use Rattle.model_laws.proofs.Unchanged.{step_changes_only}
 use Rattle.life_state.specs.Rules.{Edges, edges}
 use Rattle.life_state.specs.States.{Homes, State}
 use Rattle.life_state.proofs.Tests.{split2}
 use Rattle.life_check.specs.Certificates.{Certificate}
-use Rattle.life_check.specs.ChainMeaning.{Lives, Runs, ChainStands, known_of, before, between, is_on, RestsIn}
+use Rattle.life_check.specs.ChainMeaning.{Lives, TopFits, ChainStands, known_of, before, between, is_on, RestsIn}
 use Rattle.life_check.specs.ChainTheorem.{AllTyped}
 use Rattle.life_check.specs.Meaning.{CoversPool, ByConnection, ByMember, ByDead, ByCall, Covers}
-use Rattle.life_check.specs.Soundness.{FitsSome, Lands, Ready}
+use Rattle.life_check.specs.Soundness.{FitsSome, Lands, MeetsNeeds}
 use Rattle.life_check.specs.Typed.{flows}
 use Rattle.life_check.proofs.Instructions.{step_lands}
 use Rattle.life_check.proofs.Onward.{IsOnward, goes_onward}
@@ -68,7 +67,7 @@ off_top false b e = refl
 
 -- what a state describes there runs
 runs_by : (chain : List Program) (certs : ℕ → Certificate) (g : Common) (c : Connection) (f : Frame) (rest : List Frame) (o : Option State) → (certs f.of).at f.pc ≡ o
-    → FitsSome (Covers (module_at chain f.of) (pool_view (configuration g c f)) (Lives c f rest)) o (configuration g c f) → Runs chain certs g c f rest
+    → FitsSome (Covers (module_at chain f.of) (pool_view (configuration g c f)) (Lives c f rest)) o (configuration g c f) → TopFits chain certs g c f rest
 runs_by chain certs g c f rest None at fit = absurd fit
 runs_by chain certs g c f rest (Some s) at fit = record { state = s; given = at; fits = fit }
 
@@ -98,7 +97,7 @@ module _ (chain : List Program) (certs : ℕ → Certificate) (g : Common) (c : 
   met : Met chain certs g c f rest
   met = top_met chain certs g c f rest proper typed sound (sound_top chain g c f rest on_top sound) stands on_top
 
-  ready : Ready (Lives c f rest) (module_at chain f.of) (next_of chain f) (configuration g c f) met.state
+  ready : MeetsNeeds (Lives c f rest) (module_at chain f.of) (next_of chain f) (configuration g c f) met.state
   ready = top_ready chain certs g c f rest proper sound (sound_top chain g c f rest on_top sound) last met
 
   changes : ChangesOnly (next_of chain f) (configuration g c f) stepped.state
@@ -167,7 +166,7 @@ module _ (chain : List Program) (certs : ℕ → Certificate) (g : Common) (c : 
       (split2 (flows led.next ((certs f.of).at (f.pc + 1))) (flows led.jump ((certs f.of).at (unwrap_or (target (next_of chain f)) 0))) met.leads).1) fit
   by_exit new Return is fit = absurd (subst IsOnward is (goes_onward (module_at chain f.of) choice (next_of chain f) (configuration g c f) on))
 
-  top_runs : ChainSound chain left_in_place.0 left_in_place.1 → Runs chain certs left_in_place.0 left_in_place.1 onward waiting
+  top_runs : ChainSound chain left_in_place.0 left_in_place.1 → TopFits chain certs left_in_place.0 left_in_place.1 onward waiting
   top_runs new =
       runs_by chain certs left_in_place.0 left_in_place.1 onward waiting ((certs f.of).at onward.pc) refl
       (by_exit new stepped.exit refl (step_lands (Lives c f rest) (next_of chain f) (module_at chain f.of) choice (configuration g c f) met.state ready))

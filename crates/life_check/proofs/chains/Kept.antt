@@ -1,8 +1,8 @@
 -- What a turn of a connection leaves of calls that wait and of instances that rest: their buckets change in place, or not at all.
 use Rattle.std.proofs.Common.{◌≡◌, ℕ, ◌<◌, ◌≤◌, List, [], ◌∷◌, map, Option, Some, None, inl, inr, refl, sym, ◌∙◌, ap, subst, arith}
 use mathlib.Core.List.{map-id}
-use Rattle.module_lang.specs.declared.instr.PoolRef.{PoolRef}
-use Rattle.module_lang.specs.Program.{Program}
+use Rattle.module_code.specs.declared.instr.PoolRef.{PoolRef}
+use Rattle.module_code.specs.Program.{Program}
 use Rattle.run_model.specs.declared.bucket.BrigadeVar.{BrigadeVar}
 use Rattle.run_model.specs.declared.bucket.BrigadeVar.TheVariants as var
 use Rattle.run_model.specs.declared.bucket.Home.{Home}
@@ -15,11 +15,11 @@ use Rattle.run_model.specs.Effects.{returned_var}
 use Rattle.run_model.specs.Pools.{Pools, is_live}
 use Rattle.run_model.specs.State.{Instance, Call, Shared, Out, PoolView, pool_view, named_at, fresh_call}
 use Rattle.run_model.specs.Chains.{Frame, Connection, Common, Linked, module_at, configuration, touched_frame}
-use Rattle.run_model.specs.ChainSound.{IsNested}
+use Rattle.model_laws.specs.ChainSound.{IsNested}
 use Rattle.life_state.specs.declared.parts.Classes.{Classes}
 use Rattle.life_state.specs.States.{Homes, State}
 use Rattle.life_check.specs.Certificates.{Certificate}
-use Rattle.life_check.specs.ChainMeaning.{IsNamedIn, IsCallIn, Lives, FitsFrame, Waits, AllWait, RestsIn}
+use Rattle.life_check.specs.ChainMeaning.{IsNamedIn, IsCallIn, Lives, FitsFrame, WaitingFits, AllWait, RestsIn}
 use Rattle.life_check.specs.Meaning.{CoversPool, ByConnection, ByMember, ByDead, ByCall, Covers, NoneLives, class_has, FitsPool, Fits}
 use Rattle.life_check.proofs.Lists.{IsSorted}
 use Rattle.life_check.proofs.Pools.{same_names, brigade_more, fits_beside}
@@ -154,7 +154,7 @@ module _ (chain : List Program) (certs : ℕ → Certificate) (g : Common) (c : 
       seen_kept (module_at chain w.of) w.of w.call w.pc to (Lives c w rest) (Lives after.1 (record (touched_frame f w) { pc = to }) (map (touched_frame f) rest)) s beside keeps (lives_kept w to rest) fits
 
   wait_kept : (w : Frame) (rest : List Frame) → IsBeside f (c.instances w.of) (instances w.of) → Keeps f (Lives c w rest)
-      → Waits chain certs g c w rest → Waits chain certs after.0 after.1 (touched_frame f w) (map (touched_frame f) rest)
+      → WaitingFits chain certs g c w rest → WaitingFits chain certs after.0 after.1 (touched_frame f w) (map (touched_frame f) rest)
   wait_kept w rest beside keeps h = record {
     passes = h.passes;
     to = h.to;

@@ -1,17 +1,17 @@
 -- A chain of typed modules never faults.
 use Rattle.std.proofs.Common.{ℕ, zero, suc, List, [], ◌∷◌, arith}
 use Rattle.std.proofs.lemmas.List.Elements.{All-nil, All-cons}
-use Rattle.module_lang.specs.Program.{Program, IsModule}
-use Rattle.run_model.specs.Chains.{Frame, Connection, Common, module_at}
+use Rattle.module_code.specs.Program.{Program, IsModule}
+use Rattle.run_model.specs.Chains.{Frame, Connection, Common, module_at, IsChain}
 use Rattle.run_model.specs.Passing.{Reads}
-use Rattle.run_model.specs.ChainSound.{ChainSound}
-use Rattle.run_model.specs.ChainLaws.{IsChain, MayProceed, after_top}
-use Rattle.run_model.proofs.chains.Buckets.{top_keeps_buckets}
-use Rattle.run_model.proofs.chains.Modules.{module_at_proper}
-use Rattle.run_model.proofs.chains.TopCalls.{top_keeps_calls}
-use Rattle.run_model.proofs.chains.TopNames.{top_keeps_names}
-use Rattle.run_model.proofs.chains.TopPools.{top_keeps_pools}
-use Rattle.run_model.proofs.chains.WorldKept.{empty_sound, event_keeps_world}
+use Rattle.model_laws.specs.ChainSound.{ChainSound}
+use Rattle.model_laws.specs.ChainLaws.{MayProceed, after_top}
+use Rattle.model_laws.proofs.chains.Buckets.{top_keeps_buckets}
+use Rattle.model_laws.proofs.chains.Modules.{module_at_proper}
+use Rattle.model_laws.proofs.chains.TopCalls.{top_keeps_calls}
+use Rattle.model_laws.proofs.chains.TopNames.{top_keeps_names}
+use Rattle.model_laws.proofs.chains.TopPools.{top_keeps_pools}
+use Rattle.model_laws.proofs.chains.WorldKept.{empty_sound, event_keeps_world}
 use Rattle.life_check.specs.Certificates.{Certificate, AllBounded}
 use Rattle.life_check.specs.Accepted.{IsCheckedChain}
 use Rattle.life_check.specs.ChainTheorem.{AllTyped, ChainNeverFaults, TypedChainNeverFaults}

@@ -1,10 +1,10 @@
 -- What an instruction that is executed in place leaves of the calls that wait and of the instances that rest.
 use Rattle.std.proofs.Common.{◌≡◌, ◌≢◌, ℕ, ◌+◌, ◌<◌, Bool, false, cond, List, [], ◌∷◌, map, Option, Some, None, inl, inr, refl, sym, ◌∙◌, ap, subst, arith, ne_eqb}
 use Rattle.std.proofs.lemmas.Bool.{cases_eq}
-use Rattle.module_lang.specs.declared.instr.Instr.{Instr}
-use Rattle.module_lang.specs.declared.instr.PoolRef.{PoolRef}
-use Rattle.module_lang.specs.declared.instr.PoolRef.TheVariants as pool
-use Rattle.module_lang.specs.Program.{Program, IsModule, pool_of_brigade}
+use Rattle.module_code.specs.declared.instr.Instr.{Instr}
+use Rattle.module_code.specs.declared.instr.PoolRef.{PoolRef}
+use Rattle.module_code.specs.declared.instr.PoolRef.TheVariants as pool
+use Rattle.module_code.specs.Program.{Program, IsModule, pool_of_brigade}
 use Rattle.run_model.specs.declared.bucket.BrigadeVar.{BrigadeVar}
 use Rattle.run_model.specs.declared.bucket.BrigadeVar.TheVariants as var
 use Rattle.run_model.specs.declared.bucket.Home.{Home}
@@ -18,12 +18,12 @@ use Rattle.run_model.specs.Pools.{is_live, is_under}
 use Rattle.run_model.specs.State.{Instance, Configuration, Out, name_in, named_at, pool_named, pool_view}
 use Rattle.run_model.specs.Steps.{made_on}
 use Rattle.run_model.specs.Chains.{Frame, Connection, Common, Linked, module_at, configuration, pools_of, put_back, touched_var, touched_bucket, touched_instance, touched_frame}
-use Rattle.run_model.specs.ChainSound.{ChainPools}
-use Rattle.run_model.proofs.chains.Apart.{under_no_other, under_no_request}
+use Rattle.model_laws.specs.ChainSound.{ChainPools}
+use Rattle.model_laws.proofs.chains.Apart.{under_no_other, under_no_request}
 use Rattle.life_state.specs.declared.parts.PoolState.{PoolState}
 use Rattle.life_state.specs.States.{Homes, State}
 use Rattle.life_check.specs.Certificates.{Certificate}
-use Rattle.life_check.specs.ChainMeaning.{IsNamedIn, IsCallIn, Lives, Waits, AllWait, RestsIn, resting_frame}
+use Rattle.life_check.specs.ChainMeaning.{IsNamedIn, IsCallIn, Lives, WaitingFits, AllWait, RestsIn, resting_frame}
 use Rattle.life_check.specs.Meaning.{CoversPool, ByConnection, ByMember, ByDead, ByCall, Covers, NoneLives, FitsPool, Fits}
 use Rattle.life_check.proofs.Pools.{same_live, same_names, pool_kept}
 use Rattle.life_check.proofs.chains.Kept.{calls_kept}
@@ -172,7 +172,7 @@ module _ (chain : List Program) (certs : ℕ → Certificate) (g : Common) (c : 
 
   -- The calls that wait.
 
-  wait_left : (w : Frame) (more : List Frame) → w.of < f.of → WaitBelow w.of more → Waits chain certs g c w more → Waits chain certs after.0 after.1 (touched_frame bucket w) (map (touched_frame bucket) more)
+  wait_left : (w : Frame) (more : List Frame) → w.of < f.of → WaitBelow w.of more → WaitingFits chain certs g c w more → WaitingFits chain certs after.0 after.1 (touched_frame bucket w) (map (touched_frame bucket) more)
   wait_left w more lt nested e = record {
     passes = e.passes;
     to = e.to;

@@ -1,17 +1,17 @@
 -- What lives through a call of a chain is outside its instance.
 use Rattle.std.proofs.Common.{◌≡◌, ◌⊎◌, ℕ, ◌+◌, ◌<◌, true, false, List, [], ◌∷◌, Some, inl, inr, refl, sym, ◌∙◌, subst, arith}
-use Rattle.module_lang.specs.declared.instr.PoolRef.{PoolRef}
-use Rattle.module_lang.specs.declared.instr.PoolRef.TheVariants as pool
-use Rattle.module_lang.specs.Program.{Program, IsModule}
+use Rattle.module_code.specs.declared.instr.PoolRef.{PoolRef}
+use Rattle.module_code.specs.declared.instr.PoolRef.TheVariants as pool
+use Rattle.module_code.specs.Program.{Program, IsModule}
 use Rattle.run_model.specs.declared.bucket.Home.TheVariants as home
 use Rattle.run_model.specs.declared.bucket.PoolVar.TheVariants as poolvar
 use Rattle.run_model.specs.Pools.{is_under}
 use Rattle.run_model.specs.State.{pool_named}
 use Rattle.run_model.specs.Chains.{Frame, Connection, Common, configuration, pools_of, module_at}
-use Rattle.run_model.specs.ChainSound.{ChainPools, IsNested}
+use Rattle.model_laws.specs.ChainSound.{ChainPools, IsNested}
 use Rattle.life_check.specs.ChainMeaning.{IsNamedIn, IsCallIn, Lives}
-use Rattle.life_check.specs.Soundness.{Outside}
-use Rattle.run_model.proofs.chains.Apart.{own_is, under_no_other, under_no_request}
+use Rattle.life_check.specs.Soundness.{LivesOutside}
+use Rattle.model_laws.proofs.chains.Apart.{own_is, under_no_other, under_no_request}
 
 -- the calls that wait for one of the module top
 abbrev pub WaitBelow : ℕ → List Frame → Type 0
@@ -42,7 +42,7 @@ module _ (chain : List Program) (g : Common) (c : Connection) (proper : (k : ℕ
   over_in f (w ∷ rest) top k target m lt nested e (inl here) = under_no_other chain g c proper h w f here.0 m (λ same. absurd (omega (arith, same, (nested w rest refl).0))) here.1 k target e
   over_in f (w ∷ rest) top k target m lt nested e (inr there) = over_in f rest w.of k target m (omega (arith, (nested w rest refl).0)) (nested_below w rest ((nested w rest refl).1)) e there
 
-  pub outside : (f : Frame) (rest : List Frame) → IsNested f rest → Outside (configuration g c f) (Lives c f rest)
+  pub outside : (f : Frame) (rest : List Frame) → IsNested f rest → LivesOutside (configuration g c f) (Lives c f rest)
   unfolding IsCallIn configuration
   outside f rest nested = record {
     stays = λ q n m at live lives. stays_apart f rest q n m nested at lives;

@@ -1,8 +1,8 @@
 -- What a pass hands on is what the next filter's `main` is owed.
 use Rattle.std.proofs.Common.{◌≡◌, ℕ, Bool, true, false, cond, List, ◌∷◌, Some, None, inl, inr, refl, sym, ◌∙◌, ap}
-use Rattle.module_lang.specs.declared.instr.PoolRef.{PoolRef}
-use Rattle.module_lang.specs.declared.instr.PoolRef.TheVariants as pool
-use Rattle.module_lang.specs.Program.{Program}
+use Rattle.module_code.specs.declared.instr.PoolRef.{PoolRef}
+use Rattle.module_code.specs.declared.instr.PoolRef.TheVariants as pool
+use Rattle.module_code.specs.Program.{Program}
 use Rattle.run_model.specs.declared.bucket.BrigadeVar.{BrigadeVar}
 use Rattle.run_model.specs.declared.bucket.BrigadeVar.TheVariants as var
 use Rattle.run_model.specs.declared.bucket.Home.{Home}
@@ -23,7 +23,7 @@ use Rattle.life_state.specs.States.{Homes, only_call, BrigadeKnown, holds}
 use Rattle.life_check.specs.Meaning.{CoversPool, ByConnection, ByMember, ByDead, ByCall, Covers, FitsMark, FitsBrigade}
 use Rattle.life_check.proofs.Lists.{each_more, holds_more}
 use Rattle.run_model.specs.Passing.{handed_in}
-use Rattle.run_model.proofs.NamedPools.{own_named}
+use Rattle.model_laws.proofs.NamedPools.{own_named}
 use Rattle.life_check.specs.ChainMeaning.{IsNamedIn, IsCallIn, Lives}
 
 -- What lives through a call that a pass makes: what lived through the caller's, and each pool that the caller names.

@@ -1,9 +1,9 @@
 -- A return to a call that waits: it goes on behind its pass, or where that leads.
 use Rattle.std.proofs.Common.{◌≡◌, ◌≢◌, ℕ, ◌+◌, Bool, true, false, ◌||◌, ◌==◌, List, [], ◌∷◌, map, Some, All, inl, inr, refl, sym, ◌∙◌, ap, subst, arith}
 use Rattle.std.proofs.lemmas.List.Elements.{All-head, All-tail}
-use Rattle.module_lang.specs.declared.instr.Instr.TheVariants as instr
-use Rattle.module_lang.specs.declared.instr.Status.{Status}
-use Rattle.module_lang.specs.Program.{Program}
+use Rattle.module_code.specs.declared.instr.Instr.TheVariants as instr
+use Rattle.module_code.specs.declared.instr.Status.{Status}
+use Rattle.module_code.specs.Program.{Program}
 use Rattle.run_model.specs.declared.bucket.Brigade.{Brigade}
 use Rattle.run_model.specs.declared.bucket.BrigadeVar.TheVariants as var
 use Rattle.run_model.specs.declared.bucket.NamedBucket.{NamedBucket}
@@ -13,15 +13,15 @@ use Rattle.run_model.specs.Indexed.{upd}
 use Rattle.run_model.specs.Sound.{Sound}
 use Rattle.run_model.specs.State.{Instance, Configuration, pool_view}
 use Rattle.run_model.specs.Chains.{Frame, Connection, Common, Linked, module_at, configuration, shared_of, touched_instance, touched_frame}
-use Rattle.run_model.specs.ChainSound.{ChainSound, IsNested, IsPlaced, IsRising}
+use Rattle.model_laws.specs.ChainSound.{ChainSound, IsNested, IsFramePlaced, IsRising}
 use Rattle.run_model.specs.Passing.{given_back}
 use Rattle.run_model.proofs.Updates.{upd_at, upd_off}
 use Rattle.life_state.specs.Rules.{at_return}
 use Rattle.life_state.specs.States.{State}
 use Rattle.life_check.specs.Certificates.{Certificate, AllBounded}
-use Rattle.life_check.specs.ChainMeaning.{IsCallIn, Lives, FitsFrame, Runs, Waits, AllWait, resting_frame, is_on, ChainStands}
+use Rattle.life_check.specs.ChainMeaning.{IsCallIn, Lives, FitsFrame, TopFits, WaitingFits, AllWait, resting_frame, is_on, ChainStands}
 use Rattle.life_check.specs.Meaning.{Covers, Fits}
-use Rattle.life_check.specs.Soundness.{Ready}
+use Rattle.life_check.specs.Soundness.{MeetsNeeds}
 use Rattle.life_check.specs.Typed.{flows, is_below, left_by}
 use Rattle.life_check.proofs.Orders.{greater_fits}
 use Rattle.life_check.proofs.Standards.{fits_flow}
@@ -76,7 +76,7 @@ module _ (chain : List Program) (certs : ℕ → Certificate) (g : Common) (c : 
 
     -- Who waited.
 
-    going_fits : (h : Waits chain certs g c w rest) → h.passes ≡ b → FitsFrame chain after.0 after.1 h.state going (map (touched_frame ends) rest)
+    going_fits : (h : WaitingFits chain certs g c w rest) → h.passes ≡ b → FitsFrame chain after.0 after.1 h.state going (map (touched_frame ends) rest)
     unfolding configuration
     going_fits h is =
         let p = module_at chain w.of in
@@ -91,8 +91,8 @@ module _ (chain : List Program) (certs : ℕ → Certificate) (g : Common) (c : 
         subst (λ (i : Instance). Fits (Covers p (pool_view (in_place i)) lives) h.state (in_place i)) (sym (upd_at before_it w.of (given_back b left (before_it w.of))))
         (given_fits (Covers p (pool_view (in_place (before_it w.of))) lives) (in_place (before_it w.of)) b left handed at h.passed.1 h.state waited)
 
-    going_runs : AllBounded (certs w.of) → ChainSound chain after.0 after.1 → Sound (configuration after.0 after.1 going) → (h : Waits chain certs g c w rest) → h.passes ≡ b
-        → flows (Some h.state) ((certs w.of).at to) ≡ true → Runs chain certs after.0 after.1 going (map (touched_frame ends) rest)
+    going_runs : AllBounded (certs w.of) → ChainSound chain after.0 after.1 → Sound (configuration after.0 after.1 going) → (h : WaitingFits chain certs g c w rest) → h.passes ≡ b
+        → flows (Some h.state) ((certs w.of).at to) ≡ true → TopFits chain certs after.0 after.1 going (map (touched_frame ends) rest)
     going_runs bounded sound sounds h is flow =
         let m = certs w.of in
         let lives = Lives after.1 going (map (touched_frame ends) rest) in
@@ -114,10 +114,10 @@ module _ (chain : List Program) (certs : ℕ → Certificate) (g : Common) (c : 
         let parts = off_parts j going (map (touched_frame ends) rest) off in
         subst (λ (fs : List Frame). is_on j fs ≡ false) (sym top) (off_from j f (w ∷ rest) differ (off_from j w rest parts.0 (sym (off_touched j ends rest) ∙ parts.1)))
 
-    pub resumed_stands : AllBounded (certs f.of) → AllBounded (certs w.of) → IsPlaced chain c.req f → IsRising f.of c.queue → (t : Status) (s : State)
-        → Ready (Lives c f (w ∷ rest)) (module_at chain f.of) (instr.Ret t) (configuration g c f) s → is_below (at_return s) (left_by (module_at chain f.of) (certs f.of) f.pc) ≡ true
+    pub resumed_stands : AllBounded (certs f.of) → AllBounded (certs w.of) → IsFramePlaced chain c.req f → IsRising f.of c.queue → (t : Status) (s : State)
+        → MeetsNeeds (Lives c f (w ∷ rest)) (module_at chain f.of) (instr.Ret t) (configuration g c f) s → is_below (at_return s) (left_by (module_at chain f.of) (certs f.of) f.pc) ≡ true
         → ChainSound chain after.0 after.1 → Sound (configuration after.0 after.1 going) → Sound (configuration after.0 after.1 (resting_frame f.of)) → ChainStands chain certs g c → c.stack ≡ f ∷ (w ∷ rest)
-        → (h : Waits chain certs g c w rest) → h.passes ≡ b → flows (Some h.state) ((certs w.of).at to) ≡ true → AllWait chain certs g c rest → ChainStands chain certs after.0 after.1
+        → (h : WaitingFits chain certs g c w rest) → h.passes ≡ b → flows (Some h.state) ((certs w.of).at to) ≡ true → AllWait chain certs g c rest → ChainStands chain certs after.0 after.1
     resumed_stands bounded waiting placed rising t s ready below sound sounds left_sounds stands top h is flow wait =
         let here = upd_off before_it w.of f.of (given_back b left (before_it w.of)) (λ e. absurd (omega (arith, e, above))) ∙ returned_here chain certs g c f in
         record {

@@ -1,10 +1,10 @@
 -- A return: the instance of the call that ended rests, homes that are that call end everywhere, and who waited goes on.
 use Rattle.std.proofs.Common.{◌≡◌, ◌≢◌, ℕ, ◌<◌, ◌≤◌, Bool, true, false, ◌==◌, cond, List, [], ◌∷◌, length, Option, Some, None, inl, inr, refl, sym, ◌∙◌, ap, subst, arith, eq-eqb, ne_eqb}
 use Rattle.std.proofs.lemmas.Bool.{cases_eq, or_from}
-use Rattle.module_lang.specs.declared.instr.Instr.TheVariants as instr
-use Rattle.module_lang.specs.declared.instr.Status.{Status}
-use Rattle.module_lang.specs.declared.instr.Status.TheVariants.{Success}
-use Rattle.module_lang.specs.Program.{Program}
+use Rattle.module_code.specs.declared.instr.Instr.TheVariants as instr
+use Rattle.module_code.specs.declared.instr.Status.{Status}
+use Rattle.module_code.specs.declared.instr.Status.TheVariants.{Success}
+use Rattle.module_code.specs.Program.{Program}
 use Rattle.run_model.specs.declared.bucket.Home.{Home}
 use Rattle.run_model.specs.Buckets.{returned_bucket}
 use Rattle.run_model.specs.Effects.{do_return, returned_var}
@@ -12,13 +12,13 @@ use Rattle.run_model.specs.Pools.{is_in}
 use Rattle.run_model.specs.Sound.{Sound}
 use Rattle.run_model.specs.State.{Instance, Configuration, fresh_call}
 use Rattle.run_model.specs.Chains.{Frame, Connection, Common, Linked, module_at, configuration, shared_of, touched_instance}
-use Rattle.run_model.specs.ChainSound.{ChainSound, IsPlaced, IsRising}
+use Rattle.model_laws.specs.ChainSound.{ChainSound, IsFramePlaced, IsRising}
 use Rattle.life_state.specs.Rules.{at_return}
 use Rattle.life_state.specs.States.{State}
 use Rattle.life_check.specs.Certificates.{Certificate, AllBounded, IsBoundedSome}
 use Rattle.life_check.specs.ChainMeaning.{between, before, known_of, RestsIn, resting_frame, is_on, ChainStands}
 use Rattle.life_check.specs.Meaning.{Between, NoneLives, Fits}
-use Rattle.life_check.specs.Soundness.{FitsSome, Ready}
+use Rattle.life_check.specs.Soundness.{FitsSome, MeetsNeeds}
 use Rattle.life_check.specs.Typed.{is_below, left_by}
 use Rattle.life_check.proofs.Onward.{left_rests}
 use Rattle.life_check.proofs.Orders.{greater_fits}
@@ -83,7 +83,7 @@ module _ (chain : List Program) (certs : ℕ → Certificate) (g : Common) (c : 
     other_rests k o is rests = rests_kept chain certs g c next instances stack queue (returned_bucket f.call.name) (returned_mild f.call.name) own k o (returned_beside (instances k) k is) none_returned rests
 
     -- the instance of the call that ended
-    module _ (lives : Home → Type 0) (t : Status) (s : State) (ready : Ready lives (module_at chain f.of) (instr.Ret t) (configuration g c f) s) (here : instances f.of ≡ left_behind) where
+    module _ (lives : Home → Type 0) (t : Status) (s : State) (ready : MeetsNeeds lives (module_at chain f.of) (instr.Ret t) (configuration g c f) s) (here : instances f.of ≡ left_behind) where
       left_fits : (let r = configuration after.0 after.1 (resting_frame f.of) in Fits (Between (module_at chain f.of) r) (at_return s) r)
       unfolding configuration
       left_fits =
@@ -94,7 +94,7 @@ module _ (chain : List Program) (certs : ℕ → Certificate) (g : Common) (c : 
           (refits (Between p old) (Between p (in_place left_behind)) (λ h x covered. covered) left_behind (fresh_call 0) (shared_of g c) (shared_of after.0 after.1) f.pc 0 c.out c.out refl (at_return s)
           (law_ret t p (record { answer = Success; given = None }) (configuration g c f) s ready))
 
-      left_rests_in : AllBounded (certs f.of) → IsPlaced chain c.req f → is_below (at_return s) (left_by (module_at chain f.of) (certs f.of) f.pc) ≡ true
+      left_rests_in : AllBounded (certs f.of) → IsFramePlaced chain c.req f → is_below (at_return s) (left_by (module_at chain f.of) (certs f.of) f.pc) ≡ true
           → ChainSound chain after.0 after.1 → Sound (configuration after.0 after.1 (resting_frame f.of)) → RestsIn chain after.0 after.1 f.of (between (certs f.of) c.req)
       left_rests_in bounded placed below sound sounds =
           let p = module_at chain f.of in
@@ -107,7 +107,7 @@ module _ (chain : List Program) (certs : ℕ → Certificate) (g : Common) (c : 
             rests_of (Some t) h = h
 
       -- All that are in no call then. there, off, same: what is not the call that ended is as it was, but for the homes that end.
-      pub all_rest : AllBounded (certs f.of) → IsPlaced chain c.req f → is_below (at_return s) (left_by (module_at chain f.of) (certs f.of) f.pc) ≡ true
+      pub all_rest : AllBounded (certs f.of) → IsFramePlaced chain c.req f → is_below (at_return s) (left_by (module_at chain f.of) (certs f.of) f.pc) ≡ true
           → ChainSound chain after.0 after.1 → Sound (configuration after.0 after.1 (resting_frame f.of)) → ChainStands chain certs g c
           → ((j : ℕ) → j ≢ f.of → is_on j stack ≡ false → instances j ≡ touched_instance (returned_var f.call.name) (c.instances j))
           → ((j : ℕ) → j ≢ f.of → is_on j stack ≡ false → is_on j c.stack ≡ false)

@@ -1,7 +1,7 @@
 -- What another call does to a call that waits: buckets change in place, and none of their homes that is covered is hit.
 use Rattle.std.proofs.Common.{◌≡◌, ℕ, cond, List, map, Some, inl, inr, refl, sym, ◌∙◌, ap, subst, ne_eqb}
 use mathlib.Core.List.{map-id}
-use Rattle.module_lang.specs.Program.{Program}
+use Rattle.module_code.specs.Program.{Program}
 use Rattle.run_model.specs.declared.bucket.BrigadeVar.{BrigadeVar}
 use Rattle.run_model.specs.declared.bucket.BrigadeVar.TheVariants as var
 use Rattle.run_model.specs.declared.bucket.Cursor.{Cursor}
@@ -21,7 +21,7 @@ use Rattle.run_model.specs.State.{Configuration, PoolView, items_of}
 use Rattle.life_state.specs.declared.parts.Classes.{Classes}
 use Rattle.life_state.specs.declared.parts.PoolState.{PoolState}
 use Rattle.life_state.specs.States.{Homes, BrigadeKnown, CursorKnown, Unset, Loose, In, End, InOrEnd, State}
-use Rattle.life_check.specs.Meaning.{Covers, class_has, FitsPool, FitsMark, FitsBrigade, IsIn, IsEndOf, FitsCursor, Differ, Fits}
+use Rattle.life_check.specs.Meaning.{Covers, class_has, FitsPool, FitsMark, FitsBrigade, IsAtBucketOf, IsEndOf, FitsCursor, Differ, Fits}
 use Rattle.life_check.proofs.Lists.{each_map, IsSorted, holds_map, map_found, named_map}
 
 -- a brigade's buckets change in place
@@ -74,7 +74,7 @@ module _ (C D : Homes → Home → Type 0) (f : NamedBucket → NamedBucket) (r 
   use_mapped var.Gone = refl
   use_mapped (var.Live v) = refl
 
-  in_spared : (v : Cursor) (b : ℕ) (t : Classes) → IsIn r v b t → IsIn new v b t
+  in_spared : (v : Cursor) (b : ℕ) (t : Classes) → IsAtBucketOf r v b t → IsAtBucketOf new v b t
   in_spared v b t i = record {
     bucket = f i.bucket;
     at = i.at ∙ ap cursor_at (sym (s.names i.bucket));

@@ -2,9 +2,9 @@
 use Rattle.std.proofs.Common.{◌≡◌, ◌≢◌, ℕ, zero, suc, ◌+◌, ◌<◌, Bool, true, false, ◌||◌, not, ◌==◌, cond, List, [], ◌∷◌, ◌++◌, length, Option, Some, None, refl, inl, inr, sym, ◌∙◌, ap, subst, arith, eq-eqb}
 use Rattle.std.proofs.lemmas.Bool.{cases_eq}
 use Rattle.std.proofs.lemmas.List.Folds.{list_any-append}
-use Rattle.module_lang.specs.declared.instr.PoolRef.{PoolRef}
-use Rattle.module_lang.specs.declared.instr.PoolRef.TheVariants as pool
-use Rattle.module_lang.specs.Program.{Program}
+use Rattle.module_code.specs.declared.instr.PoolRef.{PoolRef}
+use Rattle.module_code.specs.declared.instr.PoolRef.TheVariants as pool
+use Rattle.module_code.specs.Program.{Program}
 use Rattle.run_model.specs.declared.bucket.Brigade.{Brigade}
 use Rattle.run_model.specs.declared.bucket.BrigadeVar.TheVariants as var
 use Rattle.run_model.specs.declared.bucket.Home.{Home}
@@ -18,12 +18,12 @@ use Rattle.run_model.specs.State.{Instance, Call, pool_view, named_at, fresh_cal
 use Rattle.run_model.specs.Chains.{Frame, Connection, Common, module_at, configuration, pools_of}
 use Rattle.run_model.specs.Passing.{set_in}
 use Rattle.run_model.specs.Turns.{numbers_below, tail_of, all_called, opened, begun, brought_in}
-use Rattle.run_model.specs.ChainSound.{ChainSound}
-use Rattle.run_model.proofs.Brought.{buckets_as_pieces}
+use Rattle.model_laws.specs.ChainSound.{ChainSound}
+use Rattle.model_laws.proofs.Brought.{buckets_as_pieces}
 use Rattle.run_model.proofs.Formed.{path_live}
 use Rattle.run_model.proofs.PoolMap.{created_lives, created_kept}
 use Rattle.run_model.proofs.Updates.{upd_off}
-use Rattle.run_model.proofs.chains.Views.{sound_top}
+use Rattle.model_laws.proofs.chains.Views.{sound_top}
 use Rattle.life_state.specs.declared.parts.Contents.TheVariants.{NoLateData}
 use Rattle.life_state.specs.Rules.{at_open}
 use Rattle.life_state.specs.States.{Homes, only_call, holds, State}

@@ -1,10 +1,11 @@
 -- No run of a chain of typed modules answers a fault, where events keep what is sound.
 use Rattle.std.proofs.Common.{◌≡◌, ℕ, List, [], ◌∷◌, Some, None, subst}
-use Rattle.module_lang.specs.Program.{Program}
+use Rattle.module_code.specs.Program.{Program}
 use Rattle.run_model.specs.declared.event.Event.{Event}
 use Rattle.run_model.specs.Worlds.{World, Answer, empty_world, IsRun}
-use Rattle.run_model.specs.ChainSound.{WorldSound}
-use Rattle.run_model.specs.ChainLaws.{IsChain, EventKeepsWorld}
+use Rattle.model_laws.specs.ChainSound.{WorldSound}
+use Rattle.run_model.specs.Chains.{IsChain}
+use Rattle.model_laws.specs.ChainLaws.{EventKeepsWorld}
 use Rattle.life_check.specs.Certificates.{Certificate}
 use Rattle.life_check.specs.ChainTheorem.{IsNoFault, NoFaults, ChainNeverFaults}
 use Rattle.life_check.proofs.chains.Turning.{TopLands}

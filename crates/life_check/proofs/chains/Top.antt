@@ -2,23 +2,23 @@
 use Rattle.std.proofs.Common.{◌≡◌, ℕ, true, false, List, ◌∷◌, Some, None, is_some, sym, subst, inl, inr, arith, All}
 use Rattle.std.proofs.lemmas.Bool.{cases_lt}
 use Rattle.std.proofs.lemmas.List.Elements.{All-head}
-use Rattle.module_lang.specs.declared.instr.Instr.{Instr}
-use Rattle.module_lang.specs.Program.{Program, IsModule}
+use Rattle.module_code.specs.declared.instr.Instr.{Instr}
+use Rattle.module_code.specs.Program.{Program, IsModule}
 use Rattle.run_model.specs.Faults.{wants, fault}
 use Rattle.run_model.specs.Sound.{Sound}
 use Rattle.run_model.specs.State.{pool_view}
 use Rattle.run_model.specs.Steps.{current, lacks_names}
 use Rattle.run_model.specs.Chains.{Frame, Connection, Common, module_at, configuration}
-use Rattle.run_model.specs.ChainSound.{ChainSound, IsNested, IsNestedStack, IsPlaced}
-use Rattle.run_model.proofs.EventsKeep.{may_execute, current_fits}
-use Rattle.run_model.proofs.Handlers.{current_at}
+use Rattle.model_laws.specs.ChainSound.{ChainSound, IsNested, IsNestedStack, IsFramePlaced}
+use Rattle.model_laws.proofs.EventsKeep.{may_execute, current_fits}
+use Rattle.model_laws.proofs.Handlers.{current_at}
 use Rattle.life_state.specs.Rules.{Edges, edges, first_need}
 use Rattle.life_state.specs.States.{State}
 use Rattle.life_check.specs.Certificates.{Certificate}
-use Rattle.life_check.specs.ChainMeaning.{Lives, FitsFrame, Runs, AllWait, StackStands, ChainStands}
+use Rattle.life_check.specs.ChainMeaning.{Lives, FitsFrame, TopFits, AllWait, StackStands, ChainStands}
 use Rattle.life_check.specs.ChainTheorem.{AllTyped}
 use Rattle.life_check.specs.Meaning.{Covers}
-use Rattle.life_check.specs.Soundness.{Outside, Ready, wants_request}
+use Rattle.life_check.specs.Soundness.{LivesOutside, MeetsNeeds, wants_request}
 use Rattle.life_check.specs.Typed.{IsLed, exits, leads_on}
 use Rattle.life_check.proofs.Onward.{no_request, met_of}
 use Rattle.life_check.proofs.Standards.{covered_own}
@@ -34,7 +34,7 @@ pub record Met (chain : List Program) (certs : ℕ → Certificate) (g : Common)
   pub state : State
   pub given : (certs f.of).at f.pc ≡ Some state
   pub fits : FitsFrame chain g c state f rest
-  pub outside : Outside (configuration g c f) (Lives c f rest)
+  pub outside : LivesOutside (configuration g c f) (Lives c f rest)
   pub needs : first_need state (wants (module_at chain f.of) (next_of chain f)) ≡ None
   pub leads : leads_on (certs f.of) f.pc (next_of chain f) (edges (module_at chain f.of) (next_of chain f) state) ≡ true
   pub exits : exits (module_at chain f.of) (certs f.of) f.pc (next_of chain f) state ≡ true
@@ -42,21 +42,21 @@ pub record Met (chain : List Program) (certs : ℕ → Certificate) (g : Common)
 
 module _ (chain : List Program) (certs : ℕ → Certificate) (g : Common) (c : Connection) (f : Frame) (rest : List Frame) where
   -- the call on top is placed, and so are the others
-  pub placed_top : ChainSound chain g c → c.stack ≡ f ∷ rest → IsPlaced chain c.req f
-  placed_top sound top = All-head (IsPlaced chain c.req) f rest (subst (All (IsPlaced chain c.req)) top sound.calls.placed)
+  pub placed_top : ChainSound chain g c → c.stack ≡ f ∷ rest → IsFramePlaced chain c.req f
+  placed_top sound top = All-head (IsFramePlaced chain c.req) f rest (subst (All (IsFramePlaced chain c.req)) top sound.calls.placed)
 
   pub nested_top : ChainSound chain g c → c.stack ≡ f ∷ rest → IsNested f rest
   unfolding IsNestedStack
   nested_top sound top = subst IsNestedStack top sound.calls.nested
 
-  pub runs_top : ChainStands chain certs g c → c.stack ≡ f ∷ rest → Runs chain certs g c f rest
+  pub runs_top : ChainStands chain certs g c → c.stack ≡ f ∷ rest → TopFits chain certs g c f rest
   runs_top stands top = (subst (StackStands chain certs g c) top stands.stack).0
 
   pub waits_top : ChainStands chain certs g c → c.stack ≡ f ∷ rest → AllWait chain certs g c rest
   waits_top stands top = (subst (StackStands chain certs g c) top stands.stack).1
 
   -- its instruction wants the request's pool only where there is one
-  requested : IsModule (module_at chain f.of) → IsPlaced chain c.req f → wants_request (wants (module_at chain f.of) (next_of chain f)) ≡ true → is_some c.req ≡ true
+  requested : IsModule (module_at chain f.of) → IsFramePlaced chain c.req f → wants_request (wants (module_at chain f.of) (next_of chain f)) ≡ true → is_some c.req ≡ true
   requested proper placed wanted = elim (cases_lt f.pc (module_at chain f.of).init) [
     | inl lt ↦ absurd (no_request (module_at chain f.of) (next_of chain f) (proper.opening.inside f.pc (next_of chain f) (omega arith) lt (current_at (module_at chain f.of) f.pc placed.at)).allowed wanted)
     | inr le ↦ placed.serving le
@@ -92,7 +92,7 @@ module _ (chain : List Program) (certs : ℕ → Certificate) (g : Common) (c : 
 
   -- what the laws of steps ask of it
   pub top_ready : ((k : ℕ) → IsModule (module_at chain k)) → ChainSound chain g c → Sound (configuration g c f) → lacks_names (configuration g c f) (next_of chain f) ≡ false
-      → (m : Met chain certs g c f rest) → Ready (Lives c f rest) (module_at chain f.of) (next_of chain f) (configuration g c f) m.state
+      → (m : Met chain certs g c f rest) → MeetsNeeds (Lives c f rest) (module_at chain f.of) (next_of chain f) (configuration g c f) m.state
   unfolding configuration
   top_ready proper sound sounds last m = record {
     outside = m.outside;

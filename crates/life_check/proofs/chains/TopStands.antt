@@ -2,28 +2,28 @@
 use Rattle.std.proofs.Common.{◌≡◌, ℕ, ◌+◌, Bool, true, false, cond, List, [], ◌∷◌, map, Some, All, refl, sym, ◌∙◌, ap, subst}
 use Rattle.std.proofs.lemmas.List.Elements.{All-head, All-tail}
 use Rattle.std.proofs.lemmas.Option.{get_or_from_slice_get}
-use Rattle.module_lang.specs.declared.instr.Instr.{Instr}
-use Rattle.module_lang.specs.declared.instr.Instr.TheVariants as instr
-use Rattle.module_lang.specs.declared.instr.Status.{Status}
-use Rattle.module_lang.specs.declared.instr.Status.TheVariants.{Success, Fail}
-use Rattle.module_lang.specs.Program.{Program, IsModule}
+use Rattle.module_code.specs.declared.instr.Instr.{Instr}
+use Rattle.module_code.specs.declared.instr.Instr.TheVariants as instr
+use Rattle.module_code.specs.declared.instr.Status.{Status}
+use Rattle.module_code.specs.declared.instr.Status.TheVariants.{Success, Fail}
+use Rattle.module_code.specs.Program.{Program, IsModule}
 use Rattle.run_model.specs.declared.bucket.NamedBucket.{NamedBucket}
 use Rattle.run_model.specs.Buckets.{returned_bucket}
 use Rattle.run_model.specs.Effects.{do_return}
 use Rattle.run_model.specs.State.{items_of}
 use Rattle.run_model.specs.Steps.{current}
 use Rattle.run_model.specs.Chains.{Frame, Connection, Common, Linked, module_at, is_last, configuration, put_back}
-use Rattle.run_model.specs.ChainLaws.{MayProceed, after_top}
-use Rattle.run_model.specs.ChainSound.{ChainSound, IsPlaced, IsRising, AreNamed}
+use Rattle.model_laws.specs.ChainLaws.{MayProceed, after_top}
+use Rattle.model_laws.specs.ChainSound.{ChainSound, IsFramePlaced, IsRising, AreNamed}
 use Rattle.run_model.specs.Passing.{Reads, gone_on, next_called, passed_to, returned_to, returned_from, delivered_by, proceeds, after_pass}
-use Rattle.run_model.proofs.Handlers.{current_at}
-use Rattle.run_model.proofs.chains.Modules.{module_at_proper}
-use Rattle.run_model.proofs.chains.Views.{sound_top, sound_resting}
+use Rattle.model_laws.proofs.Handlers.{current_at}
+use Rattle.model_laws.proofs.chains.Modules.{module_at_proper}
+use Rattle.model_laws.proofs.chains.Views.{sound_top, sound_resting}
 use Rattle.life_state.specs.Rules.{edges}
 use Rattle.life_check.specs.Certificates.{Certificate}
-use Rattle.life_check.specs.ChainMeaning.{Lives, Waits, AllWait, ChainStands}
+use Rattle.life_check.specs.ChainMeaning.{Lives, WaitingFits, AllWait, ChainStands}
 use Rattle.life_check.specs.ChainTheorem.{AllTyped}
-use Rattle.life_check.specs.Soundness.{Ready}
+use Rattle.life_check.specs.Soundness.{MeetsNeeds}
 use Rattle.life_check.specs.Typed.{flows, exits, leads_on}
 use Rattle.life_check.proofs.chains.Ended.{ended_stands, called_stands}
 use Rattle.life_check.proofs.chains.Handed.{handed_stands}
@@ -40,15 +40,15 @@ module _ (chain : List Program) (reads : Reads) (certs : ℕ → Certificate) (g
   proper : (k : ℕ) → IsModule (module_at chain k)
   proper = module_at_proper chain may.chained
 
-  placed : IsPlaced chain c.req f
+  placed : IsFramePlaced chain c.req f
   placed = placed_top chain certs g c f rest sound may.on_top
 
   met : Met chain certs g c f rest
   met = top_met chain certs g c f rest proper typed sound (sound_top chain g c f rest may.on_top sound) stands may.on_top
 
-  ready : (i : Instr) → next_of chain f ≡ i → Ready (Lives c f rest) (module_at chain f.of) i (configuration g c f) met.state
+  ready : (i : Instr) → next_of chain f ≡ i → MeetsNeeds (Lives c f rest) (module_at chain f.of) i (configuration g c f) met.state
   ready i is =
-      subst (λ (j : Instr). Ready (Lives c f rest) (module_at chain f.of) j (configuration g c f) met.state) is
+      subst (λ (j : Instr). MeetsNeeds (Lives c f rest) (module_at chain f.of) j (configuration g c f) met.state) is
       (top_ready chain certs g c f rest proper sound (sound_top chain g c f rest may.on_top sound) may.names_last met)
 
   leads : (i : Instr) → next_of chain f ≡ i → leads_on (certs f.of) f.pc i (edges (module_at chain f.of) i met.state) ≡ true
@@ -78,8 +78,8 @@ module _ (chain : List Program) (reads : Reads) (certs : ℕ → Certificate) (g
     top : c.stack ≡ f ∷ []
     top = may.on_top ∙ ap (λ (fs : List Frame). f ∷ fs) alone
 
-    returning : Ready (Lives c f []) (module_at chain f.of) (instr.Ret t) (configuration g c f) met.state
-    returning = subst (λ (fs : List Frame). Ready (Lives c f fs) (module_at chain f.of) (instr.Ret t) (configuration g c f) met.state) alone (ready (instr.Ret t) is)
+    returning : MeetsNeeds (Lives c f []) (module_at chain f.of) (instr.Ret t) (configuration g c f) met.state
+    returning = subst (λ (fs : List Frame). MeetsNeeds (Lives c f fs) (module_at chain f.of) (instr.Ret t) (configuration g c f) met.state) alone (ready (instr.Ret t) is)
 
     by_queue : (queue : List ℕ) → c.queue ≡ queue → MayStand chain certs (next_called chain t queue (put_back (instr.Ret t) f (do_return (configuration g c f)) [] [] (g, c))).1
     by_queue [] empty new =
@@ -92,7 +92,7 @@ module _ (chain : List Program) (reads : Reads) (certs : ℕ → Certificate) (g
   waiting_stands : (t : Status) (w : Frame) (more : List Frame) → next_of chain f ≡ instr.Ret t → rest ≡ w ∷ more → MayStand chain certs (returned_to (module_at chain w.of) t f w more (g, c))
   unfolding returned_to put_back configuration current AllWait AreNamed
   waiting_stands t w more is waits =
-      let h : Waits chain certs g c w more = waiting.0 in
+      let h : WaitingFits chain certs g c w more = waiting.0 in
       let passes : current (module_at chain w.of) w.pc ≡ instr.Pass h.passes h.to = get_or_from_slice_get (module_at chain w.of).code w.pc (instr.Pass h.passes h.to) (instr.Ret Success) h.at in
       subst (λ (i : Instr). MayStand chain certs (gone_on t i w left (put_back (instr.Ret t) f (do_return (configuration g c f)) [] (w ∷ more) (g, c)))) (sym passes) (goes_on h)
     where
@@ -105,20 +105,20 @@ module _ (chain : List Program) (reads : Reads) (certs : ℕ → Certificate) (g
       left : List NamedBucket
       left = map (returned_bucket f.call.name) (items_of ((configuration g c f).instance.brigades 8))
 
-      returning : Ready (Lives c f (w ∷ more)) (module_at chain f.of) (instr.Ret t) (configuration g c f) met.state
-      returning = subst (λ (fs : List Frame). Ready (Lives c f fs) (module_at chain f.of) (instr.Ret t) (configuration g c f) met.state) waits (ready (instr.Ret t) is)
+      returning : MeetsNeeds (Lives c f (w ∷ more)) (module_at chain f.of) (instr.Ret t) (configuration g c f) met.state
+      returning = subst (λ (fs : List Frame). MeetsNeeds (Lives c f fs) (module_at chain f.of) (instr.Ret t) (configuration g c f) met.state) waits (ready (instr.Ret t) is)
 
-      flow : (h : Waits chain certs g c w more) (u : Status) → flows (Some h.state) ((certs w.of).at (after_pass u (instr.Pass h.passes h.to) w.pc)) ≡ true
+      flow : (h : WaitingFits chain certs g c w more) (u : Status) → flows (Some h.state) ((certs w.of).at (after_pass u (instr.Pass h.passes h.to) w.pc)) ≡ true
       flow h Success = h.well
       flow h Fail = h.fails
 
-      below : IsPlaced chain c.req w
-      below = All-head (IsPlaced chain c.req) w more (All-tail (IsPlaced chain c.req) f (w ∷ more) (subst (All (IsPlaced chain c.req)) top sound.calls.placed))
+      below : IsFramePlaced chain c.req w
+      below = All-head (IsFramePlaced chain c.req) w more (All-tail (IsFramePlaced chain c.req) f (w ∷ more) (subst (All (IsFramePlaced chain c.req)) top sound.calls.placed))
 
       named : AreNamed g.next (f ∷ (w ∷ more))
       named = subst (AreNamed g.next) top sound.calls.named
 
-      goes_on : (h : Waits chain certs g c w more) → MayStand chain certs (gone_on t (instr.Pass h.passes h.to) w left (put_back (instr.Ret t) f (do_return (configuration g c f)) [] (w ∷ more) (g, c)))
+      goes_on : (h : WaitingFits chain certs g c w more) → MayStand chain certs (gone_on t (instr.Pass h.passes h.to) w left (put_back (instr.Ret t) f (do_return (configuration g c f)) [] (w ∷ more) (g, c)))
       goes_on h new =
           resumed_stands chain certs g c f w more h.passes h.to left (after_pass t (instr.Pass h.passes h.to) w.pc) (nested_top chain certs g c f (w ∷ more) sound top) named.2
           (typed f.of placed.of).0 (typed w.of below.of).0 placed (sound.calls.later f rest may.on_top) t met.state returning (leaves (instr.Ret t) is) new (sound_top chain _ _ _ _ refl new) (sound_resting chain _ _ f.of placed.of new)

@@ -1,18 +1,18 @@
 -- The instruction of the call on top has no fault; and where it neither begins a call nor ends one, it leaves what stands.
 use Rattle.std.proofs.Common.{◌≡◌, ℕ, ◌+◌, Bool, true, false, cond, List, [], ◌∷◌, None, refl, sym, ap, subst}
-use Rattle.module_lang.specs.declared.instr.Instr.{Instr}
-use Rattle.module_lang.specs.declared.instr.Instr.TheVariants as instr
-use Rattle.module_lang.specs.Program.{Program}
+use Rattle.module_code.specs.declared.instr.Instr.{Instr}
+use Rattle.module_code.specs.declared.instr.Instr.TheVariants as instr
+use Rattle.module_code.specs.Program.{Program}
 use Rattle.run_model.specs.Faults.{fault}
-use Rattle.run_model.specs.Laws.{is_return}
+use Rattle.model_laws.specs.Laws.{is_return}
 use Rattle.run_model.specs.State.{Out, items_of}
 use Rattle.run_model.specs.Steps.{Choice, step, answer_to}
-use Rattle.run_model.specs.Chains.{Frame, Connection, Common, Linked, module_at, is_last, configuration, put_back, led_to, stepped_in}
+use Rattle.run_model.specs.Chains.{Frame, Connection, Common, Linked, module_at, is_last, configuration, put_back, led_to, stepped_in, IsChain}
 use Rattle.run_model.specs.Passing.{Reads, delivered, delivered_by, passed_to, proceeds}
-use Rattle.run_model.specs.ChainLaws.{IsChain, MayProceed, after_top}
-use Rattle.run_model.specs.ChainSound.{ChainSound}
-use Rattle.run_model.proofs.chains.Modules.{module_at_proper}
-use Rattle.run_model.proofs.chains.Views.{sound_top}
+use Rattle.model_laws.specs.ChainLaws.{MayProceed, after_top}
+use Rattle.model_laws.specs.ChainSound.{ChainSound}
+use Rattle.model_laws.proofs.chains.Modules.{module_at_proper}
+use Rattle.model_laws.proofs.chains.Views.{sound_top}
 use Rattle.life_check.specs.Certificates.{Certificate}
 use Rattle.life_check.specs.ChainMeaning.{ChainStands}
 use Rattle.life_check.specs.ChainTheorem.{AllTyped}

@@ -1,9 +1,9 @@
 -- What an instruction that is executed in place does to what other calls and instances hold.
 use Rattle.std.proofs.Common.{◌≡◌, ◌⊎◌, ℕ, ◌<◌, Bool, false, cond, List, map, Option, Some, None, inl, inr, refl, ap}
-use Rattle.module_lang.specs.declared.instr.Instr.{Instr}
-use Rattle.module_lang.specs.declared.instr.Instr.TheVariants as instr
-use Rattle.module_lang.specs.declared.instr.PoolRef.TheVariants as pool
-use Rattle.module_lang.specs.Program.{Program}
+use Rattle.module_code.specs.declared.instr.Instr.{Instr}
+use Rattle.module_code.specs.declared.instr.Instr.TheVariants as instr
+use Rattle.module_code.specs.declared.instr.PoolRef.TheVariants as pool
+use Rattle.module_code.specs.Program.{Program}
 use Rattle.run_model.specs.declared.bucket.BrigadeVar.{BrigadeVar}
 use Rattle.run_model.specs.declared.bucket.BrigadeVar.TheVariants as var
 use Rattle.run_model.specs.declared.bucket.Home.{Home}
@@ -12,14 +12,14 @@ use Rattle.run_model.specs.declared.bucket.NamedBucket.{NamedBucket}
 use Rattle.run_model.specs.declared.bucket.PoolVar.TheVariants as poolvar
 use Rattle.run_model.specs.Buckets.{end_pools, cleared_bucket}
 use Rattle.run_model.specs.Clearing.{is_reached, cleared_var, run_down}
-use Rattle.run_model.specs.Laws.{MayExecute, is_return}
+use Rattle.model_laws.specs.Laws.{MayExecute, is_return}
 use Rattle.run_model.specs.Pools.{is_under}
 use Rattle.run_model.specs.State.{Configuration, with_pools, set_pool, pool_named}
 use Rattle.run_model.specs.Steps.{Choice, step, made_on, on_pool, pool_cleared, pool_destroyed}
 use Rattle.run_model.specs.Chains.{cleared_by, is_under_named, touched_var, touched_bucket}
-use Rattle.run_model.proofs.NamedPools.{own_named, made_under_named}
+use Rattle.model_laws.proofs.NamedPools.{own_named, made_under_named}
 use Rattle.run_model.proofs.PoolMap.{created_kept, cleared_apart, destroyed_apart}
-use Rattle.run_model.proofs.chains.QuietSteps.{IsQuiet, quiet_step}
+use Rattle.model_laws.proofs.chains.QuietSteps.{IsQuiet, quiet_step}
 use Rattle.life_state.specs.declared.parts.Classes.{Classes}
 use Rattle.life_check.specs.Meaning.{class_has}
 use Rattle.life_check.proofs.Cleared.{heap_class, cleared_sorted}

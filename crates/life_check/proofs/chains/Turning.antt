@@ -1,9 +1,9 @@
 -- A step of a connection leaves what stands, and answers no fault, where the instruction of the call on top does.
 use Rattle.std.proofs.Common.{◌≡◌, ℕ, ◌+◌, Bool, true, false, ◌||◌, not, nat_lt, nat_le, cond, List, [], ◌∷◌, Option, Some, None, Result, Ok, refl}
-use Rattle.module_lang.specs.declared.instr.Instr.{Instr}
-use Rattle.module_lang.specs.declared.instr.Instr.TheVariants as instr
-use Rattle.module_lang.specs.declared.instr.Status.{Status}
-use Rattle.module_lang.specs.Program.{Program}
+use Rattle.module_code.specs.declared.instr.Instr.{Instr}
+use Rattle.module_code.specs.declared.instr.Instr.TheVariants as instr
+use Rattle.module_code.specs.declared.instr.Status.{Status}
+use Rattle.module_code.specs.Program.{Program}
 use Rattle.run_model.specs.declared.event.Cause.{Cause}
 use Rattle.run_model.specs.declared.event.Cause.TheVariants as cause
 use Rattle.run_model.specs.declared.event.Refusal.{Refusal}
@@ -11,11 +11,11 @@ use Rattle.run_model.specs.declared.event.Stepped.{Stepped}
 use Rattle.run_model.specs.declared.fault.FaultKind.{FaultKind}
 use Rattle.run_model.specs.Faults.{fault}
 use Rattle.run_model.specs.Steps.{lacks_names, grows, current, is_spent}
-use Rattle.run_model.specs.Chains.{Frame, Connection, Common, Linked, module_at, configuration}
+use Rattle.run_model.specs.Chains.{Frame, Connection, Common, Linked, module_at, configuration, IsChain}
 use Rattle.run_model.specs.Passing.{Reads, next_called, returned_from, returns, proceeds}
 use Rattle.run_model.specs.Turns.{calls_of, broken_by, counted, executed, unless_fault, watched, step_top, step_unless, steps}
-use Rattle.run_model.specs.ChainSound.{ChainSound}
-use Rattle.run_model.specs.ChainLaws.{IsChain, MayProceed, after_top}
+use Rattle.model_laws.specs.ChainSound.{ChainSound}
+use Rattle.model_laws.specs.ChainLaws.{MayProceed, after_top}
 use Rattle.life_check.specs.Certificates.{Certificate}
 use Rattle.life_check.specs.ChainMeaning.{ChainStands}
 use Rattle.life_check.proofs.Onward.{NoFaultIn}

@@ -9,8 +9,8 @@ ghost use Rattle.pool_tree.specs.Tree.{map_of};
 
 use super::{PoolId, PoolTree};
 use crate::text::PoolText;
+use byte_text::{WriteFault, put_all};
 use itoa::Buffer;
-use module_lang::{WriteFault, put_all};
 use std::io::Write;
 
 /// Writes two spaces for each pool above.

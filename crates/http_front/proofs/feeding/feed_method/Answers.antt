@@ -1,6 +1,6 @@
 use Rattle.std.proofs.Common.{ap}
+use Rattle.http_message.specs.declared.reply.Method.{Method}
 use Rattle.http_front.specs.Requests.{brigades_for}
-use Rattle.http_front.specs.declared.reply.Method.{Method}
 use Rattle.http_front.proofs.FeedLaws.{feeds_nothing}
 use Rattle.http_front.proofs.feeding.feed_method.Goals as goal
 

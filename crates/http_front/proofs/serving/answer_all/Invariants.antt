@@ -1,6 +1,6 @@
 use Rattle.std.proofs.Common.{◌≡◌, ℕ, List, Option, ◌+◌, ◌≤◌, length, true}
 use Rattle.std.specs.Io.KnownBytes.{IsAtEnd}
-use Rattle.http_front.specs.Inboxes.{unread}
+use Rattle.http_message.specs.Inboxes.{unread}
 use Rattle.http_front.specs.Serving.{SoFar}
 use Rattle.http_front.proofs.serving.answer_all.Given as goal
 

@@ -1,7 +1,7 @@
 use Rattle.std.proofs.Common.{length, Ok, ap, ◌∙◌, arith, length-append}
 use Rattle.std.proofs.lemmas.Result.{err_from_is_err_and}
-use Rattle.http_front.specs.Inboxes.{unread}
-use Rattle.http_front.specs.declared.serving.Next.TheVariants as next
+use Rattle.http_message.specs.Inboxes.{unread}
+use Rattle.http_front.specs.declared.serving.AfterStep.TheVariants as next
 use Rattle.http_front.proofs.ServingLaws.{far_start, far_wants}
 use Rattle.http_front.proofs.Stepped.{none_wants}
 use Rattle.http_front.proofs.ServedLaws.{next_is, far_adds, far_loses, far_next, fails_err}

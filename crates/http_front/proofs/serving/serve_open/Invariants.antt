@@ -1,5 +1,5 @@
 use Rattle.std.proofs.Common.{◌+◌, ◌*◌, ◌≤◌, length}
-use Rattle.http_front.specs.Inboxes.{unread}
+use Rattle.http_message.specs.Inboxes.{unread}
 use Rattle.http_front.specs.Serving.{SoFar}
 use Rattle.http_front.specs.Turns.{WantsMore}
 use Rattle.http_front.proofs.serving.serve_open.Given as goal

@@ -1,5 +1,5 @@
 use Rattle.std.proofs.Common.{◌≡◌, ℕ, false, [], refl, ◌∙◌, subst}
-use Rattle.http_front.specs.Heads.{StaysHeadless}
+use Rattle.http_message.specs.Heads.{StaysHeadless}
 use Rattle.http_front.specs.Turns.{head_limit}
 use Rattle.http_front.proofs.Stepped.{found_lack, is_empty, none_wants, not_empty, ok_gives, sends_bad}
 use Rattle.http_front.proofs.steps.step_within.Goals as goal

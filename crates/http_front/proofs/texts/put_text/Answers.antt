@@ -1,5 +1,5 @@
 use Rattle.std.proofs.Common.{◌++◌, ap, sym}
-use Rattle.http_front.specs.Replying.{closing, opening, reply_text}
+use Rattle.http_message.specs.Replying.{closing, opening, reply_text}
 use Rattle.http_front.proofs.Parts.{sent_whole}
 use Rattle.http_front.proofs.texts.put_text.Goals as goal
 

@@ -3,8 +3,8 @@ use Rattle.std.proofs.Common.{◌≡◌, ◌++◌, [], List, All, get_or, ap, sy
 use Rattle.std.proofs.lemmas.List.Elements.{All-nil}
 use Rattle.life_check.specs.Seen.{seen_cert}
 use Rattle.life_cert.specs.declared.growth.Arrival as code
-use Rattle.life_cert.specs.declared.growth.Place.{Place}
-use Rattle.life_cert.specs.declared.growth.Place.TheVariants as place
+use Rattle.life_cert.specs.declared.growth.StatePlace.{StatePlace}
+use Rattle.life_cert.specs.declared.growth.StatePlace.TheVariants as place
 use Rattle.life_cert.specs.Rounds.{Arrival, state_at, handed_by, handed_on}
 use Rattle.life_cert.specs.Fitting.{IsFit}
 use Rattle.life_cert.specs.SeenGrowth.{seen_arrivals}
@@ -25,7 +25,7 @@ loop-place-preserved c =
     let p = c.args.code.now in
     let cert = seen_cert c.args.growth.now.cert in
     let xs = c.args.growth.now.grown.items in
-    let Says : List Place → Type 0 = λ ws.
+    let Says : List StatePlace → Type 0 = λ ws.
     let w = get_or ws c.loop-place.place-index place.Idle in
     seen_arrivals c.hand_from.new.arrivals.items ≡ seen_arrivals c.loop-place.arrivals.items ++ handed_by p w (state_at cert w) in
     let more : Says c.deref-place-items.result.now = c.in_ok-hand_from.ensures.handed in

@@ -22,8 +22,8 @@ loop-preserved c = record {
   growing = c.in_ok-round.ensures.growing;
 }
 
-pub returns : goal.returns
-returns c =
+pub returns-clause-made : goal.returns-clause-made
+returns-clause-made c =
     let p = c.args.code.now in
     elim c.loop-test.branch [
       | else-loop-test w ↦ (let last : c.loop.counter ≡ enough p = omega arith in made_at_last p (seen_growth c.loop.growth) c.loop.counter c.loop.invariant.so_far last)

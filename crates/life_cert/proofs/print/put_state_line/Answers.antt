@@ -1,5 +1,5 @@
 use Rattle.std.proofs.Common.{◌++◌, codes, decimal}
-use Rattle.module_lang.proofs.WritingLaws.{wrote_then}
+use Rattle.byte_text.proofs.WritingLaws.{wrote_then}
 use Rattle.life_cert.proofs.Writing.{wrote_front}
 use Rattle.life_state.specs.Seen.{seen}
 use Rattle.life_cert.specs.StateText.{state_text}

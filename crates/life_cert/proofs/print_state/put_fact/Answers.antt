@@ -1,6 +1,6 @@
 use Rattle.std.proofs.Common.{◌++◌, ◌&&◌, codes}
 use Rattle.std.specs.Prelude.{nat_lt}
-use Rattle.module_lang.proofs.WritingLaws.{wrote_then}
+use Rattle.byte_text.proofs.WritingLaws.{wrote_then}
 use Rattle.life_cert.proofs.Writing.{wrote_front, wrote_where}
 use Rattle.life_state.specs.Seen.{seen}
 use Rattle.life_cert.specs.StateText.{cursor_name}

@@ -1,5 +1,5 @@
 use Rattle.std.proofs.Common.{◌≡◌, ◌∙◌, decimal}
-use Rattle.module_lang.proofs.WritingLaws.{wrote_then}
+use Rattle.byte_text.proofs.WritingLaws.{wrote_then}
 use Rattle.life_cert.proofs.print_state.put_numbered.Goals as goal
 
 pub returns : goal.returns

@@ -1,5 +1,5 @@
 use Rattle.std.proofs.Common.{◌++◌}
-use Rattle.module_lang.proofs.WritingLaws.{wrote_then}
+use Rattle.byte_text.proofs.WritingLaws.{wrote_then}
 use Rattle.life_cert.proofs.Writing.{wrote_front}
 use Rattle.life_cert.specs.StateText.{brigade_name, classes_text}
 use Rattle.life_cert.proofs.print_state.put_place.Goals as goal

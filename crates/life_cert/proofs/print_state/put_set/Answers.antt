@@ -1,5 +1,5 @@
 use Rattle.std.proofs.Common.{◌++◌, codes}
-use Rattle.module_lang.proofs.WritingLaws.{wrote_then}
+use Rattle.byte_text.proofs.WritingLaws.{wrote_then}
 use Rattle.life_cert.proofs.Writing.{wrote_front}
 use Rattle.life_cert.specs.StateText.{where_holds}
 use Rattle.life_cert.proofs.print_state.put_set.Goals as goal

@@ -1,5 +1,5 @@
 use Rattle.std.proofs.Common.{◌++◌, subst}
-use Rattle.module_lang.proofs.WritingLaws.{wrote_then}
+use Rattle.byte_text.proofs.WritingLaws.{wrote_then}
 use Rattle.life_cert.proofs.Writing.{Front, wrote_front}
 use Rattle.std.specs.Io.KnownBytes.{Appends}
 use Rattle.life_state.specs.States.{BrigadeKnown}

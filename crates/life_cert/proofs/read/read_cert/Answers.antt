@@ -2,6 +2,7 @@
 use Rattle.life_cert.proofs.OneCert.{read_short}
 use Rattle.std.proofs.Common.{length-take, arith}
 use Rattle.life_cert.proofs.ReadLaws.{all_told}
+use Rattle.life_cert.proofs.TextLengths.{printed_is_short}
 use Rattle.life_cert.proofs.read.read_cert.Goals as goal
 
 pub slice_bounds-read_lines-end : goal.slice_bounds-read_lines-end
@@ -14,7 +15,7 @@ pub returns-else-text-gt-MAX_LEN-clause-told : goal.returns-else-text-gt-MAX_LEN
 returns-else-text-gt-MAX_LEN-clause-told c = all_told c.args.text.now c.read_lines-else-text-gt-MAX_LEN.result c.if-text-gt-MAX_LEN.false c.read_lines-else-text-gt-MAX_LEN.ensures.told
 
 pub returns-then-text-gt-MAX_LEN-clause-again : goal.returns-then-text-gt-MAX_LEN-clause-again
-returns-then-text-gt-MAX_LEN-clause-again c = λ d p. let small = p.small in absurd (omega (arith, small))
+returns-then-text-gt-MAX_LEN-clause-again c = λ d p. let small = printed_is_short c.args.text.now d p in absurd (omega (arith, small))
 
 pub returns-else-text-gt-MAX_LEN-clause-again : goal.returns-else-text-gt-MAX_LEN-clause-again
 returns-else-text-gt-MAX_LEN-clause-again c =

@@ -1,7 +1,7 @@
 -- The lines are taken in turn, and then what follows them is judged.
 use Rattle.std.proofs.Common.{◌≡◌, ℕ, ◌-◌, List, [], length, take, drop, Ok, Err, subst, ◌∙◌, arith, length-drop}
 use Rattle.std.proofs.lemmas.Result.{err_from_is_err_and}
-use Rattle.module_lang.specs.TextLines.{lines_from, rest_from}
+use Rattle.byte_text.specs.TextLines.{lines_from, rest_from}
 use Rattle.std.proofs.lemmas.List.{take_all}
 use Rattle.life_cert.specs.Reading.{EndTold, more_than}
 use Rattle.life_cert.proofs.ReadLaws.{end_told, read_whole, refused_told}

@@ -1,7 +1,7 @@
 -- A look at a parent is one of those that are left.
 use Rattle.std.proofs.Common.{◌≡◌, ℕ, suc, ◌+◌, ◌-◌, Bool, true, false, ◌||◌, ap, sym, ◌∙◌, arith, rules}
-use Rattle.module_lang.specs.declared.instr.PoolRef.{PoolRef}
-use Rattle.module_lang.specs.Program.{Program}
+use Rattle.module_code.specs.declared.instr.PoolRef.{PoolRef}
+use Rattle.module_code.specs.Program.{Program}
 use Rattle.life_state.specs.PoolOrder.{is_same_place, parent_of, under_within}
 use Rattle.life_state.proofs.clears.is_under.Goals as goal
 

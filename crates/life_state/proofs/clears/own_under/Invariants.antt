@@ -1,6 +1,6 @@
 -- The variables so far.
 use Rattle.std.proofs.Common.{◌≡◌, ℕ, ◌<◌, length, slice_index_or, false}
-use Rattle.module_lang.specs.declared.instr.PoolRef.TheVariants as pool
+use Rattle.module_code.specs.declared.instr.PoolRef.TheVariants as pool
 use Rattle.life_state.specs.PoolOrder.{is_under}
 use Rattle.life_state.proofs.clears.own_under.Given as goal
 

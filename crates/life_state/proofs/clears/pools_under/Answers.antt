@@ -1,6 +1,6 @@
 -- Beyond the last variable, and above the connection's pool, there is nothing.
 use Rattle.std.proofs.Common.{◌≡◌, false, sym, arith, length}
-use Rattle.module_lang.specs.declared.instr.PoolRef.TheVariants as pool
+use Rattle.module_code.specs.declared.instr.PoolRef.TheVariants as pool
 use Rattle.life_state.specs.PoolOrder.{is_under}
 use Rattle.life_state.proofs.Sets.{pools_are, everywhere}
 use Rattle.life_state.proofs.UnderLaws.{conn_is_under, past_is_under}

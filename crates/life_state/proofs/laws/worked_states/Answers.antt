@@ -1,6 +1,6 @@
 -- They compute.
 use Rattle.std.proofs.Common.{refl}
-use Rattle.module_lang.specs.Program.{pool_of_brigade, pool_of_pool}
+use Rattle.module_code.specs.Program.{pool_of_brigade, pool_of_pool}
 use Rattle.run_model.specs.Indexed.{upd, any_below}
 use Rattle.life_state.specs.Facts.{known, facts_of, moved, set_cursor}
 use Rattle.life_state.specs.Order.{all_below, brigade_le, leq}

@@ -3,7 +3,7 @@ use Rattle.module_lang.specs.Printing.{printed}
 use Rattle.module_lang.specs.Shown.{shown_declarations, shown_handler}
 use Rattle.module_lang.proofs.PrintedText.{printed_is_text}
 use Rattle.module_lang.proofs.ShownLaws.{printed_parts}
-use Rattle.module_lang.proofs.WritingLaws.{leaves_fault, leaves_last, leaves_less, leaves_whole}
+use Rattle.byte_text.proofs.WritingLaws.{leaves_fault, leaves_last, leaves_less, leaves_whole}
 use Rattle.module_lang.proofs.print.print_module.Goals as goal
 
 pub put_declarations-requires : goal.put_declarations-requires

@@ -1,6 +1,6 @@
 use Rattle.std.proofs.Common.{◌++◌}
 use Rattle.module_lang.specs.Shown.{shown_arg, shown_args}
-use Rattle.module_lang.proofs.WritingLaws.{leaves_all, leaves_less, leaves_fault, leaves_last}
+use Rattle.byte_text.proofs.WritingLaws.{leaves_all, leaves_less, leaves_fault, leaves_last}
 use Rattle.module_lang.proofs.print.put_args.Goals as goal
 
 pub returns-in_err-put_arg-2 : goal.returns-in_err-put_arg-2

@@ -1,11 +1,11 @@
 use Rattle.std.proofs.Common.{◌+◌, codes, drop, get_or, subst}
-use Rattle.module_lang.specs.Args.{two_args}
+use Rattle.module_code.specs.Args.{two_args}
 use Rattle.module_lang.specs.Shown.{shown_line}
 use Rattle.module_lang.specs.Texts.{joined, brigade_texts}
-use Rattle.module_lang.specs.declared.arg.Arg.TheVariants as arg
-use Rattle.module_lang.specs.declared.instr.PoolRef.TheVariants as pool
+use Rattle.module_code.specs.declared.arg.Arg.TheVariants as arg
+use Rattle.module_code.specs.declared.instr.PoolRef.TheVariants as pool
 use Rattle.module_lang.proofs.ShownLaws.{brigades_more}
-use Rattle.module_lang.proofs.WritingLaws.{Leaves, leaves_fault, leaves_less}
+use Rattle.byte_text.proofs.WritingLaws.{Leaves, leaves_fault, leaves_less}
 use Rattle.module_lang.proofs.print.put_brigades.Goals as goal
 
 pub returns-in_err-put_line : goal.returns-in_err-put_line

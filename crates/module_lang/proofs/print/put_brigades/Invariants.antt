@@ -1,6 +1,6 @@
 use Rattle.std.proofs.Common.{drop}
 use Rattle.module_lang.specs.Texts.{brigade_texts, joined}
-use Rattle.module_lang.proofs.WritingLaws.{Leaves}
+use Rattle.byte_text.proofs.WritingLaws.{Leaves}
 use Rattle.module_lang.proofs.print.put_brigades.Given as goal
 
 -- the lines of these brigades are left

@@ -3,7 +3,7 @@ use Rattle.module_lang.specs.Printing.{label_line}
 use Rattle.module_lang.specs.Shown.{shown_code, shown_step}
 use Rattle.module_lang.specs.Texts.{code_text, joined}
 use Rattle.module_lang.proofs.ShownLaws.{code_more, code_none}
-use Rattle.module_lang.proofs.WritingLaws.{Leaves, leaves_fault, leaves_less, leaves_none}
+use Rattle.byte_text.proofs.WritingLaws.{Leaves, leaves_fault, leaves_less, leaves_none}
 use Rattle.module_lang.proofs.print.put_code.Goals as goal
 
 pub returns-in_err-put_label_before : goal.returns-in_err-put_label_before

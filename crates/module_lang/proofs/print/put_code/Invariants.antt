@@ -1,5 +1,5 @@
 use Rattle.module_lang.specs.Shown.{shown_code}
-use Rattle.module_lang.proofs.WritingLaws.{Leaves}
+use Rattle.byte_text.proofs.WritingLaws.{Leaves}
 use Rattle.module_lang.proofs.print.put_code.Given as goal
 
 -- the lines from this instruction on are left

@@ -1,5 +1,5 @@
 use Rattle.std.proofs.Common.{◌≡◌, ◌∙◌, append-nil, codes, decimal}
-use Rattle.module_lang.proofs.WritingLaws.{wrote_then}
+use Rattle.byte_text.proofs.WritingLaws.{wrote_then}
 use Rattle.module_lang.proofs.print.put_constant.Goals as goal
 
 pub returns : goal.returns

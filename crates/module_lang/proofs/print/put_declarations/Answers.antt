@@ -2,7 +2,7 @@ use Rattle.std.proofs.Common.{◌++◌, codes}
 use Rattle.module_lang.specs.Shown.{shown_declarations}
 use Rattle.module_lang.specs.Texts.{brigade_texts, joined, pool_texts}
 use Rattle.module_lang.proofs.PrintedText.{homes_declared, pools_declared}
-use Rattle.module_lang.proofs.WritingLaws.{leaves_all, leaves_fault, leaves_last, leaves_less}
+use Rattle.byte_text.proofs.WritingLaws.{leaves_all, leaves_fault, leaves_last, leaves_less}
 use Rattle.module_lang.proofs.print.put_declarations.Goals as goal
 
 pub put_pools-requires-clause-short : goal.put_pools-requires-clause-short

@@ -1,7 +1,7 @@
 use Rattle.std.proofs.Common.{◌++◌}
-use Rattle.module_lang.specs.Args.{no_arg}
+use Rattle.module_code.specs.Args.{no_arg}
 use Rattle.module_lang.specs.Shown.{shown_code, shown_handler, shown_line}
-use Rattle.module_lang.proofs.WritingLaws.{leaves_all, leaves_fault, leaves_last, leaves_less}
+use Rattle.byte_text.proofs.WritingLaws.{leaves_all, leaves_fault, leaves_last, leaves_less}
 use Rattle.module_lang.proofs.print.put_handler.Goals as goal
 
 pub returns-in_err-put_line : goal.returns-in_err-put_line

@@ -1,6 +1,6 @@
 use Rattle.std.proofs.Common.{append-nil, codes}
-use Rattle.module_lang.specs.Words.{kind_test_text}
-use Rattle.module_lang.proofs.WritingLaws.{wrote_then}
+use Rattle.module_code.specs.Words.{kind_test_text}
+use Rattle.byte_text.proofs.WritingLaws.{wrote_then}
 use Rattle.module_lang.proofs.print.put_kind_test.Goals as goal
 
 pub returns : goal.returns

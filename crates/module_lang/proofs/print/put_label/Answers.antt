@@ -1,6 +1,6 @@
 use Rattle.std.proofs.Common.{◌∷◌, ◌++◌, []}
 use Rattle.module_lang.specs.Printing.{target_name}
-use Rattle.module_lang.proofs.WritingLaws.{leaves_all, leaves_less, leaves_fault, leaves_last}
+use Rattle.byte_text.proofs.WritingLaws.{leaves_all, leaves_less, leaves_fault, leaves_last}
 use Rattle.module_lang.proofs.print.put_label.Goals as goal
 
 pub returns-in_err-put_name : goal.returns-in_err-put_name

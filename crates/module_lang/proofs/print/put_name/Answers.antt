@@ -1,5 +1,5 @@
 use Rattle.std.proofs.Common.{◌≡◌, ◌∙◌, codes, decimal}
-use Rattle.module_lang.proofs.WritingLaws.{wrote_then}
+use Rattle.byte_text.proofs.WritingLaws.{wrote_then}
 use Rattle.module_lang.proofs.print.put_name.Goals as goal
 
 pub returns : goal.returns

@@ -1,10 +1,10 @@
 use Rattle.std.proofs.Common.{◌≡◌, ◌∙◌, ap}
 use Rattle.module_lang.specs.Shown.{shown_line, shown_step}
-use Rattle.module_lang.specs.Words.{op_text}
-use Rattle.module_lang.specs.declared.arg.Args.{Args}
-use Rattle.module_lang.specs.declared.word.Op.{Op}
+use Rattle.module_code.specs.Words.{op_text}
+use Rattle.module_code.specs.declared.arg.Args.{Args}
+use Rattle.module_code.specs.declared.word.Op.{Op}
 use Rattle.module_lang.proofs.ShownLaws.{args_short, step_shown}
-use Rattle.module_lang.proofs.WritingLaws.{wrote_same}
+use Rattle.byte_text.proofs.WritingLaws.{wrote_same}
 use Rattle.module_lang.proofs.print.put_step.Goals as goal
 
 pub put_line-requires : goal.put_line-requires

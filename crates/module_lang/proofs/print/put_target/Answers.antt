@@ -1,6 +1,6 @@
 use Rattle.std.proofs.Common.{append-nil, codes}
 use Rattle.module_lang.specs.Printing.{target_name}
-use Rattle.module_lang.proofs.WritingLaws.{wrote_then}
+use Rattle.byte_text.proofs.WritingLaws.{wrote_then}
 use Rattle.module_lang.proofs.print.put_target.Goals as goal
 
 pub returns : goal.returns

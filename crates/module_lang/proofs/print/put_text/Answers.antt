@@ -1,6 +1,6 @@
 use Rattle.std.proofs.Common.{append-nil, codes}
-use Rattle.module_lang.specs.Quoted.{spelling}
-use Rattle.module_lang.proofs.WritingLaws.{wrote_then}
+use Rattle.byte_text.specs.Quoted.{spelling}
+use Rattle.byte_text.proofs.WritingLaws.{wrote_then}
 use Rattle.module_lang.proofs.print.put_text.Goals as goal
 
 pub returns : goal.returns

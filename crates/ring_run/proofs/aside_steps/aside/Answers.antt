@@ -3,7 +3,7 @@ use Rattle.std.proofs.Common.{ℕ, Option, ap, subst}
 use Rattle.bucket_kinds.specs.Reading.{IsOpenFor}
 use Rattle.bucket_ring.specs.Lists.{list_at, with_payload}
 use Rattle.run_model.specs.BucketSteps.{content_at}
-use Rattle.run_model.specs.Cursors.{Spot}
+use Rattle.run_model.specs.Cursors.{Place}
 use Rattle.run_model.specs.Cutting.{set_aside}
 use Rattle.run_model.specs.Effects.{is_above}
 use Rattle.pool_tree.specs.Tree.{map_of}
@@ -127,7 +127,7 @@ returns-in-Within-clause-open g c =
     let name = name_there (brigade_of s) (lists s) (next_name s) inside.0 id (kept s) inside.1.1 in
     let given = given_in (brigade_of s) (lists s) (next_name s) id (kept s) name inside.0 in
     let at = stands_within (lists s) (next_name s) around c.args.instance.now c.args.call.now c.args.c id x.0 c.in-Within.field-0 inside.0 given (c.in-Within.ensures.at (next_name s) around) inside.1.0 x.1 in
-    let has : IsOpenFor d x.0.content = subst (λ (p : Spot). IsOpenFor d (content_at p)) at opens in
+    let has : IsOpenFor d x.0.content = subst (λ (p : Place). IsOpenFor d (content_at p)) at opens in
     by_result c.aside.result _ _
     (λ counts. refs_one d (map_of c.args.tree.now) c.args.pool x.0 (references s) (references c.aside.new.self) (λ f. counts x.0 f is) has)
     (λ same. refs_same d (references s) (references c.aside.new.self) same)
@@ -145,7 +145,7 @@ returns-in-Loose-clause-open g c =
     let name = name_there (brigade_of s) (lists s) (next_name s) ring id (kept s) inside in
     let given = given_in (brigade_of s) (lists s) (next_name s) id (kept s) name ring in
     let at = stands_loose (lists s) (next_name s) around c.args.instance.now c.args.call.now c.args.c id x.0 given (c.in-Loose.ensures.at (next_name s) around) x.1 in
-    let has : IsOpenFor d x.0.content = subst (λ (p : Spot). IsOpenFor d (content_at p)) at opens in
+    let has : IsOpenFor d x.0.content = subst (λ (p : Place). IsOpenFor d (content_at p)) at opens in
     by_result c.aside-in-Loose.result _ _
     (λ counts. refs_one d (map_of c.args.tree.now) c.args.pool x.0 (references s) (references c.aside-in-Loose.new.self) (λ f. counts x.0 f is) has)
     (λ same. refs_same d (references s) (references c.aside-in-Loose.new.self) same)

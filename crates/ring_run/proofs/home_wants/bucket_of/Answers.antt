@@ -1,7 +1,7 @@
 -- The place of the cursor tells its bucket.
 use Rattle.std.proofs.Common.{is_some, sym, ap, ◌∙◌}
 use Rattle.bucket_ring.specs.Lists.{list_at}
-use Rattle.run_model.specs.Cursors.{Spot, spot}
+use Rattle.run_model.specs.Cursors.{Place, spot}
 use Rattle.run_model.specs.Cursors as model
 use Rattle.brigade_ops.specs.Store.{lists, brigade_of, next_name}
 use Rattle.brigade_ops.specs.Store as store

@@ -4,7 +4,7 @@ use Rattle.bucket_ring.specs.Lists.{list_at}
 use Rattle.run_model.specs.declared.bucket.NamedBucket.{NamedBucket}
 use Rattle.brigade_ops.specs.Store.{lists, next_name}
 use Rattle.ring_run.specs.Delivery.{WasDelivered, out_of}
-use Rattle.ring_run.specs.Given.{HasOpen}
+use Rattle.ring_run.specs.Given.{RangeIsOpen}
 use Rattle.ring_run.specs.Seen.{calls_in}
 use Rattle.ring_run.specs.Slots.{slot_at, name_in}
 use Rattle.ring_run.proofs.Changes.{live_is}
@@ -13,21 +13,21 @@ use Rattle.ring_run.proofs.Items.{items_live}
 use Rattle.ring_run.proofs.OpenFiles.{open_found}
 use Rattle.ring_run.proofs.output.pass_out.Goals as goal
 
-pub deliver-requires-clause-ends : goal.deliver-requires-clause-ends
-deliver-requires-clause-ends g c =
+pub add_brigade-requires-clause-ends : goal.add_brigade-requires-clause-ends
+add_brigade-requires-clause-ends g c =
     λ id x at is.
     let i = c.args.instance.now in
     let t = live_is (lists c.args.store.now) (slot_at i c.args.b) c.in-Some.name (sym c.live.ensures ∙ c.in-Some.is) in
     c.requires.ends c.args.b c.in-Some.name id x (ap name_in t.1.1.0) at is
 
-pub deliver-requires-clause-open : goal.deliver-requires-clause-open
-deliver-requires-clause-open g c =
+pub add_brigade-requires-clause-open : goal.add_brigade-requires-clause-open
+add_brigade-requires-clause-open g c =
     λ id x at is.
     let s = c.args.store.now in
     let around = c.requires.open.0 in
     let call = c.requires.open.1 in
     let d = g.F.Files.device c.args.files.now in
-    let has = subst (λ (xs : List NamedBucket). All (HasOpen d) xs) (items_live (lists s) (next_name s) around c.args.instance.now call c.args.b c.in-Some.name (sym c.live.ensures ∙ c.in-Some.is)) c.requires.open.2 in
+    let has = subst (λ (xs : List NamedBucket). All (RangeIsOpen d) xs) (items_live (lists s) (next_name s) around c.args.instance.now call c.args.b c.in-Some.name (sym c.live.ensures ∙ c.in-Some.is)) c.requires.open.2 in
     open_found d (calls_in around call) id x (list_at (lists s) c.in-Some.name) has (bucket_found s id c.in-Some.name x at is)
 
 pub returns-clause-delivered : goal.returns-clause-delivered
@@ -35,6 +35,6 @@ returns-clause-delivered g c =
     λ around call.
     let s = c.args.store.now in
     let i = c.args.instance.now in
-    subst (λ (items : List NamedBucket). WasDelivered (g.F.Files.device c.args.files.now) (g.F.Files.device c.deliver.new.files) (out_of c.args.out.now c.args.ended.now) items (out_of c.deliver.new.out c.deliver.new.ended) c.in_ok-well.well)
+    subst (λ (items : List NamedBucket). WasDelivered (g.F.Files.device c.args.files.now) (g.F.Files.device c.add_brigade.new.files) (out_of c.args.out.now c.args.ended.now) items (out_of c.add_brigade.new.out c.add_brigade.new.ended) c.in_ok-well.well)
     (sym (items_live (lists s) (next_name s) around i call c.args.b c.in-Some.name (sym c.live.ensures ∙ c.in-Some.is)))
     (c.in_ok-well.ensures.ok (calls_in around call))

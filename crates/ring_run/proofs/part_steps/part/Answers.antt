@@ -18,14 +18,14 @@ returns-clause-ok g c =
     let between : WasFound c.args.store.now c.partition.new.self c.in-Some.name c.args.point c.in-Ok.cut = λ no. let h = c.in-Ok.ensures.between no in (same_ok c.in-Ok.cut _ h.0, h.1) in
     parted_step c.args.store.now c.partition.new.self c.in-Some.name c.args.point c.in-Ok.cut between c.in-Ok.ensures.inside c.in-Ok.ensures.next t.1.1.1 around c.args.instance.now c.args.call.now c.args.b c.requires.held (ap name_in t.1.1.0) c.args.c c.set_cursor.new.self alive
     (c.set_cursor.ensures.seen (lists c.partition.new.self) (next_name c.partition.new.self) around c.args.instance.now
-    ∙ ap (λ s. set_cursor c.args.c (shown_cursor s) (seen c.partition.new.self around c.args.instance.now c.args.call.now)) c.stand_of.ensures)
+    ∙ ap (λ s. set_cursor c.args.c (shown_cursor s) (seen c.partition.new.self around c.args.instance.now c.args.call.now)) c.cursor_value_of.ensures)
 
 pub returns-clause-held : goal.returns-clause-held
 returns-clause-held g c =
     let t = live_is (lists c.args.store.now) (slot_at c.args.instance.now c.args.b) c.in-Some.name (sym c.live.ensures ∙ c.in-Some.is) in
     let between : WasFound c.args.store.now c.partition.new.self c.in-Some.name c.args.point c.in-Ok.cut = λ no. let h = c.in-Ok.ensures.between no in (same_ok c.in-Ok.cut _ h.0, h.1) in
-    held_cursor (brigade_of c.partition.new.self) (lists c.partition.new.self) (pool_of c.partition.new.self) (next_name c.partition.new.self) c.args.instance.now c.args.call.now c.set_cursor.new.self c.args.c c.stand_of.result c.set_cursor.ensures.name c.set_cursor.ensures.cursors
-    (λ j is. parted_given c.args.store.now c.partition.new.self c.in-Some.name c.args.point c.in-Ok.cut between c.in-Ok.ensures.inside c.in-Ok.ensures.next t.1.1.1 j (sym c.stand_of.ensures ∙ is))
+    held_cursor (brigade_of c.partition.new.self) (lists c.partition.new.self) (pool_of c.partition.new.self) (next_name c.partition.new.self) c.args.instance.now c.args.call.now c.set_cursor.new.self c.args.c c.cursor_value_of.result c.set_cursor.ensures.name c.set_cursor.ensures.cursors
+    (λ j is. parted_given c.args.store.now c.partition.new.self c.in-Some.name c.args.point c.in-Ok.cut between c.in-Ok.ensures.inside c.in-Ok.ensures.next t.1.1.1 j (sym c.cursor_value_of.ensures ∙ is))
     (held_kept c.args.store.now c.partition.new.self (parted_rises c.args.store.now c.partition.new.self c.in-Some.name c.args.point c.in-Ok.cut between c.in-Ok.ensures.inside c.in-Ok.ensures.next t.1.1.1) c.partition.ensures.names c.partition.ensures.pools
     (parted_still c.args.store.now c.partition.new.self c.in-Some.name c.args.point c.in-Ok.cut between c.in-Ok.ensures.inside c.in-Ok.ensures.next t.1.1.1)
     c.args.instance.now c.args.call.now c.requires.held)

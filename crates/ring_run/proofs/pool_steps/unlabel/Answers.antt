@@ -1,7 +1,7 @@
 -- The label that was registered last goes, where there is one.
 use Rattle.std.proofs.Common.{◌≡◌, ℕ, List, false, sym, ap, ◌∙◌, subst}
 use Rattle.std.specs.List.{list_any}
-use Rattle.module_lang.specs.Program.{text_at}
+use Rattle.module_code.specs.Program.{text_at}
 use Rattle.run_model.specs.declared.payload.Payload.{Payload}
 use Rattle.run_model.specs.Effects.{text_of}
 use Rattle.run_model.specs.Pools.{Pools}

@@ -4,7 +4,7 @@ use Rattle.bucket_ring.specs.declared.names.BucketId.{BucketId}
 use Rattle.bucket_ring.specs.Lists.{list_at}
 use Rattle.bucket_kinds.specs.Reading.{IsOpenFor}
 use Rattle.run_model.specs.BucketSteps.{content_at}
-use Rattle.run_model.specs.Cursors.{Spot, Within, spot, read_cursor}
+use Rattle.run_model.specs.Cursors.{Place, Within, spot, read_cursor}
 use Rattle.run_model.specs.Cutting.{read_of, wanted}
 use Rattle.run_model.specs.State.{set_cursor}
 use Rattle.run_model.specs.declared.bucket.Cursor.TheVariants as cursor
@@ -16,7 +16,7 @@ use Rattle.brigade_ops.specs.Store as store
 use Rattle.brigade_ops.specs.Store.{lists, brigade_of, pool_of, next_name}
 use Rattle.brigade_ops.proofs.Saves.{found_some}
 use Rattle.brigade_ops.proofs.Stores.{kept, found_in, found_bucket, bucket_found}
-use Rattle.ring_run.specs.declared.machine.Stand.TheVariants as stand
+use Rattle.ring_run.specs.declared.machine.CursorValue.TheVariants as cursor_value
 use Rattle.ring_run.specs.Given.{WasRead}
 use Rattle.ring_run.specs.Held.{WasGiven}
 use Rattle.ring_run.specs.Seen.{seen_over, calls_in, item_in}
@@ -48,7 +48,7 @@ returns-in-Ok-clause-ok g c =
     let alive = alive_at r c.args.c c.in-Within.field-0 b y z at stands home in
     let rest = read.rest ∙ rest_same [] took.0 x.0 in
     let next = next_is [] x.0 (next_name c.args.store.now) (next_name c.read.new.self) read.names in
-    subst (λ (s : Spot). WasRead (g.F.Files.device c.args.files.now) (g.F.Files.device c.read.new.files) s r (seen_over (lists c.read.new.self) (next_name c.read.new.self) around c.args.instance.now c.set_cursor.new.self) true) (sym at)
+    subst (λ (s : Place). WasRead (g.F.Files.device c.args.files.now) (g.F.Files.device c.read.new.files) s r (seen_over (lists c.read.new.self) (next_name c.read.new.self) around c.args.instance.now c.set_cursor.new.self) true) (sym at)
     (record {
       given = Some gave.0;
       gave = (gave.1, c.in-Ok.ensures.same);
@@ -70,7 +70,7 @@ returns-in-Ok-clause-held g c =
     let still = held_kept c.args.store.now c.read.new.self rises c.read.ensures.names c.read.ensures.pools
     (still_on (lists c.args.store.now) (lists c.read.new.self) n.0 (replaced c.in-Within.id (read_of gave.0 x.0).0 (rest_item c.in-Ok.field-0 (read_of gave.0 x.0).1)) gave.2)
     c.args.instance.now c.args.call.now c.requires.held in
-    held_cursor (brigade_of c.read.new.self) (lists c.read.new.self) (pool_of c.read.new.self) (next_name c.read.new.self) c.args.instance.now c.args.call.now c.set_cursor.new.self 8 (stand.At c.in-Within.id) c.set_cursor.ensures.name c.set_cursor.ensures.cursors
+    held_cursor (brigade_of c.read.new.self) (lists c.read.new.self) (pool_of c.read.new.self) (next_name c.read.new.self) c.args.instance.now c.args.call.now c.set_cursor.new.self 8 (cursor_value.At c.in-Within.id) c.set_cursor.ensures.name c.set_cursor.ensures.cursors
     (λ j e. subst (WasGiven c.read.new.self) (same_at c.in-Within.id j e) (name_later c.args.store.now c.read.new.self rises c.read.ensures.names c.in-Within.id name)) still
 
 pub returns-in-Err-ReadFault-clause-ok : goal.returns-in-Err-ReadFault-clause-ok
@@ -89,7 +89,7 @@ returns-in-Err-ReadFault-clause-ok g c =
     let fault : ◌≡◌ {A = Result (Option BucketId) ReadRefusal} (Err c.in-Err-ReadFault.field-0) (Err refusal.ReadFault) = ap (λ (e : ReadRefusal). let o : Result (Option BucketId) ReadRefusal = Err e in o) c.in-Err-ReadFault.field-0-is in
     let some = is_wanted (wanted x.0.content) (λ zero. err_ok c.in-Err-ReadFault.field-0 no_rest (read.unread zero).0) in
     let none = none_given x.0.content some in
-    subst (λ (s : Spot). WasRead (g.F.Files.device c.args.files.now) (g.F.Files.device c.read.new.files) s r (seen_over (lists c.read.new.self) (next_name c.read.new.self) around c.args.instance.now c.set_cursor-in-Err-ReadFault.new.self) false) (sym at)
+    subst (λ (s : Place). WasRead (g.F.Files.device c.args.files.now) (g.F.Files.device c.read.new.files) s r (seen_over (lists c.read.new.self) (next_name c.read.new.self) around c.args.instance.now c.set_cursor-in-Err-ReadFault.new.self) false) (sym at)
     (record {
       given = None;
       gave = (some, read.fault fault);
@@ -109,7 +109,7 @@ returns-in-Err-ReadFault-clause-held g c =
     let still = held_kept c.args.store.now c.read.new.self (no_less (next_name c.args.store.now) (next_name c.read.new.self) same) c.read.ensures.names c.read.ensures.pools
     (still_same (lists c.args.store.now) (lists c.read.new.self) c.in-Err-ReadFault.ensures.err)
     c.args.instance.now c.args.call.now c.requires.held in
-    held_cursor (brigade_of c.read.new.self) (lists c.read.new.self) (pool_of c.read.new.self) (next_name c.read.new.self) c.args.instance.now c.args.call.now c.set_cursor-in-Err-ReadFault.new.self 8 stand.Unset c.set_cursor-in-Err-ReadFault.ensures.name c.set_cursor-in-Err-ReadFault.ensures.cursors
+    held_cursor (brigade_of c.read.new.self) (lists c.read.new.self) (pool_of c.read.new.self) (next_name c.read.new.self) c.args.instance.now c.args.call.now c.set_cursor-in-Err-ReadFault.new.self 8 cursor_value.Unset c.set_cursor-in-Err-ReadFault.ensures.name c.set_cursor-in-Err-ReadFault.ensures.cursors
     (λ j e. absurd (let never = e in cc)) still
 
 pub returns-in-Err-NoMemory-clause-held : goal.returns-in-Err-NoMemory-clause-held
@@ -205,4 +205,4 @@ read-requires-clause-open g c =
     let name = name_there (brigade_of s) (lists s) (next_name s) n.0 id (kept s) n.1.1 in
     let given = given_in (brigade_of s) (lists s) (next_name s) id (kept s) name n.0 in
     let at = stands_within (lists s) (next_name s) around c.args.instance.now c.args.call.now c.args.c id y c.in-Within.field-0 n.0 given (c.in-Within.ensures.at (next_name s) around) n.1.0 found in
-    subst (λ (p : Spot). IsOpenFor (g.F.Files.device c.args.files.now) (content_at p)) at c.requires.open.1
+    subst (λ (p : Place). IsOpenFor (g.F.Files.device c.args.files.now) (content_at p)) at c.requires.open.1

@@ -7,7 +7,7 @@ use Rattle.brigade_ops.specs.Items.{aside_item}
 use Rattle.brigade_ops.specs.Store.{lists, brigade_of, pool_of, next_name, references}
 use Rattle.ring_run.specs.declared.machine.Slot.TheVariants as slot
 use Rattle.run_model.specs.declared.bucket.NamedBucket.{NamedBucket}
-use Rattle.ring_run.specs.Given.{HasOpen}
+use Rattle.ring_run.specs.Given.{RangeIsOpen}
 use Rattle.ring_run.specs.Seen.{seen_over, calls_in}
 use Rattle.ring_run.specs.Slots.{slot_at, name_in}
 use Rattle.ring_run.proofs.Changes.{live_is, dead_seen}
@@ -123,7 +123,7 @@ returns-clause-open g c =
     let on = some_is c.in-Made.on c.is_none.result c.is_none.ensures c.if-is_none.false in
     let is : slot_at i c.args.o ≡ slot.Made c.in-Made.to (Some on.0) c.in-Made.field-2 = sym c.in-Made.ensures ∙ ap (λ (p : Option ℕ). slot.Made c.in-Made.to p c.in-Made.field-2) on.1 in
     let lies : pool_of s c.in-Made.to ≡ Some on.0 = c.requires.on c.args.o c.in-Made.to (Some on.0) c.in-Made.field-2 (λ e. let first = c.requires.first in omega (arith, first, e)) is (sym c.if-not-has.ensures) in
-    let has = subst (λ (xs : List NamedBucket). All (HasOpen d) xs) (items_live (lists s) (next_name s) around i call c.args.b c.in-Some.from (sym c.in-Some.ensures)) opens in
+    let has = subst (λ (xs : List NamedBucket). All (RangeIsOpen d) xs) (items_live (lists s) (next_name s) around i call c.args.b c.in-Some.from (sym c.in-Some.ensures)) opens in
     by_result c.save.result _ _
     (λ counts. refs_all d (calls_in around call) ps on.0 (list_at (lists s) c.in-Some.from) (references s) (references c.save.new.self) (λ f. counts on.0 f lies) has)
     (λ same. refs_same d (references s) (references c.save.new.self) same)

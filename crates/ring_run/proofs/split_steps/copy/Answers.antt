@@ -3,7 +3,7 @@ use Rattle.std.proofs.Common.{◌≤◌, sym, ap, ◌∙◌, arith}
 use Rattle.std.proofs.lemmas.Result.{on_ok_weaker}
 use Rattle.bucket_ring.specs.Lists.{list_at}
 use Rattle.run_model.specs.BucketSteps.{new_loose, do_copy}
-use Rattle.run_model.specs.Cursors.{Spot, bucket_at}
+use Rattle.run_model.specs.Cursors.{Place, bucket_at}
 use Rattle.run_model.specs.Faults.{home_fault}
 use Rattle.run_model.specs.declared.bucket.Bucket.{Bucket}
 use Rattle.brigade_ops.specs.Items.{named_item}
@@ -26,8 +26,8 @@ returns-in-Within-clause-ok g c =
     let at = stands_within (lists c.args.store.now) (next_name c.args.store.now) around c.args.instance.now c.args.call.now c.args.c c.in-Within.id x.0 c.in-Within.field-0 c.in-Within.ensures.inside.1.0 (given_in (brigade_of c.args.store.now) (lists c.args.store.now) (next_name c.args.store.now) c.in-Within.id (kept c.args.store.now) name c.in-Within.ensures.inside.1.0) (c.in-Within.ensures.at (next_name c.args.store.now) around) c.in-Within.ensures.inside.1.1.0 x.1 in
     let young : c.in-Within.id.birth ≤ next_name c.args.store.now = let y = name.young in omega (arith, y) in
     out around c.args.instance.now x.0 c.requires.held (found_bucket c.args.store.now c.in-Within.id c.in-Within.ensures.inside.1.0 x.0 c.in-Within.ensures.inside.1.1.1 x.1)
-    ∙ (ap (λ (y : Bucket). new_loose c.args.d y r) (bucket_later (calls_in around c.args.call.now) c.in-Within.id.birth (next_name c.args.store.now) x.0 (not_dead (named_item (item_in (calls_in around c.args.call.now) (c.in-Within.id, x.0))) (sym (ap (λ (s : Spot). home_fault (bucket_at s)) at) ∙ alive)) young)
-    ∙ ap (λ (s : Spot). do_copy c.args.d s r) (sym at)))
+    ∙ (ap (λ (y : Bucket). new_loose c.args.d y r) (bucket_later (calls_in around c.args.call.now) c.in-Within.id.birth (next_name c.args.store.now) x.0 (not_dead (named_item (item_in (calls_in around c.args.call.now) (c.in-Within.id, x.0))) (sym (ap (λ (s : Place). home_fault (bucket_at s)) at) ∙ alive)) young)
+    ∙ ap (λ (s : Place). do_copy c.args.d s r) (sym at)))
     c.add_copy.ensures.ok
 
 pub returns-in-Loose-clause-ok : goal.returns-in-Loose-clause-ok
@@ -40,8 +40,8 @@ returns-in-Loose-clause-ok g c =
     let at = stands_loose (lists c.args.store.now) (next_name c.args.store.now) around c.args.instance.now c.args.call.now c.args.c c.in-Loose.id x.0 (given_in (brigade_of c.args.store.now) (lists c.args.store.now) (next_name c.args.store.now) c.in-Loose.id (kept c.args.store.now) name c.args.call.now.name) (c.in-Loose.ensures.at (next_name c.args.store.now) around) x.1 in
     let young : c.in-Loose.id.birth ≤ next_name c.args.store.now = let y = name.young in omega (arith, y) in
     out around c.args.instance.now x.0 c.requires.held (found_bucket c.args.store.now c.in-Loose.id c.args.call.now.name x.0 c.in-Loose.ensures.inside x.1)
-    ∙ (ap (λ (y : Bucket). new_loose c.args.d y r) (bucket_later (calls_in around c.args.call.now) c.in-Loose.id.birth (next_name c.args.store.now) x.0 (not_dead (named_item (item_in (calls_in around c.args.call.now) (c.in-Loose.id, x.0))) (sym (ap (λ (s : Spot). home_fault (bucket_at s)) at) ∙ alive)) young)
-    ∙ ap (λ (s : Spot). do_copy c.args.d s r) (sym at)))
+    ∙ (ap (λ (y : Bucket). new_loose c.args.d y r) (bucket_later (calls_in around c.args.call.now) c.in-Loose.id.birth (next_name c.args.store.now) x.0 (not_dead (named_item (item_in (calls_in around c.args.call.now) (c.in-Loose.id, x.0))) (sym (ap (λ (s : Place). home_fault (bucket_at s)) at) ∙ alive)) young)
+    ∙ ap (λ (s : Place). do_copy c.args.d s r) (sym at)))
     c.add_copy-in-Loose.ensures.ok
 
 pub returns-in-Within-clause-held : goal.returns-in-Within-clause-held

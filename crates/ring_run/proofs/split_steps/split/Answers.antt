@@ -3,7 +3,7 @@ use Rattle.std.proofs.Common.{◌≡◌, ℕ, ◌+◌, ◌≤◌, [], ◌∷◌,
 use Rattle.bucket_ring.specs.Lists.{list_at}
 use Rattle.run_model.specs.BucketSteps.{do_split}
 use Rattle.run_model.specs.Buckets.{is_data_kind}
-use Rattle.run_model.specs.Cursors.{Spot, Within, bucket_at, spot}
+use Rattle.run_model.specs.Cursors.{Place, Within, bucket_at, spot}
 use Rattle.run_model.specs.Cutting.{split_at, length_of}
 use Rattle.run_model.specs.Faults.{home_fault}
 use Rattle.run_model.specs.declared.bucket.NamedBucket.{NamedBucket}
@@ -39,8 +39,8 @@ returns-in-Ok-clause-ok g c =
     ap (λ (k : ℕ). seen_over (lists c.split.new.self) k around c.args.instance.now c.args.call.now) c.in-Ok.ensures.next
     ∙ (done_split c.args.n c.in-Within.field-0 y r (seen_over (lists c.split.new.self) (next_name c.args.store.now + 1) around c.args.instance.now c.args.call.now) (not_refused c.args.n y proper short)
     (split_into (lists c.args.store.now) (lists c.split.new.self) (next_name c.args.store.now) around c.args.instance.now c.args.call.now (apart_in (brigade_of c.args.store.now) (lists c.args.store.now) (pool_of c.args.store.now) (next_name c.args.store.now) c.args.instance.now c.args.call.now c.requires.held) c.in-Within.id c.in-Ok.field-0 c.args.n x.0 c.in-Within.field-0 n.0 n.1.0 given x.1
-    (not_dead y (sym (ap (λ (s : Spot). home_fault (bucket_at s)) at) ∙ alive)) name.young c.in-Ok.ensures.name (λ m. c.in-Ok.ensures.ok n.0 m x.0 n.1.1 is))
-    ∙ ap (λ (s : Spot). do_split c.args.n s r) (sym at))
+    (not_dead y (sym (ap (λ (s : Place). home_fault (bucket_at s)) at) ∙ alive)) name.young c.in-Ok.ensures.name (λ m. c.in-Ok.ensures.ok n.0 m x.0 n.1.1 is))
+    ∙ ap (λ (s : Place). do_split c.args.n s r) (sym at))
 
 pub returns-in-Ok-clause-held : goal.returns-in-Ok-clause-held
 returns-in-Ok-clause-held g c =
@@ -64,7 +64,7 @@ returns-in-Err-Metadata-clause-ok g c =
     let given = given_in (brigade_of c.args.store.now) (lists c.args.store.now) (next_name c.args.store.now) c.in-Within.id (kept c.args.store.now) name n.0 in
     let at : spot r c.args.c ≡ Within c.in-Within.field-0 y = stands_within (lists c.args.store.now) (next_name c.args.store.now) around c.args.instance.now c.args.call.now c.args.c c.in-Within.id x.0 c.in-Within.field-0 n.0 given (c.in-Within.ensures.at (next_name c.args.store.now) around) n.1.0 x.1 in
     seen_same (lists c.args.store.now) (next_name c.args.store.now) around c.args.instance.now c.args.call.now (lists c.split.new.self) (next_name c.split.new.self) c.in-Err-Metadata.ensures.next c.in-Err-Metadata.ensures.err
-    ∙ (not_split c.args.n c.in-Within.field-0 y r (refused_data c.args.n y (err_data c.in-Err-Metadata.field-0 refusal.Metadata (is_data_kind x.0.kind) (c.in-Err-Metadata.ensures.metadata x.0 is) c.in-Err-Metadata.field-0-is)) ∙ ap (λ (s : Spot). do_split c.args.n s r) (sym at))
+    ∙ (not_split c.args.n c.in-Within.field-0 y r (refused_data c.args.n y (err_data c.in-Err-Metadata.field-0 refusal.Metadata (is_data_kind x.0.kind) (c.in-Err-Metadata.ensures.metadata x.0 is) c.in-Err-Metadata.field-0-is)) ∙ ap (λ (s : Place). do_split c.args.n s r) (sym at))
 
 pub returns-in-Err-Metadata-clause-held : goal.returns-in-Err-Metadata-clause-held
 returns-in-Err-Metadata-clause-held g c =
@@ -84,7 +84,7 @@ returns-in-Err-TooLong-clause-ok g c =
     let given = given_in (brigade_of c.args.store.now) (lists c.args.store.now) (next_name c.args.store.now) c.in-Within.id (kept c.args.store.now) name n.0 in
     let at : spot r c.args.c ≡ Within c.in-Within.field-0 y = stands_within (lists c.args.store.now) (next_name c.args.store.now) around c.args.instance.now c.args.call.now c.args.c c.in-Within.id x.0 c.in-Within.field-0 n.0 given (c.in-Within.ensures.at (next_name c.args.store.now) around) n.1.0 x.1 in
     seen_same (lists c.args.store.now) (next_name c.args.store.now) around c.args.instance.now c.args.call.now (lists c.split.new.self) (next_name c.split.new.self) c.in-Err-TooLong.ensures.next c.in-Err-TooLong.ensures.err
-    ∙ (not_split c.args.n c.in-Within.field-0 y r (let both = err_long c.in-Err-TooLong.field-0 refusal.TooLong (is_data_kind x.0.kind) (length_of x.0.content) c.args.n (c.in-Err-TooLong.ensures.too_long x.0 is) c.in-Err-TooLong.field-0-is in refused_long c.args.n y both.0 both.1) ∙ ap (λ (s : Spot). do_split c.args.n s r) (sym at))
+    ∙ (not_split c.args.n c.in-Within.field-0 y r (let both = err_long c.in-Err-TooLong.field-0 refusal.TooLong (is_data_kind x.0.kind) (length_of x.0.content) c.args.n (c.in-Err-TooLong.ensures.too_long x.0 is) c.in-Err-TooLong.field-0-is in refused_long c.args.n y both.0 both.1) ∙ ap (λ (s : Place). do_split c.args.n s r) (sym at))
 
 pub returns-in-Err-TooLong-clause-held : goal.returns-in-Err-TooLong-clause-held
 returns-in-Err-TooLong-clause-held g c =

@@ -1,8 +1,7 @@
 use Rattle.std.proofs.Common.{◌≡◌, sym, subst, ◌∙◌}
 use Rattle.run_model.specs.Pools.{is_in}
 use Rattle.run_model.specs.RunOrder.{run_order}
-use Rattle.run_model.proofs.References.{Emptied}
-use Rattle.run_model.proofs.StepFiles.{cleared_emptied}
+use Rattle.run_model.proofs.References.{Emptied, cleared_emptied}
 use Rattle.pool_tree.specs.Tree.{map_of}
 use Rattle.pool_tree.proofs.Trees.{tree_formed}
 use Rattle.brigade_ops.specs.Store.{lists, pool_of, references}

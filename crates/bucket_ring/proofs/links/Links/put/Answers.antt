@@ -12,7 +12,7 @@ head-head-requires g c = sym (lists_there c.args.self.now c.args.ring) ∙ c.req
 
 pub turn-requires-clause-at : goal.turn-requires-clause-at
 turn-requires-clause-at g c =
-    c.fill.ensures.room.there c.target-at.result ∙ ap (λ (k : ℕ). is_some (get c.args.self.now.nodes k)) c.target-at.ensures ∙ spot_there c.args.self.now c.requires.linked c.args.ring c.head-head.result c.args.spot c.head-head.ensures c.requires.spot
+    c.fill.ensures.room.there c.target-at.result ∙ ap (λ (k : ℕ). is_some (get c.args.self.now.nodes k)) c.target-at.ensures ∙ spot_there c.args.self.now c.requires.linked c.args.ring c.head-head.result c.args.position c.head-head.ensures c.requires.position
 
 pub returns : goal.returns
 returns g c =
@@ -28,11 +28,11 @@ returns g c =
     let raw : Changed s t k at r (Some (id_of k birth, x)) (Some r) (record { sentinel = h.sentinel; count = h.count + 1 }) =
     changed s c.fill.new.self c.turn.new.self t k at r (h.count + 1) (Some (id_of k birth, x)) (Some r) h e.bucket e.at e.mark e.links e.room e.heads
     c.head-head.ensures c.turn.ensures.behind c.turn.ensures.before c.turn.ensures.buckets c.turn.ensures.room c.turn.ensures.heads c.resize.ensures.head c.resize.ensures.nodes in
-    let change : Changed s t k (target (behind_of s) h c.args.spot) r (Some (id_of k birth, x)) (Some r) (record { sentinel = h.sentinel; count = h.count + 1 }) =
+    let change : Changed s t k (target (behind_of s) h c.args.position) r (Some (id_of k birth, x)) (Some r) (record { sentinel = h.sentinel; count = h.count + 1 }) =
     subst (λ (a : ℕ). Changed s t k a r (Some (id_of k birth, x)) (Some r) (record { sentinel = h.sentinel; count = h.count + 1 })) c.target-at.ensures raw in
     record {
-      linked = put_linked s t k r c.args.spot birth x h c.requires.linked c.requires.loose c.requires.spot c.head-head.ensures c.requires.few change;
-      lists = put_lists s t k r c.args.spot birth x h c.requires.linked c.requires.loose c.requires.spot c.head-head.ensures c.requires.few change;
-      places = put_places s t k r c.args.spot birth x h c.requires.linked c.requires.loose c.requires.spot c.head-head.ensures c.requires.few change;
+      linked = put_linked s t k r c.args.position birth x h c.requires.linked c.requires.loose c.requires.position c.head-head.ensures c.requires.few change;
+      lists = put_lists s t k r c.args.position birth x h c.requires.linked c.requires.loose c.requires.position c.head-head.ensures c.requires.few change;
+      places = put_places s t k r c.args.position birth x h c.requires.linked c.requires.loose c.requires.position c.head-head.ensures c.requires.few change;
       room = change.room;
     }

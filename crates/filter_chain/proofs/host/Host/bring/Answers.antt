@@ -3,26 +3,26 @@ use Rattle.std.proofs.Common.{◌≡◌, refl, sym, ◌∙◌, ap, subst}
 use Rattle.std.specs.Option.{option_copied_mut, IsSome}
 use Rattle.run_model.specs.declared.event.Event.TheVariants as event
 use Rattle.module_run.specs.Happened.{lasted, refusal_of}
-use Rattle.filter_chain.specs.Hosting.{seat_at, chain_of, budget_of, done_answer}
+use Rattle.filter_chain.specs.Hosting.{hosted_at, chain_of, budget_of, done_answer}
 use Rattle.filter_chain.proofs.HostEvents.{can_serve, put_back, none_found}
 use Rattle.filter_chain.proofs.KnownEvents.{brings_serves}
 use Rattle.filter_chain.proofs.host.Host.bring.Goals as goal
 
 pub bring-requires : goal.bring-requires
-unfolding seat_at chain_of
+unfolding hosted_at chain_of
 bring-requires g c =
     let host = c.args.self.now in
     let d = g.F.Files.device host.files in
     (d, can_serve d host c.args.number c.requires.0 c.requires.1 c.as_slice.result.now c.in-Some.seat.now c.as_slice.ensures.value (sym c.get_mut.ensures.value ∙ ap option_copied_mut c.in-Some.is))
 
 pub returns-in-None-clause-event : goal.returns-in-None-clause-event
-unfolding seat_at
+unfolding hosted_at
 returns-in-None-clause-event g c w hosts =
     let host = c.args.self.now in
     none_found (g.F.Files.device host.files) host c.args.number w hosts (record { by_number = c.get_mut.follows.lender-at-none }) c.get_mut.follows.holds-at-none (sym c.get_mut.ensures.value ∙ ap option_copied_mut c.in-None.is) (event.Bring c.args.pieces) tt
 
 pub returns-in-Some-clause-event : goal.returns-in-Some-clause-event
-unfolding seat_at chain_of
+unfolding hosted_at chain_of
 returns-in-Some-clause-event g c w hosts =
     let host = c.args.self.now in
     let d = g.F.Files.device host.files in

@@ -1,7 +1,7 @@
 -- By what the check of the chain gives.
 use Rattle.std.proofs.Common.{◌≡◌, List, sym, ◌∙◌, subst}
-use Rattle.module_lang.specs.Program.{Program}
-use Rattle.run_model.specs.ChainLaws.{IsChain}
+use Rattle.module_code.specs.Program.{Program}
+use Rattle.run_model.specs.Chains.{IsChain}
 use Rattle.life_check.specs.ChainTheorem.{ChainNeverFaults}
 use Rattle.filter_chain.proofs.host.Host.checked.Goals as goal
 

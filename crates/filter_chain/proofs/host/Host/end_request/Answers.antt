@@ -4,20 +4,20 @@ use Rattle.std.specs.Option.{option_copied_mut, IsSome}
 use Rattle.run_model.specs.declared.event.Event.TheVariants as event
 use Rattle.std.proofs.lemmas.Result.{on_ok_weaker}
 use Rattle.module_run.specs.Happened.{refusal_of}
-use Rattle.filter_chain.specs.Hosting.{seat_at, chain_of, budget_of, done_answer}
+use Rattle.filter_chain.specs.Hosting.{hosted_at, chain_of, budget_of, done_answer}
 use Rattle.filter_chain.proofs.HostEvents.{can_serve, put_back, none_found}
 use Rattle.filter_chain.proofs.KnownEvents.{ends_serves}
 use Rattle.filter_chain.proofs.host.Host.end_request.Goals as goal
 
 pub end_request-requires : goal.end_request-requires
-unfolding seat_at chain_of
+unfolding hosted_at chain_of
 end_request-requires g c =
     let host = c.args.self.now in
     let d = g.F.Files.device host.files in
     (chain_of host, can_serve d host c.args.number c.requires.0 c.requires.1 (chain_of host) c.in-Some.seat.now refl (sym c.get_mut.ensures.value ∙ ap option_copied_mut c.in-Some.is))
 
 pub returns-in-None : goal.returns-in-None
-unfolding seat_at
+unfolding hosted_at
 returns-in-None g c = record {
   event = λ w hosts.
       let host = c.args.self.now in
@@ -25,7 +25,7 @@ returns-in-None g c = record {
 }
 
 pub returns-in-Some : goal.returns-in-Some
-unfolding seat_at
+unfolding hosted_at
 returns-in-Some g c = record {
   event = λ w hosts.
       let host = c.args.self.now in

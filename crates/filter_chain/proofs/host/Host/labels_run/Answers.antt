@@ -3,7 +3,7 @@ use Rattle.std.proofs.Common.{◌≡◌, refl, sym, ◌∙◌, ap}
 use Rattle.std.specs.Option.{option_copied}
 use Rattle.run_model.specs.declared.event.Event.TheVariants as event
 use Rattle.module_run.specs.Conns.{labels_handed}
-use Rattle.filter_chain.specs.Hosting.{seat_at}
+use Rattle.filter_chain.specs.Hosting.{hosted_at}
 use Rattle.filter_chain.proofs.HostEvents.{none_served}
 use Rattle.filter_chain.proofs.HostTells.{labels_on}
 use Rattle.filter_chain.proofs.host.Host.labels_run.Goals as goal

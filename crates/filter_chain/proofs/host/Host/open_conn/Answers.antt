@@ -1,11 +1,11 @@
 -- By the names that are left, and by the connection that is put.
 use Rattle.std.proofs.Common.{◌≡◌, ℕ, ◌+◌, ◌<◌, ◌||◌, List, length, refl, sym, ◌∙◌, subst, arith}
 use Rattle.std.proofs.Math.Path.{fun_ext}
-use Rattle.module_lang.specs.Program.{Program}
+use Rattle.module_code.specs.Program.{Program}
 use Rattle.run_model.specs.Steps.{is_spent}
-use Rattle.run_model.proofs.StepNames.{not_spent}
-use Rattle.run_model.proofs.StepFiles.{neither}
-use Rattle.filter_chain.specs.Hosting.{IsHosting, seat_at, chain_of, budget_of}
+use Rattle.model_laws.proofs.StepNames.{not_spent}
+use Rattle.model_laws.proofs.StepFiles.{neither}
+use Rattle.filter_chain.specs.Hosting.{IsHosting, hosted_at, chain_of, budget_of}
 use Rattle.filter_chain.proofs.Hosts.{laws}
 use Rattle.filter_chain.proofs.HostOpens.{opens_spent, opens_forgot, opened_on}
 use Rattle.filter_chain.proofs.host.Host.open_conn.Goals as goal
@@ -32,7 +32,7 @@ unfolding IsHosting
 open-requires-clause-pool g c =
     let host = c.args.self.now in
     let h = c.requires.1 in
-    let all = laws (budget_of host) (chain_of host) (g.F.Files.device host.files) host.next host.last (seat_at host.seats) c.requires.0 h in
+    let all = laws (budget_of host) (chain_of host) (g.F.Files.device host.files) host.next host.last (hosted_at host.seats) c.requires.0 h in
     let lt = all.sound.names.pools.0 in
     let is = h.pools in
     omega (arith, lt, is)
@@ -42,7 +42,7 @@ unfolding IsHosting
 open-requires-clause-name g c =
     let host = c.args.self.now in
     let h = c.requires.1 in
-    let all = laws (budget_of host) (chain_of host) (g.F.Files.device host.files) host.next host.last (seat_at host.seats) c.requires.0 h in
+    let all = laws (budget_of host) (chain_of host) (g.F.Files.device host.files) host.next host.last (hosted_at host.seats) c.requires.0 h in
     let lt = all.sound.names.first in
     let is = h.names in
     omega (arith, lt, is)

@@ -1,9 +1,9 @@
 -- By the empty world.
 use Rattle.std.proofs.Common.{◌≡◌, ℕ, Option, Some, None, refl, sym, subst, arith}
 use Rattle.run_model.specs.Worlds.{empty_world}
-use Rattle.run_model.proofs.chains.Reached.{empty_is_reached}
-use Rattle.filter_chain.specs.declared.seat.Seat.{Seat}
-use Rattle.filter_chain.specs.Hosting.{IsHosting, IsSeatOf, seat_at, chain_of, budget_of}
+use Rattle.model_laws.proofs.chains.Reached.{empty_is_reached}
+use Rattle.filter_chain.specs.declared.hosted_conn.HostedConn.{HostedConn}
+use Rattle.filter_chain.specs.Hosting.{IsHosting, IsHostedConnIf, hosted_at, chain_of, budget_of}
 use Rattle.filter_chain.proofs.host.Host.watched.Goals as goal
 
 pub returns-clause-empty : goal.returns-clause-empty
@@ -15,7 +15,7 @@ returns-clause-empty g c = record {
   pools = refl;
   names = refl;
   files = (let lt = c.requires.numbered in omega (arith, lt));
-  conns = λ k. subst (λ (o : Option Seat). IsSeatOf c.args.modules.items (g.F.Files.device c.args.files) (record { pool = 2; name = 1 }) o None) (sym (c.new.ensures k)) tt;
+  conns = λ k. subst (λ (o : Option HostedConn). IsHostedConnIf c.args.modules.items (g.F.Files.device c.args.files) (record { pool = 2; name = 1 }) o None) (sym (c.new.ensures k)) tt;
 }
 
 pub returns-clause-chain : goal.returns-clause-chain

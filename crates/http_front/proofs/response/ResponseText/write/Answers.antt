@@ -1,5 +1,5 @@
 use Rattle.std.proofs.Common.{◌≡◌, ◌++◌, append_assoc}
-use Rattle.module_lang.proofs.WritingLaws.{appends_then, leaves_fault, leaves_less, leaves_whole, wrote_then}
+use Rattle.byte_text.proofs.WritingLaws.{appends_then, leaves_fault, leaves_less, leaves_whole, wrote_then}
 use Rattle.http_front.specs.Texts.{text_of}
 use Rattle.http_front.proofs.response.ResponseText.write.Goals as goal
 

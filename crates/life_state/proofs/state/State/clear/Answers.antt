@@ -1,6 +1,6 @@
 -- The pools under it are those that the module declares so.
 use Rattle.std.proofs.Common.{ap, ◌∙◌, Bool}
-use Rattle.module_lang.specs.declared.instr.PoolRef.{PoolRef}
+use Rattle.module_code.specs.declared.instr.PoolRef.{PoolRef}
 use Rattle.life_state.specs.Rules.{cleared_under}
 use Rattle.life_state.specs.Seen.{seen}
 use Rattle.life_state.proofs.state.State.clear.Goals as goal

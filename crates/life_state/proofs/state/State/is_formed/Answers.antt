@@ -1,9 +1,16 @@
-use Rattle.std.proofs.Common.{◌≡◌, length, arith}
+use Rattle.std.proofs.Common.{◌≡◌, Bool, ◌&&◌, nat_le, length, ap, ap₂, arith}
 use Rattle.std.proofs.lemmas.Bool.{leb-true, le-leb}
+use Rattle.life_state.specs.InForm.{is_formed}
 use Rattle.life_state.specs.Seen.{seen}
 use Rattle.life_state.proofs.FormLaws.{both_of, formed_state}
 use Rattle.life_state.proofs.Tests.{and2}
 use Rattle.life_state.proofs.state.State.is_formed.Goals as goal
+
+pub returns-clause-value : goal.returns-clause-value
+unfolding seen is_formed
+returns-clause-value c =
+    let s = seen c.args.self.now in
+    ap₂ ◌&&◌ (ap₂ ◌&&◌ (ap (λ (x : Bool). nat_le s.pool_count 8 && nat_le s.brigade_count 8 && x) c.is_formed_in.ensures.value) c.are_formed_pools.ensures.value) c.are_formed_places.ensures.value
 
 pub returns-clause-sound : goal.returns-clause-sound
 unfolding seen

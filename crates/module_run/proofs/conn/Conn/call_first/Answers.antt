@@ -1,6 +1,6 @@
 -- By the filter that was read, and its module.
 use Rattle.std.proofs.Common.{◌≡◌, ◌∙◌, ℕ, ◌<◌, length, Option, sym, ap, refl, arith, length-set}
-use Rattle.module_lang.specs.Program.{Program}
+use Rattle.module_code.specs.Program.{Program}
 use Rattle.run_model.specs.Chains.{module_at}
 use Rattle.run_model.specs.Passing.{handler_at}
 use Rattle.module_run.specs.Conns.{filter_at}

@@ -22,7 +22,7 @@ clear-requires-clause-live g c = (let s = c.requires.stands in conn_live s.0 c.a
 
 pub returns-clause-labels : goal.returns-clause-labels
 returns-clause-labels g c chain v stands =
-    (c.hand_on.ensures.told ∙ (ap (λ (hs : List (Vec (ℕ × Payload))). labels_handed hs ++ labels_in c.in_ok-ran.ran.items) c.reserve.ensures.items ∙ ap (λ (xs : List (ℕ × Payload)). labels_handed c.args.self.now.labels.items ++ labels_in xs) c.in_ok-ran.ensures.ran))
+    (c.add_labels.ensures.told ∙ (ap (λ (hs : List (Vec (ℕ × Payload))). labels_handed hs ++ labels_in c.in_ok-ran.ran.items) c.reserve.ensures.items ∙ ap (λ (xs : List (ℕ × Payload)). labels_handed c.args.self.now.labels.items ++ labels_in xs) c.in_ok-ran.ensures.ran))
     ∙ closed_labels (map_of c.args.tree.now) (lists c.args.store.now) (next_name c.args.store.now) c.args.self.now v stands.left.seen
 
 pub returns-in_err-reserve-clause-err : goal.returns-in_err-reserve-clause-err

@@ -11,7 +11,7 @@ use Rattle.module_run.proofs.Unreferred.{unreferred_stays}
 use Rattle.module_run.proofs.conn.Conn.destroy.Goals as goal
 
 pub returns-clause-labels : goal.returns-clause-labels
-returns-clause-labels g c = c.hand_on.ensures.told ∙ (ap (λ (hs : List (Vec (ℕ × Payload))). labels_handed hs ++ labels_in c.in_ok-ran.ran.items) c.reserve.ensures.items ∙ ap (λ (xs : List (ℕ × Payload)). labels_handed c.args.self.now.labels.items ++ labels_in xs) c.in_ok-ran.ensures.ran)
+returns-clause-labels g c = c.add_labels.ensures.told ∙ (ap (λ (hs : List (Vec (ℕ × Payload))). labels_handed hs ++ labels_in c.in_ok-ran.ran.items) c.reserve.ensures.items ∙ ap (λ (xs : List (ℕ × Payload)). labels_handed c.args.self.now.labels.items ++ labels_in xs) c.in_ok-ran.ensures.ran)
 
 pub returns-clause-unreferred : goal.returns-clause-unreferred
 returns-clause-unreferred g c file none =

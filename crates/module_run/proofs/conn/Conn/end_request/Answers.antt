@@ -1,6 +1,6 @@
 -- By the tests, and by what is left where none refuses.
 use Rattle.std.proofs.Common.{◌≡◌, ℕ, true, false, List, map, Option, Some, None, sym, ap, subst, ◌∙◌}
-use Rattle.module_lang.specs.Program.{Program}
+use Rattle.module_code.specs.Program.{Program}
 use Rattle.bucket_kinds.specs.Device.{Device}
 use Rattle.run_model.specs.declared.event.Refusal.TheVariants as refusal
 use Rattle.run_model.specs.Chains.{Linked}

@@ -1,11 +1,11 @@
 use Rattle.std.proofs.Common.{rules, ◌≡◌, ℕ, List, ◌+◌, ◌-◌, ◌*◌, ◌<◌, ◌≤◌, length, ◌/◌, ◌%◌, Bool, true, false, nat_eq, nat_lt, [], ◌∷◌, ◌++◌, slice_index_or, slice_set, bit_and, bit_or, Fits, w8, w32, w64, Bor, MutBor}
 use Rattle.bucket_kinds.specs.Device.{Device}
 use Rattle.run_model.specs.Chains.{Frame, Linked}
-use Rattle.module_run.specs.Looking.{Looks, LacksNames}
+use Rattle.module_run.specs.Looking.{IsNextInstr, step_lacks_names}
 use Rattle.module_run.specs.Stepping.{IsOnTop}
 use Rattle.std.proofs.Common.{slice_get, Some, sym, ◌∙◌, ap, subst, refl}
 use Rattle.std.proofs.lemmas.Option.{slice_get_read}
-use Rattle.module_lang.specs.Program.{Program}
+use Rattle.module_code.specs.Program.{Program}
 use Rattle.module_run.specs.declared.conn.Filter.{Filter}
 use Rattle.module_run.proofs.Looking.{looked, read_at, seen_next}
 use Rattle.pool_tree.specs.Tree.{map_of}

@@ -1,6 +1,6 @@
 -- By the instruction that was read.
 use Rattle.std.proofs.Common.{◌∙◌, ℕ, sym, ap}
-use Rattle.module_lang.specs.declared.instr.Instr.{Instr}
+use Rattle.module_code.specs.declared.instr.Instr.{Instr}
 use Rattle.run_model.specs.Passing.{after_pass}
 use Rattle.module_run.proofs.CurrentAt.{current_at}
 use Rattle.module_run.proofs.conn.Filter.go_on.Goals as goal

@@ -1,0 +1,9 @@
+pub mod ListLaws
+pub mod CutLaws
+pub mod NumberLaws
+pub mod QuotedLaws
+pub mod WritingLaws
+pub mod SpelledLaws
+pub mod ReaderLaws
+pub mod QuoteFound
+pub mod QuoteAgain

@@ -1,0 +1,305 @@
+//! Texts in quotes.
+
+ghost use Rattle.std.specs.Prelude.{◌≡◌, ℕ, ◌+◌, ◌<◌, ◌≤◌, ◌++◌, ◌∷◌, [], List, length, take, option_map, option_to_list, IfSome, IfOk, OnOk, OnErr, Some};
+ghost use Rattle.byte_text.specs.QuotedTexts.{Spells, StandsIn};
+ghost use Rattle.byte_text.specs.Quoted.{hex_value, hex_digit, plain, escaped, scanned, IsBelow16, is_done, measured_from, text_from, quoted, measure_of, text_of, spelled, spelled_all, spelling};
+ghost use Rattle.byte_text.specs.Writes.{Wrote};
+
+use crate::bytes::is_printable;
+use crate::writer::{WriteFault, put_all};
+use module_code::Seq;
+use std::alloc::{AllocError, Global};
+use std::io::Write;
+
+/// Where the reader of a text stands.
+#[derive(Clone, Copy)]
+pub enum Scan {
+    /// Between the bytes of the text.
+    Plain,
+    /// After a backslash.
+    Escape,
+    /// After `\x`.
+    High,
+    /// After `\x` and a digit of this value.
+    Low(u8),
+    /// After the closing quote.
+    Done,
+}
+
+/// What a byte makes: the next place of the reader, and a byte of the text where one is complete.
+#[derive(Clone, Copy)]
+pub struct ByteRead {
+    pub scan: Scan,
+    pub byte: Option<u8>,
+}
+
+/// How many bytes a text in quotes has, and how many its spelling has with both quotes.
+#[derive(Clone, Copy)]
+pub struct Measured {
+    /// The number of bytes of the text.
+    pub len: usize,
+    /// The number of bytes of its spelling.
+    pub used: usize,
+}
+
+fn hex_value(byte: u8) -> Option<u8>
+    ensures value { result ≡ hex_value byte }
+    ensures small { (d : ℕ) → result ≡ Some d → d < 16 }
+{
+    if b'0' <= byte && byte <= b'9' {
+        return Some(byte - b'0');
+    }
+    if b'a' <= byte && byte <= b'f' {
+        return Some(byte - b'a' + 10);
+    }
+    None
+}
+
+fn made(byte: u8) -> Option<ByteRead>
+    ensures { result ≡ Some (record { scan = Scan.Plain; byte = Some byte }) }
+{
+    Some(ByteRead {
+        scan: Scan::Plain,
+        byte: Some(byte),
+    })
+}
+
+fn moved(scan: Scan) -> Option<ByteRead>
+    ensures { result ≡ Some (record { scan = scan; byte = None }) }
+{
+    Some(ByteRead { scan, byte: None })
+}
+
+fn plain(byte: u8) -> Option<ByteRead>
+    ensures { result ≡ plain byte }
+{
+    if byte == b'"' {
+        return moved(Scan::Done);
+    }
+    if byte == b'\\' {
+        return moved(Scan::Escape);
+    }
+    if is_printable(byte) { made(byte) } else { None }
+}
+
+fn escaped(byte: u8) -> Option<ByteRead>
+    ensures { result ≡ escaped byte }
+{
+    match byte {
+        b'"' => made(b'"'),
+        b'\\' => made(b'\\'),
+        b'n' => made(b'\n'),
+        b'r' => made(b'\r'),
+        b'x' => moved(Scan::High),
+        _ => None,
+    }
+}
+
+fn high_digit(byte: u8) -> Option<ByteRead>
+    ensures { result ≡ scanned Scan.High byte }
+{
+    match hex_value(byte) {
+        Some(digit) => moved(Scan::Low(digit)),
+        None => None,
+    }
+}
+
+fn low_digit(high: u8, byte: u8) -> Option<ByteRead>
+    requires { high < 16 }
+    ensures { result ≡ scanned (Scan.Low high) byte }
+{
+    match hex_value(byte) {
+        Some(digit) => made(16 * high + digit),
+        None => None,
+    }
+}
+
+fn scan_byte(scan: Scan, byte: u8) -> Option<ByteRead>
+    requires { IsBelow16 scan }
+    ensures value { result ≡ scanned scan byte }
+    ensures small { IfSome result (λ r. IsBelow16 r.scan) }
+{
+    match scan {
+        Scan::Plain => plain(byte),
+        Scan::Escape => escaped(byte),
+        Scan::High => high_digit(byte),
+        Scan::Low(high) => low_digit(high, byte),
+        Scan::Done => None,
+    }
+}
+
+fn is_done(scan: Scan) -> bool
+    ensures { result ≡ is_done scan }
+{
+    matches!(scan, Scan::Done)
+}
+
+#[tactic(auto, using(crate::proofs::QuotedLaws::measured))]
+fn measure_rest(rest: &[u8]) -> Option<Measured>
+    ensures value { result ≡ measure_of (text_from Scan.Plain [] 1 rest.now) }
+    ensures within { IfSome result (λ m. m.used ≤ length rest.now + 1) }
+{
+    let mut scan = Scan::Plain;
+    let mut len = 0;
+    for (i, byte) in rest.iter().enumerate() {
+        let read = scan_byte(scan, *byte)?;
+        if is_done(read.scan) {
+            return Some(Measured { len, used: i + 2 });
+        }
+        scan = read.scan;
+        len += usize::from(read.byte.is_some());
+    }
+    None
+}
+
+/// How long the text is whose spelling these bytes begin with. `None` where they do not begin with a quote, or where
+/// no text follows it: a byte outside 0x20 to 0x7E, an escape that is none, or no closing quote.
+#[tactic(auto, unfolding(crate::specs::Quoted::quoted))]
+pub fn measure(bytes: &[u8]) -> Option<Measured>
+    ensures value { result ≡ measure_of (quoted bytes.now) }
+    ensures within { IfSome result (λ m. m.used ≤ length bytes.now) }
+{
+    if bytes.is_empty() || bytes[0] != b'"' {
+        return None;
+    }
+    measure_rest(&bytes[1..])
+}
+
+fn push_byte(text: &mut Seq<u8>, byte: Option<u8>) -> Result<(), AllocError>
+    ensures ok { OnOk result (text.new ≡ text.old ++ option_to_list byte) }
+    ensures err { OnErr result (text.new ≡ text.old) }
+{
+    match byte {
+        Some(byte) => text.push(byte),
+        None => Ok(()),
+    }
+}
+
+fn unquote_rest(alloc: Global, rest: &[u8]) -> Result<Option<Seq<u8>>, AllocError>
+    ensures { IfOk result (λ t. t ≡ text_of (text_from Scan.Plain [] 1 rest.now)) }
+{
+    let mut scan = Scan::Plain;
+    let mut text = Seq::new(alloc);
+    for byte in rest {
+        let Some(read) = scan_byte(scan, *byte) else {
+            return Ok(None);
+        };
+        if is_done(read.scan) {
+            return Ok(Some(text));
+        }
+        scan = read.scan;
+        push_byte(&mut text, read.byte)?;
+    }
+    Ok(None)
+}
+
+#[tactic(auto, unfolding(crate::specs::Quoted::quoted))]
+fn read_quoted(alloc: Global, bytes: &[u8]) -> Result<Option<Seq<u8>>, AllocError>
+    ensures { IfOk result (λ t. t ≡ text_of (quoted bytes.now)) }
+{
+    if bytes.is_empty() || bytes[0] != b'"' {
+        return Ok(None);
+    }
+    unquote_rest(alloc, &bytes[1..])
+}
+
+/// The text whose spelling these bytes begin with, as `measure` has its length.
+pub fn unquote(alloc: Global, bytes: &[u8]) -> Result<Option<Seq<u8>>, AllocError>
+    ensures value { IfOk result (λ t. t ≡ text_of (quoted bytes.now)) }
+
+    // The texts that are taken are those that the grammar spells.
+    ensures only { (s text rest : List ℕ) → Spells s text → bytes.now ≡ s ++ rest → IfOk result (λ t. t ≡ Some text) }
+    ensures found { IfOk result (λ t. IfSome t (λ text. StandsIn text bytes.now)) }
+{
+    read_quoted(alloc, bytes)
+}
+
+/// How a byte is written in a text: at most four bytes.
+#[derive(Clone, Copy)]
+pub struct SpelledByte {
+    bytes: [u8; 4],
+    len: usize,
+    ghost within: { len ≤ 4 },
+}
+
+impl SpelledByte {
+    /// The bytes.
+    pub fn as_slice(&self) -> &[u8]
+        ensures { result.now ≡ take self.now.len self.now.bytes }
+    {
+        &self.bytes[..self.len]
+    }
+}
+
+fn hex_digit(value: u8) -> u8
+    requires { value < 16 }
+    ensures { result ≡ hex_digit value }
+{
+    if value < 10 {
+        b'0' + value
+    } else {
+        b'a' - 10 + value
+    }
+}
+
+fn spelled_byte(byte: u8) -> SpelledByte
+    ensures { take result.len result.bytes ≡ spelled byte }
+{
+    if byte == b'"' || byte == b'\\' {
+        return SpelledByte {
+            bytes: [b'\\', byte, 0, 0],
+            len: 2,
+        };
+    }
+    if is_printable(byte) {
+        return SpelledByte {
+            bytes: [byte, 0, 0, 0],
+            len: 1,
+        };
+    }
+    SpelledByte {
+        bytes: [b'\\', b'x', hex_digit(byte / 16), hex_digit(byte % 16)],
+        len: 4,
+    }
+}
+
+fn spelled_text(alloc: Global, text: &[u8]) -> Result<Seq<u8>, AllocError>
+    ensures { IfOk result (λ s. s ≡ spelling text.now) }
+{
+    let mut spelling = Seq::new(alloc);
+    spelling.push(b'"')?;
+    for byte in text {
+        spelling.extend(spelled_byte(*byte).as_slice())?;
+    }
+    spelling.push(b'"')?;
+    Ok(spelling)
+}
+
+/// Writes a text in quotes: `\"`, `\\` and `\xHH` for bytes outside 0x20 to 0x7E, the others as they are. Without
+/// memory nothing is written.
+pub fn push_spelling(alloc: Global, out: &mut Seq<u8>, text: &[u8]) -> Result<(), AllocError>
+    ensures ok { OnOk result (out.new ≡ out.old ++ spelling text.now) }
+    ensures err { OnErr result (out.new ≡ out.old) }
+{
+    let mut spelling = spelled_text(alloc, text)?;
+    out.append(&mut spelling)
+}
+
+fn put_spelled<W: Write>(out: &mut W, text: &[u8]) -> Result<(), WriteFault>
+    ensures { Wrote result (W.contents out.old) (W.contents out.new) (spelled_all text.now) }
+{
+    for byte in text {
+        put_all(out, spelled_byte(*byte).as_slice())?;
+    }
+    Ok(())
+}
+
+/// Writes a text in quotes into a writer, as `push_spelling` does into a list. Takes no memory. Where the writer
+/// fails, a front of it is written.
+pub fn print_text<W: Write>(out: &mut W, text: &[u8]) -> Result<(), WriteFault>
+    ensures { Wrote result (W.contents out.old) (W.contents out.new) (spelling text.now) }
+{
+    put_all(out, b"\"")?;
+    put_spelled(out, text)?;
+    put_all(out, b"\"")
+}

@@ -1,0 +1,26 @@
+-- By what is below the next names.
+use Rattle.std.proofs.Common.{refl, ap}
+use Rattle.run_model.specs.declared.payload.Payload.{Payload}
+use Rattle.run_model.specs.Pools.{Pools}
+use Rattle.filter_chain.proofs.Seated.{pools_below, brigades_below, births_below, renamed}
+use Rattle.filter_chain.proofs.hosted_conn.HostedConn.set_next.Goals as goal
+
+pub set_next-requires : goal.set_next-requires
+set_next-requires c = pools_below c.args.self.now c.args.next c.requires.0 c.requires.1.0 c.requires.1.1.0 c.requires.1.1.1
+
+pub set_next-requires-2-clause-brigades : goal.set_next-requires-2-clause-brigades
+set_next-requires-2-clause-brigades c = brigades_below c.args.self.now c.args.next c.requires.0 c.requires.1.0 c.requires.1.1.0 c.requires.1.1.1
+
+pub set_next-requires-2-clause-births : goal.set_next-requires-2-clause-births
+set_next-requires-2-clause-births c = births_below c.args.self.now c.args.next c.requires.0 c.requires.1.0 c.requires.1.1.0 c.requires.1.1.1
+
+pub returns-clause-same : goal.returns-clause-same
+returns-clause-same c chain d conn h =
+    let e = c.set_next-2.ensures in
+    renamed c.args.self.now (record { tree = c.set_next.new.self; store = c.set_next-2.new.self; conn = c.args.self.now.conn }) c.args.next refl c.set_next.ensures.out e.lists e.places e.pools e.house e.next chain d conn h c.set_next.ensures.formed
+
+pub returns-clause-pool : goal.returns-clause-pool
+returns-clause-pool c = ap (λ (ps : Pools Payload). ps.next) c.set_next.ensures.out
+
+pub returns-clause-name : goal.returns-clause-name
+returns-clause-name c = c.set_next-2.ensures.next

@@ -1,6 +1,0 @@
--- The host stands for some world.
-use Rattle.http_front.specs.Driven.{IsAlive}
-use Rattle.host_cli.proofs.listening.serve_all.Given as goal
-
-abbrev pub invariant-loop-stream : goal.invariant-loop-stream
-invariant-loop-stream g l = IsAlive g.F.Files.device l.host

@@ -1,5 +1,0 @@
-use Rattle.host_cli.proofs.PartLaws.{made_certified}
-use Rattle.host_cli.proofs.part.certificate_of.Goals as goal
-
-pub returns-in-Ok : goal.returns-in-Ok
-returns-in-Ok c = made_certified c.args.code.now c.args.cert c.in-Ok.cert c.in_default.is c.in-Ok.ensures.typed c.in-Ok.ensures.made

@@ -1,5 +1,0 @@
-use Rattle.host_cli.proofs.PlayerLaws.{texts_low}
-use Rattle.host_cli.proofs.player.Player.end.Goals as goal
-
-pub end-requires : goal.end-requires
-end-requires c = texts_low c.args.self.now c.in-Texts.texts c.requires.at.0 (cc) c.requires.at.1

@@ -1,6 +1,0 @@
-use Rattle.std.proofs.Common.{◌∙◌}
-use Rattle.http_front.proofs.Asked.{closes_of}
-use Rattle.http_front.proofs.refusing.head_closes.Goals as goal
-
-pub returns : goal.returns
-returns c h at = c.closes.ensures ∙ closes_of c.args.buf.now c.args.spans.now c.args.head h at

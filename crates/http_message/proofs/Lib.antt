@@ -1,0 +1,6 @@
+pub mod Headless
+pub mod Dated
+pub mod Asked
+pub mod Literal
+pub mod SitePaths
+pub mod SiteLaws

@@ -1,0 +1,10 @@
+pub mod Heads
+pub mod Looking
+pub mod Fields
+pub mod Asking
+pub mod Replying
+pub mod Clocks
+pub mod Routes
+pub mod Sites
+pub mod SiteFiles
+pub mod Inboxes

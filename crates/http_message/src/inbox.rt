@@ -1,0 +1,54 @@
+//! The bytes that were read and not yet served.
+
+ghost use Rattle.std.specs.Prelude.{◌≡◌, ◌≤◌, ◌++◌, length, drop, [], OnOk, OnErr};
+
+use std::alloc::{AllocError, Global};
+
+/// The bytes that were read and not yet served.
+#[derive(Drop)]
+pub struct Inbox {
+    bytes: Vec<u8>,
+    at: usize,
+    ghost fits: { at ≤ length bytes.items },
+}
+
+impl Inbox {
+    ghost use Rattle.http_message.specs.Inboxes.{unread};
+
+    /// An inbox with nothing in it.
+    pub fn new(alloc: Global) -> Inbox
+        ensures { unread result ≡ [] }
+    {
+        Inbox {
+            bytes: Vec::new(alloc),
+            at: 0,
+        }
+    }
+
+    /// The bytes that are not served.
+    pub fn unread(&self) -> &[u8]
+        ensures { result.now ≡ unread self.now }
+    {
+        &self.bytes.as_slice()[self.at..]
+    }
+
+    /// Drops the first bytes, which are served. Where none is left, their room is used again.
+    pub fn skip(&mut self, count: usize)
+        requires { count ≤ length (unread self.old) }
+        ensures { unread self.new ≡ drop count (unread self.old) }
+    {
+        self.at += count;
+        if self.at == self.bytes.len() {
+            self.at = 0;
+            self.bytes.clear();
+        }
+    }
+
+    /// Adds bytes. Without memory nothing changes.
+    pub fn add(&mut self, more: &[u8]) -> Result<(), AllocError>
+        ensures ok { OnOk result (unread self.new ≡ unread self.old ++ more.now) }
+        ensures err { OnErr result (unread self.new ≡ unread self.old) }
+    {
+        self.bytes.extend_from_slice(more)
+    }
+}

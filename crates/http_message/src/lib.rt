@@ -1,0 +1,29 @@
+//! The messages of HTTP/1.1 (RFC 9112, RFC 9110): what the head of a request asks for, the files of a site, and the text of a response.
+#![tactic(auto)]
+
+mod asks;
+mod clock;
+mod failure;
+mod fields;
+mod inbox;
+mod looking;
+mod paths;
+mod refusing;
+mod reply;
+mod replying;
+mod site;
+mod site_file;
+mod status;
+
+pub use asks::target_path;
+pub use clock::{Clock, Exchange};
+pub use failure::Failure;
+pub use inbox::Inbox;
+pub use looking::{HeadLook, look_at};
+pub use paths::decoded;
+pub use refusing::{head_closes, refusal, status_closes};
+pub use reply::{Method, Reply, Version};
+pub use replying::{closing, date_line, middle, opening, status_text};
+pub use site::{Site, SiteFault};
+pub use site_file::{SITE_BYTES, SiteLine, SiteRefusal, site_line, site_of};
+pub use status::StatusCode;

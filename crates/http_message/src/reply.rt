@@ -1,0 +1,72 @@
+//! What a request is answered.
+
+ghost use Rattle.std.specs.Prelude.{◌≡◌};
+ghost use Rattle.http_message.specs.Asking.{method_of, version_of};
+
+use crate::failure::Failure;
+use crate::status::StatusCode;
+use module_code::Seq;
+
+/// The version of a request (RFC 9112, section 2.3).
+#[derive(Clone, Copy, Debug, PartialEq, Eq)]
+pub enum Version {
+    /// HTTP/1.0.
+    Http10,
+    /// HTTP/1.1.
+    Http11,
+}
+
+impl Version {
+    /// The version of a head, by its minor number.
+    pub fn of(minor: u8) -> Version
+        ensures { result ≡ version_of minor }
+    {
+        if minor == 0 {
+            return Version::Http10;
+        }
+        Version::Http11
+    }
+}
+
+/// The method of a request, as far as its response depends on it (RFC 9110, section 9.3).
+#[derive(Clone, Copy, Debug, PartialEq, Eq)]
+pub enum Method {
+    /// GET (section 9.3.1).
+    Get,
+    /// HEAD (section 9.3.2).
+    Head,
+    /// A method that is refused.
+    Other,
+}
+
+impl Method {
+    /// The method that was sent. Its case counts.
+    pub fn of(sent: &[u8]) -> Method
+        ensures { result ≡ method_of sent.now }
+    {
+        if sent == b"GET".as_slice() {
+            return Method::Get;
+        }
+        if sent == b"HEAD".as_slice() {
+            return Method::Head;
+        }
+        Method::Other
+    }
+}
+
+/// A response.
+#[derive(Drop)]
+pub struct Reply {
+    /// The status.
+    pub status: StatusCode,
+    /// The version of the request.
+    pub version: Version,
+    /// The method of the request.
+    pub method: Method,
+    /// Whether the connection closes after it.
+    pub closes: bool,
+    /// The body, which goes out where a GET succeeds.
+    pub body: Seq<u8>,
+    /// Why the status is 500.
+    pub failure: Option<Failure>,
+}

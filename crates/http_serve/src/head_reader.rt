@@ -1,0 +1,121 @@
+//! A connection's stream, with a deadline for each head.
+
+use std::cell::Cell;
+use std::io::{self, ErrorKind, Read, Write};
+use std::net::TcpStream;
+use std::rt::Clock;
+use std::time::{Duration, Instant};
+
+/// How many milliseconds a read may wait longer than a head may take. So the stream is told a new timeout only where that differs by more.
+const SLACK_MILLIS: u64 = 20;
+
+/// When the next head is to be there: not said before it is first waited for. When bytes last came, and what timeout the stream has.
+#[derive(Drop)]
+pub struct Deadline {
+    at: Cell<Option<Instant>>,
+    came: Cell<Option<Instant>>,
+    set: Cell<Option<Duration>>,
+    patience: Duration,
+}
+
+impl Deadline {
+    /// No deadline yet; each head may take so long.
+    pub fn new(patience: Duration) -> Deadline {
+        Deadline {
+            at: Cell::new(None),
+            came: Cell::new(None),
+            set: Cell::new(None),
+            patience,
+        }
+    }
+
+    /// The time since bytes last came, or since this was last asked: so long a response took.
+    pub fn taken(&self, rt: &impl Clock) -> Duration {
+        let Ok(now) = Instant::now(rt) else {
+            return Duration::ZERO;
+        };
+        let Some(before) = self.came.replace(Some(now)) else {
+            return Duration::ZERO;
+        };
+        now.checked_duration_since(before).unwrap_or(Duration::ZERO)
+    }
+
+    /// The next head gets a deadline of its own.
+    fn renew(&self) {
+        self.at.set(None);
+    }
+
+    /// What is left of the time of this head, which begins when it is first waited for; `None` where it is over.
+    fn left(&self, now: Instant) -> Option<Duration> {
+        let Some(at) = self.at.get() else {
+            self.at.set(now.checked_add(self.patience));
+            return Some(self.patience);
+        };
+        let left = at.checked_duration_since(now)?;
+        if left.is_zero() {
+            return None;
+        }
+        Some(left)
+    }
+
+    /// Whether the stream has a timeout of that length, or of a little more.
+    fn is_set(&self, left: Duration) -> bool {
+        let Some(set) = self.set.get() else {
+            return false;
+        };
+        match set.checked_sub(left) {
+            Some(more) => more <= Duration::from_millis(SLACK_MILLIS),
+            None => false,
+        }
+    }
+
+    /// Lets a read of the stream wait so long.
+    fn set_timeout(&self, stream: &TcpStream, left: Duration) -> io::Result<()> {
+        if !self.is_set(left) {
+            stream.set_read_timeout(Some(left))?;
+            self.set.set(Some(left));
+        }
+        Ok(())
+    }
+}
+
+/// Reads a stream, as long as the head that is waited for may take.
+#[derive(Drop)]
+pub struct HeadReader<'a, R: Clock> {
+    pub runtime: &'a R,
+    pub stream: &'a TcpStream,
+    pub deadline: &'a Deadline,
+}
+
+impl<R: Clock> Read for HeadReader<'_, R> {
+    fn read(&mut self, buf: &mut [u8]) -> io::Result<usize> {
+        let now = Instant::now(self.runtime)?;
+        let Some(left) = self.deadline.left(now) else {
+            return Err(io::Error::from(ErrorKind::TimedOut));
+        };
+        self.deadline.set_timeout(self.stream, left)?;
+        let mut stream = self.stream;
+        let count = stream.read(buf)?;
+        self.deadline.came.set(Instant::now(self.runtime).ok());
+        Ok(count)
+    }
+}
+
+/// Writes to a stream. Behind what is written the next head has a deadline of its own.
+#[derive(Drop)]
+pub struct ReplyWriter<'a> {
+    pub stream: &'a TcpStream,
+    pub deadline: &'a Deadline,
+}
+
+impl Write for ReplyWriter<'_> {
+    fn write(&mut self, buf: &[u8]) -> io::Result<usize> {
+        self.deadline.renew();
+        let mut stream = self.stream;
+        stream.write(buf)
+    }
+
+    fn flush(&mut self) -> io::Result<()> {
+        Ok(())
+    }
+}

@@ -1,0 +1,13 @@
+//! The command `serve`: a site over HTTP/1.1 on a port, through a chain of filters that is checked first.
+#![tactic(auto)]
+
+mod head_reader;
+mod listening;
+mod request_log;
+mod serve_command;
+mod system_clock;
+#[cfg(test)]
+mod tests;
+mod unclosed;
+
+pub use serve_command::{ServeOptions, serve_front};

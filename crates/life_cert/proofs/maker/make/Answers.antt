@@ -1,0 +1,22 @@
+-- The certificate of the rounds is the least; where some is accepted, the check finds nothing in it.
+use Rattle.std.proofs.Common.{◌≡◌, Some, None, sym, subst, ◌∙◌, ap, rules}
+use Rattle.life_check.specs.Certificates.{Certificate}
+use Rattle.life_check.specs.Seen.{seen_cert}
+use Rattle.life_check.specs.Typed.{first_refusal}
+use Rattle.life_check.specs.declared.refusal.CheckRefusal.{CheckRefusal}
+use Rattle.life_cert.specs.Least.{IsBelow}
+use Rattle.life_cert.proofs.Least.{made_is_least}
+use Rattle.life_cert.proofs.LeastTyped.{refuses_only_then}
+use Rattle.life_cert.proofs.maker.make.Goals as goal
+
+none_some : (r : CheckRefusal) → None ≡ Some r → ⊥
+none_some r e = cc
+
+pub returns-clause-least : goal.returns-clause-least
+returns-clause-least c = λ other formed typed.
+    subst (λ (d : Certificate). IsBelow d other) (sym c.in_ok-cert.ensures.made) (made_is_least c.args.code.now other c.in_ok-cert.ensures.proper formed typed)
+
+pub returns-in_err-check-clause-complete : goal.returns-in_err-check-clause-complete
+returns-in_err-check-clause-complete c = λ refused other formed typed.
+    let found : first_refusal c.args.code.now (seen_cert c.in_ok-cert.cert) ≡ Some c.in_err-check.field-0.0 = search rules in
+    none_some c.in_err-check.field-0.0 (sym (refuses_only_then c.args.code.now other c.in_ok-cert.ensures.proper formed typed) ∙ (ap (first_refusal c.args.code.now) (sym c.in_ok-cert.ensures.made) ∙ found))

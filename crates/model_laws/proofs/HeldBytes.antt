@@ -1,0 +1,112 @@
+-- What buckets and files hold stays bytes where 46 instructions step.
+use Rattle.std.proofs.Common.{◌≡◌, ℕ, ◌+◌, ◌<◌, ◌≤◌, Bool, true, false, cond, ◌==◌, List, [], ◌∷◌, length, drop, get_or, Some, All, inl, inr, sym, subst, arith}
+use Rattle.std.proofs.lemmas.Bool.{cases_lt}
+use Rattle.std.proofs.lemmas.List.{get_or_past}
+use Rattle.std.proofs.lemmas.List.Elements.{All-nil, All-cons, All-head, All-tail, All-take, All-drop, All-get_or}
+use Rattle.module_code.specs.declared.instr.Instr.{Instr}
+use Rattle.module_code.specs.declared.instr.Instr.TheVariants as instr
+use Rattle.module_code.specs.Program.{Program, IsModule}
+use Rattle.run_model.specs.declared.bucket.Content.{Content}
+use Rattle.run_model.specs.declared.bucket.Content.TheVariants as content
+use Rattle.run_model.specs.declared.bucket.Bucket.{Bucket}
+use Rattle.run_model.specs.declared.bucket.NamedBucket.{NamedBucket}
+use Rattle.run_model.specs.declared.event.Piece.{Piece}
+use Rattle.run_model.specs.declared.event.Piece.TheVariants as piece
+use Rattle.run_model.specs.Cutting.{front_of, rest_of}
+use Rattle.run_model.specs.State.{Configuration}
+use Rattle.run_model.specs.Cursors.{Place, Nowhere, AtLoose, Within, AtEndOf, spot}
+use Rattle.run_model.specs.BucketSteps.{content_at, first_of, byte_of, items_at, read_given}
+use Rattle.run_model.specs.Steps.{Choice, step, text_of}
+use Rattle.run_model.specs.Pieces.{bucket_of, named_from}
+use Rattle.model_laws.specs.Ranges.{AreBytes, HoldsBytes, GivesBytes, IsOfBytes}
+use Rattle.run_model.proofs.EachBucket.{of_named}
+use Rattle.run_model.proofs.Spots.{Stands, stands}
+use Rattle.model_laws.proofs.Origins.{Each, PassesParts, Holds, Makes}
+use Rattle.model_laws.proofs.Contents.{step_contents}
+
+-- The bytes that a bucket holds are bytes.
+abbrev pub OfBytes : Bucket → Type 0
+OfBytes b = HoldsBytes b.content
+
+abbrev IsOf : NamedBucket → Type 0
+IsOf x = OfBytes x.bucket
+
+none : Each OfBytes []
+none = All-nil IsOf
+
+-- Parts of a bucket, and buckets that are made.
+
+front_bytes : (n : ℕ) (c : Content) → HoldsBytes c → HoldsBytes (front_of n c)
+front_bytes n (content.Bytes bs) h = All-take (λ b. b ≤ 255) n bs h
+front_bytes n (content.Range file start len) h = tt
+front_bytes n content.Nothing h = tt
+
+rest_bytes : (n : ℕ) (c : Content) → HoldsBytes c → HoldsBytes (rest_of n c)
+rest_bytes n (content.Bytes bs) h = All-drop (λ b. b ≤ 255) n bs h
+rest_bytes n (content.Range file start len) h = tt
+rest_bytes n content.Nothing h = tt
+
+parts : PassesParts OfBytes
+parts = record { front = λ n b le h. front_bytes n b.content h; rest = λ n b le h. rest_bytes n b.content h }
+
+pub text_bytes : (p : Program) → IsModule p → (t : ℕ) → AreBytes (text_of p t)
+unfolding text_of
+text_bytes p m t = elim (cases_lt t (length p.texts)) [
+  | inl lt ↦ small (get_or p.texts t []) (All-get_or (λ u. All (λ b. b < 256) u) p.texts t [] lt m.bytes)
+  | inr le ↦ subst AreBytes (sym (get_or_past p.texts t [] le)) (All-nil (λ b. b ≤ 255))
+] where
+  small : (u : List ℕ) → All (λ b. b < 256) u → AreBytes u
+  small u all = λ k d lt. let h : get_or u k d < 256 = all k d lt in omega arith
+
+given_bytes : (choice : Choice) → GivesBytes choice → (c : Content) (bytes : List ℕ) → read_given choice.given c ≡ Some bytes → AreBytes bytes
+given_bytes choice gives (content.Bytes bs) bytes is = let none_given : bytes ≡ [] = cc in subst AreBytes (sym none_given) (All-nil (λ b. b ≤ 255))
+given_bytes choice gives (content.Range file start len) bytes is = by_length (len == 0) is where
+  by_length : (b : Bool) → cond b (Some []) choice.given ≡ Some bytes → AreBytes bytes
+  by_length true is = let none_given : bytes ≡ [] = cc in subst AreBytes (sym none_given) (All-nil (λ b. b ≤ 255))
+  by_length false is = gives bytes is
+given_bytes choice gives content.Nothing bytes is = let none_given : bytes ≡ [] = cc in subst AreBytes (sym none_given) (All-nil (λ b. b ≤ 255))
+
+made_bytes : (p : Program) (choice : Choice) (r : Configuration) → IsModule p → GivesBytes choice → AreBytes r.call.buffer → (i : Instr) (b : Bucket) → Makes p choice r i b → OfBytes b
+made_bytes p choice r m gives buffer (instr.Heap c t) b is = subst OfBytes (sym is) (text_bytes p m t)
+made_bytes p choice r m gives buffer (instr.Immortal c t) b is = subst OfBytes (sym is) (text_bytes p m t)
+made_bytes p choice r m gives buffer (instr.FromBuf c) b is = subst OfBytes (sym is) buffer
+made_bytes p choice r m gives buffer (instr.Transient c) b is = subst OfBytes (sym is) buffer
+made_bytes p choice r m gives buffer (instr.PoolB c q) b is = subst OfBytes (sym is.1) buffer
+made_bytes p choice r m gives buffer (instr.Flush c) b is = subst OfBytes (sym is) tt
+made_bytes p choice r m gives buffer (instr.Eos c) b is = subst OfBytes (sym is) tt
+made_bytes p choice r m gives buffer (instr.Read c l) b is = subst OfBytes (sym is.1.1.1) (given_bytes choice gives is.0 is.1.0 is.1.1.0)
+made_bytes p choice r m gives buffer i b is = absurd is
+
+pub step_holds : (p : Program) (choice : Choice) (i : Instr) (r : Configuration) → IsModule p → GivesBytes choice → AreBytes r.call.buffer → Holds OfBytes r → Holds OfBytes (step p choice i r).state
+step_holds p choice i r m gives buffer h = step_contents HoldsBytes p choice i r parts (made_bytes p choice r m gives buffer i) h
+
+-- Bytes that are asked for.
+
+spot_bytes : (r : Configuration) (s : Place) → Stands r s → Holds OfBytes r → HoldsBytes (content_at s)
+spot_bytes r Nowhere there h = tt
+spot_bytes r (AtLoose x) there h = of_named IsOf x.name x r.call.loose there h.loose
+spot_bytes r (Within b x) there h = of_named IsOf x.name x (items_at r b) there.1 (h.brigades b)
+spot_bytes r (AtEndOf b) there h = tt
+
+first_byte : (xs : List ℕ) (v : ℕ) → AreBytes xs → first_of xs ≡ Some v → v ≤ 255
+first_byte [] v all is = absurd (cc)
+first_byte (x ∷ xs) v all is = let le : x ≤ 255 = All-head (λ b. b ≤ 255) x xs all in let same : x ≡ v = cc in subst (λ (k : ℕ). k ≤ 255) same le
+
+byte_small : (k v : ℕ) (c : Content) → HoldsBytes c → byte_of k c ≡ Some v → v ≤ 255
+byte_small k v (content.Bytes bs) all is = first_byte (drop k bs) v (All-drop (λ b. b ≤ 255) k bs all) is
+byte_small k v (content.Range file start len) all is = absurd (cc)
+byte_small k v content.Nothing all is = absurd (cc)
+
+-- the byte of a bucket at which a cursor stands
+pub byte_there : (r : Configuration) (c k v : ℕ) → Holds OfBytes r → byte_of k (content_at (spot r c)) ≡ Some v → v ≤ 255
+byte_there r c k v h is = byte_small k v (content_at (spot r c)) (spot_bytes r (spot r c) (stands r (r.call.cursors c)) h) is
+
+-- Buckets that are brought.
+
+piece_bytes : (call req : ℕ) (x : Piece) → IsOfBytes x → OfBytes (bucket_of call req x)
+piece_bytes call req (piece.File file start len) h = tt
+piece_bytes call req x h = h
+
+pub named_bytes : (call req n : ℕ) (xs : List Piece) → All IsOfBytes xs → Each OfBytes (named_from (bucket_of call req) n xs)
+named_bytes call req n [] all = none
+named_bytes call req n (x ∷ xs) all = All-cons IsOf _ (named_from (bucket_of call req) (n + 1) xs) (piece_bytes call req x (All-head IsOfBytes x xs all)) (named_bytes call req (n + 1) xs (All-tail IsOfBytes x xs all))

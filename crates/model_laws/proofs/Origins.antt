@@ -1,0 +1,369 @@
+-- What an instruction on cursors and buckets leaves: what was true of each bucket is true of each, also of those that are
+-- made, cut and read.
+use Rattle.std.proofs.Common.{◌≡◌, ℕ, zero, suc, ◌+◌, ◌-◌, ◌≤◌, ◌⊎◌, Bool, true, false, cond, nat_lt, nat_le, List, [], ◌∷◌, ◌++◌, Option, Some, None, is_some, All, inl, inr, refl, sym, subst, arith}
+use Rattle.std.proofs.lemmas.Bool.Decides.{nat_tests}
+use Rattle.std.proofs.lemmas.List.Elements.{All-nil, All-cons, All-head, All-tail, All-append}
+use Rattle.module_code.specs.declared.instr.Instr.{Instr}
+use Rattle.module_code.specs.declared.instr.Instr.TheVariants as instr
+use Rattle.module_code.specs.Program.{Program}
+use Rattle.run_model.specs.declared.bucket.Kind.TheVariants as kind
+use Rattle.run_model.specs.declared.bucket.Content.{Content}
+use Rattle.run_model.specs.declared.bucket.Content.TheVariants as content
+use Rattle.run_model.specs.declared.bucket.Home.TheVariants as home
+use Rattle.run_model.specs.declared.bucket.Bucket.{Bucket}
+use Rattle.run_model.specs.declared.bucket.NamedBucket.{NamedBucket}
+use Rattle.run_model.specs.declared.bucket.BrigadeVar.{BrigadeVar}
+use Rattle.run_model.specs.declared.bucket.BrigadeVar.TheVariants as var
+use Rattle.run_model.specs.declared.bucket.Cursor.{Cursor}
+use Rattle.run_model.specs.Buckets.{is_data}
+use Rattle.run_model.specs.Cutting.{FitsKind, length_of, front_of, rest_of, split_at, read_limit, read_as}
+use Rattle.run_model.specs.BrigadeLists.{buckets_before, buckets_from, first_bucket, taken_out, put_head, put_tail, put_before, stays, moves, TooLong, Metadata, split_refusal, first_bytes, rest_as, first_split, front_to, back_from, is_short, partitioned}
+use Rattle.run_model.specs.State.{Configuration, items_of, set_brigade, set_number, set_cursor, set_loose, pool_named}
+use Rattle.run_model.specs.Cursors.{Place, AtLoose, Within, spot, read_cursor}
+use Rattle.run_model.specs.BucketSteps.{items_at, set_items, do_next, do_unlink, do_delete, put_into, do_before, name_given, names_given, names_to_part, new_loose, heap_bucket, immortal_bucket, transient_bucket, pool_bucket, metadata, do_copy, split_there, do_split, rest_named, first_read, read_given, read_within, do_read, place_at, do_bsplit, do_bpart, byte_of, content_at, got}
+use Rattle.run_model.specs.Steps.{Choice, step, with_items, text_of, value_of}
+use Rattle.model_laws.proofs.NamedPools.{with_buffer, on_named, put_keeps}
+use Rattle.run_model.proofs.Updates.{upd_either}
+use Rattle.run_model.proofs.Spots.{Stands, stands}
+use Rattle.run_model.proofs.EachBucket.{each_before, each_from, of_named, each_taken_out, each_put_head, each_put_tail, each_put_before}
+
+abbrev pub Each : (Bucket → Type 0) → List NamedBucket → Type 0
+Each T xs = All (λ x. T x.bucket) xs
+
+-- A bucket as one is made in a call: it depends on nothing, or on the call.
+pub record IsMade (r : Configuration) (b : Bucket) : Type 0 where
+  pub fits : FitsKind b
+  pub lives : (b.home ≡ home.Free) ⊎ (b.home ≡ home.Call r.call.name)
+
+-- What is true of both parts of a bucket of which it is true.
+pub record PassesParts (T : Bucket → Type 0) : Type 0 where
+  pub front : (n : ℕ) (b : Bucket) → n ≤ length_of b.content → T b → T (split_at n b).0
+  pub rest : (n : ℕ) (b : Bucket) → n ≤ length_of b.content → T b → T (split_at n b).1
+
+-- The same, also of each bucket that is made.
+pub record PassesOn (r : Configuration) (T : Bucket → Type 0) : Type 0 where
+  pub made : (b : Bucket) → IsMade r b → T b
+  pub parts : PassesParts T
+
+-- What is true of each bucket that a configuration holds.
+pub record Holds (T : Bucket → Type 0) (r : Configuration) : Type 0 where
+  pub brigades : (b : ℕ) → Each T (items_at r b)
+  pub loose : Each T r.call.loose
+
+-- A part of a range is one.
+
+pub front_back : (n : ℕ) (c : Content) (file start len : ℕ) → front_of n c ≡ content.Range file start len → (whole : ℕ) × (c ≡ content.Range file start whole) × (len ≡ n)
+front_back n (content.Bytes bs) file start len is = absurd (cc)
+front_back n (content.Range f st l) file start len is = (l, cc, cc)
+front_back n content.Nothing file start len is = absurd (cc)
+
+pub rest_back : (n : ℕ) (c : Content) (file start len : ℕ) → rest_of n c ≡ content.Range file start len
+    → (first : ℕ) × ((whole : ℕ) × (c ≡ content.Range file first whole) × (start ≡ first + n) × (len ≡ whole - n))
+rest_back n (content.Bytes bs) file start len is = absurd (cc)
+rest_back n (content.Range f st l) file start len is = (st, (l, cc, cc, cc))
+rest_back n content.Nothing file start len is = absurd (cc)
+
+-- no bucket that is made has its home in a pool
+pub made_apart : (r : Configuration) (b : Bucket) (p : ℕ) → IsMade r b → b.home ≡ home.Pool p → ⊥
+made_apart r b p m at = elim m.lives [ inl free ↦ cc | inr call ↦ cc ]
+
+-- Buckets that are made.
+
+made_heap : (r : Configuration) (bytes : List ℕ) → IsMade r (heap_bucket bytes)
+made_heap r bytes = record { fits = record { holds = refl; lives = tt }; lives = inl refl }
+
+made_immortal : (r : Configuration) (bytes : List ℕ) → IsMade r (immortal_bucket bytes)
+made_immortal r bytes = record { fits = record { holds = refl; lives = tt }; lives = inl refl }
+
+made_transient : (r : Configuration) (bytes : List ℕ) → IsMade r (transient_bucket r.call.name bytes)
+made_transient r bytes = record { fits = record { holds = refl; lives = tt }; lives = inr refl }
+
+made_pooled : (r : Configuration) (bytes : List ℕ) (pool : ℕ) → IsMade r (pool_bucket bytes pool)
+made_pooled r bytes pool = record { fits = record { holds = refl; lives = tt }; lives = inl refl }
+
+made_flush : (r : Configuration) → IsMade r (metadata kind.Flush)
+made_flush r = record { fits = record { holds = refl; lives = tt }; lives = inl refl }
+
+made_eos : (r : Configuration) → IsMade r (metadata kind.Eos)
+made_eos r = record { fits = record { holds = refl; lives = tt }; lives = inl refl }
+
+-- What is written into a configuration.
+module _ (T : Bucket → Type 0) where
+  items_hold : (b : ℕ) (items : List NamedBucket) (r : Configuration) → Each T items → Holds T r → Holds T (set_items b items r)
+  unfolding set_brigade
+  items_hold b items r here h = record { brigades = in_each; loose = h.loose } where
+    filled : (v : BrigadeVar) → Each T (items_of (with_items items v))
+    filled var.Null = All-nil (λ x. T x.bucket)
+    filled var.Gone = All-nil (λ x. T x.bucket)
+    filled (var.Live v) = here
+
+    in_each : (k : ℕ) → Each T (items_at (set_items b items r) k)
+    in_each k = elim (upd_either r.instance.brigades b k (with_items items (r.instance.brigades b))) [
+      | inl q ↦ subst (λ v. Each T (items_of v)) (sym q.1) (filled (r.instance.brigades b))
+      | inr q ↦ subst (λ v. Each T (items_of v)) (sym q.1) (h.brigades k)
+    ]
+
+  loose_hold : (items : List NamedBucket) (r : Configuration) → Each T items → Holds T r → Holds T (set_loose items r)
+  unfolding set_loose
+  loose_hold items r here h = record { brigades = h.brigades; loose = here }
+
+  cursor_holds : (c : ℕ) (k : Cursor) (r : Configuration) → Holds T r → Holds T (set_cursor c k r)
+  unfolding set_cursor
+  cursor_holds c k r h = record { brigades = h.brigades; loose = h.loose }
+
+  number_holds : (n v : ℕ) (r : Configuration) → Holds T r → Holds T (set_number n v r)
+  unfolding set_number
+  number_holds n v r h = record { brigades = h.brigades; loose = h.loose }
+
+  names_hold : (n : ℕ) (r : Configuration) → Holds T r → Holds T (names_given n r)
+  names_hold n r h = record { brigades = h.brigades; loose = h.loose }
+
+  buffer_holds : (buffer : List ℕ) (r : Configuration) → Holds T r → Holds T (with_buffer buffer r)
+  buffer_holds buffer r h = record { brigades = h.brigades; loose = h.loose }
+
+module _ (T : Bucket → Type 0) (r : Configuration) (on : PassesParts T) (h : Holds T r) where
+  abbrev Of : NamedBucket → Type 0
+  Of x = T x.bucket
+
+  none : Each T []
+  none = All-nil Of
+
+  -- Cursors and what stands where.
+
+  next_holds : (d : ℕ) (s : Place) → Holds T (do_next d s r)
+  next_holds d (Within b x) = cursor_holds T d _ r h
+  next_holds d s = h
+
+  got_holds : (n : ℕ) (o : Option ℕ) → Holds T (got n o r)
+  got_holds n None = h
+  got_holds n (Some byte) = number_holds T n byte r h
+
+  -- the buckets at which cursors stand
+  within_of : (b : ℕ) (x : NamedBucket) → Stands r (Within b x) → Of x
+  within_of b x there = of_named Of x.name x (items_at r b) there.1 (h.brigades b)
+
+  loose_of : (x : NamedBucket) → Stands r (AtLoose x) → Of x
+  loose_of x there = of_named Of x.name x r.call.loose there h.loose
+
+  taken_holds : (b : ℕ) (x : NamedBucket) → Holds T (set_items b (taken_out x.name (items_at r b)) r)
+  taken_holds b x = items_hold T b _ r (each_taken_out Of x.name (items_at r b) (h.brigades b)) h
+
+  taken_loose_holds : (x : NamedBucket) → Holds T (set_loose (taken_out x.name r.call.loose) r)
+  taken_loose_holds x = loose_hold T _ r (each_taken_out Of x.name r.call.loose h.loose) h
+
+  unlink_holds : (s : Place) → Stands r s → Holds T (do_unlink s r)
+  unlink_holds (Within b x) there = loose_hold T _ _ (each_put_tail Of x r.call.loose (within_of b x there) h.loose) (taken_holds b x)
+  unlink_holds s there = h
+
+  delete_holds : (s : Place) → Holds T (do_delete s r)
+  delete_holds (Within b x) = taken_holds b x
+  delete_holds (AtLoose x) = taken_loose_holds x
+  delete_holds s = h
+
+  put_holds : (insert : NamedBucket → List NamedBucket → List NamedBucket) → ((x : NamedBucket) (bs : List NamedBucket) → Of x → Each T bs → Each T (insert x bs))
+      → (b : ℕ) (s : Place) → Stands r s → Holds T (put_into insert b s r)
+  put_holds insert inserted b (AtLoose x) there = items_hold T b _ _ (inserted x (items_at r b) (loose_of x there) (h.brigades b)) (taken_loose_holds x)
+  put_holds insert inserted b s there = h
+
+  before_holds : (s t : Place) → Stands r s → Holds T (do_before s t r)
+  before_holds s (Within b y) there = put_holds (put_before y.name) (λ x bs new old. each_put_before Of y.name x bs new old) b s there
+  before_holds s t there = h
+
+  -- New buckets.
+
+  new_holds : (c : ℕ) (b : Bucket) → T b → Holds T (new_loose c b r)
+  new_holds c b new = cursor_holds T c _ _ (loose_hold T _ (name_given r) (each_put_tail Of (record { name = r.shared.next; bucket = b }) r.call.loose new h.loose) (names_hold T 1 r h))
+
+  copy_holds : (d : ℕ) (s : Place) → Stands r s → Holds T (do_copy d s r)
+  copy_holds d (Within b x) there = new_holds d x.bucket (within_of b x there)
+  copy_holds d (AtLoose x) there = new_holds d x.bucket (loose_of x there)
+  copy_holds d s there = h
+
+  -- Buckets that are cut.
+
+  split_first : (new n : ℕ) (x : NamedBucket) (ys : List NamedBucket) → first_bucket ys ≡ Some x → n ≤ length_of x.bucket.content → Each T ys → Each T (first_split new n ys)
+  split_first new n x [] is le ys = none
+  split_first new n x (y ∷ ys) is le all =
+      let here : x ≡ y = cc in
+      let fits : n ≤ length_of y.bucket.content = subst (λ (z : NamedBucket). n ≤ length_of z.bucket.content) here le in
+      let old = All-head Of y ys all in
+      All-cons Of (first_bytes n y) (rest_as new n y ∷ ys) (on.front n y.bucket fits old) (All-cons Of (rest_as new n y) ys (on.rest n y.bucket fits old) (All-tail Of y ys all))
+
+  reaches : (n : ℕ) (x : NamedBucket) → is_some (split_refusal n x) ≡ false → n ≤ length_of x.bucket.content
+  reaches n x may = by_tests (is_data x) (nat_lt (length_of x.bucket.content) n) refl may where
+    told : (k : ℕ) → nat_lt k n ≡ false → n ≤ k
+    told k is = grind (arith, nat_tests)
+
+    by_tests : (d t : Bool) → nat_lt (length_of x.bucket.content) n ≡ t → is_some (cond d (cond t (Some TooLong) None) (Some Metadata)) ≡ false → n ≤ length_of x.bucket.content
+    by_tests true false is may = told (length_of x.bucket.content) is
+    by_tests true true is may = absurd (cc)
+    by_tests false t is may = absurd (cc)
+
+  split_in : (n b : ℕ) (x : NamedBucket) → Stands r (Within b x) → n ≤ length_of x.bucket.content → Holds T (split_there n (Within b x) r)
+  split_in n b x there le =
+      items_hold T b _ _ (All-append Of (buckets_before x.name (items_at r b)) (first_split r.shared.next n (buckets_from x.name (items_at r b))) (each_before Of x.name (items_at r b) (h.brigades b))
+      (split_first r.shared.next n x (buckets_from x.name (items_at r b)) there.1 le (each_from Of x.name (items_at r b) (h.brigades b)))) (names_hold T 1 r h)
+
+  split_holds : (n : ℕ) (s : Place) → Stands r s → Holds T (do_split n s r)
+  split_holds n (Within b x) there = by_refusal (is_some (split_refusal n x)) refl where
+    by_refusal : (t : Bool) → is_some (split_refusal n x) ≡ t → Holds T (cond t r (split_there n (Within b x) r))
+    by_refusal true is = h
+    by_refusal false is = split_in n b x there (reaches n x is)
+  split_holds n s there = h
+
+  front_each : (point : ℕ) (bs : List NamedBucket) → Each T bs → Each T (front_to point bs)
+  unfolding front_to
+  front_each zero bs all = none
+  front_each (suc p) [] all = none
+  front_each (suc p) (b ∷ bs) all = by_length (nat_le (length_of b.bucket.content) (suc p)) refl (front_each (suc p - length_of b.bucket.content) bs (All-tail Of b bs all)) where
+    by_length : (t : Bool) → nat_le (length_of b.bucket.content) (suc p) ≡ t → Each T (front_to (suc p - length_of b.bucket.content) bs)
+        → Each T (cond t (b ∷ front_to (suc p - length_of b.bucket.content) bs) ((record b { bucket = (split_at (suc p) b.bucket).0 }) ∷ []))
+    by_length true is rest = All-cons Of b _ (All-head Of b bs all) rest
+    by_length false is rest = All-cons Of _ [] (on.front (suc p) b.bucket (longer (length_of b.bucket.content) (suc p) is) (All-head Of b bs all)) none where
+      longer : (a k : ℕ) → nat_le a k ≡ false → k ≤ a
+      longer a k is = grind (arith, nat_tests)
+
+  back_each : (new point : ℕ) (bs : List NamedBucket) → Each T bs → Each T (back_from new point bs)
+  unfolding back_from
+  back_each new zero bs all = all
+  back_each new (suc p) [] all = none
+  back_each new (suc p) (b ∷ bs) all = by_length (nat_le (length_of b.bucket.content) (suc p)) refl (back_each new (suc p - length_of b.bucket.content) bs (All-tail Of b bs all)) where
+    longer : (a k : ℕ) → nat_le a k ≡ false → k ≤ a
+    longer a k is = grind (arith, nat_tests)
+
+    by_length : (t : Bool) → nat_le (length_of b.bucket.content) (suc p) ≡ t → Each T (back_from new (suc p - length_of b.bucket.content) bs)
+        → Each T (cond t (back_from new (suc p - length_of b.bucket.content) bs) ((record { name = new; bucket = (split_at (suc p) b.bucket).1 }) ∷ bs))
+    by_length true is rest = rest
+    by_length false is rest = All-cons Of _ bs (on.rest (suc p) b.bucket (longer (length_of b.bucket.content) (suc p) is) (All-head Of b bs all)) (All-tail Of b bs all)
+
+  parted_each : (new point : ℕ) (bs : List NamedBucket) → Each T bs → Each T (partitioned new point bs)
+  parted_each new point bs all = by_short (is_short point bs) where
+    by_short : (t : Bool) → Each T (cond t bs (front_to point bs ++ back_from new point bs))
+    by_short true = all
+    by_short false = All-append Of (front_to point bs) (back_from new point bs) (front_each point bs all) (back_each new point bs all)
+
+  part_holds : (b point c : ℕ) → Holds T (do_bpart b point c r)
+  part_holds b point c = cursor_holds T c _ _ (items_hold T b _ _ (parted_each r.shared.next point (items_at r b) (h.brigades b)) (names_hold T (names_to_part point (items_at r b)) r h))
+
+  stay_each : (at : Option ℕ) (bs : List NamedBucket) → Each T bs → Each T (stays at bs)
+  stay_each None bs all = all
+  stay_each (Some n) bs all = each_before Of n bs all
+
+  move_each : (at : Option ℕ) (bs : List NamedBucket) → Each T bs → Each T (moves at bs)
+  move_each None bs all = none
+  move_each (Some n) bs all = each_from Of n bs all
+
+  bsplit_holds : (b : ℕ) (s : Place) (a : ℕ) → Holds T (do_bsplit b s a r)
+  bsplit_holds b s a = items_hold T a _ _ (move_each (place_at s) (items_at r b) (h.brigades b)) (items_hold T b _ r (stay_each (place_at s) (items_at r b) (h.brigades b)) h)
+
+  -- Reads.
+
+  read_parts : (new : ℕ) (bytes : List ℕ) → T (heap_bucket bytes) → (b : Bucket) (c : Content) → c ≡ b.content → T b → T (read_as bytes b c).0 × Each T (rest_named new (read_as bytes b c).1)
+  read_parts new bytes made b (content.Bytes bs) is old = (old, none)
+  read_parts new bytes made b (content.Range file start len) is old = (made, by_length (nat_le len read_limit) refl) where
+    longer : (k : ℕ) → nat_le k read_limit ≡ false → read_limit ≤ k
+    longer k tells = grind (arith, nat_tests)
+
+    by_length : (t : Bool) → nat_le len read_limit ≡ t → Each T (rest_named new (cond t None (Some (record b { content = rest_of read_limit b.content }))))
+    by_length true tells = none
+    by_length false tells = All-cons Of _ [] (on.rest read_limit b (subst (λ (c : Content). read_limit ≤ length_of c) is (longer len tells)) old) none
+  read_parts new bytes made b content.Nothing is old = (old, none)
+
+  read_first : (new : ℕ) (bytes : List ℕ) → T (heap_bucket bytes) → (ys : List NamedBucket) → Each T ys → Each T (first_read new bytes ys)
+  read_first new bytes made [] all = none
+  read_first new bytes made (y ∷ ys) all =
+      let parts = read_parts new bytes made y.bucket y.bucket.content refl (All-head Of y ys all) in
+      All-cons Of _ _ parts.0 (All-append Of _ ys parts.1 (All-tail Of y ys all))
+
+  read_holds : (given : Option (List ℕ)) (s : Place) → ((c : Content) (bytes : List ℕ) → read_given given c ≡ Some bytes → T (heap_bucket bytes)) → Holds T (do_read given s r)
+  read_holds given (Within b x) made = by_given (read_given given x.bucket.content) refl where
+    by_given : (o : Option (List ℕ)) → read_given given x.bucket.content ≡ o → Holds T (read_within b x o r)
+    by_given None is = cursor_holds T read_cursor _ r h
+    by_given (Some bytes) is =
+        cursor_holds T read_cursor _ _ (items_hold T b _ _ (All-append Of (buckets_before x.name (items_at r b)) (first_read r.shared.next bytes (buckets_from x.name (items_at r b)))
+        (each_before Of x.name (items_at r b) (h.brigades b)) (read_first r.shared.next bytes (made x.bucket.content bytes is) (buckets_from x.name (items_at r b)) (each_from Of x.name (items_at r b) (h.brigades b)))) (names_hold T _ r h))
+  read_holds given s made = h
+
+-- whether an instruction neither changes pools nor brigades as a whole, nor ends a call, nor sets buckets aside
+abbrev pub is_quiet : Instr → Bool
+is_quiet (instr.PCreate q) = false
+is_quiet (instr.PClear q) = false
+is_quiet (instr.PDestroy q) = false
+is_quiet (instr.Label q t) = false
+is_quiet (instr.Unlabel q t) = false
+is_quiet (instr.BCreate o) = false
+is_quiet (instr.BClean b) = false
+is_quiet (instr.BConcat a b) = false
+is_quiet (instr.BSave o b) = false
+is_quiet (instr.Pass b l) = false
+is_quiet (instr.Aside c q) = false
+is_quiet (instr.Ret s) = false
+is_quiet i = true
+
+-- the buckets that an instruction makes
+abbrev pub Makes : Program → Choice → Configuration → Instr → Bucket → Type 0
+Makes p choice r (instr.Heap c t) b = b ≡ heap_bucket (text_of p t)
+Makes p choice r (instr.Immortal c t) b = b ≡ immortal_bucket (text_of p t)
+Makes p choice r (instr.FromBuf c) b = b ≡ heap_bucket r.call.buffer
+Makes p choice r (instr.Transient c) b = b ≡ transient_bucket r.call.name r.call.buffer
+Makes p choice r (instr.PoolB c q) b = (n : ℕ) × (b ≡ pool_bucket r.call.buffer n)
+Makes p choice r (instr.Flush c) b = b ≡ metadata kind.Flush
+Makes p choice r (instr.Eos c) b = b ≡ metadata kind.Eos
+Makes p choice r (instr.Read c l) b = (x : Content) × ((bytes : List ℕ) × ((read_given choice.given x ≡ Some bytes) × (b ≡ heap_bucket bytes)))
+Makes p choice r i b = ⊥
+
+pub parted_leaves : (T : Bucket → Type 0) (p : Program) (choice : Choice) (i : Instr) (r : Configuration) → is_quiet i ≡ true → PassesParts T → ((b : Bucket) → Makes p choice r i b → T b) → Holds T r → Holds T (step p choice i r).state
+parted_leaves T p choice (instr.PCreate q) r quiet on made h = absurd (cc)
+parted_leaves T p choice (instr.PClear q) r quiet on made h = absurd (cc)
+parted_leaves T p choice (instr.PDestroy q) r quiet on made h = absurd (cc)
+parted_leaves T p choice (instr.Label q t) r quiet on made h = absurd (cc)
+parted_leaves T p choice (instr.Unlabel q t) r quiet on made h = absurd (cc)
+parted_leaves T p choice (instr.BCreate o) r quiet on made h = absurd (cc)
+parted_leaves T p choice (instr.BClean b) r quiet on made h = absurd (cc)
+parted_leaves T p choice (instr.BConcat a b) r quiet on made h = absurd (cc)
+parted_leaves T p choice (instr.BSave o b) r quiet on made h = absurd (cc)
+parted_leaves T p choice (instr.Pass b l) r quiet on made h = absurd (cc)
+parted_leaves T p choice (instr.Aside c q) r quiet on made h = absurd (cc)
+parted_leaves T p choice (instr.Ret s) r quiet on made h = absurd (cc)
+parted_leaves T p choice (instr.BSplit b c a) r quiet on made h = bsplit_holds T r on h b (spot r c) a
+parted_leaves T p choice (instr.BPart b x c l) r quiet on made h = part_holds T r on h b (value_of r x) c
+parted_leaves T p choice (instr.First c b) r quiet on made h = cursor_holds T c _ r h
+parted_leaves T p choice (instr.Next d c) r quiet on made h = next_holds T r on h d (spot r c)
+parted_leaves T p choice (instr.Unlink c) r quiet on made h = unlink_holds T r on h (spot r c) (stands r (r.call.cursors c))
+parted_leaves T p choice (instr.BDelete c) r quiet on made h = delete_holds T r on h (spot r c)
+parted_leaves T p choice (instr.Tail b c) r quiet on made h = put_holds T r on h put_tail (each_put_tail (λ x. T x.bucket)) b (spot r c) (stands r (r.call.cursors c))
+parted_leaves T p choice (instr.Head b c) r quiet on made h = put_holds T r on h put_head (each_put_head (λ x. T x.bucket)) b (spot r c) (stands r (r.call.cursors c))
+parted_leaves T p choice (instr.Before c d) r quiet on made h = before_holds T r on h (spot r c) (spot r d) (stands r (r.call.cursors c))
+parted_leaves T p choice (instr.Heap c t) r quiet on made h = new_holds T r on h c _ (made _ refl)
+parted_leaves T p choice (instr.Immortal c t) r quiet on made h = new_holds T r on h c _ (made _ refl)
+parted_leaves T p choice (instr.FromBuf c) r quiet on made h = new_holds T r on h c _ (made _ refl)
+parted_leaves T p choice (instr.Transient c) r quiet on made h = new_holds T r on h c _ (made _ refl)
+parted_leaves T p choice (instr.PoolB c q) r quiet on made h =
+    on_named (Holds T) (λ n. new_loose c (pool_bucket r.call.buffer n)) (pool_named r q) r h (λ n e. new_holds T r on h c _ (made _ (n, refl)))
+parted_leaves T p choice (instr.Flush c) r quiet on made h = new_holds T r on h c _ (made _ refl)
+parted_leaves T p choice (instr.Eos c) r quiet on made h = new_holds T r on h c _ (made _ refl)
+parted_leaves T p choice (instr.Split c x l) r quiet on made h = split_holds T r on h (value_of r x) (spot r c) (stands r (r.call.cursors c))
+parted_leaves T p choice (instr.Copy d c) r quiet on made h = copy_holds T r on h d (spot r c) (stands r (r.call.cursors c))
+parted_leaves T p choice (instr.Read c l) r quiet on made h = read_holds T r on h choice.given (spot r c) (λ x bytes is. made _ (x, (bytes, (is, refl))))
+parted_leaves T p choice (instr.Len n c) r quiet on made h = number_holds T n _ r h
+parted_leaves T p choice (instr.Get n x l) r quiet on made h = got_holds T r on h n (byte_of (value_of r x) (content_at (spot r read_cursor)))
+parted_leaves T p choice (instr.Put x l) r quiet on made h = put_keeps (Holds T) x r h (λ buffer. buffer_holds T buffer r h)
+parted_leaves T p choice instr.ClearBuf r quiet on made h = buffer_holds T [] r h
+parted_leaves T p choice (instr.Set n x) r quiet on made h = number_holds T n _ r h
+parted_leaves T p choice (instr.Add n x) r quiet on made h = number_holds T n _ r h
+parted_leaves T p choice (instr.Sub n x) r quiet on made h = number_holds T n _ r h
+parted_leaves T p choice i r quiet on made h = h
+
+made_so : (p : Program) (choice : Choice) (r : Configuration) (i : Instr) (b : Bucket) → Makes p choice r i b → IsMade r b
+made_so p choice r (instr.Heap c t) b is = subst (IsMade r) (sym is) (made_heap r (text_of p t))
+made_so p choice r (instr.Immortal c t) b is = subst (IsMade r) (sym is) (made_immortal r (text_of p t))
+made_so p choice r (instr.FromBuf c) b is = subst (IsMade r) (sym is) (made_heap r r.call.buffer)
+made_so p choice r (instr.Transient c) b is = subst (IsMade r) (sym is) (made_transient r r.call.buffer)
+made_so p choice r (instr.PoolB c q) b is = subst (IsMade r) (sym is.1) (made_pooled r r.call.buffer is.0)
+made_so p choice r (instr.Flush c) b is = subst (IsMade r) (sym is) (made_flush r)
+made_so p choice r (instr.Eos c) b is = subst (IsMade r) (sym is) (made_eos r)
+made_so p choice r (instr.Read c l) b is = subst (IsMade r) (sym is.1.1.1) (made_heap r is.1.0)
+made_so p choice r i b is = absurd is
+
+pub quiet_leaves : (T : Bucket → Type 0) (p : Program) (choice : Choice) (i : Instr) (r : Configuration) → is_quiet i ≡ true → PassesOn r T → Holds T r → Holds T (step p choice i r).state
+quiet_leaves T p choice i r quiet on h = parted_leaves T p choice i r quiet on.parts (λ b is. on.made b (made_so p choice r i b is)) h

@@ -1,0 +1,76 @@
+-- Events keep home and content of each bucket as its kind has them, and names rise.
+use Rattle.std.proofs.Common.{◌≡◌, ℕ, ◌+◌, ◌^◌, ◌<◌, List, [], length, Some, None, All, sym, subst, arith}
+use Rattle.std.proofs.lemmas.List.Elements.{All-cons}
+use Rattle.module_code.specs.Program.{Program}
+use Rattle.run_model.specs.declared.bucket.BrigadeVar.{BrigadeVar}
+use Rattle.run_model.specs.declared.bucket.BrigadeVar.TheVariants as var
+use Rattle.run_model.specs.declared.bucket.Mark.TheVariants.{Usable}
+use Rattle.run_model.specs.declared.event.Piece.{Piece}
+use Rattle.run_model.specs.declared.payload.Payload.{Payload}
+use Rattle.run_model.specs.Pools.{Pools, created, destroyed, is_under}
+use Rattle.run_model.specs.Clearing.{run_down}
+use Rattle.run_model.specs.State as state
+use Rattle.run_model.specs.Pieces.{bucket_of, named_from}
+use Rattle.run_model.specs.Chains.{Frame, Connection, Common, configuration, pools_of}
+use Rattle.run_model.specs.Passing.{set_in}
+use Rattle.run_model.specs.Turns.{all_called, with_pools, fresh_connection, opened, begun, brought_in, file_taken, request_over}
+use Rattle.model_laws.specs.ChainSound.{ChainBuckets}
+use Rattle.model_laws.specs.ChainLaws.{Rises}
+use Rattle.model_laws.proofs.StepBuckets.{ProperList, none_proper, named_proper, cleared_list}
+use Rattle.model_laws.proofs.chains.Buckets.{no_calls, written_instances, written_variable, called_buckets}
+
+-- Buckets.
+
+all_called_buckets : (chain : List Program) (ps : Pools Payload) (g : Common) (c : Connection) → ChainBuckets c → ChainBuckets (all_called chain (with_pools ps (g, c))).1
+unfolding all_called
+all_called_buckets chain ps g c s = called_buckets chain 0 _ (with_pools ps (g, c)).0 (record (with_pools ps (g, c)).1 { count = 0 }) (record { brigades = s.brigades; loose = s.loose })
+
+pub opened_buckets : (chain : List Program) (g : Common) → ChainBuckets (opened chain g).1
+unfolding opened
+opened_buckets chain g = all_called_buckets chain (created 1 (pools_of g (fresh_connection g))) g (fresh_connection g) (record { brigades = λ k b. none_proper; loose = no_calls })
+
+pub begun_buckets : (chain : List Program) (g : Common) (c : Connection) → ChainBuckets c → ChainBuckets (begun chain (g, c)).1
+unfolding begun
+begun_buckets chain g c s = all_called_buckets chain (created c.conn (pools_of g c)) g (record c { req = Some g.pools }) (record { brigades = s.brigades; loose = s.loose })
+
+pub brought_in_buckets : (chain : List Program) (pieces : List Piece) (req : ℕ) (g : Common) (c : Connection) → ChainBuckets c → ChainBuckets (brought_in chain pieces req (g, c)).1
+brought_in_buckets chain pieces req g c s = record {
+  brigades = written_instances c.instances 0 (set_in there (c.instances 0)) s.brigades (written_variable (c.instances 0) 8 there (s.brigades 0) (named_proper g.next req (g.next + 2) pieces));
+  loose = All-cons (λ w. ProperList w.call.loose) _ [] none_proper no_calls;
+} where
+  there : BrigadeVar
+  there = var.Live (record { name = g.next + 1; on = None; mark = Usable; items = named_from (bucket_of g.next req) (g.next + 2) pieces })
+
+pub file_taken_buckets : (req file : ℕ) (bytes : List ℕ) (g : Common) (c : Connection) → ChainBuckets c → ChainBuckets (file_taken req file bytes (g, c)).1
+file_taken_buckets req file bytes g c s = record { brigades = s.brigades; loose = s.loose }
+
+-- between calls
+pub request_over_buckets : (req : ℕ) (g : Common) (c : Connection) → ChainBuckets c → ChainBuckets (request_over req (g, c)).1
+request_over_buckets req g c s = record { brigades = λ k b. cleared_list (is_under (pools_of g c) req) ((c.instances k).brigades b) (s.brigades k b); loose = s.loose }
+
+-- output, count and cause change
+pub same_chain_buckets : (c new : Connection) → new.instances ≡ c.instances → new.stack ≡ c.stack → ChainBuckets c → ChainBuckets new
+same_chain_buckets c new instances stack s = record {
+  brigades = λ k b. subst (λ (h : ℕ → state.Instance). ProperList (state.items_of ((h k).brigades b))) (sym instances) (s.brigades k b);
+  loose = subst (λ (fs : List Frame). All (λ w. ProperList w.call.loose) fs) (sym stack) s.loose;
+}
+
+-- Names rise.
+
+pub opened_raises : (chain : List Program) (g : Common) → g.next + 1 < 2 ^ 64 → g.pools + 1 < 2 ^ 64 → Rises g (opened chain g).0
+unfolding opened all_called created
+opened_raises chain g next pools = record { next = omega arith; next_limit = next; pools = omega arith; pools_limit = pools }
+
+pub begun_raises : (chain : List Program) (g : Common) (c : Connection) → g.next + 1 < 2 ^ 64 → g.pools + 1 < 2 ^ 64 → Rises g (begun chain (g, c)).0
+unfolding begun all_called created
+begun_raises chain g c next pools = record { next = omega arith; next_limit = next; pools = omega arith; pools_limit = pools }
+
+pub brought_in_raises : (chain : List Program) (pieces : List Piece) (req : ℕ) (g : Common) (c : Connection) → g.next + (2 + length pieces) < 2 ^ 64 → g.pools < 2 ^ 64 → Rises g (brought_in chain pieces req (g, c)).0
+brought_in_raises chain pieces req g c next pools = record { next = omega arith; next_limit = omega arith; pools = omega arith; pools_limit = pools }
+
+pub file_taken_raises : (req file : ℕ) (bytes : List ℕ) (g : Common) (c : Connection) → g.next < 2 ^ 64 → g.pools < 2 ^ 64 → Rises g (file_taken req file bytes (g, c)).0
+file_taken_raises req file bytes g c next pools = record { next = omega arith; next_limit = next; pools = omega arith; pools_limit = pools }
+
+pub request_over_raises : (req : ℕ) (g : Common) (c : Connection) → g.next < 2 ^ 64 → g.pools < 2 ^ 64 → Rises g (request_over req (g, c)).0
+unfolding configuration run_down destroyed state.with_pools
+request_over_raises req g c next pools = record { next = omega arith; next_limit = next; pools = omega arith; pools_limit = pools }

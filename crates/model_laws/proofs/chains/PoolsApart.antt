@@ -1,0 +1,352 @@
+-- No pool is two connections', and that of a later connection is newer.
+use Rattle.std.proofs.Common.{◌≡◌, ◌⊎◌, ℕ, ◌+◌, ◌<◌, ◌≤◌, ◌==◌, Bool, true, false, ◌||◌, not, List, [], ◌∷◌, filter_map, Option, Some, None, Result, Ok, Err, inl, inr, refl, sym, ◌∙◌, ap, subst, arith, eqb-true}
+use Rattle.std.proofs.lemmas.Bool.{or_cases}
+use Rattle.module_code.specs.declared.instr.PoolRef.TheVariants as pool
+use Rattle.module_code.specs.declared.instr.Instr.{Instr}
+use Rattle.module_code.specs.declared.instr.Instr.TheVariants as instr
+use Rattle.module_code.specs.Program.{Program, pool_of_brigade}
+use Rattle.run_model.specs.declared.event.Event.{Event}
+use Rattle.run_model.specs.declared.event.Event.TheVariants as event
+use Rattle.run_model.specs.declared.event.Refusal.{Refusal}
+use Rattle.run_model.specs.declared.event.Refusal.TheVariants as refusal
+use Rattle.run_model.specs.declared.event.Stepped.{Stepped}
+use Rattle.run_model.specs.declared.payload.Payload.{Payload}
+use Rattle.run_model.specs.Pools.{Pools, is_empty, is_in, is_live, planted, created, registered}
+use Rattle.run_model.specs.RunOrder.{killed}
+use Rattle.run_model.specs.Clearing.{run_down}
+use Rattle.run_model.specs.State.{Configuration, items_of, pool_named, set_pool, with_pools, set_brigade}
+use Rattle.run_model.specs.Cursors.{spot}
+use Rattle.run_model.specs.BucketSteps.{aside_into}
+use Rattle.run_model.specs.Steps.{Choice, step, current, is_spent, label_registered, label_killed, text_of, saved_into, made_on, new_ref, pool_cleared, pool_destroyed}
+use Rattle.run_model.specs.Refusals.{first_refusal, refused_if}
+use Rattle.run_model.specs.Sound.{SoundPools}
+use Rattle.run_model.specs.Chains.{Frame, Connection, Common, Linked, module_at, configuration, pools_of, IsChain}
+use Rattle.run_model.specs.Passing.{Reads}
+use Rattle.run_model.specs.Turns.{Opening, all_called, fresh_connection, opened, opens_file, begun}
+use Rattle.run_model.specs.Worlds.{World, Told, Answer, empty_world, put_conn, answered, file_answered, step_answered, closes, opens_if, opens, adds_file, happens_on, happens, IsRun}
+use Rattle.model_laws.specs.ChainSound.{ChainSound, WorldSound}
+use Rattle.model_laws.specs.ChainLaws.{after_top}
+use Rattle.model_laws.specs.ChainNumbers.{WorldNumbers}
+use Rattle.model_laws.specs.ChainTrees.{is_own, WorldPoolsApart, EventKeepsPoolsApart, RunKeepsPoolsApart}
+use Rattle.run_model.proofs.Updates.{upd_either}
+use Rattle.run_model.proofs.PoolMap.{live_path, created_at, cleared_path, destroyed_path}
+use Rattle.model_laws.proofs.NamedPools.{on_named, made_under_named}
+use Rattle.model_laws.proofs.MadeBrigades.{brigade_path}
+use Rattle.model_laws.proofs.StepPools.{referred_path}
+use Rattle.model_laws.proofs.Unchanged.{step_changes_only}
+use Rattle.model_laws.proofs.chains.PutBack.{looking}
+use Rattle.model_laws.proofs.chains.EventTurns.{Turn, Same, Drained, Broke, Faulted, Went, Begun, Brought, FileTaken, Ended, OpensAs, begins_turn, brings_turn, opens_file_turn, ends_turn, steps_turn}
+use Rattle.model_laws.proofs.chains.TurnsSound.{turn_sound, turn_rises}
+use Rattle.model_laws.proofs.chains.Proceeds.{proceeds_conn, proceeds_so}
+use Rattle.model_laws.proofs.chains.Paths.{aside_path}
+use Rattle.model_laws.proofs.chains.WorldKept.{AnyLength, empty_sound, event_keeps_world}
+use Rattle.model_laws.proofs.chains.Numbers.{event_keeps_numbers, empty_numbered}
+
+-- What an instruction leaves of paths.
+
+-- each pool is gone, or is where it was, or has a name that was not given out
+From : Pools Payload → Pools Payload → Type 0
+From old new = (n : ℕ) → (new.path n ≡ []) ⊎ ((new.path n ≡ old.path n) ⊎ ((old.next ≤ n) × (n < new.next)))
+
+stays_from : (old new : Pools Payload) → ((n : ℕ) → (new.path n ≡ []) ⊎ (new.path n ≡ old.path n)) → From old new
+unfolding From
+stays_from old new stays n = elim (stays n) [ inl gone ↦ inl gone | inr same ↦ inr (inl same) ]
+
+same_from : (old new : Pools Payload) → new.path ≡ old.path → From old new
+unfolding From
+same_from old new same n = inr (inl (ap (λ (path : ℕ → List ℕ). path n) same))
+
+created_from : (parent : ℕ) (ps : Pools Payload) → From ps (created parent ps)
+unfolding created From
+created_from parent ps n = elim (upd_either ps.path ps.next n (ps.next ∷ ps.path parent)) [
+  | inl at ↦ (let here : n ≡ ps.next = at.0 in inr (inr (omega (arith, here), omega (arith, here))))
+  | inr off ↦ inr (inl off.1)
+]
+
+abbrev Leaves : Configuration → Configuration → Type 0
+Leaves r s = From r.shared.pools s.shared.pools
+
+step_from : (p : Program) (choice : Choice) (i : Instr) (r : Configuration) → Leaves r (step p choice i r).state
+unfolding with_pools set_pool run_down registered killed set_brigade
+step_from p choice (instr.PCreate q) r = made_under_named (Leaves r) p q r (same_from r.shared.pools r.shared.pools refl) (λ parent e. created_from parent r.shared.pools)
+step_from p choice (instr.PClear q) r = on_named (Leaves r) pool_cleared (pool_named r (pool.Own q)) r (same_from r.shared.pools r.shared.pools refl) (λ n e. stays_from r.shared.pools _ (cleared_path n r.shared.pools))
+step_from p choice (instr.PDestroy q) r = on_named (Leaves r) pool_destroyed (pool_named r (pool.Own q)) r (same_from r.shared.pools r.shared.pools refl) (λ n e. stays_from r.shared.pools _ (destroyed_path n r.shared.pools))
+step_from p choice (instr.Label q t) r = on_named (Leaves r) (label_registered (text_of p t)) (pool_named r q) r (same_from r.shared.pools r.shared.pools refl) (λ n e. same_from r.shared.pools _ refl)
+step_from p choice (instr.Unlabel q t) r = on_named (Leaves r) (label_killed (text_of p t)) (pool_named r q) r (same_from r.shared.pools r.shared.pools refl) (λ n e. same_from r.shared.pools _ refl)
+step_from p choice (instr.BCreate o) r = same_from r.shared.pools _ (brigade_path (pool_named r (pool_of_brigade p o)) r.shared.next r.shared.pools)
+step_from p choice (instr.BSave o b) r = on_named (Leaves r) (saved_into o b) (made_on (r.instance.brigades o)) r (same_from r.shared.pools r.shared.pools refl) (λ target e.
+    same_from r.shared.pools _ (referred_path target (filter_map (new_ref r.shared.pools target) (items_of (r.instance.brigades b))) r.shared.pools))
+step_from p choice (instr.Aside c q) r = on_named (Leaves r) (aside_into (spot r c)) (pool_named r q) r (same_from r.shared.pools r.shared.pools refl) (λ target e. same_from r.shared.pools _ (aside_path (spot r c) target r))
+step_from p choice i r = same_from r.shared.pools _ (ap (λ (ps : Pools Payload). ps.path) ((step_changes_only p choice i r).tree refl))
+
+-- Turns.
+
+-- the connection's pool is the same
+record TurnsFrom (g : Common) (c : Connection) (v : Linked) : Type 0 where
+  conn : v.1.conn ≡ c.conn
+  from : From (pools_of g c) (pools_of v.0 v.1)
+
+unturned : (g : Common) (c : Connection) (v : Linked) → v.1.conn ≡ c.conn → v.1.path ≡ c.path → TurnsFrom g c v
+unturned g c v conn path = record { conn = conn; from = same_from (pools_of g c) (pools_of v.0 v.1) path }
+
+went_from : (chain : List Program) (reads : Reads) (f : Frame) (rest : List Frame) (g : Common) (c : Connection) → TurnsFrom g c (after_top chain reads g c f rest)
+unfolding configuration
+went_from chain reads f rest g c =
+    let i : Instr = current (module_at chain f.of) f.pc in
+    record {
+      conn = proceeds_conn chain reads i f rest g c;
+      from = proceeds_so (λ ps files next req. From (pools_of g c) ps) chain reads i f rest g c (λ choice. step_from (module_at chain f.of) choice i (configuration g c f)) (same_from (pools_of g c) (pools_of g c) refl);
+    }
+
+turn_from : (chain : List Program) (g : Common) (c : Connection) (v : Linked) → Turn chain AnyLength g c v → TurnsFrom g c v
+unfolding begun all_called configuration run_down with_pools registered
+turn_from chain g c v Same = unturned g c v refl refl
+turn_from chain g c v Drained = unturned g c v refl refl
+turn_from chain g c v (Broke k other) = unturned g c v refl refl
+turn_from chain g c v (Faulted f rest k whole top is) = unturned g c v refl refl
+turn_from chain g c v (Went reads f rest whole may) = (let left = went_from chain reads f rest g c in record { conn = left.conn; from = left.from })
+turn_from chain g c v (Begun whole idle none pools next) = record { conn = refl; from = created_from c.conn (pools_of g c) }
+turn_from chain g c v (Brought pieces req whole idle is there next) = unturned g c v refl refl
+turn_from chain g c v (FileTaken req file bytes whole idle is short newer last) = unturned g c v refl refl
+turn_from chain g c v (Ended req whole idle is) = record { conn = refl; from = stays_from (pools_of g c) _ (destroyed_path req (pools_of g c)) }
+
+-- An own pool is there.
+
+own_live : (g : Common) (c : Connection) (n : ℕ) → is_own c n ≡ true → is_live (pools_of g c) n ≡ true
+unfolding is_live
+own_live g c n own = by_path (c.path n) own where
+  by_path : (xs : List ℕ) → is_in c.conn xs ≡ true → not (is_empty xs) ≡ true
+  by_path [] inside = absurd (cc)
+  by_path (m ∷ xs) inside = refl
+
+sound_of : (chain : List Program) (g : Common) (c : Connection) → ChainSound chain g c → SoundPools (configuration g c (looking 0))
+sound_of chain g c s = s.pools.sound (looking 0)
+
+module _ (chain : List Program) (g : Common) (c : Connection) (s : ChainSound chain g c) where
+  own_given : (n : ℕ) → is_own c n ≡ true → n < g.pools
+  unfolding configuration
+  own_given n own = (sound_of chain g c s).formed.named n (own_live g c n own)
+
+  conn_there : (is_live (pools_of g c) c.conn ≡ true) × (c.conn < g.pools)
+  unfolding configuration
+  conn_there = (let there = (sound_of chain g c s).conn in (there, (sound_of chain g c s).formed.named c.conn there))
+
+-- Worlds.
+
+-- k's new connection: an own pool has a new name, or was its own before
+record PutsNew (k : ℕ) (w : World) (v : Linked) : Type 0 where
+  rises : w.common.pools ≤ v.0.pools
+  top : v.1.path v.1.conn ≡ v.1.conn ∷ 1 ∷ []
+  from : (n : ℕ) → is_own v.1 n ≡ true → ((w.common.pools ≤ n) × (n < v.0.pools)) ⊎ ((c : Connection) × (w.conns k ≡ Some c) × (is_own c n ≡ true))
+  earlier : (j : ℕ) (c : Connection) → w.conns j ≡ Some c → j < k → c.conn < v.1.conn
+  later : (j : ℕ) (c : Connection) → w.conns j ≡ Some c → k < j → v.1.conn < c.conn
+
+some_is : (a b : Connection) → Some a ≡ Some b → a ≡ b
+some_is a b e = cc
+
+module _ (chain : List Program) (k : ℕ) (w : World) (v : Linked) (sound : WorldSound chain w) (new : PutsNew k w v) (h : WorldPoolsApart w) where
+  given : (j n : ℕ) (c : Connection) → w.conns j ≡ Some c → is_own c n ≡ true → n < w.common.pools
+  given j n c at own = own_given chain w.common c (sound.conns j c at) n own
+
+  Comes : ℕ → ℕ → Type 0
+  Comes j n = ((j ≡ k) × (w.common.pools ≤ n) × (n < v.0.pools)) ⊎ ((c : Connection) × (w.conns j ≡ Some c) × (is_own c n ≡ true))
+
+  comes : (j n : ℕ) (x : Connection) → (put_conn k v w).conns j ≡ Some x → is_own x n ≡ true → Comes j n
+  unfolding Comes
+  comes j n x e own = elim (upd_either w.conns k j (Some v.1)) [
+    | inl at ↦ (let same : v.1 ≡ x = some_is v.1 x (sym at.1 ∙ e) in elim (new.from n (subst (λ (y : Connection). is_own y n ≡ true) (sym same) own)) [
+      | inl fresh ↦ inl (at.0, fresh.0, fresh.1)
+      | inr old ↦ inr (old.0, ap w.conns at.0 ∙ old.1, old.2)
+    ])
+    | inr off ↦ inr (x, sym off.1 ∙ e, own)
+  ]
+
+  both : (i j n : ℕ) → Comes i n → Comes j n → i ≡ j
+  unfolding Comes
+  both i j n (inl a) (inl b) = a.0 ∙ sym b.0
+  both i j n (inl a) (inr b) = (let lt = given j n b.0 b.1 b.2 in let le = a.1 in absurd (omega arith))
+  both i j n (inr a) (inl b) = (let lt = given i n a.0 a.1 a.2 in let le = b.1 in absurd (omega arith))
+  both i j n (inr a) (inr b) = h.own i j n a.0 b.0 a.1 b.1 a.2 b.2
+
+  -- it is the one that is put, or was there
+  which : (j : ℕ) (x : Connection) → (put_conn k v w).conns j ≡ Some x → ((j ≡ k) × (v.1 ≡ x)) ⊎ (w.conns j ≡ Some x)
+  which j x e = elim (upd_either w.conns k j (Some v.1)) [
+    | inl at ↦ inl (at.0, some_is v.1 x (sym at.1 ∙ e))
+    | inr off ↦ inr (sym off.1 ∙ e)
+  ]
+
+  rises : (i j : ℕ) (x y : Connection) → ((i ≡ k) × (v.1 ≡ x)) ⊎ (w.conns i ≡ Some x) → ((j ≡ k) × (v.1 ≡ y)) ⊎ (w.conns j ≡ Some y) → i < j → x.conn < y.conn
+  rises i j x y (inl a) (inl b) lt = (let at : i ≡ k = a.0 in let too : j ≡ k = b.0 in absurd (omega (arith, at, too)))
+  rises i j x y (inl a) (inr b) lt = (let at : i ≡ k = a.0 in subst (λ (z : Connection). z.conn < y.conn) a.1 (new.later j y b (omega (arith, at))))
+  rises i j x y (inr a) (inl b) lt = (let at : j ≡ k = b.0 in subst (λ (z : Connection). x.conn < z.conn) b.1 (new.earlier i x a (omega (arith, at))))
+  rises i j x y (inr a) (inr b) lt = h.rising i j x y a b lt
+
+  put_apart : WorldPoolsApart (put_conn k v w)
+  put_apart = record {
+    top = λ j x e. elim (which j x e) [
+      | inl at ↦ subst (λ (y : Connection). y.path y.conn ≡ y.conn ∷ 1 ∷ []) at.1 new.top
+      | inr old ↦ h.top j x old
+    ];
+    own = λ i j n x y at_i at_j own_x own_y. both i j n (comes i n x at_i own_x) (comes j n y at_j own_y);
+    rising = λ i j x y at_i at_j lt. rises i j x y (which i x at_i) (which j y at_j) lt;
+  }
+
+module _ (chain : List Program) (chained : IsChain chain) (k : ℕ) (c : Connection) (w : World) (here : w.conns k ≡ Some c) (sound : WorldSound chain w) (h : WorldPoolsApart w) where
+  turned_apart : (v : Linked) → Turn chain AnyLength w.common c v → WorldPoolsApart (put_conn k v w)
+  unfolding From
+  turned_apart v t = put_apart chain k w v sound (record { rises = (turn_rises chain AnyLength w.common c v sound.names t (sound.conns k c here)).pools; top = at_top; from = from_own; earlier = before; later = after }) h where
+    turns : TurnsFrom w.common c v
+    turns = turn_from chain w.common c v t
+
+    left : ChainSound chain v.0 v.1
+    left = turn_sound chain AnyLength w.common c v chained sound.names t (sound.conns k c here)
+
+    from_own : (n : ℕ) → is_own v.1 n ≡ true → ((w.common.pools ≤ n) × (n < v.0.pools)) ⊎ ((x : Connection) × (w.conns k ≡ Some x) × (is_own x n ≡ true))
+    from_own n own = elim (turns.from n) [
+      | inl gone ↦ absurd (let none : is_in v.1.conn [] ≡ true = ap (is_in v.1.conn) (sym gone) ∙ own in cc)
+      | inr stays ↦ (elim stays [
+        | inl same ↦ inr (c, here, ap (λ (m : ℕ). is_in m (c.path n)) (sym turns.conn) ∙ ap (is_in v.1.conn) (sym same) ∙ own)
+        | inr fresh ↦ inl fresh
+      ])
+    ]
+
+    at_top : v.1.path v.1.conn ≡ v.1.conn ∷ 1 ∷ []
+    at_top = elim (turns.from v.1.conn) [
+      | inl gone ↦ absurd (live_path (pools_of v.0 v.1) v.1.conn (conn_there chain v.0 v.1 left).0 gone)
+      | inr stays ↦ (elim stays [
+        | inl same ↦ same ∙ subst (λ (m : ℕ). c.path m ≡ m ∷ 1 ∷ []) (sym turns.conn) (h.top k c here)
+        | inr fresh ↦ (let is : v.1.conn ≡ c.conn = turns.conn in let lt : c.conn < w.common.pools = (conn_there chain w.common c (sound.conns k c here)).1 in let le : w.common.pools ≤ v.1.conn = fresh.0 in absurd (omega (arith, is, lt, le)))
+      ])
+    ]
+
+    before : (j : ℕ) (x : Connection) → w.conns j ≡ Some x → j < k → x.conn < v.1.conn
+    before j x at lt = subst (λ (m : ℕ). x.conn < m) (sym turns.conn) (h.rising j k x c at here lt)
+
+    after : (j : ℕ) (x : Connection) → w.conns j ≡ Some x → k < j → v.1.conn < x.conn
+    after j x at lt = subst (λ (m : ℕ). m < x.conn) (sym turns.conn) (h.rising k j c x here at lt)
+
+  answered_apart : (a : Option Refusal × Linked) → Turn chain AnyLength w.common c a.1 → WorldPoolsApart (answered k w a).1
+  answered_apart (None, v) t = turned_apart v t
+  answered_apart (Some r, v) t = h
+
+  file_apart : (a : Result (ℕ × ℕ) Refusal × Linked) → Turn chain AnyLength w.common c a.1 → WorldPoolsApart (file_answered k w a).1
+  file_apart (Ok f, v) t = turned_apart v t
+  file_apart (Err r, v) t = h
+
+  step_apart : (a : Result Stepped Refusal × Linked) → Turn chain AnyLength w.common c a.1 → WorldPoolsApart (step_answered k w a).1
+  step_apart (Ok s, v) t = turned_apart v t
+  step_apart (Err r, v) t = turned_apart v t
+
+  closed_apart : (memory : Bool) → WorldPoolsApart (closes memory k c w).1
+  closed_apart false = h
+  closed_apart true = record {
+    top = λ j x e. h.top j x (there j x e);
+    own = λ i j n x y at_i at_j own_x own_y. h.own i j n x y (there i x at_i) (there j y at_j) own_x own_y;
+    rising = λ i j x y at_i at_j lt. h.rising i j x y (there i x at_i) (there j y at_j) lt;
+  } where
+    none_some : (x : Connection) → None ≡ Some x → ⊥
+    none_some x e = cc
+
+    there : (j : ℕ) (x : Connection) → (closes true k c w).1.conns j ≡ Some x → w.conns j ≡ Some x
+    there j x e = elim (upd_either w.conns k j None) [ inl at ↦ absurd (none_some x (sym at.1 ∙ e)) | inr off ↦ sym off.1 ∙ e ]
+
+  opening_apart : (memory : Bool) (opening : Opening) → WorldPoolsApart (file_answered k w (opens_file memory opening (w.common, c))).1
+  opening_apart memory opening = file_apart _ (opens_file_turn chain AnyLength w.common c memory opening (any _)) where
+    any : (a : Result (ℕ × ℕ) Refusal) → OpensAs AnyLength a
+    any (Ok f) = tt
+    any (Err r) = tt
+
+added_apart : (memory : Bool) (w : World) → WorldPoolsApart w → WorldPoolsApart (adds_file memory w).1
+added_apart false w h = h
+added_apart true w h = h
+
+-- A connection is opened.
+module _ (chain : List Program) (w : World) (sound : WorldSound chain w) (numbers : WorldNumbers w) (h : WorldPoolsApart w) where
+  opened_path : (opened chain w.common).1.path ≡ (created 1 (pools_of w.common (fresh_connection w.common))).path
+  unfolding opened all_called
+  opened_path = refl
+
+  opened_conn : (opened chain w.common).1.conn ≡ w.common.pools
+  unfolding opened all_called
+  opened_conn = refl
+
+  opened_next : (opened chain w.common).0.pools ≡ w.common.pools + 1
+  unfolding opened all_called created
+  opened_next = refl
+
+  root_fresh : (fresh_connection w.common).path 1 ≡ 1 ∷ []
+  unfolding planted
+  root_fresh = elim (upd_either {X = List ℕ} (λ k. []) 1 1 (1 ∷ [])) [ inl at ↦ at.1 | inr off ↦ absurd (off.0 refl) ]
+
+  opened_top : (opened chain w.common).1.path (opened chain w.common).1.conn ≡ (opened chain w.common).1.conn ∷ 1 ∷ []
+  opened_top = subst (λ (m : ℕ). (opened chain w.common).1.path m ≡ m ∷ 1 ∷ []) (sym opened_conn)
+      (ap (λ (path : ℕ → List ℕ). path w.common.pools) opened_path ∙ created_at 1 (pools_of w.common (fresh_connection w.common)) ∙ ap (λ (xs : List ℕ). w.common.pools ∷ xs) root_fresh)
+
+  only_one : is_in w.common.pools (1 ∷ []) ≡ true → ⊥
+  only_one there = elim (or_cases (1 == w.common.pools) false there) [ inl e ↦ (let same : 1 ≡ w.common.pools = eqb-true 1 w.common.pools e in let lt : 1 < w.common.pools = sound.names.pools.0 in omega (arith, same, lt)) | inr never ↦ cc ]
+
+  is_new : (n : ℕ) → is_in w.common.pools ((created 1 (pools_of w.common (fresh_connection w.common))).path n) ≡ true → n ≡ w.common.pools
+  unfolding created planted
+  is_new n inside = elim (upd_either (fresh_connection w.common).path w.common.pools n (w.common.pools ∷ (fresh_connection w.common).path 1)) [
+    | inl at ↦ at.0
+    | inr off ↦ (elim (upd_either {X = List ℕ} (λ k. []) 1 n (1 ∷ [])) [
+      | inl one ↦ absurd (only_one (ap (is_in w.common.pools) (sym one.1 ∙ sym off.1) ∙ inside))
+      | inr none ↦ absurd (let nothing : is_in w.common.pools [] ≡ true = ap (is_in w.common.pools) (sym none.1 ∙ sym off.1) ∙ inside in cc)
+    ])
+  ]
+
+  -- its own pool is new
+  opened_own : (n : ℕ) → is_own (opened chain w.common).1 n ≡ true → (w.common.pools ≤ n) × (n < (opened chain w.common).0.pools)
+  opened_own n own =
+      let next : (opened chain w.common).0.pools ≡ w.common.pools + 1 = opened_next in
+      let there = subst (λ (m : ℕ). is_in m ((opened chain w.common).1.path n) ≡ true) opened_conn own in
+      let at : n ≡ w.common.pools = is_new n (subst (λ (path : ℕ → List ℕ). is_in w.common.pools (path n) ≡ true) opened_path there) in
+      (omega (arith, at), omega (arith, at, next))
+
+  opens_apart : (memory : Bool) → WorldPoolsApart (opens memory chain w).1
+  unfolding opens
+  opens_apart memory = by_refusal _ refl where
+    by_refusal : (o : Option Refusal) → first_refusal (refused_if (is_spent (w.last + 1) 1 || (is_spent w.common.pools 1 || is_spent w.common.next 1)) refusal.NamesSpent ∷ (refused_if (not memory) refusal.NoMemory ∷ [])) ≡ o → WorldPoolsApart (opens_if o chain w).1
+    by_refusal (Some r) is = h
+    by_refusal None is = put_apart chain (w.last + 1) (record w { last = w.last + 1 }) (opened chain w.common) (record { names = sound.names; conns = sound.conns }) (record {
+      rises = (let next : (opened chain w.common).0.pools ≡ w.common.pools + 1 = opened_next in omega (arith, next));
+      top = opened_top;
+      from = λ n own. inl (opened_own n own);
+      earlier = λ j x at lt. (let is : (opened chain w.common).1.conn ≡ w.common.pools = opened_conn in let below : x.conn < w.common.pools = (conn_there chain w.common x (sound.conns j x at)).1 in omega (arith, is, below));
+      later = λ j x at lt. absurd (let none : None ≡ Some x = sym (numbers.later j (omega (arith, lt))) ∙ at in cc);
+    }) (record { top = h.top; own = h.own; rising = h.rising })
+
+on_apart : (memory : Bool) (budget : ℕ) (chain : List Program) (told : Told) (e : Event) (k : ℕ) (o : Option Connection) (w : World) → w.conns k ≡ o → IsChain chain → WorldSound chain w → WorldNumbers w → WorldPoolsApart w
+    → WorldPoolsApart (happens_on memory budget chain told e k o w).1
+unfolding happens_on
+on_apart memory budget chain told event.Open k o w at chained s numbers h = opens_apart chain w s numbers h memory
+on_apart memory budget chain told (event.AddFile name bytes) k o w at chained s numbers h = added_apart memory w h
+on_apart memory budget chain told event.TellPools k o w at chained s numbers h = h
+on_apart memory budget chain told (event.OpenFile name) k (Some c) w at chained s numbers h = opening_apart chain chained k c w at s h memory told.opening
+on_apart memory budget chain told event.Begin k (Some c) w at chained s numbers h = answered_apart chain chained k c w at s h _ (begins_turn chain AnyLength w.common c memory)
+on_apart memory budget chain told (event.Bring pieces) k (Some c) w at chained s numbers h = answered_apart chain chained k c w at s h _ (brings_turn chain AnyLength w.common c memory pieces)
+on_apart memory budget chain told event.Step k (Some c) w at chained s numbers h = step_apart chain chained k c w at s h _ (steps_turn chain AnyLength w.common c chained memory budget told.reads)
+on_apart memory budget chain told event.End k (Some c) w at chained s numbers h = answered_apart chain chained k c w at s h _ (ends_turn chain AnyLength w.common c memory)
+on_apart memory budget chain told event.TakeOutput k (Some c) w at chained s numbers h = turned_apart chain chained k c w at s h _ Drained
+on_apart memory budget chain told event.TellLabels k (Some c) w at chained s numbers h = h
+on_apart memory budget chain told event.Close k (Some c) w at chained s numbers h = closed_apart chain chained k c w at s h memory
+on_apart memory budget chain told e k None w at chained s numbers h = h
+
+pub event_keeps_pools_apart : EventKeepsPoolsApart
+event_keeps_pools_apart memory budget chain told k e w chained s numbers h = on_apart memory budget chain told e k (w.conns k) w refl chained s numbers h
+
+run_apart : (budget : ℕ) (chain : List Program) (es : List (ℕ × Event)) (answers : List Answer) (old new : World) → IsChain chain → IsRun budget chain old es answers new → WorldSound chain old → WorldNumbers old → WorldPoolsApart old → WorldPoolsApart new
+unfolding IsRun
+run_apart budget chain [] [] old new chained run s numbers h = subst WorldPoolsApart (sym run) h
+run_apart budget chain [] (a ∷ answers) old new chained run s numbers h = absurd run
+run_apart budget chain (e ∷ es) [] old new chained run s numbers h = absurd run
+run_apart budget chain (e ∷ es) (a ∷ answers) old new chained run s numbers h = run_apart budget chain es answers run.2 new chained run.4
+    (led (WorldSound chain) (event_keeps_world run.0 budget chain run.1 e.0 e.1 old chained s))
+    (led WorldNumbers (event_keeps_numbers run.0 budget chain run.1 e.0 e.1 old numbers))
+    (led WorldPoolsApart (event_keeps_pools_apart run.0 budget chain run.1 e.0 e.1 old chained s numbers h)) where
+      led : (P : World → Type 0) → P (happens run.0 budget chain run.1 e.0 e.1 old).1 → P run.2
+      led P p = subst P (ap (λ (x : Answer × World). x.1) run.3) p
+
+pub run_keeps_pools_apart : RunKeepsPoolsApart
+run_keeps_pools_apart budget chain es answers w chained run =
+    run_apart budget chain es answers empty_world w chained run (empty_sound chain) empty_numbered (record { top = λ k c at. absurd (cc); own = λ j k n c d at. absurd (cc); rising = λ j k c d at. absurd (cc) })

@@ -1,0 +1,50 @@
+-- Cursors hold names that were given out, and what they name is in one place, in every run of a chain.
+use Rattle.std.specs.Prelude.{◌≡◌, ℕ, ◌<◌, Bool, List, ◌∷◌, ◌++◌, length, Some, All}
+use Rattle.module_code.specs.Program.{Program}
+use Rattle.run_model.specs.declared.bucket.Cursor.{Cursor}
+use Rattle.run_model.specs.declared.event.Event.{Event}
+use Rattle.run_model.specs.Cursors.{spot_of}
+use Rattle.run_model.specs.State.{Call, fresh_call}
+use Rattle.model_laws.specs.CursorLaws.{name_held, StandsOnce}
+use Rattle.run_model.specs.Chains.{Frame, Connection, Common, configuration, IsChain}
+use Rattle.run_model.specs.Worlds.{World, Told, Answer, empty_world, happens, IsRun}
+use Rattle.model_laws.specs.ChainSound.{WorldSound}
+
+-- A cursor of a call that is set holds a name that was given out, where this is the next.
+pub record HoldsGiven (next : ℕ) (call : Call) : Type 0 where
+  pub given : (c n : ℕ) → name_held (call.cursors c) ≡ Some n → n < next
+
+-- So it is with each call, whether it runs or waits.
+abbrev pub CursorsGiven : Common → Connection → Type 0
+CursorsGiven g c = All (λ f. HoldsGiven g.next f.call) c.stack
+
+abbrev pub WorldCursors : World → Type 0
+WorldCursors w = (k : ℕ) (c : Connection) → w.conns k ≡ Some c → CursorsGiven w.common c
+
+-- Each event keeps it, and so it is true of each world that a run reaches.
+abbrev pub EventKeepsWorldCursors : Type 0
+EventKeepsWorldCursors = (memory : Bool) (budget : ℕ) (chain : List Program) (told : Told) (k : ℕ) (e : Event) (w : World)
+    → IsChain chain → WorldSound chain w → WorldCursors w → WorldCursors (happens memory budget chain told k e w).1
+
+abbrev pub RunKeepsWorldCursors : Type 0
+RunKeepsWorldCursors = (budget : ℕ) (chain : List Program) (es : List (ℕ × Event)) (answers : List Answer) (w : World) → IsChain chain → IsRun budget chain empty_world es answers w → WorldCursors w
+
+-- Of each call, whether it runs or waits: a bucket that a cursor names is in exactly one list of what the call sees, once, in one
+-- brigade or loose, and it is nowhere only where no list has it. The same is true of a brigade at whose end a cursor is.
+abbrev pub CallsStandOnce : Common → Connection → Type 0
+CallsStandOnce g c = (above below : List Frame) (f : Frame) (v : Cursor) → c.stack ≡ above ++ f ∷ below → StandsOnce (configuration g c f) v (spot_of (configuration g c f) v)
+
+-- So it is with what an instance of the chain has where no call is.
+abbrev pub InstancesStandOnce : List Program → Common → Connection → Type 0
+InstancesStandOnce chain g c = (k : ℕ) (v : Cursor) → k < length chain
+    → (let r = configuration g c (record { of = k; call = fresh_call 0; pc = 0 }) in StandsOnce r v (spot_of r v))
+
+abbrev pub WorldStandsOnce : List Program → World → Type 0
+WorldStandsOnce chain w = (k : ℕ) (c : Connection) → w.conns k ≡ Some c → CallsStandOnce w.common c × InstancesStandOnce chain w.common c
+
+-- It is so in each world that is sound, and so in each that a run reaches.
+abbrev pub SoundWorldStandsOnce : Type 0
+SoundWorldStandsOnce = (chain : List Program) (w : World) → WorldSound chain w → WorldStandsOnce chain w
+
+abbrev pub WorldRunStandsOnce : Type 0
+WorldRunStandsOnce = (budget : ℕ) (chain : List Program) (es : List (ℕ × Event)) (answers : List Answer) (w : World) → IsChain chain → IsRun budget chain empty_world es answers w → WorldStandsOnce chain w

@@ -1,0 +1,71 @@
+-- Laws of chains and worlds: each step and each event keeps what is sound, and leaves other connections as they were.
+use Rattle.std.specs.Prelude.{◌≡◌, ◌≢◌, ℕ, ◌+◌, ◌^◌, ◌<◌, ◌≤◌, Bool, false, List, ◌∷◌, None}
+use Rattle.module_code.specs.Program.{Program}
+use Rattle.run_model.specs.declared.event.Event.{Event}
+use Rattle.run_model.specs.declared.event.Event.TheVariants as event
+use Rattle.run_model.specs.Faults.{fault}
+use Rattle.run_model.specs.Steps.{current, lacks_names, is_spent}
+use Rattle.run_model.specs.Chains.{Frame, Connection, Common, Linked, module_at, configuration, IsChain}
+use Rattle.run_model.specs.Passing.{Reads, proceeds}
+use Rattle.run_model.specs.Turns.{calls_of}
+use Rattle.run_model.specs.Worlds.{World, Told, Answer, empty_world, happens, IsRun}
+use Rattle.model_laws.specs.ChainSound.{ChainNames, ChainBuckets, ChainPools, ChainCalls, ChainSound, WorldSound}
+
+-- the call on top is at an instruction that has no fault, and the names that it gives out are there
+pub record MayProceed (chain : List Program) (g : Common) (c : Connection) (f : Frame) (rest : List Frame) : Type 0 where
+  pub chained : IsChain chain
+  pub on_top : c.stack ≡ f ∷ rest
+  pub faultless : fault (module_at chain f.of) (configuration g c f) (current (module_at chain f.of) f.pc) ≡ None
+  pub names_last : lacks_names (configuration g c f) (current (module_at chain f.of) f.pc) ≡ false
+  pub calls_last : is_spent g.next (calls_of chain (current (module_at chain f.of) f.pc) f rest c.queue) ≡ false
+
+-- what that instruction leaves
+abbrev pub after_top : List Program → Reads → Common → Connection → Frame → List Frame → Linked
+after_top chain reads g c f rest = (proceeds chain reads (current (module_at chain f.of) f.pc) f rest (g, c)).1
+
+-- what others do to what is shared: names rise, and stay below 2^64
+pub record Rises (g new : Common) : Type 0 where
+  pub next : g.next ≤ new.next
+  pub next_limit : new.next < 2 ^ 64
+  pub pools : g.pools ≤ new.pools
+  pub pools_limit : new.pools < 2 ^ 64
+
+-- The instruction of the call on top keeps what is sound, and names rise.
+abbrev pub TopKeepsNames : Type 0
+TopKeepsNames = (chain : List Program) (reads : Reads) (g : Common) (c : Connection) (f : Frame) (rest : List Frame) → MayProceed chain g c f rest → ChainSound chain g c
+    → ChainNames chain (after_top chain reads g c f rest).0 (after_top chain reads g c f rest).1
+
+abbrev pub TopKeepsBuckets : Type 0
+TopKeepsBuckets = (chain : List Program) (reads : Reads) (g : Common) (c : Connection) (f : Frame) (rest : List Frame) → MayProceed chain g c f rest → ChainSound chain g c
+    → ChainBuckets (after_top chain reads g c f rest).1
+
+abbrev pub TopKeepsPools : Type 0
+TopKeepsPools = (chain : List Program) (reads : Reads) (g : Common) (c : Connection) (f : Frame) (rest : List Frame) → MayProceed chain g c f rest → ChainSound chain g c
+    → ChainPools chain (after_top chain reads g c f rest).0 (after_top chain reads g c f rest).1
+
+abbrev pub TopKeepsCalls : Type 0
+TopKeepsCalls = (chain : List Program) (reads : Reads) (g : Common) (c : Connection) (f : Frame) (rest : List Frame) → MayProceed chain g c f rest → ChainSound chain g c
+    → ChainCalls chain (after_top chain reads g c f rest).0 (after_top chain reads g c f rest).1
+
+abbrev pub TopRaisesNames : Type 0
+TopRaisesNames = (chain : List Program) (reads : Reads) (g : Common) (c : Connection) (f : Frame) (rest : List Frame) → MayProceed chain g c f rest → ChainSound chain g c
+    → Rises g (after_top chain reads g c f rest).0
+
+-- names that others take change nothing
+abbrev pub RisingKeepsSound : Type 0
+RisingKeepsSound = (chain : List Program) (g new : Common) (c : Connection) → Rises g new → ChainSound chain g c → ChainSound chain new c
+
+-- Each event keeps each connection sound, and so each run from the empty world leads to a sound one.
+abbrev pub EventKeepsWorld : Type 0
+EventKeepsWorld = (memory : Bool) (budget : ℕ) (chain : List Program) (told : Told) (k : ℕ) (e : Event) (w : World) → IsChain chain → WorldSound chain w → WorldSound chain (happens memory budget chain told k e w).1
+
+abbrev pub RunKeepsWorld : Type 0
+RunKeepsWorld = (budget : ℕ) (chain : List Program) (es : List (ℕ × Event)) (answers : List Answer) (w : World) → IsChain chain → IsRun budget chain empty_world es answers w → WorldSound chain w
+
+-- An event of one connection leaves every other exactly as it was.
+abbrev pub OthersStay : Type 0
+OthersStay = (memory : Bool) (budget : ℕ) (chain : List Program) (told : Told) (k j : ℕ) (e : Event) (w : World) → e ≢ event.Open → j ≢ k → (happens memory budget chain told k e w).1.conns j ≡ w.conns j
+
+-- An opening leaves all that were there, but that of the number which it gives out.
+abbrev pub OpeningStays : Type 0
+OpeningStays = (memory : Bool) (budget : ℕ) (chain : List Program) (told : Told) (k j : ℕ) (w : World) → j ≢ w.last + 1 → (happens memory budget chain told k event.Open w).1.conns j ≡ w.conns j

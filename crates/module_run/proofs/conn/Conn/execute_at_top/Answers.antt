@@ -1,0 +1,97 @@
+use Rattle.std.proofs.Common.{◌≡◌, ◌∙◌, sym, ap, subst, refl}
+use Rattle.module_code.specs.declared.instr.Instr.{Instr}
+use Rattle.module_code.specs.declared.instr.Instr.TheVariants.{Ret, Pass}
+use Rattle.run_model.specs.Chains.{Frame, Linked}
+use Rattle.run_model.specs.declared.event.Stepped.TheVariants.{Went}
+use Rattle.run_model.specs.Turns.{calls_of}
+use Rattle.module_run.specs.Conns.{top_of}
+use Rattle.module_run.specs.Proceeding.{IsReady, RefinesStep, LeftAs}
+use Rattle.module_run.proofs.Executing.{is_last_here, on_err_to}
+use Rattle.module_run.proofs.HandsOnBuilt.{on_err}
+use Rattle.module_run.proofs.conn.Conn.execute_at_top.Goals as goal
+
+-- src/conn_step.rt
+pub return_to_caller-requires-clause-ready : goal.return_to_caller-requires-clause-ready
+return_to_caller-requires-clause-ready g c = (
+  c.args.tree.now,
+  g.F.Files.device c.args.files.now,
+  record {
+    v = c.requires.ready.0;
+    top = c.requires.ready.1.0;
+    rest = c.requires.ready.1.1.0;
+    ready = subst (λ (i : Instr). IsReady c.args.modules.now i c.args.tree.now c.args.store.now (g.F.Files.device c.args.files.now) c.args.self.now c.requires.ready.0 c.requires.ready.1.0 c.requires.ready.1.1.0) c.in-Ret.is c.requires.ready.1.1.1;
+  },
+)
+
+-- src/conn_step.rt
+pub returns-else-is_empty-clause-ok : goal.returns-else-is_empty-clause-ok
+returns-else-is_empty-clause-ok g c v f rest ready =
+    subst (λ (i : Instr). RefinesStep c.args.modules.now i (g.F.Files.device c.args.files.now) (g.F.Files.device c.args.files.now) v f rest c.args.tree.now c.return_to_caller.new.store c.return_to_caller.new.self Went) (sym c.in-Ret.is)
+    (c.return_to_caller.ensures.leads c.args.tree.now (g.F.Files.device c.args.files.now) v f rest
+    (subst (λ (i : Instr). IsReady c.args.modules.now i c.args.tree.now c.args.store.now (g.F.Files.device c.args.files.now) c.args.self.now v f rest) c.in-Ret.is ready))
+
+-- src/conn_step.rt
+pub pass_to_next-requires-clause-ready : goal.pass_to_next-requires-clause-ready
+pass_to_next-requires-clause-ready g c = (
+  (g.F.Files.device c.args.files.now),
+  record {
+    tree = c.args.tree.now;
+    label = c.in-Pass.l;
+    v = c.requires.ready.0;
+    f = c.requires.ready.1.0;
+    rest = c.requires.ready.1.1.0;
+    ready = subst (λ (i : Instr). IsReady c.args.modules.now i c.args.tree.now c.args.store.now (g.F.Files.device c.args.files.now) c.args.self.now c.requires.ready.0 c.requires.ready.1.0 c.requires.ready.1.1.0) c.in-Pass.is c.requires.ready.1.1.1;
+  },
+)
+
+-- src/conn_step.rt
+pub returns-in_err-pass_to_next-in-Pass-clause-err : goal.returns-in_err-pass_to_next-in-Pass-clause-err
+returns-in_err-pass_to_next-in-Pass-clause-err g c = on_err c.from_residual.result (λ v f rest ready. c.in_err-pass_to_next-in-Pass.ensures.err c.args.tree.now (g.F.Files.device c.args.files.now) v ready.stands.left)
+
+-- src/conn_step.rt
+pub pass_to_output-requires : goal.pass_to_output-requires
+pass_to_output-requires g c = record {
+  ready = (
+    c.args.modules.now,
+    c.args.tree.now,
+    record {
+      v = c.requires.ready.0;
+      top = c.requires.ready.1.0;
+      rest = c.requires.ready.1.1.0;
+      ready = subst (λ (i : Instr). IsReady c.args.modules.now i c.args.tree.now c.args.store.now (g.F.Files.device c.args.files.now) c.args.self.now c.requires.ready.0 c.requires.ready.1.0 c.requires.ready.1.1.0) c.in-Pass.is c.requires.ready.1.1.1;
+    },
+  );
+}
+
+-- src/conn_step.rt
+pub returns-in_err-pass_to_output-in-Pass-clause-err : goal.returns-in_err-pass_to_output-in-Pass-clause-err
+returns-in_err-pass_to_output-in-Pass-clause-err g c = on_err c.from_residual-in_err-pass_to_output-in-Pass.result (λ v f rest ready. c.in_err-pass_to_output-in-Pass.ensures.err c.args.modules.now c.args.tree.now v ready.stands.left)
+
+-- src/conn_step.rt
+pub return_last-requires-clause-ready : goal.return_last-requires-clause-ready
+return_last-requires-clause-ready g c = (
+  c.args.tree.now,
+  (g.F.Files.device c.args.files.now),
+  record {
+    v = c.requires.ready.0;
+    top = c.requires.ready.1.0;
+    rest = c.requires.ready.1.1.0;
+    ready = subst (λ (i : Instr). IsReady c.args.modules.now i c.args.tree.now c.args.store.now (g.F.Files.device c.args.files.now) c.args.self.now c.requires.ready.0 c.requires.ready.1.0 c.requires.ready.1.1.0) c.in-Ret.is c.requires.ready.1.1.1;
+  },
+)
+
+-- src/conn_step.rt
+pub returns-then-is_empty-clause-err : goal.returns-then-is_empty-clause-err
+returns-then-is_empty-clause-err g c = on_err_to c.return_last.result (λ same v f rest ready. same c.args.tree.now (g.F.Files.device c.args.files.now) v ready.stands.left) c.return_last.ensures.err
+
+-- src/conn_step.rt
+pub returns-then-is_empty-clause-sure : goal.returns-then-is_empty-clause-sure
+returns-then-is_empty-clause-sure g c v f rest ready quiet none =
+    c.return_last.ensures.sure c.args.tree.now (g.F.Files.device c.args.files.now) v f rest (subst (λ (i : Instr). IsReady c.args.modules.now i c.args.tree.now c.args.store.now (g.F.Files.device c.args.files.now) c.args.self.now v f rest) c.in-Ret.is ready) (ap (λ (i : Instr). calls_of c.args.modules.now i f rest v.1.queue) (sym c.in-Ret.is) ∙ none)
+
+-- src/conn_step.rt
+pub returns-in_ok-pass_to_output-in-Pass-clause-ok : goal.returns-in_ok-pass_to_output-in-Pass-clause-ok
+returns-in_ok-pass_to_output-in-Pass-clause-ok g c v f rest ready =
+    subst (λ (i : Instr). RefinesStep c.args.modules.now i (g.F.Files.device c.args.files.now) (g.F.Files.device c.pass_to_output.new.files) v f rest c.args.tree.now c.pass_to_output.new.store c.pass_to_output.new.self Went) (sym c.in-Pass.is)
+    (c.in_ok-pass_to_output-in-Pass.ensures.ok c.args.modules.now c.args.tree.now v f rest (is_last_here c.args.modules.now c.top.result (top_of c.args.self.now) c.top.ensures c.if-top-modules.false)
+    (subst (λ (i : Instr). IsReady c.args.modules.now i c.args.tree.now c.args.store.now (g.F.Files.device c.args.files.now) c.args.self.now v f rest) c.in-Pass.is ready))

@@ -1,0 +1,137 @@
+-- The filter on top is changed, and what it passed is put out.
+use Rattle.std.proofs.Common.{◌≡◌, ◌==◌, ◌+◌, ◌<◌, All, Some, true, is_some, length, refl, sym, ap, subst, ◌∙◌, arith}
+use Rattle.std.specs.Prelude.{if◌then◌else◌}
+use Rattle.std.proofs.lemmas.List.{length-set}
+use Rattle.std.specs.Vec.{with_item}
+use Rattle.module_code.specs.declared.instr.Instr.TheVariants as instr
+use Rattle.run_model.specs.declared.bucket.Mark.TheVariants.{Passed}
+use Rattle.bucket_kinds.specs.Device.{Device}
+use Rattle.run_model.specs.Chains.{module_at}
+use Rattle.run_model.specs.Effects.{do_pass}
+use Rattle.run_model.specs.State.{Out, items_of}
+use Rattle.pool_tree.specs.Tree.{map_of}
+use Rattle.brigade_ops.specs.Store.{lists}
+use Rattle.module_run.specs.declared.conn.Filter.{Filter}
+use Rattle.ring_run.specs.declared.machine.Instance.{Instance}
+use Rattle.ring_run.specs.declared.machine.Call.{Call}
+use Rattle.module_run.specs.Conns.{top_of}
+use Rattle.ring_run.specs.Delivery.{WasDelivered, out_of}
+use Rattle.ring_run.specs.Ends.{EndInFiles}
+use Rattle.ring_run.specs.Given.{RangeIsOpen}
+use Rattle.ring_run.specs.Held.{IsHeld}
+use Rattle.ring_run.specs.LeftAlone.{LeavesOthers}
+use Rattle.module_run.specs.Proceeding.{LeftAs}
+use Rattle.ring_run.specs.Seen.{seen}
+use Rattle.ring_run.specs.Slots.{live_in, marked, slot_at}
+use Rattle.module_run.proofs.AtWork as work
+use Rattle.module_run.proofs.CanPass.{passer, passed_live, passed_variable}
+use Rattle.module_run.proofs.Delivers.{delivers, passed_on}
+use Rattle.ring_run.proofs.Faultless.{passed_homes}
+use Rattle.module_run.proofs.HandsOn.{changed}
+use Rattle.module_run.proofs.HandsOnBuilt.{on_err, reads_here, same_back, writes_here, writes_off}
+use Rattle.ring_run.proofs.OpenFiles.{open_items}
+use Rattle.module_run.proofs.Outs.{with_out}
+use Rattle.module_run.proofs.Spared.{left_spared}
+use Rattle.module_run.proofs.Tops.{around_of}
+use Rattle.module_run.proofs.conn.Conn.pass_to_output.Goals as goal
+
+pub pass_out-requires-clause-slot : goal.pass_out-requires-clause-slot
+pass_out-requires-clause-slot g c =
+    let p = c.requires.ready.2 in
+    passed_variable c.requires.ready.0 c.args.b c.args.target c.requires.ready.1 c.args.store.now (g.F.Files.device c.args.files.now) c.args.self.now p.v p.top p.rest p.ready
+
+pub pass_out-requires-clause-live : goal.pass_out-requires-clause-live
+pass_out-requires-clause-live g c =
+    let p = c.requires.ready.2 in
+    let t = passer c.requires.ready.0 c.args.b c.args.target c.requires.ready.1 c.args.store.now (g.F.Files.device c.args.files.now) c.args.self.now p.v p.top p.rest p.ready in
+    subst (λ (f : Filter). is_some (live_in (lists c.args.store.now) (slot_at f.instance c.args.b)) ≡ true)
+    (sym (reads_here c.args.self.now c.top-top.result c.top-top.ensures t.filter c.index_mut-filter.result.now t.is c.index_mut-filter.ensures.value))
+    (passed_live c.requires.ready.0 c.args.b c.args.target c.requires.ready.1 c.args.store.now (g.F.Files.device c.args.files.now) c.args.self.now p.v p.top p.rest p.ready)
+
+pub pass_out-requires-clause-ends : goal.pass_out-requires-clause-ends
+pass_out-requires-clause-ends g c =
+    let p = c.requires.ready.2 in
+    let t = passer c.requires.ready.0 c.args.b c.args.target c.requires.ready.1 c.args.store.now (g.F.Files.device c.args.files.now) c.args.self.now p.v p.top p.rest p.ready in
+    subst (λ (f : Filter). EndInFiles c.args.store.now f.instance)
+    (sym (reads_here c.args.self.now c.top-top.result c.top-top.ensures t.filter c.index_mut-filter.result.now t.is c.index_mut-filter.ensures.value))
+    (work.ends_in c.requires.ready.0 (instr.Pass c.args.b c.args.target) c.requires.ready.1 c.args.store.now (g.F.Files.device c.args.files.now) c.args.self.now p.v p.top p.rest p.ready t.filter t.is)
+
+pub pass_out-requires-clause-open : goal.pass_out-requires-clause-open
+pass_out-requires-clause-open g c =
+    let self = c.args.self.now in
+    let store = c.args.store.now in
+    let d = g.F.Files.device c.args.files.now in
+    let chain = c.requires.ready.0 in
+    let tree = c.requires.ready.1 in
+    let p = c.requires.ready.2 in
+    let i = instr.Pass c.args.b c.args.target in
+    let t = passer chain c.args.b c.args.target tree store d self p.v p.top p.rest p.ready in
+    let around = around_of (map_of tree) self p.v in
+    let at = reads_here self c.top-top.result c.top-top.ensures t.filter c.index_mut-filter.result.now t.is c.index_mut-filter.ensures.value in
+    let opens = work.open_in chain i tree store d self p.v p.top p.rest p.ready t.filter t.is around.labels around.files around.out around.waits refl in
+    let homes = passed_homes (module_at chain (top_of self)) (seen store around t.filter.instance t.filter.call) c.args.b c.args.target (work.faultless_in chain i tree store d self p.v p.top p.rest p.ready t.filter t.is around.labels around.files around.out around.waits refl) in (
+      around,
+      t.filter.call,
+      subst (λ (f : Filter). All (RangeIsOpen d) (items_of ((seen store around f.instance t.filter.call).instance.brigades c.args.b))) (sym at)
+          (open_items d (items_of ((seen store around t.filter.instance t.filter.call).instance.brigades c.args.b)) (opens.brigades c.args.b) homes),
+    )
+
+pub go_on-requires : goal.go_on-requires
+go_on-requires g c =
+    let p = c.requires.ready.2 in
+    let d = g.F.Files.device c.args.files.now in
+    let t = passer c.requires.ready.0 c.args.b c.args.target c.requires.ready.1 c.args.store.now d c.args.self.now p.v p.top p.rest p.ready in
+    subst (λ (f : Filter). f.call.pc < 1024)
+    (sym (reads_here c.args.self.now c.top-top.result c.top-top.ensures t.filter c.index_mut-filter.result.now t.is c.index_mut-filter.ensures.value))
+    (work.small c.requires.ready.0 (instr.Pass c.args.b c.args.target) c.requires.ready.1 c.args.store.now d c.args.self.now p.v p.top p.rest p.ready t.filter t.is)
+
+pub returns-in_err-well-clause-err : goal.returns-in_err-well-clause-err
+returns-in_err-well-clause-err g c =
+    on_err c.from_residual.result (λ chain tree v left.
+    let self = c.args.self.now in
+    let store = c.args.store.now in
+    let d = g.F.Files.device c.args.files.now in
+    let e = g.F.Files.device c.pass_out.new.files in
+    let r = c.index_mut-filter.result.now in
+    let w : Filter = record { instance = c.pass_out.new.instance; call = r.call; lent = r.lent } in
+    let back : w ≡ r = ap (λ (i : Instance). let q : Filter = record { instance = i; call = r.call; lent = r.lent } in q) c.in_err-well.ensures.same.0 in
+    let fs = with_item self.filters c.top-top.result w in
+    let spared = left_spared self fs self.waits (same_back self.filters c.top-top.result r w c.index_mut-filter.ensures.value back) refl chain tree store store d v (λ n. refl) refl (λ id is young. is) refl refl left in
+    subst (λ (n : Device). LeftAs chain tree c.pass_out.new.store n (with_out (changed self fs self.waits) c.pass_out.new.out c.pass_out.new.ended) v) (sym c.in_err-well.ensures.unread)
+    (subst (λ s. LeftAs chain tree s d (with_out (changed self fs self.waits) c.pass_out.new.out c.pass_out.new.ended) v) (sym c.in_err-well.ensures.same.1)
+    (subst (λ (o : Out). LeftAs chain tree store d (with_out (changed self fs self.waits) o.bytes o.ended) v) (sym c.in_err-well.ensures.kept) spared)))
+
+pub returns-clause-ok : goal.returns-clause-ok
+returns-clause-ok g c chain tree v f rest last ready =
+    let self = c.args.self.now in
+    let old = c.args.store.now in
+    let new = c.pass_out.new.store in
+    let d = g.F.Files.device c.args.files.now in
+    let e = g.F.Files.device c.pass_out.new.files in
+    let b = c.args.b in
+    let l = c.args.target in
+    let t = passer chain b l tree old d self v f rest ready in
+    let x = t.filter in
+    let r = c.index_mut-filter.result.now in
+    let i = c.pass_out.new.instance in
+    let well = c.in_ok-well.well in
+    let at = reads_here self c.top-top.result c.top-top.ensures x r t.is c.index_mut-filter.ensures.value in
+    let n : length self.filters.items ≡ length chain = ready.stands.left.stacked.many in
+    let lt = ready.stands.left.stacked.within in
+    let within : top_of self < length self.filters.items = omega (arith, n, lt) in
+    let w : Filter = record { instance = i; call = c.go_on.new.self; lent = r.lent } in
+    let is : w ≡ passed_on chain b l tree old new d e self v f rest ready i well (with_item self.filters c.top-top.result w) c.pass_out.new.out c.pass_out.new.ended =
+    ap (λ (k : Call). let q : Filter = record { instance = i; call = k; lent = r.lent } in q) c.go_on.ensures
+    ∙ ap (λ (p : Filter). let q : Filter = record { instance = i; call = record p.call { pc = if well then p.call.pc + 1 else l }; lent = p.lent } in q) at in
+    let around = around_of (map_of tree) self v in
+    let given : WasDelivered d e (out_of self.out self.ended) (items_of ((seen old around x.instance x.call).instance.brigades b)) (out_of c.pass_out.new.out c.pass_out.new.ended) well =
+    subst (λ (q : Filter). WasDelivered d e (out_of self.out self.ended) (items_of ((seen old around q.instance x.call).instance.brigades b)) (out_of c.pass_out.new.out c.pass_out.new.ended) well) at (c.in_ok-well.ensures.delivered around x.call) in
+    delivers chain b l tree old new d e self v f rest ready i well (with_item self.filters c.top-top.result w) c.pass_out.new.out c.pass_out.new.ended
+    (writes_here self c.top-top.result c.top-top.ensures w within ∙ ap (λ (q : Filter). Some q) is)
+    (writes_off self c.top-top.result c.top-top.ensures w within)
+    (length-set self.filters.items c.top-top.result w)
+    (λ a. subst (λ (q : Filter). slot_at i a ≡ (if a == b then marked Passed (slot_at q.instance b) else slot_at q.instance a)) at (c.in_ok-well.ensures.slots a))
+    (λ around call. subst (λ (q : Filter). IsHeld old q.instance call → seen new around i call ≡ do_pass b (seen old around q.instance call)) at (c.in_ok-well.ensures.passed around call))
+    (λ call. subst (λ (q : Filter). IsHeld old q.instance call → IsHeld new i call) at (c.pass_out.ensures.held call))
+    (λ call. subst (λ (q : Filter). LeavesOthers old new q.instance call) at (c.in_ok-well.ensures.left call))
+    given.reads given.given given.told c.pass_out.ensures.open_files last

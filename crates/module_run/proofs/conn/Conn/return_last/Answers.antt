@@ -1,0 +1,115 @@
+-- By the filter on top, and the one whose turn is next.
+use Rattle.std.proofs.Common.{◌≡◌, ◌≢◌, ◌∙◌, ℕ, ◌<◌, [], Some, length, false, refl, sym, ap, subst, arith}
+use Rattle.std.specs.Vec.{with_item}
+use Rattle.std.proofs.lemmas.List.{length-set}
+use Rattle.module_code.specs.declared.instr.Instr.TheVariants as instr
+use Rattle.run_model.specs.Chains.{module_at}
+use Rattle.run_model.specs.Passing.{handler_at}
+use Rattle.brigade_ops.specs.Store.{lists, next_name}
+use Rattle.ring_run.specs.Begun.{IsBegun}
+use Rattle.module_run.proofs.EndedLast.{parts}
+use Rattle.module_run.proofs.Ending.{ending}
+use Rattle.module_run.proofs.FirstReady.{as_was, first_brought, first_held, first_read, first_runs, first_within, made_brought, made_empty, made_free, made_held, made_none, one_begins, queue_later, set_first, set_next, zero_free}
+use Rattle.module_run.proofs.LeftSame.{left_same}
+use Rattle.module_run.proofs.NextTurn.{turned, turning}
+use Rattle.module_run.proofs.TopFilter.{module_read, on_top_of}
+use Rattle.module_run.proofs.conn.Conn.return_last.Goals as goal
+
+pub end_first-requires-clause-held : goal.end_first-requires-clause-held
+end_first-requires-clause-held g c = let p = c.requires.ready in first_held c.args.modules.now c.args.status p.0 c.args.store.now p.1 c.args.self.now p.2.v p.2.top p.2.rest p.2.ready c.requires.alone c.index_mut.result.now c.index_mut.ensures.value
+
+pub end_first-requires-clause-runs : goal.end_first-requires-clause-runs
+end_first-requires-clause-runs g c = let p = c.requires.ready in first_runs c.args.modules.now c.args.status p.0 c.args.store.now p.1 c.args.self.now p.2.v p.2.top p.2.rest p.2.ready c.requires.alone c.index_mut.result.now c.index_mut.ensures.value
+
+pub end_first-requires-clause-free : goal.end_first-requires-clause-free
+end_first-requires-clause-free g c = let p = c.requires.ready in zero_free c.args.modules.now c.args.status p.0 c.args.store.now p.1 c.args.self.now p.2.v p.2.top p.2.rest p.2.ready c.requires.alone
+
+pub end_first-requires-clause-brought : goal.end_first-requires-clause-brought
+end_first-requires-clause-brought g c = let p = c.requires.ready in first_brought c.args.modules.now c.args.status p.0 c.args.store.now p.1 c.args.self.now p.2.v p.2.top p.2.rest p.2.ready c.requires.alone c.index_mut.result.now c.index_mut.ensures.value
+
+pub end_first-requires-2-clause-held : goal.end_first-requires-2-clause-held
+end_first-requires-2-clause-held g c = let p = c.requires.ready in made_held c.args.modules.now c.args.status p.0 c.args.store.now p.1 c.args.self.now p.2.v p.2.top p.2.rest p.2.ready c.requires.alone c.index_mut-2.result.now c.index_mut-2.ensures.value c.loose.new.self c.in-Ok.name c.in-Ok.ensures.name c.in-Ok.ensures.ok c.in-Ok.ensures.next c.in-Ok.ensures.names c.in-Ok.ensures.pools
+
+pub end_first-requires-2-clause-runs : goal.end_first-requires-2-clause-runs
+end_first-requires-2-clause-runs g c = let p = c.requires.ready in first_runs c.args.modules.now c.args.status p.0 c.args.store.now p.1 c.args.self.now p.2.v p.2.top p.2.rest p.2.ready c.requires.alone c.index_mut-2.result.now c.index_mut-2.ensures.value
+
+pub end_first-requires-2-clause-none : goal.end_first-requires-2-clause-none
+end_first-requires-2-clause-none g c = let p = c.requires.ready in made_none c.args.modules.now c.args.status p.0 c.args.store.now p.1 c.args.self.now p.2.v p.2.top p.2.rest p.2.ready c.requires.alone c.index_mut-2.result.now c.index_mut-2.ensures.value c.loose.new.self c.in-Ok.name c.in-Ok.ensures.name c.in-Ok.ensures.ok c.in-Ok.ensures.next c.in-Ok.ensures.names c.in-Ok.ensures.pools
+
+pub end_first-requires-2-clause-free : goal.end_first-requires-2-clause-free
+end_first-requires-2-clause-free g c = let p = c.requires.ready in made_free c.args.modules.now c.args.status p.0 c.args.store.now p.1 c.args.self.now p.2.v p.2.top p.2.rest p.2.ready c.requires.alone c.index_mut-2.result.now c.index_mut-2.ensures.value c.loose.new.self c.in-Ok.name c.in-Ok.ensures.name c.in-Ok.ensures.ok c.in-Ok.ensures.next c.in-Ok.ensures.names c.in-Ok.ensures.pools
+
+pub end_first-requires-2-clause-brought : goal.end_first-requires-2-clause-brought
+end_first-requires-2-clause-brought g c = let p = c.requires.ready in made_brought c.args.modules.now c.args.status p.0 c.args.store.now p.1 c.args.self.now p.2.v p.2.top p.2.rest p.2.ready c.requires.alone c.index_mut-2.result.now c.index_mut-2.ensures.value c.loose.new.self c.in-Ok.name c.in-Ok.ensures.name c.in-Ok.ensures.ok c.in-Ok.ensures.next c.in-Ok.ensures.names c.in-Ok.ensures.pools
+
+pub returns-in_default-clause-err : goal.returns-in_default-clause-err
+returns-in_default-clause-err g c tree device v left =
+    left_same c.args.modules.now tree c.args.store.now c.loose.new.self device c.args.self.now v c.in_default.ensures.err c.in_default.ensures.next c.in_default.ensures.pools c.in_default.ensures.references c.in_default.ensures.names left
+
+pub returns-in_default-clause-sure : goal.returns-in_default-clause-sure
+returns-in_default-clause-sure g c tree device v f rest ready none =
+    let within : c.args.self.now.queue < length c.args.self.now.filters.items =
+    (let a : c.args.self.now.queue ≢ c.len.result = c.if-next-len.false in let b = c.len.ensures in let o = c.args.self.now.filters.ok.0 in let q = ready.stands.left.stacked.queue in let m = ready.stands.left.stacked.many in omega (arith, a, b, o, q, m)) in
+    absurd (let one = one_begins c.args.modules.now c.args.status tree c.args.store.now device c.args.self.now v f rest ready c.requires.alone within in omega (arith, one, none))
+
+pub returns-then-next-len-clause-leads : goal.returns-then-next-len-clause-leads
+returns-then-next-len-clause-leads g c tree device v f rest ready =
+    let filters = with_item c.args.self.now.filters c.args.self.now.first c.end_first.new.self in
+    let k = set_first c.args.self.now (record c.args.self.now { filters = filters; busy = false }) c.end_first.new.self (first_within c.args.modules.now c.args.status tree c.args.store.now device c.args.self.now v f rest ready c.requires.alone) refl in
+    ending c.args.modules.now c.args.status tree c.args.store.now device c.args.self.now v f rest ready c.requires.alone c.end_first.new.store filters (record {
+      top = c.index_mut.result.now;
+      ended = c.end_first.new.self;
+      busy = (on_top_of c.args.modules.now (instr.Ret c.args.status) tree c.args.store.now device c.args.self.now v f rest ready).busy;
+      none = c.requires.alone;
+      on_top = first_read c.args.modules.now c.args.status tree c.args.store.now device c.args.self.now v f rest ready c.requires.alone c.index_mut.result.now c.index_mut.ensures.value;
+      top_after = k.0;
+      others = λ j ne. ap parts (k.1 j ne);
+      rings = λ n below off came. c.end_first.ensures.others n off came;
+      slots = c.end_first.ensures.slots;
+      rest = c.end_first.ensures.rest;
+      name = c.end_first.ensures.name;
+      lent = c.end_first.ensures.lent;
+    }) (length-set c.args.self.now.filters.items c.args.self.now.first c.end_first.new.self) (c.if-next-len.true ∙ (c.len.ensures ∙ c.args.self.now.filters.ok.0)) k.1
+    c.end_first.ensures.next c.end_first.ensures.pools c.end_first.ensures.references c.end_first.ensures.names c.end_first.ensures.held
+
+pub returns-clause-leads : goal.returns-clause-leads
+returns-clause-leads g c tree device v f rest ready =
+    let within : c.args.self.now.queue < length c.args.self.now.filters.items =
+    (let a : c.args.self.now.queue ≢ c.len.result = c.if-next-len.false in let b = c.len.ensures in let o = c.args.self.now.filters.ok.0 in let q = ready.stands.left.stacked.queue in let m = ready.stands.left.stacked.many in omega (arith, a, b, o, q, m)) in
+    let later = queue_later c.args.modules.now c.args.status tree c.args.store.now device c.args.self.now v f rest ready c.requires.alone within in
+    let held = first_held c.args.modules.now c.args.status tree c.args.store.now device c.args.self.now v f rest ready c.requires.alone c.index_mut-2.result.now c.index_mut-2.ensures.value in
+    let runs = first_runs c.args.modules.now c.args.status tree c.args.store.now device c.args.self.now v f rest ready c.requires.alone c.index_mut-2.result.now c.index_mut-2.ensures.value in
+    let filters = with_item (with_item c.args.self.now.filters c.args.self.now.first c.end_first-2.new.self) c.args.self.now.queue c.begin.new.self in
+    let k = set_next c.args.self.now (turned c.args.self.now filters) c.end_first-2.new.self c.index_mut-3.result.now c.begin.new.self later within c.index_mut-3.ensures.value c.begin.ensures.instance c.begin.ensures.lent refl in
+    let chain_is : module_at c.args.modules.now c.args.self.now.queue ≡ c.index-modules-next.result = module_read c.args.modules.now c.args.self.now.queue c.index-modules-next.result (let m = ready.stands.left.stacked.many in omega (arith, within, m)) c.index-modules-next.is in
+    let pc_is : c.handler-pc.result ≡ handler_at c.args.self.now.req (module_at c.args.modules.now c.args.self.now.queue) = c.handler-pc.ensures ∙ ap (handler_at c.args.self.now.req) (sym chain_is) in
+    let empty : lists c.end_first-2.new.store (next_name c.args.store.now) ≡ Some [] =
+    c.end_first-2.ensures.others (next_name c.args.store.now) (λ e. let a = held.called in omega (arith, a, e)) (λ e. let a = held.named 8 (next_name c.args.store.now) e in omega (arith, a)) ∙ made_empty c.args.modules.now c.args.status tree c.args.store.now device c.args.self.now v f rest ready c.requires.alone c.index_mut-2.result.now c.index_mut-2.ensures.value c.loose.new.self c.in-Ok.name c.in-Ok.ensures.name c.in-Ok.ensures.ok c.in-Ok.ensures.next c.in-Ok.ensures.names c.in-Ok.ensures.pools in
+    turning c.args.modules.now c.args.status tree c.args.store.now device c.args.self.now v f rest ready c.requires.alone c.end_first-2.new.store filters (record {
+      top = c.index_mut-2.result.now;
+      ended = c.end_first-2.new.self;
+      busy = (on_top_of c.args.modules.now (instr.Ret c.args.status) tree c.args.store.now device c.args.self.now v f rest ready).busy;
+      none = c.requires.alone;
+      on_top = first_read c.args.modules.now c.args.status tree c.args.store.now device c.args.self.now v f rest ready c.requires.alone c.index_mut-2.result.now c.index_mut-2.ensures.value;
+      top_after = k.first;
+      others = k.same;
+      rings = λ n below off came. c.end_first-2.ensures.others n off came ∙ as_was c.args.modules.now c.args.status tree c.args.store.now device c.args.self.now v f rest ready c.requires.alone c.index_mut-2.result.now c.index_mut-2.ensures.value c.loose.new.self c.in-Ok.name c.in-Ok.ensures.name c.in-Ok.ensures.ok c.in-Ok.ensures.next c.in-Ok.ensures.names c.in-Ok.ensures.pools n below;
+      slots = c.end_first-2.ensures.slots;
+      rest = c.end_first-2.ensures.rest;
+      name = c.end_first-2.ensures.name;
+      lent = c.end_first-2.ensures.lent;
+    }) (record {
+      before = c.index_mut-3.result.now;
+      begun = c.begin.new.self;
+      later = later;
+      within = within;
+      was = k.was;
+      now = k.now;
+      instance = c.begin.ensures.instance;
+      call = subst (λ (n : ℕ). IsBegun n (handler_at c.args.self.now.req (module_at c.args.modules.now c.args.self.now.queue)) c.begin.new.self.call) c.in-Ok.ensures.name
+          (subst (λ (n : ℕ). IsBegun c.in-Ok.name n c.begin.new.self.call) pc_is c.begin.ensures.begun);
+      others = k.others;
+      count = k.count;
+    }) empty (c.end_first-2.ensures.next ∙ c.in-Ok.ensures.next) (c.end_first-2.ensures.pools ∙ c.in-Ok.ensures.pools)
+    (λ id there young. c.in-Ok.ensures.names id (c.end_first-2.ensures.names id there (let n = c.in-Ok.ensures.next in omega (arith, young, n))) young)
+    c.end_first-2.ensures.held (c.end_first-2.ensures.references ∙ c.in-Ok.ensures.references)

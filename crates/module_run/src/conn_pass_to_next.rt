@@ -1,0 +1,106 @@
+//! A filter passes a brigade to the next one.
+
+ghost use Rattle.std.specs.Prelude.{◌≡◌, ◌==◌, ◌<◌, ◌+◌, ◌-◌, ◌^◌, ℕ, List, None, Some, [], true, false, is_some, is_ok, if◌then◌else◌, OnOk, OnErr};
+ghost use Rattle.bucket_kinds.specs.Device.{Device};
+ghost use Rattle.bucket_ring.specs.Kept.{NoneRevived};
+ghost use Rattle.bucket_ring.specs.Lists.{upd};
+ghost use Rattle.run_model.specs.Chains.{Frame, Linked, is_last};
+ghost use Rattle.run_model.specs.State.{fresh_call};
+ghost use Rattle.run_model.specs.Steps.{do_pass};
+ghost use Rattle.pool_tree.specs.declared.tree.PoolTree.{PoolTree};
+ghost use Rattle.run_model.specs.declared.payload.Payload.{Payload};
+ghost use Rattle.brigade_ops.specs.Store.{lists, brigade_of, pool_of, references, next_name};
+ghost use Rattle.ring_run.specs.declared.machine.Call.{Call};
+ghost use Rattle.ring_run.specs.Around.{Around};
+ghost use Rattle.module_run.specs.Conns.{shown_call, top_of};
+ghost use Rattle.ring_run.specs.Handed.{lent};
+ghost use Rattle.module_run.specs.Passing.{CanPass};
+ghost use Rattle.ring_run.specs.Held.{IsHeld};
+ghost use Rattle.module_run.specs.Proceeding.{IsReady, RefinesStep, LeftAs};
+ghost use Rattle.ring_run.specs.Seen.{seen, is_running};
+ghost use Rattle.ring_run.specs.Slots.{live_in, marked, name_in, slot_at};
+
+use crate::conn::{Conn, Filter};
+use brigade_ops::{BrigadeId, Brigades, Bucket, RingRefusal, Rings};
+use ring_run::calls::begin_call;
+use ring_run::effects::live;
+use ring_run::passes::{hand_over, take_in};
+use run_model::{Instr, Mark, Module, Stepped};
+use std::alloc::AllocError;
+
+impl Filter {
+    /// Its call begins at an instruction, where a name is left. Without memory nothing is changed.
+    fn begin_in<R: Rings<Bucket> + Drop>(
+        &mut self,
+        store: &mut Brigades<R>,
+        pc: usize,
+    ) -> Result<(), AllocError>
+        requires held { IsHeld store.old self.old.instance self.old.call }
+        requires idle { self.old.call.name ≡ 0 }
+        requires free { pool_of store.old (next_name store.old) ≡ None }
+        requires left { next_name store.old < 2 ^ 64 - 1 }
+        ensures call { OnOk result ((waits : List ℕ) → shown_call (is_running self.new.call.name waits) (lists store.new) self.new.call ≡ fresh_call (next_name store.old)) }
+        ensures pc { OnOk result (self.new.call.pc ≡ pc) }
+        ensures instance { self.new.instance ≡ self.old.instance }
+        ensures lent { self.new.lent ≡ self.old.lent }
+        ensures name { OnOk result (self.new.call.name ≡ next_name store.old) }
+        ensures held { OnOk result (IsHeld store.new self.new.instance self.new.call) }
+        ensures out { OnOk result ((n : ℕ) → lists store.new n ≡ upd (lists store.old) (next_name store.old) (Some []) n) }
+        ensures next { next_name store.new ≡ (if is_ok result then next_name store.old + 1 else next_name store.old) }
+        ensures names { NoneRevived (brigade_of store.old) (brigade_of store.new) (next_name store.old) }
+        ensures pools { pool_of store.new ≡ pool_of store.old }
+        ensures references { references store.new ≡ references store.old }
+        ensures err { OnErr result ((n : ℕ) → lists store.new n ≡ lists store.old n) }
+        ensures same { OnErr result (self.new ≡ self.old) }
+    {
+        match begin_call(&self.instance, &mut self.call, store, pc) {
+            Ok(()) => Ok(()),
+            Err(RingRefusal::NoMemory) => Err(AllocError),
+            Err(RingRefusal::NamesSpent) => unreachable!(),
+        }
+    }
+
+    /// Lends the brigade of a variable to the next filter, and tells its name.
+    fn lend<R: Rings<Bucket> + Drop>(&mut self, store: &Brigades<R>, b: u8) -> BrigadeId
+        requires slot { b < 9 }
+        requires live { is_some (live_in (lists store.now) (slot_at self.old.instance b)) ≡ true }
+        ensures name { name_in (slot_at self.old.instance b) ≡ Some result }
+        ensures there { is_some (lists store.now result) ≡ true }
+        ensures seen { (around : Around) (call : Call) → lent b (seen store.now around self.new.instance call) ≡ do_pass b (seen store.now around self.old.instance call) }
+        ensures held { (call : Call) → IsHeld store.now self.old.instance call → IsHeld store.now self.new.instance call }
+        ensures slots { (a : ℕ) → slot_at self.new.instance a ≡ (if a == b then marked Mark.Passed (slot_at self.old.instance b) else slot_at self.old.instance a) }
+        ensures call { self.new.call ≡ self.old.call }
+        ensures lent { self.new.lent ≡ Some b }
+    {
+        let Some(name) = live(&self.instance, store, b) else {
+            unreachable!()
+        };
+        hand_over(&mut self.instance, store, b);
+        self.lent = Some(b);
+        name
+    }
+}
+
+impl Conn {
+    /// The filter on top passes the brigade of a variable to the next filter, whose `main` begins. Without memory nothing is changed.
+    pub(crate) fn pass_to_next<R: Rings<Bucket> + Drop>(
+        &mut self,
+        modules: &[Module],
+        store: &mut Brigades<R>,
+        b: u8,
+    ) -> Result<(), AllocError>
+        requires last { is_last modules.now (top_of self.old) ≡ false }
+        requires ready { (d : Device) × CanPass modules.now b store.old d self.old }
+        ensures ok { OnOk result ((tree : PoolTree Payload) (d : Device) (l : ℕ) (v : Linked) (f : Frame) (rest : List Frame) → IsReady modules.now (Instr.Pass b l) tree store.old d self.old v f rest → RefinesStep modules.now (Instr.Pass b l) d d v f rest tree store.new self.new Stepped.Went) }
+        ensures err { OnErr result ((tree : PoolTree Payload) (d : Device) (v : Linked) → LeftAs modules.now tree store.old d self.old v → LeftAs modules.now tree store.new d self.new v) }
+        ensures count { self.new.count ≡ self.old.count }
+    {
+        let top = self.top();
+        self.waits.reserve(1)?;
+        self.filters[top + 1].begin_in(store, modules[top + 1].main())?;
+        let name = self.filters[top].lend(store, b);
+        take_in(&mut self.filters[top + 1].instance, store, name);
+        self.waits.push(self.filters[top].call.name).unwrap();
+        Ok(())
+    }
+}

@@ -1,0 +1,46 @@
+//! The last filter passes a brigade to the end of the chain.
+
+ghost use Rattle.std.specs.Prelude.{◌≡◌, ◌<◌, ◌+◌, List, true, if◌then◌else◌, OnOk, OnErr};
+ghost use Rattle.module_code.specs.Program.{Program};
+ghost use Rattle.run_model.specs.declared.payload.Payload.{Payload};
+ghost use Rattle.run_model.specs.Chains.{Frame, Linked, is_last};
+ghost use Rattle.pool_tree.specs.declared.tree.PoolTree.{PoolTree};
+ghost use Rattle.module_run.specs.Conns.{top_of};
+ghost use Rattle.module_run.specs.Proceeding.{CanProceed, IsReady, RefinesStep, LeftAs};
+
+use crate::conn::Conn;
+use brigade_ops::{Brigades, Bucket, Files, Rings};
+use ring_run::output::pass_out;
+use run_model::{Instr, Stepped};
+use std::alloc::AllocError;
+
+impl Conn {
+    /// The last filter passes the brigade of a variable to the end of the chain. It goes on behind the pass, or at the target of the pass
+    /// where not all went well. Without memory nothing is changed, and nothing is read.
+    pub(crate) fn pass_to_output<R: Rings<Bucket> + Drop, F: Files>(
+        &mut self,
+        store: &mut Brigades<R>,
+        files: &mut F,
+        b: u8,
+        target: u16,
+    ) -> Result<(), AllocError>
+        requires ready { (chain : List Program) × (tree : PoolTree Payload) × CanProceed chain (Instr.Pass b target) tree store.old (F.device files.old) self.old }
+        ensures ok { OnOk result ((chain : List Program) (tree : PoolTree Payload) (v : Linked) (f : Frame) (rest : List Frame) → is_last chain (top_of self.old) ≡ true → IsReady chain (Instr.Pass b target) tree store.old (F.device files.old) self.old v f rest → RefinesStep chain (Instr.Pass b target) (F.device files.old) (F.device files.new) v f rest tree store.new self.new Stepped.Went) }
+        ensures err { OnErr result ((chain : List Program) (tree : PoolTree Payload) (v : Linked) → LeftAs chain tree store.old (F.device files.old) self.old v → LeftAs chain tree store.new (F.device files.new) self.new v) }
+        ensures unread { OnErr result (F.device files.new ≡ F.device files.old) }
+        ensures count { self.new.count ≡ self.old.count }
+    {
+        let top = self.top();
+        let filter = &mut self.filters[top];
+        let well = pass_out(
+            &mut filter.instance,
+            store,
+            files,
+            b,
+            &mut self.out,
+            &mut self.ended,
+        )?;
+        filter.call.go_on(well, target);
+        Ok(())
+    }
+}

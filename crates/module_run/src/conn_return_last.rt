@@ -1,0 +1,61 @@
+//! A call returns that none waits for.
+
+ghost use Rattle.std.specs.Prelude.{◌≡◌, ℕ, List, IfOk, IsOk, OnErr};
+ghost use Rattle.bucket_kinds.specs.Device.{Device};
+ghost use Rattle.run_model.specs.Chains.{Frame, Linked};
+ghost use Rattle.run_model.specs.Passing.{handler_at};
+ghost use Rattle.run_model.specs.Turns.{calls_of};
+ghost use Rattle.module_run.specs.Conns.{waiting};
+ghost use Rattle.module_run.specs.Proceeding.{CanProceed, IsReady, RefinesStep, LeftAs};
+
+use crate::conn::Conn;
+use brigade_ops::{Brigades, Bucket, PoolId, PoolTree, Rings};
+use run_model::{Instr, Module, Payload, Status, Stepped};
+use std::alloc::AllocError;
+
+/// Where the first call of a filter begins: at its `init` where a request is open, else at its `open`.
+fn handler(req: Option<PoolId>, code: &Module) -> usize
+    ensures { result ≡ handler_at req code.now }
+{
+    match req {
+        None => 0,
+        Some(_) => code.init(),
+    }
+}
+
+impl Conn {
+    /// The call on top returns, and none waits for it: it ends, or where the handler of a further filter is to run, that one's call begins.
+    /// Without memory nothing is changed.
+    pub(crate) fn return_last<R: Rings<Bucket> + Drop>(
+        &mut self,
+        modules: &[Module],
+        store: &mut Brigades<R>,
+        status: Status,
+    ) -> Result<Stepped, AllocError>
+        requires alone { waiting self.old ≡ 0 }
+        requires ready { (tree : PoolTree Payload) × (d : Device) × CanProceed modules.now (Instr.Ret status) tree store.old d self.old }
+        ensures leads { IfOk result (λ answer. (tree : PoolTree Payload) (d : Device) (v : Linked) (f : Frame) (rest : List Frame) → IsReady modules.now (Instr.Ret status) tree store.old d self.old v f rest
+            → RefinesStep modules.now (Instr.Ret status) d d v f rest tree store.new self.new answer) }
+        ensures err { OnErr result ((tree : PoolTree Payload) (d : Device) (v : Linked) → LeftAs modules.now tree store.old d self.old v → LeftAs modules.now tree store.new d self.new v) }
+        ensures sure { (tree : PoolTree Payload) (d : Device) (v : Linked) (f : Frame) (rest : List Frame) → IsReady modules.now (Instr.Ret status) tree store.old d self.old v f rest
+            → calls_of modules.now (Instr.Ret status) f rest v.1.queue ≡ 0 → IsOk result }
+        ensures count { self.new.count ≡ self.old.count }
+    {
+        let first = self.first;
+        let next = self.queue;
+        if next == self.filters.len() {
+            self.filters[first].end_first(store);
+            self.busy = false;
+            return Ok(Stepped::CallEnded(status));
+        }
+        let pc = handler(self.req, &modules[next]);
+        let Ok(name) = store.loose() else {
+            return Err(AllocError);
+        };
+        self.filters[first].end_first(store);
+        self.filters[next].begin(name, pc);
+        self.first = next;
+        self.queue = next + 1;
+        Ok(Stepped::Went)
+    }
+}

@@ -1,0 +1,86 @@
+-- What the commands answer that are given texts.
+use Rattle.std.specs.Prelude.{◌≡◌, ℕ, List, ◌++◌, ◌⊎◌, Some, Result, Ok, Err}
+use Rattle.module_code.specs.Program.{Program}
+use Rattle.module_lang.specs.Codes.{code_number}
+use Rattle.module_lang.specs.FirstFault.{IsReadAs}
+use Rattle.module_lang.specs.Printing.{printed}
+use Rattle.module_lang.specs.declared.refusal.AsmRefusal.{AsmRefusal}
+use Rattle.module_lang.specs.declared.refusal.AsmRefusal.TheVariants as asm
+use Rattle.life_check.specs.declared.refusal.CheckRefusal.{CheckRefusal}
+use Rattle.life_check.specs.Certificates.{Certificate}
+use Rattle.life_check.specs.Typed.{IsTyped, first_refusal}
+use Rattle.life_cert.specs.CertText.{cert_text}
+use Rattle.life_cert.specs.Rounds.{made}
+use Rattle.life_cert.specs.Codes.{code_number as cert_code}
+use Rattle.life_cert.specs.Reading.{IsCertText, IsTold}
+use Rattle.life_cert.specs.declared.refusal.CertRefusal.{CertRefusal}
+use Rattle.life_cert.specs.declared.refusal.CertRefusal.TheVariants as cert
+use Rattle.module_tools.specs.declared.ended.Ended.{Ended}
+use Rattle.module_tools.specs.declared.ended.Ended.TheVariants as ended
+use Rattle.script_text.specs.Replies.{asm_line}
+use Rattle.script_text.specs.Refusals.{cert_line, refused_at_line, accepted_line}
+
+-- the text is written, and the command is refused or done
+abbrev pub OutputSpec : Type 1
+OutputSpec = List ℕ → Ended → Type 0
+
+-- why a text is no module
+abbrev pub TellsAsmFault : AsmRefusal → OutputSpec
+TellsAsmFault (asm.Fault n c) out e = (out ≡ asm_line n (code_number c)) × (e ≡ ended.Refused)
+TellsAsmFault asm.NoMemory out e = ⊥
+
+-- what is answered of a module, or of a text that is none
+abbrev pub IsAnswerOf : (Program → OutputSpec) → Result Program AsmRefusal → OutputSpec
+IsAnswerOf answer (Ok p) out e = answer p out e
+IsAnswerOf answer (Err r) out e = TellsAsmFault r out e
+
+-- what is answered to a text: it is a module by the grammar, or has a first fault
+abbrev pub IsOutputFor : (Program → OutputSpec) → List ℕ → OutputSpec
+IsOutputFor answer text out e = (m : Result Program AsmRefusal) × IsReadAs text m × IsAnswerOf answer m out e
+
+-- the module as it is printed
+abbrev pub IsModuleText : Program → OutputSpec
+IsModuleText p out e = (out ≡ printed p) × (e ≡ ended.Done)
+
+-- what `assemble` answers to a text
+abbrev pub IsAssembled : List ℕ → OutputSpec
+IsAssembled text out e = IsOutputFor IsModuleText text out e
+
+-- the front of an answer
+abbrev pub IsOutputFront : OutputSpec → List ℕ → Type 0
+IsOutputFront P out = (more : List ℕ) × (e : Ended) × P (out ++ more) e
+
+-- the first refusal of a certificate
+abbrev pub TellsRefusal : CheckRefusal → OutputSpec
+TellsRefusal r out e = (out ≡ refused_at_line r.pc r.rule) × (e ≡ ended.Refused)
+
+-- the certificate of the rounds, which the module is typed with, or what it is first refused for
+abbrev pub IsCertification : Program → OutputSpec
+IsCertification p out e =
+    (IsTyped p (made p) × (out ≡ cert_text (made p)) × (e ≡ ended.Done))
+    ⊎ ((r : CheckRefusal) × (first_refusal p (made p) ≡ Some r) × TellsRefusal r out e)
+
+-- what `certify` answers to a text
+abbrev pub IsCertified : List ℕ → OutputSpec
+IsCertified text out e = IsOutputFor IsCertification text out e
+
+-- whether the module is typed with a certificate, or the first refusal
+abbrev pub IsVerdict : Program → Certificate → OutputSpec
+IsVerdict p c out e =
+    (IsTyped p c × (out ≡ accepted_line) × (e ≡ ended.Done))
+    ⊎ ((r : CheckRefusal) × (first_refusal p c ≡ Some r) × TellsRefusal r out e)
+
+-- the first fault of a certificate text
+abbrev pub TellsCertFault : CertRefusal → OutputSpec
+TellsCertFault (cert.Fault n c) out e = (out ≡ cert_line n (cert_code c)) × (e ≡ ended.Refused)
+TellsCertFault cert.NoMemory out e = ⊥
+
+-- what is answered of a module and a certificate text
+abbrev pub IsCheckOf : List ℕ → Program → OutputSpec
+IsCheckOf text p out e =
+    ((c : Certificate) × IsCertText text c × IsVerdict p c out e)
+    ⊎ ((r : CertRefusal) × IsTold text r × TellsCertFault r out e)
+
+-- what `check` answers to a module text and a certificate text
+abbrev pub IsCheckOutput : List ℕ → List ℕ → OutputSpec
+IsCheckOutput certificate text out e = IsOutputFor (IsCheckOf certificate) text out e

@@ -1,0 +1,156 @@
+-- The pools that instructions name are live, since there is no fault.
+use Rattle.std.proofs.Common.{ℕ, Option, refl, sym, ap, ◌∙◌}
+use Rattle.std.proofs.lemmas.Result.{on_ok_weaker}
+use Rattle.module_code.specs.declared.instr.Instr.{Instr}
+use Rattle.module_code.specs.declared.instr.PoolRef.{PoolRef}
+use Rattle.run_model.specs.BucketSteps.{do_aside}
+use Rattle.run_model.specs.Cursors.{spot}
+use Rattle.run_model.specs.Faults.{WPool, fault, fault_want}
+use Rattle.run_model.specs.State.{items_of, pool_named}
+use Rattle.run_model.specs.Steps.{label_killed, label_registered, on_pool, step, text_of}
+use Rattle.pool_tree.specs.Tree.{map_of}
+use Rattle.pool_tree.proofs.Trees.{tree_formed}
+use Rattle.brigade_ops.specs.Store.{lists, next_name, pool_of, references}
+use Rattle.brigade_ops.proofs.Housed.{house_live}
+use Rattle.ring_run.specs.Seen.{seen_over}
+use Rattle.ring_run.specs.Setting.{in_setting}
+use Rattle.ring_run.specs.Slots.{name_in}
+use Rattle.ring_run.proofs.Carried.{pool_wanted, parent_wanted, label_wanted, unlabel_wanted, brigade_wanted, aside_wanted, aside_alive, saved_wanted}
+use Rattle.ring_run.proofs.CarriedOut.{names_kept}
+use Rattle.ring_run.proofs.LeftAlone.{rest_none}
+use Rattle.ring_run.proofs.OpenFiles.{open_items, open_spot, refs_same}
+use Rattle.ring_run.proofs.Faultless.{nowhere}
+use Rattle.ring_run.proofs.execute_on_pools.execute_on_pools.Goals as goal
+
+pub live_pool-parent-requires : goal.live_pool-parent-requires
+live_pool-parent-requires g c =
+    let r = seen_over (lists c.args.store.now) (next_name c.args.store.now) (in_setting c.args.setting.now (map_of c.args.tree.now) nowhere) c.args.instance.now c.args.call.now in
+    record { there = pool_wanted c.args.setting.now (map_of c.args.tree.now) c.args.instance.now c.pool_parent.result (lists c.args.store.now) (next_name c.args.store.now) nowhere c.args.call.now (ap (λ (p : PoolRef). fault_want r (WPool p)) c.pool_parent.ensures ∙ parent_wanted c.args.code.now r c.in-PCreate.q (ap (λ (i : Instr). fault c.args.code.now r i) (sym c.in-PCreate.is) ∙ c.requires.faultless nowhere)) }
+
+pub live_pool-on-requires : goal.live_pool-on-requires
+live_pool-on-requires g c =
+    let r = seen_over (lists c.args.store.now) (next_name c.args.store.now) (in_setting c.args.setting.now (map_of c.args.tree.now) nowhere) c.args.instance.now c.args.call.now in
+    record { there = pool_wanted c.args.setting.now (map_of c.args.tree.now) c.args.instance.now c.in-Label.pool (lists c.args.store.now) (next_name c.args.store.now) nowhere c.args.call.now (label_wanted c.args.code.now r c.in-Label.pool c.in-Label.text (ap (λ (i : Instr). fault c.args.code.now r i) (sym c.in-Label.is) ∙ c.requires.faultless nowhere)) }
+
+pub live_pool-on-requires-in-Unlabel : goal.live_pool-on-requires-in-Unlabel
+live_pool-on-requires-in-Unlabel g c =
+    let r = seen_over (lists c.args.store.now) (next_name c.args.store.now) (in_setting c.args.setting.now (map_of c.args.tree.now) nowhere) c.args.instance.now c.args.call.now in
+    record { there = pool_wanted c.args.setting.now (map_of c.args.tree.now) c.args.instance.now c.in-Unlabel.pool (lists c.args.store.now) (next_name c.args.store.now) nowhere c.args.call.now (unlabel_wanted c.args.code.now r c.in-Unlabel.pool c.in-Unlabel.text (ap (λ (i : Instr). fault c.args.code.now r i) (sym c.in-Unlabel.is) ∙ c.requires.faultless nowhere)) }
+
+pub live_pool-on-requires-in-BCreate : goal.live_pool-on-requires-in-BCreate
+live_pool-on-requires-in-BCreate g c =
+    let r = seen_over (lists c.args.store.now) (next_name c.args.store.now) (in_setting c.args.setting.now (map_of c.args.tree.now) nowhere) c.args.instance.now c.args.call.now in
+    record { there = pool_wanted c.args.setting.now (map_of c.args.tree.now) c.args.instance.now c.brigade_pool.result (lists c.args.store.now) (next_name c.args.store.now) nowhere c.args.call.now (ap (λ (p : PoolRef). fault_want r (WPool p)) c.brigade_pool.ensures ∙ brigade_wanted c.args.code.now r c.in-BCreate.o (ap (λ (i : Instr). fault c.args.code.now r i) (sym c.in-BCreate.is) ∙ c.requires.faultless nowhere)) }
+
+pub save-requires-clause-live : goal.save-requires-clause-live
+save-requires-clause-live g c = λ n p is on. house_live (lists c.args.store.now) (pool_of c.args.store.now) (references c.args.store.now) (map_of c.args.tree.now) c.requires.house (tree_formed c.args.tree.now) n p on
+
+pub live_pool-to-requires : goal.live_pool-to-requires
+live_pool-to-requires g c =
+    let r = seen_over (lists c.args.store.now) (next_name c.args.store.now) (in_setting c.args.setting.now (map_of c.args.tree.now) nowhere) c.args.instance.now c.args.call.now in
+    record { there = pool_wanted c.args.setting.now (map_of c.args.tree.now) c.args.instance.now c.in-Aside.pool (lists c.args.store.now) (next_name c.args.store.now) nowhere c.args.call.now (aside_wanted c.args.code.now r c.in-Aside.c c.in-Aside.pool (ap (λ (i : Instr). fault c.args.code.now r i) (sym c.in-Aside.is) ∙ c.requires.faultless nowhere)) }
+
+pub returns-in-PCreate-clause-ok : goal.returns-in-PCreate-clause-ok
+returns-in-PCreate-clause-ok g c =
+    on_ok_weaker c.create_pool.result (λ made around choice.
+    let over = in_setting c.args.setting.now (map_of c.args.tree.now) around in
+    let r = seen_over (lists c.args.store.now) (next_name c.args.store.now) over c.args.instance.now c.args.call.now in
+    made c.args.code.now (lists c.args.store.now) (next_name c.args.store.now) over c.args.call.now (ap (λ (p : PoolRef). pool_named r p) (sym c.pool_parent.ensures) ∙ c.live_pool-parent.ensures.named (lists c.args.store.now) (next_name c.args.store.now) around c.args.call.now)
+    ∙ ap (λ (i : Instr). (step c.args.code.now choice i r).state) (sym c.in-PCreate.is))
+    c.create_pool.ensures.ok
+
+pub returns-in-Label-clause-ok : goal.returns-in-Label-clause-ok
+returns-in-Label-clause-ok g c =
+    on_ok_weaker c.label.result (λ made around choice.
+    let over = in_setting c.args.setting.now (map_of c.args.tree.now) around in
+    let r = seen_over (lists c.args.store.now) (next_name c.args.store.now) over c.args.instance.now c.args.call.now in
+    made (lists c.args.store.now) (next_name c.args.store.now) over c.args.instance.now c.args.call.now
+    ∙ (ap (λ (p : Option ℕ). on_pool (label_registered (text_of c.args.code.now c.in-Label.text)) p r) (sym (c.live_pool-on.ensures.named (lists c.args.store.now) (next_name c.args.store.now) around c.args.call.now))
+    ∙ ap (λ (i : Instr). (step c.args.code.now choice i r).state) (sym c.in-Label.is)))
+    c.label.ensures.ok
+
+pub returns-in-Unlabel-clause-ok : goal.returns-in-Unlabel-clause-ok
+returns-in-Unlabel-clause-ok g c =
+    λ around choice.
+    let over = in_setting c.args.setting.now (map_of c.args.tree.now) around in
+    let r = seen_over (lists c.args.store.now) (next_name c.args.store.now) over c.args.instance.now c.args.call.now in
+    c.unlabel.ensures.new (lists c.args.store.now) (next_name c.args.store.now) over c.args.instance.now c.args.call.now
+    ∙ (ap (λ (p : Option ℕ). on_pool (label_killed (text_of c.args.code.now c.in-Unlabel.text)) p r) (sym (c.live_pool-on-in-Unlabel.ensures.named (lists c.args.store.now) (next_name c.args.store.now) around c.args.call.now))
+    ∙ ap (λ (i : Instr). (step c.args.code.now choice i r).state) (sym c.in-Unlabel.is))
+
+pub returns-in-BCreate-clause-ok : goal.returns-in-BCreate-clause-ok
+returns-in-BCreate-clause-ok g c =
+    on_ok_weaker c.create.result (λ made around choice.
+    let over = in_setting c.args.setting.now (map_of c.args.tree.now) around in
+    let r = seen_over (lists c.args.store.now) (next_name c.args.store.now) over c.args.instance.now c.args.call.now in
+    made c.args.code.now over c.args.call.now c.requires.held (ap (λ (p : PoolRef). pool_named r p) (sym c.brigade_pool.ensures) ∙ c.live_pool-on-in-BCreate.ensures.named (lists c.args.store.now) (next_name c.args.store.now) around c.args.call.now)
+    ∙ ap (λ (i : Instr). (step c.args.code.now choice i r).state) (sym c.in-BCreate.is))
+    c.create.ensures.ok
+
+pub returns-in-BSave-clause-ok : goal.returns-in-BSave-clause-ok
+returns-in-BSave-clause-ok g c =
+    on_ok_weaker c.save.result (λ made around choice.
+    let over = in_setting c.args.setting.now (map_of c.args.tree.now) around in
+    let r = seen_over (lists c.args.store.now) (next_name c.args.store.now) over c.args.instance.now c.args.call.now in
+    made over c.args.call.now c.requires.held
+    ∙ ap (λ (i : Instr). (step c.args.code.now choice i r).state) (sym c.in-BSave.is))
+    c.save.ensures.ok
+
+pub returns-in-Aside-clause-ok : goal.returns-in-Aside-clause-ok
+returns-in-Aside-clause-ok g c =
+    on_ok_weaker c.aside.result (λ made around choice.
+    let over = in_setting c.args.setting.now (map_of c.args.tree.now) around in
+    let r = seen_over (lists c.args.store.now) (next_name c.args.store.now) over c.args.instance.now c.args.call.now in
+    made over
+    ∙ (ap (λ (p : Option ℕ). do_aside (spot r c.in-Aside.c) p r) (sym (c.live_pool-to.ensures.named (lists c.args.store.now) (next_name c.args.store.now) around c.args.call.now))
+    ∙ ap (λ (i : Instr). (step c.args.code.now choice i r).state) (sym c.in-Aside.is)))
+    c.aside.ensures.ok
+
+pub returns-in-PCreate-clause-slots : goal.returns-in-PCreate-clause-slots
+returns-in-PCreate-clause-slots g c = names_kept (next_name c.args.store.now) (next_name c.args.store.now) c.args.instance.now c.create_pool.new.instance (λ b. ap name_in (c.create_pool.ensures.slots b))
+
+pub returns-in-PCreate-clause-left : goal.returns-in-PCreate-clause-left
+returns-in-PCreate-clause-left g c = rest_none c.args.store.now c.args.instance.now c.args.call.now
+
+pub returns-in-Label-clause-slots : goal.returns-in-Label-clause-slots
+returns-in-Label-clause-slots g c = names_kept (next_name c.args.store.now) (next_name c.args.store.now) c.args.instance.now c.args.instance.now (λ b. refl)
+
+pub returns-in-Label-clause-left : goal.returns-in-Label-clause-left
+returns-in-Label-clause-left g c = rest_none c.args.store.now c.args.instance.now c.args.call.now
+
+pub returns-in-Unlabel-clause-slots : goal.returns-in-Unlabel-clause-slots
+returns-in-Unlabel-clause-slots g c = names_kept (next_name c.args.store.now) (next_name c.args.store.now) c.args.instance.now c.args.instance.now (λ b. refl)
+
+pub returns-in-Unlabel-clause-left : goal.returns-in-Unlabel-clause-left
+returns-in-Unlabel-clause-left g c = rest_none c.args.store.now c.args.instance.now c.args.call.now
+
+pub returns-in-BCreate-clause-open : goal.returns-in-BCreate-clause-open
+returns-in-BCreate-clause-open g c = λ d ranges all. refs_same d (references c.args.store.now) (references c.create.new.store) (λ f. ap (λ (r : ℕ → ℕ). r f) c.create.ensures.references) all
+
+pub returns-in-BCreate-clause-left : goal.returns-in-BCreate-clause-left
+returns-in-BCreate-clause-left g c = c.create.ensures.left c.args.call.now
+
+pub returns-in-BSave-clause-slots : goal.returns-in-BSave-clause-slots
+returns-in-BSave-clause-slots g c = names_kept (next_name c.args.store.now) (next_name c.save.new.store) c.args.instance.now c.args.instance.now (λ b. refl)
+
+pub returns-in-BSave-clause-open : goal.returns-in-BSave-clause-open
+returns-in-BSave-clause-open g c =
+    λ d ranges all.
+    let over = in_setting c.args.setting.now (map_of c.args.tree.now) nowhere in
+    let r = seen_over (lists c.args.store.now) (next_name c.args.store.now) over c.args.instance.now c.args.call.now in
+    let alive = saved_wanted c.args.code.now r c.in-BSave.o c.in-BSave.b (ap (λ (i : Instr). fault c.args.code.now r i) (sym c.in-BSave.is) ∙ c.requires.faultless nowhere) in
+    c.save.ensures.open d over c.args.call.now (open_items d (items_of (r.instance.brigades c.in-BSave.b)) ((ranges nowhere).brigades c.in-BSave.b) alive) all
+
+pub returns-in-BSave-clause-left : goal.returns-in-BSave-clause-left
+returns-in-BSave-clause-left g c = c.save.ensures.left c.args.call.now
+
+pub returns-in-Aside-clause-slots : goal.returns-in-Aside-clause-slots
+returns-in-Aside-clause-slots g c = names_kept (next_name c.args.store.now) (next_name c.aside.new.store) c.args.instance.now c.args.instance.now (λ b. refl)
+
+pub returns-in-Aside-clause-open : goal.returns-in-Aside-clause-open
+returns-in-Aside-clause-open g c =
+    λ d ranges all.
+    let over = in_setting c.args.setting.now (map_of c.args.tree.now) nowhere in
+    let r = seen_over (lists c.args.store.now) (next_name c.args.store.now) over c.args.instance.now c.args.call.now in
+    let alive = aside_alive c.args.code.now r c.in-Aside.c c.in-Aside.pool (ap (λ (i : Instr). fault c.args.code.now r i) (sym c.in-Aside.is) ∙ c.requires.faultless nowhere) in
+    c.aside.ensures.open d over (open_spot d r c.in-Aside.c (ranges nowhere) alive) all

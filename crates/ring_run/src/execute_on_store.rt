@@ -1,0 +1,251 @@
+//! What an instruction does that changes no pools and no files.
+
+ghost use Rattle.std.specs.Prelude.{◌≡◌, ◌<◌, ◌≤◌, ℕ, None, true, false, length, IsOk, OnOk, OnErr};
+ghost use Rattle.module_code.specs.Program.{fits};
+ghost use Rattle.run_model.specs.BucketSteps.{do_poolb};
+ghost use Rattle.run_model.specs.Faults.{fault};
+ghost use Rattle.run_model.specs.State.{pool_named};
+ghost use Rattle.run_model.specs.Steps.{Choice, grows, step};
+ghost use Rattle.ring_run.specs.Apart.{cuts_brigade, makes_bucket, moves_bucket, sets_number, touches_others};
+ghost use Rattle.ring_run.specs.Around.{Around};
+ghost use Rattle.ring_run.specs.Ends.{EndInFiles};
+ghost use Rattle.ring_run.specs.Held.{IsHeld};
+ghost use Rattle.ring_run.specs.LeftAlone.{LeavesOthers};
+ghost use Rattle.ring_run.specs.Outside.{with_outside};
+ghost use Rattle.ring_run.specs.Seen.{seen};
+ghost use Rattle.ring_run.specs.Slots.{name_in, slot_at};
+
+use crate::machine::{Call, Instance};
+use crate::outside::Outside;
+use crate::pool_wants::pool_named;
+use crate::values::value_of;
+use crate::{bucket_steps, bytes, cut_steps, effects, makers, part_steps, split_steps, values};
+use brigade_ops::{Brigades, Bucket, Kind, Rings};
+use run_model::{Instr, Module, PoolRef};
+use std::alloc::{AllocError, Global};
+
+/// Changes a number, or the buffer. Without memory nothing is changed.
+#[tactic(auto, using(crate::proofs::HeldAlike::held_slots, crate::proofs::HeldAlike::held_cursors))]
+fn change_numbers<R: Rings<Bucket> + Drop>(
+    code: &Module,
+    instance: &mut Instance,
+    call: &mut Call,
+    store: &Brigades<R>,
+    instr: Instr,
+) -> Result<(), AllocError>
+    requires fit { fits code.now instr ≡ true }
+    requires kind { sets_number instr ≡ true }
+    requires held { IsHeld store.now instance.old call.old }
+    ensures ok { OnOk result ((around : Around) (choice : Choice) → seen store.now around instance.new call.new ≡ (step code.now choice instr (seen store.now around instance.old call.old)).state) }
+    ensures err { OnErr result ((around : Around) → seen store.now around instance.new call.new ≡ seen store.now around instance.old call.old) }
+    ensures sure { grows instr ≡ false → IsOk result }
+    ensures held { IsHeld store.now instance.new call.new }
+    ensures name { call.new.name ≡ call.old.name }
+    ensures slots { (b : ℕ) → name_in (slot_at instance.new b) ≡ name_in (slot_at instance.old b) }
+{
+    match instr {
+        Instr::Set(n, x) => values::set(instance, n, x),
+        Instr::Add(n, x) => values::add(instance, n, x),
+        Instr::Sub(n, x) => values::sub(instance, n, x),
+        Instr::Len(n, c) => bytes::len(instance, call, store, n, c),
+        Instr::Get(n, x, _) => bytes::get(instance, call, store, n, x),
+        Instr::Put(x, _) => bytes::put(instance, call, x)?,
+        Instr::ClearBuf => call.clear_buffer(),
+        _ => unreachable!(),
+    }
+    Ok(())
+}
+
+/// Makes a POOL bucket of the buffer's bytes in the pool that an operand names. Without memory, and where the names are spent,
+/// nothing is changed.
+fn make_in_pool<R: Rings<Bucket> + Drop>(
+    alloc: Global,
+    instance: &Instance,
+    call: &mut Call,
+    outside: &Outside<'_>,
+    store: &mut Brigades<R>,
+    c: u8,
+    pool: PoolRef,
+) -> Result<(), AllocError>
+    requires cursor { c < 9 }
+    requires held { IsHeld store.old instance.now call.old }
+    requires runs { 0 < call.old.name }
+    ensures ok { OnOk result ((around : Around) → let r = seen store.old (with_outside outside.now around) instance.now call.old in seen store.new (with_outside outside.now around) instance.now call.new ≡ do_poolb c (pool_named r pool) r) }
+    ensures err { OnErr result ((around : Around) → seen store.new around instance.now call.new ≡ seen store.old around instance.now call.old) }
+    ensures held { IsHeld store.new instance.now call.new }
+    ensures name { call.new.name ≡ call.old.name }
+    ensures left { LeavesOthers store.old store.new instance.now call.old }
+{
+    match pool_named(instance, outside, pool) {
+        Some(name) => makers::pool(alloc, call, store, c, name),
+        None => Ok(()),
+    }
+}
+
+/// Makes a bucket, which is loose. Without memory, and where the names are spent, nothing is changed.
+fn make_bucket<R: Rings<Bucket> + Drop>(
+    alloc: Global,
+    code: &Module,
+    instance: &Instance,
+    call: &mut Call,
+    outside: &Outside<'_>,
+    store: &mut Brigades<R>,
+    instr: Instr,
+) -> Result<(), AllocError>
+    requires fit { fits code.now instr ≡ true }
+    requires kind { makes_bucket instr ≡ true }
+    requires held { IsHeld store.old instance.now call.old }
+    requires runs { 0 < call.old.name }
+    ensures ok { OnOk result ((around : Around) (choice : Choice) → seen store.new (with_outside outside.now around) instance.now call.new ≡ (step code.now choice instr (seen store.old (with_outside outside.now around) instance.now call.old)).state) }
+    ensures err { OnErr result ((around : Around) → seen store.new around instance.now call.new ≡ seen store.old around instance.now call.old) }
+    ensures held { IsHeld store.new instance.now call.new }
+    ensures name { call.new.name ≡ call.old.name }
+    ensures left { LeavesOthers store.old store.new instance.now call.old }
+{
+    match instr {
+        Instr::Heap(c, text) => makers::heap(alloc, code, call, store, c, text),
+        Instr::Immortal(c, text) => makers::immortal(alloc, code, call, store, c, text),
+        Instr::FromBuf(c) => makers::from_buffer(alloc, call, store, c),
+        Instr::Transient(c) => makers::transient(alloc, call, store, c),
+        Instr::PoolB(c, pool) => make_in_pool(alloc, instance, call, outside, store, c, pool),
+        Instr::Flush(c) => makers::mark(call, store, c, Kind::Flush),
+        Instr::Eos(c) => makers::mark(call, store, c, Kind::Eos),
+        _ => unreachable!(),
+    }
+}
+
+/// Moves, destroys, splits or copies the bucket of a cursor. Without memory, and where the names are spent, nothing is changed.
+fn move_bucket<R: Rings<Bucket> + Drop>(
+    code: &Module,
+    instance: &Instance,
+    call: &mut Call,
+    store: &mut Brigades<R>,
+    instr: Instr,
+) -> Result<(), AllocError>
+    requires fit { fits code.now instr ≡ true }
+    requires few { length code.now.brigades ≤ 8 }
+    requires kind { moves_bucket instr ≡ true }
+    requires held { IsHeld store.old instance.now call.old }
+    requires runs { 0 < call.old.name }
+    requires ends { EndInFiles store.old instance.now }
+    ensures ok { OnOk result ((around : Around) (choice : Choice) → let r = seen store.old around instance.now call.old in fault code.now r instr ≡ None → seen store.new around instance.now call.new ≡ (step code.now choice instr r).state) }
+    ensures err { OnErr result ((around : Around) → seen store.new around instance.now call.new ≡ seen store.old around instance.now call.old) }
+    ensures sure { grows instr ≡ false → IsOk result }
+    ensures held { IsHeld store.new instance.now call.new }
+    ensures name { call.new.name ≡ call.old.name }
+    ensures left { LeavesOthers store.old store.new instance.now call.old }
+{
+    match instr {
+        Instr::Unlink(c) => bucket_steps::unlink(instance, call, store, c),
+        Instr::BDelete(c) => Ok(bucket_steps::delete(instance, call, store, c)),
+        Instr::Tail(b, c) => bucket_steps::tail(instance, call, store, b, c),
+        Instr::Head(b, c) => bucket_steps::head(instance, call, store, b, c),
+        Instr::Before(c, d) => bucket_steps::before(instance, call, store, c, d),
+        Instr::Split(c, x, _) => {
+            let n = u64::from(value_of(instance, x));
+            split_steps::split(instance, call, store, c, n)
+        }
+        Instr::Copy(d, c) => split_steps::copy(instance, call, store, d, c),
+        _ => unreachable!(),
+    }
+}
+
+/// Empties, joins, cuts or walks a brigade. Without memory, and where the names are spent, nothing is changed.
+fn cut_brigade<R: Rings<Bucket> + Drop>(
+    code: &Module,
+    instance: &mut Instance,
+    call: &mut Call,
+    outside: &Outside<'_>,
+    store: &mut Brigades<R>,
+    instr: Instr,
+) -> Result<(), AllocError>
+    requires fit { fits code.now instr ≡ true }
+    requires few { length code.now.brigades ≤ 8 }
+    requires kind { cuts_brigade instr ≡ true }
+    requires held { IsHeld store.old instance.old call.old }
+    requires ends { EndInFiles store.old instance.old }
+    requires faultless { (around : Around) → fault code.now (seen store.old (with_outside outside.now around) instance.old call.old) instr ≡ None }
+    ensures ok { OnOk result ((around : Around) (choice : Choice) → let r = seen store.old (with_outside outside.now around) instance.old call.old in seen store.new (with_outside outside.now around) instance.new call.new ≡ (step code.now choice instr r).state) }
+    ensures err { OnErr result ((around : Around) → seen store.new around instance.new call.new ≡ seen store.old around instance.old call.old) }
+    ensures sure { grows instr ≡ false → IsOk result }
+    ensures held { IsHeld store.new instance.new call.new }
+    ensures name { call.new.name ≡ call.old.name }
+    ensures slots { (b : ℕ) → name_in (slot_at instance.new b) ≡ name_in (slot_at instance.old b) }
+    ensures left { LeavesOthers store.old store.new instance.old call.old }
+{
+    match instr {
+        Instr::BClean(b) => Ok(effects::clean(instance, store, b)),
+        Instr::BConcat(a, b) => effects::concat(instance, store, a, b),
+        Instr::BSplit(b, c, a) => part_steps::bsplit(instance, call, store, b, c, a),
+        Instr::BPart(b, x, c, _) => part_steps::bpart(instance, call, store, b, x, c),
+        Instr::First(c, b) => Ok(cut_steps::first(instance, call, store, c, b)),
+        Instr::Next(d, c) => Ok(cut_steps::next(instance, call, store, d, c)),
+        _ => unreachable!(),
+    }
+}
+
+/// What an instruction does that changes no pools and no files and has no fault; a return and a pass are done elsewhere. Without memory,
+/// and where the names are spent, nothing is changed.
+pub(crate) fn execute_on_store<R: Rings<Bucket> + Drop>(
+    alloc: Global,
+    code: &Module,
+    instance: &mut Instance,
+    call: &mut Call,
+    outside: &Outside<'_>,
+    store: &mut Brigades<R>,
+    instr: Instr,
+) -> Result<(), AllocError>
+    requires fit { fits code.now instr ≡ true }
+    requires few { length code.now.brigades ≤ 8 }
+    requires other { touches_others instr ≡ false }
+    requires held { IsHeld store.old instance.old call.old }
+    requires runs { 0 < call.old.name }
+    requires ends { EndInFiles store.old instance.old }
+    requires faultless { (around : Around) → fault code.now (seen store.old (with_outside outside.now around) instance.old call.old) instr ≡ None }
+    ensures ok { OnOk result ((around : Around) (choice : Choice) → let r = seen store.old (with_outside outside.now around) instance.old call.old in seen store.new (with_outside outside.now around) instance.new call.new ≡ (step code.now choice instr r).state) }
+    ensures err { OnErr result ((around : Around) → seen store.new around instance.new call.new ≡ seen store.old around instance.old call.old) }
+    ensures sure { grows instr ≡ false → IsOk result }
+    ensures held { IsHeld store.new instance.new call.new }
+    ensures name { call.new.name ≡ call.old.name }
+    ensures slots { (b : ℕ) → name_in (slot_at instance.new b) ≡ name_in (slot_at instance.old b) }
+    ensures left { LeavesOthers store.old store.new instance.old call.old }
+{
+    match instr {
+        Instr::BClean(_)
+        | Instr::BConcat(_, _)
+        | Instr::BSplit(_, _, _)
+        | Instr::BPart(_, _, _, _)
+        | Instr::First(_, _)
+        | Instr::Next(_, _) => cut_brigade(code, instance, call, outside, store, instr),
+        Instr::Unlink(_)
+        | Instr::BDelete(_)
+        | Instr::Tail(_, _)
+        | Instr::Head(_, _)
+        | Instr::Before(_, _)
+        | Instr::Split(_, _, _)
+        | Instr::Copy(_, _) => move_bucket(code, instance, call, store, instr),
+        Instr::Heap(_, _)
+        | Instr::Immortal(_, _)
+        | Instr::FromBuf(_)
+        | Instr::Transient(_)
+        | Instr::PoolB(_, _)
+        | Instr::Flush(_)
+        | Instr::Eos(_) => make_bucket(alloc, code, instance, call, outside, store, instr),
+        Instr::Len(_, _)
+        | Instr::Get(_, _, _)
+        | Instr::Put(_, _)
+        | Instr::ClearBuf
+        | Instr::Set(_, _)
+        | Instr::Add(_, _)
+        | Instr::Sub(_, _) => change_numbers(code, instance, call, store, instr),
+        Instr::JEmpty(_, _)
+        | Instr::JEnd(_, _)
+        | Instr::JKind(_, _, _)
+        | Instr::JNull(_, _)
+        | Instr::JLt(_, _, _)
+        | Instr::JEq(_, _, _)
+        | Instr::JSent(_)
+        | Instr::Jump(_) => Ok(()),
+        _ => unreachable!(),
+    }
+}

@@ -1,0 +1,102 @@
+//! What instructions want of the place of a cursor.
+
+ghost use Rattle.std.specs.Prelude.{◌≡◌, ◌<◌};
+ghost use Rattle.run_model.specs.Faults.{WCursor, fault_want, loose_fault, within_fault, end_fault};
+ghost use Rattle.brigade_ops.specs.Store.{brigade_of};
+ghost use Rattle.ring_run.specs.declared.machine.Call.{Call};
+ghost use Rattle.ring_run.specs.Around.{Around};
+ghost use Rattle.ring_run.specs.Needs.{need_of, place_fault};
+ghost use Rattle.ring_run.specs.Held.{IsHeld};
+ghost use Rattle.ring_run.specs.Places.{by_birth, IsInBrigade};
+ghost use Rattle.ring_run.specs.Seen.{seen};
+
+use crate::faults::{or_else, passed_fault};
+use crate::machine::{Call, Instance};
+use crate::places::{Place, place_of};
+use brigade_ops::{Brigades, Bucket, Rings};
+use run_model::FaultKind;
+
+/// Where a cursor has to stand.
+#[derive(Clone, Copy)]
+pub(crate) enum Need {
+    /// At a bucket or at an end.
+    Anywhere,
+    /// At a bucket.
+    OnBucket,
+    /// At a loose bucket.
+    OnLoose,
+    /// At a bucket in a brigade.
+    InBrigade,
+    /// At a bucket of the brigade in this variable, or at its end.
+    InThis(u8),
+}
+
+fn loose_fault(need: Need) -> Option<FaultKind>
+    ensures { result ≡ loose_fault (need_of need) }
+{
+    match need {
+        Need::Anywhere | Need::OnBucket | Need::OnLoose => None,
+        Need::InBrigade | Need::InThis(_) => Some(FaultKind::F9),
+    }
+}
+
+fn within_fault(need: Need, b: u8) -> Option<FaultKind>
+    ensures { result ≡ within_fault (need_of need) b }
+{
+    match need {
+        Need::Anywhere | Need::OnBucket | Need::InBrigade => None,
+        Need::InThis(a) if b == a => None,
+        Need::OnLoose | Need::InThis(_) => Some(FaultKind::F9),
+    }
+}
+
+fn end_fault(need: Need, b: u8) -> Option<FaultKind>
+    ensures { result ≡ end_fault (need_of need) b }
+{
+    match need {
+        Need::Anywhere => None,
+        Need::InThis(a) if b == a => None,
+        Need::InThis(_) => Some(FaultKind::F9),
+        Need::OnBucket | Need::OnLoose | Need::InBrigade => Some(FaultKind::F4),
+    }
+}
+
+fn place_fault_at<R: Rings<Bucket> + Drop>(
+    instance: &Instance,
+    call: &Call,
+    store: &Brigades<R>,
+    need: Need,
+    spot: Place,
+) -> Option<FaultKind>
+    requires { IsInBrigade (brigade_of store.now) instance.now call.now spot }
+    ensures { (around : Around) → result ≡ place_fault (seen store.now around instance.now call.now) (need_of need) (by_birth spot) }
+{
+    match spot {
+        Place::Nowhere => Some(FaultKind::F3),
+        Place::Loose(_) => loose_fault(need),
+        Place::Within(b, _) => or_else(passed_fault(instance, store, b), within_fault(need, b)),
+        Place::End(b) => or_else(passed_fault(instance, store, b), end_fault(need, b)),
+    }
+}
+
+/// Whether a cursor stands as is wanted: somewhere; in no brigade that was passed; at no end where a bucket is wanted.
+#[tactic(auto, using(crate::proofs::Wanted::fault_told))]
+pub(crate) fn want_cursor<R: Rings<Bucket> + Drop>(
+    instance: &Instance,
+    call: &Call,
+    store: &Brigades<R>,
+    c: u8,
+    need: Need,
+) -> Option<FaultKind>
+    requires cursor { c < 9 }
+    requires held { IsHeld store.now instance.now call.now }
+    ensures { (around : Around) → result ≡ fault_want (seen store.now around instance.now call.now) (WCursor c (need_of need)) }
+{
+    place_fault_at(
+        instance,
+        call,
+        store,
+        need,
+        place_of(instance, call, store, c),
+    )
+}

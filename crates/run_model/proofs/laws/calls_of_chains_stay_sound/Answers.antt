@@ -1,8 +1,0 @@
-use Rattle.run_model.proofs.chains.CallsKept.{event_keeps_calls, run_keeps_calls}
-use Rattle.run_model.proofs.laws.calls_of_chains_stay_sound.Goals as goal
-
-pub returns-clause-event : goal.returns-clause-event
-returns-clause-event c = event_keeps_calls
-
-pub returns-clause-run : goal.returns-clause-run
-returns-clause-run c = run_keeps_calls

@@ -1,8 +1,0 @@
-use Rattle.run_model.proofs.chains.FilesApart.{event_keeps_files_apart, run_keeps_files_apart}
-use Rattle.run_model.proofs.laws.files_of_chains_are_apart.Goals as goal
-
-pub returns-clause-event : goal.returns-clause-event
-returns-clause-event c = event_keeps_files_apart
-
-pub returns-clause-run : goal.returns-clause-run
-returns-clause-run c = run_keeps_files_apart

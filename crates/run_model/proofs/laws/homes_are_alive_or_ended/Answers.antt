@@ -1,5 +1,0 @@
-use Rattle.run_model.proofs.HomesAlive.{step_homes}
-use Rattle.run_model.proofs.laws.homes_are_alive_or_ended.Goals as goal
-
-pub returns : goal.returns
-returns c = record { step = step_homes }

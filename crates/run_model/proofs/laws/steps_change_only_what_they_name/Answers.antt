@@ -1,5 +1,0 @@
-use Rattle.run_model.proofs.Unchanged.{step_changes_only}
-use Rattle.run_model.proofs.laws.steps_change_only_what_they_name.Goals as goal
-
-pub returns : goal.returns
-returns c = step_changes_only

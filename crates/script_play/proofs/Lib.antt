@@ -1,0 +1,11 @@
+pub mod GoingLaws
+pub mod LabelLaws
+pub mod PlayerLaws
+pub mod PlayingLaws
+pub mod ScriptLines
+pub mod TakenLaws
+pub mod TakingLaws
+pub mod BringLaws
+pub mod Served
+pub mod FaithfulFiles
+pub mod SessionLaws

@@ -1,0 +1,27 @@
+-- What the code of a play does with a line, and with a part of a script.
+use Rattle.std.specs.Prelude.{◌≡◌, ℕ, ◌<◌, ◌≤◌, Bool, List, ◌++◌, length}
+use Rattle.script_play.specs.declared.player.Player.{Player}
+use Rattle.script_play.specs.declared.player.Stage.{Stage as CodeStage}
+use Rattle.script_text.specs.Heads.{ScriptHead}
+use Rattle.script_play.specs.Written.{Stage, Reading, Serving, Over}
+use Rattle.script_play.specs.Sessions.{IsStage, IsAt}
+
+-- A line is taken so, and what is told of it is added.
+pub record Leaves (new : Player) (before after : List ℕ) (P : List ℕ → Stage → Type 0) : Type 0 where
+  pub told : List ℕ
+  pub stage : Stage
+  pub holds : P told stage
+  pub at : IsAt new stage
+  pub added : after ≡ before ++ told
+
+-- The commands may begin behind what was read.
+pub record MayBeginCommands (c : CodeStage) (h : ScriptHead) : Type 0 where
+  pub stage : IsStage c (Reading h)
+  pub some : 0 < length h.parts
+  pub few : length h.parts ≤ 16
+
+-- the commands have begun, or a fault was told
+abbrev pub HasBegun : Stage → Type 0
+HasBegun (Reading h) = ⊥
+HasBegun (Serving v) = Unit {0}
+HasBegun Over = Unit {0}

@@ -1,0 +1,204 @@
+//! The commands of a script, done by a host.
+
+ghost use Rattle.std.specs.Prelude.{◌≡◌, ◌↔◌, false, true, IfOk, IsTrue};
+ghost use Rattle.bucket_kinds.specs.Device.{is_there};
+ghost use Rattle.run_model.specs.Worlds.{World};
+ghost use Rattle.module_run.specs.Happened.{refusal_of};
+ghost use Rattle.filter_chain.specs.Hosting.{IsHosting, done_answer, step_answer};
+ghost use Rattle.filter_chain.specs.Safe.{GoesWell, IsSafe};
+ghost use Rattle.script_play.specs.Plays.{is_due, is_fault, reply_of};
+ghost use Rattle.script_play.specs.Serving.{MakesReady};
+ghost use Rattle.script_play.specs.Sessions.{IsMemHostAlive, IsServed, device};
+
+use crate::labels::labels_of;
+use filter_chain::{AddRefusal, Host, MemFiles, Piece, Refusal, Seq, Stepped};
+use script_text::{Command, FileLine, Reply, ScriptPiece};
+use std::alloc::{AllocError, Global};
+
+/// What a command answers by its refusal, if there is one.
+fn done(outcome: Result<(), Refusal>) -> Reply
+    ensures told { result ≡ reply_of (done_answer (refusal_of outcome)) }
+    ensures faultless { is_fault result ≡ false }
+{
+    match outcome {
+        Ok(()) => Reply::Done,
+        Err(refusal) => Reply::Refused(refusal),
+    }
+}
+
+fn open(host: &mut Host<MemFiles>) -> Reply
+    requires { IsMemHostAlive host.old }
+    ensures served { (w : World) → IsHosting (device host.old) host.old w → IsServed host.old host.new Command.Open result w }
+    ensures faultless { is_fault result ≡ false }
+{
+    match host.open_conn() {
+        Ok(number) => Reply::Connected(number),
+        Err(refusal) => Reply::Refused(refusal),
+    }
+}
+
+/// Adds a file of a name that no file has. An error is want of memory for its bytes or its name.
+fn file(alloc: Global, host: &mut Host<MemFiles>, file: &FileLine) -> Result<Reply, AllocError>
+    requires alive { IsMemHostAlive host.old }
+    requires free { is_there ((device host.old).named file.now.name) ≡ false }
+    ensures served { IfOk result (λ r. (w : World) → IsHosting (device host.old) host.old w → IsServed host.old host.new (Command.File file.now) r w) }
+    ensures faultless { IfOk result (λ r. is_fault r ≡ false) }
+{
+    let bytes = file.bytes(alloc)?;
+    match host.add_file(file.name.as_slice(), bytes) {
+        Ok(()) => Ok(Reply::Done),
+        Err(AddRefusal::NoMemory) => Err(AllocError),
+        Err(AddRefusal::Taken) => unreachable!(),
+    }
+}
+
+/// The piece to be brought. The file of a range is opened.
+fn made_ready(host: &mut Host<MemFiles>, number: u64, piece: ScriptPiece) -> Result<Piece, Refusal>
+    requires { IsMemHostAlive host.old }
+    ensures { (w : World) → IsHosting (device host.old) host.old w → MakesReady host.old host.new number piece result w }
+{
+    match piece {
+        ScriptPiece::Ready(piece) => Ok(piece),
+        ScriptPiece::Range { name, start, len } => {
+            match host.open_file(number, name.as_slice()) {
+                Ok((file, _)) => Ok(Piece::File { file, start, len }),
+                Err(refusal) => Err(refusal),
+            }
+        }
+    }
+}
+
+/// Opens the files of the pieces, from left to right, and brings the pieces. The first refusal is the answer. An error is want of memory
+/// for the list of pieces.
+fn bring(
+    alloc: Global,
+    host: &mut Host<MemFiles>,
+    number: u64,
+    pieces: Seq<ScriptPiece>,
+) -> Result<Reply, AllocError>
+    requires { IsMemHostAlive host.old }
+    ensures served { IfOk result (λ r. (w : World) → IsHosting (device host.old) host.old w → IsServed host.old host.new (Command.Bring number pieces) r w) }
+    ensures faultless { IfOk result (λ r. is_fault r ≡ false) }
+{
+    let mut ready = Seq::new(alloc);
+    for piece in pieces.into_vec() {
+        match made_ready(host, number, piece) {
+            Ok(piece) => ready.push(piece)?,
+            Err(refusal) => return Ok(Reply::Refused(refusal)),
+        }
+    }
+    Ok(done(host.bring(number, ready)))
+}
+
+fn went(answer: &Result<Stepped, Refusal>) -> bool
+    ensures { IsTrue result ↔ answer.now ≡ Ok Stepped.Went }
+{
+    matches!(answer, Ok(Stepped::Went))
+}
+
+/// What the last of some steps answers.
+fn stepped(answer: Result<Stepped, Refusal>) -> Reply
+    ensures { result ≡ reply_of (step_answer answer) }
+{
+    match answer {
+        Ok(stepped) => Reply::Stepped(stepped),
+        Err(refusal) => Reply::Refused(refusal),
+    }
+}
+
+/// Makes so many steps, or fewer where a call has ended or more is refused.
+fn step(host: &mut Host<MemFiles>, number: u64, count: u64) -> Reply
+    requires { IsMemHostAlive host.old }
+    ensures served { (w : World) → IsHosting (device host.old) host.old w → IsServed host.old host.new (Command.Step number count) result w }
+    ensures safe { IsSafe host.old → is_fault result ≡ false }
+{
+    let answer = host.step_up_to(number, count);
+    if went(&answer) {
+        return Reply::Went(count);
+    }
+    stepped(answer)
+}
+
+/// Makes steps until a call has ended or more is refused.
+fn run(host: &mut Host<MemFiles>, number: u64) -> Reply
+    requires { IsMemHostAlive host.old }
+    ensures served { (w : World) → IsHosting (device host.old) host.old w → IsServed host.old host.new (Command.Run number) result w }
+    ensures safe { IsSafe host.old → is_fault result ≡ false }
+{
+    stepped(host.run(number))
+}
+
+fn output(host: &mut Host<MemFiles>, number: u64) -> Reply
+    requires { IsMemHostAlive host.old }
+    ensures served { (w : World) → IsHosting (device host.old) host.old w → IsServed host.old host.new (Command.Output number) result w }
+    ensures faultless { is_fault result ≡ false }
+{
+    match host.take_output(number) {
+        Ok(bytes) => Reply::Output(bytes),
+        Err(refusal) => Reply::Refused(refusal),
+    }
+}
+
+/// The labels run so far. An error is want of memory for the answer.
+fn labels(alloc: Global, host: &Host<MemFiles>, number: u64) -> Result<Reply, AllocError>
+    ensures served { IfOk result (λ r. (w : World) → IsHosting (device host.now) host.now w → IsServed host.now host.now (Command.Labels number) r w) }
+    ensures faultless { IfOk result (λ r. is_fault r ≡ false) }
+{
+    match host.labels_run(number) {
+        Ok(runs) => Ok(Reply::Labels(labels_of(alloc, runs)?)),
+        Err(refusal) => Ok(Reply::Refused(refusal)),
+    }
+}
+
+/// Closes a connection, and tells all labels run. An error is want of memory for the answer.
+fn close(alloc: Global, host: &mut Host<MemFiles>, number: u64) -> Result<Reply, AllocError>
+    requires { IsMemHostAlive host.old }
+    ensures served { IfOk result (λ r. (w : World) → IsHosting (device host.old) host.old w → IsServed host.old host.new (Command.Close number) r w) }
+    ensures faultless { IfOk result (λ r. is_fault r ≡ false) }
+{
+    match host.close(number) {
+        Ok(runs) => Ok(Reply::Labels(labels_of(alloc, runs.as_slice())?)),
+        Err(refusal) => Ok(Reply::Refused(refusal)),
+    }
+}
+
+/// The pools of all connections. An error is want of memory for the answer.
+fn pools(alloc: Global, host: &Host<MemFiles>) -> Result<Reply, AllocError>
+    requires { IsMemHostAlive host.now }
+    ensures served { IfOk result (λ r. (w : World) → IsHosting (device host.now) host.now w → IsServed host.now host.now Command.Pools r w) }
+    ensures faultless { IfOk result (λ r. is_fault r ≡ false) }
+{
+    let mut lines = Vec::new(alloc);
+    let Ok(()) = host.print_pools(&mut lines) else {
+        return Err(AllocError);
+    };
+    let mut text = Seq::new(alloc);
+    text.extend(lines.as_slice())?;
+    Ok(Reply::Pools(text))
+}
+
+/// Does a command, and answers it. An error is want of memory for the answer, for a list of pieces, or for a file that is added.
+pub fn serve(
+    alloc: Global,
+    host: &mut Host<MemFiles>,
+    command: Command,
+) -> Result<Reply, AllocError>
+    requires alive { IsMemHostAlive host.old }
+    requires due { is_due (device host.old) command ≡ true }
+    ensures served { IfOk result (λ r. (w : World) → IsHosting (device host.old) host.old w → IsServed host.old host.new command r w) }
+    ensures safe { IfOk result (λ r. IsSafe host.old → is_fault r ≡ false) }
+{
+    match command {
+        Command::Open => Ok(open(host)),
+        Command::File(line) => file(alloc, host, &line),
+        Command::Begin(number) => Ok(done(host.begin(number))),
+        Command::End(number) => Ok(done(host.end_request(number))),
+        Command::Bring(number, pieces) => bring(alloc, host, number, pieces),
+        Command::Step(number, count) => Ok(step(host, number, count)),
+        Command::Run(number) => Ok(run(host, number)),
+        Command::Output(number) => Ok(output(host, number)),
+        Command::Labels(number) => labels(alloc, host, number),
+        Command::Close(number) => close(alloc, host, number),
+        Command::Pools => pools(alloc, host),
+    }
+}

@@ -1,0 +1,4 @@
+pub mod Bounds
+pub mod HeadLaws
+pub mod PartLaws
+pub mod PieceLaws

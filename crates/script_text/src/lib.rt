@@ -1,0 +1,29 @@
+//! The reading of scripts: their texts, their commands, and the lines that are answered.
+#![tactic(auto)]
+
+mod command;
+mod file_line;
+mod lines;
+mod names;
+mod operands;
+mod part;
+mod pieces;
+mod reply;
+mod script;
+mod texts;
+mod words;
+
+pub use command::{Command, CommandForm, CommandWord, command_of};
+pub use file_line::{FileLine, file_line_of};
+pub use lines::{begins_cert, is_end};
+pub use names::{fault_name, rule_name};
+pub use operands::{CommandOperands, operands_of};
+pub use part::{Part, Refused, accept_parts, modules_of};
+pub use pieces::{MemoryKind, PieceRead, ScriptPiece, pieces_of};
+pub use reply::{
+    Reply, put_asm_fault, put_cert_fault, put_refused_at, put_refused_module, put_reply,
+    put_script_fault,
+};
+pub use script::{DEFAULT_BUDGET, LINE_BYTES, budget_at, command_at, is_checked};
+pub use texts::{LineTaken, MODULES, Texts, begins_module, is_skipped};
+pub use words::{after_number, copied, is_parted, number_at};
