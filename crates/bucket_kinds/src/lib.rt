@@ -9,8 +9,6 @@ mod mem_files;
 mod numbers;
 mod reading;
 mod refusal;
-#[cfg(test)]
-mod tests;
 
 pub use cutting::{aside_bucket, copy_bucket, halves, length, split_bucket};
 pub use disk_files::DiskFiles;

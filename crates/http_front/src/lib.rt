@@ -19,7 +19,7 @@ pub use fault::{FrontFault, FrontKind, Served};
 pub use handler::{Handler, RequestOutcome};
 pub use http_message::{
     Clock, Exchange, Failure, HeadLook, Method, Reply, Site, SiteFault, StatusCode, Version,
-    closing, date_line, decoded, head_closes, look_at, middle, opening, refusal, status_closes,
+    closing, decoded, head_closes, look_at, middle, put_opening, refusal, status_closes,
     status_text,
 };
 pub use laws::worked_rows;

@@ -1,32 +1,31 @@
 //! The text of a response, in buffers that are kept.
 
-ghost use Rattle.std.specs.Prelude.{◌≡◌, OnOk};
+ghost use Rattle.std.specs.Prelude.{◌≡◌, ℕ, List, OnOk};
 ghost use Rattle.http_message.specs.Clocks.{IsExchange};
-ghost use Rattle.http_message.specs.Replying.{reply_text};
+ghost use Rattle.http_message.specs.Replying.{IsDateLine, reply_text};
 ghost use Rattle.http_front.specs.Stepping.{IsWritten};
 ghost use Rattle.http_front.specs.Texts.{text_of};
 
 use crate::response::ResponseText;
 use filter_chain::Seq;
-use http_message::{Clock, Exchange, Reply, closing, date_line, middle, opening};
+use http_message::{Clock, Exchange, Reply, closing, middle, put_opening};
 use std::alloc::{AllocError, Global};
 use std::mem;
 
 /// How many bytes a body has at most that is copied behind its head.
 const JOINED_BYTES: usize = 65536;
 
-#[tactic(auto, unfolding(http_message::specs::Replying::reply_text))]
+/// Replaces `text` by that of a response, with the Date line at a moment. A large body is taken out of the reply.
 fn put_text(
     alloc: Global,
     reply: &mut Reply,
-    date: &str,
+    moment: u64,
     text: &mut ResponseText,
 ) -> Result<(), AllocError>
-    ensures { OnOk result (text_of text.new ≡ reply_text reply.old date.now) }
+    ensures { OnOk result ((date : List ℕ) × IsDateLine moment date × (text_of text.new ≡ reply_text reply.old date)) }
 {
     text.clear(alloc);
-    text.head
-        .extend_from_slice(opening(alloc, reply, date)?.as_bytes())?;
+    put_opening(reply, moment, &mut text.head)?;
     if middle(reply).len() > JOINED_BYTES {
         text.tail.extend_from_slice(closing(reply).as_bytes())?;
         text.body = mem::replace(&mut reply.body, Seq::new(alloc));
@@ -61,9 +60,9 @@ pub(crate) fn put_reply<K: Clock>(
 ) -> Result<(), AllocError>
     ensures { OnOk result (IsWritten K.tells clock.old method.now target.now reply.old (text_of text.new) clock.new) }
 {
-    let date = date_line(alloc, clock.now())?;
+    let moment = clock.now();
     let exchange = exchange_of(method, target, reply);
-    put_text(alloc, reply, date.as_str(), text)?;
+    put_text(alloc, reply, moment, text)?;
     clock.answered(&exchange);
     Ok(())
 }

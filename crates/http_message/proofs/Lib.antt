@@ -4,3 +4,4 @@ pub mod Asked
 pub mod Literal
 pub mod SitePaths
 pub mod SiteLaws
+pub mod Puts

@@ -1,12 +1,14 @@
 //! The text of a response.
 
-ghost use Rattle.std.specs.Prelude.{◌≡◌, ◌++◌, codes, length, IfOk, string_bytes};
-ghost use Rattle.http_message.specs.Replying.{status_text, allow_line, connection_line, framing_line, has_body, has_chunks, size_line, last_chunk, chunk_line, head_text, opening, middle, closing, IsDateLine};
+ghost use Rattle.std.specs.Prelude.{◌≡◌, ◌++◌, ℕ, List, IsOk, OnOk};
+ghost use Rattle.http_message.specs.Replying.{status_text, allow_line, connection_line, framing_line, has_body, has_chunks, size_line, last_chunk, chunk_line, opening, middle, closing, IsDateLine};
 
 use crate::reply::{Method, Reply, Version};
 use crate::status::StatusCode;
-use httpdate::{HttpDate, fmt_http_date};
-use std::alloc::{AllocError, Global};
+use httpdate::HttpDate;
+use std::alloc::AllocError;
+use std::io;
+use std::io::Write;
 
 /// The code and its phrase (RFC 9112, section 4).
 pub fn status_text(status: StatusCode) -> &'static str
@@ -23,16 +25,17 @@ pub fn status_text(status: StatusCode) -> &'static str
     }
 }
 
-/// The Date line at a moment in seconds since 1970 (RFC 9110, section 6.6.1); none after the year 9999.
-pub fn date_line(alloc: Global, moment: u64) -> Result<String, AllocError>
-    ensures { IfOk result (λ line. IsDateLine moment (string_bytes line)) }
+/// Puts the Date line at a moment in seconds since 1970 (RFC 9110, section 6.6.1); none after the year 9999.
+fn put_date_line(moment: u64, out: &mut Vec<u8>) -> Result<(), AllocError>
+    ensures { OnOk result ((line : List ℕ) × IsDateLine moment line × (out.new.items ≡ out.old.items ++ line)) }
 {
     match HttpDate::from_unix_secs(moment) {
         Ok(date) => {
-            let text = fmt_http_date(alloc, date)?;
-            format!(in alloc; "Date: {text}\r\n")
+            out.extend_from_slice(b"Date: ")?;
+            out.extend_from_slice(&date.to_bytes())?;
+            out.extend_from_slice(b"\r\n")
         }
-        Err(_) => Ok(String::new(alloc)),
+        Err(_) => Ok(()),
     }
 }
 
@@ -59,24 +62,34 @@ fn connection_line(closes: bool) -> &'static str
     ""
 }
 
-fn framing_line(
-    alloc: Global,
+/// A vector lacks nothing but memory.
+fn unless_full(written: io::Result<()>) -> Result<(), AllocError>
+    ensures { OnOk result (IsOk written) }
+{
+    match written {
+        Ok(()) => Ok(()),
+        Err(_) => Err(AllocError),
+    }
+}
+
+fn put_framing_line(
     status: StatusCode,
     version: Version,
     method: Method,
     size: usize,
-) -> Result<String, AllocError>
-    ensures { IfOk result (λ line. string_bytes line ≡ framing_line status version method size) }
+    out: &mut Vec<u8>,
+) -> Result<(), AllocError>
+    ensures { OnOk result (out.new.items ≡ out.old.items ++ framing_line status version method size) }
 {
     match (status, version, method) {
         (StatusCode::Success, Version::Http11, _) => {
-            format!(in alloc; "Transfer-Encoding: chunked\r\n")
+            out.extend_from_slice(b"Transfer-Encoding: chunked\r\n")
         }
         (StatusCode::Success, Version::Http10, Method::Get) => {
-            format!(in alloc; "Content-Length: {size}\r\n")
+            unless_full(write!(out, "Content-Length: {size}\r\n"))
         }
-        (StatusCode::Success, Version::Http10, _) => Ok(String::new(alloc)),
-        _ => format!(in alloc; "Content-Length: 0\r\n"),
+        (StatusCode::Success, Version::Http10, _) => Ok(()),
+        _ => out.extend_from_slice(b"Content-Length: 0\r\n"),
     }
 }
 
@@ -95,13 +108,13 @@ fn has_chunks(reply: &Reply) -> bool
     }
 }
 
-fn size_line(alloc: Global, size: usize) -> Result<String, AllocError>
-    ensures { IfOk result (λ line. string_bytes line ≡ size_line size) }
+fn put_size_line(size: usize, out: &mut Vec<u8>) -> Result<(), AllocError>
+    ensures { OnOk result (out.new.items ≡ out.old.items ++ size_line size) }
 {
     if size == 0 {
-        return Ok(String::new(alloc));
+        return Ok(());
     }
-    format!(in alloc; "{size:x}\r\n")
+    unless_full(write!(out, "{size:x}\r\n"))
 }
 
 fn last_chunk(size: usize) -> &'static str
@@ -113,47 +126,30 @@ fn last_chunk(size: usize) -> &'static str
     "\r\n0\r\n\r\n"
 }
 
-fn chunk_line(alloc: Global, reply: &Reply) -> Result<String, AllocError>
-    ensures { IfOk result (λ line. string_bytes line ≡ chunk_line reply.now) }
+fn put_chunk_line(reply: &Reply, out: &mut Vec<u8>) -> Result<(), AllocError>
+    ensures { OnOk result (out.new.items ≡ out.old.items ++ chunk_line reply.now) }
 {
     if has_chunks(reply) {
-        return size_line(alloc, reply.body.as_slice().len());
+        return put_size_line(reply.body.as_slice().len(), out);
     }
-    Ok(String::new(alloc))
+    Ok(())
 }
 
-fn head_text(
-    alloc: Global,
-    status: &str,
-    date: &str,
-    allow: &str,
-    connection: &str,
-    framing: &str,
-    chunk: &str,
-) -> Result<String, AllocError>
-    ensures { IfOk result (λ text. string_bytes text
-        ≡ head_text status.now date.now allow.now connection.now framing.now chunk.now) }
-{
-    format!(in alloc; "HTTP/1.1 {status}\r\n{date}{allow}{connection}{framing}\r\n{chunk}")
-}
-
-/// The text before the body of a response: its head (RFC 9112, section 4), and the size of its chunk.
-#[tactic(auto, unfolding(crate::specs::Replying::opening))]
-pub fn opening(alloc: Global, reply: &Reply, date: &str) -> Result<String, AllocError>
-    ensures { IfOk result (λ text. string_bytes text ≡ opening reply.now date.now) }
+/// Puts the text before the body of a response: its head (RFC 9112, section 4), with the Date line at a moment in seconds since 1970, and the
+/// size of its chunk. Without memory a front of it is put.
+pub fn put_opening(reply: &Reply, moment: u64, out: &mut Vec<u8>) -> Result<(), AllocError>
+    ensures { OnOk result ((date : List ℕ) × IsDateLine moment date × (out.new.items ≡ out.old.items ++ opening reply.now date)) }
 {
     let size = reply.body.as_slice().len();
-    let framing = framing_line(alloc, reply.status, reply.version, reply.method, size)?;
-    let chunk = chunk_line(alloc, reply)?;
-    head_text(
-        alloc,
-        status_text(reply.status),
-        date,
-        allow_line(reply.status),
-        connection_line(reply.closes),
-        framing.as_str(),
-        chunk.as_str(),
-    )
+    out.extend_from_slice(b"HTTP/1.1 ")?;
+    out.extend_from_slice(status_text(reply.status).as_bytes())?;
+    out.extend_from_slice(b"\r\n")?;
+    put_date_line(moment, out)?;
+    out.extend_from_slice(allow_line(reply.status).as_bytes())?;
+    out.extend_from_slice(connection_line(reply.closes).as_bytes())?;
+    put_framing_line(reply.status, reply.version, reply.method, size, out)?;
+    out.extend_from_slice(b"\r\n")?;
+    put_chunk_line(reply, out)
 }
 
 /// The body of a response as it is sent: that of a GET that succeeds (RFC 9110, section 6.4.1).

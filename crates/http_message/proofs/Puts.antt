@@ -1,0 +1,17 @@
+-- Texts that are put one behind another.
+use Rattle.std.proofs.Common.{◌≡◌, ℕ, List, ◌++◌, Result, Ok, Err, append_assoc, ap, ◌∙◌}
+use Rattle.std.specs.Prelude.{OnOk, is_ok, if◌then◌else◌}
+
+module _ (old : List ℕ) {before after : List ℕ} (first put : List ℕ) where
+  -- one text more, behind those that were put
+  pub onto : before ≡ old ++ first → after ≡ before ++ put → after ≡ old ++ (first ++ put)
+  onto had more = more ∙ ap (λ l. l ++ put) had ∙ append_assoc old first put
+
+  -- the same, where the text is told by another name
+  pub onto_as : (text : List ℕ) → text ≡ put → before ≡ old ++ first → after ≡ before ++ text → after ≡ old ++ (first ++ put)
+  onto_as text is had more = onto had (more ∙ ap (λ l. before ++ l) is)
+
+-- what a call that puts a text leaves, where it is Ok
+pub put_well : {A E : Type 0} (r : Result A E) (after put before : List ℕ) → after ≡ (if is_ok r then put else before) → OnOk r (after ≡ put)
+put_well (Ok a) after put before is = is
+put_well (Err e) after put before is = tt

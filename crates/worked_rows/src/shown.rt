@@ -1,0 +1,70 @@
+//! How rows show a bucket.
+
+use bucket_kinds::{Bucket, Content, Home, Kind};
+use std::fmt;
+
+/// Longer bytes are shown by their number, and by their letter where it is one.
+const LONGEST: usize = 40;
+
+/// A bucket: its kind, its content, and its home where it has one.
+#[derive(Clone, Copy)]
+pub(crate) struct Shown<'a>(pub(crate) &'a Bucket);
+
+fn is_all(bytes: &[u8], letter: u8) -> bool {
+    for byte in bytes {
+        if *byte != letter {
+            return false;
+        }
+    }
+    true
+}
+
+fn put_kind<W: fmt::Write>(f: &mut fmt::Formatter<W>, kind: Kind) -> fmt::Result {
+    match kind {
+        Kind::Heap => write!(f, "heap"),
+        Kind::Transient => write!(f, "transient"),
+        Kind::Immortal => write!(f, "immortal"),
+        Kind::Pool(pool) => write!(f, "pool {pool}"),
+        Kind::File => write!(f, "file"),
+        Kind::Flush => write!(f, "flush"),
+        Kind::Eos => write!(f, "eos"),
+    }
+}
+
+fn put_bytes<W: fmt::Write>(f: &mut fmt::Formatter<W>, bytes: &[u8]) -> fmt::Result {
+    if bytes.len() > LONGEST {
+        let letter = bytes[0];
+        if is_all(bytes, letter) {
+            return write!(f, " {} times {}", bytes.len(), letter as char);
+        }
+        return write!(f, " {} bytes", bytes.len());
+    }
+    write!(f, " \"")?;
+    for byte in bytes {
+        write!(f, "{}", *byte as char)?;
+    }
+    write!(f, "\"")
+}
+
+fn put_home<W: fmt::Write>(f: &mut fmt::Formatter<W>, home: Home) -> fmt::Result {
+    match home {
+        Home::Free => Ok(()),
+        Home::Call(call) => write!(f, ", home call {call}"),
+        Home::Pool(pool) => write!(f, ", home pool {pool}"),
+        Home::Ended => write!(f, ", home ended"),
+    }
+}
+
+impl fmt::Display for Shown<'_> {
+    fn fmt<W: fmt::Write>(&self, f: &mut fmt::Formatter<W>) -> fmt::Result {
+        put_kind(f, self.0.kind)?;
+        match &self.0.content {
+            Content::Bytes(bytes) => put_bytes(f, bytes.as_slice())?,
+            Content::Range { file, start, len } => {
+                write!(f, " {file} from {start}, length {len}")?
+            }
+            Content::Nothing => {}
+        }
+        put_home(f, self.0.home)
+    }
+}
