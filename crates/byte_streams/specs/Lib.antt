@@ -1,0 +1,2 @@
+pub mod Transfers
+pub mod Counted

@@ -1,0 +1,59 @@
+//! A source that is read at most so many times.
+
+ghost use Rattle.std.specs.Prelude.{◌≡◌, ◌+◌, ◌<◌, IfErr, IfOk, OnOk, length};
+ghost use Rattle.byte_streams.specs.Counted.{IsCounted};
+
+use crate::source::{ReadAnswer, Source};
+
+/// How many bytes a read of this project asks for.
+pub const READ_BYTES: usize = 8192;
+
+/// How many times a source of this project is read at most, the read that tells the end included.
+pub const READS: u32 = 1_000_000;
+
+/// Why a read of a source with a bound gives nothing.
+#[derive(Clone, Copy, Debug, PartialEq, Eq)]
+pub enum CountedFault {
+    /// The source failed.
+    Failed,
+    /// It was read as often as it may be, and was not asked again.
+    TooManyReads,
+}
+
+/// A source that is read at most so many times. Each read is counted, also one that fails or gives nothing.
+#[derive(Drop)]
+pub struct CountedSource<R> {
+    /// The source.
+    pub source: R,
+    /// How many more times it may be read.
+    pub left: u32,
+}
+
+impl<R: Source> CountedSource<R> {
+    /// A source that may be read so many times.
+    pub fn new(source: R, reads: u32) -> CountedSource<R>
+        ensures source { result.source ≡ source }
+        ensures left { result.left ≡ reads }
+    {
+        CountedSource {
+            source,
+            left: reads,
+        }
+    }
+
+    /// Reads into a buffer, which has room for a byte at least. `Failed`: the source failed, and nothing was taken from it. `TooManyReads`:
+    /// no read was left, and the source was not asked.
+    pub fn read(&mut self, buffer: &mut [u8]) -> Result<ReadAnswer, CountedFault>
+        requires { 0 < length buffer.old }
+        ensures { IsCounted self.old.left self.new.left (R.remaining self.old.source) (R.remaining self.new.source) (R.failed self.old.source) (R.failed self.new.source) buffer.new result }
+    {
+        if self.left == 0 {
+            return Err(CountedFault::TooManyReads);
+        }
+        self.left -= 1;
+        match self.source.read(buffer) {
+            Ok(answer) => Ok(answer),
+            Err(_) => Err(CountedFault::Failed),
+        }
+    }
+}

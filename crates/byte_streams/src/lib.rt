@@ -1,0 +1,12 @@
+//! Sources and sinks of bytes that say whether they failed.
+#![tactic(auto)]
+
+mod counted;
+mod sink;
+mod source;
+mod std_streams;
+
+pub use counted::{CountedFault, CountedSource, READ_BYTES, READS};
+pub use sink::{Sink, SinkFault, WriteAnswer};
+pub use source::{ReadAnswer, ReadFailed, Source};
+pub use std_streams::{StdSink, StdSource};
