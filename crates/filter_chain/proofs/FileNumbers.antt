@@ -45,9 +45,9 @@ module _ (memory : Bool) (budget : ℕ) (chain : List Program) (reads : Reads) (
     by_memory true = proceeds_file i f rest
     by_memory false = refl
 
-    by_names : (b : Bool) → (cond b (broken_by cause.NamesSpent (g, c)) (cond (memory || not (grows i || nat_lt 0 (calls_of chain i f rest c.queue))) (counted (proceeds chain reads i f rest (g, c))) (broken_by cause.NoMemory (g, c)))).1.0.file ≡ g.file
+    by_names : (b : Bool) → (cond b (broken_by cause.NamesSpent (g, c)) (cond (memory || not (grows (configuration g c f) i || nat_lt 0 (calls_of chain i f rest c.queue))) (counted (proceeds chain reads i f rest (g, c))) (broken_by cause.NoMemory (g, c)))).1.0.file ≡ g.file
     by_names true = refl
-    by_names false = by_memory (memory || not (grows i || nat_lt 0 (calls_of chain i f rest c.queue)))
+    by_names false = by_memory (memory || not (grows (configuration g c f) i || nat_lt 0 (calls_of chain i f rest c.queue)))
 
   watched_file : (f : Frame) (rest : List Frame) → (watched memory chain reads f rest (g, c)).1.0.file ≡ g.file
   watched_file f rest = by_fault (fault (module_at chain f.of) (configuration g c f) (current (module_at chain f.of) f.pc)) where

@@ -333,11 +333,11 @@ module _ (memory : Bool) (budget : ℕ) (chain : List Program) (reads : Reads) (
 
   without_names : c.count < budget → fault_of chain (g, c) f ≡ None → lacks_for chain (g, c) f rest ≡ true → steps memory budget chain reads (g, c) ≡ broken_by cause.NamesSpent (g, c)
   unfolding executed
-  without_names lt none lacks = faultless lt none ∙ ap (λ (b : Bool). cond b (broken_by cause.NamesSpent (g, c)) (Executing (memory || not (grows_for chain c f rest)))) lacks
+  without_names lt none lacks = faultless lt none ∙ ap (λ (b : Bool). cond b (broken_by cause.NamesSpent (g, c)) (Executing (memory || not (grows_for chain (g, c) f rest)))) lacks
 
-  named : c.count < budget → fault_of chain (g, c) f ≡ None → lacks_for chain (g, c) f rest ≡ false → steps memory budget chain reads (g, c) ≡ Executing (memory || not (grows_for chain c f rest))
+  named : c.count < budget → fault_of chain (g, c) f ≡ None → lacks_for chain (g, c) f rest ≡ false → steps memory budget chain reads (g, c) ≡ Executing (memory || not (grows_for chain (g, c) f rest))
   unfolding executed
-  named lt none last = faultless lt none ∙ ap (λ (b : Bool). cond b (broken_by cause.NamesSpent (g, c)) (Executing (memory || not (grows_for chain c f rest)))) last
+  named lt none last = faultless lt none ∙ ap (λ (b : Bool). cond b (broken_by cause.NamesSpent (g, c)) (Executing (memory || not (grows_for chain (g, c) f rest)))) last
 
 due_refused : (memory : Bool) (budget : ℕ) (chain : List Program) (told : Told) (c : Connection) (w : World) (r : Refusal) → IsFirstRefusal (tests memory told event.Step (Some c) w) r
     → steps memory budget chain told.reads (w.common, c) ≡ (Err r, (w.common, c))
@@ -373,7 +373,7 @@ steps_tell memory budget chain told c w = record {
   no_name = λ f rest whole top lt none lacks. without_names memory budget chain told.reads w.common c f rest whole top lt none lacks;
   no_memory = λ f rest whole top lt none last refuses growing.
       named memory budget chain told.reads w.common c f rest whole top lt none last
-      ∙ ap (λ (b : Bool). Executing memory budget chain told.reads w.common c f rest whole top b) (ap (λ (b : Bool). b || not (grows_for chain c f rest)) refuses ∙ ap not growing);
+      ∙ ap (λ (b : Bool). Executing memory budget chain told.reads w.common c f rest whole top b) (ap (λ (b : Bool). b || not (grows_for chain (w.common, c) f rest)) refuses ∙ ap not growing);
   made = λ f rest whole top lt none last there.
       named memory budget chain told.reads w.common c f rest whole top lt none last ∙ ap (λ (b : Bool). Executing memory budget chain told.reads w.common c f rest whole top b) there;
 } where

@@ -109,7 +109,7 @@ module _ (memory : Bool) (budget : ℕ) (chain : List Program) (reads : Reads) (
     by_memory true = proceeds_is i f rest
     by_memory false = Breaks cause.NoMemory
 
-    by_names : (b : Bool) → StepIs (g, c) (cond b (broken_by cause.NamesSpent (g, c)) (cond (memory || not (grows i || nat_lt 0 (calls_of chain i f rest c.queue))) (counted (proceeds chain reads i f rest (g, c))) (broken_by cause.NoMemory (g, c))))
+    by_names : (b : Bool) → StepIs (g, c) (cond b (broken_by cause.NamesSpent (g, c)) (cond (memory || not (grows (configuration g c f) i || nat_lt 0 (calls_of chain i f rest c.queue))) (counted (proceeds chain reads i f rest (g, c))) (broken_by cause.NoMemory (g, c))))
     by_names true = Breaks cause.NamesSpent
     by_names false = by_memory _
 

@@ -214,8 +214,8 @@ abbrev pub lacks_for : List Program → Linked → Frame → List Frame → Bool
 lacks_for chain (g, c) f rest = (let i = current (module_at chain f.of) f.pc in lacks_names (configuration g c f) i || is_spent g.next (calls_of chain i f rest c.queue))
 
 -- whether its instruction wants memory
-abbrev pub grows_for : List Program → Connection → Frame → List Frame → Bool
-grows_for chain c f rest = (let i = current (module_at chain f.of) f.pc in grows i || nat_lt 0 (calls_of chain i f rest c.queue))
+abbrev pub grows_for : List Program → Linked → Frame → List Frame → Bool
+grows_for chain (g, c) f rest = (let i = current (module_at chain f.of) f.pc in grows (configuration g c f) i || nat_lt 0 (calls_of chain i f rest c.queue))
 
 abbrev pub fault_of : List Program → Linked → Frame → Option FaultKind
 fault_of chain (g, c) f = fault (module_at chain f.of) (configuration g c f) (current (module_at chain f.of) f.pc)
@@ -231,9 +231,9 @@ pub record StepTells (memory : Bool) (budget : ℕ) (chain : List Program) (told
   pub no_name : (f : Frame) (rest : List Frame) → c.broken ≡ None → c.stack ≡ f ∷ rest → c.count < budget → fault_of chain (w.common, c) f ≡ None → lacks_for chain (w.common, c) f rest ≡ true
       → steps memory budget chain told.reads (w.common, c) ≡ broken_by cause.NamesSpent (w.common, c)
   pub no_memory : (f : Frame) (rest : List Frame) → c.broken ≡ None → c.stack ≡ f ∷ rest → c.count < budget → fault_of chain (w.common, c) f ≡ None → lacks_for chain (w.common, c) f rest ≡ false
-      → memory ≡ false → grows_for chain c f rest ≡ true → steps memory budget chain told.reads (w.common, c) ≡ broken_by cause.NoMemory (w.common, c)
+      → memory ≡ false → grows_for chain (w.common, c) f rest ≡ true → steps memory budget chain told.reads (w.common, c) ≡ broken_by cause.NoMemory (w.common, c)
   pub made : (f : Frame) (rest : List Frame) → c.broken ≡ None → c.stack ≡ f ∷ rest → c.count < budget → fault_of chain (w.common, c) f ≡ None → lacks_for chain (w.common, c) f rest ≡ false
-      → (memory || not (grows_for chain c f rest)) ≡ true → steps memory budget chain told.reads (w.common, c) ≡ counted (proceeds chain told.reads (current (module_at chain f.of) f.pc) f rest (w.common, c))
+      → (memory || not (grows_for chain (w.common, c) f rest)) ≡ true → steps memory budget chain told.reads (w.common, c) ≡ counted (proceeds chain told.reads (current (module_at chain f.of) f.pc) f rest (w.common, c))
 
 abbrev pub StepsTell : Type 0
 StepsTell = (memory : Bool) (budget : ℕ) (chain : List Program) (told : Told) (c : Connection) (w : World) → StepTells memory budget chain told c w

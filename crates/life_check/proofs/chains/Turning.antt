@@ -82,10 +82,10 @@ module _ (chain : List Program) (certs : ℕ → Certificate) (proper : IsChain 
         (proceeds_answer chain reads (current (module_at chain f.of) f.pc) f rest (g, c)) (top.lands reads g c f rest may sound stands)
 
     by_names : (b : Bool) → (lacks_names (configuration g c f) (current (module_at chain f.of) f.pc) || is_spent g.next (calls_of chain (current (module_at chain f.of) f.pc) f rest c.queue)) ≡ b
-        → Answered chain certs (cond b (broken_by cause.NamesSpent (g, c)) (cond (memory || not (grows (current (module_at chain f.of) f.pc) || nat_lt 0 (calls_of chain (current (module_at chain f.of) f.pc) f rest c.queue)))
+        → Answered chain certs (cond b (broken_by cause.NamesSpent (g, c)) (cond (memory || not (grows (configuration g c f) (current (module_at chain f.of) f.pc) || nat_lt 0 (calls_of chain (current (module_at chain f.of) f.pc) f rest c.queue)))
         (counted (proceeds chain reads (current (module_at chain f.of) f.pc) f rest (g, c))) (broken_by cause.NoMemory (g, c))))
     by_names true last = broken_stands chain certs cause.NamesSpent (g, c)
-    by_names false last = by_memory (memory || not (grows (current (module_at chain f.of) f.pc) || nat_lt 0 (calls_of chain (current (module_at chain f.of) f.pc) f rest c.queue))) last
+    by_names false last = by_memory (memory || not (grows (configuration g c f) (current (module_at chain f.of) f.pc) || nat_lt 0 (calls_of chain (current (module_at chain f.of) f.pc) f rest c.queue))) last
 
   watched_stands : (f : Frame) (rest : List Frame) → c.stack ≡ f ∷ rest → Answered chain certs (watched memory chain reads f rest (g, c))
   watched_stands f rest on = by_fault (fault (module_at chain f.of) (configuration g c f) (current (module_at chain f.of) f.pc)) faultless where

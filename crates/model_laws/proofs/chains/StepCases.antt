@@ -41,7 +41,7 @@ module _ (Q : Linked → Type 0) (memory : Bool) (budget : ℕ) (chain : List Pr
     by_memory false ready = broke cause.NoMemory (λ e. cc)
 
     by_names : (b : Bool) → (lacks_names (configuration g c f) (current (module_at chain f.of) f.pc) || is_spent g.next (calls_of chain (current (module_at chain f.of) f.pc) f rest c.queue)) ≡ b
-        → Q (cond b (broken_by cause.NamesSpent (g, c)) (cond (memory || not (grows (current (module_at chain f.of) f.pc) || nat_lt 0 (calls_of chain (current (module_at chain f.of) f.pc) f rest c.queue)))
+        → Q (cond b (broken_by cause.NamesSpent (g, c)) (cond (memory || not (grows (configuration g c f) (current (module_at chain f.of) f.pc) || nat_lt 0 (calls_of chain (current (module_at chain f.of) f.pc) f rest c.queue)))
         (counted (proceeds chain reads (current (module_at chain f.of) f.pc) f rest (g, c))) (broken_by cause.NoMemory (g, c)))).1
     by_names true spent = broke cause.NamesSpent (λ e. cc)
     by_names false there =
