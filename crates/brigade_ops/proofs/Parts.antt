@@ -7,7 +7,12 @@ use Rattle.bucket_ring.specs.Lists.{same, times, found}
 use Rattle.bucket_ring.specs.Laws.{same_self}
 use Rattle.run_model.specs.declared.bucket.Bucket.{Bucket}
 use Rattle.run_model.specs.declared.bucket.NamedBucket.{NamedBucket}
-use Rattle.run_model.specs.Cutting.{split_at, length_of}
+use Rattle.run_model.specs.Buckets.{is_data_kind}
+use Rattle.run_model.specs.declared.bucket.Kind.{Kind}
+use Rattle.run_model.specs.declared.bucket.Kind.TheVariants as kind
+use Rattle.run_model.specs.declared.bucket.Content.{Content}
+use Rattle.run_model.specs.declared.bucket.Content.TheVariants as content
+use Rattle.run_model.specs.Cutting.{split_at, length_of, form_of, form_of_kind, Memory, OpenFile, Nowhere}
 use Rattle.run_model.specs.BrigadeLists as model
 use Rattle.run_model.specs.BrigadeLists.{length_in, front_to, back_from, place_before, is_short, partition_answer, partitioned}
 use Rattle.brigade_ops.specs.declared.walking.Point.{Point}
@@ -121,6 +126,39 @@ inside_whole new id (suc p) n x (y ∷ xs) once e here = elim (first_case (nat_l
       ∙ (ap (λ (k : ℕ). named ((id, (split_at k y.1).0) ∷ (new, (split_at k y.1).1) ∷ xs)) size
       ∙ ap (λ (b : Bucket). named ((id, (split_at n b).0) ∷ (new, (split_at n b).1) ∷ xs)) one)))
 ]
+
+-- a bucket that a point lies inside is longer than what stands before the point
+pub inside_short : (id : BucketId) (p n : ℕ) (x : Bucket) (xs : Items) → ((i : BucketId) → times i xs ≤ 1) → point_in p xs ≡ point.Inside id n → found id xs ≡ Some x → n < length_of x.content
+unfolding point_in
+inside_short id zero n x [] once e here = absurd (cc)
+inside_short id zero n x (y ∷ xs) once e here = absurd (cc)
+inside_short id (suc p) n x [] once e here = absurd (cc)
+inside_short id (suc p) n x (y ∷ xs) once e here = elim (first_case (nat_le (length_of y.1.content) (suc p)) (point_in (suc p - length_of y.1.content) xs) (point.Inside y.0 (suc p)) (point.Inside id n) e) [
+  | inl q ↦ (let miss : same y.0 id ≡ false = miss_first (same y.0 id) (times id xs) (once id) (inside_times (suc p - length_of y.1.content) n id xs q.1) in
+      inside_short id (suc p - length_of y.1.content) n x xs (λ i. rest_once (same y.0 i) (times i xs) (once i)) q.1 (rw miss at here))
+  | inr q ↦ (let at : y.0 ≡ id = cc in
+      let size : suc p ≡ n = cc in
+      let hit : same y.0 id ≡ true = ap (λ i. same i id) at ∙ same_self id in
+      let is : Some y.1 ≡ Some x = rw hit at here in
+      let one : y.1 ≡ x = cc in
+      let over : suc p < length_of y.1.content = past (length_of y.1.content) (suc p) q.0 in
+      let long : length_of y.1.content ≡ length_of x.content = ap (λ (b : Bucket). length_of b.content) one in
+      omega arith)
+]
+
+-- a bucket with bytes is data, where its content fits its kind
+pub bytes_are_data : (k : Kind) (c : Content) (n : ℕ) → form_of c ≡ form_of_kind k → n < length_of c → is_data_kind k ≡ true
+bytes_are_data kind.Heap c n fits lt = refl
+bytes_are_data kind.Transient c n fits lt = refl
+bytes_are_data kind.Immortal c n fits lt = refl
+bytes_are_data (kind.Pool p) c n fits lt = refl
+bytes_are_data kind.File c n fits lt = refl
+bytes_are_data kind.Flush (content.Bytes bs) n fits lt = absurd (let no : Memory ≡ Nowhere = fits in cc)
+bytes_are_data kind.Flush (content.Range file start len) n fits lt = absurd (let no : OpenFile ≡ Nowhere = fits in cc)
+bytes_are_data kind.Flush content.Nothing n fits lt = absurd (omega arith)
+bytes_are_data kind.Eos (content.Bytes bs) n fits lt = absurd (let no : Memory ≡ Nowhere = fits in cc)
+bytes_are_data kind.Eos (content.Range file start len) n fits lt = absurd (let no : OpenFile ≡ Nowhere = fits in cc)
+bytes_are_data kind.Eos content.Nothing n fits lt = absurd (omega arith)
 
 inside_place : (new p n : ℕ) (id : BucketId) (xs : Items) → point_in p xs ≡ point.Inside id n → place_before (back_from new p (named xs)) ≡ model.Found new
 unfolding point_in back_from

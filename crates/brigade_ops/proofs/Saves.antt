@@ -110,3 +110,9 @@ module _ (ps : Pools Payload) (pool : ℕ) where
       push_more (new_ref ps pool (record { name = id.birth; bucket = x })) files (filter_map (new_ref ps pool) (named later))
       ∙ (ap (λ (zs : Items). files ++ filter_map (new_ref ps pool) (named ((id, x) ∷ zs))) is
       ∙ ap (λ (zs : Items). files ++ filter_map (new_ref ps pool) (named zs)) (sym (rest_head id xs x here)))
+
+-- nothing was put where nothing is
+pub none_put : (files : List ℕ) (file : Option ℕ) (later : List ℕ) → (files ++ cons_option file []) ++ later ≡ [] → file ≡ None
+none_put files None later e = refl
+none_put [] (Some f) later e = absurd (cc)
+none_put (g ∷ files) (Some f) later e = absurd (cc)

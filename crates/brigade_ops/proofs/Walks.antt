@@ -1,10 +1,6 @@
 -- Walks along a brigade.
 use Rattle.std.proofs.Common.{◌≡◌, ◌==◌, eqb, ℕ, suc, ◌+◌, ◌<◌, ◌≤◌, Bool, true, false, Option, None, Some, Ok, Err, List, [], ◌∷◌, drop, length, refl, ap, subst, arith, map}
 use Rattle.std.specs.Prelude.{IfSome, if◌then◌else◌}
-use Rattle.std.specs.List.{IsDistinct, AllByRecursion, list_any}
-use Rattle.std.proofs.lemmas.Bool.{eq-eqb, ne_eqb, eqb-true}
-use Rattle.std.proofs.lemmas.Map.Steps.{length-le_from_distinct_below}
-use Rattle.std.proofs.lemmas.List.{length-map}
 use Rattle.run_model.specs.declared.bucket.Bucket.{Bucket}
 use Rattle.run_model.specs.BrigadeLists.{length_in}
 use Rattle.run_model.specs.Cutting.{length_of}
@@ -38,14 +34,6 @@ pub goes_no_further : (r q : ℕ) (o : Option BucketId) → or_end r o ≡ Err q
 goes_no_further r q None e = refl
 goes_no_further r q (Some i) e = cc
 
-more : (s : Bool) (n : ℕ) → 0 < n → 0 < (if s then suc n else n)
-more true n h = omega arith
-more false n h = h
-
-less : (s : Bool) (n : ℕ) → (if s then suc n else n) ≤ 1 → n ≤ 1
-less true n h = omega arith
-less false n h = h
-
 module _ {T : Type 0} where
   stops : (r q : ℕ) (xs : List (BucketId × T)) → or_end r (first_of xs) ≡ Err q → [] ≡ xs
   stops r q [] e = refl
@@ -60,44 +48,6 @@ module _ {T : Type 0} where
 
   head_is : (b : BucketId × T) (bs : List (BucketId × T)) → rest b.0 (b ∷ bs) ≡ b ∷ bs
   head_is b bs = rw (same_self b.0) refl
-
-  -- Births that are apart are no more than there are names.
-
-  abbrev births : List (BucketId × T) → List ℕ
-  births xs = map (λ (x : BucketId × T). x.0.birth) xs
-
-  head_here : (b : BucketId × T) (bs : List (BucketId × T)) → 0 < times b.0 (b ∷ bs)
-  head_here b bs = rw (same_self b.0) (omega arith)
-
-  apart_from : (birth : ℕ) (xs : List (BucketId × T)) → ((j : BucketId) → 0 < times j xs → birth ≡ j.birth → ⊥) → AllByRecursion (λ y. eqb birth y ≡ false) (births xs)
-  apart_from birth [] none = tt
-  apart_from birth (x ∷ xs) none = (ne_eqb birth x.0.birth (none x.0 (head_here x xs)), apart_from birth xs (λ j h e. none j (more (same x.0 j) (times j xs) h) e))
-
-  distinct : (xs : List (BucketId × T)) → ((i : BucketId) → times i xs ≤ 1) → ((i j : BucketId) → 0 < times i xs → 0 < times j xs → i.birth ≡ j.birth → i.slot ≡ j.slot) → IsDistinct eqb (births xs)
-  unfolding IsDistinct
-  distinct [] once apart = tt
-  distinct (x ∷ xs) once apart = (
-    apart_from x.0.birth xs (λ j h e. again j h (apart x.0 j (head_here x xs) (more (same x.0 j) (times j xs) h) e) e),
-    distinct xs (λ i. less (same x.0 i) (times i xs) (once i)) (λ i j hi hj e. apart i j (more (same x.0 i) (times i xs) hi) (more (same x.0 j) (times j xs) hj) e),
-  ) where
-    again : (j : BucketId) → 0 < times j xs → x.0.slot ≡ j.slot → x.0.birth ≡ j.birth → ⊥
-    again j h slots births_same =
-        let is : same x.0 j ≡ true = rw (eq-eqb x.0.slot j.slot slots, eq-eqb x.0.birth j.birth births_same) refl in
-        let two : suc (times j xs) ≤ 1 = rw is at (once j) in
-        omega arith
-
-  all_young : (next q : ℕ) (xs : List (BucketId × T)) → ((i : BucketId) → 0 < times i xs → i.birth < next) → list_any (eqb q) (births xs) ≡ true → q < next
-  all_young next q [] young h = absurd (cc)
-  all_young next q (x ∷ xs) young h = go (all_young next q xs) (eqb q x.0.birth) refl where
-    go : (((i : BucketId) → 0 < times i xs → i.birth < next) → list_any (eqb q) (births xs) ≡ true → q < next) → (s : Bool) → eqb q x.0.birth ≡ s → q < next
-    go later true is = let e = eqb-true q x.0.birth is in let y = young x.0 (head_here x xs) in omega arith
-    go later false is = later (λ i k. young i (more (same x.0 i) (times i xs) k)) (rw is at h)
-
-  pub fewer_than_names : (next : ℕ) (xs : List (BucketId × T)) → ((i : BucketId) → times i xs ≤ 1) → ((i j : BucketId) → 0 < times i xs → 0 < times j xs → i.birth ≡ j.birth → i.slot ≡ j.slot)
-      → ((i : BucketId) → 0 < times i xs → i.birth < next) → length xs ≤ next
-  fewer_than_names next xs once apart young =
-      let l : length (births xs) ≤ next = length-le_from_distinct_below (births xs) next (distinct xs once apart) (λ q h. all_young next q xs young h) in
-      omega (arith, l, length-map xs (λ (x : BucketId × T). x.0.birth))
 
 -- a walk begins with the whole brigade
 pub start_whole : (xs : Items) (place : Option BucketId) → place ≡ first_of xs → from_place place xs ≡ xs

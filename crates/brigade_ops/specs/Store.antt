@@ -33,3 +33,7 @@ module _ {R : Type 0} {g : Ghosts R Bucket} where
   -- the next name
   unfoldable pub next_name : Brigades R g → ℕ
   next_name store = g.next_name store.held.rings
+
+  -- there is room for one more brigade or bucket
+  unfoldable pub has_room : Brigades R g → Type 0
+  has_room store = g.has_room store.held.rings

@@ -1,6 +1,6 @@
 //! A bucket of the store is set aside.
 
-ghost use Rattle.std.specs.Prelude.{◌≡◌, ℕ, Some, None, true, is_some, IsTrue, OnOk, OnErr};
+ghost use Rattle.std.specs.Prelude.{◌≡◌, ℕ, Some, None, true, is_some, IsTrue, IsOk, OnOk, OnErr};
 ghost use Rattle.run_model.specs.Pools.{is_live};
 ghost use Rattle.run_model.specs.RunOrder.{IsPoolMap};
 ghost use Rattle.run_model.specs.Cutting.{set_aside};
@@ -88,7 +88,7 @@ impl<R: Rings<Bucket> + Drop> Brigades<R> {
     }
 
     /// Sets a bucket aside into a pool (`apr_bucket_setaside`). A FILE bucket whose home is not above the pool gets a reference to its
-    /// file there. Refused, nothing is changed.
+    /// file there, and no other takes memory. Refused, nothing is changed.
     pub fn aside(
         &mut self,
         tree: &mut PoolTree<Payload>,
@@ -105,6 +105,7 @@ impl<R: Rings<Bucket> + Drop> Brigades<R> {
         ensures names { NoneRevived (brigade_of self.old) (brigade_of self.new) (next_name self.old) }
         ensures pools { pool_of self.new ≡ pool_of self.old }
         ensures formed { IsPoolMap (map_of tree.new) }
+        ensures sure { (x : Bucket) → bucket_at self.old id ≡ Some x → file_for (map_of tree.old) pool x ≡ None → IsOk result }
         ensures err { OnErr result ((m : ℕ) → lists self.new m ≡ lists self.old m) }
         ensures kept { OnErr result (map_of tree.new ≡ map_of tree.old) }
         ensures uncounted { OnErr result ((f : ℕ) → references self.new f ≡ references self.old f) }

@@ -1,6 +1,6 @@
 //! Brigades of the store: made, ended, cleaned and joined.
 
-ghost use Rattle.std.specs.Prelude.{◌≡◌, ◌≢◌, ◌↔◌, ℕ, ◌+◌, ◌<◌, ◌^◌, ◌++◌, [], length, Some, None, true, is_some, is_ok, if◌then◌else◌, IsTrue, IsOk, IfOk, OnOk, OnErr, IsErrOf};
+ghost use Rattle.std.specs.Prelude.{◌≡◌, ◌≢◌, ◌↔◌, ℕ, ◌+◌, ◌<◌, ◌≤◌, ◌++◌, [], length, Some, None, true, is_some, is_ok, if◌then◌else◌, IsTrue, IsOk, IfOk, OnOk, OnErr, IsErrOf};
 ghost use Rattle.run_model.specs.Pools.{Pools, is_live, registered};
 ghost use Rattle.run_model.specs.RunOrder.{IsPoolMap};
 ghost use Rattle.pool_tree.specs.Tree.{map_of};
@@ -16,9 +16,9 @@ use pool_tree::{PoolId, PoolTree};
 use run_model::{Bucket, Payload};
 use std::alloc::AllocError;
 
-#[tactic(auto, unfolding(crate::specs::Store::lists, crate::specs::Store::brigade_of, crate::specs::Store::pool_of, crate::specs::Store::next_name, crate::specs::Store::references), using(pool_tree::proofs::Trees::tree_formed))]
+#[tactic(auto, unfolding(crate::specs::Store::lists, crate::specs::Store::brigade_of, crate::specs::Store::pool_of, crate::specs::Store::next_name, crate::specs::Store::references, crate::specs::Store::has_room), using(pool_tree::proofs::Trees::tree_formed))]
 impl<R: Rings<Bucket> + Drop> Brigades<R> {
-    ghost use Rattle.brigade_ops.specs.Store.{lists, brigade_of, bucket_at, pool_of, next_name, references};
+    ghost use Rattle.brigade_ops.specs.Store.{lists, brigade_of, bucket_at, pool_of, next_name, references, has_room};
 
     /// Whether there is such a brigade.
     pub fn has(&self, b: BrigadeId) -> bool
@@ -69,7 +69,19 @@ impl<R: Rings<Bucket> + Drop> Brigades<R> {
         }
     }
 
-    /// Makes an empty brigade on no pool, else as `create`.
+    /// Makes room for one more brigade or bucket. Nothing that is seen of the store changes, also where it is refused.
+    pub fn make_room(&mut self) -> Result<(), AllocError>
+        ensures room { OnOk result (has_room self.new) }
+        ensures same { (n : ℕ) → lists self.new n ≡ lists self.old n }
+        ensures places { (id : BucketId) → brigade_of self.new id ≡ brigade_of self.old id }
+        ensures next { next_name self.new ≡ next_name self.old }
+        ensures pools { pool_of self.new ≡ pool_of self.old }
+        ensures references { references self.new ≡ references self.old }
+    {
+        self.held.make_room()
+    }
+
+    /// Makes an empty brigade on no pool, else as `create`. Where `make_room` made room, it is not refused for memory.
     pub fn loose(&mut self) -> Result<BrigadeId, RingRefusal>
         ensures ok { IfOk result (λ b. (n : ℕ) → lists self.new n ≡ upd (lists self.old) b (Some []) n) }
         ensures name { IfOk result (λ b. b ≡ next_name self.old) }
@@ -78,6 +90,7 @@ impl<R: Rings<Bucket> + Drop> Brigades<R> {
         ensures pools { pool_of self.new ≡ pool_of self.old }
         ensures references { references self.new ≡ references self.old }
         ensures spent { IsErrOf result RingRefusal.NamesSpent ↔ (next_name self.old ≡ u64.MAX) }
+        ensures sure { has_room self.old → next_name self.old < u64.MAX → IsOk result }
         ensures err { OnErr result ((n : ℕ) → lists self.new n ≡ lists self.old n) }
     {
         self.held.new_ring()
@@ -128,15 +141,13 @@ impl<R: Rings<Bucket> + Drop> Brigades<R> {
         self.held.drop_all(b);
     }
 
-    /// Moves all buckets of `b` to the tail of `a` (`APR_BRIGADE_CONCAT`). Onto an empty brigade it is never refused. Refused,
-    /// nothing is changed.
+    /// Moves all buckets of `b` to the tail of `a` (`APR_BRIGADE_CONCAT`). It takes no memory, and is never refused.
     pub fn concat(&mut self, a: BrigadeId, b: BrigadeId) -> Result<(), AllocError>
         requires onto { is_some (lists self.old a) ≡ true }
         requires from { is_some (lists self.old b) ≡ true }
         requires apart { a ≢ b }
         ensures ok { OnOk result ((n : ℕ) → lists self.new n ≡ on a (λ xs. xs ++ list_at (lists self.old) b) (on b (λ xs. []) (lists self.old)) n) }
-        ensures sure { length (list_at (lists self.old) a) + length (list_at (lists self.old) b) < 2 ^ 63 → IsOk result }
-        ensures empty { list_at (lists self.old) a ≡ [] → IsOk result }
+        ensures sure { IsOk result }
         ensures next { next_name self.new ≡ next_name self.old }
         ensures names { NoneRevived (brigade_of self.old) (brigade_of self.new) (next_name self.old) }
         ensures pools { pool_of self.new ≡ pool_of self.old }
@@ -146,10 +157,9 @@ impl<R: Rings<Bucket> + Drop> Brigades<R> {
         self.held.splice_tail(a, b)
     }
 
-    /// Sets the name that the next brigade or bucket gets. All brigades and buckets that are there have names below it.
+    /// Sets the name that the next brigade or bucket gets to this or a later one: those between were given by others.
     pub fn set_next(&mut self, next: u64)
-        requires brigades { (b : ℕ) → is_some (lists self.old b) ≡ true → b < next }
-        requires births { (id : BucketId) → is_some (brigade_of self.old id) ≡ true → id.birth < next }
+        requires { next_name self.old ≤ next }
         ensures next { next_name self.new ≡ next }
         ensures lists { (b : ℕ) → lists self.new b ≡ lists self.old b }
         ensures places { (id : BucketId) → brigade_of self.new id ≡ brigade_of self.old id }

@@ -114,12 +114,12 @@ impl<R: Rings<Bucket> + Drop> Brigades<R> {
         self.held.add_after(at, bucket)
     }
 
-    /// Moves a bucket to the tail of a brigade, which may be its own. It gets no new name. Refused, nothing is changed.
+    /// Moves a bucket to the tail of a brigade, which may be its own. It gets no new name. It takes no memory, and is never refused.
     pub fn move_tail(&mut self, b: BrigadeId, id: BucketId) -> Result<(), AllocError>
         requires brigade { is_some (lists self.old b) ≡ true }
         requires bucket { is_some (brigade_of self.old id) ≡ true }
         ensures ok { OnOk result ((q n : ℕ) (x : Bucket) → brigade_of self.old id ≡ Some q → found id (list_at (lists self.old) q) ≡ Some x → lists self.new n ≡ on b (put_tail (id, x)) (on q (without id) (lists self.old)) n) }
-        ensures sure { length (list_at (lists self.old) b) + 1 < 2 ^ 63 → IsOk result }
+        ensures sure { IsOk result }
         ensures next { next_name self.new ≡ next_name self.old }
         ensures names { NoneRevived (brigade_of self.old) (brigade_of self.new) (next_name self.old) }
         ensures pools { pool_of self.new ≡ pool_of self.old }
@@ -134,7 +134,7 @@ impl<R: Rings<Bucket> + Drop> Brigades<R> {
         requires brigade { is_some (lists self.old b) ≡ true }
         requires bucket { is_some (brigade_of self.old id) ≡ true }
         ensures ok { OnOk result ((q n : ℕ) (x : Bucket) → brigade_of self.old id ≡ Some q → found id (list_at (lists self.old) q) ≡ Some x → lists self.new n ≡ on b (put_head (id, x)) (on q (without id) (lists self.old)) n) }
-        ensures sure { length (list_at (lists self.old) b) + 1 < 2 ^ 63 → IsOk result }
+        ensures sure { IsOk result }
         ensures next { next_name self.new ≡ next_name self.old }
         ensures names { NoneRevived (brigade_of self.old) (brigade_of self.new) (next_name self.old) }
         ensures pools { pool_of self.new ≡ pool_of self.old }
@@ -149,7 +149,7 @@ impl<R: Rings<Bucket> + Drop> Brigades<R> {
         requires place { is_some (brigade_of self.old at) ≡ true }
         requires bucket { is_some (brigade_of self.old id) ≡ true }
         ensures ok { OnOk result ((b q n : ℕ) (x : Bucket) → brigade_of self.old at ≡ Some b → brigade_of self.old id ≡ Some q → found id (list_at (lists self.old) q) ≡ Some x → lists self.new n ≡ (if same at id then lists self.old n else on b (put_before at (id, x)) (on q (without id) (lists self.old)) n)) }
-        ensures sure { (b : ℕ) → brigade_of self.old at ≡ Some b → length (list_at (lists self.old) b) + 1 < 2 ^ 63 → IsOk result }
+        ensures sure { IsOk result }
         ensures next { next_name self.new ≡ next_name self.old }
         ensures names { NoneRevived (brigade_of self.old) (brigade_of self.new) (next_name self.old) }
         ensures pools { pool_of self.new ≡ pool_of self.old }

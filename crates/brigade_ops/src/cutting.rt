@@ -1,6 +1,6 @@
 //! One bucket of the store is split, copied or read.
 
-ghost use Rattle.std.specs.Prelude.{◌≡◌, ◌↔◌, ℕ, ◌+◌, ◌<◌, List, [], ◌∷◌, Some, None, Err, true, false, is_some, is_ok, if◌then◌else◌, IfOk, OnOk, OnErr, IsErr};
+ghost use Rattle.std.specs.Prelude.{◌≡◌, ◌↔◌, ℕ, ◌+◌, ◌<◌, List, [], ◌∷◌, Some, None, Err, true, false, is_some, is_ok, if◌then◌else◌, IsOk, IfOk, OnOk, OnErr, IsErr};
 ghost use Rattle.bucket_ring.specs.Lists.{on, put_tail, put_after};
 ghost use Rattle.bucket_ring.specs.Kept.{NoneRevived};
 ghost use Rattle.run_model.specs.Buckets.{is_data_kind};
@@ -13,11 +13,12 @@ use bucket_kinds::{copy_bucket, halves};
 use bucket_ring::{BucketId, RingRefusal, Rings};
 use run_model::Bucket;
 
-#[tactic(auto, unfolding(crate::specs::Store::lists, crate::specs::Store::brigade_of, crate::specs::Store::pool_of, crate::specs::Store::next_name, crate::specs::Store::references))]
+#[tactic(auto, unfolding(crate::specs::Store::lists, crate::specs::Store::brigade_of, crate::specs::Store::pool_of, crate::specs::Store::next_name, crate::specs::Store::references, crate::specs::Store::has_room))]
 impl<R: Rings<Bucket> + Drop> Brigades<R> {
-    ghost use Rattle.brigade_ops.specs.Store.{lists, brigade_of, bucket_at, pool_of, next_name, references};
+    ghost use Rattle.brigade_ops.specs.Store.{lists, brigade_of, bucket_at, pool_of, next_name, references, has_room};
 
-    /// Puts a new bucket behind another. Refused, nothing is changed, and it is dropped.
+    /// Puts a new bucket behind another. Refused, nothing is changed, and it is dropped. Where `make_room` made room, it is not refused for
+    /// memory.
     pub(crate) fn put_behind(
         &mut self,
         at: BucketId,
@@ -35,6 +36,7 @@ impl<R: Rings<Bucket> + Drop> Brigades<R> {
         ensures references { references self.new ≡ references self.old }
         ensures spent { next_name self.old ≡ u64.MAX → result ≡ Err RingRefusal.NamesSpent }
         ensures unspent { result ≡ Err RingRefusal.NamesSpent → next_name self.old ≡ u64.MAX }
+        ensures sure { has_room self.old → next_name self.old < u64.MAX → IsOk result }
         ensures err { OnErr result ((n : ℕ) → lists self.new n ≡ lists self.old n) }
     {
         let id = match self.held.add_after(at, bucket) {

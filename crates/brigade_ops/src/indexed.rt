@@ -44,6 +44,8 @@ impl<R: Rings<Bucket> + Drop> Rings<Bucket> for Indexed<R> {
 
     ghost next_name = { λ s. R.next_name s.rings };
 
+    ghost has_room = { λ s. R.has_room s.rings };
+
     ghost kept = { λ s. R.kept s.rings };
 
     ghost counted = { λ s. R.counted s.rings };
@@ -67,6 +69,10 @@ impl<R: Rings<Bucket> + Drop> Rings<Bucket> for Indexed<R> {
             rings: R::new(alloc, first),
             dependents: Dependents::new(alloc),
         }
+    }
+
+    fn make_room(&mut self) -> Result<(), AllocError> {
+        self.rings.make_room()
     }
 
     fn new_ring(&mut self) -> Result<RingId, RingRefusal> {

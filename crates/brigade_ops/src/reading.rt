@@ -1,6 +1,6 @@
 //! A bucket of the store is read.
 
-ghost use Rattle.std.specs.Prelude.{◌≡◌, ◌≢◌, ◌⊎◌, ◌&&◌, ℕ, ◌+◌, List, [], ◌∷◌, length, Ok, Some, None, Err, true, is_some, is_ok, if◌then◌else◌, IfOk, IfSome, OnOk, OnErr};
+ghost use Rattle.std.specs.Prelude.{◌≡◌, ◌≢◌, ◌⊎◌, ◌&&◌, ℕ, ◌+◌, ◌<◌, List, [], ◌∷◌, length, Ok, Some, None, Err, true, is_some, is_ok, if◌then◌else◌, IfOk, IfSome, OnOk, OnErr};
 ghost use Rattle.bucket_ring.specs.Lists.{on, with_payload};
 ghost use Rattle.bucket_ring.specs.Kept.{NoneRevived};
 ghost use Rattle.run_model.specs.Cutting.{EndsInFile, wanted, read_of};
@@ -15,9 +15,9 @@ use bucket_kinds::{Files, ReadFault, read_into, rest_of_read, room_to_read};
 use bucket_ring::{BucketId, Rings};
 use run_model::{Bucket, Content, Seq};
 
-#[tactic(auto, unfolding(crate::specs::Store::lists, crate::specs::Store::brigade_of, crate::specs::Store::pool_of, crate::specs::Store::next_name, crate::specs::Store::references))]
+#[tactic(auto, unfolding(crate::specs::Store::lists, crate::specs::Store::brigade_of, crate::specs::Store::pool_of, crate::specs::Store::next_name, crate::specs::Store::references, crate::specs::Store::has_room))]
 impl<R: Rings<Bucket> + Drop> Brigades<R> {
-    ghost use Rattle.brigade_ops.specs.Store.{lists, brigade_of, bucket_at, pool_of, next_name, references};
+    ghost use Rattle.brigade_ops.specs.Store.{lists, brigade_of, bucket_at, pool_of, next_name, references, has_room};
 
     /// A bucket that is a range of a file.
     fn range_at(&self, id: BucketId) -> Option<Bucket>
@@ -72,7 +72,7 @@ impl<R: Rings<Bucket> + Drop> Brigades<R> {
         Ok(())
     }
 
-    /// Reads a bucket of which a read leaves this rest. A name is asked for before the file is read.
+    /// Reads a bucket of which a read leaves this rest. A name and room for it are there.
     fn read_front<F: Files>(
         &mut self,
         files: &mut F,
@@ -80,12 +80,14 @@ impl<R: Rings<Bucket> + Drop> Brigades<R> {
         mut bucket: Bucket,
         room: Seq<u8>,
         rest: Bucket,
-    ) -> Result<BucketId, ReadRefusal>
+    ) -> Result<BucketId, ReadFault>
         requires there { is_some (brigade_of self.old id) ≡ true }
         requires ends { EndsInFile bucket.content }
         requires open { IsOpenFor (F.device files.old) bucket.content }
         requires room { length room ≡ wanted bucket.content }
         requires long { wanted bucket.content ≢ 0 }
+        requires unspent { next_name self.old < u64.MAX }
+        requires room_for_rest { has_room self.old }
         ensures ok { IfOk result (λ new. (b : ℕ) → brigade_of self.old id ≡ Some b → (bytes : List ℕ) × GivesFor (F.device files.old) bucket.content bytes
             × ((m : ℕ) → lists self.new m ≡ on b (replaced id (read_of bytes bucket).0 ((new, rest) ∷ [])) (lists self.old) m)) }
         ensures name { IfOk result (λ new. new.birth ≡ next_name self.old) }
@@ -94,25 +96,21 @@ impl<R: Rings<Bucket> + Drop> Brigades<R> {
         ensures pools { pool_of self.new ≡ pool_of self.old }
         ensures references { references self.new ≡ references self.old }
         ensures same { OnOk result (F.device files.new ≡ F.device files.old) }
-        ensures fault { result ≡ Err ReadRefusal.ReadFault
-            → HasFailed (F.device files.old) (F.device files.new)
-            ⊎ ((F.device files.new ≡ F.device files.old) × EndsWithin (F.device files.old) bucket.content) }
-        ensures no_memory { result ≡ Err ReadRefusal.NoMemory → F.device files.new ≡ F.device files.old }
-        ensures spent { next_name self.old ≡ u64.MAX → result ≡ Err ReadRefusal.NamesSpent }
-        ensures unspent { result ≡ Err ReadRefusal.NamesSpent → (next_name self.old ≡ u64.MAX) × (F.device files.new ≡ F.device files.old) }
+        ensures fault { OnErr result
+            (HasFailed (F.device files.old) (F.device files.new)
+            ⊎ ((F.device files.new ≡ F.device files.old) × EndsWithin (F.device files.old) bucket.content)) }
         ensures open_files { (F.device files.new).numbered ≡ (F.device files.old).numbered }
         ensures err { OnErr result ((m : ℕ) → lists self.new m ≡ lists self.old m) }
     {
-        if self.held.next_name() == u64::MAX {
-            return Err(ReadRefusal::NamesSpent);
-        }
         let _rest = read_into(&mut bucket, room, files)?;
-        let new = self.put_behind(id, rest)?;
+        let Ok(new) = self.put_behind(id, rest) else {
+            unreachable!()
+        };
         let _unread = self.held.set_payload(id, bucket);
         Ok(new)
     }
 
-    /// Reads a bucket that is a range of a file.
+    /// Reads a bucket that is a range of a file. A name and room for what a read leaves of it are got before the file is asked.
     fn read_range<F: Files>(
         &mut self,
         files: &mut F,
@@ -147,9 +145,13 @@ impl<R: Rings<Bucket> + Drop> Brigades<R> {
                 Err(_) => Err(ReadRefusal::ReadFault),
             };
         };
+        if self.held.next_name() == u64::MAX {
+            return Err(ReadRefusal::NamesSpent);
+        }
+        self.make_room()?;
         match self.read_front(files, id, bucket, room, rest) {
             Ok(new) => Ok(Some(new)),
-            Err(why) => Err(why),
+            Err(_) => Err(ReadRefusal::ReadFault),
         }
     }
 

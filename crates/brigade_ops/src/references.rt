@@ -1,6 +1,6 @@
 //! References to files: registered with a pool, and counted.
 
-ghost use Rattle.std.specs.Prelude.{◌≡◌, ◌<◌, ◌≤◌, ℕ, ◌+◌, ◌==◌, if◌then◌else◌, true, IsTrue, OnOk, OnErr};
+ghost use Rattle.std.specs.Prelude.{◌≡◌, ◌<◌, ◌≤◌, ℕ, ◌+◌, ◌==◌, if◌then◌else◌, [], true, IsTrue, IsOk, OnOk, OnErr};
 ghost use Rattle.run_model.specs.Pools.{Pools, is_live, registered};
 ghost use Rattle.run_model.specs.RunOrder.{killed};
 ghost use Rattle.run_model.specs.Payloads.{payload_eq};
@@ -78,7 +78,7 @@ pub(crate) fn unrefer_all(
     }
 }
 
-/// Registers a reference to each of these files with a pool, and counts them. Refused, nothing is changed.
+/// Registers a reference to each of these files with a pool, and counts them. Of none it takes no memory. Refused, nothing is changed.
 pub(crate) fn refer_all(
     counts: &mut Numbers,
     tree: &mut PoolTree<Payload>,
@@ -89,6 +89,7 @@ pub(crate) fn refer_all(
     ensures ok { OnOk result (map_of tree.new ≡ all_referred pool files.now (map_of tree.old)) }
     ensures counted { OnOk result ((f : ℕ) → count_at counts.new f ≡ count_at counts.old f + times_in f files.now) }
     ensures live { IsTrue (is_live (map_of tree.new) pool) }
+    ensures sure { files.now ≡ [] → IsOk result }
     ensures kept { OnErr result (map_of tree.new ≡ map_of tree.old) }
     ensures uncounted { OnErr result ((f : ℕ) → count_at counts.new f ≡ count_at counts.old f) }
 {

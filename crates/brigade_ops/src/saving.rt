@@ -1,6 +1,6 @@
 //! The buckets of one brigade are set aside into the pool of another.
 
-ghost use Rattle.std.specs.Prelude.{◌≡◌, ◌≢◌, ℕ, ◌+◌, ◌++◌, [], map, filter_map, Some, true, is_some, IsTrue, IfOk, IfSome, OnOk, OnErr};
+ghost use Rattle.std.specs.Prelude.{◌≡◌, ◌≢◌, ℕ, ◌+◌, ◌++◌, [], map, filter_map, Some, None, true, is_some, IsTrue, IsOk, IfOk, IfSome, OnOk, OnErr};
 ghost use Rattle.std.specs.List.{cons_option};
 ghost use Rattle.run_model.specs.Pools.{is_live};
 ghost use Rattle.run_model.specs.RunOrder.{IsPoolMap};
@@ -13,7 +13,7 @@ ghost use Rattle.brigade_ops.specs.Items.{named, aside_item, aside_behind};
 ghost use Rattle.brigade_ops.specs.House.{IsHouse};
 
 use crate::aside::is_above;
-use crate::references::{refer_all, unrefer_all};
+use crate::references::refer_all;
 use crate::store::{BrigadeId, Brigades};
 use bucket_kinds::FileNo;
 use bucket_ring::{BucketId, Rings};
@@ -24,6 +24,7 @@ use std::alloc::AllocError;
 /// Puts an item, where there is one, behind others.
 pub(crate) fn push_some<T: Drop>(items: &mut Seq<T>, item: Option<T>) -> Result<(), AllocError>
     ensures ok { OnOk result (items.new ≡ items.old ++ cons_option item []) }
+    ensures sure { item ≡ None → IsOk result }
 {
     match item {
         Some(item) => items.push(item),
@@ -44,7 +45,8 @@ impl<R: Rings<Bucket> + Drop> Brigades<R> {
     ) -> Result<Seq<FileNo>, AllocError>
         requires there { is_some (lists self.now b) ≡ true }
         requires live { IsTrue (is_live (map_of tree.now) pool) }
-        ensures { IfOk result (λ files. files ≡ filter_map (new_ref (map_of tree.now) pool) (named (list_at (lists self.now) b))) }
+        ensures ok { IfOk result (λ files. files ≡ filter_map (new_ref (map_of tree.now) pool) (named (list_at (lists self.now) b))) }
+        ensures sure { filter_map (new_ref (map_of tree.now) pool) (named (list_at (lists self.now) b)) ≡ [] → IsOk result }
     {
         let mut files = Seq::new(self.alloc);
         let mut place = self.start(b);
@@ -81,7 +83,7 @@ impl<R: Rings<Bucket> + Drop> Brigades<R> {
     }
 
     /// Sets each bucket of `b` aside into the pool that `o` is on, and moves them to the tail of `o` (`ap_save_brigade`). A FILE bucket
-    /// whose home is not above the pool gets a reference to its file there. Refused, nothing is changed.
+    /// whose home is not above the pool gets a reference to its file there, and no other takes memory. Refused, nothing is changed.
     pub fn save(
         &mut self,
         tree: &mut PoolTree<Payload>,
@@ -103,6 +105,7 @@ impl<R: Rings<Bucket> + Drop> Brigades<R> {
         ensures names { NoneRevived (brigade_of self.old) (brigade_of self.new) (next_name self.old) }
         ensures pools { pool_of self.new ≡ pool_of self.old }
         ensures formed { IsPoolMap (map_of tree.new) }
+        ensures sure { (p : ℕ) → pool_of self.old o ≡ Some p → filter_map (new_ref (map_of tree.old) p) (named (list_at (lists self.old) b)) ≡ [] → IsOk result }
         ensures err { OnErr result ((n : ℕ) → lists self.new n ≡ lists self.old n) }
         ensures kept { OnErr result (map_of tree.new ≡ map_of tree.old) }
         ensures uncounted { OnErr result ((f : ℕ) → references self.new f ≡ references self.old f) }
@@ -114,10 +117,9 @@ impl<R: Rings<Bucket> + Drop> Brigades<R> {
         let files = self.files_for(tree, b, pool)?;
         let first = self.start(b);
         refer_all(&mut self.references, tree, pool, files.as_slice())?;
-        if self.held.splice_tail(o, b).is_err() {
-            unrefer_all(&mut self.references, tree, pool, files.as_slice());
-            return Err(AllocError);
-        }
+        let Ok(()) = self.held.splice_tail(o, b) else {
+            unreachable!()
+        };
         self.put_all_aside(tree, o, first, pool);
         Ok(())
     }

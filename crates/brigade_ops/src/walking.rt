@@ -1,10 +1,10 @@
 //! A brigade is walked along: measured, split and parted.
 
-ghost use Rattle.std.specs.Prelude.{◌≡◌, ◌≢◌, ◌&&◌, ℕ, ◌+◌, ◌<◌, ◌^◌, [], ◌∷◌, drop, length, Some, None, Ok, Err, true, false, is_some, is_ok, if◌then◌else◌, IfOk, IfSome, OnOk, OnErr};
+ghost use Rattle.std.specs.Prelude.{◌≡◌, ◌≢◌, ◌&&◌, ℕ, ◌+◌, ◌<◌, ◌^◌, [], ◌∷◌, drop, length, Some, None, Ok, Err, true, false, is_some, is_ok, if◌then◌else◌, IsOk, IfOk, IfSome, OnOk, OnErr};
 ghost use Rattle.bucket_ring.specs.Lists.{on, list_at, rest, first_of};
 ghost use Rattle.bucket_ring.specs.Kept.{NoneRevived};
 ghost use Rattle.run_model.specs.BrigadeLists.{length_in};
-ghost use Rattle.run_model.specs.Cutting.{EndsInFile, length_of, split_at};
+ghost use Rattle.run_model.specs.Cutting.{EndsInFile, form_of, form_of_kind, length_of, split_at};
 ghost use Rattle.brigade_ops.specs.Items.{named, replaced, before_place, from_place};
 ghost use Rattle.brigade_ops.specs.Points.{point_in, is_inside, cut_at};
 
@@ -120,9 +120,11 @@ impl<R: Rings<Bucket> + Drop> Brigades<R> {
     }
 
     /// Finds the place behind the shortest front of a brigade whose lengths add up to a point (`apr_brigade_partition`). A bucket that
-    /// the point lies inside is split. `Incomplete`: the brigade is shorter, and nothing is changed. Refused, nothing is changed.
+    /// the point lies inside is split, which alone may be refused: `NamesSpent` where the next name is `u64::MAX`, else `NoMemory`. Refused,
+    /// nothing is changed. `Incomplete`: the brigade is shorter, and nothing is changed.
     pub fn partition(&mut self, b: BrigadeId, point: u64) -> Result<Cut, RingRefusal>
         requires there { is_some (lists self.old b) ≡ true }
+        requires fits { (id : BucketId) (x : Bucket) → brigade_of self.old id ≡ Some b → bucket_at self.old id ≡ Some x → form_of x.content ≡ form_of_kind x.kind }
         requires ends { (id : BucketId) (x : Bucket) → brigade_of self.old id ≡ Some b → bucket_at self.old id ≡ Some x → EndsInFile x.content }
         ensures between { is_inside (point_in point (list_at (lists self.old) b)) ≡ false → (result ≡ Ok (cut_at (point_in point (list_at (lists self.old) b)))) × ((m : ℕ) → lists self.new m ≡ lists self.old m) }
         ensures inside { (id : BucketId) (n : ℕ) (x : Bucket) → point_in point (list_at (lists self.old) b) ≡ Point.Inside id n → bucket_at self.old id ≡ Some x
@@ -144,12 +146,14 @@ impl<R: Rings<Bucket> + Drop> Brigades<R> {
         match self.split(id, n) {
             Ok(new) => Ok(Cut::Found(new)),
             Err(SplitRefusal::NamesSpent) => Err(RingRefusal::NamesSpent),
-            Err(_) => Err(RingRefusal::NoMemory),
+            Err(SplitRefusal::NoMemory) => Err(RingRefusal::NoMemory),
+            Err(SplitRefusal::Metadata) => unreachable!(),
+            Err(SplitRefusal::TooLong) => unreachable!(),
         }
     }
 
     /// Splits a brigade at a place (`apr_brigade_split_ex`): `a` is cleaned, and what stands from the place on moves into it; at the end,
-    /// which is no bucket, nothing moves. Refused, nothing is changed.
+    /// which is no bucket, nothing moves. It takes no memory, and is never refused.
     pub fn split_at(
         &mut self,
         b: BrigadeId,
@@ -161,6 +165,7 @@ impl<R: Rings<Bucket> + Drop> Brigades<R> {
         requires apart { a ≢ b }
         requires inside { IfSome place (λ id. brigade_of self.old id ≡ Some b) }
         ensures ok { OnOk result ((n : ℕ) → lists self.new n ≡ on a (λ xs. from_place place (list_at (lists self.old) b)) (on b (before_place place) (lists self.old)) n) }
+        ensures sure { IsOk result }
         ensures next { next_name self.new ≡ next_name self.old }
         ensures names { NoneRevived (brigade_of self.old) (brigade_of self.new) (next_name self.old) }
         ensures pools { pool_of self.new ≡ pool_of self.old }

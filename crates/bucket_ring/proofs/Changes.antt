@@ -80,11 +80,6 @@ module _ {T : Type 0} where
   unfolding lists_of ring_at
   links_counted s linked id r = lists_counted (bucket_of s) (mark_of s) (at_of s) (shown_of s) (behind_of s) (before_of s) (head_of s) linked id r
 
-  pub short : (s : Links T) → AreLinked s → (r : ℕ) → is_some (lists_of s r) ≡ true → length (list_at (lists_of s) r) < 2 ^ 63
-  short s linked r there =
-      let h = head_is (head_of s r) (sym (lists_there s r) ∙ there) in
-      omega (arith, length_of s r h.0 linked h.1, linked.few r h.0 h.1)
-
   -- each call in which no bucket and no ring is new
   pub kept_still : (s t : Links T) (next : ℕ) → AreLinked t → ((j : BucketId) → is_some (ring_at t j) ≡ true → is_some (ring_at s j) ≡ true) → ((r : ℕ) → is_some (lists_of t r) ≡ true → is_some (lists_of s r) ≡ true)
       → IsKept (ring_at s) (lists_of s) next → IsKept (ring_at t) (lists_of t) next

@@ -43,7 +43,7 @@ module _ (f b : ℕ → ℕ) (mark mark2 at : ℕ → Option ℕ) (heads heads2 
     marked = by_ring (λ n g. mark2 g.sentinel ≡ Some n) (marks s ∙ upd_on mark s (Some q))
         (λ n g e. marks g.sentinel ∙ upd_off mark s (Some q) g.sentinel (λ same. let clash : Some n ≡ None = sym (linked.marked n g e) ∙ ap mark same ∙ unmarked in cc) ∙ linked.marked n g e);
     apart = by_ring (λ n g. at g.sentinel ≡ None) nowhere (λ n g e. linked.apart n g e);
-    few = by_ring (λ n g. g.count < 2 ^ 63) (omega arith) (λ n g e. linked.few n g e);
+    few = by_ring (λ n g. g.count < 2 ^ 64) (omega arith) (λ n g e. linked.few n g e);
     counted = λ k r. elim (cases_eq r q) [
       | inl e ↦ rw e (ap (λ (o : Option RingHead). count k (slots f o)) (heads_new q ∙ upd_on heads q (Some (record { sentinel = s; count = 0 }))) ∙ sym (ap (λ (o : Option RingHead). count k (slots f o)) none) ∙ linked.counted k q)
       | inr ne ↦ ap (λ (o : Option RingHead). count k (slots f o)) (heads_new r ∙ upd_off heads q (Some (record { sentinel = s; count = 0 })) r ne) ∙ linked.counted k r

@@ -10,5 +10,6 @@ pub mod Taken
 pub mod Read
 pub mod Heads
 pub mod Batches
+pub mod Short
 pub mod Splices
 pub mod Written

@@ -88,7 +88,7 @@ module _ {T : Type 0} where
     taken_birth = ap (λ (c : BucketId × T). c.0.birth) is_it ∙ same_birth around.0.0 id around.4
 
   -- a bucket is put in
-  module _ (s t : Links T) (slot ring : ℕ) (position : Position) (birth : ℕ) (x : T) (h : RingHead) (linked : AreLinked s) (loose : IsLooseSlot s slot) (is : IsSpot (ring_at s) ring position) (head : head_of s ring ≡ Some h) (few : length (list_at (lists_of s) ring) + 1 < 2 ^ 63)
+  module _ (s t : Links T) (slot ring : ℕ) (position : Position) (birth : ℕ) (x : T) (h : RingHead) (linked : AreLinked s) (loose : IsLooseSlot s slot) (is : IsSpot (ring_at s) ring position) (head : head_of s ring ≡ Some h) (few : length (list_at (lists_of s) ring) + 1 < 2 ^ 64)
       (change : Changed s t slot (target (behind_of s) h position) ring (Some (id_of slot birth, x)) (Some ring) (record { sentinel = h.sentinel; count = h.count + 1 })) where
     abbrev longer : RingHead
     longer = record { sentinel = h.sentinel; count = h.count + 1 }

@@ -56,7 +56,7 @@ impl<T: Drop> Links<T> {
         requires loose { IsLooseSlot self.old slot }
         requires there { is_some (lists_of self.old ring) ≡ true }
         requires position { IsSpot (ring_at self.old) ring position }
-        requires few { length (list_at (lists_of self.old) ring) + 1 < 2 ^ 63 }
+        requires few { length (list_at (lists_of self.old) ring) + 1 < 2 ^ 64 }
         ensures linked { AreLinked self.new }
         ensures lists { (n : ℕ) → lists_of self.new n ≡ on ring (placed position ((id_of slot bucket.birth, bucket.payload) ∷ [])) (lists_of self.old) n }
         ensures places { (j : _) → ring_at self.new j ≡ (if same (id_of slot bucket.birth) j then Some ring else ring_at self.old j) }
@@ -127,16 +127,6 @@ impl<T: Drop> Links<T> {
         ensures { result ≡ is_some (lists_of self.now ring) }
     {
         self.is_head(ring)
-    }
-
-    /// How many buckets a ring has.
-    pub(crate) fn len(&self, ring: RingId) -> usize
-        requires linked { AreLinked self.now }
-        requires there { is_some (lists_of self.now ring) ≡ true }
-        ensures value { result ≡ length (list_at (lists_of self.now) ring) }
-        ensures fits { result < 2 ^ 63 }
-    {
-        self.head(ring).count
     }
 
     /// The first bucket of a ring.

@@ -1,6 +1,6 @@
 //! The slots of all rings, each with the slots before and behind it.
 
-ghost use Rattle.std.specs.Prelude.{◌≡◌, ◌≢◌, ℕ, ◌+◌, ◌<◌, ◌≤◌, ◌==◌, if◌then◌else◌, Some, None, true, is_some, OnOk};
+ghost use Rattle.std.specs.Prelude.{◌≡◌, ◌≢◌, ℕ, ◌+◌, ◌<◌, ◌≤◌, ◌==◌, if◌then◌else◌, Some, None, true, is_some, IsOk, OnOk};
 ghost use Rattle.std.specs.Option.{option_map};
 ghost use Rattle.std.specs.HashMap.{spare};
 ghost use Rattle.slab.specs.Slab.{get, HasRoomFor};
@@ -122,6 +122,7 @@ impl<T: Drop> Links<T> {
     pub(crate) fn reserve(&mut self, slots: usize, rings: usize) -> Result<(), AllocError>
         ensures room { OnOk result (HasRoomFor self.new.nodes slots) }
         ensures spare { OnOk result (rings ≤ spare self.new.heads) }
+        ensures sure { HasRoomFor self.old.nodes slots → rings ≤ spare self.old.heads → IsOk result }
         ensures links { KeepsLinks self.old self.new }
         ensures buckets { KeepsBuckets self.old self.new }
         ensures heads { (n : ℕ) → head_of self.new n ≡ head_of self.old n }

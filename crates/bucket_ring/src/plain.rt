@@ -14,9 +14,6 @@ use crate::names::{BucketId, RingId, RingRefusal};
 use crate::rings::Rings;
 use std::alloc::{AllocError, Global};
 
-/// A ring cannot have this many buckets.
-const LIMIT: usize = 0x8000_0000_0000_0000;
-
 /// Rings as links between the slots of a slab. Each call takes constant time, but those that move, make or end many buckets.
 #[derive(Drop)]
 pub struct PlainRings<T> {
@@ -32,7 +29,6 @@ impl<T: Drop> PlainRings<T> {
         requires there { is_some (lists_of self.old.links ring) ≡ true }
         requires position { IsSpot (ring_at self.old.links) ring position }
         requires room { HasRoomFor self.old.links.nodes 1 }
-        requires few { length (list_at (lists_of self.old.links) ring) + 1 < 2 ^ 63 }
         requires unspent { self.old.next < u64.MAX }
         ensures out { (n : ℕ) → lists_of self.new.links n ≡ on ring (placed position ((result, payload) ∷ [])) (lists_of self.old.links) n }
         ensures name { result.birth ≡ self.old.next }
@@ -61,7 +57,6 @@ impl<T: Drop> PlainRings<T> {
     fn settle_all(&mut self, ring: RingId, given: Vec<T>)
         requires there { is_some (lists_of self.old.links ring) ≡ true }
         requires room { HasRoomFor self.old.links.nodes (length given.items) }
-        requires few { length (list_at (lists_of self.old.links) ring) + length given.items < 2 ^ 63 }
         requires unspent { self.old.next + length given.items ≤ u64.MAX }
         ensures out { (bs : List (BucketId × T)) × (by_birth bs ≡ numbered self.old.next given.items) × ((n : ℕ) → lists_of self.new.links n ≡ on ring (λ xs. xs ++ bs) (lists_of self.old.links) n) }
         ensures next { self.new.next ≡ self.old.next + length given.items }
@@ -73,10 +68,11 @@ impl<T: Drop> PlainRings<T> {
         }
     }
 
-    /// Makes room for so many slots, and rings.
+    /// Makes room for so many slots, and rings. Where there is room, it takes no memory.
     fn reserve(&mut self, slots: usize, rings: usize) -> Result<(), AllocError>
         ensures room { OnOk result (HasRoomFor self.new.links.nodes slots) }
         ensures spare { OnOk result (rings ≤ spare self.new.links.heads) }
+        ensures sure { HasRoomFor self.old.links.nodes slots → rings ≤ spare self.old.links.heads → IsOk result }
         ensures same { (n : ℕ) → lists_of self.new.links n ≡ lists_of self.old.links n }
         ensures still { (id : BucketId) → ring_at self.new.links id ≡ ring_at self.old.links id }
         ensures next { self.new.next ≡ self.old.next }
@@ -84,12 +80,11 @@ impl<T: Drop> PlainRings<T> {
         self.links.reserve(slots, rings)
     }
 
-    /// Makes room for so many buckets beside others of their ring, and for rings, where so many names are left.
-    fn ready(&mut self, count: usize, rings: usize, others: usize) -> Result<(), RingRefusal>
+    /// Makes room for so many buckets and rings, where so many names are left.
+    fn ready(&mut self, count: usize, rings: usize) -> Result<(), RingRefusal>
         requires { rings ≤ 2 }
         ensures room { OnOk result (HasRoomFor self.new.links.nodes (count + rings)) }
         ensures spare { OnOk result (rings ≤ spare self.new.links.heads) }
-        ensures few { OnOk result (others + count < 2 ^ 63) }
         ensures spent { (result ≡ Err RingRefusal.NamesSpent) ↔ (u64.MAX < self.old.next + rings + count) }
         ensures same { (n : ℕ) → lists_of self.new.links n ≡ lists_of self.old.links n }
         ensures still { (id : BucketId) → ring_at self.new.links id ≡ ring_at self.old.links id }
@@ -98,9 +93,6 @@ impl<T: Drop> PlainRings<T> {
         let left = u64::MAX - self.next;
         if left < rings as u64 || left - (rings as u64) < count as u64 {
             return Err(RingRefusal::NamesSpent);
-        }
-        if others >= LIMIT || count >= LIMIT - others {
-            return Err(RingRefusal::NoMemory);
         }
         self.reserve(count + rings, rings)?;
         Ok(())
@@ -121,14 +113,12 @@ impl<T: Drop> PlainRings<T> {
         ensures names { NoneRevived (ring_at self.old.links) (ring_at self.new.links) self.old.next }
         ensures spent { self.old.next ≡ u64.MAX → result ≡ Err (RingRefusal.NamesSpent, payload) }
         ensures unspent { IfErr result (λ why. why.0 ≡ RingRefusal.NamesSpent → self.old.next ≡ u64.MAX) }
+        ensures sure { HasRoomFor self.old.links.nodes 1 → self.old.next < u64.MAX → IsOk result }
         ensures err { OnErr result ((n : ℕ) → lists_of self.new.links n ≡ lists_of self.old.links n) }
         ensures back { IfErr result (λ why. why.1 ≡ payload) }
     {
         if self.next == u64::MAX {
             return Err((RingRefusal::NamesSpent, payload));
-        }
-        if self.links.len(ring) + 1 >= LIMIT {
-            return Err((RingRefusal::NoMemory, payload));
         }
         match self.reserve(1, 0) {
             Ok(()) => Ok(self.settle(ring, position, payload)),
@@ -167,12 +157,11 @@ impl<T: Drop> PlainRings<T> {
         }
     }
 
-    /// Moves a bucket to a spot in a ring, which is not its own.
+    /// Moves a bucket to a spot in a ring.
     fn carry(&mut self, ring: RingId, position: Position, id: BucketId)
         requires ring { is_some (lists_of self.old.links ring) ≡ true }
         requires bucket { is_some (ring_at self.old.links id) ≡ true }
         requires position { IsSpot (λ j. if same id j then None else ring_at self.old.links j) ring position }
-        requires few { length (list_at (lists_of self.old.links) ring) + 1 < 2 ^ 63 }
         ensures out { (q n : ℕ) (x : T) → ring_at self.old.links id ≡ Some q → found id (list_at (lists_of self.old.links) q) ≡ Some x → lists_of self.new.links n ≡ on ring (placed position ((id, x) ∷ [])) (on q (without id) (lists_of self.old.links)) n }
         ensures next { self.new.next ≡ self.old.next }
         ensures names { (j : BucketId) → is_some (ring_at self.new.links j) ≡ true → is_some (ring_at self.old.links j) ≡ true }
@@ -180,24 +169,6 @@ impl<T: Drop> PlainRings<T> {
         let from = self.ring_with(id);
         let bucket = self.links.take(from, id);
         self.links.put(id.slot, ring, position, bucket);
-    }
-
-    /// Moves a bucket to a spot in a ring.
-    fn shift(&mut self, ring: RingId, position: Position, id: BucketId) -> Result<(), AllocError>
-        requires ring { is_some (lists_of self.old.links ring) ≡ true }
-        requires bucket { is_some (ring_at self.old.links id) ≡ true }
-        requires position { IsSpot (λ j. if same id j then None else ring_at self.old.links j) ring position }
-        ensures ok { OnOk result ((q n : ℕ) (x : T) → ring_at self.old.links id ≡ Some q → found id (list_at (lists_of self.old.links) q) ≡ Some x → lists_of self.new.links n ≡ on ring (placed position ((id, x) ∷ [])) (on q (without id) (lists_of self.old.links)) n) }
-        ensures sure { length (list_at (lists_of self.old.links) ring) + 1 < 2 ^ 63 → IsOk result }
-        ensures next { self.new.next ≡ self.old.next }
-        ensures names { NoneRevived (ring_at self.old.links) (ring_at self.new.links) self.old.next }
-        ensures err { OnErr result ((n : ℕ) → lists_of self.new.links n ≡ lists_of self.old.links n) }
-    {
-        if self.links.len(ring) + 1 >= LIMIT {
-            return Err(AllocError);
-        }
-        self.carry(ring, position, id);
-        Ok(())
     }
 }
 
@@ -209,6 +180,8 @@ impl<T: Drop> Rings<T> for PlainRings<T> {
     ghost ring_at = { λ s. ring_at s.links };
 
     ghost next_name = { λ s. s.next };
+
+    ghost has_room = { λ s. (HasRoomFor s.links.nodes 1) × (1 ≤ spare s.links.heads) };
 
     ghost kept = { λ s. s.kept };
 
@@ -235,6 +208,10 @@ impl<T: Drop> Rings<T> for PlainRings<T> {
         }
     }
 
+    fn make_room(&mut self) -> Result<(), AllocError> {
+        self.reserve(1, 1)
+    }
+
     fn new_ring(&mut self) -> Result<RingId, RingRefusal> {
         if self.next == u64::MAX {
             return Err(RingRefusal::NamesSpent);
@@ -255,8 +232,7 @@ impl<T: Drop> Rings<T> for PlainRings<T> {
         ensures spent { (result ≡ Err RingRefusal.NamesSpent) ↔ (u64.MAX < self.old.next + length given.items) }
         ensures err { OnErr result ((n : ℕ) → lists_of self.new.links n ≡ lists_of self.old.links n) }
     {
-        let others = self.links.len(ring);
-        self.ready(given.len(), 0, others)?;
+        self.ready(given.len(), 0)?;
         self.settle_all(ring, given);
         Ok(())
     }
@@ -270,7 +246,7 @@ impl<T: Drop> Rings<T> for PlainRings<T> {
         ensures spent { (result ≡ Err RingRefusal.NamesSpent) ↔ (u64.MAX < self.old.next + 2 + length given.items) }
         ensures err { OnErr result ((n : ℕ) → lists_of self.new.links n ≡ lists_of self.old.links n) }
     {
-        self.ready(given.len(), 2, 0)?;
+        self.ready(given.len(), 2)?;
         let first = self.put_ring();
         let second = self.put_ring();
         self.settle_all(second, given);
@@ -292,11 +268,13 @@ impl<T: Drop> Rings<T> for PlainRings<T> {
     }
 
     fn move_tail(&mut self, ring: RingId, id: BucketId) -> Result<(), AllocError> {
-        self.shift(ring, Position::Tail, id)
+        self.carry(ring, Position::Tail, id);
+        Ok(())
     }
 
     fn move_head(&mut self, ring: RingId, id: BucketId) -> Result<(), AllocError> {
-        self.shift(ring, Position::Head, id)
+        self.carry(ring, Position::Head, id);
+        Ok(())
     }
 
     fn move_before(&mut self, at: BucketId, id: BucketId) -> Result<(), AllocError> {
@@ -304,7 +282,8 @@ impl<T: Drop> Rings<T> for PlainRings<T> {
             return Ok(());
         }
         let ring = self.ring_with(at);
-        self.shift(ring, Position::Before(at), id)
+        self.carry(ring, Position::Before(at), id);
+        Ok(())
     }
 
     fn splice_tail(&mut self, ring: RingId, from: RingId) -> Result<(), AllocError> {
@@ -318,9 +297,6 @@ impl<T: Drop> Rings<T> for PlainRings<T> {
         let from = self.ring_with(id);
         if ring == from {
             return Ok(());
-        }
-        if self.links.len(ring) + self.links.len(from) >= LIMIT {
-            return Err(AllocError);
         }
         let mut here = Some(id);
         while let Some(id) = here {

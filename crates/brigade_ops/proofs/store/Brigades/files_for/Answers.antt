@@ -1,12 +1,12 @@
-use Rattle.std.proofs.Common.{◌≡◌, ℕ, ◌++◌, Bool, Option, Some, List, [], sym, ap, ◌∙◌, filter_map}
+use Rattle.std.proofs.Common.{◌≡◌, ℕ, ◌++◌, Bool, Option, None, Some, List, [], drop, refl, sym, ap, ◌∙◌, filter_map}
 use Rattle.std.specs.List.{cons_option}
 use Rattle.run_model.specs.Steps.{new_ref}
 use Rattle.pool_tree.specs.Tree.{map_of}
-use Rattle.bucket_ring.specs.Lists.{list_at}
-use Rattle.brigade_ops.specs.Items.{Items, named, from_place}
+use Rattle.bucket_ring.specs.Lists.{list_at, rest}
+use Rattle.brigade_ops.specs.Items.{Items, named, from_place, file_for}
 use Rattle.brigade_ops.specs.Store.{lists, brigade_of, bucket_at}
 use Rattle.brigade_ops.proofs.Walks.{told_some}
-use Rattle.brigade_ops.proofs.Saves.{found_some, files_step, here_at}
+use Rattle.brigade_ops.proofs.Saves.{found_some, files_step, here_at, none_put}
 use Rattle.brigade_ops.proofs.store.Brigades.files_for.Goals as goal
 
 pub loop-place-preserved : goal.loop-place-preserved
@@ -30,3 +30,21 @@ loop-place-preserved g c =
           ∙ (ap (λ place. c.loop-place.files ++ filter_map (new_ref ps pool) (named (from_place place xs))) (sym c.in-Some.is) ∙ c.loop-place.invariant.all));
       inside = told_some (λ j. g.R.Rings.ring_at s j ≡ Some b) c.behind-place.result (c.behind-place.ensures.inside b inside);
     }
+
+pub returns-in_err-push_some-clause-sure : goal.returns-in_err-push_some-clause-sure
+unfolding lists brigade_of bucket_at
+returns-in_err-push_some-clause-sure g c none =
+    let laws = g.met.R.Rings in
+    let s = c.args.self.now.held.rings in
+    let b = c.args.b in
+    let id = c.in-Some.id in
+    let ps = map_of c.args.tree.now in
+    let pool = c.args.pool in
+    let xs : Items = list_at (g.R.Rings.lists s) b in
+    let inside = c.loop-place.invariant.inside id c.in-Some.is in
+    let x = found_some id xs (laws.found_in s id b inside) in
+    let file = c.file_for-file.ensures x.0 (here_at (g.R.Rings.ring_at s id) (g.R.Rings.lists s) id b x.0 inside x.1) in
+    let asked : file_for ps pool x.0 ≡ None = none_put c.loop-place.files (file_for ps pool x.0) (filter_map (new_ref ps pool) (named (drop 1 (rest id xs))))
+    (files_step ps pool id x.0 xs (drop 1 (rest id xs)) c.loop-place.files x.1 refl
+    ∙ (ap (λ place. c.loop-place.files ++ filter_map (new_ref ps pool) (named (from_place place xs))) (sym c.in-Some.is) ∙ (c.loop-place.invariant.all ∙ none))) in
+    absurd (let sure = c.in_err-push_some.ensures.sure (ap (λ (p : Option ℕ × Bool). p.0) file ∙ asked) in cc)

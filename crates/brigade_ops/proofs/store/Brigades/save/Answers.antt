@@ -15,7 +15,7 @@ use Rattle.brigade_ops.specs.House.{AreHoused}
 use Rattle.brigade_ops.proofs.Housed.{house_referred, on_some}
 use Rattle.brigade_ops.proofs.Lists.{list_off, on_after}
 use Rattle.brigade_ops.proofs.Walks.{if_some, told_some}
-use Rattle.brigade_ops.proofs.Referred.{aside_same, ok_of}
+use Rattle.brigade_ops.proofs.Referred.{aside_same}
 use Rattle.brigade_ops.proofs.Saves.{none_other, found_append, joined, moved_aside}
 use Rattle.brigade_ops.proofs.store.Brigades.save.Goals as goal
 
@@ -27,9 +27,8 @@ put_all_aside-requires-clause-inside g c =
     let o = c.args.o in
     let b = c.args.b in
     let new = c.splice_tail.new.self.rings in
-    let went = sym c.is_err.ensures.value ∙ c.if-is_err.false in
     let whole : list_at (g.R.Rings.lists new) o ≡ list_at (g.R.Rings.lists s) o ++ list_at (g.R.Rings.lists s) b
-    = joined o b (g.R.Rings.lists s) (g.R.Rings.lists new) c.requires.apart c.requires.onto (ok_of c.splice_tail.result _ went c.splice_tail.ensures.ok) in
+    = joined o b (g.R.Rings.lists s) (g.R.Rings.lists new) c.requires.apart c.requires.onto c.in-Ok.ensures.ok in
     if_some (λ id. g.R.Rings.ring_at new id ≡ Some o) c.start-first.result
     (λ id is.
     let inside = told_some (λ j. g.R.Rings.ring_at s j ≡ Some b) c.start-first.result c.start-first.ensures.inside id is in
@@ -50,7 +49,6 @@ returns-clause-ok g c p n at =
     let new = c.splice_tail.new.self.rings in
     let others = on b (λ (xs : Items). []) (g.R.Rings.lists s) in
     let bs : Items = list_at (g.R.Rings.lists s) b in
-    let went = sym c.is_err.ensures.value ∙ c.if-is_err.false in
     let same_pool : pool ≡ p = same_Some pool p (sym c.in-Some.is ∙ (c.get.ensures ∙ at)) in
     let paths : aside_item (map_of c.refer_all.new.tree) pool ≡ aside_item ps pool
     = ap (λ (qs : Pools Payload). aside_item qs pool) c.in_ok-refer_all.ensures.ok ∙ aside_same pool c.as_slice.result.now ps in
@@ -61,7 +59,7 @@ returns-clause-ok g c p n at =
     ∙ none_other o b (times id (list_at (g.R.Rings.lists s) o)) (g.R.Rings.ring_at s id) c.requires.apart (told_some (λ j. g.R.Rings.ring_at s j ≡ Some b) first c.start-first.ensures.inside id is) (laws.counted s id o)) in
     c.put_all_aside.ensures.out n
     ∙ (ap (λ (f : Item → Item). on o (λ xs. before_place first xs ++ map f (from_place first xs)) (g.R.Rings.lists new) n) paths
-    ∙ (on_after o n (λ xs. xs ++ bs) (aside_behind ps pool first) (λ xs. xs ++ map (aside_item ps pool) bs) others (g.R.Rings.lists new) (ok_of c.splice_tail.result _ went c.splice_tail.ensures.ok)
+    ∙ (on_after o n (λ xs. xs ++ bs) (aside_behind ps pool first) (λ xs. xs ++ map (aside_item ps pool) bs) others (g.R.Rings.lists new) c.in-Ok.ensures.ok
     (moved_aside ps pool first (list_at others o) bs c.start-first.ensures.whole none)
     ∙ ap (λ (q : ℕ). on o (λ xs. xs ++ map (aside_item ps q) bs) others n) same_pool))
 
@@ -75,7 +73,7 @@ returns-clause-counted g c p f at =
     let bs : Items = list_at (lists c.args.self.now) c.args.b in
     ap (λ (r : ℕ → ℕ). r f) c.put_all_aside.ensures.references
     ∙ (c.in_ok-refer_all.ensures.counted f
-    ∙ (ap (λ (files : List ℕ). start + times_in f files) (c.as_slice.ensures ∙ c.in_ok-files.ensures)
+    ∙ (ap (λ (files : List ℕ). start + times_in f files) (c.as_slice.ensures ∙ c.in_ok-files.ensures.ok)
     ∙ ap (λ (q : ℕ). start + times_in f (filter_map (new_ref ps q) (named bs))) same_pool))
 
 pub returns-clause-house : goal.returns-clause-house
@@ -90,8 +88,7 @@ returns-clause-house g c house =
     let s = g.R.Rings.lists store.held.rings in
     let bs : Items = list_at s b in
     let moved = g.R.Rings.lists c.splice_tail.new.self.rings in
-    let went = sym c.is_err.ensures.value ∙ c.if-is_err.false in
-    let joined : ((n : ℕ) → moved n ≡ on o (λ xs. xs ++ bs) (on b (λ xs. []) s) n) = ok_of c.splice_tail.result _ went c.splice_tail.ensures.ok in
+    let joined : ((n : ℕ) → moved n ≡ on o (λ xs. xs ++ bs) (on b (λ xs. []) s) n) = c.in-Ok.ensures.ok in
     subst (AreHoused (lists after) (pool_of after) (references after)) (sym c.in_ok-refer_all.ensures.ok)
     (house_referred (lists store) (pool_of store) (references store) ps house (lists after) (pool_of after) (references after) pool c.as_slice.result.now (tree_formed c.args.tree.now)
     (c.requires.live pool (sym c.get.ensures ∙ c.in-Some.is))

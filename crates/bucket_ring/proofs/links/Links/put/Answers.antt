@@ -1,14 +1,17 @@
-use Rattle.std.proofs.Common.{◌+◌, ℕ, Some, is_some, ap, sym, subst, ◌∙◌}
+use Rattle.std.proofs.Common.{◌+◌, ℕ, Some, is_some, ap, sym, subst, ◌∙◌, arith}
 use Rattle.slab.specs.Slab.{get}
 use Rattle.bucket_ring.specs.Walks.{id_of}
 use Rattle.bucket_ring.specs.Links.{behind_of, target, Changed}
-use Rattle.bucket_ring.proofs.Kept.{lists_there, changed}
+use Rattle.bucket_ring.proofs.Kept.{lists_there, length_of, changed}
 use Rattle.bucket_ring.proofs.Read.{spot_there}
 use Rattle.bucket_ring.proofs.Taken.{put_linked, put_lists, put_places}
 use Rattle.bucket_ring.proofs.links.Links.put.Goals as goal
 
 pub head-head-requires : goal.head-head-requires
 head-head-requires g c = sym (lists_there c.args.self.now c.args.ring) ∙ c.requires.there
+
+pub overflow_add-head : goal.overflow_add-head
+overflow_add-head g c = omega (arith, c.requires.few, length_of c.args.self.now c.args.ring c.head-head.result c.requires.linked c.head-head.ensures)
 
 pub turn-requires-clause-at : goal.turn-requires-clause-at
 turn-requires-clause-at g c =

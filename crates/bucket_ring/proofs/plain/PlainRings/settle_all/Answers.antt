@@ -17,7 +17,6 @@ loop-payload-init g c =
       done = ([], refl, λ n. put_none c.args.ring n (lists_of c.args.self.now.links));
       there = c.requires.there;
       room = omega (arith, c.requires.room, ap length e);
-      few = omega (arith, c.requires.few, ap length e);
       next = refl;
       rises = omega arith;
       names = λ id there young. there;
@@ -46,7 +45,6 @@ loop-payload-preserved g c =
       );
       there = on_some ring (λ xs. xs ++ (id, x) ∷ []) (lists_of s.links) (lists_of new.links) put ring i.there;
       room = c.settle.ensures.room (length (into_iter_items left)) (subst (λ (k : ℕ). HasRoomFor s.links.nodes k) size i.room);
-      few = omega (arith, i.few, size, ap length longer, length-append (list_at (lists_of s.links) ring) ((id, x) ∷ []));
       next = omega (arith, i.next, c.settle.ensures.next, size);
       rises = omega (arith, i.rises, c.settle.ensures.next);
       names = none_revived_twice (ring_at c.args.self.now.links) (ring_at s.links) (ring_at new.links) c.args.self.now.next s.next i.rises i.names c.settle.ensures.names;

@@ -14,7 +14,6 @@ invariant-loop-payload g l = record {
       × ((n : ℕ) → lists_of l.self.links n ≡ on l.ring (λ xs. xs ++ bs) (lists_of l.initial.self.links) n);
   there : is_some (lists_of l.self.links l.ring) ≡ true;
   room : HasRoomFor l.self.links.nodes (length (into_iter_items l.left));
-  few : length (list_at (lists_of l.self.links) l.ring) + length (into_iter_items l.left) < 2 ^ 63;
   next : l.self.next + length (into_iter_items l.left) ≡ l.initial.self.next + length (into_iter_items l.initial.left);
   rises : l.initial.self.next ≤ l.self.next;
   names : NoneRevived (ring_at l.initial.self.links) (ring_at l.self.links) l.initial.self.next;

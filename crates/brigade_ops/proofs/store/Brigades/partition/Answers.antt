@@ -1,0 +1,43 @@
+-- A bucket that the point lies inside is data, and longer than what stands before the point.
+use Rattle.std.proofs.Common.{◌≡◌, ℕ, ◌<◌, true, false, Some, Err, List, sym, ap, ◌∙◌, arith}
+use Rattle.run_model.specs.Buckets.{is_data_kind}
+use Rattle.run_model.specs.Cutting.{length_of}
+use Rattle.bucket_ring.specs.Lists.{list_at}
+use Rattle.brigade_ops.specs.declared.refusal.SplitRefusal.{SplitRefusal}
+use Rattle.brigade_ops.specs.declared.refusal.SplitRefusal.TheVariants as refusal
+use Rattle.brigade_ops.specs.Items.{Items}
+use Rattle.brigade_ops.specs.Store.{lists, brigade_of}
+use Rattle.brigade_ops.proofs.Parts.{inside_short, bytes_are_data}
+use Rattle.brigade_ops.proofs.Saves.{found_some}
+use Rattle.brigade_ops.proofs.Stores.{counted, found_in, found_bucket}
+use Rattle.brigade_ops.proofs.Walks.{once_listed}
+use Rattle.brigade_ops.proofs.store.Brigades.partition.Goals as goal
+
+pub unreachable-requires : goal.unreachable-requires
+unreachable-requires g c =
+    let store = c.args.self.now in
+    let id = c.in-Inside.id in
+    let n = c.in-Inside.n in
+    let b = c.args.b in
+    let xs : Items = list_at (lists store) b in
+    let at = c.find.ensures.inside id n c.in-Inside.is in
+    let x = found_some id xs (found_in store id b at) in
+    let is = found_bucket store id b x.0 at x.1 in
+    let long = inside_short id c.args.point n x.0 xs (λ i. once_listed b (brigade_of store i) _ (counted store i b)) (sym c.find.ensures.value ∙ c.in-Inside.is) x.1 in
+    let is_data : is_data_kind x.0.kind ≡ true = bytes_are_data x.0.kind x.0.content n (c.requires.fits id x.0 at is) long in
+    let none : is_data_kind x.0.kind ≡ false = (c.split.ensures.metadata x.0 is).0 (c.in-Err-Metadata.is ∙ ap (λ (e : SplitRefusal). Err e) c.in-Err-Metadata.field-0-is) in
+    cc
+
+pub unreachable-requires-in-Err-TooLong : goal.unreachable-requires-in-Err-TooLong
+unreachable-requires-in-Err-TooLong g c =
+    let store = c.args.self.now in
+    let id = c.in-Inside.id in
+    let n = c.in-Inside.n in
+    let b = c.args.b in
+    let xs : Items = list_at (lists store) b in
+    let at = c.find.ensures.inside id n c.in-Inside.is in
+    let x = found_some id xs (found_in store id b at) in
+    let is = found_bucket store id b x.0 at x.1 in
+    let long = inside_short id c.args.point n x.0 xs (λ i. once_listed b (brigade_of store i) _ (counted store i b)) (sym c.find.ensures.value ∙ c.in-Inside.is) x.1 in
+    let over : length_of x.0.content < n = ((c.split.ensures.too_long x.0 is).0 (c.in-Err-TooLong.is ∙ ap (λ (e : SplitRefusal). Err e) c.in-Err-TooLong.field-0-is)).1 in
+    omega arith
