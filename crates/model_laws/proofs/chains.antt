@@ -36,8 +36,11 @@ pub mod Numbers
 pub mod FilesApart
 pub mod Reached
 pub mod OwnPools
+pub mod OwnNames
+pub mod BareRoot
 pub mod PoolsApart
 pub mod Trees
+pub mod TreeParts
 pub mod Cursors
 pub mod EachCall
 pub mod CallsKept

@@ -29,7 +29,7 @@ ghost use Rattle.model_laws.specs.ChainPaths.{EventKeepsWorldPaths, RunKeepsWorl
 ghost use Rattle.model_laws.specs.ChainNumbers.{EventKeepsNumbers, RunKeepsNumbers};
 ghost use Rattle.model_laws.specs.Reached.{EmptyIsReached, EventReaches, WorldRunGoesOn, ReachedHolds};
 ghost use Rattle.model_laws.specs.ChainClears.{MadePoolsAreOwn, OthersKeepBrigades};
-ghost use Rattle.model_laws.specs.ChainTrees.{EventKeepsPoolsApart, RunKeepsPoolsApart, JoinedIsPoolMap, ReachedPartsJoin};
+ghost use Rattle.model_laws.specs.ChainTrees.{EventKeepsPoolsApart, RunKeepsPoolsApart, JoinedIsPoolMap, ReachedPartsJoin, ReachedTreeIsOfAll};
 ghost use Rattle.model_laws.specs.CursorLaws.{StepKeepsCursors, CursorsStandOnce, MadeAreNew, CopiesAreNew, SplitsInOrder, RefusedSplitJumps, BrigadesSplitInOrder, PartitionsInOrder, PastEndJumps};
 ghost use Rattle.model_laws.specs.Parts.{PartIsPoolMap, OwnPartChanges, OtherPartsStay, ChangesSpareTheRoot, NewPartIsPlanted, NewPartSparesOthers, PartReadsAlike};
 ghost use Rattle.model_laws.specs.PartSteps.{StepsStayInPart, TopStaysInPart, FaultsAlike, NamesAlike, StepsSpareOthers};
@@ -386,14 +386,17 @@ pub fn modules_clear_what_is_theirs()
     ensures brigades { OthersKeepBrigades }
 {}
 
-/// In each run of a chain each connection's pool stands right under the root, no pool is two connections', and the pool of a later
-/// connection is newer. Each event keeps it. So in a world that is reached the pools of all connections are put together one connection
-/// after another: none of its pools is there before, and its own comes behind all that stand right under the root.
+/// In each run of a chain each connection's pool stands right under the root, no pool is two connections', no variable names a pool of
+/// another connection, nothing is registered on the root, and the pool of a later connection is newer. Each event keeps it. So in a world
+/// that is reached the pools of all connections are put together one connection after another: none of its pools is there before, and its
+/// own comes behind all that stand right under the root. In the tree that they are then each connection has its part, and each pool but
+/// the root is a connection's.
 pub fn pools_of_connections_are_their_own()
     ensures event { EventKeepsPoolsApart }
     ensures run { RunKeepsPoolsApart }
     ensures formed { JoinedIsPoolMap }
     ensures joins { ReachedPartsJoin }
+    ensures tree { ReachedTreeIsOfAll }
 {}
 
 /// Small brigades are parted, split and changed as it is worked out by hand.
