@@ -41,6 +41,9 @@ pub mod BareRoot
 pub mod PoolsApart
 pub mod Trees
 pub mod TreeParts
+pub mod OverTree
+pub mod LeftTree
+pub mod OpenedTree
 pub mod Cursors
 pub mod EachCall
 pub mod CallsKept

@@ -33,6 +33,8 @@ ghost use Rattle.model_laws.specs.ChainTrees.{EventKeepsPoolsApart, RunKeepsPool
 ghost use Rattle.model_laws.specs.CursorLaws.{StepKeepsCursors, CursorsStandOnce, MadeAreNew, CopiesAreNew, SplitsInOrder, RefusedSplitJumps, BrigadesSplitInOrder, PartitionsInOrder, PastEndJumps};
 ghost use Rattle.model_laws.specs.Parts.{PartIsPoolMap, OwnPartChanges, OtherPartsStay, ChangesSpareTheRoot, NewPartIsPlanted, NewPartSparesOthers, PartReadsAlike};
 ghost use Rattle.model_laws.specs.PartSteps.{StepsStayInPart, TopStaysInPart, FaultsAlike, NamesAlike, StepsSpareOthers};
+ghost use Rattle.model_laws.specs.SharedPools.{StepsSeenInPart, BeginsSeenInPart, BringsSeenInPart, OpensFileSeenInPart, EndsSeenInPart, LabelsSeenInPart, SoundOver, TopSparesOthers};
+ghost use Rattle.model_laws.specs.SharedTree.{ReachedLiesOver, StepsLeaveTheTree, BeginsLeaveTheTree, BringsLeaveTheTree, OpenFilesLeaveTheTree, EndsLeaveTheTree, OpeningPlantsAPool, ClosingTakesItsPool};
 ghost use Rattle.model_laws.specs.JoinedParts.{JoinedPartStays, PartsAreTheWhole};
 ghost use Rattle.model_laws.specs.PartsLast.{PartsLast, OldPoolsLast, OwnFilesLast, StepsKeepParts, StepsKeepLies, TouchedLies, OthersLie};
 
@@ -458,4 +460,33 @@ pub fn parts_last()
     ensures lies { StepsKeepLies }
     ensures touched { TouchedLies }
     ensures others { OthersLie }
+{}
+
+/// A connection may have the pools of all connections in the place of its own part, where what its filters see lies in its part
+/// (`LiesOver`). Each event answers then what it does over the part, and leaves of the part what it does there: a step, a begin, a
+/// bring, the opening of a file and the end of a request; and a close runs the same labels. What is true of the connection in every run
+/// is true of it over all pools. The instruction of the call on top leaves the parts of others, but for the next name.
+pub fn events_are_seen_in_their_part()
+    ensures steps { StepsSeenInPart }
+    ensures begins { BeginsSeenInPart }
+    ensures brings { BringsSeenInPart }
+    ensures opens_file { OpensFileSeenInPart }
+    ensures ends { EndsSeenInPart }
+    ensures labels { LabelsSeenInPart }
+    ensures sound { SoundOver }
+    ensures others { TopSparesOthers }
+{}
+
+/// In a world that is reached each connection lies over the tree of the world: it has its part of it, and what its filters see lies there.
+/// What an event leaves over the tree is the tree of the world that it leaves. With a connection that is opened a pool is made right under
+/// the root, and one that is closed takes its pool along, with all under it.
+pub fn connections_share_the_tree()
+    ensures lies { ReachedLiesOver }
+    ensures steps { StepsLeaveTheTree }
+    ensures begins { BeginsLeaveTheTree }
+    ensures brings { BringsLeaveTheTree }
+    ensures opens_file { OpenFilesLeaveTheTree }
+    ensures ends { EndsLeaveTheTree }
+    ensures opens { OpeningPlantsAPool }
+    ensures closes { ClosingTakesItsPool }
 {}

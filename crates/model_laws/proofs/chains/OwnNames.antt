@@ -14,7 +14,6 @@ use Rattle.run_model.specs.Steps.{Choice, answer_to, current, step}
 use Rattle.run_model.specs.Chains.{Frame, Connection, Common, Linked, configuration, is_last, module_at, put_back, stepped_in, touched_instance, touched_var}
 use Rattle.run_model.specs.Passing.{Reads, delivered, delivered_by, next_called, passed_to, proceeds, returned_from, returned_to}
 use Rattle.run_model.specs.Turns.{all_called, begun}
-use Rattle.model_laws.specs.ChainLaws.{after_top}
 use Rattle.run_model.proofs.Updates.{upd_either}
 use Rattle.model_laws.proofs.NamedPools.{made_under_named}
 use Rattle.model_laws.proofs.Unchanged.{step_changes_only}

@@ -1,5 +1,5 @@
 -- In the tree of a world that is reached each connection has its part, and each pool but the root is one of a connection's.
-use Rattle.std.proofs.Common.{◌≡◌, ◌≢◌, ◌⊎◌, ℕ, zero, suc, ◌<◌, ◌≤◌, ◌==◌, Bool, true, false, not, nat_lt, List, [], ◌∷◌, Option, Some, None, inl, inr, refl, sym, ◌∙◌, ap, subst, arith, eq-eqb}
+use Rattle.std.proofs.Common.{◌≡◌, ◌≢◌, ◌⊎◌, ℕ, zero, suc, ◌<◌, ◌≤◌, ◌==◌, true, false, not, nat_lt, List, [], ◌∷◌, Option, Some, None, inl, inr, refl, sym, ◌∙◌, ap, subst, arith, eq-eqb}
 use Rattle.std.proofs.Math.Path.{fun_ext}
 use Rattle.std.proofs.lemmas.Bool.{cases_Bool, or_cases, or_right, both_ways, false_from_ne_true, ltb-true, ltb-false}
 use Rattle.run_model.proofs.References.{or_left}
@@ -7,7 +7,7 @@ use Rattle.std.proofs.lemmas.Bool.Decides.{eqb_tells}
 use Rattle.module_code.specs.Program.{Program}
 use Rattle.run_model.specs.declared.payload.Payload.{Payload}
 use Rattle.run_model.specs.Pools.{Pools, is_empty, is_in, is_live, is_under}
-use Rattle.run_model.specs.Chains.{Connection, pools_of}
+use Rattle.run_model.specs.Chains.{Connection}
 use Rattle.run_model.specs.Worlds.{World, tree_below, tree_of, with_part}
 use Rattle.model_laws.specs.ChainNumbers.{WorldNumbers}
 use Rattle.model_laws.specs.ChainPaths.{WorldPaths}
@@ -21,7 +21,7 @@ use Rattle.model_laws.proofs.chains.PoolsApart.{run_keeps_pools_apart}
 use Rattle.model_laws.proofs.chains.Reached.{reached_holds}
 use Rattle.model_laws.proofs.chains.Trees.{Grown, StandsBelow, grown, joined_either, joined_there, joins_next, part_formed}
 
-same_conn : (a b : Connection) → Some a ≡ Some b → a ≡ b
+pub same_conn : (a b : Connection) → Some a ≡ Some b → a ≡ b
 same_conn a b e = cc
 
 none_some : (a : Connection) → None ≡ Some a → ⊥
@@ -29,9 +29,9 @@ none_some a e = cc
 
 module _ (chain : List Program) (w : World) (sound : WorldSound chain w) (numbers : WorldNumbers w) (paths : WorldPaths w) (h : WorldPoolsApart w) where
   -- Up to its number and on, a connection's pools are there.
-  record IsAt (k n : ℕ) (c : Connection) : Type 0 where
-    path : (tree_up_to k w).path n ≡ c.path n
-    payloads : (tree_up_to k w).payloads n ≡ c.payloads n
+  pub record IsAt (k n : ℕ) (c : Connection) : Type 0 where
+    pub path : (tree_up_to k w).path n ≡ c.path n
+    pub payloads : (tree_up_to k w).payloads n ≡ c.payloads n
 
   own_there : (n : ℕ) (c : Connection) → is_own c n ≡ true → c.path n ≢ []
   own_there n c own none = (let e : is_in c.conn [] ≡ true = ap (is_in c.conn) (sym none) ∙ own in cc)
@@ -64,34 +64,34 @@ module _ (chain : List Program) (w : World) (sound : WorldSound chain w) (number
   abbrev all : Pools Payload
   all = tree_of w
 
-  tree : Grown chain w sound paths h w.last
+  pub tree : Grown chain w sound paths h w.last
   tree = grown chain w sound paths h w.last
 
   -- a number that was given
-  numbered : (k : ℕ) (c : Connection) → w.conns k ≡ Some c → (j : ℕ) × (k ≡ suc j) × (j < w.last)
+  pub numbered : (k : ℕ) (c : Connection) → w.conns k ≡ Some c → (j : ℕ) × (k ≡ suc j) × (j < w.last)
   numbered zero c at = absurd (none_some c (sym numbers.first ∙ at))
   numbered (suc j) c at = elim (cases_Bool (nat_lt j w.last)) [
     | inl below ↦ (j, refl, ltb-true j w.last below)
     | inr past ↦ absurd (none_some c (sym (numbers.later (suc j) (let le : w.last ≤ j = ltb-false j w.last past in omega arith)) ∙ at))
   ]
 
-  in_all : (k n : ℕ) (c : Connection) → w.conns k ≡ Some c → is_own c n ≡ true → IsAt w.last n c
+  pub in_all : (k n : ℕ) (c : Connection) → w.conns k ≡ Some c → is_own c n ≡ true → IsAt w.last n c
   in_all k n c at own = (let is = numbered k c at in at_each w.last is.0 n c (ap w.conns (sym is.1) ∙ at) is.2 own)
 
-  own_conn : (k : ℕ) (c : Connection) → w.conns k ≡ Some c → is_own c c.conn ≡ true
+  pub own_conn : (k : ℕ) (c : Connection) → w.conns k ≡ Some c → is_own c c.conn ≡ true
   own_conn k c at = ap (is_in c.conn) (h.top k c at) ∙ or_left (c.conn == c.conn) (is_in c.conn (1 ∷ [])) (eq-eqb c.conn c.conn refl)
 
   -- a connection's pool stands right under the root
-  top_in : (k : ℕ) (c : Connection) → w.conns k ≡ Some c → HasPart all c.conn
+  pub top_in : (k : ℕ) (c : Connection) → w.conns k ≡ Some c → HasPart all c.conn
   top_in k c at = record { formed = tree.formed; root = 1; top = (in_all k c.conn c at (own_conn k c at)).path ∙ h.top k c at }
 
   -- two connections have two pools
-  same_number : (j k : ℕ) (c d : Connection) → w.conns j ≡ Some c → w.conns k ≡ Some d → c.conn ≡ d.conn → j ≡ k
+  pub same_number : (j k : ℕ) (c d : Connection) → w.conns j ≡ Some c → w.conns k ≡ Some d → c.conn ≡ d.conn → j ≡ k
   same_number j k c d at_c at_d same = h.own j k c.conn c d at_c at_d (own_conn j c at_c) (subst (λ (m : ℕ). is_own d m ≡ true) (sym same) (own_conn k d at_d))
 
   module _ (k : ℕ) (c : Connection) (at : w.conns k ≡ Some c) where
     -- what stands under its pool is its own
-    through_own : (n : ℕ) → n ≢ 1 → is_under all c.conn n ≡ true → is_own c n ≡ true
+    pub through_own : (n : ℕ) → n ≢ 1 → is_under all c.conn n ≡ true → is_own c n ≡ true
     unfolding is_under
     through_own n other under = elim (tree.from n (λ none. let e : is_in c.conn [] ≡ true = ap (is_in c.conn) (sym none) ∙ under in cc)) [
       | inl root ↦ absurd (other root)
@@ -142,7 +142,7 @@ module _ (chain : List Program) (w : World) (sound : WorldSound chain w) (number
           let here : belongs c.conn (all.path n) ≡ true = or_right (is_top (all.path n)) (is_in c.conn (all.path n)) (ap (is_in c.conn) there.path ∙ own) in
           (sym there.path ∙ sym (part_path all c.conn n here), sym there.payloads ∙ sym (part_payloads all c.conn n here))
 
-    its_part : HasItsPart all c
+    pub its_part : HasItsPart all c
     its_part = record { path = fun_ext (λ n. (alike n).0); payloads = fun_ext (λ n. (alike n).1) }
 
   stands : (n : ℕ) → is_live all n ≡ true → n ≢ 1 → StandsWith w all n
