@@ -18,3 +18,4 @@ pub mod Seen
 pub mod SoundOver
 pub mod TopSpares
 pub mod Within
+pub mod LetGo

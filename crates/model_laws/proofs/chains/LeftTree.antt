@@ -61,7 +61,7 @@ module _ (chain : List Program) (ps : Pools Payload) (g : Common) (c : Connectio
   unturned : (v : Linked) → v.0.pools ≡ g.pools → v.1.path ≡ ps.path → v.1.payloads ≡ ps.payloads → StaysWithin c.conn whole (pools_of v.0 v.1)
   unturned v next paths payloads = same_within c.conn whole (pools_of v.0 v.1) has next paths payloads
 
-  turn_within : (v : Linked) → Turn chain AnyLength g all v → StaysWithin c.conn whole (pools_of v.0 v.1)
+  pub turn_within : (v : Linked) → Turn chain AnyLength g all v → StaysWithin c.conn whole (pools_of v.0 v.1)
   unfolding begun all_called configuration run_down with_pools registered
   turn_within v Same = unturned v refl refl refl
   turn_within v Drained = unturned v refl refl refl
@@ -188,7 +188,7 @@ module _ (chain : List Program) (w : World) (ps : Pools Payload) (k : ℕ) (c : 
   pub left_pools : ArePoolsOf (put_conn k (linked_in_part c.conn v) w) (pools_of v.0 v.1)
   left_pools = record { formed = formed; root = root_stays.0 ∙ s.pools.root; bare = root_stays.1 ∙ s.pools.bare; next = refl; parts = parts_then; covered = covered }
 
-  left_tree : tree_of (put_conn k (linked_in_part c.conn v) w) ≡ pools_of v.0 v.1
+  pub left_tree : tree_of (put_conn k (linked_in_part c.conn v) w) ≡ pools_of v.0 v.1
   left_tree = parts_whole (put_conn k (linked_in_part c.conn v) w) (pools_of v.0 v.1) left_pools
 
 -- A world that is reached.
