@@ -8,11 +8,15 @@ use Rattle.module_code.specs.Program.{Program}
 use Rattle.run_model.specs.declared.event.Refusal.{Refusal}
 use Rattle.run_model.specs.declared.event.Stepped.{Stepped}
 use Rattle.run_model.specs.Indexed.{upd}
-use Rattle.run_model.specs.Chains.{Connection, Linked}
+use Rattle.run_model.specs.Chains.{Connection, Linked, configuration}
+use Rattle.run_model.specs.Sound.{SoundPools}
+use Rattle.run_model.specs.State.{fresh_call}
 use Rattle.model_laws.specs.ChainLaws.{Rises}
 use Rattle.model_laws.specs.Reached.{IsReached, WorldLaws}
 use Rattle.run_model.specs.Worlds.{World, put_conn, step_answered}
 use Rattle.run_model.proofs.Updates.{upd_either}
+use Rattle.model_laws.specs.ChainFiles.{ChainFiles}
+use Rattle.model_laws.proofs.chains.PoolsApart.{run_keeps_pools_apart}
 use Rattle.model_laws.proofs.chains.Reached.{reached_holds}
 use Rattle.bucket_kinds.specs.Device.{Held, Device}
 use Rattle.module_run.specs.Proceeding.{MayHold, HasOpen, IsLawful}
@@ -28,15 +32,23 @@ module _ (budget : ℕ) (chain : List Program) (d : Device) (next : NextNames) (
   laws = reached_holds budget chain w h.chained h.reached
 
   pub lawful : (k : ℕ) (c : Connection) → w.conns k ≡ Some c → IsLawful chain (w.common, c)
+  unfolding configuration
   lawful k c here = record {
     chained = h.chained;
     names = laws.sound.names;
     sound = laws.sound.conns k c here;
     ends = laws.ends k c here;
-    files = laws.files k c here;
-    paths = laws.paths k c here;
-    homes = laws.homes k c here;
-  }
+    files = record { lasts = λ p file under there. files.lasts p file there; open_files = files.open_files };
+    pools = record {
+      has = record { formed = sound.formed; root = 1; top = (run_keeps_pools_apart budget chain h.reached.events h.reached.answers w h.chained h.reached.run).top k c here };
+      named = (laws.paths k c here).named;
+    };
+  } where
+    files : ChainFiles w.common c
+    files = laws.files k c here
+
+    sound : SoundPools (configuration w.common c (record { of = 0; call = fresh_call 0; pc = 0 }))
+    sound = (laws.sound.conns k c here).pools.sound (record { of = 0; call = fresh_call 0; pc = 0 })
 
   -- A connection that is there is as the model has it.
   pub found : (k : ℕ) (s : HostedConn) → seats k ≡ Some s → (c : Connection) × (w.conns k ≡ Some c) × MayServe chain d next s (w.common, c)
@@ -48,6 +60,7 @@ module _ (budget : ℕ) (chain : List Program) (d : Device) (next : NextNames) (
       here,
       record {
         lawful = lawful k c here;
+        files = laws.files k c here;
         linked = record {
           seated = subst (λ (o : Option Connection). IsHostedConnIf chain d next (Some s) o) here (subst (λ (o : Option HostedConn). IsHostedConnIf chain d next o (w.conns k)) at (h.conns k));
           pools = h.pools;

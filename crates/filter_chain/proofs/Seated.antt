@@ -7,15 +7,14 @@ use Rattle.std.proofs.lemmas.Bool.{cases_lt}
 use Rattle.module_code.specs.Program.{Program}
 use Rattle.bucket_ring.specs.declared.names.BucketId.{BucketId}
 use Rattle.run_model.specs.declared.payload.Payload.{Payload}
-use Rattle.run_model.specs.Files.{is_referred}
+use Rattle.model_laws.specs.ChainFiles.{ChainFiles}
 use Rattle.run_model.specs.Holding.{refers}
 use Rattle.run_model.specs.Payloads.{is_file_ref}
-use Rattle.run_model.specs.Pools.{Pools, is_live}
+use Rattle.run_model.specs.Pools.{Pools, is_live, is_under}
 use Rattle.run_model.specs.RunOrder.{IsPoolMap}
 use Rattle.run_model.specs.Sound.{sum_below}
 use Rattle.run_model.specs.Chains.{Connection, Common, Linked, pools_of}
 use Rattle.bucket_kinds.specs.Device.{Held, Missing, Untold, Holds, Device, is_there}
-use Rattle.pool_tree.proofs.Below.{any_below_none}
 use Rattle.pool_tree.specs.Tree.{map_of}
 use Rattle.brigade_ops.specs.Files.{SameButOpen}
 use Rattle.brigade_ops.specs.House.{IsHouse, AreOpen, all_refs}
@@ -27,6 +26,7 @@ use Rattle.brigade_ops.proofs.Stores.{brigades, young}
 use Rattle.module_run.specs.declared.conn.Conn.{Conn}
 use Rattle.module_run.specs.Conns.{conn_of, IsSeenAs}
 use Rattle.module_run.specs.Proceeding.{MayHold, HasOpen, IsLawful, LeftAs, StandsFor}
+use Rattle.module_run.proofs.RequestBegins.{conn_is, pools_are}
 use Rattle.filter_chain.specs.Spared.{Spares}
 use Rattle.module_run.specs.Stacked.{IsStacked}
 use Rattle.ring_run.proofs.Renamed.{held_raised}
@@ -120,8 +120,8 @@ same_payloads ps rings conn c seen = ap (λ (x : Connection). x.payloads) seen
 
 -- It stands for its connection of the model.
 module _ (chain : List Program) (d : Device) (next : NextNames) (s : HostedConn) (v : Linked) where
-  pub stands : IsLawful chain v → IsHostedConnWith chain d next s v → (map_of s.tree).next ≡ next.pool → next_name s.store ≡ next.name → StandsFor chain s.tree s.store d s.conn v
-  stands lawful linked pool name = record {
+  pub stands : IsLawful chain v → ChainFiles v.0 v.1 → IsHostedConnWith chain d next s v → (map_of s.tree).next ≡ next.pool → next_name s.store ≡ next.name → StandsFor chain s.tree s.store d s.conn v
+  stands lawful files linked pool name = record {
     lawful = lawful;
     left = record {
       seen = record { pools = linked.pools ∙ sym pool; given = linked.names ∙ sym name; conn = linked.seated.seen };
@@ -134,7 +134,7 @@ module _ (chain : List Program) (d : Device) (next : NextNames) (s : HostedConn)
     };
   } where
     lasts : (p file : ℕ) → refers (map_of s.tree) p file ≡ true → is_some (v.1.opened file) ≡ true
-    lasts p file there = lawful.files.lasts p file (subst (λ (payloads : ℕ → List Payload). list_any (is_file_ref file) (payloads p) ≡ true) (sym (same_payloads (map_of s.tree) (lists s.store) s.conn v.1 linked.seated.seen)) there)
+    lasts p file there = files.lasts p file (subst (λ (payloads : ℕ → List Payload). list_any (is_file_ref file) (payloads p) ≡ true) (sym (same_payloads (map_of s.tree) (lists s.store) s.conn v.1 linked.seated.seen)) there)
 
   -- What is left stands with the names that come next.
   pub linked_after : LeftAs chain s.tree s.store d s.conn v → (map_of s.tree).next ≡ next.pool → next_name s.store ≡ next.name → v.0.file ≤ d.next → IsHostedConnWith chain d next s v
@@ -158,24 +158,32 @@ module _ (chain : List Program) (d : Device) (next : NextNames) (s : HostedConn)
 pub lent : (chain : List Program) (d : Device) (next : NextNames) (old new : HostedConn) (v : Linked) → ((chain : List Program) (d : Device) (c : Connection) → IsHostedConn chain d next old c → IsHostedConn chain d next new c)
     → (map_of new.tree).next ≡ next.pool → next_name new.store ≡ next.name → MayServe chain d next old v → StandsFor chain new.tree new.store d new.conn v
 lent chain d next old new v same pool name may =
-    stands chain d next new v may.lawful (record { seated = same chain d v.1 may.linked.seated; pools = may.linked.pools; names = may.linked.names; files = may.linked.files }) pool name
+    stands chain d next new v may.lawful may.files (record { seated = same chain d v.1 may.linked.seated; pools = may.linked.pools; names = may.linked.names; files = may.linked.files }) pool name
 
 pub spares_all : (d : Device) (c : Connection) → Spares d d c
 spares_all d c = record { rises = omega arith; folder = (refl, refl); others = λ file old none. refl }
 
--- Files that its pools do not refer to are as they were, and so are those of others.
+-- Files to which no pool under the connection's refers are as they were, and so are those of others.
 module _ (chain : List Program) (d e : Device) (s : HostedConn) (v : Linked) (so : StandsFor chain s.tree s.store d s.conn v) where
-  not_held : (file p : ℕ) → v.1.opened file ≡ None → list_any (is_file_ref file) ((map_of s.tree).payloads p) ≡ false
-  not_held file p none = by_test (list_any (is_file_ref file) ((map_of s.tree).payloads p)) refl where
-    by_test : (b : Bool) → list_any (is_file_ref file) ((map_of s.tree).payloads p) ≡ b → list_any (is_file_ref file) ((map_of s.tree).payloads p) ≡ false
+  not_held : (file p : ℕ) → v.1.opened file ≡ None → is_under (map_of s.tree) s.conn.conn p ≡ true → refers (map_of s.tree) p file ≡ false
+  not_held file p none under = by_test (refers (map_of s.tree) p file) refl where
+    pools_so : pools_of v.0 v.1 ≡ map_of s.tree
+    pools_so = pools_are (map_of s.tree) (lists s.store) (next_name s.store) s.conn v so.left.seen
+
+    under_so : is_under (pools_of v.0 v.1) v.1.conn p ≡ true
+    under_so =
+        ap (λ (ps : Pools Payload). is_under ps v.1.conn p) pools_so
+        ∙ (ap (λ (n : ℕ). is_under (map_of s.tree) n p) (conn_is (map_of s.tree) (lists s.store) (next_name s.store) s.conn v so.left.seen) ∙ under)
+
+    by_test : (b : Bool) → refers (map_of s.tree) p file ≡ b → refers (map_of s.tree) p file ≡ false
     by_test false is = is
     by_test true is =
-        let there = so.lawful.files.lasts p file (subst (λ (payloads : ℕ → List Payload). list_any (is_file_ref file) (payloads p) ≡ true) (sym (same_payloads (map_of s.tree) (lists s.store) s.conn v.1 so.left.seen.conn)) is) in
+        let there = so.lawful.files.lasts p file under_so (ap (λ (ps : Pools Payload). refers ps p file) pools_so ∙ is) in
         absurd (let both : true ≡ false = sym there ∙ ap is_some none in cc)
 
-  pub spares_unreferred : SameButOpen d e → ((file : ℕ) → is_referred (map_of s.tree) file ≡ false → e.numbered file ≡ d.numbered file) → Spares d e v.1
+  pub spares_unreferred : SameButOpen d e → ((file : ℕ) → ((p : ℕ) → is_under (map_of s.tree) s.conn.conn p ≡ true → refers (map_of s.tree) p file ≡ false) → e.numbered file ≡ d.numbered file) → Spares d e v.1
   spares_unreferred same rest = record {
     rises = (let next = same.next in omega (arith, next));
     folder = (same.named, same.may_fail);
-    others = λ file old none. rest file (any_below_none (map_of s.tree).next (λ p. list_any (is_file_ref file) ((map_of s.tree).payloads p)) (λ p below. not_held file p none));
+    others = λ file old none. rest file (λ p under. not_held file p none under);
   }

@@ -7,6 +7,7 @@ use Rattle.run_model.specs.Chains.{Connection, Linked}
 use Rattle.run_model.specs.Passing.{Reads}
 use Rattle.run_model.specs.RunOrder.{IsPoolMap}
 use Rattle.run_model.specs.Turns.{Opening, opens_file, steps}
+use Rattle.model_laws.specs.ChainFiles.{ChainFiles}
 use Rattle.bucket_kinds.specs.Device.{Device}
 use Rattle.pool_tree.specs.Tree.{map_of}
 use Rattle.brigade_ops.specs.House.{IsHouse}
@@ -44,9 +45,10 @@ pub record IsHostedConnWith (chain : List Program) (d : Device) (next : NextName
   pub names : v.0.next ≡ next.name
   pub files : v.0.file ≤ d.next
 
--- And this is a connection as it is in every run.
+-- And this is a connection as it is in every run, with no files but its own.
 pub record MayServe (chain : List Program) (d : Device) (next : NextNames) (s : HostedConn) (v : Linked) : Type 0 where
   pub lawful : IsLawful chain v
+  pub files : ChainFiles v.0 v.1
   pub linked : IsHostedConnWith chain d next s v
 
 -- It answers this, and stands for what the model's event leaves; the files of others are as they were.

@@ -36,8 +36,14 @@ pub mod Numbers
 pub mod FilesApart
 pub mod Reached
 pub mod OwnPools
+pub mod OwnNames
+pub mod BareRoot
 pub mod PoolsApart
 pub mod Trees
+pub mod TreeParts
+pub mod OverTree
+pub mod LeftTree
+pub mod OpenedTree
 pub mod Cursors
 pub mod EachCall
 pub mod CallsKept

@@ -14,3 +14,8 @@ pub mod Lasting
 pub mod Keeping
 pub mod Touched
 pub mod Lying
+pub mod Seen
+pub mod SoundOver
+pub mod TopSpares
+pub mod Within
+pub mod LetGo

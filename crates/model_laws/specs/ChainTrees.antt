@@ -2,24 +2,29 @@
 -- another.
 use Rattle.std.specs.Prelude.{◌≡◌, ℕ, suc, ◌<◌, Bool, true, List, [], ◌∷◌, Some}
 use Rattle.module_code.specs.Program.{Program}
+use Rattle.run_model.specs.declared.bucket.PoolVar.TheVariants as poolvar
 use Rattle.run_model.specs.declared.event.Event.{Event}
 use Rattle.run_model.specs.declared.payload.Payload.{Payload}
 use Rattle.run_model.specs.Pools.{Pools, is_in, planted}
 use Rattle.run_model.specs.RunOrder.{is_child, IsPoolMap}
 use Rattle.run_model.specs.Chains.{Connection, IsChain}
-use Rattle.run_model.specs.Worlds.{World, Told, Answer, empty_world, happens, tree_below, with_part, IsRun}
+use Rattle.run_model.specs.Worlds.{World, Told, Answer, empty_world, happens, tree_below, tree_of, with_part, IsRun}
 use Rattle.model_laws.specs.ChainSound.{WorldSound}
 use Rattle.model_laws.specs.ChainNumbers.{WorldNumbers}
+use Rattle.model_laws.specs.JoinedParts.{ArePoolsOf}
 use Rattle.model_laws.specs.Reached.{IsReached}
 
 -- whether a pool is the connection's, or lies under that
 abbrev pub is_own : Connection → ℕ → Bool
 is_own c n = is_in c.conn (c.path n)
 
--- top: a connection's pool stands right under the root. own: no pool is two connections'. rising: that of a later connection is newer.
+-- top: a connection's pool stands right under the root. own: no pool is two connections'. named: nor does a variable name a pool of another
+-- connection. bare: nothing is registered on the root. rising: the pool of a later connection is newer.
 pub record WorldPoolsApart (w : World) : Type 0 where
   pub top : (k : ℕ) (c : Connection) → w.conns k ≡ Some c → c.path c.conn ≡ c.conn ∷ 1 ∷ []
   pub own : (j k n : ℕ) (c d : Connection) → w.conns j ≡ Some c → w.conns k ≡ Some d → is_own c n ≡ true → is_own d n ≡ true → j ≡ k
+  pub named : (j k i q n : ℕ) (c d : Connection) → w.conns j ≡ Some c → w.conns k ≡ Some d → (c.instances i).pools q ≡ poolvar.Made n → is_own d n ≡ true → j ≡ k
+  pub bare : (k : ℕ) (c : Connection) → w.conns k ≡ Some c → c.payloads 1 ≡ []
   pub rising : (j k : ℕ) (c d : Connection) → w.conns j ≡ Some c → w.conns k ≡ Some d → j < k → c.conn < d.conn
 
 -- Each event keeps it, and so it is true of each world that a run reaches.
@@ -57,3 +62,7 @@ JoinedIsPoolMap = (c : Connection) (ps : Pools Payload) → MayJoin c ps → IsP
 -- In a world that is reached each connection's part is joined to those before it.
 abbrev pub ReachedPartsJoin : Type 0
 ReachedPartsJoin = (budget : ℕ) (chain : List Program) (w : World) (k : ℕ) (c : Connection) → IsChain chain → IsReached budget chain w → w.conns (suc k) ≡ Some c → MayJoin c (tree_up_to k w)
+
+-- So in a world that is reached each connection has its part of the tree, and each pool but the root is one of a connection's.
+abbrev pub ReachedTreeIsOfAll : Type 0
+ReachedTreeIsOfAll = (budget : ℕ) (chain : List Program) (w : World) → IsChain chain → IsReached budget chain w → ArePoolsOf w (tree_of w)

@@ -25,6 +25,7 @@ pub mod Parts
 pub mod PartSteps
 pub mod JoinedParts
 pub mod PartsLast
+pub mod SharedPools
 pub mod ChainHomes
 pub mod ChainRegistered
 pub mod ChainBodies
@@ -34,3 +35,4 @@ pub mod ChainClears
 pub mod ChainTrees
 pub mod ChainOrder
 pub mod StepRuns
+pub mod SharedTree

@@ -9,6 +9,7 @@ use Rattle.model_laws.specs.ChainFiles.{TellsLengths, IsShortLength, WorldEnds, 
 use Rattle.model_laws.specs.ChainPaths.{WorldPaths}
 use Rattle.model_laws.specs.ChainHomes.{WorldHomes}
 use Rattle.model_laws.specs.ChainNumbers.{WorldNumbers}
+use Rattle.model_laws.specs.ChainRegistered.{WorldRegistered}
 
 -- Some events lead from the empty world to this one, and each file that they opened has fewer than 2^64 bytes.
 pub record IsReached (budget : ℕ) (chain : List Program) (w : World) : Type 0 where
@@ -39,6 +40,7 @@ pub record WorldLaws (chain : List Program) (w : World) : Type 0 where
   pub apart : WorldFilesApart w
   pub paths : WorldPaths w
   pub homes : WorldHomes w
+  pub registered : WorldRegistered w
 
 abbrev pub ReachedHolds : Type 0
 ReachedHolds = (budget : ℕ) (chain : List Program) (w : World) → IsChain chain → IsReached budget chain w → WorldLaws chain w

@@ -29,10 +29,12 @@ ghost use Rattle.model_laws.specs.ChainPaths.{EventKeepsWorldPaths, RunKeepsWorl
 ghost use Rattle.model_laws.specs.ChainNumbers.{EventKeepsNumbers, RunKeepsNumbers};
 ghost use Rattle.model_laws.specs.Reached.{EmptyIsReached, EventReaches, WorldRunGoesOn, ReachedHolds};
 ghost use Rattle.model_laws.specs.ChainClears.{MadePoolsAreOwn, OthersKeepBrigades};
-ghost use Rattle.model_laws.specs.ChainTrees.{EventKeepsPoolsApart, RunKeepsPoolsApart, JoinedIsPoolMap, ReachedPartsJoin};
+ghost use Rattle.model_laws.specs.ChainTrees.{EventKeepsPoolsApart, RunKeepsPoolsApart, JoinedIsPoolMap, ReachedPartsJoin, ReachedTreeIsOfAll};
 ghost use Rattle.model_laws.specs.CursorLaws.{StepKeepsCursors, CursorsStandOnce, MadeAreNew, CopiesAreNew, SplitsInOrder, RefusedSplitJumps, BrigadesSplitInOrder, PartitionsInOrder, PastEndJumps};
 ghost use Rattle.model_laws.specs.Parts.{PartIsPoolMap, OwnPartChanges, OtherPartsStay, ChangesSpareTheRoot, NewPartIsPlanted, NewPartSparesOthers, PartReadsAlike};
 ghost use Rattle.model_laws.specs.PartSteps.{StepsStayInPart, TopStaysInPart, FaultsAlike, NamesAlike, StepsSpareOthers};
+ghost use Rattle.model_laws.specs.SharedPools.{StepsSeenInPart, BeginsSeenInPart, BringsSeenInPart, OpensFileSeenInPart, EndsSeenInPart, LabelsSeenInPart, SoundOver, TopSparesOthers};
+ghost use Rattle.model_laws.specs.SharedTree.{ReachedLiesOver, StepsLeaveTheTree, BeginsLeaveTheTree, BringsLeaveTheTree, OpenFilesLeaveTheTree, EndsLeaveTheTree, OpeningPlantsAPool, ClosingTakesItsPool};
 ghost use Rattle.model_laws.specs.JoinedParts.{JoinedPartStays, PartsAreTheWhole};
 ghost use Rattle.model_laws.specs.PartsLast.{PartsLast, OldPoolsLast, OwnFilesLast, StepsKeepParts, StepsKeepLies, TouchedLies, OthersLie};
 
@@ -386,14 +388,17 @@ pub fn modules_clear_what_is_theirs()
     ensures brigades { OthersKeepBrigades }
 {}
 
-/// In each run of a chain each connection's pool stands right under the root, no pool is two connections', and the pool of a later
-/// connection is newer. Each event keeps it. So in a world that is reached the pools of all connections are put together one connection
-/// after another: none of its pools is there before, and its own comes behind all that stand right under the root.
+/// In each run of a chain each connection's pool stands right under the root, no pool is two connections', no variable names a pool of
+/// another connection, nothing is registered on the root, and the pool of a later connection is newer. Each event keeps it. So in a world
+/// that is reached the pools of all connections are put together one connection after another: none of its pools is there before, and its
+/// own comes behind all that stand right under the root. In the tree that they are then each connection has its part, and each pool but
+/// the root is a connection's.
 pub fn pools_of_connections_are_their_own()
     ensures event { EventKeepsPoolsApart }
     ensures run { RunKeepsPoolsApart }
     ensures formed { JoinedIsPoolMap }
     ensures joins { ReachedPartsJoin }
+    ensures tree { ReachedTreeIsOfAll }
 {}
 
 /// Small brigades are parted, split and changed as it is worked out by hand.
@@ -455,4 +460,33 @@ pub fn parts_last()
     ensures lies { StepsKeepLies }
     ensures touched { TouchedLies }
     ensures others { OthersLie }
+{}
+
+/// A connection may have the pools of all connections in the place of its own part, where what its filters see lies in its part
+/// (`LiesOver`). Each event answers then what it does over the part, and leaves of the part what it does there: a step, a begin, a
+/// bring, the opening of a file and the end of a request; and a close runs the same labels. What is true of the connection in every run
+/// is true of it over all pools. The instruction of the call on top leaves the parts of others, but for the next name.
+pub fn events_are_seen_in_their_part()
+    ensures steps { StepsSeenInPart }
+    ensures begins { BeginsSeenInPart }
+    ensures brings { BringsSeenInPart }
+    ensures opens_file { OpensFileSeenInPart }
+    ensures ends { EndsSeenInPart }
+    ensures labels { LabelsSeenInPart }
+    ensures sound { SoundOver }
+    ensures others { TopSparesOthers }
+{}
+
+/// In a world that is reached each connection lies over the tree of the world: it has its part of it, and what its filters see lies there.
+/// What an event leaves over the tree is the tree of the world that it leaves. With a connection that is opened a pool is made right under
+/// the root, and one that is closed takes its pool along, with all under it.
+pub fn connections_share_the_tree()
+    ensures lies { ReachedLiesOver }
+    ensures steps { StepsLeaveTheTree }
+    ensures begins { BeginsLeaveTheTree }
+    ensures brings { BringsLeaveTheTree }
+    ensures opens_file { OpenFilesLeaveTheTree }
+    ensures ends { EndsLeaveTheTree }
+    ensures opens { OpeningPlantsAPool }
+    ensures closes { ClosingTakesItsPool }
 {}

@@ -57,3 +57,6 @@ pub mod ClearedPools
 pub mod Carries
 pub mod Carrying
 pub mod HandedRefs
+pub mod Neighbours
+pub mod NeighboursLeft
+pub mod CallsLeave

@@ -1,5 +1,5 @@
 -- A request begins: what the connection stands for then.
-use Rattle.std.proofs.Common.{◌≡◌, ℕ, ◌+◌, Bool, true, false, ◌||◌, not, List, [], ◌∷◌, length, Option, Some, None, is_some, refl, sym, ap, subst, ◌∙◌}
+use Rattle.std.proofs.Common.{◌≡◌, ◌==◌, ℕ, ◌+◌, Bool, true, false, ◌||◌, not, List, [], ◌∷◌, length, Option, Some, None, is_some, refl, sym, ap, subst, ◌∙◌}
 use Rattle.std.specs.List.{list_any}
 use Rattle.bucket_kinds.specs.Device.{Device}
 use Rattle.bucket_ring.specs.declared.rings.Rings.{Ghosts}
@@ -12,10 +12,10 @@ use Rattle.run_model.specs.declared.event.Piece.{Piece}
 use Rattle.run_model.specs.declared.event.Refusal.{Refusal}
 use Rattle.run_model.specs.declared.event.Refusal.TheVariants as refusal
 use Rattle.run_model.specs.declared.payload.Payload.{Payload}
-use Rattle.run_model.specs.Chains.{Connection, Common, Frame, Linked, configuration, pools_of}
+use Rattle.run_model.specs.Chains.{Connection, Linked, configuration, pools_of}
 use Rattle.run_model.specs.Refusals.{first_refusal, if_broken, refused_if}
 use Rattle.run_model.specs.Pieces.{data_behind_eos, lacks_file}
-use Rattle.run_model.specs.Pools.{Pools, created, is_empty, is_live}
+use Rattle.run_model.specs.Pools.{Pools, created, is_empty, is_in, is_live, is_under}
 use Rattle.run_model.specs.RunOrder.{IsPoolMap}
 use Rattle.run_model.specs.State.{fresh_call}
 use Rattle.run_model.specs.Steps.{is_spent}
@@ -33,6 +33,8 @@ use Rattle.module_run.specs.Conns.{conn_of, IsSeenAs}
 use Rattle.module_run.specs.Happened.{Happened}
 use Rattle.module_run.specs.Proceeding.{LeftAs, StandsFor}
 use Rattle.module_run.specs.Refused.{begin_tests, bring_tests, request_tests}
+use Rattle.model_laws.proofs.parts.Paths.{part_under}
+use Rattle.std.proofs.lemmas.Bool.{or_right}
 use Rattle.module_run.proofs.FirstStacked.{left_called}
 use Rattle.module_run.proofs.Unchanged.{next_off_pools}
 
@@ -101,6 +103,14 @@ module _ {R : Type 0} {g : Ghosts R Bucket} (chain : List Program) (tree : PoolT
     no_path : (path : List ℕ) → pool ∷ path ≡ pool ∷ [] → not (is_empty path) ≡ true → ⊥
     no_path [] e live = cc
     no_path (n ∷ ns) e live = cc
+
+  -- so it lies under it
+  pub request_under : (pool : ℕ) → c.req ≡ Some pool → is_under (map_of tree) c.conn pool ≡ true
+  unfolding is_under
+  request_under pool is = ap (is_in c.conn) (request_path pool is) ∙ or_right (pool == c.conn) (is_in c.conn ((map_of tree).path c.conn)) own where
+    own : is_under (map_of tree) c.conn c.conn ≡ true
+    own = subst (λ (n : ℕ). is_under (map_of tree) n n ≡ true) (conn_is (map_of tree) (lists old) (next_name old) c v stands.left.seen)
+        (subst (λ (ps : Pools Payload). is_under ps v.1.conn v.1.conn ≡ true) (pools_are (map_of tree) (lists old) (next_name old) c v stands.left.seen) (part_under (pools_of v.0 v.1) v.1.conn stands.lawful.pools.has))
 
   pub next_free : pool_of old (next_name old) ≡ None
   next_free = next_off_pools old (map_of tree) stands.left.house

@@ -2,6 +2,7 @@ pub mod Conns
 pub mod Stacked
 pub mod Proceeding
 pub mod Stepping
+pub mod Neighbours
 pub mod Looking
 pub mod Passing
 pub mod CalledFirst

@@ -12,6 +12,7 @@ ghost use Rattle.pool_tree.specs.Tree.{map_of};
 ghost use Rattle.bucket_ring.specs.Kept.{NoneRevived};
 ghost use Rattle.brigade_ops.specs.Store.{lists, brigade_of, pool_of, references, next_name};
 ghost use Rattle.module_run.specs.Happened.{Happened, Stands, lasted, refusal_of};
+ghost use Rattle.module_run.specs.Neighbours.{LeavesOthers};
 ghost use Rattle.module_run.specs.Proceeding.{StandsFor};
 ghost use Rattle.module_run.specs.Refused.{begin_tests};
 
@@ -88,7 +89,8 @@ impl Conn {
         store: &mut Brigades<R>,
     ) -> Result<(), Refusal>
         requires stands { (d : Device) × Stands modules.now tree.old store.old d self.old }
-        ensures { (d : Device) (v : Linked) → StandsFor modules.now tree.old store.old d self.old v → Happened modules.now tree.new store.new d self.new (refusal_of result) (begins (lasted result) modules.now v) }
+        ensures leaves { LeavesOthers (map_of tree.old) store.old store.new self.old self.new }
+        ensures happened { (d : Device) (v : Linked) → StandsFor modules.now tree.old store.old d self.old v → Happened modules.now tree.new store.new d self.new (refusal_of result) (begins (lasted result) modules.now v) }
     {
         if let Some(why) = self.refusal_to_begin(tree, store) {
             return Err(why);

@@ -6,6 +6,7 @@ ghost use Rattle.bucket_ring.specs.Kept.{NoneRevived};
 ghost use Rattle.bucket_kinds.specs.Device.{Device};
 ghost use Rattle.run_model.specs.declared.payload.Payload.{Payload};
 ghost use Rattle.run_model.specs.Chains.{Linked};
+ghost use Rattle.run_model.specs.Pools.{Pools};
 ghost use Rattle.run_model.specs.Refusals.{first_refusal};
 ghost use Rattle.run_model.specs.Pieces.{bucket_of, named_from};
 ghost use Rattle.run_model.specs.Steps.{is_spent};
@@ -15,6 +16,7 @@ ghost use Rattle.brigade_ops.specs.Items.{Items, named};
 ghost use Rattle.brigade_ops.specs.Store.{lists, brigade_of, pool_of, references, next_name};
 ghost use Rattle.module_run.specs.CalledMain.{CalledMain, StartsWith};
 ghost use Rattle.module_run.specs.Happened.{Happened, Stands, lasted, refusal_of};
+ghost use Rattle.module_run.specs.Neighbours.{LeavesOthers};
 ghost use Rattle.module_run.specs.Proceeding.{StandsFor};
 ghost use Rattle.module_run.specs.Refused.{bring_tests};
 ghost use Rattle.module_run.specs.Conns.{lengths};
@@ -135,7 +137,8 @@ impl Conn {
         pieces: Seq<Piece>,
     ) -> Result<(), Refusal>
         requires stands { (tree : PoolTree Payload) × ((d : Device) × Stands modules.now tree store.old d self.old) }
-        ensures { (tree : PoolTree Payload) (d : Device) (v : Linked) → StandsFor modules.now tree store.old d self.old v → Happened modules.now tree store.new d self.new (refusal_of result) (brings (lasted result) modules.now pieces v) }
+        ensures leaves { (ps : Pools Payload) → LeavesOthers ps store.old store.new self.old self.new }
+        ensures happened { (tree : PoolTree Payload) (d : Device) (v : Linked) → StandsFor modules.now tree store.old d self.old v → Happened modules.now tree store.new d self.new (refusal_of result) (brings (lasted result) modules.now pieces v) }
     {
         let req = match self.pool_to_bring(store, pieces.as_slice()) {
             Ok(pool) => pool,

@@ -1,13 +1,14 @@
 //! A connection is closed.
 
-ghost use Rattle.std.specs.Prelude.{◌≡◌, ◌&&◌, not, false, if◌then◌else◌, ℕ, List, OnOk, OnErr};
+ghost use Rattle.std.specs.Prelude.{◌≡◌, ◌&&◌, not, false, true, if◌then◌else◌, ℕ, List, OnOk, OnErr};
 ghost use Rattle.std.specs.List.{list_any};
 ghost use Rattle.bucket_kinds.specs.Device.{Missing};
 ghost use Rattle.module_code.specs.Program.{Program};
 ghost use Rattle.run_model.specs.Chains.{Linked};
 ghost use Rattle.run_model.specs.Files.{is_referred};
 ghost use Rattle.run_model.specs.Payloads.{is_file_ref};
-ghost use Rattle.run_model.specs.Pools.{cleared};
+ghost use Rattle.run_model.specs.Holding.{refers};
+ghost use Rattle.run_model.specs.Pools.{cleared, is_under};
 ghost use Rattle.run_model.specs.RunOrder.{run_order};
 ghost use Rattle.run_model.specs.Turns.{closing_labels};
 ghost use Rattle.pool_tree.specs.Tree.{map_of};
@@ -38,7 +39,7 @@ impl Conn {
         ensures next { next_name store.new ≡ next_name store.old }
         ensures closed { OnOk result ((file : ℕ) → (F.device files.new).numbered file
             ≡ (if list_any (λ x. is_file_ref file x.1) (run_order (map_of tree.old) self.old.conn) && not (is_referred (map_of tree.new) file) then Missing else (F.device files.old).numbered file)) }
-        ensures unreferred { (file : ℕ) → is_referred (map_of tree.old) file ≡ false → (F.device files.new).numbered file ≡ (F.device files.old).numbered file }
+        ensures unreferred { (file : ℕ) → ((p : ℕ) → is_under (map_of tree.old) self.old.conn p ≡ true → refers (map_of tree.old) p file ≡ false) → (F.device files.new).numbered file ≡ (F.device files.old).numbered file }
         ensures others { SameButOpen (F.device files.old) (F.device files.new) }
         ensures err { OnErr result ((chain : List Program) (v : Linked) → LeftAs chain tree.old store.old (F.device files.old) self.old v → LeftAs chain tree.new store.new (F.device files.new) self.new v) }
         ensures unread { OnErr result (F.device files.new ≡ F.device files.old) }

@@ -1,13 +1,13 @@
 //! A request ends.
 
-ghost use Rattle.std.specs.Prelude.{◌≡◌, ◌≢◌, ◌<◌, ◌∷◌, ◌++◌, [], ℕ, List, None, Some, false, map, IsTrue, IfOk, OnOk, OnErr};
+ghost use Rattle.std.specs.Prelude.{◌≡◌, ◌≢◌, ◌<◌, ◌∷◌, ◌++◌, [], ℕ, List, None, Some, true, false, map, IsTrue, IfOk, OnOk, OnErr};
 ghost use Rattle.bucket_kinds.specs.Device.{Device};
 ghost use Rattle.module_code.specs.Program.{Program};
 ghost use Rattle.run_model.specs.Chains.{Linked};
 ghost use Rattle.run_model.specs.Refusals.{first_refusal};
-ghost use Rattle.run_model.specs.Files.{is_referred};
+ghost use Rattle.run_model.specs.Holding.{refers};
 ghost use Rattle.run_model.specs.Payloads.{labels_in};
-ghost use Rattle.run_model.specs.Pools.{is_live};
+ghost use Rattle.run_model.specs.Pools.{is_live, is_under};
 ghost use Rattle.run_model.specs.RunOrder.{run_order};
 ghost use Rattle.run_model.specs.Turns.{ends};
 ghost use Rattle.pool_tree.specs.Tree.{map_of};
@@ -18,6 +18,7 @@ ghost use Rattle.ring_run.specs.CarriedOut.{ClosedWith};
 ghost use Rattle.module_run.specs.Conns.{labels_handed};
 ghost use Rattle.module_run.specs.Destroyed.{WasDestroyed, quieted, request_left};
 ghost use Rattle.module_run.specs.Happened.{Happened, Stands, lasted, refusal_of};
+ghost use Rattle.module_run.specs.Neighbours.{LeavesOthers};
 ghost use Rattle.module_run.specs.Proceeding.{StandsFor};
 ghost use Rattle.module_run.specs.Refused.{request_tests};
 
@@ -78,7 +79,7 @@ impl Conn {
         ensures kept { OnErr result (map_of tree.new ≡ map_of tree.old) }
         ensures unread { OnErr result (F.device files.new ≡ F.device files.old) }
         ensures others { SameButOpen (F.device files.old) (F.device files.new) }
-        ensures unreferred { (file : ℕ) → is_referred (map_of tree.old) file ≡ false → (F.device files.new).numbered file ≡ (F.device files.old).numbered file }
+        ensures unreferred { (file : ℕ) → ((p : ℕ) → is_under (map_of tree.old) pool p ≡ true → refers (map_of tree.old) p file ≡ false) → (F.device files.new).numbered file ≡ (F.device files.old).numbered file }
     {
         let rings = self.rings(alloc)?;
         self.labels.reserve(1)?;
@@ -113,7 +114,8 @@ impl Conn {
         ensures closed { OnOk result (ClosedWith (F.device files.old) (F.device files.new) self.old.req (map_of tree.old) (map_of tree.new)) }
         ensures unread { OnErr result (F.device files.new ≡ F.device files.old) }
         ensures others { SameButOpen (F.device files.old) (F.device files.new) }
-        ensures unreferred { (file : ℕ) → is_referred (map_of tree.old) file ≡ false → (F.device files.new).numbered file ≡ (F.device files.old).numbered file }
+        ensures unreferred { (file : ℕ) → ((p : ℕ) → is_under (map_of tree.old) self.old.conn p ≡ true → refers (map_of tree.old) p file ≡ false) → (F.device files.new).numbered file ≡ (F.device files.old).numbered file }
+        ensures leaves { LeavesOthers (map_of tree.old) store.old store.new self.old self.new }
     {
         let pool = match self.request() {
             Ok(pool) => pool,

@@ -10,6 +10,7 @@ ghost use Rattle.pool_tree.specs.Tree.{map_of};
 ghost use Rattle.brigade_ops.specs.House.{IsHouse};
 ghost use Rattle.brigade_ops.specs.Store.{lists, brigade_of, pool_of, references, next_name};
 ghost use Rattle.module_run.specs.Happened.{Stands};
+ghost use Rattle.module_run.specs.Neighbours.{LeavesOthers};
 ghost use Rattle.module_run.specs.OpenedFile.{WasOpened, unopened_by};
 ghost use Rattle.std.specs.Vec.{vec_len, vec_capacity};
 ghost use Rattle.module_run.specs.Proceeding.{StandsFor};
@@ -82,7 +83,8 @@ impl Conn {
         name: &[u8],
     ) -> Result<(FileNo, u64), Refusal>
         requires stands { (chain : List Program) × Stands chain tree.old store.old (F.device files.old) self.old }
-        ensures { (chain : List Program) (v : Linked) → StandsFor chain tree.old store.old (F.device files.old) self.old v → v.0.file ≤ (F.device files.old).next
+        ensures leaves { LeavesOthers (map_of tree.old) store.old store.new self.old self.new }
+        ensures opened { (chain : List Program) (v : Linked) → StandsFor chain tree.old store.old (F.device files.old) self.old v → v.0.file ≤ (F.device files.old).next
             → WasOpened chain tree.new store.new (F.device files.old) (F.device files.new) self.new name.now result v }
     {
         let req = match self.request() {

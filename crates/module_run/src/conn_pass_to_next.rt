@@ -4,6 +4,7 @@ ghost use Rattle.std.specs.Prelude.{◌≡◌, ◌==◌, ◌<◌, ◌+◌, ◌-�
 ghost use Rattle.bucket_kinds.specs.Device.{Device};
 ghost use Rattle.bucket_ring.specs.Kept.{NoneRevived};
 ghost use Rattle.bucket_ring.specs.Lists.{upd};
+ghost use Rattle.run_model.specs.Pools.{Pools};
 ghost use Rattle.run_model.specs.Chains.{Frame, Linked, is_last};
 ghost use Rattle.run_model.specs.State.{fresh_call};
 ghost use Rattle.run_model.specs.Steps.{do_pass};
@@ -16,6 +17,7 @@ ghost use Rattle.module_run.specs.Conns.{shown_call, top_of};
 ghost use Rattle.ring_run.specs.Handed.{lent};
 ghost use Rattle.module_run.specs.Passing.{CanPass};
 ghost use Rattle.ring_run.specs.Held.{IsHeld};
+ghost use Rattle.module_run.specs.Neighbours.{EndsLoose, LeavesOthers};
 ghost use Rattle.module_run.specs.Proceeding.{IsReady, RefinesStep, LeftAs};
 ghost use Rattle.ring_run.specs.Seen.{seen, is_running};
 ghost use Rattle.ring_run.specs.Slots.{live_in, marked, name_in, slot_at};
@@ -93,6 +95,8 @@ impl Conn {
         requires ready { (d : Device) × CanPass modules.now b store.old d self.old }
         ensures ok { OnOk result ((tree : PoolTree Payload) (d : Device) (l : ℕ) (v : Linked) (f : Frame) (rest : List Frame) → IsReady modules.now (Instr.Pass b l) tree store.old d self.old v f rest → RefinesStep modules.now (Instr.Pass b l) d d v f rest tree store.new self.new Stepped.Went) }
         ensures err { OnErr result ((tree : PoolTree Payload) (d : Device) (v : Linked) → LeftAs modules.now tree store.old d self.old v → LeftAs modules.now tree store.new d self.new v) }
+        ensures leaves { (ps : Pools Payload) → LeavesOthers ps store.old store.new self.old self.new }
+        ensures ended { EndsLoose store.old store.new self.old self.new }
         ensures count { self.new.count ≡ self.old.count }
     {
         let top = self.top();

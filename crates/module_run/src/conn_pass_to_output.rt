@@ -3,9 +3,11 @@
 ghost use Rattle.std.specs.Prelude.{◌≡◌, ◌<◌, ◌+◌, List, true, if◌then◌else◌, OnOk, OnErr};
 ghost use Rattle.module_code.specs.Program.{Program};
 ghost use Rattle.run_model.specs.declared.payload.Payload.{Payload};
+ghost use Rattle.run_model.specs.Pools.{Pools};
 ghost use Rattle.run_model.specs.Chains.{Frame, Linked, is_last};
 ghost use Rattle.pool_tree.specs.declared.tree.PoolTree.{PoolTree};
 ghost use Rattle.module_run.specs.Conns.{top_of};
+ghost use Rattle.module_run.specs.Neighbours.{EndsLoose, LeavesOthers};
 ghost use Rattle.module_run.specs.Proceeding.{CanProceed, IsReady, RefinesStep, LeftAs};
 
 use crate::conn::Conn;
@@ -28,6 +30,8 @@ impl Conn {
         ensures ok { OnOk result ((chain : List Program) (tree : PoolTree Payload) (v : Linked) (f : Frame) (rest : List Frame) → is_last chain (top_of self.old) ≡ true → IsReady chain (Instr.Pass b target) tree store.old (F.device files.old) self.old v f rest → RefinesStep chain (Instr.Pass b target) (F.device files.old) (F.device files.new) v f rest tree store.new self.new Stepped.Went) }
         ensures err { OnErr result ((chain : List Program) (tree : PoolTree Payload) (v : Linked) → LeftAs chain tree store.old (F.device files.old) self.old v → LeftAs chain tree store.new (F.device files.new) self.new v) }
         ensures unread { OnErr result (F.device files.new ≡ F.device files.old) }
+        ensures leaves { (ps : Pools Payload) → LeavesOthers ps store.old store.new self.old self.new }
+        ensures ended { EndsLoose store.old store.new self.old self.new }
         ensures count { self.new.count ≡ self.old.count }
     {
         let top = self.top();

@@ -2,10 +2,12 @@
 
 ghost use Rattle.std.specs.Prelude.{◌≡◌, ℕ, List, IfOk, IsOk, OnErr};
 ghost use Rattle.bucket_kinds.specs.Device.{Device};
+ghost use Rattle.run_model.specs.Pools.{Pools};
 ghost use Rattle.run_model.specs.Chains.{Frame, Linked};
 ghost use Rattle.run_model.specs.Passing.{handler_at};
 ghost use Rattle.run_model.specs.Turns.{calls_of};
 ghost use Rattle.module_run.specs.Conns.{waiting};
+ghost use Rattle.module_run.specs.Neighbours.{EndsLoose, LeavesOthers};
 ghost use Rattle.module_run.specs.Proceeding.{CanProceed, IsReady, RefinesStep, LeftAs};
 
 use crate::conn::Conn;
@@ -39,6 +41,8 @@ impl Conn {
         ensures err { OnErr result ((tree : PoolTree Payload) (d : Device) (v : Linked) → LeftAs modules.now tree store.old d self.old v → LeftAs modules.now tree store.new d self.new v) }
         ensures sure { (tree : PoolTree Payload) (d : Device) (v : Linked) (f : Frame) (rest : List Frame) → IsReady modules.now (Instr.Ret status) tree store.old d self.old v f rest
             → calls_of modules.now (Instr.Ret status) f rest v.1.queue ≡ 0 → IsOk result }
+        ensures leaves { (ps : Pools Payload) → LeavesOthers ps store.old store.new self.old self.new }
+        ensures ended { EndsLoose store.old store.new self.old self.new }
         ensures count { self.new.count ≡ self.old.count }
     {
         let first = self.first;

@@ -2,10 +2,12 @@
 
 ghost use Rattle.std.specs.Prelude.{◌≡◌, ◌<◌, ℕ, List, None, length};
 ghost use Rattle.bucket_kinds.specs.Device.{Device};
+ghost use Rattle.run_model.specs.Pools.{Pools};
 ghost use Rattle.run_model.specs.Chains.{Frame, Linked};
 ghost use Rattle.run_model.specs.Passing.{after_pass};
 ghost use Rattle.run_model.specs.Steps.{current};
 ghost use Rattle.module_run.specs.Conns.{waiting};
+ghost use Rattle.module_run.specs.Neighbours.{EndsLoose, LeavesOthers};
 ghost use Rattle.module_run.specs.Proceeding.{CanProceed, IsReady, RefinesStep};
 
 use crate::conn::{Conn, Filter};
@@ -51,6 +53,8 @@ impl Conn {
         requires ready { (tree : PoolTree Payload) × (d : Device) × CanProceed modules.now (Instr.Ret status) tree store.old d self.old }
         ensures leads { (tree : PoolTree Payload) (d : Device) (v : Linked) (f : Frame) (rest : List Frame) → IsReady modules.now (Instr.Ret status) tree store.old d self.old v f rest
             → RefinesStep modules.now (Instr.Ret status) d d v f rest tree store.new self.new Stepped.Went }
+        ensures leaves { (ps : Pools Payload) → LeavesOthers ps store.old store.new self.old self.new }
+        ensures ended { EndsLoose store.old store.new self.old self.new }
         ensures count { self.new.count ≡ self.old.count }
     {
         let top = self.top();

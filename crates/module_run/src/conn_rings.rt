@@ -1,6 +1,6 @@
 //! The brigades of a connection.
 
-ghost use Rattle.std.specs.Prelude.{◌≡◌, ℕ, true, false, Some, IsOk, IfOk, OnOk, OnErr};
+ghost use Rattle.std.specs.Prelude.{◌≡◌, ◌⊎◌, ℕ, true, false, Some, IsOk, IfOk, OnOk, OnErr};
 ghost use Rattle.run_model.specs.Pools.{is_in};
 ghost use Rattle.run_model.specs.Steps.{grows};
 ghost use Rattle.ring_run.specs.Apart.{clears_pool};
@@ -19,6 +19,7 @@ impl Filter {
         ensures kept { (n : ℕ) → is_in n rings.old.items ≡ true → is_in n rings.new.items ≡ true }
         ensures named { OnOk result ((b n : ℕ) → named_at self.now b ≡ Some n → is_in n rings.new.items ≡ true) }
         ensures loose { OnOk result (is_in self.now.call.name rings.new.items ≡ true) }
+        ensures only { OnOk result ((n : ℕ) → is_in n rings.new.items ≡ true → (is_in n rings.old.items ≡ true) ⊎ ((self.now.call.name ≡ n) ⊎ ((b : ℕ) × (named_at self.now b ≡ Some n)))) }
     {
         rings.push(self.call.name)?;
         self.instance.add_brigades(rings)
@@ -27,12 +28,14 @@ impl Filter {
 
 impl Conn {
     ghost use Rattle.module_run.specs.Conns.{filter_at};
+    ghost use Rattle.module_run.specs.Neighbours.{Holds};
     ghost use Rattle.module_run.specs.Stacked.{named_at};
 
     /// The brigades that variables of its filters name, and the loose buckets of all its calls: those at which a clear looks.
     pub(crate) fn rings(&self, alloc: Global) -> Result<Vec<BrigadeId>, AllocError>
         ensures named { IfOk result (λ rings. (k b n : ℕ) (f : Filter) → filter_at self.now k ≡ Some f → named_at f b ≡ Some n → is_in n rings.items ≡ true) }
         ensures loose { IfOk result (λ rings. (k : ℕ) (f : Filter) → filter_at self.now k ≡ Some f → is_in f.call.name rings.items ≡ true) }
+        ensures only { IfOk result (λ rings. (n : ℕ) → is_in n rings.items ≡ true → Holds self.now n) }
     {
         let mut rings = Vec::new(alloc);
         for filter in &self.filters {
@@ -49,6 +52,7 @@ impl Conn {
     ) -> Result<Vec<BrigadeId>, AllocError>
         ensures named { IfOk result (λ rings. clears_pool instr ≡ true → (k b n : ℕ) (f : Filter) → filter_at self.now k ≡ Some f → named_at f b ≡ Some n → is_in n rings.items ≡ true) }
         ensures loose { IfOk result (λ rings. clears_pool instr ≡ true → (k : ℕ) (f : Filter) → filter_at self.now k ≡ Some f → is_in f.call.name rings.items ≡ true) }
+        ensures only { IfOk result (λ rings. (n : ℕ) → is_in n rings.items ≡ true → Holds self.now n) }
         ensures sure { grows instr ≡ false → IsOk result }
     {
         match instr {

@@ -1,7 +1,7 @@
 -- Names that are pushed onto a list of names.
-use Rattle.std.proofs.Common.{◌≡◌, ◌==◌, ℕ, zero, suc, ◌+◌, ◌<◌, Bool, true, false, ◌||◌, List, [], ◌∷◌, ◌++◌, length, Some, None, Option, refl, sym, ap, ◌∙◌, arith, inl, inr}
+use Rattle.std.proofs.Common.{◌≡◌, ◌⊎◌, ◌==◌, ℕ, zero, suc, ◌+◌, ◌<◌, Bool, true, false, ◌||◌, List, [], ◌∷◌, ◌++◌, length, Some, None, Option, refl, sym, ap, ◌∙◌, arith, inl, inr, eqb-true}
 use Rattle.std.specs.Prelude.{slice_index_or, slice_get}
-use Rattle.std.proofs.lemmas.Bool.{cases_eq, eq-eqb, or_left, or_right}
+use Rattle.std.proofs.lemmas.Bool.{cases_eq, eq-eqb, or_cases, or_left, or_right}
 use Rattle.std.proofs.lemmas.Option.{get_or_from_slice_get}
 use Rattle.run_model.specs.declared.bucket.Mark.{Mark}
 use Rattle.run_model.specs.Pools.{is_in}
@@ -22,6 +22,17 @@ pushed_kept n x (y ∷ ys) e = or_more (y == n) (is_in n ys) (is_in n (ys ++ x �
 pub pushed_in : (n x : ℕ) (xs : List ℕ) → x ≡ n → is_in n (xs ++ x ∷ []) ≡ true
 pushed_in n x [] e = or_left (x == n) false (eq-eqb x n e)
 pushed_in n x (y ∷ ys) e = or_right (y == n) (is_in n (ys ++ x ∷ [])) (pushed_in n x ys e)
+
+-- and no others
+pub pushed_only : (n x : ℕ) (xs : List ℕ) → is_in n (xs ++ x ∷ []) ≡ true → (is_in n xs ≡ true) ⊎ (x ≡ n)
+pushed_only n x [] e = elim (or_cases (x == n) false e) [ inl here ↦ inr (eqb-true x n here) | inr never ↦ absurd (cc) ]
+pushed_only n x (y ∷ ys) e = elim (or_cases (y == n) (is_in n (ys ++ x ∷ [])) e) [
+  | inl here ↦ inl (or_left (y == n) (is_in n ys) here)
+  | inr later ↦ elim (pushed_only n x ys later) [
+    | inl old ↦ inl (or_right (y == n) (is_in n ys) old)
+    | inr new ↦ inr new
+  ]
+]
 
 -- a variable that names a brigade is one of these
 pub slot_within : (slots : List Slot) (b n : ℕ) → name_in (slice_index_or slots b slot.Null) ≡ Some n → b < length slots

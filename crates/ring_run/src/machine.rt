@@ -1,6 +1,6 @@
 //! What a step sees: an instance of a module, and a call of one of its handlers.
 
-ghost use Rattle.std.specs.Prelude.{◌≡◌, ◌<◌, ◌==◌, ℕ, Option, None, Some, true, false, if◌then◌else◌, slice_index_or, OnOk};
+ghost use Rattle.std.specs.Prelude.{◌⊎◌, ◌≡◌, ◌<◌, ◌==◌, ℕ, Option, None, Some, true, false, if◌then◌else◌, slice_index_or, OnOk};
 ghost use Rattle.brigade_ops.specs.Items.{Items};
 ghost use Rattle.run_model.specs.State.{set_cursor};
 ghost use Rattle.ring_run.specs.Around.{Around};
@@ -107,6 +107,7 @@ impl Instance {
     pub fn add_brigades(&self, names: &mut Vec<BrigadeId>) -> Result<(), AllocError>
         ensures kept { (n : ℕ) → is_in n names.old.items ≡ true → is_in n names.new.items ≡ true }
         ensures named { OnOk result ((b n : ℕ) → name_in (slot_at self.now b) ≡ Some n → is_in n names.new.items ≡ true) }
+        ensures only { OnOk result ((n : ℕ) → is_in n names.new.items ≡ true → (is_in n names.old.items ≡ true) ⊎ ((b : ℕ) × (name_in (slot_at self.now b) ≡ Some n))) }
     {
         for slot in &self.slots {
             if let Slot::Made(name, _, _) = *slot {

@@ -60,7 +60,7 @@ created_under conn parent ps there h n live = elim (upd_either ps.path ps.next n
 -- Steps.
 
 -- the pools that a call names are not older than its connection's
-named_newer : (r : Configuration) (d : PoolRef) (m : ℕ) → SoundPools r → pool_named r d ≡ Some m → r.shared.conn ≤ m
+pub named_newer : (r : Configuration) (d : PoolRef) (m : ℕ) → SoundPools r → pool_named r d ≡ Some m → r.shared.conn ≤ m
 unfolding named_at
 named_newer r pool.Conn m s e = (let same : r.shared.conn ≡ m = cc in omega (arith, same))
 named_newer r pool.Req m s e = (let there = (s.req m e).1 in omega arith)

@@ -1,10 +1,11 @@
--- No pool is two connections', and that of a later connection is newer.
+-- No pool is two connections', no variable names one of another connection, and the pool of a later connection is newer.
 use Rattle.std.proofs.Common.{◌≡◌, ◌⊎◌, ℕ, ◌+◌, ◌<◌, ◌≤◌, ◌==◌, Bool, true, false, ◌||◌, not, List, [], ◌∷◌, filter_map, Option, Some, None, Result, Ok, Err, inl, inr, refl, sym, ◌∙◌, ap, subst, arith, eqb-true}
 use Rattle.std.proofs.lemmas.Bool.{or_cases}
 use Rattle.module_code.specs.declared.instr.PoolRef.TheVariants as pool
 use Rattle.module_code.specs.declared.instr.Instr.{Instr}
 use Rattle.module_code.specs.declared.instr.Instr.TheVariants as instr
 use Rattle.module_code.specs.Program.{Program, pool_of_brigade}
+use Rattle.run_model.specs.declared.bucket.PoolVar.TheVariants as poolvar
 use Rattle.run_model.specs.declared.event.Event.{Event}
 use Rattle.run_model.specs.declared.event.Event.TheVariants as event
 use Rattle.run_model.specs.declared.event.Refusal.{Refusal}
@@ -39,6 +40,8 @@ use Rattle.model_laws.proofs.chains.EventTurns.{Turn, Same, Drained, Broke, Faul
 use Rattle.model_laws.proofs.chains.TurnsSound.{turn_sound, turn_rises}
 use Rattle.model_laws.proofs.chains.Proceeds.{proceeds_conn, proceeds_so}
 use Rattle.model_laws.proofs.chains.Paths.{aside_path}
+use Rattle.model_laws.proofs.chains.OwnNames.{turn_names}
+use Rattle.model_laws.proofs.chains.BareRoot.{created_bare, turn_bare}
 use Rattle.model_laws.proofs.chains.WorldKept.{AnyLength, empty_sound, event_keeps_world}
 use Rattle.model_laws.proofs.chains.Numbers.{event_keeps_numbers, empty_numbered}
 
@@ -138,6 +141,8 @@ record PutsNew (k : ℕ) (w : World) (v : Linked) : Type 0 where
   rises : w.common.pools ≤ v.0.pools
   top : v.1.path v.1.conn ≡ v.1.conn ∷ 1 ∷ []
   from : (n : ℕ) → is_own v.1 n ≡ true → ((w.common.pools ≤ n) × (n < v.0.pools)) ⊎ ((c : Connection) × (w.conns k ≡ Some c) × (is_own c n ≡ true))
+  names : (i q n : ℕ) → (v.1.instances i).pools q ≡ poolvar.Made n → (w.common.pools ≤ n) ⊎ ((c : Connection) × (w.conns k ≡ Some c) × ((c.instances i).pools q ≡ poolvar.Made n))
+  bare : v.1.payloads 1 ≡ []
   earlier : (j : ℕ) (c : Connection) → w.conns j ≡ Some c → j < k → c.conn < v.1.conn
   later : (j : ℕ) (c : Connection) → w.conns j ≡ Some c → k < j → v.1.conn < c.conn
 
@@ -168,6 +173,32 @@ module _ (chain : List Program) (k : ℕ) (w : World) (v : Linked) (sound : Worl
   both i j n (inr a) (inl b) = (let lt = given i n a.0 a.1 a.2 in let le = b.1 in absurd (omega arith))
   both i j n (inr a) (inr b) = h.own i j n a.0 b.0 a.1 b.1 a.2 b.2
 
+  -- where a name in a variable comes from
+
+  named_given : (j i q n : ℕ) (c : Connection) → w.conns j ≡ Some c → (c.instances i).pools q ≡ poolvar.Made n → n < w.common.pools
+  unfolding configuration
+  named_given j i q n c at made = (((sound.conns j c at).pools.sound (looking i)).own q n made).1
+
+  Named : ℕ → ℕ → ℕ → ℕ → Type 0
+  Named j i q n = ((j ≡ k) × (w.common.pools ≤ n)) ⊎ ((c : Connection) × (w.conns j ≡ Some c) × ((c.instances i).pools q ≡ poolvar.Made n))
+
+  names_come : (j i q n : ℕ) (x : Connection) → (put_conn k v w).conns j ≡ Some x → (x.instances i).pools q ≡ poolvar.Made n → Named j i q n
+  unfolding Named
+  names_come j i q n x e made = elim (upd_either w.conns k j (Some v.1)) [
+    | inl at ↦ (let same : v.1 ≡ x = some_is v.1 x (sym at.1 ∙ e) in elim (new.names i q n (subst (λ (y : Connection). (y.instances i).pools q ≡ poolvar.Made n) (sym same) made)) [
+      | inl fresh ↦ inl (at.0, fresh)
+      | inr old ↦ inr (old.0, ap w.conns at.0 ∙ old.1, old.2)
+    ])
+    | inr off ↦ inr (x, sym off.1 ∙ e, made)
+  ]
+
+  same_of : (l j i q n : ℕ) → Named l i q n → Comes j n → l ≡ j
+  unfolding Named Comes
+  same_of l j i q n (inl a) (inl b) = a.0 ∙ sym b.0
+  same_of l j i q n (inl a) (inr b) = (let lt = given j n b.0 b.1 b.2 in let le = a.1 in absurd (omega arith))
+  same_of l j i q n (inr a) (inl b) = (let lt = named_given l i q n a.0 a.1 a.2 in let le = b.1 in absurd (omega arith))
+  same_of l j i q n (inr a) (inr b) = h.named l j i q n a.0 b.0 a.1 b.1 a.2 b.2
+
   -- it is the one that is put, or was there
   which : (j : ℕ) (x : Connection) → (put_conn k v w).conns j ≡ Some x → ((j ≡ k) × (v.1 ≡ x)) ⊎ (w.conns j ≡ Some x)
   which j x e = elim (upd_either w.conns k j (Some v.1)) [
@@ -188,13 +219,15 @@ module _ (chain : List Program) (k : ℕ) (w : World) (v : Linked) (sound : Worl
       | inr old ↦ h.top j x old
     ];
     own = λ i j n x y at_i at_j own_x own_y. both i j n (comes i n x at_i own_x) (comes j n y at_j own_y);
+    named = λ l j i q n x y at_l at_j made own_y. same_of l j i q n (names_come l i q n x at_l made) (comes j n y at_j own_y);
+    bare = λ j x e. elim (which j x e) [ inl at ↦ subst (λ (y : Connection). y.payloads 1 ≡ []) at.1 new.bare | inr old ↦ h.bare j x old ];
     rising = λ i j x y at_i at_j lt. rises i j x y (which i x at_i) (which j y at_j) lt;
   }
 
 module _ (chain : List Program) (chained : IsChain chain) (k : ℕ) (c : Connection) (w : World) (here : w.conns k ≡ Some c) (sound : WorldSound chain w) (h : WorldPoolsApart w) where
   turned_apart : (v : Linked) → Turn chain AnyLength w.common c v → WorldPoolsApart (put_conn k v w)
-  unfolding From
-  turned_apart v t = put_apart chain k w v sound (record { rises = (turn_rises chain AnyLength w.common c v sound.names t (sound.conns k c here)).pools; top = at_top; from = from_own; earlier = before; later = after }) h where
+  unfolding From configuration
+  turned_apart v t = put_apart chain k w v sound (record { rises = (turn_rises chain AnyLength w.common c v sound.names t (sound.conns k c here)).pools; top = at_top; from = from_own; names = named_from; bare = turn_bare chain w.common c v t (sound.conns k c here) below_root (h.bare k c here); earlier = before; later = after }) h where
     turns : TurnsFrom w.common c v
     turns = turn_from chain w.common c v t
 
@@ -209,6 +242,12 @@ module _ (chain : List Program) (chained : IsChain chain) (k : ℕ) (c : Connect
         | inr fresh ↦ inl fresh
       ])
     ]
+
+    named_from : (i q n : ℕ) → (v.1.instances i).pools q ≡ poolvar.Made n → (w.common.pools ≤ n) ⊎ ((x : Connection) × (w.conns k ≡ Some x) × ((x.instances i).pools q ≡ poolvar.Made n))
+    named_from i q n made = elim (turn_names chain w.common c v t i q n made) [ inl old ↦ inr (c, here, old) | inr fresh ↦ inl fresh ]
+
+    below_root : 1 < c.conn
+    below_root = (sound_of chain w.common c (sound.conns k c here)).formed.rises c.conn c.conn 1 [] (h.top k c here)
 
     at_top : v.1.path v.1.conn ≡ v.1.conn ∷ 1 ∷ []
     at_top = elim (turns.from v.1.conn) [
@@ -242,6 +281,8 @@ module _ (chain : List Program) (chained : IsChain chain) (k : ℕ) (c : Connect
   closed_apart true = record {
     top = λ j x e. h.top j x (there j x e);
     own = λ i j n x y at_i at_j own_x own_y. h.own i j n x y (there i x at_i) (there j y at_j) own_x own_y;
+    named = λ l j i q n x y at_l at_j made own_y. h.named l j i q n x y (there l x at_l) (there j y at_j) made own_y;
+    bare = λ j x e. h.bare j x (there j x e);
     rising = λ i j x y at_i at_j lt. h.rising i j x y (there i x at_i) (there j y at_j) lt;
   } where
     none_some : (x : Connection) → None ≡ Some x → ⊥
@@ -303,6 +344,14 @@ module _ (chain : List Program) (w : World) (sound : WorldSound chain w) (number
       let at : n ≡ w.common.pools = is_new n (subst (λ (path : ℕ → List ℕ). is_in w.common.pools (path n) ≡ true) opened_path there) in
       (omega (arith, at), omega (arith, at, next))
 
+  opened_names : (i q n : ℕ) → ((opened chain w.common).1.instances i).pools q ≡ poolvar.Made n → ⊥
+  unfolding opened all_called
+  opened_names i q n made = cc
+
+  opened_bare : (opened chain w.common).1.payloads 1 ≡ []
+  unfolding opened all_called planted
+  opened_bare = created_bare 1 (pools_of w.common (fresh_connection w.common)) sound.names.pools.0 refl
+
   opens_apart : (memory : Bool) → WorldPoolsApart (opens memory chain w).1
   unfolding opens
   opens_apart memory = by_refusal _ refl where
@@ -312,9 +361,11 @@ module _ (chain : List Program) (w : World) (sound : WorldSound chain w) (number
       rises = (let next : (opened chain w.common).0.pools ≡ w.common.pools + 1 = opened_next in omega (arith, next));
       top = opened_top;
       from = λ n own. inl (opened_own n own);
+      names = λ i q n made. absurd (opened_names i q n made);
+      bare = opened_bare;
       earlier = λ j x at lt. (let is : (opened chain w.common).1.conn ≡ w.common.pools = opened_conn in let below : x.conn < w.common.pools = (conn_there chain w.common x (sound.conns j x at)).1 in omega (arith, is, below));
       later = λ j x at lt. absurd (let none : None ≡ Some x = sym (numbers.later j (omega (arith, lt))) ∙ at in cc);
-    }) (record { top = h.top; own = h.own; rising = h.rising })
+    }) (record { top = h.top; own = h.own; named = h.named; bare = h.bare; rising = h.rising })
 
 on_apart : (memory : Bool) (budget : ℕ) (chain : List Program) (told : Told) (e : Event) (k : ℕ) (o : Option Connection) (w : World) → w.conns k ≡ o → IsChain chain → WorldSound chain w → WorldNumbers w → WorldPoolsApart w
     → WorldPoolsApart (happens_on memory budget chain told e k o w).1
@@ -349,4 +400,4 @@ run_apart budget chain (e ∷ es) (a ∷ answers) old new chained run s numbers 
 
 pub run_keeps_pools_apart : RunKeepsPoolsApart
 run_keeps_pools_apart budget chain es answers w chained run =
-    run_apart budget chain es answers empty_world w chained run (empty_sound chain) empty_numbered (record { top = λ k c at. absurd (cc); own = λ j k n c d at. absurd (cc); rising = λ j k c d at. absurd (cc) })
+    run_apart budget chain es answers empty_world w chained run (empty_sound chain) empty_numbered (record { top = λ k c at. absurd (cc); own = λ j k n c d at. absurd (cc); named = λ j k i q n c d at. absurd (cc); bare = λ k c at. absurd (cc); rising = λ j k c d at. absurd (cc) })

@@ -11,6 +11,7 @@ use Rattle.model_laws.proofs.chains.FilesApart.{run_keeps_files_apart}
 use Rattle.model_laws.proofs.chains.Paths.{run_keeps_paths}
 use Rattle.model_laws.proofs.chains.Homes.{run_keeps_homes}
 use Rattle.model_laws.proofs.chains.Numbers.{run_keeps_numbers}
+use Rattle.model_laws.proofs.chains.Registered.{run_keeps_registered}
 
 pub empty_is_reached : EmptyIsReached
 unfolding IsRun
@@ -41,4 +42,5 @@ reached_holds budget chain w chained r = record {
   apart = run_keeps_files_apart budget chain r.events r.answers w chained r.run;
   paths = run_keeps_paths budget chain r.events r.answers w chained r.run;
   homes = run_keeps_homes budget chain r.events r.answers w chained r.run;
+  registered = run_keeps_registered budget chain r.events r.answers w chained r.run;
 }

@@ -34,6 +34,9 @@ module _ (c : Connection) (ps : Pools Payload) (h : MayJoin c ps) where
   pub joined_root : (with_part (Some c) ps).path 1 ≡ 1 ∷ []
   joined_root = (joined_there 1 (λ none. let e : (1 ∷ []) ≡ [] = sym h.root ∙ none in cc)).0 ∙ h.root
 
+  pub joined_bare : (with_part (Some c) ps).payloads 1 ≡ ps.payloads 1
+  joined_bare = (joined_there 1 (λ none. let e : (1 ∷ []) ≡ [] = sym h.root ∙ none in cc)).1
+
   -- the pool above an own one is an own one, or that is the connection's
   pub above_own : (n p : ℕ) (above : List ℕ) → c.path n ≡ n ∷ p ∷ above → is_own c n ≡ true → ((n ≡ c.conn) × (p ≡ 1) × (above ≡ [])) ⊎ (is_own c p ≡ true)
   above_own n p above is own = elim (or_cases (n == c.conn) (is_in c.conn (p ∷ above)) (ap (is_in c.conn) (sym is) ∙ own)) [
@@ -108,22 +111,23 @@ joined_is_formed c ps h = joined_formed c ps h
 
 module _ (chain : List Program) (w : World) (sound : WorldSound chain w) (paths : WorldPaths w) (h : WorldPoolsApart w) where
   -- a pool of a connection up to this number
-  record StandsBelow (k n : ℕ) : Type 0 where
-    number : ℕ
-    conn : Connection
-    below : number ≤ k
-    there : w.conns number ≡ Some conn
-    own : is_own conn n ≡ true
-    path : (tree_up_to k w).path n ≡ conn.path n
+  pub record StandsBelow (k n : ℕ) : Type 0 where
+    pub number : ℕ
+    pub conn : Connection
+    pub below : number ≤ k
+    pub there : w.conns number ≡ Some conn
+    pub own : is_own conn n ≡ true
+    pub path : (tree_up_to k w).path n ≡ conn.path n
 
-  -- Each pool but the root is one of a connection.
-  record Grown (k : ℕ) : Type 0 where
-    formed : IsPoolMap (tree_up_to k w)
-    root : (tree_up_to k w).path 1 ≡ 1 ∷ []
-    next : (tree_up_to k w).next ≡ w.common.pools
-    from : (n : ℕ) → (tree_up_to k w).path n ≢ [] → (n ≡ 1) ⊎ StandsBelow k n
+  -- Each pool but the root is one of a connection, and nothing is registered on the root.
+  pub record Grown (k : ℕ) : Type 0 where
+    pub formed : IsPoolMap (tree_up_to k w)
+    pub root : (tree_up_to k w).path 1 ≡ 1 ∷ []
+    pub bare : (tree_up_to k w).payloads 1 ≡ []
+    pub next : (tree_up_to k w).next ≡ w.common.pools
+    pub from : (n : ℕ) → (tree_up_to k w).path n ≢ [] → (n ≡ 1) ⊎ StandsBelow k n
 
-  part_formed : (k : ℕ) (c : Connection) → w.conns k ≡ Some c → IsPoolMap (pools_of w.common c)
+  pub part_formed : (k : ℕ) (c : Connection) → w.conns k ≡ Some c → IsPoolMap (pools_of w.common c)
   unfolding configuration
   part_formed k c at = ((sound.conns k c at).pools.sound (looking 0)).formed
 
@@ -144,7 +148,7 @@ module _ (chain : List Program) (w : World) (sound : WorldSound chain w) (paths 
   ]
 
   -- The next connection's part is joined.
-  joins_next : (k : ℕ) (c : Connection) → Grown k → w.conns (suc k) ≡ Some c → MayJoin c (tree_up_to k w)
+  pub joins_next : (k : ℕ) (c : Connection) → Grown k → w.conns (suc k) ≡ Some c → MayJoin c (tree_up_to k w)
   unfolding is_child
   joins_next k c g at = record {
     formed = g.formed;
@@ -178,7 +182,7 @@ module _ (chain : List Program) (w : World) (sound : WorldSound chain w) (paths 
 
   start_grown : Grown 0
   unfolding tree_below planted is_live
-  start_grown = record { formed = at_first; root = root; next = refl; from = λ n there. elim (either n) [ inl one ↦ inl one.0 | inr none ↦ absurd (there none.1) ] } where
+  start_grown = record { formed = at_first; root = root; bare = refl; next = refl; from = λ n there. elim (either n) [ inl one ↦ inl one.0 | inr none ↦ absurd (there none.1) ] } where
     first : Pools Payload
     first = record (planted 1) { next = w.common.pools }
 
@@ -215,12 +219,14 @@ module _ (chain : List Program) (w : World) (sound : WorldSound chain w) (paths 
   grows k None at is g = record {
     formed = subst IsPoolMap (sym is) g.formed;
     root = ap (λ (ps : Pools Payload). ps.path 1) is ∙ g.root;
+    bare = ap (λ (ps : Pools Payload). ps.payloads 1) is ∙ g.bare;
     next = ap (λ (ps : Pools Payload). ps.next) is ∙ g.next;
     from = λ n there. (let same : (tree_up_to (suc k) w).path n ≡ (tree_up_to k w).path n = ap (λ (ps : Pools Payload). ps.path n) is in elim (g.from n (λ none. there (same ∙ none))) [ inl one ↦ inl one | inr s ↦ inr (raised k n s same) ]);
   }
   grows k (Some c) at is g = record {
     formed = subst IsPoolMap (sym is) (joined_formed c (tree_up_to k w) (joins_next k c g at));
     root = ap (λ (ps : Pools Payload). ps.path 1) is ∙ joined_root c (tree_up_to k w) (joins_next k c g at);
+    bare = ap (λ (ps : Pools Payload). ps.payloads 1) is ∙ joined_bare c (tree_up_to k w) (joins_next k c g at) ∙ g.bare;
     next = ap (λ (ps : Pools Payload). ps.next) is ∙ g.next;
     from = λ n there. (let same : (tree_up_to (suc k) w).path n ≡ (with_part (Some c) (tree_up_to k w)).path n = ap (λ (ps : Pools Payload). ps.path n) is in elim (joined_either c (tree_up_to k w) (joins_next k c g at) n) [
       | inl own ↦ inr (record { number = suc k; conn = c; below = omega arith; there = at; own = own.0; path = same ∙ own.1 })
@@ -228,7 +234,7 @@ module _ (chain : List Program) (w : World) (sound : WorldSound chain w) (paths 
     ]);
   }
 
-  grown : (k : ℕ) → Grown k
+  pub grown : (k : ℕ) → Grown k
   unfolding tree_below
   grown zero = start_grown
   grown (suc k) = grows k (w.conns (suc k)) refl refl (grown k)

@@ -21,7 +21,7 @@ use Rattle.model_laws.proofs.parts.Order.{child_under}
 
 -- What a clear hands on.
 
-abbrev hands : ℕ → List (ℕ × Payload) → Bool
+abbrev pub hands : ℕ → List (ℕ × Payload) → Bool
 hands file run = list_any (λ x. is_file_ref file x.1) run
 
 turned : (file : ℕ) (xs : List Payload) → list_any (is_file_ref file) (reverse xs) ≡ true → list_any (is_file_ref file) xs ≡ true

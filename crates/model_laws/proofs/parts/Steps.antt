@@ -141,7 +141,7 @@ module _ (c target : ℕ) (r : Configuration) (s : LiesIn c r) (under : is_under
     shared = record r.shared { pools = left; labels = r.shared.labels ++ labels_in run; files = files };
   }
 
-  reached_alike : is_under (part c r.shared.pools) target ≡ is_under r.shared.pools target
+  pub reached_alike : is_under (part c r.shared.pools) target ≡ is_under r.shared.pools target
   reached_alike = fun_ext (λ n. under_alike r.shared.pools c target n s.has under)
 
   cleared_alike : pool_cleared target (in_part c r) ≡ in_part c (pool_cleared target r)
@@ -153,7 +153,7 @@ module _ (c target : ℕ) (r : Configuration) (s : LiesIn c r) (under : is_under
       ∙ (ap (λ (left : Pools Payload). went_down (is_under ps target) (run_order ps target) left (let_go (run_order ps target) left r.shared.files)) (sym (own_cleared c target ps s.has under))
       ∙ ap (went_down (is_under ps target) (run_order ps target) (part c (cleared target ps))) (cleared_files c target ps s.has s.files under r.shared.files)))
 
-  destroyed_alike : pool_destroyed target (in_part c r) ≡ in_part c (pool_destroyed target r)
+  pub destroyed_alike : pool_destroyed target (in_part c r) ≡ in_part c (pool_destroyed target r)
   unfolding with_pools run_down
   destroyed_alike =
       let ps = r.shared.pools in

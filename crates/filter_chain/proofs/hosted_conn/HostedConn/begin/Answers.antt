@@ -14,7 +14,7 @@ pub returns : goal.returns
 returns c d v may =
     let s = c.set_next.ensures in
     let so = lent c.args.modules.now d c.args.next.now c.args.self.now c.set_next.new.self v s.same s.pool s.name may in
-    let h = c.begin-outcome.ensures d v so in
+    let h = c.begin-outcome.ensures.happened d v so in
     let file = begins_file (lasted c.begin-outcome.result) c.args.modules.now v.0 v.1 in
     record {
       answers = h.answers;

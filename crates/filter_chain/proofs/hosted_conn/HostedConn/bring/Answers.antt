@@ -14,7 +14,7 @@ pub returns : goal.returns
 returns c d v may =
     let s = c.set_next.ensures in
     let so = lent c.args.modules.now d c.args.next.now c.args.self.now c.set_next.new.self v s.same s.pool s.name may in
-    let h = c.bring-outcome.ensures c.set_next.new.self.tree d v so in
+    let h = c.bring-outcome.ensures.happened c.set_next.new.self.tree d v so in
     let file = brings_file (lasted c.bring-outcome.result) c.args.modules.now c.args.pieces v.0 v.1 in
     record {
       answers = h.answers;

@@ -16,7 +16,7 @@ returns g c chain v may =
     let d = g.F.Files.device c.args.files.now in
     let e = g.F.Files.device c.open_file-outcome.new.files in
     let so = lent chain d c.args.next.now c.args.self.now c.set_next.new.self v s.same s.pool s.name may in
-    let h = c.open_file-outcome.ensures chain v so may.linked.files in
+    let h = c.open_file-outcome.ensures.opened chain v so may.linked.files in
     let kept = keeps_files c.args.name.now d e (refusal_of c.open_file-outcome.result) h.after in
     record {
       opening = h.opening;

@@ -1,5 +1,5 @@
 -- By the tests, and by what is left where none refuses.
-use Rattle.std.proofs.Common.{◌≡◌, ◌≤◌, ℕ, ◌+◌, true, false, List, length, Option, Some, None, refl, sym, ap, subst, ◌∙◌, arith}
+use Rattle.std.proofs.Common.{◌≡◌, ◌≤◌, ℕ, ◌+◌, true, false, List, Option, Some, None, refl, sym, ap, subst, ◌∙◌, arith}
 use Rattle.run_model.specs.declared.event.Piece.{Piece}
 use Rattle.run_model.specs.declared.event.Refusal.TheVariants as refusal
 use Rattle.run_model.specs.Refusals.{first_refusal}
@@ -10,6 +10,9 @@ use Rattle.module_run.specs.CalledMain.{CalledMain}
 use Rattle.module_run.specs.Conns.{lengths}
 use Rattle.module_run.specs.Happened.{has_lasted}
 use Rattle.module_run.specs.Refused.{bring_tests}
+use Rattle.module_run.proofs.CallsLeave.{main_leaves}
+use Rattle.module_run.proofs.FirstCalls.{filter_first}
+use Rattle.module_run.proofs.Neighbours.{unchanged}
 use Rattle.module_run.proofs.MainStacked.{has_brought, left_brought}
 use Rattle.module_run.proofs.Refusing.{bring_refused, bring_passed}
 use Rattle.module_run.proofs.RequestBegins.{bring_idle, happened_as, req_is}
@@ -19,16 +22,16 @@ use Rattle.module_run.proofs.conn.Conn.bring.Goals as goal
 pub call_and_brigade-requires : goal.call_and_brigade-requires
 call_and_brigade-requires g c = record { free = (let s = c.requires.stands in later_off_pools c.args.store.now (map_of s.0) s.1.1.so.left.house) }
 
-pub returns-in-Err : goal.returns-in-Err
-returns-in-Err g c tree d v stands =
+pub returns-in-Err-clause-happened : goal.returns-in-Err-clause-happened
+returns-in-Err-clause-happened g c tree d v stands =
     let self = c.args.self.now in
     happened_as c.args.modules.now tree c.args.store.now d self (Some c.in-Err.why) (brings (has_lasted c.in-Err.why) c.args.modules.now c.args.pieces v) v
     (bring_refused (map_of tree) (lists c.args.store.now) (next_name c.args.store.now) self v stands.left.seen (has_lasted c.in-Err.why) c.args.modules.now c.args.pieces c.in-Err.why
     (ap (λ (ps : List Piece). first_refusal (bring_tests self.broken self.busy self.req (lengths self.files.items) (next_name c.args.store.now) ps)) (sym c.as_slice.ensures) ∙ sym c.in-Err.ensures.refusal))
     stands.left
 
-pub returns-in_default : goal.returns-in_default
-returns-in_default g c tree d v stands =
+pub returns-in_default-clause-happened : goal.returns-in_default-clause-happened
+returns-in_default-clause-happened g c tree d v stands =
     let self = c.args.self.now in
     let e = c.in_default.ensures in
     let none = ap (λ (ps : List Piece). first_refusal (bring_tests self.broken self.busy self.req (lengths self.files.items) (next_name c.args.store.now) ps)) (sym c.as_slice.ensures) ∙ sym c.in-Ok.ensures.refusal in
@@ -36,8 +39,8 @@ returns-in_default g c tree d v stands =
     (bring_passed (map_of tree) (lists c.args.store.now) (next_name c.args.store.now) self v stands.left.seen false c.args.modules.now c.args.pieces none)
     (left_same c.args.store.now c.call_and_brigade.new.store e.err e.next e.pools c.args.modules.now tree tree d self v refl e.references stands.left)
 
-pub returns : goal.returns
-returns g c tree d v stands =
+pub returns-clause-happened : goal.returns-clause-happened
+returns-clause-happened g c tree d v stands =
     let self = c.args.self.now in
     let old = c.args.store.now in
     let new = c.call_and_brigade.new.store in
@@ -54,3 +57,29 @@ returns g c tree d v stands =
     (subst (λ (n : ℕ). CalledMain c.args.modules.now n (next_name old + 1) self c.call_main.new.self) named (subst (λ (b : ℕ). CalledMain c.args.modules.now made.name b self c.call_main.new.self) brigade c.call_main.ensures))
     (has_brought old new c.in-Ok.pool c.args.pieces e.rings.0 e.rings.1.0 e.rings.1.1) later e.names e.pools (later_off_pools old (map_of tree) stands.left.house)
     tree d v.0 v.1 stands.left e.references e.next e.rings.1.1)
+
+pub returns-in-Err-clause-leaves : goal.returns-in-Err-clause-leaves
+returns-in-Err-clause-leaves g c ps = unchanged ps c.args.store.now c.args.store.now c.args.self.now c.args.self.now (λ n. refl) refl (omega arith) (λ id there young. there) (λ k. refl)
+
+pub returns-in_default-clause-leaves : goal.returns-in_default-clause-leaves
+returns-in_default-clause-leaves g c ps =
+    let e = c.in_default.ensures in
+    let next = e.next in
+    unchanged ps c.args.store.now c.call_and_brigade.new.store c.args.self.now c.args.self.now e.err e.pools (omega (arith, next)) e.names (λ k. refl)
+
+pub returns-clause-leaves : goal.returns-clause-leaves
+returns-clause-leaves g c ps =
+    let self = c.args.self.now in
+    let chain = c.args.modules.now in
+    let old = c.args.store.now in
+    let new = c.call_and_brigade.new.store in
+    let s = c.requires.stands in
+    let e = c.in-Ok-call_and_brigade.ensures in
+    let made = c.in-Ok-call_and_brigade in
+    let none = ap (λ (ps : List Piece). first_refusal (bring_tests self.broken self.busy self.req (lengths self.files.items) (next_name old) ps)) (sym c.as_slice.ensures) ∙ sym c.in-Ok.ensures.refusal in
+    let named : made.name ≡ next_name old = ap (λ (p : ℕ × ℕ). p.0) e.made in
+    let brigade : made.brigade ≡ next_name old + 1 = ap (λ (p : ℕ × ℕ). p.1) e.made in
+    let first = filter_first chain old self s.1.1.so.left.stacked (bring_idle self.broken self.busy self.req (lengths self.files.items) (next_name old) c.args.pieces none) in
+    main_leaves chain ps old new self c.call_main.new.self first.0 first.1
+    (subst (λ (n : ℕ). CalledMain chain n (next_name old + 1) self c.call_main.new.self) named (subst (λ (b : ℕ). CalledMain chain made.name b self c.call_main.new.self) brigade c.call_main.ensures))
+    (has_brought old new c.in-Ok.pool c.args.pieces e.rings.0 e.rings.1.0 e.rings.1.1).before (let n = e.next in omega (arith, n)) e.names e.pools

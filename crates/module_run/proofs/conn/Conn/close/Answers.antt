@@ -1,5 +1,5 @@
 -- By what was handed on.
-use Rattle.std.proofs.Common.{◌≡◌, ℕ, List, ◌++◌, sym, ap, subst, ◌∙◌}
+use Rattle.std.proofs.Common.{ℕ, List, ◌++◌, sym, ap, subst, ◌∙◌}
 use Rattle.std.specs.Global.{Vec}
 use Rattle.bucket_kinds.specs.Device.{Device}
 use Rattle.run_model.specs.declared.payload.Payload.{Payload}

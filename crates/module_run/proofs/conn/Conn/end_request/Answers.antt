@@ -1,22 +1,24 @@
 -- By the tests, and by what is left where none refuses.
-use Rattle.std.proofs.Common.{◌≡◌, ℕ, true, false, List, map, Option, Some, None, sym, ap, subst, ◌∙◌}
-use Rattle.module_code.specs.Program.{Program}
+use Rattle.std.proofs.Common.{◌≡◌, ℕ, true, false, map, Option, Some, None, is_some, refl, sym, ap, subst, ◌∙◌, arith}
 use Rattle.bucket_kinds.specs.Device.{Device}
 use Rattle.run_model.specs.declared.event.Refusal.TheVariants as refusal
-use Rattle.run_model.specs.Chains.{Linked}
 use Rattle.run_model.specs.Turns.{ended, ends, request_over, unless_refused}
 use Rattle.pool_tree.specs.Tree.{map_of}
 use Rattle.brigade_ops.specs.Store.{lists, next_name}
 use Rattle.ring_run.specs.CarriedOut.{ClosedWith}
 use Rattle.module_run.specs.declared.conn.Conn.{Conn}
-use Rattle.module_run.specs.declared.conn.Filter.{Filter}
 use Rattle.module_run.specs.Destroyed.{quieted, request_left}
 use Rattle.module_run.specs.Happened.{has_lasted}
 use Rattle.module_run.specs.Proceeding.{LeftAs}
 use Rattle.module_run.proofs.Alongside.{left_relabelled}
 use Rattle.module_run.proofs.Refusing.{end_refused, end_passed}
-use Rattle.module_run.proofs.RequestBegins.{happened_as, req_is, request_below, request_idle, request_live}
+use Rattle.module_run.proofs.RequestBegins.{happened_as, req_is, request_below, request_idle, request_live, request_under}
 use Rattle.module_run.proofs.RequestEnds.{request_left_as}
+use Rattle.brigade_ops.proofs.Stores.{same_brigade}
+use Rattle.module_run.specs.Conns.{filter_at}
+use Rattle.module_run.proofs.Neighbours.{unchanged}
+use Rattle.module_run.proofs.NeighboursLeft.{destroyed_leaves}
+use Rattle.model_laws.proofs.parts.Paths.{under_trans}
 use Rattle.module_run.proofs.Unchanged.{left_same}
 use Rattle.module_run.proofs.conn.Conn.end_request.Goals as goal
 
@@ -66,3 +68,37 @@ returns-clause-closed g c =
     let e = c.in-Ok-destroy.ensures in
     subst (λ (o : Option ℕ). ClosedWith (g.F.Files.device c.args.files.now) (g.F.Files.device c.destroy.new.files) o (map_of c.args.tree.now) (map_of c.destroy.new.tree)) (sym c.in-Ok.ensures.pool)
     (record { closed = e.ok.closed; others = e.others })
+
+pub returns-in-Err-clause-leaves : goal.returns-in-Err-clause-leaves
+returns-in-Err-clause-leaves g c = unchanged (map_of c.args.tree.now) c.args.store.now c.args.store.now c.args.self.now c.args.self.now (λ n. refl) refl (omega arith) (λ id there young. there) (λ k. refl)
+
+pub returns-in_default-clause-leaves : goal.returns-in_default-clause-leaves
+unfolding filter_at
+returns-in_default-clause-leaves g c =
+    let e = c.in_default.ensures in
+    let next = e.next in
+    unchanged (map_of c.args.tree.now) c.args.store.now c.destroy.new.store c.args.self.now c.destroy.new.self e.err e.pools (omega (arith, next))
+    (λ id there young. sym (ap is_some (same_brigade c.args.store.now c.destroy.new.store e.err id)) ∙ there) (λ k. ap (λ (x : Conn). filter_at x k) e.rest)
+
+pub returns-clause-leaves : goal.returns-clause-leaves
+unfolding filter_at
+returns-clause-leaves g c =
+    let e = c.in-Ok-destroy.ensures in
+    let self = c.args.self.now in
+    let s = c.requires.stands.1.so in
+    let tree = c.args.tree.now in
+    let next = e.next in
+    destroyed_leaves c.requires.stands.0 tree c.destroy.new.tree c.args.store.now c.destroy.new.store (g.F.Files.device c.args.files.now) (g.F.Files.device c.destroy.new.files) self c.forget_request.new.self c.in-Ok.pool
+    (request_under c.requires.stands.0 tree c.args.store.now (g.F.Files.device c.args.files.now) self c.requires.stands.1.linked s c.in-Ok.pool c.in-Ok.ensures.pool) s.left.formed e.ok
+    (c.forget_request.ensures.quiet ∙ ap (λ (x : Conn). map quieted x.filters.items) e.rest)
+
+pub returns-clause-unreferred : goal.returns-clause-unreferred
+returns-clause-unreferred g c file none =
+    let s = c.requires.stands.1.so in
+    let tree = c.args.tree.now in
+    let self = c.args.self.now in
+    let under = request_under c.requires.stands.0 tree c.args.store.now (g.F.Files.device c.args.files.now) self c.requires.stands.1.linked s c.in-Ok.pool c.in-Ok.ensures.pool in
+    c.destroy.ensures.unreferred file (λ p below. none p (under_trans (map_of tree) s.left.formed self.conn c.in-Ok.pool p under below))
+
+pub returns-in_default-clause-unreferred : goal.returns-in_default-clause-unreferred
+returns-in_default-clause-unreferred g c file none = ap (λ (d : Device). d.numbered file) c.in_default.ensures.unread

@@ -1,11 +1,10 @@
-use Rattle.std.proofs.Common.{◌≡◌, ◌∙◌, sym, ap, subst, refl}
+use Rattle.std.proofs.Common.{◌∙◌, sym, ap, subst}
 use Rattle.module_code.specs.declared.instr.Instr.{Instr}
-use Rattle.module_code.specs.declared.instr.Instr.TheVariants.{Ret, Pass}
-use Rattle.run_model.specs.Chains.{Frame, Linked}
 use Rattle.run_model.specs.declared.event.Stepped.TheVariants.{Went}
 use Rattle.run_model.specs.Turns.{calls_of}
+use Rattle.pool_tree.specs.Tree.{map_of}
 use Rattle.module_run.specs.Conns.{top_of}
-use Rattle.module_run.specs.Proceeding.{IsReady, RefinesStep, LeftAs}
+use Rattle.module_run.specs.Proceeding.{IsReady, RefinesStep}
 use Rattle.module_run.proofs.Executing.{is_last_here, on_err_to}
 use Rattle.module_run.proofs.HandsOnBuilt.{on_err}
 use Rattle.module_run.proofs.conn.Conn.execute_at_top.Goals as goal
@@ -95,3 +94,27 @@ returns-in_ok-pass_to_output-in-Pass-clause-ok g c v f rest ready =
     subst (λ (i : Instr). RefinesStep c.args.modules.now i (g.F.Files.device c.args.files.now) (g.F.Files.device c.pass_to_output.new.files) v f rest c.args.tree.now c.pass_to_output.new.store c.pass_to_output.new.self Went) (sym c.in-Pass.is)
     (c.in_ok-pass_to_output-in-Pass.ensures.ok c.args.modules.now c.args.tree.now v f rest (is_last_here c.args.modules.now c.top.result (top_of c.args.self.now) c.top.ensures c.if-top-modules.false)
     (subst (λ (i : Instr). IsReady c.args.modules.now i c.args.tree.now c.args.store.now (g.F.Files.device c.args.files.now) c.args.self.now v f rest) c.in-Pass.is ready))
+
+-- src/conn_step.rt
+pub returns-in_err-pass_to_next-in-Pass-clause-leaves : goal.returns-in_err-pass_to_next-in-Pass-clause-leaves
+returns-in_err-pass_to_next-in-Pass-clause-leaves g c = c.in_err-pass_to_next-in-Pass.ensures.leaves (map_of c.args.tree.now)
+
+-- src/conn_step.rt
+pub returns-in_err-pass_to_output-in-Pass-clause-leaves : goal.returns-in_err-pass_to_output-in-Pass-clause-leaves
+returns-in_err-pass_to_output-in-Pass-clause-leaves g c = c.in_err-pass_to_output-in-Pass.ensures.leaves (map_of c.args.tree.now)
+
+-- src/conn_step.rt
+pub returns-then-is_empty-clause-leaves : goal.returns-then-is_empty-clause-leaves
+returns-then-is_empty-clause-leaves g c = c.return_last.ensures.leaves (map_of c.args.tree.now)
+
+-- src/conn_step.rt
+pub returns-in_ok-pass_to_next-in-Pass-clause-leaves : goal.returns-in_ok-pass_to_next-in-Pass-clause-leaves
+returns-in_ok-pass_to_next-in-Pass-clause-leaves g c = c.in_ok-pass_to_next-in-Pass.ensures.leaves (map_of c.args.tree.now)
+
+-- src/conn_step.rt
+pub returns-in_ok-pass_to_output-in-Pass-clause-leaves : goal.returns-in_ok-pass_to_output-in-Pass-clause-leaves
+returns-in_ok-pass_to_output-in-Pass-clause-leaves g c = c.in_ok-pass_to_output-in-Pass.ensures.leaves (map_of c.args.tree.now)
+
+-- src/conn_step.rt
+pub returns-else-is_empty-clause-leaves : goal.returns-else-is_empty-clause-leaves
+returns-else-is_empty-clause-leaves g c = c.return_to_caller.ensures.leaves (map_of c.args.tree.now)

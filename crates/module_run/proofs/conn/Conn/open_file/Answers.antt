@@ -1,5 +1,5 @@
 -- By what is told of the opening.
-use Rattle.std.proofs.Common.{◌≡◌, ◌≤◌, ◌<◌, ℕ, ◌+◌, ◌-◌, ◌^◌, true, false, List, length, Option, Some, None, Result, Ok, Err, refl, sym, ap, subst, ◌∙◌, inl, inr, arith, rules}
+use Rattle.std.proofs.Common.{◌<◌, ℕ, ◌+◌, ◌-◌, ◌^◌, false, is_some, Ok, Err, refl, sym, ap, subst, ◌∙◌, inr, arith, rules}
 use Rattle.std.proofs.Math.Path.{fun_ext}
 use Rattle.bucket_kinds.specs.Answers.{Opens}
 use Rattle.bucket_kinds.specs.Device.{Device}
@@ -13,6 +13,8 @@ use Rattle.module_run.specs.declared.conn.OpenFile.{OpenFile}
 use Rattle.module_run.specs.Happened.{has_lasted}
 use Rattle.module_run.specs.OpenedFile.{WasOpened}
 use Rattle.module_run.specs.Proceeding.{LeftAs}
+use Rattle.module_run.specs.Conns.{filter_at}
+use Rattle.module_run.proofs.Neighbours.{unchanged}
 use Rattle.module_run.proofs.FileOpens.{closed_again, file_left, left_device, left_refiled, numbered_closed, some_bytes}
 use Rattle.module_run.proofs.OpeningsTold.{may_tell_unasked, not_spent, opening_is, rest_of, stays_unasked, unasked, was_opened, was_refused}
 use Rattle.module_run.proofs.Refusing.{open_left, open_refused}
@@ -23,22 +25,22 @@ use Rattle.module_run.proofs.conn.Conn.open_file.Goals as goal
 pub keep_file-requires : goal.keep_file-requires
 keep_file-requires g c = (let s = c.requires.stands in request_live s.0 c.args.tree.now c.args.store.now (g.F.Files.device c.args.files.now) c.args.self.now s.1.linked s.1.so c.in-Ok.pool c.in-Ok.ensures.pool)
 
-pub returns-in-Err : goal.returns-in-Err
-returns-in-Err g c chain v stands below =
+pub returns-in-Err-clause-opened : goal.returns-in-Err-clause-opened
+returns-in-Err-clause-opened g c chain v stands below =
     let d = g.F.Files.device c.args.files.now in
     was_opened chain c.args.tree.now c.args.store.now d d c.args.self.now c.args.name.now v (Err c.in-Err.why) (unasked v.0.file d c.args.name.now) v (may_tell_unasked v.0.file d c.args.name.now below)
     (open_refused (map_of c.args.tree.now) (lists c.args.store.now) (next_name c.args.store.now) c.args.self.now v stands.left.seen (unasked v.0.file d c.args.name.now) (has_lasted c.in-Err.why) c.in-Err.why (sym c.in-Err.ensures.refusal))
     stands.left below (stays_unasked c.args.name.now d c.args.self.now.broken c.args.self.now.busy c.args.self.now.req c.in-Err.why c.in-Err.ensures.refusal) tt
 
-pub returns-in-Err-open_file : goal.returns-in-Err-open_file
-returns-in-Err-open_file g c chain v stands below =
+pub returns-in-Err-open_file-clause-opened : goal.returns-in-Err-open_file-clause-opened
+returns-in-Err-open_file-clause-opened g c chain v stands below =
     let d = g.F.Files.device c.args.files.now in
     let e = g.F.Files.device c.open_file.new.self in
     subst (λ (r : Refusal). WasOpened chain c.args.tree.now c.args.store.now d e c.args.self.now c.args.name.now (Err r) v) (sym c.unopened.ensures)
     (was_refused chain c.args.tree.now c.args.store.now d e c.args.self.now c.args.name.now v c.in-Err-open_file.fault c.in-Err-open_file.ensures (sym c.in-Ok.ensures.refusal) stands.left below)
 
-pub returns-in_default : goal.returns-in_default
-returns-in_default g c chain v stands below =
+pub returns-in_default-clause-opened : goal.returns-in_default-clause-opened
+returns-in_default-clause-opened g c chain v stands below =
     let self = c.args.self.now in
     let d = g.F.Files.device c.args.files.now in
     let e = g.F.Files.device c.open_file.new.self in
@@ -56,8 +58,8 @@ returns-in_default g c chain v stands below =
     (let next = ap (λ (x : Device). x.next) c.close_file.ensures in let after = ap (λ (x : Device). x.next) opens.after in omega (arith, below, next, after))
     (inr (closed_again d e c.args.name.now told.0 told.1 opens last c.close_file.ensures)) tt
 
-pub returns : goal.returns
-returns g c chain v stands below =
+pub returns-clause-opened : goal.returns-clause-opened
+returns-clause-opened g c chain v stands below =
     let self = c.args.self.now in
     let d = g.F.Files.device c.args.files.now in
     let e = g.F.Files.device c.open_file.new.self in
@@ -74,3 +76,25 @@ returns g c chain v stands below =
     c.keep_file.new.self.files file refl refl k.files k.map k.formed (k.house stands.left.house) k.counted k.lists k.brigades k.pools k.next))
     (let after = ap (λ (x : Device). x.next) opens.after in let at = opens.number_is in omega (arith, after, at))
     opens.after short
+
+pub returns-in-Err-clause-leaves : goal.returns-in-Err-clause-leaves
+returns-in-Err-clause-leaves g c = unchanged (map_of c.args.tree.now) c.args.store.now c.args.store.now c.args.self.now c.args.self.now (λ n. refl) refl (omega arith) (λ id there young. there) (λ k. refl)
+
+pub returns-in-Err-open_file-clause-leaves : goal.returns-in-Err-open_file-clause-leaves
+returns-in-Err-open_file-clause-leaves g c = unchanged (map_of c.args.tree.now) c.args.store.now c.args.store.now c.args.self.now c.args.self.now (λ n. refl) refl (omega arith) (λ id there young. there) (λ k. refl)
+
+pub returns-in_default-clause-leaves : goal.returns-in_default-clause-leaves
+unfolding filter_at
+returns-in_default-clause-leaves g c =
+    let e = c.keep_file.ensures in
+    let next = e.next in
+    unchanged (map_of c.args.tree.now) c.args.store.now c.keep_file.new.store c.args.self.now c.keep_file.new.self (λ n. ap (λ (f : ℕ → _). f n) e.lists) e.pools (omega (arith, next))
+    (λ id there young. ap (λ (f : _ → _). is_some (f id)) (sym e.brigades) ∙ there) (λ k. ap (λ (x : Conn). filter_at x k) e.rest)
+
+pub returns-clause-leaves : goal.returns-clause-leaves
+unfolding filter_at
+returns-clause-leaves g c =
+    let e = c.keep_file.ensures in
+    let next = e.next in
+    unchanged (map_of c.args.tree.now) c.args.store.now c.keep_file.new.store c.args.self.now c.keep_file.new.self (λ n. ap (λ (f : ℕ → _). f n) e.lists) e.pools (omega (arith, next))
+    (λ id there young. ap (λ (f : _ → _). is_some (f id)) (sym e.brigades) ∙ there) (λ k. ap (λ (x : Conn). filter_at x k) e.rest)

@@ -1,6 +1,6 @@
 -- The filter on top is changed, and what it passed is put out.
-use Rattle.std.proofs.Common.{◌≡◌, ◌==◌, ◌+◌, ◌<◌, All, Some, true, is_some, length, refl, sym, ap, subst, ◌∙◌, arith}
-use Rattle.std.specs.Prelude.{if◌then◌else◌}
+use Rattle.std.proofs.Common.{◌≡◌, ◌==◌, ℕ, ◌+◌, ◌<◌, All, List, Some, true, is_some, length, refl, sym, ap, subst, ◌∙◌, arith}
+use Rattle.std.specs.Prelude.{if◌then◌else◌, slice_get}
 use Rattle.std.proofs.lemmas.List.{length-set}
 use Rattle.std.specs.Vec.{with_item}
 use Rattle.module_code.specs.declared.instr.Instr.TheVariants as instr
@@ -10,11 +10,11 @@ use Rattle.run_model.specs.Chains.{module_at}
 use Rattle.run_model.specs.Effects.{do_pass}
 use Rattle.run_model.specs.State.{Out, items_of}
 use Rattle.pool_tree.specs.Tree.{map_of}
-use Rattle.brigade_ops.specs.Store.{lists}
+use Rattle.brigade_ops.specs.Store.{lists, pool_of, next_name, brigade_of}
 use Rattle.module_run.specs.declared.conn.Filter.{Filter}
 use Rattle.ring_run.specs.declared.machine.Instance.{Instance}
 use Rattle.ring_run.specs.declared.machine.Call.{Call}
-use Rattle.module_run.specs.Conns.{top_of}
+use Rattle.module_run.specs.Conns.{filter_at, top_of}
 use Rattle.ring_run.specs.Delivery.{WasDelivered, out_of}
 use Rattle.ring_run.specs.Ends.{EndInFiles}
 use Rattle.ring_run.specs.Given.{RangeIsOpen}
@@ -24,6 +24,8 @@ use Rattle.module_run.specs.Proceeding.{LeftAs}
 use Rattle.ring_run.specs.Seen.{seen}
 use Rattle.ring_run.specs.Slots.{live_in, marked, slot_at}
 use Rattle.module_run.proofs.AtWork as work
+use Rattle.module_run.proofs.CallsLeave.{ends_one, ends_unchanged, marked_name, one_leaves}
+use Rattle.module_run.proofs.Neighbours.{unchanged}
 use Rattle.module_run.proofs.CanPass.{passer, passed_live, passed_variable}
 use Rattle.module_run.proofs.Delivers.{delivers, passed_on}
 use Rattle.ring_run.proofs.Faultless.{passed_homes}
@@ -135,3 +137,94 @@ returns-clause-ok g c chain tree v f rest last ready =
     (λ call. subst (λ (q : Filter). IsHeld old q.instance call → IsHeld new i call) at (c.pass_out.ensures.held call))
     (λ call. subst (λ (q : Filter). LeavesOthers old new q.instance call) at (c.in_ok-well.ensures.left call))
     given.reads given.given given.told c.pass_out.ensures.open_files last
+
+pub returns-in_err-well-clause-leaves : goal.returns-in_err-well-clause-leaves
+unfolding filter_at
+returns-in_err-well-clause-leaves g c ps =
+    let r = c.index_mut-filter.result.now in
+    let w : Filter = record { instance = c.pass_out.new.instance; call = r.call; lent = r.lent } in
+    let back : w ≡ r = ap (λ (i : Instance). let q : Filter = record { instance = i; call = r.call; lent = r.lent } in q) c.in_err-well.ensures.same.0 in
+    let s = c.in_err-well.ensures.same.1 in
+    unchanged ps c.args.store.now c.pass_out.new.store c.args.self.now _ (λ n. ap (λ x. lists x n) s) (ap (λ x. pool_of x) s) (let e = ap (λ x. next_name x) s in omega (arith, e)) (λ id there young. sym (ap (λ x. is_some (brigade_of x id)) s) ∙ there)
+    (λ k. ap (λ (fs : List Filter). slice_get fs k) (same_back c.args.self.now.filters c.top-top.result r w c.index_mut-filter.ensures.value back))
+
+pub returns-in_err-well-clause-ended : goal.returns-in_err-well-clause-ended
+unfolding filter_at
+returns-in_err-well-clause-ended g c =
+    let r = c.index_mut-filter.result.now in
+    let w : Filter = record { instance = c.pass_out.new.instance; call = r.call; lent = r.lent } in
+    let back : w ≡ r = ap (λ (i : Instance). let q : Filter = record { instance = i; call = r.call; lent = r.lent } in q) c.in_err-well.ensures.same.0 in
+    ends_unchanged c.args.store.now c.pass_out.new.store c.args.self.now _ (λ k. ap (λ (fs : List Filter). slice_get fs k) (same_back c.args.self.now.filters c.top-top.result r w c.index_mut-filter.ensures.value back))
+
+pub returns-clause-leaves : goal.returns-clause-leaves
+unfolding filter_at
+returns-clause-leaves g c ps =
+    let p = c.requires.ready.2 in
+    let chain = c.requires.ready.0 in
+    let tree = c.requires.ready.1 in
+    let v = p.v in
+    let f = p.top in
+    let rest = p.rest in
+    let ready = p.ready in
+    let self = c.args.self.now in
+    let old = c.args.store.now in
+    let new = c.pass_out.new.store in
+    let d = g.F.Files.device c.args.files.now in
+    let e = g.F.Files.device c.pass_out.new.files in
+    let b = c.args.b in
+    let l = c.args.target in
+    let t = passer chain b l tree old d self v f rest ready in
+    let x = t.filter in
+    let r = c.index_mut-filter.result.now in
+    let i = c.pass_out.new.instance in
+    let well = c.in_ok-well.well in
+    let at = reads_here self c.top-top.result c.top-top.ensures x r t.is c.index_mut-filter.ensures.value in
+    let n : length self.filters.items ≡ length chain = ready.stands.left.stacked.many in
+    let lt = ready.stands.left.stacked.within in
+    let within : top_of self < length self.filters.items = omega (arith, n, lt) in
+    let w : Filter = record { instance = i; call = c.go_on.new.self; lent = r.lent } in
+    let is : w ≡ passed_on chain b l tree old new d e self v f rest ready i well (with_item self.filters c.top-top.result w) c.pass_out.new.out c.pass_out.new.ended =
+    ap (λ (k : Call). let q : Filter = record { instance = i; call = k; lent = r.lent } in q) c.go_on.ensures
+    ∙ ap (λ (p : Filter). let q : Filter = record { instance = i; call = record p.call { pc = if well then p.call.pc + 1 else l }; lent = p.lent } in q) at in
+    let y : Filter = w in
+    let slots : (a : ℕ) → slot_at i a ≡ (if a == b then marked Passed (slot_at x.instance b) else slot_at x.instance a) =
+    (λ a. subst (λ (q : Filter). slot_at i a ≡ (if a == b then marked Passed (slot_at q.instance b) else slot_at q.instance a)) at (c.in_ok-well.ensures.slots a)) in
+    let name : w.call.name ≡ x.call.name = ap (λ (k : Call). k.name) c.go_on.ensures ∙ ap (λ (q : Filter). q.call.name) at in
+    one_leaves ps old new self _ (top_of self) x w t.is (writes_here self c.top-top.result c.top-top.ensures w within) (writes_off self c.top-top.result c.top-top.ensures w within) name (marked_name x.instance i b slots)
+    (subst (λ (q : Filter). LeavesOthers old new q.instance x.call) at (c.in_ok-well.ensures.left x.call))
+
+pub returns-clause-ended : goal.returns-clause-ended
+unfolding filter_at
+returns-clause-ended g c =
+    let p = c.requires.ready.2 in
+    let chain = c.requires.ready.0 in
+    let tree = c.requires.ready.1 in
+    let v = p.v in
+    let f = p.top in
+    let rest = p.rest in
+    let ready = p.ready in
+    let self = c.args.self.now in
+    let old = c.args.store.now in
+    let new = c.pass_out.new.store in
+    let d = g.F.Files.device c.args.files.now in
+    let e = g.F.Files.device c.pass_out.new.files in
+    let b = c.args.b in
+    let l = c.args.target in
+    let t = passer chain b l tree old d self v f rest ready in
+    let x = t.filter in
+    let r = c.index_mut-filter.result.now in
+    let i = c.pass_out.new.instance in
+    let well = c.in_ok-well.well in
+    let at = reads_here self c.top-top.result c.top-top.ensures x r t.is c.index_mut-filter.ensures.value in
+    let n : length self.filters.items ≡ length chain = ready.stands.left.stacked.many in
+    let lt = ready.stands.left.stacked.within in
+    let within : top_of self < length self.filters.items = omega (arith, n, lt) in
+    let w : Filter = record { instance = i; call = c.go_on.new.self; lent = r.lent } in
+    let is : w ≡ passed_on chain b l tree old new d e self v f rest ready i well (with_item self.filters c.top-top.result w) c.pass_out.new.out c.pass_out.new.ended =
+    ap (λ (k : Call). let q : Filter = record { instance = i; call = k; lent = r.lent } in q) c.go_on.ensures
+    ∙ ap (λ (p : Filter). let q : Filter = record { instance = i; call = record p.call { pc = if well then p.call.pc + 1 else l }; lent = p.lent } in q) at in
+    let y : Filter = w in
+    let slots : (a : ℕ) → slot_at i a ≡ (if a == b then marked Passed (slot_at x.instance b) else slot_at x.instance a) =
+    (λ a. subst (λ (q : Filter). slot_at i a ≡ (if a == b then marked Passed (slot_at q.instance b) else slot_at q.instance a)) at (c.in_ok-well.ensures.slots a)) in
+    let name : w.call.name ≡ x.call.name = ap (λ (k : Call). k.name) c.go_on.ensures ∙ ap (λ (q : Filter). q.call.name) at in
+    ends_one old new self _ (top_of self) x w t.is (writes_here self c.top-top.result c.top-top.ensures w within) (writes_off self c.top-top.result c.top-top.ensures w within) name (marked_name x.instance i b slots 8)

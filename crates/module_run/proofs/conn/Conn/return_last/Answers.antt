@@ -7,11 +7,14 @@ use Rattle.run_model.specs.Chains.{module_at}
 use Rattle.run_model.specs.Passing.{handler_at}
 use Rattle.brigade_ops.specs.Store.{lists, next_name}
 use Rattle.ring_run.specs.Begun.{IsBegun}
-use Rattle.module_run.proofs.EndedLast.{parts}
+use Rattle.module_run.proofs.CallsLeave.{ends_unchanged, last_ends, last_leaves, turn_ends, turn_leaves}
+use Rattle.module_run.proofs.EndedLast.{EndsLast, parts}
 use Rattle.module_run.proofs.Ending.{ending}
 use Rattle.module_run.proofs.FirstReady.{as_was, first_brought, first_held, first_read, first_runs, first_within, made_brought, made_empty, made_free, made_held, made_none, one_begins, queue_later, set_first, set_next, zero_free}
+use Rattle.pool_tree.specs.Tree.{map_of}
+use Rattle.module_run.proofs.Neighbours.{unchanged}
 use Rattle.module_run.proofs.LeftSame.{left_same}
-use Rattle.module_run.proofs.NextTurn.{turned, turning}
+use Rattle.module_run.proofs.NextTurn.{Turns, turned, turning}
 use Rattle.module_run.proofs.TopFilter.{module_read, on_top_of}
 use Rattle.module_run.proofs.conn.Conn.return_last.Goals as goal
 
@@ -113,3 +116,168 @@ returns-clause-leads g c tree device v f rest ready =
     }) empty (c.end_first-2.ensures.next ∙ c.in-Ok.ensures.next) (c.end_first-2.ensures.pools ∙ c.in-Ok.ensures.pools)
     (λ id there young. c.in-Ok.ensures.names id (c.end_first-2.ensures.names id there (let n = c.in-Ok.ensures.next in omega (arith, young, n))) young)
     c.end_first-2.ensures.held (c.end_first-2.ensures.references ∙ c.in-Ok.ensures.references)
+
+pub returns-in_default-clause-leaves : goal.returns-in_default-clause-leaves
+returns-in_default-clause-leaves g c ps =
+    let e = c.in_default.ensures in
+    let next = e.next in
+    unchanged ps c.args.store.now c.loose.new.self c.args.self.now c.args.self.now e.err e.pools (omega (arith, next)) e.names (λ k. refl)
+
+pub returns-in_default-clause-ended : goal.returns-in_default-clause-ended
+returns-in_default-clause-ended g c = ends_unchanged c.args.store.now c.loose.new.self c.args.self.now c.args.self.now (λ k. refl)
+
+pub returns-then-next-len-clause-leaves : goal.returns-then-next-len-clause-leaves
+returns-then-next-len-clause-leaves g c ps =
+    let p = c.requires.ready in
+    let tree = p.0 in
+    let device = p.1 in
+    let v = p.2.v in
+    let f = p.2.top in
+    let rest = p.2.rest in
+    let ready = p.2.ready in
+    let filters = with_item c.args.self.now.filters c.args.self.now.first c.end_first.new.self in
+    let k = set_first c.args.self.now (record c.args.self.now { filters = filters; busy = false }) c.end_first.new.self (first_within c.args.modules.now c.args.status tree c.args.store.now device c.args.self.now v f rest ready c.requires.alone) refl in
+    let x : EndsLast (lists c.args.store.now) (lists c.end_first.new.store) (next_name c.args.store.now) c.args.self.now (record c.args.self.now { filters = filters; busy = false }) = record {
+      top = c.index_mut.result.now;
+      ended = c.end_first.new.self;
+      busy = (on_top_of c.args.modules.now (instr.Ret c.args.status) tree c.args.store.now device c.args.self.now v f rest ready).busy;
+      none = c.requires.alone;
+      on_top = first_read c.args.modules.now c.args.status tree c.args.store.now device c.args.self.now v f rest ready c.requires.alone c.index_mut.result.now c.index_mut.ensures.value;
+      top_after = k.0;
+      others = λ j ne. ap parts (k.1 j ne);
+      rings = λ n below off came. c.end_first.ensures.others n off came;
+      slots = c.end_first.ensures.slots;
+      rest = c.end_first.ensures.rest;
+      name = c.end_first.ensures.name;
+      lent = c.end_first.ensures.lent;
+    } in
+    last_leaves c.args.modules.now ps c.args.store.now c.end_first.new.store c.args.self.now (record c.args.self.now { filters = filters; busy = false }) ready.stands.left.stacked x ready.stands.left.none k.1
+    c.end_first.ensures.next c.end_first.ensures.names c.end_first.ensures.pools
+
+pub returns-then-next-len-clause-ended : goal.returns-then-next-len-clause-ended
+returns-then-next-len-clause-ended g c =
+    let p = c.requires.ready in
+    let tree = p.0 in
+    let device = p.1 in
+    let v = p.2.v in
+    let f = p.2.top in
+    let rest = p.2.rest in
+    let ready = p.2.ready in
+    let filters = with_item c.args.self.now.filters c.args.self.now.first c.end_first.new.self in
+    let k = set_first c.args.self.now (record c.args.self.now { filters = filters; busy = false }) c.end_first.new.self (first_within c.args.modules.now c.args.status tree c.args.store.now device c.args.self.now v f rest ready c.requires.alone) refl in
+    let x : EndsLast (lists c.args.store.now) (lists c.end_first.new.store) (next_name c.args.store.now) c.args.self.now (record c.args.self.now { filters = filters; busy = false }) = record {
+      top = c.index_mut.result.now;
+      ended = c.end_first.new.self;
+      busy = (on_top_of c.args.modules.now (instr.Ret c.args.status) tree c.args.store.now device c.args.self.now v f rest ready).busy;
+      none = c.requires.alone;
+      on_top = first_read c.args.modules.now c.args.status tree c.args.store.now device c.args.self.now v f rest ready c.requires.alone c.index_mut.result.now c.index_mut.ensures.value;
+      top_after = k.0;
+      others = λ j ne. ap parts (k.1 j ne);
+      rings = λ n below off came. c.end_first.ensures.others n off came;
+      slots = c.end_first.ensures.slots;
+      rest = c.end_first.ensures.rest;
+      name = c.end_first.ensures.name;
+      lent = c.end_first.ensures.lent;
+    } in
+    last_ends c.args.modules.now (map_of tree) c.args.store.now c.end_first.new.store c.args.self.now (record c.args.self.now { filters = filters; busy = false }) ready.stands.left.stacked x ready.stands.left.none k.1
+    c.end_first.ensures.gone c.end_first.ensures.brought
+
+pub returns-clause-leaves : goal.returns-clause-leaves
+returns-clause-leaves g c ps =
+    let p = c.requires.ready in
+    let tree = p.0 in
+    let device = p.1 in
+    let v = p.2.v in
+    let f = p.2.top in
+    let rest = p.2.rest in
+    let ready = p.2.ready in
+    let within : c.args.self.now.queue < length c.args.self.now.filters.items =
+    (let a : c.args.self.now.queue ≢ c.len.result = c.if-next-len.false in let b = c.len.ensures in let o = c.args.self.now.filters.ok.0 in let q = ready.stands.left.stacked.queue in let m = ready.stands.left.stacked.many in omega (arith, a, b, o, q, m)) in
+    let later = queue_later c.args.modules.now c.args.status tree c.args.store.now device c.args.self.now v f rest ready c.requires.alone within in
+    let held = first_held c.args.modules.now c.args.status tree c.args.store.now device c.args.self.now v f rest ready c.requires.alone c.index_mut-2.result.now c.index_mut-2.ensures.value in
+    let runs = first_runs c.args.modules.now c.args.status tree c.args.store.now device c.args.self.now v f rest ready c.requires.alone c.index_mut-2.result.now c.index_mut-2.ensures.value in
+    let filters = with_item (with_item c.args.self.now.filters c.args.self.now.first c.end_first-2.new.self) c.args.self.now.queue c.begin.new.self in
+    let k = set_next c.args.self.now (turned c.args.self.now filters) c.end_first-2.new.self c.index_mut-3.result.now c.begin.new.self later within c.index_mut-3.ensures.value c.begin.ensures.instance c.begin.ensures.lent refl in
+    let chain_is : module_at c.args.modules.now c.args.self.now.queue ≡ c.index-modules-next.result = module_read c.args.modules.now c.args.self.now.queue c.index-modules-next.result (let m = ready.stands.left.stacked.many in omega (arith, within, m)) c.index-modules-next.is in
+    let pc_is : c.handler-pc.result ≡ handler_at c.args.self.now.req (module_at c.args.modules.now c.args.self.now.queue) = c.handler-pc.ensures ∙ ap (handler_at c.args.self.now.req) (sym chain_is) in
+    let empty : lists c.end_first-2.new.store (next_name c.args.store.now) ≡ Some [] =
+    c.end_first-2.ensures.others (next_name c.args.store.now) (λ e. let a = held.called in omega (arith, a, e)) (λ e. let a = held.named 8 (next_name c.args.store.now) e in omega (arith, a)) ∙ made_empty c.args.modules.now c.args.status tree c.args.store.now device c.args.self.now v f rest ready c.requires.alone c.index_mut-2.result.now c.index_mut-2.ensures.value c.loose.new.self c.in-Ok.name c.in-Ok.ensures.name c.in-Ok.ensures.ok c.in-Ok.ensures.next c.in-Ok.ensures.names c.in-Ok.ensures.pools in
+    let x : EndsLast (lists c.args.store.now) (lists c.end_first-2.new.store) (next_name c.args.store.now) c.args.self.now (turned c.args.self.now filters) = record {
+      top = c.index_mut-2.result.now;
+      ended = c.end_first-2.new.self;
+      busy = (on_top_of c.args.modules.now (instr.Ret c.args.status) tree c.args.store.now device c.args.self.now v f rest ready).busy;
+      none = c.requires.alone;
+      on_top = first_read c.args.modules.now c.args.status tree c.args.store.now device c.args.self.now v f rest ready c.requires.alone c.index_mut-2.result.now c.index_mut-2.ensures.value;
+      top_after = k.first;
+      others = k.same;
+      rings = λ n below off came. c.end_first-2.ensures.others n off came ∙ as_was c.args.modules.now c.args.status tree c.args.store.now device c.args.self.now v f rest ready c.requires.alone c.index_mut-2.result.now c.index_mut-2.ensures.value c.loose.new.self c.in-Ok.name c.in-Ok.ensures.name c.in-Ok.ensures.ok c.in-Ok.ensures.next c.in-Ok.ensures.names c.in-Ok.ensures.pools n below;
+      slots = c.end_first-2.ensures.slots;
+      rest = c.end_first-2.ensures.rest;
+      name = c.end_first-2.ensures.name;
+      lent = c.end_first-2.ensures.lent;
+    } in
+    let y : Turns c.args.modules.now (next_name c.args.store.now) c.args.self.now (turned c.args.self.now filters) = record {
+      before = c.index_mut-3.result.now;
+      begun = c.begin.new.self;
+      later = later;
+      within = within;
+      was = k.was;
+      now = k.now;
+      instance = c.begin.ensures.instance;
+      call = subst (λ (n : ℕ). IsBegun n (handler_at c.args.self.now.req (module_at c.args.modules.now c.args.self.now.queue)) c.begin.new.self.call) c.in-Ok.ensures.name
+          (subst (λ (n : ℕ). IsBegun c.in-Ok.name n c.begin.new.self.call) pc_is c.begin.ensures.begun);
+      others = k.others;
+      count = k.count;
+    } in
+    turn_leaves c.args.modules.now ps c.args.store.now c.end_first-2.new.store c.args.self.now (turned c.args.self.now filters) ready.stands.left.stacked x ready.stands.left.none y
+    (c.end_first-2.ensures.next ∙ c.in-Ok.ensures.next) (λ id there young. c.in-Ok.ensures.names id (c.end_first-2.ensures.names id there (let n = c.in-Ok.ensures.next in omega (arith, young, n))) young) (c.end_first-2.ensures.pools ∙ c.in-Ok.ensures.pools)
+
+pub returns-clause-ended : goal.returns-clause-ended
+returns-clause-ended g c =
+    let p = c.requires.ready in
+    let tree = p.0 in
+    let device = p.1 in
+    let v = p.2.v in
+    let f = p.2.top in
+    let rest = p.2.rest in
+    let ready = p.2.ready in
+    let within : c.args.self.now.queue < length c.args.self.now.filters.items =
+    (let a : c.args.self.now.queue ≢ c.len.result = c.if-next-len.false in let b = c.len.ensures in let o = c.args.self.now.filters.ok.0 in let q = ready.stands.left.stacked.queue in let m = ready.stands.left.stacked.many in omega (arith, a, b, o, q, m)) in
+    let later = queue_later c.args.modules.now c.args.status tree c.args.store.now device c.args.self.now v f rest ready c.requires.alone within in
+    let held = first_held c.args.modules.now c.args.status tree c.args.store.now device c.args.self.now v f rest ready c.requires.alone c.index_mut-2.result.now c.index_mut-2.ensures.value in
+    let runs = first_runs c.args.modules.now c.args.status tree c.args.store.now device c.args.self.now v f rest ready c.requires.alone c.index_mut-2.result.now c.index_mut-2.ensures.value in
+    let filters = with_item (with_item c.args.self.now.filters c.args.self.now.first c.end_first-2.new.self) c.args.self.now.queue c.begin.new.self in
+    let k = set_next c.args.self.now (turned c.args.self.now filters) c.end_first-2.new.self c.index_mut-3.result.now c.begin.new.self later within c.index_mut-3.ensures.value c.begin.ensures.instance c.begin.ensures.lent refl in
+    let chain_is : module_at c.args.modules.now c.args.self.now.queue ≡ c.index-modules-next.result = module_read c.args.modules.now c.args.self.now.queue c.index-modules-next.result (let m = ready.stands.left.stacked.many in omega (arith, within, m)) c.index-modules-next.is in
+    let pc_is : c.handler-pc.result ≡ handler_at c.args.self.now.req (module_at c.args.modules.now c.args.self.now.queue) = c.handler-pc.ensures ∙ ap (handler_at c.args.self.now.req) (sym chain_is) in
+    let empty : lists c.end_first-2.new.store (next_name c.args.store.now) ≡ Some [] =
+    c.end_first-2.ensures.others (next_name c.args.store.now) (λ e. let a = held.called in omega (arith, a, e)) (λ e. let a = held.named 8 (next_name c.args.store.now) e in omega (arith, a)) ∙ made_empty c.args.modules.now c.args.status tree c.args.store.now device c.args.self.now v f rest ready c.requires.alone c.index_mut-2.result.now c.index_mut-2.ensures.value c.loose.new.self c.in-Ok.name c.in-Ok.ensures.name c.in-Ok.ensures.ok c.in-Ok.ensures.next c.in-Ok.ensures.names c.in-Ok.ensures.pools in
+    let x : EndsLast (lists c.args.store.now) (lists c.end_first-2.new.store) (next_name c.args.store.now) c.args.self.now (turned c.args.self.now filters) = record {
+      top = c.index_mut-2.result.now;
+      ended = c.end_first-2.new.self;
+      busy = (on_top_of c.args.modules.now (instr.Ret c.args.status) tree c.args.store.now device c.args.self.now v f rest ready).busy;
+      none = c.requires.alone;
+      on_top = first_read c.args.modules.now c.args.status tree c.args.store.now device c.args.self.now v f rest ready c.requires.alone c.index_mut-2.result.now c.index_mut-2.ensures.value;
+      top_after = k.first;
+      others = k.same;
+      rings = λ n below off came. c.end_first-2.ensures.others n off came ∙ as_was c.args.modules.now c.args.status tree c.args.store.now device c.args.self.now v f rest ready c.requires.alone c.index_mut-2.result.now c.index_mut-2.ensures.value c.loose.new.self c.in-Ok.name c.in-Ok.ensures.name c.in-Ok.ensures.ok c.in-Ok.ensures.next c.in-Ok.ensures.names c.in-Ok.ensures.pools n below;
+      slots = c.end_first-2.ensures.slots;
+      rest = c.end_first-2.ensures.rest;
+      name = c.end_first-2.ensures.name;
+      lent = c.end_first-2.ensures.lent;
+    } in
+    let y : Turns c.args.modules.now (next_name c.args.store.now) c.args.self.now (turned c.args.self.now filters) = record {
+      before = c.index_mut-3.result.now;
+      begun = c.begin.new.self;
+      later = later;
+      within = within;
+      was = k.was;
+      now = k.now;
+      instance = c.begin.ensures.instance;
+      call = subst (λ (n : ℕ). IsBegun n (handler_at c.args.self.now.req (module_at c.args.modules.now c.args.self.now.queue)) c.begin.new.self.call) c.in-Ok.ensures.name
+          (subst (λ (n : ℕ). IsBegun c.in-Ok.name n c.begin.new.self.call) pc_is c.begin.ensures.begun);
+      others = k.others;
+      count = k.count;
+    } in
+    turn_ends c.args.modules.now (map_of tree) c.args.store.now c.end_first-2.new.store c.args.self.now (turned c.args.self.now filters) ready.stands.left.stacked x ready.stands.left.none y
+    c.end_first-2.ensures.gone c.end_first-2.ensures.brought

@@ -1,0 +1,121 @@
+-- What events of a connection leave to others.
+use Rattle.std.proofs.Common.{◌≡◌, ◌≢◌, ◌⊎◌, ℕ, ◌+◌, ◌<◌, ◌≤◌, Bool, true, false, List, [], map, Option, Some, None, refl, sym, ap, subst, ◌∙◌, inl, inr, arith}
+use Rattle.std.proofs.lemmas.Bool.{both_ways, false_from_ne_true}
+use Rattle.std.specs.Prelude.{if◌then◌else◌, slice_get}
+use Rattle.bucket_ring.specs.declared.rings.Rings.{Ghosts}
+use Rattle.bucket_ring.specs.Kept.{NoneRevived}
+use Rattle.bucket_ring.specs.Lists as ring
+use Rattle.ring_run.proofs.Changes.{ring_off}
+use Rattle.module_code.specs.Program.{Program}
+use Rattle.run_model.specs.declared.bucket.Bucket.{Bucket}
+use Rattle.run_model.specs.declared.payload.Payload.{Payload}
+use Rattle.run_model.specs.Clearing.{is_reached}
+use Rattle.run_model.specs.Pools.{Pools, is_in, is_under}
+use Rattle.run_model.specs.RunOrder.{IsPoolMap}
+use Rattle.model_laws.proofs.parts.Paths.{under_trans}
+use Rattle.brigade_ops.specs.declared.store.Brigades.{Brigades}
+use Rattle.brigade_ops.specs.House.{cleared_ring}
+use Rattle.brigade_ops.specs.Items.{Items}
+use Rattle.brigade_ops.specs.Store.{lists, brigade_of, pool_of, next_name}
+use Rattle.ring_run.specs.LeftAlone as run
+use Rattle.ring_run.specs.LeftAlone.{LeavesUncleared}
+use Rattle.ring_run.specs.declared.machine.Call.{Call}
+use Rattle.ring_run.specs.declared.machine.Instance.{Instance}
+use Rattle.ring_run.specs.Slots.{name_in, slot_at}
+use Rattle.module_run.specs.CalledFirst.{CalledFirst}
+use Rattle.module_run.specs.declared.conn.Conn.{Conn}
+use Rattle.module_run.specs.declared.conn.Filter.{Filter}
+use Rattle.module_run.specs.Conns.{filter_at, top_of}
+use Rattle.bucket_kinds.specs.Device.{Device}
+use Rattle.pool_tree.specs.declared.tree.PoolTree.{PoolTree}
+use Rattle.pool_tree.specs.Tree.{map_of}
+use Rattle.std.specs.Option.{option_map}
+use Rattle.std.proofs.lemmas.Option.{slice_get-map}
+use Rattle.module_run.specs.Destroyed.{WasDestroyed, quieted}
+use Rattle.module_run.specs.Neighbours.{Holds, IsForeign, LeavesOthers, SameRing}
+use Rattle.module_run.specs.Stacked.{IsStacked, named_at}
+use Rattle.module_run.proofs.FirstCalls.{Was, was}
+use Rattle.module_run.proofs.Restacked.{WasFilter}
+
+earlier : (a b : ℕ) → a < b → a ≢ b
+earlier a b lt e = omega (arith, lt, e)
+
+-- The call of the first filter begins.
+module _ {R : Type 0} {g : Ghosts R Bucket} (chain : List Program) (ps : Pools Payload) (old new : Brigades R g) (c d : Conn) (r : Option ℕ) (stacked : IsStacked chain old c) (idle : c.busy ≡ false)
+    (begins : CalledFirst chain (next_name old) (record c { req = r }) d) (over : (n : ℕ) → lists new n ≡ ring.upd (lists old) (next_name old) (Some []) n) where
+  first_holds : (n : ℕ) (h : Holds d n) → Was chain old new c d r stacked idle begins over h.at h.filter → (Holds c n) ⊎ (next_name old ≤ n)
+  first_holds n h w = elim h.by [
+    | inl name ↦ elim w.call [
+      | inl e ↦ inr (let a = e.1 in omega (arith, a, name))
+      | inr e ↦ inl (record { at = h.at; filter = w.filter; is = w.is; by = inl (sym (ap (λ (x : Call). x.name) e.1) ∙ name) })
+    ]
+    | inr b ↦ inl (record { at = h.at; filter = w.filter; is = w.is; by = inr (b.0, sym (ap (λ (i : Instance). name_in (slot_at i b.0)) w.instance) ∙ b.1) })
+  ]
+
+  pub first_leaves : next_name new ≡ next_name old + 1 → NoneRevived (brigade_of old) (brigade_of new) (next_name old) → pool_of new ≡ pool_of old → LeavesOthers ps old new c d
+  first_leaves next names pools = record {
+    rises = omega (arith, next);
+    names = names;
+    others = λ n foreign. record { list = over n ∙ ring_off (lists old) (next_name old) n (Some []) (earlier n (next_name old) foreign.given); pool = ap (λ (f : ℕ → Option ℕ). f n) pools };
+    holds = λ n pos h. first_holds n h (was chain old new c d r stacked idle begins over h.at h.filter h.is);
+  }
+
+-- A pool under the connection's is cleared or destroyed, and the clear looks at its own brigades alone.
+module _ {R : Type 0} {g : Ghosts R Bucket} (ps : Pools Payload) (formed : IsPoolMap ps) (old new : Brigades R g) (c : Conn) (pool : ℕ) (under : is_under ps c.conn pool ≡ true)
+    (looked : List ℕ) (only : (n : ℕ) → is_in n looked ≡ true → Holds c n) (left : LeavesUncleared (is_under ps pool) looked old new) where
+  not_looked : (n : ℕ) → IsForeign ps old c n → is_in n looked ≡ false
+  not_looked n foreign = false_from_ne_true (is_in n looked) (λ there. foreign.unheld (only n there))
+
+  not_reached : (n : ℕ) (o : Option ℕ) → pool_of old n ≡ o → IsForeign ps old c n → is_reached (is_under ps pool) o ≡ false
+  not_reached n None is foreign = refl
+  not_reached n (Some p) is foreign = false_from_ne_true (is_under ps pool p) (λ up. both_ways (is_under ps c.conn p) (foreign.off p is) (under_trans ps formed c.conn pool p under up))
+
+  spared_ring : (o : Option Items) (on : Option ℕ) (named : Bool) → named ≡ false → is_reached (is_under ps pool) on ≡ false → cleared_ring (is_under ps pool) named on o ≡ o
+  spared_ring None on named a b = refl
+  spared_ring (Some xs) on named a b = rw a (rw b refl)
+
+  pub spared : (n : ℕ) → IsForeign ps old c n → SameRing old new n
+  spared n foreign =
+      let off = not_reached n (pool_of old n) refl foreign in
+      record {
+        list = left.lists n ∙ spared_ring (lists old n) (pool_of old n) (is_in n looked) (not_looked n foreign) off;
+        pool = left.pools n ∙ ap (λ (b : Bool). if b then None else pool_of old n) off;
+      }
+
+-- An instruction of the filter on top was carried out.
+module _ {R : Type 0} {g : Ghosts R Bucket} (ps : Pools Payload) (old new : Brigades R g) (c d : Conn) (x : Filter) (here : filter_at c (top_of c) ≡ Some x) where
+  pub quiet_spared : run.LeavesRest old new x.instance x.call → (n : ℕ) → IsForeign ps old c n → SameRing old new n
+  quiet_spared left n foreign = record {
+    list = left.others n foreign.given (λ b named. foreign.unheld (record { at = top_of c; filter = x; is = here; by = inr (b, named) }))
+        (λ same. foreign.unheld (record { at = top_of c; filter = x; is = here; by = inl (sym same) }));
+    pool = left.pools n foreign.given;
+  }
+
+  pub carried_leaves : next_name old ≤ next_name new → NoneRevived (brigade_of old) (brigade_of new) (next_name old) → ((k : ℕ) (f : Filter) → filter_at d k ≡ Some f → WasFilter c (next_name old) k f)
+      → ((n : ℕ) → IsForeign ps old c n → SameRing old new n) → LeavesOthers ps old new c d
+  carried_leaves rises names was spared = record { rises = rises; names = names; others = spared; holds = λ n pos h. holds n h (was h.at h.filter h.is) } where
+    holds : (n : ℕ) (h : Holds d n) → WasFilter c (next_name old) h.at h.filter → (Holds c n) ⊎ (next_name old ≤ n)
+    holds n h w = elim h.by [
+      | inl name ↦ inl (record { at = h.at; filter = w.old; is = w.is; by = inl (sym w.name ∙ name) })
+      | inr b ↦ elim (w.names b.0 n b.1) [
+        | inl named ↦ inl (record { at = h.at; filter = w.old; is = w.is; by = inr (b.0, named) })
+        | inr new ↦ inr new.1
+      ]
+    ]
+
+-- The pool of a request went, and no EOS was passed in the next one.
+pub destroyed_leaves : {R : Type 0} {g : Ghosts R Bucket} (chain : List Program) (tree newer : PoolTree Payload) (old new : Brigades R g) (d e : Device) (c after : Conn) (pool : ℕ) → is_under (map_of tree) c.conn pool ≡ true → IsPoolMap (map_of tree)
+    → WasDestroyed pool tree newer old new d e c → after.filters.items ≡ map quieted c.filters.items → LeavesOthers (map_of tree) old new c after
+unfolding filter_at slot_at
+destroyed_leaves chain tree newer old new d e c after pool under formed gone quiet = record {
+  rises = (let next = gone.next in omega (arith, next));
+  names = gone.names;
+  others = spared (map_of tree) formed old new c pool under gone.looked gone.only (record { lists = gone.out; pools = gone.off });
+  holds = λ n pos h. inl (held n h (slice_get c.filters.items h.at) refl);
+} where
+  held : (n : ℕ) (h : Holds after n) (o : Option Filter) → slice_get c.filters.items h.at ≡ o → Holds c n
+  held n h None is = absurd (let none : None ≡ Some h.filter = sym (ap (λ (fs : List Filter). slice_get fs h.at) quiet ∙ (slice_get-map quieted c.filters.items h.at ∙ ap (option_map quieted) is)) ∙ h.is in cc)
+  held n h (Some f) is =
+      let same : Some (quieted f) ≡ Some h.filter = sym (ap (λ (fs : List Filter). slice_get fs h.at) quiet ∙ (slice_get-map quieted c.filters.items h.at ∙ ap (option_map quieted) is)) ∙ h.is in
+      let one : h.filter ≡ quieted f = cc in
+      record { at = h.at; filter = f; is = is; by = subst (λ (y : Filter). (y.call.name ≡ n) ⊎ ((b : ℕ) × (named_at y b ≡ Some n))) one h.by }
