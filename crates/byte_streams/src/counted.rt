@@ -1,7 +1,7 @@
 //! A source that is read at most so many times.
 
 ghost use Rattle.std.specs.Prelude.{◌≡◌, ◌+◌, ◌<◌, IfErr, IfOk, OnOk, length};
-ghost use Rattle.byte_streams.specs.Counted.{IsCounted};
+ghost use Rattle.byte_streams.specs.Counted.{IsCounted, reads_left, source_of};
 
 use crate::source::{ReadAnswer, Source};
 
@@ -20,20 +20,19 @@ pub enum CountedFault {
     TooManyReads,
 }
 
-/// A source that is read at most so many times. Each read is counted, also one that fails or gives nothing.
+/// A source that is read at most so many times. Each read is counted, also one that fails or gives nothing. Only a read changes it: so what is
+/// left says how often it was read.
 #[derive(Drop)]
 pub struct CountedSource<R> {
-    /// The source.
-    pub source: R,
-    /// How many more times it may be read.
-    pub left: u32,
+    source: R,
+    left: u32,
 }
 
-impl<R: Source> CountedSource<R> {
+impl<R> CountedSource<R> {
     /// A source that may be read so many times.
     pub fn new(source: R, reads: u32) -> CountedSource<R>
-        ensures source { result.source ≡ source }
-        ensures left { result.left ≡ reads }
+        ensures source { source_of result ≡ source }
+        ensures left { reads_left result ≡ reads }
     {
         CountedSource {
             source,
@@ -41,11 +40,27 @@ impl<R: Source> CountedSource<R> {
         }
     }
 
+    /// The source.
+    pub fn source(&self) -> &R
+        ensures { result.now ≡ source_of self.now }
+    {
+        &self.source
+    }
+
+    /// How many more times it may be read.
+    pub fn left(&self) -> u32
+        ensures { result ≡ reads_left self.now }
+    {
+        self.left
+    }
+}
+
+impl<R: Source> CountedSource<R> {
     /// Reads into a buffer, which has room for a byte at least. `Failed`: the source failed, and nothing was taken from it. `TooManyReads`:
     /// no read was left, and the source was not asked.
     pub fn read(&mut self, buffer: &mut [u8]) -> Result<ReadAnswer, CountedFault>
         requires { 0 < length buffer.old }
-        ensures { IsCounted self.old.left self.new.left (R.remaining self.old.source) (R.remaining self.new.source) (R.failed self.old.source) (R.failed self.new.source) buffer.new result }
+        ensures { IsCounted (reads_left self.old) (reads_left self.new) (R.remaining (source_of self.old)) (R.remaining (source_of self.new)) (R.failed (source_of self.old)) (R.failed (source_of self.new)) buffer.new result }
     {
         if self.left == 0 {
             return Err(CountedFault::TooManyReads);

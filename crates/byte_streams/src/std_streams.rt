@@ -1,8 +1,10 @@
 //! Readers and writers of the standard library, as sources and sinks that remember whether a call failed.
 
 ghost use Rattle.std.specs.Prelude.{◌≡◌, ◌≢◌, ◌<◌, false, refl, length};
+ghost use Rattle.byte_streams.specs.Counted.{reads_left, source_of};
 ghost use Rattle.byte_streams.specs.Transfers.{IsRead};
 
+use crate::counted::{CountedSource, READS};
 use crate::sink::{Sink, SinkFault, WriteAnswer};
 use crate::source::{ReadAnswer, ReadFailed, Source};
 use std::io::{ErrorKind, Read, Write};
@@ -41,6 +43,17 @@ impl<R> StdSource<R> {
             is_polled: true,
             has_failed: false,
         }
+    }
+}
+
+impl<R> CountedSource<StdSource<R>> {
+    /// A reader whose reads wait, which is read at most `READS` times.
+    pub fn from_reader(reader: R) -> CountedSource<StdSource<R>>
+        ensures reader { (source_of result).reader ≡ reader }
+        ensures sound { (source_of result).has_failed ≡ false }
+        ensures left { reads_left result ≡ READS }
+    {
+        CountedSource::new(StdSource::new(reader), READS)
     }
 }
 

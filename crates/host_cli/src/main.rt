@@ -4,6 +4,7 @@
 mod serve_words;
 mod task;
 
+use byte_streams::{CountedSource, StdSink};
 use clap::Error;
 use clap::error::ErrorKind;
 use http_serve::serve_front;
@@ -56,8 +57,8 @@ fn end_words(rt: &HostRuntime, error: &Error) -> ExitCode {
 }
 
 fn assemble_file(rt: &HostRuntime, file: &str) -> ExitCode {
-    let mut reader = NamedFile::new(rt, file);
-    let assembled = run_assemble(rt.alloc(), &mut reader, &mut rt.stdout());
+    let mut reader = CountedSource::from_reader(NamedFile::new(rt, file));
+    let assembled = run_assemble(rt.alloc(), &mut reader, &mut StdSink::new(rt.stdout()));
     end(rt, assembled, file)
 }
 
@@ -79,51 +80,62 @@ fn is_refused(ended: &Result<Ended, PlayFault>) -> bool {
 
 fn certify_file(rt: &HostRuntime, file: &str, asked: bool) -> ExitCode {
     let helps = tells_help(rt, asked);
-    let mut reader = Recorded::new(rt.alloc(), NamedFile::new(rt, file), helps);
-    let certified = run_certify(rt.alloc(), &mut reader, &mut rt.stdout());
+    let file_reader = Recorded::new(rt.alloc(), NamedFile::new(rt, file), helps);
+    let mut reader = CountedSource::from_reader(file_reader);
+    let certified = run_certify(rt.alloc(), &mut reader, &mut StdSink::new(rt.stdout()));
     if helps && is_refused(&certified) {
-        tell_help(rt, explain_certify(rt.alloc(), reader.given()));
+        let given = reader.source().reader.given();
+        tell_help(rt, explain_certify(rt.alloc(), given));
     }
     end(rt, certified, file)
 }
 
 fn certify_input(rt: &HostRuntime, asked: bool) -> ExitCode {
     let helps = tells_help(rt, asked);
-    let mut reader = Recorded::new(rt.alloc(), rt.stdin(), helps);
-    let certified = run_certify(rt.alloc(), &mut reader, &mut rt.stdout());
+    let input = Recorded::new(rt.alloc(), rt.stdin(), helps);
+    let mut reader = CountedSource::from_reader(input);
+    let certified = run_certify(rt.alloc(), &mut reader, &mut StdSink::new(rt.stdout()));
     if helps && is_refused(&certified) {
-        tell_help(rt, explain_certify(rt.alloc(), reader.given()));
+        let given = reader.source().reader.given();
+        tell_help(rt, explain_certify(rt.alloc(), given));
     }
     end(rt, certified, "standard input")
 }
 
 fn play_script(rt: &HostRuntime, asked: bool) -> ExitCode {
     let helps = tells_help(rt, asked);
-    let mut reader = Recorded::new(rt.alloc(), rt.stdin(), helps);
-    let mut writer = RecordedWriter::new(rt.alloc(), rt.stdout(), helps);
+    let input = Recorded::new(rt.alloc(), rt.stdin(), helps);
+    let mut reader = CountedSource::from_reader(input);
+    let mut writer = StdSink::new(RecordedWriter::new(rt.alloc(), rt.stdout(), helps));
     let played = run_play(rt.alloc(), &mut reader, &mut writer);
     if helps && played.is_ok() {
-        tell_help(rt, explain_play(rt.alloc(), reader.given(), writer.taken()));
+        let given = reader.source().reader.given();
+        tell_help(rt, explain_play(rt.alloc(), given, writer.writer.taken()));
     }
     end(rt, played, "standard input")
 }
 
 fn check_file(rt: &HostRuntime, file: &str, cert: &str, asked: bool) -> ExitCode {
     let helps = tells_help(rt, asked);
-    let mut reader = Recorded::new(rt.alloc(), NamedFile::new(rt, file), helps);
-    let mut certs = Recorded::new(rt.alloc(), NamedFile::new(rt, cert), helps);
-    let checked = run_check(rt.alloc(), &mut reader, &mut certs, &mut rt.stdout());
+    let file_reader = Recorded::new(rt.alloc(), NamedFile::new(rt, file), helps);
+    let cert_reader = Recorded::new(rt.alloc(), NamedFile::new(rt, cert), helps);
+    let mut reader = CountedSource::from_reader(file_reader);
+    let mut certs = CountedSource::from_reader(cert_reader);
+    let mut writer = StdSink::new(rt.stdout());
+    let checked = run_check(rt.alloc(), &mut reader, &mut certs, &mut writer);
+    let file_read = &reader.source().reader;
+    let cert_read = &certs.source().reader;
     if helps && is_refused(&checked) {
-        tell_help(rt, explain_check(rt.alloc(), reader.given(), certs.given()));
+        tell_help(rt, explain_check(rt.alloc(), file_read.given(), cert_read.given()));
     }
-    let name = if certs.reader().is_read() { cert } else { file };
+    let name = if cert_read.reader().is_read() { cert } else { file };
     end(rt, checked, name)
 }
 
 fn perform(rt: &HostRuntime, task: Task<'_>) -> ExitCode {
     match task {
         Task::Play { explains } => play_script(rt, explains),
-        Task::New => end(rt, run_new(&mut rt.stdout()), ""),
+        Task::New => end(rt, run_new(&mut StdSink::new(rt.stdout())), ""),
         Task::Assemble { file } => assemble_file(rt, file),
         Task::Certify {
             file: Some(file),

@@ -5,6 +5,7 @@ ghost use Rattle.http_front.specs.Driven.{IsAlive};
 
 use crate::listening::{ServeSettings, serve_all};
 use bucket_kinds::DiskFiles;
+use byte_streams::CountedSource;
 use byte_text::{first_line, put_all};
 use filter_chain::{CheckedChain, Files, Host, Limits};
 use http_message::{SITE_BYTES, Site, SiteRefusal, site_line, site_of};
@@ -79,15 +80,15 @@ fn stop_of(alloc: Global, fault: PlayFault, name: &str) -> StartError {
 fn read_part<R: FileSystem + AllocGlobal>(rt: &R, name: &str) -> Result<Part, StartError> {
     let alloc = rt.alloc();
     let cert_name = format!(in alloc; "{name}.cert")?;
-    let mut reader = NamedFile::new(rt, name);
-    let mut cert = NamedFile::new(rt, cert_name.as_str());
+    let mut reader = CountedSource::from_reader(NamedFile::new(rt, name));
+    let mut cert = CountedSource::from_reader(NamedFile::new(rt, cert_name.as_str()));
     match load_part(alloc, &mut reader, &mut cert) {
         Ok(Loaded::Part(part)) => Ok(part),
         Ok(Loaded::Told(answer)) => {
             let CommandOutput { text, ended: _ } = answer;
             Err(StartError::Told(text))
         }
-        Err(fault) if cert.is_read() => Err(stop_of(alloc, fault, cert_name.as_str())),
+        Err(fault) if cert.source().reader.is_read() => Err(stop_of(alloc, fault, cert_name.as_str())),
         Err(fault) => Err(stop_of(alloc, fault, name)),
     }
 }
@@ -150,7 +151,7 @@ fn look_at_files<R: FileSystem + AllocGlobal>(rt: &R, text: &[u8]) -> Result<(),
 /// The site that a file says.
 fn read_site<R: FileSystem + AllocGlobal>(rt: &R, name: &str) -> Result<Site, StartError> {
     let alloc = rt.alloc();
-    let mut reader = NamedFile::new(rt, name);
+    let mut reader = CountedSource::from_reader(NamedFile::new(rt, name));
     let text = match read_all(alloc, &mut reader) {
         Ok(text) => text,
         Err(fault) => return Err(stop_of(alloc, fault, name)),

@@ -1,5 +1,5 @@
 -- Fronts of an answer to a text.
-use Rattle.std.proofs.Common.{◌≡◌, ◌∙◌, ℕ, List, ◌++◌, take, drop, Option, Some, None, IfSome, Result, Ok, Err, IfOk, IfErr, inr, sym, subst, ap}
+use Rattle.std.proofs.Common.{◌≡◌, ◌∙◌, ℕ, List, ◌++◌, take, drop, Option, Some, None, IfSome, Result, Ok, Err, IfOk, inr, sym, subst, ap}
 use Rattle.std.proofs.lemmas.List.{take-append-drop, append-nil}
 use Rattle.std.specs.Io.KnownBytes.{Appends, Consumes, IsAtEnd}
 use Rattle.module_code.specs.Program.{Program}
@@ -9,11 +9,8 @@ use Rattle.module_tools.specs.declared.answer.CommandOutput.{CommandOutput}
 use Rattle.module_tools.specs.declared.ended.Ended.{Ended}
 use Rattle.module_tools.specs.declared.fault.PlayFault.{PlayFault}
 use Rattle.module_tools.specs.declared.fault.PlayFault.TheVariants as fault
-use Rattle.module_tools.specs.Streams.{Writes}
+use Rattle.module_tools.specs.Streams.{Writes, WritesText}
 use Rattle.module_tools.specs.TextAnswers.{IsCheckOf, IsOutputFront, TellsCertFault}
-
-abbrev pub WritesFront : Option (List ℕ) → Option (List ℕ) → List ℕ → PlayFault → Type 0
-WritesFront w v out f = (f ≡ fault.Write) × ((n : ℕ) × Appends w v (take n out))
 
 front_of : (P : List ℕ → Ended → Type 0) (out : List ℕ) (e : Ended) (n : ℕ) → P out e → IsOutputFront P (take n out)
 front_of P out e n is =
@@ -29,28 +26,28 @@ writes_all P (Some xs) (Some ys) w v script read c e same (text, is, appends) =
     (text, subst Q (same ∙ sym (append-nil read) ∙ ap (λ l. read ++ l) (sym e) ∙ sym c) is, appends)
 
 -- Where the writer failed, what it took is a front of the answer to all that the reader had.
-pub writes_front : (P : List ℕ → List ℕ → Ended → Type 0) (old rest w v : Option (List ℕ)) (script read out : List ℕ) (e : Ended) (r : Result Ended PlayFault) → Consumes old rest read → IsAtEnd rest → script ≡ read → P script out e → IfErr r (WritesFront w v out) → r ≡ Err fault.Write → Writes old w v (λ text out. IsOutputFront (P text) out)
+pub writes_front : (P : List ℕ → List ℕ → Ended → Type 0) (old rest w v : Option (List ℕ)) (script read out : List ℕ) (e : Ended) (r : Result Ended PlayFault) → Consumes old rest read → IsAtEnd rest → script ≡ read → P script out e → WritesText w v out r → r ≡ Err fault.Write → Writes old w v (λ text out. IsOutputFront (P text) out)
 writes_front P old rest w v script read out e r taken end same is front failed =
-    let Q : Result Ended PlayFault → Type 0 = λ x. IfErr x (WritesFront w v out) in
-    let f : WritesFront w v out fault.Write = subst Q failed front in
-    writes_all (λ text out. IsOutputFront (P text) out) old rest w v script read taken end same (take f.1.0 out, front_of (P script) out e f.1.0 is, f.1.1)
+    let Q : Result Ended PlayFault → Type 0 = λ x. WritesText w v out x in
+    let f : Q (Err fault.Write) = subst Q failed front in
+    writes_all (λ text out. IsOutputFront (P text) out) old rest w v script read taken end same (take f.0 out, front_of (P script) out e f.0 is, f.2)
 
 -- Where the writer took all, it is the answer to all that the reader had.
-pub writes_answer : (P : List ℕ → List ℕ → Ended → Type 0) (old rest w v : Option (List ℕ)) (script read out : List ℕ) (e : Ended) (r : Result Ended PlayFault) → Consumes old rest read → IsAtEnd rest → script ≡ read → P script out e → IfOk r (λ x. (x ≡ e) × Appends w v out) → IfOk r (λ x. Writes old w v (λ text t. P text t x))
-writes_answer P old rest w v script read out e (Ok x) taken end same is (told, appends) =
+pub writes_answer : (P : List ℕ → List ℕ → Ended → Type 0) (old rest w v : Option (List ℕ)) (script read out : List ℕ) (e : Ended) (r : Result Ended PlayFault) → Consumes old rest read → IsAtEnd rest → script ≡ read → P script out e → IfOk r (λ x. x ≡ e) → WritesText w v out r → IfOk r (λ x. Writes old w v (λ text t. P text t x))
+writes_answer P old rest w v script read out e (Ok x) taken end same is told appends =
     let Q : Ended → Type 0 = λ y. P script out y in
     writes_all (λ text t. P text t x) old rest w v script read taken end same (out, subst Q (sym told) is, appends)
-writes_answer P old rest w v script read out e (Err f) taken end same is wrote = tt
+writes_answer P old rest w v script read out e (Err f) taken end same is told wrote = tt
 
 -- The same of two readers, of which the second is known where this is.
-pub writes_second : (P : List ℕ → List ℕ → List ℕ → Ended → Type 0) (second old rest w v : Option (List ℕ)) (script read out : List ℕ) (e : Ended) (r : Result Ended PlayFault) → Consumes old rest read → IsAtEnd rest → script ≡ read → IfSome second (λ s. P s script out e) → IfOk r (λ x. (x ≡ e) × Appends w v out) → IfOk r (λ x. IfSome second (λ s. Writes old w v (λ text t. P s text t x)))
-writes_second P None old rest w v script read out e (Ok x) taken end same is wrote = tt
-writes_second P None old rest w v script read out e (Err f) taken end same is wrote = tt
-writes_second P (Some s) old rest w v script read out e (Ok x) taken end same is wrote =
-    writes_answer (P s) old rest w v script read out e (Ok x) taken end same is wrote
-writes_second P (Some s) old rest w v script read out e (Err f) taken end same is wrote = tt
+pub writes_second : (P : List ℕ → List ℕ → List ℕ → Ended → Type 0) (second old rest w v : Option (List ℕ)) (script read out : List ℕ) (e : Ended) (r : Result Ended PlayFault) → Consumes old rest read → IsAtEnd rest → script ≡ read → IfSome second (λ s. P s script out e) → IfOk r (λ x. x ≡ e) → WritesText w v out r → IfOk r (λ x. IfSome second (λ s. Writes old w v (λ text t. P s text t x)))
+writes_second P None old rest w v script read out e (Ok x) taken end same is told wrote = tt
+writes_second P None old rest w v script read out e (Err f) taken end same is told wrote = tt
+writes_second P (Some s) old rest w v script read out e (Ok x) taken end same is told wrote =
+    writes_answer (P s) old rest w v script read out e (Ok x) taken end same is told wrote
+writes_second P (Some s) old rest w v script read out e (Err f) taken end same is told wrote = tt
 
-pub writes_second_front : (P : List ℕ → List ℕ → List ℕ → Ended → Type 0) (second old rest w v : Option (List ℕ)) (script read out : List ℕ) (e : Ended) (r : Result Ended PlayFault) → Consumes old rest read → IsAtEnd rest → script ≡ read → IfSome second (λ s. P s script out e) → IfErr r (WritesFront w v out) → r ≡ Err fault.Write → IfSome second (λ s. Writes old w v (λ text t. IsOutputFront (P s text) t))
+pub writes_second_front : (P : List ℕ → List ℕ → List ℕ → Ended → Type 0) (second old rest w v : Option (List ℕ)) (script read out : List ℕ) (e : Ended) (r : Result Ended PlayFault) → Consumes old rest read → IsAtEnd rest → script ≡ read → IfSome second (λ s. P s script out e) → WritesText w v out r → r ≡ Err fault.Write → IfSome second (λ s. Writes old w v (λ text t. IsOutputFront (P s text) t))
 writes_second_front P None old rest w v script read out e r taken end same is front failed = tt
 writes_second_front P (Some s) old rest w v script read out e r taken end same is front failed =
     writes_front (P s) old rest w v script read out e r taken end same is front failed

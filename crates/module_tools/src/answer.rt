@@ -1,18 +1,18 @@
 //! What a command writes that is given texts, and how it ends.
 
-ghost use Rattle.std.specs.Prelude.{◌≡◌, ℕ, List, IfOk, IfErr, take};
-ghost use Rattle.std.specs.Io.KnownBytes.{Appends};
-ghost use Rattle.byte_text.specs.Writes.{Wrote};
+ghost use Rattle.std.specs.Prelude.{◌≡◌, IfOk};
+ghost use Rattle.module_tools.specs.StreamFaults.{TellsOfWriter};
+ghost use Rattle.module_tools.specs.Streams.{WritesText};
 ghost use Rattle.module_tools.specs.TextAnswers.{TellsAsmFault, TellsRefusal};
 
 use crate::ended::Ended;
 use crate::fault::PlayFault;
-use byte_text::{WriteFault, put_all};
+use crate::streams::write_text;
+use byte_streams::Sink;
 use life_check::CheckRefusal;
 use module_lang::AsmRefusal;
 use script_text::{put_asm_fault, put_refused_at};
 use std::alloc::{AllocError, Global};
-use std::io::Write;
 
 /// What a command writes, and how it ends.
 #[derive(Drop)]
@@ -56,13 +56,13 @@ pub fn line_answer(alloc: Global, line: &str, ended: Ended) -> Result<CommandOut
     Ok(CommandOutput { text, ended })
 }
 
-/// Writes an answer. Where the writer fails, a front of it is written.
-pub fn write_answer<W: Write>(writer: &mut W, answer: &CommandOutput) -> Result<Ended, PlayFault>
-    ensures ok { IfOk result (λ e. (e ≡ answer.now.ended) × Appends (W.contents writer.old) (W.contents writer.new) answer.now.text.items) }
-    ensures err { IfErr result (λ f. (f ≡ PlayFault.Write) × ((n : ℕ) × Appends (W.contents writer.old) (W.contents writer.new) (take n answer.now.text.items))) }
+/// Writes an answer. `Write`: the writer failed, and a front of the answer is written. `NoMemory`: the writer had none for it, and nothing is.
+pub fn write_answer<W: Sink>(writer: &mut W, answer: &CommandOutput) -> Result<Ended, PlayFault>
+    ensures ended { IfOk result (λ e. e ≡ answer.now.ended) }
+    ensures text { WritesText (W.contents writer.old) (W.contents writer.new) answer.now.text.items result }
+    ensures failed { TellsOfWriter (W.failed writer.old) (W.failed writer.new) result }
+    ensures silent { result ≡ Err PlayFault.NoMemory → W.unchanged writer.old writer.new }
 {
-    match put_all(writer, answer.text.as_slice()) {
-        Ok(()) => Ok(answer.ended),
-        Err(WriteFault) => Err(PlayFault::Write),
-    }
+    write_text(writer, answer.text.as_slice())?;
+    Ok(answer.ended)
 }

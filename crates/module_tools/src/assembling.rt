@@ -1,7 +1,9 @@
 //! The command `assemble`.
 
 ghost use Rattle.std.specs.Prelude.{◌≡◌, IfOk, IfErr, ◌≢◌};
+ghost use Rattle.byte_streams.specs.Counted.{reads_left, source_of};
 ghost use Rattle.module_code.specs.Program.{Program};
+ghost use Rattle.module_tools.specs.StreamFaults.{TellsOfReader, TellsOfWriter};
 ghost use Rattle.module_tools.specs.Streams.{Writes};
 ghost use Rattle.module_tools.specs.TextAnswers.{IsModuleText, IsAssembled, IsOutputFront};
 
@@ -9,11 +11,11 @@ use crate::answer::{CommandOutput, asm_fault, write_answer};
 use crate::ended::Ended;
 use crate::fault::PlayFault;
 use crate::streams::read_all;
+use byte_streams::{CountedSource, READS, Sink, Source};
 use byte_text::WriteFault;
 use module_code::Module;
 use module_lang::{assemble, print_module};
 use std::alloc::{AllocError, Global};
-use std::io::{Read, Write};
 
 fn module_text(alloc: Global, code: &Module) -> Result<CommandOutput, AllocError>
     ensures { IfOk result (λ a. IsModuleText code.now a.text.items a.ended) }
@@ -40,18 +42,20 @@ fn assembled(alloc: Global, text: &[u8]) -> Result<CommandOutput, AllocError>
 /// Reads a module text to its end, and writes the module as it is printed, or `asm line L code C` for its first fault.
 ///
 /// `Read`: the reader failed, or gave no end within 1,000,000 reads of at most 8192 bytes. `NoMemory`: there was none for the
-/// text, the module or the answer. Both write nothing. `Write`: the writer failed or took nothing, and what it took is the front
-/// of the answer.
+/// text, the module or the answer. Both write nothing. `Write`: the writer failed, and what it took is the front of the answer.
 ///
 /// What is written is promised where it is known what the reader had left and what the writer holds, as of a slice and a `Vec`.
-pub fn run_assemble<R: Read, W: Write>(
+pub fn run_assemble<R: Source, W: Sink>(
     alloc: Global,
-    reader: &mut R,
+    reader: &mut CountedSource<R>,
     writer: &mut W,
 ) -> Result<Ended, PlayFault>
-    ensures ok { IfOk result (λ e. Writes (R.remaining reader.old) (W.contents writer.old) (W.contents writer.new) (λ text out. IsAssembled text out e)) }
-    ensures write { result ≡ Err PlayFault.Write → Writes (R.remaining reader.old) (W.contents writer.old) (W.contents writer.new) (λ text out. IsOutputFront (IsAssembled text) out) }
-    ensures silent { IfErr result (λ f. f ≢ PlayFault.Write → writer.new ≡ writer.old) }
+    requires { reads_left reader.old ≡ READS }
+    ensures ok { IfOk result (λ e. Writes (R.remaining (source_of reader.old)) (W.contents writer.old) (W.contents writer.new) (λ text out. IsAssembled text out e)) }
+    ensures write { result ≡ Err PlayFault.Write → Writes (R.remaining (source_of reader.old)) (W.contents writer.old) (W.contents writer.new) (λ text out. IsOutputFront (IsAssembled text) out) }
+    ensures silent { IfErr result (λ f. f ≢ PlayFault.Write → W.unchanged writer.old writer.new) }
+    ensures reader { TellsOfReader (R.failed (source_of reader.old)) (R.failed (source_of reader.new)) (reads_left reader.new) result }
+    ensures writer { TellsOfWriter (W.failed writer.old) (W.failed writer.new) result }
 {
     let text = read_all(alloc, reader)?;
     let answer = assembled(alloc, text.as_slice())?;

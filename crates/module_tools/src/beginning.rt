@@ -1,13 +1,14 @@
 //! The command `new`.
 
-ghost use Rattle.std.specs.Prelude.{◌≡◌, ℕ, IfOk, IfErr, take};
-ghost use Rattle.std.specs.Io.KnownBytes.{Appends};
+ghost use Rattle.std.specs.Prelude.{◌≡◌, IfOk};
 ghost use Rattle.module_tools.specs.declared.ended.Ended.TheVariants as ended;
+ghost use Rattle.module_tools.specs.StreamFaults.{TellsOfWriter};
+ghost use Rattle.module_tools.specs.Streams.{WritesText};
 
 use crate::ended::Ended;
 use crate::fault::PlayFault;
-use byte_text::{WriteFault, put_all};
-use std::io::Write;
+use crate::streams::write_text;
+use byte_streams::Sink;
 
 /// A module to begin with: it is accepted as it stands.
 pub const FRAME: &str = concat!(
@@ -53,14 +54,14 @@ pub const FRAME: &str = concat!(
     "end\n"
 );
 
-/// Writes a module to begin with, in which the work of a filter is to be filled in. `Write`: the writer failed or took nothing; what it took is
-/// the front of the text.
-pub fn run_new<W: Write>(writer: &mut W) -> Result<Ended, PlayFault>
-    ensures ok { IfOk result (λ e. (e ≡ ended.Done) × Appends (W.contents writer.old) (W.contents writer.new) FRAME.now) }
-    ensures err { IfErr result (λ f. (f ≡ PlayFault.Write) × ((n : ℕ) × Appends (W.contents writer.old) (W.contents writer.new) (take n FRAME.now))) }
+/// Writes a module to begin with, in which the work of a filter is to be filled in. `Write`: the writer failed, and what it took is the front of
+/// the text. `NoMemory`: the writer had none for the text, and nothing is written.
+pub fn run_new<W: Sink>(writer: &mut W) -> Result<Ended, PlayFault>
+    ensures ended { IfOk result (λ e. e ≡ ended.Done) }
+    ensures text { WritesText (W.contents writer.old) (W.contents writer.new) FRAME.now result }
+    ensures writer { TellsOfWriter (W.failed writer.old) (W.failed writer.new) result }
+    ensures silent { result ≡ Err PlayFault.NoMemory → W.unchanged writer.old writer.new }
 {
-    match put_all(writer, FRAME.as_bytes()) {
-        Ok(()) => Ok(Ended::Done),
-        Err(WriteFault) => Err(PlayFault::Write),
-    }
+    write_text(writer, FRAME.as_bytes())?;
+    Ok(Ended::Done)
 }

@@ -1,7 +1,9 @@
 //! The command `check`.
 
 ghost use Rattle.std.specs.Prelude.{◌≡◌, ◌≢◌, IfOk, IfErr, IfSome};
+ghost use Rattle.byte_streams.specs.Counted.{reads_left, source_of};
 ghost use Rattle.life_check.specs.Seen.{seen_cert};
+ghost use Rattle.module_tools.specs.StreamFaults.{TellsOfReader, TellsOfReaders, TellsOfWriter};
 ghost use Rattle.module_tools.specs.Streams.{Writes};
 ghost use Rattle.module_tools.specs.TextAnswers.{TellsCertFault, IsVerdict, IsCheckOf, IsCheckOutput, IsOutputFront};
 
@@ -9,13 +11,13 @@ use crate::answer::{CommandOutput, asm_fault, line_answer, refused_at, write_ans
 use crate::ended::Ended;
 use crate::fault::PlayFault;
 use crate::streams::read_all;
+use byte_streams::{CountedSource, READS, Sink, Source};
 use life_cert::{CertRefusal, read_cert};
 use life_check::{Cert, check};
 use module_code::Module;
 use module_lang::assemble;
 use script_text::put_cert_fault;
 use std::alloc::{AllocError, Global};
-use std::io::{Read, Write};
 
 /// The line that tells why a text is no certificate.
 pub fn cert_fault(alloc: Global, refusal: CertRefusal) -> Result<CommandOutput, AllocError>
@@ -50,21 +52,27 @@ fn checked(alloc: Global, code: &Module, text: &[u8]) -> Result<CommandOutput, A
     }
 }
 
-fn check_next<S: Read>(
+fn check_next<S: Source>(
     alloc: Global,
     code: &Module,
-    cert: &mut S,
+    cert: &mut CountedSource<S>,
 ) -> Result<CommandOutput, PlayFault>
-    ensures ok { IfOk result (λ a. IfSome (S.remaining cert.old) (λ certificate. IsCheckOf certificate code.now a.text.items a.ended)) }
+    ensures ok { IfOk result (λ a. IfSome (S.remaining (source_of cert.old)) (λ certificate. IsCheckOf certificate code.now a.text.items a.ended)) }
     ensures fault { IfErr result (λ f. f ≢ PlayFault.Write) }
+    ensures failed { TellsOfReader (S.failed (source_of cert.old)) (S.failed (source_of cert.new)) (reads_left cert.new) result }
 {
     let text = read_all(alloc, cert)?;
     Ok(checked(alloc, code, text.as_slice())?)
 }
 
-fn answer_to<S: Read>(alloc: Global, text: &[u8], cert: &mut S) -> Result<CommandOutput, PlayFault>
-    ensures ok { IfOk result (λ a. IfSome (S.remaining cert.old) (λ certificate. IsCheckOutput certificate text.now a.text.items a.ended)) }
+fn answer_to<S: Source>(
+    alloc: Global,
+    text: &[u8],
+    cert: &mut CountedSource<S>,
+) -> Result<CommandOutput, PlayFault>
+    ensures ok { IfOk result (λ a. IfSome (S.remaining (source_of cert.old)) (λ certificate. IsCheckOutput certificate text.now a.text.items a.ended)) }
     ensures fault { IfErr result (λ f. f ≢ PlayFault.Write) }
+    ensures failed { TellsOfReader (S.failed (source_of cert.old)) (S.failed (source_of cert.new)) (reads_left cert.new) result }
 {
     match assemble(alloc, text) {
         Ok(code) => check_next(alloc, &code, cert),
@@ -77,19 +85,23 @@ fn answer_to<S: Read>(alloc: Global, text: &[u8], cert: &mut S) -> Result<Comman
 /// first is no module the second is not read.
 ///
 /// `Read`: a reader failed, or gave no end within 1,000,000 reads of at most 8192 bytes. `NoMemory`: there was none for the texts,
-/// the module, the certificate or the answer. Both write nothing. `Write`: the writer failed or took nothing, and what it took is
-/// the front of the answer.
+/// the module, the certificate or the answer. Both write nothing. `Write`: the writer failed, and what it took is the front of the
+/// answer.
 ///
 /// What is written is promised where it is known what the readers had left and what the writer holds, as of a slice and a `Vec`.
-pub fn run_check<R: Read, S: Read, W: Write>(
+pub fn run_check<R: Source, S: Source, W: Sink>(
     alloc: Global,
-    reader: &mut R,
-    cert: &mut S,
+    reader: &mut CountedSource<R>,
+    cert: &mut CountedSource<S>,
     writer: &mut W,
 ) -> Result<Ended, PlayFault>
-    ensures ok { IfOk result (λ e. IfSome (S.remaining cert.old) (λ certificate. Writes (R.remaining reader.old) (W.contents writer.old) (W.contents writer.new) (λ text out. IsCheckOutput certificate text out e))) }
-    ensures write { result ≡ Err PlayFault.Write → IfSome (S.remaining cert.old) (λ certificate. Writes (R.remaining reader.old) (W.contents writer.old) (W.contents writer.new) (λ text out. IsOutputFront (IsCheckOutput certificate text) out)) }
-    ensures silent { IfErr result (λ f. f ≢ PlayFault.Write → writer.new ≡ writer.old) }
+    requires reads { reads_left reader.old ≡ READS }
+    requires cert_reads { reads_left cert.old ≡ READS }
+    ensures ok { IfOk result (λ e. IfSome (S.remaining (source_of cert.old)) (λ certificate. Writes (R.remaining (source_of reader.old)) (W.contents writer.old) (W.contents writer.new) (λ text out. IsCheckOutput certificate text out e))) }
+    ensures write { result ≡ Err PlayFault.Write → IfSome (S.remaining (source_of cert.old)) (λ certificate. Writes (R.remaining (source_of reader.old)) (W.contents writer.old) (W.contents writer.new) (λ text out. IsOutputFront (IsCheckOutput certificate text) out)) }
+    ensures silent { IfErr result (λ f. f ≢ PlayFault.Write → W.unchanged writer.old writer.new) }
+    ensures readers { TellsOfReaders (R.failed (source_of reader.old)) (R.failed (source_of reader.new)) (reads_left reader.new) (S.failed (source_of cert.old)) (S.failed (source_of cert.new)) (reads_left cert.new) result }
+    ensures writer { TellsOfWriter (W.failed writer.old) (W.failed writer.new) result }
 {
     let text = read_all(alloc, reader)?;
     let answer = answer_to(alloc, text.as_slice(), cert)?;

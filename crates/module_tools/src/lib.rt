@@ -23,4 +23,4 @@ pub use fault::PlayFault;
 pub use loading::{Loaded, load_part};
 pub use named_file::NamedFile;
 pub use recorded::{Recorded, RecordedWriter};
-pub use streams::{READ_BYTES, READS, read_all};
+pub use streams::{read_all, write_text};

@@ -1,8 +1,11 @@
 -- How a play goes on, from a reader to a writer.
-use Rattle.std.proofs.Common.{◌≡◌, ℕ, ◌+◌, ◌<◌, ◌≤◌, ◌⊎◌, inl, inr, true, false, List, [], ◌++◌, length, take, Option, Some, None, IfSome, Result, Ok, Err, IfOk, refl, ap, sym, subst, ◌∙◌, arith}
+use Rattle.std.proofs.Common.{◌≡◌, ℕ, ◌+◌, ◌≤◌, ◌⊎◌, inl, inr, Bool, true, false, List, [], ◌++◌, length, take, Option, Some, None, IfSome, Result, Ok, Err, IfOk, refl, ap, sym, subst, ◌∙◌, arith}
 use Rattle.std.proofs.lemmas.List.{append_assoc, append-nil, length-append}
 use Rattle.std.proofs.KnownBytes.{Appends-nil, Appends-trans, Consumes-nil, Consumes-trans, Consumes-kept}
 use Rattle.std.specs.Io.KnownBytes.{Appends, Consumes, Keeps, IsAtEnd}
+use Rattle.byte_streams.specs.Counted.{IsCounted}
+use Rattle.byte_streams.specs.declared.counted.CountedFault.{CountedFault}
+use Rattle.byte_streams.specs.declared.counted.CountedFault.TheVariants as counted
 use Rattle.byte_text.specs.TextLines.{RawLine, lines_of}
 use Rattle.module_tools.specs.declared.ended.Ended.{Ended}
 use Rattle.module_tools.specs.declared.ended.Ended.TheVariants as ended
@@ -161,6 +164,29 @@ going_to from to next before after p held bound g read =
       few = g.few;
     }
 
+-- A read gave nothing, and the play goes on.
+pub going_idle : (from to next before after : Option (List ℕ)) (p : Player) (held : List ℕ) (bound more : ℕ) → Going from to before after p held bound → Keeps to next → bound ≤ more → Going from next before after p held more
+going_idle from to next before after p held bound more g kept wide =
+    record {
+      whole = g.whole;
+      is_whole = g.is_whole;
+      told = g.told;
+      stage = g.stage;
+      takes = g.takes;
+      at = g.at;
+      running = g.running;
+      unended = g.unended;
+      lines = g.lines;
+      read = Consumes-kept from to next (g.whole ++ held) g.read kept;
+      wrote = g.wrote;
+      few = let f = g.few in omega (arith, f, wide);
+    }
+
+-- A read that gave no answer left the bytes as they were.
+pub refused_kept : (left rest : ℕ) (before after : Option (List ℕ)) (was is : Bool) (buffer : List ℕ) (e : CountedFault) → IsCounted left rest before after was is buffer (Err e) → Keeps before after
+refused_kept left rest before after was is buffer counted.Failed (one, kept, failed) = kept
+refused_kept left rest before after was is buffer counted.TooManyReads (none, still, kept, same) = kept
+
 -- A read that failed gave nothing.
 pub going_kept : (from to next before after : Option (List ℕ)) (p : Player) (held : List ℕ) (bound : ℕ) → Going from to before after p held bound → Keeps to next → Writes from before after (λ script text. AnswersLinesRead script text next)
 going_kept from to next before after p held bound g kept =
@@ -172,11 +198,10 @@ pub record Last (from next before mid : Option (List ℕ)) (p : Player) (last : 
   pub going : Going from next before mid p last bound
   pub end : IsAtEnd next
 
-pub going_last : (from to next before mid : Option (List ℕ)) (p : Player) (held last buf : List ℕ) (bound n : ℕ) → Going from to before mid p held bound → n ≡ 0 → Consumes to next (take n buf) × (n ≡ 0 → 0 < length buf → IsAtEnd next) → 0 < length buf → last ≡ held → Last from next before mid p last
-going_last from to next before mid p held last buf bound n g none step some is =
-    let nothing : Consumes to next [] = subst (λ k. Consumes to next (take k buf)) none step.0 in
-    let all : Consumes from next (g.whole ++ held) = subst (λ l. Consumes from next (g.whole ++ l)) (append-nil held) (read_more from to next g.whole held [] g.read nothing) in
-    record { bound = bound; going = subst (λ l. Going from next before mid p l bound) (sym is) (going_to from to next before mid p held bound g all); end = step.1 none some }
+pub going_last : (from to next before mid : Option (List ℕ)) (p : Player) (held last : List ℕ) (bound : ℕ) → Going from to before mid p held bound → Keeps to next × IsAtEnd next → last ≡ held → Last from next before mid p last
+going_last from to next before mid p held last bound g (kept, end) is =
+    let all : Consumes from next (g.whole ++ held) = Consumes-kept from to next (g.whole ++ held) g.read kept in
+    record { bound = bound; going = subst (λ l. Going from next before mid p l bound) (sym is) (going_to from to next before mid p held bound g all); end = end }
 
 module _ (from next before mid after : Option (List ℕ)) (p : Player) (last : List ℕ) where
   -- what is true of what was read, and of nothing behind it, is true of what the reader had

@@ -1,6 +1,6 @@
 -- How a player goes on, line by line.
-use Rattle.std.proofs.Common.{◌≡◌, ℕ, ◌+◌, ◌^◌, ◌<◌, ◌≤◌, Bool, true, false, if◌then◌else◌, List, [], ◌∷◌, ◌++◌, length, map, Option, Some, None, Result, Ok, Err, IfOk, OnErr, refl, ap, sym, subst, ◌∙◌, arith}
-use Rattle.std.proofs.lemmas.List.{append_assoc, append-nil, length-map}
+use Rattle.std.proofs.Common.{◌≡◌, ℕ, ◌+◌, ◌^◌, ◌<◌, Bool, true, false, if◌then◌else◌, List, [], ◌++◌, map, None, Result, Ok, Err, IfOk, OnErr, refl, ap, sym, subst, ◌∙◌}
+use Rattle.std.proofs.lemmas.List.{append-nil}
 use Rattle.byte_text.specs.TextLines.{RawLine}
 use Rattle.script_play.specs.declared.player.Player.{Player}
 use Rattle.script_play.specs.declared.player.Stage.{Stage as CodeStage}
@@ -9,10 +9,10 @@ use Rattle.script_play.specs.declared.session.Session.{Session as CodeSession}
 use Rattle.script_text.specs.declared.texts.Texts.{Texts}
 use Rattle.script_text.specs.declared.texts.LineTaken.{LineTaken}
 use Rattle.script_text.specs.declared.texts.LineTaken.TheVariants as taken
-use Rattle.script_text.specs.Heads.{ScriptPart, ScriptHead, head_of, seen_part, TellsMore, TakesLine}
+use Rattle.script_text.specs.Heads.{ScriptHead, head_of, seen_part, TellsMore, TakesLine}
 use Rattle.script_play.specs.Players.{Leaves, MayBeginCommands, HasBegun}
 use Rattle.script_text.specs.Bounds.{IsBounded}
-use Rattle.script_play.specs.Sessions.{IsHosted, TakesOne, IsStage, Bounded, IsAt}
+use Rattle.script_play.specs.Sessions.{IsHosted, TakesOne, IsStage, IsAt}
 use Rattle.script_text.specs.Parts.{codes_of, refused_in}
 use Rattle.script_play.specs.Written.{Session, Stage, Reading, Serving, Over, Begins, BeginsUnless, TakesAt, PlaysLine, first_view, session_of}
 use Rattle.script_text.proofs.Bounds.{Kept, line_kept}

@@ -1,23 +1,19 @@
 -- How a script is played, part by part.
-use Rattle.std.proofs.Common.{◌≡◌, ◌≢◌, ℕ, ◌+◌, ◌-◌, ◌*◌, ◌<◌, ◌≤◌, ◌⊎◌, inl, inr, Bool, true, false, List, [], ◌∷◌, ◌++◌, length, take, drop, Option, Some, None, IfSome, Result, Ok, Err, IfOk, IfErr, get_or, refl, ap, sym, subst, ◌∙◌, arith}
-use Rattle.std.proofs.lemmas.List.{append_assoc, append-nil, get_or-drop, get_or_default, length-append, length-drop, take-append-drop, take_at}
+use Rattle.std.proofs.Common.{◌≡◌, ◌≢◌, ℕ, ◌+◌, ◌-◌, ◌<◌, ◌≤◌, inl, inr, List, [], ◌++◌, length, take, drop, Option, Result, Ok, Err, IfOk, IfErr, get_or, refl, ap, sym, subst, ◌∙◌, arith}
+use Rattle.std.proofs.lemmas.List.{append_assoc, append-nil, get_or-drop, get_or_default, length-drop, take-append-drop, take_at}
 use Rattle.std.proofs.lemmas.List.Elements.{All-append}
-use Rattle.std.proofs.Math.Seq.{take-nil}
-use Rattle.std.proofs.KnownBytes.{Appends-nil, Appends-trans, Consumes-nil, Consumes-trans, Consumes-kept, Consumes-whole}
-use Rattle.std.specs.Io.KnownBytes.{Appends, Consumes, Keeps, IsAtEnd}
+use Rattle.std.proofs.KnownBytes.{Appends-nil, Appends-trans, Appends-kept}
+use Rattle.std.specs.Io.KnownBytes.{Appends, Keeps}
 use Rattle.byte_text.specs.TextLines.{RawLine, lines_of}
 use Rattle.module_tools.specs.declared.ended.Ended.{Ended}
-use Rattle.module_tools.specs.declared.ended.Ended.TheVariants as ended
 use Rattle.module_tools.specs.declared.fault.PlayFault.{PlayFault}
 use Rattle.module_tools.specs.declared.fault.PlayFault.TheVariants as fault
 use Rattle.script_play.specs.declared.player.Player.{Player}
-use Rattle.script_text.specs.Heads.{no_head}
-use Rattle.module_tools.specs.Streams.{Writes}
-use Rattle.script_play.specs.Playing.{IsEndFrom, IsCutOfSome, IsCutOfEnd, AddsText, PlaysOn, PlaysLines, PlaysBytes, EndsLines, PlaysEnd}
+use Rattle.module_tools.specs.Streams.{WritesText}
+use Rattle.script_play.specs.Playing.{IsCutOfSome, AddsText, PlaysOn, PlaysLines, PlaysBytes, EndsLines, PlaysEnd}
 use Rattle.script_play.specs.Sessions.{IsAt, TakesOn, EndsOn}
-use Rattle.script_play.specs.Written.{Stage, Reading, Serving, Over, is_over, TakesAll, IsSomeOf, EndsAt, EndsLine, IsWhole, HasNoLf}
-use Rattle.script_play.proofs.ScriptLines.{lines_append, lines_few, whole_append, ends_at}
-use Rattle.script_play.proofs.TakenLaws.{taken_append, taken_over}
+use Rattle.script_play.specs.Written.{Stage, TakesAll, IsSomeOf, EndsAt, IsWhole, HasNoLf}
+use Rattle.script_play.proofs.ScriptLines.{whole_append, ends_at}
 
 -- Lines are played.
 
@@ -42,10 +38,6 @@ all_some : (number : ℕ) (ls : List RawLine) (s last : Stage) (told : List ℕ)
 all_some number ls s last told takes =
     record { count = length ls; stage = last; takes = subst (λ l. TakesAll number l s told last) (sym (ap (take (length ls)) (sym (append-nil ls)) ∙ take_at ls [] (length ls) refl)) takes }
 
--- The writer failed, at some front of the answers.
-abbrev pub Wrote : Option (List ℕ) → Option (List ℕ) → List ℕ → PlayFault → Type 0
-Wrote w v text f = (f ≡ fault.Write) × ((n : ℕ) × (n < length text) × Appends w v (take n text))
-
 -- behind a front that is not all of it something is left
 some_left : (text : List ℕ) (n : ℕ) → n < length text → drop n text ≢ []
 some_left text n lt none = (let long = length-drop n text in let empty : length (drop n text) ≡ 0 = ap (λ (xs : List ℕ). length xs) none in omega (arith, long, empty, lt))
@@ -63,11 +55,21 @@ took_some old new before after ls s (Ok u) none t other =
     subst (IsSomeOf (old.lines + 1) ls s) (sym (t.added ∙ ap (λ l. l ++ t.told) none)) (all_some (old.lines + 1) ls s t.stage t.told t.takes)
 took_some old new before after ls s (Err e) none other t = some_of (old.lines + 1) ls s before after none t
 
+-- nothing was written
+kept_none : (w v : Option (List ℕ)) → Keeps w v → Appends w v []
+kept_none w v kept = Appends-kept w w v [] (Appends-nil w) kept
+
+none_some : (number : ℕ) (w v : Option (List ℕ)) (ls : List RawLine) (s : Stage) → Keeps w v → AddsText w v (IsSomeOf number ls s)
+unfolding TakesAll
+none_some number w v ls s kept = ([], record { count = 0; stage = s; takes = (refl, refl) }, kept_none w v kept)
+
 -- not all answers were written
-pub played_cut : {E : Type 0} (old new : Player) (w v : Option (List ℕ)) (before after text : List ℕ) (ls : List RawLine) (s : Stage) (r : Result (Unit {0}) E) (f : PlayFault) → before ≡ [] → IfOk r (λ u. TakesOn old new before after ls s) → IfErr r (λ e. SomeTaken (old.lines + 1) ls s before after) → text ≡ after → Wrote w v text f → PlaysLines old new w v ls s (Err f)
-played_cut old new w v before after text ls s r f none ok err same wrote =
+pub played_cut : {E : Type 0} (old new : Player) (w v : Option (List ℕ)) (before after text : List ℕ) (ls : List RawLine) (s : Stage) (r : Result (Unit {0}) E) (f : PlayFault) → before ≡ [] → IfOk r (λ u. TakesOn old new before after ls s) → IfErr r (λ e. SomeTaken (old.lines + 1) ls s before after) → text ≡ after → WritesText {T = Unit {0}} w v text (Err f) → PlaysLines old new w v ls s (Err f)
+played_cut old new w v before after text ls s r fault.Read none ok err same wrote = wrote
+played_cut old new w v before after text ls s r fault.NoMemory none ok err same kept = none_some (old.lines + 1) w v ls s kept
+played_cut old new w v before after text ls s r fault.Write none ok err same (n, lt, wrote) =
     let some = subst (IsSomeOf (old.lines + 1) ls s) (sym same) (took_some old new before after ls s r none ok err) in
-    subst (λ e. PlaysLines old new w v ls s (Err e)) (sym wrote.0) (cut_some (old.lines + 1) w v text ls s wrote.1.0 wrote.1.1 some wrote.1.2)
+    cut_some (old.lines + 1) w v text ls s n lt some wrote
 
 -- The play ends.
 
@@ -82,12 +84,14 @@ ended_none w v before after s none same wrote = subst (Appends w v) (same ∙ no
 cut_end : (w v : Option (List ℕ)) (after : List ℕ) (s : Stage) (e : Ended) (n : ℕ) → n < length after → EndsAt s after e → Appends w v (take n after) → EndsLines w v s (Err fault.Write)
 cut_end w v after s e n lt ends wrote = (take n after, (drop n after, some_left after n lt, (e, subst (λ l. EndsAt s l e) (sym (take-append-drop n after)) ends)), wrote)
 
-pub ended_cut : {E : Type 0} (w v : Option (List ℕ)) (before after text : List ℕ) (s : Stage) (r : Result Ended E) (f : PlayFault) → before ≡ [] → IfOk r (λ e. EndsOn before after s e) → IfErr r (λ e. after ≡ before) → text ≡ after → Wrote w v text f → EndsLines w v s (Err f)
-ended_cut w v before after text s (Ok e) f none ends quiet same wrote =
+pub ended_cut : {E : Type 0} (w v : Option (List ℕ)) (before after text : List ℕ) (s : Stage) (r : Result Ended E) (f : PlayFault) → before ≡ [] → IfOk r (λ e. EndsOn before after s e) → IfErr r (λ e. after ≡ before) → text ≡ after → WritesText {T = Unit {0}} w v text (Err f) → EndsLines w v s (Err f)
+ended_cut w v before after text s r fault.Read none ends quiet same wrote = wrote
+ended_cut w v before after text s r fault.NoMemory none ends quiet same kept = kept_none w v kept
+ended_cut w v before after text s (Ok e) fault.Write none ends quiet same (n, lt, wrote) =
     let told_is : ends.0 ≡ text = sym (same ∙ ends.2 ∙ ap (λ l. l ++ ends.0) none) in
-    subst (λ x. EndsLines w v s (Err x)) (sym wrote.0) (cut_end w v text s e wrote.1.0 wrote.1.1 (subst (λ l. EndsAt s l e) told_is ends.1) wrote.1.2)
-ended_cut w v before after text s (Err e) f none ends quiet same wrote =
-    absurd (let lt = wrote.1.1 in let empty : length text ≡ 0 = ap (λ (xs : List ℕ). length xs) (same ∙ quiet ∙ none) in omega (arith, lt, empty))
+    cut_end w v text s e n lt (subst (λ l. EndsAt s l e) told_is ends.1) wrote
+ended_cut w v before after text s (Err e) fault.Write none ends quiet same (n, lt, wrote) =
+    absurd (let empty : length text ≡ 0 = ap (λ (xs : List ℕ). length xs) (same ∙ quiet ∙ none) in omega (arith, lt, empty))
 
 -- The last lines are played, and then the play ends.
 pub ends_behind : (old mid : Player) (w u v : Option (List ℕ)) (ls : List RawLine) (s : Stage) (r : Result Ended PlayFault) → (k : PlaysOn old mid w u ls s) → EndsLines u v k.stage r → PlaysEnd (old.lines + 1) w v ls s r

@@ -1,22 +1,20 @@
 -- What commands answer and leave, by what the calls of the host do.
-use Rattle.std.proofs.Common.{◌≡◌, ℕ, suc, ◌-◌, ◌≤◌, true, false, List, None, Result, Ok, Err, refl, ap, sym, subst, ◌∙◌, arith}
-use Rattle.module_code.specs.Program.{Program}
+use Rattle.std.proofs.Common.{◌≡◌, ℕ, ◌-◌, true, false, List, None, Result, Ok, Err, refl, ap, subst}
 use Rattle.run_model.specs.declared.event.Event.{Event}
 use Rattle.run_model.specs.declared.event.Event.TheVariants as event
 use Rattle.run_model.specs.declared.event.Refusal.{Refusal}
 use Rattle.run_model.specs.declared.event.Stepped.{Stepped}
 use Rattle.run_model.specs.declared.event.Stepped.TheVariants as stepped
 use Rattle.run_model.specs.Turns.{Missing}
-use Rattle.run_model.specs.Worlds.{World, Told, Answer, Done, Step, Tree, happens_on, tree_of}
+use Rattle.run_model.specs.Worlds.{World, Told, Answer, Done, Tree, happens_on, tree_of}
 use Rattle.bucket_kinds.specs.MemDevice.{mem_device}
 use Rattle.bucket_kinds.specs.declared.mem_files.MemFiles.{MemFiles}
-use Rattle.life_check.specs.ChainTheorem.{ChainNeverFaults}
 use Rattle.pool_tree.specs.Printed.{payload_text, printed}
 use Rattle.filter_chain.specs.declared.host.Host.{Host}
 use Rattle.filter_chain.specs.Led.{RefinesFrom}
 use Rattle.filter_chain.specs.Running.{StepsToEnd, StepsOn}
 use Rattle.filter_chain.specs.Hosting.{IsHosting, Happens, budget_of, chain_of, step_answer}
-use Rattle.filter_chain.specs.Safe.{GoesWell, IsSafe}
+use Rattle.filter_chain.specs.Safe.{GoesWell}
 use Rattle.filter_chain.specs.HostViews.{HostView, Answers, TellsEvent, host_view}
 use Rattle.script_text.specs.declared.command.Command.{Command}
 use Rattle.script_text.specs.declared.command.Command.TheVariants as command
@@ -24,7 +22,7 @@ use Rattle.script_text.specs.declared.file_line.FileLine.{FileLine}
 use Rattle.script_text.specs.declared.reply.Reply.{Reply}
 use Rattle.script_text.specs.declared.reply.Reply.TheVariants as reply
 use Rattle.script_play.specs.Plays.{AnswersCommand, RepliesTo, file_bytes, is_fault, reply_of, steps_reply}
-use Rattle.script_play.specs.Sessions.{IsMemHostAlive, IsServed, device}
+use Rattle.script_play.specs.Sessions.{IsServed, device}
 
 -- Commands that are one event.
 

@@ -1,5 +1,5 @@
 -- Laws on sessions: what a command leaves of one.
-use Rattle.std.proofs.Common.{◌≡◌, ℕ, Bool, true, false, List, ◌++◌, Option, Some, MatchOption, refl, ap, sym, subst, ◌∙◌}
+use Rattle.std.proofs.Common.{◌≡◌, ℕ, true, false, List, ◌++◌, Option, Some, MatchOption, refl, ap, sym, subst, ◌∙◌}
 use Rattle.module_code.specs.Program.{Program}
 use Rattle.byte_text.specs.TextLines.{RawLine}
 use Rattle.bucket_kinds.specs.Device.{Device}
@@ -13,7 +13,7 @@ use Rattle.script_play.specs.declared.session.Session.{Session as CodeSession}
 use Rattle.script_play.specs.Plays.{AnswersCommand, due_at, is_fault}
 use Rattle.script_text.specs.Replies.{reply_line, script_line}
 use Rattle.script_play.specs.Sessions.{IsHosted, IsServed, TakesOne, device}
-use Rattle.script_play.specs.Written.{Session, Serving, Over, Replies, TakesCommand}
+use Rattle.script_play.specs.Written.{Session, Serving, Over, Replies}
 use Rattle.script_play.proofs.FaithfulFiles.{faithful_of, serves_sound, serves_unfailing}
 
 -- A command was answered.

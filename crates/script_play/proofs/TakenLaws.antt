@@ -1,8 +1,8 @@
 -- Lines that are taken one after another.
-use Rattle.std.proofs.Common.{◌≡◌, ℕ, ◌+◌, Bool, true, false, List, [], ◌∷◌, ◌++◌, length, take, refl, ap, sym, subst, ◌∙◌, arith}
+use Rattle.std.proofs.Common.{◌≡◌, ℕ, ◌+◌, List, [], ◌∷◌, ◌++◌, length, refl, ap, sym, subst, ◌∙◌, arith}
 use Rattle.std.proofs.lemmas.List.{append_assoc, append-nil}
-use Rattle.byte_text.specs.TextLines.{RawLine, lines_of}
-use Rattle.script_play.specs.Written.{Stage, Reading, Serving, Over, PlaysLine, TakesAll}
+use Rattle.byte_text.specs.TextLines.{RawLine}
+use Rattle.script_play.specs.Written.{Stage, Over, PlaysLine, TakesAll}
 
 -- First these lines, and then those.
 pub taken_append : (n : ℕ) (ls ms : List RawLine) (s mid t : Stage) (a b : List ℕ) → TakesAll n ls s a mid → TakesAll (n + length ls) ms mid b t → TakesAll n (ls ++ ms) s (a ++ b) t

@@ -1,5 +1,5 @@
 -- What the code of a play does with a line, and with a part of a script.
-use Rattle.std.specs.Prelude.{◌≡◌, ℕ, ◌<◌, ◌≤◌, Bool, List, ◌++◌, length}
+use Rattle.std.specs.Prelude.{◌≡◌, ℕ, ◌<◌, ◌≤◌, List, ◌++◌, length}
 use Rattle.script_play.specs.declared.player.Player.{Player}
 use Rattle.script_play.specs.declared.player.Stage.{Stage as CodeStage}
 use Rattle.script_text.specs.Heads.{ScriptHead}

@@ -1,5 +1,5 @@
 -- What the code of a play stands for.
-use Rattle.std.specs.Prelude.{◌≡◌, ℕ, ◌+◌, Bool, true, false, List, [], ◌++◌, length}
+use Rattle.std.specs.Prelude.{◌≡◌, ℕ, ◌+◌, Bool, true, false, List, ◌++◌, length}
 use Rattle.byte_text.specs.TextLines.{RawLine}
 use Rattle.run_model.specs.Worlds.{World}
 use Rattle.bucket_kinds.specs.Device.{Device}

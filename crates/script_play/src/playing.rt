@@ -1,32 +1,21 @@
 //! A script, from a reader to a writer, answered as it is read.
 
-ghost use Rattle.std.specs.Prelude.{◌≡◌, ◌≢◌, ◌<◌, ◌≤◌, ◌+◌, ◌-◌, ◌^◌, ◌++◌, ℕ, List, length, take, slice_index, IfOk, IfErr, OnOk};
-ghost use Rattle.std.specs.Io.KnownBytes.{Appends};
+ghost use Rattle.std.specs.Prelude.{◌≡◌, ◌≢◌, ◌<◌, ◌≤◌, ◌+◌, ◌-◌, ◌^◌, ◌++◌, ℕ, length, slice_index, IfOk};
+ghost use Rattle.byte_streams.specs.Counted.{reads_left, source_of};
 ghost use Rattle.byte_text.specs.TextLines.{lines_of};
 ghost use Rattle.script_play.specs.Playing.{PlaysLines, PlaysBytes, PlaysEnd, EndsLines};
+ghost use Rattle.module_tools.specs.StreamFaults.{TellsOfReader, TellsOfWriter};
 ghost use Rattle.module_tools.specs.Streams.{Writes};
 ghost use Rattle.script_play.specs.Sessions.{IsAt};
 ghost use Rattle.script_play.specs.Written.{Stage, HasNoLf, AnswersLinesRead, IsWrittenFor, IsFrontOf, IsCutOf};
 
 use crate::player::Player;
-use byte_text::{WriteFault, put_all};
-use module_tools::{Ended, PlayFault, READ_BYTES, READS};
+use byte_streams::{CountedSource, READ_BYTES, READS, ReadAnswer, Sink, Source};
+use module_tools::{Ended, PlayFault, write_text};
 use std::alloc::{AllocError, Global};
-use std::io::{Read, Write};
 
-/// Writes what is answered.
-fn write_answers<W: Write>(writer: &mut W, answers: &[u8]) -> Result<(), PlayFault>
-    ensures ok { OnOk result (Appends (W.contents writer.old) (W.contents writer.new) answers.now) }
-    ensures err { IfErr result (λ f. (f ≡ PlayFault.Write) × ((n : ℕ) × (n < length answers.now) × Appends (W.contents writer.old) (W.contents writer.new) (take n answers.now))) }
-{
-    match put_all(writer, answers) {
-        Ok(()) => Ok(()),
-        Err(WriteFault) => Err(PlayFault::Write),
-    }
-}
-
-/// Plays lines, and writes the answers. Without memory what was answered so far is written.
-fn play_lines<W: Write>(
+/// Plays lines, and writes the answers. Without memory for an answer what was answered so far is written; without memory in the writer, nothing.
+fn play_lines<W: Sink>(
     alloc: Global,
     player: &mut Player,
     lines: &[u8],
@@ -34,11 +23,12 @@ fn play_lines<W: Write>(
 ) -> Result<(), PlayFault>
     requires at { (s : Stage) × IsAt player.old s }
     requires few { player.old.lines + length lines.now < 2 ^ 62 }
-    ensures { (s : Stage) → IsAt player.old s → PlaysLines player.old player.new (W.contents writer.old) (W.contents writer.new) (lines_of lines.now) s result }
+    ensures plays { (s : Stage) → IsAt player.old s → PlaysLines player.old player.new (W.contents writer.old) (W.contents writer.new) (lines_of lines.now) s result }
+    ensures writer { TellsOfWriter (W.failed writer.old) (W.failed writer.new) result }
 {
     let mut answers = Vec::new(alloc);
     let outcome = player.take(lines, &mut answers);
-    write_answers(writer, answers.as_slice())?;
+    write_text(writer, answers.as_slice())?;
     match outcome {
         Ok(()) => Ok(()),
         Err(AllocError) => Err(PlayFault::NoMemory),
@@ -46,17 +36,18 @@ fn play_lines<W: Write>(
 }
 
 /// The script has no more lines: tells how the play ends, and writes what is answered of that.
-fn end_lines<W: Write>(
+fn end_lines<W: Sink>(
     alloc: Global,
     player: &mut Player,
     writer: &mut W,
 ) -> Result<Ended, PlayFault>
     requires at { (s : Stage) × IsAt player.old s }
-    ensures { (s : Stage) → IsAt player.old s → EndsLines (W.contents writer.old) (W.contents writer.new) s result }
+    ensures ends { (s : Stage) → IsAt player.old s → EndsLines (W.contents writer.old) (W.contents writer.new) s result }
+    ensures writer { TellsOfWriter (W.failed writer.old) (W.failed writer.new) result }
 {
     let mut answers = Vec::new(alloc);
     let outcome = player.end(&mut answers);
-    write_answers(writer, answers.as_slice())?;
+    write_text(writer, answers.as_slice())?;
     match outcome {
         Ok(ended) => Ok(ended),
         Err(AllocError) => Err(PlayFault::NoMemory),
@@ -64,7 +55,7 @@ fn end_lines<W: Write>(
 }
 
 /// The script has ended, with this line, which has no LF, or at the end of a line.
-fn end_play<W: Write>(
+fn end_play<W: Sink>(
     alloc: Global,
     player: &mut Player,
     last: &[u8],
@@ -72,7 +63,8 @@ fn end_play<W: Write>(
 ) -> Result<Ended, PlayFault>
     requires at { (s : Stage) × IsAt player.old s }
     requires few { player.old.lines + length last.now < 2 ^ 62 }
-    ensures { (s : Stage) → IsAt player.old s → PlaysEnd (player.old.lines + 1) (W.contents writer.old) (W.contents writer.new) (lines_of last.now) s result }
+    ensures plays { (s : Stage) → IsAt player.old s → PlaysEnd (player.old.lines + 1) (W.contents writer.old) (W.contents writer.new) (lines_of last.now) s result }
+    ensures writer { TellsOfWriter (W.failed writer.old) (W.failed writer.new) result }
 {
     play_lines(alloc, player, last, writer)?;
     end_lines(alloc, player, writer)
@@ -92,7 +84,7 @@ fn whole_lines(bytes: &[u8]) -> usize
 }
 
 /// Takes bytes behind those that are held back of a line, and plays the lines that are whole by then. What is left is held back.
-fn take_bytes<W: Write>(
+fn take_bytes<W: Sink>(
     alloc: Global,
     player: &mut Player,
     held: &mut Vec<u8>,
@@ -102,7 +94,8 @@ fn take_bytes<W: Write>(
     requires at { (s : Stage) × IsAt player.old s }
     requires few { player.old.lines + length held.old.items + length bytes.now < 2 ^ 62 }
     requires unended { HasNoLf held.old.items }
-    ensures { (s : Stage) → IsAt player.old s → PlaysBytes player.old player.new (W.contents writer.old) (W.contents writer.new) (held.old.items ++ bytes.now) held.new.items s result }
+    ensures plays { (s : Stage) → IsAt player.old s → PlaysBytes player.old player.new (W.contents writer.old) (W.contents writer.new) (held.old.items ++ bytes.now) held.new.items s result }
+    ensures writer { TellsOfWriter (W.failed writer.old) (W.failed writer.new) result }
 {
     let whole = whole_lines(bytes);
     if whole > 0 {
@@ -118,26 +111,32 @@ fn take_bytes<W: Write>(
 ///
 /// `Read`: the reader failed, or gave no end within 1,000,000 reads of at most 8192 bytes; all whole lines that were read are answered.
 /// `NoMemory`: all lines are answered but those that end in the last 8192 bytes that were read; of these, some first ones may be.
-/// `Write`: the writer failed or took nothing; the same lines are answered, and of what follows it took a front, but not all of it.
+/// `Write`: the writer failed; the same lines are answered, and of what follows it took a front, but not all of it.
 ///
 /// What is written is promised where it is known what the reader had left and what the writer holds, as of a slice and a `Vec`.
-pub fn run_play<R: Read, W: Write>(
+pub fn run_play<R: Source, W: Sink>(
     alloc: Global,
-    reader: &mut R,
+    reader: &mut CountedSource<R>,
     writer: &mut W,
 ) -> Result<Ended, PlayFault>
-    ensures ok { IfOk result (λ e. Writes (R.remaining reader.old) (W.contents writer.old) (W.contents writer.new) (λ script text. IsWrittenFor script text e)) }
-    ensures read { result ≡ Err PlayFault.Read → Writes (R.remaining reader.old) (W.contents writer.old) (W.contents writer.new) (λ script text. AnswersLinesRead script text (R.remaining reader.new)) }
-    ensures memory { result ≡ Err PlayFault.NoMemory → Writes (R.remaining reader.old) (W.contents writer.old) (W.contents writer.new) (λ script text. IsFrontOf script text (R.remaining reader.new)) }
-    ensures write { result ≡ Err PlayFault.Write → Writes (R.remaining reader.old) (W.contents writer.old) (W.contents writer.new) (λ script text. IsCutOf script text (R.remaining reader.new)) }
+    requires { reads_left reader.old ≡ READS }
+    ensures ok { IfOk result (λ e. Writes (R.remaining (source_of reader.old)) (W.contents writer.old) (W.contents writer.new) (λ script text. IsWrittenFor script text e)) }
+    ensures read { result ≡ Err PlayFault.Read → Writes (R.remaining (source_of reader.old)) (W.contents writer.old) (W.contents writer.new) (λ script text. AnswersLinesRead script text (R.remaining (source_of reader.new))) }
+    ensures memory { result ≡ Err PlayFault.NoMemory → Writes (R.remaining (source_of reader.old)) (W.contents writer.old) (W.contents writer.new) (λ script text. IsFrontOf script text (R.remaining (source_of reader.new))) }
+    ensures write { result ≡ Err PlayFault.Write → Writes (R.remaining (source_of reader.old)) (W.contents writer.old) (W.contents writer.new) (λ script text. IsCutOf script text (R.remaining (source_of reader.new))) }
+    ensures reader { TellsOfReader (R.failed (source_of reader.old)) (R.failed (source_of reader.new)) (reads_left reader.new) result }
+    ensures writer { TellsOfWriter (W.failed writer.old) (W.failed writer.new) result }
 {
     let mut player = Player::new(alloc);
     let mut held = Vec::new(alloc);
     let mut buffer = [0; READ_BYTES];
     for _ in 0..READS {
         match reader.read(&mut buffer) {
-            Ok(0) => return end_play(alloc, &mut player, held.as_slice(), writer),
-            Ok(count) => take_bytes(alloc, &mut player, &mut held, &buffer[..count], writer)?,
+            Ok(ReadAnswer::Bytes(count)) => {
+                take_bytes(alloc, &mut player, &mut held, &buffer[..count], writer)?;
+            }
+            Ok(ReadAnswer::End) => return end_play(alloc, &mut player, held.as_slice(), writer),
+            Ok(ReadAnswer::NotNow) => continue,
             Err(_) => return Err(PlayFault::Read),
         }
         if player.is_over() {
