@@ -2,6 +2,7 @@
 
 ghost use Rattle.std.specs.Prelude.{◌≤◌, ◌↔◌, ◌∷◌, [], length, IsOk};
 ghost use Rattle.module_code.specs.Program.{IsModule};
+ghost use Rattle.model_laws.specs.OpenRuns.{InstancesAreSafe};
 ghost use Rattle.life_check.specs.Seen.{seen_cert};
 ghost use Rattle.life_check.specs.Certificates.{AllBounded, AreFormed};
 ghost use Rattle.life_check.specs.ChainTheorem.{ChainNeverFaults};
@@ -52,6 +53,7 @@ pub fn check(code: &Module, cert: &Cert) -> Result<(), CheckRefusal>
     ensures accepts { IsOk result ↔ IsTyped code.now (seen_cert cert.now) }
     ensures formed { IsOk result → AreFormed (seen_cert cert.now) }
     ensures safe { IsOk result → ChainNeverFaults (code.now ∷ []) }
+    ensures instances { IsOk result → InstancesAreSafe code.now }
 {
     check_all(code, cert)
 }

@@ -34,3 +34,5 @@ pub mod ChainClears
 pub mod ChainTrees
 pub mod ChainOrder
 pub mod StepRuns
+pub mod OpenRuns
+pub mod ReadHomes

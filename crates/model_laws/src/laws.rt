@@ -26,6 +26,7 @@ ghost use Rattle.model_laws.specs.ChainFiles.{ConnectionStepKeepsEnds, BringKeep
 ghost use Rattle.model_laws.specs.ChainHomes.{EventKeepsWorldHomes, RunKeepsWorldHomes};
 ghost use Rattle.model_laws.specs.ChainOrder.{EventKeepsWorldOrder, RunKeepsWorldOrder};
 ghost use Rattle.model_laws.specs.ChainPaths.{EventKeepsWorldPaths, RunKeepsWorldPaths};
+ghost use Rattle.model_laws.specs.OpenRuns.{OpenRunsStaySound};
 ghost use Rattle.model_laws.specs.ChainNumbers.{EventKeepsNumbers, RunKeepsNumbers};
 ghost use Rattle.model_laws.specs.Reached.{EmptyIsReached, EventReaches, WorldRunGoesOn, ReachedHolds};
 ghost use Rattle.model_laws.specs.ChainClears.{MadePoolsAreOwn, OthersKeepBrigades};
@@ -455,4 +456,10 @@ pub fn parts_last()
     ensures lies { StepsKeepLies }
     ensures touched { TouchedLies }
     ensures others { OthersLie }
+{}
+
+/// Whatever surrounds an instance, each open run of it keeps what is sound: each name is one bucket's, buckets are as their kinds have
+/// them, its variables stand as its module declares them, and pools of other filters that last are apart from its own.
+pub fn open_runs_stay_sound()
+    ensures { OpenRunsStaySound }
 {}
