@@ -323,7 +323,7 @@ Makes p choice r (instr.Read c l) b = (x : Content) × ((bytes : List ℕ) × ((
 Makes p choice r i b = ⊥
 
 -- whether an instruction reads a bucket
-abbrev is_read : Instr → Bool
+abbrev pub is_read : Instr → Bool
 is_read (instr.Read c l) = true
 is_read i = false
 
