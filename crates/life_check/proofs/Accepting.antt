@@ -4,13 +4,20 @@ use Rattle.std.proofs.lemmas.List.Elements.{All-head, All-tail, All-map, All-wea
 use Rattle.std.proofs.lemmas.List.{length-map, take_all}
 use Rattle.module_code.specs.Program.{IsModule}
 use Rattle.run_model.specs.Chains.{module_at}
+use Rattle.model_laws.specs.OpenRuns.{InstancesAreSafe}
 use Rattle.life_check.specs.Accepted.{CertifiedModule, modules_of, IsAccepted, IsChecked, IsCheckedChain}
 use Rattle.life_check.specs.Certificates.{Certificate}
 use Rattle.life_check.specs.ChainTheorem.{AllTyped}
 use Rattle.life_check.specs.Seen.{seen_cert}
+use Rattle.life_check.proofs.alone.Safe.{typed_is_safe}
 
 pub all_accepted : (parts : List CertifiedModule) → All IsChecked parts → All IsAccepted parts
 all_accepted parts all = All-weaker IsChecked IsAccepted (λ x h. h.typed) parts all
+
+-- each module that was checked is safe by itself
+pub all_safe : (parts : List CertifiedModule) → All IsChecked parts → All InstancesAreSafe (modules_of parts)
+all_safe parts all =
+    All-map InstancesAreSafe (λ (x : CertifiedModule). x.0) parts (All-weaker IsChecked (λ x. InstancesAreSafe x.0) (λ x h. typed_is_safe x.0 (seen_cert x.1) h.proper h.bounded h.typed) parts all)
 
 -- The certificates of a chain, by the places of their modules.
 

@@ -1,4 +1,5 @@
 pub mod Accepting
+pub mod alone
 pub mod Asides
 pub mod Brigades
 pub mod Cleared

@@ -13,10 +13,11 @@ use Rattle.run_model.specs.declared.event.Exit.{Exit}
 use Rattle.run_model.specs.declared.event.Exit.TheVariants.{GoOn, Jump, Return}
 use Rattle.run_model.specs.Faults.{Want, WPool, wants, fault, is_stray}
 use Rattle.model_laws.specs.Laws.{MayExecute}
+pub use Rattle.model_laws.specs.OpenRuns.{request_ended}
 use Rattle.run_model.specs.Pools.{is_live, is_under}
 use Rattle.run_model.specs.Sound.{Sound}
 use Rattle.run_model.specs.State.{Configuration, pool_view, pool_named}
-use Rattle.run_model.specs.Steps.{Choice, step, pool_destroyed}
+use Rattle.run_model.specs.Steps.{Choice, step}
 use Rattle.life_state.specs.Order.{leq}
 use Rattle.life_state.specs.Rules.{Edges, edges, first_need, at_return, at_end_of_request}
 use Rattle.life_state.specs.States.{Homes, State}
@@ -78,12 +79,6 @@ MetIsFaultless C = ((h : Homes) → C h home.Ended → h.dead ≡ true) → (p :
 abbrev pub GreaterFits : (Home → Type 0) → Type 0
 GreaterFits lives = (p : Program) (r : Configuration) (s t : State) → Sound r → AsDeclared p r → IsBounded t → leq s t ≡ true
     → Fits (Covers p (pool_view r) lives) s r → Fits (Covers p (pool_view r) lives) t r
-
--- The request's pool is destroyed, and no EOS was passed in the next request.
-abbrev pub request_ended : ℕ → Configuration → Configuration
-request_ended req r =
-    let gone = pool_destroyed req r in
-    record gone { instance = record gone.instance { sent = false }; shared = record gone.shared { req = None }; out = record gone.out { ended = false } }
 
 -- The end of a request, between calls.
 abbrev pub RequestEndLands : Type 0

@@ -1,6 +1,7 @@
 //! Chains of modules that are checked.
 
 ghost use Rattle.std.specs.Prelude.{◌≡◌, ◌<◌, ◌≤◌, length, All, IfOk, IfErr, OnOk};
+ghost use Rattle.model_laws.specs.OpenRuns.{InstancesAreSafe};
 ghost use Rattle.life_check.specs.Accepted.{modules_of, IsAccepted, IsChainRefusal, IsChecked};
 ghost use Rattle.life_check.specs.ChainTheorem.{ChainNeverFaults};
 
@@ -77,6 +78,7 @@ fn modules_of(alloc: Global, parts: Vec<(Module, Cert)>) -> Result<Vec<Module>, 
 /// Checks a chain of 1 to 16 modules, each with its certificate: Ok exactly where `check` accepts each of them, and then with these
 /// modules in their order. Else `At` has the first that `check` refuses, with its refusal. `NoMemory` comes only where the list of the
 /// modules cannot be held, and then all are accepted. No run of any number of connections of a chain that is accepted answers a fault.
+/// Each of its modules is safe by itself, too: none of its instances has a fault, whatever filters stand before and behind.
 pub fn accept_chain(alloc: Global, parts: Vec<(Module, Cert)>) -> Result<CheckedChain, ChainRefusal>
     requires some { 0 < length parts.items }
     requires few { length parts.items ≤ 16 }
@@ -84,6 +86,7 @@ pub fn accept_chain(alloc: Global, parts: Vec<(Module, Cert)>) -> Result<Checked
     ensures accepts { OnOk result (All IsAccepted parts.items) }
     ensures refused { IfErr result (IsChainRefusal parts.items) }
     ensures safe { IfOk result (λ c. ChainNeverFaults c) }
+    ensures instances { IfOk result (λ c. All InstancesAreSafe c) }
 {
     check_parts(parts.as_slice())?;
     let modules = modules_of(alloc, parts)?;

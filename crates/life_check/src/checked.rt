@@ -2,6 +2,7 @@
 
 ghost use Rattle.std.specs.Prelude.{◌≤◌, ◌↔◌, ◌∷◌, [], length, IsOk};
 ghost use Rattle.module_code.specs.Program.{IsModule};
+ghost use Rattle.model_laws.specs.OpenRuns.{InstancesAreSafe};
 ghost use Rattle.life_check.specs.Seen.{seen_cert};
 ghost use Rattle.life_check.specs.Certificates.{AllBounded, AreFormed};
 ghost use Rattle.life_check.specs.ChainTheorem.{ChainNeverFaults};
@@ -46,12 +47,13 @@ pub(crate) fn check_all(code: &Module, cert: &Cert) -> Result<(), CheckRefusal>
 /// no rule refuses, and then each state is in form. Else the first refusal: by the shape of the states; where a handler begins; at the lowest instruction with a
 /// state by a fault that it may have, by where it leads, or by what it leaves where it returns; at the end of the request. It
 /// takes no memory. No run of a chain that is this module alone answers a fault, on however many connections, and whatever is found
-/// and read, or cannot be.
+/// and read, or cannot be. No instance of it has a fault, whatever filters stand before and behind.
 pub fn check(code: &Module, cert: &Cert) -> Result<(), CheckRefusal>
     ensures first { IsAnswer (first_refusal code.now (seen_cert cert.now)) result }
     ensures accepts { IsOk result ↔ IsTyped code.now (seen_cert cert.now) }
     ensures formed { IsOk result → AreFormed (seen_cert cert.now) }
     ensures safe { IsOk result → ChainNeverFaults (code.now ∷ []) }
+    ensures instances { IsOk result → InstancesAreSafe code.now }
 {
     check_all(code, cert)
 }

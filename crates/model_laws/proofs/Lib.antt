@@ -42,3 +42,4 @@ pub mod CursorSteps
 pub mod chains
 pub mod ChainExamples
 pub mod parts
+pub mod alone

@@ -30,6 +30,18 @@ use Rattle.run_model.proofs.EachBucket.{each_before, each_from, of_named, each_t
 abbrev pub Each : (Bucket → Type 0) → List NamedBucket → Type 0
 Each T xs = All (λ x. T x.bucket) xs
 
+-- What is true of what comes of a bucket of which it is true, where `new` is the next name: its parts, of which the second has that
+-- name, and a copy.
+pub record Descends (new : ℕ) (T : NamedBucket → Type 0) : Type 0 where
+  pub front : (n : ℕ) (x : NamedBucket) → n ≤ length_of x.bucket.content → T x → T (first_bytes n x)
+  pub rest : (n : ℕ) (x : NamedBucket) → n ≤ length_of x.bucket.content → T x → T (rest_as new n x)
+  pub copy : (x : NamedBucket) → T x → T (record { name = new; bucket = x.bucket })
+
+-- What is true of each bucket that a configuration holds, under its name.
+pub record HoldsNamed (T : NamedBucket → Type 0) (r : Configuration) : Type 0 where
+  pub brigades : (b : ℕ) → All T (items_at r b)
+  pub loose : All T r.call.loose
+
 -- A bucket as one is made in a call: it depends on nothing, or on the call.
 pub record IsMade (r : Configuration) (b : Bucket) : Type 0 where
   pub fits : FitsKind b
@@ -46,9 +58,8 @@ pub record PassesOn (r : Configuration) (T : Bucket → Type 0) : Type 0 where
   pub parts : PassesParts T
 
 -- What is true of each bucket that a configuration holds.
-pub record Holds (T : Bucket → Type 0) (r : Configuration) : Type 0 where
-  pub brigades : (b : ℕ) → Each T (items_at r b)
-  pub loose : Each T r.call.loose
+abbrev pub Holds : (Bucket → Type 0) → Configuration → Type 0
+Holds T r = HoldsNamed (λ x. T x.bucket) r
 
 -- A part of a range is one.
 
@@ -88,106 +99,103 @@ made_eos : (r : Configuration) → IsMade r (metadata kind.Eos)
 made_eos r = record { fits = record { holds = refl; lives = tt }; lives = inl refl }
 
 -- What is written into a configuration.
-module _ (T : Bucket → Type 0) where
-  items_hold : (b : ℕ) (items : List NamedBucket) (r : Configuration) → Each T items → Holds T r → Holds T (set_items b items r)
+module _ (T : NamedBucket → Type 0) where
+  items_hold : (b : ℕ) (items : List NamedBucket) (r : Configuration) → All T items → HoldsNamed T r → HoldsNamed T (set_items b items r)
   unfolding set_brigade
   items_hold b items r here h = record { brigades = in_each; loose = h.loose } where
-    filled : (v : BrigadeVar) → Each T (items_of (with_items items v))
-    filled var.Null = All-nil (λ x. T x.bucket)
-    filled var.Gone = All-nil (λ x. T x.bucket)
+    filled : (v : BrigadeVar) → All T (items_of (with_items items v))
+    filled var.Null = All-nil T
+    filled var.Gone = All-nil T
     filled (var.Live v) = here
 
-    in_each : (k : ℕ) → Each T (items_at (set_items b items r) k)
+    in_each : (k : ℕ) → All T (items_at (set_items b items r) k)
     in_each k = elim (upd_either r.instance.brigades b k (with_items items (r.instance.brigades b))) [
-      | inl q ↦ subst (λ v. Each T (items_of v)) (sym q.1) (filled (r.instance.brigades b))
-      | inr q ↦ subst (λ v. Each T (items_of v)) (sym q.1) (h.brigades k)
+      | inl q ↦ subst (λ v. All T (items_of v)) (sym q.1) (filled (r.instance.brigades b))
+      | inr q ↦ subst (λ v. All T (items_of v)) (sym q.1) (h.brigades k)
     ]
 
-  loose_hold : (items : List NamedBucket) (r : Configuration) → Each T items → Holds T r → Holds T (set_loose items r)
+  loose_hold : (items : List NamedBucket) (r : Configuration) → All T items → HoldsNamed T r → HoldsNamed T (set_loose items r)
   unfolding set_loose
   loose_hold items r here h = record { brigades = h.brigades; loose = here }
 
-  cursor_holds : (c : ℕ) (k : Cursor) (r : Configuration) → Holds T r → Holds T (set_cursor c k r)
+  cursor_holds : (c : ℕ) (k : Cursor) (r : Configuration) → HoldsNamed T r → HoldsNamed T (set_cursor c k r)
   unfolding set_cursor
   cursor_holds c k r h = record { brigades = h.brigades; loose = h.loose }
 
-  number_holds : (n v : ℕ) (r : Configuration) → Holds T r → Holds T (set_number n v r)
+  number_holds : (n v : ℕ) (r : Configuration) → HoldsNamed T r → HoldsNamed T (set_number n v r)
   unfolding set_number
   number_holds n v r h = record { brigades = h.brigades; loose = h.loose }
 
-  names_hold : (n : ℕ) (r : Configuration) → Holds T r → Holds T (names_given n r)
+  names_hold : (n : ℕ) (r : Configuration) → HoldsNamed T r → HoldsNamed T (names_given n r)
   names_hold n r h = record { brigades = h.brigades; loose = h.loose }
 
-  buffer_holds : (buffer : List ℕ) (r : Configuration) → Holds T r → Holds T (with_buffer buffer r)
+  buffer_holds : (buffer : List ℕ) (r : Configuration) → HoldsNamed T r → HoldsNamed T (with_buffer buffer r)
   buffer_holds buffer r h = record { brigades = h.brigades; loose = h.loose }
 
-module _ (T : Bucket → Type 0) (r : Configuration) (on : PassesParts T) (h : Holds T r) where
-  abbrev Of : NamedBucket → Type 0
-  Of x = T x.bucket
-
-  none : Each T []
-  none = All-nil Of
+module _ (T : NamedBucket → Type 0) (r : Configuration) (on : Descends r.shared.next T) (h : HoldsNamed T r) where
+  none : All T []
+  none = All-nil T
 
   -- Cursors and what stands where.
 
-  next_holds : (d : ℕ) (s : Place) → Holds T (do_next d s r)
+  next_holds : (d : ℕ) (s : Place) → HoldsNamed T (do_next d s r)
   next_holds d (Within b x) = cursor_holds T d _ r h
   next_holds d s = h
 
-  got_holds : (n : ℕ) (o : Option ℕ) → Holds T (got n o r)
+  got_holds : (n : ℕ) (o : Option ℕ) → HoldsNamed T (got n o r)
   got_holds n None = h
   got_holds n (Some byte) = number_holds T n byte r h
 
   -- the buckets at which cursors stand
-  within_of : (b : ℕ) (x : NamedBucket) → Stands r (Within b x) → Of x
-  within_of b x there = of_named Of x.name x (items_at r b) there.1 (h.brigades b)
+  within_of : (b : ℕ) (x : NamedBucket) → Stands r (Within b x) → T x
+  within_of b x there = of_named T x.name x (items_at r b) there.1 (h.brigades b)
 
-  loose_of : (x : NamedBucket) → Stands r (AtLoose x) → Of x
-  loose_of x there = of_named Of x.name x r.call.loose there h.loose
+  loose_of : (x : NamedBucket) → Stands r (AtLoose x) → T x
+  loose_of x there = of_named T x.name x r.call.loose there h.loose
 
-  taken_holds : (b : ℕ) (x : NamedBucket) → Holds T (set_items b (taken_out x.name (items_at r b)) r)
-  taken_holds b x = items_hold T b _ r (each_taken_out Of x.name (items_at r b) (h.brigades b)) h
+  taken_holds : (b : ℕ) (x : NamedBucket) → HoldsNamed T (set_items b (taken_out x.name (items_at r b)) r)
+  taken_holds b x = items_hold T b _ r (each_taken_out T x.name (items_at r b) (h.brigades b)) h
 
-  taken_loose_holds : (x : NamedBucket) → Holds T (set_loose (taken_out x.name r.call.loose) r)
-  taken_loose_holds x = loose_hold T _ r (each_taken_out Of x.name r.call.loose h.loose) h
+  taken_loose_holds : (x : NamedBucket) → HoldsNamed T (set_loose (taken_out x.name r.call.loose) r)
+  taken_loose_holds x = loose_hold T _ r (each_taken_out T x.name r.call.loose h.loose) h
 
-  unlink_holds : (s : Place) → Stands r s → Holds T (do_unlink s r)
-  unlink_holds (Within b x) there = loose_hold T _ _ (each_put_tail Of x r.call.loose (within_of b x there) h.loose) (taken_holds b x)
+  unlink_holds : (s : Place) → Stands r s → HoldsNamed T (do_unlink s r)
+  unlink_holds (Within b x) there = loose_hold T _ _ (each_put_tail T x r.call.loose (within_of b x there) h.loose) (taken_holds b x)
   unlink_holds s there = h
 
-  delete_holds : (s : Place) → Holds T (do_delete s r)
+  delete_holds : (s : Place) → HoldsNamed T (do_delete s r)
   delete_holds (Within b x) = taken_holds b x
   delete_holds (AtLoose x) = taken_loose_holds x
   delete_holds s = h
 
-  put_holds : (insert : NamedBucket → List NamedBucket → List NamedBucket) → ((x : NamedBucket) (bs : List NamedBucket) → Of x → Each T bs → Each T (insert x bs))
-      → (b : ℕ) (s : Place) → Stands r s → Holds T (put_into insert b s r)
+  put_holds : (insert : NamedBucket → List NamedBucket → List NamedBucket) → ((x : NamedBucket) (bs : List NamedBucket) → T x → All T bs → All T (insert x bs))
+      → (b : ℕ) (s : Place) → Stands r s → HoldsNamed T (put_into insert b s r)
   put_holds insert inserted b (AtLoose x) there = items_hold T b _ _ (inserted x (items_at r b) (loose_of x there) (h.brigades b)) (taken_loose_holds x)
   put_holds insert inserted b s there = h
 
-  before_holds : (s t : Place) → Stands r s → Holds T (do_before s t r)
-  before_holds s (Within b y) there = put_holds (put_before y.name) (λ x bs new old. each_put_before Of y.name x bs new old) b s there
+  before_holds : (s t : Place) → Stands r s → HoldsNamed T (do_before s t r)
+  before_holds s (Within b y) there = put_holds (put_before y.name) (λ x bs new old. each_put_before T y.name x bs new old) b s there
   before_holds s t there = h
 
   -- New buckets.
 
-  new_holds : (c : ℕ) (b : Bucket) → T b → Holds T (new_loose c b r)
-  new_holds c b new = cursor_holds T c _ _ (loose_hold T _ (name_given r) (each_put_tail Of (record { name = r.shared.next; bucket = b }) r.call.loose new h.loose) (names_hold T 1 r h))
+  new_holds : (c : ℕ) (b : Bucket) → T (record { name = r.shared.next; bucket = b }) → HoldsNamed T (new_loose c b r)
+  new_holds c b new = cursor_holds T c _ _ (loose_hold T _ (name_given r) (each_put_tail T (record { name = r.shared.next; bucket = b }) r.call.loose new h.loose) (names_hold T 1 r h))
 
-  copy_holds : (d : ℕ) (s : Place) → Stands r s → Holds T (do_copy d s r)
-  copy_holds d (Within b x) there = new_holds d x.bucket (within_of b x there)
-  copy_holds d (AtLoose x) there = new_holds d x.bucket (loose_of x there)
+  copy_holds : (d : ℕ) (s : Place) → Stands r s → HoldsNamed T (do_copy d s r)
+  copy_holds d (Within b x) there = new_holds d x.bucket (on.copy x (within_of b x there))
+  copy_holds d (AtLoose x) there = new_holds d x.bucket (on.copy x (loose_of x there))
   copy_holds d s there = h
 
   -- Buckets that are cut.
 
-  split_first : (new n : ℕ) (x : NamedBucket) (ys : List NamedBucket) → first_bucket ys ≡ Some x → n ≤ length_of x.bucket.content → Each T ys → Each T (first_split new n ys)
-  split_first new n x [] is le ys = none
-  split_first new n x (y ∷ ys) is le all =
+  split_first : (n : ℕ) (x : NamedBucket) (ys : List NamedBucket) → first_bucket ys ≡ Some x → n ≤ length_of x.bucket.content → All T ys → All T (first_split r.shared.next n ys)
+  split_first n x [] is le ys = none
+  split_first n x (y ∷ ys) is le all =
       let here : x ≡ y = cc in
       let fits : n ≤ length_of y.bucket.content = subst (λ (z : NamedBucket). n ≤ length_of z.bucket.content) here le in
-      let old = All-head Of y ys all in
-      All-cons Of (first_bytes n y) (rest_as new n y ∷ ys) (on.front n y.bucket fits old) (All-cons Of (rest_as new n y) ys (on.rest n y.bucket fits old) (All-tail Of y ys all))
+      let old = All-head T y ys all in
+      All-cons T (first_bytes n y) (rest_as r.shared.next n y ∷ ys) (on.front n y fits old) (All-cons T (rest_as r.shared.next n y) ys (on.rest n y fits old) (All-tail T y ys all))
 
   reaches : (n : ℕ) (x : NamedBucket) → is_some (split_refusal n x) ≡ false → n ≤ length_of x.bucket.content
   reaches n x may = by_tests (is_data x) (nat_lt (length_of x.bucket.content) n) refl may where
@@ -199,89 +207,91 @@ module _ (T : Bucket → Type 0) (r : Configuration) (on : PassesParts T) (h : H
     by_tests true true is may = absurd (cc)
     by_tests false t is may = absurd (cc)
 
-  split_in : (n b : ℕ) (x : NamedBucket) → Stands r (Within b x) → n ≤ length_of x.bucket.content → Holds T (split_there n (Within b x) r)
+  split_in : (n b : ℕ) (x : NamedBucket) → Stands r (Within b x) → n ≤ length_of x.bucket.content → HoldsNamed T (split_there n (Within b x) r)
   split_in n b x there le =
-      items_hold T b _ _ (All-append Of (buckets_before x.name (items_at r b)) (first_split r.shared.next n (buckets_from x.name (items_at r b))) (each_before Of x.name (items_at r b) (h.brigades b))
-      (split_first r.shared.next n x (buckets_from x.name (items_at r b)) there.1 le (each_from Of x.name (items_at r b) (h.brigades b)))) (names_hold T 1 r h)
+      items_hold T b _ _ (All-append T (buckets_before x.name (items_at r b)) (first_split r.shared.next n (buckets_from x.name (items_at r b))) (each_before T x.name (items_at r b) (h.brigades b))
+      (split_first n x (buckets_from x.name (items_at r b)) there.1 le (each_from T x.name (items_at r b) (h.brigades b)))) (names_hold T 1 r h)
 
-  split_holds : (n : ℕ) (s : Place) → Stands r s → Holds T (do_split n s r)
+  split_holds : (n : ℕ) (s : Place) → Stands r s → HoldsNamed T (do_split n s r)
   split_holds n (Within b x) there = by_refusal (is_some (split_refusal n x)) refl where
-    by_refusal : (t : Bool) → is_some (split_refusal n x) ≡ t → Holds T (cond t r (split_there n (Within b x) r))
+    by_refusal : (t : Bool) → is_some (split_refusal n x) ≡ t → HoldsNamed T (cond t r (split_there n (Within b x) r))
     by_refusal true is = h
     by_refusal false is = split_in n b x there (reaches n x is)
   split_holds n s there = h
 
-  front_each : (point : ℕ) (bs : List NamedBucket) → Each T bs → Each T (front_to point bs)
+  front_each : (point : ℕ) (bs : List NamedBucket) → All T bs → All T (front_to point bs)
   unfolding front_to
   front_each zero bs all = none
   front_each (suc p) [] all = none
-  front_each (suc p) (b ∷ bs) all = by_length (nat_le (length_of b.bucket.content) (suc p)) refl (front_each (suc p - length_of b.bucket.content) bs (All-tail Of b bs all)) where
-    by_length : (t : Bool) → nat_le (length_of b.bucket.content) (suc p) ≡ t → Each T (front_to (suc p - length_of b.bucket.content) bs)
-        → Each T (cond t (b ∷ front_to (suc p - length_of b.bucket.content) bs) ((record b { bucket = (split_at (suc p) b.bucket).0 }) ∷ []))
-    by_length true is rest = All-cons Of b _ (All-head Of b bs all) rest
-    by_length false is rest = All-cons Of _ [] (on.front (suc p) b.bucket (longer (length_of b.bucket.content) (suc p) is) (All-head Of b bs all)) none where
+  front_each (suc p) (b ∷ bs) all = by_length (nat_le (length_of b.bucket.content) (suc p)) refl (front_each (suc p - length_of b.bucket.content) bs (All-tail T b bs all)) where
+    by_length : (t : Bool) → nat_le (length_of b.bucket.content) (suc p) ≡ t → All T (front_to (suc p - length_of b.bucket.content) bs)
+        → All T (cond t (b ∷ front_to (suc p - length_of b.bucket.content) bs) ((record b { bucket = (split_at (suc p) b.bucket).0 }) ∷ []))
+    by_length true is rest = All-cons T b _ (All-head T b bs all) rest
+    by_length false is rest = All-cons T _ [] (on.front (suc p) b (longer (length_of b.bucket.content) (suc p) is) (All-head T b bs all)) none where
       longer : (a k : ℕ) → nat_le a k ≡ false → k ≤ a
       longer a k is = grind (arith, nat_tests)
 
-  back_each : (new point : ℕ) (bs : List NamedBucket) → Each T bs → Each T (back_from new point bs)
+  back_each : (point : ℕ) (bs : List NamedBucket) → All T bs → All T (back_from r.shared.next point bs)
   unfolding back_from
-  back_each new zero bs all = all
-  back_each new (suc p) [] all = none
-  back_each new (suc p) (b ∷ bs) all = by_length (nat_le (length_of b.bucket.content) (suc p)) refl (back_each new (suc p - length_of b.bucket.content) bs (All-tail Of b bs all)) where
+  back_each zero bs all = all
+  back_each (suc p) [] all = none
+  back_each (suc p) (b ∷ bs) all = by_length (nat_le (length_of b.bucket.content) (suc p)) refl (back_each (suc p - length_of b.bucket.content) bs (All-tail T b bs all)) where
     longer : (a k : ℕ) → nat_le a k ≡ false → k ≤ a
     longer a k is = grind (arith, nat_tests)
 
-    by_length : (t : Bool) → nat_le (length_of b.bucket.content) (suc p) ≡ t → Each T (back_from new (suc p - length_of b.bucket.content) bs)
-        → Each T (cond t (back_from new (suc p - length_of b.bucket.content) bs) ((record { name = new; bucket = (split_at (suc p) b.bucket).1 }) ∷ bs))
+    by_length : (t : Bool) → nat_le (length_of b.bucket.content) (suc p) ≡ t → All T (back_from r.shared.next (suc p - length_of b.bucket.content) bs)
+        → All T (cond t (back_from r.shared.next (suc p - length_of b.bucket.content) bs) ((record { name = r.shared.next; bucket = (split_at (suc p) b.bucket).1 }) ∷ bs))
     by_length true is rest = rest
-    by_length false is rest = All-cons Of _ bs (on.rest (suc p) b.bucket (longer (length_of b.bucket.content) (suc p) is) (All-head Of b bs all)) (All-tail Of b bs all)
+    by_length false is rest = All-cons T _ bs (on.rest (suc p) b (longer (length_of b.bucket.content) (suc p) is) (All-head T b bs all)) (All-tail T b bs all)
 
-  parted_each : (new point : ℕ) (bs : List NamedBucket) → Each T bs → Each T (partitioned new point bs)
-  parted_each new point bs all = by_short (is_short point bs) where
-    by_short : (t : Bool) → Each T (cond t bs (front_to point bs ++ back_from new point bs))
+  parted_each : (point : ℕ) (bs : List NamedBucket) → All T bs → All T (partitioned r.shared.next point bs)
+  parted_each point bs all = by_short (is_short point bs) where
+    by_short : (t : Bool) → All T (cond t bs (front_to point bs ++ back_from r.shared.next point bs))
     by_short true = all
-    by_short false = All-append Of (front_to point bs) (back_from new point bs) (front_each point bs all) (back_each new point bs all)
+    by_short false = All-append T (front_to point bs) (back_from r.shared.next point bs) (front_each point bs all) (back_each point bs all)
 
-  part_holds : (b point c : ℕ) → Holds T (do_bpart b point c r)
-  part_holds b point c = cursor_holds T c _ _ (items_hold T b _ _ (parted_each r.shared.next point (items_at r b) (h.brigades b)) (names_hold T (names_to_part point (items_at r b)) r h))
+  part_holds : (b point c : ℕ) → HoldsNamed T (do_bpart b point c r)
+  part_holds b point c = cursor_holds T c _ _ (items_hold T b _ _ (parted_each point (items_at r b) (h.brigades b)) (names_hold T (names_to_part point (items_at r b)) r h))
 
-  stay_each : (at : Option ℕ) (bs : List NamedBucket) → Each T bs → Each T (stays at bs)
+  stay_each : (at : Option ℕ) (bs : List NamedBucket) → All T bs → All T (stays at bs)
   stay_each None bs all = all
-  stay_each (Some n) bs all = each_before Of n bs all
+  stay_each (Some n) bs all = each_before T n bs all
 
-  move_each : (at : Option ℕ) (bs : List NamedBucket) → Each T bs → Each T (moves at bs)
+  move_each : (at : Option ℕ) (bs : List NamedBucket) → All T bs → All T (moves at bs)
   move_each None bs all = none
-  move_each (Some n) bs all = each_from Of n bs all
+  move_each (Some n) bs all = each_from T n bs all
 
-  bsplit_holds : (b : ℕ) (s : Place) (a : ℕ) → Holds T (do_bsplit b s a r)
+  bsplit_holds : (b : ℕ) (s : Place) (a : ℕ) → HoldsNamed T (do_bsplit b s a r)
   bsplit_holds b s a = items_hold T a _ _ (move_each (place_at s) (items_at r b) (h.brigades b)) (items_hold T b _ r (stay_each (place_at s) (items_at r b) (h.brigades b)) h)
 
   -- Reads.
 
-  read_parts : (new : ℕ) (bytes : List ℕ) → T (heap_bucket bytes) → (b : Bucket) (c : Content) → c ≡ b.content → T b → T (read_as bytes b c).0 × Each T (rest_named new (read_as bytes b c).1)
-  read_parts new bytes made b (content.Bytes bs) is old = (old, none)
-  read_parts new bytes made b (content.Range file start len) is old = (made, by_length (nat_le len read_limit) refl) where
+  read_parts : (bytes : List ℕ) (b : NamedBucket) → T (record b { bucket = heap_bucket bytes }) → (c : Content) → c ≡ b.bucket.content → T b
+      → T (record b { bucket = (read_as bytes b.bucket c).0 }) × All T (rest_named r.shared.next (read_as bytes b.bucket c).1)
+  read_parts bytes b made (content.Bytes bs) is old = (old, none)
+  read_parts bytes b made (content.Range file start len) is old = (made, by_length (nat_le len read_limit) refl) where
     longer : (k : ℕ) → nat_le k read_limit ≡ false → read_limit ≤ k
     longer k tells = grind (arith, nat_tests)
 
-    by_length : (t : Bool) → nat_le len read_limit ≡ t → Each T (rest_named new (cond t None (Some (record b { content = rest_of read_limit b.content }))))
+    by_length : (t : Bool) → nat_le len read_limit ≡ t → All T (rest_named r.shared.next (cond t None (Some (record b.bucket { content = rest_of read_limit b.bucket.content }))))
     by_length true tells = none
-    by_length false tells = All-cons Of _ [] (on.rest read_limit b (subst (λ (c : Content). read_limit ≤ length_of c) is (longer len tells)) old) none
-  read_parts new bytes made b content.Nothing is old = (old, none)
+    by_length false tells = All-cons T _ [] (on.rest read_limit b (subst (λ (c : Content). read_limit ≤ length_of c) is (longer len tells)) old) none
+  read_parts bytes b made content.Nothing is old = (old, none)
 
-  read_first : (new : ℕ) (bytes : List ℕ) → T (heap_bucket bytes) → (ys : List NamedBucket) → Each T ys → Each T (first_read new bytes ys)
-  read_first new bytes made [] all = none
-  read_first new bytes made (y ∷ ys) all =
-      let parts = read_parts new bytes made y.bucket y.bucket.content refl (All-head Of y ys all) in
-      All-cons Of _ _ parts.0 (All-append Of _ ys parts.1 (All-tail Of y ys all))
+  read_first : (bytes : List ℕ) → ((y : NamedBucket) → T y → T (record y { bucket = heap_bucket bytes })) → (ys : List NamedBucket) → All T ys → All T (first_read r.shared.next bytes ys)
+  read_first bytes made [] all = none
+  read_first bytes made (y ∷ ys) all =
+      let old = All-head T y ys all in
+      let parts = read_parts bytes y (made y old) y.bucket.content refl old in
+      All-cons T _ _ parts.0 (All-append T _ ys parts.1 (All-tail T y ys all))
 
-  read_holds : (given : Option (List ℕ)) (s : Place) → ((c : Content) (bytes : List ℕ) → read_given given c ≡ Some bytes → T (heap_bucket bytes)) → Holds T (do_read given s r)
+  read_holds : (given : Option (List ℕ)) (s : Place) → ((c : Content) (bytes : List ℕ) → read_given given c ≡ Some bytes → (y : NamedBucket) → T y → T (record y { bucket = heap_bucket bytes })) → HoldsNamed T (do_read given s r)
   read_holds given (Within b x) made = by_given (read_given given x.bucket.content) refl where
-    by_given : (o : Option (List ℕ)) → read_given given x.bucket.content ≡ o → Holds T (read_within b x o r)
+    by_given : (o : Option (List ℕ)) → read_given given x.bucket.content ≡ o → HoldsNamed T (read_within b x o r)
     by_given None is = cursor_holds T read_cursor _ r h
     by_given (Some bytes) is =
-        cursor_holds T read_cursor _ _ (items_hold T b _ _ (All-append Of (buckets_before x.name (items_at r b)) (first_read r.shared.next bytes (buckets_from x.name (items_at r b)))
-        (each_before Of x.name (items_at r b) (h.brigades b)) (read_first r.shared.next bytes (made x.bucket.content bytes is) (buckets_from x.name (items_at r b)) (each_from Of x.name (items_at r b) (h.brigades b)))) (names_hold T _ r h))
+        cursor_holds T read_cursor _ _ (items_hold T b _ _ (All-append T (buckets_before x.name (items_at r b)) (first_read r.shared.next bytes (buckets_from x.name (items_at r b)))
+        (each_before T x.name (items_at r b) (h.brigades b)) (read_first bytes (made x.bucket.content bytes is) (buckets_from x.name (items_at r b)) (each_from T x.name (items_at r b) (h.brigades b)))) (names_hold T _ r h))
   read_holds given s made = h
 
 -- whether an instruction neither changes pools nor brigades as a whole, nor ends a call, nor sets buckets aside
@@ -312,47 +322,61 @@ Makes p choice r (instr.Eos c) b = b ≡ metadata kind.Eos
 Makes p choice r (instr.Read c l) b = (x : Content) × ((bytes : List ℕ) × ((read_given choice.given x ≡ Some bytes) × (b ≡ heap_bucket bytes)))
 Makes p choice r i b = ⊥
 
+-- whether an instruction reads a bucket
+abbrev pub is_read : Instr → Bool
+is_read (instr.Read c l) = true
+is_read i = false
+
+-- What is true of each bucket, under its name, of what comes of it and of what is made, is true of each that such an instruction leaves.
+pub named_leaves : (T : NamedBucket → Type 0) (p : Program) (choice : Choice) (i : Instr) (r : Configuration) → is_quiet i ≡ true → Descends r.shared.next T → ((b : Bucket) → is_read i ≡ false → Makes p choice r i b → T (record { name = r.shared.next; bucket = b }))
+    → ((c : Content) (bytes : List ℕ) → is_read i ≡ true → read_given choice.given c ≡ Some bytes → (x : NamedBucket) → T x → T (record x { bucket = heap_bucket bytes })) → HoldsNamed T r → HoldsNamed T (step p choice i r).state
+named_leaves T p choice (instr.PCreate q) r quiet on made reads h = absurd (cc)
+named_leaves T p choice (instr.PClear q) r quiet on made reads h = absurd (cc)
+named_leaves T p choice (instr.PDestroy q) r quiet on made reads h = absurd (cc)
+named_leaves T p choice (instr.Label q t) r quiet on made reads h = absurd (cc)
+named_leaves T p choice (instr.Unlabel q t) r quiet on made reads h = absurd (cc)
+named_leaves T p choice (instr.BCreate o) r quiet on made reads h = absurd (cc)
+named_leaves T p choice (instr.BClean b) r quiet on made reads h = absurd (cc)
+named_leaves T p choice (instr.BConcat a b) r quiet on made reads h = absurd (cc)
+named_leaves T p choice (instr.BSave o b) r quiet on made reads h = absurd (cc)
+named_leaves T p choice (instr.Pass b l) r quiet on made reads h = absurd (cc)
+named_leaves T p choice (instr.Aside c q) r quiet on made reads h = absurd (cc)
+named_leaves T p choice (instr.Ret s) r quiet on made reads h = absurd (cc)
+named_leaves T p choice (instr.BSplit b c a) r quiet on made reads h = bsplit_holds T r on h b (spot r c) a
+named_leaves T p choice (instr.BPart b x c l) r quiet on made reads h = part_holds T r on h b (value_of r x) c
+named_leaves T p choice (instr.First c b) r quiet on made reads h = cursor_holds T c _ r h
+named_leaves T p choice (instr.Next d c) r quiet on made reads h = next_holds T r on h d (spot r c)
+named_leaves T p choice (instr.Unlink c) r quiet on made reads h = unlink_holds T r on h (spot r c) (stands r (r.call.cursors c))
+named_leaves T p choice (instr.BDelete c) r quiet on made reads h = delete_holds T r on h (spot r c)
+named_leaves T p choice (instr.Tail b c) r quiet on made reads h = put_holds T r on h put_tail (each_put_tail T) b (spot r c) (stands r (r.call.cursors c))
+named_leaves T p choice (instr.Head b c) r quiet on made reads h = put_holds T r on h put_head (each_put_head T) b (spot r c) (stands r (r.call.cursors c))
+named_leaves T p choice (instr.Before c d) r quiet on made reads h = before_holds T r on h (spot r c) (spot r d) (stands r (r.call.cursors c))
+named_leaves T p choice (instr.Heap c t) r quiet on made reads h = new_holds T r on h c _ (made _ refl refl)
+named_leaves T p choice (instr.Immortal c t) r quiet on made reads h = new_holds T r on h c _ (made _ refl refl)
+named_leaves T p choice (instr.FromBuf c) r quiet on made reads h = new_holds T r on h c _ (made _ refl refl)
+named_leaves T p choice (instr.Transient c) r quiet on made reads h = new_holds T r on h c _ (made _ refl refl)
+named_leaves T p choice (instr.PoolB c q) r quiet on made reads h =
+    on_named (HoldsNamed T) (λ n. new_loose c (pool_bucket r.call.buffer n)) (pool_named r q) r h (λ n e. new_holds T r on h c _ (made _ refl (n, refl)))
+named_leaves T p choice (instr.Flush c) r quiet on made reads h = new_holds T r on h c _ (made _ refl refl)
+named_leaves T p choice (instr.Eos c) r quiet on made reads h = new_holds T r on h c _ (made _ refl refl)
+named_leaves T p choice (instr.Split c x l) r quiet on made reads h = split_holds T r on h (value_of r x) (spot r c) (stands r (r.call.cursors c))
+named_leaves T p choice (instr.Copy d c) r quiet on made reads h = copy_holds T r on h d (spot r c) (stands r (r.call.cursors c))
+named_leaves T p choice (instr.Read c l) r quiet on made reads h = read_holds T r on h choice.given (spot r c) (λ c bytes is. reads c bytes refl is)
+named_leaves T p choice (instr.Len n c) r quiet on made reads h = number_holds T n _ r h
+named_leaves T p choice (instr.Get n x l) r quiet on made reads h = got_holds T r on h n (byte_of (value_of r x) (content_at (spot r read_cursor)))
+named_leaves T p choice (instr.Put x l) r quiet on made reads h = put_keeps (HoldsNamed T) x r h (λ buffer. buffer_holds T buffer r h)
+named_leaves T p choice instr.ClearBuf r quiet on made reads h = buffer_holds T [] r h
+named_leaves T p choice (instr.Set n x) r quiet on made reads h = number_holds T n _ r h
+named_leaves T p choice (instr.Add n x) r quiet on made reads h = number_holds T n _ r h
+named_leaves T p choice (instr.Sub n x) r quiet on made reads h = number_holds T n _ r h
+named_leaves T p choice i r quiet on made reads h = h
+
 pub parted_leaves : (T : Bucket → Type 0) (p : Program) (choice : Choice) (i : Instr) (r : Configuration) → is_quiet i ≡ true → PassesParts T → ((b : Bucket) → Makes p choice r i b → T b) → Holds T r → Holds T (step p choice i r).state
-parted_leaves T p choice (instr.PCreate q) r quiet on made h = absurd (cc)
-parted_leaves T p choice (instr.PClear q) r quiet on made h = absurd (cc)
-parted_leaves T p choice (instr.PDestroy q) r quiet on made h = absurd (cc)
-parted_leaves T p choice (instr.Label q t) r quiet on made h = absurd (cc)
-parted_leaves T p choice (instr.Unlabel q t) r quiet on made h = absurd (cc)
-parted_leaves T p choice (instr.BCreate o) r quiet on made h = absurd (cc)
-parted_leaves T p choice (instr.BClean b) r quiet on made h = absurd (cc)
-parted_leaves T p choice (instr.BConcat a b) r quiet on made h = absurd (cc)
-parted_leaves T p choice (instr.BSave o b) r quiet on made h = absurd (cc)
-parted_leaves T p choice (instr.Pass b l) r quiet on made h = absurd (cc)
-parted_leaves T p choice (instr.Aside c q) r quiet on made h = absurd (cc)
-parted_leaves T p choice (instr.Ret s) r quiet on made h = absurd (cc)
-parted_leaves T p choice (instr.BSplit b c a) r quiet on made h = bsplit_holds T r on h b (spot r c) a
-parted_leaves T p choice (instr.BPart b x c l) r quiet on made h = part_holds T r on h b (value_of r x) c
-parted_leaves T p choice (instr.First c b) r quiet on made h = cursor_holds T c _ r h
-parted_leaves T p choice (instr.Next d c) r quiet on made h = next_holds T r on h d (spot r c)
-parted_leaves T p choice (instr.Unlink c) r quiet on made h = unlink_holds T r on h (spot r c) (stands r (r.call.cursors c))
-parted_leaves T p choice (instr.BDelete c) r quiet on made h = delete_holds T r on h (spot r c)
-parted_leaves T p choice (instr.Tail b c) r quiet on made h = put_holds T r on h put_tail (each_put_tail (λ x. T x.bucket)) b (spot r c) (stands r (r.call.cursors c))
-parted_leaves T p choice (instr.Head b c) r quiet on made h = put_holds T r on h put_head (each_put_head (λ x. T x.bucket)) b (spot r c) (stands r (r.call.cursors c))
-parted_leaves T p choice (instr.Before c d) r quiet on made h = before_holds T r on h (spot r c) (spot r d) (stands r (r.call.cursors c))
-parted_leaves T p choice (instr.Heap c t) r quiet on made h = new_holds T r on h c _ (made _ refl)
-parted_leaves T p choice (instr.Immortal c t) r quiet on made h = new_holds T r on h c _ (made _ refl)
-parted_leaves T p choice (instr.FromBuf c) r quiet on made h = new_holds T r on h c _ (made _ refl)
-parted_leaves T p choice (instr.Transient c) r quiet on made h = new_holds T r on h c _ (made _ refl)
-parted_leaves T p choice (instr.PoolB c q) r quiet on made h =
-    on_named (Holds T) (λ n. new_loose c (pool_bucket r.call.buffer n)) (pool_named r q) r h (λ n e. new_holds T r on h c _ (made _ (n, refl)))
-parted_leaves T p choice (instr.Flush c) r quiet on made h = new_holds T r on h c _ (made _ refl)
-parted_leaves T p choice (instr.Eos c) r quiet on made h = new_holds T r on h c _ (made _ refl)
-parted_leaves T p choice (instr.Split c x l) r quiet on made h = split_holds T r on h (value_of r x) (spot r c) (stands r (r.call.cursors c))
-parted_leaves T p choice (instr.Copy d c) r quiet on made h = copy_holds T r on h d (spot r c) (stands r (r.call.cursors c))
-parted_leaves T p choice (instr.Read c l) r quiet on made h = read_holds T r on h choice.given (spot r c) (λ x bytes is. made _ (x, (bytes, (is, refl))))
-parted_leaves T p choice (instr.Len n c) r quiet on made h = number_holds T n _ r h
-parted_leaves T p choice (instr.Get n x l) r quiet on made h = got_holds T r on h n (byte_of (value_of r x) (content_at (spot r read_cursor)))
-parted_leaves T p choice (instr.Put x l) r quiet on made h = put_keeps (Holds T) x r h (λ buffer. buffer_holds T buffer r h)
-parted_leaves T p choice instr.ClearBuf r quiet on made h = buffer_holds T [] r h
-parted_leaves T p choice (instr.Set n x) r quiet on made h = number_holds T n _ r h
-parted_leaves T p choice (instr.Add n x) r quiet on made h = number_holds T n _ r h
-parted_leaves T p choice (instr.Sub n x) r quiet on made h = number_holds T n _ r h
-parted_leaves T p choice i r quiet on made h = h
+parted_leaves T p choice i r quiet on made h =
+    named_leaves (λ x. T x.bucket) p choice i r quiet (record { front = λ n x le old. on.front n x.bucket le old; rest = λ n x le old. on.rest n x.bucket le old; copy = λ x old. old }) (λ b other is. made b is) (λ c bytes reads is x old. made (heap_bucket bytes) (read_makes p choice r i c bytes reads is)) h where
+      read_makes : (p : Program) (choice : Choice) (r : Configuration) (i : Instr) (c : Content) (bytes : List ℕ) → is_read i ≡ true → read_given choice.given c ≡ Some bytes → Makes p choice r i (heap_bucket bytes)
+      read_makes p choice r (instr.Read d l) c bytes reads is = (c, (bytes, (is, refl)))
+      read_makes p choice r i c bytes reads is = absurd (cc)
 
 made_so : (p : Program) (choice : Choice) (r : Configuration) (i : Instr) (b : Bucket) → Makes p choice r i b → IsMade r b
 made_so p choice r (instr.Heap c t) b is = subst (IsMade r) (sym is) (made_heap r (text_of p t))

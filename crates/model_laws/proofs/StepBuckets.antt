@@ -218,7 +218,7 @@ cleared_buckets : (n : ℕ) (r : Configuration) → SoundBuckets r → SoundBuck
 unfolding run_down with_pools
 cleared_buckets n r s = went_buckets (is_under r.shared.pools n) r (pool_cleared n r) (λ b. refl) refl s
 
-destroyed_buckets : (n : ℕ) (r : Configuration) → SoundBuckets r → SoundBuckets (pool_destroyed n r)
+pub destroyed_buckets : (n : ℕ) (r : Configuration) → SoundBuckets r → SoundBuckets (pool_destroyed n r)
 unfolding run_down with_pools
 destroyed_buckets n r s = went_buckets (is_under r.shared.pools n) r (pool_destroyed n r) (λ b. refl) refl s
 

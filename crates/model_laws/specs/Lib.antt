@@ -36,3 +36,5 @@ pub mod ChainTrees
 pub mod ChainOrder
 pub mod StepRuns
 pub mod SharedTree
+pub mod OpenRuns
+pub mod ReadHomes

@@ -26,6 +26,7 @@ ghost use Rattle.model_laws.specs.ChainFiles.{ConnectionStepKeepsEnds, BringKeep
 ghost use Rattle.model_laws.specs.ChainHomes.{EventKeepsWorldHomes, RunKeepsWorldHomes};
 ghost use Rattle.model_laws.specs.ChainOrder.{EventKeepsWorldOrder, RunKeepsWorldOrder};
 ghost use Rattle.model_laws.specs.ChainPaths.{EventKeepsWorldPaths, RunKeepsWorldPaths};
+ghost use Rattle.model_laws.specs.OpenRuns.{OpenRunsStaySound};
 ghost use Rattle.model_laws.specs.ChainNumbers.{EventKeepsNumbers, RunKeepsNumbers};
 ghost use Rattle.model_laws.specs.Reached.{EmptyIsReached, EventReaches, WorldRunGoesOn, ReachedHolds};
 ghost use Rattle.model_laws.specs.ChainClears.{MadePoolsAreOwn, OthersKeepBrigades};
@@ -489,4 +490,8 @@ pub fn connections_share_the_tree()
     ensures ends { EndsLeaveTheTree }
     ensures opens { OpeningPlantsAPool }
     ensures closes { ClosingTakesItsPool }
+/// Whatever surrounds an instance, each open run of it keeps what is sound: each name is one bucket's, buckets are as their kinds have
+/// them, its variables stand as its module declares them, and pools of other filters that last are apart from its own.
+pub fn open_runs_stay_sound()
+    ensures { OpenRunsStaySound }
 {}

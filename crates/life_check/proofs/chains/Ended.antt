@@ -27,14 +27,14 @@ use Rattle.life_check.proofs.chains.Kept.{turned}
 use Rattle.life_check.proofs.chains.Returned.{not_rising, returned, returned_here, returned_there, returned_own, other_rests, all_rest}
 
 -- what is known before a handler has no cursors
-before_unset : (p : Program) (m : Certificate) (req : Option ℕ) (s : State) → AllBounded m → IsTyped p m → before p m req ≡ Some s → (i : ℕ) → s.cursors i ≡ Unset
+pub before_unset : (p : Program) (m : Certificate) (req : Option ℕ) (s : State) → AllBounded m → IsTyped p m → before p m req ≡ Some s → (i : ℕ) → s.cursors i ≡ Unset
 before_unset p m None s bounded typed is i = subst (λ (t : State). t.cursors i ≡ Unset) (same is) refl where
   same : Some (at_open (length p.pools) (length p.brigades)) ≡ Some s → at_open (length p.pools) (length p.brigades) ≡ s
   same e = cc
 before_unset p m (Some n) s bounded typed is i = between_unset p m.idle s bounded.idle (split3 (fits_between p m.idle) (fits_between p m.ready) (fits_lines p m) typed.shape).0 is i
 
 -- and flows to where the handler begins
-before_flows : (p : Program) (m : Certificate) (req : Option ℕ) → IsTyped p m → flows (before p m req) (m.at (handler_at req p)) ≡ true
+pub before_flows : (p : Program) (m : Certificate) (req : Option ℕ) → IsTyped p m → flows (before p m req) (m.at (handler_at req p)) ≡ true
 before_flows p m None typed = typed.opens
 before_flows p m (Some n) typed = typed.inits
 

@@ -28,7 +28,7 @@ same_end : (req : ℕ) (g : Common) (c : Connection) (k : ℕ) → configuration
 unfolding configuration run_down with_pools
 same_end req g c k = refl
 
-ended_fits : (p : Program) (req : ℕ) (r : Configuration) (o : Option State) → IsModule p → Sound r → AsDeclared p r → r.shared.req ≡ Some req → FitsSome (Between p r) o r
+pub ended_fits : (p : Program) (req : ℕ) (r : Configuration) (o : Option State) → IsModule p → Sound r → AsDeclared p r → r.shared.req ≡ Some req → FitsSome (Between p r) o r
     → FitsSome (Between p (request_ended req r)) (request_end p o) (request_ended req r)
 ended_fits p req r None proper sound declared is h = absurd h
 ended_fits p req r (Some s) proper sound declared is h = request_end_lands p req r s proper sound declared is h

@@ -41,7 +41,7 @@ use Rattle.life_check.proofs.chains.Kept.{none_mild, none_keeps, beside_same, to
 use Rattle.life_check.proofs.chains.Passing.{Through, through, covers_handed, handed_fits}
 
 -- what a brigade that may be used is once it is handed over
-handed_live : (v : BrigadeVar) → usable_fault v ≡ None → (x : Brigade) × (handed_over v ≡ var.Live x) × (x.mark ≡ Passed)
+pub handed_live : (v : BrigadeVar) → usable_fault v ≡ None → (x : Brigade) × (handed_over v ≡ var.Live x) × (x.mark ≡ Passed)
 handed_live var.Null h = absurd (cc)
 handed_live var.Gone h = absurd (cc)
 handed_live (var.Live v) h = (record v { mark = Passed; items = [] }, refl, refl)

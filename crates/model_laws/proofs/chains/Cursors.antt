@@ -10,7 +10,7 @@ use Rattle.model_laws.proofs.chains.Views.{sound_of, sound_resting}
 use Rattle.model_laws.proofs.chains.EachCall.{KeepsCall, each_call_kept}
 use Rattle.model_laws.proofs.chains.WorldKept.{run_keeps_world, event_kept, run_kept, empty_kept, AnyLength, any_length, any_lengths}
 
-cursors_keep : KeepsCall HoldsGiven
+pub cursors_keep : KeepsCall HoldsGiven
 cursors_keep = record {
   fresh = λ n name. record { given = λ c m e. absurd (cc) };
   risen = λ n m call items le h. record { given = λ c k e. (let lt = h.given c k e in omega arith) };

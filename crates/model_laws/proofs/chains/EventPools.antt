@@ -19,6 +19,7 @@ use Rattle.run_model.specs.Chains.{Connection, Common, Linked, module_at, config
 use Rattle.run_model.specs.Passing.{set_in}
 use Rattle.run_model.specs.Turns.{all_called, fresh_connection, opened, begun, file_taken, brought_in, request_over}
 use Rattle.model_laws.specs.ChainSound.{ChainPools}
+use Rattle.model_laws.specs.OpenRuns.{request_begun}
 use Rattle.run_model.proofs.PoolMap.{live_path, created_lives, created_kept, created_at, created_next, new_lives, destroyed_apart, destroyed_under, destroyed_next}
 use Rattle.run_model.proofs.Formed.{path_live, planted_live, planted_formed, created_formed, registered_formed, destroyed_formed}
 use Rattle.run_model.proofs.RunOrderLaws.{under_itself}
@@ -31,7 +32,7 @@ use Rattle.model_laws.proofs.chains.TopPools.{LinkedPools}
 
 -- Others take names.
 
-rising_formed : (ps : Pools Payload) (next : ℕ) → ps.next ≤ next → IsPoolMap ps → IsPoolMap (record ps { next = next })
+pub rising_formed : (ps : Pools Payload) (next : ℕ) → ps.next ≤ next → IsPoolMap ps → IsPoolMap (record ps { next = next })
 unfolding is_live
 rising_formed ps next le f = record { first = f.first; rises = f.rises; closed = f.closed; alone = f.alone; named = λ n live. (let lt : n < ps.next = f.named n live in omega arith); bare = f.bare }
 
@@ -89,10 +90,7 @@ opened_pools chain g given limit = all_called_pools chain _ (record {
 
 -- A request begins: its pool is new, under the connection's.
 
-abbrev with_request : Configuration → Configuration
-with_request r = record r { shared = record r.shared { pools = created r.shared.conn r.shared.pools; req = Some r.shared.pools.next } }
-
-begun_sound : (r : Configuration) → r.shared.pools.next + 1 < 2 ^ 64 → SoundPools r → SoundPools (with_request r)
+pub begun_sound : (r : Configuration) → r.shared.pools.next + 1 < 2 ^ 64 → SoundPools r → SoundPools (request_begun r)
 unfolding created
 begun_sound r limit s =
     let given : r.shared.conn < r.shared.pools.next = conn_given r s in
@@ -110,11 +108,11 @@ begun_sound r limit s =
       brigades = λ b n e. created_lives r.shared.conn r.shared.pools n (s.brigades b n e);
     }
 
-begun_declared : (p : Program) (r : Configuration) → r.shared.req ≡ None → SoundPools r → AsDeclared p r → AsDeclared p (with_request r)
+pub begun_declared : (p : Program) (r : Configuration) → r.shared.req ≡ None → SoundPools r → AsDeclared p r → AsDeclared p (request_begun r)
 unfolding named_at
 begun_declared p r none s d =
     let stays = λ (n : ℕ) (lt : n < r.shared.pools.next). created_kept r.shared.conn r.shared.pools n lt in
-    carried p r (with_request r) (record {
+    carried p r (request_begun r) (record {
       own = refl;
       older = λ q n e live. (stays n (s.own q n e).1, λ m at there. stays m (s.formed.named m there));
       named = λ k m e live same. named k m e;
@@ -123,7 +121,7 @@ begun_declared p r none s d =
       none_some : (m : ℕ) → None ≡ Some m → ⊥
       none_some m e = cc
 
-      named : (k : PoolRef) (m : ℕ) → pool_named r k ≡ Some m → pool_named (with_request r) k ≡ Some m
+      named : (k : PoolRef) (m : ℕ) → pool_named r k ≡ Some m → pool_named (request_begun r) k ≡ Some m
       named pool.Conn m e = e
       named (pool.Own q) m e = e
       named pool.Req m e = absurd (none_some m (sym none ∙ e))
@@ -131,8 +129,8 @@ begun_declared p r none s d =
 pub begun_pools : (chain : List Program) (g : Common) (c : Connection) → c.req ≡ None → g.pools + 1 < 2 ^ 64 → ChainPools chain g c → LinkedPools chain (begun chain (g, c))
 unfolding begun configuration created
 begun_pools chain g c none limit h = all_called_pools chain _ (record {
-  sound = λ f. same_sound (with_request (configuration g c f)) _ refl refl refl refl (begun_sound (configuration g c f) limit (h.sound f));
-  declared = λ f. same_declared (module_at chain f.of) (with_request (configuration g c f)) _ refl refl refl refl (begun_declared (module_at chain f.of) (configuration g c f) none (h.sound f) (h.declared f));
+  sound = λ f. same_sound (request_begun (configuration g c f)) _ refl refl refl refl (begun_sound (configuration g c f) limit (h.sound f));
+  declared = λ f. same_declared (module_at chain f.of) (request_begun (configuration g c f)) _ refl refl refl refl (begun_declared (module_at chain f.of) (configuration g c f) none (h.sound f) (h.declared f));
   apart = h.apart;
 })
 
@@ -157,7 +155,7 @@ brought_in_pools chain pieces req g c h =
 -- A request ends: its pool goes, with all under it.
 
 -- what is still there is named as before
-over_named : (r new : Configuration) (req : ℕ) → new.instance.pools ≡ r.instance.pools → new.shared.conn ≡ r.shared.conn → r.shared.req ≡ Some req → new.shared.pools.path req ≡ []
+pub over_named : (r new : Configuration) (req : ℕ) → new.instance.pools ≡ r.instance.pools → new.shared.conn ≡ r.shared.conn → r.shared.req ≡ Some req → new.shared.pools.path req ≡ []
     → (d : PoolRef) (m : ℕ) → pool_named r d ≡ Some m → is_live r.shared.pools m ≡ true → new.shared.pools.path m ≡ r.shared.pools.path m → pool_named new d ≡ Some m
 unfolding named_at
 over_named r new req own conn is gone pool.Conn m e live stays = ap (λ (k : ℕ). Some k) conn ∙ e

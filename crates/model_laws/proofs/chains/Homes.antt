@@ -174,7 +174,7 @@ risen_homes : (g new : Common) (c : Connection) → ChainHomes g c → ChainHome
 unfolding is_live
 risen_homes g new c h = record { brigades = h.brigades; loose = h.loose }
 
-homes_kept : (chain : List Program) → TurnsKeep chain AnyLength ChainHomes
+pub homes_kept : (chain : List Program) → TurnsKeep chain AnyLength ChainHomes
 homes_kept chain = record {
   rising = λ g new c rises s h. risen_homes g new c h;
   opening = λ g has s. opened_each (HomeIsAlive (opened chain g).0 (opened chain g).1) chain g;

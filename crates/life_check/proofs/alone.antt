@@ -1,0 +1,6 @@
+-- The lifetime theorem for one instance by itself: its open runs have no fault.
+pub mod Means
+pub mod Starts
+pub mod Beside
+pub mod Executes
+pub mod Safe

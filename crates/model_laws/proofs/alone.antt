@@ -1,0 +1,5 @@
+-- Open runs of one instance: the proofs of what each move keeps.
+pub mod Turns
+pub mod Beside
+pub mod Spared
+pub mod Kept
