@@ -25,7 +25,12 @@ pub fn serve_command<'a>(alloc: Global) -> Result<Command<'a>, AllocError> {
         .value_name("N")
         .required(true)
         .value_parser(value_parser!(u16).range(1..))
-        .help("The port on 127.0.0.1");
+        .help("The port that is listened on");
+    let listen = Arg::new(alloc, "listen")
+        .long("listen")
+        .value_name("ADDRESS")
+        .default_value("127.0.0.1")
+        .help("The address that is listened on; 0.0.0.0 stands for all of them");
     let conns = number(alloc, "conns", "N", "How many connections are served").default_value("1");
     let forever = Arg::new(alloc, "forever")
         .long("forever")
@@ -50,7 +55,7 @@ pub fn serve_command<'a>(alloc: Global) -> Result<Command<'a>, AllocError> {
     let log = Arg::new(alloc, "log")
         .long("log")
         .action(ArgAction::SetTrue)
-        .help("Tells each connection on the standard error");
+        .help("Tells each request and each connection on the standard error");
     let modules = Arg::new(alloc, "MODULE")
         .required(true)
         .num_args(1..=16)
@@ -61,6 +66,7 @@ pub fn serve_command<'a>(alloc: Global) -> Result<Command<'a>, AllocError> {
         )
         .arg(site)?
         .arg(port)?
+        .arg(listen)?
         .arg(conns)?
         .arg(forever)?
         .arg(budget)?
@@ -79,6 +85,7 @@ pub fn front_of<'a>(alloc: Global, given: &ArgMatches<'a>) -> Result<ServeOption
     Ok(ServeOptions {
         site: given.get_str("site").unwrap_or(""),
         port: given.get_one::<u16>("port").unwrap_or(1),
+        listen: given.get_str("listen").unwrap_or("127.0.0.1"),
         conns: if given.get_flag("forever") {
             None
         } else {

@@ -7,5 +7,8 @@ pub mod ConnectLaws
 pub mod ServedLaws
 pub mod Rows
 pub mod Parts
+pub mod PutLaws
+pub mod BlameLaws
+pub mod Stays
 pub mod FeedRows
 pub mod Beside

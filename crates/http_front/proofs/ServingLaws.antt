@@ -13,9 +13,9 @@ use Rattle.http_message.specs.declared.site.Site.{Site}
 use Rattle.http_front.specs.declared.fault.FrontKind.{FrontKind}
 use Rattle.http_front.specs.declared.fault.FrontKind.TheVariants as kind
 use Rattle.http_front.specs.declared.handler.RequestOutcome.{RequestOutcome}
-use Rattle.http_front.specs.Turns.{Turn, AllStay, AnswersRequest, AnswersAll, AnswersRequestsRead, SendsBad, WantsMore, heads_of, texts_of, head_limit, fields_limit, ClosesAfter, RefusesAfter, IsDue, IsResponsesFront, IsCut, IsNext, LacksAt, LacksMemory, WantsFile}
+use Rattle.http_front.specs.Turns.{Turn, AllStay, AnswersRequest, AnswersAll, AnswersRequestsRead, SendsBad, WantsMore, heads_of, texts_of, head_limit, fields_limit, ClosesAfter, RefusesAfter, IsDue, IsResponsesFront, IsCut, IsNext, LacksAt, LacksFile, LacksMemory}
 use Rattle.http_front.specs.Stepping.{LacksAnswer, ServesRequest, DoesStep, WantsAnswer}
-use Rattle.http_front.specs.Serving.{Writes, SoFar, Goes, EndsWell, FailsBy}
+use Rattle.http_front.specs.Serving.{Writes, SoFar, Goes, EndsWell, FailsBy, IsSinkKind}
 use Rattle.http_front.specs.declared.serving.AfterStep.{AfterStep}
 use Rattle.http_front.specs.declared.steps.ServeStep.{ServeStep}
 
@@ -139,8 +139,8 @@ module _ {H K : Type 0} (site : Site) (handles : H → Method → List ℕ → R
       )
 
   -- Memory or names are lacking for the request at hand.
-  far_lacks : (Due : List ℕ → List ℕ → Type 0) (old : H) (before : K) (r q w v : Option (List ℕ)) (unread : List ℕ) (n : ℕ) (new : H) (after : K)
-      → Far old before r q w v unread n new after → ((left : List ℕ) → q ≡ Some left → Due unread left) → Writes r w v (λ stream text. LacksAt site handles tells Due old before stream text q)
+  far_lacks : (Due : H → List ℕ → List ℕ → Type 0) (old : H) (before : K) (r q w v : Option (List ℕ)) (unread : List ℕ) (n : ℕ) (new : H) (after : K)
+      → Far old before r q w v unread n new after → ((left : List ℕ) → q ≡ Some left → Due new unread left) → Writes r w v (λ stream text. LacksAt site handles tells Due old before stream text q)
   far_lacks Due old before None q w v unread n new after so due = tt
   far_lacks Due old before (Some stream) q w v unread n new after so due =
       let left = left_of stream (heads_of so.turns ++ unread) q so.took in (
@@ -168,7 +168,7 @@ module _ {H K : Type 0} (site : Site) (handles : H → Method → List ℕ → R
       let left = left_of stream (heads_of so.turns ++ unread) q so.took in
       let rest = left_of left.0 lost p (subst (λ x. Consumes x p lost) left.1 took) in (
         texts_of so.turns,
-        inr record {
+        inr (inl (record {
           first = heads_of so.turns;
           seen = unread;
           lost = lost;
@@ -180,7 +180,7 @@ module _ {H K : Type 0} (site : Site) (handles : H → Method → List ℕ → R
           responses = record { turns = so.turns; stay = so.stay; answers = so.answers; requests = refl; written = refl; count = so.count };
           wants = wants;
           leaves = rest.1;
-        },
+        })),
         so.wrote,
       )
 
@@ -308,35 +308,45 @@ module _ {H K : Type 0} (site : Site) (handles : H → Method → List ℕ → R
       (inr (inr (inr (refused old before stream q w v unread whole n (n + 1) mid new then after text so end bad refl)))) few wrote
 
   -- Memory or names are lacking, as the kind of the fault says.
-  lack_memory : (r q w v : Option (List ℕ)) (old : H) (before : K) (new : H) (after : K) → Writes r w v (λ stream text. LacksAt site handles tells IsDue old before stream text q) → Writes r w v (λ stream text. LacksMemory site handles tells old before stream text q new after)
-  lack_memory None q w v old before new after h = tt
-  lack_memory (Some stream) q w v old before new after h = (h.0, inl h.1, h.2)
+  module _ (lacks : H → Method → List ℕ → FrontKind → H → Type 0) where
+    lack_memory : (r q w v : Option (List ℕ)) (old : H) (before : K) (new : H) (after : K) → Writes r w v (λ stream text. LacksAt site handles tells (λ mid. IsDue) old before stream text q) → Writes r w v (λ stream text. LacksMemory site handles tells old before stream text q new after)
+    lack_memory None q w v old before new after h = tt
+    lack_memory (Some stream) q w v old before new after h = (h.0, inl h.1, h.2)
 
-  far_lacks_by : (old : H) (before : K) (r q w v : Option (List ℕ)) (unread : List ℕ) (whole : Bool) (n : ℕ) (mid new : H) (then after : K) (e : FrontKind)
-      → Far old before r q w v unread n mid then → (whole ≡ true → IsAtEnd q) → LacksAnswer site unread whole e → FailsBy site handles tells old before r q w v new after e
-  far_lacks_by old before r q w v unread whole n mid new then after kind.NoMemory so end wants =
-      lack_memory r q w v old before new after (far_lacks IsDue old before r q w v unread n mid then so (λ left leaves. is_due unread left whole (λ is. at_end q left leaves (end is)) wants))
-  far_lacks_by old before r q w v unread whole n mid new then after kind.NamesSpent so end wants =
-      far_lacks (λ seen left. WantsFile site seen) old before r q w v unread n mid then so (λ left leaves. wants)
-  far_lacks_by old before r q w v unread whole n mid new then after kind.Read so end lack = absurd lack
-  far_lacks_by old before r q w v unread whole n mid new then after kind.Write so end lack = absurd lack
-  far_lacks_by old before r q w v unread whole n mid new then after kind.TooManyReads so end lack = absurd lack
+    far_lacks_by : (old : H) (before : K) (r q w v : Option (List ℕ)) (unread : List ℕ) (whole : Bool) (n : ℕ) (mid new : H) (then after : K) (e : FrontKind)
+        → Far old before r q w v unread n mid then → (whole ≡ true → IsAtEnd q) → LacksAnswer site lacks mid unread whole new e → FailsBy site handles tells lacks old before r q w v new after e
+    far_lacks_by old before r q w v unread whole n mid new then after kind.NoMemory so end wants =
+        lack_memory r q w v old before new after (far_lacks (λ m. IsDue) old before r q w v unread n mid then so (λ left leaves. is_due unread left whole (λ is. at_end q left leaves (end is)) wants))
+    far_lacks_by old before r q w v unread whole n mid new then after kind.NamesSpent so end wants =
+        far_lacks (λ m seen left. LacksFile site lacks m seen new) old before r q w v unread n mid then so (λ left leaves. wants)
+    far_lacks_by old before r q w v unread whole n mid new then after kind.Read so end lack = absurd lack
+    far_lacks_by old before r q w v unread whole n mid new then after kind.Write so end lack = absurd lack
+    far_lacks_by old before r q w v unread whole n mid new then after kind.TooManyReads so end lack = absurd lack
 
-  -- How a `?` leaves.
+    -- The sink fails, or lacks memory.
+    cut_lacks : (r q w v : Option (List ℕ)) (old : H) (before : K) (new : H) (after : K) → Writes r w v (λ stream text. IsCut site handles tells old before stream text new after) → Writes r w v (λ stream text. LacksMemory site handles tells old before stream text q new after)
+    cut_lacks None q w v old before new after h = tt
+    cut_lacks (Some stream) q w v old before new after h = (h.0, inr (inr h.1), h.2)
 
-  abbrev GoesOn : H → K → Option (List ℕ) → Option (List ℕ) → Option (List ℕ) → Option (List ℕ) → Bool → List ℕ → ℕ → H → K → Result AfterStep FrontKind → Type 0
-  GoesOn = Goes site handles tells
+    cut_by : (old : H) (before : K) (r q w v : Option (List ℕ)) (new : H) (after : K) (e : FrontKind) → IsSinkKind e → Writes r w v (λ stream text. IsCut site handles tells old before stream text new after) → FailsBy site handles tells lacks old before r q w v new after e
+    cut_by old before r q w v new after e (inl write) cut = subst (FailsBy site handles tells lacks old before r q w v new after) (sym write) cut
+    cut_by old before r q w v new after e (inr memory) cut = subst (FailsBy site handles tells lacks old before r q w v new after) (sym memory) (cut_lacks r q w v old before new after cut)
 
-  pub fails_lacking : (old : H) (before : K) (r q w v : Option (List ℕ)) (whole : Bool) (given unread : List ℕ) (n : ℕ) (mid new : H) (then after : K) (result : Result AfterStep FrontKind) (y e : FrontKind) (left : List ℕ)
-      → result ≡ Err y → y ≡ e → (whole ≡ true → IsAtEnd q) → given ≡ unread → LacksAnswer site given whole e → Far old before r q w v unread n mid then → GoesOn old before r q w v whole left n new after result
-  fails_lacking old before r q w v whole given unread n mid new then after result y e left is same end are lack so =
-      subst (GoesOn old before r q w v whole left n new after) (sym (is ∙ ap Err same))
-      (far_lacks_by old before r q w v unread whole n mid new then after e so end (subst (λ (l : List ℕ). LacksAnswer site l whole e) are lack))
+    -- How a `?` leaves.
 
-  pub fails_by : (old : H) (before : K) (r q w v : Option (List ℕ)) (whole : Bool) (unread : List ℕ) (n : ℕ) (new : H) (after : K) (result : Result AfterStep FrontKind) (y e : FrontKind)
-      → result ≡ Err y → y ≡ e → e ≡ kind.Write → Writes r w v (λ stream text. IsCut site handles tells old before stream text new after) → GoesOn old before r q w v whole unread n new after result
-  fails_by old before r q w v whole unread n new after result y e is same write cut =
-      subst (GoesOn old before r q w v whole unread n new after) (sym (is ∙ ap Err (same ∙ write))) cut
+    abbrev GoesOn : H → K → Option (List ℕ) → Option (List ℕ) → Option (List ℕ) → Option (List ℕ) → Bool → List ℕ → ℕ → H → K → Result AfterStep FrontKind → Type 0
+    GoesOn = Goes site handles tells lacks
+
+    pub fails_lacking : (old : H) (before : K) (r q w v : Option (List ℕ)) (whole : Bool) (given unread : List ℕ) (n : ℕ) (mid new : H) (then after : K) (result : Result AfterStep FrontKind) (y e : FrontKind) (left : List ℕ)
+        → result ≡ Err y → y ≡ e → (whole ≡ true → IsAtEnd q) → given ≡ unread → LacksAnswer site lacks mid given whole new e → Far old before r q w v unread n mid then → GoesOn old before r q w v whole left n new after result
+    fails_lacking old before r q w v whole given unread n mid new then after result y e left is same end are lack so =
+        subst (GoesOn old before r q w v whole left n new after) (sym (is ∙ ap Err same))
+        (far_lacks_by old before r q w v unread whole n mid new then after e so end (subst (λ (l : List ℕ). LacksAnswer site lacks mid l whole new e) are lack))
+
+    pub fails_by : (old : H) (before : K) (r q w v : Option (List ℕ)) (whole : Bool) (unread : List ℕ) (n : ℕ) (new : H) (after : K) (result : Result AfterStep FrontKind) (y e : FrontKind)
+        → result ≡ Err y → y ≡ e → IsSinkKind e → Writes r w v (λ stream text. IsCut site handles tells old before stream text new after) → GoesOn old before r q w v whole unread n new after result
+    fails_by old before r q w v whole unread n new after result y e is same of_sink cut =
+        subst (GoesOn old before r q w v whole unread n new after) (sym (is ∙ ap Err same)) (cut_by old before r q w v new after e of_sink cut)
 
   -- What a step did with these bytes, by what it answers. left: the handler behind it, which is as the step left it.
   pub did : (old : H) (before : K) (given seen : List ℕ) (whole : Bool) (s t : ServeStep) (text : List ℕ) (new left : H) (after : K) → given ≡ seen → s ≡ t → left ≡ new

@@ -18,7 +18,7 @@ use Rattle.http_message.specs.declared.reply.Method.{Method}
 use Rattle.http_message.specs.declared.reply.Reply.{Reply}
 use Rattle.http_message.specs.declared.site.Site.{Site}
 use Rattle.http_message.proofs.Headless.{front_only}
-use Rattle.http_front.specs.Outcomes.{file_at, file_of, IsBadReply, IsLack, ReachesFile}
+use Rattle.http_front.specs.Outcomes.{file_at, file_of, IsBadReply, IsLack, LacksNamesAt}
 use Rattle.http_front.specs.Stepping.{IsReplied, IsWritten, LacksAnswer, ServesRequest, DoesStep, WantsAnswer}
 use Rattle.http_front.specs.Turns.{SendsBad, WantsMore, head_limit, fields_limit}
 use Rattle.http_front.specs.declared.fault.FrontKind.{FrontKind}
@@ -120,29 +120,30 @@ answer_wider seen whole (inl (h, rest, begins)) = inl (h, rest ++ drop head_limi
 answer_wider seen whole (inr bad) = inr ((λ none. bad.0 (ap (take head_limit) none)), headless_wider head_limit fields_limit seen whole bad.1)
 
 -- why a step gets no answer, from a front of the bytes
-lack_before : (site : Site) (seen : List ℕ) (whole : Bool) (e : FrontKind) → LacksAnswer site (take head_limit seen) (whole && nat_le (length seen) head_limit) e → LacksAnswer site seen whole e
-lack_before site seen whole kind.NoMemory wants = answer_wider seen whole wants
-lack_before site seen whole kind.NamesSpent wants = record { head = wants.head; rest = wants.rest ++ drop head_limit seen; begins = begins_before seen wants.head wants.rest wants.begins; reaches = wants.reaches }
-lack_before site seen whole kind.Read lack = absurd lack
-lack_before site seen whole kind.Write lack = absurd lack
-lack_before site seen whole kind.TooManyReads lack = absurd lack
+module _ {H : Type 0} (site : Site) (lacks : H → Method → List ℕ → FrontKind → H → Type 0) (old new : H) where
+  lack_before : (seen : List ℕ) (whole : Bool) (e : FrontKind) → LacksAnswer site lacks old (take head_limit seen) (whole && nat_le (length seen) head_limit) new e → LacksAnswer site lacks old seen whole new e
+  lack_before seen whole kind.NoMemory wants = answer_wider seen whole wants
+  lack_before seen whole kind.NamesSpent wants = record { head = wants.head; rest = wants.rest ++ drop head_limit seen; begins = begins_before seen wants.head wants.rest wants.begins; names = wants.names }
+  lack_before seen whole kind.Read lack = absurd lack
+  lack_before seen whole kind.Write lack = absurd lack
+  lack_before seen whole kind.TooManyReads lack = absurd lack
 
-pub lack_wider : (site : Site) (seen low : List ℕ) (whole ended : Bool) (r : Result ServeStep FrontKind) → low ≡ take head_limit seen → ended ≡ (whole && nat_le (length seen) head_limit)
-    → IfErr r (LacksAnswer site low ended) → IfErr r (LacksAnswer site seen whole)
-lack_wider site seen low whole ended (Ok s) front over h = tt
-lack_wider site seen low whole ended (Err e) front over h =
-    lack_before site seen whole e (subst (λ (l : List ℕ). LacksAnswer site l (whole && nat_le (length seen) head_limit) e) front (subst (λ (b : Bool). LacksAnswer site low b e) over h))
+  pub lack_wider : (seen low : List ℕ) (whole ended : Bool) (r : Result ServeStep FrontKind) → low ≡ take head_limit seen → ended ≡ (whole && nat_le (length seen) head_limit)
+      → IfErr r (LacksAnswer site lacks old low ended new) → IfErr r (LacksAnswer site lacks old seen whole new)
+  lack_wider seen low whole ended (Ok s) front over h = tt
+  lack_wider seen low whole ended (Err e) front over h =
+      lack_before seen whole e (subst (λ (l : List ℕ). LacksAnswer site lacks old l (whole && nat_le (length seen) head_limit) new e) front (subst (λ (b : Bool). LacksAnswer site lacks old low b new e) over h))
 
--- why a head that was found gets no answer
-pub found_lack : (site : Site) (seen : List ℕ) (spans : List HeaderSpan) (whole : Bool) (head : RequestSpans) (r : Result ServeStep FrontKind) → length spans ≡ fields_limit → IsFound head_limit seen spans head
-    → IfErr r (λ e. IsLack e × (e ≡ kind.NamesSpent → (h : RequestHead) → IsRequestAt seen spans head h → ReachesFile site h)) → IfErr r (LacksAnswer site seen whole)
-found_lack site seen spans whole head (Ok s) room found lack = tt
-found_lack site seen spans whole head (Err e) room found lack =
-    let begins : BeginsWithin head_limit fields_limit seen found.0 (drop head.len seen) = subst (λ (n : ℕ). BeginsWithin head_limit n seen found.0 (drop head.len seen)) room found.2 in
-    elim lack.0 [
-      | inl memory ↦ subst (LacksAnswer site seen whole) (sym memory) (inl (found.0, drop head.len seen, begins))
-      | inr names ↦ subst (LacksAnswer site seen whole) (sym names) (record { head = found.0; rest = drop head.len seen; begins = begins; reaches = lack.1 names found.0 found.1 })
-    ]
+  -- why a head that was found gets no answer
+  pub found_lack : (seen : List ℕ) (spans : List HeaderSpan) (whole : Bool) (head : RequestSpans) (r : Result ServeStep FrontKind) → length spans ≡ fields_limit → IsFound head_limit seen spans head
+      → IfErr r (λ e. IsLack e × (e ≡ kind.NamesSpent → (h : RequestHead) → IsRequestAt seen spans head h → LacksNamesAt lacks site old h new)) → IfErr r (LacksAnswer site lacks old seen whole new)
+  found_lack seen spans whole head (Ok s) room found lack = tt
+  found_lack seen spans whole head (Err e) room found lack =
+      let begins : BeginsWithin head_limit fields_limit seen found.0 (drop head.len seen) = subst (λ (n : ℕ). BeginsWithin head_limit n seen found.0 (drop head.len seen)) room found.2 in
+      elim lack.0 [
+        | inl memory ↦ subst (LacksAnswer site lacks old seen whole new) (sym memory) (inl (found.0, drop head.len seen, begins))
+        | inr names ↦ subst (LacksAnswer site lacks old seen whole new) (sym names) (record { head = found.0; rest = drop head.len seen; begins = begins; names = lack.1 names found.0 found.1 })
+      ]
 
 done_wider : (limit : ℕ) (seen : List ℕ) (whole : Bool) → (whole && nat_le (length seen) limit) ≡ true → take limit seen ≡ []
     → (whole ≡ true) × (seen ≡ [])

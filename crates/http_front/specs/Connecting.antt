@@ -15,7 +15,7 @@ use Rattle.http_message.specs.declared.site.Site.{Site}
 use Rattle.http_front.specs.declared.fault.FrontKind.{FrontKind}
 use Rattle.http_front.specs.declared.fault.FrontKind.TheVariants as kind
 use Rattle.http_front.specs.declared.handler.RequestOutcome.{RequestOutcome}
-use Rattle.http_front.specs.Driven.{OnlyEventsOf, IsAlive, Refines, Handles}
+use Rattle.http_front.specs.Driven.{LacksFor, OnlyEventsOf, IsAlive, Refines, Handles}
 use Rattle.http_front.specs.Requests.{RunsCall}
 use Rattle.http_front.specs.Turns.{AnswersRequestsRead, IsCut, LacksMemory, LacksNames, Responses}
 use Rattle.http_front.specs.declared.fault.FrontFault.{FrontFault}
@@ -33,6 +33,11 @@ outcome_of (Ok s) None = Ok s
 outcome_of (Ok s) (Some n) = Err (record { kind = kind.NoMemory; left = Some n })
 outcome_of (Err k) left = Err (record { kind = k; left = left })
 
+-- by the kind of the fault alone
+abbrev pub kind_result : Result Served FrontFault → Result Served FrontKind
+kind_result (Ok s) = Ok s
+kind_result (Err e) = Err e.kind
+
 module _ (budget : ℕ) (chain : List Program) (number : ℕ) where
   -- A connection of this number is opened, and its `open` handlers run, however they end.
   pub record IsOpened (old new : HostView) : Type 0 where
@@ -41,22 +46,22 @@ module _ (budget : ℕ) (chain : List Program) (number : ℕ) where
     pub acts : Answers budget chain 0 event.Open old (Connected number) mid
     pub runs : RunsCall budget chain number mid how new
 
-  -- It is closed, or it is left.
+  -- It is closed; or it is left, since memory is lacking.
   abbrev pub IsClosed : Option ℕ → HostView → HostView → Type 0
   IsClosed None old new = (labels : List (List ℕ)) × Answers budget chain number event.Close old (Labels labels) new
-  IsClosed (Some n) old new = (n ≡ number) × (why : Refusal) × Answers budget chain number event.Close old (Refused why) new
+  IsClosed (Some n) old new = (n ≡ number) × Answers budget chain number event.Close old (Refused refusal.NoMemory) new
 
 module _ {H K : Type 0} (site : Site) (handles : H → Method → List ℕ → RequestOutcome → H → Type 0) (tells : K → Said → K → Type 0) where
   -- What is written of the responses to a stream, where serving it ends by this kind of fault. unread: what the reader has left. Only where the
   -- writer failed, the last response is cut. Where the reader failed, or gave no end, all whole requests that were read are answered. Where names
   -- or memory are lacking, all before the one at hand are: names only for a request that nothing refuses and whose path has a file. All responses
   -- are written, where no more than the close lacks memory.
-  abbrev pub FallsBy : FrontKind → Option ℕ → H → K → List ℕ → List ℕ → Option (List ℕ) → H → K → Type 0
-  FallsBy kind.Write left old before stream text unread new after = IsCut site handles tells old before stream text new after
-  FallsBy kind.Read left old before stream text unread new after = AnswersRequestsRead site handles tells old before stream text unread new after
-  FallsBy kind.TooManyReads left old before stream text unread new after = AnswersRequestsRead site handles tells old before stream text unread new after
-  FallsBy kind.NamesSpent left old before stream text unread new after = LacksNames site handles tells old before stream text unread
-  FallsBy kind.NoMemory left old before stream text unread new after =
+  abbrev pub FallsBy : (H → Method → List ℕ → FrontKind → H → Type 0) → FrontKind → Option ℕ → H → K → List ℕ → List ℕ → Option (List ℕ) → H → K → Type 0
+  FallsBy lacks kind.Write left old before stream text unread new after = IsCut site handles tells old before stream text new after
+  FallsBy lacks kind.Read left old before stream text unread new after = AnswersRequestsRead site handles tells old before stream text unread new after
+  FallsBy lacks kind.TooManyReads left old before stream text unread new after = AnswersRequestsRead site handles tells old before stream text unread new after
+  FallsBy lacks kind.NamesSpent left old before stream text unread new after = LacksNames site handles tells lacks old before stream text unread new
+  FallsBy lacks kind.NoMemory left old before stream text unread new after =
       LacksMemory site handles tells old before stream text unread new after
       ⊎ (¬ (left ≡ None) × (n : ℕ) × Responses site handles tells old before stream text n new after)
 
@@ -88,7 +93,7 @@ module _ {F K : Type 0} (device : F → Device) (tells : K → Said → K → Ty
   -- The front of the responses is written, as far as the kind of the fault tells.
   pub record ServesFront (old : Host F) (before : K) (stream : List ℕ) (e : FrontFault) (unread was is : Option (List ℕ)) (new : Host F) (after : K) : Type 0 where
     pub text : List ℕ
-    pub connects : Connects old new e.left (λ number a z. FallsBy site (λ o. Handles device o number) tells e.kind e.left a before stream text unread z after)
+    pub connects : Connects old new e.left (λ number a z. FallsBy site (λ o. Handles device o number) tells (λ o method file. LacksFor device o number) e.kind e.left a before stream text unread z after)
     pub written : Appends was is text
 
   -- No connection is opened, and nothing is read or written. The clock is not asked.

@@ -1,9 +1,10 @@
 -- What a request comes to (RFC 9110, sections 9.3 and 15).
-use Rattle.std.specs.Prelude.{◌≡◌, true, ◌||◌, List, [], ℕ, Option, Some, None, IsSome, ◌⊎◌}
+use Rattle.std.specs.Prelude.{◌≡◌, true, ◌||◌, List, [], ℕ, Option, Some, None, ◌⊎◌}
 use Rattle.httparse.specs.Grammar.{RequestHead}
 use Rattle.percent_encoding.specs.Percent.{percent_decode}
 use Rattle.http_message.specs.Asking.{method_of, target_path, refusal, head_closes, status_closes, version_of}
 use Rattle.http_message.specs.declared.failure.Failure.{Failure}
+use Rattle.http_message.specs.declared.reply.Method.{Method}
 use Rattle.http_message.specs.declared.reply.Method.TheVariants.{Other}
 use Rattle.http_message.specs.declared.reply.Reply.{Reply}
 use Rattle.http_message.specs.declared.reply.Version.TheVariants.{Http11}
@@ -28,9 +29,15 @@ file_at site (Some sent) = route_of site (percent_decode sent)
 unfoldable pub file_of : Site → RequestHead → Option (List ℕ)
 file_of site h = file_at site (target_path h.target)
 
--- nothing refuses the head, and its path has a file: such a head alone reaches the handler
-abbrev pub ReachesFile : Site → RequestHead → Type 0
-ReachesFile site h = (refusal h ≡ None) × IsSome (file_of site h)
+-- H: what handles requests. lacks: that it leaves a request without an outcome, and for want of what.
+module _ {H : Type 0} (lacks : H → Method → List ℕ → FrontKind → H → Type 0) where
+  -- There is a file, and names are lacking for a request for it.
+  abbrev pub LacksNamesFor : Option (List ℕ) → H → Method → H → Type 0
+  LacksNamesFor route old method new = (file : List ℕ) × (route ≡ Some file) × lacks old method file kind.NamesSpent new
+
+  -- Names are lacking for a head: nothing refuses it, its path has a file, and names are lacking for a request for that.
+  abbrev pub LacksNamesAt : Site → H → RequestHead → H → Type 0
+  LacksNamesAt site old h new = (refusal h ≡ None) × LacksNamesFor (file_of site h) old (method_of h.method) new
 
 -- the outcome is this status, without content
 abbrev pub IsBare : StatusCode → RequestOutcome → Type 0

@@ -3,6 +3,8 @@ use Rattle.std.specs.Prelude.{◌≡◌, ℕ, zero, suc, ◌+◌, ◌-◌, ◌/�
 use Rattle.module_code.specs.Program.{Program}
 use Rattle.module_code.specs.declared.instr.Status.TheVariants as call
 use Rattle.run_model.specs.declared.event.Cause.TheVariants as cause
+use Rattle.run_model.specs.Worlds.{Refused}
+use Rattle.run_model.specs.declared.event.Event.{Event}
 use Rattle.run_model.specs.declared.event.Event.TheVariants as event
 use Rattle.run_model.specs.declared.event.Piece.{Piece}
 use Rattle.run_model.specs.declared.event.Piece.TheVariants as piece
@@ -86,6 +88,14 @@ abbrev pub IsOutput : Result (List ℕ) Refusal → RequestOutcome → Type 0
 IsOutput (Ok bytes) o = (o.status ≡ Success) × (o.body ≡ bytes) × (o.failure ≡ None)
 IsOutput (Err r) o = IsUnserved (Some (failure.Refused r)) o
 
+-- an event of a request that may be refused for want of memory or names
+abbrev pub IsOfRequest : Event → Type 0
+IsOfRequest event.Begin = Unit {0}
+IsOfRequest (event.OpenFile name) = Unit {0}
+IsOfRequest (event.Bring pieces) = Unit {0}
+IsOfRequest event.End = Unit {0}
+IsOfRequest e = ⊥
+
 -- The events, on the connection of this number.
 
 module _ (budget : ℕ) (chain : List Program) (number : ℕ) where
@@ -94,6 +104,14 @@ module _ (budget : ℕ) (chain : List Program) (number : ℕ) where
     pub answer : Result Stepped Refusal
     pub runs : steps.StepsToEnd budget chain number old answer new
     pub told : how ≡ ended_of answer
+
+  -- An event of a request was refused, for want of this.
+  pub record IsRefusedFor (e : FrontKind) (old new : HostView) : Type 0 where
+    pub what : Event
+    pub why : Refusal
+    pub asked : IsOfRequest what
+    pub lacks : lack_of why ≡ Some e
+    pub acts : Answers budget chain number what old (Refused why) new
 
   -- The request ends, if it does not lack memory.
   pub record EndsRequest (old new : HostView) : Type 0 where

@@ -1,5 +1,5 @@
 -- How far serving a connection is, and what it wrote where it is known what the reader had left and what the writer holds.
-use Rattle.std.specs.Prelude.{◌≡◌, ℕ, ◌≤◌, Bool, true, false, List, [], ◌++◌, length, Option, IfSome, Result, Ok, Err}
+use Rattle.std.specs.Prelude.{◌≡◌, ℕ, ◌≤◌, Bool, true, false, List, [], ◌++◌, length, Option, IfSome, Result, Ok, Err, ◌⊎◌}
 use Rattle.std.specs.Io.KnownBytes.{Consumes, Appends, IsAtEnd}
 use Rattle.http_message.specs.Clocks.{Said}
 use Rattle.http_message.specs.declared.reply.Method.{Method}
@@ -10,6 +10,21 @@ use Rattle.http_front.specs.declared.handler.RequestOutcome.{RequestOutcome}
 use Rattle.http_front.specs.Turns.{Turn, AllStay, AnswersAll, AnswersRequestsRead, heads_of, texts_of, Responses, IsCut, LacksMemory, LacksNames, WantsMore}
 use Rattle.http_front.specs.declared.serving.AfterStep.{AfterStep}
 use Rattle.http_front.specs.declared.serving.AfterStep.TheVariants as next
+
+-- the kinds of faults of a sink
+abbrev pub IsSinkKind : FrontKind → Type 0
+IsSinkKind k = (k ≡ kind.Write) ⊎ (k ≡ kind.NoMemory)
+
+-- The sink failed where this is told, and else it is as it was. was, is: whether it had failed, and has.
+abbrev pub BlamesSink : {T : Type 0} → Result T FrontKind → Bool → Bool → Type 0
+BlamesSink (Err kind.Write) was is = is ≡ true
+BlamesSink r was is = is ≡ was
+
+-- The source failed where this is told, and else it is as it was. left: how many times it may still be read
+abbrev pub BlamesSource : {T : Type 0} → Result T FrontKind → Bool → Bool → ℕ → Type 0
+BlamesSource (Err kind.Read) was is left = is ≡ true
+BlamesSource (Err kind.TooManyReads) was is left = (left ≡ 0) × (is ≡ was)
+BlamesSource r was is left = is ≡ was
 
 -- Where the bytes that were left are known, a text of them was written.
 abbrev pub Writes : Option (List ℕ) → Option (List ℕ) → Option (List ℕ) → (List ℕ → List ℕ → Type 0) → Type 0
@@ -23,9 +38,10 @@ pub record AddsBytes (r q : Option (List ℕ)) (old new : List ℕ) (limit : ℕ
   pub few : length bytes ≤ limit
   pub end : whole ≡ true → IsAtEnd q
 
--- why a read of so many bytes at most adds nothing: the reader failed and gave no byte, or there was no memory for what it gave
+-- why a read of so many bytes at most adds nothing: the reader failed, or may not be read again, and gave no byte; or there was no memory for what it gave
 abbrev pub Loses : ℕ → Option (List ℕ) → Option (List ℕ) → FrontKind → Type 0
 Loses limit r q kind.Read = Consumes r q []
+Loses limit r q kind.TooManyReads = Consumes r q []
 Loses limit r q kind.NoMemory = (bytes : List ℕ) × ¬ (bytes ≡ []) × (length bytes ≤ limit) × Consumes r q bytes
 Loses limit r q e = ⊥
 
@@ -47,16 +63,17 @@ module _ {H K : Type 0} (site : Site) (handles : H → Method → List ℕ → R
   -- Serving fails. Only where the writer failed, a response is cut. All whole requests that were read are answered, where the reader failed,
   -- or gave no end. All before the one at hand are, where memory or names are lacking: names only for a request that nothing refuses and whose
   -- path has a file.
-  abbrev pub FailsBy : H → K → Option (List ℕ) → Option (List ℕ) → Option (List ℕ) → Option (List ℕ) → H → K → FrontKind → Type 0
-  FailsBy old before r q w v new after kind.Write = Writes r w v (λ stream text. IsCut site handles tells old before stream text new after)
-  FailsBy old before r q w v new after kind.Read = Writes r w v (λ stream text. AnswersRequestsRead site handles tells old before stream text q new after)
-  FailsBy old before r q w v new after kind.TooManyReads = Writes r w v (λ stream text. AnswersRequestsRead site handles tells old before stream text q new after)
-  FailsBy old before r q w v new after kind.NoMemory = Writes r w v (λ stream text. LacksMemory site handles tells old before stream text q new after)
-  FailsBy old before r q w v new after kind.NamesSpent = Writes r w v (λ stream text. LacksNames site handles tells old before stream text q)
+  -- lacks: what the handler says of a request that it left.
+  abbrev pub FailsBy : (H → Method → List ℕ → FrontKind → H → Type 0) → H → K → Option (List ℕ) → Option (List ℕ) → Option (List ℕ) → Option (List ℕ) → H → K → FrontKind → Type 0
+  FailsBy lacks old before r q w v new after kind.Write = Writes r w v (λ stream text. IsCut site handles tells old before stream text new after)
+  FailsBy lacks old before r q w v new after kind.Read = Writes r w v (λ stream text. AnswersRequestsRead site handles tells old before stream text q new after)
+  FailsBy lacks old before r q w v new after kind.TooManyReads = Writes r w v (λ stream text. AnswersRequestsRead site handles tells old before stream text q new after)
+  FailsBy lacks old before r q w v new after kind.NoMemory = Writes r w v (λ stream text. LacksMemory site handles tells old before stream text q new after)
+  FailsBy lacks old before r q w v new after kind.NamesSpent = Writes r w v (λ stream text. LacksNames site handles tells lacks old before stream text q new)
 
   -- what comes next
-  abbrev pub Goes : H → K → Option (List ℕ) → Option (List ℕ) → Option (List ℕ) → Option (List ℕ) → Bool → List ℕ → ℕ → H → K → Result AfterStep FrontKind → Type 0
-  Goes old before r q w v whole unread n new after (Ok next.Again) = SoFar old before r q w v unread n new after
-  Goes old before r q w v whole unread n new after (Ok next.Reads) = SoFar old before r q w v unread n new after × (whole ≡ false) × WantsMore unread
-  Goes old before r q w v whole unread n new after (Ok next.Over) = EndsWell old before r w v n new after
-  Goes old before r q w v whole unread n new after (Err e) = FailsBy old before r q w v new after e
+  abbrev pub Goes : (H → Method → List ℕ → FrontKind → H → Type 0) → H → K → Option (List ℕ) → Option (List ℕ) → Option (List ℕ) → Option (List ℕ) → Bool → List ℕ → ℕ → H → K → Result AfterStep FrontKind → Type 0
+  Goes lacks old before r q w v whole unread n new after (Ok next.Again) = SoFar old before r q w v unread n new after
+  Goes lacks old before r q w v whole unread n new after (Ok next.Reads) = SoFar old before r q w v unread n new after × (whole ≡ false) × WantsMore unread
+  Goes lacks old before r q w v whole unread n new after (Ok next.Over) = EndsWell old before r w v n new after
+  Goes lacks old before r q w v whole unread n new after (Err e) = FailsBy lacks old before r q w v new after e

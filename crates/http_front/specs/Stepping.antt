@@ -9,7 +9,7 @@ use Rattle.http_message.specs.declared.reply.Method.{Method}
 use Rattle.http_message.specs.declared.reply.Reply.{Reply}
 use Rattle.http_message.specs.declared.site.Site.{Site}
 use Rattle.http_front.specs.Outcomes.{IsReplyTo}
-use Rattle.http_front.specs.Turns.{Turn, head_limit, fields_limit, ComesUnless, IsDated, AnswersRequest, SendsBad, WantsFile, WantsMore}
+use Rattle.http_front.specs.Turns.{Turn, head_limit, fields_limit, ComesUnless, IsDated, AnswersRequest, SendsBad, LacksFile, WantsMore}
 use Rattle.http_front.specs.declared.fault.FrontKind.{FrontKind}
 use Rattle.http_front.specs.declared.fault.FrontKind.TheVariants as kind
 use Rattle.http_front.specs.declared.handler.RequestOutcome.{RequestOutcome}
@@ -23,10 +23,10 @@ WantsAnswer seen whole =
     ⊎ (¬ (seen ≡ []) × StaysHeadless head_limit fields_limit seen whole)
 
 -- Why the bytes get no answer: memory is lacking, where one is wanted; or names are, for a request that nothing refuses and whose path has a file.
-abbrev pub LacksAnswer : Site → List ℕ → Bool → FrontKind → Type 0
-LacksAnswer site seen whole kind.NoMemory = WantsAnswer seen whole
-LacksAnswer site seen whole kind.NamesSpent = WantsFile site seen
-LacksAnswer site seen whole e = ⊥
+abbrev pub LacksAnswer : {H : Type 0} → Site → (H → Method → List ℕ → FrontKind → H → Type 0) → H → List ℕ → Bool → H → FrontKind → Type 0
+LacksAnswer site lacks old seen whole new kind.NoMemory = WantsAnswer seen whole
+LacksAnswer site lacks old seen whole new kind.NamesSpent = LacksFile site lacks old seen new
+LacksAnswer site lacks old seen whole new e = ⊥
 
 -- A head comes to this reply.
 pub record IsReplied {H : Type 0} (site : Site) (handles : H → Method → List ℕ → RequestOutcome → H → Type 0) (old : H) (h : RequestHead) (r : Reply) (new : H) : Type 0 where

@@ -11,7 +11,8 @@ use Rattle.http_message.specs.declared.reply.Reply.{Reply}
 use Rattle.http_message.specs.declared.site.Site.{Site}
 use Rattle.http_message.specs.declared.status.StatusCode.{StatusCode}
 use Rattle.http_message.specs.declared.status.StatusCode.TheVariants.{NotFound}
-use Rattle.http_front.specs.Outcomes.{ReachesFile, file_of, IsBare, IsReplyTo, IsBadReply}
+use Rattle.http_front.specs.Outcomes.{LacksNamesAt, file_of, IsBare, IsReplyTo, IsBadReply}
+use Rattle.http_front.specs.declared.fault.FrontKind.{FrontKind}
 use Rattle.http_front.specs.declared.handler.RequestOutcome.{RequestOutcome}
 
 -- a head has at most so many bytes, and so many fields
@@ -35,12 +36,12 @@ IsDue seen left =
     ((h : RequestHead) × (rest : List ℕ) × BeginsWithin head_limit fields_limit seen h rest)
     ⊎ (¬ (seen ≡ []) × (whole : Bool) × (whole ≡ true → left ≡ []) × StaysHeadless head_limit fields_limit seen whole)
 
--- The bytes begin with a head that nothing refuses and whose path has a file.
-pub record WantsFile (site : Site) (seen : List ℕ) : Type 0 where
+-- The bytes begin with a head for which names are lacking.
+pub record LacksFile {H : Type 0} (site : Site) (lacks : H → Method → List ℕ → FrontKind → H → Type 0) (old : H) (seen : List ℕ) (new : H) : Type 0 where
   pub head : RequestHead
   pub rest : List ℕ
   pub begins : BeginsWithin head_limit fields_limit seen head rest
-  pub reaches : ReachesFile site head
+  pub names : LacksNamesAt lacks site old head new
 
 -- A request and its response: the head, the reply, and the Date line.
 pub record Turn : Type 0 where
@@ -179,8 +180,8 @@ module _ {H K : Type 0} (site : Site) (handles : H → Method → List ℕ → R
     pub leaves : left ≡ Some unread
 
   -- These are the responses to all requests before the one that is at hand. seen: what was read and not answered. left: what the reader has left.
-  -- Due: what is said of both.
-  pub record LacksAt (Due : List ℕ → List ℕ → Type 0) (old : H) (before : K) (stream text : List ℕ) (left : Option (List ℕ)) : Type 0 where
+  -- Due: what is said of both, and of what handles requests as it was then.
+  pub record LacksAt (Due : H → List ℕ → List ℕ → Type 0) (old : H) (before : K) (stream text : List ℕ) (left : Option (List ℕ)) : Type 0 where
     pub first : List ℕ
     pub seen : List ℕ
     pub unread : List ℕ
@@ -189,7 +190,7 @@ module _ {H K : Type 0} (site : Site) (handles : H → Method → List ℕ → R
     pub after : K
     pub splits : stream ≡ first ++ seen ++ unread
     pub responses : EndsAll old before first text n new after
-    pub due : Due seen unread
+    pub due : Due new seen unread
     pub leaves : left ≡ Some unread
 
   -- These are the responses to all whole requests that were read, before the bytes that are lost: those of one read.
@@ -206,14 +207,6 @@ module _ {H K : Type 0} (site : Site) (handles : H → Method → List ℕ → R
     pub wants : WantsMore seen
     pub leaves : left ≡ Some unread
 
-  -- Memory was lacking: for the request at hand, or for bytes that were read.
-  abbrev pub LacksMemory : H → K → List ℕ → List ℕ → Option (List ℕ) → H → K → Type 0
-  LacksMemory old before stream text left new after = LacksAt IsDue old before stream text left ⊎ LosesRead old before stream text left new after
-
-  -- Names were lacking: for the request at hand, which nothing refuses, and whose path has a file.
-  abbrev pub LacksNames : H → K → List ℕ → List ℕ → Option (List ℕ) → Type 0
-  LacksNames old before stream text left = LacksAt (λ seen unread. WantsFile site seen) old before stream text left
-
   -- These are the responses to the first requests of a stream, and a part of one response more: that is cut. Its request was handled, too.
   pub record IsCut (old : H) (before : K) (stream text : List ℕ) (new : H) (after : K) : Type 0 where
     pub front : List ℕ
@@ -223,3 +216,11 @@ module _ {H K : Type 0} (site : Site) (handles : H → Method → List ℕ → R
     pub next : IsNext old before stream (front ++ (part ++ more)) (whole.n + 1) new after
     pub some : ¬ (more ≡ [])
     pub written : text ≡ front ++ part
+
+  -- Memory was lacking: for the request at hand, for bytes that were read, or for what is written into.
+  abbrev pub LacksMemory : H → K → List ℕ → List ℕ → Option (List ℕ) → H → K → Type 0
+  LacksMemory old before stream text left new after = LacksAt (λ mid. IsDue) old before stream text left ⊎ (LosesRead old before stream text left new after ⊎ IsCut old before stream text new after)
+
+  -- Names were lacking: for the request at hand, which nothing refuses, and whose path has a file.
+  abbrev pub LacksNames : (H → Method → List ℕ → FrontKind → H → Type 0) → H → K → List ℕ → List ℕ → Option (List ℕ) → H → Type 0
+  LacksNames lacks old before stream text left new = LacksAt (λ mid seen unread. LacksFile site lacks mid seen new) old before stream text left

@@ -1,12 +1,12 @@
 //! What a head is answered.
 
-ghost use Rattle.std.specs.Prelude.{◌≡◌, ◌||◌, ℕ, List, IfOk, IfErr, IsSome};
+ghost use Rattle.std.specs.Prelude.{◌≡◌, ◌||◌, ℕ, List, IfOk, IfErr};
 ghost use Rattle.httparse.specs.Grammar.{RequestHead};
 ghost use Rattle.httparse.specs.Spans.{IsRequestAt, IsRequestWithin};
 ghost use Rattle.percent_encoding.specs.Percent.{percent_decode};
 ghost use Rattle.http_message.specs.Asking.{method_of, refusal, status_closes};
 ghost use Rattle.http_message.specs.Sites.{route_of};
-ghost use Rattle.http_front.specs.Outcomes.{IsBare, IsBadReply, IsLack, ReachesFile, file_of};
+ghost use Rattle.http_front.specs.Outcomes.{IsBare, IsBadReply, IsLack, LacksNamesAt, LacksNamesFor, file_of};
 ghost use Rattle.http_front.specs.Stepping.{IsReplied};
 ghost use Rattle.http_front.specs.Turns.{ComesTo, ComesUnless};
 
@@ -49,7 +49,7 @@ fn path_outcome<H: Handler>(
     ensures beside { (from : H) → H.beside from number handler.old → H.beside from number handler.new }
     ensures ok { IfOk result (λ o. (h : RequestHead) → method ≡ method_of h.method
         → ComesTo site.now (λ old. H.handles old number) (route_of site.now (percent_decode sent.now)) handler.old h o handler.new) }
-    ensures err { IfErr result (λ e. IsLack e × (e ≡ FrontKind.NamesSpent → IsSome (route_of site.now (percent_decode sent.now)))) }
+    ensures err { IfErr result (λ e. IsLack e × (e ≡ FrontKind.NamesSpent → LacksNamesFor (λ old. H.lacks old number) (route_of site.now (percent_decode sent.now)) handler.old method handler.new)) }
 {
     let path = decoded(alloc, sent)?;
     match site.route(path.as_slice()) {
@@ -71,7 +71,8 @@ fn target_outcome<H: Handler>(
     ensures beside { (from : H) → H.beside from number handler.old → H.beside from number handler.new }
     ensures ok { IfOk result (λ o. (h : RequestHead) → method ≡ method_of h.method → target.now ≡ h.target
         → ComesTo site.now (λ old. H.handles old number) (file_of site.now h) handler.old h o handler.new) }
-    ensures err { IfErr result (λ e. IsLack e × (e ≡ FrontKind.NamesSpent → (h : RequestHead) → target.now ≡ h.target → IsSome (file_of site.now h))) }
+    ensures err { IfErr result (λ e. IsLack e × (e ≡ FrontKind.NamesSpent → (h : RequestHead) → method ≡ method_of h.method → target.now ≡ h.target
+        → LacksNamesFor (λ old. H.lacks old number) (file_of site.now h) handler.old (method_of h.method) handler.new)) }
 {
     match target_path(target) {
         Some(sent) => path_outcome(alloc, sent, method, site, handler, number),
@@ -94,7 +95,8 @@ fn outcome_of<H: Handler>(
     ensures beside { (from : H) → H.beside from number handler.old → H.beside from number handler.new }
     ensures ok { IfOk result (λ o. (h : RequestHead) → IsRequestAt seen.now spans.now head h
         → ComesUnless site.now (λ old. H.handles old number) (refusal h) handler.old h o handler.new) }
-    ensures err { IfErr result (λ e. IsLack e × (e ≡ FrontKind.NamesSpent → (h : RequestHead) → IsRequestAt seen.now spans.now head h → ReachesFile site.now h)) }
+    ensures err { IfErr result (λ e. IsLack e × (e ≡ FrontKind.NamesSpent → (h : RequestHead) → IsRequestAt seen.now spans.now head h
+        → LacksNamesAt (λ old. H.lacks old number) site.now handler.old h handler.new)) }
 {
     match refusal(seen, spans, head) {
         Some(status) => Ok(bare(alloc, status)),
@@ -123,7 +125,8 @@ pub(crate) fn reply_to<H: Handler>(
     ensures beside { (from : H) → H.beside from number handler.old → H.beside from number handler.new }
     ensures ok { IfOk result (λ r. (h : RequestHead) → IsRequestAt seen.now spans.now head h
         → IsReplied site.now (λ old. H.handles old number) handler.old h r handler.new) }
-    ensures err { IfErr result (λ e. IsLack e × (e ≡ FrontKind.NamesSpent → (h : RequestHead) → IsRequestAt seen.now spans.now head h → ReachesFile site.now h)) }
+    ensures err { IfErr result (λ e. IsLack e × (e ≡ FrontKind.NamesSpent → (h : RequestHead) → IsRequestAt seen.now spans.now head h
+        → LacksNamesAt (λ old. H.lacks old number) site.now handler.old h handler.new)) }
 {
     let outcome = outcome_of(alloc, seen, spans, head, site, handler, number)?;
     Ok(Reply {

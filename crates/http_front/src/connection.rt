@@ -5,16 +5,17 @@ ghost use Rattle.module_code.specs.Program.{Program};
 ghost use Rattle.run_model.specs.Worlds.{Connected, Refused};
 ghost use Rattle.run_model.specs.declared.event.Event.TheVariants.{Open};
 ghost use Rattle.filter_chain.specs.HostViews.{HostView, Answers};
-ghost use Rattle.http_front.specs.Connecting.{ServingFails, IsClosed, ServesAll, Visits, kind_of, outcome_of};
-ghost use Rattle.http_front.specs.Driven.{IsAlive, Refines};
+ghost use Rattle.http_front.specs.Connecting.{kind_result, ServingFails, IsClosed, ServesAll, Visits, kind_of, outcome_of};
+ghost use Rattle.http_front.specs.Serving.{BlamesSink, BlamesSource};
+ghost use Rattle.http_front.specs.Driven.{HasConn, IsAlive, Refines};
 
 use crate::fault::{FrontFault, FrontKind, Served};
 use crate::running::run_call;
 use crate::serving::serve_open;
+use byte_streams::{CountedSource, Sink, Source};
 use filter_chain::{Files, Host, Refusal};
 use http_message::{Clock, Site};
 use std::alloc::Global;
-use std::io::{Read, Write};
 
 /// Why no connection is opened: names are lacking, or else memory.
 fn kind_of(refusal: Refusal) -> FrontKind
@@ -26,9 +27,9 @@ fn kind_of(refusal: Refusal) -> FrontKind
     }
 }
 
-/// Closes the connection. Without memory it is left.
+/// Closes the connection, which is there. Without memory it is left.
 fn close<F: Files + Drop>(host: &mut Host<F>, number: u64) -> Option<u64>
-    requires { IsAlive F.device host.old }
+    requires { HasConn F.device host.old number }
     ensures { Refines F.device host.old host.new (λ (b : ℕ) (c : List Program) (s t : HostView). IsClosed b c number result s t) }
 {
     match host.close(number) {
@@ -51,19 +52,20 @@ fn outcome_of(served: Result<Served, FrontKind>, left: Option<u64>) -> Result<Se
     }
 }
 
-/// Serves one connection: opens it on the host, answers the requests that the reader gives, one after another, and closes it.
+/// Serves one connection: opens it on the host, answers the requests that the source gives, one after another, and closes it.
 ///
 /// The kinds of faults: `NamesSpent` and `NoMemory` where no connection is opened, and nothing is read or written then; those of a request,
-/// `NamesSpent` only of one that nothing refuses and whose path has a file; `Read`, `TooManyReads` and `Write` of the reader and the writer.
-/// The connection is closed at each of them. Where that finds no memory, the fault names it (`left`), and the host can close it later; the kind
-/// is `NoMemory` then where all else went well.
+/// `NamesSpent` only of one that nothing refuses, whose path has a file, and of which the host refused an event so; `Read` and `Write`, only where
+/// the source or the sink failed; `TooManyReads`, only where the source was read as often as it may be; `NoMemory` too where the sink had none. The
+/// connection is closed at each of them. Where that finds no memory, the fault names it (`left`), and the host can close it later; the kind is
+/// `NoMemory` then where all else went well.
 ///
-/// Whatever reader and writer are, nothing happens to the host but the opening of one connection, events of it, and its close. What is written is promised
-/// where it is known what the reader had left and what the writer holds, as of a slice and a `Vec`.
-pub fn serve<R: Read, W: Write, F: Files + Drop, K: Clock>(
+/// Whatever source and sink are, nothing happens to the host but the opening of one connection, events of it, and its close. What is written is promised
+/// where it is known what the source had left and what the sink holds, as of a slice and a `Vec`.
+pub fn serve<R: Source, W: Sink, F: Files + Drop, K: Clock>(
     alloc: Global,
-    reader: &mut R,
-    writer: &mut W,
+    reader: &mut CountedSource<R>,
+    sink: &mut W,
     site: &Site,
     host: &mut Host<F>,
     clock: &mut K,
@@ -71,13 +73,15 @@ pub fn serve<R: Read, W: Write, F: Files + Drop, K: Clock>(
     requires alive { IsAlive F.device host.old }
     ensures still { IsAlive F.device host.new }
     ensures visits { Visits F.device K.tells site.now host.old result host.new }
-    ensures ok { IfOk result (λ s. IfSome (R.remaining reader.old) (λ stream. ServesAll F.device K.tells site.now host.old clock.old stream s.requests (W.contents writer.old) (W.contents writer.new) host.new clock.new)) }
-    ensures err { IfErr result (λ e. IfSome (R.remaining reader.old) (λ stream. ServingFails F.device K.tells site.now host.old clock.old stream e (R.remaining reader.new) (W.contents writer.old) (W.contents writer.new) host.new clock.new)) }
+    ensures ok { IfOk result (λ s. IfSome (R.remaining reader.old.source) (λ stream. ServesAll F.device K.tells site.now host.old clock.old stream s.requests (W.contents sink.old) (W.contents sink.new) host.new clock.new)) }
+    ensures err { IfErr result (λ e. IfSome (R.remaining reader.old.source) (λ stream. ServingFails F.device K.tells site.now host.old clock.old stream e (R.remaining reader.new.source) (W.contents sink.old) (W.contents sink.new) host.new clock.new)) }
+    ensures source { BlamesSource (kind_result result) (R.failed reader.old.source) (R.failed reader.new.source) reader.new.left }
+    ensures sink { BlamesSink (kind_result result) (W.failed sink.old) (W.failed sink.new) }
 {
     match host.open_conn() {
         Ok(number) => {
             run_call(host, number);
-            let served = serve_open(alloc, reader, writer, site, host, number, clock);
+            let served = serve_open(alloc, reader, sink, site, host, number, clock);
             outcome_of(served, close(host, number))
         }
         Err(refusal) => Err(FrontFault {

@@ -5,7 +5,7 @@ ghost use Rattle.module_code.specs.Program.{Program};
 ghost use Rattle.run_model.specs.declared.event.Piece.TheVariants.{File};
 ghost use Rattle.filter_chain.specs.HostViews.{HostView};
 ghost use Rattle.http_front.specs.Outcomes.{IsLack};
-ghost use Rattle.http_front.specs.Driven.{OnlyEventsOf, IsAlive, Refines};
+ghost use Rattle.http_front.specs.Driven.{LacksFor, OnlyEventsOf, IsAlive, Refines};
 ghost use Rattle.http_front.specs.Requests.{BringsBrigade, BringsAll, IfSucceeded, brigades_for, brigades_of, last_brigade, piece_bytes};
 
 use crate::fault::FrontKind;
@@ -51,6 +51,7 @@ fn bring_whole<F: Files + Drop>(
     ensures leads { Refines F.device host.old host.new (λ (b : ℕ) (c : List Program) (s t : HostView). IfOk result (λ how. BringsBrigade b c number (File file start piece_bytes ∷ []) s how t)) }
     ensures beside { (from : Host F) → OnlyEventsOf F.device from number host.old → OnlyEventsOf F.device from number host.new }
     ensures err { IfErr result IsLack }
+    ensures lacks { (from : Host F) → OnlyEventsOf F.device from number host.old → IfErr result (λ e. LacksFor F.device from number e host.new) }
 {
     match whole_brigade(alloc, file, start) {
         Ok(pieces) => bring(host, number, pieces),
@@ -70,6 +71,7 @@ fn bring_last<F: Files + Drop>(
     ensures leads { Refines F.device host.old host.new (λ (b : ℕ) (c : List Program) (s t : HostView). IfOk result (λ how. BringsBrigade b c number (last_brigade file start len) s how t)) }
     ensures beside { (from : Host F) → OnlyEventsOf F.device from number host.old → OnlyEventsOf F.device from number host.new }
     ensures err { IfErr result IsLack }
+    ensures lacks { (from : Host F) → OnlyEventsOf F.device from number host.old → IfErr result (λ e. LacksFor F.device from number e host.new) }
 {
     match last_brigade(alloc, file, start, len) {
         Ok(pieces) => bring(host, number, pieces),
@@ -95,6 +97,7 @@ fn bring_file<F: Files + Drop>(
     ensures leads { Refines F.device host.old host.new (λ (b : ℕ) (c : List Program) (s t : HostView). IfOk result (λ how. BringsAll b c number (brigades_of file len) s how t)) }
     ensures beside { (from : Host F) → OnlyEventsOf F.device from number host.old → OnlyEventsOf F.device from number host.new }
     ensures err { IfErr result IsLack }
+    ensures lacks { (from : Host F) → OnlyEventsOf F.device from number host.old → IfErr result (λ e. LacksFor F.device from number e host.new) }
 {
     let mut start = 0;
     let mut left = len.saturating_sub(1) / PIECE_BYTES;
@@ -121,6 +124,7 @@ fn feed_method<F: Files + Drop>(
     ensures leads { Refines F.device host.old host.new (λ (b : ℕ) (c : List Program) (s t : HostView). IfOk result (λ how. BringsAll b c number (brigades_for method file) s how t)) }
     ensures beside { (from : Host F) → OnlyEventsOf F.device from number host.old → OnlyEventsOf F.device from number host.new }
     ensures err { IfErr result IsLack }
+    ensures lacks { (from : Host F) → OnlyEventsOf F.device from number host.old → IfErr result (λ e. LacksFor F.device from number e host.new) }
 {
     match method {
         Method::Get => bring_file(alloc, host, number, file.0, file.1),
@@ -142,6 +146,7 @@ pub(crate) fn feed<F: Files + Drop>(
     ensures leads { Refines F.device host.old host.new (λ (b : ℕ) (c : List Program) (s t : HostView). IfOk result (λ how. IfSucceeded init (BringsAll b c number (brigades_for method file) s how t) ((how ≡ init) × (t ≡ s)))) }
     ensures beside { (from : Host F) → OnlyEventsOf F.device from number host.old → OnlyEventsOf F.device from number host.new }
     ensures err { IfErr result IsLack }
+    ensures lacks { (from : Host F) → OnlyEventsOf F.device from number host.old → IfErr result (λ e. LacksFor F.device from number e host.new) }
 {
     match init {
         CallEnd::Succeeded => feed_method(alloc, host, number, method, file),

@@ -22,6 +22,7 @@ pub struct RequestOutcome {
 /// What makes the content of a response from a file, on a connection that it opened.
 pub trait Handler {
     ghost use Rattle.http_message.specs.declared.reply.Method.{Method};
+    ghost use Rattle.http_front.specs.declared.fault.FrontKind.{FrontKind};
     ghost use Rattle.http_front.specs.declared.handler.RequestOutcome.{RequestOutcome};
 
     // It can take a request on the connection of this number.
@@ -29,6 +30,9 @@ pub trait Handler {
 
     // From the first state, a request for this file comes to this outcome, and leaves the second state.
     ghost handles: { Self → ℕ → Method → List ℕ → RequestOutcome → Self → Type 0 };
+
+    // In the first state a request for this file was left without an outcome, for want of this, and the second state is left.
+    ghost lacks: { Self → ℕ → Method → List ℕ → FrontKind → Self → Type 0 };
 
     // Nothing happened from the first state to the second but what belongs to the connection of this number.
     ghost beside: { Self → ℕ → Self → Type 0 };
@@ -45,7 +49,7 @@ pub trait Handler {
         ensures ok { IfOk result (λ o. handles self.old number method file.now o self.new) }
         ensures open { is_open self.new number }
         ensures beside { (from : Self) → beside from number self.old → beside from number self.new }
-        ensures err { IfErr result IsLack };
+        ensures err { IfErr result (λ e. IsLack e × lacks self.old number method file.now e self.new) };
 
     /// Gives back the content of an outcome, which has gone out, so that its room is used again. It changes nothing.
     fn give_back(&mut self, body: Seq<u8>)

@@ -4,7 +4,7 @@ ghost use Rattle.std.specs.Prelude.{◌≡◌, ℕ, List, IfOk, IfErr};
 ghost use Rattle.module_code.specs.Program.{Program};
 ghost use Rattle.filter_chain.specs.HostViews.{HostView};
 ghost use Rattle.http_front.specs.Outcomes.{IsLack, IsUnserved};
-ghost use Rattle.http_front.specs.Driven.{OnlyEventsOf, IsAlive, Refines};
+ghost use Rattle.http_front.specs.Driven.{LacksFor, OnlyEventsOf, IsAlive, Refines};
 ghost use Rattle.http_front.specs.Requests.{ComesOf, EndsBare, EndsWithOutput, Feeds, Finishes, Inits, OpensAndFeeds, OpensUnless, TakesOutput, unopened};
 
 use crate::fault::FrontKind;
@@ -66,6 +66,7 @@ fn finish_with_output<F: Files + Drop>(
     ensures leads { Refines F.device host.old host.new (λ (b : ℕ) (c : List Program) (s t : HostView). IfOk result (λ o. EndsWithOutput b c number s o t)) }
     ensures beside { (from : Host F) → OnlyEventsOf F.device from number host.old → OnlyEventsOf F.device from number host.new }
     ensures err { IfErr result IsLack }
+    ensures lacks { (from : Host F) → OnlyEventsOf F.device from number host.old → IfErr result (λ e. LacksFor F.device from number e host.new) }
 {
     let outcome = output(alloc, host, number);
     end_request(host, number)?;
@@ -83,6 +84,7 @@ fn finish_bare<F: Files + Drop>(
     ensures leads { Refines F.device host.old host.new (λ (b : ℕ) (c : List Program) (s t : HostView). IfOk result (λ o. EndsBare b c number failure s o t)) }
     ensures beside { (from : Host F) → OnlyEventsOf F.device from number host.old → OnlyEventsOf F.device from number host.new }
     ensures err { IfErr result IsLack }
+    ensures lacks { (from : Host F) → OnlyEventsOf F.device from number host.old → IfErr result (λ e. LacksFor F.device from number e host.new) }
 {
     end_request(host, number)?;
     Ok(bare(alloc, failure))
@@ -99,6 +101,7 @@ fn finish<F: Files + Drop>(
     ensures leads { Refines F.device host.old host.new (λ (b : ℕ) (c : List Program) (s t : HostView). IfOk result (λ o. Finishes b c number how s o t)) }
     ensures beside { (from : Host F) → OnlyEventsOf F.device from number host.old → OnlyEventsOf F.device from number host.new }
     ensures err { IfErr result IsLack }
+    ensures lacks { (from : Host F) → OnlyEventsOf F.device from number host.old → IfErr result (λ e. LacksFor F.device from number e host.new) }
 {
     match how {
         CallEnd::Succeeded => finish_with_output(alloc, host, number),
@@ -120,6 +123,7 @@ fn feed_opened<F: Files + Drop>(
     ensures leads { Refines F.device host.old host.new (λ (b : ℕ) (c : List Program) (s t : HostView). IfOk result (λ o. Feeds b c number init method file s o t)) }
     ensures beside { (from : Host F) → OnlyEventsOf F.device from number host.old → OnlyEventsOf F.device from number host.new }
     ensures err { IfErr result IsLack }
+    ensures lacks { (from : Host F) → OnlyEventsOf F.device from number host.old → IfErr result (λ e. LacksFor F.device from number e host.new) }
 {
     let how = feed(alloc, host, number, init, method, file)?;
     finish(alloc, host, number, how)
@@ -138,6 +142,7 @@ fn open_and_feed<F: Files + Drop>(
     ensures leads { Refines F.device host.old host.new (λ (b : ℕ) (c : List Program) (s t : HostView). IfOk result (λ o. OpensAndFeeds b c number init method file.now s o t)) }
     ensures beside { (from : Host F) → OnlyEventsOf F.device from number host.old → OnlyEventsOf F.device from number host.new }
     ensures err { IfErr result IsLack }
+    ensures lacks { (from : Host F) → OnlyEventsOf F.device from number host.old → IfErr result (λ e. LacksFor F.device from number e host.new) }
 {
     match host.open_file(number, file) {
         Ok(opened) => feed_opened(alloc, host, number, init, method, opened),
@@ -161,6 +166,7 @@ fn go_on<F: Files + Drop>(
     ensures leads { Refines F.device host.old host.new (λ (b : ℕ) (c : List Program) (s t : HostView). IfOk result (λ o. OpensUnless b c number init method file.now s o t)) }
     ensures beside { (from : Host F) → OnlyEventsOf F.device from number host.old → OnlyEventsOf F.device from number host.new }
     ensures err { IfErr result IsLack }
+    ensures lacks { (from : Host F) → OnlyEventsOf F.device from number host.old → IfErr result (λ e. LacksFor F.device from number e host.new) }
 {
     match init {
         CallEnd::Broke(why) => Ok(bare(alloc, Some(why))),
@@ -181,6 +187,7 @@ fn init_and_go_on<F: Files + Drop>(
     ensures leads { Refines F.device host.old host.new (λ (b : ℕ) (c : List Program) (s t : HostView). IfOk result (λ o. Inits b c number method file.now s o t)) }
     ensures beside { (from : Host F) → OnlyEventsOf F.device from number host.old → OnlyEventsOf F.device from number host.new }
     ensures err { IfErr result IsLack }
+    ensures lacks { (from : Host F) → OnlyEventsOf F.device from number host.old → IfErr result (λ e. LacksFor F.device from number e host.new) }
 {
     let init = run_call(host, number);
     go_on(alloc, host, number, init, method, file)
@@ -198,6 +205,7 @@ fn request<F: Files + Drop>(
     ensures leads { Refines F.device host.old host.new (λ (b : ℕ) (c : List Program) (s t : HostView). IfOk result (λ o. ComesOf b c number method file.now s o t)) }
     ensures beside { (from : Host F) → OnlyEventsOf F.device from number host.old → OnlyEventsOf F.device from number host.new }
     ensures err { IfErr result IsLack }
+    ensures lacks { (from : Host F) → OnlyEventsOf F.device from number host.old → IfErr result (λ e. LacksFor F.device from number e host.new) }
 {
     match host.begin(number) {
         Ok(()) => init_and_go_on(alloc, host, number, method, file),
@@ -209,11 +217,13 @@ fn request<F: Files + Drop>(
 }
 
 impl<F: Files + Drop> Handler for Host<F> {
-    ghost use Rattle.http_front.specs.Driven.{OnlyEventsOf, IsAlive, Handles};
+    ghost use Rattle.http_front.specs.Driven.{LacksFor, OnlyEventsOf, IsAlive, Handles};
 
     ghost is_open = { λ host number. IsAlive F.device host };
 
     ghost beside = { λ old number new. OnlyEventsOf F.device old number new };
+
+    ghost lacks = { λ old number method file e new. LacksFor F.device old number e new };
 
     ghost handles = { λ old number method file o new. Handles F.device old number method file o new };
 

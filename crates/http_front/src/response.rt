@@ -1,14 +1,12 @@
 //! The text of a response, in the parts that are written.
 
 ghost use Rattle.std.specs.Prelude.{◌≡◌, []};
-ghost use Rattle.byte_text.specs.Writes.{Wrote};
-ghost use Rattle.http_front.specs.Texts.{text_of};
+ghost use Rattle.http_front.specs.Texts.{IsPut, text_of};
 
 use crate::handler::Handler;
-use byte_text::{WriteFault, put_all};
+use byte_streams::{Sink, SinkFault};
 use filter_chain::Seq;
 use std::alloc::Global;
-use std::io::Write;
 use std::mem;
 
 /// The text of a response, in parts that are written one after another. A body of more than 64 KiB lies as the handler gave it; with a
@@ -21,6 +19,16 @@ pub struct ResponseText {
     pub body: Seq<u8>,
     /// What follows a large body: the end of its chunks.
     pub tail: Vec<u8>,
+}
+
+/// Writes a part. An empty one asks nothing of the sink.
+fn put_part<W: Sink>(sink: &mut W, part: &[u8]) -> Result<(), SinkFault>
+    ensures { IsPut (W.contents sink.old) (W.contents sink.new) (W.failed sink.old) (W.failed sink.new) part.now result }
+{
+    if part.is_empty() {
+        return Ok(());
+    }
+    sink.write_all(part)
 }
 
 impl ResponseText {
@@ -46,13 +54,13 @@ impl ResponseText {
         self.tail.clear();
     }
 
-    /// Writes the parts one after another. Where that fails, a front of the text is written.
-    pub fn write<W: Write>(&self, writer: &mut W) -> Result<(), WriteFault>
-        ensures { Wrote result (W.contents writer.old) (W.contents writer.new) (text_of self.now) }
+    /// Writes the parts one after another. `Failed`, `NoMemory`: a front of the text is written, but not all of it.
+    pub fn write<W: Sink>(&self, sink: &mut W) -> Result<(), SinkFault>
+        ensures { IsPut (W.contents sink.old) (W.contents sink.new) (W.failed sink.old) (W.failed sink.new) (text_of self.now) result }
     {
-        put_all(writer, self.head.as_slice())?;
-        put_all(writer, self.body.as_slice())?;
-        put_all(writer, self.tail.as_slice())
+        put_part(sink, self.head.as_slice())?;
+        put_part(sink, self.body.as_slice())?;
+        put_part(sink, self.tail.as_slice())
     }
 
     /// Gives a large body back to the handler that it is from, so that its room is used again.

@@ -1,10 +1,10 @@
 //! Calls on the host of chains, each run to its end.
 
-ghost use Rattle.std.specs.Prelude.{◌≡◌, ℕ, List, IfOk, IfErr, OnOk, None};
+ghost use Rattle.std.specs.Prelude.{◌≡◌, ℕ, List, IfOk, IfErr, OnOk, None, Some};
 ghost use Rattle.module_code.specs.Program.{Program};
 ghost use Rattle.filter_chain.specs.HostViews.{HostView};
 ghost use Rattle.http_front.specs.Outcomes.{IsLack};
-ghost use Rattle.http_front.specs.Driven.{OnlyEventsOf, IsAlive, Refines};
+ghost use Rattle.http_front.specs.Driven.{LacksFor, OnlyEventsOf, IsAlive, Refines};
 ghost use Rattle.http_front.specs.Requests.{BringsBrigade, EndsRequest, RunsCall, ended_of, lack_of};
 
 use crate::fault::FrontKind;
@@ -27,6 +27,7 @@ pub enum CallEnd {
 pub(crate) fn unless_lack(refusal: Refusal) -> Result<(), FrontKind>
     ensures ok { OnOk result (lack_of refusal ≡ None) }
     ensures err { IfErr result IsLack }
+    ensures lack { IfErr result (λ e. lack_of refusal ≡ Some e) }
 {
     match refusal {
         Refusal::NoMemory => Err(FrontKind::NoMemory),
@@ -67,6 +68,7 @@ pub(crate) fn bring<F: Files + Drop>(
     ensures leads { Refines F.device host.old host.new (λ (b : ℕ) (c : List Program) (s t : HostView). IfOk result (λ how. BringsBrigade b c number pieces s how t)) }
     ensures beside { (from : Host F) → OnlyEventsOf F.device from number host.old → OnlyEventsOf F.device from number host.new }
     ensures err { IfErr result IsLack }
+    ensures lacks { (from : Host F) → OnlyEventsOf F.device from number host.old → IfErr result (λ e. LacksFor F.device from number e host.new) }
 {
     match host.bring(number, pieces) {
         Ok(()) => Ok(run_call(host, number)),
@@ -83,6 +85,7 @@ pub(crate) fn end_request<F: Files + Drop>(host: &mut Host<F>, number: u64) -> R
     ensures leads { Refines F.device host.old host.new (λ (b : ℕ) (c : List Program) (s t : HostView). OnOk result (EndsRequest b c number s t)) }
     ensures beside { (from : Host F) → OnlyEventsOf F.device from number host.old → OnlyEventsOf F.device from number host.new }
     ensures err { IfErr result IsLack }
+    ensures lacks { (from : Host F) → OnlyEventsOf F.device from number host.old → IfErr result (λ e. LacksFor F.device from number e host.new) }
 {
     match host.end_request(number) {
         Ok(()) => Ok(()),

@@ -4,7 +4,7 @@ ghost use Rattle.std.specs.Prelude.{◌≡◌, ◌≤◌, ◌&&◌, ℕ, Bool, L
 ghost use Rattle.httparse.specs.Grammar.{RequestHead};
 ghost use Rattle.httparse.specs.Spans.{IsRequestAt, IsRequestWithin};
 ghost use Rattle.http_message.specs.Looking.{IsFound};
-ghost use Rattle.http_front.specs.Outcomes.{IsLack, ReachesFile};
+ghost use Rattle.http_front.specs.Outcomes.{IsLack, LacksNamesAt};
 ghost use Rattle.http_front.specs.Texts.{text_of};
 ghost use Rattle.http_front.specs.Stepping.{DoesStep, LacksAnswer};
 ghost use Rattle.http_front.specs.Turns.{head_limit, fields_limit};
@@ -56,7 +56,8 @@ fn answer_head<H: Handler, K: Clock>(
     ensures open { H.is_open handler.new number }
     ensures beside { (from : H) → H.beside from number handler.old → H.beside from number handler.new }
     ensures ok { IfOk result (λ s. (whole : Bool) → DoesStep site.now (λ old. H.handles old number) K.tells handler.old clock.old seen.now whole s (text_of text.new) handler.new clock.new) }
-    ensures err { IfErr result (λ e. IsLack e × (e ≡ FrontKind.NamesSpent → (h : RequestHead) → IsRequestAt seen.now spans.now head h → ReachesFile site.now h)) }
+    ensures err { IfErr result (λ e. IsLack e × (e ≡ FrontKind.NamesSpent → (h : RequestHead) → IsRequestAt seen.now spans.now head h
+        → LacksNamesAt (λ old. H.lacks old number) site.now handler.old h handler.new)) }
 {
     let mut reply = reply_to(alloc, seen, spans, head, site, handler, number)?;
     let closes = reply.closes;
@@ -87,7 +88,7 @@ fn step_within<H: Handler, K: Clock>(
     ensures open { H.is_open handler.new number }
     ensures beside { (from : H) → H.beside from number handler.old → H.beside from number handler.new }
     ensures ok { IfOk result (λ s. DoesStep site.now (λ old. H.handles old number) K.tells handler.old clock.old seen.now whole s (text_of text.new) handler.new clock.new) }
-    ensures err { IfErr result (LacksAnswer site.now seen.now whole) }
+    ensures err { IfErr result (LacksAnswer site.now (λ old. H.lacks old number) handler.old seen.now whole handler.new) }
 {
     text.clear(alloc);
     if seen.is_empty() && whole {
@@ -149,7 +150,7 @@ pub fn take_step<H: Handler, K: Clock>(
     ensures open { H.is_open handler.new number }
     ensures beside { (from : H) → H.beside from number handler.old → H.beside from number handler.new }
     ensures ok { IfOk result (λ s. DoesStep site.now (λ old. H.handles old number) K.tells handler.old clock.old seen.now whole s (text_of text.new) handler.new clock.new) }
-    ensures err { IfErr result (LacksAnswer site.now seen.now whole) }
+    ensures err { IfErr result (LacksAnswer site.now (λ old. H.lacks old number) handler.old seen.now whole handler.new) }
 {
     let mut spans = [EMPTY_HEADER_SPAN; FIELDS_LIMIT];
     step_within(

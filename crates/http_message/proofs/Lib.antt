@@ -5,3 +5,4 @@ pub mod Literal
 pub mod SitePaths
 pub mod SiteLaws
 pub mod Puts
+pub mod Kept

@@ -44,11 +44,29 @@ impl Inbox {
         }
     }
 
-    /// Adds bytes. Without memory nothing changes.
+    /// Drops the bytes that are served, which stand before the others.
+    #[tactic(auto, using(crate::proofs::Kept::kept_front))]
+    fn drop_served(&mut self)
+        ensures same { unread self.new ≡ unread self.old }
+        ensures none { self.new.at ≡ 0 }
+    {
+        let at = self.at;
+        if at == 0 {
+            return;
+        }
+        let left = self.bytes.len() - at;
+        self.at = 0;
+        self.bytes.copy_within(at.., 0);
+        self.bytes.truncate(left);
+    }
+
+    /// Adds bytes. Those that are served are dropped first, so that it holds no more than what is not served. Without memory nothing is added.
     pub fn add(&mut self, more: &[u8]) -> Result<(), AllocError>
         ensures ok { OnOk result (unread self.new ≡ unread self.old ++ more.now) }
         ensures err { OnErr result (unread self.new ≡ unread self.old) }
+        ensures held { self.new.at ≡ 0 }
     {
+        self.drop_served();
         self.bytes.extend_from_slice(more)
     }
 }

@@ -1,5 +1,7 @@
 //! A connection's stream, with a deadline for each head.
 
+ghost use Rattle.std.specs.Prelude.{◌≡◌, ◌≤◌, IfOk, length};
+
 use std::cell::Cell;
 use std::io::{self, ErrorKind, Read, Write};
 use std::net::TcpStream;
@@ -9,11 +11,14 @@ use std::time::{Duration, Instant};
 /// How many milliseconds a read may wait longer than a head may take. So the stream is told a new timeout only where that differs by more.
 const SLACK_MILLIS: u64 = 20;
 
-/// When the next head is to be there: not said before it is first waited for. When bytes last came, and what timeout the stream has.
+/// When the next head is to be there: not said before it is first waited for. When bytes last came, whether any came of this head, whether its
+/// time passed without one, and what timeout the stream has.
 #[derive(Drop)]
 pub struct Deadline {
     at: Cell<Option<Instant>>,
     came: Cell<Option<Instant>>,
+    some: Cell<bool>,
+    idle: Cell<bool>,
     set: Cell<Option<Duration>>,
     patience: Duration,
 }
@@ -24,6 +29,8 @@ impl Deadline {
         Deadline {
             at: Cell::new(None),
             came: Cell::new(None),
+            some: Cell::new(false),
+            idle: Cell::new(false),
             set: Cell::new(None),
             patience,
         }
@@ -43,6 +50,17 @@ impl Deadline {
     /// The next head gets a deadline of its own.
     fn renew(&self) {
         self.at.set(None);
+        self.some.set(false);
+    }
+
+    /// The time of this head is over.
+    fn pass(&self) {
+        self.idle.set(!self.some.get());
+    }
+
+    /// Whether the time of a head passed of which no byte came.
+    pub fn was_idle(&self) -> bool {
+        self.idle.get()
     }
 
     /// What is left of the time of this head, which begins when it is first waited for; `None` where it is over.
@@ -79,6 +97,36 @@ impl Deadline {
     }
 }
 
+/// How many times a call is made that a signal interrupts.
+const TRIES: u32 = 1000;
+
+/// Reads a stream. A read that is interrupted is made again.
+fn read_again(mut stream: &TcpStream, buf: &mut [u8]) -> io::Result<usize>
+    ensures { IfOk result (λ n. n ≤ length buf.old) }
+    ensures { length buf.new ≡ length buf.old }
+{
+    for _ in 0..TRIES {
+        match stream.read(buf) {
+            Err(error) if error.kind() == ErrorKind::Interrupted => {}
+            given => return given,
+        }
+    }
+    Err(io::Error::from(ErrorKind::Interrupted))
+}
+
+/// Writes to a stream. A write that is interrupted is made again.
+fn write_again(mut stream: &TcpStream, buf: &[u8]) -> io::Result<usize>
+    ensures { IfOk result (λ n. n ≤ length buf.now) }
+{
+    for _ in 0..TRIES {
+        match stream.write(buf) {
+            Err(error) if error.kind() == ErrorKind::Interrupted => {}
+            given => return given,
+        }
+    }
+    Err(io::Error::from(ErrorKind::Interrupted))
+}
+
 /// Reads a stream, as long as the head that is waited for may take.
 #[derive(Drop)]
 pub struct HeadReader<'a, R: Clock> {
@@ -91,13 +139,23 @@ impl<R: Clock> Read for HeadReader<'_, R> {
     fn read(&mut self, buf: &mut [u8]) -> io::Result<usize> {
         let now = Instant::now(self.runtime)?;
         let Some(left) = self.deadline.left(now) else {
+            self.deadline.pass();
             return Err(io::Error::from(ErrorKind::TimedOut));
         };
         self.deadline.set_timeout(self.stream, left)?;
-        let mut stream = self.stream;
-        let count = stream.read(buf)?;
-        self.deadline.came.set(Instant::now(self.runtime).ok());
-        Ok(count)
+        match read_again(self.stream, buf) {
+            Ok(count) => {
+                self.deadline.came.set(Instant::now(self.runtime).ok());
+                self.deadline.some.set(true);
+                Ok(count)
+            }
+            Err(error) => {
+                if error.kind() == ErrorKind::WouldBlock {
+                    self.deadline.pass();
+                }
+                Err(error)
+            }
+        }
     }
 }
 
@@ -111,8 +169,7 @@ pub struct ReplyWriter<'a> {
 impl Write for ReplyWriter<'_> {
     fn write(&mut self, buf: &[u8]) -> io::Result<usize> {
         self.deadline.renew();
-        let mut stream = self.stream;
-        stream.write(buf)
+        write_again(self.stream, buf)
     }
 
     fn flush(&mut self) -> io::Result<()> {

@@ -3,13 +3,14 @@
 ghost use Rattle.http_front.specs.Driven.{IsAlive};
 
 use crate::head_reader::{Deadline, HeadReader, ReplyWriter};
-use crate::request_log::RequestLog;
+use crate::request_log::{RequestLog, tell_refused};
 use crate::system_clock::SystemClock;
 use crate::unclosed::UnclosedConns;
+use byte_streams::{CountedSource, READS, StdSink, StdSource};
 use filter_chain::{Files, Host};
 use http_front::{FrontFault, Served, Site, serve};
 use std::io::{self, Read};
-use std::net::{Shutdown, TcpListener, TcpStream};
+use std::net::{Shutdown, SocketAddr, TcpListener, TcpStream};
 use std::rt::Clock;
 use std::thread;
 use std::time::{Duration, Instant};
@@ -56,53 +57,70 @@ fn set_up(stream: &TcpStream, patience: Duration) -> io::Result<()> {
     stream.set_write_timeout(Some(patience))
 }
 
-/// Tells a connection: how many requests were answered, or why it ended.
-fn tell(rt: &impl Eprint, number: u64, outcome: Result<Served, FrontFault>) {
-    let _ = match outcome {
-        Ok(served) => {
-            let requests = served.requests;
-            eprintln!(rt; "connection {number}: requests {requests}")
-        }
-        Err(fault) => {
-            let kind = fault.kind;
-            eprintln!(rt; "connection {number}: {kind}")
-        }
-    };
-}
-
-/// Serves a connection to its end. A fault ends it alone. Where it has a number to be told as, each request is told on the standard error.
+/// Serves a connection to its end. A fault ends it alone.
 pub fn serve_stream<R: Clock + Eprint + AllocGlobal, F: Files + Drop>(
     rt: &R,
     stream: &TcpStream,
     site: &Site,
     host: &mut Host<F>,
-    patience: Duration,
-    told_as: Option<u64>,
+    deadline: &Deadline,
+    log: Option<&RequestLog<'_, R>>,
 ) -> Result<Served, FrontFault>
     requires { IsAlive F.device host.old }
     ensures { IsAlive F.device host.new }
 {
-    let deadline = Deadline::new(patience);
-    let mut reader = HeadReader {
+    let reader = HeadReader {
         runtime: rt,
         stream,
-        deadline: &deadline,
+        deadline,
     };
-    let mut writer = ReplyWriter {
-        stream,
-        deadline: &deadline,
-    };
-    let log = told_as.map(|number| RequestLog {
-        runtime: rt,
-        deadline: &deadline,
-        number,
-    });
+    let writer = ReplyWriter { stream, deadline };
+    let mut source = CountedSource::new(StdSource::new(reader), READS);
+    let mut sink = StdSink::new(writer);
     let mut clock = SystemClock { runtime: rt, log };
-    serve(rt.alloc(), &mut reader, &mut writer, site, host, &mut clock)
+    serve(rt.alloc(), &mut source, &mut sink, site, host, &mut clock)
 }
 
 /// How many milliseconds the program waits where no connection could be taken.
 const PAUSE_MILLIS: u64 = 100;
+
+/// Serves a connection that was taken, and gives its number on the host where that could not be closed.
+fn serve_taken<R: Clock + Eprint + AllocGlobal, F: Files + Drop>(
+    rt: &R,
+    stream: &TcpStream,
+    site: &Site,
+    host: &mut Host<F>,
+    manner: ServeSettings,
+    peer: SocketAddr,
+    number: u64,
+) -> Option<u64>
+    requires { IsAlive F.device host.old }
+    ensures { IsAlive F.device host.new }
+{
+    let deadline = Deadline::new(manner.patience);
+    let log = RequestLog {
+        runtime: rt,
+        deadline: &deadline,
+        peer,
+        number,
+    };
+    if let Err(error) = set_up(stream, manner.patience) {
+        if manner.logs {
+            log.tell_unready(&error);
+        }
+        return None;
+    }
+    let told = if manner.logs { Some(&log) } else { None };
+    let outcome = serve_stream(rt, stream, site, host, &deadline, told);
+    if manner.logs {
+        log.tell_end(outcome);
+    }
+    let _ = drain(rt, stream);
+    match outcome {
+        Err(fault) => fault.left,
+        Ok(_) => None,
+    }
+}
 
 /// Serves connections one after another. One that cannot be taken is none.
 pub fn serve_all<R: Clock + Eprint + AllocGlobal, F: Files + Drop>(
@@ -121,30 +139,22 @@ pub fn serve_all<R: Clock + Eprint + AllocGlobal, F: Files + Drop>(
     };
     let mut number = 0u64;
     let mut left = UnclosedConns::new();
-    for stream in listener.incoming() {
-        let Ok(stream) = stream else {
-            thread::sleep(rt, Duration::from_millis(PAUSE_MILLIS));
-            continue;
+    for _ in 0..u64::MAX {
+        let (stream, peer) = match listener.accept() {
+            Ok(taken) => taken,
+            Err(error) => {
+                if manner.logs {
+                    tell_refused(rt, &error);
+                }
+                thread::sleep(rt, Duration::from_millis(PAUSE_MILLIS));
+                continue;
+            }
         };
         number = number.saturating_add(1);
-        if set_up(&stream, manner.patience).is_ok() {
-            let told_as = if manner.logs { Some(number) } else { None };
-            let outcome = serve_stream(rt, &stream, site, host, manner.patience, told_as);
-            if let Err(
-                FrontFault {
-                    left: Some(conn),
-                    ..
-                },
-            ) = outcome
-            {
-                left.add(conn);
-            }
-            if manner.logs {
-                tell(rt, number, outcome);
-            }
-            let _ = drain(rt, &stream);
-            left.close(host);
+        if let Some(conn) = serve_taken(rt, &stream, site, host, manner, peer, number) {
+            left.add(conn);
         }
+        left.close(host);
         if number == most {
             return;
         }

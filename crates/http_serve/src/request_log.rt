@@ -1,15 +1,60 @@
-//! A line for each request.
+//! The lines of the log, on the standard error.
 
 use crate::head_reader::Deadline;
 use filter_chain::{Cause, Refusal};
-use http_front::{Exchange, Failure, status_text};
+use http_front::{Exchange, Failure, FrontFault, FrontKind, Served, status_text};
+use jiff::Timestamp;
+use std::alloc::AllocError;
+use std::net::SocketAddr;
 use std::rt::Clock;
+use std::time::SystemTime;
+use std::{fmt, io};
+
+/// The time in the form of RFC 3339, to the millisecond; a dash where the clock cannot be asked.
+struct Moment(Option<Timestamp>);
+
+impl Moment {
+    fn now(rt: &impl Clock) -> Moment {
+        Moment(timestamp(rt))
+    }
+}
+
+fn timestamp(rt: &impl Clock) -> Option<Timestamp> {
+    let now = SystemTime::now(rt).ok()?;
+    let since = now.duration_since(SystemTime::UNIX_EPOCH).ok()?;
+    let millis = i64::try_from(since.as_millis()).ok()?;
+    Timestamp::from_millisecond(millis).ok()
+}
+
+impl fmt::Display for Moment {
+    fn fmt<W: fmt::Write>(&self, f: &mut fmt::Formatter<W>) -> fmt::Result {
+        match &self.0 {
+            Some(at) => write!(f, "{at}"),
+            None => f.write_str("-"),
+        }
+    }
+}
+
+/// Writes a line whole, by one call; without memory it is left out.
+pub fn put_line(rt: &impl Eprint, line: Result<String, AllocError>) {
+    if let Ok(line) = line {
+        let _ = rt.eprint(line.as_str());
+    }
+}
+
+/// Tells why no connection was taken.
+pub fn tell_refused<R: Clock + Eprint + AllocGlobal>(rt: &R, why: &io::Error) {
+    let at = Moment::now(rt);
+    put_line(rt, format!(in rt.alloc(); "{at} cannot accept: {why}\n"));
+}
 
 /// Tells the requests of a connection on the standard error.
 #[derive(Drop)]
-pub struct RequestLog<'a, R: Clock + Eprint> {
+pub struct RequestLog<'a, R: Clock + Eprint + AllocGlobal> {
     pub runtime: &'a R,
     pub deadline: &'a Deadline,
+    /// Who sends.
+    pub peer: SocketAddr,
     /// The number of the connection, as the program counts them.
     pub number: u64,
 }
@@ -22,27 +67,73 @@ fn hint(failure: Failure) -> &'static str {
     }
 }
 
+/// Why a status is 500, as it stands at the end of a line.
+struct Reason(Option<Failure>);
+
+impl fmt::Display for Reason {
+    fn fmt<W: fmt::Write>(&self, f: &mut fmt::Formatter<W>) -> fmt::Result {
+        let Some(why) = self.0 else {
+            return Ok(());
+        };
+        let hint = hint(why);
+        write!(f, ": {why}{hint}")
+    }
+}
+
 /// What was sent, or a dash where nothing was.
 fn or_dash(sent: &[u8]) -> &[u8] {
     if sent.is_empty() { b"-" } else { sent }
 }
 
-impl<R: Clock + Eprint> RequestLog<'_, R> {
+impl<R: Clock + Eprint + AllocGlobal> RequestLog<'_, R> {
     /// Tells a request: its method and target, the status, the bytes of the body and the microseconds since its last bytes came; and of a
     /// failure the cause.
     pub fn tell(&self, exchange: &Exchange<'_>) {
+        let at = Moment::now(self.runtime);
+        let peer = self.peer;
         let number = self.number;
         let method = or_dash(exchange.method).escape_ascii();
         let target = or_dash(exchange.target).escape_ascii();
         let status = status_text(exchange.status);
         let size = exchange.size;
         let micros = self.deadline.taken(self.runtime).as_micros();
-        let _ = eprint!(self.runtime;
-            "connection {number}: {method} {target}: {status}, {size} bytes, {micros} us"
+        let why = Reason(exchange.failure);
+        let line = format!(in self.runtime.alloc();
+            "{at} {peer} connection {number}: {method} {target}: {status}, {size} bytes, {micros} us{why}\n"
         );
-        let _ = match exchange.failure {
-            Some(why) => eprintln!(self.runtime; ": {why}{}", hint(why)),
-            None => eprintln!(self.runtime),
+        put_line(self.runtime, line);
+    }
+
+    /// Tells a connection: how many requests were answered, that it was idle too long, or why it ended.
+    pub fn tell_end(&self, outcome: Result<Served, FrontFault>) {
+        let at = Moment::now(self.runtime);
+        let peer = self.peer;
+        let number = self.number;
+        let alloc = self.runtime.alloc();
+        let line = match outcome {
+            Ok(served) => {
+                let requests = served.requests;
+                format!(in alloc; "{at} {peer} connection {number}: requests {requests}\n")
+            }
+            Err(fault) if fault.kind == FrontKind::Read && self.deadline.was_idle() => {
+                format!(in alloc; "{at} {peer} connection {number}: idle too long\n")
+            }
+            Err(fault) => {
+                let kind = fault.kind;
+                format!(in alloc; "{at} {peer} connection {number}: {kind}\n")
+            }
         };
+        put_line(self.runtime, line);
+    }
+
+    /// Tells that a connection was taken and could not be set up.
+    pub fn tell_unready(&self, why: &io::Error) {
+        let at = Moment::now(self.runtime);
+        let peer = self.peer;
+        let number = self.number;
+        put_line(
+            self.runtime,
+            format!(in self.runtime.alloc(); "{at} {peer} connection {number}: cannot be set up: {why}\n"),
+        );
     }
 }

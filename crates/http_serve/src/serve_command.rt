@@ -1,29 +1,31 @@
 //! The command `serve`: a chain of filters behind a port.
 
-ghost use Rattle.std.specs.Prelude.{IfOk};
+ghost use Rattle.std.specs.Prelude.{IfOk, ◌≤◌, vec_len};
 ghost use Rattle.http_front.specs.Driven.{IsAlive};
 
 use crate::listening::{ServeSettings, serve_all};
 use bucket_kinds::DiskFiles;
-use byte_streams::CountedSource;
-use byte_text::{first_line, put_all};
+use byte_streams::{CountedSource, READ_BYTES};
+use byte_text::put_all;
 use filter_chain::{CheckedChain, Files, Host, Limits};
-use http_message::{SITE_BYTES, Site, SiteRefusal, site_line, site_of};
-use module_tools::{CommandOutput, Loaded, NamedFile, PlayFault, load_part, read_all};
+use http_message::{SITE_BYTES, Site, SiteRefusal, site_of};
+use module_tools::{CommandOutput, Loaded, NamedFile, PlayFault, load_part};
 use script_text::{Part, accept_parts, put_refused_module};
 use std::alloc::{AllocError, Global};
-use std::net::{IpAddr, Ipv4Addr, Net, SocketAddr, TcpListener, TcpStream};
+use std::net::{IpAddr, Net, SocketAddr, TcpListener, TcpStream};
 use std::os::unix::fs::FileExt;
 use std::process::ExitCode;
 use std::rt::{Files as FileSystem, Runtime};
 use std::time::Duration;
-use std::{fs, io};
+use std::io::{self, Read};
 
 /// What `serve` is asked for.
 #[derive(Drop)]
 pub struct ServeOptions<'a> {
     /// The site file.
     pub site: &'a str,
+    /// The address that is listened on, as it was given.
+    pub listen: &'a str,
     /// The port.
     pub port: u16,
     /// How many connections are served; none: as many as come until the program is stopped.
@@ -124,50 +126,34 @@ fn read_chain<R: FileSystem + AllocGlobal>(
     }
 }
 
-/// Refuses a name that leads to a folder, a pipe or a device, of which a pipe would keep who opens it waiting.
-fn look_at_file<R: FileSystem + AllocGlobal>(rt: &R, name: &str) -> Result<(), StartError> {
-    match fs::metadata(rt, name) {
-        Ok(found) if !found.is_file() => Err(told(
-            rt.alloc(),
-            format!(in rt.alloc(); "cannot serve {name}\n"),
-        )),
-        _ => Ok(()),
-    }
-}
-
-/// Looks at the file of each line of a site file.
-fn look_at_files<R: FileSystem + AllocGlobal>(rt: &R, text: &[u8]) -> Result<(), StartError> {
-    let mut rest = text;
-    while !rest.is_empty() {
-        let line = first_line(rest);
-        if let Some(line) = site_line(line.text) {
-            look_at_file(rt, line.file)?;
+/// The text of a site file. No more of it is read than a site file may have.
+fn read_site_text<R: FileSystem + AllocGlobal>(rt: &R, name: &str) -> Result<Vec<u8>, StartError>
+    ensures { IfOk result (λ text. vec_len text ≤ 1048576) }
+{
+    let mut reader = NamedFile::new(rt, name);
+    let mut text = Vec::new(rt.alloc());
+    let mut buffer = [0; READ_BYTES];
+    while text.len() <= SITE_BYTES {
+        match reader.read(&mut buffer) {
+            Ok(0) => return Ok(text),
+            Ok(count) => text.extend_from_slice(&buffer[..count])?,
+            Err(_) => return Err(cannot_read(rt.alloc(), name)),
         }
-        rest = &rest[line.width..];
     }
-    Ok(())
+    Err(cannot_read(rt.alloc(), name))
 }
 
 /// The site that a file says.
 fn read_site<R: FileSystem + AllocGlobal>(rt: &R, name: &str) -> Result<Site, StartError> {
     let alloc = rt.alloc();
-    let mut reader = CountedSource::from_reader(NamedFile::new(rt, name));
-    let text = match read_all(alloc, &mut reader) {
-        Ok(text) => text,
-        Err(fault) => return Err(stop_of(alloc, fault, name)),
-    };
-    if text.len() > SITE_BYTES {
-        return Err(cannot_read(alloc, name));
-    }
-    let site = match site_of(alloc, text.as_slice()) {
-        Ok(site) => site,
+    let text = read_site_text(rt, name)?;
+    match site_of(alloc, text.as_slice()) {
+        Ok(site) => Ok(site),
         Err(SiteRefusal::Line(number)) => {
-            return Err(told(alloc, format!(in alloc; "site line {number}\n")));
+            Err(told(alloc, format!(in alloc; "site line {number}\n")))
         }
-        Err(SiteRefusal::NoMemory) => return Err(StartError::NoMemory),
-    };
-    look_at_files(rt, text.as_slice())?;
-    Ok(site)
+        Err(SiteRefusal::NoMemory) => Err(StartError::NoMemory),
+    }
 }
 
 /// What serves: the host and the site, and the port that is listened on.
@@ -179,6 +165,17 @@ where
     host: Host<DiskFiles<R>>,
     site: Site,
     listener: TcpListener,
+    address: SocketAddr,
+}
+
+/// The address and the port, where they are one.
+fn address_of(front: &ServeOptions<'_>) -> Option<SocketAddr> {
+    let address = front.listen.parse::<IpAddr>().ok()?;
+    Some(SocketAddr::new(address, front.port))
+}
+
+fn cannot_listen(alloc: Global) -> StartError {
+    told(alloc, format!(in alloc; "cannot listen\n"))
 }
 
 /// Reads and checks the chain, reads the site, and listens.
@@ -195,14 +192,17 @@ where
         budget: u64::from(front.budget),
     };
     let host = Host::checked(rt.alloc(), files, chain, limits);
-    let address = SocketAddr::new(IpAddr::V4(Ipv4Addr::LOCALHOST), front.port);
+    let Some(address) = address_of(front) else {
+        return Err(cannot_listen(rt.alloc()));
+    };
     match TcpListener::bind(rt, address) {
         Ok(listener) => Ok(Server {
             host,
             site,
             listener,
+            address,
         }),
-        Err(_) => Err(told(rt.alloc(), format!(in rt.alloc(); "cannot listen\n"))),
+        Err(_) => Err(cannot_listen(rt.alloc())),
     }
 }
 
@@ -229,8 +229,8 @@ where
         Ok(ready) => ready,
         Err(why) => return tell_stop(rt, why),
     };
-    let port = front.port;
-    if println!(rt; "listening on 127.0.0.1:{port}").is_err() {
+    let address = ready.address;
+    if println!(rt; "listening on {address}").is_err() {
         let _ = rt.eprintln(PlayFault::Write);
         return ExitCode::FAILURE;
     }

@@ -7,13 +7,13 @@ use std::time::SystemTime;
 
 /// The clock of the system. A clock that cannot be asked, or that is set before 1970, tells the beginning of 1970.
 #[derive(Drop)]
-pub struct SystemClock<'a, R: rt::Clock + Eprint> {
+pub struct SystemClock<'a, R: rt::Clock + Eprint + AllocGlobal> {
     pub runtime: &'a R,
     /// Where each request is told, if it is.
-    pub log: Option<RequestLog<'a, R>>,
+    pub log: Option<&'a RequestLog<'a, R>>,
 }
 
-impl<R: rt::Clock + Eprint> Clock for SystemClock<'_, R> {
+impl<R: rt::Clock + Eprint + AllocGlobal> Clock for SystemClock<'_, R> {
     // What a system's clock tells is not known.
     ghost tells = { λ _ _ _. Unit {0} };
 
@@ -28,7 +28,7 @@ impl<R: rt::Clock + Eprint> Clock for SystemClock<'_, R> {
     }
 
     fn answered(&mut self, exchange: &Exchange<'_>) {
-        if let Some(log) = &self.log {
+        if let Some(log) = self.log {
             log.tell(exchange);
         }
     }

@@ -3,6 +3,7 @@
 ghost use Rattle.std.specs.Prelude.{IfOk};
 ghost use Rattle.http_front.specs.Driven.{IsAlive};
 
+use crate::head_reader::Deadline;
 use crate::listening::serve_stream;
 use bucket_kinds::MemFiles;
 use filter_chain::{CheckedChain, Files, Host, Limits};
@@ -54,14 +55,8 @@ fn answers_over_a_socket(rt: HostRuntime) -> Result<(), Fail> {
     let listener = TcpListener::bind(&rt, SocketAddr::new(IpAddr::V4(Ipv4Addr::LOCALHOST), 0))?;
     let mut client = asking(&rt, &listener)?;
     let (stream, _) = listener.accept()?;
-    let served = serve_stream(
-        &rt,
-        &stream,
-        &site,
-        &mut host,
-        Duration::from_secs(10),
-        None,
-    );
+    let deadline = Deadline::new(Duration::from_secs(10));
+    let served = serve_stream(&rt, &stream, &site, &mut host, &deadline, None);
     assert!(rt; served.is_ok());
     drop(stream);
     let mut answer = Vec::new(alloc);

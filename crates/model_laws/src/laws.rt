@@ -490,6 +490,8 @@ pub fn connections_share_the_tree()
     ensures ends { EndsLeaveTheTree }
     ensures opens { OpeningPlantsAPool }
     ensures closes { ClosingTakesItsPool }
+{}
+
 /// Whatever surrounds an instance, each open run of it keeps what is sound: each name is one bucket's, buckets are as their kinds have
 /// them, its variables stand as its module declares them, and pools of other filters that last are apart from its own.
 pub fn open_runs_stay_sound()

@@ -6,5 +6,8 @@ pub returns : goal.returns
 returns g c =
     elim c.match-close.branch [
       | in-Ok v ↦ closed g.F.Files.device c.args.number c.args.host.now c.close.new.self c.match-close.result _ v.result-is v.in-Ok.ensures.event
-      | in-Err v ↦ kept g.F.Files.device c.args.number c.args.host.now c.close.new.self c.match-close.result _ v.result-is v.in-Err.ensures.event
+      | in-Err v ↦ kept g.F.Files.device c.args.number c.args.host.now c.close.new.self c.match-close.result _ v.result-is c.requires v.in-Err.ensures.event
     ]
+
+pub close-requires : goal.close-requires
+close-requires g c = (c.requires.0, c.requires.1)

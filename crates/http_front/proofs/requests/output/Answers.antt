@@ -12,7 +12,7 @@ returns-in-Err-clause-leads g c =
     output_refused g.F.Files.device c.args.number c.args.host.now c.take_output.new.self c.bare.result c.in-Err.refusal c.bare.ensures c.in-Err.ensures.event
 
 pub returns-in-Ok-clause-beside : goal.returns-in-Ok-clause-beside
-returns-in-Ok-clause-beside g c from so = beside_event g.F.Files.device c.args.number from c.args.host.now c.take_output.new.self so _ _ c.in-Ok.ensures.event
+returns-in-Ok-clause-beside g c from so = beside_event g.F.Files.device c.args.number from c.args.host.now c.take_output.new.self so _ _ tt c.in-Ok.ensures.event
 
 pub returns-in-Err-clause-beside : goal.returns-in-Err-clause-beside
-returns-in-Err-clause-beside g c from so = beside_event g.F.Files.device c.args.number from c.args.host.now c.take_output.new.self so _ _ c.in-Err.ensures.event
+returns-in-Err-clause-beside g c from so = beside_event g.F.Files.device c.args.number from c.args.host.now c.take_output.new.self so _ _ tt c.in-Err.ensures.event

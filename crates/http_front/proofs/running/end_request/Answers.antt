@@ -1,8 +1,13 @@
-use Rattle.http_front.proofs.Beside.{beside_event}
+use Rattle.std.proofs.lemmas.Result.{IfErr-weaker}
+use Rattle.http_front.proofs.Beside.{beside_event, beside_lacks}
 use Rattle.http_front.proofs.running.end_request.Goals as goal
 
 pub returns-in-Ok-clause-beside : goal.returns-in-Ok-clause-beside
-returns-in-Ok-clause-beside g c from so = beside_event g.F.Files.device c.args.number from c.args.host.now c.end_request.new.self so _ _ c.in-Ok.ensures.event
+returns-in-Ok-clause-beside g c from so = beside_event g.F.Files.device c.args.number from c.args.host.now c.end_request.new.self so _ _ tt c.in-Ok.ensures.event
 
 pub returns-in-Err-clause-beside : goal.returns-in-Err-clause-beside
-returns-in-Err-clause-beside g c from so = beside_event g.F.Files.device c.args.number from c.args.host.now c.end_request.new.self so _ _ c.in-Err.ensures.event
+returns-in-Err-clause-beside g c from so = beside_event g.F.Files.device c.args.number from c.args.host.now c.end_request.new.self so _ _ tt c.in-Err.ensures.event
+
+pub returns-in-Err-clause-lacks : goal.returns-in-Err-clause-lacks
+returns-in-Err-clause-lacks g c from so =
+    IfErr-weaker c.unless_lack.result _ _ (λ e lack. beside_lacks g.F.Files.device c.args.number from c.args.host.now c.end_request.new.self so _ c.in-Err.refusal e tt lack c.in-Err.ensures.event) c.unless_lack.ensures.lack

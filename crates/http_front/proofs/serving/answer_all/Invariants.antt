@@ -11,9 +11,10 @@ invariant-loop g l = record {
   beside : (from : g.row.H.Denot) → g.H.Handler.beside from l.fn.number l.fn.handler → g.H.Handler.beside from l.fn.number l.handler;
   few : l.so_far.requests + length (unread l.so_far.inbox) ≤ l.fn.so_far.requests + length (unread l.fn.so_far.inbox);
   whole : l.so_far.whole ≡ l.fn.so_far.whole;
+  sound : g.W.Sink.failed l.sink ≡ g.W.Sink.failed l.fn.sink;
   goes : (old : g.row.H.Denot) (before : g.row.K.Denot) (r q w : Option (List ℕ)) → (l.fn.so_far.whole ≡ true → IsAtEnd q)
-      → SoFar l.site (λ h. g.H.Handler.handles h l.fn.number) g.K.Clock.tells old before r q w (g.W.Write.contents l.fn.writer) (unread l.fn.so_far.inbox) l.fn.so_far.requests l.fn.handler l.fn.clock
-      → SoFar l.site (λ h. g.H.Handler.handles h l.fn.number) g.K.Clock.tells old before r q w (g.W.Write.contents l.writer) (unread l.so_far.inbox) l.so_far.requests l.handler l.clock;
+      → SoFar l.site (λ h. g.H.Handler.handles h l.fn.number) g.K.Clock.tells old before r q w (g.W.Sink.contents l.fn.sink) (unread l.fn.so_far.inbox) l.fn.so_far.requests l.fn.handler l.fn.clock
+      → SoFar l.site (λ h. g.H.Handler.handles h l.fn.number) g.K.Clock.tells old before r q w (g.W.Sink.contents l.sink) (unread l.so_far.inbox) l.so_far.requests l.handler l.clock;
 }
 
 abbrev pub decreases-loop : goal.decreases-loop

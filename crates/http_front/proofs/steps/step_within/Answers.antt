@@ -30,4 +30,4 @@ returns-in_ok-put_reply-in-Headless-clause-ok g c = (
 
 pub returns-in-Head-clause-err : goal.returns-in-Head-clause-err
 returns-in-Head-clause-err g c =
-    found_lack c.args.site.now c.args.seen.now c.look_at.new.spans c.args.whole c.in-Head.head c.answer_head.result (c.look_at.ensures.room ∙ c.requires.room) c.in-Head.ensures.looks.1 c.answer_head.ensures.err
+    found_lack c.args.site.now (λ old. g.H.Handler.lacks old c.args.number) _ _ c.args.seen.now c.look_at.new.spans c.args.whole c.in-Head.head c.answer_head.result (c.look_at.ensures.room ∙ c.requires.room) c.in-Head.ensures.looks.1 c.answer_head.ensures.err

@@ -9,4 +9,4 @@ returns-clause-ok g c =
     c.step_within.ensures.ok
 
 pub returns-clause-err : goal.returns-clause-err
-returns-clause-err g c = lack_wider c.args.site.now c.args.seen.now c.front.result.now c.args.whole c.ends_within.result c.step_within.result c.front.ensures.is c.ends_within.ensures c.step_within.ensures.err
+returns-clause-err g c = lack_wider c.args.site.now (λ old. g.H.Handler.lacks old c.args.number) _ _ c.args.seen.now c.front.result.now c.args.whole c.ends_within.result c.step_within.result c.front.ensures.is c.ends_within.ensures c.step_within.ensures.err

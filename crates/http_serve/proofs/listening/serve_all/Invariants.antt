@@ -2,5 +2,5 @@
 use Rattle.http_front.specs.Driven.{IsAlive}
 use Rattle.http_serve.proofs.listening.serve_all.Given as goal
 
-abbrev pub invariant-loop-stream : goal.invariant-loop-stream
-invariant-loop-stream g l = IsAlive g.F.Files.device l.host
+abbrev pub invariant-loop : goal.invariant-loop
+invariant-loop g l = IsAlive g.F.Files.device l.host

@@ -1,0 +1,5 @@
+use Rattle.http_front.proofs.Beside.{beside_same, err_both}
+use Rattle.http_front.proofs.requests.HostHandler.handle.Goals as goal
+
+pub returns-clause-err : goal.returns-clause-err
+returns-clause-err g c = err_both c.request.result _ _ c.request.ensures.err (c.request.ensures.lacks c.args.self.now (beside_same g.F.Files.device c.args.number c.args.self.now))
