@@ -1,21 +1,26 @@
 -- Faults and names that are wanting are told alike in a part and in the whole.
-use Rattle.std.proofs.Common.{◌≡◌, ℕ, Bool, true, false, ◌||◌, not, cond, List, [], ◌∷◌, Option, Some, None, refl, sym, ◌∙◌, ap, ap₂, inl, inr}
+use Rattle.std.proofs.Common.{◌≡◌, ℕ, Bool, true, false, ◌||◌, ◌+◌, not, cond, nat_lt, is_some, option_to_list, List, [], ◌∷◌, Option, Some, None, refl, sym, ◌∙◌, ap, ap₂, inl, inr}
+use Rattle.std.specs.List.{list_any}
 use Rattle.std.proofs.lemmas.Bool.{cases_Bool, both_ways, false_from_ne_true}
 use Rattle.module_code.specs.declared.instr.Instr.{Instr}
 use Rattle.module_code.specs.declared.instr.Instr.TheVariants as instr
 use Rattle.module_code.specs.declared.instr.PoolRef.{PoolRef}
 use Rattle.module_code.specs.declared.instr.PoolRef.TheVariants as pool
+use Rattle.module_code.specs.Program.{Program}
+use Rattle.run_model.specs.declared.bucket.NamedBucket.{NamedBucket}
 use Rattle.run_model.specs.declared.fault.FaultKind.TheVariants.{F1, F10}
 use Rattle.run_model.specs.declared.payload.Payload.{Payload}
 use Rattle.run_model.specs.Pools.{Pools, is_empty, is_live, is_under}
 use Rattle.run_model.specs.State.{Configuration, named_at, pool_named, is_own_at}
-use Rattle.run_model.specs.Cursors.{spot_of, holder_of, variable_of}
-use Rattle.run_model.specs.Faults.{Want, WPool, WNewPool, is_live_named, has_pool, has_pool_at, cursor_fault, is_stray, keeps_stray, fault_want, first_fault, or_else, wants}
-use Rattle.run_model.specs.Steps.{names_of, pool_names_of, is_spent, lacks_names}
+use Rattle.run_model.specs.BucketSteps.{items_at}
+use Rattle.run_model.specs.Cursors.{spot, bucket_at, spot_of, holder_of, variable_of}
+use Rattle.run_model.specs.Faults.{fault, Want, WPool, WNewPool, is_live_named, has_pool, has_pool_at, cursor_fault, is_stray, keeps_stray, fault_want, first_fault, or_else, wants}
+use Rattle.run_model.specs.Steps.{grows, made_on, names_of, pool_names_of, is_spent, lacks_names, takes_reference, takes_room}
 use Rattle.model_laws.specs.Parts.{belongs, part}
 use Rattle.model_laws.specs.PartSteps.{in_part, LiesIn, FaultsAlike, NamesAlike}
 use Rattle.model_laws.proofs.parts.Paths.{under_belongs, part_off, live_alike}
-use Rattle.model_laws.proofs.parts.Steps.{named_under}
+use Rattle.model_laws.proofs.StepPools.{wanted_pool}
+use Rattle.model_laws.proofs.parts.Steps.{made_is, named_under, ref_part, second_want, wanted_under}
 
 -- Faults.
 
@@ -60,3 +65,21 @@ names_of_alike c i r = refl
 pub names_alike : NamesAlike
 unfolding lacks_names part
 names_alike c i r = ap (λ (n : ℕ). is_spent r.shared.next n || is_spent r.shared.pools.next (pool_names_of i)) (names_of_alike c i r)
+
+-- What memory may be wanted for.
+
+reference_alike : (c : ℕ) (ps : Pools Payload) (o : Option ℕ) (items : List NamedBucket) → ((n : ℕ) → o ≡ Some n → is_under ps c n ≡ true)
+    → takes_reference (part c ps) o items ≡ takes_reference ps o items
+reference_alike c ps None items under = refl
+reference_alike c ps (Some n) items under = ap (λ (ref : NamedBucket → Option ℕ). list_any (λ x. is_some (ref x)) items) (ref_part c n ps (under n refl))
+
+room_alike : (c : ℕ) (p : Program) (i : Instr) (r : Configuration) → LiesIn c r → fault p r i ≡ None → takes_room (in_part c r) i ≡ takes_room r i
+unfolding part spot_of holder_of variable_of named_at
+room_alike c p (instr.BSave o b) r s none =
+    reference_alike c r.shared.pools (made_on (r.instance.brigades o)) (items_at r b) (λ n is. s.brigades o n (sym (made_is (r.instance.brigades o)) ∙ is))
+room_alike c p (instr.Aside at q) r s none =
+    reference_alike c r.shared.pools (pool_named r q) (option_to_list (bucket_at (spot r at))) (λ n is. wanted_under c p r s q (wanted_pool r q _ (second_want _ _ none)) n is)
+room_alike c p i r s none = refl
+
+pub grows_alike : (c : ℕ) (p : Program) (i : Instr) (r : Configuration) → LiesIn c r → fault p r i ≡ None → grows (in_part c r) i ≡ grows r i
+grows_alike c p i r s none = ap₂ (λ (n : ℕ) (t : Bool). nat_lt 0 (n + pool_names_of i) || t) (names_of_alike c i r) (room_alike c p i r s none)

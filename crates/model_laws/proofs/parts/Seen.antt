@@ -1,5 +1,5 @@
 -- Events over the pools of all connections, seen in the part of one.
-use Rattle.std.proofs.Common.{◌≡◌, ℕ, Bool, true, false, ◌||◌, not, cond, nat_le, nat_lt, List, [], ◌∷◌, length, ◌+◌, ◌++◌, Option, Some, None, Result, Ok, refl, sym, ap, ◌∙◌}
+use Rattle.std.proofs.Common.{◌≡◌, ℕ, Bool, true, false, ◌||◌, not, cond, nat_le, nat_lt, List, [], ◌∷◌, length, ◌+◌, ◌++◌, Option, Some, None, Result, Ok, refl, sym, ap, ap₂, ◌∙◌}
 use Rattle.module_code.specs.Program.{Program}
 use Rattle.module_code.specs.declared.instr.Instr.{Instr}
 use Rattle.run_model.specs.declared.event.Cause.{Cause}
@@ -23,7 +23,7 @@ use Rattle.model_laws.specs.Parts.{part, HasPart, Made, Registered}
 use Rattle.model_laws.specs.PartSteps.{LiesIn, in_part, linked_in_part}
 use Rattle.model_laws.specs.SharedPools.{BeginsSeenInPart, BringsSeenInPart, EndsSeenInPart, LabelsSeenInPart, LiesOver, OpensFileSeenInPart, StepsSeenInPart, over, seen_in}
 use Rattle.model_laws.proofs.chains.PutBack.{looking}
-use Rattle.model_laws.proofs.parts.Alike.{faults_alike, names_alike}
+use Rattle.model_laws.proofs.parts.Alike.{faults_alike, grows_alike, names_alike}
 use Rattle.model_laws.proofs.parts.Own.{own_changes}
 use Rattle.model_laws.proofs.parts.Paths.{part_under}
 use Rattle.model_laws.proofs.parts.Steps.{destroyed_alike, reached_alike}
@@ -54,26 +54,32 @@ module _ (d : ℕ) (memory : Bool) (chain : List Program) (reads : Reads) (f : F
 
   executed_alike : (i : Instr) → fault (module_at chain f.of) (configuration g c f) i ≡ None → executed memory chain reads i f rest here ≡ seen_in d (executed memory chain reads i f rest (g, c))
   unfolding executed
-  executed_alike i none = ap choose names ∙ by_names (lacks_names (configuration g c f) i || is_spent g.next calls) where
+  executed_alike i none = ap₂ choose names room ∙ by_names (lacks_names (configuration g c f) i || is_spent g.next calls) where
     calls : ℕ
     calls = calls_of chain i f rest c.queue
 
-    enough : Bool
-    enough = memory || not (grows i || nat_lt 0 calls)
+    grow : Bool
+    grow = grows (configuration g c f) i
 
-    choose : Bool → Result Stepped Refusal × Linked
-    choose t = cond t (broken_by cause.NamesSpent here) (cond enough (counted (proceeds chain reads i f rest here)) (broken_by cause.NoMemory here))
+    enough : Bool → Bool
+    enough t = memory || not (t || nat_lt 0 calls)
+
+    choose : Bool → Bool → Result Stepped Refusal × Linked
+    choose t u = cond t (broken_by cause.NamesSpent here) (cond (enough u) (counted (proceeds chain reads i f rest here)) (broken_by cause.NoMemory here))
 
     names : (lacks_names (configuration here.0 here.1 f) i || is_spent g.next calls) ≡ (lacks_names (configuration g c f) i || is_spent g.next calls)
     names = ap (λ (r : Configuration). lacks_names r i || is_spent g.next calls) seen ∙ ap (λ (b : Bool). b || is_spent g.next calls) (names_alike d i (configuration g c f))
+
+    room : grows (configuration here.0 here.1 f) i ≡ grow
+    room = ap (λ (r : Configuration). grows r i) seen ∙ grows_alike d (module_at chain f.of) i (configuration g c f) lies none
 
     by_memory : (t : Bool) → cond t (counted (proceeds chain reads i f rest here)) (broken_by cause.NoMemory here) ≡ seen_in d (cond t (counted (proceeds chain reads i f rest (g, c))) (broken_by cause.NoMemory (g, c)))
     by_memory true = ap counted (top_alike d chain reads i f rest g c lies none)
     by_memory false = refl
 
-    by_names : (t : Bool) → choose t ≡ seen_in d (cond t (broken_by cause.NamesSpent (g, c)) (cond enough (counted (proceeds chain reads i f rest (g, c))) (broken_by cause.NoMemory (g, c))))
+    by_names : (t : Bool) → choose t grow ≡ seen_in d (cond t (broken_by cause.NamesSpent (g, c)) (cond (enough grow) (counted (proceeds chain reads i f rest (g, c))) (broken_by cause.NoMemory (g, c))))
     by_names true = refl
-    by_names false = by_memory enough
+    by_names false = by_memory (enough grow)
 
   watched_alike : watched memory chain reads f rest here ≡ seen_in d (watched memory chain reads f rest (g, c))
   watched_alike = ap (λ (o : Option FaultKind). unless_fault o f here (executed memory chain reads i f rest here)) told ∙ by_fault (fault (module_at chain f.of) (configuration g c f) i) refl where

@@ -61,7 +61,7 @@ above_part c target ps under home.Ended = refl
 aside_part : (c target : ℕ) (ps : Pools Payload) → is_under ps c target ≡ true → aside_named (part c ps) target ≡ aside_named ps target
 aside_part c target ps under = fun_ext (λ (x : NamedBucket). ap (λ (t : Bool). record x { bucket = set_aside target t x.bucket }) (above_part c target ps under x.bucket.home))
 
-ref_part : (c target : ℕ) (ps : Pools Payload) → is_under ps c target ≡ true → new_ref (part c ps) target ≡ new_ref ps target
+pub ref_part : (c target : ℕ) (ps : Pools Payload) → is_under ps c target ≡ true → new_ref (part c ps) target ≡ new_ref ps target
 ref_part c target ps under = fun_ext (λ (x : NamedBucket). ap (λ (t : Bool). cond t None (file_of x.bucket.kind x.bucket.content)) (above_part c target ps under x.bucket.home))
 
 pub registered_path : (n : ℕ) (x : Payload) (ps : Pools Payload) → (registered n x ps).path ≡ ps.path
