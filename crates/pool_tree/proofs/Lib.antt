@@ -14,6 +14,7 @@ pub mod Destroyed
 pub mod Removed
 pub mod Writing
 pub mod Printing
+pub mod Left
 pub mod Below
 pub mod Hashing
 pub mod Renamed

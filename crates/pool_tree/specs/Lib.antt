@@ -3,6 +3,7 @@ pub mod Links
 pub mod Payloads
 pub mod Handed
 pub mod Printed
+pub mod Left
 pub mod Room
 pub mod Tree
 pub mod Names

@@ -1,6 +1,6 @@
 //! The tree of pools.
 
-ghost use Rattle.std.specs.Prelude.{◌≡◌, ℕ, ◌<◌, length, slice_index_or, remove, is_some, IsTrue, ◌↔◌, [], ◌∷◌, IfOk, OnOk, OnErr, IfErr, IsErrOf};
+ghost use Rattle.std.specs.Prelude.{◌≡◌, ℕ, ◌<◌, ◌≤◌, length, slice_index_or, remove, is_some, IsTrue, ◌↔◌, [], ◌∷◌, IfOk, OnOk, OnErr, IfErr, IsErrOf};
 ghost use Rattle.pool_tree.specs.Links.{RecordsLinked};
 ghost use Rattle.pool_tree.specs.Records.{record_of};
 
@@ -96,9 +96,9 @@ impl<T: Drop> PoolTree<T> {
         self.next
     }
 
-    /// Sets the name that the next pool gets. All pools that are there have names below it.
+    /// Sets the name that the next pool gets to this or a later one: those between were given by others.
     pub fn set_next(&mut self, next: PoolId)
-        requires { (n : ℕ) → IsTrue (is_live (map_of self.old) n) → n < next }
+        requires { (map_of self.old).next ≤ next }
         ensures out { map_of self.new ≡ record (map_of self.old) { next = next } }
         ensures formed { IsPoolMap (map_of self.new) }
     {

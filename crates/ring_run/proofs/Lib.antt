@@ -14,6 +14,7 @@ pub mod Homes
 pub mod Splits
 pub mod Cuts
 pub mod Points
+pub mod Quiet
 pub mod Parts
 pub mod Wanted
 pub mod Running

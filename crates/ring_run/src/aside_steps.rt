@@ -1,11 +1,12 @@
 //! What instructions do to a bucket that is set aside (apr_bucket_setaside).
 
-ghost use Rattle.std.specs.Prelude.{◌≡◌, ◌<◌, Some, IsTrue, OnOk, OnErr};
+ghost use Rattle.std.specs.Prelude.{◌≡◌, ◌<◌, Some, false, option_to_list, IsTrue, IsOk, OnOk, OnErr};
 ghost use Rattle.bucket_kinds.specs.Device.{Device};
 ghost use Rattle.bucket_kinds.specs.Reading.{IsOpenFor};
 ghost use Rattle.run_model.specs.BucketSteps.{content_at, do_aside};
-ghost use Rattle.run_model.specs.Cursors.{spot};
+ghost use Rattle.run_model.specs.Cursors.{bucket_at, spot};
 ghost use Rattle.run_model.specs.Pools.{is_live};
+ghost use Rattle.run_model.specs.Steps.{takes_reference};
 ghost use Rattle.pool_tree.specs.Tree.{map_of};
 ghost use Rattle.brigade_ops.specs.House.{AreOpen, IsHouse};
 ghost use Rattle.brigade_ops.specs.Store.{references};
@@ -20,7 +21,7 @@ use brigade_ops::{Brigades, PoolId, PoolTree, Rings};
 use run_model::{Bucket, Payload};
 use std::alloc::AllocError;
 
-/// Sets the bucket of a cursor aside into a pool. Without memory nothing is changed.
+/// Sets the bucket of a cursor aside into a pool. Only a further reference to a file takes memory. Without it nothing is changed.
 pub(crate) fn aside<R: Rings<Bucket> + Drop>(
     instance: &Instance,
     call: &Call,
@@ -34,6 +35,7 @@ pub(crate) fn aside<R: Rings<Bucket> + Drop>(
     requires held { IsHeld store.old instance.now call.now }
     ensures ok { OnOk result ((around : Around) → let r = seen store.old (record around { pools = map_of tree.old }) instance.now call.now in
         seen store.new (record around { pools = map_of tree.new }) instance.now call.now ≡ do_aside (spot r c) (Some pool) r) }
+    ensures sure { (around : Around) → let r = seen store.old (record around { pools = map_of tree.old }) instance.now call.now in takes_reference (map_of tree.old) (Some pool) (option_to_list (bucket_at (spot r c))) ≡ false → IsOk result }
     ensures err { OnErr result ((around : Around)
         → seen store.new (record around { pools = map_of tree.new }) instance.now call.now ≡ seen store.old (record around { pools = map_of tree.old }) instance.now call.now) }
     ensures held { IsHeld store.new instance.now call.now }

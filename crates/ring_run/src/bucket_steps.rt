@@ -1,6 +1,6 @@
 //! What instructions do to buckets: they are taken out, put in and destroyed (apr_buckets.h).
 
-ghost use Rattle.std.specs.Prelude.{◌≡◌, ◌<◌, OnOk, OnErr};
+ghost use Rattle.std.specs.Prelude.{◌≡◌, ◌<◌, IsOk, OnOk, OnErr};
 ghost use Rattle.run_model.specs.BucketSteps.{do_before, do_delete, do_head, do_tail, do_unlink};
 ghost use Rattle.run_model.specs.Cursors.{spot};
 ghost use Rattle.ring_run.specs.Around.{Around};
@@ -14,7 +14,7 @@ use crate::places::{Place, place_of};
 use brigade_ops::{Brigades, Bucket, Rings};
 use std::alloc::AllocError;
 
-/// Takes the bucket of a cursor out of its brigade; it is loose then. Without memory nothing is changed.
+/// Takes the bucket of a cursor out of its brigade; it is loose then. It takes no memory.
 pub(crate) fn unlink<R: Rings<Bucket> + Drop>(
     instance: &Instance,
     call: &Call,
@@ -25,6 +25,7 @@ pub(crate) fn unlink<R: Rings<Bucket> + Drop>(
     requires held { IsHeld store.old instance.now call.now }
     requires runs { 0 < call.now.name }
     ensures ok { OnOk result ((around : Around) → let r = seen store.old around instance.now call.now in seen store.new around instance.now call.now ≡ do_unlink (spot r c) r) }
+    ensures sure { IsOk result }
     ensures err { OnErr result ((around : Around) → seen store.new around instance.now call.now ≡ seen store.old around instance.now call.now) }
     ensures held { IsHeld store.new instance.now call.now }
     ensures left { LeavesOthers store.old store.new instance.now call.now }
@@ -55,7 +56,7 @@ pub(crate) fn delete<R: Rings<Bucket> + Drop>(
     }
 }
 
-/// Puts the loose bucket of a cursor at the tail of a brigade. Without memory nothing is changed.
+/// Puts the loose bucket of a cursor at the tail of a brigade. It takes no memory.
 pub(crate) fn tail<R: Rings<Bucket> + Drop>(
     instance: &Instance,
     call: &Call,
@@ -67,6 +68,7 @@ pub(crate) fn tail<R: Rings<Bucket> + Drop>(
     requires cursor { c < 9 }
     requires held { IsHeld store.old instance.now call.now }
     ensures ok { OnOk result ((around : Around) → let r = seen store.old around instance.now call.now in seen store.new around instance.now call.now ≡ do_tail b (spot r c) r) }
+    ensures sure { IsOk result }
     ensures err { OnErr result ((around : Around) → seen store.new around instance.now call.now ≡ seen store.old around instance.now call.now) }
     ensures held { IsHeld store.new instance.now call.now }
     ensures left { LeavesOthers store.old store.new instance.now call.now }
@@ -81,7 +83,7 @@ pub(crate) fn tail<R: Rings<Bucket> + Drop>(
     store.move_tail(to, id)
 }
 
-/// Puts the loose bucket of a cursor at the head of a brigade. Without memory nothing is changed.
+/// Puts the loose bucket of a cursor at the head of a brigade. It takes no memory.
 pub(crate) fn head<R: Rings<Bucket> + Drop>(
     instance: &Instance,
     call: &Call,
@@ -93,6 +95,7 @@ pub(crate) fn head<R: Rings<Bucket> + Drop>(
     requires cursor { c < 9 }
     requires held { IsHeld store.old instance.now call.now }
     ensures ok { OnOk result ((around : Around) → let r = seen store.old around instance.now call.now in seen store.new around instance.now call.now ≡ do_head b (spot r c) r) }
+    ensures sure { IsOk result }
     ensures err { OnErr result ((around : Around) → seen store.new around instance.now call.now ≡ seen store.old around instance.now call.now) }
     ensures held { IsHeld store.new instance.now call.now }
     ensures left { LeavesOthers store.old store.new instance.now call.now }
@@ -107,7 +110,7 @@ pub(crate) fn head<R: Rings<Bucket> + Drop>(
     store.move_head(to, id)
 }
 
-/// Puts the loose bucket of a cursor before that of another, which is in a brigade. Without memory nothing is changed.
+/// Puts the loose bucket of a cursor before that of another, which is in a brigade. It takes no memory.
 pub(crate) fn before<R: Rings<Bucket> + Drop>(
     instance: &Instance,
     call: &Call,
@@ -119,6 +122,7 @@ pub(crate) fn before<R: Rings<Bucket> + Drop>(
     requires second { d < 9 }
     requires held { IsHeld store.old instance.now call.now }
     ensures ok { OnOk result ((around : Around) → let r = seen store.old around instance.now call.now in seen store.new around instance.now call.now ≡ do_before (spot r c) (spot r d) r) }
+    ensures sure { IsOk result }
     ensures err { OnErr result ((around : Around) → seen store.new around instance.now call.now ≡ seen store.old around instance.now call.now) }
     ensures held { IsHeld store.new instance.now call.now }
     ensures left { LeavesOthers store.old store.new instance.now call.now }

@@ -1,6 +1,6 @@
 //! What instructions do with the bytes of buckets and of a call's buffer.
 
-ghost use Rattle.std.specs.Prelude.{◌≡◌, ◌<◌, ◌||◌, ℕ, Option, nat_lt, nat_le, OnOk, OnErr};
+ghost use Rattle.std.specs.Prelude.{◌≡◌, ◌<◌, ◌||◌, ℕ, Option, nat_lt, nat_le, true, IsOk, OnOk, OnErr};
 ghost use Rattle.bucket_ring.specs.declared.names.BucketId.{BucketId};
 ghost use Rattle.run_model.specs.BucketSteps.{byte_of, content_at, do_len, got};
 ghost use Rattle.run_model.specs.Cursors.{spot, read_cursor};
@@ -41,9 +41,10 @@ pub(crate) fn is_full(instance: &Instance, call: &Call, x: Value) -> bool
     has_no_room(value_of(instance, x), call.buffer.len())
 }
 
-/// Appends a byte to the buffer, where it is one and fits. Without memory nothing is changed.
+/// Appends a byte to the buffer, where it is one and fits: only then it takes memory. Without it nothing is changed.
 pub(crate) fn put(instance: &Instance, call: &mut Call, x: Value) -> Result<(), AllocError>
     ensures ok { OnOk result ((rings : ℕ → Option Items) (next : ℕ) (around : Around) → seen_over rings next around instance.now call.new ≡ do_put x (seen_over rings next around instance.now call.old)) }
+    ensures sure { (rings : ℕ → Option Items) (next : ℕ) (around : Around) → is_full (seen_over rings next around instance.now call.old) x ≡ true → IsOk result }
     ensures err { OnErr result ((rings : ℕ → Option Items) (next : ℕ) (around : Around) → seen_over rings next around instance.now call.new ≡ seen_over rings next around instance.now call.old) }
     ensures cursors { (c : ℕ) → cursor_at call.new c ≡ cursor_at call.old c }
     ensures name { call.new.name ≡ call.old.name }

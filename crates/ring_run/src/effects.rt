@@ -1,6 +1,6 @@
 //! What instructions do to whole brigades.
 
-ghost use Rattle.std.specs.Prelude.{◌≡◌, ◌≢◌, ◌<◌, ℕ, OnOk, OnErr};
+ghost use Rattle.std.specs.Prelude.{◌≡◌, ◌≢◌, ◌<◌, ℕ, IsOk, OnOk, OnErr};
 ghost use Rattle.run_model.specs.Steps.{do_clean, do_concat};
 ghost use Rattle.brigade_ops.specs.Store.{lists};
 ghost use Rattle.ring_run.specs.declared.machine.Call.{Call};
@@ -30,7 +30,7 @@ pub fn live<R: Rings<Bucket> + Drop>(
     }
 }
 
-/// Moves the buckets of a brigade to the tail of another. Without memory nothing is changed.
+/// Moves the buckets of a brigade to the tail of another. It takes no memory.
 pub(crate) fn concat<R: Rings<Bucket> + Drop>(
     instance: &Instance,
     store: &mut Brigades<R>,
@@ -42,6 +42,7 @@ pub(crate) fn concat<R: Rings<Bucket> + Drop>(
     requires apart { a ≢ b }
     requires held { VariablesApart instance.now }
     ensures ok { OnOk result ((around : Around) (call : Call) → IsHeld store.old instance.now call → seen store.new around instance.now call ≡ do_concat a b (seen store.old around instance.now call)) }
+    ensures sure { IsOk result }
     ensures err { OnErr result ((around : Around) (call : Call) → seen store.new around instance.now call ≡ seen store.old around instance.now call) }
     ensures held { (call : Call) → IsHeld store.old instance.now call → IsHeld store.new instance.now call }
     ensures left { (call : Call) → LeavesOthers store.old store.new instance.now call }

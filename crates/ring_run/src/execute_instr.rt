@@ -14,7 +14,7 @@ ghost use Rattle.ring_run.specs.Apart.{changes_pools, clears_pool, is_carried, k
 ghost use Rattle.ring_run.specs.Around.{Around};
 ghost use Rattle.ring_run.specs.CarriedOut.{KeepNames, WasCarriedOut, during, with_files};
 ghost use Rattle.ring_run.specs.Cleared.{LooksAt};
-ghost use Rattle.ring_run.specs.Ends.{EndInFiles};
+ghost use Rattle.ring_run.specs.Ends.{EndInFiles, FitKinds};
 ghost use Rattle.ring_run.specs.Given.{RangesOpen};
 ghost use Rattle.ring_run.specs.Held.{IsHeld};
 ghost use Rattle.ring_run.specs.LeftAlone.{LeavesRest, LeavesUncleared};
@@ -68,12 +68,13 @@ fn execute_without_files<R: Rings<Bucket> + Drop>(
     requires held { IsHeld store.old instance.old call.old }
     requires runs { 0 < call.old.name }
     requires house { IsHouse store.old (map_of tree.old) }
+    requires fits { FitKinds store.old instance.old }
     requires ends { EndInFiles store.old instance.old }
     requires faultless { (around : Around) → fault code.now (seen store.old (in_setting setting.now (map_of tree.old) around) instance.old call.old) instr ≡ None }
     ensures ok { IfOk result (λ exit. (around : Around) (choice : Choice) → let went = step code.now choice instr (seen store.old (in_setting setting.now (map_of tree.old) around) instance.old call.old) in
         (exit ≡ went.exit) × (seen store.new (in_setting setting.now (map_of tree.new) around) instance.new call.new ≡ went.state)) }
     ensures err { OnErr result ((around : Around) → seen store.new (record around { pools = map_of tree.new }) instance.new call.new ≡ seen store.old (record around { pools = map_of tree.old }) instance.old call.old) }
-    ensures sure { grows instr ≡ false → IsOk result }
+    ensures sure { (around : Around) → let r = seen store.old (in_setting setting.now (map_of tree.old) around) instance.old call.old in grows r instr ≡ false → IsOk result }
     ensures held { IsHeld store.new instance.new call.new }
     ensures house { IsHouse store.new (map_of tree.new) }
     ensures open { (d : Device) → ((around : Around) → RangesOpen d (seen store.old (in_setting setting.now (map_of tree.old) around) instance.old call.old)) → AreOpen (references store.old) d → AreOpen (references store.new) d }
@@ -119,7 +120,6 @@ fn execute_clear<R: Rings<Bucket> + Drop, F: Files>(
     ensures kept { OnErr result (map_of tree.new ≡ map_of tree.old) }
     ensures unread { OnErr result (F.device files.new ≡ F.device files.old) }
     ensures unmoved { OnErr result (LeavesRest store.old store.new instance.now call.now) }
-    ensures sure { grows instr ≡ false → IsOk result }
     ensures held { IsHeld store.new instance.now call.now }
     ensures house { IsHouse store.new (map_of tree.new) }
     ensures open { AreOpen (references store.new) (F.device files.new) }
@@ -167,6 +167,7 @@ pub fn execute_instr<R: Rings<Bucket> + Drop, F: Files>(
     requires runs { 0 < call.old.name }
     requires house { IsHouse store.old (map_of tree.old) }
     requires open { AreOpen (references store.old) (F.device files.old) }
+    requires fits { FitKinds store.old instance.old }
     requires ends { EndInFiles store.old instance.old }
     requires ranges { (around : Around) → RangesOpen (F.device files.old) (seen store.old (in_setting setting.now (map_of tree.old) around) instance.old call.old) }
     requires faultless { (around : Around) → fault code.now (seen store.old (in_setting setting.now (map_of tree.old) around) instance.old call.old) instr ≡ None }
@@ -177,7 +178,7 @@ pub fn execute_instr<R: Rings<Bucket> + Drop, F: Files>(
     ensures kept { OnErr result (map_of tree.new ≡ map_of tree.old) }
     ensures unread { OnErr result (F.device files.new ≡ F.device files.old) }
     ensures unmoved { OnErr result (LeavesRest store.old store.new instance.old call.old) }
-    ensures sure { grows instr ≡ false → IsOk result }
+    ensures sure { (around : Around) → let r = seen store.old (in_setting setting.now (map_of tree.old) around) instance.old call.old in grows r instr ≡ false → IsOk result }
     ensures held { IsHeld store.new instance.new call.new }
     ensures house { IsHouse store.new (map_of tree.new) }
     ensures open { AreOpen (references store.new) (F.device files.new) }

@@ -77,7 +77,7 @@ pub(crate) fn execute_on_pools<R: Rings<Bucket> + Drop>(
     requires faultless { (around : Around) → fault code.now (seen store.old (in_setting setting.now (map_of tree.old) around) instance.old call.now) instr ≡ None }
     ensures ok { OnOk result ((around : Around) (choice : Choice) → let r = seen store.old (in_setting setting.now (map_of tree.old) around) instance.old call.now in seen store.new (in_setting setting.now (map_of tree.new) around) instance.new call.now ≡ (step code.now choice instr r).state) }
     ensures err { OnErr result ((around : Around) → seen store.new (record around { pools = map_of tree.new }) instance.new call.now ≡ seen store.old (record around { pools = map_of tree.old }) instance.old call.now) }
-    ensures sure { grows instr ≡ false → IsOk result }
+    ensures sure { (around : Around) → let r = seen store.old (in_setting setting.now (map_of tree.old) around) instance.old call.now in grows r instr ≡ false → IsOk result }
     ensures held { IsHeld store.new instance.new call.now }
     ensures house { IsHouse store.new (map_of tree.new) }
     ensures open { (d : Device) → ((around : Around) → RangesOpen d (seen store.old (in_setting setting.now (map_of tree.old) around) instance.old call.now)) → AreOpen (references store.old) d → AreOpen (references store.new) d }

@@ -8,7 +8,7 @@ ghost use Rattle.run_model.specs.State.{pool_named};
 ghost use Rattle.run_model.specs.Steps.{Choice, grows, step};
 ghost use Rattle.ring_run.specs.Apart.{cuts_brigade, makes_bucket, moves_bucket, sets_number, touches_others};
 ghost use Rattle.ring_run.specs.Around.{Around};
-ghost use Rattle.ring_run.specs.Ends.{EndInFiles};
+ghost use Rattle.ring_run.specs.Ends.{EndInFiles, FitKinds};
 ghost use Rattle.ring_run.specs.Held.{IsHeld};
 ghost use Rattle.ring_run.specs.LeftAlone.{LeavesOthers};
 ghost use Rattle.ring_run.specs.Outside.{with_outside};
@@ -38,7 +38,7 @@ fn change_numbers<R: Rings<Bucket> + Drop>(
     requires held { IsHeld store.now instance.old call.old }
     ensures ok { OnOk result ((around : Around) (choice : Choice) → seen store.now around instance.new call.new ≡ (step code.now choice instr (seen store.now around instance.old call.old)).state) }
     ensures err { OnErr result ((around : Around) → seen store.now around instance.new call.new ≡ seen store.now around instance.old call.old) }
-    ensures sure { grows instr ≡ false → IsOk result }
+    ensures sure { (around : Around) → grows (seen store.now around instance.old call.old) instr ≡ false → IsOk result }
     ensures held { IsHeld store.now instance.new call.new }
     ensures name { call.new.name ≡ call.old.name }
     ensures slots { (b : ℕ) → name_in (slot_at instance.new b) ≡ name_in (slot_at instance.old b) }
@@ -130,7 +130,7 @@ fn move_bucket<R: Rings<Bucket> + Drop>(
     requires ends { EndInFiles store.old instance.now }
     ensures ok { OnOk result ((around : Around) (choice : Choice) → let r = seen store.old around instance.now call.old in fault code.now r instr ≡ None → seen store.new around instance.now call.new ≡ (step code.now choice instr r).state) }
     ensures err { OnErr result ((around : Around) → seen store.new around instance.now call.new ≡ seen store.old around instance.now call.old) }
-    ensures sure { grows instr ≡ false → IsOk result }
+    ensures sure { (around : Around) → let r = seen store.old around instance.now call.old in grows r instr ≡ false → IsOk result }
     ensures held { IsHeld store.new instance.now call.new }
     ensures name { call.new.name ≡ call.old.name }
     ensures left { LeavesOthers store.old store.new instance.now call.old }
@@ -163,11 +163,12 @@ fn cut_brigade<R: Rings<Bucket> + Drop>(
     requires few { length code.now.brigades ≤ 8 }
     requires kind { cuts_brigade instr ≡ true }
     requires held { IsHeld store.old instance.old call.old }
+    requires fits { FitKinds store.old instance.old }
     requires ends { EndInFiles store.old instance.old }
     requires faultless { (around : Around) → fault code.now (seen store.old (with_outside outside.now around) instance.old call.old) instr ≡ None }
     ensures ok { OnOk result ((around : Around) (choice : Choice) → let r = seen store.old (with_outside outside.now around) instance.old call.old in seen store.new (with_outside outside.now around) instance.new call.new ≡ (step code.now choice instr r).state) }
     ensures err { OnErr result ((around : Around) → seen store.new around instance.new call.new ≡ seen store.old around instance.old call.old) }
-    ensures sure { grows instr ≡ false → IsOk result }
+    ensures sure { (around : Around) → let r = seen store.old (with_outside outside.now around) instance.old call.old in grows r instr ≡ false → IsOk result }
     ensures held { IsHeld store.new instance.new call.new }
     ensures name { call.new.name ≡ call.old.name }
     ensures slots { (b : ℕ) → name_in (slot_at instance.new b) ≡ name_in (slot_at instance.old b) }
@@ -200,11 +201,12 @@ pub(crate) fn execute_on_store<R: Rings<Bucket> + Drop>(
     requires other { touches_others instr ≡ false }
     requires held { IsHeld store.old instance.old call.old }
     requires runs { 0 < call.old.name }
+    requires fits { FitKinds store.old instance.old }
     requires ends { EndInFiles store.old instance.old }
     requires faultless { (around : Around) → fault code.now (seen store.old (with_outside outside.now around) instance.old call.old) instr ≡ None }
     ensures ok { OnOk result ((around : Around) (choice : Choice) → let r = seen store.old (with_outside outside.now around) instance.old call.old in seen store.new (with_outside outside.now around) instance.new call.new ≡ (step code.now choice instr r).state) }
     ensures err { OnErr result ((around : Around) → seen store.new around instance.new call.new ≡ seen store.old around instance.old call.old) }
-    ensures sure { grows instr ≡ false → IsOk result }
+    ensures sure { (around : Around) → let r = seen store.old (with_outside outside.now around) instance.old call.old in grows r instr ≡ false → IsOk result }
     ensures held { IsHeld store.new instance.new call.new }
     ensures name { call.new.name ≡ call.old.name }
     ensures slots { (b : ℕ) → name_in (slot_at instance.new b) ≡ name_in (slot_at instance.old b) }

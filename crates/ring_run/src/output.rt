@@ -1,6 +1,6 @@
 //! The end of the chain, where the bytes of brigades become output.
 
-ghost use Rattle.std.specs.Prelude.{◌≡◌, ◌==◌, ◌⊎◌, ◌+◌, ◌<◌, ◌≤◌, ◌^◌, ℕ, Bool, true, false, length, is_some, if◌then◌else◌, All, Some, IfOk, OnOk, OnErr};
+ghost use Rattle.std.specs.Prelude.{◌≡◌, ◌==◌, ◌⊎◌, ◌+◌, ◌<◌, ◌≤◌, ◌^◌, ℕ, Bool, true, false, not, ◌&&◌, length, is_some, if◌then◌else◌, All, Some, IsOk, IfOk, OnOk, OnErr};
 ghost use Rattle.bucket_kinds.specs.Device.{is_there};
 ghost use Rattle.bucket_kinds.specs.Reading.{IsOpenFor};
 ghost use Rattle.bucket_ring.specs.declared.names.BucketId.{BucketId};
@@ -8,7 +8,7 @@ ghost use Rattle.bucket_ring.specs.Lists.{list_at};
 ghost use Rattle.run_model.specs.Buckets.{is_eos_kind};
 ghost use Rattle.run_model.specs.BrigadeLists.{length_in};
 ghost use Rattle.run_model.specs.State.{items_of};
-ghost use Rattle.run_model.specs.Steps.{do_pass};
+ghost use Rattle.run_model.specs.Steps.{do_pass, has_bytes};
 ghost use Rattle.run_model.specs.Cutting.{EndsInFile, length_of};
 ghost use Rattle.run_model.specs.declared.bucket.Bucket.{Bucket};
 ghost use Rattle.brigade_ops.specs.Items.{named};
@@ -76,6 +76,7 @@ fn add_range<F: Files>(
     requires ends { start + len < 2 ^ 64 }
     ensures added { IfOk result (λ whole. ContentAdded (F.device files.old) (F.device files.new) (Content.Range file start len) whole out.old out.new) }
     ensures front { HasFront out.old out.new }
+    ensures sure { len ≡ 0 → IsOk result }
     ensures unread { OnErr result (F.device files.new ≡ F.device files.old) }
     ensures open_files { (F.device files.new).numbered ≡ (F.device files.old).numbered }
 {
@@ -102,6 +103,7 @@ fn add<F: Files>(
     requires open { IsOpenFor (F.device files.old) content.now }
     ensures added { IfOk result (λ whole. ContentAdded (F.device files.old) (F.device files.new) content.now whole out.old out.new) }
     ensures front { HasFront out.old out.new }
+    ensures sure { length_of content.now ≡ 0 → IsOk result }
     ensures unread { OnErr result (F.device files.new ≡ F.device files.old) }
     ensures open_files { (F.device files.new).numbered ≡ (F.device files.old).numbered }
 {
@@ -128,6 +130,7 @@ fn add_all<R: Rings<Bucket> + Drop, F: Files>(
     requires open { (id : BucketId) (x : Bucket) → brigade_of store.now id ≡ Some b → bucket_at store.now id ≡ Some x → IsOpenFor (F.device files.old) x.content }
     ensures added { IfOk result (λ whole. ItemsAdded (F.device files.old) (F.device files.new) (list_at (lists store.now) b) whole out.old out.new) }
     ensures front { HasFront out.old out.new }
+    ensures sure { has_bytes (named (list_at (lists store.now) b)) ≡ false → IsOk result }
     ensures unread { OnErr result (F.device files.new ≡ F.device files.old) }
     ensures open_files { (F.device files.new).numbered ≡ (F.device files.old).numbered }
 {
@@ -159,6 +162,7 @@ pub fn add_brigade<R: Rings<Bucket> + Drop, F: Files>(
     requires open { (id : BucketId) (x : Bucket) → brigade_of store.now id ≡ Some b → bucket_at store.now id ≡ Some x → IsOpenFor (F.device files.old) x.content }
     ensures ok { IfOk result (λ well. (runs : ℕ → Bool) → WasDelivered (F.device files.old) (F.device files.new) (out_of out.old ended.old) (shown runs (list_at (lists store.now) b)) (out_of out.new ended.new) well) }
     ensures err { OnErr result (out_of out.new ended.new ≡ out_of out.old ended.old) }
+    ensures sure { (runs : ℕ → Bool) → (not ended.old && has_bytes (shown runs (list_at (lists store.now) b))) ≡ false → IsOk result }
     ensures unread { OnErr result (F.device files.new ≡ F.device files.old) }
     ensures open_files { (F.device files.new).numbered ≡ (F.device files.old).numbered }
 {
@@ -212,6 +216,7 @@ pub fn pass_out<R: Rings<Bucket> + Drop, F: Files>(
     ensures slots { OnOk result ((a : ℕ) → slot_at instance.new a ≡ (if a == b then marked Mark.Passed (slot_at instance.old b) else slot_at instance.old a)) }
     ensures same { OnErr result ((instance.new ≡ instance.old) × (store.new ≡ store.old)) }
     ensures kept { OnErr result (out_of out.new ended.new ≡ out_of out.old ended.old) }
+    ensures sure { (around : Around) (call : Call) → (not ended.old && has_bytes (items_of ((seen store.old around instance.old call).instance.brigades b))) ≡ false → IsOk result }
     ensures unread { OnErr result (F.device files.new ≡ F.device files.old) }
     ensures open_files { (F.device files.new).numbered ≡ (F.device files.old).numbered }
 {

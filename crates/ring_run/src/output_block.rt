@@ -1,6 +1,6 @@
 //! Output, in a block that is used again.
 
-ghost use Rattle.std.specs.Prelude.{◌≡◌, ◌≤◌, ◌++◌, [], true, length, take, IfOk, OnOk, OnErr};
+ghost use Rattle.std.specs.Prelude.{◌≡◌, ◌≤◌, ◌++◌, [], true, length, take, IsOk, IfOk, OnOk, OnErr};
 ghost use Rattle.bucket_kinds.specs.Device.{is_there};
 ghost use Rattle.ring_run.specs.Delivery.{SpanAdded};
 
@@ -96,11 +96,15 @@ impl OutputBlock {
         self.used = self.used.min(len);
     }
 
-    /// Adds copies of bytes to the output. Without memory nothing is changed.
+    /// Adds copies of bytes to the output. Of none it takes no memory. Without memory nothing is changed.
     pub fn extend(&mut self, bytes: &[u8]) -> Result<(), AllocError>
         ensures ok { OnOk result (self.new ≡ self.old ++ bytes.now) }
+        ensures sure { bytes.now ≡ [] → IsOk result }
         ensures err { OnErr result (self.new ≡ self.old) }
     {
+        if bytes.is_empty() {
+            return Ok(());
+        }
         self.block.truncate(self.used);
         self.block.extend(bytes)?;
         self.used = self.block.len();

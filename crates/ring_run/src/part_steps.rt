@@ -1,16 +1,16 @@
 //! What instructions do to brigades that are cut (apr_buckets.h, apr_brigade_split_ex).
 
-ghost use Rattle.std.specs.Prelude.{◌≡◌, ◌≢◌, ◌<◌, ℕ, None, Some, true, is_some, IfSome, OnOk, OnErr};
+ghost use Rattle.std.specs.Prelude.{◌≡◌, ◌≢◌, ◌<◌, ℕ, None, Some, true, is_some, IsOk, IfSome, OnOk, OnErr};
 ghost use Rattle.bucket_ring.specs.Lists.{list_at};
 ghost use Rattle.run_model.specs.BrigadeLists.{bucket_across, moves, stays};
-ghost use Rattle.run_model.specs.BucketSteps.{do_bpart, do_bsplit, items_at, place_at};
+ghost use Rattle.run_model.specs.BucketSteps.{do_bpart, do_bsplit, items_at, names_to_part, place_at};
 ghost use Rattle.run_model.specs.Cursors.{spot};
 ghost use Rattle.run_model.specs.Faults.{home_fault};
 ghost use Rattle.run_model.specs.Steps.{value_of};
 ghost use Rattle.brigade_ops.specs.Items.{before_place, from_place};
 ghost use Rattle.brigade_ops.specs.Store.{lists, brigade_of};
 ghost use Rattle.ring_run.specs.Around.{Around};
-ghost use Rattle.ring_run.specs.Ends.{EndInFiles};
+ghost use Rattle.ring_run.specs.Ends.{EndInFiles, FitKinds};
 ghost use Rattle.ring_run.specs.Held.{IsHeld};
 ghost use Rattle.ring_run.specs.LeftAlone.{LeavesOthers};
 ghost use Rattle.ring_run.specs.Places.{cursor_value_of};
@@ -49,7 +49,7 @@ fn place_in<R: Rings<Bucket> + Drop>(
     }
 }
 
-/// What stands in a brigade from the place of a cursor on goes to another, which is emptied first. Without memory nothing is changed.
+/// What stands in a brigade from the place of a cursor on goes to another, which is emptied first. It takes no memory.
 pub(crate) fn bsplit<R: Rings<Bucket> + Drop>(
     instance: &Instance,
     call: &Call,
@@ -66,6 +66,7 @@ pub(crate) fn bsplit<R: Rings<Bucket> + Drop>(
     requires live_into { is_some (live_in (lists store.old) (slot_at instance.now a)) ≡ true }
     requires held { IsHeld store.old instance.now call.now }
     ensures ok { OnOk result ((around : Around) → let r = seen store.old around instance.now call.now in seen store.new around instance.now call.now ≡ do_bsplit b (spot r c) a r) }
+    ensures sure { IsOk result }
     ensures err { OnErr result ((around : Around) → seen store.new around instance.now call.now ≡ seen store.old around instance.now call.now) }
     ensures held { IsHeld store.new instance.now call.now }
     ensures left { LeavesOthers store.old store.new instance.now call.now }
@@ -103,9 +104,11 @@ fn part<R: Rings<Bucket> + Drop>(
     requires slot { b < 9 }
     requires cursor { c < 9 }
     requires live { is_some (live_in (lists store.old) (slot_at instance.now b)) ≡ true }
+    requires fits { FitKinds store.old instance.now }
     requires ends { EndInFiles store.old instance.now }
     requires held { IsHeld store.old instance.now call.old }
     ensures ok { OnOk result ((around : Around) → let r = seen store.old around instance.now call.old in home_fault (bucket_across point (items_at r b)) ≡ None → seen store.new around instance.now call.new ≡ do_bpart b point c r) }
+    ensures sure { (around : Around) → let r = seen store.old around instance.now call.old in names_to_part point (items_at r b) ≡ 0 → IsOk result }
     ensures err { OnErr result ((around : Around) → seen store.new around instance.now call.new ≡ seen store.old around instance.now call.old) }
     ensures held { IsHeld store.new instance.now call.new }
     ensures name { call.new.name ≡ call.old.name }
@@ -122,7 +125,7 @@ fn part<R: Rings<Bucket> + Drop>(
 }
 
 /// Parts a brigade at a point and sets a cursor to the place behind it; a bucket that the point lies inside is split. Where the brigade
-/// is shorter the place is its end. Without memory, and where the names are spent, nothing is changed.
+/// is shorter the place is its end. Only a bucket that is split takes memory. Without it, and where the names are spent, nothing is changed.
 pub(crate) fn bpart<R: Rings<Bucket> + Drop>(
     instance: &Instance,
     call: &mut Call,
@@ -134,9 +137,11 @@ pub(crate) fn bpart<R: Rings<Bucket> + Drop>(
     requires slot { b < 9 }
     requires cursor { c < 9 }
     requires live { is_some (live_in (lists store.old) (slot_at instance.now b)) ≡ true }
+    requires fits { FitKinds store.old instance.now }
     requires ends { EndInFiles store.old instance.now }
     requires held { IsHeld store.old instance.now call.old }
     ensures ok { OnOk result ((around : Around) → let r = seen store.old around instance.now call.old in home_fault (bucket_across (value_of r x) (items_at r b)) ≡ None → seen store.new around instance.now call.new ≡ do_bpart b (value_of r x) c r) }
+    ensures sure { (around : Around) → let r = seen store.old around instance.now call.old in names_to_part (value_of r x) (items_at r b) ≡ 0 → IsOk result }
     ensures err { OnErr result ((around : Around) → seen store.new around instance.now call.new ≡ seen store.old around instance.now call.old) }
     ensures held { IsHeld store.new instance.now call.new }
     ensures name { call.new.name ≡ call.old.name }

@@ -1,9 +1,10 @@
 //! What the instruction that reads does (apr_buckets.h, apr_bucket_read).
 
-ghost use Rattle.std.specs.Prelude.{◌≡◌, ◌<◌, ℕ, None, Some, IfOk, OnErr};
+ghost use Rattle.std.specs.Prelude.{◌≡◌, ◌<◌, ℕ, None, Some, IsOk, IfOk, OnErr};
 ghost use Rattle.bucket_kinds.specs.Reading.{IsOpenFor};
 ghost use Rattle.run_model.specs.BucketSteps.{content_at};
 ghost use Rattle.run_model.specs.Cursors.{Within, spot};
+ghost use Rattle.run_model.specs.Cutting.{wanted};
 ghost use Rattle.run_model.specs.Faults.{home_fault};
 ghost use Rattle.run_model.specs.declared.bucket.NamedBucket.{NamedBucket};
 ghost use Rattle.ring_run.specs.Around.{Around};
@@ -22,8 +23,8 @@ use std::alloc::AllocError;
 const READ_CURSOR: u8 = 8;
 
 /// Reads the bucket of a cursor, a longer range up to its first 8000 bytes, and tells whether that went well. The read cursor is at the
-/// bucket then; where the read failed it is unset. Without memory, and where the names are spent, nothing is changed, and nothing is
-/// read.
+/// bucket then; where the read failed it is unset. Only bytes of a file take memory. Without it, and where the names are spent, nothing is
+/// changed, and nothing is read.
 pub(crate) fn read<R: Rings<Bucket> + Drop, F: Files>(
     instance: &Instance,
     call: &mut Call,
@@ -38,6 +39,7 @@ pub(crate) fn read<R: Rings<Bucket> + Drop, F: Files>(
     ensures ok { IfOk result (λ well. (around : Around) (b : ℕ) (x : NamedBucket) → let r = seen store.old around instance.now call.old in spot r c ≡ Within b x → home_fault (Some x) ≡ None
         → WasRead (F.device files.old) (F.device files.new) (spot r c) r (seen store.new around instance.now call.new) well) }
     ensures left { LeavesOthers store.old store.new instance.now call.old }
+    ensures sure { (around : Around) → wanted (content_at (spot (seen store.old around instance.now call.old) c)) ≡ 0 → IsOk result }
     ensures err { OnErr result ((around : Around) → seen store.new around instance.now call.new ≡ seen store.old around instance.now call.old) }
     ensures unread { OnErr result (F.device files.new ≡ F.device files.old) }
     ensures open_files { (F.device files.new).numbered ≡ (F.device files.old).numbered }

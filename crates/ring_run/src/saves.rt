@@ -1,10 +1,11 @@
 //! The buckets of a brigade are set aside into the pool of another (ap_save_brigade).
 
-ghost use Rattle.std.specs.Prelude.{◌≡◌, ◌≢◌, ◌<◌, ℕ, All, Some, IsTrue, OnOk, OnErr};
+ghost use Rattle.std.specs.Prelude.{◌≡◌, ◌≢◌, ◌<◌, ℕ, All, Some, false, IsTrue, IsOk, OnOk, OnErr};
 ghost use Rattle.bucket_kinds.specs.Device.{Device};
 ghost use Rattle.run_model.specs.Pools.{is_live};
 ghost use Rattle.run_model.specs.State.{items_of};
-ghost use Rattle.run_model.specs.Steps.{do_save};
+ghost use Rattle.run_model.specs.BucketSteps.{items_at};
+ghost use Rattle.run_model.specs.Steps.{do_save, made_on, takes_reference};
 ghost use Rattle.pool_tree.specs.Tree.{map_of};
 ghost use Rattle.brigade_ops.specs.House.{AreOpen, IsHouse};
 ghost use Rattle.brigade_ops.specs.Store.{lists, pool_of, references};
@@ -23,7 +24,7 @@ use run_model::{Bucket, Payload};
 use std::alloc::AllocError;
 
 /// Sets the buckets of a second brigade aside into the pool of a first, and moves them to its tail. Where the first is on no pool, or one
-/// of them is not there, nothing is changed. Without memory nothing is changed.
+/// of them is not there, nothing is changed. Only further references to files take memory. Without it nothing is changed.
 pub(crate) fn save<R: Rings<Bucket> + Drop>(
     instance: &Instance,
     tree: &mut PoolTree<Payload>,
@@ -39,6 +40,7 @@ pub(crate) fn save<R: Rings<Bucket> + Drop>(
     requires live { (n p : ℕ) → live_in (lists store.old) (slot_at instance.now o) ≡ Some n → pool_of store.old n ≡ Some p → IsTrue (is_live (map_of tree.old) p) }
     ensures ok { OnOk result ((around : Around) (call : Call) → IsHeld store.old instance.now call
         → seen store.new (record around { pools = map_of tree.new }) instance.now call ≡ do_save o b (seen store.old (record around { pools = map_of tree.old }) instance.now call)) }
+    ensures sure { (around : Around) (call : Call) → let r = seen store.old (record around { pools = map_of tree.old }) instance.now call in takes_reference (map_of tree.old) (made_on (r.instance.brigades o)) (items_at r b) ≡ false → IsOk result }
     ensures err { OnErr result ((around : Around) (call : Call)
         → seen store.new (record around { pools = map_of tree.new }) instance.now call ≡ seen store.old (record around { pools = map_of tree.old }) instance.now call) }
     ensures held { (call : Call) → IsHeld store.old instance.now call → IsHeld store.new instance.now call }

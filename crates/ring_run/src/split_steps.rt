@@ -1,7 +1,7 @@
 //! What instructions do to buckets that are split and copied (apr_buckets.h).
 
-ghost use Rattle.std.specs.Prelude.{◌≡◌, ◌<◌, ℕ, None, Some, true, is_some, OnOk, OnErr};
-ghost use Rattle.run_model.specs.BucketSteps.{do_copy, do_split, new_loose};
+ghost use Rattle.std.specs.Prelude.{◌≡◌, ◌<◌, ℕ, None, Some, true, is_some, IsOk, OnOk, OnErr};
+ghost use Rattle.run_model.specs.BucketSteps.{do_copy, do_split, names_to_split, new_loose};
 ghost use Rattle.run_model.specs.Cursors.{bucket_at as model_bucket_at, spot};
 ghost use Rattle.run_model.specs.Faults.{home_fault};
 ghost use Rattle.run_model.specs.declared.bucket.Bucket.{Bucket};
@@ -18,8 +18,8 @@ use crate::places::{Place, place_of};
 use brigade_ops::{Brigades, Bucket, BucketId, Rings, SplitRefusal};
 use std::alloc::AllocError;
 
-/// Splits the bucket of a cursor after its first `n` bytes, where that is not refused. Without memory, and where the names are spent,
-/// nothing is changed.
+/// Splits the bucket of a cursor after its first `n` bytes, where that is not refused: only then it takes memory. Without it, and where the
+/// names are spent, nothing is changed.
 pub(crate) fn split<R: Rings<Bucket> + Drop>(
     instance: &Instance,
     call: &Call,
@@ -31,6 +31,7 @@ pub(crate) fn split<R: Rings<Bucket> + Drop>(
     requires held { IsHeld store.old instance.now call.now }
     requires ends { EndInFiles store.old instance.now }
     ensures ok { OnOk result ((around : Around) → let r = seen store.old around instance.now call.now in home_fault (model_bucket_at (spot r c)) ≡ None → seen store.new around instance.now call.now ≡ do_split n (spot r c) r) }
+    ensures sure { (around : Around) → let r = seen store.old around instance.now call.now in names_to_split n (spot r c) ≡ 0 → IsOk result }
     ensures err { OnErr result ((around : Around) → seen store.new around instance.now call.now ≡ seen store.old around instance.now call.now) }
     ensures held { IsHeld store.new instance.now call.now }
     ensures left { LeavesOthers store.old store.new instance.now call.now }

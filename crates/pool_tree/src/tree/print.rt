@@ -1,8 +1,11 @@
 //! The text of the tree.
 
-ghost use Rattle.std.specs.Prelude.{◌≡◌, ℕ, ◌≤◌, IsTrue, OnOk, MatchOption, None, Some, [], ◌∷◌};
+ghost use Rattle.std.specs.Prelude.{◌≡◌, ℕ, ◌+◌, ◌≤◌, List, ◌++◌, reverse, IsTrue, IfSome, OnOk, MatchOption, None, Some, [], ◌∷◌};
+ghost use Rattle.std.specs.List.{flat_map};
 ghost use Rattle.std.specs.Io.KnownBytes.{Appends};
 ghost use Rattle.run_model.specs.Pools.{is_live};
+ghost use Rattle.run_model.specs.RunOrder.{children};
+ghost use Rattle.pool_tree.specs.Left.{IsPlace, text_behind, text_left};
 ghost use Rattle.pool_tree.specs.Records.{record_of, parent_of, newest_of, older_of};
 ghost use Rattle.pool_tree.specs.Printed.{margin, spaced, spaced_all, line, printed};
 ghost use Rattle.pool_tree.specs.Tree.{map_of};
@@ -71,8 +74,45 @@ impl<T: Drop + PoolText> PoolTree<T> {
         Some(oldest)
     }
 
-    /// Writes the lines of a pool and of those under it, as `print` does where this many pools stand above. Takes stack in proportion to
-    /// the depth of the tree.
+    /// Where a walk of the pools under `top` goes on behind a pool and those under it, and how many pools stand above that: at the next
+    /// younger pool beside it, or beside one of those above it. `None`: it was the last.
+    fn behind(&self, top: PoolId, pool: PoolId, depth: u64) -> Option<(PoolId, u64)>
+        requires { (start : ℕ) × IsPlace self.now top start pool depth }
+        ensures place { (start : ℕ) → IsPlace self.now top start pool depth → IfSome result (λ next. IsPlace self.now top start next.0 next.1) }
+        ensures left { (text : ℕ → ℕ → List ℕ) (start : ℕ) → IsPlace self.now top start pool depth → text_left text self.now top start result ≡ text_behind text self.now top start pool }
+    {
+        let mut name = pool;
+        let mut level = depth;
+        while name != top {
+            if let Some(younger) = self.records.younger(name) {
+                return Some((younger, level));
+            }
+            let Some(parent) = self.records.parent(name) else {
+                unreachable!()
+            };
+            name = parent;
+            level -= 1;
+        }
+        None
+    }
+
+    /// Where a walk of the pools under `top` goes on behind the line of a pool, as `behind`.
+    fn below(&self, top: PoolId, pool: PoolId, depth: u64) -> Option<(PoolId, u64)>
+        requires { (start : ℕ) × IsPlace self.now top start pool depth }
+        ensures place { (start : ℕ) → IsPlace self.now top start pool depth → IfSome result (λ next. IsPlace self.now top start next.0 next.1) }
+        ensures left { (text : ℕ → ℕ → List ℕ) (start : ℕ) → IsPlace self.now top start pool depth
+            → text_left text self.now top start result ≡ flat_map (text (depth + 1)) (reverse (children (map_of self.now) pool)) ++ text_behind text self.now top start pool }
+    {
+        match self.oldest_child(pool) {
+            Some(child) => {
+                prove!(depth < self.next);
+                Some((child, depth + 1))
+            }
+            None => self.behind(top, pool, depth),
+        }
+    }
+
+    /// Writes the lines of a pool and of those under it, as `print` does where this many pools stand above.
     pub fn put_pool<W: Write>(
         &self,
         out: &mut W,
@@ -83,20 +123,17 @@ impl<T: Drop + PoolText> PoolTree<T> {
         requires small { depth ≤ pool }
         ensures { OnOk result (Appends (W.contents out.old) (W.contents out.new) (printed T.shown (map_of self.now) depth pool)) }
     {
-        prove!(depth < self.next);
-        let below = depth + 1;
-        self.put_line(out, pool, depth)?;
-        let mut child = self.oldest_child(pool);
-        while let Some(name) = child {
-            self.put_pool(out, name, below)?;
-            child = self.records.younger(name);
+        let mut place = Some((pool, depth));
+        while let Some((name, level)) = place {
+            self.put_line(out, name, level)?;
+            place = self.below(pool, name, level);
         }
         Ok(())
     }
 
     /// Writes a line for each pool, its children below it, the oldest first: two spaces for each pool above,
     /// `pool` and its name, then a space and the text of each payload whose text is not empty, the oldest first.
-    /// Takes stack in proportion to the depth of the tree.
+    /// It takes no memory, and no more stack where the tree is deeper.
     pub fn print<W: Write>(&self, out: &mut W) -> Result<(), WriteFault>
         ensures { (root : ℕ) → (map_of self.now).path root ≡ root ∷ [] → OnOk result (Appends (W.contents out.old) (W.contents out.new) (printed T.shown (map_of self.now) 0 root)) }
     {

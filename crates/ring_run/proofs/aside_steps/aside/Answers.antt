@@ -1,9 +1,15 @@
 -- The bucket is set aside in the list that it is in.
-use Rattle.std.proofs.Common.{ℕ, Option, ap, subst}
+use Rattle.std.proofs.Common.{◌≡◌, ℕ, Option, Some, sym, ap, subst, ◌∙◌}
+use Rattle.std.specs.Option.{option_to_list}
 use Rattle.bucket_kinds.specs.Reading.{IsOpenFor}
 use Rattle.bucket_ring.specs.Lists.{list_at, with_payload}
 use Rattle.run_model.specs.BucketSteps.{content_at}
-use Rattle.run_model.specs.Cursors.{Place}
+use Rattle.run_model.specs.Cursors.{Place, AtLoose, Within, bucket_at, spot}
+use Rattle.run_model.specs.Steps.{takes_reference}
+use Rattle.brigade_ops.specs.Items.{named_item}
+use Rattle.ring_run.specs.Seen.{seen_over, calls_in, item_in}
+use Rattle.ring_run.proofs.Quiet.{one_referred}
+use Rattle.ring_run.proofs.SetAside.{ref_shown}
 use Rattle.run_model.specs.Cutting.{set_aside}
 use Rattle.run_model.specs.Effects.{is_above}
 use Rattle.pool_tree.specs.Tree.{map_of}
@@ -150,3 +156,38 @@ returns-in-Loose-clause-open g c =
     (λ counts. refs_one d (map_of c.args.tree.now) c.args.pool x.0 (references s) (references c.aside-in-Loose.new.self) (λ f. counts x.0 f is) has)
     (λ same. refs_same d (references s) (references c.aside-in-Loose.new.self) same)
     c.aside-in-Loose.ensures.counted c.aside-in-Loose.ensures.uncounted
+
+pub returns-in-Within-clause-sure : goal.returns-in-Within-clause-sure
+returns-in-Within-clause-sure g c around none =
+    let s = c.args.store.now in
+    let id = c.in-Within.id in
+    let ps = map_of c.args.tree.now in
+    let over = over_pools ps around in
+    let inside = c.in-Within.ensures.inside.1 in
+    let x = found_some id (list_at (lists s) inside.0) (found_in s id inside.0 inside.1.1) in
+    let is = found_bucket s id inside.0 x.0 inside.1.1 x.1 in
+    let r = seen_over (lists s) (next_name s) over c.args.instance.now c.args.call.now in
+    let name = name_there (brigade_of s) (lists s) (next_name s) inside.0 id (kept s) inside.1.1 in
+    let given = given_in (brigade_of s) (lists s) (next_name s) id (kept s) name inside.0 in
+    let runs = calls_in over c.args.call.now in
+    let at : spot r c.args.c ≡ Within c.in-Within.field-0 (named_item (item_in runs (id, x.0))) = stands_within (lists s) (next_name s) over c.args.instance.now c.args.call.now c.args.c id x.0 c.in-Within.field-0 inside.0 given (c.in-Within.ensures.at (next_name s) over) inside.1.0 x.1 in
+    c.aside.ensures.sure x.0 is
+    (sym (ref_shown ps c.args.pool runs (id, x.0)) ∙ one_referred _ (sym (ap (λ (p : Place). takes_reference ps (Some c.args.pool) (option_to_list (bucket_at p))) at) ∙ none))
+
+pub returns-in-Loose-clause-sure : goal.returns-in-Loose-clause-sure
+returns-in-Loose-clause-sure g c around none =
+    let s = c.args.store.now in
+    let id = c.in-Loose.id in
+    let ps = map_of c.args.tree.now in
+    let over = over_pools ps around in
+    let inside = c.in-Loose.ensures.inside in
+    let name = c.args.call.now.name in
+    let x = found_some id (list_at (lists s) name) (found_in s id name inside) in
+    let is = found_bucket s id name x.0 inside x.1 in
+    let r = seen_over (lists s) (next_name s) over c.args.instance.now c.args.call.now in
+    let there = name_there (brigade_of s) (lists s) (next_name s) name id (kept s) inside in
+    let given = given_in (brigade_of s) (lists s) (next_name s) id (kept s) there name in
+    let runs = calls_in over c.args.call.now in
+    let at : spot r c.args.c ≡ AtLoose (named_item (item_in runs (id, x.0))) = stands_loose (lists s) (next_name s) over c.args.instance.now c.args.call.now c.args.c id x.0 given (c.in-Loose.ensures.at (next_name s) over) x.1 in
+    c.aside-in-Loose.ensures.sure x.0 is
+    (sym (ref_shown ps c.args.pool runs (id, x.0)) ∙ one_referred _ (sym (ap (λ (p : Place). takes_reference ps (Some c.args.pool) (option_to_list (bucket_at p))) at) ∙ none))

@@ -22,3 +22,7 @@ returns-clause-ok c =
 
 pub returns-clause-held : goal.returns-clause-held
 returns-clause-held c = λ at rings pools next. held_cursors at rings pools next c.args.instance.now c.args.call.now c.buffer_byte.new.self c.buffer_byte.ensures.name c.buffer_byte.ensures.cursors
+
+pub returns-clause-sure : goal.returns-clause-sure
+returns-clause-sure c rings next around full =
+    absurd (let no = sym (full_is rings next around c.args.instance.now c.args.call.now c.args.x c.value_of-number.result c.len.result c.has_no_room.result c.has_no_room.ensures (c.value_of-number.ensures rings next around c.args.call.now) c.len.ensures) ∙ c.if-has_no_room.false in cc)

@@ -1,13 +1,15 @@
 -- The pools that instructions name are live, since there is no fault.
-use Rattle.std.proofs.Common.{ℕ, Option, refl, sym, ap, ◌∙◌}
+use Rattle.std.proofs.Common.{ℕ, Option, Some, refl, sym, ap, ◌∙◌}
+use Rattle.std.specs.Prelude.{option_to_list}
 use Rattle.std.proofs.lemmas.Result.{on_ok_weaker}
 use Rattle.module_code.specs.declared.instr.Instr.{Instr}
 use Rattle.module_code.specs.declared.instr.PoolRef.{PoolRef}
-use Rattle.run_model.specs.BucketSteps.{do_aside}
-use Rattle.run_model.specs.Cursors.{spot}
+use Rattle.run_model.specs.BucketSteps.{do_aside, items_at}
+use Rattle.run_model.specs.Cursors.{bucket_at, spot}
+use Rattle.run_model.specs.Effects.{made_on}
 use Rattle.run_model.specs.Faults.{WPool, fault, fault_want}
 use Rattle.run_model.specs.State.{items_of, pool_named}
-use Rattle.run_model.specs.Steps.{label_killed, label_registered, on_pool, step, text_of}
+use Rattle.run_model.specs.Steps.{grows, label_killed, label_registered, on_pool, step, takes_reference, text_of}
 use Rattle.pool_tree.specs.Tree.{map_of}
 use Rattle.pool_tree.proofs.Trees.{tree_formed}
 use Rattle.brigade_ops.specs.Store.{lists, next_name, pool_of, references}
@@ -20,6 +22,7 @@ use Rattle.ring_run.proofs.CarriedOut.{names_kept}
 use Rattle.ring_run.proofs.LeftAlone.{rest_none}
 use Rattle.ring_run.proofs.OpenFiles.{open_items, open_spot, refs_same}
 use Rattle.ring_run.proofs.Faultless.{nowhere}
+use Rattle.ring_run.proofs.Quiet.{grown_none}
 use Rattle.ring_run.proofs.execute_on_pools.execute_on_pools.Goals as goal
 
 pub live_pool-parent-requires : goal.live_pool-parent-requires
@@ -154,3 +157,21 @@ returns-in-Aside-clause-open g c =
     let r = seen_over (lists c.args.store.now) (next_name c.args.store.now) over c.args.instance.now c.args.call.now in
     let alive = aside_alive c.args.code.now r c.in-Aside.c c.in-Aside.pool (ap (λ (i : Instr). fault c.args.code.now r i) (sym c.in-Aside.is) ∙ c.requires.faultless nowhere) in
     c.aside.ensures.open d over (open_spot d r c.in-Aside.c (ranges nowhere) alive) all
+
+pub returns-in-BSave-clause-sure : goal.returns-in-BSave-clause-sure
+unfolding map_of seen_over
+returns-in-BSave-clause-sure g c around none =
+    let over = in_setting c.args.setting.now (map_of c.args.tree.now) around in
+    let r = seen_over (lists c.args.store.now) (next_name c.args.store.now) over c.args.instance.now c.args.call.now in
+    c.save.ensures.sure over c.args.call.now
+    (grown_none 0 0 (takes_reference (map_of c.args.tree.now) (made_on (r.instance.brigades c.in-BSave.o)) (items_at r c.in-BSave.b)) (sym (ap (λ (i : Instr). grows r i) c.in-BSave.is) ∙ none)).1
+
+pub returns-in-Aside-clause-sure : goal.returns-in-Aside-clause-sure
+unfolding map_of seen_over
+returns-in-Aside-clause-sure g c around none =
+    let over = in_setting c.args.setting.now (map_of c.args.tree.now) around in
+    let r = seen_over (lists c.args.store.now) (next_name c.args.store.now) over c.args.instance.now c.args.call.now in
+    let bs = option_to_list (bucket_at (spot r c.in-Aside.c)) in
+    let plain = (grown_none 0 0 (takes_reference (map_of c.args.tree.now) (pool_named r c.in-Aside.pool) bs) (sym (ap (λ (i : Instr). grows r i) c.in-Aside.is) ∙ none)).1 in
+    c.aside.ensures.sure over
+    (sym (ap (λ (p : Option ℕ). takes_reference (map_of c.args.tree.now) p bs) (c.live_pool-to.ensures.named (lists c.args.store.now) (next_name c.args.store.now) around c.args.call.now)) ∙ plain)

@@ -4,11 +4,13 @@ use Rattle.std.proofs.Math.Seq.{drop-append_seam, drop-length, take-append_seam}
 use Rattle.std.proofs.lemmas.List.{append-nil}
 use Rattle.bucket_ring.specs.Lists.{list_at, rest}
 use Rattle.run_model.specs.Buckets.{is_eos_kind}
-use Rattle.brigade_ops.specs.Items.{Items, from_place}
+use Rattle.run_model.specs.Steps.{has_bytes}
+use Rattle.brigade_ops.specs.Items.{Items, from_place, named}
 use Rattle.brigade_ops.specs.Store.{lists, brigade_of}
 use Rattle.brigade_ops.proofs.Walks.{told_some}
 use Rattle.ring_run.proofs.Buffers.{behind, both_parts}
 use Rattle.ring_run.proofs.Delivering.{ItemsSoFar, items_none, items_end, items_eos, items_failed, items_more, content_from, items_left, place_end as none_left}
+use Rattle.ring_run.proofs.Quiet.{quiet_more}
 use Rattle.ring_run.proofs.Walked.{head_here, shorter}
 use Rattle.ring_run.proofs.output.add_all.Goals as goal
 
@@ -20,6 +22,7 @@ loop-place-init g c =
       front = ap (take (length old)) (sym (append-nil old)) ∙ take-append_seam old [];
       device = refl;
       read = items_none (g.F.Files.device c.args.files.now) xs (from_place c.start-place.result xs) _ c.start-place.ensures.whole (drop-length old);
+      quiet = λ none. ap (λ (ys : Items). has_bytes (named ys)) c.start-place.ensures.whole ∙ none;
       inside = told_some (λ j. brigade_of c.args.store.now j ≡ Some c.args.b) c.start-place.result c.start-place.ensures.inside;
     }
 
@@ -91,6 +94,7 @@ loop-place-preserved g c =
       device = took.taken_so.same went ∙ l.invariant.device;
       read = items_left d xs ys (from_place c.behind-place.result xs) (drop (length old) c.add.new.out) on
           (subst (λ (bytes : List ℕ). ItemsSoFar d xs ys bytes) (sym (ap (drop (length old)) all ∙ drop-append_seam old (front ++ took.added))) more);
+      quiet = λ none. ap (λ (zs : Items). has_bytes (named zs)) on ∙ (quiet_more id x ys plain (sym (ap (λ (zs : Items). has_bytes (named zs)) head) ∙ l.invariant.quiet none)).1;
       inside = told_some (λ j. brigade_of s j ≡ Some c.args.b) c.behind-place.result (c.behind-place.ensures.inside c.args.b in_b);
     }
 
@@ -114,3 +118,17 @@ returns-clause-added g c =
       grown = both_parts c.args.out.now l.out l.invariant.front;
       taken_so = items_end (g.F.Files.device c.args.files.now) xs (g.F.Files.device l.files) (from_place l.place xs) front l.invariant.read (none_left l.place xs c.in_default.not-Some) l.invariant.device;
     }
+
+pub returns-in_err-add-clause-sure : goal.returns-in_err-add-clause-sure
+returns-in_err-add-clause-sure g c none =
+    let l = c.loop-place in
+    let s = c.args.store.now in
+    let xs = list_at (lists s) c.args.b in
+    let id = c.in-Some.id in
+    let x = c.payload-bucket.result.now in
+    let ys : Items = drop 1 (rest id xs) in
+    let in_b = l.invariant.inside id c.in-Some.is in
+    let head : from_place l.place xs ≡ (id, x) ∷ ys = ap (λ p. from_place p xs) c.in-Some.is ∙ head_here s id c.args.b x in_b c.payload-bucket.ensures in
+    let plain : is_eos_kind x.kind ≡ false = sym c.is_eos.ensures ∙ c.if-is_eos.false in
+    let sure = c.in_err-add.ensures.sure (quiet_more id x ys plain (sym (ap (λ (zs : Items). has_bytes (named zs)) head) ∙ l.invariant.quiet none)).0 in
+    absurd (cc sure)

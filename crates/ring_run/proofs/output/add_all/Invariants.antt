@@ -1,8 +1,9 @@
 -- What was taken so far and what is left are all.
-use Rattle.std.proofs.Common.{◌≡◌, Some, length, drop}
+use Rattle.std.proofs.Common.{◌≡◌, false, Some, length, drop}
+use Rattle.run_model.specs.Steps.{has_bytes}
 use Rattle.bucket_ring.specs.declared.names.BucketId.{BucketId}
 use Rattle.bucket_ring.specs.Lists.{list_at}
-use Rattle.brigade_ops.specs.Items.{from_place}
+use Rattle.brigade_ops.specs.Items.{from_place, named}
 use Rattle.brigade_ops.specs.Store.{lists, brigade_of}
 use Rattle.ring_run.specs.Delivery.{HasFront}
 use Rattle.ring_run.proofs.Delivering.{ItemsSoFar}
@@ -13,6 +14,7 @@ invariant-loop-place g l = record {
   front : HasFront l.fn.out l.out;
   device : g.F.Files.device l.files ≡ g.F.Files.device l.fn.files;
   read : ItemsSoFar (g.F.Files.device l.fn.files) (list_at (lists l.store) l.b) (from_place l.place (list_at (lists l.store) l.b)) (drop (length l.fn.out) l.out);
+  quiet : has_bytes (named (list_at (lists l.store) l.b)) ≡ false → has_bytes (named (from_place l.place (list_at (lists l.store) l.b))) ≡ false;
   inside : (id : BucketId) → l.place ≡ Some id → brigade_of l.store id ≡ Some l.b;
 }
 

@@ -1,7 +1,8 @@
 -- The brigade of the variable is there.
-use Rattle.std.proofs.Common.{List, All, sym, ap, subst, ◌∙◌}
+use Rattle.std.proofs.Common.{List, All, not, ◌&&◌, sym, ap, subst, ◌∙◌}
 use Rattle.bucket_ring.specs.Lists.{list_at}
 use Rattle.run_model.specs.declared.bucket.NamedBucket.{NamedBucket}
+use Rattle.run_model.specs.Steps.{has_bytes}
 use Rattle.brigade_ops.specs.Store.{lists, next_name}
 use Rattle.ring_run.specs.Delivery.{WasDelivered, out_of}
 use Rattle.ring_run.specs.Given.{RangeIsOpen}
@@ -38,3 +39,11 @@ returns-clause-delivered g c =
     subst (λ (items : List NamedBucket). WasDelivered (g.F.Files.device c.args.files.now) (g.F.Files.device c.add_brigade.new.files) (out_of c.args.out.now c.args.ended.now) items (out_of c.add_brigade.new.out c.add_brigade.new.ended) c.in_ok-well.well)
     (sym (items_live (lists s) (next_name s) around i call c.args.b c.in-Some.name (sym c.live.ensures ∙ c.in-Some.is)))
     (c.in_ok-well.ensures.ok (calls_in around call))
+
+pub returns-in_err-well-clause-sure : goal.returns-in_err-well-clause-sure
+returns-in_err-well-clause-sure g c around call none =
+    let s = c.args.store.now in
+    let i = c.args.instance.now in
+    let items = items_live (lists s) (next_name s) around i call c.args.b c.in-Some.name (sym c.live.ensures ∙ c.in-Some.is) in
+    let sure = c.in_err-well.ensures.sure (calls_in around call) (sym (ap (λ (xs : List NamedBucket). not c.args.ended.now && has_bytes xs) items) ∙ none) in
+    absurd (cc sure)

@@ -1,12 +1,18 @@
 -- The brigade is parted, and the cursor is at the place.
-use Rattle.std.proofs.Common.{sym, ap, ◌∙◌}
+use Rattle.std.proofs.Common.{◌≡◌, false, is_some, sym, ap, ◌∙◌}
+use Rattle.bucket_ring.specs.Lists.{list_at}
+use Rattle.run_model.specs.BrigadeLists.{bucket_across}
+use Rattle.run_model.specs.BucketSteps.{items_at, names_to_part}
+use Rattle.brigade_ops.specs.Points.{point_in, is_inside}
 use Rattle.run_model.specs.State.{set_cursor}
 use Rattle.brigade_ops.specs.Store.{lists, brigade_of, pool_of, next_name}
-use Rattle.ring_run.specs.Seen.{seen, shown_cursor}
+use Rattle.ring_run.specs.Seen.{seen, shown, calls_in, shown_cursor}
 use Rattle.ring_run.specs.Slots.{slot_at, name_in}
 use Rattle.ring_run.proofs.Changes.{live_is}
+use Rattle.ring_run.proofs.Items.{items_live}
 use Rattle.ring_run.proofs.Names.{held_kept, no_less}
 use Rattle.ring_run.proofs.Parts.{WasFound, same_ok, parted_step, parted_rises, parted_still, parted_given, parted_off}
+use Rattle.ring_run.proofs.Quiet.{cut_shown, names_none}
 use Rattle.ring_run.proofs.Walks.{held_cursor}
 use Rattle.ring_run.proofs.LeftAlone.{left_off, left_same, ours_slot}
 use Rattle.ring_run.proofs.part_steps.part.Goals as goal
@@ -43,3 +49,13 @@ returns-clause-left g c =
 pub returns-in_default-partition-clause-left : goal.returns-in_default-partition-clause-left
 returns-in_default-partition-clause-left g c =
     left_same c.args.store.now c.partition.new.self (no_less (next_name c.args.store.now) (next_name c.partition.new.self) c.in_default-partition.ensures.next) c.partition.ensures.names c.partition.ensures.pools c.partition.ensures.references c.in_default-partition.ensures.err c.args.instance.now c.args.call.now
+
+pub returns-in_default-partition-clause-sure : goal.returns-in_default-partition-clause-sure
+returns-in_default-partition-clause-sure g c around none =
+    let s = c.args.store.now in
+    let name = c.in-Some.name in
+    let runs = calls_in around c.args.call.now in
+    let items : items_at (seen s around c.args.instance.now c.args.call.now) c.args.b ≡ shown runs (list_at (lists s) name) = items_live (lists s) (next_name s) around c.args.instance.now c.args.call.now c.args.b name (sym c.live.ensures ∙ c.in-Some.is) in
+    let across : is_some (bucket_across c.args.point (shown runs (list_at (lists s) name))) ≡ false = names_none _ (sym (ap (names_to_part c.args.point) items) ∙ none) in
+    let between : is_inside (point_in c.args.point (list_at (lists s) name)) ≡ false = sym (cut_shown c.args.point runs (list_at (lists s) name)) ∙ across in
+    absurd (c.in_default-partition.not-Ok _ (c.partition.ensures.between between).0)

@@ -206,3 +206,27 @@ read-requires-clause-open g c =
     let given = given_in (brigade_of s) (lists s) (next_name s) id (kept s) name n.0 in
     let at = stands_within (lists s) (next_name s) around c.args.instance.now c.args.call.now c.args.c id y c.in-Within.field-0 n.0 given (c.in-Within.ensures.at (next_name s) around) n.1.0 found in
     subst (λ (p : Place). IsOpenFor (g.F.Files.device c.args.files.now) (content_at p)) at c.requires.open.1
+
+pub returns-in-Err-NoMemory-clause-sure : goal.returns-in-Err-NoMemory-clause-sure
+returns-in-Err-NoMemory-clause-sure g c around none =
+    let n = c.in-Within.ensures.inside.1 in
+    let x = found_some c.in-Within.id (list_at (lists c.args.store.now) n.0) (found_in c.args.store.now c.in-Within.id n.0 n.1.1) in
+    let is : store.bucket_at c.args.store.now c.in-Within.id ≡ Some x.0 = found_bucket c.args.store.now c.in-Within.id n.0 x.0 n.1.1 x.1 in
+    let r = seen_over (lists c.args.store.now) (next_name c.args.store.now) around c.args.instance.now c.args.call.now in
+    let name = name_there (brigade_of c.args.store.now) (lists c.args.store.now) (next_name c.args.store.now) n.0 c.in-Within.id (kept c.args.store.now) n.1.1 in
+    let given = given_in (brigade_of c.args.store.now) (lists c.args.store.now) (next_name c.args.store.now) c.in-Within.id (kept c.args.store.now) name n.0 in
+    let at : spot r c.args.c ≡ Within c.in-Within.field-0 (named_item (item_in (calls_in around c.args.call.now) (c.in-Within.id, x.0))) = stands_within (lists c.args.store.now) (next_name c.args.store.now) around c.args.instance.now c.args.call.now c.args.c c.in-Within.id x.0 c.in-Within.field-0 n.0 given (c.in-Within.ensures.at (next_name c.args.store.now) around) n.1.0 x.1 in
+    let no_rest : Option BucketId = None in
+    absurd (err_ok c.in-Err-NoMemory.field-0 no_rest ((c.in-Err-NoMemory.ensures.read x.0 is).unread (sym (ap (λ (s : Place). wanted (content_at s)) at) ∙ none)).0)
+
+pub returns-in-Err-NamesSpent-clause-sure : goal.returns-in-Err-NamesSpent-clause-sure
+returns-in-Err-NamesSpent-clause-sure g c around none =
+    let n = c.in-Within.ensures.inside.1 in
+    let x = found_some c.in-Within.id (list_at (lists c.args.store.now) n.0) (found_in c.args.store.now c.in-Within.id n.0 n.1.1) in
+    let is : store.bucket_at c.args.store.now c.in-Within.id ≡ Some x.0 = found_bucket c.args.store.now c.in-Within.id n.0 x.0 n.1.1 x.1 in
+    let r = seen_over (lists c.args.store.now) (next_name c.args.store.now) around c.args.instance.now c.args.call.now in
+    let name = name_there (brigade_of c.args.store.now) (lists c.args.store.now) (next_name c.args.store.now) n.0 c.in-Within.id (kept c.args.store.now) n.1.1 in
+    let given = given_in (brigade_of c.args.store.now) (lists c.args.store.now) (next_name c.args.store.now) c.in-Within.id (kept c.args.store.now) name n.0 in
+    let at : spot r c.args.c ≡ Within c.in-Within.field-0 (named_item (item_in (calls_in around c.args.call.now) (c.in-Within.id, x.0))) = stands_within (lists c.args.store.now) (next_name c.args.store.now) around c.args.instance.now c.args.call.now c.args.c c.in-Within.id x.0 c.in-Within.field-0 n.0 given (c.in-Within.ensures.at (next_name c.args.store.now) around) n.1.0 x.1 in
+    let no_rest : Option BucketId = None in
+    absurd (err_ok c.in-Err-NamesSpent.field-0 no_rest ((c.in-Err-NamesSpent.ensures.read x.0 is).unread (sym (ap (λ (s : Place). wanted (content_at s)) at) ∙ none)).0)

@@ -8,14 +8,19 @@ use Rattle.brigade_ops.specs.Store.{lists, brigade_of, pool_of, next_name, refer
 use Rattle.ring_run.specs.declared.machine.Slot.TheVariants as slot
 use Rattle.run_model.specs.declared.bucket.NamedBucket.{NamedBucket}
 use Rattle.ring_run.specs.Given.{RangeIsOpen}
-use Rattle.ring_run.specs.Seen.{seen_over, calls_in}
+use Rattle.run_model.specs.BucketSteps.{items_at}
+use Rattle.run_model.specs.Effects.{made_on, new_ref}
+use Rattle.run_model.specs.Steps.{takes_reference}
+use Rattle.ring_run.specs.Seen.{seen_over, shown, calls_in}
 use Rattle.ring_run.specs.Slots.{slot_at, name_in}
 use Rattle.ring_run.proofs.Changes.{live_is, dead_seen}
 use Rattle.ring_run.proofs.Items.{items_live}
 use Rattle.ring_run.proofs.LeftAlone.{rest_both, rest_same, ours_slot}
 use Rattle.ring_run.proofs.OpenFiles.{refs_all, refs_same}
 use Rattle.ring_run.proofs.Names.{apart_in, held_kept, no_less, still_same, still_both, by_result}
-use Rattle.ring_run.proofs.Saved.{made_null, made_loose, made_gone, not_saved, nothing_saved, saved}
+use Rattle.ring_run.proofs.Saved.{made_null, made_loose, made_gone, made_there, not_saved, nothing_saved, saved}
+use Rattle.ring_run.proofs.Quiet.{none_referred}
+use Rattle.ring_run.proofs.SetAside.{refs_shown}
 use Rattle.ring_run.proofs.Trees.{over_pools, on_both, on_both_err, seen_kept}
 use Rattle.ring_run.proofs.saves.save.Goals as goal
 use Rattle.ring_run.proofs.saves.save.Goals.{then-is_none-via-then-is_none, then-is_none-via-else-is_none+then-not-has}
@@ -128,3 +133,20 @@ returns-clause-open g c =
     (λ counts. refs_all d (calls_in around call) ps on.0 (list_at (lists s) c.in-Some.from) (references s) (references c.save.new.self) (λ f. counts on.0 f lies) has)
     (λ same. refs_same d (references s) (references c.save.new.self) same)
     c.save.ensures.counted c.save.ensures.uncounted
+
+pub returns-clause-sure : goal.returns-clause-sure
+returns-clause-sure g c around call none =
+    let s = c.args.store.now in
+    let i = c.args.instance.now in
+    let ps = map_of c.args.tree.now in
+    let over = over_pools ps around in
+    let on = some_is c.in-Made.on c.is_none.result c.is_none.ensures c.if-is_none.false in
+    let is : slot_at i c.args.o ≡ slot.Made c.in-Made.to (Some on.0) c.in-Made.field-2 = sym c.in-Made.ensures ∙ ap (λ (p : Option ℕ). slot.Made c.in-Made.to p c.in-Made.field-2) on.1 in
+    let there : is_some (lists s c.in-Made.to) ≡ true = sym c.if-not-has.ensures in
+    let lies : pool_of s c.in-Made.to ≡ Some on.0 = c.requires.on c.args.o c.in-Made.to (Some on.0) c.in-Made.field-2 (λ e. let first = c.requires.first in omega (arith, first, e)) is there in
+    let runs = calls_in over call in
+    let r = seen_over (lists s) (next_name s) over i call in
+    let made : made_on (r.instance.brigades c.args.o) ≡ Some on.0 = made_there (lists s) (next_name s) over i call c.args.o c.in-Made.to on.0 c.in-Made.field-2 is there in
+    let items : items_at r c.args.b ≡ shown runs (list_at (lists s) c.in-Some.from) = items_live (lists s) (next_name s) over i call c.args.b c.in-Some.from (sym c.in-Some.ensures) in
+    let quiet : takes_reference ps (Some on.0) (shown runs (list_at (lists s) c.in-Some.from)) ≡ false = sym (ap (λ (o : Option ℕ). takes_reference ps o (items_at r c.args.b)) made ∙ ap (takes_reference ps (Some on.0)) items) ∙ none in
+    c.save.ensures.sure on.0 lies (sym (refs_shown ps on.0 runs (list_at (lists s) c.in-Some.from)) ∙ none_referred (new_ref ps on.0) (shown runs (list_at (lists s) c.in-Some.from)) quiet)

@@ -1,7 +1,8 @@
 -- The bucket is split, or the split is refused.
-use Rattle.std.proofs.Common.{◌≡◌, ℕ, ◌+◌, ◌≤◌, [], ◌∷◌, Some, sym, ap, ◌∙◌, arith}
+use Rattle.std.proofs.Common.{◌≡◌, ℕ, ◌+◌, ◌≤◌, [], ◌∷◌, true, Some, is_some, inl, inr, sym, ap, ◌∙◌, arith}
 use Rattle.bucket_ring.specs.Lists.{list_at}
-use Rattle.run_model.specs.BucketSteps.{do_split}
+use Rattle.run_model.specs.BrigadeLists.{split_refusal}
+use Rattle.run_model.specs.BucketSteps.{do_split, names_to_split}
 use Rattle.run_model.specs.Buckets.{is_data_kind}
 use Rattle.run_model.specs.Cursors.{Place, Within, bucket_at, spot}
 use Rattle.run_model.specs.Cutting.{split_at, length_of}
@@ -17,6 +18,7 @@ use Rattle.ring_run.specs.Seen.{seen_over, calls_in, item_in}
 use Rattle.ring_run.proofs.Changes.{seen_same}
 use Rattle.ring_run.proofs.Homes.{not_dead}
 use Rattle.ring_run.proofs.Names.{apart_in, held_kept, no_less, still_same, still_on}
+use Rattle.ring_run.proofs.Quiet.{refused_why, same_err, uncut}
 use Rattle.ring_run.proofs.Slots.{name_there, given_in}
 use Rattle.ring_run.proofs.Splits.{split_into, not_refused, refused_data, refused_long, done_split, not_split, ok_data, ok_short, err_data, err_long}
 use Rattle.ring_run.proofs.Stands.{stands_within}
@@ -123,3 +125,37 @@ returns-in-Err-NoMemory-clause-left g c = left_same c.args.store.now c.split.new
 
 pub returns-in-Err-NamesSpent-clause-left : goal.returns-in-Err-NamesSpent-clause-left
 returns-in-Err-NamesSpent-clause-left g c = left_same c.args.store.now c.split.new.self (no_less (next_name c.args.store.now) (next_name c.split.new.self) c.in-Err-NamesSpent.ensures.next) c.split.ensures.names c.split.ensures.pools c.split.ensures.references c.in-Err-NamesSpent.ensures.err c.args.instance.now c.args.call.now
+
+pub returns-in-Err-NoMemory-clause-sure : goal.returns-in-Err-NoMemory-clause-sure
+returns-in-Err-NoMemory-clause-sure g c around none =
+    let n = c.in-Within.ensures.inside.1 in
+    let x = found_some c.in-Within.id (list_at (lists c.args.store.now) n.0) (found_in c.args.store.now c.in-Within.id n.0 n.1.1) in
+    let is : store.bucket_at c.args.store.now c.in-Within.id ≡ Some x.0 = found_bucket c.args.store.now c.in-Within.id n.0 x.0 n.1.1 x.1 in
+    let r = seen_over (lists c.args.store.now) (next_name c.args.store.now) around c.args.instance.now c.args.call.now in
+    let y : NamedBucket = named_item (item_in (calls_in around c.args.call.now) (c.in-Within.id, x.0)) in
+    let name = name_there (brigade_of c.args.store.now) (lists c.args.store.now) (next_name c.args.store.now) n.0 c.in-Within.id (kept c.args.store.now) n.1.1 in
+    let given = given_in (brigade_of c.args.store.now) (lists c.args.store.now) (next_name c.args.store.now) c.in-Within.id (kept c.args.store.now) name n.0 in
+    let at : spot r c.args.c ≡ Within c.in-Within.field-0 y = stands_within (lists c.args.store.now) (next_name c.args.store.now) around c.args.instance.now c.args.call.now c.args.c c.in-Within.id x.0 c.in-Within.field-0 n.0 given (c.in-Within.ensures.at (next_name c.args.store.now) around) n.1.0 x.1 in
+    let refused : is_some (split_refusal c.args.n y) ≡ true = uncut _ (sym (ap (names_to_split c.args.n) at) ∙ none) in
+    let other : c.in-Err-NoMemory.field-0 ≡ refusal.NoMemory = c.in-Err-NoMemory.field-0-is in
+    elim (refused_why c.args.n y refused) [
+      | inl meta ↦ absurd (let told : c.in-Err-NoMemory.field-0 ≡ refusal.Metadata = same_err _ _ (sym c.in-Err-NoMemory.is ∙ (c.split.ensures.metadata x.0 is).1 meta) in cc)
+      | inr long ↦ absurd (let told : c.in-Err-NoMemory.field-0 ≡ refusal.TooLong = same_err _ _ (sym c.in-Err-NoMemory.is ∙ (c.split.ensures.too_long x.0 is).1 long) in cc)
+    ]
+
+pub returns-in-Err-NamesSpent-clause-sure : goal.returns-in-Err-NamesSpent-clause-sure
+returns-in-Err-NamesSpent-clause-sure g c around none =
+    let n = c.in-Within.ensures.inside.1 in
+    let x = found_some c.in-Within.id (list_at (lists c.args.store.now) n.0) (found_in c.args.store.now c.in-Within.id n.0 n.1.1) in
+    let is : store.bucket_at c.args.store.now c.in-Within.id ≡ Some x.0 = found_bucket c.args.store.now c.in-Within.id n.0 x.0 n.1.1 x.1 in
+    let r = seen_over (lists c.args.store.now) (next_name c.args.store.now) around c.args.instance.now c.args.call.now in
+    let y : NamedBucket = named_item (item_in (calls_in around c.args.call.now) (c.in-Within.id, x.0)) in
+    let name = name_there (brigade_of c.args.store.now) (lists c.args.store.now) (next_name c.args.store.now) n.0 c.in-Within.id (kept c.args.store.now) n.1.1 in
+    let given = given_in (brigade_of c.args.store.now) (lists c.args.store.now) (next_name c.args.store.now) c.in-Within.id (kept c.args.store.now) name n.0 in
+    let at : spot r c.args.c ≡ Within c.in-Within.field-0 y = stands_within (lists c.args.store.now) (next_name c.args.store.now) around c.args.instance.now c.args.call.now c.args.c c.in-Within.id x.0 c.in-Within.field-0 n.0 given (c.in-Within.ensures.at (next_name c.args.store.now) around) n.1.0 x.1 in
+    let refused : is_some (split_refusal c.args.n y) ≡ true = uncut _ (sym (ap (names_to_split c.args.n) at) ∙ none) in
+    let other : c.in-Err-NamesSpent.field-0 ≡ refusal.NamesSpent = c.in-Err-NamesSpent.field-0-is in
+    elim (refused_why c.args.n y refused) [
+      | inl meta ↦ absurd (let told : c.in-Err-NamesSpent.field-0 ≡ refusal.Metadata = same_err _ _ (sym c.in-Err-NamesSpent.is ∙ (c.split.ensures.metadata x.0 is).1 meta) in cc)
+      | inr long ↦ absurd (let told : c.in-Err-NamesSpent.field-0 ≡ refusal.TooLong = same_err _ _ (sym c.in-Err-NamesSpent.is ∙ (c.split.ensures.too_long x.0 is).1 long) in cc)
+    ]

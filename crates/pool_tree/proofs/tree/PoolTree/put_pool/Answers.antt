@@ -1,0 +1,82 @@
+-- A line is written, and the walk goes on below or behind.
+use Rattle.std.proofs.Common.{◌≡◌, ℕ, ◌+◌, ◌<◌, List, [], ◌++◌, reverse, length, None, Some, sym, ap, subst, ◌∙◌, arith}
+use Rattle.std.specs.List.{flat_map}
+use Rattle.std.proofs.lemmas.List.{append-nil, append_assoc, length-append}
+use Rattle.run_model.specs.RunOrder.{children}
+use Rattle.pool_tree.specs.Left.{IsPlace, text_behind, text_left}
+use Rattle.pool_tree.specs.Printed.{line, printed}
+use Rattle.pool_tree.specs.Tree.{map_of}
+use Rattle.pool_tree.proofs.Left.{behind_top, if_some, line_some, none_of, place_top}
+use Rattle.pool_tree.proofs.Printing.{printed_step}
+use Rattle.pool_tree.proofs.Trees.{tree_formed}
+use Rattle.pool_tree.proofs.Writing.{appends_then, appends_none, appends_same}
+use Rattle.pool_tree.proofs.tree.PoolTree.put_pool.Goals as goal
+
+pub loop-place-init : goal.loop-place-init
+loop-place-init g c =
+    let tree = c.args.self.now in
+    let pool = c.args.pool in
+    let depth = c.args.depth in
+    let text = printed g.T.PoolText.shown (map_of tree) in
+    record {
+      front = ([], (appends_none (g.W.Write.contents c.args.out.now), ap (λ (xs : List ℕ). text depth pool ++ xs) (behind_top tree text pool depth c.requires.live) ∙ append-nil (text depth pool)));
+      place = λ p is. (let e : (pool, depth) ≡ p = cc in subst (λ (q : ℕ × ℕ). IsPlace tree pool depth q.0 q.1) e (place_top tree pool depth c.requires.live c.requires.small));
+    }
+
+pub below-place-requires : goal.below-place-requires
+below-place-requires g c = (c.args.depth, c.loop-place.invariant.place (c.in-Some.name, c.in-Some.level) c.in-Some.is)
+
+pub loop-place-smaller : goal.loop-place-smaller
+loop-place-smaller g c =
+    let tree = c.args.self.now in
+    let pool = c.args.pool in
+    let depth = c.args.depth in
+    let name = c.in-Some.name in
+    let level = c.in-Some.level in
+    let text = printed g.T.PoolText.shown (map_of tree) in
+    let at = c.loop-place.invariant.place (name, level) c.in-Some.is in
+    let under = flat_map (text (level + 1)) (reverse (children (map_of tree) name)) in
+    let behind = text_behind text tree pool depth name in
+    let first = line g.T.PoolText.shown (map_of tree) level name in
+    let left = ap length (c.below-place.ensures.left text depth at) in
+    let was = ap (λ o. length (text_left text tree pool depth o)) c.in-Some.is in
+    let step = ap (λ (xs : List ℕ). length (xs ++ behind)) (printed_step g.T.PoolText.shown (map_of tree) (tree_formed tree) level name at.live) in
+    let more = line_some g.T.PoolText.shown (map_of tree) level name in
+    omega (arith, left, was, step, more, length-append under behind, length-append (first ++ under) behind, length-append first under)
+
+pub loop-place-preserved : goal.loop-place-preserved
+loop-place-preserved g c =
+    let tree = c.args.self.now in
+    let pool = c.args.pool in
+    let depth = c.args.depth in
+    let name = c.in-Some.name in
+    let level = c.in-Some.level in
+    let text = printed g.T.PoolText.shown (map_of tree) in
+    let i = c.loop-place.invariant in
+    let at = i.place (name, level) c.in-Some.is in
+    let under = flat_map (text (level + 1)) (reverse (children (map_of tree) name)) in
+    let behind = text_behind text tree pool depth name in
+    let first = line g.T.PoolText.shown (map_of tree) level name in
+    let written = i.front.0 in
+    record {
+      front = (
+        written ++ first,
+        (
+          appends_then (g.W.Write.contents c.args.out.now) (g.W.Write.contents c.loop-place.out) (g.W.Write.contents c.put_line.new.out) written first i.front.1.0 c.in_ok-put_line.ensures,
+          ap (λ (xs : List ℕ). (written ++ first) ++ xs) (c.below-place.ensures.left text depth at)
+              ∙ (append_assoc written first (under ++ behind)
+              ∙ (ap (λ (xs : List ℕ). written ++ xs) (sym (append_assoc first under behind) ∙ ap (λ (xs : List ℕ). xs ++ behind) (sym (printed_step g.T.PoolText.shown (map_of tree) (tree_formed tree) level name at.live)))
+              ∙ (ap (λ o. written ++ text_left text tree pool depth o) (sym c.in-Some.is) ∙ i.front.1.1))),
+        ),
+      );
+      place = λ p is. if_some (λ (q : ℕ × ℕ). IsPlace tree pool depth q.0 q.1) c.below-place.result (c.below-place.ensures.place depth at) p is;
+    }
+
+pub returns : goal.returns
+returns g c =
+    let tree = c.args.self.now in
+    let text = printed g.T.PoolText.shown (map_of tree) in
+    let i = c.loop-place.invariant in
+    let none = none_of c.loop-place.place c.in_default.not-Some in
+    appends_same (g.W.Write.contents c.args.out.now) (g.W.Write.contents c.loop-place.out) i.front.0 (text c.args.depth c.args.pool)
+    (sym (append-nil i.front.0) ∙ (ap (λ o. i.front.0 ++ text_left text tree c.args.pool c.args.depth o) (sym none) ∙ i.front.1.1)) i.front.1.0
