@@ -11,7 +11,7 @@ use Rattle.run_model.specs.declared.payload.Payload.{Payload}
 use Rattle.run_model.specs.Chains.{Linked, pools_of}
 use Rattle.run_model.specs.Files.{is_referred}
 use Rattle.run_model.specs.Payloads.{is_file_ref}
-use Rattle.run_model.specs.Pools.{Pools, cleared}
+use Rattle.run_model.specs.Pools.{Pools, destroyed}
 use Rattle.run_model.specs.RunOrder.{run_order}
 use Rattle.run_model.specs.Turns.{ends}
 use Rattle.pool_tree.specs.declared.tree.PoolTree.{PoolTree}
@@ -40,13 +40,13 @@ module _ {R : Type 0} {g : Ghosts R Bucket} (d e : Device) (tree newer : PoolTre
 
 module _ {R : Type 0} {g : Ghosts R Bucket} (d e : Device) (tree newer : PoolTree Payload) (store : Brigades R g) (c : Conn) where
   pub close_closes : {E : Type 0} {X : List Program → Linked → Type 0} (r : Result (Unit {0}) E) → ((chain : List Program) (v : Linked) → X chain v → StandsFor chain tree store d c v)
-      → OnOk r (map_of newer ≡ cleared c.conn (map_of tree))
+      → OnOk r (map_of newer ≡ destroyed c.conn (map_of tree))
       → OnOk r ((file : ℕ) → e.numbered file ≡ (if list_any (λ x. is_file_ref file x.1) (run_order (map_of tree) c.conn) && not (is_referred (map_of newer) file) then Missing else d.numbered file))
       → SameButOpen d e
-      → OnOk r ((chain : List Program) (v : Linked) → X chain v → ClosedWith d e (Some v.1.conn) (pools_of v.0 v.1) (cleared v.1.conn (pools_of v.0 v.1)))
+      → OnOk r ((chain : List Program) (v : Linked) → X chain v → ClosedWith d e (Some v.1.conn) (pools_of v.0 v.1) (destroyed v.1.conn (pools_of v.0 v.1)))
   close_closes (Ok x) stands pools closed others = λ chain v may.
       let so = stands chain v may in
-      subst (λ (n : ℕ). ClosedWith d e (Some n) (pools_of v.0 v.1) (cleared n (pools_of v.0 v.1))) (sym (conn_is (map_of tree) (lists store) (next_name store) c v so.left.seen))
-      (subst (λ (ps : Pools Payload). ClosedWith d e (Some c.conn) ps (cleared c.conn ps)) (sym (pools_are (map_of tree) (lists store) (next_name store) c v so.left.seen))
+      subst (λ (n : ℕ). ClosedWith d e (Some n) (pools_of v.0 v.1) (destroyed n (pools_of v.0 v.1))) (sym (conn_is (map_of tree) (lists store) (next_name store) c v so.left.seen))
+      (subst (λ (ps : Pools Payload). ClosedWith d e (Some c.conn) ps (destroyed c.conn ps)) (sym (pools_are (map_of tree) (lists store) (next_name store) c v so.left.seen))
       (subst (λ (ps : Pools Payload). ClosedWith d e (Some c.conn) (map_of tree) ps) pools (record { closed = closed; others = others })))
   close_closes (Err r) stands pools closed others = tt

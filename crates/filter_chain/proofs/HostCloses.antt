@@ -5,7 +5,7 @@ use Rattle.module_code.specs.Program.{Program}
 use Rattle.run_model.specs.declared.event.Event.TheVariants as event
 use Rattle.run_model.specs.declared.event.Refusal.TheVariants as refusal
 use Rattle.run_model.specs.Indexed.{upd}
-use Rattle.run_model.specs.Pools.{cleared}
+use Rattle.run_model.specs.Pools.{destroyed}
 use Rattle.run_model.specs.Chains.{Connection, Linked, pools_of}
 use Rattle.model_laws.specs.Reached.{IsReached}
 use Rattle.run_model.specs.Turns.{closing_labels}
@@ -79,7 +79,7 @@ module _ {F : Type 0} (host : Host F) (number : ℕ) (s : HostedConn) (lent : Ho
   -- It is closed.
   pub closed_on : (d e : Device) (w : World) → IsHosting d host w → (s0 : HostedConn) → hosted_at host.seats number ≡ Some s0 → (after : HostedConns) → ((k : ℕ) → hosted_at after k ≡ upd (hosted_at lent) number None k) → (files : F)
       → (labels : List (List ℕ)) → ((v : Linked) → MayServe (chain_of host) d host.next s0 v → labels ≡ closing_labels v) → ((v : Linked) → MayServe (chain_of host) d host.next s0 v → Spares d e v.1)
-      → ((v : Linked) → MayServe (chain_of host) d host.next s0 v → ClosedWith d e (Some v.1.conn) (pools_of v.0 v.1) (cleared v.1.conn (pools_of v.0 v.1)))
+      → ((v : Linked) → MayServe (chain_of host) d host.next s0 v → ClosedWith d e (Some v.1.conn) (pools_of v.0 v.1) (destroyed v.1.conn (pools_of v.0 v.1)))
       → Happens d e host (record host { seats = after; files = files }) number event.Close (Labels labels) w
   unfolding IsHosting happens_on TellsEvent chain_of budget_of
   closed_on d e w hosts s0 at after rest files labels answers spares closed =

@@ -3,6 +3,7 @@ pub mod FilesSpared
 pub mod MayFail
 pub mod FileNumbers
 pub mod Seated
+pub mod NewStore
 pub mod Closings
 pub mod Hosts
 pub mod HostEvents

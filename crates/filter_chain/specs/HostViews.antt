@@ -5,7 +5,7 @@ use Rattle.module_code.specs.Program.{Program}
 use Rattle.run_model.specs.declared.event.Event.{Event}
 use Rattle.run_model.specs.declared.event.Event.TheVariants as event
 use Rattle.run_model.specs.declared.event.Refusal.{Refusal}
-use Rattle.run_model.specs.Pools.{cleared}
+use Rattle.run_model.specs.Pools.{destroyed}
 use Rattle.run_model.specs.Chains.{Connection, Common, pools_of}
 use Rattle.run_model.specs.Passing.{Reads}
 use Rattle.run_model.specs.Worlds.{World, Told, Answer, Done, Refused, Step, Labels, happens}
@@ -58,7 +58,7 @@ abbrev pub ClosesFiles : Device → Device → List Program → Event → Answer
 ClosesFiles d e chain event.Step (Step t) g (Some c) h (Some x) = ClosesStep d e chain (Ok t) (g, c) (h, x)
 ClosesFiles d e chain event.End Done g (Some c) h (Some x) = ClosedWith d e c.req (pools_of g c) (pools_of h x)
 ClosesFiles d e chain event.End (Refused r) g c h x = e ≡ d
-ClosesFiles d e chain event.Close (Labels ls) g (Some c) h x = ClosedWith d e (Some c.conn) (pools_of g c) (cleared c.conn (pools_of g c))
+ClosesFiles d e chain event.Close (Labels ls) g (Some c) h x = ClosedWith d e (Some c.conn) (pools_of g c) (destroyed c.conn (pools_of g c))
 ClosesFiles d e chain event.Close (Refused r) g c h x = e ≡ d
 ClosesFiles d e chain what answer g c h x = Unit {0}
 

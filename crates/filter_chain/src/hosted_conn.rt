@@ -4,7 +4,7 @@ ghost use Rattle.std.specs.Prelude.{◌≡◌, ◌<◌, List, Some, length, true
 ghost use Rattle.module_code.specs.Program.{Program};
 ghost use Rattle.bucket_kinds.specs.Device.{Device};
 ghost use Rattle.run_model.specs.Chains.{Common, Connection, Linked, pools_of};
-ghost use Rattle.run_model.specs.Pools.{cleared};
+ghost use Rattle.run_model.specs.Pools.{destroyed};
 ghost use Rattle.run_model.specs.Turns.{begins, brings, closing_labels, ends, opened};
 ghost use Rattle.pool_tree.specs.Tree.{map_of};
 ghost use Rattle.brigade_ops.specs.Store.{next_name};
@@ -47,7 +47,9 @@ impl HostedConn {
         };
         tree.set_next(next.pool);
         let mut store = Brigades::new(alloc, next.name);
-        let conn = Conn::open(alloc, modules, &mut tree, &mut store)?;
+        let Ok(conn) = Conn::open(alloc, modules, &mut tree, &mut store) else {
+            return Err(AllocError);
+        };
         Ok(HostedConn { tree, store, conn })
     }
 
@@ -87,7 +89,6 @@ impl HostedConn {
     /// One step.
     pub(crate) fn step<F: Files>(
         &mut self,
-        alloc: Global,
         modules: &[Module],
         budget: u64,
         files: &mut F,
@@ -97,14 +98,9 @@ impl HostedConn {
         ensures { (v : Linked) → MayServe modules.now (F.device files.old) next.old self.old v → RefinesConnStep modules.now budget (F.device files.old) (F.device files.new) v next.new self.new result }
     {
         self.set_next(*next);
-        let outcome = self.conn.step(
-            alloc,
-            modules,
-            budget,
-            &mut self.tree,
-            &mut self.store,
-            files,
-        );
+        let outcome = self
+            .conn
+            .step(modules, budget, &mut self.tree, &mut self.store, files);
         *next = self.next();
         outcome
     }
@@ -112,7 +108,6 @@ impl HostedConn {
     /// A brigade of these pieces is brought to the first filter.
     pub(crate) fn bring(
         &mut self,
-        alloc: Global,
         modules: &[Module],
         next: &mut NextNames,
         pieces: Seq<Piece>,
@@ -121,7 +116,7 @@ impl HostedConn {
         ensures { (d : Device) (v : Linked) → MayServe modules.now d next.old self.old v → RefinesConnEvent modules.now d d next.new self.new v.1 (refusal_of result) (brings (lasted result) modules.now pieces v) }
     {
         self.set_next(*next);
-        let outcome = self.conn.bring(alloc, modules, &mut self.store, pieces);
+        let outcome = self.conn.bring(modules, &mut self.store, pieces);
         *next = self.next();
         outcome
     }
@@ -129,7 +124,6 @@ impl HostedConn {
     /// The request ends.
     pub(crate) fn end_request<F: Files>(
         &mut self,
-        alloc: Global,
         files: &mut F,
         next: &mut NextNames,
     ) -> Result<(), Refusal>
@@ -142,7 +136,7 @@ impl HostedConn {
         self.set_next(*next);
         let outcome = self
             .conn
-            .end_request(alloc, &mut self.tree, &mut self.store, files);
+            .end_request(&mut self.tree, &mut self.store, files);
         *next = self.next();
         outcome
     }
@@ -196,7 +190,7 @@ impl HostedConn {
         requires { (chain : List Program) × ((v : Linked) × MayServe chain (F.device files.old) next self.old v) }
         ensures labels { OnOk result ((chain : List Program) (v : Linked) → MayServe chain (F.device files.old) next self.old v → labels_handed self.new.conn.labels.items ≡ closing_labels v) }
         ensures closed { OnOk result ((chain : List Program) (v : Linked) → MayServe chain (F.device files.old) next self.old v
-            → ClosedWith (F.device files.old) (F.device files.new) (Some v.1.conn) (pools_of v.0 v.1) (cleared v.1.conn (pools_of v.0 v.1))) }
+            → ClosedWith (F.device files.old) (F.device files.new) (Some v.1.conn) (pools_of v.0 v.1) (destroyed v.1.conn (pools_of v.0 v.1))) }
         ensures unread { OnErr result (F.device files.new ≡ F.device files.old) }
         ensures spared { (chain : List Program) (v : Linked) → MayServe chain (F.device files.old) next self.old v → Spares (F.device files.old) (F.device files.new) v.1 }
         ensures err { OnErr result ((chain : List Program) (v : Linked) → MayServe chain (F.device files.old) next self.old v → IsHostedConnWith chain (F.device files.new) next self.new v) }

@@ -34,9 +34,7 @@ impl<F: Files + Drop> Host<F> {
     {
         match self.seats.by_number.get_mut(&number) {
             None => Err(Refusal::NoSuchConn),
-            Some(seat) => {
-                seat.bring(self.alloc, self.modules.as_slice(), &mut self.next, pieces)
-            }
+            Some(seat) => seat.bring(self.modules.as_slice(), &mut self.next, pieces),
         }
     }
 
@@ -47,7 +45,7 @@ impl<F: Files + Drop> Host<F> {
     {
         match self.seats.by_number.get_mut(&number) {
             None => Err(Refusal::NoSuchConn),
-            Some(seat) => seat.end_request(self.alloc, &mut self.files, &mut self.next),
+            Some(seat) => seat.end_request(&mut self.files, &mut self.next),
         }
     }
 }

@@ -22,7 +22,6 @@ impl<F: Files + Drop> Host<F> {
         match self.seats.by_number.get_mut(&number) {
             None => Err(Refusal::NoSuchConn),
             Some(seat) => seat.step(
-                self.alloc,
                 self.modules.as_slice(),
                 self.budget,
                 &mut self.files,

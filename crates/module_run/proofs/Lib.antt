@@ -60,3 +60,4 @@ pub mod HandedRefs
 pub mod Neighbours
 pub mod NeighboursLeft
 pub mod CallsLeave
+pub mod Leaving

@@ -1,5 +1,5 @@
 -- A connection is opened: what it stands for before its first call, and then.
-use Rattle.std.proofs.Common.{◌≡◌, ◌≢◌, ℕ, zero, suc, ◌+◌, ◌-◌, ◌<◌, ◌≤◌, ◌&&◌, nat_le, nat_lt, Bool, true, false, List, [], ◌∷◌, ◌++◌, length, Option, Some, None, is_some, refl, sym, ap, subst, ◌∙◌, arith}
+use Rattle.std.proofs.Common.{◌≡◌, ◌≢◌, ℕ, zero, suc, ◌+◌, ◌-◌, ◌<◌, ◌≤◌, ◌&&◌, nat_le, nat_lt, Bool, true, false, List, [], ◌∷◌, ◌++◌, length, Option, Some, None, is_some, ◌⊎◌, inl, inr, refl, sym, ap, subst, ◌∙◌, arith}
 use Rattle.std.specs.Prelude.{if◌then◌else◌, slice_get, slice_index_or, count_by}
 use Rattle.std.specs.Global.{Vec}
 use Rattle.std.proofs.Math.Path.{fun_ext}
@@ -18,7 +18,7 @@ use Rattle.run_model.specs.declared.payload.Payload.{Payload}
 use Rattle.run_model.specs.Chains.{Connection, Common, Frame, Linked, pools_of}
 use Rattle.run_model.specs.Indexed.{upd}
 use Rattle.run_model.specs.Payloads.{is_file_ref}
-use Rattle.run_model.specs.Pools.{Pools, created, planted}
+use Rattle.run_model.specs.Pools.{Pools, created}
 use Rattle.run_model.specs.RunOrder.{IsPoolMap}
 use Rattle.run_model.specs.Sound.{sum_below}
 use Rattle.run_model.specs.State as model
@@ -37,7 +37,8 @@ use Rattle.module_run.specs.declared.conn.OpenFile.{OpenFile}
 use Rattle.ring_run.specs.declared.machine.Instance.{Instance}
 use Rattle.module_run.specs.CalledFirst.{CalledFirst}
 use Rattle.module_run.specs.Conns.{conn_of, counting, filter_at, labels_handed, lengths, lent_by, runs_of, shown_filter, shown_instance, stack_of, stack_up, top_of, waiting}
-use Rattle.module_run.specs.Opening.{AreNew, IsNewFilter}
+use Rattle.module_run.specs.Neighbours.{ComesBeside, Holds}
+use Rattle.module_run.specs.Opening.{CanOpen, IsNewConn, IsNewFilter, over}
 use Rattle.module_run.specs.Proceeding.{LeftAs}
 use Rattle.ring_run.specs.Seen.{shown_slot}
 use Rattle.ring_run.specs.Slots.{slot_at, name_in}
@@ -45,46 +46,16 @@ use Rattle.module_run.specs.Stacked.{FiltersApart, AreCalled, IsStacked, is_call
 use Rattle.module_run.proofs.FirstCalls.{none_between, no_lent, true_false}
 use Rattle.module_run.proofs.FirstStacked.{left_called, no_names}
 use Rattle.module_run.proofs.Looked.{some_same}
-use Rattle.module_run.proofs.Tops.{frame_at}
-
--- a connection before its first call
-pub record IsNewConn (c : Conn) (pool queue : ℕ) : Type 0 where
-  pub first : c.first ≡ 0
-  pub waits : c.waits.items ≡ []
-  pub busy : c.busy ≡ false
-  pub queue_is : c.queue ≡ queue
-  pub conn : c.conn ≡ pool
-  pub req : c.req ≡ None
-  pub labels : c.labels.items ≡ []
-  pub files : c.files.items ≡ []
-  pub out : c.out ≡ []
-  pub ended : c.ended ≡ false
-  pub count : c.count ≡ 0
-  pub broken : c.broken ≡ None
+use Rattle.module_run.proofs.Tops.{filter_within, frame_at}
+use Rattle.module_run.proofs.Unchanged.{next_off_pools, off_pools}
+use Rattle.ring_run.proofs.Changes.{ring_off}
+use Rattle.std.proofs.lemmas.Bool.{cases_eq}
 
 pub all_pushed : {X : Type 0} (T : X → Type 0) (xs : List X) (x : X) → ((k : ℕ) (y : X) → slice_get xs k ≡ Some y → T y) → T x → (k : ℕ) (y : X) → slice_get (xs ++ x ∷ []) k ≡ Some y → T y
 all_pushed T [] x each last zero y is = subst T (some_same x y is) last
 all_pushed T [] x each last (suc k) y is = absurd (cc)
 all_pushed T (z ∷ zs) x each last zero y is = each zero y is
 all_pushed T (z ∷ zs) x each last (suc k) y is = all_pushed T zs x (λ j w at. each (suc j) w at) last k y is
-
-none_summed : (n : ℕ) (f : ℕ → ℕ) → ((k : ℕ) → f k ≡ 0) → sum_below n f ≡ 0
-unfolding sum_below
-none_summed zero f none = refl
-none_summed (suc n) f none = (let a = none n in let b = none_summed n f none in omega (arith, a, b))
-
--- no brigade and no reference stands on a root alone
-house_new : (rings : ℕ → Option Items) (pools : ℕ → Option ℕ) (refs : ℕ → ℕ) (n : ℕ) → ((k : ℕ) → pools k ≡ None) → ((f : ℕ) → refs f ≡ 0) → AreHoused rings pools refs (record (planted 1) { next = n })
-unfolding planted
-house_new rings pools refs n none unreferred = record {
-  held = λ k p. sym (ap (once_in p) (none k));
-  there = λ k p is. absurd (no_lent (pools k) p (none k) is);
-  referred = λ f. unreferred f ∙ sym (none_summed n (λ p. count_by (is_file_ref f) []) (λ k. refl));
-}
-
-pub root_path : (planted {T = Payload} 1).path 1 ≡ 1 ∷ []
-unfolding planted upd
-root_path = refl
 
 new_instance : (runs : ℕ → Bool) (rings : ℕ → Option Items) (f : Filter) → IsNewFilter f → shown_filter runs rings (Some f) ≡ fresh_instance
 new_instance runs rings f is =
@@ -96,13 +67,20 @@ new_instance runs rings f is =
       made : (ℕ → PoolVar) → (ℕ → BrigadeVar) → (ℕ → ℕ) → Bool → model.Instance
       made ps bs ns sent = record { pools = ps; brigades = bs; numbers = ns; sent = sent }
 
-module _ {R : Type 0} {g : Ghosts R Bucket} (chain : List Program) (tree : PoolTree Payload) (old : Brigades R g) (new : AreNew tree old) (c : Conn) (some : 0 < length chain)
-    (is : IsNewConn c (map_of tree).next (length chain)) (many : length c.filters.items ≡ length chain) (fresh : (k : ℕ) (f : Filter) → filter_at c k ≡ Some f → IsNewFilter f) where
+module _ {R : Type 0} {g : Ghosts R Bucket} (chain : List Program) (tree : PoolTree Payload) (old : Brigades R g) (new : CanOpen tree old) (c : Conn) (some : 0 < length chain) (filters : Vec Filter)
+    (is : IsNewConn filters (map_of tree).next c) (many : length c.filters.items ≡ length chain) (fresh : (k : ℕ) (f : Filter) → filter_at c k ≡ Some f → IsNewFilter f) where
   none_named : (k b m : ℕ) (f : Filter) → filter_at c k ≡ Some f → named_at f b ≡ Some m → ⊥
   none_named k b m f at e = no_lent (named_at f b) m (ap name_in ((fresh k f at).slots b)) e
 
   none_lent_at : (k b : ℕ) (f : Filter) → filter_at c k ≡ Some f → f.lent ≡ Some b → ⊥
   none_lent_at k b f at e = no_lent f.lent b (fresh k f at).lent e
+
+  queue_is : c.queue ≡ length chain
+  queue_is = is.queue ∙ (ap (λ (fs : Vec Filter). length fs.items) (sym is.filters_are) ∙ many)
+
+  -- 0 is on no pool
+  zero_off : pool_of old 0 ≡ None
+  zero_off = off_pools old (map_of tree) new.house 0 (λ there. let e : is_some (lists old 0) ≡ false = ap is_some new.none in cc)
 
   none_waits : waiting c ≡ 0
   none_waits = ap (λ (xs : List ℕ). length xs) is.waits
@@ -133,8 +111,8 @@ module _ {R : Type 0} {g : Ghosts R Bucket} (chain : List Program) (tree : PoolT
   new_stacked = record {
     many = many;
     within = (let a = is.first in let b = none_waits in omega (arith, a, b, some));
-    queue = (let a = is.queue_is in omega (arith, a));
-    held = λ k f at. (fresh k f at).held (brigade_of old) (lists old) (pool_of old) (next_name old) new.named (new.pools 0);
+    queue = (let a = queue_is in omega (arith, a));
+    held = λ k f at. (fresh k f at).held (brigade_of old) (lists old) (pool_of old) (next_name old) new.named zero_off;
     apart = new_apart;
     called = new_called;
     brought = λ m f at e. absurd (none_named c.first 8 m f at e);
@@ -156,18 +134,21 @@ module _ {R : Type 0} {g : Ghosts R Bucket} (chain : List Program) (tree : PoolT
   unfolding counting
   new_queue = ap (counting c.queue) none_more where
     none_more : 0 ≡ length c.filters.items - c.queue
-    none_more = (let a = is.queue_is in omega (arith, a, many))
+    none_more = (let a = queue_is in omega (arith, a, many))
 
   new_stack : [] ≡ stack_of (lists old) c
   new_stack = sym (ap (λ (b : Bool). if b then stack_up (frame_at (lists old) c) c.first (suc (waiting c)) else []) is.busy)
 
-  new_conn : (k : Common) → k.pools ≡ (map_of tree).next → fresh_connection k ≡ conn_of (map_of tree) (lists old) (λ file. None) c
+  -- a connection before its first call, over these pools
+  abbrev pub before : Common → Connection
+  before k = record (fresh_connection k) { path = (map_of tree).path; payloads = (map_of tree).payloads }
+
+  new_conn : (k : Common) → k.pools ≡ (map_of tree).next → before k ≡ conn_of (map_of tree) (lists old) (λ file. None) c
   unfolding conn_of
   new_conn k named =
-      ap (λ (i : ℕ → model.Instance). view i [] [] ps.path ps.payloads k.pools None [] [] [] false 0 None) new_instances
-      ∙ (ap (λ (s : List Frame). view shown_at s [] ps.path ps.payloads k.pools None [] [] [] false 0 None) new_stack
-      ∙ (ap (λ (q : List ℕ). view shown_at (stack_of (lists old) c) q ps.path ps.payloads k.pools None [] [] [] false 0 None) new_queue
-      ∙ (ap (λ (qs : Pools Payload). view shown_at (stack_of (lists old) c) (counting c.queue (length c.filters.items - c.queue)) qs.path qs.payloads k.pools None [] [] [] false 0 None) (sym new.root)
+      ap (λ (i : ℕ → model.Instance). view i [] [] k.pools None [] [] [] false 0 None) new_instances
+      ∙ (ap (λ (s : List Frame). view shown_at s [] k.pools None [] [] [] false 0 None) new_stack
+      ∙ (ap (λ (q : List ℕ). view shown_at (stack_of (lists old) c) q k.pools None [] [] [] false 0 None) new_queue
       ∙ (ap (λ (n : ℕ). rest n None [] [] [] false 0 None) (named ∙ sym is.conn)
       ∙ (ap (λ (r : Option ℕ). rest c.conn r [] [] [] false 0 None) (sym is.req)
       ∙ (ap (λ (ls : List (Vec (ℕ × Payload))). rest c.conn c.req (labels_handed ls) [] [] false 0 None) (sym is.labels)
@@ -175,17 +156,14 @@ module _ {R : Type 0} {g : Ghosts R Bucket} (chain : List Program) (tree : PoolT
       ∙ (ap (λ (bytes : List ℕ). rest c.conn c.req (labels_handed c.labels.items) (lengths c.files.items) bytes false 0 None) (sym is.out)
       ∙ (ap (λ (e : Bool). rest c.conn c.req (labels_handed c.labels.items) (lengths c.files.items) c.out e 0 None) (sym is.ended)
       ∙ (ap (λ (n : ℕ). rest c.conn c.req (labels_handed c.labels.items) (lengths c.files.items) c.out c.ended n None) (sym is.count)
-      ∙ ap (λ (b : Option Cause). rest c.conn c.req (labels_handed c.labels.items) (lengths c.files.items) c.out c.ended c.count b) (sym is.broken))))))))))) where
-        ps : Pools Payload
-        ps = record (planted 1) { next = (map_of tree).next }
-
-        view : (ℕ → model.Instance) → List Frame → List ℕ → (ℕ → List ℕ) → (ℕ → List Payload) → ℕ → Option ℕ → List (List ℕ) → List (ℕ × ℕ) → List ℕ → Bool → ℕ → Option Cause → Connection
-        view i s q path payloads conn req labels files bytes ended count broken = record {
+      ∙ ap (λ (b : Option Cause). rest c.conn c.req (labels_handed c.labels.items) (lengths c.files.items) c.out c.ended c.count b) (sym is.broken)))))))))) where
+        view : (ℕ → model.Instance) → List Frame → List ℕ → ℕ → Option ℕ → List (List ℕ) → List (ℕ × ℕ) → List ℕ → Bool → ℕ → Option Cause → Connection
+        view i s q conn req labels files bytes ended count broken = record {
           instances = i;
           stack = s;
           queue = q;
-          path = path;
-          payloads = payloads;
+          path = (map_of tree).path;
+          payloads = (map_of tree).payloads;
           conn = conn;
           req = req;
           labels = labels;
@@ -197,31 +175,60 @@ module _ {R : Type 0} {g : Ghosts R Bucket} (chain : List Program) (tree : PoolT
         }
 
         rest : ℕ → Option ℕ → List (List ℕ) → List (ℕ × ℕ) → List ℕ → Bool → ℕ → Option Cause → Connection
-        rest = view shown_at (stack_of (lists old) c) (counting c.queue (length c.filters.items - c.queue)) (map_of tree).path (map_of tree).payloads
+        rest = view shown_at (stack_of (lists old) c) (counting c.queue (length c.filters.items - c.queue))
 
-  pub new_left : (dev : Device) (k : Common) → k.pools ≡ (map_of tree).next → k.next ≡ next_name old → IsPoolMap (map_of tree) → LeftAs chain tree old dev c (k, fresh_connection k)
-  new_left dev k named given formed = record {
+  pub new_left : (dev : Device) (k : Common) → AreOpen (references old) dev → k.pools ≡ (map_of tree).next → k.next ≡ next_name old → IsPoolMap (map_of tree) → LeftAs chain tree old dev c (k, before k)
+  new_left dev k open_files named given formed = record {
     seen = record { pools = named; given = given; conn = new_conn k named };
     opens = λ file bytes e. absurd (cc);
     formed = formed;
-    house = subst (AreHoused (lists old) (pool_of old) (references old)) (sym new.root) (house_new (lists old) (pool_of old) (references old) (map_of tree).next new.pools new.unreferred);
-    references = λ file pos. absurd (let none = new.unreferred file in omega (arith, none, pos));
-    none = new.rings 0;
+    house = new.house;
+    references = open_files;
+    none = new.none;
     stacked = new_stacked;
   }
 
-  pub opened_left : (newer : PoolTree Payload) (store : Brigades R g) (d : Conn) (dev : Device) (k : Common) (root : ℕ) → k.pools ≡ (map_of tree).next → k.next ≡ next_name old → root ≡ 1 → IsPoolMap (map_of tree)
+  pub opened_left : (newer : PoolTree Payload) (store : Brigades R g) (d : Conn) (dev : Device) (k : Common) (root : ℕ) → AreOpen (references old) dev → k.pools ≡ (map_of tree).next → k.next ≡ next_name old → IsPoolMap (map_of tree)
       → CalledFirst chain (next_name old) (record c { req = None }) d → map_of newer ≡ created root (map_of tree) → IsPoolMap (map_of newer) → ((n : ℕ) → lists store n ≡ ring.upd (lists old) (next_name old) (Some []) n)
       → next_name store ≡ next_name old + 1 → NoneRevived (brigade_of old) (brigade_of store) (next_name old) → pool_of store ≡ pool_of old → references store ≡ references old
-      → LeftAs chain newer store dev d (opened chain k)
-  unfolding opened
-  opened_left newer store d dev k root named given top formed begins map new_formed over next names pools refs =
-      subst (λ (ps : Pools Payload). LeftAs chain newer store dev d (all_called chain (with_pools ps (k, fresh_connection k)))) pools_so
-      (left_called chain old store c d None new_stacked is.busy begins over next names pools (new.pools (next_name old)) tree newer dev k (fresh_connection k) (new_left dev k named given formed) refs new_formed house) where
-        pools_so : map_of newer ≡ created 1 (pools_of k (fresh_connection k))
-        pools_so =
-            map ∙ (ap (λ (n : ℕ). created n (map_of tree)) top
-            ∙ (ap (created 1) new.root ∙ ap (λ (n : ℕ). created 1 (record (planted 1) { next = n })) (sym named)))
+      → LeftAs chain newer store dev d (over (map_of newer) (opened chain k))
+  unfolding opened all_called created
+  opened_left newer store d dev k root open_files named given formed begins map new_formed out next names pools refs =
+      subst (λ (w : Linked). LeftAs chain newer store dev d w) (sym same)
+      (left_called chain old store c d None new_stacked is.busy begins out next names pools (next_off_pools old (map_of tree) new.house) tree newer dev k (before k) (new_left dev k open_files named given formed) refs new_formed house) where
+        same : over (map_of newer) (opened chain k) ≡ all_called chain (with_pools (map_of newer) (k, before k))
+        same = ap (λ (n : ℕ). over (map_of newer) (all_called chain (record k { pools = n }, fresh_connection k))) (let e : k.pools + 1 ≡ (map_of newer).next = ap (λ (n : ℕ). n + 1) named ∙ sym (ap (λ (ps : Pools Payload). ps.next) map) in e)
 
         house : IsHouse old (map_of newer)
-        house = subst (AreHoused (lists old) (pool_of old) (references old)) (sym map) (house_created (lists old) (pool_of old) (references old) (map_of tree) (new_left dev k named given formed).house root formed)
+        house = subst (AreHoused (lists old) (pool_of old) (references old)) (sym map) (house_created (lists old) (pool_of old) (references old) (map_of tree) new.house root formed)
+
+  -- What it holds is new.
+  pub opened_beside : (store : Brigades R g) (d : Conn) → CalledFirst chain (next_name old) (record c { req = None }) d → ((n : ℕ) → lists store n ≡ ring.upd (lists old) (next_name old) (Some []) n)
+      → next_name store ≡ next_name old + 1 → NoneRevived (brigade_of old) (brigade_of store) (next_name old) → pool_of store ≡ pool_of old → ComesBeside old store d
+  unfolding filter_at
+  opened_beside store d begins out next names pools = record {
+    rises = omega (arith, next);
+    names = names;
+    others = λ n below. record { list = out n ∙ ring_off (lists old) (next_name old) n (Some []) (λ e. omega (arith, below, e)); pool = ap (λ (f : ℕ → Option ℕ). f n) pools };
+    holds = λ n pos h. elim (cases_eq h.at 0) [
+      | inl q ↦ at_first n pos h q (filter_first_new)
+      | inr ne ↦ absurd (not_fresh n pos h.at h.filter (sym (begins.others h.at ne) ∙ h.is) h.by)
+    ];
+  } where
+    not_fresh : (n : ℕ) → 0 < n → (k : ℕ) (f : Filter) → filter_at c k ≡ Some f → (f.call.name ≡ n) ⊎ ((b : ℕ) × (named_at f b ≡ Some n)) → ⊥
+    not_fresh n pos k f is by = elim by [
+      | inl name ↦ (let idle = (fresh k f is).idle in omega (arith, idle, name, pos))
+      | inr b ↦ none_named k b.0 n f is b.1
+    ]
+
+    filter_first_new : (f : Filter) × (filter_at c 0 ≡ Some f)
+    filter_first_new = filter_within c 0 (omega (arith, some, many))
+
+    at_first : (n : ℕ) → 0 < n → (h : Holds d n) → h.at ≡ 0 → (f : Filter) × (filter_at c 0 ≡ Some f) → next_name old ≤ n
+    at_first n pos h q f =
+        let e = begins.first f.0 f.1 in
+        let same : h.filter ≡ e.0 = some_same h.filter e.0 (sym h.is ∙ (ap (filter_at d) q ∙ e.1.0)) in
+        elim h.by [
+          | inl name ↦ (let a = e.1.1.named in let b = ap (λ (x : Filter). x.call.name) same in omega (arith, a, b, name))
+          | inr b ↦ absurd (none_named 0 b.0 n f.0 f.1 (ap (λ (i : Instance). name_in (slot_at i b.0)) (sym e.1.1.instance ∙ ap (λ (x : Filter). x.instance) (sym same)) ∙ b.1))
+        ]

@@ -38,6 +38,13 @@ module _ {R : Type 0} {g : Ghosts R Bucket} where
     pub others : (n : ℕ) → IsForeign ps old c n → SameRing old new n
     pub holds : (n : ℕ) → 0 < n → Holds d n → (Holds c n) ⊎ (next_name old ≤ n)
 
+  -- A connection came: what was there is as it was, and what it holds is new.
+  pub record ComesBeside (old new : Brigades R g) (d : Conn) : Type 0 where
+    pub rises : next_name old ≤ next_name new
+    pub names : NoneRevived (brigade_of old) (brigade_of new) (next_name old)
+    pub others : (n : ℕ) → n < next_name old → SameRing old new n
+    pub holds : (n : ℕ) → 0 < n → Holds d n → next_name old ≤ n
+
   -- What c had on no pool, and d has no more, is gone. calls: the loose buckets of a call that ended. brought: a brigade that came in.
   pub record EndsLoose (old new : Brigades R g) (c d : Conn) : Type 0 where
     pub calls : (k : ℕ) (f e : Filter) → filter_at c k ≡ Some f → filter_at d k ≡ Some e → e.call.name ≢ f.call.name → lists new f.call.name ≡ None

@@ -4,6 +4,7 @@ use brigade_ops::{BrigadeId, FileNo, PoolId};
 use ring_run::OutputBlock;
 use ring_run::machine::{Call, Instance};
 use run_model::{Cause, Payload};
+use std::alloc::Global;
 
 /// A filter of a connection: its instance and its call. While the call waits for a pass to return, `lent` is the brigade variable that
 /// was passed.
@@ -29,6 +30,7 @@ pub struct OpenFile {
 /// the last open, begin or bring. `broken` is why the connection broke.
 #[derive(Drop)]
 pub struct Conn {
+    pub(crate) alloc: Global,
     pub(crate) filters: Vec<Filter>,
     pub(crate) first: usize,
     pub(crate) waits: Vec<BrigadeId>,

@@ -131,7 +131,6 @@ impl Conn {
     /// `NoMemory`.
     pub fn bring<R: Rings<Bucket> + Drop>(
         &mut self,
-        alloc: Global,
         modules: &[Module],
         store: &mut Brigades<R>,
         pieces: Seq<Piece>,
@@ -144,7 +143,7 @@ impl Conn {
             Ok(pool) => pool,
             Err(why) => return Err(why),
         };
-        let Ok((name, brigade)) = call_and_brigade(alloc, store, req, pieces) else {
+        let Ok((name, brigade)) = call_and_brigade(self.alloc, store, req, pieces) else {
             return Err(Refusal::NoMemory);
         };
         self.call_main(modules, name, brigade);

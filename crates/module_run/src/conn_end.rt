@@ -26,7 +26,7 @@ use crate::conn::{Conn, Filter};
 use brigade_ops::{Brigades, Bucket, Files, PoolId, PoolTree, Rings};
 use ring_run::labels::add_labels;
 use run_model::{Payload, Refusal};
-use std::alloc::{AllocError, Global};
+use std::alloc::AllocError;
 
 /// No EOS was passed yet in the next request.
 fn forget_sent(filters: &mut Vec<Filter>)
@@ -58,7 +58,6 @@ impl Conn {
     /// Destroys a pool of the connection that is not the root, while no call runs. Without memory nothing is changed.
     pub(crate) fn destroy<R: Rings<Bucket> + Drop, F: Files>(
         &mut self,
-        alloc: Global,
         tree: &mut PoolTree<Payload>,
         store: &mut Brigades<R>,
         files: &mut F,
@@ -81,7 +80,7 @@ impl Conn {
         ensures others { SameButOpen (F.device files.old) (F.device files.new) }
         ensures unreferred { (file : ℕ) → ((p : ℕ) → is_under (map_of tree.old) pool p ≡ true → refers (map_of tree.old) p file ≡ false) → (F.device files.new).numbered file ≡ (F.device files.old).numbered file }
     {
-        let rings = self.rings(alloc)?;
+        let rings = self.rings()?;
         self.labels.reserve(1)?;
         let ran = store.destroy(rings.as_slice(), tree, files, pool)?;
         add_labels(&mut self.labels, ran);
@@ -104,7 +103,6 @@ impl Conn {
     /// `Busy`: a call is running; `NotInRequest`; `NoMemory`.
     pub fn end_request<R: Rings<Bucket> + Drop, F: Files>(
         &mut self,
-        alloc: Global,
         tree: &mut PoolTree<Payload>,
         store: &mut Brigades<R>,
         files: &mut F,
@@ -121,7 +119,7 @@ impl Conn {
             Ok(pool) => pool,
             Err(why) => return Err(why),
         };
-        let Ok(()) = self.destroy(alloc, tree, store, files, pool) else {
+        let Ok(()) = self.destroy(tree, store, files, pool) else {
             return Err(Refusal::NoMemory);
         };
         self.forget_request();

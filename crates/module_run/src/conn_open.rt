@@ -1,20 +1,25 @@
 //! A connection is opened.
 
-ghost use Rattle.std.specs.Prelude.{◌≡◌, ◌<◌, ℕ, Some, IfOk, length, slice_get};
+ghost use Rattle.std.specs.Prelude.{◌≡◌, ◌<◌, ◌||◌, ◌↔◌, ◌∷◌, [], true, ℕ, Some, IfOk, IsErrOf, OnErr, OnOk, length, slice_get};
 ghost use Rattle.bucket_kinds.specs.Device.{Device};
 ghost use Rattle.run_model.specs.Chains.{Common};
+ghost use Rattle.run_model.specs.Pools.{created};
+ghost use Rattle.run_model.specs.Steps.{is_spent};
 ghost use Rattle.run_model.specs.Turns.{opened};
 ghost use Rattle.pool_tree.specs.Tree.{map_of};
-ghost use Rattle.brigade_ops.specs.Store.{next_name};
-ghost use Rattle.module_run.specs.Opening.{AreNew, IsNewFilter};
+ghost use Rattle.brigade_ops.specs.House.{AreOpen};
+ghost use Rattle.brigade_ops.specs.Store.{next_name, references};
+ghost use Rattle.module_run.specs.Neighbours.{ComesBeside};
+ghost use Rattle.module_run.specs.Opening.{CanOpen, IsNewConn, IsNewFilter, IsUnchanged, over};
 ghost use Rattle.module_run.specs.Proceeding.{LeftAs};
 
 use crate::conn::{Conn, Filter};
 use crate::conn_begin::call_and_pool;
-use brigade_ops::{Brigades, Bucket, PoolTree, Rings};
+use brigade_ops::{Brigades, Bucket, PoolId, PoolTree, Rings};
 use ring_run::OutputBlock;
+use ring_run::asks::is_spent;
 use ring_run::machine::{Call, Instance};
-use run_model::{Module, Payload};
+use run_model::{Module, Payload, StepRefusal};
 use std::alloc::{AllocError, Global};
 
 impl Filter {
@@ -43,29 +48,18 @@ fn new_filters(alloc: Global, many: usize) -> Result<Vec<Filter>, AllocError>
 }
 
 impl Conn {
-    /// Opens a connection over a tree of pools with a root alone and a store of no brigades: its pool is made, and `open` of the first
-    /// filter begins. Where names are spent it answers `AllocError`, too: test them first.
-    #[tactic(auto, using(crate::proofs::Opens::opened_left))]
-    pub fn open<R: Rings<Bucket> + Drop>(
-        alloc: Global,
-        modules: &[Module],
-        tree: &mut PoolTree<Payload>,
-        store: &mut Brigades<R>,
-    ) -> Result<Conn, AllocError>
-        requires some { 0 < length modules.now }
-        requires new { AreNew tree.old store.old }
-        ensures { IfOk result (λ conn. (d : Device) (g : Common) → g.pools ≡ (map_of tree.old).next → g.next ≡ next_name store.old → LeftAs modules.now tree.new store.new d conn (opened modules.now g)) }
+    /// A connection of these filters, before its first call.
+    fn new(alloc: Global, filters: Vec<Filter>, pool: PoolId) -> Conn
+        ensures { IsNewConn filters pool result }
     {
-        let filters = new_filters(alloc, modules.len())?;
-        let root = tree.root();
-        let (name, conn) = call_and_pool(tree, store, root)?;
-        let mut conn = Conn {
-            filters,
+        Conn {
+            alloc,
             first: 0,
             waits: Vec::new(alloc),
             busy: false,
-            queue: modules.len(),
-            conn,
+            queue: filters.len(),
+            filters,
+            conn: pool,
             req: None,
             labels: Vec::new(alloc),
             files: Vec::new(alloc),
@@ -73,7 +67,37 @@ impl Conn {
             ended: false,
             count: 0,
             broken: None,
+        }
+    }
+
+    /// Opens a connection over a tree of pools and a store of brigades, in which others may stand: its pool is made under the root, and
+    /// `open` of the first filter begins. Refused, nothing is changed: `NamesSpent`: a name to be given out would be `u64::MAX`; `NoMemory`.
+    #[tactic(auto, using(crate::proofs::Opens::opened_left))]
+    pub fn open<R: Rings<Bucket> + Drop>(
+        alloc: Global,
+        modules: &[Module],
+        tree: &mut PoolTree<Payload>,
+        store: &mut Brigades<R>,
+    ) -> Result<Conn, StepRefusal>
+        requires some { 0 < length modules.now }
+        requires can { CanOpen tree.old store.old }
+        ensures opened { IfOk result (λ conn. (d : Device) (g : Common) → AreOpen (references store.old) d → g.pools ≡ (map_of tree.old).next → g.next ≡ next_name store.old → LeftAs modules.now tree.new store.new d conn (over (map_of tree.new) (opened modules.now g))) }
+        ensures pools { OnOk result ((root : ℕ) → (map_of tree.old).path root ≡ root ∷ [] → map_of tree.new ≡ created root (map_of tree.old)) }
+        ensures beside { IfOk result (λ conn. ComesBeside store.old store.new conn) }
+        ensures spent { IsErrOf result StepRefusal.NamesSpent ↔ ((is_spent (map_of tree.old).next 1 || is_spent (next_name store.old) 1) ≡ true) }
+        ensures err { OnErr result (IsUnchanged tree.old tree.new store.old store.new) }
+    {
+        if is_spent(tree.next_name(), 1) || is_spent(store.next_name(), 1) {
+            return Err(StepRefusal::NamesSpent);
+        }
+        let Ok(filters) = new_filters(alloc, modules.len()) else {
+            return Err(StepRefusal::NoMemory);
         };
+        let root = tree.root();
+        let Ok((name, pool)) = call_and_pool(tree, store, root) else {
+            return Err(StepRefusal::NoMemory);
+        };
+        let mut conn = Conn::new(alloc, filters, pool);
         conn.call_first(modules, name);
         Ok(conn)
     }

@@ -9,7 +9,7 @@ ghost use Rattle.module_run.specs.declared.conn.Filter.{Filter};
 use crate::conn::{Conn, Filter};
 use brigade_ops::BrigadeId;
 use run_model::Instr;
-use std::alloc::{AllocError, Global};
+use std::alloc::AllocError;
 
 impl Filter {
     ghost use Rattle.module_run.specs.Stacked.{named_at};
@@ -32,12 +32,12 @@ impl Conn {
     ghost use Rattle.module_run.specs.Stacked.{named_at};
 
     /// The brigades that variables of its filters name, and the loose buckets of all its calls: those at which a clear looks.
-    pub(crate) fn rings(&self, alloc: Global) -> Result<Vec<BrigadeId>, AllocError>
+    pub(crate) fn rings(&self) -> Result<Vec<BrigadeId>, AllocError>
         ensures named { IfOk result (λ rings. (k b n : ℕ) (f : Filter) → filter_at self.now k ≡ Some f → named_at f b ≡ Some n → is_in n rings.items ≡ true) }
         ensures loose { IfOk result (λ rings. (k : ℕ) (f : Filter) → filter_at self.now k ≡ Some f → is_in f.call.name rings.items ≡ true) }
         ensures only { IfOk result (λ rings. (n : ℕ) → is_in n rings.items ≡ true → Holds self.now n) }
     {
-        let mut rings = Vec::new(alloc);
+        let mut rings = Vec::new(self.alloc);
         for filter in &self.filters {
             filter.add_rings(&mut rings)?;
         }
@@ -45,19 +45,15 @@ impl Conn {
     }
 
     /// The brigades at which an instruction looks beside those of its filter: where it clears a pool, all of the connection.
-    pub(crate) fn looked_at(
-        &self,
-        alloc: Global,
-        instr: Instr,
-    ) -> Result<Vec<BrigadeId>, AllocError>
+    pub(crate) fn looked_at(&self, instr: Instr) -> Result<Vec<BrigadeId>, AllocError>
         ensures named { IfOk result (λ rings. clears_pool instr ≡ true → (k b n : ℕ) (f : Filter) → filter_at self.now k ≡ Some f → named_at f b ≡ Some n → is_in n rings.items ≡ true) }
         ensures loose { IfOk result (λ rings. clears_pool instr ≡ true → (k : ℕ) (f : Filter) → filter_at self.now k ≡ Some f → is_in f.call.name rings.items ≡ true) }
         ensures only { IfOk result (λ rings. (n : ℕ) → is_in n rings.items ≡ true → Holds self.now n) }
         ensures sure { grows instr ≡ false → IsOk result }
     {
         match instr {
-            Instr::PClear(_) | Instr::PDestroy(_) => self.rings(alloc),
-            _ => Ok(Vec::new(alloc)),
+            Instr::PClear(_) | Instr::PDestroy(_) => self.rings(),
+            _ => Ok(Vec::new(self.alloc)),
         }
     }
 }

@@ -16,7 +16,7 @@ returns g c v may =
     let d = g.F.Files.device c.args.files.now in
     let e = g.F.Files.device c.step-outcome.new.files in
     let so = lent c.args.modules.now d c.args.next.now c.args.self.now c.set_next.new.self v s.same s.pool s.name may in
-    let h = c.step-outcome.ensures v so in
+    let h = c.step-outcome.ensures.steps v so in
     let file = steps_file h.memory c.args.budget c.args.modules.now h.reads v.0 v.1 in
     let spared = step_spares d e c.args.modules.now c.step-outcome.result v h.reads h.told in
     record {

@@ -1,51 +1,53 @@
 -- By what is left of a new connection.
-use Rattle.std.proofs.Common.{◌≡◌, ℕ, false, None, length, refl, sym, ap, subst, ◌∙◌}
-use Rattle.run_model.specs.declared.payload.Payload.{Payload}
-use Rattle.run_model.specs.Pools.{Pools}
+use Rattle.std.proofs.Common.{◌≡◌, ℕ, None, Option, length, refl, sym, ap, subst, ◌∙◌}
+use Rattle.std.specs.Global.{Vec}
 use Rattle.pool_tree.specs.Tree.{map_of}
 use Rattle.pool_tree.proofs.Trees.{tree_formed}
 use Rattle.brigade_ops.specs.Store.{next_name}
+use Rattle.run_model.specs.Pools.{created}
 use Rattle.module_run.specs.declared.conn.Conn.{Conn}
+use Rattle.module_run.specs.declared.conn.Filter.{Filter}
 use Rattle.module_run.specs.CalledFirst.{CalledFirst}
 use Rattle.module_run.specs.Conns.{filter_at}
-use Rattle.module_run.proofs.Opens.{IsNewConn, opened_left, root_path}
+use Rattle.module_run.specs.Opening.{IsNewConn}
+use Rattle.module_run.proofs.Opens.{opened_beside, opened_left}
+use Rattle.module_run.proofs.Unchanged.{next_off_pools}
 use Rattle.module_run.proofs.conn.Conn.open.Goals as goal
 
-pub returns : goal.returns
+pub call_and_pool-requires-clause-free : goal.call_and_pool-requires-clause-free
+call_and_pool-requires-clause-free g c = next_off_pools c.args.store.now (map_of c.args.tree.now) c.requires.can.house
+
+pub returns-clause-opened : goal.returns-clause-opened
 unfolding filter_at
-returns g c d k named given =
-    let e = c.in_ok-name.ensures in
-    let made : Conn = record {
-      filters = c.in_ok-filters.filters;
-      first = 0;
-      waits = c.new.result;
-      busy = false;
-      queue = length c.args.modules.now;
-      conn = c.in_ok-name.conn;
-      req = None;
-      labels = c.new-2.result;
-      files = c.new-3.result;
-      out = c.new-4.result;
-      ended = false;
-      count = 0;
-      broken = None;
-    } in
-    let is_new : IsNewConn made (map_of c.args.tree.now).next (length c.args.modules.now) = record {
-      first = refl;
-      waits = c.new.ensures.items;
-      busy = refl;
-      queue_is = refl;
-      conn = ap (λ (p : ℕ × ℕ). p.1) e.made;
-      req = refl;
-      labels = c.new-2.ensures.items;
-      files = c.new-3.ensures.items;
-      out = c.new-4.ensures;
-      ended = refl;
-      count = refl;
-      broken = refl;
-    } in
-    opened_left c.args.modules.now c.args.tree.now c.args.store.now c.requires.new made c.requires.some is_new c.in_ok-filters.ensures.many c.in_ok-filters.ensures.new
-    c.call_and_pool.new.tree c.call_and_pool.new.store c.call_first.new.self d k c.root-root.result named given
-    (sym (c.root-root.ensures.alone 1 (ap (λ (ps : Pools Payload). ps.path 1) c.requires.new.root ∙ root_path))) (tree_formed c.args.tree.now)
-    (subst (λ (n : ℕ). CalledFirst c.args.modules.now n made c.call_first.new.self) (ap (λ (p : ℕ × ℕ). p.0) e.made) c.call_first.ensures)
-    e.tree e.formed e.rings e.next e.names e.pools e.references
+returns-clause-opened g c d k open_files named given =
+    let e = c.in-Ok-call_and_pool.ensures in
+    let chain = c.args.modules.now in
+    let filters = c.in-Ok.filters in
+    let conn = c.new-conn.result in
+    let is : IsNewConn filters (map_of c.args.tree.now).next conn = subst (λ (n : ℕ). IsNewConn filters n conn) (ap (λ (p : ℕ × ℕ). p.1) e.made) c.new-conn.ensures in
+    let many : length conn.filters.items ≡ length chain = ap (λ (fs : Vec Filter). length fs.items) is.filters_are ∙ c.in-Ok.ensures.many in
+    let begins : CalledFirst chain (next_name c.args.store.now) (record conn { req = None }) c.call_first.new.self =
+    subst (λ (x : Conn). CalledFirst chain (next_name c.args.store.now) x c.call_first.new.self) (ap (λ (r : Option ℕ). let y : Conn = record conn { req = r } in y) is.req)
+    (subst (λ (n : ℕ). CalledFirst chain n conn c.call_first.new.self) (ap (λ (p : ℕ × ℕ). p.0) e.made) c.call_first.ensures) in
+    opened_left chain c.args.tree.now c.args.store.now c.requires.can conn c.requires.some filters is many
+    (λ j f at. c.in-Ok.ensures.new j f (ap (λ (fs : Vec Filter). Rattle.std.specs.Prelude.slice_get fs.items j) (sym is.filters_are) ∙ at))
+    c.call_and_pool.new.tree c.call_and_pool.new.store c.call_first.new.self d k c.root-root.result open_files named given (tree_formed c.args.tree.now) begins e.tree e.formed e.rings e.next e.names e.pools e.references
+
+pub returns-clause-beside : goal.returns-clause-beside
+unfolding filter_at
+returns-clause-beside g c =
+    let e = c.in-Ok-call_and_pool.ensures in
+    let chain = c.args.modules.now in
+    let filters = c.in-Ok.filters in
+    let conn = c.new-conn.result in
+    let is : IsNewConn filters (map_of c.args.tree.now).next conn = subst (λ (n : ℕ). IsNewConn filters n conn) (ap (λ (p : ℕ × ℕ). p.1) e.made) c.new-conn.ensures in
+    let many : length conn.filters.items ≡ length chain = ap (λ (fs : Vec Filter). length fs.items) is.filters_are ∙ c.in-Ok.ensures.many in
+    let begins : CalledFirst chain (next_name c.args.store.now) (record conn { req = None }) c.call_first.new.self =
+    subst (λ (x : Conn). CalledFirst chain (next_name c.args.store.now) x c.call_first.new.self) (ap (λ (r : Option ℕ). let y : Conn = record conn { req = r } in y) is.req)
+    (subst (λ (n : ℕ). CalledFirst chain n conn c.call_first.new.self) (ap (λ (p : ℕ × ℕ). p.0) e.made) c.call_first.ensures) in
+    opened_beside chain c.args.tree.now c.args.store.now c.requires.can conn c.requires.some filters is many
+    (λ j f at. c.in-Ok.ensures.new j f (ap (λ (fs : Vec Filter). Rattle.std.specs.Prelude.slice_get fs.items j) (sym is.filters_are) ∙ at))
+    c.call_and_pool.new.store c.call_first.new.self begins e.rings e.next e.names e.pools
+
+pub returns-clause-pools : goal.returns-clause-pools
+returns-clause-pools g c root top = c.in-Ok-call_and_pool.ensures.tree ∙ ap (λ (n : ℕ). created n (map_of c.args.tree.now)) (sym (c.root-root.ensures.alone root top))

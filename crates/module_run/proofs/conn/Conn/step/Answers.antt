@@ -1,29 +1,96 @@
-use Rattle.std.proofs.Common.{◌≡◌, ◌∙◌, sym, ap, subst, refl, None, Some, false, true}
+-- By the tests, and by what the watched step did.
+use Rattle.std.proofs.Common.{◌≡◌, ◌<◌, ◌≤◌, ◌∙◌, ℕ, sym, ap, subst, refl, None, Some, false, true, Result, Err, Ok, arith}
 use Rattle.run_model.specs.Chains.{Frame, Linked}
-use Rattle.module_run.proofs.Executing.{step_broken, step_idle, step_over, step_goes, runs_on_top, none_there, not_true, not_false}
+use Rattle.run_model.specs.declared.event.Cause.{Cause}
+use Rattle.run_model.specs.declared.event.Refusal.{Refusal}
+use Rattle.run_model.specs.declared.event.Refusal.TheVariants.{Broken}
+use Rattle.pool_tree.specs.Tree.{map_of}
+use Rattle.module_run.specs.declared.conn.Conn.{Conn}
+use Rattle.module_run.specs.Conns.{filter_at}
+use Rattle.module_run.specs.Stepping.{IsStep, IsOnTop, settled}
+use Rattle.module_run.proofs.CallsLeave.{ends_alike, ends_unchanged, leaves_alike}
+use Rattle.module_run.proofs.Executing.{IsWatched, answer_settled, count_of, none_there, not_false, not_true, refusal_settled, runs_on_top, settled_filters, step_broken, step_goes, step_idle, step_over}
+use Rattle.module_run.proofs.Neighbours.{unchanged}
 use Rattle.module_run.proofs.conn.Conn.step.Goals as goal
 
--- src/conn_step.rt
-pub returns-in-Some : goal.returns-in-Some
-returns-in-Some g c v stands = step_broken c.args.modules.now c.args.budget c.args.tree.now c.args.store.now (g.F.Files.device c.args.files.now) c.args.self.now v stands.left c.in-Some.cause c.in-Some.is
+pub returns-in-Some-clause-steps : goal.returns-in-Some-clause-steps
+returns-in-Some-clause-steps g c v stands = step_broken c.args.modules.now c.args.budget c.args.tree.now c.args.store.now (g.F.Files.device c.args.files.now) c.args.self.now v stands.left c.in-Some.cause c.in-Some.is
 
--- src/conn_step.rt
-pub returns-then-not-self : goal.returns-then-not-self
-returns-then-not-self g c v stands = step_idle c.args.modules.now c.args.budget c.args.tree.now c.args.store.now (g.F.Files.device c.args.files.now) c.args.self.now v stands.left (none_there c.args.self.now.broken c.in_default.not-Some) c.if-not-self.true
+pub returns-then-not-self-clause-steps : goal.returns-then-not-self-clause-steps
+returns-then-not-self-clause-steps g c v stands = step_idle c.args.modules.now c.args.budget c.args.tree.now c.args.store.now (g.F.Files.device c.args.files.now) c.args.self.now v stands.left (none_there c.args.self.now.broken c.in_default.not-Some) c.if-not-self.true
 
--- src/conn_step.rt
-pub returns-then-self-budget : goal.returns-then-self-budget
-returns-then-self-budget g c v stands =
+pub returns-then-self-budget-clause-steps : goal.returns-then-self-budget-clause-steps
+returns-then-self-budget-clause-steps g c v stands =
     step_over c.args.modules.now c.args.budget c.args.tree.now c.args.store.now (g.F.Files.device c.args.files.now) c.args.self.now v stands.left c.break_by.new.self c.break_by.result (none_there c.args.self.now.broken c.in_default.not-Some) c.if-not-self.false c.if-self-budget.true c.break_by.ensures.broken c.break_by.ensures.told
 
--- src/conn_step.rt
-pub watch-requires-clause-on_top : goal.watch-requires-clause-on_top
-watch-requires-clause-on_top g c =
-    let s = c.requires.stands in let t = runs_on_top c.args.modules.now c.args.budget c.args.tree.now c.args.store.now (g.F.Files.device c.args.files.now) c.args.self.now s.0 s.1.left c.if-not-self.false in (s.0, (t.0, (t.1.0, record { stands = s.1; on_top = t.1.1 })))
+pub step_watched-requires : goal.step_watched-requires
+step_watched-requires g c =
+    let s = c.requires.stands in let t = runs_on_top c.args.modules.now c.args.budget c.args.tree.now c.args.store.now (g.F.Files.device c.args.files.now) c.args.self.now s.0 s.1.left c.if-not-self.false in record { on_top = (s.0, (t.0, (t.1.0, record { stands = s.1; on_top = t.1.1 }))) }
 
--- src/conn_step.rt
-pub returns : goal.returns
-returns g c v stands =
-    let t = runs_on_top c.args.modules.now c.args.budget c.args.tree.now c.args.store.now (g.F.Files.device c.args.files.now) c.args.self.now v stands.left c.if-not-self.false in
-    step_goes c.args.modules.now c.args.budget c.args.tree.now c.args.store.now (g.F.Files.device c.args.files.now) c.args.self.now v stands.left c.watch.new.tree c.watch.new.store (g.F.Files.device c.watch.new.files) c.watch.new.self t.0 t.1.0 c.watch.result
-    (none_there c.args.self.now.broken c.in_default.not-Some) c.if-self-budget.false t.1.1 (c.watch.ensures v t.0 t.1.0 (record { stands = stands; on_top = t.1.1 }))
+pub returns-in-Ok-clause-steps : goal.returns-in-Ok-clause-steps
+returns-in-Ok-clause-steps g c v stands =
+    let chain = c.args.modules.now in
+    let d = g.F.Files.device c.args.files.now in
+    let e = g.F.Files.device c.step_watched.new.files in
+    let self = c.args.self.now in
+    let after = c.step_watched.new.conn in
+    let t = runs_on_top chain c.args.budget c.args.tree.now c.args.store.now d self v stands.left c.if-not-self.false in
+    let done = c.in-Ok.ensures.steps v t.0 t.1.0 (record { stands = stands; on_top = t.1.1 }) in
+    let count : after.count ≡ v.1.count = c.in-Ok.ensures.count ∙ sym (count_of chain c.args.tree.now c.args.store.now d self v stands.left) in
+    subst (λ (x : Conn). IsStep chain c.args.budget d e v c.step_watched.new.tree c.step_watched.new.store x (Ok c.in-Ok.stepped)) (sym c.settle.ensures)
+    (step_goes chain c.args.budget c.args.tree.now c.args.store.now d self v stands.left c.step_watched.new.tree c.step_watched.new.store e (settled c.in-Ok.stepped after) t.0 t.1.0 (Ok c.in-Ok.stepped)
+    (none_there self.broken c.in_default.not-Some) c.if-self-budget.false t.1.1 (answer_settled chain c.step_watched.new.tree c.step_watched.new.store d e after v t.0 t.1.0 c.in-Ok.stepped t.1.1 count done))
+
+pub returns-in-Err-clause-steps : goal.returns-in-Err-clause-steps
+returns-in-Err-clause-steps g c v stands =
+    let chain = c.args.modules.now in
+    let d = g.F.Files.device c.args.files.now in
+    let e = g.F.Files.device c.step_watched.new.files in
+    let self = c.args.self.now in
+    let after = c.step_watched.new.conn in
+    let t = runs_on_top chain c.args.budget c.args.tree.now c.args.store.now d self v stands.left c.if-not-self.false in
+    let done = c.in-Err.ensures.steps v t.0 t.1.0 (record { stands = stands; on_top = t.1.1 }) in
+    let broke = refusal_settled chain c.step_watched.new.tree c.step_watched.new.store d e after v t.0 t.1.0 c.in-Err.why done in
+    let told : c.break_by-in-Err.result ≡ Broken c.cause_of.result = c.break_by-in-Err.ensures.told in
+    subst (λ (x : Conn). IsStep chain c.args.budget d e v c.step_watched.new.tree c.step_watched.new.store x (Err c.break_by-in-Err.result)) (sym c.break_by-in-Err.ensures.broken)
+    (subst (λ (r : Refusal). IsStep chain c.args.budget d e v c.step_watched.new.tree c.step_watched.new.store (record after { broken = Some c.cause_of.result }) (Err r)) (sym told)
+    (subst (λ (k : Cause). IsStep chain c.args.budget d e v c.step_watched.new.tree c.step_watched.new.store (record after { broken = Some k }) (Err (Broken k))) (sym c.cause_of.ensures)
+    (step_goes chain c.args.budget c.args.tree.now c.args.store.now d self v stands.left c.step_watched.new.tree c.step_watched.new.store e _ t.0 t.1.0 _ (none_there self.broken c.in_default.not-Some) c.if-self-budget.false t.1.1 broke)))
+
+pub returns-in-Some-clause-leaves : goal.returns-in-Some-clause-leaves
+returns-in-Some-clause-leaves g c = unchanged (map_of c.args.tree.now) c.args.store.now c.args.store.now c.args.self.now c.args.self.now (λ n. refl) refl (omega arith) (λ id there young. there) (λ k. refl)
+
+pub returns-in-Some-clause-ended : goal.returns-in-Some-clause-ended
+returns-in-Some-clause-ended g c = ends_unchanged c.args.store.now c.args.store.now c.args.self.now c.args.self.now (λ k. refl)
+
+pub returns-then-not-self-clause-leaves : goal.returns-then-not-self-clause-leaves
+returns-then-not-self-clause-leaves g c = unchanged (map_of c.args.tree.now) c.args.store.now c.args.store.now c.args.self.now c.args.self.now (λ n. refl) refl (omega arith) (λ id there young. there) (λ k. refl)
+
+pub returns-then-not-self-clause-ended : goal.returns-then-not-self-clause-ended
+returns-then-not-self-clause-ended g c = ends_unchanged c.args.store.now c.args.store.now c.args.self.now c.args.self.now (λ k. refl)
+
+pub returns-then-self-budget-clause-leaves : goal.returns-then-self-budget-clause-leaves
+unfolding filter_at
+returns-then-self-budget-clause-leaves g c = unchanged (map_of c.args.tree.now) c.args.store.now c.args.store.now c.args.self.now c.break_by.new.self (λ n. refl) refl (omega arith) (λ id there young. there) (λ k. ap (λ (x : Conn). filter_at x k) c.break_by.ensures.broken)
+
+pub returns-then-self-budget-clause-ended : goal.returns-then-self-budget-clause-ended
+unfolding filter_at
+returns-then-self-budget-clause-ended g c = ends_unchanged c.args.store.now c.args.store.now c.args.self.now c.break_by.new.self (λ k. ap (λ (x : Conn). filter_at x k) c.break_by.ensures.broken)
+
+pub returns-in-Ok-clause-leaves : goal.returns-in-Ok-clause-leaves
+returns-in-Ok-clause-leaves g c =
+    leaves_alike (map_of c.args.tree.now) c.args.store.now c.step_watched.new.store c.args.self.now c.step_watched.new.conn c.settle.new.self (λ k. ap (λ (x : Conn). filter_at x k) c.settle.ensures ∙ settled_filters c.in-Ok.stepped c.step_watched.new.conn k) c.in-Ok.ensures.leaves
+
+pub returns-in-Ok-clause-ended : goal.returns-in-Ok-clause-ended
+returns-in-Ok-clause-ended g c =
+    ends_alike (map_of c.args.tree.now) c.args.store.now c.step_watched.new.store c.args.self.now c.step_watched.new.conn c.settle.new.self (λ k. ap (λ (x : Conn). filter_at x k) c.settle.ensures ∙ settled_filters c.in-Ok.stepped c.step_watched.new.conn k) c.in-Ok.ensures.ended
+
+pub returns-in-Err-clause-leaves : goal.returns-in-Err-clause-leaves
+unfolding filter_at
+returns-in-Err-clause-leaves g c =
+    leaves_alike (map_of c.args.tree.now) c.args.store.now c.step_watched.new.store c.args.self.now c.step_watched.new.conn c.break_by-in-Err.new.self (λ k. ap (λ (x : Conn). filter_at x k) c.break_by-in-Err.ensures.broken) c.in-Err.ensures.leaves
+
+pub returns-in-Err-clause-ended : goal.returns-in-Err-clause-ended
+unfolding filter_at
+returns-in-Err-clause-ended g c =
+    ends_alike (map_of c.args.tree.now) c.args.store.now c.step_watched.new.store c.args.self.now c.step_watched.new.conn c.break_by-in-Err.new.self (λ k. ap (λ (x : Conn). filter_at x k) c.break_by-in-Err.ensures.broken) c.in-Err.ensures.ended
