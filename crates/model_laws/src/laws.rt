@@ -27,6 +27,7 @@ ghost use Rattle.model_laws.specs.ChainHomes.{EventKeepsWorldHomes, RunKeepsWorl
 ghost use Rattle.model_laws.specs.ChainOrder.{EventKeepsWorldOrder, RunKeepsWorldOrder};
 ghost use Rattle.model_laws.specs.ChainPaths.{EventKeepsWorldPaths, RunKeepsWorldPaths};
 ghost use Rattle.model_laws.specs.OpenRuns.{OpenRunsStaySound};
+ghost use Rattle.model_laws.specs.ReadHomes.{RunKeepsReads, ReadsPassTheTest};
 ghost use Rattle.model_laws.specs.ChainNumbers.{EventKeepsNumbers, RunKeepsNumbers};
 ghost use Rattle.model_laws.specs.Reached.{EmptyIsReached, EventReaches, WorldRunGoesOn, ReachedHolds};
 ghost use Rattle.model_laws.specs.ChainClears.{MadePoolsAreOwn, OthersKeepBrigades};
@@ -462,4 +463,11 @@ pub fn parts_last()
 /// them, its variables stand as its module declares them, and pools of other filters that last are apart from its own.
 pub fn open_runs_stay_sound()
     ensures { OpenRunsStaySound }
+{}
+
+/// In each run of a chain, what a call read last has as home no pool and no call that returned: none, or the call itself or one that
+/// waits for it. So `get` needs no test of that home.
+pub fn homes_of_reads_last()
+    ensures homes { RunKeepsReads }
+    ensures test { ReadsPassTheTest }
 {}
