@@ -1,5 +1,6 @@
 -- Open runs of one instance: a module by itself on a connection, beside filters of which nothing is known but that they keep the rules
 -- of a caller. What it and its surroundings do in turn, and when its instances are safe.
+use Rattle.std.specs.List.{list_any}
 use Rattle.std.specs.Prelude.{◌≡◌, ◌⊎◌, ℕ, ◌+◌, ◌^◌, ◌<◌, ◌≤◌, Bool, true, false, ◌||◌, ◌==◌, List, [], ◌∷◌, map, Option, Some, None, is_some, All}
 use Rattle.module_code.specs.Program.{Program, IsModule}
 use Rattle.module_code.specs.declared.instr.Instr.{Instr}
@@ -17,7 +18,7 @@ use Rattle.run_model.specs.declared.bucket.Mark.TheVariants.{Usable}
 use Rattle.run_model.specs.declared.bucket.NamedBucket.{NamedBucket}
 use Rattle.run_model.specs.declared.bucket.PoolVar.TheVariants as poolvar
 use Rattle.run_model.specs.declared.fault.FaultKind.{FaultKind}
-use Rattle.run_model.specs.Buckets.{data_after_eos, returned_bucket}
+use Rattle.run_model.specs.Buckets.{has_data, data_after_eos, is_dead, returned_bucket}
 use Rattle.run_model.specs.Chains.{led_to, touched_instance}
 use Rattle.run_model.specs.Cutting.{FitsKind}
 use Rattle.run_model.specs.Effects.{do_pass, do_return, pool_destroyed}
@@ -328,3 +329,8 @@ pub record StandsSound (p : Program) (s : Standing) : Type 0 where
 abbrev pub OpenRunsStaySound : Type 0
 OpenRunsStaySound = (p : Program) (r : Configuration) (moves : List Move) (told : List Told) (new : Standing) → IsModule p → IsOpened r
     → IsOpenRun p (record { phase = Due; lasting = none_lasts; now = r }) moves told new → StandsSound p new
+
+-- What an instance passes may be brought to another: no data stands behind an EOS of its own or of the request, and no home has ended.
+abbrev pub PassedMayBeBrought : Type 0
+PassedMayBeBrought = (p : Program) (s new : Standing) (given : Option (List ℕ)) (items : List NamedBucket) → IsMove p s (Execute given) (Passes items) new
+    → (data_after_eos items ≡ false) × (s.now.instance.sent ≡ true → has_data items ≡ false) × (list_any is_dead items ≡ false)
