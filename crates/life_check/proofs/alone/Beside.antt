@@ -64,14 +64,14 @@ stays_home l r h x kept (inr ended) = absurd (let both : true ≡ false = sym ke
 
 module _ (p : Program) (l : Lasting) (r : Configuration) (change : NamedBucket → NamedBucket) (becomes : (x : NamedBucket) → Becomes l r x (change x)) (shared : Shared) (left : LeaveShared l r shared) (out : Out) (s : Sound r) (d : AsDeclared p r)
     (lives : Home → Type 0) (kept : (x : Home) → lives x → lasts l r x ≡ true) where
-  abbrev new : Configuration
-  new = gone_on change shared out r
+  abbrev gone : Configuration
+  gone = gone_on change shared out r
 
   abbrev C : Homes → Home → Type 0
   C = Covers p (pool_view r) lives
 
   abbrev D : Homes → Home → Type 0
-  D = Covers p (pool_view new) lives
+  D = Covers p (pool_view gone) lives
 
   named_lasts : (k : PoolRef) (n : ℕ) → pool_named r k ≡ Some n → lasts l r (home.Pool n) ≡ true
   named_lasts k n e = or_left (is_own r n) (is_in n l.pools) (model.named_own p r d k n e)
@@ -89,10 +89,10 @@ module _ (p : Program) (l : Lasting) (r : Configuration) (change : NamedBucket �
   covered_lasts h (home.Pool n) c = pool_lasts h n c.1
   covered_lasts h home.Ended c = refl
 
-  named_still : (k : PoolRef) (n : ℕ) → pool_named r k ≡ Some n → pool_named new k ≡ Some n
+  named_still : (k : PoolRef) (n : ℕ) → pool_named r k ≡ Some n → pool_named gone k ≡ Some n
   named_still k n e = model.same_named p l r change becomes shared left out s d k ∙ e
 
-  why : (h : Homes) (n : ℕ) → CoversPool p (pool_view r) lives h n → CoversPool p (pool_view new) lives h n
+  why : (h : Homes) (n : ℕ) → CoversPool p (pool_view r) lives h n → CoversPool p (pool_view gone) lives h n
   why h n (ByConnection is) = ByConnection (is ∙ sym left.conn)
   why h n (ByMember k e top low at member under) = ByMember k e top low (named_still k n at) member under
   why h n (ByDead k top at dead) = ByDead k top (named_still k n at) dead
@@ -114,9 +114,9 @@ module _ (p : Program) (l : Lasting) (r : Configuration) (change : NamedBucket �
   unfolding named_at
   own_stays q n made = model.stays p l r change becomes shared left out s d (pool.Own q) n (ap name_in made)
 
-  pub gone_on_fits : (a : State) → Fits C a r → Fits D a new
+  pub gone_on_fits : (a : State) → Fits C a r → Fits D a gone
   gone_on_fits a f =
-      spared_fits C D change r new (record {
+      spared_fits C D change r gone (record {
         names = λ x. (becomes x).name;
         sorted = sorted;
         classed = λ t x. model.turns_keeps (λ (k : Kind). class_has t k ≡ class_has t x.bucket.kind) r x.bucket.kind (change x).bucket.kind (λ n h. h) (becomes x).kind refl;
@@ -128,7 +128,7 @@ module _ (p : Program) (l : Lasting) (r : Configuration) (change : NamedBucket �
         sent = refl;
       }) a f
 
-  pub gone_on_some : (o : Option State) → FitsSome C o r → FitsSome D o new
+  pub gone_on_some : (o : Option State) → FitsSome C o r → FitsSome D o gone
   gone_on_some None h = absurd h
   gone_on_some (Some a) h = gone_on_fits a h
 
