@@ -1,5 +1,5 @@
 -- What is known of an instance while others go on, and where its pass is answered.
-use Rattle.std.proofs.Common.{◌≡◌, ◌≢◌, ◌⊎◌, ℕ, ◌+◌, ◌<◌, ◌≤◌, Bool, true, false, ◌||◌, List, [], ◌∷◌, map, Option, Some, None, is_some, inl, inr, refl, sym, ◌∙◌, ap, subst, arith}
+use Rattle.std.proofs.Common.{◌≡◌, ℕ, Bool, true, false, ◌||◌, List, map, Option, Some, None, inl, inr, refl, sym, ◌∙◌, ap, subst}
 use Rattle.module_code.specs.Program.{Program, IsModule}
 use Rattle.module_code.specs.declared.instr.Instr.{Instr}
 use Rattle.module_code.specs.declared.instr.Instr.TheVariants as instr
@@ -7,7 +7,6 @@ use Rattle.module_code.specs.declared.instr.PoolRef.{PoolRef}
 use Rattle.module_code.specs.declared.instr.PoolRef.TheVariants as pool
 use Rattle.module_code.specs.declared.instr.Status.{Status}
 use Rattle.module_code.specs.declared.instr.Status.TheVariants.{Success, Fail}
-use Rattle.run_model.specs.declared.bucket.Brigade.{Brigade}
 use Rattle.run_model.specs.declared.bucket.BrigadeVar.{BrigadeVar}
 use Rattle.run_model.specs.declared.bucket.BrigadeVar.TheVariants as var
 use Rattle.run_model.specs.declared.bucket.Home.{Home}
@@ -20,14 +19,12 @@ use Rattle.run_model.specs.Files.{Files}
 use Rattle.run_model.specs.Passing.{passed_by, given_back, after_pass}
 use Rattle.run_model.specs.Pools.{is_in, is_live}
 use Rattle.run_model.specs.Sound.{Sound}
-use Rattle.run_model.specs.State.{Configuration, Shared, Out, PoolView, pool_view, pool_named, named_at, name_in, is_own}
+use Rattle.run_model.specs.State.{Configuration, Shared, Out, pool_view, pool_named, named_at, name_in, is_own}
 use Rattle.run_model.specs.Steps.{current}
 use Rattle.model_laws.specs.AsDeclared.{AsDeclared}
 use Rattle.model_laws.specs.OpenRuns.{Phase, Due, Rests, Runs, Waits, Broken, Lasting, Standing, lasts, MayEnd, Becomes, changed_var, gone_on, LeaveShared, gone_elsewhere, answered, IsLeftAlone, GoOn, GoOnElsewhere, Answers, StandsSound}
-use Rattle.model_laws.proofs.Handlers.{Leads}
 use Rattle.model_laws.proofs.alone.Beside as model
 use Rattle.model_laws.proofs.chains.Places.{SameHandler, stays_in_handler, after_leads}
-use Rattle.life_state.specs.declared.parts.Classes.{Classes}
 use Rattle.life_state.specs.States.{Homes, State}
 use Rattle.life_check.specs.Certificates.{Certificate, AllBounded}
 use Rattle.life_check.specs.ChainMeaning.{before}

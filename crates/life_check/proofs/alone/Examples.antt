@@ -1,5 +1,5 @@
 -- Open runs that reach a fault, step by step.
-use Rattle.std.proofs.Common.{◌≡◌, ◌≢◌, ℕ, ◌+◌, ◌^◌, ◌<◌, ◌≤◌, Bool, true, false, ◌||◌, ◌==◌, cond, List, [], ◌∷◌, map, Option, Some, None, All, refl, sym, ◌∙◌, ap, subst, inl, inr, arith, eqb-true, ne_eqb}
+use Rattle.std.proofs.Common.{◌≡◌, ℕ, ◌≤◌, Bool, true, false, ◌||◌, ◌==◌, cond, List, [], ◌∷◌, map, Option, Some, None, refl, sym, ◌∙◌, ap, subst, inl, inr, arith, eqb-true, ne_eqb}
 use Rattle.std.proofs.lemmas.List.Elements.{All-nil, All-cons}
 use Rattle.module_code.specs.Program.{Program}
 use Rattle.module_code.specs.declared.instr.Instr.{Instr}
@@ -28,7 +28,7 @@ use Rattle.run_model.specs.Faults.{fault, has_pool_at, is_stray, keeps_stray, cu
 use Rattle.run_model.specs.Files.{no_files}
 use Rattle.run_model.specs.Indexed.{upd, any_below}
 use Rattle.run_model.specs.Passing.{set_in}
-use Rattle.run_model.specs.Pools.{Pools, is_in, is_live, is_under, created, planted, registered}
+use Rattle.run_model.specs.Pools.{is_in, is_live, is_under, created, planted, registered}
 use Rattle.run_model.specs.Sound.{sum_below, count_named, count, brigade_name}
 use Rattle.run_model.specs.State.{Configuration, fresh_instance, fresh_call, items_of, pool_named, named_at, is_own_at, set_pool, with_pools, set_brigade, set_number, set_cursor, set_loose}
 use Rattle.run_model.specs.Steps.{current, lacks_names, is_spent}
@@ -38,7 +38,7 @@ use Rattle.run_model.proofs.PoolMap.{created_lives}
 use Rattle.run_model.proofs.Sums.{all_none}
 use Rattle.run_model.proofs.Updates.{upd_either}
 use Rattle.model_laws.specs.Examples.{never_creates}
-use Rattle.model_laws.specs.OpenRuns.{Due, Rests, Runs, Broken, Attempts, Calls, Returns, none_lasts, Standing, Move, Start, Execute, Begin, Main, Told, Done, Faults, executed, IsOthers, Come, called, may_come, request_begun, IsMove, IsOpenRun, IsOpened, IsHarmless, AreHarmless, InstancesAreSafe}
+use Rattle.model_laws.specs.OpenRuns.{Due, Rests, Runs, Broken, Attempts, Calls, Returns, none_lasts, Standing, Move, Start, Execute, Begin, Main, Told, Done, Faults, executed, IsOthers, called, may_come, request_begun, IsMove, IsOpenRun, IsOpened, AreHarmless, InstancesAreSafe}
 use Rattle.life_check.specs.Examples.{given, whole, keeps_a_file, BesideRows}
 use Rattle.life_state.specs.Examples.{identity, resting}
 use Rattle.life_check.proofs.alone.Safe.{typed_is_safe}
