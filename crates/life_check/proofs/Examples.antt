@@ -57,7 +57,7 @@ bounded_at [] each pc = tt
 bounded_at (o ∷ os) each zero = each.0
 bounded_at (o ∷ os) each (suc pc) = bounded_at os each.1 pc
 
-whole_bounded : AllBounded (given (resting true) whole)
+pub whole_bounded : AllBounded (given (resting true) whole)
 unfolding EachBounded
 whole_bounded = record {
   idle = resting_bounded false;
@@ -102,7 +102,7 @@ serving_inside : EachFrom (Inside part.Main 2 8) 0 identity.code
 unfolding EachFrom
 serving_inside = (λ le lt. absurd (omega arith), (λ le lt. absurd (omega arith), (λ le lt. record { target = (omega arith, omega arith); allowed = refl }, (λ le lt. record { target = (omega arith, omega arith); allowed = refl }, (λ le lt. record { target = tt; allowed = refl }, (λ le lt. record { target = tt; allowed = refl }, (λ le lt. record { target = tt; allowed = refl }, (λ le lt. record { target = tt; allowed = refl }, tt))))))))
 
-identity_module : IsModule identity
+pub identity_module : IsModule identity
 identity_module = record {
   placed = at_each (IsPlaced identity) placed;
   size = omega arith;

@@ -1,4 +1,5 @@
 -- The lifetime theorem for one instance by itself: its open runs have no fault.
+pub mod Examples
 pub mod Means
 pub mod Starts
 pub mod Beside

@@ -1,7 +1,13 @@
 -- Worked certificates, by hand, of the module that passes on what it gets until an EOS was passed, and drops it from then on; and
--- which modules never fault.
+-- which modules never fault, in chains and beside any filters.
 use Rattle.std.specs.Prelude.{◌≡◌, true, false, List, [], ◌∷◌, Option, Some, None, slice_index_or, length}
+use Rattle.module_code.specs.Program.{Program}
+use Rattle.module_code.specs.declared.instr.Instr.TheVariants as instr
+use Rattle.module_code.specs.declared.instr.KindTest.TheVariants.{File}
+use Rattle.module_code.specs.declared.instr.PoolRef.TheVariants as pool
+use Rattle.module_code.specs.declared.instr.Status.TheVariants.{Success}
 use Rattle.model_laws.specs.Examples.{never_creates}
+use Rattle.model_laws.specs.OpenRuns.{InstancesAreSafe}
 use Rattle.life_state.specs.declared.parts.Contents.TheVariants.{Empty, Any}
 use Rattle.life_state.specs.States.{no_homes, holds, passed_on, State}
 use Rattle.life_state.specs.Examples.{identity, resting, serving, brought}
@@ -41,3 +47,25 @@ pub record FaultRows : Type 0 where
   pub passes_on : ChainNeverFaults (identity ∷ [])
   -- `main` cleans a brigade that was never created
   pub cleans_none : ChainNeverFaults (never_creates ∷ []) → ⊥
+
+-- `brigade b0 conn`; open: `bcreate b0`, `ret ok`; main: `first c0 in`, `jend c0 out`, `jkind c0 file keep`, `:out` `ret ok`, `:keep`
+-- `unlink c0`, `tail b0 c0`, `ret ok`. It keeps a FILE bucket that comes first.
+abbrev pub keeps_a_file : Program
+keeps_a_file = record {
+  pools = [];
+  brigades = pool.Conn ∷ [];
+  texts = [];
+  code = instr.BCreate 0
+      ∷ (instr.Ret Success
+      ∷ (instr.Ret Success ∷ (instr.First 0 8 ∷ (instr.JEnd 0 6 ∷ (instr.JKind 0 File 7 ∷ (instr.Ret Success ∷ (instr.Unlink 0 ∷ (instr.Tail 0 0 ∷ (instr.Ret Success ∷ [])))))))));
+  init = 2;
+  main = 3;
+}
+
+-- Beside any filters.
+pub record BesideRows : Type 0 where
+  pub passes_on : InstancesAreSafe identity
+  -- `main` cleans a brigade that was never created
+  pub cleans_none : InstancesAreSafe never_creates → ⊥
+  -- another filter lends a FILE bucket that lasts as long as a pool of its own
+  pub keeps_what_is_lent : InstancesAreSafe keeps_a_file → ⊥

@@ -5,14 +5,16 @@ ghost use Rattle.module_code.specs.Program.{Program};
 ghost use Rattle.run_model.specs.declared.bucket.Home.{Home};
 ghost use Rattle.run_model.specs.State.{PoolView};
 ghost use Rattle.life_check.specs.ChainTheorem.{TypedChainNeverFaults};
-ghost use Rattle.life_check.specs.Examples.{FaultRows, IdentityAnswers};
+ghost use Rattle.life_check.specs.Examples.{BesideRows, FaultRows, IdentityAnswers};
 ghost use Rattle.life_check.specs.Meaning.{Covers};
 ghost use Rattle.life_check.specs.Soundness.{LivesByTest, StepLands, MetIsFaultless, GreaterFits, RequestEndLands};
 
-/// Certificates worked out by hand, of a module that passes on what it gets; a module that never faults, and one that does.
+/// Certificates worked out by hand, of a module that passes on what it gets; a module that never faults, and one that does; one that is
+/// safe beside any filters, and two that are not.
 pub fn worked_certificates()
     ensures answers { IdentityAnswers }
     ensures faults { FaultRows }
+    ensures beside { BesideRows }
 {}
 
 /// Where each module of a chain is typed with its certificate, no run of any number of connections of that chain answers a fault,

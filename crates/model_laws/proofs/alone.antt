@@ -3,3 +3,4 @@ pub mod Turns
 pub mod Beside
 pub mod Spared
 pub mod Kept
+pub mod Passing

@@ -59,3 +59,6 @@ pub mod CallBuffers
 pub mod InRange
 pub mod Ranges
 pub mod StepRuns
+pub mod ReadSteps
+pub mod Beyond
+pub mod ReadHomes

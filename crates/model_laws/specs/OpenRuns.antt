@@ -1,13 +1,13 @@
 -- Open runs of one instance: a module by itself on a connection, beside filters of which nothing is known but that they keep the rules
 -- of a caller. What it and its surroundings do in turn, and when its instances are safe.
-use Rattle.std.specs.Prelude.{◌≡◌, ◌⊎◌, ℕ, ◌+◌, ◌^◌, ◌<◌, ◌≤◌, Bool, true, false, ◌||◌, ◌==◌, List, [], ◌∷◌, length, map, Option, Some, None, is_some, All}
+use Rattle.std.specs.List.{list_any}
+use Rattle.std.specs.Prelude.{◌≡◌, ◌⊎◌, ℕ, ◌+◌, ◌^◌, ◌<◌, ◌≤◌, Bool, true, false, ◌||◌, ◌==◌, List, [], ◌∷◌, map, Option, Some, None, is_some, All}
 use Rattle.module_code.specs.Program.{Program, IsModule}
 use Rattle.module_code.specs.declared.instr.Instr.{Instr}
 use Rattle.module_code.specs.declared.instr.Instr.TheVariants as instr
 use Rattle.module_code.specs.declared.instr.PoolRef.{PoolRef}
 use Rattle.module_code.specs.declared.instr.Status.{Status}
 use Rattle.module_code.specs.declared.instr.Status.TheVariants.{Success}
-use Rattle.run_model.specs.declared.bucket.Brigade.{Brigade}
 use Rattle.run_model.specs.declared.bucket.BrigadeVar.{BrigadeVar}
 use Rattle.run_model.specs.declared.bucket.BrigadeVar.TheVariants as var
 use Rattle.run_model.specs.declared.bucket.Home.{Home}
@@ -18,22 +18,21 @@ use Rattle.run_model.specs.declared.bucket.Mark.TheVariants.{Usable}
 use Rattle.run_model.specs.declared.bucket.NamedBucket.{NamedBucket}
 use Rattle.run_model.specs.declared.bucket.PoolVar.TheVariants as poolvar
 use Rattle.run_model.specs.declared.fault.FaultKind.{FaultKind}
-use Rattle.run_model.specs.declared.payload.Payload.{Payload}
-use Rattle.run_model.specs.Buckets.{data_after_eos, returned_bucket}
+use Rattle.run_model.specs.Buckets.{has_data, data_after_eos, is_dead, returned_bucket}
 use Rattle.run_model.specs.Chains.{led_to, touched_instance}
 use Rattle.run_model.specs.Cutting.{FitsKind}
 use Rattle.run_model.specs.Effects.{do_pass, do_return, pool_destroyed}
 use Rattle.run_model.specs.Faults.{fault}
 use Rattle.run_model.specs.Files.{Files}
 use Rattle.run_model.specs.Passing.{set_in, passed_by, given_back, after_pass, handler_at}
-use Rattle.run_model.specs.Pools.{Pools, is_in, is_live, is_under, created}
+use Rattle.run_model.specs.Pools.{is_in, is_live, is_under, created}
 use Rattle.run_model.specs.RunOrder.{IsPoolMap}
 use Rattle.run_model.specs.Sound.{count_named, count, brigade_name, Sound}
 use Rattle.run_model.specs.State.{Configuration, Shared, Out, pool_named, is_named, is_own, items_of, fresh_instance, fresh_call}
 use Rattle.run_model.specs.Steps.{step, current, lacks_names, is_spent}
 use Rattle.model_laws.specs.AsDeclared.{AsDeclared}
 
--- What the instance is about.
+-- Where the instance is.
 pub data Phase : Type 0 where
   -- its `open`, or in a request its `init`, is still to be called
   Due : Phase
@@ -80,7 +79,7 @@ pub data Move : Type 0 where
   -- the request ends
   End : Move
 
--- What is told of a move.
+-- What is told of a move. Most tell nothing.
 pub data Told : Type 0 where
   Done : Told
   -- these buckets go to the next filter
@@ -224,7 +223,8 @@ gone_on change shared out r =
     record r { instance = touched_instance (changed_var change) r.instance; call = record r.call { loose = map change r.call.loose }; shared = shared; out = out }
 
 -- What they leave of what is shared: pools are made, cleared and destroyed, and names are given out. The connection's pool and the
--- request's, those of this instance, and those that last stay. Labels, references and files may be any: no fault depends on them.
+-- request's, those of this instance, and those that last stay. Labels, references and files may be any: no fault depends on them. (The
+-- less is asked of others, the more it says that a module is safe.)
 pub record LeaveShared (l : Lasting) (r : Configuration) (shared : Shared) : Type 0 where
   pub conn : shared.conn ≡ r.shared.conn
   pub req : shared.req ≡ r.shared.req
@@ -329,3 +329,8 @@ pub record StandsSound (p : Program) (s : Standing) : Type 0 where
 abbrev pub OpenRunsStaySound : Type 0
 OpenRunsStaySound = (p : Program) (r : Configuration) (moves : List Move) (told : List Told) (new : Standing) → IsModule p → IsOpened r
     → IsOpenRun p (record { phase = Due; lasting = none_lasts; now = r }) moves told new → StandsSound p new
+
+-- What an instance passes may be brought to another: no data stands behind an EOS of its own or of the request, and no home has ended.
+abbrev pub PassedMayBeBrought : Type 0
+PassedMayBeBrought = (p : Program) (s new : Standing) (given : Option (List ℕ)) (items : List NamedBucket) → IsMove p s (Execute given) (Passes items) new
+    → (data_after_eos items ≡ false) × (s.now.instance.sent ≡ true → has_data items ≡ false) × (list_any is_dead items ≡ false)

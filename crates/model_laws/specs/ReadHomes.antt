@@ -33,4 +33,5 @@ RunKeepsReads = (budget : ℕ) (chain : List Program) (es : List (ℕ × Event))
 -- There the test of the home of what was read (F5) would find nothing, in no call.
 abbrev pub ReadsPassTheTest : Type 0
 ReadsPassTheTest = (budget : ℕ) (chain : List Program) (es : List (ℕ × Event)) (answers : List Answer) (w : World) → IsChain chain → IsRun budget chain empty_world es answers w
-    → (k : ℕ) (c : Connection) → w.conns k ≡ Some c → (above below : List Frame) (f : Frame) → c.stack ≡ above ++ f ∷ below → fault_want (configuration w.common c f) (WHome read_cursor) ≡ None
+    → (k : ℕ) (c : Connection) → w.conns k ≡ Some c → (above below : List Frame) (f : Frame) → c.stack ≡ above ++ f ∷ below
+    → fault_want (configuration w.common c f) (WHome read_cursor) ≡ None

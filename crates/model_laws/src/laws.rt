@@ -26,7 +26,8 @@ ghost use Rattle.model_laws.specs.ChainFiles.{ConnectionStepKeepsEnds, BringKeep
 ghost use Rattle.model_laws.specs.ChainHomes.{EventKeepsWorldHomes, RunKeepsWorldHomes};
 ghost use Rattle.model_laws.specs.ChainOrder.{EventKeepsWorldOrder, RunKeepsWorldOrder};
 ghost use Rattle.model_laws.specs.ChainPaths.{EventKeepsWorldPaths, RunKeepsWorldPaths};
-ghost use Rattle.model_laws.specs.OpenRuns.{OpenRunsStaySound};
+ghost use Rattle.model_laws.specs.OpenRuns.{OpenRunsStaySound, PassedMayBeBrought};
+ghost use Rattle.model_laws.specs.ReadHomes.{RunKeepsReads, ReadsPassTheTest};
 ghost use Rattle.model_laws.specs.ChainNumbers.{EventKeepsNumbers, RunKeepsNumbers};
 ghost use Rattle.model_laws.specs.Reached.{EmptyIsReached, EventReaches, WorldRunGoesOn, ReachedHolds};
 ghost use Rattle.model_laws.specs.ChainClears.{MadePoolsAreOwn, OthersKeepBrigades};
@@ -493,7 +494,16 @@ pub fn connections_share_the_tree()
 {}
 
 /// Whatever surrounds an instance, each open run of it keeps what is sound: each name is one bucket's, buckets are as their kinds have
-/// them, its variables stand as its module declares them, and pools of other filters that last are apart from its own.
+/// them, its variables stand as its module declares them, and pools of other filters that last are apart from its own. What it passes may
+/// be brought to another: no data stands behind an EOS, and no home has ended.
 pub fn open_runs_stay_sound()
-    ensures { OpenRunsStaySound }
+    ensures sound { OpenRunsStaySound }
+    ensures passes { PassedMayBeBrought }
+{}
+
+/// In each run of a chain, what a call read last has as home no pool and no call that returned: none, or the call itself or one that
+/// waits for it. So `get` needs no test of that home.
+pub fn homes_of_reads_last()
+    ensures homes { RunKeepsReads }
+    ensures test { ReadsPassTheTest }
 {}

@@ -1,5 +1,5 @@
 -- What is known of an instance while others go on, and where its pass is answered.
-use Rattle.std.proofs.Common.{◌≡◌, ◌≢◌, ◌⊎◌, ℕ, ◌+◌, ◌<◌, ◌≤◌, Bool, true, false, ◌||◌, List, [], ◌∷◌, map, Option, Some, None, is_some, inl, inr, refl, sym, ◌∙◌, ap, subst, arith}
+use Rattle.std.proofs.Common.{◌≡◌, ℕ, Bool, true, false, ◌||◌, List, map, Option, Some, None, inl, inr, refl, sym, ◌∙◌, ap, subst}
 use Rattle.module_code.specs.Program.{Program, IsModule}
 use Rattle.module_code.specs.declared.instr.Instr.{Instr}
 use Rattle.module_code.specs.declared.instr.Instr.TheVariants as instr
@@ -7,7 +7,6 @@ use Rattle.module_code.specs.declared.instr.PoolRef.{PoolRef}
 use Rattle.module_code.specs.declared.instr.PoolRef.TheVariants as pool
 use Rattle.module_code.specs.declared.instr.Status.{Status}
 use Rattle.module_code.specs.declared.instr.Status.TheVariants.{Success, Fail}
-use Rattle.run_model.specs.declared.bucket.Brigade.{Brigade}
 use Rattle.run_model.specs.declared.bucket.BrigadeVar.{BrigadeVar}
 use Rattle.run_model.specs.declared.bucket.BrigadeVar.TheVariants as var
 use Rattle.run_model.specs.declared.bucket.Home.{Home}
@@ -20,14 +19,12 @@ use Rattle.run_model.specs.Files.{Files}
 use Rattle.run_model.specs.Passing.{passed_by, given_back, after_pass}
 use Rattle.run_model.specs.Pools.{is_in, is_live}
 use Rattle.run_model.specs.Sound.{Sound}
-use Rattle.run_model.specs.State.{Configuration, Shared, Out, PoolView, pool_view, pool_named, named_at, name_in, is_own}
+use Rattle.run_model.specs.State.{Configuration, Shared, Out, pool_view, pool_named, named_at, name_in, is_own}
 use Rattle.run_model.specs.Steps.{current}
 use Rattle.model_laws.specs.AsDeclared.{AsDeclared}
 use Rattle.model_laws.specs.OpenRuns.{Phase, Due, Rests, Runs, Waits, Broken, Lasting, Standing, lasts, MayEnd, Becomes, changed_var, gone_on, LeaveShared, gone_elsewhere, answered, IsLeftAlone, GoOn, GoOnElsewhere, Answers, StandsSound}
-use Rattle.model_laws.proofs.Handlers.{Leads}
 use Rattle.model_laws.proofs.alone.Beside as model
 use Rattle.model_laws.proofs.chains.Places.{SameHandler, stays_in_handler, after_leads}
-use Rattle.life_state.specs.declared.parts.Classes.{Classes}
 use Rattle.life_state.specs.States.{Homes, State}
 use Rattle.life_check.specs.Certificates.{Certificate, AllBounded}
 use Rattle.life_check.specs.ChainMeaning.{before}
@@ -64,14 +61,14 @@ stays_home l r h x kept (inr ended) = absurd (let both : true ≡ false = sym ke
 
 module _ (p : Program) (l : Lasting) (r : Configuration) (change : NamedBucket → NamedBucket) (becomes : (x : NamedBucket) → Becomes l r x (change x)) (shared : Shared) (left : LeaveShared l r shared) (out : Out) (s : Sound r) (d : AsDeclared p r)
     (lives : Home → Type 0) (kept : (x : Home) → lives x → lasts l r x ≡ true) where
-  abbrev new : Configuration
-  new = gone_on change shared out r
+  abbrev gone : Configuration
+  gone = gone_on change shared out r
 
   abbrev C : Homes → Home → Type 0
   C = Covers p (pool_view r) lives
 
   abbrev D : Homes → Home → Type 0
-  D = Covers p (pool_view new) lives
+  D = Covers p (pool_view gone) lives
 
   named_lasts : (k : PoolRef) (n : ℕ) → pool_named r k ≡ Some n → lasts l r (home.Pool n) ≡ true
   named_lasts k n e = or_left (is_own r n) (is_in n l.pools) (model.named_own p r d k n e)
@@ -89,10 +86,10 @@ module _ (p : Program) (l : Lasting) (r : Configuration) (change : NamedBucket �
   covered_lasts h (home.Pool n) c = pool_lasts h n c.1
   covered_lasts h home.Ended c = refl
 
-  named_still : (k : PoolRef) (n : ℕ) → pool_named r k ≡ Some n → pool_named new k ≡ Some n
+  named_still : (k : PoolRef) (n : ℕ) → pool_named r k ≡ Some n → pool_named gone k ≡ Some n
   named_still k n e = model.same_named p l r change becomes shared left out s d k ∙ e
 
-  why : (h : Homes) (n : ℕ) → CoversPool p (pool_view r) lives h n → CoversPool p (pool_view new) lives h n
+  why : (h : Homes) (n : ℕ) → CoversPool p (pool_view r) lives h n → CoversPool p (pool_view gone) lives h n
   why h n (ByConnection is) = ByConnection (is ∙ sym left.conn)
   why h n (ByMember k e top low at member under) = ByMember k e top low (named_still k n at) member under
   why h n (ByDead k top at dead) = ByDead k top (named_still k n at) dead
@@ -114,9 +111,9 @@ module _ (p : Program) (l : Lasting) (r : Configuration) (change : NamedBucket �
   unfolding named_at
   own_stays q n made = model.stays p l r change becomes shared left out s d (pool.Own q) n (ap name_in made)
 
-  pub gone_on_fits : (a : State) → Fits C a r → Fits D a new
+  pub gone_on_fits : (a : State) → Fits C a r → Fits D a gone
   gone_on_fits a f =
-      spared_fits C D change r new (record {
+      spared_fits C D change r gone (record {
         names = λ x. (becomes x).name;
         sorted = sorted;
         classed = λ t x. model.turns_keeps (λ (k : Kind). class_has t k ≡ class_has t x.bucket.kind) r x.bucket.kind (change x).bucket.kind (λ n h. h) (becomes x).kind refl;
@@ -128,7 +125,7 @@ module _ (p : Program) (l : Lasting) (r : Configuration) (change : NamedBucket �
         sent = refl;
       }) a f
 
-  pub gone_on_some : (o : Option State) → FitsSome C o r → FitsSome D o new
+  pub gone_on_some : (o : Option State) → FitsSome C o r → FitsSome D o gone
   gone_on_some None h = absurd h
   gone_on_some (Some a) h = gone_on_fits a h
 

@@ -1,5 +1,5 @@
 -- What an instruction of an open run leaves: it has no fault, and what is known of the next one describes what is there.
-use Rattle.std.proofs.Common.{◌≡◌, ◌≢◌, ◌⊎◌, ℕ, ◌+◌, ◌<◌, ◌≤◌, Bool, true, false, List, [], ◌∷◌, unwrap_or, Option, Some, None, is_some, inl, inr, refl, sym, ◌∙◌, ap, subst, arith}
+use Rattle.std.proofs.Common.{◌≡◌, ℕ, ◌+◌, true, false, List, unwrap_or, Option, Some, None, refl, sym, ◌∙◌, subst}
 use Rattle.module_code.specs.Program.{Program, IsModule, target}
 use Rattle.module_code.specs.declared.instr.Instr.{Instr}
 use Rattle.module_code.specs.declared.instr.Instr.TheVariants as instr
@@ -14,20 +14,20 @@ use Rattle.run_model.specs.Effects.{do_pass, do_return, handed_over}
 use Rattle.run_model.specs.Faults.{WUsable, WHomes, WSend, usable_fault, fault_want, or_else, fault}
 use Rattle.run_model.specs.Pools.{is_in}
 use Rattle.run_model.specs.State.{Configuration, pool_view, set_brigade}
-use Rattle.run_model.specs.Steps.{Choice, Outcome, step, current, lacks_names}
+use Rattle.run_model.specs.Steps.{Choice, Outcome, step, current}
 use Rattle.run_model.proofs.Updates.{upd_at}
 use Rattle.model_laws.specs.Laws.{ChangesOnly, is_return}
-use Rattle.model_laws.specs.OpenRuns.{Phase, Rests, Runs, Waits, Lasting, none_lasts, Standing, Told, IsHarmless, executed, Attempts, Executes, StandsSound}
+use Rattle.model_laws.specs.OpenRuns.{Phase, Rests, Runs, none_lasts, Standing, Told, IsHarmless, executed, Attempts, Executes, StandsSound}
 use Rattle.model_laws.proofs.Handlers.{Leads}
 use Rattle.model_laws.proofs.Unchanged.{step_changes_only}
 use Rattle.model_laws.proofs.chains.Places.{led, SameHandler, stays_in_handler}
-use Rattle.life_state.specs.Rules.{Edges, edges, after_pass, at_return}
+use Rattle.life_state.specs.Rules.{edges, after_pass, at_return}
 use Rattle.life_state.specs.States.{State}
 use Rattle.life_state.proofs.Tests.{split2}
 use Rattle.life_check.specs.Certificates.{Certificate, AllBounded, IsBoundedSome}
-use Rattle.life_check.specs.Meaning.{Covers, NoneLives, Between, Fits}
+use Rattle.life_check.specs.Meaning.{Covers, NoneLives, Between}
 use Rattle.life_check.specs.Soundness.{FitsSome, Lands, MeetsNeeds}
-use Rattle.life_check.specs.Typed.{IsTyped, flows, is_below, left_by, exits, leads_on}
+use Rattle.life_check.specs.Typed.{IsTyped, flows, is_below, exits, leads_on}
 use Rattle.life_check.proofs.alone.Means.{Lives, InCall, IsPlaced, RunFits, WaitFits, PhaseFits, Stands, in_phase, Met, met_in, ready_in}
 use Rattle.life_check.proofs.Instructions.{step_lands}
 use Rattle.life_check.proofs.Onward.{IsOnward, goes_onward, left_rests}
@@ -53,7 +53,6 @@ module _ (p : Program) (m : Certificate) (proper : IsModule p) (bounded : AllBou
 
   module _ (i : Instr) (is : current p s.now.pc ≡ i) (a : State) (ready : MeetsNeeds (Lives s.lasting s.now.shared.req) p i s.now a)
       (leads : leads_on m s.now.pc i (edges p i a) ≡ true) (leaves : exits p m s.now.pc i a ≡ true) where
-
     -- An instruction after which the call goes on.
 
     abbrev stepped : Outcome

@@ -1,5 +1,5 @@
 -- What is known of an instance in each phase of an open run.
-use Rattle.std.proofs.Common.{◌≡◌, ◌≢◌, ◌⊎◌, ℕ, ◌+◌, ◌<◌, ◌≤◌, Bool, true, false, List, [], ◌∷◌, length, Option, Some, None, is_some, inl, inr, refl, sym, ◌∙◌, ap, subst, arith}
+use Rattle.std.proofs.Common.{◌≡◌, ◌⊎◌, ℕ, ◌+◌, ◌<◌, ◌≤◌, true, false, length, Option, Some, None, is_some, inl, inr, refl, sym, ◌∙◌, subst, arith}
 use Rattle.std.proofs.lemmas.Bool.{cases_lt}
 use Rattle.module_code.specs.Program.{Program, IsModule}
 use Rattle.module_code.specs.declared.instr.Instr.{Instr}
@@ -12,10 +12,10 @@ use Rattle.run_model.specs.declared.bucket.Home.TheVariants as home
 use Rattle.run_model.specs.declared.bucket.Mark.TheVariants.{Passed}
 use Rattle.run_model.specs.declared.bucket.PoolVar.TheVariants as poolvar
 use Rattle.run_model.specs.Faults.{wants, fault}
-use Rattle.run_model.specs.Pools.{is_in, is_live, is_under}
+use Rattle.run_model.specs.Pools.{is_in, is_under}
 use Rattle.run_model.specs.State.{Configuration, pool_view, pool_named}
 use Rattle.run_model.specs.Steps.{current, lacks_names}
-use Rattle.model_laws.specs.OpenRuns.{Phase, Due, Rests, Runs, Waits, Broken, Lasting, Standing, IsOthers, StandsSound}
+use Rattle.model_laws.specs.OpenRuns.{Phase, Due, Rests, Runs, Waits, Broken, Lasting, Standing, StandsSound}
 use Rattle.model_laws.proofs.EventsKeep.{may_execute, current_fits}
 use Rattle.model_laws.proofs.Handlers.{current_at}
 use Rattle.model_laws.proofs.PoolsKept.{req_apart}

@@ -1,5 +1,5 @@
 -- The instances of a typed module are safe.
-use Rattle.std.proofs.Common.{◌≡◌, ℕ, List, [], ◌∷◌, sym, subst}
+use Rattle.std.proofs.Common.{◌≡◌, List, [], ◌∷◌, sym, subst}
 use Rattle.module_code.specs.Program.{Program, IsModule}
 use Rattle.model_laws.specs.OpenRuns.{Standing, Move, Start, Execute, Answer, Others, Elsewhere, Begin, Main, End, Told, Done, IsMove, IsOpenRun, IsHarmless, AreHarmless, StandsSound, InstancesAreSafe}
 use Rattle.model_laws.proofs.alone.Kept.{move_kept, opened_kept}

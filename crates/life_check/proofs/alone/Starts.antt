@@ -1,6 +1,6 @@
 -- What is known where a call of the instance begins, and where a request begins and ends.
 use Rattle.std.proofs.lemmas.List.Elements.{All-weaker}
-use Rattle.std.proofs.Common.{◌≡◌, ◌≢◌, ◌⊎◌, ℕ, ◌+◌, ◌<◌, ◌≤◌, Bool, true, false, ◌||◌, not, ◌==◌, List, [], ◌∷◌, length, Option, Some, None, is_some, All, inl, inr, refl, sym, ◌∙◌, ap, subst, arith, eq-eqb, eqb-true}
+use Rattle.std.proofs.Common.{◌≡◌, ℕ, ◌<◌, Bool, true, false, ◌||◌, not, ◌==◌, List, [], ◌∷◌, Option, Some, None, is_some, All, inl, inr, refl, sym, ◌∙◌, ap, subst, arith, eq-eqb, eqb-true}
 use Rattle.module_code.specs.Program.{Program, IsModule}
 use Rattle.module_code.specs.declared.instr.PoolRef.{PoolRef}
 use Rattle.module_code.specs.declared.instr.PoolRef.TheVariants as pool
@@ -14,21 +14,20 @@ use Rattle.run_model.specs.declared.bucket.PoolVar.TheVariants as poolvar
 use Rattle.run_model.specs.Passing.{handler_at, set_in}
 use Rattle.run_model.specs.declared.payload.Payload.{Payload}
 use Rattle.run_model.specs.Pools.{Pools, is_in, is_empty, is_live, created}
-use Rattle.run_model.specs.State.{Configuration, Call, pool_view, named_at, is_named, fresh_instance, fresh_call}
+use Rattle.run_model.specs.State.{Configuration, pool_view, named_at, is_named, fresh_call}
 use Rattle.run_model.proofs.Formed.{path_live}
 use Rattle.run_model.proofs.PoolMap.{created_lives, created_kept}
-use Rattle.model_laws.specs.OpenRuns.{Due, Rests, Runs, Lasting, none_lasts, Standing, called, may_come, IsOthers, request_begun, request_ended, IsOpened, Starts, Begins, Calls, Ends, StandsSound}
+use Rattle.model_laws.specs.OpenRuns.{Due, Rests, Runs, Lasting, none_lasts, Standing, called, may_come, request_begun, request_ended, IsOpened, Starts, Begins, Calls, Ends, StandsSound}
 use Rattle.model_laws.proofs.alone.Kept.{fresh_in, opened_is}
 use Rattle.life_state.specs.declared.parts.Contents.TheVariants.{NoLateData}
-use Rattle.life_state.specs.Rules.{at_open, at_main}
-use Rattle.life_state.specs.States.{Homes, only_call, holds, Unset, State}
+use Rattle.life_state.specs.States.{only_call, holds, Unset, State}
 use Rattle.life_state.proofs.Tests.{split3}
 use Rattle.life_check.specs.Certificates.{Certificate, AllBounded, IsBoundedSome}
 use Rattle.life_check.specs.ChainMeaning.{before}
-use Rattle.life_check.specs.Meaning.{Covers, ByConnection, ByCall, NoneLives, Between, Each, FitsBrigade, Fits}
+use Rattle.life_check.specs.Meaning.{ByConnection, ByCall, NoneLives, Between, FitsBrigade}
 use Rattle.life_check.specs.Soundness.{FitsSome}
 use Rattle.life_check.specs.Typed.{IsTyped, fits_between, fits_lines, main_from, request_end}
-use Rattle.life_check.proofs.alone.Means.{Lives, InCall, IsPlaced, RunFits, Stands, in_phase}
+use Rattle.life_check.proofs.alone.Means.{Lives, InCall, IsPlaced, Stands, in_phase}
 use Rattle.life_check.proofs.Lists.{each_of_all}
 use Rattle.life_check.proofs.Orders.{greater_fits}
 use Rattle.life_check.proofs.Standards.{resting, fits_flow, unset_differ, covers_begun}

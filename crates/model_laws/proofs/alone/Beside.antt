@@ -1,29 +1,26 @@
 -- Other filters go on, and other connections: what the instance sees stays sound.
-use Rattle.std.proofs.Common.{◌≡◌, ◌≢◌, ◌⊎◌, ℕ, zero, suc, ◌+◌, ◌^◌, ◌<◌, ◌≤◌, Bool, true, false, ◌||◌, ◌==◌, nat_lt, cond, List, [], ◌∷◌, map, Option, Some, None, All, inl, inr, refl, sym, ◌∙◌, ap, subst, arith, eq-eqb}
+use Rattle.std.proofs.Common.{◌≡◌, ◌⊎◌, ℕ, zero, suc, ◌^◌, ◌<◌, ◌≤◌, Bool, true, false, ◌||◌, ◌==◌, List, ◌∷◌, map, Option, Some, None, inl, inr, refl, sym, ◌∙◌, ap, subst, arith, eq-eqb}
 use Rattle.std.proofs.lemmas.Bool.{cases_eq, cases_lt}
 use Rattle.std.proofs.lemmas.List.Elements.{All-map}
 use Rattle.module_code.specs.declared.instr.PoolRef.{PoolRef}
 use Rattle.module_code.specs.declared.instr.PoolRef.TheVariants as pool
 use Rattle.module_code.specs.Program.{Program, pool_of_brigade}
-use Rattle.run_model.specs.declared.bucket.Bucket.{Bucket}
 use Rattle.run_model.specs.declared.bucket.Brigade.{Brigade}
 use Rattle.run_model.specs.declared.bucket.BrigadeVar.{BrigadeVar}
 use Rattle.run_model.specs.declared.bucket.BrigadeVar.TheVariants as var
-use Rattle.run_model.specs.declared.bucket.Content.{Content}
 use Rattle.run_model.specs.declared.bucket.Home.{Home}
 use Rattle.run_model.specs.declared.bucket.Home.TheVariants as home
 use Rattle.run_model.specs.declared.bucket.Kind.{Kind}
 use Rattle.run_model.specs.declared.bucket.Kind.TheVariants as kind
 use Rattle.run_model.specs.declared.bucket.NamedBucket.{NamedBucket}
-use Rattle.run_model.specs.declared.bucket.PoolVar.{PoolVar}
 use Rattle.run_model.specs.declared.bucket.PoolVar.TheVariants as poolvar
-use Rattle.run_model.specs.Cutting.{FitsKind, LivesAs, form_of, form_of_kind}
+use Rattle.run_model.specs.Cutting.{LivesAs, form_of, form_of_kind}
 use Rattle.run_model.specs.Faults.{is_live_named}
 use Rattle.run_model.specs.Files.{Files}
 use Rattle.run_model.specs.Indexed.{any_below}
 use Rattle.run_model.specs.Pools.{is_live, is_in, is_under}
-use Rattle.run_model.specs.Sound.{count_named, brigade_name, brigade_pool, Sound}
-use Rattle.run_model.specs.State.{Configuration, Shared, Out, pool_view, named_at, name_in, is_named, is_own_at, is_own, pool_named, items_of}
+use Rattle.run_model.specs.Sound.{brigade_pool, Sound}
+use Rattle.run_model.specs.State.{Configuration, Shared, Out, named_at, name_in, is_named, is_own_at, is_own, pool_named, items_of}
 use Rattle.run_model.proofs.Names.{count_map, Fewer, fewer_same}
 use Rattle.model_laws.specs.AsDeclared.{AsDeclared}
 use Rattle.model_laws.specs.OpenRuns.{Lasting, lasts, MayTurn, MayEnd, Becomes, changed_var, gone_on, LeaveShared, gone_elsewhere, IsOthers}

@@ -1,32 +1,29 @@
 -- Each move of an open run keeps what is sound.
-use Rattle.std.proofs.Common.{◌≡◌, ℕ, ◌+◌, ◌^◌, ◌<◌, ◌≤◌, Bool, true, false, nat_lt, List, [], ◌∷◌, Option, Some, None, All, inl, inr, refl, sym, ◌∙◌, ap, subst, arith}
+use Rattle.std.proofs.Common.{◌≡◌, ℕ, ◌+◌, ◌^◌, ◌<◌, true, false, List, [], ◌∷◌, Option, Some, None, refl, sym, ◌∙◌, ap, subst, arith}
 use Rattle.std.proofs.lemmas.Bool.Decides.{nat_tests}
 use Rattle.module_code.specs.declared.instr.Instr.{Instr}
 use Rattle.module_code.specs.declared.instr.Instr.TheVariants as instr
 use Rattle.module_code.specs.declared.instr.Status.{Status}
 use Rattle.module_code.specs.declared.instr.Status.TheVariants.{Success}
 use Rattle.module_code.specs.Program.{Program, IsModule}
-use Rattle.run_model.specs.declared.bucket.BrigadeVar.{BrigadeVar}
-use Rattle.run_model.specs.declared.bucket.BrigadeVar.TheVariants as var
 use Rattle.run_model.specs.declared.bucket.NamedBucket.{NamedBucket}
-use Rattle.run_model.specs.declared.bucket.PoolVar.TheVariants as poolvar
 use Rattle.run_model.specs.declared.fault.FaultKind.{FaultKind}
 use Rattle.run_model.specs.Chains.{led_to}
 use Rattle.run_model.specs.Faults.{fault}
-use Rattle.run_model.specs.Pools.{is_in, is_live, is_under}
+use Rattle.run_model.specs.Pools.{is_in}
 use Rattle.run_model.specs.Sound.{sum_below, count_named, count, Sound}
 use Rattle.run_model.specs.State.{Configuration, Instance, Call, fresh_instance, fresh_call, items_of}
-use Rattle.run_model.specs.Steps.{Choice, step, current, lacks_names, is_spent}
+use Rattle.run_model.specs.Steps.{Choice, step, current, is_spent}
 use Rattle.run_model.proofs.Names.{count_none, fewer_same}
 use Rattle.run_model.proofs.Sums.{all_none}
 use Rattle.model_laws.specs.AsDeclared.{AsDeclared}
 use Rattle.model_laws.specs.Laws.{MayExecute}
-use Rattle.model_laws.specs.OpenRuns.{Phase, Due, Runs, Lasting, none_lasts, Standing, Move, Start, Execute, Answer, Others, Elsewhere, Begin, Main, End, Told, executed, Attempts, IsOthers, IsMove, IsOpenRun, IsOpened, StandsSound, OpenRunsStaySound, Starts, Begins, Calls, Answers, GoOn, GoOnElsewhere, Ends}
+use Rattle.model_laws.specs.OpenRuns.{Phase, Due, none_lasts, Standing, Move, Start, Execute, Answer, Others, Elsewhere, Begin, Main, End, Told, executed, Attempts, IsOthers, IsMove, IsOpenRun, IsOpened, StandsSound, OpenRunsStaySound, Starts, Begins, Calls, Answers, GoOn, GoOnElsewhere, Ends}
 use Rattle.model_laws.proofs.AsDeclared.{kept, same_vars, step_declared}
 use Rattle.model_laws.proofs.EventsKeep.{may_execute}
 use Rattle.model_laws.proofs.NamesStay.{names_stay, keeps_slots}
 use Rattle.model_laws.proofs.PoolsKept.{keeps_pools}
-use Rattle.model_laws.proofs.StepBuckets.{ProperList, none_proper, step_buckets, same_buckets}
+use Rattle.model_laws.proofs.StepBuckets.{none_proper, step_buckets, same_buckets}
 use Rattle.model_laws.proofs.StepNames.{step_names}
 use Rattle.model_laws.proofs.StepPools.{step_pools}
 use Rattle.model_laws.proofs.alone.Beside.{gone_on_sound, gone_on_declared, gone_on_others, elsewhere_sound, elsewhere_declared, elsewhere_others}

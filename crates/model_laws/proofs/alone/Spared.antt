@@ -1,5 +1,5 @@
 -- What the instance does to its own pools spares those of others.
-use Rattle.std.proofs.Common.{◌≡◌, ◌≢◌, ◌⊎◌, ℕ, ◌+◌, ◌<◌, ◌≤◌, Bool, true, false, ◌||◌, List, [], ◌∷◌, Option, Some, None, inl, inr, refl, sym, ◌∙◌, ap, subst, arith, ne_eqb}
+use Rattle.std.proofs.Common.{◌≡◌, ◌⊎◌, ℕ, ◌<◌, Bool, false, ◌||◌, List, [], Some, inl, inr, refl, sym, ◌∙◌, ap, subst, arith, ne_eqb}
 use Rattle.module_code.specs.declared.instr.Instr.{Instr}
 use Rattle.module_code.specs.declared.instr.Instr.TheVariants as instr
 use Rattle.module_code.specs.declared.instr.PoolRef.{PoolRef}
@@ -8,14 +8,13 @@ use Rattle.module_code.specs.Program.{Program, pool_of_pool}
 use Rattle.run_model.specs.declared.bucket.PoolVar.{PoolVar}
 use Rattle.run_model.specs.declared.bucket.PoolVar.TheVariants as poolvar
 use Rattle.run_model.specs.Clearing.{run_down}
-use Rattle.run_model.specs.Pools.{is_in, is_live, is_under, created, cleared, destroyed}
+use Rattle.run_model.specs.Pools.{is_in, is_under, created}
 use Rattle.run_model.specs.Sound.{Sound}
 use Rattle.run_model.specs.State.{Configuration, name_in, named_at, pool_named, set_pool, with_pools}
 use Rattle.run_model.specs.Steps.{Choice, step, pool_cleared, pool_destroyed}
 use Rattle.run_model.proofs.Formed.{formed_older}
 use Rattle.run_model.proofs.PoolMap.{created_kept, created_at, cleared_path, cleared_apart, destroyed_path, destroyed_apart, not_under}
 use Rattle.run_model.proofs.Updates.{upd_either}
-use Rattle.model_laws.specs.AsDeclared.{AsDeclared}
 use Rattle.model_laws.specs.Laws.{MayExecute}
 use Rattle.model_laws.specs.OpenRuns.{IsOthers}
 use Rattle.model_laws.proofs.AsDeclared.{same_live, named_same}

@@ -1,13 +1,11 @@
 -- Calls that begin and passes that are answered, requests that begin and end: what the instance sees stays sound.
-use Rattle.std.proofs.Common.{◌≡◌, ◌≢◌, ◌⊎◌, ℕ, ◌+◌, ◌^◌, ◌<◌, ◌≤◌, true, List, [], ◌∷◌, Option, Some, None, All, inl, inr, refl, sym, ◌∙◌, ap, subst, arith}
-use Rattle.module_code.specs.declared.instr.PoolRef.TheVariants as pool
+use Rattle.std.proofs.Common.{◌≡◌, ◌≢◌, ◌⊎◌, ℕ, ◌+◌, ◌^◌, ◌<◌, ◌≤◌, true, List, Some, None, inl, inr, refl, sym, ◌∙◌, ap, subst, arith}
 use Rattle.module_code.specs.Program.{Program}
 use Rattle.run_model.specs.declared.bucket.Brigade.{Brigade}
 use Rattle.run_model.specs.declared.bucket.BrigadeVar.{BrigadeVar}
 use Rattle.run_model.specs.declared.bucket.BrigadeVar.TheVariants as var
 use Rattle.run_model.specs.declared.bucket.NamedBucket.{NamedBucket}
 use Rattle.run_model.specs.Clearing.{run_down}
-use Rattle.run_model.specs.Cutting.{FitsKind}
 use Rattle.run_model.specs.Indexed.{upd}
 use Rattle.run_model.specs.Passing.{set_in, given_back}
 use Rattle.run_model.specs.Pools.{is_live, is_under, destroyed}
@@ -15,7 +13,7 @@ use Rattle.run_model.specs.Sound.{sum_below, count_named, count, brigade_name, b
 use Rattle.run_model.specs.State.{Configuration, items_of, set_brigade, with_pools}
 use Rattle.run_model.specs.Steps.{with_items, pool_destroyed}
 use Rattle.run_model.proofs.Formed.{path_live}
-use Rattle.run_model.proofs.Names.{count_none, fewer_same, Carried, carried_same, filled_carried, filled_items, at_each}
+use Rattle.run_model.proofs.Names.{count_none, fewer_same, Carried, filled_carried, filled_items, at_each}
 use Rattle.run_model.proofs.PoolMap.{destroyed_next, destroyed_apart, destroyed_under}
 use Rattle.run_model.proofs.Formed.{destroyed_formed}
 use Rattle.run_model.proofs.RunOrderLaws.{under_itself}
@@ -26,7 +24,7 @@ use Rattle.model_laws.specs.OpenRuns.{Come, called, request_begun, request_ended
 use Rattle.model_laws.proofs.AsDeclared.{kept, went, written_declared, same_vars, KeepsPool, same_on, filled_on, not_live}
 use Rattle.model_laws.proofs.NamesStay.{names_stay, keeps_slots, went_names}
 use Rattle.model_laws.proofs.PoolsKept.{keeps_pools, went_pools}
-use Rattle.model_laws.proofs.StepBuckets.{IsProper, ProperList, none_proper, filled_proper, same_buckets, destroyed_buckets}
+use Rattle.model_laws.proofs.StepBuckets.{ProperList, none_proper, filled_proper, same_buckets, destroyed_buckets}
 use Rattle.model_laws.proofs.chains.EventPools.{begun_sound, begun_declared, over_named}
 
 -- A call begins.

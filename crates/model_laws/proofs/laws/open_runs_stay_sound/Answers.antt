@@ -1,5 +1,9 @@
-use Rattle.model_laws.proofs.laws.open_runs_stay_sound.Goals as goal
 use Rattle.model_laws.proofs.alone.Kept.{open_runs_stay_sound}
+use Rattle.model_laws.proofs.alone.Passing.{passed_may_be_brought}
+use Rattle.model_laws.proofs.laws.open_runs_stay_sound.Goals as goal
 
-pub returns : goal.returns
-returns c = open_runs_stay_sound
+pub returns-clause-sound : goal.returns-clause-sound
+returns-clause-sound c = open_runs_stay_sound
+
+pub returns-clause-passes : goal.returns-clause-passes
+returns-clause-passes c = passed_may_be_brought
