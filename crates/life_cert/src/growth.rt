@@ -16,7 +16,7 @@ use std::alloc::{AllocError, Global};
 
 /// What has a state: what lies between calls, before `init` or from then on, and each instruction.
 #[derive(Clone, Copy)]
-pub(crate) enum StatePlace {
+pub enum StatePlace {
     /// Between calls, before `init`.
     Idle,
     /// Between calls, from `init` on.
@@ -27,16 +27,16 @@ pub(crate) enum StatePlace {
 
 /// A state that is handed on to a place.
 #[derive(Clone, Copy)]
-pub(crate) struct Arrival {
-    pub(crate) place: StatePlace,
-    pub(crate) state: State,
+pub struct Arrival {
+    pub place: StatePlace,
+    pub state: State,
 }
 
 /// The states so far, and the places whose states grew in the last round.
 #[derive(Drop)]
-pub(crate) struct Growth {
-    pub(crate) cert: Cert,
-    pub(crate) grown: Vec<StatePlace>,
+pub struct Growth {
+    pub cert: Cert,
+    pub grown: Vec<StatePlace>,
 }
 
 fn put(cert: &mut Cert, place: StatePlace, state: State)
@@ -52,7 +52,7 @@ fn put(cert: &mut Cert, place: StatePlace, state: State)
 
 impl Growth {
     /// There are no states, but for that in which `open` begins.
-    pub(crate) fn new(alloc: Global, code: &Module) -> Result<Growth, AllocError>
+    pub fn new(alloc: Global, code: &Module) -> Result<Growth, AllocError>
         ensures begun { IfOk result (λ g. seen_growth g ≡ begun code.now) }
         ensures some { 0 < length code.now.code }
         ensures few { length code.now.pools ≤ 8 }
@@ -72,7 +72,7 @@ impl Growth {
     }
 
     /// The state of a place.
-    pub(crate) fn state(&self, place: StatePlace) -> Option<State>
+    pub fn state(&self, place: StatePlace) -> Option<State>
         ensures { seen_some result ≡ state_at (seen_cert self.now.cert) place }
     {
         match place {
@@ -92,7 +92,7 @@ impl Growth {
     }
 
     /// A state arrives: the one that is there grows, where it does not already stand above.
-    pub(crate) fn arrive(&mut self, arrival: &Arrival) -> Result<(), AllocError>
+    pub fn arrive(&mut self, arrival: &Arrival) -> Result<(), AllocError>
         requires inside { is_inside (length self.old.cert.at.items) arrival.now.place ≡ true }
         requires pools { (t : known) → state_at (seen_cert self.old.cert) arrival.now.place ≡ Some t → t.pool_count ≡ (seen arrival.now.state).pool_count }
         requires brigades { (t : known) → state_at (seen_cert self.old.cert) arrival.now.place ≡ Some t → t.brigade_count ≡ (seen arrival.now.state).brigade_count }

@@ -14,7 +14,8 @@ mod refusal;
 mod state_text;
 mod unread;
 
-pub use maker::make;
+pub use growth::{Arrival, Growth, StatePlace};
+pub use maker::{grown, make, round_count};
 pub use print::print_cert;
 pub use read::read_cert;
 pub use refusal::{CertCode, CertRefusal, MakeRefusal};

@@ -19,11 +19,11 @@ use life_check::{Cert, check};
 use module_code::Module;
 use std::alloc::{AllocError, Global};
 
-// So many rounds that no state grows in the last. Each growth of a state adds to what it says may be: `sent`; 3 of a pool; 5, 4 steps
-// of contents and 11 homes of a brigade; 20 steps of a cursor; and the pairs of cursors of which it says nothing. That are at most
-// 510 growths of one state behind its first (`laws::rounds_grow_and_end`).
+/// How many rounds are made: so many that no state grows in the last. Each growth of a state adds to what it says may be: `sent`; 3 of a pool; 5, 4 steps
+/// of contents and 11 homes of a brigade; 20 steps of a cursor; and the pairs of cursors of which it says nothing. That are at most
+/// 510 growths of one state behind its first (`laws::rounds_grow_and_end`).
 #[tactic(auto, unfolding(crate::specs::Rounds::enough))]
-fn enough(code: &Module) -> usize
+pub fn round_count(code: &Module) -> usize
     ensures { result ≡ enough code.now }
 {
     512 * (code.len() + 2)
@@ -42,13 +42,14 @@ fn round(alloc: Global, code: &Module, growth: &mut Growth) -> Result<(), AllocE
     Ok(())
 }
 
-// The states after so many rounds that none grows any more.
-fn grown(alloc: Global, code: &Module) -> Result<Cert, AllocError>
+/// The states of a module after so many rounds that none grows any more, whether it is accepted with them or not. `AllocError`: they
+/// cannot be held.
+pub fn grown(alloc: Global, code: &Module) -> Result<Cert, AllocError>
     ensures made { IfOk result (λ c. seen_cert c ≡ made code.now) }
     ensures proper { IsModule code.now }
 {
     let mut growth = Growth::new(alloc, code)?;
-    for _ in 0..enough(code) {
+    for _ in 0..round_count(code) {
         if growth.grown.is_empty() {
             break;
         }

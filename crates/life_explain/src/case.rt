@@ -1,74 +1,114 @@
 //! A refusal with what is known around it, and lines that might be written.
 
 use crate::doubt::{Doubt, home_of};
-use crate::flow::{FlowRefusal, StatePlace, instr_at};
+use crate::flow::{FlowRefusal, instr_at};
 use crate::pattern::{Pattern, pattern_of};
-use crate::source::{Edit, Source, copied};
+use crate::source::{Change, Edit, Label, LineText, Operand, Source, label_in};
 use crate::trail::{Origin, Trail};
+use life_cert::StatePlace;
 use life_check::Cert;
-use life_state::{Classes, CursorState, State};
-use module_code::{Instr, Module, PoolRef};
+use life_state::{Classes, CursorState};
+use module_code::{Instr, Module};
 use std::alloc::{AllocError, Global};
 
 /// A refusal with what is known around it.
 #[derive(Clone, Copy)]
-pub struct Case<'a> {
+pub struct Case<'s, 't> {
     pub alloc: Global,
-    pub source: &'a Source,
-    pub code: &'a Module,
-    pub states: &'a Cert,
-    pub trail: &'a Trail,
+    pub source: &'s Source<'t>,
+    pub code: &'s Module,
+    pub states: &'s Cert,
+    pub trail: &'s Trail,
     pub refusal: FlowRefusal,
 }
 
-/// Edits that might make an end of a refusal.
-#[derive(Drop)]
-pub struct Remedy {
-    pub pattern: Pattern,
-    pub edits: Vec<Edit>,
+/// Where lines are to be written.
+#[derive(Clone, Copy)]
+pub enum Spot {
+    /// Before the instruction of this number.
+    Before(usize),
+    /// Behind it.
+    Behind(usize),
+    /// In its place.
+    Instead(usize),
+    /// Before the line that is written so.
+    Above(&'static str),
+    /// Behind it.
+    Below(&'static str),
 }
 
-impl Remedy {
-    /// The same without one of its edits.
-    pub fn without(&self, alloc: Global, index: usize) -> Result<Remedy, AllocError> {
-        let mut remedy = Remedy::new(alloc, self.pattern);
-        for (number, edit) in self.edits.iter().enumerate() {
-            if number != index {
-                remedy.edits.push(edit.copied(alloc)?)?;
-            }
-        }
-        Ok(remedy)
-    }
+// A remedy: its pattern, and where its edits begin.
+#[derive(Clone, Copy)]
+struct Head {
+    pattern: Pattern,
+    from: usize,
+}
 
-    /// No edits yet.
-    pub fn new(alloc: Global, pattern: Pattern) -> Remedy {
-        Remedy {
-            pattern,
+/// Edits that might make an end of a refusal, remedy after remedy.
+#[derive(Drop)]
+pub struct Remedies<'t> {
+    heads: Vec<Head>,
+    edits: Vec<Edit<'t>>,
+}
+
+impl<'t> Remedies<'t> {
+    /// None yet.
+    pub fn new(alloc: Global) -> Remedies<'t> {
+        Remedies {
+            heads: Vec::new(alloc),
             edits: Vec::new(alloc),
         }
     }
-}
 
-/// Copies of lines.
-pub fn written(alloc: Global, lines: &[&str]) -> Result<Vec<String>, AllocError> {
-    let mut texts = Vec::new(alloc);
-    for line in lines {
-        texts.push(copied(alloc, line)?)?;
+    /// Begins a remedy, with no edits yet.
+    pub fn begin(&mut self, pattern: Pattern) -> Result<(), AllocError> {
+        let from = self.edits.len();
+        self.heads.push(Head { pattern, from })?;
+        Ok(())
     }
-    Ok(texts)
-}
 
-/// Which kinds the bucket at a cursor may be of.
-pub fn classes_at(state: &State, c: u8) -> Option<Classes> {
-    match state.cursor(c) {
-        CursorState::Loose(classes, _)
-        | CursorState::In(_, classes)
-        | CursorState::InOrEnd(_, classes) => Some(classes),
-        CursorState::Unset | CursorState::End(_) => None,
+    /// The remedy of this number: its pattern, and a copy of its edits.
+    pub fn get(
+        &self,
+        alloc: Global,
+        index: usize,
+    ) -> Result<Option<(Pattern, Vec<Edit<'t>>)>, AllocError> {
+        let Some(head) = self.heads.get(index).copied() else {
+            return Ok(None);
+        };
+        let to = match self.heads.get(index.saturating_add(1)) {
+            Some(next) => next.from,
+            None => self.edits.len(),
+        };
+        let mut edits = Vec::new(alloc);
+        edits.extend_from_slice(self.edits.get(head.from..to).unwrap_or(&[]))?;
+        Ok(Some((head.pattern, edits)))
+    }
+
+    // Writes lines before a line, or in its place.
+    fn write_at(
+        &mut self,
+        at: usize,
+        removes: bool,
+        lines: &[LineText<'t>],
+    ) -> Result<(), AllocError> {
+        if lines.is_empty() {
+            let change = Change::Remove;
+            self.edits.push(Edit { at, change })?;
+        }
+        for (index, line) in lines.iter().enumerate() {
+            let change = match (index, removes) {
+                (0, true) => Change::Instead(*line),
+                (0, false) => Change::Before(*line),
+                _ => Change::Then(*line),
+            };
+            self.edits.push(Edit { at, change })?;
+        }
+        Ok(())
     }
 }
 
-impl Case<'_> {
+impl<'t> Case<'_, 't> {
     /// The instruction that made it so, with its number.
     pub fn maker(&self) -> Option<(usize, Instr)> {
         match self.trail.origin {
@@ -84,7 +124,11 @@ impl Case<'_> {
                 return Pattern::CutWithoutEos;
             }
         }
-        pattern_of(self.refusal.doubt, self.maker().map(|made| made.1))
+        let maker = match self.maker() {
+            Some((_, instr)) => Some(instr),
+            None => None,
+        };
+        pattern_of(self.refusal.doubt, maker)
     }
 
     // Whether a brigade is cut before the refused instruction.
@@ -97,97 +141,89 @@ impl Case<'_> {
         false
     }
 
-    /// The name of the pool that a brigade variable is declared on.
-    pub fn home_name(&self, b: u8) -> Result<String, AllocError> {
-        match home_of(self.code, b) {
-            PoolRef::Conn => copied(self.alloc, "conn"),
-            PoolRef::Req => copied(self.alloc, "req"),
-            PoolRef::Own(q) => format!(in self.alloc; "p{q}"),
+    /// The pool that a brigade variable is declared on.
+    pub fn home(&self, b: u8) -> Operand<'t> {
+        Operand::Pool(home_of(self.code, b))
+    }
+
+    /// What is known of the cursor before an instruction that is reached.
+    pub fn cursor(&self, pc: usize, c: u8) -> CursorState {
+        match self.states.state(pc) {
+            Some(state) => state.cursor(c),
+            None => CursorState::Unset,
         }
     }
 
-    /// Writes lines before an instruction.
-    pub fn before(&self, remedy: &mut Remedy, pc: usize, lines: &[&str]) -> Result<(), AllocError> {
-        match self.source.line_of(pc) {
-            Some(at) => self.write_at(remedy, at, false, lines),
-            None => Ok(()),
+    /// Whether a bucket at the cursor is an EOS and nothing else.
+    pub fn is_eos(&self, pc: usize, c: u8) -> bool {
+        match self.cursor(pc, c) {
+            CursorState::Loose(classes, _)
+            | CursorState::In(_, classes)
+            | CursorState::InOrEnd(_, classes) => {
+                let Classes { bytes, eos, .. } = classes;
+                eos && !bytes
+            }
+            CursorState::Unset | CursorState::End(_) => false,
         }
     }
 
-    /// Writes lines behind an instruction.
-    pub fn behind(&self, remedy: &mut Remedy, pc: usize, lines: &[&str]) -> Result<(), AllocError> {
-        match self.source.line_of(pc) {
-            Some(at) => self.write_at(remedy, at.saturating_add(1), false, lines),
-            None => Ok(()),
-        }
+    /// The label that an instruction names.
+    pub fn label_of(&self, pc: usize) -> Operand<'t> {
+        Operand::Label(label_in(self.source.instruction(pc)))
     }
 
-    /// Writes lines in place of an instruction.
-    pub fn instead(
+    /// Writes lines at a spot, where that is.
+    pub fn write(
         &self,
-        remedy: &mut Remedy,
-        pc: usize,
-        lines: &[&str],
+        found: &mut Remedies<'t>,
+        spot: Spot,
+        lines: &[LineText<'t>],
     ) -> Result<(), AllocError> {
-        match self.source.line_of(pc) {
-            Some(at) => self.write_at(remedy, at, true, lines),
-            None => Ok(()),
+        let place = match spot {
+            Spot::Before(pc) | Spot::Behind(pc) | Spot::Instead(pc) => self.source.line_of(pc),
+            Spot::Above(line) | Spot::Below(line) => self.source.find(line),
+        };
+        let Some(at) = place else {
+            return Ok(());
+        };
+        match spot {
+            Spot::Before(_) | Spot::Above(_) => found.write_at(at, false, lines),
+            Spot::Behind(_) | Spot::Below(_) => found.write_at(at.saturating_add(1), false, lines),
+            Spot::Instead(_) => found.write_at(at, true, lines),
         }
     }
 
-    /// Writes lines behind the header of a handler.
-    pub fn first_in(
+    /// A remedy that writes these lines at a spot.
+    pub fn add(
         &self,
-        remedy: &mut Remedy,
-        header: &str,
-        lines: &[&str],
+        found: &mut Remedies<'t>,
+        pattern: Pattern,
+        spot: Spot,
+        lines: &[LineText<'t>],
     ) -> Result<(), AllocError> {
-        match self.source.find(header) {
-            Some(at) => self.write_at(remedy, at.saturating_add(1), false, lines),
-            None => Ok(()),
-        }
-    }
-
-    /// Writes lines before a line that is written so.
-    pub fn before_line(
-        &self,
-        remedy: &mut Remedy,
-        line: &str,
-        lines: &[&str],
-    ) -> Result<(), AllocError> {
-        match self.source.find(line) {
-            Some(at) => self.write_at(remedy, at, false, lines),
-            None => Ok(()),
-        }
-    }
-
-    fn write_at(
-        &self,
-        remedy: &mut Remedy,
-        at: usize,
-        removes: bool,
-        lines: &[&str],
-    ) -> Result<(), AllocError> {
-        let lines = written(self.alloc, lines)?;
-        remedy.edits.push(Edit { at, removes, lines })?;
-        Ok(())
+        found.begin(pattern)?;
+        self.write(found, spot, lines)
     }
 
     /// A label before an instruction: the one that is there, or a new one that is written.
     pub fn label_at(
         &self,
-        remedy: &mut Remedy,
+        found: &mut Remedies<'t>,
         pc: usize,
-        name: &str,
-    ) -> Result<String, AllocError> {
+        name: &'static str,
+    ) -> Result<Operand<'t>, AllocError> {
         let at = self.source.line_of(pc).unwrap_or(0);
-        let label = self.source.label_before(self.alloc, at)?;
-        if !label.is_empty() {
-            return Ok(label);
+        if let Some(label) = self.source.label_before(at) {
+            return Ok(Operand::Label(label));
         }
-        let label = self.source.new_label(self.alloc, name)?;
-        let line = format!(in self.alloc; ":{label}")?;
-        self.write_at(remedy, at, false, &[line.as_str()])?;
-        Ok(label)
+        let label = self.source.new_label(name);
+        found.write_at(at, false, &[LineText::Mark(label)])?;
+        Ok(Operand::Label(label))
+    }
+
+    /// A new label, to be marked and named.
+    pub fn new_label(&self, name: &'static str) -> (LineText<'t>, Operand<'t>) {
+        let label: Label<'t> = self.source.new_label(name);
+        (LineText::Mark(label), Operand::Label(label))
     }
 }

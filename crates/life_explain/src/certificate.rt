@@ -1,122 +1,121 @@
 //! What a certificate says against its module.
 
-use crate::flow::{StatePlace, Way, add_ways_of, state_at};
+use crate::advice::{Advice, Item};
+use crate::flow::{Way, add_ways_of, state_at};
 use crate::source::Source;
-use crate::told::{Advice, handler_name};
-use crate::words::{brigade_text, cursor_text, variable_text};
+use crate::told::handler_name;
+use life_cert::StatePlace;
 use life_check::{Cert, CheckRefusal, Rule};
 use life_state::{State, at_open, leq};
 use module_code::Module;
-use std::alloc::{AllocError, Global};
+use std::alloc::AllocError;
 
-fn pool_text(alloc: Global, state: &State, q: u8) -> Result<String, AllocError> {
-    let pool = state.pool(q);
-    let variable = variable_text(pool.null, pool.gone, pool.live);
-    format!(in alloc; "`p{q}` {variable}")
+// What two states may differ in.
+#[derive(Clone, Copy)]
+enum Part {
+    Sent,
+    Pool(u8),
+    Brigade(u8),
+    Cursor(u8),
+    Facts,
 }
 
-fn sent_text(state: &State) -> &'static str {
-    if state.sent() {
-        "an EOS of this request may have been passed"
-    } else {
-        "no EOS of this request was passed"
-    }
-}
-
-// The first pool of which the given state says more.
-fn differing_pool(state: &State, given: &State) -> Option<u8> {
-    for q in 0..8u8 {
+// The first pool, brigade or cursor of which the given state says more.
+fn differing_variable(state: &State, given: &State) -> Option<Part> {
+    for v in 0..8u8 {
         let mut with = *given;
-        with.set_pool(q, state.pool(q));
+        with.set_pool(v, state.pool(v));
         if !leq(&with, given) {
-            return Some(q);
+            return Some(Part::Pool(v));
+        }
+    }
+    for v in 0..9u8 {
+        let mut with = *given;
+        with.set_brigade(v, state.brigade(v));
+        if !leq(&with, given) {
+            return Some(Part::Brigade(v));
         }
     }
     None
 }
 
-// The first brigade of which the given state says more.
-fn differing_brigade(state: &State, given: &State) -> Option<u8> {
-    for b in 0..9u8 {
-        let mut with = *given;
-        with.set_brigade(b, state.brigade(b));
-        if !leq(&with, given) {
-            return Some(b);
-        }
-    }
-    None
-}
-
-// The first cursor of which the given state says more.
-fn differing_cursor(state: &State, given: &State) -> Option<u8> {
+fn differing_cursor(state: &State, given: &State) -> Option<Part> {
     for c in 0..9u8 {
         let mut with = *given;
         with.put_cursor(c, state.cursor(c));
         if !leq(&with, given) {
-            return Some(c);
+            return Some(Part::Cursor(c));
         }
     }
     None
 }
 
-// What a state says of the first thing of which the given one says more.
-fn difference(alloc: Global, state: &State, given: &State) -> Result<(String, String), AllocError> {
+// The first part of which the given state says more.
+fn difference(state: &State, given: &State) -> Part {
     if state.sent() && !given.sent() {
-        let there = String::from_str(alloc, sent_text(state))?;
-        return Ok((there, String::from_str(alloc, sent_text(given))?));
+        return Part::Sent;
     }
-    if let Some(q) = differing_pool(state, given) {
-        return Ok((pool_text(alloc, state, q)?, pool_text(alloc, given, q)?));
-    }
-    if let Some(b) = differing_brigade(state, given) {
-        return Ok((
-            brigade_text(alloc, state, b)?,
-            brigade_text(alloc, given, b)?,
-        ));
-    }
-    if let Some(c) = differing_cursor(state, given) {
-        return Ok((cursor_text(alloc, state, c)?, cursor_text(alloc, given, c)?));
-    }
-    let there = String::from_str(alloc, "two cursors may be at one bucket")?;
-    Ok((
-        there,
-        String::from_str(alloc, "they are at different buckets")?,
-    ))
-}
-
-fn place_name(alloc: Global, source: &Source, place: StatePlace) -> Result<String, AllocError> {
-    match place {
-        StatePlace::Idle => String::from_str(alloc, "`idle`"),
-        StatePlace::Ready => String::from_str(alloc, "`ready`"),
-        StatePlace::At(pc) => {
-            let line = source.number_of(pc);
-            let instruction = source.instruction(pc);
-            format!(in alloc; "line {line}, `{instruction}`")
-        }
-    }
+    differing_variable(state, given)
+        .or(differing_cursor(state, given))
+        .unwrap_or(Part::Facts)
 }
 
 impl Advice {
+    // What a state says of a part, the one that comes or the one that is given.
+    fn put_part(&mut self, state: &State, part: Part, is_given: bool) -> Result<(), AllocError> {
+        match part {
+            Part::Sent if state.sent() => self.say("an EOS of this request may have been passed"),
+            Part::Sent => self.say("no EOS of this request was passed"),
+            Part::Facts if is_given => self.say("they are at different buckets"),
+            Part::Facts => self.say("two cursors may be at one bucket"),
+            Part::Pool(q) => {
+                self.put_pool(state, q)?;
+                self.put("\n", &[])
+            }
+            Part::Brigade(b) => {
+                self.put_brigade(state, b)?;
+                self.put("\n", &[])
+            }
+            Part::Cursor(c) => {
+                self.put_cursor(state, c)?;
+                self.put("\n", &[])
+            }
+        }
+    }
+
+    fn put_place(&mut self, source: &Source<'_>, place: StatePlace) -> Result<(), AllocError> {
+        match place {
+            StatePlace::Idle => self.put("`idle`", &[]),
+            StatePlace::Ready => self.put("`ready`", &[]),
+            StatePlace::At(pc) => self.put_at(source, pc, "line $, `$`", ""),
+        }
+    }
+
     // Tells how a state that comes to a place is not below the one that the certificate has there.
     fn not_below(
         &mut self,
-        source: &Source,
+        source: &Source<'_>,
         place: StatePlace,
         state: &State,
         given: Option<State>,
     ) -> Result<(), AllocError> {
-        let name = place_name(self.alloc, source, place)?;
         let Some(given) = given else {
-            return writeln!(self.text, "  the certificate has no state for {name}");
+            self.put("  the certificate has no state for ", &[])?;
+            self.put_place(source, place)?;
+            return self.put("\n", &[]);
         };
-        let (there, says) = difference(self.alloc, state, &given)?;
-        writeln!(self.text, "  what comes to {name}: {there}")?;
-        writeln!(self.text, "  the certificate says there: {says}")
+        let part = difference(state, &given);
+        self.put("  what comes to ", &[])?;
+        self.put_place(source, place)?;
+        self.put(": ", &[])?;
+        self.put_part(state, part, false)?;
+        self.put("  the certificate says there: ", &[])?;
+        self.put_part(&given, part, true)
     }
 
     fn ways_not_below(
         &mut self,
-        source: &Source,
+        source: &Source<'_>,
         cert: &Cert,
         ways: &[Way],
     ) -> Result<(), AllocError> {
@@ -135,7 +134,7 @@ impl Advice {
 
     fn from_place(
         &mut self,
-        source: &Source,
+        source: &Source<'_>,
         code: &Module,
         cert: &Cert,
         place: StatePlace,
@@ -150,7 +149,7 @@ impl Advice {
 
     fn entry(
         &mut self,
-        source: &Source,
+        source: &Source<'_>,
         code: &Module,
         cert: &Cert,
         pc: usize,
@@ -168,13 +167,12 @@ impl Advice {
     /// Tells what a certificate says against its module.
     pub fn certificate(
         &mut self,
-        source: &Source,
+        source: &Source<'_>,
         code: &Module,
         cert: &Cert,
         refusal: CheckRefusal,
     ) -> Result<(), AllocError> {
-        let line = source.number_of(refusal.pc);
-        let instruction = source.instruction(refusal.pc);
+        let pc = refusal.pc;
         match refusal.rule {
             Rule::Shape => self.say(
                 "the states of the certificate are not of this module: other variables, `in` elsewhere than in `main`, a cursor between calls, or a line for no instruction",
@@ -184,26 +182,19 @@ impl Advice {
                 self.from_place(source, code, cert, StatePlace::Ready)
             }
             Rule::Entry => {
-                let handler = handler_name(code, refusal.pc);
-                writeln!(
-                    self.text,
-                    "line {line}: `{handler}` does not begin as the certificate says"
-                )?;
-                self.entry(source, code, cert, refusal.pc)
+                let line = Item::Number(source.number_of(pc));
+                let handler = Item::Text(handler_name(code, pc));
+                let form = "line $: `$` does not begin as the certificate says\n";
+                self.put(form, &[line, handler])?;
+                self.entry(source, code, cert, pc)
             }
-            Rule::Exit => {
-                writeln!(
-                    self.text,
-                    "line {line}: `{instruction}` leaves what the certificate does not allow between calls"
-                )?;
-                self.from_place(source, code, cert, StatePlace::At(refusal.pc))
-            }
-            Rule::Flow | Rule::May(_) => {
-                writeln!(
-                    self.text,
-                    "line {line}: `{instruction}` leads to what the certificate does not allow"
-                )?;
-                self.from_place(source, code, cert, StatePlace::At(refusal.pc))
+            Rule::Exit | Rule::Flow | Rule::May(_) => {
+                let says = match refusal.rule {
+                    Rule::Exit => "leaves what the certificate does not allow between calls",
+                    _ => "leads to what the certificate does not allow",
+                };
+                self.put_at(source, pc, "line $: `$` $\n", says)?;
+                self.from_place(source, code, cert, StatePlace::At(pc))
             }
         }
     }

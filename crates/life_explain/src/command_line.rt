@@ -1,15 +1,13 @@
 //! What is wrong with a line of a script that is no command, and what to write instead.
 
-use crate::faulty_line::{tell_bad_byte, tell_form};
-use crate::forms::{COMMAND_FORMS, form_of, near_word};
-use crate::line_words::{shown, word, word_text};
-use crate::script::{Script, ScriptLine, is_skipped};
-use crate::told::Advice;
+use crate::advice::{Advice, Item};
+use crate::faulty_line::tell_bad_byte;
+use crate::forms::{letters_of_command, near_command, tell_form};
+use crate::line_words::{word, word_text};
+use crate::script::{Script, ScriptLine};
 use byte_text::{all_printable, begins, is_text, token};
+use script_text::{LINE_BYTES, is_skipped};
 use std::alloc::AllocError;
-
-/// How many bytes a command line has at most, without its LF.
-const LINE_BYTES: usize = 65_536;
 
 // What is wrong with a word of a text that stands among commands.
 fn misplaced(first: &str) -> &'static str {
@@ -38,11 +36,11 @@ fn file_line(script: &Script<'_>, line: &ScriptLine<'_>) -> Option<usize> {
 }
 
 fn tell_unknown(told: &mut Advice, line: &ScriptLine<'_>) -> Result<(), AllocError> {
-    match near_word(&COMMAND_FORMS, token(line.text)) {
-        Some(near) => writeln!(told.text, "  perhaps `{near}` is meant"),
-        None => told.say(
+    match near_command(token(line.text)) {
+        "" => told.say(
             "  commands are `open`, `begin`, `bring`, `run`, `step`, `end`, `output`, `labels`, `close`, `pools` and `file`",
         ),
+        near => told.put("  perhaps `$` is meant\n", &[Item::Text(near)]),
     }
 }
 
@@ -56,7 +54,7 @@ fn tell_bytes(told: &mut Advice, line: &ScriptLine<'_>) -> Result<bool, AllocErr
         told.say("  it has more than 65,536 bytes")?;
         return Ok(true);
     }
-    if is_skipped(line.text) {
+    if is_skipped(line.text, line.ended) {
         told.say(
             "  empty lines and comments stand in module texts and before them, and nowhere else",
         )?;
@@ -79,19 +77,17 @@ fn tell_words(
     if !misplaced.is_empty() {
         return told.say(misplaced);
     }
-    if form_of(&COMMAND_FORMS, first).is_none() {
+    let Some(letters) = letters_of_command(token(line.text)) else {
         return tell_unknown(told, line);
+    };
+    tell_form(told, first, letters, line.text)?;
+    match file_line(script, line) {
+        Some(number) if first == "file" => told.put(
+            "  line $ gave this name to a file; a name may be given once\n",
+            &[Item::Number(number)],
+        ),
+        _ => Ok(()),
     }
-    tell_form(told, &COMMAND_FORMS, line.text)?;
-    if first == "file" {
-        if let Some(number) = file_line(script, line) {
-            return writeln!(
-                told.text,
-                "  line {number} gave this name to a file; a name may be given once"
-            );
-        }
-    }
-    Ok(())
 }
 
 /// Tells why a line of this number is no command that may stand there.
@@ -103,14 +99,11 @@ pub fn tell_script_fault(
     let Some(line) = script.line(number) else {
         return Ok(());
     };
+    let items = [Item::Number(number), Item::Shown(line.text)];
     if line.text.is_empty() {
-        writeln!(told.text, "line {number}: an empty line is no command")?;
+        told.put("line $: an empty line is no command\n", &items)?;
     } else {
-        let shown = shown(told.alloc, line.text)?;
-        writeln!(
-            told.text,
-            "line {number}: `{shown}`: no command that may stand here"
-        )?;
+        told.put("line $: `$`: no command that may stand here\n", &items)?;
     }
     if tell_bytes(told, &line)? {
         return Ok(());

@@ -101,26 +101,31 @@ pub fn keeps(state: &State, b: u8) -> bool {
     brigade.live && brigade.usable && brigade.homes.call
 }
 
-fn of_pool(state: &State, pool: PoolRef) -> Option<Doubt> {
-    match pool {
-        PoolRef::Conn | PoolRef::Req => None,
-        PoolRef::Own(q) => {
-            if state.pool(q).gone {
-                Some(Doubt::GonePool(q))
-            } else if state.pool(q).is_live() {
-                None
-            } else {
-                Some(Doubt::NullPool(q))
-            }
-        }
-    }
+// What an instruction wants of a state, by one test of its rule.
+#[derive(Clone, Copy)]
+enum Want {
+    Nothing,
+    Pool(PoolRef),
+    NewPool(u8),
+    New(u8),
+    Live(u8),
+    Usable(u8),
+    Homes(u8),
+    Home(u8),
+    Send(u8),
+    Return,
+    Anywhere(u8),
+    Bucket(u8),
+    Loose(u8),
+    Inside(u8),
+    This(u8, u8),
 }
 
-fn of_parent(code: &Module, state: &State, q: u8) -> Option<Doubt> {
+fn parent_of(code: &Module, q: u8) -> PoolRef {
     if q < code.pool_count() {
-        of_pool(state, code.pool_parent(q))
+        code.pool_parent(q)
     } else {
-        None
+        PoolRef::Conn
     }
 }
 
@@ -133,53 +138,40 @@ pub fn home_of(code: &Module, b: u8) -> PoolRef {
     }
 }
 
-fn of_new_pool(state: &State, q: u8) -> Option<Doubt> {
-    if state.pool(q).live {
-        Some(Doubt::LivePool(q))
-    } else {
-        None
-    }
+fn some_if(holds: bool, doubt: Doubt) -> Option<Doubt> {
+    if holds { Some(doubt) } else { None }
 }
 
-fn of_new(state: &State, b: u8) -> Option<Doubt> {
-    if state.brigade(b).live {
-        Some(Doubt::LiveBrigade(b))
-    } else {
-        None
-    }
+fn of_pool(state: &State, pool: PoolRef) -> Option<Doubt> {
+    let PoolRef::Own(q) = pool else {
+        return None;
+    };
+    let pool = state.pool(q);
+    some_if(pool.gone, Doubt::GonePool(q)).or(some_if(!pool.is_live(), Doubt::NullPool(q)))
 }
 
 fn of_live(state: &State, b: u8) -> Option<Doubt> {
     let brigade = state.brigade(b);
-    if brigade.gone {
-        Some(Doubt::GoneBrigade(b))
-    } else if brigade.is_live() {
-        None
-    } else {
-        Some(Doubt::NullBrigade(b))
-    }
+    some_if(brigade.gone, Doubt::GoneBrigade(b)).or(some_if(
+        !brigade.is_live(),
+        Doubt::NullBrigade(b),
+    ))
 }
 
 fn of_usable(state: &State, b: u8) -> Option<Doubt> {
-    if state.brigade(b).is_live() && !state.brigade(b).is_usable() {
-        return Some(Doubt::Passed(b));
-    }
-    of_live(state, b)
+    let brigade = state.brigade(b);
+    some_if(brigade.is_live() && !brigade.is_usable(), Doubt::Passed(b)).or(of_live(state, b))
 }
 
 fn of_homes(state: &State, b: u8) -> Option<Doubt> {
-    if state.brigade(b).homes.dead {
-        Some(Doubt::DeadIn(b))
-    } else {
-        None
-    }
+    some_if(state.brigade(b).homes.dead, Doubt::DeadIn(b))
 }
 
 fn of_home(state: &State, c: u8) -> Option<Doubt> {
     match state.cursor(c) {
-        CursorState::Loose(_, homes) if homes.dead => Some(Doubt::DeadAt(c)),
+        CursorState::Loose(_, homes) => some_if(homes.dead, Doubt::DeadAt(c)),
         CursorState::In(b, _) | CursorState::InOrEnd(b, _) => of_homes(state, b),
-        CursorState::Unset | CursorState::End(_) | CursorState::Loose(_, _) => None,
+        CursorState::Unset | CursorState::End(_) => None,
     }
 }
 
@@ -187,13 +179,7 @@ fn of_send(state: &State, b: u8) -> Option<Doubt> {
     match state.brigade(b).content {
         Contents::Empty | Contents::Flushes => None,
         Contents::Any => Some(Doubt::LateData(b)),
-        Contents::NoEos | Contents::NoLateData => {
-            if state.sent() {
-                Some(Doubt::Sent(b))
-            } else {
-                None
-            }
-        }
+        Contents::NoEos | Contents::NoLateData => some_if(state.sent(), Doubt::Sent(b)),
     }
 }
 
@@ -206,96 +192,88 @@ fn of_return(state: &State) -> Option<Doubt> {
     None
 }
 
-fn of_anywhere(state: &State, c: u8) -> Option<Doubt> {
-    match state.cursor(c) {
-        CursorState::Unset => Some(Doubt::Unset(c)),
-        CursorState::Loose(_, _)
-        | CursorState::In(_, _)
-        | CursorState::End(_)
-        | CursorState::InOrEnd(_, _) => None,
-    }
-}
-
-fn of_bucket(state: &State, c: u8) -> Option<Doubt> {
-    match state.cursor(c) {
-        CursorState::Unset => Some(Doubt::Unset(c)),
-        CursorState::End(_) | CursorState::InOrEnd(_, _) => Some(Doubt::AtEnd(c)),
-        CursorState::Loose(_, _) | CursorState::In(_, _) => None,
-    }
-}
-
-fn of_loose(state: &State, c: u8) -> Option<Doubt> {
-    match state.cursor(c) {
-        CursorState::In(_, _) => Some(Doubt::InBrigade(c)),
-        _ => of_bucket(state, c),
-    }
-}
-
-fn of_inside(state: &State, c: u8) -> Option<Doubt> {
-    match state.cursor(c) {
-        CursorState::Loose(_, _) => Some(Doubt::Loose(c)),
-        _ => of_bucket(state, c),
-    }
-}
-
-fn of_this(state: &State, c: u8, b: u8) -> Option<Doubt> {
-    match state.cursor(c) {
-        CursorState::Unset => Some(Doubt::Unset(c)),
-        CursorState::Loose(_, _) => Some(Doubt::Loose(c)),
-        CursorState::In(a, _) | CursorState::End(a) | CursorState::InOrEnd(a, _) => {
-            if a == b {
-                None
-            } else {
-                Some(Doubt::Elsewhere(c, b))
-            }
-        }
-    }
-}
-
-/// What an instruction on pools and brigades may find, against its rule, in this state.
-fn of_whole(code: &Module, instr: Instr, state: &State) -> Option<Doubt> {
-    match instr {
-        Instr::PCreate(q) => of_parent(code, state, q).or(of_new_pool(state, q)),
-        Instr::PClear(q) | Instr::PDestroy(q) => of_pool(state, PoolRef::Own(q)),
-        Instr::Label(p, _) | Instr::Unlabel(p, _) | Instr::PoolB(_, p) => of_pool(state, p),
-        Instr::BCreate(o) => of_pool(state, home_of(code, o)).or(of_new(state, o)),
-        Instr::BClean(b) => of_live(state, b),
-        Instr::BConcat(a, b) => of_usable(state, a).or(of_usable(state, b)),
-        Instr::BSplit(b, c, a) => of_usable(state, b)
-            .or(of_this(state, c, b))
-            .or(of_usable(state, a)),
-        Instr::BPart(b, _, _, _) => of_usable(state, b).or(of_homes(state, b)),
-        Instr::BSave(o, b) => of_usable(state, o)
-            .or(of_usable(state, b))
-            .or(of_homes(state, b)),
-        Instr::JEmpty(b, _) | Instr::First(_, b) => of_usable(state, b),
-        Instr::Pass(b, _) => of_usable(state, b)
-            .or(of_homes(state, b))
-            .or(of_send(state, b)),
-        Instr::Ret(_) => of_return(state),
+fn of_cursor(cursor: CursorState, want: Want) -> Option<Doubt> {
+    match (want, cursor) {
+        (
+            Want::Anywhere(c)
+            | Want::Bucket(c)
+            | Want::Loose(c)
+            | Want::Inside(c)
+            | Want::This(c, _),
+            CursorState::Unset,
+        ) => Some(Doubt::Unset(c)),
+        (
+            Want::Bucket(c) | Want::Loose(c) | Want::Inside(c),
+            CursorState::End(_) | CursorState::InOrEnd(_, _),
+        ) => Some(Doubt::AtEnd(c)),
+        (Want::Loose(c), CursorState::In(_, _)) => Some(Doubt::InBrigade(c)),
+        (Want::Inside(c) | Want::This(c, _), CursorState::Loose(_, _)) => Some(Doubt::Loose(c)),
+        (
+            Want::This(c, b),
+            CursorState::In(a, _) | CursorState::End(a) | CursorState::InOrEnd(a, _),
+        ) => some_if(a != b, Doubt::Elsewhere(c, b)),
         _ => None,
     }
 }
 
-/// What an instruction on single buckets may find, against its rule, in this state.
-fn of_single(instr: Instr, state: &State) -> Option<Doubt> {
+// What may be so against a want.
+fn unmet(state: &State, want: Want) -> Option<Doubt> {
+    match want {
+        Want::Nothing => None,
+        Want::Pool(pool) => of_pool(state, pool),
+        Want::NewPool(q) => some_if(state.pool(q).live, Doubt::LivePool(q)),
+        Want::New(b) => some_if(state.brigade(b).live, Doubt::LiveBrigade(b)),
+        Want::Live(b) => of_live(state, b),
+        Want::Usable(b) => of_usable(state, b),
+        Want::Homes(b) => of_homes(state, b),
+        Want::Home(c) => of_home(state, c),
+        Want::Send(b) => of_send(state, b),
+        Want::Return => of_return(state),
+        Want::Anywhere(c) | Want::Bucket(c) | Want::Loose(c) | Want::Inside(c) | Want::This(c, _) =>
+            of_cursor(state.cursor(c), want),
+    }
+}
+
+fn one(first: Want) -> [Want; 3] {
+    [first, Want::Nothing, Want::Nothing]
+}
+
+fn two(first: Want, second: Want) -> [Want; 3] {
+    [first, second, Want::Nothing]
+}
+
+// What an instruction wants, in the order of its rule's tests.
+fn wants(code: &Module, instr: Instr) -> [Want; 3] {
     match instr {
-        Instr::JEnd(c, _) => of_anywhere(state, c),
-        Instr::Next(_, c) | Instr::Unlink(c) => of_inside(state, c),
-        Instr::JKind(c, _, _) | Instr::BDelete(c) | Instr::Len(_, c) => of_bucket(state, c),
-        Instr::Get(_, _, _) => of_bucket(state, 8),
-        Instr::Tail(b, c) | Instr::Head(b, c) => of_usable(state, b).or(of_loose(state, c)),
-        Instr::Before(c, d) => of_loose(state, c).or(of_inside(state, d)),
-        Instr::Split(c, _, _) | Instr::Read(c, _) => of_inside(state, c).or(of_home(state, c)),
-        Instr::Copy(_, c) => of_bucket(state, c).or(of_home(state, c)),
-        Instr::Aside(c, p) => of_bucket(state, c)
-            .or(of_pool(state, p))
-            .or(of_home(state, c)),
-        _ => None,
+        Instr::PCreate(q) => two(Want::Pool(parent_of(code, q)), Want::NewPool(q)),
+        Instr::PClear(q) | Instr::PDestroy(q) => one(Want::Pool(PoolRef::Own(q))),
+        Instr::Label(p, _) | Instr::Unlabel(p, _) | Instr::PoolB(_, p) => one(Want::Pool(p)),
+        Instr::BCreate(o) => two(Want::Pool(home_of(code, o)), Want::New(o)),
+        Instr::BClean(b) => one(Want::Live(b)),
+        Instr::BConcat(a, b) => two(Want::Usable(a), Want::Usable(b)),
+        Instr::BSplit(b, c, a) => [Want::Usable(b), Want::This(c, b), Want::Usable(a)],
+        Instr::BPart(b, _, _, _) => two(Want::Usable(b), Want::Homes(b)),
+        Instr::BSave(o, b) => [Want::Usable(o), Want::Usable(b), Want::Homes(b)],
+        Instr::JEmpty(b, _) | Instr::First(_, b) => one(Want::Usable(b)),
+        Instr::Pass(b, _) => [Want::Usable(b), Want::Homes(b), Want::Send(b)],
+        Instr::Ret(_) => one(Want::Return),
+        Instr::JEnd(c, _) => one(Want::Anywhere(c)),
+        Instr::Next(_, c) | Instr::Unlink(c) => one(Want::Inside(c)),
+        Instr::JKind(c, _, _) | Instr::BDelete(c) | Instr::Len(_, c) => one(Want::Bucket(c)),
+        Instr::Get(_, _, _) => one(Want::Bucket(8)),
+        Instr::Tail(b, c) | Instr::Head(b, c) => two(Want::Usable(b), Want::Loose(c)),
+        Instr::Before(c, d) => two(Want::Loose(c), Want::Inside(d)),
+        Instr::Split(c, _, _) | Instr::Read(c, _) => two(Want::Inside(c), Want::Home(c)),
+        Instr::Copy(_, c) => two(Want::Bucket(c), Want::Home(c)),
+        Instr::Aside(c, p) => [Want::Bucket(c), Want::Pool(p), Want::Home(c)],
+        _ => one(Want::Nothing),
     }
 }
 
 /// The first that an instruction may find in a state against its rule, in the order of the rule's tests.
 pub fn doubt_of(code: &Module, instr: Instr, state: &State) -> Option<Doubt> {
-    of_whole(code, instr, state).or(of_single(instr, state))
+    let [first, second, third] = wants(code, instr);
+    unmet(state, first)
+        .or(unmet(state, second))
+        .or(unmet(state, third))
 }

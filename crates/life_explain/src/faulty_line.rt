@@ -1,11 +1,13 @@
 //! What is wrong with the first faulty line of a module text or a certificate text, and what to write instead.
 
-use crate::forms::{DECLARATIONS, MODULE_FORMS, form_of, letter_text, near_word};
-use crate::line_words::{ends_with, has_two_spaces, is_variable, shown, text_of, word, word_text};
+use crate::advice::{Advice, Item};
+use crate::forms::{letters_of, near_word, tell_form};
+use crate::line_words::{ends_with, is_variable, text_of, word, word_text};
 use crate::script::{ScriptLine, ScriptText, lines_of};
-use crate::told::Advice;
-use byte_text::{after_token, begins, is_printable, is_text, tail, token, unindented};
+use crate::source::last_word;
+use byte_text::{begins, is_printable, is_text, tail, token, unindented};
 use life_cert::CertCode;
+use module_code::{Op, Word, word_of};
 use module_lang::Code;
 use std::alloc::AllocError;
 
@@ -15,9 +17,6 @@ struct Faulty<'a> {
     there: ScriptLine<'a>,
     lines: &'a [ScriptLine<'a>],
 }
-
-// The words of an operand's variable, where it may be declared.
-const DECLARED: [u8; 2] = [b'p', b'b'];
 
 // What may stand behind these lines.
 fn due_behind(lines: &[ScriptLine<'_>]) -> &'static str {
@@ -48,15 +47,7 @@ fn label_of(line: &[u8]) -> &[u8] {
     if begins(text, b':') {
         return tail(text);
     }
-    let mut last = text;
-    for _ in 0..4u8 {
-        let rest = after_token(last);
-        if rest.is_empty() {
-            break;
-        }
-        last = tail(rest);
-    }
-    last
+    last_word(text)
 }
 
 /// Tells which byte may not stand on a line, of a text that may have so many bytes.
@@ -72,14 +63,22 @@ pub fn tell_bad_byte(
         if !is_printable(*byte) {
             let place = index.saturating_add(1);
             let name = if *byte == b'\t' { ", a tab" } else { "" };
-            return writeln!(
-                told.text,
-                "  its byte {place} is 0x{byte:02x}{name}; a line has bytes from 0x20 to 0x7e alone, and other bytes stand in quotes, as `\\x{byte:02x}`"
+            return told.put(
+                "  its byte $ is 0x$$; a line has bytes from 0x20 to 0x7e alone, and other bytes stand in quotes, as `\\x$`\n",
+                &[
+                    Item::Number(place),
+                    Item::Byte(*byte),
+                    Item::Text(name),
+                    Item::Byte(*byte),
+                ],
             );
         }
     }
     if line.ended {
-        writeln!(told.text, "  the text has more than {most} bytes here")
+        told.put(
+            "  the text has more than $ bytes here\n",
+            &[Item::Text(most)],
+        )
     } else {
         told.say("  it is the last line, and has no LF; write one behind it")
     }
@@ -97,11 +96,11 @@ impl Faulty<'_> {
     }
 
     fn tell_unknown(&self, told: &mut Advice) -> Result<(), AllocError> {
-        match near_word(&MODULE_FORMS, token(unindented(self.there.text))) {
-            Some(near) => writeln!(told.text, "  perhaps `{near}` is meant"),
-            None => told.say(
+        match near_word(token(unindented(self.there.text))) {
+            "" => told.say(
                 "  a line is a label, as `:out`, or begins with the word of an instruction, in lower case",
             ),
+            near => told.put("  perhaps `$` is meant\n", &[Item::Text(near)]),
         }
     }
 
@@ -112,47 +111,54 @@ impl Faulty<'_> {
                 "  a label is `:` and a letter, then up to 15 letters or digits, all lower case",
             );
         }
-        tell_form(told, &MODULE_FORMS, text)?;
-        let pair = match word_text(text, 0) {
-            "bconcat" | "bsave" => (word(text, 1), word(text, 2)),
-            "bsplit" => (word(text, 1), word(text, 3)),
+        let Some(first) = word_of(token(text)) else {
+            return Ok(());
+        };
+        tell_form(told, word_text(text, 0), letters_of(first), text)?;
+        let other = match first {
+            Word::Op(Op::BConcat | Op::BSave) => word(text, 2),
+            Word::Op(Op::BSplit) => word(text, 3),
             _ => return Ok(()),
         };
-        if pair.0 == pair.1 {
+        if word(text, 1) == other {
             told.say("  its two brigades have to be different ones")?;
         }
         Ok(())
     }
 
-    fn is_declared(&self, name: &[u8]) -> bool {
-        let head = if begins(name, b'p') {
-            "pool"
-        } else {
-            "brigade"
-        };
-        self.lines.iter().any(|line| {
+    fn is_declared(&self, head: &str, name: &[u8]) -> bool {
+        for line in self.lines {
             let text = unindented(line.text);
-            line.number < self.there.number && word_text(text, 0) == head && word(text, 1) == name
-        })
+            if line.number < self.there.number
+                && word_text(text, 0) == head
+                && word(text, 1) == name
+            {
+                return true;
+            }
+        }
+        false
     }
 
     fn tell_undeclared(&self, told: &mut Advice) -> Result<(), AllocError> {
         let text = unindented(self.there.text);
-        let is_declaration = form_of(&DECLARATIONS, word_text(text, 0)).is_some();
-        let first = if is_declaration { 2 } else { 1usize };
+        let first = match word_of(token(text)) {
+            Some(Word::Pool | Word::Brigade) => 2,
+            _ => 1usize,
+        };
         for index in first..5usize {
             let name = word(text, index);
-            let is_one = DECLARED.iter().any(|letter| is_variable(name, *letter));
-            if is_one && !self.is_declared(name) {
-                let head = if begins(name, b'p') {
-                    "pool"
-                } else {
-                    "brigade"
-                };
-                let name = text_of(name);
-                return writeln!(
-                    told.text,
-                    "  `{name}` is not declared; write `{head} {name} conn` before it, above `open`"
+            let head = if is_variable(name, b'p') {
+                "pool"
+            } else if is_variable(name, b'b') {
+                "brigade"
+            } else {
+                ""
+            };
+            if !head.is_empty() && !self.is_declared(head, name) {
+                let (head, name) = (Item::Text(head), Item::Text(text_of(name)));
+                return told.put(
+                    "  `$` is not declared; write `$ $ conn` before it, above `open`\n",
+                    &[name, head, name],
                 );
             }
         }
@@ -161,9 +167,9 @@ impl Faulty<'_> {
 
     fn tell_doubled(&self, told: &mut Advice) -> Result<(), AllocError> {
         match self.label_line(label_of(self.there.text)) {
-            Some(number) => writeln!(
-                told.text,
-                "  line {number} has this label already; a name is used once in the module"
+            Some(number) => told.put(
+                "  line $ has this label already; a name is used once in the module\n",
+                &[Item::Number(number)],
             ),
             None => Ok(()),
         }
@@ -174,13 +180,13 @@ impl Faulty<'_> {
             return told.say("  no instruction of its handler follows it");
         }
         let label = label_of(self.there.text);
-        let name = text_of(label);
+        let name = Item::Text(text_of(label));
         match self.label_line(label) {
-            Some(number) => writeln!(
-                told.text,
-                "  `:{name}` stands on line {number}, which is of another handler"
+            Some(number) => told.put(
+                "  `:$` stands on line $, which is of another handler\n",
+                &[name, Item::Number(number)],
             ),
-            None => writeln!(told.text, "  its handler has no line `:{name}`"),
+            None => told.put("  its handler has no line `:$`\n", &[name]),
         }
     }
 
@@ -205,37 +211,6 @@ impl Faulty<'_> {
     }
 }
 
-/// Tells what is due on a line that begins with this word, and what is wrong with its spaces.
-pub fn tell_form(
-    told: &mut Advice,
-    forms: &[(&'static str, &'static str)],
-    line: &[u8],
-) -> Result<(), AllocError> {
-    let name = word_text(line, 0);
-    let Some(form) = form_of(forms, name) else {
-        return Ok(());
-    };
-    if form.is_empty() {
-        return writeln!(told.text, "  due is `{name}` alone");
-    }
-    writeln!(told.text, "  due is `{name} {form}`")?;
-    for index in 0..4usize {
-        let letter = word_text(form.as_bytes(), index);
-        let text = letter_text(letter);
-        let is_first = (0..index).all(|before| word_text(form.as_bytes(), before) != letter);
-        if is_first && !text.is_empty() {
-            writeln!(told.text, "    {letter}: {text}")?;
-        }
-    }
-    if ends_with(line, b' ') {
-        return told.say("  a space stands at its end");
-    }
-    if has_two_spaces(line) {
-        return told.say("  two spaces stand together, where one is due");
-    }
-    Ok(())
-}
-
 /// Tells what is wrong with the first faulty line of a module text, by its number in the text.
 pub fn tell_asm_fault(
     told: &mut Advice,
@@ -247,20 +222,21 @@ pub fn tell_asm_fault(
     let index = line.saturating_sub(1);
     match lines.get(index).copied() {
         Some(there) => {
-            let number = there.number;
-            let shown = shown(told.alloc, unindented(there.text))?;
-            writeln!(told.text, "line {number}: `{shown}`: {code}")?;
+            let shown = Item::Shown(unindented(there.text));
+            told.put("line $: `$`: ", &[Item::Number(there.number), shown])?;
+            writeln!(told.text, "{code}")?;
             let lines = lines.as_slice();
             Faulty { there, lines }.tell(told, code)?;
         }
         None => {
-            let number = text.before.saturating_add(line);
-            writeln!(told.text, "line {number}: the text ends here: {code}")?;
+            let number = Item::Number(text.before.saturating_add(line));
+            told.put("line $: the text ends here: ", &[number])?;
+            writeln!(told.text, "{code}")?;
         }
     }
     if let Code::NotDue = code {
         let due = due_behind(lines.get(..index).unwrap_or(&[]));
-        writeln!(told.text, "  due here is {due}")?;
+        told.put("  due here is $\n", &[Item::Text(due)])?;
     }
     Ok(())
 }
@@ -273,20 +249,17 @@ pub fn tell_cert_fault(
     code: CertCode,
 ) -> Result<(), AllocError> {
     let lines = lines_of(told.alloc, text.text, text.before)?;
-    let number = text.before.saturating_add(line);
+    let number = Item::Number(text.before.saturating_add(line));
     let there = lines.get(line.saturating_sub(1)).copied();
-    let of = if text.before == 0 {
-        " of the certificate"
-    } else {
-        ""
+    let of = match text.before {
+        0 => Item::Text(" of the certificate"),
+        _ => Item::Text(""),
     };
     match there {
-        Some(there) => {
-            let shown = shown(told.alloc, there.text)?;
-            writeln!(told.text, "line {number}{of}: `{shown}`: {code}")?;
-        }
-        None => writeln!(told.text, "line {number}{of}: the text ends here: {code}")?,
+        Some(there) => told.put("line $$: `$`: ", &[number, of, Item::Shown(there.text)])?,
+        None => told.put("line $$: the text ends here: ", &[number, of])?,
     }
+    writeln!(told.text, "{code}")?;
     match (code, there) {
         (CertCode::BadByte, Some(there)) => tell_bad_byte(told, &there, "4,194,304"),
         (CertCode::NotState, _) => told.say(

@@ -2,22 +2,12 @@
 
 use crate::doubt::{Doubt, doubt_of};
 use crate::mend::mend;
+use life_cert::{Arrival, Growth, StatePlace, round_count};
 use life_check::{Cert, target};
-use life_state::{
-    State, Successors, after, at_end_of_request, at_main, at_open, at_return, join, leq,
-};
+use life_state::{State, Successors, after, at_end_of_request, at_main, at_return};
 use module_code::{Instr, Module};
 use run_model::FaultKind;
-use script_text::fault_name;
 use std::alloc::{AllocError, Global};
-
-/// What has a state: what lies between calls, before `init` or from then on, and each instruction.
-#[derive(Clone, Copy, PartialEq, Eq, Drop)]
-pub enum StatePlace {
-    At(usize),
-    Idle,
-    Ready,
-}
 
 /// A way from one place to another, and the state that comes by it.
 #[derive(Clone, Copy)]
@@ -37,6 +27,15 @@ pub struct FlowRefusal {
     pub doubt: Doubt,
 }
 
+/// Whether two places are the same.
+pub fn is_same(a: StatePlace, b: StatePlace) -> bool {
+    match (a, b) {
+        (StatePlace::Idle, StatePlace::Idle) | (StatePlace::Ready, StatePlace::Ready) => true,
+        (StatePlace::At(a), StatePlace::At(b)) => a == b,
+        _ => false,
+    }
+}
+
 /// The state of a place.
 pub fn state_at(states: &Cert, place: StatePlace) -> Option<State> {
     match place {
@@ -46,8 +45,8 @@ pub fn state_at(states: &Cert, place: StatePlace) -> Option<State> {
     }
 }
 
-/// What the rule of an instruction answers, where the state is one of its module.
-pub fn answer(code: &Module, pc: usize, state: &State) -> Option<Result<Successors, FaultKind>> {
+// What the rule of an instruction answers, where the state is one of its module.
+fn answer(code: &Module, pc: usize, state: &State) -> Option<Result<Successors, FaultKind>> {
     if pc < code.len()
         && state.pool_count() == code.pool_count()
         && state.brigade_count() == code.brigade_count()
@@ -70,34 +69,37 @@ pub fn instr_at(code: &Module, pc: usize) -> Option<Instr> {
 /// How many tests a rule has at most: a return asks each brigade.
 const TESTS: u8 = 9;
 
-// Where an instruction leads that may have a fault, if its rule were met.
-fn led_by_mended(code: &Module, pc: usize, state: &State) -> Option<Successors> {
-    let mut state = *state;
-    for _ in 0..TESTS {
-        match answer(code, pc, &state)? {
-            Ok(led) => return Some(led),
-            Err(_) => {
-                let doubt = doubt_of(code, instr_at(code, pc)?, &state)?;
-                mend(&mut state, doubt);
-            }
+// The refusal of an instruction in a state, if it has one; the state is then as if that test were met.
+fn next_refusal(code: &Module, pc: usize, state: &mut State) -> Option<FlowRefusal> {
+    match answer(code, pc, state)? {
+        Ok(_) => None,
+        Err(kind) => {
+            let doubt = doubt_of(code, instr_at(code, pc)?, state)?;
+            mend(state, doubt);
+            Some(FlowRefusal { pc, kind, doubt })
         }
     }
-    None
 }
 
 // Where an instruction leads. One that may have a fault leads nowhere, or where it would if its rule were met.
 fn led_to(code: &Module, pc: usize, state: &State, goes_on: bool) -> Option<Successors> {
-    match answer(code, pc, state)? {
+    let mut state = *state;
+    if goes_on {
+        for _ in 0..TESTS {
+            if next_refusal(code, pc, &mut state).is_none() {
+                break;
+            }
+        }
+    }
+    match answer(code, pc, &state)? {
         Ok(led) => Some(led),
-        Err(_) if goes_on => led_by_mended(code, pc, state),
         Err(_) => None,
     }
 }
 
 fn add_way(
     ways: &mut Vec<Way>,
-    from: StatePlace,
-    to: StatePlace,
+    (from, to): (StatePlace, StatePlace),
     jumps: bool,
     state: Option<State>,
 ) -> Result<(), AllocError> {
@@ -123,23 +125,26 @@ fn ways_of_line(
     let (Some(led), Some(instr)) = (led_to(code, pc, state, goes_on), instr_at(code, pc)) else {
         return Ok(());
     };
-    add_way(
-        ways,
-        from,
-        StatePlace::At(pc.saturating_add(1)),
-        false,
-        led.next,
-    )?;
-    add_way(ways, from, StatePlace::At(target(instr)), true, led.jump)?;
-    if let Instr::Ret(_) = instr {
-        let left = if pc < code.init() {
-            StatePlace::Idle
-        } else {
-            StatePlace::Ready
-        };
-        add_way(ways, from, left, false, Some(at_return(state)))?;
+    let next = StatePlace::At(pc.saturating_add(1));
+    add_way(ways, (from, next), false, led.next)?;
+    add_way(ways, (from, StatePlace::At(target(instr))), true, led.jump)?;
+    match instr {
+        Instr::Ret(_) if pc < code.init() => {
+            add_way(
+                ways,
+                (from, StatePlace::Idle),
+                false,
+                Some(at_return(state)),
+            )
+        }
+        Instr::Ret(_) => add_way(
+            ways,
+            (from, StatePlace::Ready),
+            false,
+            Some(at_return(state)),
+        ),
+        _ => Ok(()),
     }
-    Ok(())
 }
 
 fn end_of_request(code: &Module, state: &State) -> Option<State> {
@@ -150,7 +155,8 @@ fn end_of_request(code: &Module, state: &State) -> Option<State> {
     }
 }
 
-/// Adds the ways that lead from a place with this state.
+/// Adds the ways that lead from a place with this state. An instruction that may have a fault leads nowhere, or, where this goes on,
+/// where it would if its rule were met.
 pub fn add_ways_of(
     code: &Module,
     place: StatePlace,
@@ -160,23 +166,15 @@ pub fn add_ways_of(
 ) -> Result<(), AllocError> {
     match place {
         StatePlace::At(pc) => ways_of_line(code, pc, state, goes_on, ways),
-        StatePlace::Idle => add_way(
-            ways,
-            place,
-            StatePlace::At(code.init()),
-            false,
-            Some(*state),
-        ),
+        StatePlace::Idle => {
+            let init = StatePlace::At(code.init());
+            add_way(ways, (place, init), false, Some(*state))
+        }
         StatePlace::Ready => {
             let main = StatePlace::At(code.main());
-            add_way(ways, place, main, false, Some(at_main(state)))?;
-            add_way(
-                ways,
-                place,
-                StatePlace::Idle,
-                false,
-                end_of_request(code, state),
-            )
+            add_way(ways, (place, main), false, Some(at_main(state)))?;
+            let ended = end_of_request(code, state);
+            add_way(ways, (place, StatePlace::Idle), false, ended)
         }
     }
 }
@@ -185,11 +183,10 @@ fn add_ways(
     code: &Module,
     states: &Cert,
     place: StatePlace,
-    goes_on: bool,
     ways: &mut Vec<Way>,
 ) -> Result<(), AllocError> {
     match state_at(states, place) {
-        Some(state) => add_ways_of(code, place, &state, goes_on, ways),
+        Some(state) => add_ways_of(code, place, &state, true, ways),
         None => Ok(()),
     }
 }
@@ -199,111 +196,58 @@ fn add_ways(
 pub fn all_ways(alloc: Global, code: &Module, states: &Cert) -> Result<Vec<Way>, AllocError> {
     let mut ways = Vec::new(alloc);
     for pc in 0..code.len() {
-        add_ways(code, states, StatePlace::At(pc), true, &mut ways)?;
+        add_ways(code, states, StatePlace::At(pc), &mut ways)?;
     }
-    add_ways(code, states, StatePlace::Idle, true, &mut ways)?;
-    add_ways(code, states, StatePlace::Ready, true, &mut ways)?;
+    add_ways(code, states, StatePlace::Idle, &mut ways)?;
+    add_ways(code, states, StatePlace::Ready, &mut ways)?;
     Ok(ways)
 }
 
-fn put(states: &mut Cert, place: StatePlace, state: State) {
-    match place {
-        StatePlace::Idle => states.idle = Some(state),
-        StatePlace::Ready => states.ready = Some(state),
-        StatePlace::At(pc) => {
-            if let Some(slot) = states.at.get_mut(pc) {
-                *slot = Some(state);
-            }
-        }
-    }
-}
-
-// A state comes to a place. It tells what the place's state becomes, where that grows.
-fn grown_by(there: Option<State>, state: &State) -> Option<State> {
-    match there {
-        None => Some(*state),
-        Some(there) if leq(state, &there) => None,
-        Some(there) => {
-            if there.pool_count() == state.pool_count()
-                && there.brigade_count() == state.brigade_count()
-            {
-                Some(join(&there, state))
-            } else {
-                None
-            }
-        }
-    }
-}
-
-fn arrive(states: &mut Cert, grown: &mut Vec<StatePlace>, way: &Way) -> Result<(), AllocError> {
-    if let Some(state) = grown_by(state_at(states, way.to), &way.state) {
-        put(states, way.to, state);
-        grown.push(way.to)?;
-    }
-    Ok(())
-}
-
-fn arrive_all(
-    states: &mut Cert,
-    ways: &[Way],
-    grown: &mut Vec<StatePlace>,
-) -> Result<(), AllocError> {
-    for way in ways {
-        arrive(states, grown, way)?;
-    }
-    Ok(())
-}
-
-fn begun(alloc: Global, code: &Module) -> Result<Cert, AllocError> {
-    let mut states = Cert {
-        idle: None,
-        ready: None,
-        at: vec![in alloc; None; code.len()]?,
+fn arrive(growth: &mut Growth, way: &Way) -> Result<(), AllocError> {
+    let is_inside = match way.to {
+        StatePlace::At(pc) => pc < growth.cert.at.len(),
+        StatePlace::Idle | StatePlace::Ready => true,
     };
-    let first = at_open(code.pool_count(), code.brigade_count());
-    put(&mut states, StatePlace::At(0), first);
-    Ok(states)
-}
-
-fn ways_from(
-    alloc: Global,
-    code: &Module,
-    states: &Cert,
-    places: &[StatePlace],
-    goes_on: bool,
-) -> Result<Vec<Way>, AllocError> {
-    let mut ways = Vec::new(alloc);
-    for place in places {
-        add_ways(code, states, *place, goes_on, &mut ways)?;
+    let fits = match growth.state(way.to) {
+        Some(there) => {
+            there.pool_count() == way.state.pool_count()
+                && there.brigade_count() == way.state.brigade_count()
+        }
+        None => true,
+    };
+    if is_inside && fits {
+        growth.arrive(&Arrival {
+            place: way.to,
+            state: way.state,
+        })?;
     }
-    Ok(ways)
+    Ok(())
 }
 
-/// The states of a module, as the maker of certificates lets them grow. An instruction that may have a fault leads nowhere, or,
-/// where this goes on, where it would if its rule were met.
-pub fn states_of(alloc: Global, code: &Module, goes_on: bool) -> Result<Cert, AllocError> {
-    let mut states = begun(alloc, code)?;
-    let mut places = vec![in alloc; StatePlace::At(0)]?;
-    // No state grows more than 511 times.
-    for _ in 0..512 * (code.len() + 2) {
-        if places.is_empty() {
+// A round of the maker, in which an instruction that may have a fault hands on what it would if its rule were met.
+fn round(alloc: Global, code: &Module, growth: &mut Growth) -> Result<(), AllocError> {
+    let mut ways = Vec::new(alloc);
+    for place in &growth.grown {
+        add_ways(code, &growth.cert, *place, &mut ways)?;
+    }
+    growth.grown.clear();
+    for way in &ways {
+        arrive(growth, way)?;
+    }
+    Ok(())
+}
+
+/// The states of a module, as the maker of certificates lets them grow, but that an instruction that may have a fault leads where it
+/// would if its rule were met.
+pub fn states_of(alloc: Global, code: &Module) -> Result<Cert, AllocError> {
+    let mut growth = Growth::new(alloc, code)?;
+    for _ in 0..round_count(code) {
+        if growth.grown.is_empty() {
             break;
         }
-        let ways = ways_from(alloc, code, &states, places.as_slice(), goes_on)?;
-        places.clear();
-        arrive_all(&mut states, ways.as_slice(), &mut places)?;
+        round(alloc, code, &mut growth)?;
     }
-    Ok(states)
-}
-
-fn refusal_at(code: &Module, pc: usize, state: &State) -> Option<FlowRefusal> {
-    match answer(code, pc, state)? {
-        Ok(_) => None,
-        Err(kind) => {
-            let doubt = doubt_of(code, instr_at(code, pc)?, state)?;
-            Some(FlowRefusal { pc, kind, doubt })
-        }
-    }
+    Ok(growth.cert)
 }
 
 /// How many tests of its rule an instruction may fail in this state.
@@ -311,10 +255,9 @@ pub fn failures(code: &Module, pc: usize, state: &State) -> usize {
     let mut state = *state;
     let mut count = 0usize;
     for _ in 0..TESTS {
-        let Some(refusal) = refusal_at(code, pc, &state) else {
+        if next_refusal(code, pc, &mut state).is_none() {
             break;
-        };
-        mend(&mut state, refusal.doubt);
+        }
         count = count.saturating_add(1);
     }
     count
@@ -322,20 +265,36 @@ pub fn failures(code: &Module, pc: usize, state: &State) -> usize {
 
 /// The refusal of an instruction, if it has one in these states.
 pub fn refusal_of(code: &Module, states: &Cert, pc: usize) -> Option<FlowRefusal> {
-    refusal_at(code, pc, &states.state(pc)?)
+    let mut state = states.state(pc)?;
+    next_refusal(code, pc, &mut state)
 }
 
-/// The refusal of an instruction by a fault of this name, if it has one in these states.
-pub fn refusal_by(code: &Module, states: &Cert, pc: usize, name: &str) -> Option<FlowRefusal> {
+/// The refusal of an instruction by this fault, if it has one in these states.
+pub fn refusal_by(code: &Module, states: &Cert, pc: usize, kind: FaultKind) -> Option<FlowRefusal> {
     let mut state = states.state(pc)?;
     for _ in 0..TESTS {
-        let refusal = refusal_at(code, pc, &state)?;
-        if fault_name(refusal.kind) == name {
+        let refusal = next_refusal(code, pc, &mut state)?;
+        if is_kind(refusal.kind, kind) {
             return Some(refusal);
         }
-        mend(&mut state, refusal.doubt);
     }
     None
+}
+
+fn is_kind(a: FaultKind, b: FaultKind) -> bool {
+    matches!(
+        (a, b),
+        (FaultKind::F1, FaultKind::F1)
+            | (FaultKind::F2, FaultKind::F2)
+            | (FaultKind::F3, FaultKind::F3)
+            | (FaultKind::F4, FaultKind::F4)
+            | (FaultKind::F5, FaultKind::F5)
+            | (FaultKind::F6, FaultKind::F6)
+            | (FaultKind::F7, FaultKind::F7)
+            | (FaultKind::F8, FaultKind::F8)
+            | (FaultKind::F9, FaultKind::F9)
+            | (FaultKind::F10, FaultKind::F10)
+    )
 }
 
 /// The instructions that may have a fault in these states.

@@ -1,12 +1,11 @@
 //! The help on a module text that gets no certificate, and on one that is refused with a certificate.
 
+use crate::advice::Advice;
 use crate::faulty_line::{tell_asm_fault, tell_cert_fault};
-use crate::flow::states_of;
 use crate::script::{ScriptText, TextKind};
 use crate::session::tell_refusals;
 use crate::source::Source;
-use crate::told::Advice;
-use life_cert::{CertRefusal, MakeRefusal, make, read_cert};
+use life_cert::{CertRefusal, MakeRefusal, grown, make, read_cert};
 use life_check::{Cert, CheckRefusal, Rule, check};
 use module_code::Module;
 use module_lang::{AsmRefusal, assemble};
@@ -67,12 +66,16 @@ pub fn tell_texts(
     }
 }
 
-fn without_certificate(told: &mut Advice, source: Source, code: &Module) -> Result<(), AllocError> {
+fn without_certificate(
+    told: &mut Advice,
+    source: Source<'_>,
+    code: &Module,
+) -> Result<(), AllocError> {
     match make(told.alloc, code) {
         Ok(_) => Ok(()),
         Err(MakeRefusal::NoMemory) => Err(AllocError),
         Err(MakeRefusal::At { pc, rule: _ }) => {
-            let states = states_of(told.alloc, code, false)?;
+            let states = grown(told.alloc, code)?;
             tell_refusals(told, source, code, &states, pc)
         }
     }
@@ -98,7 +101,7 @@ fn tell_other(told: &mut Advice, code: &Module) -> Result<(), AllocError> {
 
 fn with_certificate(
     told: &mut Advice,
-    source: Source,
+    source: Source<'_>,
     code: &Module,
     cert: &Cert,
     refusal: CheckRefusal,

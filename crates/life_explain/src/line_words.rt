@@ -1,24 +1,7 @@
 //! The words of a line.
 
-use byte_text::{after_token, begins, decimal_u64, is_printable, tail, token};
-use std::alloc::{AllocError, Global};
+use byte_text::{after_token, begins, decimal_u64, tail, token};
 use std::str;
-
-/// How many bytes of a line are told at most.
-const SHOWN: usize = 100;
-
-/// The front of a line, with question marks for bytes that are not printable. A CR at its end is left out.
-pub fn shown(alloc: Global, line: &[u8]) -> Result<String, AllocError> {
-    let mut front = String::new(alloc);
-    for byte in line.iter().take(SHOWN) {
-        if is_printable(*byte) {
-            front.push(char::from(*byte))?;
-        } else if *byte != b'\r' {
-            front.push('?')?;
-        }
-    }
-    Ok(front)
-}
 
 /// The word of a line at this place, from 0 on; nothing where it has fewer.
 pub fn word(line: &[u8], index: usize) -> &[u8] {
@@ -44,13 +27,9 @@ pub fn number(line: &[u8], index: usize) -> Option<usize> {
     Some(decimal_u64(word(line, index))? as usize)
 }
 
-// What stands from this byte on.
-fn from(bytes: &[u8], start: usize) -> &[u8] {
-    if start <= bytes.len() {
-        &bytes[start..]
-    } else {
-        &[]
-    }
+/// What stands from this byte on.
+pub fn from(bytes: &[u8], start: usize) -> &[u8] {
+    bytes.get(start..).unwrap_or(&[])
 }
 
 fn common(a: &[u8], b: &[u8]) -> usize {

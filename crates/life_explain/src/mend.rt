@@ -28,29 +28,6 @@ fn put_cursor(state: &mut State, c: u8, cursor: CursorState) {
     }
 }
 
-// Live and usable; what was known of its buckets stays.
-fn make_usable(state: &mut State, b: u8) {
-    let brigade = state.brigade(b);
-    let usable = BrigadeState {
-        null: false,
-        gone: false,
-        live: true,
-        usable: true,
-        passed: false,
-        content: brigade.content,
-        homes: brigade.homes,
-    };
-    set_brigade(state, b, usable);
-}
-
-fn with_content(state: &mut State, b: u8, content: Contents) {
-    let brigade = BrigadeState {
-        content,
-        ..state.brigade(b)
-    };
-    set_brigade(state, b, brigade);
-}
-
 fn without_dead(homes: HomeSet) -> HomeSet {
     HomeSet {
         dead: false,
@@ -58,13 +35,35 @@ fn without_dead(homes: HomeSet) -> HomeSet {
     }
 }
 
-fn outlive_the_call(state: &mut State, b: u8) {
-    let brigade = state.brigade(b);
-    let homes = HomeSet {
-        call: false,
-        ..brigade.homes
-    };
-    set_brigade(state, b, BrigadeState { homes, ..brigade });
+// The brigade as the rule wants it; what was known of its buckets stays.
+fn met(brigade: BrigadeState, doubt: Doubt) -> BrigadeState {
+    match doubt {
+        Doubt::NullBrigade(_) | Doubt::GoneBrigade(_) | Doubt::Passed(_) => BrigadeState {
+            null: false,
+            gone: false,
+            live: true,
+            usable: true,
+            passed: false,
+            ..brigade
+        },
+        Doubt::LiveBrigade(_) => BrigadeState::UNMADE,
+        Doubt::DeadIn(_) => BrigadeState {
+            homes: without_dead(brigade.homes),
+            ..brigade
+        },
+        Doubt::LateData(_) => BrigadeState {
+            content: Contents::NoLateData,
+            ..brigade
+        },
+        Doubt::Kept(_) => BrigadeState {
+            homes: HomeSet {
+                call: false,
+                ..brigade.homes
+            },
+            ..brigade
+        },
+        _ => brigade,
+    }
 }
 
 // A brigade in which a bucket could stand.
@@ -88,28 +87,27 @@ fn moved(state: &State, cursor: CursorState) -> CursorState {
     }
 }
 
-fn revive(state: &mut State, c: u8) {
-    if let CursorState::Loose(classes, homes) = state.cursor(c) {
-        put_cursor(state, c, CursorState::Loose(classes, without_dead(homes)));
-    }
-}
-
 /// Makes the state one that does not allow this.
 pub fn mend(state: &mut State, doubt: Doubt) {
     match doubt {
         Doubt::NullPool(q) | Doubt::GonePool(q) => set_pool(state, q, PoolState::LIVE),
         Doubt::LivePool(q) => set_pool(state, q, PoolState::NULL),
-        Doubt::NullBrigade(b) | Doubt::GoneBrigade(b) | Doubt::Passed(b) => make_usable(state, b),
-        Doubt::LiveBrigade(b) => set_brigade(state, b, BrigadeState::UNMADE),
-        Doubt::DeadIn(b) => {
-            let brigade = state.brigade(b);
-            let homes = without_dead(brigade.homes);
-            set_brigade(state, b, BrigadeState { homes, ..brigade });
+        Doubt::NullBrigade(b)
+        | Doubt::GoneBrigade(b)
+        | Doubt::LiveBrigade(b)
+        | Doubt::Passed(b)
+        | Doubt::DeadIn(b)
+        | Doubt::LateData(b)
+        | Doubt::Kept(b) => {
+            let brigade = met(state.brigade(b), doubt);
+            set_brigade(state, b, brigade);
         }
-        Doubt::DeadAt(c) => revive(state, c),
-        Doubt::LateData(b) => with_content(state, b, Contents::NoLateData),
         Doubt::Sent(_) => state.set_sent(false),
-        Doubt::Kept(b) => outlive_the_call(state, b),
+        Doubt::DeadAt(c) => {
+            if let CursorState::Loose(classes, homes) = state.cursor(c) {
+                put_cursor(state, c, CursorState::Loose(classes, without_dead(homes)));
+            }
+        }
         Doubt::Elsewhere(c, b) => put_cursor(state, c, CursorState::In(b, ANY_KIND)),
         Doubt::Unset(c) | Doubt::AtEnd(c) | Doubt::InBrigade(c) | Doubt::Loose(c) => {
             let cursor = moved(state, state.cursor(c));

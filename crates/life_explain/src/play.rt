@@ -1,38 +1,23 @@
 //! The help on what a play answered.
 
+use crate::advice::{Advice, Item};
 use crate::command_line::tell_script_fault;
 use crate::help::{cert_of, module_of, tell_texts};
-use crate::line_words::{number, shown, word_text};
+use crate::line_words::{number, word, word_text};
 use crate::refused::{Answered, is_told, tell_refused};
 use crate::script::{Script, TextKind, lines_of};
 use crate::session::tell_fault;
 use crate::source::Source;
-use crate::told::Advice;
 use crate::words::fault_text;
 use byte_text::is_text;
-use run_model::FaultKind;
-use script_text::fault_name;
+use script_text::{fault_name, fault_named};
 use std::alloc::{AllocError, Global};
 
 /// How many answers are explained at most.
 const MOST: usize = 16;
 
-/// The faults.
-const KINDS: [FaultKind; 10] = [
-    FaultKind::F1,
-    FaultKind::F2,
-    FaultKind::F3,
-    FaultKind::F4,
-    FaultKind::F5,
-    FaultKind::F6,
-    FaultKind::F7,
-    FaultKind::F8,
-    FaultKind::F9,
-    FaultKind::F10,
-];
-
 // What an answer line is.
-#[derive(Clone, Copy, PartialEq, Eq, Drop)]
+#[derive(Clone, Copy)]
 enum AnswerKind {
     Fault,
     Refused,
@@ -90,37 +75,36 @@ fn answered<'a>(
     Ok(found)
 }
 
-fn fault_kind(name: &str) -> Option<FaultKind> {
-    KINDS.iter().copied().find(|kind| fault_name(*kind) == name)
-}
-
 // Tells what a fault means, where it is and what to write instead.
-fn tell_fault_of(
+fn tell_fault_of<'a>(
     told: &mut Advice,
-    script: &Script<'_>,
-    answered: &Answered<'_>,
+    script: &Script<'a>,
+    answered: &Answered<'a>,
 ) -> Result<(), AllocError> {
     let answer = answered.answer;
     let (Some(kind), Some(index), Some(pc), Some(command)) = (
-        fault_kind(word_text(answer, 1)),
+        fault_named(word(answer, 1)),
         number(answer, 3),
         number(answer, 5),
         answered.command,
     ) else {
         return Ok(());
     };
-    let Some(text) = script.module(index) else {
+    let Some((text, _)) = script.module(index) else {
         return Ok(());
     };
     let source = Source::of(told.alloc, text.text, text.before)?;
-    let played = command.number;
-    let line = shown(told.alloc, command.text)?;
-    let at = source.number_of(pc);
-    let instruction = source.instruction(pc);
-    let (name, says) = (fault_name(kind), fault_text(kind));
-    writeln!(
-        told.text,
-        "line {played}, `{line}`: line {at}, `{instruction}`, of module {index} has {name}: {says}"
+    told.put(
+        "line $, `$`: line $, `$`, of module $ has $: $\n",
+        &[
+            Item::Number(command.number),
+            Item::Shown(command.text),
+            Item::Number(source.number_of(pc)),
+            Item::Line(source.instruction(pc)),
+            Item::Number(index),
+            Item::Text(fault_name(kind)),
+            Item::Text(fault_text(kind)),
+        ],
     )?;
     tell_fault(told, &source, pc, kind)
 }
@@ -129,15 +113,15 @@ fn tell_module(told: &mut Advice, script: &Script<'_>, answer: &[u8]) -> Result<
     let Some(index) = number(answer, 2) else {
         return Ok(());
     };
-    let Some(text) = script.module(index) else {
+    let Some((text, cert)) = script.module(index) else {
         return Ok(());
     };
-    let first = text.before.saturating_add(1);
-    writeln!(
-        told.text,
-        "module {index}, from line {first} on, is not accepted"
+    let first = Item::Number(text.before.saturating_add(1));
+    told.put(
+        "module $, from line $ on, is not accepted\n",
+        &[Item::Number(index), first],
     )?;
-    tell_texts(told, text, script.certificate(index))
+    tell_texts(told, text, cert)
 }
 
 // Tells what is wrong with the text that a line of this number is of.

@@ -1,8 +1,8 @@
 //! What a refused command wants first.
 
-use crate::line_words::{shown, text_of, word, word_text};
+use crate::advice::{Advice, Item};
+use crate::line_words::{text_of, word, word_text};
 use crate::script::{Script, ScriptLine};
-use crate::told::Advice;
 use byte_text::{begins, is_text, token};
 use std::alloc::AllocError;
 
@@ -58,40 +58,37 @@ impl Answered<'_> {
                 None => false,
             }
     }
-
-    fn number(&self) -> usize {
-        match self.command {
-            Some(command) => command.number,
-            None => 0,
-        }
-    }
 }
 
 // The last of these commands of a connection that was done.
-fn last_done<'a>(earlier: &[Answered<'a>], words: &[&str], conn: &[u8]) -> Option<Answered<'a>> {
+fn last_done<'a>(earlier: &[Answered<'a>], words: &[&str], conn: &[u8]) -> Option<ScriptLine<'a>> {
     let mut found = None;
     for answered in earlier {
-        if words.iter().any(|first| answered.did(first, conn)) {
-            found = Some(*answered);
+        for first in words {
+            if answered.did(first, conn) {
+                found = answered.command;
+            }
         }
     }
     found
 }
 
-fn tell_busy(told: &mut Advice, earlier: &[Answered<'_>], conn: &[u8]) -> Result<(), AllocError> {
-    let name = text_of(conn);
-    let Some(begun) = last_done(earlier, &["open", "begin", "bring"], conn) else {
-        return Ok(());
-    };
-    let number = begun.number();
-    let line = match begun.command {
-        Some(command) => shown(told.alloc, command.text)?,
-        None => String::new(told.alloc),
-    };
-    writeln!(
-        told.text,
-        "  line {number}, `{line}`, begins a call; write `run {name}` behind it"
-    )
+fn tell_busy<'a>(
+    told: &mut Advice,
+    earlier: &[Answered<'a>],
+    conn: &'a [u8],
+) -> Result<(), AllocError> {
+    match last_done(earlier, &["open", "begin", "bring"], conn) {
+        Some(begun) => told.put(
+            "  line $, `$`, begins a call; write `run $` behind it\n",
+            &[
+                Item::Number(begun.number),
+                Item::Shown(begun.text),
+                Item::Text(text_of(conn)),
+            ],
+        ),
+        None => Ok(()),
+    }
 }
 
 fn tell_no_conn(
@@ -100,22 +97,22 @@ fn tell_no_conn(
     conn: &[u8],
 ) -> Result<(), AllocError> {
     match last_done(earlier, &["close"], conn) {
-        Some(closed) => {
-            let number = closed.number();
-            writeln!(
-                told.text,
-                "  line {number} closed it; no number is given twice"
-            )
-        }
+        Some(closed) => told.put(
+            "  line $ closed it; no number is given twice\n",
+            &[Item::Number(closed.number)],
+        ),
         None => told.say("  `open` makes a connection, and answers its number, from 1 on"),
     }
 }
 
 fn tell_broken(told: &mut Advice, earlier: &[Answered<'_>], conn: &[u8]) -> Result<(), AllocError> {
     for answered in earlier {
-        if answered.is_fault_of(conn) {
-            let number = answered.number();
-            writeln!(told.text, "  the fault answers line {number}")?;
+        match answered.command {
+            Some(command) if answered.is_fault_of(conn) => told.put(
+                "  the fault answers line $\n",
+                &[Item::Number(command.number)],
+            )?,
+            _ => {}
         }
     }
     told.say("  it still answers `output`, `labels` and `close`; `open` makes a new one")
@@ -126,15 +123,11 @@ fn tell_in_request(
     earlier: &[Answered<'_>],
     conn: &[u8],
 ) -> Result<(), AllocError> {
-    let name = text_of(conn);
     match last_done(earlier, &["begin"], conn) {
-        Some(begun) => {
-            let number = begun.number();
-            writeln!(
-                told.text,
-                "  line {number} began it; write `end {name}` first, or go on in this one"
-            )
-        }
+        Some(begun) => told.put(
+            "  line $ began it; write `end $` first, or go on in this one\n",
+            &[Item::Number(begun.number), Item::Text(text_of(conn))],
+        ),
         None => Ok(()),
     }
 }
@@ -142,11 +135,10 @@ fn tell_in_request(
 fn tell_budget(told: &mut Advice, script: &Script<'_>) -> Result<(), AllocError> {
     for line in script.lines.iter().take(script.before) {
         if is_text(token(line.text), b"budget") {
-            let number = line.number;
-            let budget = text_of(word(line.text, 1));
-            return writeln!(
-                told.text,
-                "  the budget is {budget}, by line {number}; look for a loop that does not end, or allow more"
+            let budget = Item::Text(text_of(word(line.text, 1)));
+            return told.put(
+                "  the budget is $, by line $; look for a loop that does not end, or allow more\n",
+                &[budget, Item::Number(line.number)],
             );
         }
     }
@@ -162,19 +154,16 @@ fn tell_wanted(
     name: &str,
     conn: &[u8],
 ) -> Result<(), AllocError> {
-    let number = text_of(conn);
+    let number = Item::Text(text_of(conn));
     match name {
         "Busy" => tell_busy(told, earlier, conn),
-        "Idle" => writeln!(
-            told.text,
-            "  `open`, `begin {number}` or `bring {number}` begins one"
+        "Idle" => told.put(
+            "  `open`, `begin $` or `bring $` begins one\n",
+            &[number, number],
         ),
         "NoSuchConn" => tell_no_conn(told, earlier, conn),
         "InRequest" => tell_in_request(told, earlier, conn),
-        "NotInRequest" => writeln!(
-            told.text,
-            "  write `begin {number}` and `run {number}` first"
-        ),
+        "NotInRequest" => told.put("  write `begin $` and `run $` first\n", &[number, number]),
         "DataAfterEos" => told.say("  `eos` ends the body; bring the data before it"),
         "NoFile" => told.say(
             "  write `file NAME COUNT \"text\"` before; START and LEN together are its length at most",
@@ -191,12 +180,19 @@ pub fn is_told(explained: &[Answered<'_>], answered: &Answered<'_>) -> bool {
         return false;
     };
     let is_busy = is_text(answered.answer, b"refused Busy");
-    explained.iter().any(|earlier| match earlier.command {
-        Some(other) if is_busy => earlier.answer == answered.answer && other.text == command.text,
-        Some(other) => earlier.answer == answered.answer
-            && word(other.text, 1) == word(command.text, 1),
-        None => false,
-    })
+    for earlier in explained {
+        if let Some(other) = earlier.command {
+            let is_same = if is_busy {
+                other.text == command.text
+            } else {
+                word(other.text, 1) == word(command.text, 1)
+            };
+            if is_same && earlier.answer == answered.answer {
+                return true;
+            }
+        }
+    }
+    false
 }
 
 /// Tells what a refused command wants first, where these were answered before it.
@@ -210,10 +206,11 @@ pub fn tell_refused(
         return Ok(());
     };
     let name = word_text(refused.answer, 1);
-    let number = command.number;
-    let line = shown(told.alloc, command.text)?;
-    let says = meaning(name);
-    writeln!(told.text, "line {number}: `{line}` is refused: {says}")?;
+    let (number, line) = (Item::Number(command.number), Item::Shown(command.text));
+    told.put(
+        "line $: `$` is refused: $\n",
+        &[number, line, Item::Text(meaning(name))],
+    )?;
     let conn = word(command.text, 1);
     tell_wanted(told, script, earlier, name, conn)?;
     if begins(name.as_bytes(), b'B') && name != "Busy" {

@@ -1,21 +1,40 @@
 //! Remedies that are worth a try, the likeliest first.
 
-use crate::case::{Case, Remedy, classes_at};
+use crate::case::{Case, Remedies, Spot};
 use crate::doubt::Doubt;
-use crate::flow::{StatePlace, instr_at};
+use crate::flow::instr_at;
 use crate::pattern::Pattern;
-use crate::source::last_word;
-use crate::words::brigade_name;
+use crate::source::{Label, LineText, Operand, label_in, written};
+use life_cert::StatePlace;
 use life_state::CursorState;
-use module_code::{Instr, PoolRef, Status};
+use module_code::{Instr, Op, PoolRef, Status};
 use std::alloc::AllocError;
 
-type Remedies = Vec<Remedy>;
+/// A line `ret ok`.
+pub const RET_OK: LineText<'static> = LineText::Written(
+    Op::Ret,
+    Operand::Word("ok"),
+    Operand::Nothing,
+    Operand::Nothing,
+);
 
-impl Case<'_> {
+/// The line `bclean` of a brigade.
+pub fn clean<'t>(b: u8) -> LineText<'t> {
+    written(Op::BClean, Operand::Brigade(b), Operand::Nothing)
+}
+
+fn jend<'t>(c: u8, label: Operand<'t>) -> LineText<'t> {
+    written(Op::JEnd, Operand::Cursor(c), label)
+}
+
+fn aside<'t>(c: u8, pool: Operand<'t>) -> LineText<'t> {
+    written(Op::Aside, Operand::Cursor(c), pool)
+}
+
+impl<'t> Case<'_, 't> {
     /// The remedies of the refusal.
-    pub fn remedies(&self) -> Result<Remedies, AllocError> {
-        let mut found = Vec::new(self.alloc);
+    pub fn remedies(&self) -> Result<Remedies<'t>, AllocError> {
+        let mut found = Remedies::new(self.alloc);
         match self.refusal.doubt {
             Doubt::Sent(_) => {
                 self.add_jsent(&mut found)?;
@@ -43,15 +62,12 @@ impl Case<'_> {
     }
 
     // `jsent` in place of a number that `main` begins with a look at, to drop what comes.
-    fn add_jsent(&self, found: &mut Remedies) -> Result<(), AllocError> {
+    fn add_jsent(&self, found: &mut Remedies<'t>) -> Result<(), AllocError> {
         for step in 0..3usize {
             let pc = self.code.main().saturating_add(step);
             if self.asks_to_drop(pc) {
-                let label = last_word(self.alloc, self.source.instruction(pc))?;
-                let line = format!(in self.alloc; "jsent {label}")?;
-                let mut remedy = Remedy::new(self.alloc, Pattern::AskJsent);
-                self.instead(&mut remedy, pc, &[line.as_str()])?;
-                found.push(remedy)?;
+                let ask = written(Op::JSent, self.label_of(pc), Operand::Nothing);
+                self.add(found, Pattern::AskJsent, Spot::Instead(pc), &[ask])?;
             }
         }
         Ok(())
@@ -72,23 +88,22 @@ impl Case<'_> {
         false
     }
 
-    fn add_guards(&self, found: &mut Remedies) -> Result<(), AllocError> {
-        if self.source.find(":gone").is_some() {
-            let mut remedy = Remedy::new(self.alloc, Pattern::Guard);
-            self.first_in(&mut remedy, "main", &["jsent gone"])?;
-            found.push(remedy)?;
+    fn add_guards(&self, found: &mut Remedies<'t>) -> Result<(), AllocError> {
+        if self.source.has_label("gone", 0) {
+            let gone = Operand::Label(Label {
+                name: "gone",
+                number: 0,
+            });
+            let ask = written(Op::JSent, gone, Operand::Nothing);
+            self.add(found, Pattern::Guard, Spot::Below("main"), &[ask])?;
         }
-        let label = self.source.new_label(self.alloc, "gone")?;
-        let ask = format!(in self.alloc; "jsent {label}")?;
-        let mark = format!(in self.alloc; ":{label}")?;
-        let mut remedy = Remedy::new(self.alloc, Pattern::Guard);
-        self.first_in(&mut remedy, "main", &[ask.as_str()])?;
-        self.before_line(&mut remedy, "end", &[mark.as_str(), "bclean in", "ret ok"])?;
-        found.push(remedy)?;
-        Ok(())
+        let (mark, label) = self.new_label("gone");
+        let ask = written(Op::JSent, label, Operand::Nothing);
+        self.add(found, Pattern::Guard, Spot::Below("main"), &[ask])?;
+        self.write(found, Spot::Above("end"), &[mark, clean(8), RET_OK])
     }
 
-    fn add_late_data(&self, found: &mut Remedies, b: u8) -> Result<(), AllocError> {
+    fn add_late_data(&self, found: &mut Remedies<'t>, b: u8) -> Result<(), AllocError> {
         if b == 8 {
             return self.add_own_brigade(found);
         }
@@ -102,16 +117,13 @@ impl Case<'_> {
     }
 
     // The jump behind an EOS that was put into the brigade leads to the pass.
-    fn add_leaving(&self, found: &mut Remedies, b: u8) -> Result<(), AllocError> {
+    fn add_leaving(&self, found: &mut Remedies<'t>, b: u8) -> Result<(), AllocError> {
         for pc in self.code.main()..self.code.len() {
-            if self.puts_eos(pc, b) {
-                if let Some(jump) = self.jump_behind(pc) {
-                    let mut remedy = Remedy::new(self.alloc, Pattern::LeaveAtEos);
-                    let label = self.label_at(&mut remedy, self.refusal.pc, "send")?;
-                    let line = format!(in self.alloc; "jump {label}")?;
-                    self.instead(&mut remedy, jump, &[line.as_str()])?;
-                    found.push(remedy)?;
-                }
+            if let (true, Some(jump)) = (self.puts_eos(pc, b), self.jump_behind(pc)) {
+                found.begin(Pattern::LeaveAtEos)?;
+                let label = self.label_at(found, self.refusal.pc, "send")?;
+                let line = written(Op::Jump, label, Operand::Nothing);
+                self.write(found, Spot::Instead(jump), &[line])?;
             }
         }
         Ok(())
@@ -119,15 +131,9 @@ impl Case<'_> {
 
     // Whether an instruction puts an EOS, and nothing else, at the tail of the brigade.
     fn puts_eos(&self, pc: usize, b: u8) -> bool {
-        let (Some(Instr::Tail(a, c)), Some(state)) = (
-            instr_at(self.code, pc),
-            self.states.state(pc),
-        ) else {
-            return false;
-        };
-        match classes_at(&state, c) {
-            Some(classes) => a == b && classes.eos && !classes.bytes,
-            None => false,
+        match instr_at(self.code, pc) {
+            Some(Instr::Tail(a, c)) => a == b && self.is_eos(pc, c),
+            _ => false,
         }
     }
 
@@ -145,188 +151,169 @@ impl Case<'_> {
     }
 
     // `jkind` before what puts an EOS or data into the brigade, so that the EOS leaves the loop.
-    fn add_asked(&self, found: &mut Remedies, b: u8) -> Result<(), AllocError> {
+    fn add_asked(&self, found: &mut Remedies<'t>, b: u8) -> Result<(), AllocError> {
         for pc in self.code.main()..self.code.len() {
-            if let Some(Instr::Tail(a, c)) = instr_at(self.code, pc) {
-                if a == b {
-                    self.add_asked_at(found, pc, c)?;
-                }
+            match instr_at(self.code, pc) {
+                Some(Instr::Tail(a, c)) if a == b => self.add_asked_at(found, pc, c)?,
+                _ => {}
             }
         }
         Ok(())
     }
 
-    fn add_asked_at(&self, found: &mut Remedies, pc: usize, c: u8) -> Result<(), AllocError> {
-        let mut remedy = Remedy::new(self.alloc, Pattern::LeaveAtEos);
-        let send = self.label_at(&mut remedy, self.refusal.pc, "send")?;
-        let last = self.source.new_label(self.alloc, "last")?;
-        let ask = format!(in self.alloc; "jkind c{c} eos {last}")?;
-        let mark = format!(in self.alloc; ":{last}")?;
-        let jump = format!(in self.alloc; "jump {send}")?;
-        self.before(&mut remedy, pc, &[ask.as_str()])?;
+    fn add_asked_at(&self, found: &mut Remedies<'t>, pc: usize, c: u8) -> Result<(), AllocError> {
+        found.begin(Pattern::LeaveAtEos)?;
+        let send = self.label_at(found, self.refusal.pc, "send")?;
+        let (mark, last) = self.new_label("last");
+        let ask = LineText::Written(Op::JKind, Operand::Cursor(c), Operand::Word("eos"), last);
         let put = self.source.instruction(pc);
-        self.before_line(&mut remedy, "end", &[mark.as_str(), put, jump.as_str()])?;
-        found.push(remedy)?;
-        Ok(())
+        let jump = written(Op::Jump, send, Operand::Nothing);
+        self.write(found, Spot::Before(pc), &[ask])?;
+        self.write(found, Spot::Above("end"), &[mark, put, jump])
     }
 
     // A `bclean` before the return that leaves the brigade passed, before all of these, behind the pass, or before the use. Where the
     // return may also keep what stands in the brigade, that behind the pass comes first.
-    fn add_cleans(&self, found: &mut Remedies, b: u8) -> Result<(), AllocError> {
-        let name = brigade_name(self.alloc, b)?;
-        let clean = format!(in self.alloc; "bclean {name}")?;
+    fn add_cleans(&self, found: &mut Remedies<'t>, b: u8) -> Result<(), AllocError> {
         let keeps = match self.trail.ending_call() {
-            Some(pc) => self.may_be_usable(pc, b),
+            Some(pc) => self.may_be(pc, b).0,
             None => true,
         };
         if keeps {
-            self.add_clean_behind(found, clean.as_str())?;
+            self.add_clean_behind(found, b)?;
         }
         if let Some(pc) = self.trail.ending_call() {
-            let mut remedy = Remedy::new(self.alloc, Pattern::CleanWhenFailed);
-            self.before(&mut remedy, pc, &[clean.as_str()])?;
-            found.push(remedy)?;
+            self.add_clean_at(found, pc, b)?;
         }
-        self.add_all_cleans(found, b, clean.as_str())?;
+        self.add_all_cleans(found, b)?;
         if !keeps {
-            self.add_clean_behind(found, clean.as_str())?;
+            self.add_clean_behind(found, b)?;
         }
-        let mut remedy = Remedy::new(self.alloc, Pattern::CleanWhenFailed);
-        self.before(&mut remedy, self.refusal.pc, &[clean.as_str()])?;
-        found.push(remedy)?;
-        Ok(())
+        self.add_clean_at(found, self.refusal.pc, b)
     }
 
-    fn may_be_usable(&self, pc: usize, b: u8) -> bool {
+    // Whether a brigade may be usable, and whether it may be passed, before an instruction.
+    fn may_be(&self, pc: usize, b: u8) -> (bool, bool) {
         match self.states.state(pc) {
-            Some(state) => state.brigade(b).usable,
-            None => false,
+            Some(state) => (state.brigade(b).usable, state.brigade(b).passed),
+            None => (false, false),
         }
     }
 
-    fn add_clean_behind(&self, found: &mut Remedies, clean: &str) -> Result<(), AllocError> {
-        if let Some((pc, _)) = self.maker() {
-            let mut remedy = Remedy::new(self.alloc, Pattern::CleanWhenFailed);
-            self.behind(&mut remedy, pc, &[clean])?;
-            found.push(remedy)?;
+    fn add_clean_at(&self, found: &mut Remedies<'t>, pc: usize, b: u8) -> Result<(), AllocError> {
+        self.add(
+            found,
+            Pattern::CleanWhenFailed,
+            Spot::Before(pc),
+            &[clean(b)],
+        )
+    }
+
+    fn add_clean_behind(&self, found: &mut Remedies<'t>, b: u8) -> Result<(), AllocError> {
+        match self.maker() {
+            Some((pc, _)) => self.add(
+                found,
+                Pattern::CleanWhenFailed,
+                Spot::Behind(pc),
+                &[clean(b)],
+            ),
+            None => Ok(()),
         }
-        Ok(())
     }
 
     // A `bclean` before each return that may leave the brigade passed.
-    fn add_all_cleans(&self, found: &mut Remedies, b: u8, clean: &str) -> Result<(), AllocError> {
-        let mut remedy = Remedy::new(self.alloc, Pattern::CleanWhenFailed);
-        for pc in self.code.main()..self.code.len() {
-            if let (Some(Instr::Ret(_)), Some(state)) = (
-                instr_at(self.code, pc),
-                self.states.state(pc),
-            ) {
-                if state.brigade(b).passed {
-                    self.before(&mut remedy, pc, &[clean])?;
-                }
-            }
+    fn add_all_cleans(&self, found: &mut Remedies<'t>, b: u8) -> Result<(), AllocError> {
+        if b >= 8 {
+            return Ok(());
         }
-        if b < 8 {
-            found.push(remedy)?;
+        found.begin(Pattern::CleanWhenFailed)?;
+        for pc in self.code.main()..self.code.len() {
+            if let (Some(Instr::Ret(_)), (_, true)) = (
+                instr_at(self.code, pc),
+                self.may_be(pc, b),
+            ) {
+                self.write(found, Spot::Before(pc), &[clean(b)])?;
+            }
         }
         Ok(())
     }
 
-    fn add_kept(&self, found: &mut Remedies, b: u8) -> Result<(), AllocError> {
-        let fails = matches!(
-            instr_at(self.code, self.refusal.pc),
-            Some(Instr::Ret(Status::Fail))
-        );
+    fn add_kept(&self, found: &mut Remedies<'t>, b: u8) -> Result<(), AllocError> {
+        let pc = self.refusal.pc;
+        let fails = matches!(instr_at(self.code, pc), Some(Instr::Ret(Status::Fail)));
         if fails {
-            self.add_clean_here(found, b)?;
+            self.add_clean_at(found, pc, b)?;
         }
         match self.maker() {
-            Some((pc, Instr::BConcat(_, _))) => self.add_save(found, pc)?,
+            Some((pc, Instr::BConcat(a, d))) => {
+                let save = written(Op::BSave, Operand::Brigade(a), Operand::Brigade(d));
+                self.add(found, Pattern::AsideWhatIsKept, Spot::Instead(pc), &[save])?;
+            }
             Some((pc, Instr::Tail(_, c) | Instr::Head(_, c) | Instr::Before(c, _))) => {
                 self.add_asides(found, b, c, pc)?;
             }
             _ => {}
         }
         if !fails {
-            self.add_clean_here(found, b)?;
+            self.add_clean_at(found, pc, b)?;
         }
-        Ok(())
-    }
-
-    fn add_clean_here(&self, found: &mut Remedies, b: u8) -> Result<(), AllocError> {
-        let clean = format!(in self.alloc; "bclean b{b}")?;
-        let mut remedy = Remedy::new(self.alloc, Pattern::CleanWhenFailed);
-        self.before(&mut remedy, self.refusal.pc, &[clean.as_str()])?;
-        found.push(remedy)?;
-        Ok(())
-    }
-
-    fn add_save(&self, found: &mut Remedies, pc: usize) -> Result<(), AllocError> {
-        let mut line = String::new(self.alloc);
-        for byte in self.source.instruction(pc).as_bytes().iter().skip(7) {
-            line.push(char::from(*byte))?;
-        }
-        let save = format!(in self.alloc; "bsave{line}")?;
-        let mut remedy = Remedy::new(self.alloc, Pattern::AsideWhatIsKept);
-        self.instead(&mut remedy, pc, &[save.as_str()])?;
-        found.push(remedy)?;
         Ok(())
     }
 
     // `aside` before what puts the bucket in, in place of one before `unlink`, and before all that put such a bucket in.
     fn add_asides(
         &self,
-        found: &mut Remedies,
+        found: &mut Remedies<'t>,
         b: u8,
         c: u8,
         maker: usize,
     ) -> Result<(), AllocError> {
-        let pool = self.home_name(b)?;
-        let aside = format!(in self.alloc; "aside c{c} {pool}")?;
-        for early in [true, false] {
-            let mut remedy = Remedy::new(self.alloc, Pattern::AsideWhatIsKept);
-            self.before(&mut remedy, maker, &[aside.as_str()])?;
-            if early {
-                self.remove_asides(&mut remedy, c, maker)?;
-            }
-            if !early || remedy.edits.len() > 1 {
-                found.push(remedy)?;
-            }
+        let line = aside(c, self.home(b));
+        if let Some(early) = self.aside_before(c, maker) {
+            self.add(
+                found,
+                Pattern::AsideWhatIsKept,
+                Spot::Before(maker),
+                &[line],
+            )?;
+            self.write(found, Spot::Instead(early), &[])?;
         }
-        self.add_all_asides(found, b, pool.as_str())
+        self.add(
+            found,
+            Pattern::AsideWhatIsKept,
+            Spot::Before(maker),
+            &[line],
+        )?;
+        self.add_all_asides(found, b)
     }
 
     // `aside` before all that put a bucket of the call into the brigade.
-    fn add_all_asides(&self, found: &mut Remedies, b: u8, pool: &str) -> Result<(), AllocError> {
-        let mut remedy = Remedy::new(self.alloc, Pattern::AsideWhatIsKept);
+    fn add_all_asides(&self, found: &mut Remedies<'t>, b: u8) -> Result<(), AllocError> {
+        found.begin(Pattern::AsideWhatIsKept)?;
         for pc in self.code.main()..self.code.len() {
             if let Some(c) = self.puts_of_call(pc, b) {
-                let aside = format!(in self.alloc; "aside c{c} {pool}")?;
-                self.before(&mut remedy, pc, &[aside.as_str()])?;
+                self.write(found, Spot::Before(pc), &[aside(c, self.home(b))])?;
             }
         }
-        found.push(remedy)?;
         Ok(())
     }
 
-    // Takes out the `aside` of a cursor that stands a few instructions before.
-    fn remove_asides(&self, remedy: &mut Remedy, c: u8, maker: usize) -> Result<(), AllocError> {
+    // The `aside` of a cursor that stands a few instructions before.
+    fn aside_before(&self, c: u8, maker: usize) -> Option<usize> {
         for step in 1..5usize {
             let pc = maker.saturating_sub(step);
-            if let Some(Instr::Aside(d, _)) = instr_at(self.code, pc) {
-                if c == d {
-                    return self.instead(remedy, pc, &[]);
-                }
+            match instr_at(self.code, pc) {
+                Some(Instr::Aside(d, _)) if c == d => return Some(pc),
+                _ => {}
             }
         }
-        Ok(())
+        None
     }
 
     // The cursor of a bucket that ends with the call, where the instruction puts it into the brigade.
     fn puts_of_call(&self, pc: usize, b: u8) -> Option<u8> {
-        let state = self.states.state(pc)?;
         match instr_at(self.code, pc)? {
-            Instr::Tail(a, c) | Instr::Head(a, c) if a == b => match state.cursor(c) {
+            Instr::Tail(a, c) | Instr::Head(a, c) if a == b => match self.cursor(pc, c) {
                 CursorState::Loose(_, homes) if homes.call => Some(c),
                 _ => None,
             },
@@ -335,41 +322,38 @@ impl Case<'_> {
     }
 
     // `jend` behind what set the cursor, or before its use, to a label of `main`.
-    fn add_jends(&self, found: &mut Remedies, c: u8) -> Result<(), AllocError> {
+    fn add_jends(&self, found: &mut Remedies<'t>, c: u8) -> Result<(), AllocError> {
         let mut labels = self.source.labels_of_main(self.alloc)?;
         self.put_likely_first(&mut labels)?;
         for label in &labels {
-            let ask = format!(in self.alloc; "jend c{c} {label}")?;
+            let ask = jend(c, Operand::Label(*label));
             if let Some((pc, Instr::First(_, _) | Instr::Next(_, _))) = self.maker() {
-                let mut remedy = Remedy::new(self.alloc, Pattern::AskJend);
-                self.behind(&mut remedy, pc, &[ask.as_str()])?;
-                found.push(remedy)?;
+                self.add(found, Pattern::AskJend, Spot::Behind(pc), &[ask])?;
             }
-            let mut remedy = Remedy::new(self.alloc, Pattern::AskJend);
-            self.before(&mut remedy, self.refusal.pc, &[ask.as_str()])?;
-            found.push(remedy)?;
+            self.add(
+                found,
+                Pattern::AskJend,
+                Spot::Before(self.refusal.pc),
+                &[ask],
+            )?;
         }
-        self.add_jend_to_return(found, c)
-    }
-
-    fn add_jend_to_return(&self, found: &mut Remedies, c: u8) -> Result<(), AllocError> {
-        let label = self.source.new_label(self.alloc, "none")?;
-        let ask = format!(in self.alloc; "jend c{c} {label}")?;
-        let mark = format!(in self.alloc; ":{label}")?;
-        let mut remedy = Remedy::new(self.alloc, Pattern::AskJend);
-        self.before(&mut remedy, self.refusal.pc, &[ask.as_str()])?;
-        self.before_line(&mut remedy, "end", &[mark.as_str(), "ret ok"])?;
-        found.push(remedy)?;
-        Ok(())
+        let (mark, none) = self.new_label("none");
+        let ask = jend(c, none);
+        self.add(
+            found,
+            Pattern::AskJend,
+            Spot::Before(self.refusal.pc),
+            &[ask],
+        )?;
+        self.write(found, Spot::Above("end"), &[mark, RET_OK])
     }
 
     // The label of a `jempty` or `jend` nearest before the use goes to the front.
-    fn put_likely_first(&self, labels: &mut Vec<String>) -> Result<(), AllocError> {
+    fn put_likely_first(&self, labels: &mut Vec<Label<'t>>) -> Result<(), AllocError> {
         for step in 1..8usize {
             let pc = self.refusal.pc.saturating_sub(step);
             if let Some(Instr::JEmpty(_, _) | Instr::JEnd(_, _)) = instr_at(self.code, pc) {
-                let label = last_word(self.alloc, self.source.instruction(pc))?;
-                labels.insert(0, label)?;
+                labels.insert(0, label_in(self.source.instruction(pc)))?;
                 return Ok(());
             }
         }
@@ -377,62 +361,57 @@ impl Case<'_> {
     }
 
     // A `read` that stands in `main`, also on the ways that go past it.
-    fn add_reads(&self, found: &mut Remedies) -> Result<(), AllocError> {
+    fn add_reads(&self, found: &mut Remedies<'t>) -> Result<(), AllocError> {
         for pc in self.code.main()..self.code.len() {
             if let Some(Instr::Read(_, _)) = instr_at(self.code, pc) {
                 let line = self.source.instruction(pc);
                 self.add_reads_on_ways(found, line)?;
-                let mut remedy = Remedy::new(self.alloc, Pattern::ReadOnEachWay);
-                self.before(&mut remedy, self.refusal.pc, &[line])?;
-                found.push(remedy)?;
+                let spot = Spot::Before(self.refusal.pc);
+                self.add(found, Pattern::ReadOnEachWay, spot, &[line])?;
             }
         }
         self.add_new_reads(found)
     }
 
     // A `read` of a bucket that a cursor is at where `get` asks.
-    fn add_new_reads(&self, found: &mut Remedies) -> Result<(), AllocError> {
-        let Some(state) = self.states.state(self.refusal.pc) else {
-            return Ok(());
-        };
-        let label = last_word(self.alloc, self.source.instruction(self.refusal.pc))?;
+    fn add_new_reads(&self, found: &mut Remedies<'t>) -> Result<(), AllocError> {
+        let label = self.label_of(self.refusal.pc);
         for c in 0..8u8 {
-            if let CursorState::In(_, _) = state.cursor(c) {
-                let read = format!(in self.alloc; "read c{c} {label}")?;
-                let mut remedy = Remedy::new(self.alloc, Pattern::ReadOnEachWay);
-                self.before(&mut remedy, self.refusal.pc, &[read.as_str()])?;
-                found.push(remedy)?;
+            if let CursorState::In(_, _) = self.cursor(self.refusal.pc, c) {
+                let read = written(Op::Read, Operand::Cursor(c), label);
+                let spot = Spot::Before(self.refusal.pc);
+                self.add(found, Pattern::ReadOnEachWay, spot, &[read])?;
             }
         }
         Ok(())
     }
 
-    fn add_reads_on_ways(&self, found: &mut Remedies, line: &str) -> Result<(), AllocError> {
+    fn add_reads_on_ways(
+        &self,
+        found: &mut Remedies<'t>,
+        line: LineText<'t>,
+    ) -> Result<(), AllocError> {
         for step in &self.trail.steps {
             if let (StatePlace::At(from), true) = (step.from, step.jumps) {
-                let mut remedy = Remedy::new(self.alloc, Pattern::ReadOnEachWay);
-                self.before(&mut remedy, from, &[line])?;
-                found.push(remedy)?;
+                self.add(found, Pattern::ReadOnEachWay, Spot::Before(from), &[line])?;
             }
         }
         Ok(())
     }
 
     // What is set aside into the pool of the brigade, or a brigade that `init` cleans.
-    fn add_lasting(&self, found: &mut Remedies, b: u8) -> Result<(), AllocError> {
-        let pool = self.home_name(b)?;
-        let mut remedy = Remedy::new(self.alloc, Pattern::OutliveTheRequest);
+    fn add_lasting(&self, found: &mut Remedies<'t>, b: u8) -> Result<(), AllocError> {
+        found.begin(Pattern::OutliveTheRequest)?;
         for pc in self.code.main()..self.code.len() {
             if let Some(Instr::Aside(c, PoolRef::Req | PoolRef::Own(_))) = instr_at(self.code, pc) {
-                let aside = format!(in self.alloc; "aside c{c} {pool}")?;
-                self.instead(&mut remedy, pc, &[aside.as_str()])?;
+                self.write(found, Spot::Instead(pc), &[aside(c, self.home(b))])?;
             }
         }
-        found.push(remedy)?;
-        let clean = format!(in self.alloc; "bclean b{b}")?;
-        let mut remedy = Remedy::new(self.alloc, Pattern::OutliveTheRequest);
-        self.first_in(&mut remedy, "init", &[clean.as_str()])?;
-        found.push(remedy)?;
-        Ok(())
+        self.add(
+            found,
+            Pattern::OutliveTheRequest,
+            Spot::Below("init"),
+            &[clean(b)],
+        )
     }
 }

@@ -1,10 +1,11 @@
 //! The texts and the commands of a script.
 
-use byte_text::{begins, first_line, is_text, token, unindented};
+use byte_text::first_line;
+use script_text::{LineTaken, Part, Texts, begins_cert};
 use std::alloc::{AllocError, Global};
 
-/// How many modules a chain has at most.
-pub const MODULES: usize = 16;
+// More lines than a script can have.
+const MOST_LINES: usize = 1 << 62;
 
 /// A line of a script.
 #[derive(Clone, Copy)]
@@ -21,7 +22,7 @@ pub struct ScriptLine<'a> {
 }
 
 /// What a text is.
-#[derive(Clone, Copy, PartialEq, Eq, Drop)]
+#[derive(Clone, Copy)]
 pub enum TextKind {
     Module,
     Cert,
@@ -36,17 +37,6 @@ pub struct ScriptText<'a> {
     pub text: &'a [u8],
 }
 
-// What a line may be.
-#[derive(Clone, Copy)]
-enum ScriptPlace {
-    InText(TextKind),
-    Behind(TextKind),
-    /// Behind lines that are skipped, which belong to a module text.
-    BehindSkipped,
-    BehindBudget,
-    AtCommands,
-}
-
 /// What a script is made of.
 #[derive(Drop)]
 pub struct Script<'a> {
@@ -54,19 +44,6 @@ pub struct Script<'a> {
     pub texts: Vec<ScriptText<'a>>,
     /// How many lines stand before the commands.
     pub before: usize,
-}
-
-// How far a script was read.
-#[derive(Drop)]
-struct Reading<'a> {
-    script: &'a [u8],
-    texts: Vec<ScriptText<'a>>,
-    place: ScriptPlace,
-    // Where the text begins that is read, and how many lines stand before it.
-    start: usize,
-    before: usize,
-    // How many lines stand before the commands.
-    commands: usize,
 }
 
 fn cut(bytes: &[u8], start: usize, end: usize) -> &[u8] {
@@ -103,138 +80,108 @@ pub fn lines_of<'a>(
     Ok(lines)
 }
 
-/// Whether a line is skipped in a module text.
-pub fn is_skipped(line: &[u8]) -> bool {
-    let rest = unindented(line);
-    rest.is_empty() || begins(rest, b'#')
+// How many certificates were read of these modules.
+fn certs(parts: &[Part]) -> usize {
+    let mut count = 0usize;
+    for part in parts {
+        if part.cert.is_some() {
+            count = count.saturating_add(1);
+        }
+    }
+    count
 }
 
-impl<'a> Reading<'a> {
-    fn count(&self, kind: TextKind) -> usize {
-        let mut count = 0usize;
-        for text in &self.texts {
-            if text.kind == kind {
-                count = count.saturating_add(1);
-            }
-        }
-        count
-    }
-
-    fn begin(&mut self, line: &ScriptLine<'a>, place: ScriptPlace) {
-        self.start = line.start;
-        self.before = line.number.saturating_sub(1);
-        self.place = place;
-    }
-
-    fn close(&mut self, kind: TextKind, end: usize) -> Result<(), AllocError> {
-        let text = cut(self.script, self.start, end);
-        let before = self.before;
-        self.texts.push(ScriptText { kind, before, text })?;
-        self.place = ScriptPlace::Behind(kind);
-        Ok(())
-    }
-
-    fn take(&mut self, line: &ScriptLine<'a>) -> Result<(), AllocError> {
-        match self.place {
-            ScriptPlace::InText(kind) => {
-                if line.ended && is_text(unindented(line.text), b"end") {
-                    self.close(kind, line.end)?;
-                }
-            }
-            ScriptPlace::Behind(kind) => self.take_behind(line, kind),
-            ScriptPlace::BehindSkipped if is_skipped(line.text) => {}
-            ScriptPlace::BehindSkipped if self.begins_module(line) => {
-                self.place = ScriptPlace::InText(TextKind::Module);
-            }
-            ScriptPlace::BehindSkipped | ScriptPlace::BehindBudget => self.take_heading(line),
-            ScriptPlace::AtCommands => {}
-        }
-        Ok(())
-    }
-
-    fn begins_module(&self, line: &ScriptLine<'a>) -> bool {
-        is_text(token(unindented(line.text)), b"module") && self.count(TextKind::Module) < MODULES
-    }
-
-    fn take_behind(&mut self, line: &ScriptLine<'a>, kind: TextKind) {
-        if is_skipped(line.text) {
-            self.begin(line, ScriptPlace::BehindSkipped);
-        } else if kind == TextKind::Module && is_text(token(line.text), b"cert") {
-            self.begin(line, ScriptPlace::InText(TextKind::Cert));
-        } else if self.begins_module(line) {
-            self.begin(line, ScriptPlace::InText(TextKind::Module));
-        } else if is_text(token(line.text), b"budget") {
-            self.place = ScriptPlace::BehindBudget;
-        } else {
-            self.take_heading(line);
-        }
-    }
-
-    fn take_heading(&mut self, line: &ScriptLine<'a>) {
-        self.place = ScriptPlace::AtCommands;
-        self.commands = if is_text(line.text, b"checked") {
-            line.number
-        } else {
-            line.number.saturating_sub(1)
-        };
+// What a text is that begins behind so many lines.
+fn kind_behind(lines: &[ScriptLine<'_>], before: usize) -> TextKind {
+    match lines.get(before) {
+        Some(line) if before != 0 && begins_cert(line.text, line.ended) => TextKind::Cert,
+        _ => TextKind::Module,
     }
 }
 
 impl<'a> Script<'a> {
-    /// What a script is made of. A text that does not end is all up to its end.
-    pub fn of(alloc: Global, script: &'a [u8]) -> Result<Self, AllocError> {
-        let lines = lines_of(alloc, script, 0)?;
-        let mut reading = Reading {
-            script,
-            texts: Vec::new(alloc),
-            place: ScriptPlace::InText(TextKind::Module),
-            start: 0,
-            before: 0,
-            commands: lines.len(),
+    // Adds the text that begins behind so many lines and ends here.
+    fn add(&mut self, script: &'a [u8], before: usize, end: usize) -> Result<(), AllocError> {
+        let start = match self.lines.get(before) {
+            Some(first) => first.start,
+            None => end,
         };
-        for line in &lines {
-            reading.take(line)?;
-        }
-        if let ScriptPlace::InText(kind) = reading.place {
-            reading.close(kind, script.len())?;
-        }
-        let Reading {
-            texts,
-            commands,
-            ..
-        } = reading;
-        Ok(Script {
-            lines,
-            texts,
-            before: commands,
-        })
+        let text = cut(script, start, end);
+        let kind = kind_behind(self.lines.as_slice(), before);
+        self.texts.push(ScriptText { kind, before, text })?;
+        Ok(())
     }
 
-    /// The text of a module, by its place in the chain.
-    pub fn module(&self, index: usize) -> Option<ScriptText<'a>> {
-        let mut next = 0usize;
-        for text in &self.texts {
-            if text.kind == TextKind::Module {
-                if next == index {
-                    return Some(*text);
+    // Takes a line before the commands; tells whether more of these may follow.
+    fn take(
+        &mut self,
+        alloc: Global,
+        texts: &mut Texts,
+        script: &'a [u8],
+        line: &ScriptLine<'a>,
+    ) -> Result<bool, AllocError> {
+        if line.number == 0 || texts.before() >= MOST_LINES {
+            return Ok(false);
+        }
+        let mut answer = Vec::new(alloc);
+        let (modules, given) = (texts.parts.len(), certs(texts.parts.as_slice()));
+        match texts.take(alloc, line.number, line.text, line.ended, &mut answer)? {
+            LineTaken::More => {
+                if texts.parts.len() != modules || certs(texts.parts.as_slice()) != given {
+                    self.add(script, texts.before(), line.end)?;
                 }
-                next = next.saturating_add(1);
+                Ok(true)
+            }
+            LineTaken::Over => {
+                self.add(script, texts.before(), line.end)?;
+                Ok(false)
+            }
+            LineTaken::Checked => {
+                self.before = line.number;
+                Ok(false)
+            }
+            LineTaken::Command => {
+                self.before = line.number.saturating_sub(1);
+                Ok(false)
             }
         }
-        None
     }
 
-    /// The text of the certificate behind a module, if there is one.
-    pub fn certificate(&self, index: usize) -> Option<ScriptText<'a>> {
+    /// What a script is made of, up to the first fault of a text. A text that does not end is all up to its end.
+    pub fn of(alloc: Global, text: &'a [u8]) -> Result<Self, AllocError> {
+        let lines = lines_of(alloc, text, 0)?;
+        let before = lines.len();
+        let mut script = Script {
+            lines,
+            texts: Vec::new(alloc),
+            before,
+        };
+        let mut texts = Texts::new(alloc);
+        for index in 0..before {
+            let Some(line) = script.line(index.saturating_add(1)) else {
+                break;
+            };
+            if !script.take(alloc, &mut texts, text, &line)? {
+                return Ok(script);
+            }
+        }
+        script.add(text, texts.before(), text.len())?;
+        Ok(script)
+    }
+
+    /// The text of a module, by its place in the chain, and that of the certificate behind it, if there is one.
+    pub fn module(&self, index: usize) -> Option<(ScriptText<'a>, Option<ScriptText<'a>>)> {
         let mut next = 0usize;
-        for text in &self.texts {
-            match text.kind {
-                TextKind::Module => next = next.saturating_add(1),
-                TextKind::Cert => {
-                    if next == index.saturating_add(1) {
-                        return Some(*text);
-                    }
+        for (at, text) in self.texts.iter().enumerate() {
+            if let TextKind::Module = text.kind {
+                if next == index {
+                    let cert = match self.texts.get(at.saturating_add(1)) {
+                        Some(cert) if matches!(cert.kind, TextKind::Cert) => Some(*cert),
+                        _ => None,
+                    };
+                    return Some((*text, cert));
                 }
+                next = next.saturating_add(1);
             }
         }
         None

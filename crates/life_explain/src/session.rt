@@ -1,17 +1,16 @@
 //! All refusals of a module that do not follow from one another, with lines that were tried.
 
-use crate::case::{Case, Remedy};
+use crate::advice::Advice;
+use crate::case::Case;
 use crate::doubt::Doubt;
 use crate::flow::{FlowRefusal, all_ways, failures, refusal_by, refusal_of, refusals, states_of};
 use crate::pattern::{Pattern, pattern_of_fault};
-use crate::source::Source;
-use crate::told::Advice;
+use crate::source::{Change, Edit, Source};
 use crate::trail::{Known, trail_to};
 use life_check::Cert;
 use module_code::Module;
 use module_lang::{AsmRefusal, assemble};
 use run_model::FaultKind;
-use script_text::fault_name;
 use std::alloc::{AllocError, Global};
 
 /// How many refusals are told of a module at most.
@@ -29,15 +28,18 @@ struct Study {
     failures: usize,
 }
 
-// What was made of a refusal: the source with lines that help, and how many tests may still fail.
+// What was made of a refusal: the edits that help, the source with them, how many tests may still fail, and whether its line is
+// refused no more.
 #[derive(Drop)]
-struct Mended {
-    remedy: Remedy,
-    source: Source,
+struct Mended<'t> {
+    pattern: Pattern,
+    edits: Vec<Edit<'t>>,
+    source: Source<'t>,
     left: usize,
+    settled: bool,
 }
 
-fn module_of(alloc: Global, source: &Source) -> Result<Option<Module>, AllocError> {
+fn module_of(alloc: Global, source: &Source<'_>) -> Result<Option<Module>, AllocError> {
     let text = source.text(alloc)?;
     match assemble(alloc, text.as_bytes()) {
         Ok(code) => Ok(Some(code)),
@@ -56,11 +58,11 @@ fn all_failures(code: &Module, states: &Cert) -> usize {
     count
 }
 
-fn study_of(alloc: Global, source: &Source) -> Result<Option<Study>, AllocError> {
+fn study_of(alloc: Global, source: &Source<'_>) -> Result<Option<Study>, AllocError> {
     let Some(code) = module_of(alloc, source)? else {
         return Ok(None);
     };
-    let states = states_of(alloc, &code, true)?;
+    let states = states_of(alloc, &code)?;
     let refusals = refusals(alloc, &code, &states)?;
     let failures = all_failures(&code, &states);
     Ok(Some(Study {
@@ -72,41 +74,51 @@ fn study_of(alloc: Global, source: &Source) -> Result<Option<Study>, AllocError>
 }
 
 // Whether an edit takes out a line that is to be written.
-fn undoes(source: &Source, remedy: &Remedy) -> bool {
-    remedy.edits.iter().any(|edit| {
-        edit.removes
-            && source
-                .lines
-                .get(edit.at)
-                .is_some_and(|line| line.number == 0)
-    })
+fn undoes(source: &Source<'_>, edits: &[Edit<'_>]) -> bool {
+    for edit in edits {
+        if let (Change::Remove | Change::Instead(_), Some(line)) = (
+            edit.change,
+            source.lines.get(edit.at),
+        ) {
+            if line.number == 0 {
+                return true;
+            }
+        }
+    }
+    false
 }
 
 // What is left with these edits; nothing where the text is no module then.
-fn tried(case: &Case<'_>, remedy: Remedy) -> Result<Option<(Mended, bool)>, AllocError> {
-    if undoes(case.source, &remedy) {
+fn tried<'t>(
+    case: &Case<'_, 't>,
+    pattern: Pattern,
+    edits: Vec<Edit<'t>>,
+) -> Result<Option<Mended<'t>>, AllocError> {
+    if undoes(case.source, edits.as_slice()) {
         return Ok(None);
     }
-    let source = case.source.edited(case.alloc, remedy.edits.as_slice())?;
+    let source = case.source.edited(case.alloc, edits.as_slice())?;
     let Some(study) = study_of(case.alloc, &source)? else {
         return Ok(None);
     };
     let line = case.source.number_of(case.refusal.pc);
-    let settled = !refuses(&source, study.refusals.as_slice(), line);
-    let left = study.failures;
-    let mended = Mended {
-        remedy,
+    Ok(Some(Mended {
+        pattern,
+        edits,
+        settled: !refuses(&source, study.refusals.as_slice(), line),
         source,
-        left,
-    };
-    Ok(Some((mended, settled)))
+        left: study.failures,
+    }))
 }
 
 // Whether the line is refused.
-fn refuses(source: &Source, refusals: &[FlowRefusal], line: usize) -> bool {
-    refusals
-        .iter()
-        .any(|refusal| source.number_of(refusal.pc) == line)
+fn refuses(source: &Source<'_>, refusals: &[FlowRefusal], line: usize) -> bool {
+    for refusal in refusals {
+        if source.number_of(refusal.pc) == line {
+            return true;
+        }
+    }
+    false
 }
 
 // Whether a remedy may bring to light as much as it settles.
@@ -123,18 +135,20 @@ fn uncovers(doubt: Doubt) -> bool {
 }
 
 // The first remedy that leaves the fewest tests that may fail, and fewer than there are.
-fn best(case: &Case<'_>, now: usize) -> Result<Option<Mended>, AllocError> {
-    let mut best = None;
+fn best<'t>(case: &Case<'_, 't>, now: usize) -> Result<Option<Mended<'t>>, AllocError> {
+    let mut best: Option<Mended<'t>> = None;
     let mut least = now;
     let mut ties = uncovers(case.refusal.doubt);
-    let mut remedies = case.remedies()?;
-    remedies.truncate(TRIES);
-    for remedy in remedies {
+    let remedies = case.remedies()?;
+    for index in 0..TRIES {
+        let Some((pattern, edits)) = remedies.get(case.alloc, index)? else {
+            break;
+        };
         if least == 0 {
             break;
         }
-        if let Some((mended, settled)) = tried(case, remedy)? {
-            if mended.left < least || (ties && settled && mended.left == least) {
+        if let Some(mended) = tried(case, pattern, edits)? {
+            if mended.left < least || (ties && mended.settled && mended.left == least) {
                 ties = false;
                 least = mended.left;
                 best = Some(mended);
@@ -147,51 +161,63 @@ fn best(case: &Case<'_>, now: usize) -> Result<Option<Mended>, AllocError> {
     }
 }
 
+// The edits without that of this number.
+fn without<'t>(
+    alloc: Global,
+    edits: &[Edit<'t>],
+    left_out: usize,
+) -> Result<Vec<Edit<'t>>, AllocError> {
+    let mut kept = Vec::new(alloc);
+    for (index, edit) in edits.iter().enumerate() {
+        if index != left_out {
+            kept.push(*edit)?;
+        }
+    }
+    Ok(kept)
+}
+
 // The same without cleans that change nothing.
-fn pruned(case: &Case<'_>, mended: Mended) -> Result<Mended, AllocError> {
+fn pruned<'t>(case: &Case<'_, 't>, mended: Mended<'t>) -> Result<Mended<'t>, AllocError> {
     let mut kept = mended;
     let mut index = 0usize;
-    for _ in 0..kept.remedy.edits.len() {
-        if !matches!(kept.remedy.pattern, Pattern::CleanWhenFailed) || kept.remedy.edits.len() < 2 {
+    for _ in 0..kept.edits.len() {
+        if !matches!(kept.pattern, Pattern::CleanWhenFailed) || kept.edits.len() < 2 {
             break;
         }
-        let fewer = kept.remedy.without(case.alloc, index)?;
-        index = index.saturating_add(1);
-        if let Some((mended, _)) = tried(case, fewer)? {
-            if mended.left <= kept.left {
-                index = index.saturating_sub(1);
-                kept = mended;
-            }
+        let fewer = without(case.alloc, kept.edits.as_slice(), index)?;
+        match tried(case, kept.pattern, fewer)? {
+            Some(mended) if mended.left <= kept.left => kept = mended,
+            _ => index = index.saturating_add(1),
         }
     }
     Ok(kept)
 }
 
 // Tells what to write, as it was tried, or in words.
-fn tell_remedy(
+fn tell_remedy<'t>(
     told: &mut Advice,
-    case: &Case<'_>,
+    case: &Case<'_, 't>,
     now: usize,
-) -> Result<Option<Mended>, AllocError> {
+) -> Result<Option<Mended<'t>>, AllocError> {
     if now == 0 {
         return Ok(None);
     }
     let mended = best(case, now)?;
     match &mended {
-        Some(mended) => told.remedy(case.source, &mended.remedy)?,
+        Some(mended) => told.remedy(case.source, mended.pattern, mended.edits.as_slice())?,
         None => told.advice(case.pattern())?,
     }
     Ok(mended)
 }
 
 // Tells a refusal in these states. It gives the source as it is mended, where lines were found that help.
-fn tell(
+fn tell<'t>(
     told: &mut Advice,
-    source: &Source,
+    source: &Source<'t>,
     module: (&Module, &Cert),
     refusal: FlowRefusal,
     now: usize,
-) -> Result<Option<Mended>, AllocError> {
+) -> Result<Option<Mended<'t>>, AllocError> {
     let Some(state) = module.1.state(refusal.pc) else {
         return Ok(None);
     };
@@ -200,13 +226,13 @@ fn tell(
 }
 
 // Tells where what may be so comes from, and what to write. It gives the source as it is mended, where lines were found that help.
-fn tell_cause(
+fn tell_cause<'t>(
     told: &mut Advice,
-    source: &Source,
+    source: &Source<'t>,
     module: (&Module, &Cert),
     refusal: FlowRefusal,
     now: usize,
-) -> Result<Option<Mended>, AllocError> {
+) -> Result<Option<Mended<'t>>, AllocError> {
     let (code, states) = module;
     let alloc = told.alloc;
     let ways = all_ways(alloc, code, states)?;
@@ -230,7 +256,11 @@ fn tell_cause(
 }
 
 // The first refusal whose line was not told yet.
-fn next_refusal(source: &Source, refusals: &[FlowRefusal], seen: &[usize]) -> Option<FlowRefusal> {
+fn next_refusal(
+    source: &Source<'_>,
+    refusals: &[FlowRefusal],
+    seen: &[usize],
+) -> Option<FlowRefusal> {
     for refusal in refusals {
         if !seen.contains(&source.number_of(refusal.pc)) {
             return Some(*refusal);
@@ -239,7 +269,7 @@ fn next_refusal(source: &Source, refusals: &[FlowRefusal], seen: &[usize]) -> Op
     None
 }
 
-fn tell_rest(told: &mut Advice, source: Source, seen: Vec<usize>) -> Result<(), AllocError> {
+fn tell_rest(told: &mut Advice, source: Source<'_>, seen: Vec<usize>) -> Result<(), AllocError> {
     let mut source = source;
     let mut seen = seen;
     for _ in 0..MOST {
@@ -266,7 +296,7 @@ fn tell_rest(told: &mut Advice, source: Source, seen: Vec<usize>) -> Result<(), 
 }
 
 // Whether fewer tests may fail than before.
-fn lessens(mended: &Option<Mended>, now: usize) -> bool {
+fn lessens(mended: &Option<Mended<'_>>, now: usize) -> bool {
     match mended {
         Some(mended) => mended.left < now,
         None => false,
@@ -276,7 +306,7 @@ fn lessens(mended: &Option<Mended>, now: usize) -> bool {
 /// Tells why an instruction of a module is refused in these states, and why others are that do not follow from it.
 pub fn tell_refusals(
     told: &mut Advice,
-    source: Source,
+    source: Source<'_>,
     code: &Module,
     states: &Cert,
     pc: usize,
@@ -308,7 +338,7 @@ pub fn tell_refusals(
 /// Tells what the rule of an instruction wants that had this fault, where that comes from, and what to write instead.
 pub fn tell_fault(
     told: &mut Advice,
-    source: &Source,
+    source: &Source<'_>,
     pc: usize,
     kind: FaultKind,
 ) -> Result<(), AllocError> {
@@ -317,7 +347,7 @@ pub fn tell_fault(
     };
     let module = (&study.code, &study.states);
     let (Some(refusal), Some(state)) = (
-        refusal_by(module.0, module.1, pc, fault_name(kind)),
+        refusal_by(module.0, module.1, pc, kind),
         module.1.state(pc),
     ) else {
         return told.advice(pattern_of_fault(kind));

@@ -1,49 +1,78 @@
 //! The lines of a module text, as they are or as they would be written.
 
-use byte_text::{begins, is_printable, is_text, token};
+use crate::advice::Advice;
+use crate::line_words::{ends_with, text_of};
+use crate::script::lines_of;
+use byte_text::{after_token, begins, is_text, tail, unindented};
+use module_code::{Op, PoolRef};
 use std::alloc::{AllocError, Global};
-use std::str;
 
-/// A line of a module text.
-#[derive(Drop)]
-pub struct ModuleLine {
-    /// Its number, from 1 on; 0 of a line that is not there yet.
+/// The name of a label: one of the text, or a new one, with a number behind it but for 0.
+#[derive(Clone, Copy)]
+pub struct Label<'t> {
+    pub name: &'t str,
+    pub number: u8,
+}
+
+/// An operand of a line that is to be written.
+#[derive(Clone, Copy)]
+pub enum Operand<'t> {
+    Nothing,
+    Brigade(u8),
+    Cursor(u8),
+    Pool(PoolRef),
+    Label(Label<'t>),
+    Word(&'static str),
+}
+
+/// What stands on a line, without the spaces before it.
+#[derive(Clone, Copy)]
+pub enum LineText<'t> {
+    /// A line of the text that was given.
+    Given(&'t str),
+    /// A label.
+    Mark(Label<'t>),
+    /// The declaration of this brigade on `req`.
+    Declared(u8),
+    /// An instruction.
+    Written(Op, Operand<'t>, Operand<'t>, Operand<'t>),
+}
+
+/// A line of a module text. Its number counts from 1; it is 0 of a line that is not there yet.
+#[derive(Clone, Copy)]
+pub struct ModuleLine<'t> {
     pub number: usize,
-    /// What stands on it, without the spaces before it.
-    pub text: String,
+    pub text: LineText<'t>,
 }
 
-/// Lines that would be written before a line, or in its place.
-#[derive(Drop)]
-pub struct Edit {
-    /// The line, by its place in the source, from 0 on.
+/// What an edit does at a line.
+#[derive(Clone, Copy)]
+pub enum Change<'t> {
+    /// Takes it out.
+    Remove,
+    /// Writes a line in its place.
+    Instead(LineText<'t>),
+    /// Writes a line before it.
+    Before(LineText<'t>),
+    /// Writes a further line behind the one that the edit before this one writes.
+    Then(LineText<'t>),
+}
+
+/// A change at a line, by its place in the source, from 0 on.
+#[derive(Clone, Copy)]
+pub struct Edit<'t> {
     pub at: usize,
-    /// Whether it goes.
-    pub removes: bool,
-    pub lines: Vec<String>,
-}
-
-impl Edit {
-    /// The same edit.
-    pub fn copied(&self, alloc: Global) -> Result<Edit, AllocError> {
-        let mut lines = Vec::new(alloc);
-        for line in &self.lines {
-            lines.push(copied(alloc, line.as_str())?)?;
-        }
-        let at = self.at;
-        let removes = self.removes;
-        Ok(Edit { at, removes, lines })
-    }
+    pub change: Change<'t>,
 }
 
 /// A module text.
 #[derive(Drop)]
-pub struct Source {
-    pub lines: Vec<ModuleLine>,
+pub struct Source<'t> {
+    pub lines: Vec<ModuleLine<'t>>,
 }
 
 // What a line is.
-#[derive(Clone, Copy, PartialEq, Eq, Drop)]
+#[derive(Clone, Copy)]
 enum LineKind {
     Skipped,
     Open,
@@ -52,7 +81,19 @@ enum LineKind {
     Word,
 }
 
-fn kind_of(line: &[u8]) -> LineKind {
+/// An instruction of these operands.
+pub fn written<'t>(op: Op, first: Operand<'t>, second: Operand<'t>) -> LineText<'t> {
+    LineText::Written(op, first, second, Operand::Nothing)
+}
+
+fn kind_of(line: LineText<'_>) -> LineKind {
+    let LineText::Given(text) = line else {
+        return match line {
+            LineText::Mark(_) => LineKind::Label,
+            _ => LineKind::Word,
+        };
+    };
+    let line = text.as_bytes();
     if line.is_empty() || begins(line, b'#') {
         LineKind::Skipped
     } else if begins(line, b':') {
@@ -66,80 +107,74 @@ fn kind_of(line: &[u8]) -> LineKind {
     }
 }
 
-// A byte as it may be printed; a question mark for those that no module has.
-fn shown(byte: u8) -> char {
-    if is_printable(byte) {
-        char::from(byte)
-    } else {
-        '?'
+// The label that a line marks.
+fn marked(line: LineText<'_>) -> Option<Label<'_>> {
+    match line {
+        LineText::Given(text) if begins(text.as_bytes(), b':') => Some(Label {
+            name: text_of(tail(text.as_bytes())),
+            number: 0,
+        }),
+        LineText::Mark(label) => Some(label),
+        _ => None,
     }
 }
 
-/// A copy of a text.
-pub fn copied(alloc: Global, text: &str) -> Result<String, AllocError> {
-    String::from_str(alloc, text)
+// Whether a label is written as a new one of this number would be.
+fn is_same(label: Label<'_>, name: &str, number: u8) -> bool {
+    if label.number != 0 || number == 0 {
+        return label.name == name && label.number == number;
+    }
+    let text = label.name.as_bytes();
+    text.len() == name.len().saturating_add(1)
+        && text.starts_with(name.as_bytes())
+        && ends_with(text, b'0'.saturating_add(number))
 }
 
-/// The last word of a line, as the label of an instruction that has one.
-pub fn last_word(alloc: Global, line: &str) -> Result<String, AllocError> {
-    let mut word = String::new(alloc);
-    for byte in line.as_bytes() {
-        if *byte == b' ' {
-            word.clear();
-        } else {
-            word.push(char::from(*byte))?;
+/// The label that an instruction with one names.
+pub fn label_in(line: LineText<'_>) -> Label<'_> {
+    let name = match line {
+        LineText::Given(text) => text_of(last_word(text.as_bytes())),
+        LineText::Written(_, Operand::Label(label), _, _)
+        | LineText::Written(_, _, Operand::Label(label), _)
+        | LineText::Written(_, _, _, Operand::Label(label)) => return label,
+        _ => "",
+    };
+    Label { name, number: 0 }
+}
+
+/// What stands behind the last space of a line of four words at most.
+pub fn last_word(line: &[u8]) -> &[u8] {
+    let mut last = line;
+    for _ in 0..4u8 {
+        let rest = after_token(last);
+        if rest.is_empty() {
+            break;
         }
+        last = tail(rest);
     }
-    Ok(word)
+    last
 }
 
-/// The first word of a line.
-pub fn first_word(line: &str) -> &str {
-    str::from_utf8(token(line.as_bytes())).unwrap_or("")
-}
-
-impl ModuleLine {
-    fn kind(&self) -> LineKind {
-        kind_of(self.text.as_bytes())
-    }
-
-    /// Whether this stands on it.
-    pub fn is(&self, text: &str) -> bool {
-        self.text.as_str() == text
-    }
-
-    fn copied(&self, alloc: Global) -> Result<ModuleLine, AllocError> {
-        let text = copied(alloc, self.text.as_str())?;
-        let number = self.number;
-        Ok(ModuleLine { number, text })
-    }
-}
-
-impl Source {
+impl<'t> Source<'t> {
     /// The lines of a text, before which so many stand.
-    pub fn of(alloc: Global, text: &[u8], before: usize) -> Result<Source, AllocError> {
+    pub fn of(alloc: Global, text: &'t [u8], before: usize) -> Result<Source<'t>, AllocError> {
         let mut lines = Vec::new(alloc);
-        let mut line = String::new(alloc);
-        for byte in text {
-            if *byte == b'\n' {
-                let number = before.saturating_add(lines.len()).saturating_add(1);
-                lines.push(ModuleLine { number, text: line })?;
-                line = String::new(alloc);
-            } else if *byte != b' ' || !line.is_empty() {
-                line.push(shown(*byte))?;
-            }
+        for line in &lines_of(alloc, text, before)? {
+            let number = line.number;
+            let text = LineText::Given(text_of(unindented(line.text)));
+            lines.push(ModuleLine { number, text })?;
         }
         Ok(Source { lines })
     }
 
     /// Its text.
     pub fn text(&self, alloc: Global) -> Result<String, AllocError> {
-        let mut text = String::new(alloc);
+        let mut page = Advice::new(alloc);
         for line in &self.lines {
-            text.push_str(line.text.as_str())?;
-            text.push('\n')?;
+            page.put_line(line.text)?;
+            page.text.push('\n')?;
         }
-        Ok(text)
+        Ok(page.text)
     }
 
     /// The place of the line of an instruction.
@@ -147,7 +182,7 @@ impl Source {
         let mut next = 0usize;
         let mut in_code = false;
         for (index, line) in self.lines.iter().enumerate() {
-            match line.kind() {
+            match kind_of(line.text) {
                 LineKind::Open => in_code = true,
                 LineKind::Word if in_code => {
                     if next == pc {
@@ -162,18 +197,18 @@ impl Source {
     }
 
     /// What stands at a place; nothing behind the last line.
-    pub fn text_at(&self, index: usize) -> &str {
+    pub fn text_at(&self, index: usize) -> LineText<'t> {
         match self.lines.get(index) {
-            Some(line) => line.text.as_str(),
-            None => "",
+            Some(line) => line.text,
+            None => LineText::Given(""),
         }
     }
 
     /// What an instruction is written as.
-    pub fn instruction(&self, pc: usize) -> &str {
+    pub fn instruction(&self, pc: usize) -> LineText<'t> {
         match self.line_of(pc) {
             Some(index) => self.text_at(index),
-            None => "",
+            None => LineText::Given(""),
         }
     }
 
@@ -195,55 +230,60 @@ impl Source {
         }
     }
 
-    /// The place of the first line that is written so.
-    pub fn find(&self, text: &str) -> Option<usize> {
+    /// The place of the line with which a part of the text begins, or of `end`.
+    pub fn find(&self, header: &str) -> Option<usize> {
         for (index, line) in self.lines.iter().enumerate() {
-            if line.is(text) {
-                return Some(index);
+            if let LineText::Given(text) = line.text {
+                if text == header {
+                    return Some(index);
+                }
             }
         }
         None
     }
 
-    /// The name of the label that stands before a place, if there is one.
-    pub fn label_before(&self, alloc: Global, place: usize) -> Result<String, AllocError> {
-        let mut label = String::new(alloc);
-        for (index, line) in self.lines.iter().enumerate() {
-            if index >= place {
-                break;
-            }
-            match line.kind() {
-                LineKind::Label => label = unmarked(alloc, line.text.as_str())?,
-                LineKind::Skipped => {}
-                LineKind::Open | LineKind::Header | LineKind::Word => label.clear(),
+    /// Whether a line marks this label.
+    pub fn has_label(&self, name: &str, number: u8) -> bool {
+        for line in &self.lines {
+            if let Some(label) = marked(line.text) {
+                if is_same(label, name, number) {
+                    return true;
+                }
             }
         }
-        Ok(label)
+        false
+    }
+
+    /// The label that stands before a place, if there is one.
+    pub fn label_before(&self, place: usize) -> Option<Label<'t>> {
+        let mut label = None;
+        for line in self.lines.iter().take(place) {
+            match kind_of(line.text) {
+                LineKind::Label => label = marked(line.text),
+                LineKind::Skipped => {}
+                LineKind::Open | LineKind::Header | LineKind::Word => label = None,
+            }
+        }
+        label
     }
 
     /// A name that no label has yet.
-    pub fn new_label(&self, alloc: Global, name: &str) -> Result<String, AllocError> {
+    pub fn new_label(&self, name: &'static str) -> Label<'t> {
         for number in 0..9u8 {
-            let label = if number == 0 {
-                copied(alloc, name)?
-            } else {
-                format!(in alloc; "{name}{number}")?
-            };
-            let line = format!(in alloc; ":{label}")?;
-            if self.find(line.as_str()).is_none() {
-                return Ok(label);
+            if !self.has_label(name, number) {
+                return Label { name, number };
             }
         }
-        copied(alloc, name)
+        Label { name, number: 0 }
     }
 
     /// The labels that stand behind the line `main`, the nearest to the end first.
-    pub fn labels_of_main(&self, alloc: Global) -> Result<Vec<String>, AllocError> {
+    pub fn labels_of_main(&self, alloc: Global) -> Result<Vec<Label<'t>>, AllocError> {
         let mut labels = Vec::new(alloc);
         let main = self.find("main").unwrap_or(0);
         for line in self.lines.iter().skip(main) {
-            if line.kind() == LineKind::Label {
-                labels.push(unmarked(alloc, line.text.as_str())?)?;
+            if let Some(label) = marked(line.text) {
+                labels.push(label)?;
             }
         }
         labels.reverse();
@@ -251,55 +291,33 @@ impl Source {
     }
 
     /// The source with these edits.
-    pub fn edited(&self, alloc: Global, edits: &[Edit]) -> Result<Source, AllocError> {
+    pub fn edited(&self, alloc: Global, edits: &[Edit<'t>]) -> Result<Source<'t>, AllocError> {
         let mut lines = Vec::new(alloc);
         for (index, line) in self.lines.iter().enumerate() {
-            add_written(alloc, &mut lines, edits, index)?;
-            if !is_removed(edits, index) {
-                lines.push(line.copied(alloc)?)?;
+            if add_written(&mut lines, edits, index)? {
+                lines.push(*line)?;
             }
         }
         Ok(Source { lines })
     }
 }
 
-// A label without its colon.
-fn unmarked(alloc: Global, line: &str) -> Result<String, AllocError> {
-    let mut name = String::new(alloc);
-    for byte in line.as_bytes() {
-        if *byte != b':' {
-            name.push(char::from(*byte))?;
-        }
-    }
-    Ok(name)
-}
-
-fn is_removed(edits: &[Edit], index: usize) -> bool {
-    edits.iter().any(|edit| edit.removes && edit.at == index)
-}
-
-fn add_lines(
-    alloc: Global,
-    lines: &mut Vec<ModuleLine>,
-    written: &[String],
-) -> Result<(), AllocError> {
-    for text in written {
-        let text = copied(alloc, text.as_str())?;
-        lines.push(ModuleLine { number: 0, text })?;
-    }
-    Ok(())
-}
-
-fn add_written(
-    alloc: Global,
-    lines: &mut Vec<ModuleLine>,
-    edits: &[Edit],
+// Adds the lines that are to be written at a place; tells whether the line that is there stays.
+fn add_written<'t>(
+    lines: &mut Vec<ModuleLine<'t>>,
+    edits: &[Edit<'t>],
     index: usize,
-) -> Result<(), AllocError> {
+) -> Result<bool, AllocError> {
+    let mut stays = true;
     for edit in edits {
         if edit.at == index {
-            add_lines(alloc, lines, edit.lines.as_slice())?;
+            if let Change::Remove | Change::Instead(_) = edit.change {
+                stays = false;
+            }
+            if let Change::Instead(text) | Change::Before(text) | Change::Then(text) = edit.change {
+                lines.push(ModuleLine { number: 0, text })?;
+            }
         }
     }
-    Ok(())
+    Ok(stays)
 }

@@ -1,23 +1,17 @@
 //! What is told of a refusal.
 
-use crate::case::Remedy;
+use crate::advice::{Advice, Item};
 use crate::doubt::Doubt;
-use crate::flow::{FlowRefusal, StatePlace, instr_at};
+use crate::flow::{FlowRefusal, instr_at};
 use crate::pattern::Pattern;
-use crate::source::{Edit, Source};
+use crate::source::{Change, Edit, Source};
 use crate::trail::{Origin, Trail, TrailStep};
-use crate::words::{cursor_name, fault_text, found, wanted};
+use crate::words::fault_text;
+use life_cert::StatePlace;
 use life_state::State;
 use module_code::{Instr, Module};
 use script_text::fault_name;
-use std::alloc::{AllocError, Global};
-
-/// What was told so far.
-#[derive(Drop)]
-pub struct Advice {
-    pub alloc: Global,
-    pub text: String,
-}
+use std::alloc::AllocError;
 
 /// The handler that an instruction is in.
 pub fn handler_name(code: &Module, pc: usize) -> &'static str {
@@ -50,50 +44,36 @@ fn deed(doubt: Doubt) -> &'static str {
 }
 
 impl Advice {
-    /// Nothing yet.
-    pub fn new(alloc: Global) -> Advice {
-        Advice {
-            alloc,
-            text: String::new(alloc),
-        }
-    }
-
-    /// Tells a line.
-    pub fn say(&mut self, line: &str) -> Result<(), AllocError> {
-        self.text.push_str(line)?;
-        self.text.push('\n')
+    /// Tells of an instruction: the form has a `$` for the number of its line, one for the line, and one for a text.
+    pub fn put_at<'t>(
+        &mut self,
+        source: &Source<'t>,
+        pc: usize,
+        form: &str,
+        text: &'t str,
+    ) -> Result<(), AllocError> {
+        let number = Item::Number(source.number_of(pc));
+        let line = Item::Line(source.instruction(pc));
+        self.put(form, &[number, line, Item::Text(text)])
     }
 
     /// Tells where a refusal is, what its rule wants and what the state there is.
     pub fn refusal(
         &mut self,
-        source: &Source,
+        source: &Source<'_>,
         state: &State,
         refusal: &FlowRefusal,
     ) -> Result<(), AllocError> {
-        let line = source.number_of(refusal.pc);
-        let instruction = source.instruction(refusal.pc);
         let fault = fault_name(refusal.kind);
-        let says = fault_text(refusal.kind);
-        writeln!(
-            self.text,
-            "line {line}: `{instruction}` may have {fault}: {says}"
-        )?;
+        self.put_at(source, refusal.pc, "line $: `$` may have $: ", fault)?;
+        self.say(fault_text(refusal.kind))?;
         self.rule(state, refusal.doubt)
-    }
-
-    /// Tells what a rule wants and what the state there is.
-    pub fn rule(&mut self, state: &State, doubt: Doubt) -> Result<(), AllocError> {
-        let wanted = wanted(self.alloc, doubt)?;
-        let found = found(self.alloc, state, doubt)?;
-        writeln!(self.text, "  wanted: {wanted}")?;
-        writeln!(self.text, "  there: {found}")
     }
 
     /// Tells where what may be so comes from.
     pub fn trail(
         &mut self,
-        source: &Source,
+        source: &Source<'_>,
         code: &Module,
         trail: &Trail,
         doubt: Doubt,
@@ -111,107 +91,106 @@ impl Advice {
 
     fn origin(
         &mut self,
-        source: &Source,
+        source: &Source<'_>,
         code: &Module,
         origin: Origin,
         doubt: Doubt,
     ) -> Result<(), AllocError> {
         match origin {
             Origin::Made(StatePlace::At(pc)) => {
-                let line = source.number_of(pc);
-                let instruction = source.instruction(pc);
-                write!(self.text, "  from: line {line}, `{instruction}`, ")?;
+                self.put_at(source, pc, "  from: line $, `$`, ", "")?;
                 self.deed(code, pc, doubt)
             }
-            Origin::Made(_) => {
-                let deed = deed(doubt);
-                writeln!(self.text, "  from: the end of a request {deed}")
-            }
-            Origin::Begun(pc) => {
-                let handler = handler_name(code, pc);
-                writeln!(self.text, "  from: `{handler}` begins so")
-            }
-            Origin::Met(StatePlace::At(pc)) => {
-                let line = source.number_of(pc);
-                let instruction = source.instruction(pc);
-                writeln!(
-                    self.text,
-                    "  from: ways that know different things meet at line {line}, `{instruction}`"
-                )
-            }
+            Origin::Made(_) => self.put(
+                "  from: the end of a request $\n",
+                &[Item::Text(deed(doubt))],
+            ),
+            Origin::Begun(pc) => self.put(
+                "  from: `$` begins so\n",
+                &[Item::Text(handler_name(code, pc))],
+            ),
+            Origin::Met(StatePlace::At(pc)) => self.put_at(
+                source,
+                pc,
+                "  from: ways that know different things meet at line $, `$`\n",
+                "",
+            ),
             Origin::Met(_) => self.say("  from: calls that know different things end alike"),
         }
     }
 
     fn deed(&mut self, code: &Module, pc: usize, doubt: Doubt) -> Result<(), AllocError> {
-        if let (Some(Instr::BDelete(d)), Doubt::Unset(c)) = (instr_at(code, pc), doubt) {
-            let name = cursor_name(self.alloc, c)?;
-            return if c == d {
-                writeln!(self.text, "destroys its bucket")
-            } else {
-                writeln!(self.text, "destroys a bucket, and {name} may be that one")
-            };
+        match (instr_at(code, pc), doubt) {
+            (Some(Instr::BDelete(d)), Doubt::Unset(c)) if c == d => self.say("destroys its bucket"),
+            (Some(Instr::BDelete(_)), Doubt::Unset(c)) => self.put(
+                "destroys a bucket, and $ may be that one\n",
+                &[Item::Cursor(c)],
+            ),
+            _ => self.say(deed(doubt)),
         }
-        self.say(deed(doubt))
     }
 
-    fn step(&mut self, source: &Source, step: &TrailStep, doubt: Doubt) -> Result<(), AllocError> {
+    fn step(
+        &mut self,
+        source: &Source<'_>,
+        step: &TrailStep,
+        doubt: Doubt,
+    ) -> Result<(), AllocError> {
         match (step.from, step.to) {
-            (StatePlace::At(pc), StatePlace::Idle | StatePlace::Ready) => {
-                let line = source.number_of(pc);
-                let instruction = source.instruction(pc);
-                writeln!(
-                    self.text,
-                    "  then: line {line}, `{instruction}`, ends a call so, and a later call begins with it"
-                )
-            }
+            (StatePlace::At(pc), StatePlace::Idle | StatePlace::Ready) => self.put_at(
+                source,
+                pc,
+                "  then: line $, `$`, ends a call so, and a later call begins with it\n",
+                "",
+            ),
             (StatePlace::Ready, StatePlace::Idle) => self.say(
                 "  then: the request ends so, and the next begins with it",
             ),
             (StatePlace::At(pc), StatePlace::At(_)) if step.jumps && doubt.is_of_cursor() => {
-                let line = source.number_of(pc);
-                let instruction = source.instruction(pc);
-                writeln!(
-                    self.text,
-                    "  then: line {line}, `{instruction}`, goes to its label"
-                )
+                self.put_at(source, pc, "  then: line $, `$`, goes to its label\n", "")
             }
             _ => Ok(()),
         }
     }
 
+    fn pattern(&mut self, pattern: Pattern) -> Result<(), AllocError> {
+        self.put("  pattern: $\n", &[Item::Text(pattern.name())])
+    }
+
     /// Tells in words what to write.
     pub fn advice(&mut self, pattern: Pattern) -> Result<(), AllocError> {
-        let name = pattern.name();
-        let advice = pattern.advice();
-        writeln!(self.text, "  pattern: {name}")?;
-        writeln!(self.text, "  write: {advice}")
+        self.pattern(pattern)?;
+        self.put("  write: $\n", &[Item::Text(pattern.advice())])
     }
 
     /// Tells what to write.
-    pub fn remedy(&mut self, source: &Source, remedy: &Remedy) -> Result<(), AllocError> {
-        let name = remedy.pattern.name();
-        writeln!(self.text, "  pattern: {name}")?;
-        for edit in &remedy.edits {
+    pub fn remedy<'t>(
+        &mut self,
+        source: &Source<'t>,
+        pattern: Pattern,
+        edits: &[Edit<'t>],
+    ) -> Result<(), AllocError> {
+        self.pattern(pattern)?;
+        for edit in edits {
             self.edit(source, edit)?;
         }
         Ok(())
     }
 
-    fn edit(&mut self, source: &Source, edit: &Edit) -> Result<(), AllocError> {
-        let line = source.number_at(edit.at);
-        let there = source.text_at(edit.at);
-        if edit.removes && edit.lines.is_empty() {
-            return writeln!(self.text, "  take out line {line}, `{there}`");
+    fn edit<'t>(&mut self, source: &Source<'t>, edit: &Edit<'t>) -> Result<(), AllocError> {
+        let number = Item::Number(source.number_at(edit.at));
+        let there = Item::Line(source.text_at(edit.at));
+        match edit.change {
+            Change::Remove => self.put("  take out line $, `$`\n", &[number, there]),
+            Change::Instead(text) => self.put(
+                "  in place of line $, `$`, write\n    $\n",
+                &[number, there, Item::Line(text)],
+            ),
+            Change::Before(text) => self.put(
+                "  before line $ write\n    $\n",
+                &[number, Item::Line(text)],
+            ),
+            Change::Then(text) => self.put("    $\n", &[Item::Line(text)]),
         }
-        if edit.removes {
-            writeln!(self.text, "  in place of line {line}, `{there}`, write")?;
-        } else {
-            writeln!(self.text, "  before line {line} write")?;
-        }
-        for text in &edit.lines {
-            writeln!(self.text, "    {text}")?;
-        }
-        Ok(())
     }
 }

@@ -1,8 +1,9 @@
 //! Where what may be so at an instruction comes from.
 
 use crate::doubt::Doubt;
-use crate::flow::{StatePlace, Way, add_ways_of, state_at};
+use crate::flow::{Way, add_ways_of, is_same, state_at};
 use crate::mend::mend;
+use life_cert::StatePlace;
 use life_check::Cert;
 use module_code::Module;
 use std::alloc::{AllocError, Global};
@@ -65,17 +66,10 @@ struct TrailNode {
     next: usize,
 }
 
-fn is_between_calls(place: StatePlace) -> bool {
-    match place {
-        StatePlace::Idle | StatePlace::Ready => true,
-        StatePlace::At(_) => false,
-    }
-}
-
 // Whether it comes by this way.
 fn comes_by(way: &Way, place: StatePlace, doubt: Doubt) -> bool {
-    let ends = doubt.is_of_cursor() && is_between_calls(way.from);
-    way.to == place && !ends && doubt.holds(&way.state)
+    let ends = doubt.is_of_cursor() && matches!(way.from, StatePlace::Idle | StatePlace::Ready);
+    is_same(way.to, place) && !ends && doubt.holds(&way.state)
 }
 
 // Whether it would come by this way also if it were not so before.
@@ -87,11 +81,12 @@ fn is_made(known: &Known<'_>, way: &Way, doubt: Doubt) -> Result<bool, AllocErro
     let mut led = Vec::new(known.alloc);
     let goes_on = !matches!(doubt, Doubt::LivePool(_) | Doubt::LiveBrigade(_));
     add_ways_of(known.code, way.from, &state, goes_on, &mut led)?;
-    Ok(
-        led.iter().any(|other| {
-            other.to == way.to && other.jumps == way.jumps && doubt.holds(&other.state)
-        }),
-    )
+    for other in &led {
+        if is_same(other.to, way.to) && other.jumps == way.jumps && doubt.holds(&other.state) {
+            return Ok(true);
+        }
+    }
+    Ok(false)
 }
 
 // The way by which it comes to a place from one that makes it so.
@@ -105,7 +100,12 @@ fn maker(known: &Known<'_>, place: StatePlace, doubt: Doubt) -> Result<Option<Wa
 }
 
 fn is_seen(nodes: &[TrailNode], place: StatePlace) -> bool {
-    nodes.iter().any(|node| node.place == place)
+    for node in nodes {
+        if is_same(node.place, place) {
+            return true;
+        }
+    }
+    false
 }
 
 // Adds the places from which it comes to the place of this number; tells whether there is one.

@@ -1,33 +1,10 @@
 //! States and refusals in words.
 
+use crate::advice::{Advice, Item};
 use crate::doubt::Doubt;
 use life_state::{BrigadeState, Classes, Contents, CursorState, HomeSet, PoolSet, State};
 use run_model::FaultKind;
-use std::alloc::{AllocError, Global};
-
-/// The name of a brigade variable, or `in`.
-pub fn brigade_name(alloc: Global, b: u8) -> Result<String, AllocError> {
-    if b == 8 {
-        String::from_str(alloc, "in")
-    } else {
-        format!(in alloc; "b{b}")
-    }
-}
-
-// The name of a brigade among words.
-fn quoted(alloc: Global, b: u8) -> Result<String, AllocError> {
-    let name = brigade_name(alloc, b)?;
-    format!(in alloc; "`{name}`")
-}
-
-/// The name of a cursor, or of what was read last.
-pub fn cursor_name(alloc: Global, c: u8) -> Result<String, AllocError> {
-    if c == 8 {
-        String::from_str(alloc, "what was read last")
-    } else {
-        format!(in alloc; "`c{c}`")
-    }
-}
+use std::alloc::AllocError;
 
 /// What a fault says.
 pub fn fault_text(kind: FaultKind) -> &'static str {
@@ -45,62 +22,38 @@ pub fn fault_text(kind: FaultKind) -> &'static str {
     }
 }
 
-/// What the rule wants.
-pub fn wanted(alloc: Global, doubt: Doubt) -> Result<String, AllocError> {
+// What the rule wants, of which thing.
+fn wanted(doubt: Doubt) -> (&'static str, Item<'static>) {
     match doubt {
-        Doubt::NullPool(q) | Doubt::GonePool(q) => format!(in alloc; "`p{q}` is live"),
-        Doubt::LivePool(q) => format!(in alloc; "`p{q}` is null or gone"),
-        Doubt::LiveBrigade(b) => format!(in alloc; "`b{b}` is null or gone"),
-        Doubt::NullBrigade(b) | Doubt::GoneBrigade(b) => {
-            let name = quoted(alloc, b)?;
-            format!(in alloc; "{name} is live")
-        }
-        Doubt::Passed(b) => {
-            let name = quoted(alloc, b)?;
-            format!(in alloc; "{name} is usable: it was not passed, or cleaned since")
-        }
-        Doubt::DeadIn(b) => {
-            let name = quoted(alloc, b)?;
-            format!(in alloc; "no bucket in {name} is dead")
-        }
-        Doubt::LateData(b) => {
-            let name = quoted(alloc, b)?;
-            format!(in alloc; "no data stands behind an EOS in {name}")
-        }
-        Doubt::Sent(b) => {
-            let name = quoted(alloc, b)?;
-            format!(in alloc;
-                "no EOS of this request was passed, or {name} holds FLUSH buckets at most"
-            )
-        }
-        Doubt::Kept(b) => format!(in alloc; "each bucket in `b{b}` outlasts the call"),
-        _ => wanted_of_cursor(alloc, doubt),
-    }
-}
-
-fn wanted_of_cursor(alloc: Global, doubt: Doubt) -> Result<String, AllocError> {
-    match doubt {
-        Doubt::DeadAt(c) => {
-            let name = cursor_name(alloc, c)?;
-            format!(in alloc; "the bucket at {name} is not dead")
-        }
-        Doubt::Unset(8) => String::from_str(
-            alloc,
-            "a bucket was read on each way here, and is still there",
+        Doubt::NullPool(q) | Doubt::GonePool(q) => ("`p$` is live", Item::Number(usize::from(q))),
+        Doubt::LivePool(q) => ("`p$` is null or gone", Item::Number(usize::from(q))),
+        Doubt::LiveBrigade(b) => ("`$` is null or gone", Item::Brigade(b)),
+        Doubt::NullBrigade(b) | Doubt::GoneBrigade(b) => ("`$` is live", Item::Brigade(b)),
+        Doubt::Passed(b) => (
+            "`$` is usable: it was not passed, or cleaned since",
+            Item::Brigade(b),
         ),
-        Doubt::Unset(c) | Doubt::AtEnd(c) => format!(in alloc; "`c{c}` is at a bucket"),
-        Doubt::InBrigade(c) => format!(in alloc; "the bucket at `c{c}` is loose"),
-        Doubt::Loose(c) => format!(in alloc; "the bucket at `c{c}` is in a brigade"),
-        Doubt::Elsewhere(c, b) => {
-            let name = quoted(alloc, b)?;
-            format!(in alloc; "`c{c}` is in {name}")
-        }
-        _ => Ok(String::new(alloc)),
+        Doubt::DeadIn(b) => ("no bucket in `$` is dead", Item::Brigade(b)),
+        Doubt::LateData(b) => ("no data stands behind an EOS in `$`", Item::Brigade(b)),
+        Doubt::Sent(b) => (
+            "no EOS of this request was passed, or `$` holds FLUSH buckets at most",
+            Item::Brigade(b),
+        ),
+        Doubt::Kept(b) => ("each bucket in `$` outlasts the call", Item::Brigade(b)),
+        Doubt::DeadAt(c) => ("the bucket at $ is not dead", Item::Cursor(c)),
+        Doubt::Unset(8) => (
+            "a bucket was read on each way here, and is still there",
+            Item::Text(""),
+        ),
+        Doubt::Unset(c) | Doubt::AtEnd(c) => ("$ is at a bucket", Item::Cursor(c)),
+        Doubt::InBrigade(c) => ("the bucket at $ is loose", Item::Cursor(c)),
+        Doubt::Loose(c) => ("the bucket at $ is in a brigade", Item::Cursor(c)),
+        Doubt::Elsewhere(c, _) => ("$ is in ", Item::Cursor(c)),
     }
 }
 
-/// What a brigade may hold.
-pub fn content_text(content: Contents) -> &'static str {
+// What a brigade may hold.
+fn content_text(content: Contents) -> &'static str {
     match content {
         Contents::Empty => "holds nothing",
         Contents::Flushes => "holds FLUSH buckets at most",
@@ -123,44 +76,8 @@ fn class_text(classes: Classes) -> &'static str {
     }
 }
 
-fn add_home(text: &mut String, home: &str) -> Result<(), AllocError> {
-    if !text.is_empty() {
-        text.push_str(" or ")?;
-    }
-    text.push_str(home)
-}
-
-fn add_pools(alloc: Global, text: &mut String, pools: &PoolSet) -> Result<(), AllocError> {
-    if pools.req {
-        add_home(text, "the request's pool")?;
-    }
-    for (q, held) in pools.own.iter().enumerate() {
-        if *held {
-            let pool = format!(in alloc; "p{q}")?;
-            add_home(text, pool.as_str())?;
-        }
-    }
-    Ok(())
-}
-
-/// What buckets may depend on.
-pub fn homes_text(alloc: Global, homes: &HomeSet) -> Result<String, AllocError> {
-    let mut text = String::new(alloc);
-    if homes.call {
-        add_home(&mut text, "the call")?;
-    }
-    if homes.dead {
-        add_home(&mut text, "what has ended")?;
-    }
-    add_pools(alloc, &mut text, &homes.pools)?;
-    if text.is_empty() {
-        add_home(&mut text, "nothing that ends before the connection")?;
-    }
-    Ok(text)
-}
-
-/// What a variable may be, of these three.
-pub fn variable_text(null: bool, gone: bool, live: bool) -> &'static str {
+// What a variable may be, of these three.
+fn variable_text(null: bool, gone: bool, live: bool) -> &'static str {
     match (null, gone, live) {
         (false, false, true) => "is live",
         (true, false, false) => "is null",
@@ -181,76 +98,123 @@ fn marks_text(brigade: &BrigadeState) -> &'static str {
     }
 }
 
-/// What is known of a brigade variable.
-pub fn brigade_text(alloc: Global, state: &State, b: u8) -> Result<String, AllocError> {
-    let brigade = state.brigade(b);
-    let name = quoted(alloc, b)?;
-    let variable = variable_text(brigade.null, brigade.gone, brigade.live);
-    let marks = marks_text(&brigade);
-    let mut text = format!(in alloc; "{name} {variable}{marks}")?;
-    if !brigade.live || !brigade.usable {
-        return Ok(text);
+impl Advice {
+    fn put_pools(&mut self, pools: &PoolSet, before: &'static str) -> Result<(), AllocError> {
+        let mut before = before;
+        for (q, held) in pools.own.iter().enumerate() {
+            if *held {
+                self.put("$p$", &[Item::Text(before), Item::Number(q)])?;
+                before = " or ";
+            }
+        }
+        Ok(())
     }
-    let content = content_text(brigade.content);
-    write!(text, ", {content}")?;
-    if !matches!(brigade.content, Contents::Empty) {
-        let homes = homes_text(alloc, &brigade.homes)?;
-        write!(text, "; its buckets may depend on {homes}")?;
-    }
-    Ok(text)
-}
 
-/// What is known of a cursor.
-pub fn cursor_text(alloc: Global, state: &State, c: u8) -> Result<String, AllocError> {
-    let name = cursor_name(alloc, c)?;
-    match state.cursor(c) {
-        CursorState::Unset => format!(in alloc; "{name} is not known to be anywhere"),
-        CursorState::Loose(classes, homes) => {
-            let class = class_text(classes);
-            let homes = homes_text(alloc, &homes)?;
-            format!(in alloc; "{name} is a loose bucket of {class}, which may depend on {homes}")
+    // What buckets may depend on.
+    fn put_homes(&mut self, homes: &HomeSet) -> Result<(), AllocError> {
+        let mut before = "";
+        let fixed = [
+            (homes.call, "the call"),
+            (homes.dead, "what has ended"),
+            (homes.pools.req, "the request's pool"),
+        ];
+        for (held, home) in &fixed {
+            if *held {
+                self.put("$$", &[Item::Text(before), Item::Text(home)])?;
+                before = " or ";
+            }
         }
-        CursorState::In(b, classes) => {
-            let class = class_text(classes);
-            let brigade = quoted(alloc, b)?;
-            format!(in alloc; "{name} is a bucket of {class} in {brigade}")
+        if before.is_empty() && !homes.pools.own.contains(&true) {
+            return self.put("nothing that ends before the connection", &[]);
         }
-        CursorState::End(b) => {
-            let brigade = quoted(alloc, b)?;
-            format!(in alloc; "{name} is the end of {brigade}")
+        self.put_pools(&homes.pools, before)
+    }
+
+    /// What is known of a pool variable.
+    pub fn put_pool(&mut self, state: &State, q: u8) -> Result<(), AllocError> {
+        let pool = state.pool(q);
+        let variable = variable_text(pool.null, pool.gone, pool.live);
+        self.put(
+            "`p$` $",
+            &[Item::Number(usize::from(q)), Item::Text(variable)],
+        )
+    }
+
+    /// What is known of a brigade variable.
+    pub fn put_brigade(&mut self, state: &State, b: u8) -> Result<(), AllocError> {
+        let brigade = state.brigade(b);
+        let variable = Item::Text(variable_text(brigade.null, brigade.gone, brigade.live));
+        let marks = Item::Text(marks_text(&brigade));
+        self.put("`$` $$", &[Item::Brigade(b), variable, marks])?;
+        if !brigade.live || !brigade.usable {
+            return Ok(());
         }
-        CursorState::InOrEnd(b, classes) => {
-            let class = class_text(classes);
-            let brigade = quoted(alloc, b)?;
-            format!(in alloc; "{name} is a bucket of {class} in {brigade}, or its end")
+        self.put(", $", &[Item::Text(content_text(brigade.content))])?;
+        if let Contents::Empty = brigade.content {
+            return Ok(());
+        }
+        self.put("; its buckets may depend on ", &[])?;
+        self.put_homes(&brigade.homes)
+    }
+
+    /// What is known of a cursor.
+    pub fn put_cursor(&mut self, state: &State, c: u8) -> Result<(), AllocError> {
+        let name = Item::Cursor(c);
+        match state.cursor(c) {
+            CursorState::Unset => self.put("$ is not known to be anywhere", &[name]),
+            CursorState::Loose(classes, homes) => {
+                self.put(
+                    "$ is a loose bucket of $, which may depend on ",
+                    &[name, Item::Text(class_text(classes))],
+                )?;
+                self.put_homes(&homes)
+            }
+            CursorState::In(b, classes) => self.put(
+                "$ is a bucket of $ in `$`",
+                &[name, Item::Text(class_text(classes)), Item::Brigade(b)],
+            ),
+            CursorState::End(b) => self.put("$ is the end of `$`", &[name, Item::Brigade(b)]),
+            CursorState::InOrEnd(b, classes) => self.put(
+                "$ is a bucket of $ in `$`, or its end",
+                &[name, Item::Text(class_text(classes)), Item::Brigade(b)],
+            ),
         }
     }
-}
 
-/// What the state is there, as far as the rule looks at it.
-pub fn found(alloc: Global, state: &State, doubt: Doubt) -> Result<String, AllocError> {
-    match doubt {
-        Doubt::NullPool(q) | Doubt::GonePool(q) | Doubt::LivePool(q) => {
-            let pool = state.pool(q);
-            let variable = variable_text(pool.null, pool.gone, pool.live);
-            format!(in alloc; "`p{q}` {variable}")
+    // What the state is there, as far as the rule looks at it.
+    fn put_found(&mut self, state: &State, doubt: Doubt) -> Result<(), AllocError> {
+        match doubt {
+            Doubt::NullPool(q) | Doubt::GonePool(q) | Doubt::LivePool(q) => self.put_pool(state, q),
+            Doubt::NullBrigade(b)
+            | Doubt::GoneBrigade(b)
+            | Doubt::LiveBrigade(b)
+            | Doubt::Passed(b)
+            | Doubt::DeadIn(b)
+            | Doubt::LateData(b)
+            | Doubt::Kept(b) => self.put_brigade(state, b),
+            Doubt::Sent(b) => {
+                self.put("an EOS of this request may have been passed; ", &[])?;
+                self.put_brigade(state, b)
+            }
+            Doubt::DeadAt(c)
+            | Doubt::Unset(c)
+            | Doubt::AtEnd(c)
+            | Doubt::InBrigade(c)
+            | Doubt::Loose(c)
+            | Doubt::Elsewhere(c, _) => self.put_cursor(state, c),
         }
-        Doubt::NullBrigade(b)
-        | Doubt::GoneBrigade(b)
-        | Doubt::LiveBrigade(b)
-        | Doubt::Passed(b)
-        | Doubt::DeadIn(b)
-        | Doubt::LateData(b)
-        | Doubt::Kept(b) => brigade_text(alloc, state, b),
-        Doubt::Sent(b) => {
-            let brigade = brigade_text(alloc, state, b)?;
-            format!(in alloc; "an EOS of this request may have been passed; {brigade}")
+    }
+
+    /// Tells what a rule wants and what the state there is.
+    pub fn rule(&mut self, state: &State, doubt: Doubt) -> Result<(), AllocError> {
+        let (form, item) = wanted(doubt);
+        self.put("  wanted: ", &[])?;
+        self.put(form, &[item])?;
+        if let Doubt::Elsewhere(_, b) = doubt {
+            self.put("`$`", &[Item::Brigade(b)])?;
         }
-        Doubt::DeadAt(c)
-        | Doubt::Unset(c)
-        | Doubt::AtEnd(c)
-        | Doubt::InBrigade(c)
-        | Doubt::Loose(c)
-        | Doubt::Elsewhere(c, _) => cursor_text(alloc, state, c),
+        self.put("\n  there: ", &[])?;
+        self.put_found(state, doubt)?;
+        self.put("\n", &[])
     }
 }

@@ -18,4 +18,4 @@ pub use name::{Name, is_name, name_of};
 pub use operand::{Operand, Operands};
 pub use part::Part;
 pub use seq::Seq;
-pub use word::{Op, OperandKind, OperandKinds, Word, word_of};
+pub use word::{Op, OperandKind, OperandKinds, WORDS, Word, word_of};

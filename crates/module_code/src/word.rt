@@ -439,7 +439,8 @@ impl Word {
     }
 }
 
-const WORDS: [Word; 53] = [
+/// The words of module texts, in the order in which they are looked for.
+pub const WORDS: [Word; 53] = [
     Word::Module,
     Word::Pool,
     Word::Brigade,

@@ -65,7 +65,8 @@ pub enum Command {
     Pools,
 }
 
-const WORDS: [CommandWord; 10] = [
+/// The first words of commands other than `file`.
+pub const COMMAND_WORDS: [CommandWord; 10] = [
     CommandWord::Open,
     CommandWord::Begin,
     CommandWord::End,
@@ -79,8 +80,9 @@ const WORDS: [CommandWord; 10] = [
 ];
 
 impl CommandWord {
+    /// How the word is written.
     #[tactic(auto, unfolding(crate::specs::Commands::word_text))]
-    fn text(self) -> &'static [u8]
+    pub fn text(self) -> &'static [u8]
         ensures { result.now ≡ word_text self }
     {
         match self {
@@ -97,8 +99,9 @@ impl CommandWord {
         }
     }
 
+    /// What follows it.
     #[tactic(auto, unfolding(crate::specs::Commands::takes_of))]
-    fn takes(self) -> CommandForm
+    pub fn takes(self) -> CommandForm
         ensures { result ≡ takes_of self }
     {
         match self {
@@ -133,7 +136,10 @@ impl CommandWord {
 fn word_at(text: &[u8]) -> Option<CommandWord>
     ensures { result ≡ word_at text.now }
 {
-    WORDS.iter().copied().find(|word| word.text() == text)
+    COMMAND_WORDS
+        .iter()
+        .copied()
+        .find(|word| word.text() == text)
 }
 
 /// A command other than `file`.

@@ -13,10 +13,10 @@ mod script;
 mod texts;
 mod words;
 
-pub use command::{Command, CommandForm, CommandWord, command_of};
+pub use command::{COMMAND_WORDS, Command, CommandForm, CommandWord, command_of};
 pub use file_line::{FileLine, file_line_of};
 pub use lines::{begins_cert, is_end};
-pub use names::{fault_name, rule_name};
+pub use names::{fault_name, fault_named, rule_name};
 pub use operands::{CommandOperands, operands_of};
 pub use part::{Part, Refused, accept_parts, modules_of};
 pub use pieces::{MemoryKind, PieceRead, ScriptPiece, pieces_of};

@@ -104,6 +104,13 @@ impl Texts {
         }
     }
 
+    /// How many lines stand before the text that is being read, or before the line behind the last one.
+    pub fn before(&self) -> usize
+        ensures { result ≡ self.now.before }
+    {
+        self.before
+    }
+
     /// Adds a line to the text that is being read.
     fn add(&mut self, text: &[u8], ended: bool, place: HeadPlace) -> Result<(), AllocError>
         ensures { OnOk result (head_of self.new ≡ with_line (record { text = text.now; ended = ended }) place (head_of self.old)) }
