@@ -4,7 +4,8 @@ use crate::missing::Missing;
 use anyhow::Result;
 use pool_tree::{PoolId, PoolTree};
 
-fn create(tree: &mut PoolTree<u8>, parent: PoolId) -> Result<PoolId> {
+/// Makes a pool under another.
+pub(crate) fn create<T: Drop>(tree: &mut PoolTree<T>, parent: PoolId) -> Result<PoolId> {
     if !tree.is_live(parent) {
         return Err(Missing.into());
     }

@@ -65,3 +65,17 @@ pub(crate) fn reads_of_memory(rt: &HostRuntime) -> Result<()> {
     read_in_memory(rt, Kind::Heap)?;
     read_in_memory(rt, Kind::Pool(7))
 }
+
+/// The second of three reads fails, and is counted.
+pub(crate) fn reads_that_fail(rt: &HostRuntime) -> Result<()> {
+    println!(rt; "the second read fails")?;
+    let mut files = MemFiles::new(rt.alloc());
+    files.add(b"f", vec![in rt.alloc(); b'x'; 10]?)?;
+    files.fail_at(1);
+    for _ in 0..3 {
+        let (file, _) = files.open_file(b"f")?;
+        show_read(rt, &mut files, file, 10)?;
+    }
+    println!(rt; "{} failures", files.failures())?;
+    Ok(())
+}

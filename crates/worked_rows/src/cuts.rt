@@ -1,0 +1,180 @@
+//! Rows of one bucket of a brigade: it is split, copied and read, and a brigade is parted at a point.
+
+ghost use Rattle.std.specs.Prelude.{◌≡◌, Some, All, IfOk, true, IsTrue};
+ghost use Rattle.run_model.specs.Cutting.{EndsInFile};
+ghost use Rattle.run_model.specs.declared.bucket.Bucket.{Bucket};
+ghost use Rattle.bucket_kinds.specs.Device.{Device, is_there};
+ghost use Rattle.bucket_kinds.specs.Reading.{IsOpenFor};
+ghost use Rattle.bucket_ring.specs.declared.names.BucketId.{BucketId};
+ghost use Rattle.brigade_ops.specs.Store.{brigade_of, bucket_at};
+
+use crate::brigades::{Store, put_tail, show_brigade};
+use crate::buckets::{eos, in_memory, range};
+use crate::missing::Missing;
+use crate::shown::Shown;
+use anyhow::Result;
+use brigade_ops::{BrigadeId, BucketId, Cut};
+use bucket_kinds::{Bucket, Content, FileNo, Files, Home, Kind, MemFiles};
+use std::alloc::{AllocError, Global};
+
+/// Whether what a bucket stands for ends below 2^64.
+fn ends_in_file(bucket: &Bucket) -> bool
+    ensures { IsTrue result → EndsInFile bucket.now.content }
+{
+    match &bucket.content {
+        Content::Range { start, len, .. } => start.checked_add(*len).is_some(),
+        Content::Bytes(_) | Content::Nothing => true,
+    }
+}
+
+/// Splits the one bucket of a brigade, and tells the brigade.
+fn show_split(rt: &HostRuntime, bucket: Bucket, at: u64) -> Result<()> {
+    print!(rt; "{} at {at}: ", Shown(&bucket))?;
+    let mut store = Store::new(rt.alloc(), 1);
+    let brigade = store.loose()?;
+    let id = put_tail(&mut store, brigade, bucket)?;
+    if store.ring_of(id).is_none() || !ends_in_file(store.payload(id)) {
+        return Err(Missing.into());
+    }
+    if let Err(why) = store.split(id, at) {
+        print!(rt; "{why}, and it is ")?;
+    }
+    show_brigade(rt, &store, brigade)
+}
+
+/// The rest of a bucket that is split stands behind it.
+pub(crate) fn splits_in_a_brigade(rt: &HostRuntime) -> Result<()> {
+    println!(rt; "buckets of a brigade are split")?;
+    for at in [0, 1, 2, 3] {
+        let bucket = in_memory(rt.alloc(), Kind::Heap, Home::Free, b"ab")?;
+        show_split(rt, bucket, at)?;
+    }
+    for at in [0, 1] {
+        show_split(rt, eos(), at)?;
+    }
+    show_split(rt, range(7, 5, 10), 4)
+}
+
+/// Puts a copy of the bucket of a brigade into another, and tells both.
+fn show_copy(rt: &HostRuntime, bucket: Bucket) -> Result<()> {
+    let mut store = Store::new(rt.alloc(), 1);
+    let brigade = store.loose()?;
+    let other = store.loose()?;
+    let id = put_tail(&mut store, brigade, bucket)?;
+    if store.ring_of(id).is_none() || !store.has(other) {
+        return Err(Missing.into());
+    }
+    store.copy(id, other)?;
+    show_brigade(rt, &store, brigade)?;
+    show_brigade(rt, &store, other)
+}
+
+/// A copy stands at the tail of another brigade.
+pub(crate) fn copies_into_a_brigade(rt: &HostRuntime) -> Result<()> {
+    println!(rt; "buckets are copied into a brigade")?;
+    show_copy(rt, in_memory(rt.alloc(), Kind::Pool(2), Home::Free, b"ab")?)?;
+    show_copy(rt, eos())
+}
+
+/// A store with one brigade, of these buckets.
+fn filled(alloc: Global, buckets: Vec<Bucket>) -> Result<(Store, BrigadeId)>
+    requires { All (λ x. EndsInFile x.content) buckets.items }
+    ensures { IfOk result (λ s. (id : BucketId) (x : Bucket) → brigade_of s.0 id ≡ Some s.1 → bucket_at s.0 id ≡ Some x → EndsInFile x.content) }
+{
+    let mut store = Store::new(alloc, 1);
+    let brigade = store.loose()?;
+    if !store.has(brigade) {
+        return Err(Missing.into());
+    }
+    store.add_all(brigade, buckets)?;
+    Ok((store, brigade))
+}
+
+/// Parts a brigade of these buckets at a point, and tells the place and the brigade.
+fn show_partition(rt: &HostRuntime, buckets: Vec<Bucket>, point: u64) -> Result<()>
+    requires { All (λ x. EndsInFile x.content) buckets.items }
+{
+    let (mut store, brigade) = filled(rt.alloc(), buckets)?;
+    print!(rt; "at {point}: ")?;
+    if !store.has(brigade) {
+        return Err(Missing.into());
+    }
+    match store.partition(brigade, point)? {
+        Cut::Found(id) if store.ring_of(id).is_some() => {
+            print!(rt; "before {}, ", Shown(store.payload(id)))?
+        }
+        Cut::Found(_) => return Err(Missing.into()),
+        Cut::AtEnd => print!(rt; "the end, ")?,
+        Cut::Incomplete => print!(rt; "incomplete, ")?,
+    }
+    show_brigade(rt, &store, brigade)
+}
+
+/// A bucket that the point lies inside is split. Past the end nothing is changed.
+pub(crate) fn partition_points(rt: &HostRuntime) -> Result<()> {
+    println!(rt; "brigades are parted")?;
+    let alloc = rt.alloc();
+    for point in [0, 1, 2, 3] {
+        let ab = in_memory(alloc, Kind::Heap, Home::Free, b"ab")?;
+        show_partition(rt, vec![in alloc; ab, eos()]?, point)?;
+    }
+    let ab = in_memory(alloc, Kind::Heap, Home::Free, b"ab")?;
+    show_partition(rt, vec![in alloc; ab]?, 2)?;
+    for point in [0, 1] {
+        show_partition(rt, Vec::new(alloc), point)?;
+    }
+    Ok(())
+}
+
+/// Whether a bucket that is a range of a file is one of this file.
+fn is_of_file(bucket: &Bucket, file: FileNo) -> bool
+    ensures { (d : Device) → IsTrue result → is_there (d.numbered file) ≡ true → IsOpenFor d bucket.now.content }
+{
+    match &bucket.content {
+        Content::Range { file: other, .. } => *other == file,
+        Content::Bytes(_) | Content::Nothing => true,
+    }
+}
+
+/// Reads a bucket, which is a range of an open file. Where it is refused, that is told.
+fn read<F: Files>(
+    rt: &HostRuntime,
+    store: &mut Store,
+    files: &mut F,
+    file: FileNo,
+    id: BucketId,
+) -> Result<()>
+    requires { is_there ((F.device files.old).numbered file) ≡ true }
+{
+    if store.ring_of(id).is_none() || !is_of_file(store.payload(id), file) {
+        return Err(Missing.into());
+    }
+    if !ends_in_file(store.payload(id)) {
+        return Err(Missing.into());
+    }
+    if let Err(why) = store.read(files, id) {
+        print!(rt; "{why}, and it is ")?;
+    }
+    Ok(())
+}
+
+/// Reads the first bytes of a file of so many, by the bucket of a brigade.
+fn show_read(rt: &HostRuntime, size: usize, len: u32) -> Result<()> {
+    let mut store = Store::new(rt.alloc(), 1);
+    let brigade = store.loose()?;
+    let mut files = MemFiles::new(rt.alloc());
+    files.add(b"f", vec![in rt.alloc(); b'x'; size]?)?;
+    let (file, size) = files.open_file(b"f")?;
+    print!(rt; "{len} of {size}: ")?;
+    let id = put_tail(&mut store, brigade, range(file, 0, len))?;
+    read(rt, &mut store, &mut files, file, id)?;
+    show_brigade(rt, &store, brigade)
+}
+
+/// The rest of a bucket that is read stands behind it.
+pub(crate) fn reads_in_a_brigade(rt: &HostRuntime) -> Result<()> {
+    println!(rt; "buckets of a brigade are read")?;
+    show_read(rt, 8001, 8001)?;
+    show_read(rt, 8001, 8000)?;
+    show_read(rt, 7999, 8000)
+}

@@ -1,0 +1,183 @@
+//! Rows of brigades on pools: what is set aside, saved and cleared.
+
+ghost use Rattle.std.specs.Prelude.{◌≡◌, Some, IsTrue};
+ghost use Rattle.run_model.specs.Pools.{is_live};
+ghost use Rattle.pool_tree.specs.Tree.{map_of};
+ghost use Rattle.brigade_ops.specs.Store.{pool_of};
+
+use crate::brigades::{Store, put_tail, show_brigade};
+use crate::buckets::{eos, in_memory, range};
+use crate::missing::Missing;
+use crate::pools::create;
+use crate::shown::Shown;
+use anyhow::Result;
+use brigade_ops::BrigadeId;
+use bucket_kinds::{Bucket, Home, Kind};
+use pool_tree::{PoolId, PoolTree};
+use run_model::Payload;
+use std::alloc::Global;
+
+/// A tree of the root 1, the pool 2, the pool 3 under it, and the pool 4 beside it.
+#[derive(Drop)]
+struct Pools {
+    tree: PoolTree<Payload>,
+    above: PoolId,
+    below: PoolId,
+    beside: PoolId,
+}
+
+fn make_pools(alloc: Global) -> Result<Pools> {
+    let mut tree = PoolTree::new(alloc, 1)?;
+    let root = tree.root();
+    let above = create(&mut tree, root)?;
+    let below = create(&mut tree, above)?;
+    let beside = create(&mut tree, root)?;
+    Ok(Pools {
+        tree,
+        above,
+        below,
+        beside,
+    })
+}
+
+/// Tells what is registered with a pool.
+fn show_payloads(rt: &HostRuntime, tree: &PoolTree<Payload>, pool: PoolId) -> Result<()> {
+    print!(rt; "pool {pool}:")?;
+    for payload in tree.payloads(pool) {
+        match payload {
+            Payload::Label(_) => print!(rt; " a label")?,
+            Payload::FileRef(file) => print!(rt; " file {file}")?,
+            Payload::Brigade(brigade) => print!(rt; " brigade {brigade}")?,
+        }
+    }
+    println!(rt)?;
+    Ok(())
+}
+
+/// Sets the one bucket of a brigade aside into a pool.
+fn show_aside(rt: &HostRuntime, bucket: Bucket, below: bool) -> Result<()> {
+    let mut pools = make_pools(rt.alloc())?;
+    let pool = if below { pools.below } else { pools.beside };
+    print!(rt; "{}: ", Shown(&bucket))?;
+    let mut store = Store::new(rt.alloc(), 1);
+    let brigade = store.loose()?;
+    let id = put_tail(&mut store, brigade, bucket)?;
+    if store.ring_of(id).is_none() || !pools.tree.is_live(pool) {
+        return Err(Missing.into());
+    }
+    store.aside(&mut pools.tree, id, pool)?;
+    show_brigade(rt, &store, brigade)?;
+    show_payloads(rt, &pools.tree, pool)
+}
+
+/// A file gets a reference in the pool, where its home is not above it.
+pub(crate) fn asides_in_a_brigade(rt: &HostRuntime) -> Result<()> {
+    println!(rt; "buckets of a brigade are set aside")?;
+    let transient = in_memory(rt.alloc(), Kind::Transient, Home::Call(3), b"a")?;
+    show_aside(rt, transient, false)?;
+    show_aside(rt, range(7, 5, 10), true)?;
+    show_aside(rt, range(7, 5, 10), false)
+}
+
+/// Saves a brigade into one on a pool.
+fn save_onto(
+    store: &mut Store,
+    tree: &mut PoolTree<Payload>,
+    pool: PoolId,
+    onto: BrigadeId,
+    from: BrigadeId,
+) -> Result<()>
+    requires live { IsTrue (is_live (map_of tree.old) pool) }
+    requires on { pool_of store.old onto ≡ Some pool }
+{
+    if onto == from || !store.has(onto) || !store.has(from) {
+        return Err(Missing.into());
+    }
+    store.save(tree, onto, from)?;
+    Ok(())
+}
+
+/// Makes a brigade with a bucket on a pool, and saves another into it.
+fn save(
+    store: &mut Store,
+    tree: &mut PoolTree<Payload>,
+    pool: PoolId,
+    first: Bucket,
+    from: BrigadeId,
+) -> Result<BrigadeId> {
+    if !tree.is_live(pool) {
+        return Err(Missing.into());
+    }
+    let onto = store.create(tree, pool)?;
+    if !store.has(onto) {
+        return Err(Missing.into());
+    }
+    if let Err((why, _)) = store.add_tail(onto, first) {
+        return Err(why.into());
+    }
+    if !tree.is_live(pool) {
+        return Err(Missing.into());
+    }
+    save_onto(store, tree, pool, onto, from)?;
+    Ok(onto)
+}
+
+/// The buckets of a brigade are set aside into the pool of another, and move to its tail.
+pub(crate) fn saves(rt: &HostRuntime) -> Result<()> {
+    println!(rt; "a brigade is saved")?;
+    let alloc = rt.alloc();
+    let mut pools = make_pools(alloc)?;
+    let mut store = Store::new(alloc, 1);
+    let from = store.loose()?;
+    let transient = in_memory(alloc, Kind::Transient, Home::Call(3), b"a")?;
+    put_tail(&mut store, from, transient)?;
+    put_tail(&mut store, from, range(7, 5, 10))?;
+    put_tail(&mut store, from, eos())?;
+    let first = in_memory(alloc, Kind::Heap, Home::Free, b"x")?;
+    let pool = pools.beside;
+    let onto = save(&mut store, &mut pools.tree, pool, first, from)?;
+    show_brigade(rt, &store, onto)?;
+    show_brigade(rt, &store, from)?;
+    show_payloads(rt, &pools.tree, pool)
+}
+
+/// A reference to a file stands with its pool.
+pub(crate) fn references(rt: &HostRuntime) -> Result<()> {
+    println!(rt; "a file is referred to")?;
+    let mut pools = make_pools(rt.alloc())?;
+    let mut store = Store::new(rt.alloc(), 1);
+    if !pools.tree.is_live(pools.above) {
+        return Err(Missing.into());
+    }
+    store.refer(&mut pools.tree, pools.above, 7)?;
+    show_payloads(rt, &pools.tree, pools.above)
+}
+
+/// Bytes that lie under a pool that is cleared go to the heap, and homes under it end.
+pub(crate) fn clears_under_a_brigade(rt: &HostRuntime) -> Result<()> {
+    println!(rt; "a pool is cleared under a brigade")?;
+    let alloc = rt.alloc();
+    let mut pools = make_pools(alloc)?;
+    let mut store = Store::new(alloc, 1);
+    let brigade = store.loose()?;
+    let below = in_memory(alloc, Kind::Pool(pools.below), Home::Free, b"hi")?;
+    let beside = in_memory(alloc, Kind::Pool(pools.beside), Home::Free, b"ho")?;
+    put_tail(&mut store, brigade, below)?;
+    put_tail(&mut store, brigade, beside)?;
+    put_tail(&mut store, brigade, range(7, 5, 10))?;
+    show_brigade(rt, &store, brigade)?;
+    let pool = pools.above;
+    if !pools.tree.is_live(pool) {
+        return Err(Missing.into());
+    }
+    let morphs = store.plan_morphs(&[brigade], pool, &pools.tree)?;
+    let ran = pools.tree.clear(pool)?;
+    store.apply_morphs(morphs);
+    show_brigade(rt, &store, brigade)?;
+    println!(rt;
+        "{} ran, and pool 3 is live: {}",
+        ran.len(),
+        pools.tree.is_live(pools.below)
+    )?;
+    Ok(())
+}
