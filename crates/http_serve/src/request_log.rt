@@ -2,7 +2,7 @@
 
 use crate::head_reader::Deadline;
 use filter_chain::{Cause, Refusal};
-use http_front::{Exchange, Failure, status_text};
+use http_front::{Exchange, Failure};
 use std::rt::Clock;
 
 /// Tells the requests of a connection on the standard error.
@@ -34,7 +34,7 @@ impl<R: Clock + Eprint> RequestLog<'_, R> {
         let number = self.number;
         let method = or_dash(exchange.method).escape_ascii();
         let target = or_dash(exchange.target).escape_ascii();
-        let status = status_text(exchange.status);
+        let status = exchange.status;
         let size = exchange.size;
         let micros = self.deadline.taken(self.runtime).as_micros();
         let _ = eprint!(self.runtime;
