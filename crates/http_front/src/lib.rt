@@ -20,7 +20,6 @@ pub use handler::{Handler, RequestOutcome};
 pub use http_message::{
     Clock, Exchange, Failure, HeadLook, Method, Reply, Site, SiteFault, StatusCode, Version,
     closing, decoded, head_closes, look_at, middle, put_opening, refusal, status_closes,
-    status_text,
 };
 pub use laws::worked_rows;
 pub use response::ResponseText;

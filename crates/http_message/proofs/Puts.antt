@@ -1,6 +1,9 @@
 -- Texts that are put one behind another.
-use Rattle.std.proofs.Common.{◌≡◌, ℕ, List, ◌++◌, Result, Ok, Err, append_assoc, ap, ◌∙◌}
-use Rattle.std.specs.Prelude.{OnOk, is_ok, if◌then◌else◌}
+use Rattle.std.proofs.Common.{◌≡◌, ℕ, List, ◌++◌, take, drop, Result, Ok, Err, append_assoc, ap, refl, ◌∙◌}
+use Rattle.std.specs.Prelude.{OnOk, is_ok, codes, if◌then◌else◌}
+use Rattle.http_message.specs.Replying.{status_text}
+use Rattle.http_message.specs.declared.status.StatusCode.{StatusCode}
+use Rattle.http_message.specs.declared.status.StatusCode.TheVariants.{Success, BadRequest, NotFound, MethodNotAllowed, ContentTooLarge, InternalServerError, NotImplemented}
 
 module _ (old : List ℕ) {before after : List ℕ} (first put : List ℕ) where
   -- one text more, behind those that were put
@@ -15,3 +18,13 @@ module _ (old : List ℕ) {before after : List ℕ} (first put : List ℕ) where
 pub put_well : {A E : Type 0} (r : Result A E) (after put before : List ℕ) → after ≡ (if is_ok r then put else before) → OnOk r (after ≡ put)
 put_well (Ok a) after put before is = is
 put_well (Err e) after put before is = tt
+
+-- a status is its code, a space and its phrase
+pub status_parts : (s : StatusCode) → (take 3 (status_text s) ++ codes " ") ++ drop 4 (status_text s) ≡ status_text s
+status_parts Success = refl
+status_parts BadRequest = refl
+status_parts NotFound = refl
+status_parts MethodNotAllowed = refl
+status_parts ContentTooLarge = refl
+status_parts InternalServerError = refl
+status_parts NotImplemented = refl

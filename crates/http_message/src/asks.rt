@@ -3,7 +3,7 @@
 ghost use Rattle.std.specs.Prelude.{◌≡◌, ◌≤◌, length, IsTrue, None, Some, MatchOption};
 ghost use Rattle.http_message.specs.Asking.{is_served, is_known, method_refusal, before, from_first, or_root, is_origin, is_absolute, form_path, target_path};
 
-use crate::reply::Method;
+use crate::reply::{Method, is_method};
 use crate::status::StatusCode;
 use http1::text::eq_ignore_case;
 
@@ -19,13 +19,13 @@ fn is_served(method: Method) -> bool
 fn is_known(method: &[u8]) -> bool
     ensures { result ≡ is_known method.now }
 {
-    method == b"POST".as_slice()
-        || method == b"PUT".as_slice()
-        || method == b"DELETE".as_slice()
-        || method == b"CONNECT".as_slice()
-        || method == b"OPTIONS".as_slice()
-        || method == b"TRACE".as_slice()
-        || method == b"PATCH".as_slice()
+    is_method(method, &http::Method::POST)
+        || is_method(method, &http::Method::PUT)
+        || is_method(method, &http::Method::DELETE)
+        || is_method(method, &http::Method::CONNECT)
+        || is_method(method, &http::Method::OPTIONS)
+        || is_method(method, &http::Method::TRACE)
+        || is_method(method, &http::Method::PATCH)
 }
 
 /// The status that refuses the method, if one does: 405 for a known one, else 501 (RFC 9110, section 9.1).

@@ -23,7 +23,7 @@ pub use looking::{HeadLook, look_at};
 pub use paths::decoded;
 pub use refusing::{head_closes, refusal, status_closes};
 pub use reply::{Method, Reply, Version};
-pub use replying::{closing, middle, put_opening, status_text};
+pub use replying::{closing, middle, put_opening};
 pub use site::{Site, SiteFault};
 pub use site_file::{SITE_BYTES, SiteLine, SiteRefusal, site_line, site_of};
 pub use status::StatusCode;

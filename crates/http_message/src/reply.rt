@@ -1,6 +1,6 @@
 //! What a request is answered.
 
-ghost use Rattle.std.specs.Prelude.{◌≡◌};
+ghost use Rattle.std.specs.Prelude.{◌≡◌, bytes_eq};
 ghost use Rattle.http_message.specs.Asking.{method_of, version_of};
 
 use crate::failure::Failure;
@@ -39,15 +39,22 @@ pub enum Method {
     Other,
 }
 
+/// Whether this is the method that was sent. Its case counts (RFC 9110, section 9.1).
+pub(crate) fn is_method(sent: &[u8], method: &http::Method) -> bool
+    ensures { result ≡ bytes_eq sent.now method.now }
+{
+    sent == method.as_str().as_bytes()
+}
+
 impl Method {
-    /// The method that was sent. Its case counts.
+    /// The method that was sent.
     pub fn of(sent: &[u8]) -> Method
         ensures { result ≡ method_of sent.now }
     {
-        if sent == b"GET".as_slice() {
+        if is_method(sent, &http::Method::GET) {
             return Method::Get;
         }
-        if sent == b"HEAD".as_slice() {
+        if is_method(sent, &http::Method::HEAD) {
             return Method::Head;
         }
         Method::Other

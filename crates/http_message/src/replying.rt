@@ -10,19 +10,13 @@ use std::alloc::AllocError;
 use std::io;
 use std::io::Write;
 
-/// The code and its phrase (RFC 9112, section 4).
-pub fn status_text(status: StatusCode) -> &'static str
-    ensures { result.now ≡ status_text status }
+/// Puts the code and its phrase (RFC 9112, section 4).
+fn put_status(status: StatusCode, out: &mut Vec<u8>) -> Result<(), AllocError>
+    ensures { OnOk result (out.new.items ≡ out.old.items ++ status_text status) }
 {
-    match status {
-        StatusCode::Success => "200 OK",
-        StatusCode::BadRequest => "400 Bad Request",
-        StatusCode::NotFound => "404 Not Found",
-        StatusCode::MethodNotAllowed => "405 Method Not Allowed",
-        StatusCode::ContentTooLarge => "413 Content Too Large",
-        StatusCode::InternalServerError => "500 Internal Server Error",
-        StatusCode::NotImplemented => "501 Not Implemented",
-    }
+    out.extend_from_slice(status.code().as_str().as_bytes())?;
+    out.extend_from_slice(b" ")?;
+    out.extend_from_slice(status.phrase().as_bytes())
 }
 
 /// Puts the Date line at a moment in seconds since 1970 (RFC 9110, section 6.6.1); none after the year 9999.
@@ -142,7 +136,7 @@ pub fn put_opening(reply: &Reply, moment: u64, out: &mut Vec<u8>) -> Result<(), 
 {
     let size = reply.body.as_slice().len();
     out.extend_from_slice(b"HTTP/1.1 ")?;
-    out.extend_from_slice(status_text(reply.status).as_bytes())?;
+    put_status(reply.status, out)?;
     out.extend_from_slice(b"\r\n")?;
     put_date_line(moment, out)?;
     out.extend_from_slice(allow_line(reply.status).as_bytes())?;

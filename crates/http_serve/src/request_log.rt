@@ -2,7 +2,7 @@
 
 use crate::head_reader::Deadline;
 use filter_chain::{Cause, Refusal};
-use http_front::{Exchange, Failure, FrontFault, FrontKind, Served, status_text};
+use http_front::{Exchange, Failure, FrontFault, FrontKind, Served};
 use jiff::Timestamp;
 use std::alloc::AllocError;
 use std::net::SocketAddr;
@@ -94,7 +94,7 @@ impl<R: Clock + Eprint + AllocGlobal> RequestLog<'_, R> {
         let number = self.number;
         let method = or_dash(exchange.method).escape_ascii();
         let target = or_dash(exchange.target).escape_ascii();
-        let status = status_text(exchange.status);
+        let status = exchange.status;
         let size = exchange.size;
         let micros = self.deadline.taken(self.runtime).as_micros();
         let why = Reason(exchange.failure);

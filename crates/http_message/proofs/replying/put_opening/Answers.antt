@@ -9,11 +9,11 @@ unfolding opening head_text
 returns c =
     let old = c.args.out.now.items in
     let date = c.in_ok-put_date_line.ensures in
-    let status = onto_as old _ _ _ (c.as_bytes.ensures.value ∙ c.status_text.ensures) c.in_ok-extend_from_slice.ensures.items c.in_ok-extend_from_slice-2.ensures.items in
-    let dated = onto old _ _ (onto old _ _ status c.in_ok-extend_from_slice-3.ensures.items) date.2 in
-    let allowed = onto_as old _ _ _ (c.as_bytes-2.ensures.value ∙ c.allow_line.ensures) dated c.in_ok-extend_from_slice-4.ensures.items in
-    let closes = onto_as old _ _ _ (c.as_bytes-3.ensures.value ∙ c.connection_line.ensures) allowed c.in_ok-extend_from_slice-5.ensures.items in
+    let status = onto old _ _ c.in_ok-extend_from_slice.ensures.items c.in_ok-put_status.ensures in
+    let dated = onto old _ _ (onto old _ _ status c.in_ok-extend_from_slice-2.ensures.items) date.2 in
+    let allowed = onto_as old _ _ _ (c.as_bytes.ensures.value ∙ c.allow_line.ensures) dated c.in_ok-extend_from_slice-3.ensures.items in
+    let closes = onto_as old _ _ _ (c.as_bytes-2.ensures.value ∙ c.connection_line.ensures) allowed c.in_ok-extend_from_slice-4.ensures.items in
     let reply = c.args.reply.now in
     let size = ap (λ (bytes : List ℕ). framing_line reply.status reply.version reply.method (length bytes)) c.as_slice-size.ensures in
-    let framed = onto old _ _ (onto_as old _ _ _ size closes c.in_ok-put_framing_line.ensures) c.in_ok-extend_from_slice-6.ensures.items in
+    let framed = onto old _ _ (onto_as old _ _ _ size closes c.in_ok-put_framing_line.ensures) c.in_ok-extend_from_slice-5.ensures.items in
     on_ok_weaker c.put_chunk_line.result (λ last. (date.0, date.1, onto old _ _ framed last)) c.put_chunk_line.ensures

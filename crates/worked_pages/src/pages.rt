@@ -1,0 +1,120 @@
+//! A server in memory: its files, its chain, and what it answers to a stream.
+
+ghost use Rattle.std.specs.Prelude.{IfOk};
+ghost use Rattle.http_front.specs.Driven.{IsAlive};
+
+use crate::shown::shown;
+use crate::stopped_clock::StoppedClock;
+use anyhow::Result;
+use filter_chain::{CheckedChain, Files, Host, Limits, MemFiles};
+use http_front::{Site, serve};
+use life_cert::make;
+use life_check::accept_chain;
+use module_lang::assemble;
+use std::alloc::Global;
+use std::io::{self, Write};
+use thiserror::Error;
+
+/// Sunday, 6 November 1994, at 08:49:37 (RFC 9110, section 5.6.7).
+pub(crate) const MOMENT: u64 = 784_111_777;
+
+/// The program's own budget.
+pub(crate) const BUDGET: u64 = 1_000_000;
+
+/// A module of a row is refused.
+#[derive(Clone, Copy, Debug, Error)]
+#[error("the module is refused")]
+struct Refused;
+
+/// The files of a row give the number that is no file's.
+#[derive(Clone, Copy, Debug, Error)]
+#[error("no file can be opened")]
+struct NoFiles;
+
+/// What a row is served by.
+#[derive(Clone, Copy)]
+pub(crate) struct Server {
+    /// The one filter of the chain.
+    pub(crate) module: &'static [u8],
+    /// How many instructions a call may take.
+    pub(crate) budget: u64,
+    /// The moment that it is.
+    pub(crate) moment: u64,
+    /// How many reads of its files go well before one fails; none: all do.
+    pub(crate) fails_at: Option<u64>,
+}
+
+fn chain(alloc: Global, text: &[u8]) -> Result<CheckedChain> {
+    let code = assemble(alloc, text)?;
+    let Ok(cert) = make(alloc, &code) else {
+        return Err(Refused.into());
+    };
+    match accept_chain(alloc, vec![in alloc; (code, cert)]?) {
+        Ok(chain) => Ok(chain),
+        Err(_) => Err(Refused.into()),
+    }
+}
+
+/// A short file, an empty one and a long one.
+fn files(alloc: Global, fails_at: Option<u64>) -> Result<MemFiles> {
+    let mut files = MemFiles::new(alloc);
+    if let Some(reads) = fails_at {
+        files.fail_at(reads);
+    }
+    files.add(b"a", b"hi".to_vec(alloc)?)?;
+    files.add(b"e", Vec::new(alloc))?;
+    files.add(b"l", vec![in alloc; b'x'; 65_537]?)?;
+    Ok(files)
+}
+
+/// Each file under a path of one letter, and a path whose file is not there.
+fn site(alloc: Global) -> Result<Site> {
+    let mut site = Site::new(alloc);
+    site.add("/a", b"a")?;
+    site.add("/e", b"e")?;
+    site.add("/l", b"l")?;
+    site.add("/m", b"m")?;
+    Ok(site)
+}
+
+fn host(alloc: Global, server: Server) -> Result<Host<MemFiles>>
+    ensures { IfOk result (λ h. IsAlive ⟦<MemFiles as Files>⟧.device h) }
+{
+    let limits = Limits {
+        budget: server.budget,
+    };
+    let files = files(alloc, server.fails_at)?;
+    if files.next_number() == 0 {
+        return Err(NoFiles.into());
+    }
+    Ok(Host::checked(alloc, files, chain(alloc, server.module)?, limits))
+}
+
+/// Serves a stream, and tells how many responses were written, and what.
+pub(crate) fn answers(alloc: Global, server: Server, stream: &[u8]) -> Result<(u64, Vec<u8>)> {
+    let site = site(alloc)?;
+    let mut host = host(alloc, server)?;
+    let mut clock = StoppedClock(server.moment);
+    let mut reader = stream;
+    let mut written = Vec::new(alloc);
+    match serve(
+        alloc,
+        &mut reader,
+        &mut written,
+        &site,
+        &mut host,
+        &mut clock,
+    ) {
+        Ok(served) => Ok((served.requests, written)),
+        Err(fault) => Err(fault.kind.into()),
+    }
+}
+
+/// Serves a stream, and prints what is written.
+pub(crate) fn show(rt: &HostRuntime, server: Server, what: &str, stream: &[u8]) -> Result<()> {
+    let (requests, written) = answers(rt.alloc(), server, stream)?;
+    println!(rt; "{what}: {requests} answered")?;
+    let text = shown(rt.alloc(), written.as_slice())?;
+    io::writer(rt).write_all(text.as_slice())?;
+    Ok(())
+}
