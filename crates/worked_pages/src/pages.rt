@@ -6,6 +6,7 @@ ghost use Rattle.http_front.specs.Driven.{IsAlive};
 use crate::shown::shown;
 use crate::stopped_clock::StoppedClock;
 use anyhow::Result;
+use byte_streams::{CountedSource, READS};
 use filter_chain::{CheckedChain, Files, Host, Limits, MemFiles};
 use http_front::{Site, serve};
 use life_cert::make;
@@ -95,7 +96,7 @@ pub(crate) fn answers(alloc: Global, server: Server, stream: &[u8]) -> Result<(u
     let site = site(alloc)?;
     let mut host = host(alloc, server)?;
     let mut clock = StoppedClock(server.moment);
-    let mut reader = stream;
+    let mut reader = CountedSource::new(stream, READS);
     let mut written = Vec::new(alloc);
     match serve(
         alloc,
