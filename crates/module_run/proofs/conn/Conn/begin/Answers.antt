@@ -11,11 +11,8 @@ use Rattle.module_run.proofs.RequestBegins.{begun_left, conn_live, happened_as, 
 use Rattle.module_run.proofs.Unchanged.{left_same}
 use Rattle.module_run.proofs.conn.Conn.begin.Goals as goal
 
-pub call_and_pool-requires-clause-live : goal.call_and_pool-requires-clause-live
-call_and_pool-requires-clause-live g c = (let s = c.requires.stands.1 in conn_live c.args.modules.now c.args.tree.now c.args.store.now c.requires.stands.0 c.args.self.now s.linked s.so)
-
-pub call_and_pool-requires-clause-free : goal.call_and_pool-requires-clause-free
-call_and_pool-requires-clause-free g c = (let s = c.requires.stands.1 in next_free c.args.modules.now c.args.tree.now c.args.store.now c.requires.stands.0 c.args.self.now s.linked s.so)
+pub call_and_pool-requires : goal.call_and_pool-requires
+call_and_pool-requires g c = (let s = c.requires.stands.1 in conn_live c.args.modules.now c.args.tree.now c.args.store.now c.requires.stands.0 c.args.self.now s.linked s.so)
 
 pub returns-in-Some : goal.returns-in-Some
 returns-in-Some g c d v stands =
