@@ -36,14 +36,8 @@ use Rattle.filter_chain.specs.HostedConns.{IsHostedConn, IsHostedConnWith, MaySe
 
 -- What is below the next names.
 module _ (s : HostedConn) (next : NextNames) (chain : List Program) (d : Device) (c : Connection) (h : IsHostedConn chain d next s c) where
-  pub pools_below : (n : ℕ) → is_live (map_of s.tree) n ≡ true → n < next.pool
+  pools_below : (n : ℕ) → is_live (map_of s.tree) n ≡ true → n < next.pool
   pools_below n live = (let below = h.formed.named n live in let le = h.pools in omega arith)
-
-  pub brigades_below : (b : ℕ) → is_some (lists s.store b) ≡ true → b < next.name
-  brigades_below b there = (let below = brigades s.store b there in let le = h.names in omega arith)
-
-  pub births_below : (id : BucketId) → is_some (brigade_of s.store id) ≡ true → id.birth < next.name
-  births_below id there = (let below = young s.store id there in let le = h.names in omega arith)
 
 -- The next names are set.
 module _ (old new : HostedConn) (next : NextNames) (conn : new.conn ≡ old.conn) (tree : map_of new.tree ≡ record (map_of old.tree) { next = next.pool })

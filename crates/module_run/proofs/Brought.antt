@@ -49,45 +49,6 @@ module _ (runs : ℕ → Bool) (call req : ℕ) (alive : runs call ≡ true) whe
   pub brought_shown : (n : ℕ) (pieces : List Piece) (xs : Items) → named xs ≡ named_from (bucket_of call req) n pieces → call < n → shown runs xs ≡ named_from (bucket_of call req) n pieces
   brought_shown n pieces xs is young = ap named (brought_reads n pieces xs is young) ∙ is
 
--- The lists where a brigade of a new name is made, and is filled or ended.
-module _ (L M : ℕ → Option Items) (b : ℕ) (made : (n : ℕ) → M n ≡ ring.upd L b (Some []) n) where
-  made_here : M b ≡ Some []
-  made_here = made b ∙ upd_on L b (Some [])
-
-  pub made_there : is_some (M b) ≡ true
-  made_there = ap is_some made_here
-
-  pub made_filled : (N : ℕ → Option Items) (ys : Items) → ((n : ℕ) → N n ≡ ring.on b (λ xs. xs ++ ys) M n) → (n : ℕ) → N n ≡ ring.upd L b (Some ys) n
-  made_filled N ys filled n =
-      filled n
-      ∙ elim (cases_eq n b) [
-        | inl e ↦
-            ap (ring.on b (λ xs. xs ++ ys) M) e ∙ (upd_on M b (option_map (λ xs. xs ++ ys) (M b)) ∙ (ap (option_map (λ xs. xs ++ ys)) made_here
-            ∙ (sym (upd_on L b (Some ys)) ∙ ap (ring.upd L b (Some ys)) (sym e))))
-        | inr ne ↦ upd_off M b (option_map (λ xs. xs ++ ys) (M b)) n ne ∙ (made n ∙ (upd_off L b (Some []) n ne ∙ sym (upd_off L b (Some ys) n ne)))
-      ]
-
-  pub made_ended : (N : ℕ → Option Items) → L b ≡ None → ((n : ℕ) → N n ≡ ring.upd M b None n) → (n : ℕ) → N n ≡ L n
-  made_ended N none gone n =
-      gone n
-      ∙ elim (cases_eq n b) [
-        | inl e ↦ ap (ring.upd M b None) e ∙ (upd_on M b None ∙ (sym none ∙ ap L (sym e)))
-        | inr ne ↦ upd_off M b None n ne ∙ (made n ∙ upd_off L b (Some []) n ne)
-      ]
-
--- A brigade that was there is there where another is put in.
-pub put_there : (L : ℕ → Option Items) (b n : ℕ) (ys : Items) → is_some (L n) ≡ true → is_some (ring.upd L b (Some ys) n) ≡ true
-put_there L b n ys there =
-    elim (cases_eq n b) [
-      | inl e ↦ ap (λ (k : ℕ). is_some (ring.upd L b (Some ys) k)) e ∙ ap is_some (upd_on L b (Some ys))
-      | inr ne ↦ ap is_some (upd_off L b (Some ys) n ne) ∙ there
-    ]
-
 -- The next name is no brigade's.
 pub next_free : {R : Type 0} {g : Ghosts R Bucket} (store : Brigades R g) → lists store (next_name store) ≡ None
 next_free store = not_there (lists store (next_name store)) (λ there. omega (arith, brigades store (next_name store) there))
-
--- A brigade of the next name that was made, and ended without a bucket, leaves the lists as they were.
-pub ended_again : {R : Type 0} {g : Ghosts R Bucket} (old made now : Brigades R g) (b : ℕ) → b ≡ next_name old → ((n : ℕ) → lists made n ≡ ring.upd (lists old) b (Some []) n)
-    → ((n : ℕ) → lists now n ≡ ring.upd (lists made) b None n) → (n : ℕ) → lists now n ≡ lists old n
-ended_again old made now b name is gone = made_ended (lists old) (lists made) b is (lists now) (ap (lists old) name ∙ next_free old) gone

@@ -42,16 +42,6 @@ module _ {R : Type 0} {g : Ghosts R Bucket} where
   pub later_off_pools : (store : Brigades R g) (ps : Pools Payload) → IsHouse store ps → (n : ℕ) → next_name store ≤ n → pool_of store n ≡ None
   later_off_pools store ps house n later = off_pools store ps house n (λ there. let lt = brigades store n there in omega (arith, lt, later))
 
-  -- a brigade that was made and ended again
-  pub ended_same : (old mid new : Brigades R g) (name : ℕ) → name ≡ next_name old → ((n : ℕ) → lists mid n ≡ ring.upd (lists old) name (Some []) n) → ((n : ℕ) → lists new n ≡ ring.upd (lists mid) name None n) → (n : ℕ) → lists new n ≡ lists old n
-  ended_same old mid new name is made out n = elim (cases_eq n name) [
-    | inl e ↦ out n ∙ (ap (ring.upd (lists mid) name None) e ∙ (ring_here (lists mid) name None ∙ sym (none_there (lists old n) (λ there. let lt = brigades old n there in omega (arith, lt, e, is)))))
-    | inr ne ↦ out n ∙ (ring_off (lists mid) name n None ne ∙ (made n ∙ ring_off (lists old) name n (Some []) ne))
-  ] where
-    none_there : (o : Option Items) → (is_some o ≡ true → ⊥) → o ≡ None
-    none_there None never = refl
-    none_there (Some xs) never = absurd (never refl)
-
   module _ (old new : Brigades R g) (same : (n : ℕ) → lists new n ≡ lists old n) (next : next_name new ≡ next_name old) (pools : pool_of new ≡ pool_of old) where
     pub stacked_same : (chain : List Program) (c : Conn) → IsStacked chain old c → IsStacked chain new c
     stacked_same chain c stacked =

@@ -22,15 +22,14 @@ use ring_run::asks::is_spent;
 use run_model::{Module, Payload, Refusal};
 use std::alloc::AllocError;
 
-/// Makes the brigade of a call's loose buckets, and a pool under this one, and tells their names. Names are left. Without memory nothing
-/// is changed.
+/// Makes the brigade of a call's loose buckets, and a pool under this one, and tells their names. Without memory, and where the names are
+/// spent, nothing is changed.
 pub(crate) fn call_and_pool<R: Rings<Bucket> + Drop>(
     tree: &mut PoolTree<Payload>,
     store: &mut Brigades<R>,
     parent: PoolId,
 ) -> Result<(BrigadeId, PoolId), AllocError>
-    requires live { IsTrue (is_live (map_of tree.old) parent) }
-    requires free { pool_of store.old (next_name store.old) ≡ None }
+    requires { IsTrue (is_live (map_of tree.old) parent) }
     ensures made { IfOk result (λ made. made ≡ (next_name store.old, (map_of tree.old).next)) }
     ensures tree { OnOk result (map_of tree.new ≡ created parent (map_of tree.old)) }
     ensures rings { OnOk result ((n : ℕ) → lists store.new n ≡ upd (lists store.old) (next_name store.old) (Some []) n) }
@@ -42,17 +41,17 @@ pub(crate) fn call_and_pool<R: Rings<Bucket> + Drop>(
     ensures kept { OnErr result (map_of tree.new ≡ map_of tree.old) }
     ensures err { OnErr result ((n : ℕ) → lists store.new n ≡ lists store.old n) }
 {
-    let Ok(name) = store.loose() else {
+    if store.next_name() == u64::MAX {
+        return Err(AllocError);
+    }
+    store.make_room()?;
+    let Ok(pool) = tree.create(parent) else {
         return Err(AllocError);
     };
-    match tree.create(parent) {
-        Ok(pool) => Ok((name, pool)),
-        Err(_) => {
-            store.end_loose(name);
-            store.set_next(name);
-            Err(AllocError)
-        }
-    }
+    let Ok(name) = store.loose() else {
+        unreachable!()
+    };
+    Ok((name, pool))
 }
 
 impl Conn {

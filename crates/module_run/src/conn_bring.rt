@@ -21,9 +21,8 @@ ghost use Rattle.module_run.specs.Proceeding.{StandsFor};
 ghost use Rattle.module_run.specs.Refused.{bring_tests};
 ghost use Rattle.module_run.specs.Conns.{lengths};
 
-use crate::bring::bring_in;
 use crate::conn::{Conn, Filter};
-use crate::pieces::{has_data_behind_eos, lack_files};
+use crate::pieces::{buckets_of, has_data_behind_eos, lack_files};
 use brigade_ops::{BrigadeId, Brigades, Bucket, PoolId, Rings};
 use ring_run::machine::Slot;
 use run_model::{Mark, Module, Piece, Refusal, Seq};
@@ -46,7 +45,6 @@ fn call_and_brigade<R: Rings<Bucket> + Drop>(
     req: PoolId,
     pieces: Seq<Piece>,
 ) -> Result<(BrigadeId, BrigadeId), AllocError>
-    requires free { (n : ℕ) → next_name store.old ≤ n → pool_of store.old n ≡ None }
     ensures made { IfOk result (λ made. made ≡ (next_name store.old, next_name store.old + 1)) }
     ensures rings { OnOk result ((xs : Items) × ((named xs ≡ named_from (bucket_of (next_name store.old) req) (next_name store.old + 2) pieces)
         × ((n : ℕ) → lists store.new n ≡ upd (upd (lists store.old) (next_name store.old) (Some [])) (next_name store.old + 1) (Some xs) n))) }
@@ -56,16 +54,10 @@ fn call_and_brigade<R: Rings<Bucket> + Drop>(
     ensures references { references store.new ≡ references store.old }
     ensures err { OnErr result ((n : ℕ) → lists store.new n ≡ lists store.old n) }
 {
-    let Ok(call) = store.loose() else {
-        return Err(AllocError);
-    };
-    match bring_in(alloc, store, call, req, pieces) {
-        Ok(brigade) => Ok((call, brigade)),
-        Err(_) => {
-            store.end_loose(call);
-            store.set_next(call);
-            Err(AllocError)
-        }
+    let buckets = buckets_of(alloc, store.next_name(), req, pieces)?;
+    match store.loose_pair(buckets) {
+        Ok(made) => Ok(made),
+        Err(_) => Err(AllocError),
     }
 }
 

@@ -2,7 +2,6 @@
 
 ghost use Rattle.std.specs.Prelude.{◌≡◌, ◌⊎◌, ℕ, true, false, Some, IsOk, IfOk, OnOk, OnErr};
 ghost use Rattle.run_model.specs.Pools.{is_in};
-ghost use Rattle.run_model.specs.Steps.{grows};
 ghost use Rattle.ring_run.specs.Apart.{clears_pool};
 ghost use Rattle.module_run.specs.declared.conn.Filter.{Filter};
 
@@ -49,7 +48,7 @@ impl Conn {
         ensures named { IfOk result (λ rings. clears_pool instr ≡ true → (k b n : ℕ) (f : Filter) → filter_at self.now k ≡ Some f → named_at f b ≡ Some n → is_in n rings.items ≡ true) }
         ensures loose { IfOk result (λ rings. clears_pool instr ≡ true → (k : ℕ) (f : Filter) → filter_at self.now k ≡ Some f → is_in f.call.name rings.items ≡ true) }
         ensures only { IfOk result (λ rings. (n : ℕ) → is_in n rings.items ≡ true → Holds self.now n) }
-        ensures sure { grows instr ≡ false → IsOk result }
+        ensures sure { clears_pool instr ≡ false → IsOk result }
     {
         match instr {
             Instr::PClear(_) | Instr::PDestroy(_) => self.rings(),

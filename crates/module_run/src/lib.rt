@@ -1,7 +1,6 @@
 //! A connection with a chain of filters, and the calls of them that run.
 #![tactic(auto)]
 
-mod bring;
 mod conn;
 mod conn_begin;
 mod conn_bring;

@@ -14,11 +14,9 @@ use Rattle.filter_chain.proofs.hosted_conn.HostedConn.open.Goals as goal
 
 pub set_next-requires : goal.set_next-requires
 unfolding planted
-set_next-requires c n live =
-    let below = c.in-Ok.ensures.formed.named n live in
+set_next-requires c =
     let next : (map_of c.in-Ok.tree).next ≡ 2 = ap (λ (ps : Pools Payload). ps.next) c.in-Ok.ensures.ok in
-    let more = c.requires.pool in
-    omega (arith, next)
+    omega (arith, next, c.requires.pool)
 
 pub open-requires-clause-can : goal.open-requires-clause-can
 open-requires-clause-can c =

@@ -2,17 +2,14 @@
 use Rattle.std.proofs.Common.{refl, ap}
 use Rattle.run_model.specs.declared.payload.Payload.{Payload}
 use Rattle.run_model.specs.Pools.{Pools}
-use Rattle.filter_chain.proofs.Seated.{pools_below, brigades_below, births_below, renamed}
+use Rattle.filter_chain.proofs.Seated.{renamed}
 use Rattle.filter_chain.proofs.hosted_conn.HostedConn.set_next.Goals as goal
 
 pub set_next-requires : goal.set_next-requires
-set_next-requires c = pools_below c.args.self.now c.args.next c.requires.0 c.requires.1.0 c.requires.1.1.0 c.requires.1.1.1
+set_next-requires c = c.requires.1.1.1.pools
 
-pub set_next-requires-2-clause-brigades : goal.set_next-requires-2-clause-brigades
-set_next-requires-2-clause-brigades c = brigades_below c.args.self.now c.args.next c.requires.0 c.requires.1.0 c.requires.1.1.0 c.requires.1.1.1
-
-pub set_next-requires-2-clause-births : goal.set_next-requires-2-clause-births
-set_next-requires-2-clause-births c = births_below c.args.self.now c.args.next c.requires.0 c.requires.1.0 c.requires.1.1.0 c.requires.1.1.1
+pub set_next-requires-2 : goal.set_next-requires-2
+set_next-requires-2 c = c.requires.1.1.1.names
 
 pub returns-clause-same : goal.returns-clause-same
 returns-clause-same c chain d conn h =

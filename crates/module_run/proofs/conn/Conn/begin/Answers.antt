@@ -7,17 +7,14 @@ use Rattle.run_model.specs.declared.event.Refusal.TheVariants as refusal
 use Rattle.module_run.specs.CalledFirst.{CalledFirst}
 use Rattle.module_run.specs.Happened.{has_lasted}
 use Rattle.module_run.proofs.Refusing.{begin_refused, begin_passed}
-use Rattle.module_run.proofs.RequestBegins.{begun_left, conn_live, happened_as, begin_idle, never_some, next_free}
+use Rattle.module_run.proofs.RequestBegins.{begun_left, conn_live, happened_as, begin_idle, never_some}
 use Rattle.module_run.proofs.Unchanged.{left_same}
 use Rattle.module_run.proofs.Neighbours.{unchanged}
 use Rattle.module_run.proofs.NeighboursLeft.{first_leaves}
 use Rattle.module_run.proofs.conn.Conn.begin.Goals as goal
 
-pub call_and_pool-requires-clause-live : goal.call_and_pool-requires-clause-live
-call_and_pool-requires-clause-live g c = (let s = c.requires.stands.1 in conn_live c.args.modules.now c.args.tree.now c.args.store.now c.requires.stands.0 c.args.self.now s.linked s.so)
-
-pub call_and_pool-requires-clause-free : goal.call_and_pool-requires-clause-free
-call_and_pool-requires-clause-free g c = (let s = c.requires.stands.1 in next_free c.args.modules.now c.args.tree.now c.args.store.now c.requires.stands.0 c.args.self.now s.linked s.so)
+pub call_and_pool-requires : goal.call_and_pool-requires
+call_and_pool-requires g c = (let s = c.requires.stands.1 in conn_live c.args.modules.now c.args.tree.now c.args.store.now c.requires.stands.0 c.args.self.now s.linked s.so)
 
 pub returns-in-Some-clause-happened : goal.returns-in-Some-clause-happened
 returns-in-Some-clause-happened g c d v stands =

@@ -19,9 +19,6 @@ use Rattle.module_run.proofs.RequestBegins.{bring_idle, happened_as, req_is}
 use Rattle.module_run.proofs.Unchanged.{later_off_pools, left_same}
 use Rattle.module_run.proofs.conn.Conn.bring.Goals as goal
 
-pub call_and_brigade-requires : goal.call_and_brigade-requires
-call_and_brigade-requires g c = record { free = (let s = c.requires.stands in later_off_pools c.args.store.now (map_of s.0) s.1.1.so.left.house) }
-
 pub returns-in-Err-clause-happened : goal.returns-in-Err-clause-happened
 returns-in-Err-clause-happened g c tree d v stands =
     let self = c.args.self.now in

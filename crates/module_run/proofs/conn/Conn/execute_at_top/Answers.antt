@@ -1,11 +1,14 @@
-use Rattle.std.proofs.Common.{◌∙◌, sym, ap, subst}
+use Rattle.std.proofs.Common.{◌≡◌, ◌∙◌, sym, ap, subst}
 use Rattle.module_code.specs.declared.instr.Instr.{Instr}
+use Rattle.run_model.specs.Chains.{configuration}
+use Rattle.run_model.specs.Steps.{grows}
 use Rattle.run_model.specs.declared.event.Stepped.TheVariants.{Went}
 use Rattle.run_model.specs.Turns.{calls_of}
 use Rattle.pool_tree.specs.Tree.{map_of}
 use Rattle.module_run.specs.Conns.{top_of}
 use Rattle.module_run.specs.Proceeding.{IsReady, RefinesStep}
-use Rattle.module_run.proofs.Executing.{is_last_here, on_err_to}
+use Rattle.module_run.proofs.CanPass.{passer_at}
+use Rattle.module_run.proofs.Executing.{is_last_here, on_err_to, passes_on}
 use Rattle.module_run.proofs.HandsOnBuilt.{on_err}
 use Rattle.module_run.proofs.conn.Conn.execute_at_top.Goals as goal
 
@@ -118,3 +121,18 @@ returns-in_ok-pass_to_output-in-Pass-clause-leaves g c = c.in_ok-pass_to_output-
 -- src/conn_step.rt
 pub returns-else-is_empty-clause-leaves : goal.returns-else-is_empty-clause-leaves
 returns-else-is_empty-clause-leaves g c = c.return_to_caller.ensures.leaves (map_of c.args.tree.now)
+
+-- src/conn_step.rt
+pub returns-in_err-pass_to_next-in-Pass-clause-sure : goal.returns-in_err-pass_to_next-in-Pass-clause-sure
+returns-in_err-pass_to_next-in-Pass-clause-sure g c v f rest ready quiet none =
+    let passes = subst (λ (i : Instr). IsReady c.args.modules.now i c.args.tree.now c.args.store.now (g.F.Files.device c.args.files.now) c.args.self.now v f rest) c.in-Pass.is ready in
+    let at : f.of ≡ top_of c.args.self.now = passer_at c.args.modules.now c.in-Pass.b c.in-Pass.l c.args.tree.now c.args.store.now (g.F.Files.device c.args.files.now) c.args.self.now v f rest passes in
+    absurd (passes_on c.args.modules.now c.top.result f.of (c.top.ensures ∙ sym at) c.if-top-modules.true (ap (λ (i : Instr). calls_of c.args.modules.now i f rest v.1.queue) (sym c.in-Pass.is) ∙ none))
+
+-- src/conn_step.rt
+pub returns-in_err-pass_to_output-in-Pass-clause-sure : goal.returns-in_err-pass_to_output-in-Pass-clause-sure
+returns-in_err-pass_to_output-in-Pass-clause-sure g c v f rest ready quiet none =
+    let sure = c.in_err-pass_to_output-in-Pass.ensures.sure c.args.modules.now c.args.tree.now v f rest
+    (subst (λ (i : Instr). IsReady c.args.modules.now i c.args.tree.now c.args.store.now (g.F.Files.device c.args.files.now) c.args.self.now v f rest) c.in-Pass.is ready)
+    (sym (ap (λ (i : Instr). grows (configuration v.0 v.1 f) i) c.in-Pass.is) ∙ quiet) in
+    absurd (cc sure)

@@ -11,11 +11,7 @@ use Rattle.module_run.specs.CalledFirst.{CalledFirst}
 use Rattle.module_run.specs.Conns.{filter_at}
 use Rattle.module_run.specs.Opening.{IsNewConn}
 use Rattle.module_run.proofs.Opens.{opened_beside, opened_left}
-use Rattle.module_run.proofs.Unchanged.{next_off_pools}
 use Rattle.module_run.proofs.conn.Conn.open.Goals as goal
-
-pub call_and_pool-requires-clause-free : goal.call_and_pool-requires-clause-free
-call_and_pool-requires-clause-free g c = next_off_pools c.args.store.now (map_of c.args.tree.now) c.requires.can.house
 
 pub returns-clause-opened : goal.returns-clause-opened
 unfolding filter_at

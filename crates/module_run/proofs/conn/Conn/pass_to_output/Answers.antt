@@ -1,5 +1,5 @@
 -- The filter on top is changed, and what it passed is put out.
-use Rattle.std.proofs.Common.{◌≡◌, ◌==◌, ℕ, ◌+◌, ◌<◌, All, List, Some, true, is_some, length, refl, sym, ap, subst, ◌∙◌, arith}
+use Rattle.std.proofs.Common.{◌≡◌, ◌==◌, ℕ, ◌+◌, ◌<◌, ◌&&◌, not, All, List, Some, true, false, is_some, length, refl, sym, ap, subst, ◌∙◌, arith}
 use Rattle.std.specs.Prelude.{if◌then◌else◌, slice_get}
 use Rattle.std.proofs.lemmas.List.{length-set}
 use Rattle.std.specs.Vec.{with_item}
@@ -8,7 +8,9 @@ use Rattle.run_model.specs.declared.bucket.Mark.TheVariants.{Passed}
 use Rattle.bucket_kinds.specs.Device.{Device}
 use Rattle.run_model.specs.Chains.{module_at}
 use Rattle.run_model.specs.Effects.{do_pass}
-use Rattle.run_model.specs.State.{Out, items_of}
+use Rattle.run_model.specs.State.{Configuration, Out, items_of}
+use Rattle.run_model.specs.Steps.{grows, has_bytes}
+use Rattle.ring_run.proofs.Quiet.{grown_none}
 use Rattle.pool_tree.specs.Tree.{map_of}
 use Rattle.brigade_ops.specs.Store.{lists, pool_of, next_name, brigade_of}
 use Rattle.module_run.specs.declared.conn.Filter.{Filter}
@@ -21,7 +23,7 @@ use Rattle.ring_run.specs.Given.{RangeIsOpen}
 use Rattle.ring_run.specs.Held.{IsHeld}
 use Rattle.ring_run.specs.LeftAlone.{LeavesOthers}
 use Rattle.module_run.specs.Proceeding.{LeftAs}
-use Rattle.ring_run.specs.Seen.{seen}
+use Rattle.ring_run.specs.Seen.{seen, seen_over}
 use Rattle.ring_run.specs.Slots.{live_in, marked, slot_at}
 use Rattle.module_run.proofs.AtWork as work
 use Rattle.module_run.proofs.CallsLeave.{ends_one, ends_unchanged, marked_name, one_leaves}
@@ -228,3 +230,20 @@ returns-clause-ended g c =
     (λ a. subst (λ (q : Filter). slot_at i a ≡ (if a == b then marked Passed (slot_at q.instance b) else slot_at q.instance a)) at (c.in_ok-well.ensures.slots a)) in
     let name : w.call.name ≡ x.call.name = ap (λ (k : Call). k.name) c.go_on.ensures ∙ ap (λ (q : Filter). q.call.name) at in
     ends_one old new self _ (top_of self) x w t.is (writes_here self c.top-top.result c.top-top.ensures w within) (writes_off self c.top-top.result c.top-top.ensures w within) name (marked_name x.instance i b slots 8)
+
+pub returns-in_err-well-clause-sure : goal.returns-in_err-well-clause-sure
+unfolding seen_over
+returns-in_err-well-clause-sure g c chain tree v f rest ready quiet =
+    let self = c.args.self.now in
+    let store = c.args.store.now in
+    let d = g.F.Files.device c.args.files.now in
+    let b = c.args.b in
+    let i = instr.Pass b c.args.target in
+    let t = passer chain b c.args.target tree store d self v f rest ready in
+    let at = reads_here self c.top-top.result c.top-top.ensures t.filter c.index_mut-filter.result.now t.is c.index_mut-filter.ensures.value in
+    let around = around_of (map_of tree) self v in
+    let same = work.config chain i tree store d self v f rest ready t.filter t.is in
+    let none : (not self.ended && has_bytes (items_of ((seen store around t.filter.instance t.filter.call).instance.brigades b))) ≡ false
+    = (grown_none 0 0 _ (sym (ap (λ (r : Configuration). grows r i) same) ∙ quiet)).1 in
+    let sure = c.in_err-well.ensures.sure around t.filter.call (subst (λ (q : Filter). (not self.ended && has_bytes (items_of ((seen store around q.instance t.filter.call).instance.brigades b))) ≡ false) (sym at) none) in
+    absurd (cc sure)

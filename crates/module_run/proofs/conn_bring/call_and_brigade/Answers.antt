@@ -1,0 +1,17 @@
+-- By the brigades that were made, the second of the pieces' buckets.
+use Rattle.std.proofs.Common.{◌≡◌, ℕ, ◌+◌, length, map, ap, ◌∙◌, arith}
+use Rattle.std.proofs.lemmas.List.{length-map}
+use Rattle.bucket_ring.specs.Lists.{numbered}
+use Rattle.run_model.specs.Pieces.{bucket_of}
+use Rattle.brigade_ops.specs.Store.{next_name}
+use Rattle.brigade_ops.proofs.Models.{lists_are_the_models}
+use Rattle.module_run.proofs.conn_bring.call_and_brigade.Goals as goal
+
+pub returns-in-Ok-clause-rings : goal.returns-in-Ok-clause-rings
+returns-in-Ok-clause-rings g c =
+    let next = next_name c.args.store.now in
+    let make = bucket_of next c.args.req in
+    let done = c.in-Ok.ensures.ok in (
+      done.0,
+      (lists_are_the_models.brought make (next + 2) c.args.pieces done.0 (done.1 ∙ ap (numbered (next + 2)) (c.in_ok-buckets.ensures ∙ ap (λ (n : ℕ). map (bucket_of n c.args.req) c.args.pieces) c.next_name.ensures)), done.2),
+    )
