@@ -1,7 +1,6 @@
 -- A connection is closed: what is gone, and what is left to others.
-use Rattle.std.proofs.Common.{◌≡◌, ◌≢◌, ◌⊎◌, ◌==◌, ◌&&◌, ℕ, zero, suc, ◌+◌, ◌-◌, ◌<◌, ◌≤◌, nat_le, nat_lt, Bool, true, false, List, [], ◌∷◌, length, Option, Some, None, is_some, refl, sym, ap, subst, ◌∙◌, inl, inr, arith}
-use Rattle.std.specs.Prelude.{if◌then◌else◌, slice_index_or}
-use Rattle.std.proofs.lemmas.Bool.{cases_eq, eq-eqb, le-leb, lt-leb, lt-ltb}
+use Rattle.std.proofs.Common.{◌≡◌, ◌≢◌, ◌⊎◌, ◌&&◌, ℕ, zero, suc, ◌+◌, ◌-◌, ◌<◌, ◌≤◌, nat_le, nat_lt, Bool, true, false, List, [], ◌∷◌, Option, Some, None, is_some, refl, sym, ap, subst, ◌∙◌, inl, inr, arith}
+use Rattle.std.proofs.lemmas.Bool.{cases_eq, le-leb, lt-leb, lt-ltb}
 use Rattle.module_code.specs.declared.instr.PoolRef.{PoolRef}
 use Rattle.module_code.specs.declared.instr.PoolRef.TheVariants as pool
 use Rattle.module_code.specs.Program.{Program, pool_of_brigade}
@@ -13,18 +12,15 @@ use Rattle.run_model.specs.declared.bucket.Brigade.{Brigade}
 use Rattle.run_model.specs.declared.bucket.BrigadeVar.{BrigadeVar}
 use Rattle.run_model.specs.declared.bucket.BrigadeVar.TheVariants as var
 use Rattle.run_model.specs.declared.bucket.Bucket.{Bucket}
-use Rattle.run_model.specs.declared.bucket.PoolVar.{PoolVar}
-use Rattle.run_model.specs.declared.bucket.PoolVar.TheVariants as poolvar
+use Rattle.run_model.specs.declared.bucket.Mark.TheVariants.{Passed}
 use Rattle.run_model.specs.declared.payload.Payload.{Payload}
-use Rattle.run_model.specs.Chains.{Frame, Linked, configuration, module_at, pools_of}
+use Rattle.run_model.specs.Chains.{Linked, configuration, module_at, pools_of}
 use Rattle.run_model.specs.Effects.{handed_over}
 use Rattle.run_model.specs.Faults.{is_live_named}
-use Rattle.run_model.specs.Indexed.{upd}
 use Rattle.run_model.specs.Pools.{Pools, is_in, is_live, is_under}
 use Rattle.run_model.specs.State as model
 use Rattle.run_model.specs.State.{Configuration, fresh_call, pool_named, named_at as pool_at}
 use Rattle.run_model.proofs.Updates.{upd_either}
-use Rattle.model_laws.specs.AsDeclared.{AsDeclared}
 use Rattle.model_laws.specs.Parts.{HasPart}
 use Rattle.model_laws.proofs.parts.Paths.{part_under}
 use Rattle.pool_tree.specs.declared.tree.PoolTree.{PoolTree}
@@ -41,7 +37,7 @@ use Rattle.ring_run.specs.Slots.{name_in, slot_at}
 use Rattle.ring_run.proofs.Changes.{ring_here, ring_off}
 use Rattle.module_run.specs.declared.conn.Conn.{Conn}
 use Rattle.module_run.specs.declared.conn.Filter.{Filter}
-use Rattle.module_run.specs.Conns.{filter_at, lent_by, runs_of, shown_filter, shown_instance, top_of, waiting}
+use Rattle.module_run.specs.Conns.{filter_at, lent_by, runs_of, shown_filter, shown_instance, top_of}
 use Rattle.module_run.specs.Neighbours.{Holds, IsForeign, LeavesOthers, SameRing}
 use Rattle.module_run.specs.Proceeding.{StandsFor}
 use Rattle.module_run.specs.Stacked.{is_called, is_waiting, named_at}
@@ -91,7 +87,7 @@ shown_live runs rings n o mark there = go (rings n) there where
   go (Some xs) e = record { brigade = record { name = n; on = o; mark = mark; items = shown runs xs }; is = refl; on = refl }
 
 handed_live : (o : Option ℕ) (v : BrigadeVar) → ReadsLive o v → ReadsLive o (handed_over v)
-handed_live o v r = record { brigade = record r.brigade { mark = Rattle.run_model.specs.declared.bucket.Mark.TheVariants.Passed; items = [] }; is = ap handed_over r.is; on = r.on }
+handed_live o v r = record { brigade = record r.brigade { mark = Passed; items = [] }; is = ap handed_over r.is; on = r.on }
 
 lent_live : (o l : Option ℕ) (i : model.Instance) (b : ℕ) → ReadsLive o (i.brigades b) → ReadsLive o ((lent_by l i).brigades b)
 lent_live o None i b r = r
@@ -222,6 +218,10 @@ module _ {R : Type 0} {g : Ghosts R Bucket} (chain : List Program) (tree : PoolT
 
     pub destroyed_spares : (n : ℕ) → IsForeign (map_of tree) old c n → SameRing old mid n
     destroyed_spares = spared (map_of tree) stands.left.formed old mid c c.conn (part_under (map_of tree) c.conn has_part) [] (λ n e. absurd (cc)) (record { lists = out; pools = off })
+
+    -- 0 is no brigade's name
+    pub none_cleared : lists mid 0 ≡ None
+    none_cleared = out 0 ∙ ap (cleared_ring (is_under (map_of tree) c.conn) (is_in 0 []) (pool_of old 0)) stands.left.none
 
     -- brigades of the modules' own are gone
     own_gone : (n : ℕ) → IsOwn n → lists mid n ≡ None

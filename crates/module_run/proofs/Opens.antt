@@ -1,11 +1,11 @@
 -- A connection is opened: what it stands for before its first call, and then.
-use Rattle.std.proofs.Common.{◌≡◌, ◌≢◌, ℕ, zero, suc, ◌+◌, ◌-◌, ◌<◌, ◌≤◌, ◌&&◌, nat_le, nat_lt, Bool, true, false, List, [], ◌∷◌, ◌++◌, length, Option, Some, None, is_some, ◌⊎◌, inl, inr, refl, sym, ap, subst, ◌∙◌, arith}
-use Rattle.std.specs.Prelude.{if◌then◌else◌, slice_get, slice_index_or, count_by}
+use Rattle.std.proofs.Common.{◌≡◌, ℕ, zero, suc, ◌+◌, ◌-◌, ◌<◌, ◌≤◌, ◌&&◌, nat_le, Bool, false, List, [], ◌∷◌, ◌++◌, length, Option, Some, None, is_some, ◌⊎◌, inl, inr, refl, sym, ap, subst, ◌∙◌, arith}
+use Rattle.std.specs.Prelude.{if◌then◌else◌, slice_get, slice_index_or}
 use Rattle.std.specs.Global.{Vec}
 use Rattle.std.proofs.Math.Path.{fun_ext}
 use Rattle.bucket_kinds.specs.Device.{Device}
 use Rattle.bucket_ring.specs.declared.rings.Rings.{Ghosts}
-use Rattle.bucket_ring.specs.Kept.{NoneRevived, once_in}
+use Rattle.bucket_ring.specs.Kept.{NoneRevived}
 use Rattle.bucket_ring.specs.Lists as ring
 use Rattle.module_code.specs.Program.{Program}
 use Rattle.run_model.specs.declared.bucket.Bucket.{Bucket}
@@ -15,12 +15,9 @@ use Rattle.run_model.specs.declared.bucket.PoolVar.{PoolVar}
 use Rattle.run_model.specs.declared.bucket.PoolVar.TheVariants as poolvar
 use Rattle.run_model.specs.declared.event.Cause.{Cause}
 use Rattle.run_model.specs.declared.payload.Payload.{Payload}
-use Rattle.run_model.specs.Chains.{Connection, Common, Frame, Linked, pools_of}
-use Rattle.run_model.specs.Indexed.{upd}
-use Rattle.run_model.specs.Payloads.{is_file_ref}
+use Rattle.run_model.specs.Chains.{Connection, Common, Frame, Linked}
 use Rattle.run_model.specs.Pools.{Pools, created}
 use Rattle.run_model.specs.RunOrder.{IsPoolMap}
-use Rattle.run_model.specs.Sound.{sum_below}
 use Rattle.run_model.specs.State as model
 use Rattle.run_model.specs.State.{fresh_instance}
 use Rattle.run_model.specs.Turns.{all_called, fresh_connection, opened, with_pools}
@@ -42,7 +39,7 @@ use Rattle.module_run.specs.Opening.{CanOpen, IsNewConn, IsNewFilter, over}
 use Rattle.module_run.specs.Proceeding.{LeftAs}
 use Rattle.ring_run.specs.Seen.{shown_slot}
 use Rattle.ring_run.specs.Slots.{slot_at, name_in}
-use Rattle.module_run.specs.Stacked.{FiltersApart, AreCalled, IsStacked, is_called, is_waiting, named_at, names_up}
+use Rattle.module_run.specs.Stacked.{FiltersApart, AreCalled, IsStacked, is_called, named_at}
 use Rattle.module_run.proofs.FirstCalls.{none_between, no_lent, true_false}
 use Rattle.module_run.proofs.FirstStacked.{left_called, no_names}
 use Rattle.module_run.proofs.Looked.{some_same}

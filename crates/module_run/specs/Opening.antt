@@ -1,5 +1,5 @@
 -- What a connection is opened over, and its filters before their `open`.
-use Rattle.std.specs.Prelude.{◌≡◌, ℕ, ◌<◌, Bool, false, [], length, Option, None, slice_index_or}
+use Rattle.std.specs.Prelude.{◌≡◌, ℕ, ◌<◌, false, [], length, Option, None, slice_index_or}
 use Rattle.std.specs.Global.{Vec}
 use Rattle.bucket_ring.specs.Kept.{NoneRevived}
 use Rattle.bucket_ring.specs.declared.names.BucketId.{BucketId}

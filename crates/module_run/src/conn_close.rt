@@ -95,6 +95,7 @@ impl Conn {
         ensures unreferred { (file : ℕ) → ((p : ℕ) → is_under (map_of tree.old) self.old.conn p ≡ true → refers (map_of tree.old) p file ≡ false) → (F.device files.new).numbered file ≡ (F.device files.old).numbered file }
         ensures others { SameButOpen (F.device files.old) (F.device files.new) }
         ensures leaves { LeavesOthers (map_of tree.old) store.old store.new self.old self.new }
+        ensures none { lists store.new 0 ≡ None }
         ensures house { IsHouse store.new (map_of tree.new) }
         ensures references { AreOpen (references store.new) (F.device files.new) }
         ensures rest { self.new ≡ record self.old { labels = self.new.labels } }

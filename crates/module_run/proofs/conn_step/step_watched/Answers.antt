@@ -1,11 +1,8 @@
 -- By what is looked at, and what the call on top does.
-use Rattle.std.proofs.Common.{◌≡◌, ◌<◌, ◌≤◌, ℕ, List, None, Some, false, true, refl, sym, ap, subst, ◌∙◌, arith}
+use Rattle.std.proofs.Common.{refl, sym, subst, ◌∙◌, arith}
 use Rattle.module_code.specs.declared.instr.Instr.{Instr}
-use Rattle.run_model.specs.Chains.{Frame, Linked, module_at}
-use Rattle.run_model.specs.Steps.{current}
 use Rattle.pool_tree.specs.Tree.{map_of}
-use Rattle.module_run.specs.Proceeding.{IsReady, RefinesStep}
-use Rattle.module_run.specs.Stepping.{IsOnTop, next_at}
+use Rattle.module_run.specs.Proceeding.{RefinesStep}
 use Rattle.module_run.proofs.CallsLeave.{ends_unchanged}
 use Rattle.module_run.proofs.Executing.{executed_answers, fault_looked, grows_looked, lacks_looked, none_there, ready_of, true_false}
 use Rattle.module_run.proofs.Neighbours.{unchanged}

@@ -1,7 +1,6 @@
 -- By what the end of the pool hands on, and what of its calls is ended.
-use Rattle.std.proofs.Common.{◌≡◌, ◌≢◌, ℕ, ◌<◌, ◌≤◌, List, length, Option, Some, None, is_some, ◌++◌, refl, sym, ap, subst, ◌∙◌, inl, inr, arith}
+use Rattle.std.proofs.Common.{◌≡◌, ℕ, ◌<◌, List, length, Option, Some, None, is_some, ◌++◌, refl, sym, ap, subst, ◌∙◌, inr, arith}
 use Rattle.std.specs.Global.{Vec}
-use Rattle.std.proofs.lemmas.Bool.{cases_eq}
 use Rattle.std.proofs.lemmas.Option.{slice_get_read}
 use Rattle.bucket_kinds.specs.Device.{Device}
 use Rattle.bucket_ring.specs.Lists as ring
@@ -10,17 +9,16 @@ use Rattle.run_model.specs.Files.{is_referred}
 use Rattle.run_model.specs.Payloads.{labels_in}
 use Rattle.pool_tree.specs.Tree.{map_of}
 use Rattle.pool_tree.proofs.Trees.{tree_formed}
-use Rattle.brigade_ops.specs.Store.{lists, pool_of, next_name}
+use Rattle.brigade_ops.specs.Store.{lists, next_name}
 use Rattle.brigade_ops.proofs.Stores.{same_brigade}
 use Rattle.ring_run.proofs.Changes.{ring_here, ring_off}
 use Rattle.module_run.specs.declared.conn.Filter.{Filter}
 use Rattle.module_run.specs.Conns.{filter_at, labels_handed}
-use Rattle.module_run.specs.Neighbours.{Holds}
 use Rattle.module_run.specs.Proceeding.{LeftAs}
 use Rattle.module_run.specs.Stacked.{named_at}
 use Rattle.module_run.proofs.Alongside.{left_relabelled}
 use Rattle.module_run.proofs.Known.{some_is}
-use Rattle.module_run.proofs.Leaving.{all_gone, conn_below, free_calls, house_ended, leaving, none_kept, off_still}
+use Rattle.module_run.proofs.Leaving.{all_gone, conn_below, free_calls, house_ended, leaving, none_cleared, none_kept, off_still}
 use Rattle.module_run.proofs.Neighbours.{unchanged}
 use Rattle.module_run.proofs.RequestBegins.{conn_live}
 use Rattle.module_run.proofs.RequestEnds.{closed_labels}
@@ -178,3 +176,20 @@ returns-in_err-ran-clause-err g c =
     subst (λ (x : Device). LeftAs chain c.destroy.new.tree c.destroy.new.self x (record c.args.self.now { labels = c.reserve.new.self }) v) (sym e.unread)
     (left_relabelled chain c.destroy.new.tree c.destroy.new.self d c.args.self.now v c.reserve.new.self c.reserve.ensures.items
     (left_same c.args.store.now c.destroy.new.self e.err c.destroy.ensures.next e.pools chain c.args.tree.now c.destroy.new.tree d c.args.self.now v e.kept e.uncounted left)))
+
+pub returns-in_err-reserve-clause-none : goal.returns-in_err-reserve-clause-none
+returns-in_err-reserve-clause-none g c = c.requires.stands.1.so.left.none
+
+pub returns-in_err-ran-clause-none : goal.returns-in_err-ran-clause-none
+returns-in_err-ran-clause-none g c = c.in_err-ran.ensures.err 0 ∙ c.requires.stands.1.so.left.none
+
+pub returns-in_default-clause-none : goal.returns-in_default-clause-none
+returns-in_default-clause-none g c =
+    let s = c.requires.stands in
+    c.end_calls.ensures.none 0 (none_cleared s.0 c.args.tree.now c.args.store.now (g.F.Files.device c.args.files.now) c.args.self.now s.1.linked s.1.so c.destroy.new.self c.in_ok-ran.ensures.out c.in_ok-ran.ensures.off)
+
+pub returns-in-Some-clause-none : goal.returns-in-Some-clause-none
+returns-in-Some-clause-none g c =
+    let s = c.requires.stands in
+    none_kept (lists c.end_calls.new.store) (lists c.end_brigade.new.store) c.in-Some.name c.end_brigade.ensures.out 0
+    (c.end_calls.ensures.none 0 (none_cleared s.0 c.args.tree.now c.args.store.now (g.F.Files.device c.args.files.now) c.args.self.now s.1.linked s.1.so c.destroy.new.self c.in_ok-ran.ensures.out c.in_ok-ran.ensures.off))

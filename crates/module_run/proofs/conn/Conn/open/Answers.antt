@@ -1,5 +1,6 @@
 -- By what is left of a new connection.
-use Rattle.std.proofs.Common.{◌≡◌, ℕ, None, Option, length, refl, sym, ap, subst, ◌∙◌}
+use Rattle.std.proofs.Common.{◌≡◌, ℕ, None, Option, length, sym, ap, subst, ◌∙◌}
+use Rattle.std.specs.Prelude.{slice_get}
 use Rattle.std.specs.Global.{Vec}
 use Rattle.pool_tree.specs.Tree.{map_of}
 use Rattle.pool_tree.proofs.Trees.{tree_formed}
@@ -26,7 +27,7 @@ returns-clause-opened g c d k open_files named given =
     subst (λ (x : Conn). CalledFirst chain (next_name c.args.store.now) x c.call_first.new.self) (ap (λ (r : Option ℕ). let y : Conn = record conn { req = r } in y) is.req)
     (subst (λ (n : ℕ). CalledFirst chain n conn c.call_first.new.self) (ap (λ (p : ℕ × ℕ). p.0) e.made) c.call_first.ensures) in
     opened_left chain c.args.tree.now c.args.store.now c.requires.can conn c.requires.some filters is many
-    (λ j f at. c.in-Ok.ensures.new j f (ap (λ (fs : Vec Filter). Rattle.std.specs.Prelude.slice_get fs.items j) (sym is.filters_are) ∙ at))
+    (λ j f at. c.in-Ok.ensures.new j f (ap (λ (fs : Vec Filter). slice_get fs.items j) (sym is.filters_are) ∙ at))
     c.call_and_pool.new.tree c.call_and_pool.new.store c.call_first.new.self d k c.root-root.result open_files named given (tree_formed c.args.tree.now) begins e.tree e.formed e.rings e.next e.names e.pools e.references
 
 pub returns-clause-beside : goal.returns-clause-beside
@@ -42,7 +43,7 @@ returns-clause-beside g c =
     subst (λ (x : Conn). CalledFirst chain (next_name c.args.store.now) x c.call_first.new.self) (ap (λ (r : Option ℕ). let y : Conn = record conn { req = r } in y) is.req)
     (subst (λ (n : ℕ). CalledFirst chain n conn c.call_first.new.self) (ap (λ (p : ℕ × ℕ). p.0) e.made) c.call_first.ensures) in
     opened_beside chain c.args.tree.now c.args.store.now c.requires.can conn c.requires.some filters is many
-    (λ j f at. c.in-Ok.ensures.new j f (ap (λ (fs : Vec Filter). Rattle.std.specs.Prelude.slice_get fs.items j) (sym is.filters_are) ∙ at))
+    (λ j f at. c.in-Ok.ensures.new j f (ap (λ (fs : Vec Filter). slice_get fs.items j) (sym is.filters_are) ∙ at))
     c.call_and_pool.new.store c.call_first.new.self begins e.rings e.next e.names e.pools
 
 pub returns-clause-pools : goal.returns-clause-pools

@@ -1,15 +1,14 @@
 -- By the tests, and by what the watched step did.
-use Rattle.std.proofs.Common.{◌≡◌, ◌<◌, ◌≤◌, ◌∙◌, ℕ, sym, ap, subst, refl, None, Some, false, true, Result, Err, Ok, arith}
-use Rattle.run_model.specs.Chains.{Frame, Linked}
+use Rattle.std.proofs.Common.{◌≡◌, ◌∙◌, sym, ap, subst, refl, Some, Err, Ok, arith}
 use Rattle.run_model.specs.declared.event.Cause.{Cause}
 use Rattle.run_model.specs.declared.event.Refusal.{Refusal}
 use Rattle.run_model.specs.declared.event.Refusal.TheVariants.{Broken}
 use Rattle.pool_tree.specs.Tree.{map_of}
 use Rattle.module_run.specs.declared.conn.Conn.{Conn}
 use Rattle.module_run.specs.Conns.{filter_at}
-use Rattle.module_run.specs.Stepping.{IsStep, IsOnTop, settled}
+use Rattle.module_run.specs.Stepping.{IsStep, settled}
 use Rattle.module_run.proofs.CallsLeave.{ends_alike, ends_unchanged, leaves_alike}
-use Rattle.module_run.proofs.Executing.{IsWatched, answer_settled, count_of, none_there, not_false, not_true, refusal_settled, runs_on_top, settled_filters, step_broken, step_goes, step_idle, step_over}
+use Rattle.module_run.proofs.Executing.{answer_settled, count_of, none_there, refusal_settled, runs_on_top, settled_filters, step_broken, step_goes, step_idle, step_over}
 use Rattle.module_run.proofs.Neighbours.{unchanged}
 use Rattle.module_run.proofs.conn.Conn.step.Goals as goal
 
