@@ -193,7 +193,7 @@ where
     let limits = Limits {
         budget: u64::from(front.budget),
     };
-    let host = Host::checked(rt.alloc(), files, chain, limits);
+    let host = Host::checked(rt.alloc(), files, chain, limits)?;
     let address = SocketAddr::new(IpAddr::V4(Ipv4Addr::LOCALHOST), front.port);
     match TcpListener::bind(rt, address) {
         Ok(listener) => Ok(Server {

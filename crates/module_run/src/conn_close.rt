@@ -89,6 +89,7 @@ impl Conn {
         ensures labels { OnOk result ((chain : List Program) (v : Linked) → StandsFor chain tree.old store.old (F.device files.old) self.old v → labels_handed self.new.labels.items ≡ closing_labels v) }
         ensures pools { OnOk result (map_of tree.new ≡ destroyed self.old.conn (map_of tree.old)) }
         ensures gone { OnOk result ((n : ℕ) → Holds self.old n → lists store.new n ≡ None) }
+        ensures none { OnOk result ((n : ℕ) → lists store.old n ≡ None → lists store.new n ≡ None) }
         ensures next { next_name store.new ≡ next_name store.old }
         ensures closed { OnOk result ((file : ℕ) → (F.device files.new).numbered file
             ≡ (if list_any (λ x. is_file_ref file x.1) (run_order (map_of tree.old) self.old.conn) && not (is_referred (map_of tree.new) file) then Missing else (F.device files.old).numbered file)) }

@@ -1,5 +1,5 @@
 -- By what the end of the pool hands on, and what of its calls is ended.
-use Rattle.std.proofs.Common.{◌≡◌, ◌≢◌, ℕ, ◌<◌, ◌≤◌, List, length, Option, Some, None, is_some, ◌++◌, refl, sym, ap, subst, ◌∙◌, inl, inr, arith}
+use Rattle.std.proofs.Common.{◌≡◌, ◌≢◌, ℕ, ◌<◌, ◌≤◌, List, [], length, Option, Some, None, is_some, ◌++◌, refl, sym, ap, subst, ◌∙◌, inl, inr, arith}
 use Rattle.std.specs.Global.{Vec}
 use Rattle.std.proofs.lemmas.Bool.{cases_eq}
 use Rattle.std.proofs.lemmas.Option.{slice_get_read}
@@ -8,8 +8,10 @@ use Rattle.bucket_ring.specs.Lists as ring
 use Rattle.run_model.specs.declared.payload.Payload.{Payload}
 use Rattle.run_model.specs.Files.{is_referred}
 use Rattle.run_model.specs.Payloads.{labels_in}
+use Rattle.run_model.specs.Pools.{is_in, is_under}
 use Rattle.pool_tree.specs.Tree.{map_of}
 use Rattle.pool_tree.proofs.Trees.{tree_formed}
+use Rattle.brigade_ops.specs.House.{cleared_ring}
 use Rattle.brigade_ops.specs.Store.{lists, pool_of, next_name}
 use Rattle.brigade_ops.proofs.Stores.{same_brigade}
 use Rattle.ring_run.proofs.Changes.{ring_here, ring_off}
@@ -178,3 +180,11 @@ returns-in_err-ran-clause-err g c =
     subst (λ (x : Device). LeftAs chain c.destroy.new.tree c.destroy.new.self x (record c.args.self.now { labels = c.reserve.new.self }) v) (sym e.unread)
     (left_relabelled chain c.destroy.new.tree c.destroy.new.self d c.args.self.now v c.reserve.new.self c.reserve.ensures.items
     (left_same c.args.store.now c.destroy.new.self e.err c.destroy.ensures.next e.pools chain c.args.tree.now c.destroy.new.tree d c.args.self.now v e.kept e.uncounted left)))
+
+pub returns-in-Some-clause-none : goal.returns-in-Some-clause-none
+returns-in-Some-clause-none g c n none =
+    none_kept (lists c.end_calls.new.store) (lists c.end_brigade.new.store) c.in-Some.name c.end_brigade.ensures.out n
+    (c.end_calls.ensures.none n (c.in_ok-ran.ensures.out n ∙ ap (cleared_ring (is_under (map_of c.args.tree.now) c.args.self.now.conn) (is_in n []) (pool_of c.args.store.now n)) none))
+
+pub returns-in_default-clause-none : goal.returns-in_default-clause-none
+returns-in_default-clause-none g c n none = c.end_calls.ensures.none n (c.in_ok-ran.ensures.out n ∙ ap (cleared_ring (is_under (map_of c.args.tree.now) c.args.self.now.conn) (is_in n []) (pool_of c.args.store.now n)) none)
