@@ -16,10 +16,15 @@ use Rattle.bucket_kinds.specs.Device.{Device, Held, Holds, is_there}
 use Rattle.bucket_kinds.specs.MemAnswers.{IsAdding}
 use Rattle.bucket_kinds.specs.MemDevice.{held_of, device_of}
 use Rattle.module_run.specs.Proceeding.{MayHold}
-use Rattle.filter_chain.specs.declared.next.NextNames.{NextNames}
-use Rattle.filter_chain.specs.declared.hosted_conn.HostedConn.{HostedConn}
+use Rattle.bucket_ring.specs.declared.rings.Rings.{Ghosts}
+use Rattle.run_model.specs.declared.bucket.Bucket.{Bucket}
+use Rattle.run_model.specs.declared.payload.Payload.{Payload}
+use Rattle.pool_tree.specs.declared.tree.PoolTree.{PoolTree}
+use Rattle.brigade_ops.specs.declared.store.Brigades.{Brigades}
+use Rattle.module_run.specs.declared.conn.Conn.{Conn}
+use Rattle.filter_chain.specs.Hosted.{conn_at}
 use Rattle.filter_chain.specs.declared.host.Host.{Host}
-use Rattle.filter_chain.specs.Hosting.{HoldsWorld, IsHostedConnIf, IsHosting, Happens, Stays, TriesToAdd, chain_of, budget_of, hosted_at}
+use Rattle.filter_chain.specs.Hosting.{HoldsWorld, IsHostedIf, IsHosting, Happens, Stays, TriesToAdd, chain_of, budget_of}
 use Rattle.filter_chain.specs.HostViews.{TellsEvent}
 
 -- The device, after a file is added.
@@ -43,8 +48,9 @@ there_then None there = absurd (cc)
 there_then (Some bytes) there = refl
 
 -- The host stands for the same world where its device gives the same numbers, and has the same files under them.
-module _ (budget : ℕ) (chain : List Program) (d e : Device) (next : NextNames) (last : ℕ) (seats : ℕ → Option HostedConn) (w : World) (h : HoldsWorld budget chain d next last seats w) (numbered : e.numbered ≡ d.numbered) (same : e.next ≡ d.next) where
-  pub renamed_holds : HoldsWorld budget chain e next last seats w
+module _ {R : Type 0} {g : Ghosts R Bucket} (budget : ℕ) (chain : List Program) (d e : Device) (tree : PoolTree Payload) (store : Brigades R g) (last : ℕ) (conns : ℕ → Option Conn) (w : World) (h : HoldsWorld budget chain d tree store last conns w)
+    (numbered : e.numbered ≡ d.numbered) (same : e.next ≡ d.next) where
+  pub renamed_holds : HoldsWorld budget chain e tree store last conns w
   renamed_holds = record {
     chained = h.chained;
     reached = h.reached;
@@ -52,22 +58,17 @@ module _ (budget : ℕ) (chain : List Program) (d e : Device) (next : NextNames)
     pools = h.pools;
     names = h.names;
     files = (let le = h.files in omega (arith, le, same));
-    conns = λ k. both (seats k) (w.conns k) (h.conns k);
+    house = h.house;
+    open_files = λ file more. ap (λ (f : ℕ → Held). is_there (f file)) numbered ∙ h.open_files file more;
+    none = h.none;
+    conns = λ k. both (conns k) (w.conns k) (h.conns k);
+    apart = h.apart;
   } where
-    both : (o : Option HostedConn) (b : Option Connection) → IsHostedConnIf chain d next o b → IsHostedConnIf chain e next o b
+    both : (o : Option Conn) (b : Option Connection) → IsHostedIf chain tree store d o b → IsHostedIf chain tree store e o b
     both None None is = is
     both None (Some b) is = absurd is
     both (Some s) None is = absurd is
-    both (Some s) (Some b) is = record {
-      seen = is.seen;
-      opens = λ file bytes there. subst (λ (held : Held). MayHold held bytes) (sym (ap (λ (f : ℕ → Held). f file) numbered)) (is.opens file bytes there);
-      formed = is.formed;
-      house = is.house;
-      none = is.none;
-      stacked = is.stacked;
-      pools = is.pools;
-      names = is.names;
-    }
+    both (Some s) (Some b) is = record { seen = is.seen; opens = λ file bytes there. subst (λ (held : Held). MayHold held bytes) (sym (ap (λ (f : ℕ → Held). f file) numbered)) (is.opens file bytes there); stacked = is.stacked }
 
 module _ (old : Host MemFiles) (files : MemFiles) (name bytes : List ℕ) (w : World) where
   abbrev new : Host MemFiles
@@ -78,7 +79,7 @@ module _ (old : Host MemFiles) (files : MemFiles) (name bytes : List ℕ) (w : W
 
   hosts_still : (d e : Device) → IsHosting d old w → e.numbered ≡ d.numbered → e.next ≡ d.next → IsHosting e new w
   unfolding IsHosting chain_of budget_of
-  hosts_still d e hosts numbered same = renamed_holds (budget_of old) (chain_of old) d e old.next old.last (hosted_at old.seats) w hosts numbered same
+  hosts_still d e hosts numbered same = renamed_holds (budget_of old) (chain_of old) d e old.tree old.store old.last (conn_at old.conns) w hosts numbered same
 
   was_added : (d e : Device) → IsHosting d old w → is_there (d.named name) ≡ false → e ≡ record d { named = λ q. cond (bytes_eq q name) (Holds bytes) (d.named q) } → Happens d e old new 0 (event.AddFile name bytes) Done w
   unfolding happens_on TellsEvent chain_of budget_of

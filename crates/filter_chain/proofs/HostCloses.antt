@@ -1,45 +1,76 @@
 -- A connection of a host is closed.
-use Rattle.std.proofs.Common.{◌≡◌, ℕ, true, false, List, Option, Some, None, None, refl, sym, ◌∙◌, ap, subst, arith}
+use Rattle.std.proofs.Common.{◌≡◌, ◌≢◌, ◌<◌, ◌≤◌, ℕ, true, false, ◌&&◌, not, List, Option, Some, None, refl, sym, ◌∙◌, ap, subst, arith, inl, inr}
+use Rattle.std.specs.Prelude.{if◌then◌else◌}
+use Rattle.std.specs.List.{list_any}
 use Rattle.std.proofs.Math.Path.{fun_ext}
 use Rattle.module_code.specs.Program.{Program}
+use Rattle.bucket_kinds.specs.Device.{Device, Missing}
+use Rattle.bucket_ring.specs.declared.rings.Rings.{Ghosts}
+use Rattle.run_model.specs.declared.bucket.Bucket.{Bucket}
 use Rattle.run_model.specs.declared.event.Event.TheVariants as event
 use Rattle.run_model.specs.declared.event.Refusal.TheVariants as refusal
+use Rattle.run_model.specs.declared.payload.Payload.{Payload}
+use Rattle.run_model.specs.Chains.{Connection, Linked, configuration, pools_of}
+use Rattle.run_model.specs.Files.{is_referred}
 use Rattle.run_model.specs.Indexed.{upd}
-use Rattle.run_model.specs.Pools.{destroyed}
-use Rattle.run_model.specs.Chains.{Connection, Linked, pools_of}
-use Rattle.model_laws.specs.Reached.{IsReached}
+use Rattle.run_model.specs.Payloads.{is_file_ref}
+use Rattle.run_model.specs.Pools.{Pools, destroyed, is_under}
+use Rattle.run_model.specs.RunOrder.{IsPoolMap, run_order}
 use Rattle.run_model.specs.Turns.{closing_labels}
-use Rattle.run_model.specs.Worlds.{World, Refused, Labels, happens, happens_on}
-use Rattle.run_model.proofs.Updates.{upd_at, upd_upd}
+use Rattle.run_model.specs.Worlds.{World, Refused, Labels, happens, happens_on, put_conn, tree_of}
+use Rattle.run_model.proofs.Formed.{destroyed_formed}
+use Rattle.run_model.proofs.Updates.{upd_at, upd_either, upd_upd}
+use Rattle.model_laws.specs.Parts.{part, HasPart, Destroyed}
+use Rattle.model_laws.specs.PartSteps.{OwnFiles, linked_in_part}
+use Rattle.model_laws.specs.Reached.{IsReached}
+use Rattle.model_laws.specs.SharedPools.{over}
 use Rattle.model_laws.proofs.chains.EventTurns.{Same}
-use Rattle.bucket_kinds.specs.Device.{Device}
-use Rattle.ring_run.specs.CarriedOut.{ClosedWith}
-use Rattle.filter_chain.specs.declared.next.NextNames.{NextNames}
-use Rattle.filter_chain.specs.declared.hosted_conn.HostedConn.{HostedConn}
-use Rattle.filter_chain.specs.declared.hosted_conns.HostedConns.{HostedConns}
+use Rattle.model_laws.proofs.chains.LeftTree.{Stands}
+use Rattle.model_laws.proofs.chains.OpenedTree.{closing_takes}
+use Rattle.model_laws.proofs.chains.PutBack.{looking}
+use Rattle.model_laws.proofs.parts.LetGo.{lets_go, lets_go_alike}
+use Rattle.model_laws.proofs.parts.Own.{own_destroyed}
+use Rattle.model_laws.proofs.parts.Paths.{part_under}
+use Rattle.model_laws.proofs.parts.Seen.{its_part, labels_in_part, whole_pools}
+use Rattle.model_laws.proofs.parts.Within.{changes_within}
+use Rattle.pool_tree.specs.declared.tree.PoolTree.{PoolTree}
+use Rattle.pool_tree.specs.Tree.{map_of}
+use Rattle.brigade_ops.specs.declared.store.Brigades.{Brigades}
+use Rattle.brigade_ops.specs.Files.{SameButOpen}
+use Rattle.brigade_ops.specs.House.{AreOpen, IsHouse}
+use Rattle.brigade_ops.specs.Store.{lists, next_name, references}
+use Rattle.ring_run.specs.CarriedOut.{ClosedWith, WereLetGo}
+use Rattle.module_run.specs.declared.conn.Conn.{Conn}
+use Rattle.module_run.specs.Neighbours.{Holds, LeavesOthers}
+use Rattle.module_run.specs.Proceeding.{LeftAs, StandsFor}
+use Rattle.filter_chain.specs.declared.conns.Conns.{Conns}
 use Rattle.filter_chain.specs.declared.host.Host.{Host}
-use Rattle.filter_chain.specs.Hosting.{HoldsWorld, IsHosting, Happens, chain_of, budget_of, hosted_at}
+use Rattle.module_run.proofs.RequestBegins.{conn_is}
+use Rattle.filter_chain.specs.Hosted.{conn_at, IsHosted}
+use Rattle.filter_chain.specs.Hosting.{HoldsWorld, IsHosting, Happens, chain_of, budget_of}
 use Rattle.filter_chain.specs.HostViews.{ClosesFiles, TellsEvent}
-use Rattle.filter_chain.specs.HostedConns.{IsHostedConnWith, MayServe}
 use Rattle.filter_chain.specs.Spared.{Spares}
-use Rattle.filter_chain.proofs.Hosts.{found, others_still, seats_put, IsWritten, written}
+use Rattle.filter_chain.proofs.Hosts.{foreign, found, known, stands_for}
+use Rattle.filter_chain.proofs.HostsLeft.{IsWritten, conns_put, opens_still, others_still, written}
 use Rattle.filter_chain.proofs.HostEvents.{Serves, nothing_told, happened_on}
 use Rattle.filter_chain.proofs.KnownEvents.{put_same}
+use Rattle.filter_chain.proofs.StepsSeen.{own_pools}
 
 -- Where there is no memory it is there as it was.
-pub close_serves : (budget : ℕ) (chain : List Program) (d e : Device) (w : World) (number : ℕ) (c : Connection) → w.conns number ≡ Some c → (next : NextNames) (s : HostedConn) → IsHostedConnWith chain e next s (w.common, c) → Spares d e c → e ≡ d
-    → Serves budget chain d e w number c event.Close (Refused refusal.NoMemory) next s
+pub close_serves : {R : Type 0} {g : Ghosts R Bucket} (budget : ℕ) (chain : List Program) (d e : Device) (w : World) (tree : PoolTree Payload) (number : ℕ) (c : Connection) (s : Stands chain w (map_of tree) number c) → w.common.file ≤ d.next → (newer : PoolTree Payload) (store : Brigades R g) (conn : Conn)
+    → LeftAs chain newer store e conn (w.common, over (map_of tree) c) → Spares d e c → e ≡ d → Serves budget chain d e w tree number c event.Close (Refused refusal.NoMemory) newer store conn
 unfolding happens_on TellsEvent
-close_serves budget chain d e w number c here next s linked spared same = record {
+close_serves budget chain d e w tree number c s given newer store conn left spared same = record {
   memory = false;
   told = nothing_told;
-  left = (w.common, c);
-  is = ap (λ (x : World). (Refused refusal.NoMemory, x)) (sym (put_same number w c here));
+  all = (w.common, over (map_of tree) c);
+  is = ap (λ (x : World). (Refused refusal.NoMemory, x)) (sym (put_same number w c s.here) ∙ ap (λ (v : Linked). put_conn number v w) (its_part (map_of tree) w.common c s.lies));
   tells = spared.folder;
   closes = same;
   short = tt;
   turn = Same;
-  linked = linked;
+  left = left;
+  files = (let le = spared.rises in omega (arith, given, le));
   spared = spared;
 }
 
@@ -47,47 +78,117 @@ close_serves budget chain d e w number c here next s linked spared same = record
 abbrev pub without : ℕ → World → World
 without number w = record w { conns = upd w.conns number None }
 
-module _ (budget : ℕ) (chain : List Program) (d : Device) (next : NextNames) (last : ℕ) (seats : ℕ → Option HostedConn) (w : World) (h : HoldsWorld budget chain d next last seats w) (number : ℕ) (e : Device) where
+-- What a close closes.
+
+module _ (chain : List Program) (w : World) (ps : Pools Payload) (number : ℕ) (c : Connection) (s : Stands chain w ps number c) where
+  pub closed_own : (d e : Device) → ((file : ℕ) → e.numbered file ≡ (if lets_go ps c.conn (destroyed c.conn ps) file then Missing else d.numbered file)) → SameButOpen d e → ClosedWith d e (Some c.conn) (pools_of w.common c) (destroyed c.conn (pools_of w.common c))
+  unfolding configuration
+  closed_own d e closed others = subst (λ (qs : Pools Payload). WereLetGo d e (run_order qs c.conn) (destroyed c.conn qs)) (sym own) (record {
+    closed = λ file. closed file ∙ ap (λ t. if t then Missing else d.numbered file) (sym (alike file) ∙ ap (λ (qs : Pools Payload). lets_go (part c.conn ps) c.conn qs file) (own_destroyed c.conn c.conn ps has under));
+    others = others;
+  }) where
+    has : HasPart ps c.conn
+    has = s.tops number c s.here
+
+    under : is_under ps c.conn c.conn ≡ true
+    under = part_under ps c.conn has
+
+    files : OwnFiles c.conn ps
+    files = subst (OwnFiles c.conn) (whole_pools ps w.common c s.lies) (s.lies.lies (looking 0)).files
+
+    own : pools_of w.common c ≡ part c.conn ps
+    own = own_pools ps w.common c s.lies ∙ ap (part c.conn) (whole_pools ps w.common c s.lies)
+
+    alike : (file : ℕ) → lets_go (part c.conn ps) c.conn (part c.conn (destroyed c.conn ps)) file ≡ lets_go ps c.conn (destroyed c.conn ps) file
+    alike file = lets_go_alike c.conn c.conn ps (destroyed c.conn ps) has files (changes_within Destroyed c.conn c.conn ps has under) (destroyed_formed c.conn ps s.pools.formed) under file
+
+-- What is known of a close over tree, store and device.
+pub record WasClosed {R : Type 0} {g : Ghosts R Bucket} (tree newer : PoolTree Payload) (old new : Brigades R g) (d e : Device) (conn0 conn : Conn) : Type 0 where
+  pub pools : map_of newer ≡ destroyed conn0.conn (map_of tree)
+  pub next : next_name new ≡ next_name old
+  pub house : IsHouse new (map_of newer)
+  pub references : AreOpen (references new) e
+  pub none : lists old 0 ≡ None → lists new 0 ≡ None
+  pub leaves : LeavesOthers (map_of tree) old new conn0 conn
+  pub closed : (file : ℕ) → e.numbered file ≡ (if lets_go (map_of tree) conn0.conn (map_of newer) file then Missing else d.numbered file)
+  pub others : SameButOpen d e
+
+module _ {R : Type 0} {g : Ghosts R Bucket} (budget : ℕ) (chain : List Program) (d : Device) (tree : PoolTree Payload) (store : Brigades R g) (last : ℕ) (conns : ℕ → Option Conn) (w : World) (h : HoldsWorld budget chain d tree store last conns w) (number : ℕ) (conn0 conn : Conn) (at : conns number ≡ Some conn0)
+    (c : Connection) (here : w.conns number ≡ Some c) (e : Device) (spared : Spares d e c) (newer : PoolTree Payload) (new : Brigades R g) (was : WasClosed tree newer store new d e conn0 conn) where
+  its_conn : c.conn ≡ conn0.conn
+  its_conn = conn_is (map_of tree) (lists store) (next_name store) conn0 (w.common, over (map_of tree) c) (stands_for budget chain d tree store last conns w h number c here conn0 hosted).left.seen where
+    f : (x : Connection) × (w.conns number ≡ Some x) × IsHosted chain tree store d conn0 x
+    f = found budget chain d tree store last conns w h number conn0 at
+
+    same : f.0 ≡ c
+    same = (let both : Some f.0 ≡ Some c = sym f.1 ∙ here in cc)
+
+    hosted : IsHosted chain tree store d conn0 c
+    hosted = subst (λ (x : Connection). IsHosted chain tree store d conn0 x) same f.2
+
+  tree_then : map_of newer ≡ tree_of (without number w)
+  tree_then = was.pools ∙ ap (λ (n : ℕ). destroyed n (map_of tree)) (sym its_conn) ∙ ap (destroyed c.conn) h.pools ∙ sym (closing_takes budget chain w number c h.chained h.reached here)
+
+  none_then : lists new 0 ≡ None
+  none_then = was.none h.none
+
   -- The others are as they were.
-  pub holds_without : (c : Connection) → w.conns number ≡ Some c → Spares d e c → (after : ℕ → Option HostedConn) → ((k : ℕ) → after k ≡ upd seats number None k) → IsReached budget chain (without number w)
-      → HoldsWorld budget chain e next last after (without number w)
-  holds_without c here spared after is reached = record {
+  pub holds_without : (after : ℕ → Option Conn) → ((k : ℕ) → after k ≡ upd conns number None k) → IsReached budget chain (without number w) → HoldsWorld budget chain e newer new last after (without number w)
+  holds_without after is reached = record {
     chained = h.chained;
     reached = reached;
     last_is = h.last_is;
-    pools = h.pools;
-    names = h.names;
+    pools = tree_then;
+    names = h.names ∙ sym was.next;
     files = (let le = h.files in let more = spared.rises in omega (arith, le, more));
-    conns = seats_put budget chain d next last seats w h number e next None None (others_still budget chain d next last seats w h number c here e spared next (omega arith) (omega arith)) tt after is;
-  }
+    house = was.house;
+    open_files = was.references;
+    none = none_then;
+    conns = conns_put budget chain d tree store last conns w h number newer new e None None
+        (others_still budget chain d tree store last conns w h number conn0 conn (map_of tree) (foreign budget chain d tree store last conns w h number conn0 at) newer new was.leaves was.house none_then e (opens_still budget chain d tree store last conns w h number c here e spared)) tt after is;
+    apart = λ j k n a b at_j at_k. h.apart j k n a b (there j a at_j) (there k b at_k);
+  } where
+    there : (j : ℕ) (x : Conn) → after j ≡ Some x → conns j ≡ Some x
+    there j x at_j = elim (upd_either conns number j None) [
+      | inl gone ↦ absurd (let none : None ≡ Some x = sym gone.1 ∙ sym (is j) ∙ at_j in cc)
+      | inr off ↦ sym off.1 ∙ sym (is j) ∙ at_j
+    ]
 
 -- Of a host whose connections were looked up by the number.
-module _ {F : Type 0} (host : Host F) (number : ℕ) (s : HostedConn) (lent : HostedConns) (wrote : IsWritten host.seats number s lent) where
-  changed : (k : ℕ) → hosted_at lent k ≡ upd (hosted_at host.seats) number (Some s) k
-  changed k = written host.seats number s lent wrote k
+module _ {F : Type 0} (host : Host F) (number : ℕ) (conn : Conn) (lent : Conns) (wrote : IsWritten host.conns number conn lent) where
+  changed : (k : ℕ) → conn_at lent k ≡ upd (conn_at host.conns) number (Some conn) k
+  changed k = written host.conns number conn lent wrote k
 
   -- What was put back is what is taken.
-  pub taken_is : (taken : Option HostedConn) → taken ≡ hosted_at lent number → taken ≡ Some s
-  taken_is taken is = is ∙ changed number ∙ upd_at (hosted_at host.seats) number (Some s)
+  pub taken_is : (taken : Option Conn) → taken ≡ conn_at lent number → taken ≡ Some conn
+  taken_is taken is = is ∙ changed number ∙ upd_at (conn_at host.conns) number (Some conn)
 
-  taken_out : (after : HostedConns) → ((k : ℕ) → hosted_at after k ≡ upd (hosted_at lent) number None k) → (k : ℕ) → hosted_at after k ≡ upd (hosted_at host.seats) number None k
+  taken_out : (after : Conns) → ((k : ℕ) → conn_at after k ≡ upd (conn_at lent) number None k) → (k : ℕ) → conn_at after k ≡ upd (conn_at host.conns) number None k
   taken_out after rest k =
       rest k
-      ∙ ap (λ (f : ℕ → Option HostedConn). upd f number None k) (fun_ext changed)
-      ∙ ap (λ (f : ℕ → Option HostedConn). f k) (upd_upd (hosted_at host.seats) number (Some s) None)
+      ∙ ap (λ (f : ℕ → Option Conn). upd f number None k) (fun_ext changed)
+      ∙ ap (λ (f : ℕ → Option Conn). f k) (upd_upd (conn_at host.conns) number (Some conn) None)
 
   -- It is closed.
-  pub closed_on : (d e : Device) (w : World) → IsHosting d host w → (s0 : HostedConn) → hosted_at host.seats number ≡ Some s0 → (after : HostedConns) → ((k : ℕ) → hosted_at after k ≡ upd (hosted_at lent) number None k) → (files : F)
-      → (labels : List (List ℕ)) → ((v : Linked) → MayServe (chain_of host) d host.next s0 v → labels ≡ closing_labels v) → ((v : Linked) → MayServe (chain_of host) d host.next s0 v → Spares d e v.1)
-      → ((v : Linked) → MayServe (chain_of host) d host.next s0 v → ClosedWith d e (Some v.1.conn) (pools_of v.0 v.1) (destroyed v.1.conn (pools_of v.0 v.1)))
-      → Happens d e host (record host { seats = after; files = files }) number event.Close (Labels labels) w
+  pub closed_on : (d e : Device) (w : World) → IsHosting d host w → (conn0 : Conn) → conn_at host.conns number ≡ Some conn0 → (after : Conns) → ((k : ℕ) → conn_at after k ≡ upd (conn_at lent) number None k) → (new : Host F)
+      → new ≡ record host { conns = after; tree = new.tree; store = new.store; files = new.files } → (labels : List (List ℕ)) → ((v : Linked) → StandsFor (chain_of host) host.tree host.store d conn0 v → labels ≡ closing_labels v)
+      → ((c : Connection) → StandsFor (chain_of host) host.tree host.store d conn0 (w.common, over (map_of host.tree) c) → Spares d e c) → WasClosed host.tree new.tree host.store new.store d e conn0 conn
+      → Happens d e host new number event.Close (Labels labels) w
   unfolding IsHosting happens_on TellsEvent chain_of budget_of
-  closed_on d e w hosts s0 at after rest files labels answers spares closed =
-      let f = found (budget_of host) (chain_of host) d host.next host.last (hosted_at host.seats) w hosts number s0 at in
+  closed_on d e w hosts conn0 at after rest new is_new labels answers spares was =
+      let f = found (budget_of host) (chain_of host) d host.tree host.store host.last (conn_at host.conns) w hosts number conn0 at in
+      let s = known (budget_of host) (chain_of host) d host.tree host.store host.last (conn_at host.conns) w hosts number f.0 f.1 in
+      let so = stands_for (budget_of host) (chain_of host) d host.tree host.store host.last (conn_at host.conns) w hosts number f.0 f.1 conn0 f.2 in
       let to = without number w in
-      let spared = spares (w.common, f.0) f.2 in
+      let spared = spares f.0 so in
+      let told : labels ≡ closing_labels (w.common, f.0) = answers (w.common, over (map_of host.tree) f.0) so ∙ sym (labels_in_part (map_of host.tree) w.common f.0 s.lies) in
       let is : happens true (budget_of host) (chain_of host) nothing_told number event.Close w ≡ (Labels labels, to) =
-      ap (λ (o : Option Connection). happens_on true (budget_of host) (chain_of host) nothing_told event.Close number o w) f.1 ∙ ap (λ (l : List (List ℕ)). (Labels l, to)) (sym (answers (w.common, f.0) f.2)) in
-      happened_on d e host (record host { seats = after; files = files }) number w hosts refl refl event.Close true nothing_told (Labels labels) to is spared.folder
-      (subst (λ (o : Option Connection). ClosesFiles d e (chain_of host) event.Close (Labels labels) w.common o to.common (to.conns number)) (sym f.1) (closed (w.common, f.0) f.2)) tt
-      (holds_without (budget_of host) (chain_of host) d host.next host.last (hosted_at host.seats) w hosts number e f.0 f.1 spared (hosted_at after) (taken_out after rest))
+      ap (λ (o : Option Connection). happens_on true (budget_of host) (chain_of host) nothing_told event.Close number o w) f.1 ∙ ap (λ (l : List (List ℕ)). (Labels l, to)) (sym told) in
+      let gone = its_conn (budget_of host) (chain_of host) d host.tree host.store host.last (conn_at host.conns) w hosts number conn0 conn at f.0 f.1 e spared new.tree new.store was in
+      let closes = closed_own (chain_of host) w (map_of host.tree) number f.0 s d e (λ file. was.closed file ∙ ap (λ t. if t then Missing else d.numbered file)
+      (ap (λ (n : ℕ). lets_go (map_of host.tree) n (map_of new.tree) file) (sym gone) ∙ ap (λ (ps : Pools Payload). lets_go (map_of host.tree) f.0.conn ps file) (was.pools ∙ ap (λ (n : ℕ). destroyed n (map_of host.tree)) (sym gone)))) was.others in
+      happened_on d e host new number w hosts (ap chain_of is_new) (ap budget_of is_new) event.Close true nothing_told (Labels labels) to is spared.folder
+      (subst (λ (o : Option Connection). ClosesFiles d e (chain_of host) event.Close (Labels labels) w.common o to.common (to.conns number)) (sym f.1) closes) tt
+      (λ reached. subst (λ (n : ℕ). HoldsWorld (budget_of host) (chain_of host) e new.tree new.store n (conn_at new.conns) to) (sym (ap (λ (x : Host F). x.last) is_new))
+      (subst (λ (x : ℕ → Option Conn). HoldsWorld (budget_of host) (chain_of host) e new.tree new.store host.last x to) (sym (ap (λ (x : Host F). conn_at x.conns) is_new))
+      (holds_without (budget_of host) (chain_of host) d host.tree host.store host.last (conn_at host.conns) w hosts number conn0 conn at f.0 f.1 e spared new.tree new.store was (conn_at after) (taken_out after rest) reached)))

@@ -15,18 +15,28 @@ use Rattle.run_model.specs.Worlds.{World, Told, Answer, Refused, put_conn, happe
 use Rattle.run_model.proofs.Updates.{upd_at}
 use Rattle.model_laws.proofs.chains.EventTurns.{Turn}
 use Rattle.model_laws.proofs.chains.Reached.{event_reaches}
-use Rattle.model_laws.proofs.chains.TurnsSound.{turn_rises}
 use Rattle.bucket_kinds.specs.Device.{Device}
-use Rattle.filter_chain.specs.declared.next.NextNames.{NextNames}
-use Rattle.filter_chain.specs.declared.hosted_conn.HostedConn.{HostedConn}
-use Rattle.filter_chain.specs.declared.hosted_conns.HostedConns.{HostedConns}
+use Rattle.bucket_ring.specs.declared.rings.Rings.{Ghosts}
+use Rattle.run_model.specs.declared.bucket.Bucket.{Bucket}
+use Rattle.run_model.specs.declared.payload.Payload.{Payload}
+use Rattle.model_laws.specs.PartSteps.{linked_in_part}
+use Rattle.model_laws.specs.SharedPools.{over}
+use Rattle.model_laws.proofs.chains.LeftTree.{Stands}
+use Rattle.pool_tree.specs.declared.tree.PoolTree.{PoolTree}
+use Rattle.pool_tree.specs.Tree.{map_of}
+use Rattle.brigade_ops.specs.declared.store.Brigades.{Brigades}
+use Rattle.module_run.specs.declared.conn.Conn.{Conn}
+use Rattle.module_run.specs.Neighbours.{LeavesOthers}
+use Rattle.module_run.specs.Proceeding.{LeftAs, StandsFor}
+use Rattle.filter_chain.specs.declared.conns.Conns.{Conns}
 use Rattle.filter_chain.specs.declared.host.Host.{Host}
-use Rattle.filter_chain.specs.Hosting.{HoldsWorld, IsHosting, Happens, chain_of, budget_of, hosted_at}
+use Rattle.filter_chain.specs.Hosted.{conn_at}
+use Rattle.filter_chain.specs.Hosting.{HoldsWorld, IsHosting, Happens, chain_of, budget_of}
 use Rattle.filter_chain.specs.HostViews.{ClosesFiles, TellsEvent, StepTellsReads, host_view}
-use Rattle.filter_chain.specs.HostedConns.{IsHostedConnWith, MayServe}
 use Rattle.filter_chain.specs.Spared.{Spares}
 use Rattle.module_run.proofs.OpeningsTold.{may_tell_unasked, refused_after, unasked}
-use Rattle.filter_chain.proofs.Hosts.{laws, found, missing, holds_put, same_seats, IsWritten, written}
+use Rattle.filter_chain.proofs.Hosts.{found, known, missing, stands_for}
+use Rattle.filter_chain.proofs.HostsLeft.{holds_put, same_conns, IsWritten, written}
 
 abbrev pub AnyLength : ℕ → Type 0
 AnyLength n = Unit {0}
@@ -87,29 +97,25 @@ none_is memory budget chain told number w e of = refl
 pub happened_on : {F : Type 0} (d e : Device) (old new : Host F) (number : ℕ) (w : World) → IsHosting d old w → chain_of new ≡ chain_of old → budget_of new ≡ budget_of old
     → (what : Event) (memory : Bool) (told : Told) (answer : Answer) (to : World) → happens memory (budget_of old) (chain_of old) told number what w ≡ (answer, to)
     → TellsEvent (chain_of old) number what (host_view w d) answer told e → ClosesFiles d e (chain_of old) what answer w.common (w.conns number) to.common (to.conns number) → TellsLengths IsShortLength answer
-    → (IsReached (budget_of old) (chain_of old) to → HoldsWorld (budget_of old) (chain_of old) e new.next new.last (hosted_at new.seats) to) → Happens d e old new number what answer w
+    → (IsReached (budget_of old) (chain_of old) to → HoldsWorld (budget_of old) (chain_of old) e new.tree new.store new.last (conn_at new.conns) to) → Happens d e old new number what answer w
 unfolding IsHosting
 happened_on d e old new number w hosts chain budget what memory told answer to is tells closes short holds = record {
   to = to;
   acts = record { memory = memory; told = told; is = is; tells = tells; closes = closes };
-  hosts = subst (λ (b : ℕ). HoldsWorld b (chain_of new) e new.next new.last (hosted_at new.seats) to) (sym budget)
-      (subst (λ (p : List Program). HoldsWorld (budget_of old) p e new.next new.last (hosted_at new.seats) to) (sym chain)
+  hosts = subst (λ (b : ℕ). HoldsWorld b (chain_of new) e new.tree new.store new.last (conn_at new.conns) to) (sym budget)
+      (subst (λ (p : List Program). HoldsWorld (budget_of old) p e new.tree new.store new.last (conn_at new.conns) to) (sym chain)
       (holds (event_reaches memory (budget_of old) (chain_of old) told number what w to answer is short hosts.reached)));
   chain = chain;
   budget = budget;
 }
 
--- The connections and the next names are as they were.
-module _ {F : Type 0} (d : Device) (old new : Host F) (number : ℕ) (w : World) (hosts : IsHosting d old w) (chain : chain_of new ≡ chain_of old) (budget : budget_of new ≡ budget_of old) (last : new.last ≡ old.last) (next : new.next ≡ old.next)
-    (seats : hosted_at new.seats ≡ hosted_at old.seats) where
+-- The connections, the tree and the store are as they were.
+module _ {F : Type 0} (d : Device) (old new : Host F) (number : ℕ) (w : World) (hosts : IsHosting d old w) (chain : chain_of new ≡ chain_of old) (budget : budget_of new ≡ budget_of old)
+    (holds : HoldsWorld (budget_of old) (chain_of old) d new.tree new.store new.last (conn_at new.conns) w) where
   pub stays_on : (what : Event) (memory : Bool) (told : Told) (answer : Answer) → happens memory (budget_of old) (chain_of old) told number what w ≡ (answer, w)
       → TellsEvent (chain_of old) number what (host_view w d) answer told d → ClosesFiles d d (chain_of old) what answer w.common (w.conns number) w.common (w.conns number) → TellsLengths IsShortLength answer → Happens d d old new number what answer w
   unfolding IsHosting
-  stays_on what memory told answer is tells closes short =
-      happened_on d d old new number w hosts chain budget what memory told answer w is tells closes short
-      (λ reached. subst (λ (n : ℕ). HoldsWorld (budget_of old) (chain_of old) d new.next n (hosted_at new.seats) w) (sym last)
-      (subst (λ (n : NextNames). HoldsWorld (budget_of old) (chain_of old) d n old.last (hosted_at new.seats) w) (sym next)
-      (subst (λ (s : ℕ → Option HostedConn). HoldsWorld (budget_of old) (chain_of old) d old.next old.last s w) (sym seats) hosts)))
+  stays_on what memory told answer is tells closes short = happened_on d d old new number w hosts chain budget what memory told answer w is tells closes short (λ reached. holds)
 
   pub refused_on : (what : Event) (memory : Bool) (r : Refusal) → r ≢ refusal.FileFailed → happens memory (budget_of old) (chain_of old) (unasked_in w.common.file d what) number what w ≡ (Refused r, w) → Happens d d old new number what (Refused r) w
   unfolding IsHosting
@@ -118,63 +124,67 @@ module _ {F : Type 0} (d : Device) (old new : Host F) (number : ℕ) (w : World)
       (refused_closes d (chain_of old) what r w.common w.common (w.conns number) (w.conns number)) tt
 
   -- There is no such connection.
-  pub none_served : hosted_at old.seats number ≡ None → (what : Event) → IsOfConnection what → Happens d d old new number what (Refused refusal.NoSuchConn) w
+  pub none_served : conn_at old.conns number ≡ None → (what : Event) → IsOfConnection what → Happens d d old new number what (Refused refusal.NoSuchConn) w
   unfolding IsHosting
   none_served at what of =
-      let none = missing (budget_of old) (chain_of old) d old.next old.last (hosted_at old.seats) w hosts number at in
+      let none = missing (budget_of old) (chain_of old) d old.tree old.store old.last (conn_at old.conns) w hosts number at in
       refused_on what true refusal.NoSuchConn (λ q. cc)
       (ap (λ (o : Option Connection). happens_on true (budget_of old) (chain_of old) (unasked_in w.common.file d what) what number o w) none ∙ none_is true (budget_of old) (chain_of old) (unasked_in w.common.file d what) number w what of)
 
--- A connection c that is there answers this, and a seat s stands for what is left of it, by devices d and e. now: the names that are given next then.
-pub record Serves (budget : ℕ) (chain : List Program) (d e : Device) (w : World) (number : ℕ) (c : Connection) (what : Event) (answer : Answer) (now : NextNames) (s : HostedConn) : Type 0 where
+-- A connection c that is there answers this, and is conn then, by devices d and e. all: what is left of it over the tree that all share.
+pub record Serves {R : Type 0} {g : Ghosts R Bucket} (budget : ℕ) (chain : List Program) (d e : Device) (w : World) (tree : PoolTree Payload) (number : ℕ) (c : Connection) (what : Event) (answer : Answer) (newer : PoolTree Payload) (new : Brigades R g) (conn : Conn) : Type 0 where
   pub memory : Bool
   pub told : Told
-  pub left : Linked
-  pub is : happens_on memory budget chain told what number (Some c) w ≡ (answer, put_conn number left w)
+  pub all : Linked
+  pub is : happens_on memory budget chain told what number (Some c) w ≡ (answer, put_conn number (linked_in_part c.conn all) w)
   pub tells : TellsEvent chain number what (host_view w d) answer told e
-  pub closes : ClosesFiles d e chain what answer w.common (Some c) left.0 (Some left.1)
+  pub closes : ClosesFiles d e chain what answer w.common (Some c) all.0 (Some (linked_in_part c.conn all).1)
   pub short : TellsLengths IsShortLength answer
-  pub turn : Turn chain AnyLength w.common c left
-  pub linked : IsHostedConnWith chain e now s left
+  pub turn : Turn chain AnyLength w.common (over (map_of tree) c) all
+  pub left : LeftAs chain newer new e conn all
+  pub files : all.0.file ≤ e.next
   pub spared : Spares d e c
+
+-- Whatever the connection is in the world, it serves so.
+abbrev pub AlwaysServes : {F : Type 0} {R : Type 0} {g : Ghosts R Bucket} → Device → Device → Host F → ℕ → World → Event → Answer → PoolTree Payload → Brigades R g → Conn → Conn → Type 0
+AlwaysServes d e host number w what answer newer new conn0 conn =
+    (c : Connection) → Stands (chain_of host) w (map_of host.tree) number c → StandsFor (chain_of host) host.tree host.store d conn0 (w.common, over (map_of host.tree) c) → w.common.file ≤ d.next
+    → Serves (budget_of host) (chain_of host) d e w host.tree number c what answer newer new conn
 
 -- A connection is served, and put back.
 module _ {F : Type 0} (d e : Device) (old new : Host F) (number : ℕ) (w : World) (hosts : IsHosting d old w) (chain : chain_of new ≡ chain_of old) (budget : budget_of new ≡ budget_of old) (last : new.last ≡ old.last) where
-  pub served_on : (what : Event) (answer : Answer) (s0 s : HostedConn) → hosted_at old.seats number ≡ Some s0 → ((k : ℕ) → hosted_at new.seats k ≡ upd (hosted_at old.seats) number (Some s) k)
-      → ((c : Connection) → w.conns number ≡ Some c → MayServe (chain_of old) d old.next s0 (w.common, c) → Serves (budget_of old) (chain_of old) d e w number c what answer new.next s)
-      → Happens d e old new number what answer w
+  pub served_on : (what : Event) (answer : Answer) (conn0 conn : Conn) → conn_at old.conns number ≡ Some conn0 → ((k : ℕ) → conn_at new.conns k ≡ upd (conn_at old.conns) number (Some conn) k)
+      → LeavesOthers (map_of old.tree) old.store new.store conn0 conn → AlwaysServes d e old number w what answer new.tree new.store conn0 conn → Happens d e old new number what answer w
   unfolding IsHosting
-  served_on what answer s0 s at seats serve =
-      let f = found (budget_of old) (chain_of old) d old.next old.last (hosted_at old.seats) w hosts number s0 at in
-      let all = laws (budget_of old) (chain_of old) d old.next old.last (hosted_at old.seats) w hosts in
-      let st = serve f.0 f.1 f.2 in
-      let rises = turn_rises (chain_of old) AnyLength w.common f.0 st.left all.sound.names st.turn (all.sound.conns number f.0 f.1) in
-      happened_on d e old new number w hosts chain budget what st.memory st.told answer (put_conn number st.left w)
+  served_on what answer conn0 conn at conns leaves serve =
+      let f = found (budget_of old) (chain_of old) d old.tree old.store old.last (conn_at old.conns) w hosts number conn0 at in
+      let s = known (budget_of old) (chain_of old) d old.tree old.store old.last (conn_at old.conns) w hosts number f.0 f.1 in
+      let st = serve f.0 s (stands_for (budget_of old) (chain_of old) d old.tree old.store old.last (conn_at old.conns) w hosts number f.0 f.1 conn0 f.2) hosts.files in
+      let to : World = put_conn number (linked_in_part f.0.conn st.all) w in
+      happened_on d e old new number w hosts chain budget what st.memory st.told answer to
       (ap (λ (o : Option Connection). happens_on st.memory (budget_of old) (chain_of old) st.told what number o w) f.1 ∙ st.is) st.tells
-      (subst (λ (o : Option Connection). ClosesFiles d e (chain_of old) what answer w.common o st.left.0 (upd w.conns number (Some st.left.1) number)) (sym f.1)
-      (subst (λ (o : Option Connection). ClosesFiles d e (chain_of old) what answer w.common (Some f.0) st.left.0 o) (sym (upd_at w.conns number (Some st.left.1))) st.closes)) st.short
-      (λ reached. subst (λ (n : ℕ). HoldsWorld (budget_of old) (chain_of old) e new.next n (hosted_at new.seats) (put_conn number st.left w)) (sym last)
-      (holds_put (budget_of old) (chain_of old) d old.next old.last (hosted_at old.seats) w hosts number f.0 f.1 e st.spared new.next s st.left rises st.linked (hosted_at new.seats) seats reached))
+      (subst (λ (o : Option Connection). ClosesFiles d e (chain_of old) what answer w.common o st.all.0 (to.conns number)) (sym f.1)
+      (subst (λ (o : Option Connection). ClosesFiles d e (chain_of old) what answer w.common (Some f.0) st.all.0 o) (sym (upd_at w.conns number (Some (linked_in_part f.0.conn st.all).1))) st.closes)) st.short
+      (λ reached. subst (λ (n : ℕ). HoldsWorld (budget_of old) (chain_of old) e new.tree new.store n (conn_at new.conns) to) (sym last)
+      (holds_put (budget_of old) (chain_of old) d old.tree old.store old.last (conn_at old.conns) w hosts number conn0 conn at f.0 f.1 e st.spared new.tree new.store leaves st.all st.turn st.left st.files (conn_at new.conns) conns reached))
 
--- The same of a host whose connections were looked up by the number. What is found may serve.
-pub can_serve : {F : Type 0} (d : Device) (host : Host F) (number : ℕ) (w : World) → IsHosting d host w → (modules : List Program) (s : HostedConn) → modules ≡ chain_of host → hosted_at host.seats number ≡ Some s
-    → (v : Linked) × MayServe modules d host.next s v
+-- Of a host whose connections were looked up by the number: what is found stands for a connection of the world.
+pub can_serve : {F : Type 0} (d : Device) (host : Host F) (number : ℕ) (w : World) → IsHosting d host w → (modules : List Program) (conn : Conn) → modules ≡ chain_of host → conn_at host.conns number ≡ Some conn
+    → (v : Linked) × StandsFor modules host.tree host.store d conn v
 unfolding IsHosting
-can_serve d host number w hosts modules s same at =
-    let f = found (budget_of host) (chain_of host) d host.next host.last (hosted_at host.seats) w hosts number s at in
-    ((w.common, f.0), subst (λ (chain : List Program). MayServe chain d host.next s (w.common, f.0)) (sym same) f.2)
+can_serve d host number w hosts modules conn same at =
+    let f = found (budget_of host) (chain_of host) d host.tree host.store host.last (conn_at host.conns) w hosts number conn at in
+    let stands = stands_for (budget_of host) (chain_of host) d host.tree host.store host.last (conn_at host.conns) w hosts number f.0 f.1 conn f.2 in
+    ((w.common, over (map_of host.tree) f.0), subst (λ (chain : List Program). StandsFor chain host.tree host.store d conn (w.common, over (map_of host.tree) f.0)) (sym same) stands)
 
--- It is put back, as it is then. next, files: the next names and the files then.
-pub put_back : {F : Type 0} (d e : Device) (host : Host F) (number : ℕ) (w : World) → IsHosting d host w → (what : Event) (answer : Answer) (s0 s : HostedConn) (after : HostedConns) (next : NextNames) (files : F)
-    → hosted_at host.seats number ≡ Some s0 → IsWritten host.seats number s after
-    → ((c : Connection) → w.conns number ≡ Some c → MayServe (chain_of host) d host.next s0 (w.common, c) → Serves (budget_of host) (chain_of host) d e w number c what answer next s)
-    → Happens d e host (record host { seats = after; next = next; files = files }) number what answer w
-unfolding chain_of budget_of
-put_back d e host number w hosts what answer s0 s after next files at is serve =
-    served_on d e host (record host { seats = after; next = next; files = files }) number w hosts refl refl refl what answer s0 s at (written host.seats number s after is) serve
+-- So it does by the chain as it was handed on.
+pub lent : {R : Type 0} {g : Ghosts R Bucket} (modules chain : List Program) → modules ≡ chain → (tree : PoolTree Payload) (store : Brigades R g) (d : Device) (conn : Conn) (v : Linked) → StandsFor chain tree store d conn v → StandsFor modules tree store d conn v
+lent modules chain same tree store d conn v so = subst (λ (m : List Program). StandsFor m tree store d conn v) (sym same) so
 
 -- None is found.
-pub none_found : {F : Type 0} (d : Device) (host : Host F) (number : ℕ) (w : World) → IsHosting d host w → (after : HostedConns) → after.by_number ≡ host.seats.by_number → hosted_at host.seats number ≡ None
-    → (what : Event) → IsOfConnection what → Happens d d host (record host { seats = after }) number what (Refused refusal.NoSuchConn) w
-unfolding chain_of budget_of
-none_found d host number w hosts after same at what of = none_served d host (record host { seats = after }) number w hosts refl refl refl refl (same_seats after host.seats same) at what of
+pub none_found : {F : Type 0} (d : Device) (host : Host F) (number : ℕ) (w : World) → IsHosting d host w → (after : Conns) → after.by_number ≡ host.conns.by_number → conn_at host.conns number ≡ None
+    → (what : Event) → IsOfConnection what → Happens d d host (record host { conns = after }) number what (Refused refusal.NoSuchConn) w
+unfolding chain_of budget_of IsHosting
+none_found d host number w hosts after same at what of =
+    none_served d host (record host { conns = after }) number w hosts refl refl
+    (subst (λ (f : ℕ → Option Conn). HoldsWorld (budget_of host) (chain_of host) d host.tree host.store host.last f w) (sym (same_conns after host.conns same)) hosts) at what of

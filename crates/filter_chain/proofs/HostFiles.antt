@@ -12,12 +12,22 @@ use Rattle.run_model.specs.Worlds.{World, Refused, put_conn, happens_on, file_an
 use Rattle.model_laws.proofs.chains.EventTurns.{OpensAs, opens_file_turn}
 use Rattle.bucket_kinds.specs.Device.{Device}
 use Rattle.module_run.specs.Happened.{lasted, refusal_of}
-use Rattle.module_run.specs.OpenedFile.{IsAfterOpening, TellsShort}
-use Rattle.filter_chain.specs.declared.next.NextNames.{NextNames}
-use Rattle.filter_chain.specs.declared.hosted_conn.HostedConn.{HostedConn}
+use Rattle.module_run.specs.OpenedFile.{IsAfterOpening, TellsShort, WasOpened}
+use Rattle.bucket_ring.specs.declared.rings.Rings.{Ghosts}
+use Rattle.run_model.specs.declared.bucket.Bucket.{Bucket}
+use Rattle.run_model.specs.declared.payload.Payload.{Payload}
+use Rattle.run_model.specs.Chains.{Linked}
+use Rattle.model_laws.specs.PartSteps.{linked_in_part}
+use Rattle.model_laws.specs.SharedPools.{over}
+use Rattle.model_laws.proofs.chains.LeftTree.{Stands}
+use Rattle.model_laws.proofs.parts.Seen.{opens_file_in_part}
+use Rattle.pool_tree.specs.declared.tree.PoolTree.{PoolTree}
+use Rattle.pool_tree.specs.Tree.{map_of}
+use Rattle.brigade_ops.specs.declared.store.Brigades.{Brigades}
+use Rattle.module_run.specs.declared.conn.Conn.{Conn}
+use Rattle.module_run.proofs.FileOpens.{keeps_files}
 use Rattle.filter_chain.specs.Hosting.{file_answer}
 use Rattle.filter_chain.specs.HostViews.{TellsEvent, refusal_in}
-use Rattle.filter_chain.specs.HostedConns.{OpensFile}
 use Rattle.filter_chain.proofs.HostEvents.{AnyLength, Serves}
 use Rattle.filter_chain.proofs.KnownEvents.{put_same}
 
@@ -42,20 +52,24 @@ after_answer : (name : List ℕ) (answer : Result (ℕ × ℕ) Refusal) (d e : D
 after_answer name (Ok file) d e after = after
 after_answer name (Err r) d e after = after
 
-pub opens_serves : (budget : ℕ) (chain : List Program) (d e : Device) (w : World) (number : ℕ) (c : Connection) → w.conns number ≡ Some c → (now : NextNames) (s : HostedConn) (name : List ℕ) (answer : Result (ℕ × ℕ) Refusal)
-    → OpensFile chain d e name (w.common, c) now s answer → Serves budget chain d e w number c (event.OpenFile name) (file_answer answer) now s
+pub opens_serves : {R : Type 0} {g : Ghosts R Bucket} (budget : ℕ) (chain : List Program) (d e : Device) (w : World) (tree : PoolTree Payload) (number : ℕ) (c : Connection) (s : Stands chain w (map_of tree) number c) (newer : PoolTree Payload) (store : Brigades R g) (conn : Conn) (name : List ℕ) (answer : Result (ℕ × ℕ) Refusal)
+    → WasOpened chain newer store d e conn name answer (w.common, over (map_of tree) c) → Serves budget chain d e w tree number c (event.OpenFile name) (file_answer answer) newer store conn
 unfolding happens_on opens_file TellsEvent
-opens_serves budget chain d e w number c here now s name answer st =
-    let left = opens_file (lasted answer) st.opening (w.common, c) in
+opens_serves budget chain d e w tree number c s newer store conn name answer st =
+    let all = opens_file (lasted answer) st.opening (w.common, over (map_of tree) c) in
+    let kept = keeps_files name d e (refusal_of answer) st.after in
     record {
       memory = lasted answer;
       told = record { reads = λ k. None; opening = st.opening };
-      left = left.1;
-      is = opening_told number w c here _ c.req st.opening ∙ ap (λ (r : Result (ℕ × ℕ) Refusal). (file_answer r, put_conn number left.1 w)) st.served.answers;
+      all = all.1;
+      is = opening_told number w c s.here _ c.req st.opening
+          ∙ ap (λ (a : Result (ℕ × ℕ) Refusal × Linked). (file_answer a.0, put_conn number a.1 w)) (opens_file_in_part (lasted answer) st.opening (map_of tree) w.common c s.lies)
+          ∙ ap (λ (r : Result (ℕ × ℕ) Refusal). (file_answer r, put_conn number (linked_in_part c.conn all.1) w)) st.happened.answers;
       tells = (st.told, after_answer name answer d e st.after);
       closes = tt;
       short = short_file answer st.short;
-      turn = opens_file_turn chain AnyLength w.common c (lasted answer) st.opening (any_length left.0);
-      linked = st.served.left;
-      spared = st.served.spared;
+      turn = opens_file_turn chain AnyLength w.common (over (map_of tree) c) (lasted answer) st.opening (any_length all.0);
+      left = st.happened.left;
+      files = st.numbers;
+      spared = record { rises = kept.rises; folder = kept.folder; others = λ file old none. kept.others file old };
     }

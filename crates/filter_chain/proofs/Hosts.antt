@@ -1,185 +1,177 @@
--- What a host stands for, before an event of one connection and after it.
-use Rattle.std.proofs.Common.{◌≡◌, ◌≢◌, ℕ, ◌<◌, ◌≤◌, ◌⊎◌, true, List, Option, Some, None, is_some, Result, Ok, Err, cond, inl, inr, refl, sym, ◌∙◌, ap, subst, arith}
-use Rattle.std.specs.BTreeMap.{get}
-use Rattle.std.specs.Ordering.{nat_cmp, is_eq}
-use Rattle.std.proofs.Math.Path.{fun_ext}
-use Rattle.std.proofs.lemmas.Bool.Decides.{nat_tests}
+-- What a host stands for: each connection over the tree of all, and what is another's.
+use Rattle.std.proofs.Common.{◌≡◌, ◌≢◌, ◌<◌, ◌==◌, ℕ, Bool, true, false, List, Option, Some, None, is_some, refl, sym, ◌∙◌, ap, subst, arith, inl, inr, eq-eqb}
+use Rattle.std.specs.Prelude.{if◌then◌else◌, count_by}
+use Rattle.std.specs.List.{list_any}
+use Rattle.std.proofs.lemmas.Bool.{false_from_ne_true}
 use Rattle.module_code.specs.Program.{Program}
-use Rattle.run_model.specs.declared.event.Refusal.{Refusal}
-use Rattle.run_model.specs.declared.event.Stepped.{Stepped}
-use Rattle.run_model.specs.Indexed.{upd}
-use Rattle.run_model.specs.Chains.{Connection, Linked, configuration}
-use Rattle.run_model.specs.Sound.{SoundPools}
-use Rattle.run_model.specs.State.{fresh_call}
-use Rattle.model_laws.specs.ChainLaws.{Rises}
-use Rattle.model_laws.specs.Reached.{IsReached, WorldLaws}
-use Rattle.run_model.specs.Worlds.{World, put_conn, step_answered}
+use Rattle.bucket_kinds.specs.Device.{Device}
+use Rattle.bucket_ring.specs.declared.rings.Rings.{Ghosts}
+use Rattle.bucket_ring.specs.Kept.{once_in}
+use Rattle.run_model.specs.declared.bucket.Bucket.{Bucket}
+use Rattle.run_model.specs.declared.bucket.BrigadeVar.{BrigadeVar}
+use Rattle.run_model.specs.declared.bucket.BrigadeVar.TheVariants as var
+use Rattle.run_model.specs.declared.payload.Payload.{Payload}
+use Rattle.run_model.specs.Chains.{Connection, configuration, pools_of}
+use Rattle.run_model.specs.Effects.{handed_over}
+use Rattle.run_model.specs.Holding.{refers, times_held}
+use Rattle.run_model.specs.Payloads.{is_brigade, is_file_ref}
+use Rattle.run_model.specs.Pools.{Pools, is_under}
+use Rattle.run_model.specs.Sound.{brigade_name}
+use Rattle.run_model.specs.Worlds.{World}
+use Rattle.model_laws.specs.Parts.{HasPart}
+use Rattle.model_laws.specs.Reached.{WorldLaws}
+use Rattle.model_laws.specs.Registered.{IsMadeInOne}
+use Rattle.model_laws.specs.SharedPools.{over}
 use Rattle.run_model.proofs.Updates.{upd_either}
-use Rattle.model_laws.specs.ChainFiles.{ChainFiles}
-use Rattle.model_laws.proofs.chains.PoolsApart.{run_keeps_pools_apart}
+use Rattle.model_laws.proofs.chains.LeftTree.{Stands, reached_stands}
+use Rattle.model_laws.proofs.chains.PutBack.{looking}
 use Rattle.model_laws.proofs.chains.Reached.{reached_holds}
-use Rattle.bucket_kinds.specs.Device.{Held, Device}
-use Rattle.module_run.specs.Proceeding.{MayHold, HasOpen, IsLawful}
-use Rattle.filter_chain.specs.Spared.{Spares}
-use Rattle.filter_chain.specs.declared.next.NextNames.{NextNames}
-use Rattle.filter_chain.specs.declared.hosted_conn.HostedConn.{HostedConn}
-use Rattle.filter_chain.specs.declared.hosted_conns.HostedConns.{HostedConns}
-use Rattle.filter_chain.specs.Hosting.{hosted_at, IsHostedConnIf, HoldsWorld, step_answer}
-use Rattle.filter_chain.specs.HostedConns.{IsHostedConn, IsHostedConnWith, MayServe}
+use Rattle.model_laws.proofs.parts.Paths.{part_payloads, under_belongs}
+use Rattle.model_laws.proofs.parts.SoundOver.{sound_over}
+use Rattle.pool_tree.specs.declared.tree.PoolTree.{PoolTree}
+use Rattle.pool_tree.specs.Tree.{map_of}
+use Rattle.brigade_ops.specs.declared.store.Brigades.{Brigades}
+use Rattle.brigade_ops.specs.Items.{Items}
+use Rattle.brigade_ops.specs.Store.{lists, next_name, pool_of}
+use Rattle.ring_run.specs.declared.machine.Slot.{Slot}
+use Rattle.ring_run.specs.declared.machine.Slot.TheVariants as slot
+use Rattle.ring_run.specs.Seen.{shown_as, shown_slot}
+use Rattle.ring_run.specs.Slots.{name_in, slot_at}
+use Rattle.module_run.specs.declared.conn.Conn.{Conn}
+use Rattle.module_run.specs.declared.conn.Filter.{Filter}
+use Rattle.module_run.specs.Conns.{conn_of, filter_at, lent_by, runs_of, shown_filter, shown_instance}
+use Rattle.module_run.specs.Neighbours.{Holds, IsForeign}
+use Rattle.module_run.specs.Proceeding.{IsLawful, StandsFor}
+use Rattle.module_run.specs.Stacked.{IsStacked, named_at}
+use Rattle.filter_chain.specs.Hosted.{IsHosted}
+use Rattle.filter_chain.specs.Hosting.{HoldsWorld, IsHostedIf}
 
-module _ (budget : ℕ) (chain : List Program) (d : Device) (next : NextNames) (last : ℕ) (seats : ℕ → Option HostedConn) (w : World) (h : HoldsWorld budget chain d next last seats w) where
+-- What a connection holds, by the brigades that the model's has.
+
+name_lent : (v : BrigadeVar) → brigade_name (handed_over v) ≡ brigade_name v
+name_lent var.Null = refl
+name_lent var.Gone = refl
+name_lent (var.Live x) = refl
+
+name_shown : (runs : ℕ → Bool) (rings : ℕ → Option Items) (s : Slot) (n : ℕ) → brigade_name (shown_slot runs rings s) ≡ Some n → name_in s ≡ Some n
+name_shown runs rings slot.Null n is = absurd (cc)
+name_shown runs rings (slot.Made m pool mark) n is = by_ring (rings m) is where
+  by_ring : (o : Option Items) → brigade_name (shown_as runs m pool mark o) ≡ Some n → Some m ≡ Some n
+  by_ring None is = absurd (cc)
+  by_ring (Some xs) is = is
+
+name_held : (runs : ℕ → Bool) (rings : ℕ → Option Items) (f : Filter) (b n : ℕ) → brigade_name ((shown_filter runs rings (Some f)).brigades b) ≡ Some n → named_at f b ≡ Some n
+name_held runs rings f b n is = by_lent f.lent is where
+  by_lent : (o : Option ℕ) → brigade_name ((lent_by o (shown_instance runs rings f.instance)).brigades b) ≡ Some n → named_at f b ≡ Some n
+  by_lent None is = name_shown runs rings (slot_at f.instance b) n is
+  by_lent (Some a) is = elim (upd_either (λ (j : ℕ). shown_slot runs rings (slot_at f.instance j)) a b (handed_over (shown_slot runs rings (slot_at f.instance a)))) [
+    | inl p ↦ (let lent = sym (ap brigade_name p.1) ∙ is in let there = name_shown runs rings (slot_at f.instance a) n (sym (name_lent (shown_slot runs rings (slot_at f.instance a))) ∙ lent) in ap (λ (j : ℕ). named_at f j) p.0 ∙ there)
+    | inr p ↦ name_shown runs rings (slot_at f.instance b) n (sym (ap brigade_name p.1) ∙ is)
+  ]
+
+holds_made : (ps : Pools Payload) (rings : ℕ → Option Items) (conn : Conn) (c : Connection) → over ps c ≡ conn_of ps rings c.opened conn → (n p : ℕ) → IsMadeInOne c.instances n p → Holds conn n
+unfolding conn_of
+holds_made ps rings conn c seen n p made = by_filter (filter_at conn made.0) refl (ap (λ (x : Connection). brigade_name ((x.instances made.0).brigades made.1.0)) (sym seen) ∙ made.1.1) where
+  by_filter : (o : Option Filter) → filter_at conn made.0 ≡ o → brigade_name ((shown_filter (runs_of conn) rings o).brigades made.1.0) ≡ Some n → Holds conn n
+  by_filter None is named = absurd (cc)
+  by_filter (Some f) is named = record { at = made.0; filter = f; is = is; by = inr (made.1.0, name_held (runs_of conn) rings f made.1.0 n named) }
+
+stands_once : (p : ℕ) (o : Option ℕ) → o ≡ Some p → once_in p o ≡ 1
+stands_once p None is = absurd (cc)
+stands_once p (Some q) is = (let same : q ≡ p = cc in ap (λ (b : Bool). if b then 1 else 0) (eq-eqb q p same))
+
+module _ {R : Type 0} {g : Ghosts R Bucket} (budget : ℕ) (chain : List Program) (d : Device) (tree : PoolTree Payload) (store : Brigades R g) (last : ℕ) (conns : ℕ → Option Conn) (w : World) (h : HoldsWorld budget chain d tree store last conns w) where
   pub laws : WorldLaws chain w
   laws = reached_holds budget chain w h.chained h.reached
 
-  pub lawful : (k : ℕ) (c : Connection) → w.conns k ≡ Some c → IsLawful chain (w.common, c)
-  unfolding configuration
-  lawful k c here = record {
-    chained = h.chained;
-    names = laws.sound.names;
-    sound = laws.sound.conns k c here;
-    ends = laws.ends k c here;
-    files = record { lasts = λ p file under there. files.lasts p file there; open_files = files.open_files };
-    pools = record {
-      has = record { formed = sound.formed; root = 1; top = (run_keeps_pools_apart budget chain h.reached.events h.reached.answers w h.chained h.reached.run).top k c here };
-      named = (laws.paths k c here).named;
-    };
-  } where
-    files : ChainFiles w.common c
-    files = laws.files k c here
+  pub known : (k : ℕ) (c : Connection) → w.conns k ≡ Some c → Stands chain w (map_of tree) k c
+  known k c here = subst (λ (ps : Pools Payload). Stands chain w ps k c) (sym h.pools) (reached_stands budget chain w k c h.chained h.reached here)
 
-    sound : SoundPools (configuration w.common c (record { of = 0; call = fresh_call 0; pc = 0 }))
-    sound = (laws.sound.conns k c here).pools.sound (record { of = 0; call = fresh_call 0; pc = 0 })
+  -- A connection over the tree.
+  module _ (k : ℕ) (c : Connection) (here : w.conns k ≡ Some c) where
+    abbrev ps : Pools Payload
+    ps = map_of tree
+
+    at_first : HasPart (pools_of w.common (over ps c)) c.conn
+    unfolding configuration
+    at_first = ((known k c here).lies.lies (looking 0)).has
+
+    same_refs : (p file : ℕ) → is_under ps c.conn p ≡ true → refers (pools_of w.common c) p file ≡ refers ps p file
+    same_refs p file under = ap (list_any (is_file_ref file)) (ap (λ (f : ℕ → List Payload). f p) (known k c here).lies.part.payloads ∙ part_payloads ps c.conn p (under_belongs ps c.conn p under))
+
+    -- a file to which a pool of its own refers is open
+    pub refers_open : (p file : ℕ) → is_under ps c.conn p ≡ true → refers ps p file ≡ true → is_some (c.opened file) ≡ true
+    refers_open p file under there = (laws.files k c here).lasts p file (same_refs p file under ∙ there)
+
+    pub lawful : IsLawful chain (w.common, over (map_of tree) c)
+    unfolding configuration is_under
+    lawful = record {
+      chained = h.chained;
+      names = laws.sound.names;
+      sound = sound_over chain ps w.common c (known k c here).lies (laws.sound.conns k c here);
+      ends = (let ends = laws.ends k c here in record { ends = record { brigades = ends.ends.brigades; loose = ends.ends.loose }; lengths = ends.lengths });
+      files = (let files = laws.files k c here in record { lasts = λ p file under there. refers_open p file under there; open_files = record { brigades = files.open_files.brigades; loose = files.open_files.loose } });
+      pools = record { has = at_first; named = λ i q n made live. ((known k c here).lies.lies (looking i)).own q n made live };
+    }
+
+    pub stands_for : (conn : Conn) → IsHosted chain tree store d conn c → StandsFor chain tree store d conn (w.common, over (map_of tree) c)
+    stands_for conn hosted = record {
+      lawful = lawful;
+      left = record {
+        seen = record { pools = sym (known k c here).lies.next; given = h.names; conn = hosted.seen };
+        opens = hosted.opens;
+        formed = (known k c here).pools.formed;
+        house = h.house;
+        references = h.open_files;
+        none = h.none;
+        stacked = hosted.stacked;
+      };
+    }
 
   -- A connection that is there is as the model has it.
-  pub found : (k : ℕ) (s : HostedConn) → seats k ≡ Some s → (c : Connection) × (w.conns k ≡ Some c) × MayServe chain d next s (w.common, c)
-  found k s at = by_conn (w.conns k) refl where
-    by_conn : (o : Option Connection) → w.conns k ≡ o → (c : Connection) × (w.conns k ≡ Some c) × MayServe chain d next s (w.common, c)
-    by_conn None none = absurd (subst (λ (o : Option Connection). IsHostedConnIf chain d next (Some s) o) none (subst (λ (o : Option HostedConn). IsHostedConnIf chain d next o (w.conns k)) at (h.conns k)))
-    by_conn (Some c) here = (
-      c,
-      here,
-      record {
-        lawful = lawful k c here;
-        files = laws.files k c here;
-        linked = record {
-          seated = subst (λ (o : Option Connection). IsHostedConnIf chain d next (Some s) o) here (subst (λ (o : Option HostedConn). IsHostedConnIf chain d next o (w.conns k)) at (h.conns k));
-          pools = h.pools;
-          names = h.names;
-          files = h.files;
-        };
-      },
-    )
+  pub found : (k : ℕ) (conn : Conn) → conns k ≡ Some conn → (c : Connection) × (w.conns k ≡ Some c) × IsHosted chain tree store d conn c
+  found k conn at = by_conn (w.conns k) refl where
+    by_conn : (o : Option Connection) → w.conns k ≡ o → (c : Connection) × (w.conns k ≡ Some c) × IsHosted chain tree store d conn c
+    by_conn None none = absurd (subst (λ (o : Option Connection). IsHostedIf chain tree store d (Some conn) o) none (subst (λ (o : Option Conn). IsHostedIf chain tree store d o (w.conns k)) at (h.conns k)))
+    by_conn (Some c) here = (c, here, subst (λ (o : Option Connection). IsHostedIf chain tree store d (Some conn) o) here (subst (λ (o : Option Conn). IsHostedIf chain tree store d o (w.conns k)) at (h.conns k)))
 
-  pub missing : (k : ℕ) → seats k ≡ None → w.conns k ≡ None
+  pub missing : (k : ℕ) → conns k ≡ None → w.conns k ≡ None
   missing k at = by_conn (w.conns k) refl where
     by_conn : (o : Option Connection) → w.conns k ≡ o → w.conns k ≡ None
     by_conn None none = none
-    by_conn (Some c) here = absurd (subst (λ (o : Option Connection). IsHostedConnIf chain d next None o) here (subst (λ (o : Option HostedConn). IsHostedConnIf chain d next o (w.conns k)) at (h.conns k)))
+    by_conn (Some c) here = absurd (subst (λ (o : Option Connection). IsHostedIf chain tree store d None o) here (subst (λ (o : Option Conn). IsHostedIf chain tree store d o (w.conns k)) at (h.conns k)))
 
-  -- The others are as they were.
-  module _ (number : ℕ) (c : Connection) (here : w.conns number ≡ Some c) (e : Device) (spared : Spares d e c) (now : NextNames) (pools : next.pool ≤ now.pool) (names : next.name ≤ now.name) where
-    not_open : (k file : ℕ) (b : Connection) → k ≢ number → w.conns k ≡ Some b → is_some (b.opened file) ≡ true → c.opened file ≡ None
-    not_open k file b other there opened = by_open (c.opened file) refl where
-      by_open : (o : Option (List ℕ)) → c.opened file ≡ o → c.opened file ≡ None
-      by_open None none = none
-      by_open (Some bytes) is = absurd (other (laws.apart.own k number file b c there here opened (ap is_some is)))
+  -- What a connection holds was given out.
+  pub held_given : (conn : Conn) → IsStacked chain store conn → (n : ℕ) → Holds conn n → n < next_name store
+  held_given conn stacked n held = elim held.by [
+    | inl name ↦ (let lt = (stacked.held held.at held.filter held.is).called in omega (arith, lt, name))
+    | inr b ↦ (stacked.held held.at held.filter held.is).named b.0 n b.1
+  ]
 
-    opens_still : (k : ℕ) (b : Connection) → k ≢ number → w.conns k ≡ Some b → HasOpen d b → HasOpen e b
-    opens_still k b other there opens file bytes is =
-        let some : is_some (b.opened file) ≡ true = ap is_some is in
-        let given = laws.apart.given k file b there some in
-        let old : file < d.next = (let le = h.files in omega (arith, given)) in
-        subst (λ (held : Held). MayHold held bytes) (sym (spared.others file old (not_open k file b other there some))) (opens file bytes is)
+  -- What another connection holds is foreign to this one.
+  pub foreign : (number : ℕ) (conn : Conn) → conns number ≡ Some conn → (k : ℕ) (x : Conn) → k ≢ number → conns k ≡ Some x → (n : ℕ) → 0 < n → Holds x n → IsForeign (map_of tree) store conn n
+  unfolding conn_of
+  foreign number conn at k x other there n pos held =
+      let f = found number conn at in
+      let e = found k x there in
+      record {
+        real = pos;
+        given = held_given x e.2.stacked n held;
+        unheld = λ too. h.apart k number n x conn there at other pos held too;
+        off = λ p on. false_from_ne_true (is_under (map_of tree) conn.conn p) (λ under. h.apart k number n x conn there at other pos held (mine f.0 f.1 f.2 p on under));
+      } where
+        same_pool : (c : Connection) → IsHosted chain tree store d conn c → c.conn ≡ conn.conn
+        same_pool c hosted = ap (λ (y : Connection). y.conn) hosted.seen
 
-    seated_still : (k : ℕ) (s : HostedConn) (b : Connection) → k ≢ number → w.conns k ≡ Some b → IsHostedConn chain d next s b → IsHostedConn chain e now s b
-    seated_still k s b other there seated = record {
-      seen = seated.seen;
-      opens = opens_still k b other there seated.opens;
-      formed = seated.formed;
-      house = seated.house;
-      none = seated.none;
-      stacked = seated.stacked;
-      pools = (let le = seated.pools in omega (arith, pools));
-      names = (let le = seated.names in omega (arith, names));
-    }
+        once : (c : Connection) → w.conns number ≡ Some c → (p : ℕ) → pool_of store n ≡ Some p → is_under (map_of tree) c.conn p ≡ true → 0 < times_held (pools_of w.common c) n p
+        once c here p on under =
+            let times = h.house.held n p in
+            let one = stands_once p (pool_of store n) on in
+            let same : times_held (pools_of w.common c) n p ≡ times_held (map_of tree) n p = ap (λ (xs : List Payload). count_by (is_brigade n) xs)
+            (ap (λ (y : ℕ → List Payload). y p) (known number c here).lies.part.payloads ∙ part_payloads (map_of tree) c.conn p (under_belongs (map_of tree) c.conn p under)) in
+            omega (arith, times, one, same)
 
-    pub others_still : (k : ℕ) → k ≢ number → IsHostedConnIf chain e now (seats k) (w.conns k)
-    others_still k other = both (seats k) (w.conns k) refl (h.conns k) where
-      both : (o : Option HostedConn) (b : Option Connection) → w.conns k ≡ b → IsHostedConnIf chain d next o b → IsHostedConnIf chain e now o b
-      both None None there is = is
-      both None (Some b) there is = absurd is
-      both (Some s) None there is = absurd is
-      both (Some s) (Some b) there is = seated_still k s b other there is
-
-  -- Names rise.
-  pub seated_rises : (now : NextNames) → next.pool ≤ now.pool → next.name ≤ now.name → (k : ℕ) → IsHostedConnIf chain d now (seats k) (w.conns k)
-  seated_rises now pools names k = both (seats k) (w.conns k) (h.conns k) where
-    both : (o : Option HostedConn) (b : Option Connection) → IsHostedConnIf chain d next o b → IsHostedConnIf chain d now o b
-    both None None is = is
-    both None (Some b) is = absurd is
-    both (Some s) None is = absurd is
-    both (Some s) (Some b) is = record {
-      seen = is.seen;
-      opens = is.opens;
-      formed = is.formed;
-      house = is.house;
-      none = is.none;
-      stacked = is.stacked;
-      pools = (let le = is.pools in omega (arith, pools));
-      names = (let le = is.names in omega (arith, names));
-    }
-
-  -- Where one connection is put or taken out and the others are there still, all are.
-  module _ (number : ℕ) (e : Device) (now : NextNames) (s : Option HostedConn) (x : Option Connection) (others : (k : ℕ) → k ≢ number → IsHostedConnIf chain e now (seats k) (w.conns k)) (seated : IsHostedConnIf chain e now s x)
-      (after : ℕ → Option HostedConn) (is : (k : ℕ) → after k ≡ upd seats number s k) where
-    as_is : (k : ℕ) (o : Option HostedConn) (b : Option Connection) → after k ≡ o → upd w.conns number x k ≡ b → IsHostedConnIf chain e now o b → IsHostedConnIf chain e now (after k) (upd w.conns number x k)
-    as_is k o b seat conn so = subst (λ (y : Option HostedConn). IsHostedConnIf chain e now y (upd w.conns number x k)) (sym seat) (subst (λ (y : Option Connection). IsHostedConnIf chain e now o y) (sym conn) so)
-
-    each : (k : ℕ) → ((k ≡ number) × (upd seats number s k ≡ s)) ⊎ ((k ≢ number) × (upd seats number s k ≡ seats k)) → ((k ≡ number) × (upd w.conns number x k ≡ x)) ⊎ ((k ≢ number) × (upd w.conns number x k ≡ w.conns k))
-        → IsHostedConnIf chain e now (after k) (upd w.conns number x k)
-    each k (inl a) (inl b) = as_is k s x (is k ∙ a.1) b.1 seated
-    each k (inl a) (inr b) = absurd (b.0 a.0)
-    each k (inr a) (inl b) = absurd (a.0 b.0)
-    each k (inr a) (inr b) = as_is k (seats k) (w.conns k) (is k ∙ a.1) b.1 (others k a.0)
-
-    pub seats_put : (k : ℕ) → IsHostedConnIf chain e now (after k) (upd w.conns number x k)
-    seats_put k = each k (upd_either seats number k s) (upd_either w.conns number k x)
-
-  -- One connection is served, and the others are as they were.
-  module _ (number : ℕ) (c : Connection) (here : w.conns number ≡ Some c) (e : Device) (spared : Spares d e c) (now : NextNames) (s : HostedConn) (v : Linked) (rises : Rises w.common v.0) (linked : IsHostedConnWith chain e now s v) where
-    pub holds_put : (after : ℕ → Option HostedConn) → ((k : ℕ) → after k ≡ upd seats number (Some s) k) → IsReached budget chain (put_conn number v w) → HoldsWorld budget chain e now last after (put_conn number v w)
-    holds_put after is reached = record {
-      chained = h.chained;
-      reached = reached;
-      last_is = h.last_is;
-      pools = linked.pools;
-      names = linked.names;
-      files = linked.files;
-      conns = seats_put number e now (Some s) (Some v.1) (others_still number c here e spared now higher_pools higher_names) linked.seated after is;
-    } where
-      higher_pools : next.pool ≤ now.pool
-      higher_pools = (let a = h.pools in let b = linked.pools in let le = rises.pools in omega (arith, a, b))
-
-      higher_names : next.name ≤ now.name
-      higher_names = (let a = h.names in let b = linked.names in let le = rises.next in omega (arith, a, b))
-
--- What a step answers, it answers of the world.
-pub step_told : (k : ℕ) (w : World) (r : Result Stepped Refusal × Linked) → step_answered k w r ≡ (step_answer r.0, put_conn k r.1 w)
-step_told k w (Ok s, v) = refl
-step_told k w (Err r, v) = refl
-
--- Seats over equal maps are the same.
-pub same_seats : (a b : HostedConns) → a.by_number ≡ b.by_number → hosted_at a ≡ hosted_at b
-unfolding hosted_at
-same_seats a b e = fun_ext (λ n. ap (λ m. get nat_cmp m n) e)
-
--- A seat was written at a number of the map.
-abbrev pub IsWritten : HostedConns → ℕ → HostedConn → HostedConns → Type 0
-IsWritten old number s new = (k : ℕ) → hosted_at new k ≡ cond (is_eq (nat_cmp number k)) (Some s) (hosted_at old k)
-
-pub written_at : {X : Type 0} (f : ℕ → X) (i k : ℕ) (v : X) → cond (is_eq (nat_cmp i k)) v (f k) ≡ upd f i v k
-unfolding upd
-written_at f i k v = grind (arith, nat_tests)
-
-pub written : (old : HostedConns) (number : ℕ) (s : HostedConn) (new : HostedConns) → IsWritten old number s new → (k : ℕ) → hosted_at new k ≡ upd (hosted_at old) number (Some s) k
-written old number s new is k = is k ∙ written_at (hosted_at old) number k (Some s)
+        mine : (c : Connection) → w.conns number ≡ Some c → IsHosted chain tree store d conn c → (p : ℕ) → pool_of store n ≡ Some p → is_under (map_of tree) conn.conn p ≡ true → Holds conn n
+        mine c here hosted p on under =
+            holds_made (map_of tree) (lists store) conn c hosted.seen n p
+            ((laws.registered number c here).only n p (once c here p on (subst (λ (m : ℕ). is_under (map_of tree) m p ≡ true) (sym (same_pool c hosted)) under)))

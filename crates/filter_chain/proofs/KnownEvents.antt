@@ -1,32 +1,53 @@
 -- How a connection that is there serves each event.
-use Rattle.std.proofs.Common.{◌≡◌, ℕ, Bool, true, List, Option, Some, None, Result, Ok, Err, OnOk, OnErr, inl, inr, refl, sym, ◌∙◌, ap, subst}
+use Rattle.std.proofs.Common.{◌≡◌, ℕ, ◌≤◌, Bool, true, false, List, Option, Some, None, Result, Ok, Err, OnOk, OnErr, is_some, inl, inr, refl, sym, ◌∙◌, ap, subst, arith}
 use Rattle.std.proofs.Math.Path.{fun_ext}
 use Rattle.module_code.specs.Program.{Program}
+use Rattle.bucket_kinds.specs.Device.{Device}
+use Rattle.bucket_ring.specs.declared.rings.Rings.{Ghosts}
+use Rattle.run_model.specs.declared.bucket.Bucket.{Bucket}
 use Rattle.run_model.specs.declared.event.Event.{Event}
 use Rattle.run_model.specs.declared.event.Event.TheVariants as event
 use Rattle.run_model.specs.declared.event.Piece.{Piece}
 use Rattle.run_model.specs.declared.event.Refusal.{Refusal}
 use Rattle.run_model.specs.declared.event.Stepped.{Stepped}
+use Rattle.run_model.specs.declared.payload.Payload.{Payload}
 use Rattle.run_model.specs.Indexed.{upd}
 use Rattle.run_model.specs.Chains.{Common, Connection, Linked, pools_of}
-use Rattle.model_laws.specs.ChainFiles.{TellsLengths, IsShortLength}
 use Rattle.run_model.specs.Passing.{Reads}
+use Rattle.run_model.specs.Pools.{Pools, is_under}
+use Rattle.run_model.specs.RunOrder.{IsPoolMap}
+use Rattle.run_model.specs.Files.{is_referred}
+use Rattle.run_model.specs.Holding.{refers}
 use Rattle.run_model.specs.Turns.{unless_refused, begun, begins, brought, brings, ended, ends, steps}
-use Rattle.run_model.specs.Worlds.{World, Refused, Output, put_conn, happens_on, answered}
+use Rattle.run_model.specs.Worlds.{World, Refused, Output, put_conn, happens_on, answered, step_answered}
 use Rattle.run_model.proofs.Updates.{upd_either}
+use Rattle.model_laws.specs.ChainFiles.{TellsLengths, IsShortLength}
+use Rattle.model_laws.specs.Parts.{part}
+use Rattle.model_laws.specs.PartSteps.{linked_in_part}
+use Rattle.model_laws.specs.SharedPools.{LiesOver, over, seen_in}
 use Rattle.model_laws.proofs.chains.EventTurns.{Turn, Drained, begins_turn, brings_turn, ends_turn, steps_turn}
-use Rattle.bucket_kinds.specs.Device.{Device}
-use Rattle.module_run.specs.Happened.{lasted, refusal_of}
-use Rattle.module_run.specs.Stepping.{ClosesStep, TellsStep}
+use Rattle.std.proofs.lemmas.Bool.{false_from_ne_true}
+use Rattle.model_laws.proofs.chains.LeftTree.{Stands, turn_within}
+use Rattle.model_laws.proofs.parts.Seen.{begins_in_part, brings_in_part, ends_in_part, its_part, steps_in_part, whole_pools}
+use Rattle.pool_tree.specs.declared.tree.PoolTree.{PoolTree}
+use Rattle.pool_tree.specs.Tree.{map_of}
+use Rattle.brigade_ops.specs.declared.store.Brigades.{Brigades}
+use Rattle.brigade_ops.specs.Files.{SameButOpen}
+use Rattle.brigade_ops.specs.Store.{lists, next_name}
 use Rattle.ring_run.specs.CarriedOut.{ClosedWith}
-use Rattle.filter_chain.specs.declared.next.NextNames.{NextNames}
-use Rattle.filter_chain.specs.declared.hosted_conn.HostedConn.{HostedConn}
+use Rattle.module_run.specs.declared.conn.Conn.{Conn}
+use Rattle.module_run.specs.Happened.{Happened, lasted, refusal_of}
+use Rattle.module_run.specs.Proceeding.{LeftAs, StandsFor}
+use Rattle.module_run.proofs.RequestBegins.{conn_is, pools_are, req_is}
+use Rattle.module_run.specs.Stepping.{ClosesStep, IsStep, TellsStep}
+use Rattle.filter_chain.specs.Hosted.{drained}
 use Rattle.filter_chain.specs.Hosting.{done_answer, step_answer}
 use Rattle.filter_chain.specs.HostViews.{ClosesFiles, TellsEvent, StepTellsReads, host_view}
-use Rattle.filter_chain.specs.HostedConns.{IsHostedConn, IsHostedConnWith, MayServe, RefinesConnEvent, RefinesConnStep, drained}
-use Rattle.filter_chain.proofs.Hosts.{step_told}
+use Rattle.filter_chain.specs.Spared.{Spares}
+use Rattle.filter_chain.proofs.FileNumbers.{begins_file, brings_file, ends_file, steps_file}
+use Rattle.filter_chain.proofs.FilesSpared.{step_spares}
 use Rattle.filter_chain.proofs.HostEvents.{AnyLength, Serves, nothing_told, told_reads}
-use Rattle.filter_chain.proofs.Seated.{spares_all}
+use Rattle.filter_chain.proofs.StepsSeen.{closed_in_part, closes_alike, tells_alike}
 
 -- A connection that is put back as it was changes nothing.
 pub put_same : (k : ℕ) (w : World) (c : Connection) → w.conns k ≡ Some c → put_conn k (w.common, c) w ≡ w
@@ -36,6 +57,22 @@ put_same k w c here = ap (λ (conns : ℕ → Option Connection). record w { con
     | inl at ↦ at.1 ∙ (sym here ∙ ap w.conns (sym at.0))
     | inr off ↦ off.1
   ]
+
+-- What is left over the tree is a pool map.
+pub formed_then : {R : Type 0} {g : Ghosts R Bucket} (chain : List Program) (newer : PoolTree Payload) (new : Brigades R g) (e : Device) (conn : Conn) (all : Linked) → LeftAs chain newer new e conn all → IsPoolMap (pools_of all.0 all.1)
+formed_then chain newer new e conn all left = subst IsPoolMap (sym (pools_are (map_of newer) (lists new) (next_name new) conn all left.seen)) left.formed
+
+-- What a step answers, it answers of the world.
+step_told : (k : ℕ) (w : World) (r : Result Stepped Refusal × Linked) → step_answered k w r ≡ (step_answer r.0, put_conn k r.1 w)
+step_told k w (Ok s, v) = refl
+step_told k w (Err r, v) = refl
+
+pub spares_all : (d : Device) (c : Connection) → Spares d d c
+spares_all d c = record { rises = omega arith; folder = (refl, refl); others = λ file old none. refl }
+
+-- what is spared of a connection's files is spared whatever pools it stands over
+pub spares_over : (d e : Device) (ps : Pools Payload) (c : Connection) → Spares d e (over ps c) → Spares d e c
+spares_over d e ps c s = record { rises = s.rises; folder = s.folder; others = s.others }
 
 -- What is refused changes nothing, so each answer is told of the world with the connection put back.
 answered_is : (k : ℕ) (w : World) (c : Connection) (o : Option Refusal) (new : Linked) → w.conns k ≡ Some c
@@ -61,81 +98,141 @@ step_closes : (chain : List Program) (d e : Device) (g h : Common) (c x : Connec
 step_closes chain d e g h c x (Ok t) closed = closed
 step_closes chain d e g h c x (Err r) closed = tt
 
--- What the end of a request closes.
-end_closes : (chain : List Program) (d e : Device) (v : Linked) (r : Result (Unit {0}) Refusal) → OnOk r (ClosedWith d e v.1.req (pools_of v.0 v.1) (pools_of (ends true v).1.0 (ends true v).1.1)) → OnErr r (e ≡ d)
-    → ClosesFiles d e chain event.End (done_answer (refusal_of r)) v.0 (Some v.1) (ends (lasted r) v).1.0 (Some (ends (lasted r) v).1.1)
-end_closes chain d e v (Ok x) closed unread = closed
-end_closes chain d e v (Err r) closed unread = unread
-
--- An event that answers whether it happened.
-done_serves : (budget : ℕ) (chain : List Program) (d e : Device) (w : World) (number : ℕ) (c : Connection) → w.conns number ≡ Some c → (now : NextNames) (s : HostedConn) (what : Event) (memory : Bool) (answer o : Option Refusal) (new : Linked)
-    → happens_on memory budget chain nothing_told what number (Some c) w ≡ answered number w (unless_refused o (w.common, c) new) → Turn chain AnyLength w.common c (unless_refused o (w.common, c) new).1
-    → TellsEvent chain number what (host_view w d) (done_answer answer) nothing_told e → ClosesFiles d e chain what (done_answer answer) w.common (Some c) (unless_refused o (w.common, c) new).1.0 (Some (unless_refused o (w.common, c) new).1.1)
-    → RefinesConnEvent chain d e now s c answer (unless_refused o (w.common, c) new) → Serves budget chain d e w number c what (done_answer answer) now s
-done_serves budget chain d e w number c here now s what memory answer o new is turn tells closes served = record {
+-- An event that answers whether it happened. part, all: what it is of the connection, and over the tree.
+done_serves : {R : Type 0} {g : Ghosts R Bucket} (budget : ℕ) (chain : List Program) (d e : Device) (w : World) (tree : PoolTree Payload) (number : ℕ) (c : Connection) → w.conns number ≡ Some c → (what : Event) (memory : Bool) (answer o : Option Refusal) (new : Linked) (all : Option Refusal × Linked)
+    → happens_on memory budget chain nothing_told what number (Some c) w ≡ answered number w (unless_refused o (w.common, c) new) → unless_refused o (w.common, c) new ≡ seen_in c.conn all → Turn chain AnyLength w.common (over (map_of tree) c) all.1
+    → TellsEvent chain number what (host_view w d) (done_answer answer) nothing_told e → ClosesFiles d e chain what (done_answer answer) w.common (Some c) all.1.0 (Some (linked_in_part c.conn all.1).1) → (newer : PoolTree Payload) (store : Brigades R g) (conn : Conn)
+    → Happened chain newer store e conn answer all → all.1.0.file ≤ e.next → Spares d e c → Serves budget chain d e w tree number c what (done_answer answer) newer store conn
+done_serves budget chain d e w tree number c here what memory answer o new all is seen turn tells closes newer store conn happened files spared = record {
   memory = memory;
   told = nothing_told;
-  left = (unless_refused o (w.common, c) new).1;
-  is = is ∙ answered_is number w c o new here ∙ ap (λ (r : Option Refusal). (done_answer r, put_conn number (unless_refused o (w.common, c) new).1 w)) served.answers;
+  all = all.1;
+  is = is ∙ answered_is number w c o new here ∙ ap (λ (a : Option Refusal × Linked). (done_answer a.0, put_conn number a.1 w)) seen ∙ ap (λ (r : Option Refusal). (done_answer r, put_conn number (linked_in_part c.conn all.1) w)) happened.answers;
   tells = tells;
   closes = closes;
   short = short_done answer;
   turn = turn;
-  linked = served.left;
-  spared = served.spared;
+  left = happened.left;
+  files = files;
+  spared = spared;
 }
 
--- before, s0: the next names and the connection before; modules: the chain, as it was handed on.
-module _ (budget : ℕ) (chain modules : List Program) (same : modules ≡ chain) (d : Device) (w : World) (number : ℕ) (c : Connection) (here : w.conns number ≡ Some c) (before now : NextNames) (s0 s : HostedConn) (may : MayServe chain d before s0 (w.common, c)) where
-  pub begins_serves : (memory : Bool) (answer : Option Refusal) → ((v : Linked) → MayServe modules d before s0 v → RefinesConnEvent modules d d now s v.1 answer (begins memory modules v)) → Serves budget chain d d w number c event.Begin (done_answer answer) now s
+-- modules: the chain, as it was handed on.
+module _ {R : Type 0} {g : Ghosts R Bucket} (budget : ℕ) (chain modules : List Program) (same : modules ≡ chain) (d : Device) (w : World) (tree : PoolTree Payload) (number : ℕ) (c : Connection) (s : Stands chain w (map_of tree) number c) (given : w.common.file ≤ d.next)
+    (newer : PoolTree Payload) (store : Brigades R g) (conn : Conn) where
+  abbrev all : Linked
+  all = (w.common, over (map_of tree) c)
+
+  pub begins_serves : (memory : Bool) (answer : Option Refusal) → Happened modules newer store d conn answer (begins memory modules all) → Serves budget chain d d w tree number c event.Begin (done_answer answer) newer store conn
   unfolding happens_on begins TellsEvent
-  begins_serves memory answer serve =
-      let served = subst (λ (m : List Program). (v : Linked) → MayServe m d before s0 v → RefinesConnEvent m d d now s v.1 answer (begins memory m v)) same serve (w.common, c) may in
-      done_serves budget chain d d w number c here now s event.Begin memory answer _ (begun chain (w.common, c)) refl (begins_turn chain AnyLength w.common c memory) refl tt served
+  begins_serves memory answer happened =
+      let h = subst (λ (m : List Program). Happened m newer store d conn answer (begins memory m all)) same happened in
+      let file = begins_file memory chain w.common (over (map_of tree) c) in
+      done_serves budget chain d d w tree number c s.here event.Begin memory answer _ (begun chain (w.common, c)) (begins memory chain all) refl (begins_in_part memory chain (map_of tree) w.common c s.lies)
+      (begins_turn chain AnyLength w.common (over (map_of tree) c) memory) refl tt newer store conn h (omega (arith, file, given)) (spares_all d c)
 
-  pub brings_serves : (memory : Bool) (pieces : List Piece) (answer : Option Refusal) → ((v : Linked) → MayServe modules d before s0 v → RefinesConnEvent modules d d now s v.1 answer (brings memory modules pieces v))
-      → Serves budget chain d d w number c (event.Bring pieces) (done_answer answer) now s
+  pub brings_serves : (memory : Bool) (pieces : List Piece) (answer : Option Refusal) → Happened modules newer store d conn answer (brings memory modules pieces all) → Serves budget chain d d w tree number c (event.Bring pieces) (done_answer answer) newer store conn
   unfolding happens_on brings TellsEvent
-  brings_serves memory pieces answer serve =
-      let served = subst (λ (m : List Program). (v : Linked) → MayServe m d before s0 v → RefinesConnEvent m d d now s v.1 answer (brings memory m pieces v)) same serve (w.common, c) may in
-      done_serves budget chain d d w number c here now s (event.Bring pieces) memory answer _ (brought chain pieces c.req (w.common, c)) refl (brings_turn chain AnyLength w.common c memory pieces) refl tt served
+  brings_serves memory pieces answer happened =
+      let h = subst (λ (m : List Program). Happened m newer store d conn answer (brings memory m pieces all)) same happened in
+      let file = brings_file memory chain pieces w.common (over (map_of tree) c) in
+      done_serves budget chain d d w tree number c s.here (event.Bring pieces) memory answer _ (brought chain pieces c.req (w.common, c)) (brings memory chain pieces all) refl (brings_in_part memory chain pieces (map_of tree) w.common c s.lies)
+      (brings_turn chain AnyLength w.common (over (map_of tree) c) memory pieces) refl tt newer store conn h (omega (arith, file, given)) (spares_all d c)
 
-  pub steps_serves : (e : Device) (answer : Result Stepped Refusal) → ((v : Linked) → MayServe modules d before s0 v → RefinesConnStep modules budget d e v now s answer) → Serves budget chain d e w number c event.Step (step_answer answer) now s
+  pub steps_serves : (e : Device) (answer : Result Stepped Refusal) → IsStep modules budget d e all newer store conn answer → Serves budget chain d e w tree number c event.Step (step_answer answer) newer store conn
   unfolding happens_on TellsEvent
-  steps_serves e answer serve =
-      let st = subst (λ (m : List Program). (v : Linked) → MayServe m d before s0 v → RefinesConnStep m budget d e v now s answer) same serve (w.common, c) may in
-      let left = (steps st.memory budget chain st.reads (w.common, c)).1 in
+  steps_serves e answer step =
+      let st = subst (λ (m : List Program). IsStep m budget d e all newer store conn answer) same step in
+      let after = steps st.memory budget chain st.reads all in
+      let told = tells_alike d e chain answer w.common c (map_of tree) st.reads st.told in
+      let spared = step_spares d e chain answer (w.common, c) st.reads told in
+      let file = steps_file st.memory budget chain st.reads w.common (over (map_of tree) c) in
       record {
         memory = st.memory;
         told = told_reads st.reads;
-        left = left;
-        is = step_told number w (steps st.memory budget chain st.reads (w.common, c)) ∙ ap (λ (r : Result Stepped Refusal). (step_answer r, put_conn number left w)) st.served.answers;
-        tells = subst (λ (o : Option Connection). StepTellsReads chain (host_view w d) o (step_answer answer) st.reads e) (sym here) (step_reads chain d e w c answer st.reads st.told);
-        closes = step_closes chain d e w.common left.0 c left.1 answer st.closed;
+        all = after.1;
+        is = step_told number w (steps st.memory budget chain st.reads (w.common, c))
+            ∙ ap (λ (a : Result Stepped Refusal × Linked). (step_answer a.0, put_conn number a.1 w)) (steps_in_part st.memory budget chain st.reads (map_of tree) w.common c s.lies)
+            ∙ ap (λ (r : Result Stepped Refusal). (step_answer r, put_conn number (linked_in_part c.conn after.1) w)) st.answers;
+        tells = subst (λ (o : Option Connection). StepTellsReads chain (host_view w d) o (step_answer answer) st.reads e) (sym s.here) (step_reads chain d e w c answer st.reads told);
+        closes = step_closes chain d e w.common after.1.0 c (linked_in_part c.conn after.1).1 answer (closes_alike budget chain d e w (map_of tree) number c s st.memory st.reads (formed_then chain newer store e conn after.1 st.left) answer st.answers st.closed);
         short = short_step answer;
-        turn = steps_turn chain AnyLength w.common c may.lawful.chained st.memory budget st.reads;
-        linked = st.served.left;
-        spared = st.served.spared;
+        turn = steps_turn chain AnyLength w.common (over (map_of tree) c) s.chained st.memory budget st.reads;
+        left = st.left;
+        files = (let le = spared.rises in omega (arith, le, file, given));
+        spared = spared;
       }
 
-module _ (budget : ℕ) (chain : List Program) (d : Device) (w : World) (number : ℕ) (c : Connection) (here : w.conns number ≡ Some c) (now : NextNames) (s : HostedConn) where
-  pub ends_serves : (e : Device) (r : Result (Unit {0}) Refusal) → RefinesConnEvent chain d e now s c (refusal_of r) (ends (lasted r) (w.common, c))
-      → OnOk r (ClosedWith d e c.req (pools_of w.common c) (pools_of (ends true (w.common, c)).1.0 (ends true (w.common, c)).1.1)) → OnErr r (e ≡ d) → Serves budget chain d e w number c event.End (done_answer (refusal_of r)) now s
-  unfolding happens_on ends TellsEvent
-  ends_serves e r served closed unread =
-      done_serves budget chain d e w number c here now s event.End (lasted r) (refusal_of r) _ (ended c.req (w.common, c)) refl (ends_turn chain AnyLength w.common c (lasted r)) served.spared.folder (end_closes chain d e (w.common, c) r closed unread) served
+-- Files that its pools do not refer to are as they were.
+pub spares_unreferred : (d e : Device) (ps : Pools Payload) (c : Connection) → ((p file : ℕ) → is_under ps c.conn p ≡ true → refers ps p file ≡ true → is_some (c.opened file) ≡ true) → SameButOpen d e
+    → ((file : ℕ) → ((p : ℕ) → is_under ps c.conn p ≡ true → refers ps p file ≡ false) → e.numbered file ≡ d.numbered file) → Spares d e c
+spares_unreferred d e ps c lasts same rest = record {
+  rises = (let next = same.next in omega (arith, next));
+  folder = (same.named, same.may_fail);
+  others = λ file old none. rest file (λ p under. not_held file p none under);
+} where
+  not_held : (file p : ℕ) → c.opened file ≡ None → is_under ps c.conn p ≡ true → refers ps p file ≡ false
+  not_held file p none under = false_from_ne_true (refers ps p file) (λ there. let is_open : is_some (c.opened file) ≡ true = lasts p file under there in let gone = ap is_some none in cc)
 
-  pub takes_serves : (s0 : HostedConn) (bytes : List ℕ) → bytes ≡ c.out.bytes → IsHostedConnWith chain d now s0 (w.common, c) → IsHostedConn chain d now s (drained c) → Serves budget chain d d w number c event.TakeOutput (Output bytes) now s
-  unfolding happens_on TellsEvent
-  takes_serves s0 bytes told linked seated = record {
-    memory = true;
-    told = nothing_told;
-    left = (w.common, drained c);
-    is = ap (λ (bs : List ℕ). (Output bs, put_conn number (w.common, drained c) w)) (sym told);
-    tells = refl;
-    closes = tt;
-    short = tt;
-    turn = Drained;
-    linked = record { seated = seated; pools = linked.pools; names = linked.names; files = linked.files };
-    spared = spares_all d c;
-  }
+-- What the end of a request closes.
+end_closes : {R : Type 0} {g : Ghosts R Bucket} (chain : List Program) (d e : Device) (w : World) (ps : Pools Payload) (number : ℕ) (c : Connection) (s : Stands chain w ps number c) (newer : PoolTree Payload) (new : Brigades R g) (conn : Conn) (r : Result (Unit {0}) Refusal)
+    → Happened chain newer new e conn (refusal_of r) (ends (lasted r) (w.common, over ps c)) → OnOk r (ClosedWith d e c.req ps (map_of newer)) → OnErr r (e ≡ d)
+    → (let v = (ends (lasted r) (w.common, over ps c)).1 in ClosesFiles d e chain event.End (done_answer (refusal_of r)) w.common (Some c) v.0 (Some (linked_in_part c.conn v).1))
+unfolding is_under
+end_closes chain d e w ps number c s newer new conn (Ok x) happened closed unread =
+    let v = (ends true (w.common, over ps c)).1 in
+    let left = happened.left in
+    let same : pools_of v.0 v.1 ≡ map_of newer = pools_are (map_of newer) (lists new) (next_name new) conn v left.seen in
+    let whole : pools_of w.common (over ps c) ≡ ps = whole_pools ps w.common c s.lies in
+    closed_in_part ps w.common c s.lies d e c.req v (turn_within chain ps w.common c s.lies v (ends_turn chain AnyLength w.common (over ps c) true)) (formed_then chain newer new e conn v left) s.lies.request
+    (subst (λ (qs : Pools Payload). ClosedWith d e c.req qs (pools_of v.0 v.1)) (sym whole) (subst (λ (qs : Pools Payload). ClosedWith d e c.req ps qs) (sym same) closed))
+end_closes chain d e w ps number c s newer new conn (Err r) happened closed unread = unread
+
+module _ {R : Type 0} {g : Ghosts R Bucket} (budget : ℕ) (chain : List Program) (d e : Device) (w : World) (tree : PoolTree Payload) (number : ℕ) (c : Connection) (s : Stands chain w (map_of tree) number c) (given : w.common.file ≤ d.next)
+    (newer : PoolTree Payload) (store : Brigades R g) (conn : Conn) where
+  pub ends_serves : (r : Result (Unit {0}) Refusal) → Happened chain newer store e conn (refusal_of r) (ends (lasted r) (w.common, over (map_of tree) c)) → OnOk r (ClosedWith d e c.req (map_of tree) (map_of newer)) → OnErr r (e ≡ d) → Spares d e c
+      → Serves budget chain d e w tree number c event.End (done_answer (refusal_of r)) newer store conn
+  unfolding happens_on ends TellsEvent
+  ends_serves r h closed unread spared =
+      let file = ends_file (lasted r) w.common (over (map_of tree) c) in
+      done_serves budget chain d e w tree number c s.here event.End (lasted r) (refusal_of r) _ (ended c.req (w.common, c)) (ends (lasted r) (w.common, over (map_of tree) c)) refl (ends_in_part (lasted r) (map_of tree) w.common c s.lies)
+      (ends_turn chain AnyLength w.common (over (map_of tree) c) (lasted r)) spared.folder (end_closes chain d e w (map_of tree) number c s newer store conn r h closed unread) newer store conn h
+      (let le = spared.rises in omega (arith, file, given, le)) spared
+
+-- The same by what the calls promise of its files.
+pub closed_spares : {R : Type 0} {g : Ghosts R Bucket} (chain : List Program) (d e : Device) (w : World) (tree : PoolTree Payload) (store : Brigades R g) (conn0 : Conn) (c : Connection) → StandsFor chain tree store d conn0 (w.common, over (map_of tree) c) → SameButOpen d e
+    → ((file : ℕ) → ((p : ℕ) → is_under (map_of tree) conn0.conn p ≡ true → refers (map_of tree) p file ≡ false) → e.numbered file ≡ d.numbered file) → Spares d e c
+unfolding is_under
+closed_spares chain d e w tree store conn0 c so same rest =
+    spares_unreferred d e (map_of tree) c so.lawful.files.lasts same (subst (λ (n : ℕ). (file : ℕ) → ((p : ℕ) → is_under (map_of tree) n p ≡ true → refers (map_of tree) p file ≡ false) → e.numbered file ≡ d.numbered file)
+    (sym (conn_is (map_of tree) (lists store) (next_name store) conn0 (w.common, over (map_of tree) c) so.left.seen)) rest)
+
+-- So it does by what an end of a request answers. conn0: the connection before.
+pub ended_serves : {R : Type 0} {g : Ghosts R Bucket} (budget : ℕ) (chain : List Program) (d e : Device) (w : World) (tree : PoolTree Payload) (store0 : Brigades R g) (conn0 : Conn) (number : ℕ) (c : Connection) (s : Stands chain w (map_of tree) number c) → w.common.file ≤ d.next
+    → (newer : PoolTree Payload) (store : Brigades R g) (conn : Conn) → StandsFor chain tree store0 d conn0 (w.common, over (map_of tree) c) → (r : Result (Unit {0}) Refusal) → Happened chain newer store e conn (refusal_of r) (ends (lasted r) (w.common, over (map_of tree) c))
+    → OnOk r (ClosedWith d e conn0.req (map_of tree) (map_of newer)) → OnErr r (e ≡ d) → SameButOpen d e
+    → ((file : ℕ) → ((p : ℕ) → is_under (map_of tree) conn0.conn p ≡ true → refers (map_of tree) p file ≡ false) → e.numbered file ≡ d.numbered file) → Serves budget chain d e w tree number c event.End (done_answer (refusal_of r)) newer store conn
+unfolding is_under
+ended_serves budget chain d e w tree store0 conn0 number c s given newer store conn so r happened closed unread same rest =
+    ends_serves budget chain d e w tree number c s given newer store conn r happened (subst (λ (o : Option ℕ). OnOk r (ClosedWith d e o (map_of tree) (map_of newer))) (sym (req_is (map_of tree) (lists store0) (next_name store0) conn0 v so.left.seen)) closed) unread
+    (closed_spares chain d e w tree store0 conn0 c so same rest) where
+      v : Linked
+      v = (w.common, over (map_of tree) c)
+
+-- Its output is taken.
+pub takes_serves : {R : Type 0} {g : Ghosts R Bucket} (budget : ℕ) (chain : List Program) (d : Device) (w : World) (tree : PoolTree Payload) (number : ℕ) (c : Connection) (s : Stands chain w (map_of tree) number c) → w.common.file ≤ d.next → (store : Brigades R g) (conn : Conn) (bytes : List ℕ)
+    → bytes ≡ c.out.bytes → LeftAs chain tree store d conn (w.common, drained (over (map_of tree) c)) → Serves budget chain d d w tree number c event.TakeOutput (Output bytes) tree store conn
+unfolding happens_on TellsEvent part
+takes_serves budget chain d w tree number c s given store conn bytes told left = record {
+  memory = true;
+  told = nothing_told;
+  all = (w.common, drained (over (map_of tree) c));
+  is = ap (λ (v : Linked). (Output c.out.bytes, put_conn number (v.0, drained v.1) w)) (its_part (map_of tree) w.common c s.lies) ∙ ap (λ (bs : List ℕ). (Output bs, put_conn number (linked_in_part c.conn (w.common, drained (over (map_of tree) c))) w)) (sym told);
+  tells = refl;
+  closes = tt;
+  short = tt;
+  turn = Drained;
+  left = left;
+  files = given;
+  spared = spares_all d c;
+}

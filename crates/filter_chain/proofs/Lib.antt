@@ -2,11 +2,10 @@
 pub mod FilesSpared
 pub mod MayFail
 pub mod FileNumbers
-pub mod Seated
-pub mod NewStore
-pub mod Closings
 pub mod Hosts
+pub mod HostsLeft
 pub mod HostEvents
+pub mod StepsSeen
 pub mod KnownEvents
 pub mod HostOpens
 pub mod HostTells
@@ -14,9 +13,6 @@ pub mod HostFiles
 pub mod HostAdds
 pub mod Safety
 pub mod HostCloses
-pub mod InOrder
-pub mod PrintedParts
-pub mod PrintedPools
 pub mod StepCounts
 pub mod Driving
 pub mod Going

@@ -1,8 +1,6 @@
 -- What a host stands for: a world of the model.
-use Rattle.std.specs.Prelude.{◌≡◌, ℕ, ◌≤◌, List, Option, Some, None, Result, Ok, Err, true, false}
+use Rattle.std.specs.Prelude.{◌≡◌, ◌≢◌, ℕ, ◌<◌, ◌≤◌, List, Option, Some, None, Result, Ok, Err, true, false}
 use Rattle.std.specs.Global.{Vec}
-use Rattle.std.specs.BTreeMap.{get}
-use Rattle.std.specs.Ordering.{nat_cmp}
 use Rattle.module_code.specs.Program.{Program}
 use Rattle.run_model.specs.declared.event.Event.{Event}
 use Rattle.run_model.specs.declared.event.Event.TheVariants as event
@@ -12,28 +10,30 @@ use Rattle.run_model.specs.declared.event.Stepped.{Stepped}
 use Rattle.run_model.specs.Chains.{Connection, IsChain}
 use Rattle.model_laws.specs.Reached.{IsReached}
 use Rattle.run_model.specs.declared.payload.Payload.{Payload}
-use Rattle.run_model.specs.Worlds.{World, Answer, Done, Refused, Connected, Opened, Output, Labels, Step}
+use Rattle.run_model.specs.Worlds.{World, tree_of, Answer, Done, Refused, Connected, Opened, Output, Labels, Step}
 use Rattle.bucket_kinds.specs.Device.{Device, is_there}
 use Rattle.bucket_kinds.specs.declared.refusal.AddRefusal.{AddRefusal}
 use Rattle.bucket_kinds.specs.declared.refusal.AddRefusal.TheVariants as added
+use Rattle.bucket_ring.specs.declared.rings.Rings.{Ghosts}
+use Rattle.run_model.specs.declared.bucket.Bucket.{Bucket}
+use Rattle.pool_tree.specs.declared.tree.PoolTree.{PoolTree}
+use Rattle.pool_tree.specs.Tree.{map_of}
+use Rattle.brigade_ops.specs.declared.store.Brigades.{Brigades}
+use Rattle.brigade_ops.specs.House.{AreOpen, IsHouse}
+use Rattle.brigade_ops.specs.Store.{lists, next_name, references}
+use Rattle.module_run.specs.declared.conn.Conn.{Conn}
 use Rattle.module_run.specs.Conns.{labels_handed}
-use Rattle.filter_chain.specs.declared.next.NextNames.{NextNames}
-use Rattle.filter_chain.specs.declared.hosted_conn.HostedConn.{HostedConn}
-use Rattle.filter_chain.specs.declared.hosted_conns.HostedConns.{HostedConns}
+use Rattle.module_run.specs.Neighbours.{Holds}
 use Rattle.filter_chain.specs.declared.host.Host.{Host}
 use Rattle.filter_chain.specs.HostViews.{Answers, host_view}
-use Rattle.filter_chain.specs.HostedConns.{IsHostedConn}
-
--- the connection of each number
-unfoldable pub hosted_at : HostedConns → ℕ → Option HostedConn
-hosted_at seats n = get nat_cmp seats.by_number n
+use Rattle.filter_chain.specs.Hosted.{conn_at, IsHosted}
 
 -- It is there exactly where the model has it, and as the model has it.
-abbrev pub IsHostedConnIf : List Program → Device → NextNames → Option HostedConn → Option Connection → Type 0
-IsHostedConnIf chain d next None None = Unit {0}
-IsHostedConnIf chain d next None (Some c) = ⊥
-IsHostedConnIf chain d next (Some s) None = ⊥
-IsHostedConnIf chain d next (Some s) (Some c) = IsHostedConn chain d next s c
+abbrev pub IsHostedIf : {R : Type 0} {g : Ghosts R Bucket} → List Program → PoolTree Payload → Brigades R g → Device → Option Conn → Option Connection → Type 0
+IsHostedIf chain tree store d None None = Unit {0}
+IsHostedIf chain tree store d None (Some c) = ⊥
+IsHostedIf chain tree store d (Some conn) None = ⊥
+IsHostedIf chain tree store d (Some conn) (Some c) = IsHosted chain tree store d conn c
 
 -- what a step answers, and what an event does that answers nothing else
 
@@ -66,16 +66,22 @@ abbrev pub close_answer : Result (Vec (Vec (ℕ × Payload))) Refusal → Answer
 close_answer (Ok labels) = Labels (labels_handed labels.items)
 close_answer (Err r) = Refused r
 
--- Connections stand for a world that is reached from the empty one by some events. last: the number that was given last. pools, names, files: the
--- names that are given next; a device may have used up numbers of files that no opening told.
-pub record HoldsWorld (budget : ℕ) (chain : List Program) (d : Device) (next : NextNames) (last : ℕ) (seats : ℕ → Option HostedConn) (w : World) : Type 0 where
+-- Connections on one tree of pools and in one store of brigades stand for a world that is reached from the empty one by some events. last: the
+-- number that was given last. pools: the tree is the world's. names, files: the names that are given next; a device may have used up numbers
+-- of files that no opening told. house, open_files: the brigades stand on the pools of the tree, and files that these refer to are open. none: no
+-- brigade has the name 0. apart: no brigade is held by two connections.
+pub record HoldsWorld {R : Type 0} {g : Ghosts R Bucket} (budget : ℕ) (chain : List Program) (d : Device) (tree : PoolTree Payload) (store : Brigades R g) (last : ℕ) (at : ℕ → Option Conn) (w : World) : Type 0 where
   pub chained : IsChain chain
   pub reached : IsReached budget chain w
   pub last_is : w.last ≡ last
-  pub pools : w.common.pools ≡ next.pool
-  pub names : w.common.next ≡ next.name
+  pub pools : map_of tree ≡ tree_of w
+  pub names : w.common.next ≡ next_name store
   pub files : w.common.file ≤ d.next
-  pub conns : (k : ℕ) → IsHostedConnIf chain d next (seats k) (w.conns k)
+  pub house : IsHouse store (map_of tree)
+  pub open_files : AreOpen (references store) d
+  pub none : lists store 0 ≡ None
+  pub conns : (k : ℕ) → IsHostedIf chain tree store d (at k) (w.conns k)
+  pub apart : (j k n : ℕ) (a b : Conn) → at j ≡ Some a → at k ≡ Some b → j ≢ k → 0 < n → Holds a n → Holds b n → ⊥
 
 -- the chain and the budget of a host, and its files
 
@@ -90,7 +96,7 @@ files_of host = host.files
 
 -- The host, whose files are this device, stands for this world.
 unfoldable pub IsHosting : {F : Type 0} → Device → Host F → World → Type 0
-IsHosting d host w = HoldsWorld (budget_of host) (chain_of host) d host.next host.last (hosted_at host.seats) w
+IsHosting d host w = HoldsWorld (budget_of host) (chain_of host) d host.tree host.store host.last (conn_at host.conns) w
 
 -- An event of the connection of this number was answered. By devices d and e, the host stands for what it leaves, on the same chain, with the same budget.
 pub record Happens {F : Type 0} (d e : Device) (old new : Host F) (number : ℕ) (what : Event) (answer : Answer) (w : World) : Type 0 where

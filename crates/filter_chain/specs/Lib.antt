@@ -1,6 +1,5 @@
 pub mod Spared
-pub mod PrintedParts
-pub mod HostedConns
+pub mod Hosted
 pub mod HostViews
 pub mod Hosting
 pub mod Safe

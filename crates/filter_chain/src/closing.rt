@@ -18,14 +18,14 @@ impl<F: Files + Drop> Host<F> {
         requires { (w : World) × IsHosting (F.device (files_of self.old)) self.old w }
         ensures event { (w : World) → IsHosting (F.device (files_of self.old)) self.old w → Happens (F.device (files_of self.old)) (F.device (files_of self.new)) self.old self.new number Close (close_answer result) w }
     {
-        let Some(seat) = self.seats.by_number.get_mut(&number) else {
+        let Some(conn) = self.conns.by_number.get_mut(&number) else {
             return Err(Refusal::NoSuchConn);
         };
-        let Ok(()) = seat.close(&mut self.files, self.next) else {
+        let Ok(()) = conn.close(&mut self.tree, &mut self.store, &mut self.files) else {
             return Err(Refusal::NoMemory);
         };
-        match self.seats.take(number) {
-            Some(seat) => Ok(seat.conn.into_labels()),
+        match self.conns.take(number) {
+            Some(conn) => Ok(conn.into_labels()),
             None => unreachable!(),
         }
     }

@@ -18,9 +18,9 @@ impl<F: Files + Drop> Host<F> {
         requires { (w : World) × IsHosting (F.device (files_of self.old)) self.old w }
         ensures event { (w : World) → IsHosting (F.device (files_of self.old)) self.old w → Happens (F.device (files_of self.old)) (F.device (files_of self.new)) self.old self.new number (OpenFile name.now) (file_answer result) w }
     {
-        match self.seats.by_number.get_mut(&number) {
+        match self.conns.by_number.get_mut(&number) {
             None => Err(Refusal::NoSuchConn),
-            Some(seat) => seat.open_file(&mut self.files, &mut self.next, name),
+            Some(conn) => conn.open_file(&mut self.tree, &mut self.store, &mut self.files, name),
         }
     }
 }

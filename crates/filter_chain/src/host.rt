@@ -1,27 +1,30 @@
 //! The host.
 
-ghost use Rattle.std.specs.Prelude.{◌≡◌, ◌<◌};
+ghost use Rattle.std.specs.Prelude.{◌≡◌, ◌<◌, IfOk};
 ghost use Rattle.run_model.specs.Chains.{IsChain};
 ghost use Rattle.run_model.specs.Worlds.{empty_world};
 
-use crate::hosted_conns::HostedConns;
+use crate::conns::Conns;
 use crate::limits::Limits;
-use crate::next::NextNames;
 use crate::spare::Spare;
+use brigade_ops::{Brigades, PlainRings};
 use bucket_kinds::Files;
 use life_check::CheckedChain;
-use run_model::Module;
-use std::alloc::Global;
+use pool_tree::PoolTree;
+use run_model::{Bucket, Module, Payload};
+use std::alloc::{AllocError, Global};
 
-/// Connections by number, each with the same chain of filters, and the files that they read.
+/// Connections by number, each with the same chain of filters. They share one tree of pools, one store of brigades, and the files that
+/// they read.
 #[derive(Drop)]
 pub struct Host<F: Files> {
     pub(crate) alloc: Global,
     pub(crate) modules: Vec<Module>,
     pub(crate) budget: u64,
-    pub(crate) seats: HostedConns,
+    pub(crate) conns: Conns,
     pub(crate) last: u64,
-    pub(crate) next: NextNames,
+    pub(crate) tree: PoolTree<Payload>,
+    pub(crate) store: Brigades<PlainRings<Bucket>>,
     pub(crate) files: F,
     pub(crate) spare: Spare,
 }
@@ -30,35 +33,50 @@ impl<F: Files + Drop> Host<F> {
     ghost use Rattle.filter_chain.specs.Hosting.{IsHosting, budget_of, chain_of, files_of};
     ghost use Rattle.filter_chain.specs.Safe.{IsSafe};
 
-    /// No connection, on a chain of modules. Each step is watched: a fault breaks its connection. It takes no memory.
-    pub fn watched(alloc: Global, files: F, modules: Vec<Module>, limits: Limits) -> Self
+    /// No connection, on a chain of modules. Each step is watched: a fault breaks its connection. Refused where there is no memory for the
+    /// root of the pools.
+    pub fn watched(
+        alloc: Global,
+        files: F,
+        modules: Vec<Module>,
+        limits: Limits,
+    ) -> Result<Self, AllocError>
         requires chain { IsChain modules.items }
         requires numbered { 0 < (F.device files).next }
-        ensures empty { IsHosting (F.device (files_of result)) result empty_world }
-        ensures chain { chain_of result ≡ modules.items }
-        ensures budget { budget_of result ≡ limits.budget }
-        ensures files { files_of result ≡ files }
+        ensures empty { IfOk result (λ host. IsHosting (F.device (files_of host)) host empty_world) }
+        ensures chain { IfOk result (λ host. chain_of host ≡ modules.items) }
+        ensures budget { IfOk result (λ host. budget_of host ≡ limits.budget) }
+        ensures files { IfOk result (λ host. files_of host ≡ files) }
     {
-        Host {
+        let Ok(tree) = PoolTree::new(alloc, 1) else {
+            return Err(AllocError);
+        };
+        Ok(Host {
             alloc,
             modules,
             budget: limits.budget,
-            seats: HostedConns::new(alloc),
+            conns: Conns::new(alloc),
             last: 0,
-            next: NextNames { pool: 2, name: 1 },
+            tree,
+            store: Brigades::new(alloc, 1),
             files,
             spare: Spare::new(alloc),
-        }
+        })
     }
 
-    /// No connection, on a chain that was checked: no call answers a fault. It takes no memory.
-    pub fn checked(alloc: Global, files: F, chain: CheckedChain, limits: Limits) -> Self
+    /// No connection, on a chain that was checked: no call answers a fault. Refused where there is no memory for the root of the pools.
+    pub fn checked(
+        alloc: Global,
+        files: F,
+        chain: CheckedChain,
+        limits: Limits,
+    ) -> Result<Self, AllocError>
         requires numbered { 0 < (F.device files).next }
-        ensures empty { IsHosting (F.device (files_of result)) result empty_world }
-        ensures chain { chain_of result ≡ chain }
-        ensures budget { budget_of result ≡ limits.budget }
-        ensures files { files_of result ≡ files }
-        ensures safe { IsSafe result }
+        ensures empty { IfOk result (λ host. IsHosting (F.device (files_of host)) host empty_world) }
+        ensures chain { IfOk result (λ host. chain_of host ≡ chain) }
+        ensures budget { IfOk result (λ host. budget_of host ≡ limits.budget) }
+        ensures files { IfOk result (λ host. files_of host ≡ files) }
+        ensures safe { IfOk result (λ host. IsSafe host) }
     {
         Host::watched(alloc, files, chain.into_modules(), limits)
     }

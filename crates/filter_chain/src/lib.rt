@@ -2,13 +2,11 @@
 #![tactic(auto)]
 
 mod closing;
+mod conns;
 mod filing;
 mod host;
-mod hosted_conn;
-mod hosted_conns;
 pub mod laws;
 mod limits;
-mod next;
 mod opening;
 mod pools;
 mod running;

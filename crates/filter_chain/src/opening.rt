@@ -4,21 +4,33 @@ ghost use Rattle.std.specs.Prelude.{◌≡◌, ◌+◌, ◌||◌};
 ghost use Rattle.run_model.specs.declared.event.Event.TheVariants.{Open};
 ghost use Rattle.run_model.specs.Steps.{is_spent};
 ghost use Rattle.run_model.specs.Worlds.{World};
+ghost use Rattle.pool_tree.specs.Tree.{map_of};
+ghost use Rattle.brigade_ops.specs.Store.{next_name};
 
 use crate::host::Host;
-use crate::hosted_conn::HostedConn;
-use crate::next::is_last;
 use bucket_kinds::Files;
+use module_run::Conn;
+use ring_run::asks::is_spent;
 use run_model::Refusal;
+
+/// Whether no connection can have a number behind this one.
+#[tactic(auto, unfolding(run_model::specs::Steps::is_spent))]
+fn is_last(number: u64) -> bool
+    ensures { result ≡ is_spent (number + 1) 1 }
+{
+    number >= u64::MAX - 1
+}
 
 impl<F: Files + Drop> Host<F> {
     ghost use Rattle.filter_chain.specs.Hosting.{IsHosting, Happens, open_answer, files_of};
 
     /// Whether a number or a name that a new connection takes is not left.
     fn lacks_names(&self) -> bool
-        ensures { result ≡ (is_spent (self.now.last + 1) 1 || (is_spent self.now.next.pool 1 || is_spent self.now.next.name 1)) }
+        ensures { result ≡ (is_spent (self.now.last + 1) 1 || (is_spent (map_of self.now.tree).next 1 || is_spent (next_name self.now.store) 1)) }
     {
-        is_last(self.last) || self.next.is_spent()
+        is_last(self.last)
+            || is_spent(self.tree.next_name(), 1)
+            || is_spent(self.store.next_name(), 1)
     }
 
     /// Opens a connection, and answers its number; the first is 1. The `open` handlers of its filters are to be stepped. Refused, nothing
@@ -32,15 +44,19 @@ impl<F: Files + Drop> Host<F> {
             return Err(Refusal::NamesSpent);
         }
         let number = self.last + 1;
-        let Ok(seat) = HostedConn::open(self.alloc, self.modules.as_slice(), self.next) else {
+        let Ok(()) = self.conns.reserve() else {
             return Err(Refusal::NoMemory);
         };
-        let next = seat.next();
-        let Ok(()) = self.seats.put(number, seat) else {
+        let Ok(conn) = Conn::open(
+            self.alloc,
+            self.modules.as_slice(),
+            &mut self.tree,
+            &mut self.store,
+        ) else {
             return Err(Refusal::NoMemory);
         };
+        self.conns.put(number, conn);
         self.last = number;
-        self.next = next;
         Ok(number)
     }
 }

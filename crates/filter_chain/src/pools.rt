@@ -7,22 +7,18 @@ ghost use Rattle.pool_tree.specs.Printed.{payload_text, printed};
 
 use crate::host::Host;
 use bucket_kinds::Files;
-use byte_text::{WriteFault, put_all};
+use byte_text::WriteFault;
 use std::io::Write;
 
 impl<F: Files + Drop> Host<F> {
     ghost use Rattle.filter_chain.specs.Hosting.{IsHosting, files_of};
 
-    /// Writes the text of the pools: a line for the root, and below it those of each connection, in the order of their numbers. Takes stack in
-    /// proportion to the depth of the pools.
+    /// Writes the text of the pools: a line for the root, and below it those of each connection, in the order in which they were opened. Takes
+    /// stack in proportion to the depth of the pools.
     pub fn print_pools<W: Write>(&self, out: &mut W) -> Result<(), WriteFault>
         requires { (w : World) × IsHosting (F.device (files_of self.now)) self.now w }
         ensures { (w : World) → IsHosting (F.device (files_of self.now)) self.now w → OnOk result (Appends (W.contents out.old) (W.contents out.new) (printed payload_text (tree_of w) 0 1)) }
     {
-        put_all(out, b"pool 1\n")?;
-        for seat in self.seats.by_number.values() {
-            seat.tree.put_pool(out, seat.conn.pool(), 1)?;
-        }
-        Ok(())
+        self.tree.print(out)
     }
 }

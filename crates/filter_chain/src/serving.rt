@@ -19,9 +19,9 @@ impl<F: Files + Drop> Host<F> {
         ensures event { (w : World) → IsHosting (F.device (files_of self.old)) self.old w → Happens (F.device (files_of self.old)) (F.device (files_of self.new)) self.old self.new number Begin (done_answer (refusal_of result)) w }
         ensures files { files_of self.new ≡ files_of self.old }
     {
-        match self.seats.by_number.get_mut(&number) {
+        match self.conns.by_number.get_mut(&number) {
             None => Err(Refusal::NoSuchConn),
-            Some(seat) => seat.begin(self.modules.as_slice(), &mut self.next),
+            Some(conn) => conn.begin(self.modules.as_slice(), &mut self.tree, &mut self.store),
         }
     }
 
@@ -32,9 +32,9 @@ impl<F: Files + Drop> Host<F> {
         ensures event { (w : World) → IsHosting (F.device (files_of self.old)) self.old w → Happens (F.device (files_of self.old)) (F.device (files_of self.new)) self.old self.new number (Bring pieces) (done_answer (refusal_of result)) w }
         ensures files { files_of self.new ≡ files_of self.old }
     {
-        match self.seats.by_number.get_mut(&number) {
+        match self.conns.by_number.get_mut(&number) {
             None => Err(Refusal::NoSuchConn),
-            Some(seat) => seat.bring(self.modules.as_slice(), &mut self.next, pieces),
+            Some(conn) => { conn.bring(self.modules.as_slice(), &mut self.store, pieces) }
         }
     }
 
@@ -43,9 +43,9 @@ impl<F: Files + Drop> Host<F> {
         requires { (w : World) × IsHosting (F.device (files_of self.old)) self.old w }
         ensures event { (w : World) → IsHosting (F.device (files_of self.old)) self.old w → Happens (F.device (files_of self.old)) (F.device (files_of self.new)) self.old self.new number End (done_answer (refusal_of result)) w }
     {
-        match self.seats.by_number.get_mut(&number) {
+        match self.conns.by_number.get_mut(&number) {
             None => Err(Refusal::NoSuchConn),
-            Some(seat) => seat.end_request(&mut self.files, &mut self.next),
+            Some(conn) => conn.end_request(&mut self.tree, &mut self.store, &mut self.files),
         }
     }
 }

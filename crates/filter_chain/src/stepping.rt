@@ -19,13 +19,14 @@ impl<F: Files + Drop> Host<F> {
         ensures event { (w : World) → IsHosting (F.device (files_of self.old)) self.old w → Happens (F.device (files_of self.old)) (F.device (files_of self.new)) self.old self.new number Step (step_answer result) w }
         ensures safe { IsSafe self.old → GoesWell result }
     {
-        match self.seats.by_number.get_mut(&number) {
+        match self.conns.by_number.get_mut(&number) {
             None => Err(Refusal::NoSuchConn),
-            Some(seat) => seat.step(
+            Some(conn) => conn.step(
                 self.modules.as_slice(),
                 self.budget,
+                &mut self.tree,
+                &mut self.store,
                 &mut self.files,
-                &mut self.next,
             ),
         }
     }

@@ -19,9 +19,9 @@ impl<F: Files + Drop> Host<F> {
         ensures lent { IfOk result (λ bytes. (w : World) → IsHosting (F.device (files_of self.now)) self.now w → output_in (w.conns number) ≡ Ok bytes.now) }
         ensures missing { IfErr result (λ why. (w : World) → IsHosting (F.device (files_of self.now)) self.now w → output_in (w.conns number) ≡ Err why) }
     {
-        match self.seats.get(number) {
+        match self.conns.get(number) {
             None => Err(Refusal::NoSuchConn),
-            Some(seat) => Ok(seat.output()),
+            Some(conn) => Ok(conn.output()),
         }
     }
 
@@ -32,10 +32,10 @@ impl<F: Files + Drop> Host<F> {
         ensures told { (w : World) → IsHosting (F.device (files_of self.old)) self.old w → refusal_of result ≡ refusal_of (output_in (w.conns number)) }
         ensures files { files_of self.new ≡ files_of self.old }
     {
-        match self.seats.by_number.get_mut(&number) {
+        match self.conns.by_number.get_mut(&number) {
             None => Err(Refusal::NoSuchConn),
-            Some(seat) => {
-                seat.clear_output();
+            Some(conn) => {
+                conn.clear_output();
                 Ok(())
             }
         }
@@ -48,9 +48,9 @@ impl<F: Files + Drop> Host<F> {
         ensures event { (w : World) → IsHosting (F.device (files_of self.old)) self.old w → Happens (F.device (files_of self.old)) (F.device (files_of self.new)) self.old self.new number TakeOutput (output_answer result) w }
         ensures files { files_of self.new ≡ files_of self.old }
     {
-        match self.seats.by_number.get_mut(&number) {
+        match self.conns.by_number.get_mut(&number) {
             None => Err(Refusal::NoSuchConn),
-            Some(seat) => Ok(seat.take_output(self.spare.take(self.alloc))),
+            Some(conn) => Ok(conn.take_output(self.spare.take(self.alloc))),
         }
     }
 
@@ -68,9 +68,9 @@ impl<F: Files + Drop> Host<F> {
         ensures told { IfOk result (λ labels. (w : World) → IsHosting (F.device (files_of self.now)) self.now w → Happens (F.device (files_of self.now)) (F.device (files_of self.now)) self.now self.now number TellLabels (Labels (labels_handed labels.now)) w) }
         ensures missing { IfErr result (λ why. (w : World) → IsHosting (F.device (files_of self.now)) self.now w → Happens (F.device (files_of self.now)) (F.device (files_of self.now)) self.now self.now number TellLabels (Refused why) w) }
     {
-        match self.seats.get(number) {
+        match self.conns.get(number) {
             None => Err(Refusal::NoSuchConn),
-            Some(seat) => Ok(seat.conn.labels()),
+            Some(conn) => Ok(conn.labels()),
         }
     }
 }

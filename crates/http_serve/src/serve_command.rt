@@ -191,7 +191,7 @@ where
     let limits = Limits {
         budget: u64::from(front.budget),
     };
-    let host = Host::checked(rt.alloc(), files, chain, limits);
+    let host = Host::checked(rt.alloc(), files, chain, limits)?;
     let Some(address) = address_of(front) else {
         return Err(cannot_listen(rt.alloc()));
     };

@@ -35,7 +35,7 @@ fn host(alloc: Global) -> Result<Host<MemFiles>, Fail>
     let text = Vec::from_slice(alloc, b"hello")?;
     files.add(b"page", text).ok().ok_or("no file")?;
     let limits = Limits { budget: 1000 };
-    Ok(Host::checked(alloc, files, chain(alloc)?, limits))
+    Ok(Host::checked(alloc, files, chain(alloc)?, limits)?)
 }
 
 /// Asks the port of a listener for a page, and sends no more.

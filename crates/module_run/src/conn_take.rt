@@ -28,6 +28,7 @@ impl Conn {
     pub fn clear_output(&mut self)
         ensures cleared { (ps : Pools Payload) (rings : ℕ → Option Items) (opened : ℕ → Option (List ℕ)) → let c = conn_of ps rings opened self.old in conn_of ps rings opened self.new ≡ record c { out = record c.out { bytes = [] } } }
         ensures stacked { (chain : List Program) (at : BucketId → Option ℕ) (rings : ℕ → Option Items) (pools : ℕ → Option ℕ) (next : ℕ) → StackedOver chain at rings pools next self.old → StackedOver chain at rings pools next self.new }
+        ensures filters { self.new.filters ≡ self.old.filters }
     {
         self.out.clear();
     }
@@ -39,6 +40,7 @@ impl Conn {
         ensures bytes { (ps : Pools Payload) (rings : ℕ → Option Items) (opened : ℕ → Option (List ℕ)) → result ≡ (conn_of ps rings opened self.old).out.bytes }
         ensures taken { (ps : Pools Payload) (rings : ℕ → Option Items) (opened : ℕ → Option (List ℕ)) → let c = conn_of ps rings opened self.old in conn_of ps rings opened self.new ≡ record c { out = record c.out { bytes = [] } } }
         ensures stacked { (chain : List Program) (at : BucketId → Option ℕ) (rings : ℕ → Option Items) (pools : ℕ → Option ℕ) (next : ℕ) → StackedOver chain at rings pools next self.old → StackedOver chain at rings pools next self.new }
+        ensures filters { self.new.filters ≡ self.old.filters }
     {
         mem::replace(&mut self.out, OutputBlock::over(room)).into_seq()
     }

@@ -14,8 +14,9 @@ use Rattle.run_model.specs.Worlds.{Answer, Done, Refused, Connected, Step, Outpu
 use Rattle.bucket_kinds.specs.Device.{Device, Untold, Holds}
 use Rattle.bucket_kinds.specs.MemDevice.{files_of, held_of}
 use Rattle.module_run.specs.Proceeding.{MayHold}
-use Rattle.filter_chain.specs.declared.hosted_conn.HostedConn.{HostedConn}
-use Rattle.filter_chain.specs.Hosting.{IsHostedConnIf, IsHosting, chain_of, file_answer, hosted_at, step_answer}
+use Rattle.module_run.specs.declared.conn.Conn.{Conn}
+use Rattle.filter_chain.specs.Hosted.{conn_at}
+use Rattle.filter_chain.specs.Hosting.{IsHostedIf, IsHosting, chain_of, file_answer, step_answer}
 use Rattle.filter_chain.specs.HostViews.{HostView}
 use Rattle.filter_chain.proofs.MayFail.{acts_kind, acts_unfailing, goes_kind}
 use Rattle.script_text.specs.declared.command.Command.{Command}
@@ -44,11 +45,11 @@ module _ (s : CodeSession) (v : Session) (hosted : IsHosted s v) where
   abbrev d : Device
   d = device s.host
 
-  opens_there : (o : Option HostedConn) (b : Option Connection) (c : Connection) (file : ℕ) (bytes : List ℕ) → IsHostedConnIf (chain_of s.host) d s.host.next o b → b ≡ Some c → c.opened file ≡ Some bytes → MayHold (d.numbered file) bytes
-  opens_there None None c file bytes seated is opened = absurd (cc)
-  opens_there None (Some b) c file bytes seated is opened = absurd seated
-  opens_there (Some seat) None c file bytes seated is opened = absurd seated
-  opens_there (Some seat) (Some b) c file bytes seated is opened = (let same : b ≡ c = cc in seated.opens file bytes (ap (λ (x : Connection). x.opened file) same ∙ opened))
+  opens_there : (o : Option Conn) (b : Option Connection) (c : Connection) (file : ℕ) (bytes : List ℕ) → IsHostedIf (chain_of s.host) s.host.tree s.host.store d o b → b ≡ Some c → c.opened file ≡ Some bytes → MayHold (d.numbered file) bytes
+  opens_there None None c file bytes hosted_as is opened = absurd (cc)
+  opens_there None (Some b) c file bytes hosted_as is opened = absurd hosted_as
+  opens_there (Some conn) None c file bytes hosted_as is opened = absurd hosted_as
+  opens_there (Some conn) (Some b) c file bytes hosted_as is opened = (let same : b ≡ c = cc in hosted_as.opens file bytes (ap (λ (x : Connection). x.opened file) same ∙ opened))
 
   pub faithful_of : IsFaithful v.host_view
   unfolding IsHosting
@@ -57,7 +58,7 @@ module _ (s : CodeSession) (v : Session) (hosted : IsHosted s v) where
     told = λ name q. told_of ((files_of s.host.files).named name) (ap (λ (x : Device). x.named name) hosted.device ∙ q);
     opened = λ k file c bytes there opened.
         ap (λ (x : Device). x.numbered file) (sym hosted.device)
-        ∙ holds_then ((files_of s.host.files).opened file) bytes (opens_there (hosted_at s.host.seats k) (v.host_view.world.conns k) c file bytes (hosted.hosts.conns k) there opened);
+        ∙ holds_then ((files_of s.host.files).opened file) bytes (opens_there (conn_at s.host.conns k) (v.host_view.world.conns k) c file bytes (hosted.hosts.conns k) there opened);
   }
 
 -- A refusal is told by no other answer.

@@ -25,7 +25,7 @@ impl Session {
         ensures { IfOk result (λ s. IsHosted s (record { chain = codes_of (map seen_part parts.items); budget = budget; is_checked = false; host_view = first_view })) }
     {
         let modules = modules_of(alloc, parts)?;
-        let host = Host::watched(alloc, MemFiles::new(alloc), modules, Limits { budget });
+        let host = Host::watched(alloc, MemFiles::new(alloc), modules, Limits { budget })?;
         Ok(Session { host })
     }
 
@@ -43,7 +43,7 @@ impl Session {
     {
         match accept_parts(alloc, parts)? {
             Ok(chain) => {
-                let host = Host::checked(alloc, MemFiles::new(alloc), chain, Limits { budget });
+                let host = Host::checked(alloc, MemFiles::new(alloc), chain, Limits { budget })?;
                 Ok(Ok(Session { host }))
             }
             Err(refused) => Ok(Err(refused)),

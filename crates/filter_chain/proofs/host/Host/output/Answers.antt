@@ -10,4 +10,4 @@ returns-in-None-clause-missing g c w hosts =
 
 pub returns-in-Some-clause-lent : goal.returns-in-Some-clause-lent
 returns-in-Some-clause-lent g c w hosts =
-    output_on (g.F.Files.device c.args.self.now.files) c.args.self.now c.args.number w hosts c.in-Some.seat.now c.output.result.now (sym c.get.ensures ∙ ap option_copied c.in-Some.is) c.output.ensures
+    output_on (g.F.Files.device c.args.self.now.files) c.args.self.now c.args.number w hosts c.in-Some.conn.now c.output.result.now (sym c.get.ensures ∙ ap option_copied c.in-Some.is) c.output.ensures

@@ -1,22 +1,40 @@
 -- By the empty world.
-use Rattle.std.proofs.Common.{◌≡◌, ℕ, Option, Some, None, refl, sym, subst, arith}
-use Rattle.run_model.specs.Worlds.{empty_world}
+use Rattle.std.proofs.Common.{◌≡◌, ℕ, Option, Some, None, [], ◌∷◌, refl, sym, ◌∙◌, ap, subst, arith}
+use Rattle.run_model.specs.declared.payload.Payload.{Payload}
+use Rattle.run_model.specs.Indexed.{upd}
+use Rattle.run_model.specs.Pools.{Pools, planted}
+use Rattle.run_model.specs.Worlds.{empty_world, tree_below, tree_of}
 use Rattle.model_laws.proofs.chains.Reached.{empty_is_reached}
-use Rattle.filter_chain.specs.declared.hosted_conn.HostedConn.{HostedConn}
-use Rattle.filter_chain.specs.Hosting.{IsHosting, IsHostedConnIf, hosted_at, chain_of, budget_of}
+use Rattle.brigade_ops.specs.House.{IsHouse}
+use Rattle.brigade_ops.proofs.Housed.{house_begins}
+use Rattle.brigade_ops.specs.Store.{lists, pool_of, references}
+use Rattle.module_run.specs.declared.conn.Conn.{Conn}
+use Rattle.filter_chain.specs.Hosted.{conn_at}
+use Rattle.filter_chain.specs.Hosting.{IsHosting, IsHostedIf, chain_of, budget_of}
 use Rattle.filter_chain.proofs.host.Host.watched.Goals as goal
+
+first_tree : planted 1 ≡ tree_of empty_world
+unfolding planted tree_below
+first_tree = refl
 
 pub returns-clause-empty : goal.returns-clause-empty
 unfolding IsHosting chain_of budget_of
-returns-clause-empty g c = record {
-  chained = c.requires.chain;
-  reached = empty_is_reached c.args.limits.budget c.args.modules.items;
-  last_is = refl;
-  pools = refl;
-  names = refl;
-  files = (let lt = c.requires.numbered in omega (arith, lt));
-  conns = λ k. subst (λ (o : Option HostedConn). IsHostedConnIf c.args.modules.items (g.F.Files.device c.args.files) (record { pool = 2; name = 1 }) o None) (sym (c.new.ensures k)) tt;
-}
+returns-clause-empty g c =
+    let store = c.new-3.result in
+    let root = c.in-Ok.ensures.ok in
+    record {
+      chained = c.requires.chain;
+      reached = empty_is_reached c.args.limits.budget c.args.modules.items;
+      last_is = refl;
+      pools = root ∙ first_tree;
+      names = sym c.new-3.ensures.next;
+      files = (let lt = c.requires.numbered in omega (arith, lt));
+      house = subst (IsHouse store) (sym root) (house_begins (lists store) (pool_of store) (references store) 1 c.new-3.ensures.loose c.new-3.ensures.unreferred);
+      open_files = λ file more. absurd (omega (arith, more, c.new-3.ensures.unreferred file));
+      none = c.new-3.ensures.empty 0;
+      conns = λ k. subst (λ (o : Option Conn). IsHostedIf c.args.modules.items c.in-Ok.tree store (g.F.Files.device c.args.files) o None) (sym (c.new-2.ensures k)) tt;
+      apart = λ j k n a b at. absurd (let none : None ≡ Some a = sym (c.new-2.ensures j) ∙ at in cc);
+    }
 
 pub returns-clause-chain : goal.returns-clause-chain
 unfolding chain_of
