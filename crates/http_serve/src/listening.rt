@@ -3,7 +3,7 @@
 ghost use Rattle.http_front.specs.Driven.{IsAlive};
 
 use crate::head_reader::{Deadline, HeadReader, ReplyWriter};
-use crate::request_log::{RequestLog, tell_refused};
+use crate::request_log::{RequestLog, tell_refused, tell_unready};
 use crate::system_clock::SystemClock;
 use crate::unclosed::UnclosedConns;
 use byte_streams::{CountedSource, READS, StdSink, StdSource};
@@ -20,6 +20,8 @@ use std::time::{Duration, Instant};
 pub struct ServeSettings {
     /// How many are served; none: as many as come until the program is stopped.
     pub conns: Option<u32>,
+    /// How many are served at once.
+    pub at_once: usize,
     /// How long a head may take, and a write.
     pub patience: Duration,
     /// Whether each is told on the standard error.
@@ -106,7 +108,7 @@ fn serve_taken<R: Clock + Eprint + AllocGlobal, F: Files + Drop>(
     };
     if let Err(error) = set_up(stream, manner.patience) {
         if manner.logs {
-            log.tell_unready(&error);
+            tell_unready(rt, peer, number, &error);
         }
         return None;
     }

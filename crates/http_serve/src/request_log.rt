@@ -48,6 +48,36 @@ pub fn tell_refused<R: Clock + Eprint + AllocGlobal>(rt: &R, why: &io::Error) {
     put_line(rt, format!(in rt.alloc(); "{at} cannot accept: {why}\n"));
 }
 
+/// Tells that a connection was taken and could not be set up.
+pub fn tell_unready<R: Clock + Eprint + AllocGlobal>(
+    rt: &R,
+    peer: SocketAddr,
+    number: u64,
+    why: &io::Error,
+) {
+    let at = Moment::now(rt);
+    let line = format!(in rt.alloc(); "{at} {peer} connection {number}: cannot be set up: {why}\n");
+    put_line(rt, line);
+}
+
+/// How a connection ended before its end.
+struct End {
+    kind: FrontKind,
+    is_late: bool,
+    is_idle: bool,
+}
+
+impl fmt::Display for End {
+    fn fmt<W: fmt::Write>(&self, f: &mut fmt::Formatter<W>) -> fmt::Result {
+        match self.kind {
+            FrontKind::Read if self.is_idle => f.write_str("idle too long"),
+            FrontKind::Read if self.is_late => f.write_str("no whole head in time"),
+            FrontKind::Write if self.is_late => f.write_str("the response was not taken in time"),
+            kind => write!(f, "{kind}"),
+        }
+    }
+}
+
 /// Tells the requests of a connection on the standard error.
 #[derive(Drop)]
 pub struct RequestLog<'a, R: Clock + Eprint + AllocGlobal> {
@@ -115,25 +145,15 @@ impl<R: Clock + Eprint + AllocGlobal> RequestLog<'_, R> {
                 let requests = served.requests;
                 format!(in alloc; "{at} {peer} connection {number}: requests {requests}\n")
             }
-            Err(fault) if fault.kind == FrontKind::Read && self.deadline.was_idle() => {
-                format!(in alloc; "{at} {peer} connection {number}: idle too long\n")
-            }
             Err(fault) => {
-                let kind = fault.kind;
-                format!(in alloc; "{at} {peer} connection {number}: {kind}\n")
+                let why = End {
+                    kind: fault.kind,
+                    is_late: self.deadline.was_late(),
+                    is_idle: self.deadline.was_idle(),
+                };
+                format!(in alloc; "{at} {peer} connection {number}: {why}\n")
             }
         };
         put_line(self.runtime, line);
-    }
-
-    /// Tells that a connection was taken and could not be set up.
-    pub fn tell_unready(&self, why: &io::Error) {
-        let at = Moment::now(self.runtime);
-        let peer = self.peer;
-        let number = self.number;
-        put_line(
-            self.runtime,
-            format!(in self.runtime.alloc(); "{at} {peer} connection {number}: cannot be set up: {why}\n"),
-        );
     }
 }

@@ -1,8 +1,10 @@
 //! The command `serve`: a chain of filters behind a port.
 
 ghost use Rattle.std.specs.Prelude.{IfOk, ◌≤◌, vec_len};
+ghost use Rattle.filter_chain.specs.Safe.{IsSafe};
 ghost use Rattle.http_front.specs.Driven.{IsAlive};
 
+use crate::event_loop::serve_turns;
 use crate::listening::{ServeSettings, serve_all};
 use bucket_kinds::DiskFiles;
 use byte_streams::READ_BYTES;
@@ -30,6 +32,8 @@ pub struct ServeOptions<'a> {
     pub port: u16,
     /// How many connections are served; none: as many as come until the program is stopped.
     pub conns: Option<u32>,
+    /// How many connections are served at once.
+    pub at_once: u32,
     /// How many instructions a call of the chain may take.
     pub budget: u32,
     /// How many seconds a head may take, and a write.
@@ -178,12 +182,13 @@ fn cannot_listen(alloc: Global) -> StartError {
     told(alloc, format!(in alloc; "cannot listen\n"))
 }
 
-/// Reads and checks the chain, reads the site, and listens.
+/// Reads and checks the chain, reads the site, and listens: what listens has a host of a chain that is accepted, which never faults.
 fn get_ready<R>(rt: &R, front: &ServeOptions<'_>) -> Result<Server<R>, StartError>
 where
     R: Runtime + AllocGlobal + Net<Listener = TcpListener, Stream = TcpStream>,
     R::File: FileExt,
-    ensures { IfOk result (λ r. IsAlive ⟦<DiskFiles<R> as Files>⟧.device r.host) }
+    ensures alive { IfOk result (λ r. IsAlive ⟦<DiskFiles<R> as Files>⟧.device r.host) }
+    ensures safe { IfOk result (λ r. IsSafe r.host) }
 {
     let chain = read_chain(rt, front.modules.as_slice())?;
     let site = read_site(rt, front.site)?;
@@ -218,6 +223,12 @@ fn tell_stop<R: Print + Eprint>(rt: &R, stop: StartError) -> ExitCode {
     ExitCode::FAILURE
 }
 
+/// The system does not tell what is ready.
+fn tell_events(rt: &impl Eprint) -> ExitCode {
+    let _ = rt.eprintln("cannot wait for connections");
+    ExitCode::FAILURE
+}
+
 /// Serves connections behind a port. What it tells goes to the standard output, and what it logs to the standard error. It fails where the chain
 /// or the site is none, where the port is not to be had, and where the standard output fails; a connection that fails ends alone.
 pub fn serve_front<R>(rt: &R, front: &ServeOptions<'_>) -> ExitCode
@@ -225,7 +236,7 @@ where
     R: Runtime + AllocGlobal + Net<Listener = TcpListener, Stream = TcpStream>,
     R::File: FileExt,
 {
-    let mut ready = match get_ready(rt, front) {
+    let ready = match get_ready(rt, front) {
         Ok(ready) => ready,
         Err(why) => return tell_stop(rt, why),
     };
@@ -236,9 +247,26 @@ where
     }
     let manner = ServeSettings {
         conns: front.conns,
+        at_once: usize::try_from(front.at_once).unwrap_or(1),
         patience: Duration::from_secs(u64::from(front.timeout)),
         logs: front.logs,
     };
-    serve_all(rt, &ready.listener, &ready.site, &mut ready.host, manner);
-    ExitCode::SUCCESS
+    let Server {
+        mut host,
+        site,
+        listener,
+        address: _,
+    } = ready;
+    if manner.at_once <= 1 {
+        serve_all(rt, &listener, &site, &mut host, manner);
+        return ExitCode::SUCCESS;
+    }
+    if listener.set_nonblocking(true).is_err() {
+        return tell_events(rt);
+    }
+    let door = mio::net::TcpListener::from_std(listener);
+    match serve_turns(rt, door, &site, &mut host, manner) {
+        Ok(()) => ExitCode::SUCCESS,
+        Err(_) => tell_events(rt),
+    }
 }
