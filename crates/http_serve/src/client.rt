@@ -4,7 +4,7 @@ ghost use Rattle.std.specs.Prelude.{◌<◌, length};
 ghost use Rattle.http_front.specs.Driven.{IsAlive};
 
 use crate::head_reader::Deadline;
-use crate::request_log::RequestLog;
+use crate::request_log::{RequestLog, told_by};
 use crate::socket::Socket;
 use crate::system_clock::SystemClock;
 use byte_streams::{StdSink, StdSource};
@@ -199,7 +199,7 @@ impl Client {
         };
         let mut clock = SystemClock {
             runtime: shared.runtime,
-            log: if shared.logs { Some(&log) } else { None },
+            log: told_by(shared.logs, &log),
         };
         let turned = self.conn.turn(
             shared.runtime.alloc(),

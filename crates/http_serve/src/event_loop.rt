@@ -208,16 +208,12 @@ fn welcome<R: Clock + Eprint + AllocGlobal, F: Files + Drop>(
         return Err(io::Error::from(ErrorKind::OutOfMemory));
     };
     let client = Client::new(shared, stream, peer, host_number, number, now);
-    match hall.clients.insert(client) {
-        Ok(key) => {
-            hall.wake(key, true, true);
-            Ok(())
-        }
-        Err(_) => {
-            let _ = close_turns(host, host_number);
-            Err(io::Error::from(ErrorKind::OutOfMemory))
-        }
-    }
+    let Ok(key) = hall.clients.insert(client) else {
+        let _ = close_turns(host, host_number);
+        return Err(io::Error::from(ErrorKind::OutOfMemory));
+    };
+    hall.wake(key, true, true);
+    Ok(())
 }
 
 /// Takes those that wait, as many as there are places.

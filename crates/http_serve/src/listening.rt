@@ -3,7 +3,7 @@
 ghost use Rattle.http_front.specs.Driven.{IsAlive};
 
 use crate::head_reader::{Deadline, HeadReader, ReplyWriter};
-use crate::request_log::{RequestLog, tell_refused, tell_unready};
+use crate::request_log::{RequestLog, tell_refused, tell_unready, told_by};
 use crate::system_clock::SystemClock;
 use crate::unclosed::UnclosedConns;
 use byte_streams::{CountedSource, READS, StdSink, StdSource};
@@ -112,7 +112,7 @@ fn serve_taken<R: Clock + Eprint + AllocGlobal, F: Files + Drop>(
         }
         return None;
     }
-    let told = if manner.logs { Some(&log) } else { None };
+    let told = told_by(manner.logs, &log);
     let outcome = serve_stream(rt, stream, site, host, &deadline, told);
     if manner.logs {
         log.tell_end(outcome);

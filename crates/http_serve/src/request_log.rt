@@ -11,6 +11,7 @@ use std::time::SystemTime;
 use std::{fmt, io};
 
 /// The time in the form of RFC 3339, to the millisecond; a dash where the clock cannot be asked.
+#[derive(Drop)]
 struct Moment(Option<Timestamp>);
 
 impl Moment {
@@ -61,6 +62,7 @@ pub fn tell_unready<R: Clock + Eprint + AllocGlobal>(
 }
 
 /// How a connection ended before its end.
+#[derive(Drop)]
 struct End {
     kind: FrontKind,
     is_late: bool,
@@ -89,6 +91,14 @@ pub struct RequestLog<'a, R: Clock + Eprint + AllocGlobal> {
     pub number: u64,
 }
 
+/// The log, where requests are told.
+pub fn told_by<'a, R: Clock + Eprint + AllocGlobal>(
+    logs: bool,
+    log: &'a RequestLog<'a, R>,
+) -> Option<&'a RequestLog<'a, R>> {
+    if logs { Some(log) } else { None }
+}
+
 /// What may be done about a failure.
 fn hint(failure: Failure) -> &'static str {
     match failure {
@@ -98,6 +108,7 @@ fn hint(failure: Failure) -> &'static str {
 }
 
 /// Why a status is 500, as it stands at the end of a line.
+#[derive(Drop)]
 struct Reason(Option<Failure>);
 
 impl fmt::Display for Reason {

@@ -1,25 +1,25 @@
 //! The command `serve`: a chain of filters behind a port.
 
-ghost use Rattle.std.specs.Prelude.{IfOk, ◌≤◌, vec_len};
+ghost use Rattle.std.specs.Prelude.{IfOk};
 ghost use Rattle.filter_chain.specs.Safe.{IsSafe};
 ghost use Rattle.http_front.specs.Driven.{IsAlive};
 
 use crate::event_loop::serve_turns;
 use crate::listening::{ServeSettings, serve_all};
 use bucket_kinds::DiskFiles;
-use byte_streams::READ_BYTES;
+use byte_streams::{READ_BYTES, READS};
 use byte_text::put_all;
 use filter_chain::{CheckedChain, Files, Host, Limits};
 use http_message::{SITE_BYTES, Site, SiteRefusal, site_of};
 use module_tools::{CommandOutput, Loaded, NamedFile, PlayFault, load_part};
 use script_text::{Part, accept_parts, put_refused_module};
 use std::alloc::{AllocError, Global};
+use std::io::{self, Read};
 use std::net::{IpAddr, Net, SocketAddr, TcpListener, TcpStream};
 use std::os::unix::fs::FileExt;
 use std::process::ExitCode;
 use std::rt::{Files as FileSystem, Runtime};
 use std::time::Duration;
-use std::io::{self, Read};
 
 /// What `serve` is asked for.
 #[derive(Drop)]
@@ -131,17 +131,18 @@ fn read_chain<R: FileSystem + AllocGlobal>(
 }
 
 /// The text of a site file. No more of it is read than a site file may have.
-fn read_site_text<R: FileSystem + AllocGlobal>(rt: &R, name: &str) -> Result<Vec<u8>, StartError>
-    ensures { IfOk result (λ text. vec_len text ≤ 1048576) }
-{
+fn read_site_text<R: FileSystem + AllocGlobal>(rt: &R, name: &str) -> Result<Vec<u8>, StartError> {
     let mut reader = NamedFile::new(rt, name);
     let mut text = Vec::new(rt.alloc());
     let mut buffer = [0; READ_BYTES];
-    while text.len() <= SITE_BYTES {
+    for _ in 0..READS {
+        if text.len() > SITE_BYTES {
+            break;
+        }
         match reader.read(&mut buffer) {
             Ok(0) => return Ok(text),
             Ok(count) => text.extend_from_slice(&buffer[..count])?,
-            Err(_) => return Err(cannot_read(rt.alloc(), name)),
+            Err(_) => break,
         }
     }
     Err(cannot_read(rt.alloc(), name))
@@ -151,6 +152,9 @@ fn read_site_text<R: FileSystem + AllocGlobal>(rt: &R, name: &str) -> Result<Vec
 fn read_site<R: FileSystem + AllocGlobal>(rt: &R, name: &str) -> Result<Site, StartError> {
     let alloc = rt.alloc();
     let text = read_site_text(rt, name)?;
+    if text.len() > SITE_BYTES {
+        return Err(cannot_read(alloc, name));
+    }
     match site_of(alloc, text.as_slice()) {
         Ok(site) => Ok(site),
         Err(SiteRefusal::Line(number)) => {
