@@ -265,9 +265,9 @@ def free_port():
 class Server:
     """A running `serve`, in a folder of its own."""
 
-    def __init__(self, program, folder, words, site='site', modules=('m',)):
+    def __init__(self, program, folder, words, site='site', modules=('m',), starter=None):
         self.port = free_port()
-        self.process = subprocess.Popen([program, 'serve', '--site', site, '--port', str(self.port)] + words + list(modules),
+        self.process = subprocess.Popen((starter or [program]) + ['serve', '--site', site, '--port', str(self.port)] + words + list(modules),
                                         cwd=folder, stdout=subprocess.PIPE, stderr=subprocess.PIPE)
         self.line = self.process.stdout.readline()
 
@@ -386,17 +386,16 @@ def check_starts(program, folder, told):
     write(folder, 'long', b'/a ' + b'x' * 1048573 + b'\n')
     os.mkdir(os.path.join(folder, 'folder'))
     os.mkfifo(os.path.join(folder, 'pipe'))
-    write(folder, 'to_folder', b'/a folder\n')
-    write(folder, 'to_pipe', b'/b m\n/a pipe\n')
     lines += [(['--site', 'long', '--port', '1', 'm'], b'cannot read long\n'), (['--site', 'folder', '--port', '1', 'm'], b'cannot read folder\n'),
-              (['--site', 'to_folder', '--port', '1', 'm'], b'cannot serve folder\n'), (['--site', 'to_pipe', '--port', '1', 'm'], b'cannot serve pipe\n')]
+              (['--site', '/dev/zero', '--port', '1', 'm'], b'cannot read /dev/zero\n'), (at + ['--listen', 'nowhere', 'm'], b'cannot listen\n'),
+              (at + ['--listen', '203.0.113.1', 'm'], b'cannot listen\n')]
     for words, line in lines:
         refused(program, folder, words, told, line, 1)
         count += 1
     with Server(program, folder, ['--forever']) as server:
         refused(program, folder, ['--site', 'site', '--port', str(server.port), 'm'], told, b'cannot listen\n', 1)
     for words in (['--site', 'site', 'm'], ['--port', '1', 'm'], at, ['--site', 'site', '--port', '0', 'm'], ['--site', 'site', '--port', '65536', 'm'],
-                  at + ['--timeout', '0', 'm'], at + ['--conns', '4294967296', 'm'], at + ['--budget', '-1', 'm'], at + ['--conns', 'x', 'm'], at + ['--conns', '2', '--forever', 'm'],
+                  at + ['--timeout', '0', 'm'], at + ['--at-once', '0', 'm'], at + ['--at-once', '4097', 'm'], at + ['--conns', '4294967296', 'm'], at + ['--budget', '-1', 'm'], at + ['--conns', 'x', 'm'], at + ['--conns', '2', '--forever', 'm'],
                   at + ['m'] * 17):
         refused(program, folder, words, told, b'', 2)
         count += 1
@@ -433,6 +432,155 @@ def check_connections(program, folder, told):
         expect(told, 'no file', server.ask(request(b'/missing') + GET), Oracle(FILES).answers(request(b'/missing') + GET))
         check_clients(server, good, told)
     return 12
+
+
+def check_odd_files(program, folder, told, words):
+    """Paths that lead to no regular file are answered 404, and nobody waits for them."""
+    os.makedirs(os.path.join(folder, 'some', 'folder'), exist_ok=True)
+    for name in ('a pipe', 'turns to a pipe'):
+        if not os.path.exists(os.path.join(folder, name)):
+            os.mkfifo(os.path.join(folder, name))
+    os.remove(os.path.join(folder, 'turns to a pipe'))
+    write(folder, 'turns to a pipe', b'hi')
+    write(folder, 'odd', b'/folder some/folder\n/pipe a pipe\n/device /dev/zero\n/below m/x\n/long ' + b'n' * 300 + b'\n/a turns to a pipe\n')
+    count = 0
+    with Server(program, folder, ['--forever', '--timeout', '5'] + words, site='odd') as server:
+        for path in (b'/folder', b'/pipe', b'/device', b'/below', b'/long'):
+            expect(told, 'the path %r' % path, server.ask(request(path) * 2), Oracle({}).answers(request(path) * 2))
+            count += 1
+        expect(told, 'a file', server.ask(GET), Oracle(FILES).answers(GET))
+        os.remove(os.path.join(folder, 'turns to a pipe'))
+        os.mkfifo(os.path.join(folder, 'turns to a pipe'))
+        expect(told, 'a file that became a pipe', server.ask(GET), Oracle({}).answers(GET))
+    return count + 2
+
+
+def check_listen(program, folder, told):
+    """The address that is listened on."""
+    with Server(program, folder, ['--forever', '--listen', '0.0.0.0']) as server:
+        expect(told, 'the line', server.line, b'listening on 0.0.0.0:%d\n' % server.port)
+        expect(told, 'all addresses', server.ask(GET), Oracle(FILES).answers(GET))
+    return 2
+
+
+LOG = re.compile(rb'^\d{4}-\d\d-\d\dT\d\d:\d\d:\d\d(\.\d+)?Z 127\.0\.0\.1:\d+ connection (\d+): (.*)$')
+
+
+def check_log(program, folder, told, words):
+    """The lines of the log: whole, each with the time and the peer."""
+    with Server(program, folder, ['--conns', '3', '--timeout', '1', '--log'] + words) as server:
+        server.ask(GET)
+        server.ask(b'\0')
+        idle = server.connect()
+        rest_of(idle)
+        idle.close()
+        server.process.wait(PATIENCE)
+        lines = server.process.stderr.read().split(b'\n')
+    if lines[-1] != b'':
+        told('the log ends within a line: %r' % lines[-1])
+    found = [LOG.match(line) for line in lines[:-1]]
+    if not all(found):
+        told('lines of the log: %r' % lines)
+        return 1
+    due = [(b'1', rb'GET /a: 200 OK, 2 bytes, \d+ us'), (b'1', b'requests 1'), (b'2', rb'- -: 400 Bad Request, 0 bytes, \d+ us'), (b'2', b'requests 1'), (b'3', b'idle too long')]
+    if len(found) != len(due) or any(line[2] != number or not re.fullmatch(text, line[3]) for line, (number, text) in zip(found, due)):
+        told('the log: %r' % lines)
+    return 1
+
+
+def check_at_once(program, folder, told):
+    """Many clients by turns: nobody waits for one that is slow, silent, or takes nothing."""
+    good = Oracle(FILES).answers(GET)
+    with Server(program, folder, ['--forever', '--at-once', '64', '--timeout', '3']) as server:
+        silent = [server.connect() for _ in range(20)]
+        for number, link in enumerate(silent):
+            link.sendall(GET[:number])
+        greedy = [server.connect() for _ in range(10)]
+        for link in greedy:
+            link.setsockopt(socket.SOL_SOCKET, socket.SO_RCVBUF, 4096)
+            link.sendall(request(b'/l') * 50)
+        start = time.monotonic()
+        for _ in range(50):
+            expect(told, 'beside slow clients', server.ask(GET), good)
+        if time.monotonic() - start > 2:
+            told('50 clients beside slow ones took %.1f seconds' % (time.monotonic() - start))
+        for at in range(len(GET)):
+            link = server.connect()
+            link.sendall(GET[:at])
+            link.setsockopt(socket.SOL_SOCKET, socket.SO_LINGER, b'\x01\0\0\0\0\0\0\0')
+            link.close()
+        expect(told, 'behind resets at each byte', server.ask(GET), good)
+        for link in silent:
+            got = rest_of(link)
+            if got:
+                told('a silent client got %r' % got[:100])
+            link.close()
+        for link in greedy:
+            link.close()
+        links = [server.connect() for _ in range(100)]
+        for link in links:
+            link.sendall(GET)
+            link.shutdown(socket.SHUT_WR)
+        for link in links:
+            expect(told, 'more clients than places', blank(rest_of(link)), good)
+            link.close()
+    with Server(program, folder, ['--conns', '3', '--at-once', '2']) as server:
+        for number in range(3):
+            expect(told, 'one of three', server.ask(GET), good)
+        expect(told, 'the end of three', b'%d' % server.process.wait(PATIENCE), b'0')
+    return 8
+
+
+def check_interleaved(program, folder, told):
+    """All streams at once, in pieces: each gets what it gets alone."""
+    oracle = Oracle(FILES)
+    table = [(name, stream, oracle.answers(stream)) for name, stream in streams() if len(stream) < 100000]
+    with Server(program, folder, ['--forever', '--at-once', '256']) as server:
+        for first in range(0, len(table), 200):
+            part = table[first:first + 200]
+            links = [server.connect() for _ in part]
+            at = [0] * len(part)
+            left = set(range(len(part)))
+            while left:
+                for number in sorted(left):
+                    stream, size = part[number][1], 7 if len(part[number][1]) < 1000 else 700
+                    try:
+                        links[number].sendall(stream[at[number]:at[number] + size])
+                    except OSError:
+                        at[number] = len(stream)
+                    at[number] += size
+                    if at[number] >= len(stream):
+                        left.discard(number)
+                        try:
+                            links[number].shutdown(socket.SHUT_WR)
+                        except OSError:
+                            pass
+            for link, (name, stream, due) in zip(links, part):
+                got = blank(rest_of(link))
+                if got != due:
+                    told('%s, beside the others: %r, due is %r' % (name, got[:300], due[:300]))
+                link.close()
+    return len(table)
+
+
+def check_descriptors(program, folder, told):
+    """Where descriptors are used up, nobody is lost: who cannot be taken waits."""
+    good = Oracle(FILES).answers(GET)
+    words = ['sh', '-c', 'ulimit -n 24; exec "$0" "$@"', program]
+    with Server(program, folder, ['--forever', '--at-once', '64', '--timeout', '2'], starter=words) as server:
+        links = [server.connect() for _ in range(40)]
+        for link in links:
+            link.sendall(GET)
+            link.shutdown(socket.SHUT_WR)
+        answered = 0
+        for link in links:
+            got = blank(rest_of(link))
+            answered += got == good
+            link.close()
+        if answered < 20:
+            told('with few descriptors %d of 40 clients were answered' % answered)
+        expect(told, 'behind want of descriptors', server.ask(GET), good)
+    return 2
 
 
 def check_clients(server, good, told):
@@ -488,7 +636,13 @@ def check(program):
         lay_out(program, folder)
         with Server(program, folder, ['--forever']) as server:
             count = check_streams(server, told)
-        count += check_starts(program, folder, told) + check_connections(program, folder, told)
+        count += check_starts(program, folder, told) + check_connections(program, folder, told) + check_listen(program, folder, told)
+        for words in ([], ['--at-once', '8']):
+            count += check_odd_files(program, folder, told, words) + check_log(program, folder, told, words)
+        for number in ('8', '1000'):
+            with Server(program, folder, ['--forever', '--at-once', number]) as server:
+                count += check_streams(server, told)
+        count += check_at_once(program, folder, told) + check_interleaved(program, folder, told) + check_descriptors(program, folder, told)
     print('serve: %d played, %d not as they should be' % (count, len(faults)))
     return len(faults)
 

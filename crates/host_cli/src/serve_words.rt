@@ -52,6 +52,14 @@ pub fn serve_command<'a>(alloc: Global) -> Result<Command<'a>, AllocError> {
     )
     .value_parser(value_parser!(u32).range(1..))
     .default_value("30");
+    let at_once = number(
+        alloc,
+        "at-once",
+        "N",
+        "How many connections are served at once, by turns",
+    )
+    .value_parser(value_parser!(u32).range(1..=4096))
+    .default_value("1");
     let log = Arg::new(alloc, "log")
         .long("log")
         .action(ArgAction::SetTrue)
@@ -71,6 +79,7 @@ pub fn serve_command<'a>(alloc: Global) -> Result<Command<'a>, AllocError> {
         .arg(forever)?
         .arg(budget)?
         .arg(timeout)?
+        .arg(at_once)?
         .arg(log)?
         .arg(modules)
 }
@@ -92,6 +101,7 @@ pub fn front_of<'a>(alloc: Global, given: &ArgMatches<'a>) -> Result<ServeOption
             Some(conns)
         },
         budget: given.get_one::<u32>("budget").unwrap_or(1_000_000),
+        at_once: given.get_one::<u32>("at-once").unwrap_or(1),
         timeout: given.get_one::<u32>("timeout").unwrap_or(30),
         logs: given.get_flag("log"),
         modules,

@@ -12,3 +12,6 @@ pub mod BlameLaws
 pub mod Stays
 pub mod FeedRows
 pub mod Beside
+pub mod SharingLaws
+pub mod RestLaws
+pub mod PassLaws

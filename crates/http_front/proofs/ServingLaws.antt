@@ -27,7 +27,7 @@ heads_more turns t = flat_map-append (λ (x : Turn). print_request x.head) turns
 pub texts_more : (turns : List Turn) (t : Turn) → texts_of (turns ++ t ∷ []) ≡ texts_of turns ++ reply_text t.reply t.date
 texts_more turns t = flat_map-append (λ (x : Turn). reply_text x.reply x.date) turns (t ∷ []) ∙ ap (λ l. texts_of turns ++ l) (append-nil (reply_text t.reply t.date))
 
-stay_more : (turns : List Turn) (t : Turn) → AllStay turns → t.reply.closes ≡ false → AllStay (turns ++ t ∷ [])
+pub stay_more : (turns : List Turn) (t : Turn) → AllStay turns → t.reply.closes ≡ false → AllStay (turns ++ t ∷ [])
 stay_more [] t stay stays = (stays, tt)
 stay_more (x ∷ turns) t stay stays = (stay.0, stay_more turns t stay.1 stays)
 
@@ -54,7 +54,7 @@ module _ {H K : Type 0} (site : Site) (handles : H → Method → List ℕ → R
   abbrev pub Far : H → K → Option (List ℕ) → Option (List ℕ) → Option (List ℕ) → Option (List ℕ) → List ℕ → ℕ → H → K → Type 0
   Far = SoFar site handles tells
 
-  answers_more : (old : H) (before : K) (turns : List Turn) (mid : H) (then : K) (t : Turn) (new : H) (after : K)
+  pub answers_more : (old : H) (before : K) (turns : List Turn) (mid : H) (then : K) (t : Turn) (new : H) (after : K)
       → AnswersAll site handles tells old before turns mid then → AnswersRequest site handles tells mid then t new after
       → AnswersAll site handles tells old before (turns ++ t ∷ []) new after
   unfolding AnswersAll

@@ -1,5 +1,5 @@
 -- How a host of chains handles a request, by the devices of its files.
-use Rattle.std.specs.Prelude.{◌≡◌, ℕ, List, [], ◌∷◌, ◌⊎◌, Some}
+use Rattle.std.specs.Prelude.{◌≡◌, ◌≢◌, ℕ, List, [], ◌∷◌, ◌⊎◌, Some}
 use Rattle.module_code.specs.Program.{Program}
 use Rattle.run_model.specs.declared.event.Event.{Event}
 use Rattle.run_model.specs.declared.event.Event.TheVariants as event
@@ -42,6 +42,17 @@ GoesBy budget chain number (x ∷ xs) old new = (mid : HostView) × GoesBy budge
 -- Nothing happened to the host but events of this connection, and it was neither opened nor closed.
 unfoldable pub OnlyEventsOf : {F : Type 0} → (F → Device) → Host F → ℕ → Host F → Type 0
 OnlyEventsOf device old number new = Refines device old new (λ b c s t. (events : List (Event × Answer)) × GoesBy b c number events s t)
+
+-- These events, each of the connection of its number, with their answers, lead from one scene to another, and none is of this connection: openings and
+-- closes of others among them. (An opening has the number 0.) The last stands first.
+unfoldable pub GoesByOthers : ℕ → List Program → ℕ → List (ℕ × Event × Answer) → HostView → HostView → Type 0
+GoesByOthers budget chain number [] old new = new ≡ old
+GoesByOthers budget chain number (x ∷ xs) old new =
+    (mid : HostView) × GoesByOthers budget chain number xs old mid × (number ≢ x.0) × Answers budget chain x.0 x.1 mid x.2 new
+
+-- Nothing happened to the host but events of other connections.
+unfoldable pub NoEventsOf : {F : Type 0} → (F → Device) → Host F → ℕ → Host F → Type 0
+NoEventsOf device old number new = Refines device old new (λ b c s t. (events : List (ℕ × Event × Answer)) × GoesByOthers b c number events s t)
 
 -- Events of this connection happened, and then one of a request was refused, for want of this. Or memory was lacking for the pieces of a brigade.
 pub record Lacks (budget : ℕ) (chain : List Program) (number : ℕ) (e : FrontKind) (old new : HostView) : Type 0 where

@@ -17,3 +17,6 @@ pub mod Connecting
 pub mod Serving
 pub mod Rows
 pub mod FeedRows
+pub mod Sharing
+pub mod Talking
+pub mod Apart

@@ -9,6 +9,10 @@ use Rattle.http_front.specs.declared.response.ResponseText.{ResponseText}
 abbrev pub text_of : ResponseText → List ℕ
 text_of t = t.head.items ++ t.body ++ t.tail.items
 
+-- a list begins with a front
+abbrev pub BeginsWith : List ℕ → List ℕ → Type 0
+BeginsWith all front = (more : List ℕ) × (all ≡ front ++ more)
+
 -- a front of a text was written that is not all of it
 abbrev pub AppendsFront : Option (List ℕ) → Option (List ℕ) → List ℕ → Type 0
 AppendsFront before after text = (n : ℕ) × (n < length text) × Appends before after (take n text)

@@ -1,13 +1,14 @@
 //! A connection of the host, from its opening to its close.
 
-ghost use Rattle.std.specs.Prelude.{◌≡◌, ℕ, List, IfOk, IfErr, IfSome};
+ghost use Rattle.byte_streams.specs.Counted.{reads_left, source_of};
+ghost use Rattle.std.specs.Prelude.{◌≡◌, ◌≢◌, ℕ, List, IfOk, IfErr, IfSome};
 ghost use Rattle.module_code.specs.Program.{Program};
 ghost use Rattle.run_model.specs.Worlds.{Connected, Refused};
 ghost use Rattle.run_model.specs.declared.event.Event.TheVariants.{Open};
 ghost use Rattle.filter_chain.specs.HostViews.{HostView, Answers};
-ghost use Rattle.http_front.specs.Connecting.{kind_result, ServingFails, IsClosed, ServesAll, Visits, kind_of, outcome_of};
+ghost use Rattle.http_front.specs.Connecting.{kind_result, ServingFails, IsClosed, IsOpened, ServesAll, Visits, kind_of, outcome_of};
 ghost use Rattle.http_front.specs.Serving.{BlamesSink, BlamesSource};
-ghost use Rattle.http_front.specs.Driven.{HasConn, IsAlive, Refines};
+ghost use Rattle.http_front.specs.Driven.{HasConn, IsAlive, NoEventsOf, Refines};
 
 use crate::fault::{FrontFault, FrontKind, Served};
 use crate::running::run_call;
@@ -35,6 +36,41 @@ fn close<F: Files + Drop>(host: &mut Host<F>, number: u64) -> Option<u64>
     match host.close(number) {
         Ok(_) => None,
         Err(_) => Some(number),
+    }
+}
+
+/// Opens a connection on the host for one that is served by turns, and runs its `open` handlers, however they end. Answers its number.
+///
+/// `NamesSpent`, `NoMemory`: none is opened. To every other connection nothing happens.
+pub fn open_turns<F: Files + Drop>(host: &mut Host<F>) -> Result<u64, FrontKind>
+    requires { IsAlive F.device host.old }
+    ensures still { IsAlive F.device host.new }
+    ensures ok { IfOk result (λ number. Refines F.device host.old host.new (λ (b : ℕ) (c : List Program) (s t : HostView). IsOpened b c number s t)) }
+    ensures others { (k : ℕ) → k ≢ 0 → IfOk result (λ number. k ≢ number) → (from : Host F) → NoEventsOf F.device from k host.old → NoEventsOf F.device from k host.new }
+{
+    match host.open_conn() {
+        Ok(number) => {
+            run_call(host, number);
+            Ok(number)
+        }
+        Err(refusal) => Err(kind_of(refusal)),
+    }
+}
+
+fn lacks_memory(refusal: Refusal) -> bool {
+    matches!(refusal, Refusal::NoMemory)
+}
+
+/// Closes a connection of the host that was served by turns. Answers whether it is there no more: there may be no memory for it now. To every
+/// other connection nothing happens.
+pub fn close_turns<F: Files + Drop>(host: &mut Host<F>, number: u64) -> bool
+    requires { IsAlive F.device host.old }
+    ensures still { IsAlive F.device host.new }
+    ensures others { (k : ℕ) → k ≢ number → (from : Host F) → NoEventsOf F.device from k host.old → NoEventsOf F.device from k host.new }
+{
+    match host.close(number) {
+        Ok(_) => true,
+        Err(refusal) => !lacks_memory(refusal),
     }
 }
 
@@ -73,9 +109,9 @@ pub fn serve<R: Source, W: Sink, F: Files + Drop, K: Clock>(
     requires alive { IsAlive F.device host.old }
     ensures still { IsAlive F.device host.new }
     ensures visits { Visits F.device K.tells site.now host.old result host.new }
-    ensures ok { IfOk result (λ s. IfSome (R.remaining reader.old.source) (λ stream. ServesAll F.device K.tells site.now host.old clock.old stream s.requests (W.contents sink.old) (W.contents sink.new) host.new clock.new)) }
-    ensures err { IfErr result (λ e. IfSome (R.remaining reader.old.source) (λ stream. ServingFails F.device K.tells site.now host.old clock.old stream e (R.remaining reader.new.source) (W.contents sink.old) (W.contents sink.new) host.new clock.new)) }
-    ensures source { BlamesSource (kind_result result) (R.failed reader.old.source) (R.failed reader.new.source) reader.new.left }
+    ensures ok { IfOk result (λ s. IfSome (R.remaining (source_of reader.old)) (λ stream. ServesAll F.device K.tells site.now host.old clock.old stream s.requests (W.contents sink.old) (W.contents sink.new) host.new clock.new)) }
+    ensures err { IfErr result (λ e. IfSome (R.remaining (source_of reader.old)) (λ stream. ServingFails F.device K.tells site.now host.old clock.old stream e (R.remaining (source_of reader.new)) (W.contents sink.old) (W.contents sink.new) host.new clock.new)) }
+    ensures source { BlamesSource (kind_result result) (R.failed (source_of reader.old)) (R.failed (source_of reader.new)) (reads_left reader.new) }
     ensures sink { BlamesSink (kind_result result) (W.failed sink.old) (W.failed sink.new) }
 {
     match host.open_conn() {

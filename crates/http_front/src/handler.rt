@@ -1,6 +1,6 @@
 //! What makes the content of a response.
 
-ghost use Rattle.std.specs.Prelude.{◌≡◌, ℕ, List, IfOk, IfErr};
+ghost use Rattle.std.specs.Prelude.{◌≡◌, ◌≢◌, ℕ, List, IfOk, IfErr};
 ghost use Rattle.http_front.specs.Outcomes.{IsLack};
 
 use crate::fault::FrontKind;
@@ -34,6 +34,9 @@ pub trait Handler {
     // In the first state a request for this file was left without an outcome, for want of this, and the second state is left.
     ghost lacks: { Self → ℕ → Method → List ℕ → FrontKind → Self → Type 0 };
 
+    // Nothing happened from the first state to the second but what belongs to other connections than that of this number.
+    ghost apart: { Self → ℕ → Self → Type 0 };
+
     // Nothing happened from the first state to the second but what belongs to the connection of this number.
     ghost beside: { Self → ℕ → Self → Type 0 };
 
@@ -54,4 +57,11 @@ pub trait Handler {
     /// Gives back the content of an outcome, which has gone out, so that its room is used again. It changes nothing.
     fn give_back(&mut self, body: Seq<u8>)
         ensures { self.new ≡ self.old };
+
+    ghost beside_self: { (s : Self) (number : ℕ) → beside s number s };
+
+    ghost apart_self: { (s : Self) (number : ℕ) → apart s number s };
+
+    // What belongs to one connection belongs to another than each other one.
+    ghost apart_on: { (from old new : Self) (number other : ℕ) → other ≢ number → apart from other old → beside old number new → apart from other new };
 }

@@ -6,6 +6,7 @@ mod connection;
 mod fault;
 mod feeding;
 mod handler;
+mod http_conn;
 mod laws;
 mod requests;
 mod response;
@@ -14,9 +15,10 @@ mod serving;
 mod steps;
 mod texts;
 
-pub use connection::serve;
+pub use connection::{close_turns, open_turns, serve};
 pub use fault::{FrontFault, FrontKind, Served};
 pub use handler::{Handler, RequestOutcome};
+pub use http_conn::{HttpConn, Next, Turned};
 pub use http_message::{
     Clock, Exchange, Failure, HeadLook, Method, Reply, Site, SiteFault, StatusCode, Version,
     closing, decoded, head_closes, look_at, middle, put_opening, refusal, status_closes,

@@ -217,9 +217,18 @@ fn request<F: Files + Drop>(
 }
 
 impl<F: Files + Drop> Handler for Host<F> {
-    ghost use Rattle.http_front.specs.Driven.{LacksFor, OnlyEventsOf, IsAlive, Handles};
+    ghost use Rattle.http_front.specs.Driven.{LacksFor, NoEventsOf, OnlyEventsOf, IsAlive, Handles};
+    ghost use Rattle.http_front.specs.Apart.{apart_beside, apart_same, own_same};
 
     ghost is_open = { λ host number. IsAlive F.device host };
+
+    ghost apart = { λ old number new. NoEventsOf F.device old number new };
+
+    ghost beside_self = { λ s number. own_same F.device number s };
+
+    ghost apart_self = { λ s number. apart_same F.device number s };
+
+    ghost apart_on = { λ from old new number other. apart_beside F.device number other from old new };
 
     ghost beside = { λ old number new. OnlyEventsOf F.device old number new };
 

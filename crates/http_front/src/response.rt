@@ -1,13 +1,16 @@
 //! The text of a response, in the parts that are written.
 
-ghost use Rattle.std.specs.Prelude.{◌≡◌, []};
-ghost use Rattle.http_front.specs.Texts.{IsPut, text_of};
+ghost use Rattle.std.specs.Prelude.{◌≡◌, ◌<◌, [], IfSome, length, drop};
+ghost use Rattle.http_front.specs.Texts.{BeginsWith, IsPut, text_of};
 
 use crate::handler::Handler;
 use byte_streams::{Sink, SinkFault};
 use filter_chain::Seq;
 use std::alloc::Global;
 use std::mem;
+
+/// How large a buffer is at most that a connection keeps while it has nothing to write.
+const KEPT_BYTES: usize = 4096;
 
 /// The text of a response, in parts that are written one after another. A body of more than 64 KiB lies as the handler gave it; with a
 /// smaller one the whole text lies in the first part. The buffers keep their room from one response to the next.
@@ -31,6 +34,16 @@ fn put_part<W: Sink>(sink: &mut W, part: &[u8]) -> Result<(), SinkFault>
     sink.write_all(part)
 }
 
+/// What stands behind a place; nothing, where the part ends before it.
+fn behind(part: &[u8], at: usize) -> &[u8]
+    ensures { result.now ≡ drop at part.now }
+{
+    if at >= part.len() {
+        return &[];
+    }
+    &part[at..]
+}
+
 impl ResponseText {
     /// No text. It takes no memory.
     pub fn new(alloc: Global) -> ResponseText
@@ -48,10 +61,46 @@ impl ResponseText {
         ensures head { self.new.head.items ≡ [] }
         ensures body { self.new.body ≡ [] }
         ensures tail { self.new.tail.items ≡ [] }
+        ensures none { text_of self.new ≡ [] }
     {
         self.head.clear();
         self.body = Seq::new(alloc);
         self.tail.clear();
+    }
+
+    /// Empties it, and keeps no large buffer.
+    pub(crate) fn release(&mut self, alloc: Global)
+        ensures { text_of self.new ≡ [] }
+    {
+        self.clear(alloc);
+        if self.head.capacity() > KEPT_BYTES {
+            self.head = Vec::new(alloc);
+        }
+    }
+
+    /// How many bytes it has, where that is a number.
+    pub(crate) fn size(&self) -> Option<usize>
+        ensures { IfSome result (λ n. n ≡ length (text_of self.now)) }
+    {
+        let opening = self.head.len().checked_add(self.body.as_slice().len())?;
+        opening.checked_add(self.tail.len())
+    }
+
+    /// What follows a place, as far as it lies in one part.
+    pub(crate) fn rest(&self, at: usize) -> &[u8]
+        ensures front { BeginsWith (drop at (text_of self.now)) result.now }
+        ensures some { at < length (text_of self.now) → ¬ (result.now ≡ []) }
+    {
+        let head = self.head.as_slice();
+        if at < head.len() {
+            return behind(head, at);
+        }
+        let in_body = at - head.len();
+        let body = self.body.as_slice();
+        if in_body < body.len() {
+            return behind(body, in_body);
+        }
+        behind(self.tail.as_slice(), in_body - body.len())
     }
 
     /// Writes the parts one after another. `Failed`, `NoMemory`: a front of the text is written, but not all of it.

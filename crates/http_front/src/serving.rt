@@ -1,5 +1,6 @@
 //! The requests of a connection, from a source, and the responses, into a sink.
 
+ghost use Rattle.byte_streams.specs.Counted.{reads_left, source_of};
 ghost use Rattle.std.specs.Prelude.{◌≡◌, ◌≢◌, ℕ, List, ◌+◌, ◌<◌, ◌≤◌, ◌^◌, Option, length, take, drop, [], true, false, Ok, IfOk, IfErr, OnOk, OnErr};
 ghost use Rattle.std.specs.Io.KnownBytes.{Appends, Consumes, IsAtEnd};
 ghost use Rattle.http_message.specs.Inboxes.{unread};
@@ -167,11 +168,11 @@ fn answer_all<W: Sink, H: Handler, K: Clock>(
 }
 
 /// How many times a source may still be read.
-fn reads_left<R>(reader: &CountedSource<R>) -> u32
-    ensures left { result ≡ reader.now.left }
+fn count_left<R>(reader: &CountedSource<R>) -> u32
+    ensures left { result ≡ reads_left reader.now }
     ensures few { result < 2 ^ 32 }
 {
-    reader.left
+    reader.left()
 }
 
 /// Reads once more, through a buffer, and answers whether the source is at its end.
@@ -181,10 +182,10 @@ fn read_more<R: Source>(
     inbox: &mut Inbox,
 ) -> Result<bool, FrontKind>
     requires { length buffer.old ≡ 8192 }
-    ensures ok { IfOk result (λ whole. AddsBytes (R.remaining reader.old.source) (R.remaining reader.new.source) (unread inbox.old) (unread inbox.new) 8192 whole) }
-    ensures err { IfErr result (λ e. Loses 8192 (R.remaining reader.old.source) (R.remaining reader.new.source) e) }
-    ensures blames { BlamesSource result (R.failed reader.old.source) (R.failed reader.new.source) reader.new.left }
-    ensures counted { OnOk result (reader.old.left ≡ reader.new.left + 1) }
+    ensures ok { IfOk result (λ whole. AddsBytes (R.remaining (source_of reader.old)) (R.remaining (source_of reader.new)) (unread inbox.old) (unread inbox.new) 8192 whole) }
+    ensures err { IfErr result (λ e. Loses 8192 (R.remaining (source_of reader.old)) (R.remaining (source_of reader.new)) e) }
+    ensures blames { BlamesSource result (R.failed (source_of reader.old)) (R.failed (source_of reader.new)) (reads_left reader.new) }
+    ensures counted { OnOk result (reads_left reader.old ≡ reads_left reader.new + 1) }
     ensures unwritten { result ≢ Err FrontKind.Write }
 {
     match reader.read(buffer) {
@@ -222,14 +223,14 @@ pub(crate) fn serve_open<R: Source, W: Sink, H: Handler, K: Clock>(
     requires { H.is_open handler.old number }
     ensures open { H.is_open handler.new number }
     ensures beside { (from : H) → H.beside from number handler.old → H.beside from number handler.new }
-    ensures ok { IfOk result (λ s. EndsWell site.now (λ h. H.handles h number) K.tells handler.old clock.old (R.remaining reader.old.source) (W.contents sink.old) (W.contents sink.new) s.requests handler.new clock.new) }
-    ensures err { IfErr result (λ e. FailsBy site.now (λ h. H.handles h number) K.tells (λ h. H.lacks h number) handler.old clock.old (R.remaining reader.old.source) (R.remaining reader.new.source) (W.contents sink.old) (W.contents sink.new) handler.new clock.new e) }
-    ensures source { BlamesSource result (R.failed reader.old.source) (R.failed reader.new.source) reader.new.left }
+    ensures ok { IfOk result (λ s. EndsWell site.now (λ h. H.handles h number) K.tells handler.old clock.old (R.remaining (source_of reader.old)) (W.contents sink.old) (W.contents sink.new) s.requests handler.new clock.new) }
+    ensures err { IfErr result (λ e. FailsBy site.now (λ h. H.handles h number) K.tells (λ h. H.lacks h number) handler.old clock.old (R.remaining (source_of reader.old)) (R.remaining (source_of reader.new)) (W.contents sink.old) (W.contents sink.new) handler.new clock.new e) }
+    ensures source { BlamesSource result (R.failed (source_of reader.old)) (R.failed (source_of reader.new)) (reads_left reader.new) }
     ensures sink { BlamesSink result (W.failed sink.old) (W.failed sink.new) }
 {
     let mut buffer = [0; READ_BYTES];
     let mut so_far = Progress::new(alloc);
-    let _reads = reads_left(reader);
+    let _reads = count_left(reader);
     loop {
         so_far.whole = read_more(reader, &mut buffer, &mut so_far.inbox)?;
         match answer_all(alloc, &mut so_far, sink, site, handler, number, clock)? {

@@ -5,6 +5,7 @@ ghost use Rattle.httparse.specs.Grammar.{RequestHead};
 ghost use Rattle.httparse.specs.Spans.{IsRequestAt, IsRequestWithin};
 ghost use Rattle.http_message.specs.Looking.{IsFound};
 ghost use Rattle.http_front.specs.Outcomes.{IsLack, LacksNamesAt};
+ghost use Rattle.http_front.specs.Sharing.{Passes};
 ghost use Rattle.http_front.specs.Texts.{text_of};
 ghost use Rattle.http_front.specs.Stepping.{DoesStep, LacksAnswer};
 ghost use Rattle.http_front.specs.Turns.{head_limit, fields_limit};
@@ -55,6 +56,7 @@ fn answer_head<H: Handler, K: Clock>(
     requires open { H.is_open handler.old number }
     ensures open { H.is_open handler.new number }
     ensures beside { (from : H) → H.beside from number handler.old → H.beside from number handler.new }
+    ensures clock { (from : K) → Passes K.tells from clock.old → Passes K.tells from clock.new }
     ensures ok { IfOk result (λ s. (whole : Bool) → DoesStep site.now (λ old. H.handles old number) K.tells handler.old clock.old seen.now whole s (text_of text.new) handler.new clock.new) }
     ensures err { IfErr result (λ e. IsLack e × (e ≡ FrontKind.NamesSpent → (h : RequestHead) → IsRequestAt seen.now spans.now head h
         → LacksNamesAt (λ old. H.lacks old number) site.now handler.old h handler.new)) }
@@ -87,6 +89,7 @@ fn step_within<H: Handler, K: Clock>(
     requires open { H.is_open handler.old number }
     ensures open { H.is_open handler.new number }
     ensures beside { (from : H) → H.beside from number handler.old → H.beside from number handler.new }
+    ensures clock { (from : K) → Passes K.tells from clock.old → Passes K.tells from clock.new }
     ensures ok { IfOk result (λ s. DoesStep site.now (λ old. H.handles old number) K.tells handler.old clock.old seen.now whole s (text_of text.new) handler.new clock.new) }
     ensures err { IfErr result (LacksAnswer site.now (λ old. H.lacks old number) handler.old seen.now whole handler.new) }
 {
@@ -149,6 +152,7 @@ pub fn take_step<H: Handler, K: Clock>(
     requires { H.is_open handler.old number }
     ensures open { H.is_open handler.new number }
     ensures beside { (from : H) → H.beside from number handler.old → H.beside from number handler.new }
+    ensures clock { (from : K) → Passes K.tells from clock.old → Passes K.tells from clock.new }
     ensures ok { IfOk result (λ s. DoesStep site.now (λ old. H.handles old number) K.tells handler.old clock.old seen.now whole s (text_of text.new) handler.new clock.new) }
     ensures err { IfErr result (LacksAnswer site.now (λ old. H.lacks old number) handler.old seen.now whole handler.new) }
 {

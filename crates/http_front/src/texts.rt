@@ -4,6 +4,7 @@ ghost use Rattle.std.specs.Prelude.{◌≡◌, ℕ, List, OnOk};
 ghost use Rattle.http_message.specs.Clocks.{IsExchange};
 ghost use Rattle.http_message.specs.Replying.{IsDateLine, reply_text};
 ghost use Rattle.http_front.specs.Stepping.{IsWritten};
+ghost use Rattle.http_front.specs.Sharing.{Passes};
 ghost use Rattle.http_front.specs.Texts.{text_of};
 
 use crate::response::ResponseText;
@@ -58,7 +59,8 @@ pub(crate) fn put_reply<K: Clock>(
     clock: &mut K,
     text: &mut ResponseText,
 ) -> Result<(), AllocError>
-    ensures { OnOk result (IsWritten K.tells clock.old method.now target.now reply.old (text_of text.new) clock.new) }
+    ensures written { OnOk result (IsWritten K.tells clock.old method.now target.now reply.old (text_of text.new) clock.new) }
+    ensures clock { (from : K) → Passes K.tells from clock.old → Passes K.tells from clock.new }
 {
     let moment = clock.now();
     let exchange = exchange_of(method, target, reply);

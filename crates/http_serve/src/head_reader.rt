@@ -11,14 +11,15 @@ use std::time::{Duration, Instant};
 /// How many milliseconds a read may wait longer than a head may take. So the stream is told a new timeout only where that differs by more.
 const SLACK_MILLIS: u64 = 20;
 
-/// When the next head is to be there: not said before it is first waited for. When bytes last came, whether any came of this head, whether its
-/// time passed without one, and what timeout the stream has.
+/// When the next head is to be there: not said before it is first waited for. When bytes last came, whether any came of this head, whether a response
+/// is being written, whether its time passed, and what timeout the stream has.
 #[derive(Drop)]
 pub struct Deadline {
     at: Cell<Option<Instant>>,
     came: Cell<Option<Instant>>,
     some: Cell<bool>,
-    idle: Cell<bool>,
+    writing: Cell<bool>,
+    late: Cell<bool>,
     set: Cell<Option<Duration>>,
     patience: Duration,
 }
@@ -30,7 +31,8 @@ impl Deadline {
             at: Cell::new(None),
             came: Cell::new(None),
             some: Cell::new(false),
-            idle: Cell::new(false),
+            writing: Cell::new(false),
+            late: Cell::new(false),
             set: Cell::new(None),
             patience,
         }
@@ -48,19 +50,41 @@ impl Deadline {
     }
 
     /// The next head gets a deadline of its own.
-    fn renew(&self) {
+    pub fn renew(&self) {
         self.at.set(None);
         self.some.set(false);
+        self.writing.set(false);
     }
 
-    /// The time of this head is over.
-    fn pass(&self) {
-        self.idle.set(!self.some.get());
+    /// Bytes of this head came.
+    pub fn note_bytes(&self, now: Option<Instant>) {
+        self.came.set(now);
+        self.some.set(true);
     }
 
-    /// Whether the time of a head passed of which no byte came.
+    /// A response is being written.
+    pub fn begin_write(&self) {
+        self.writing.set(true);
+    }
+
+    /// Whether a response is being written.
+    pub fn is_writing(&self) -> bool {
+        self.writing.get()
+    }
+
+    /// The time of this head, or of this response, is over.
+    pub fn pass(&self) {
+        self.late.set(true);
+    }
+
+    /// Whether the time of a head or a response was over.
+    pub fn was_late(&self) -> bool {
+        self.late.get()
+    }
+
+    /// Whether it was that of a head of which no byte came.
     pub fn was_idle(&self) -> bool {
-        self.idle.get()
+        self.late.get() && !self.some.get()
     }
 
     /// What is left of the time of this head, which begins when it is first waited for; `None` where it is over.
@@ -102,8 +126,8 @@ const TRIES: u32 = 1000;
 
 /// Reads a stream. A read that is interrupted is made again.
 fn read_again(mut stream: &TcpStream, buf: &mut [u8]) -> io::Result<usize>
-    ensures { IfOk result (λ n. n ≤ length buf.old) }
-    ensures { length buf.new ≡ length buf.old }
+    ensures count { IfOk result (λ n. n ≤ length buf.old) }
+    ensures len { length buf.new ≡ length buf.old }
 {
     for _ in 0..TRIES {
         match stream.read(buf) {
@@ -145,8 +169,7 @@ impl<R: Clock> Read for HeadReader<'_, R> {
         self.deadline.set_timeout(self.stream, left)?;
         match read_again(self.stream, buf) {
             Ok(count) => {
-                self.deadline.came.set(Instant::now(self.runtime).ok());
-                self.deadline.some.set(true);
+                self.deadline.note_bytes(Instant::now(self.runtime).ok());
                 Ok(count)
             }
             Err(error) => {
@@ -169,7 +192,13 @@ pub struct ReplyWriter<'a> {
 impl Write for ReplyWriter<'_> {
     fn write(&mut self, buf: &[u8]) -> io::Result<usize> {
         self.deadline.renew();
-        write_again(self.stream, buf)
+        let written = write_again(self.stream, buf);
+        if let Err(error) = &written {
+            if error.kind() == ErrorKind::WouldBlock {
+                self.deadline.pass();
+            }
+        }
+        written
     }
 
     fn flush(&mut self) -> io::Result<()> {

@@ -1,10 +1,13 @@
 //! The command `serve`: a site over HTTP/1.1 on a port, through a chain of filters that is checked first.
 #![tactic(auto)]
 
+mod client;
+mod event_loop;
 mod head_reader;
 mod listening;
 mod request_log;
 mod serve_command;
+mod socket;
 mod system_clock;
 #[cfg(test)]
 mod tests;

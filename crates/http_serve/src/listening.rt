@@ -3,7 +3,7 @@
 ghost use Rattle.http_front.specs.Driven.{IsAlive};
 
 use crate::head_reader::{Deadline, HeadReader, ReplyWriter};
-use crate::request_log::{RequestLog, tell_refused};
+use crate::request_log::{RequestLog, tell_refused, tell_unready, told_by};
 use crate::system_clock::SystemClock;
 use crate::unclosed::UnclosedConns;
 use byte_streams::{CountedSource, READS, StdSink, StdSource};
@@ -20,6 +20,8 @@ use std::time::{Duration, Instant};
 pub struct ServeSettings {
     /// How many are served; none: as many as come until the program is stopped.
     pub conns: Option<u32>,
+    /// How many are served at once.
+    pub at_once: usize,
     /// How long a head may take, and a write.
     pub patience: Duration,
     /// Whether each is told on the standard error.
@@ -106,11 +108,11 @@ fn serve_taken<R: Clock + Eprint + AllocGlobal, F: Files + Drop>(
     };
     if let Err(error) = set_up(stream, manner.patience) {
         if manner.logs {
-            log.tell_unready(&error);
+            tell_unready(rt, peer, number, &error);
         }
         return None;
     }
-    let told = if manner.logs { Some(&log) } else { None };
+    let told = told_by(manner.logs, &log);
     let outcome = serve_stream(rt, stream, site, host, &deadline, told);
     if manner.logs {
         log.tell_end(outcome);

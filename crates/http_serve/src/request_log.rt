@@ -11,6 +11,7 @@ use std::time::SystemTime;
 use std::{fmt, io};
 
 /// The time in the form of RFC 3339, to the millisecond; a dash where the clock cannot be asked.
+#[derive(Drop)]
 struct Moment(Option<Timestamp>);
 
 impl Moment {
@@ -48,6 +49,37 @@ pub fn tell_refused<R: Clock + Eprint + AllocGlobal>(rt: &R, why: &io::Error) {
     put_line(rt, format!(in rt.alloc(); "{at} cannot accept: {why}\n"));
 }
 
+/// Tells that a connection was taken and could not be set up.
+pub fn tell_unready<R: Clock + Eprint + AllocGlobal>(
+    rt: &R,
+    peer: SocketAddr,
+    number: u64,
+    why: &io::Error,
+) {
+    let at = Moment::now(rt);
+    let line = format!(in rt.alloc(); "{at} {peer} connection {number}: cannot be set up: {why}\n");
+    put_line(rt, line);
+}
+
+/// How a connection ended before its end.
+#[derive(Drop)]
+struct End {
+    kind: FrontKind,
+    is_late: bool,
+    is_idle: bool,
+}
+
+impl fmt::Display for End {
+    fn fmt<W: fmt::Write>(&self, f: &mut fmt::Formatter<W>) -> fmt::Result {
+        match self.kind {
+            FrontKind::Read if self.is_idle => f.write_str("idle too long"),
+            FrontKind::Read if self.is_late => f.write_str("no whole head in time"),
+            FrontKind::Write if self.is_late => f.write_str("the response was not taken in time"),
+            kind => write!(f, "{kind}"),
+        }
+    }
+}
+
 /// Tells the requests of a connection on the standard error.
 #[derive(Drop)]
 pub struct RequestLog<'a, R: Clock + Eprint + AllocGlobal> {
@@ -59,6 +91,14 @@ pub struct RequestLog<'a, R: Clock + Eprint + AllocGlobal> {
     pub number: u64,
 }
 
+/// The log, where requests are told.
+pub fn told_by<'a, R: Clock + Eprint + AllocGlobal>(
+    logs: bool,
+    log: &'a RequestLog<'a, R>,
+) -> Option<&'a RequestLog<'a, R>> {
+    if logs { Some(log) } else { None }
+}
+
 /// What may be done about a failure.
 fn hint(failure: Failure) -> &'static str {
     match failure {
@@ -68,6 +108,7 @@ fn hint(failure: Failure) -> &'static str {
 }
 
 /// Why a status is 500, as it stands at the end of a line.
+#[derive(Drop)]
 struct Reason(Option<Failure>);
 
 impl fmt::Display for Reason {
@@ -115,25 +156,15 @@ impl<R: Clock + Eprint + AllocGlobal> RequestLog<'_, R> {
                 let requests = served.requests;
                 format!(in alloc; "{at} {peer} connection {number}: requests {requests}\n")
             }
-            Err(fault) if fault.kind == FrontKind::Read && self.deadline.was_idle() => {
-                format!(in alloc; "{at} {peer} connection {number}: idle too long\n")
-            }
             Err(fault) => {
-                let kind = fault.kind;
-                format!(in alloc; "{at} {peer} connection {number}: {kind}\n")
+                let why = End {
+                    kind: fault.kind,
+                    is_late: self.deadline.was_late(),
+                    is_idle: self.deadline.was_idle(),
+                };
+                format!(in alloc; "{at} {peer} connection {number}: {why}\n")
             }
         };
         put_line(self.runtime, line);
-    }
-
-    /// Tells that a connection was taken and could not be set up.
-    pub fn tell_unready(&self, why: &io::Error) {
-        let at = Moment::now(self.runtime);
-        let peer = self.peer;
-        let number = self.number;
-        put_line(
-            self.runtime,
-            format!(in self.runtime.alloc(); "{at} {peer} connection {number}: cannot be set up: {why}\n"),
-        );
     }
 }

@@ -1,23 +1,25 @@
 //! The command `serve`: a chain of filters behind a port.
 
-ghost use Rattle.std.specs.Prelude.{IfOk, ◌≤◌, vec_len};
+ghost use Rattle.std.specs.Prelude.{IfOk};
+ghost use Rattle.filter_chain.specs.Safe.{IsSafe};
 ghost use Rattle.http_front.specs.Driven.{IsAlive};
 
+use crate::event_loop::serve_turns;
 use crate::listening::{ServeSettings, serve_all};
 use bucket_kinds::DiskFiles;
-use byte_streams::{CountedSource, READ_BYTES};
+use byte_streams::{CountedSource, READ_BYTES, READS};
 use byte_text::put_all;
 use filter_chain::{CheckedChain, Files, Host, Limits};
 use http_message::{SITE_BYTES, Site, SiteRefusal, site_of};
 use module_tools::{CommandOutput, Loaded, NamedFile, PlayFault, load_part};
 use script_text::{Part, accept_parts, put_refused_module};
 use std::alloc::{AllocError, Global};
+use std::io::{self, Read};
 use std::net::{IpAddr, Net, SocketAddr, TcpListener, TcpStream};
 use std::os::unix::fs::FileExt;
 use std::process::ExitCode;
 use std::rt::{Files as FileSystem, Runtime};
 use std::time::Duration;
-use std::io::{self, Read};
 
 /// What `serve` is asked for.
 #[derive(Drop)]
@@ -30,6 +32,8 @@ pub struct ServeOptions<'a> {
     pub port: u16,
     /// How many connections are served; none: as many as come until the program is stopped.
     pub conns: Option<u32>,
+    /// How many connections are served at once.
+    pub at_once: u32,
     /// How many instructions a call of the chain may take.
     pub budget: u32,
     /// How many seconds a head may take, and a write.
@@ -127,17 +131,18 @@ fn read_chain<R: FileSystem + AllocGlobal>(
 }
 
 /// The text of a site file. No more of it is read than a site file may have.
-fn read_site_text<R: FileSystem + AllocGlobal>(rt: &R, name: &str) -> Result<Vec<u8>, StartError>
-    ensures { IfOk result (λ text. vec_len text ≤ 1048576) }
-{
+fn read_site_text<R: FileSystem + AllocGlobal>(rt: &R, name: &str) -> Result<Vec<u8>, StartError> {
     let mut reader = NamedFile::new(rt, name);
     let mut text = Vec::new(rt.alloc());
     let mut buffer = [0; READ_BYTES];
-    while text.len() <= SITE_BYTES {
+    for _ in 0..READS {
+        if text.len() > SITE_BYTES {
+            break;
+        }
         match reader.read(&mut buffer) {
             Ok(0) => return Ok(text),
             Ok(count) => text.extend_from_slice(&buffer[..count])?,
-            Err(_) => return Err(cannot_read(rt.alloc(), name)),
+            Err(_) => break,
         }
     }
     Err(cannot_read(rt.alloc(), name))
@@ -147,6 +152,9 @@ fn read_site_text<R: FileSystem + AllocGlobal>(rt: &R, name: &str) -> Result<Vec
 fn read_site<R: FileSystem + AllocGlobal>(rt: &R, name: &str) -> Result<Site, StartError> {
     let alloc = rt.alloc();
     let text = read_site_text(rt, name)?;
+    if text.len() > SITE_BYTES {
+        return Err(cannot_read(alloc, name));
+    }
     match site_of(alloc, text.as_slice()) {
         Ok(site) => Ok(site),
         Err(SiteRefusal::Line(number)) => {
@@ -178,12 +186,13 @@ fn cannot_listen(alloc: Global) -> StartError {
     told(alloc, format!(in alloc; "cannot listen\n"))
 }
 
-/// Reads and checks the chain, reads the site, and listens.
+/// Reads and checks the chain, reads the site, and listens: what listens has a host of a chain that is accepted, which never faults.
 fn get_ready<R>(rt: &R, front: &ServeOptions<'_>) -> Result<Server<R>, StartError>
 where
     R: Runtime + AllocGlobal + Net<Listener = TcpListener, Stream = TcpStream>,
     R::File: FileExt,
-    ensures { IfOk result (λ r. IsAlive ⟦<DiskFiles<R> as Files>⟧.device r.host) }
+    ensures alive { IfOk result (λ r. IsAlive ⟦<DiskFiles<R> as Files>⟧.device r.host) }
+    ensures safe { IfOk result (λ r. IsSafe r.host) }
 {
     let chain = read_chain(rt, front.modules.as_slice())?;
     let site = read_site(rt, front.site)?;
@@ -218,6 +227,12 @@ fn tell_stop<R: Print + Eprint>(rt: &R, stop: StartError) -> ExitCode {
     ExitCode::FAILURE
 }
 
+/// The system does not tell what is ready.
+fn tell_events(rt: &impl Eprint) -> ExitCode {
+    let _ = rt.eprintln("cannot wait for connections");
+    ExitCode::FAILURE
+}
+
 /// Serves connections behind a port. What it tells goes to the standard output, and what it logs to the standard error. It fails where the chain
 /// or the site is none, where the port is not to be had, and where the standard output fails; a connection that fails ends alone.
 pub fn serve_front<R>(rt: &R, front: &ServeOptions<'_>) -> ExitCode
@@ -225,7 +240,7 @@ where
     R: Runtime + AllocGlobal + Net<Listener = TcpListener, Stream = TcpStream>,
     R::File: FileExt,
 {
-    let mut ready = match get_ready(rt, front) {
+    let ready = match get_ready(rt, front) {
         Ok(ready) => ready,
         Err(why) => return tell_stop(rt, why),
     };
@@ -236,9 +251,26 @@ where
     }
     let manner = ServeSettings {
         conns: front.conns,
+        at_once: usize::try_from(front.at_once).unwrap_or(1),
         patience: Duration::from_secs(u64::from(front.timeout)),
         logs: front.logs,
     };
-    serve_all(rt, &ready.listener, &ready.site, &mut ready.host, manner);
-    ExitCode::SUCCESS
+    let Server {
+        mut host,
+        site,
+        listener,
+        address: _,
+    } = ready;
+    if manner.at_once <= 1 {
+        serve_all(rt, &listener, &site, &mut host, manner);
+        return ExitCode::SUCCESS;
+    }
+    if listener.set_nonblocking(true).is_err() {
+        return tell_events(rt);
+    }
+    let door = mio::net::TcpListener::from_std(listener);
+    match serve_turns(rt, door, &site, &mut host, manner) {
+        Ok(()) => ExitCode::SUCCESS,
+        Err(_) => tell_events(rt),
+    }
 }

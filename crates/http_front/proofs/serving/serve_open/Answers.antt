@@ -1,4 +1,5 @@
 use Rattle.std.proofs.Common.{Bool, length, Ok, Err, ap, refl, ◌∙◌, arith, length-append}
+use Rattle.byte_streams.specs.Counted.{source_of}
 use Rattle.std.proofs.lemmas.Result.{err_from_is_err_and}
 use Rattle.http_message.specs.Inboxes.{unread}
 use Rattle.http_front.specs.declared.serving.AfterStep.TheVariants as next
@@ -15,7 +16,7 @@ loop-so_far-init g c = record {
   opened = c.requires;
   beside = λ from so. so;
   few = let long = ap length c.new-so_far.ensures.none in let none = c.new-so_far.ensures.requests in omega (arith, long, none);
-  range = let same = c.reads_left-reads.ensures.left in let few = c.reads_left-reads.ensures.few in omega (arith, same, few);
+  range = let same = c.count_left-reads.ensures.left in let few = c.count_left-reads.ensures.few in omega (arith, same, few);
   far = far_start _ _ _ _ _ _ _ _ _ c.new-so_far.ensures.none c.new-so_far.ensures.requests;
   wants = none_wants _ c.new-so_far.ensures.none;
   read_well = refl;
@@ -28,8 +29,8 @@ returns-in_err-so_far-clause-err g c =
     let site = c.args.site.now in
     let r = g.R.Source.remaining in
     let w = g.W.Sink.contents in
-    fails_err site (λ h. g.H.Handler.handles h c.args.number) g.K.Clock.tells (λ h. g.H.Handler.lacks h c.args.number) c.args.handler.now c.args.clock.now (r c.args.reader.now.source) (r c.read_more.new.reader.source) (w c.args.sink.now) (w c.loop-so_far.sink) c.loop-so_far.handler c.loop-so_far.clock c.from_residual.result p.0 c.in_err-so_far.field-0.0 p.1 p.2
-    (far_loses site (λ h. g.H.Handler.handles h c.args.number) g.K.Clock.tells (λ h. g.H.Handler.lacks h c.args.number) c.args.handler.now c.args.clock.now (r c.args.reader.now.source) (r c.loop-so_far.reader.source) (r c.read_more.new.reader.source) (w c.args.sink.now) (w c.loop-so_far.sink) _ _ _ _ c.in_err-so_far.field-0.0 c.loop-so_far.invariant.far c.loop-so_far.invariant.wants c.in_err-so_far.ensures.err)
+    fails_err site (λ h. g.H.Handler.handles h c.args.number) g.K.Clock.tells (λ h. g.H.Handler.lacks h c.args.number) c.args.handler.now c.args.clock.now (r (source_of c.args.reader.now)) (r (source_of c.read_more.new.reader)) (w c.args.sink.now) (w c.loop-so_far.sink) c.loop-so_far.handler c.loop-so_far.clock c.from_residual.result p.0 c.in_err-so_far.field-0.0 p.1 p.2
+    (far_loses site (λ h. g.H.Handler.handles h c.args.number) g.K.Clock.tells (λ h. g.H.Handler.lacks h c.args.number) c.args.handler.now c.args.clock.now (r (source_of c.args.reader.now)) (r (source_of c.loop-so_far.reader)) (r (source_of c.read_more.new.reader)) (w c.args.sink.now) (w c.loop-so_far.sink) _ _ _ _ c.in_err-so_far.field-0.0 c.loop-so_far.invariant.far c.loop-so_far.invariant.wants c.in_err-so_far.ensures.err)
 
 pub returns-in_err-answer_all-clause-err : goal.returns-in_err-answer_all-clause-err
 returns-in_err-answer_all-clause-err g c =
@@ -37,8 +38,8 @@ returns-in_err-answer_all-clause-err g c =
     let adds = c.in_ok-so_far.ensures.ok in
     let r = g.R.Source.remaining in
     let w = g.W.Sink.contents in
-    fails_err c.args.site.now (λ h. g.H.Handler.handles h c.args.number) g.K.Clock.tells (λ h. g.H.Handler.lacks h c.args.number) c.args.handler.now c.args.clock.now (r c.args.reader.now.source) (r c.read_more.new.reader.source) (w c.args.sink.now) (w c.answer_all.new.sink) c.answer_all.new.handler c.answer_all.new.clock c.from_residual-in_err-answer_all.result p.0 c.in_err-answer_all.field-0.0 p.1 p.2
-    (c.in_err-answer_all.ensures.goes c.args.handler.now c.args.clock.now (r c.args.reader.now.source) (r c.read_more.new.reader.source) (w c.args.sink.now) adds.end
+    fails_err c.args.site.now (λ h. g.H.Handler.handles h c.args.number) g.K.Clock.tells (λ h. g.H.Handler.lacks h c.args.number) c.args.handler.now c.args.clock.now (r (source_of c.args.reader.now)) (r (source_of c.read_more.new.reader)) (w c.args.sink.now) (w c.answer_all.new.sink) c.answer_all.new.handler c.answer_all.new.clock c.from_residual-in_err-answer_all.result p.0 c.in_err-answer_all.field-0.0 p.1 p.2
+    (c.in_err-answer_all.ensures.goes c.args.handler.now c.args.clock.now (r (source_of c.args.reader.now)) (r (source_of c.read_more.new.reader)) (w c.args.sink.now) adds.end
     (far_adds _ _ _ (λ h. g.H.Handler.lacks h c.args.number) _ _ _ _ _ _ _ _ _ _ _ _ _ _ c.loop-so_far.invariant.far adds))
 
 pub returns-in-Over-clause-ok : goal.returns-in-Over-clause-ok
@@ -46,8 +47,8 @@ returns-in-Over-clause-ok g c =
     let adds = c.in_ok-so_far.ensures.ok in
     let r = g.R.Source.remaining in
     let w = g.W.Sink.contents in
-    next_is _ _ _ (λ h. g.H.Handler.lacks h c.args.number) c.args.handler.now c.args.clock.now (r c.args.reader.now.source) (r c.read_more.new.reader.source) (w c.args.sink.now) _ _ _ _ _ _ (Ok c.in_ok-answer_all.field-0) (Ok next.Over) (ap Ok c.in-Over.is)
-    (c.in_ok-answer_all.ensures.goes c.args.handler.now c.args.clock.now (r c.args.reader.now.source) (r c.read_more.new.reader.source) (w c.args.sink.now) adds.end
+    next_is _ _ _ (λ h. g.H.Handler.lacks h c.args.number) c.args.handler.now c.args.clock.now (r (source_of c.args.reader.now)) (r (source_of c.read_more.new.reader)) (w c.args.sink.now) _ _ _ _ _ _ (Ok c.in_ok-answer_all.field-0) (Ok next.Over) (ap Ok c.in-Over.is)
+    (c.in_ok-answer_all.ensures.goes c.args.handler.now c.args.clock.now (r (source_of c.args.reader.now)) (r (source_of c.read_more.new.reader)) (w c.args.sink.now) adds.end
     (far_adds _ _ _ (λ h. g.H.Handler.lacks h c.args.number) _ _ _ _ _ _ _ _ _ _ _ _ _ _ c.loop-so_far.invariant.far adds))
 
 pub loop-so_far-preserved : goal.loop-so_far-preserved
@@ -55,9 +56,9 @@ loop-so_far-preserved g c =
     let adds = c.in_ok-so_far.ensures.ok in
     let r = g.R.Source.remaining in
     let w = g.W.Sink.contents in
-    let next = far_next _ _ _ (λ h. g.H.Handler.lacks h c.args.number) c.args.handler.now c.args.clock.now (r c.args.reader.now.source) (r c.read_more.new.reader.source) (w c.args.sink.now) _ _ _ _ _ _ c.in_ok-answer_all.field-0
+    let next = far_next _ _ _ (λ h. g.H.Handler.lacks h c.args.number) c.args.handler.now c.args.clock.now (r (source_of c.args.reader.now)) (r (source_of c.read_more.new.reader)) (w c.args.sink.now) _ _ _ _ _ _ c.in_ok-answer_all.field-0
     (λ again. c.in_ok-answer_all.ensures.stops (ap Ok again)) c.in_default.not-Over
-    (c.in_ok-answer_all.ensures.goes c.args.handler.now c.args.clock.now (r c.args.reader.now.source) (r c.read_more.new.reader.source) (w c.args.sink.now) adds.end
+    (c.in_ok-answer_all.ensures.goes c.args.handler.now c.args.clock.now (r (source_of c.args.reader.now)) (r (source_of c.read_more.new.reader)) (w c.args.sink.now) adds.end
     (far_adds _ _ _ (λ h. g.H.Handler.lacks h c.args.number) _ _ _ _ _ _ _ _ _ _ _ _ _ _ c.loop-so_far.invariant.far adds)) in
     record {
       opened = c.answer_all.ensures.open;

@@ -1,4 +1,5 @@
 use Rattle.std.proofs.Common.{◌≡◌, ◌+◌, ◌*◌, ◌≤◌, ◌<◌, length}
+use Rattle.byte_streams.specs.Counted.{reads_left, source_of}
 use Rattle.http_message.specs.Inboxes.{unread}
 use Rattle.http_front.specs.Serving.{SoFar}
 use Rattle.http_front.specs.Turns.{WantsMore}
@@ -9,13 +10,13 @@ abbrev pub invariant-loop-so_far : goal.invariant-loop-so_far
 invariant-loop-so_far g l = record {
   opened : g.H.Handler.is_open l.handler l.number;
   beside : (from : g.row.H.Denot) → g.H.Handler.beside from l.number l.fn.handler → g.H.Handler.beside from l.number l.handler;
-  few : l.so_far.requests + length (unread l.so_far.inbox) + 8192 * l.reader.left ≤ 8192 * l.fn.reader.left;
-  range : l.fn.reader.left < 4294967296;
-  far : SoFar l.site (λ h. g.H.Handler.handles h l.number) g.K.Clock.tells l.fn.handler l.fn.clock (g.R.Source.remaining l.fn.reader.source) (g.R.Source.remaining l.reader.source) (g.W.Sink.contents l.fn.sink) (g.W.Sink.contents l.sink) (unread l.so_far.inbox) l.so_far.requests l.handler l.clock;
+  few : l.so_far.requests + length (unread l.so_far.inbox) + 8192 * reads_left l.reader ≤ 8192 * reads_left l.fn.reader;
+  range : reads_left l.fn.reader < 4294967296;
+  far : SoFar l.site (λ h. g.H.Handler.handles h l.number) g.K.Clock.tells l.fn.handler l.fn.clock (g.R.Source.remaining (source_of l.fn.reader)) (g.R.Source.remaining (source_of l.reader)) (g.W.Sink.contents l.fn.sink) (g.W.Sink.contents l.sink) (unread l.so_far.inbox) l.so_far.requests l.handler l.clock;
   wants : WantsMore (unread l.so_far.inbox);
-  read_well : g.R.Source.failed l.reader.source ≡ g.R.Source.failed l.fn.reader.source;
+  read_well : g.R.Source.failed (source_of l.reader) ≡ g.R.Source.failed (source_of l.fn.reader);
   wrote_well : g.W.Sink.failed l.sink ≡ g.W.Sink.failed l.fn.sink;
 }
 
 abbrev pub decreases-loop-so_far : goal.decreases-loop-so_far
-decreases-loop-so_far g l = l.reader.left
+decreases-loop-so_far g l = reads_left l.reader

@@ -25,7 +25,7 @@ returns-in_ok-put_reply-in-Headless-clause-ok g c = (
   not_empty c.args.seen.now c.if-is_empty-2.ensures,
   subst (λ (n : ℕ). StaysHeadless head_limit n c.args.seen.now c.args.whole) (c.look_at.ensures.room ∙ c.requires.room) c.in-Headless.ensures.looks,
   refl,
-  sends_bad c.args.site.now (λ old. g.H.Handler.handles old c.args.number) g.K.Clock.tells _ _ c.bad_reply.result _ c.bad_reply.ensures c.in_ok-put_reply-in-Headless.ensures,
+  sends_bad c.args.site.now (λ old. g.H.Handler.handles old c.args.number) g.K.Clock.tells _ _ c.bad_reply.result _ c.bad_reply.ensures c.in_ok-put_reply-in-Headless.ensures.written,
 )
 
 pub returns-in-Head-clause-err : goal.returns-in-Head-clause-err

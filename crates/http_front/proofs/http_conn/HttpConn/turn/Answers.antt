@@ -1,0 +1,50 @@
+use Rattle.std.proofs.Common.{[], take, Ok}
+use Rattle.std.proofs.KnownBytes.{Appends-nil, Consumes-nil}
+use Rattle.http_front.specs.Talking.{pending}
+use Rattle.http_front.specs.declared.http_conn.Turned.TheVariants as turned
+use Rattle.http_front.proofs.SharingLaws.{own_over, own_read, own_step, own_wrote, stands_later}
+use Rattle.http_front.proofs.http_conn.HttpConn.turn.Goals as goal
+
+pub returns-in-Writes-clause-own : goal.returns-in-Writes-clause-own
+returns-in-Writes-clause-own g c =
+    let w = c.put_out.ensures.wrote in (
+      [],
+      take w.0 (pending c.args.self.now),
+      Consumes-nil (g.R.Source.remaining c.args.reader.now),
+      w.1,
+      own_wrote c.args.site.now (λ old. g.H.Handler.handles old c.args.number) g.K.Clock.tells (λ old new. g.H.Handler.apart old c.args.number new) (λ h. g.met.H.Handler.apart_self h c.args.number) c.put_out.result c.args.self.now c.put_out.new.self c.args.handler.now c.put_out.new.handler c.args.clock.now w.0 c.put_out.ensures.still w.2 c.put_out.ensures.inbox c.put_out.ensures.over,
+    )
+
+pub returns-in-Over-clause-own : goal.returns-in-Over-clause-own
+returns-in-Over-clause-own g c = (
+  [],
+  [],
+  Consumes-nil (g.R.Source.remaining c.args.reader.now),
+  Appends-nil (g.W.Sink.contents c.args.sink.now),
+  own_over c.args.site.now (λ old. g.H.Handler.handles old c.args.number) g.K.Clock.tells (λ old new. g.H.Handler.apart old c.args.number new) (λ h. g.met.H.Handler.apart_self h c.args.number) (Ok turned.Over) c.args.self.now c.args.handler.now c.args.clock.now,
+)
+
+pub returns-in-Reads-clause-own : goal.returns-in-Reads-clause-own
+returns-in-Reads-clause-own g c =
+    let t = c.take_in.ensures.took in (
+      t.0,
+      [],
+      t.1,
+      Appends-nil (g.W.Sink.contents c.args.sink.now),
+      own_read c.args.site.now (λ old. g.H.Handler.handles old c.args.number) g.K.Clock.tells (λ old new. g.H.Handler.apart old c.args.number new) (λ h. g.met.H.Handler.apart_self h c.args.number) c.take_in.result c.args.self.now c.take_in.new.self c.args.handler.now c.args.clock.now t.0 t.2 c.take_in.ensures.text c.take_in.ensures.over c.in-Reads.ensures.1,
+    )
+
+pub returns-in-Steps-clause-own : goal.returns-in-Steps-clause-own
+returns-in-Steps-clause-own g c = (
+  [],
+  [],
+  Consumes-nil (g.R.Source.remaining c.args.reader.now),
+  Appends-nil (g.W.Sink.contents c.args.sink.now),
+  own_step c.args.site.now (λ old. g.H.Handler.handles old c.args.number) g.K.Clock.tells (λ old new. g.H.Handler.apart old c.args.number new) (λ h. g.met.H.Handler.apart_self h c.args.number) c.step.result c.args.self.now c.step.new.self c.args.handler.now c.step.new.handler c.args.clock.now c.step.new.clock c.in-Steps.ensures.0 c.in-Steps.ensures.1 c.step.ensures.did,
+)
+
+pub returns-in-Steps-clause-others : goal.returns-in-Steps-clause-others
+returns-in-Steps-clause-others g c k apart start first came went other s =
+    let own = c.step.ensures.beside c.args.handler.now (g.met.H.Handler.beside_self c.args.handler.now c.args.number) in
+    stands_later c.args.site.now (λ old. g.H.Handler.handles old k) g.K.Clock.tells (λ old new. g.H.Handler.apart old k new) start first came went other c.args.handler.now c.step.new.handler c.args.clock.now c.step.new.clock
+    (λ from gap. g.met.H.Handler.apart_on from c.args.handler.now c.step.new.handler c.args.number k apart gap own) c.step.ensures.clock s

@@ -1,0 +1,290 @@
+//! A connection as a machine: what was read and not answered, and what is answered and not written. It never waits.
+
+ghost use Rattle.std.specs.Prelude.{◌≡◌, ◌≢◌, ◌≤◌, ◌<◌, ◌^◌, ◌++◌, ◌⊎◌, ℕ, List, [], true, false, length, take, drop, Ok, Err, IfOk, IfErr, IfSome, OnOk, OnErr};
+ghost use Rattle.std.specs.Io.KnownBytes.{Appends, Consumes, IsAtEnd};
+ghost use Rattle.http_message.specs.Inboxes.{unread};
+ghost use Rattle.http_front.specs.Stepping.{DoesStep};
+ghost use Rattle.http_front.specs.Texts.{text_of};
+ghost use Rattle.http_front.specs.Sharing.{Passes};
+
+use crate::fault::FrontKind;
+use crate::handler::Handler;
+use crate::response::ResponseText;
+use crate::steps::{ServeStep, take_step};
+use byte_streams::{READS, ReadAnswer, Sink, SinkFault, Source, WriteAnswer};
+use http_message::{Clock, Inbox, Site};
+use std::alloc::Global;
+
+/// What a turn came to.
+#[derive(Clone, Copy, Debug, PartialEq, Eq)]
+pub enum Turned {
+    /// Something was done, and more can be.
+    Moved,
+    /// The last of a response is written.
+    Sent,
+    /// No bytes are there now.
+    NoBytes,
+    /// There is no room to write now.
+    NoRoom,
+    /// It is served to its end.
+    Over,
+}
+
+/// What a connection waits for.
+#[derive(Clone, Copy, Debug, PartialEq, Eq)]
+pub enum Next {
+    /// Room to write.
+    Writes,
+    /// Nothing: it is served to its end.
+    Over,
+    /// Bytes to read.
+    Reads,
+    /// A step.
+    Steps,
+}
+
+/// A connection: what was read and not answered, and what is answered and not written. What is answered goes out before more is read, so that it
+/// holds the bytes of one read, those of a head that is not whole, and one response.
+#[derive(Drop)]
+pub struct HttpConn {
+    inbox: Inbox,
+    text: ResponseText,
+    size: usize,
+    sent: usize,
+    whole: bool,
+    wants: bool,
+    over: bool,
+    reads: u32,
+    requests: u64,
+    ghost sized: { size ≡ length (text_of text) },
+    ghost sends: { sent ≤ size },
+}
+
+impl HttpConn {
+    ghost use Rattle.http_front.specs.Talking.{Fits, Follows, GoesSo, IsNext, Stands, pending};
+
+    /// Nothing came yet. It takes no memory.
+    pub fn new(alloc: Global) -> HttpConn
+        ensures unread { unread result.inbox ≡ [] }
+        ensures pending { pending result ≡ [] }
+        ensures over { result.over ≡ false }
+    {
+        HttpConn {
+            inbox: Inbox::new(alloc),
+            text: ResponseText::new(alloc),
+            size: 0,
+            sent: 0,
+            whole: false,
+            wants: true,
+            over: false,
+            reads: READS,
+            requests: 0,
+        }
+    }
+
+    /// How many requests are answered.
+    pub fn requests(&self) -> u64 {
+        self.requests
+    }
+
+    /// What it waits for. What is answered goes out before more is read or answered.
+    pub fn next(&self) -> Next
+        ensures { IsNext self.now result }
+    {
+        if self.sent < self.size {
+            return Next::Writes;
+        }
+        if self.over {
+            return Next::Over;
+        }
+        if self.wants {
+            return Next::Reads;
+        }
+        Next::Steps
+    }
+
+    /// Reads once, through a buffer.
+    fn take_in<R: Source>(&mut self, reader: &mut R, buffer: &mut [u8]) -> Result<Turned, FrontKind>
+        requires room { 0 < length buffer.old }
+        ensures took { (bytes : List ℕ) × Consumes (R.remaining reader.old) (R.remaining reader.new) bytes × OnOk result (unread self.new.inbox ≡ unread self.old.inbox ++ bytes) }
+        ensures text { pending self.new ≡ pending self.old }
+        ensures over { self.new.over ≡ self.old.over }
+        ensures whole { self.new.whole ≡ true → (self.old.whole ≡ true) ⊎ IsAtEnd (R.remaining reader.new) }
+    {
+        if self.reads == 0 {
+            return Err(FrontKind::TooManyReads);
+        }
+        match reader.read(buffer) {
+            Ok(ReadAnswer::End) => {
+                self.whole = true;
+                self.wants = false;
+                Ok(Turned::Moved)
+            }
+            Ok(ReadAnswer::NotNow) => Ok(Turned::NoBytes),
+            Ok(ReadAnswer::Bytes(count)) => match self.inbox.add(&buffer[..count]) {
+                Ok(()) => {
+                    self.reads -= 1;
+                    self.wants = false;
+                    Ok(Turned::Moved)
+                }
+                Err(_) => Err(FrontKind::NoMemory),
+            },
+            Err(_) => Err(FrontKind::Read),
+        }
+    }
+
+    /// Drops what is written. A large body goes back to the handler, so that its room is used again.
+    fn forget_text<H: Handler>(&mut self, alloc: Global, handler: &mut H)
+        requires { self.old.sent ≡ self.old.size }
+        ensures pending { pending self.new ≡ [] }
+        ensures inbox { self.new.inbox ≡ self.old.inbox }
+        ensures over { self.new.over ≡ self.old.over }
+        ensures whole { self.new.whole ≡ self.old.whole }
+        ensures wants { self.new.wants ≡ self.old.wants }
+        ensures still { handler.new ≡ handler.old }
+    {
+        self.text.give_back(alloc, handler);
+        self.text.release(alloc);
+        self.sent = 0;
+        self.size = 0;
+    }
+
+    /// Writes once.
+    fn put_out<W: Sink, H: Handler>(
+        &mut self,
+        alloc: Global,
+        sink: &mut W,
+        handler: &mut H,
+    ) -> Result<Turned, FrontKind>
+        requires { self.old.sent < self.old.size }
+        ensures wrote { (n : ℕ) × Appends (W.contents sink.old) (W.contents sink.new) (take n (pending self.old)) × (pending self.new ≡ drop n (pending self.old)) }
+        ensures inbox { self.new.inbox ≡ self.old.inbox }
+        ensures over { self.new.over ≡ self.old.over }
+        ensures whole { self.new.whole ≡ self.old.whole }
+        ensures still { handler.new ≡ handler.old }
+    {
+        match sink.write(self.text.rest(self.sent)) {
+            Ok(WriteAnswer::Bytes(count)) => {
+                self.sent += count;
+                if self.sent == self.size {
+                    self.forget_text(alloc, handler);
+                    return Ok(Turned::Sent);
+                }
+                Ok(Turned::Moved)
+            }
+            Ok(WriteAnswer::NotNow) => Ok(Turned::NoRoom),
+            Err(SinkFault::Failed) => Err(FrontKind::Write),
+            Err(SinkFault::NoMemory) => Err(FrontKind::NoMemory),
+        }
+    }
+
+    /// What follows a step: its text is there.
+    fn follow(&mut self, step: ServeStep)
+        requires fits { Fits (unread self.old.inbox) step }
+        requires going { self.old.over ≡ false }
+        ensures follows { Follows step self.old self.new }
+        ensures text { self.new.text ≡ self.old.text }
+        ensures sent { self.new.sent ≡ self.old.sent }
+        ensures whole { self.new.whole ≡ self.old.whole }
+    {
+        match step {
+            ServeStep::More => self.wants = true,
+            ServeStep::Done => self.over = true,
+            ServeStep::Stays(size) => {
+                self.inbox.skip(size);
+                self.requests = self.requests.saturating_add(1);
+            }
+            ServeStep::Closes(size) => {
+                self.inbox.skip(size);
+                self.requests = self.requests.saturating_add(1);
+                self.over = true;
+            }
+            ServeStep::Refused => {
+                self.requests = self.requests.saturating_add(1);
+                self.over = true;
+            }
+        }
+    }
+
+    /// A step on what is at hand.
+    fn step<H: Handler, K: Clock>(
+        &mut self,
+        alloc: Global,
+        site: &Site,
+        handler: &mut H,
+        number: u64,
+        clock: &mut K,
+    ) -> Result<Turned, FrontKind>
+        requires open { H.is_open handler.old number }
+        requires sent { pending self.old ≡ [] }
+        requires going { self.old.over ≡ false }
+        ensures open { H.is_open handler.new number }
+        ensures beside { (from : H) → H.beside from number handler.old → H.beside from number handler.new }
+        ensures clock { (from : K) → Passes K.tells from clock.old → Passes K.tells from clock.new }
+        ensures did { OnOk result ((s : ServeStep) × DoesStep site.now (λ old. H.handles old number) K.tells handler.old clock.old (unread self.old.inbox) self.old.whole s (pending self.new) handler.new clock.new
+            × Follows s self.old self.new) }
+        ensures whole { self.new.whole ≡ self.old.whole }
+    {
+        self.sent = 0;
+        self.size = 0;
+        let seen = self.inbox.unread();
+        match take_step(
+            alloc,
+            seen,
+            self.whole,
+            site,
+            handler,
+            number,
+            clock,
+            &mut self.text,
+        ) {
+            Ok(step) => match self.text.size() {
+                Some(size) => {
+                    self.size = size;
+                    self.follow(step);
+                    Ok(Turned::Moved)
+                }
+                None => {
+                    self.text.clear(alloc);
+                    Err(FrontKind::NoMemory)
+                }
+            },
+            Err(why) => {
+                self.text.clear(alloc);
+                Err(why)
+            }
+        }
+    }
+
+    /// One turn: a write, a read, or a step, whichever it waits for. It waits for nothing, where source and sink do not. `number` is that of the
+    /// connection with which the handler serves it; that connection is open.
+    pub fn turn<R: Source, W: Sink, H: Handler, K: Clock>(
+        &mut self,
+        alloc: Global,
+        reader: &mut R,
+        sink: &mut W,
+        site: &Site,
+        handler: &mut H,
+        number: u64,
+        clock: &mut K,
+        buffer: &mut [u8],
+    ) -> Result<Turned, FrontKind>
+        requires open { H.is_open handler.old number }
+        requires room { 0 < length buffer.old }
+        ensures open { H.is_open handler.new number }
+        ensures own { (bytes text : List ℕ) × Consumes (R.remaining reader.old) (R.remaining reader.new) bytes × Appends (W.contents sink.old) (W.contents sink.new) text
+            × ((start : H) (first : K) (came went : List ℕ) → Stands site.now (λ old. H.handles old number) K.tells (λ old new. H.apart old number new) start first came went self.old handler.old clock.old
+            → GoesSo site.now (λ old. H.handles old number) K.tells (λ old new. H.apart old number new) start first (came ++ bytes) (went ++ text) result self.new handler.new clock.new) }
+        ensures others { (k : ℕ) → k ≢ number → (start : H) (first : K) (came went : List ℕ) (other : HttpConn)
+            → Stands site.now (λ old. H.handles old k) K.tells (λ old new. H.apart old k new) start first came went other handler.old clock.old
+            → Stands site.now (λ old. H.handles old k) K.tells (λ old new. H.apart old k new) start first came went other handler.new clock.new }
+        ensures whole { self.new.whole ≡ true → (self.old.whole ≡ true) ⊎ IsAtEnd (R.remaining reader.new) }
+    {
+        match self.next() {
+            Next::Writes => self.put_out(alloc, sink, handler),
+            Next::Over => Ok(Turned::Over),
+            Next::Reads => self.take_in(reader, buffer),
+            Next::Steps => self.step(alloc, site, handler, number, clock),
+        }
+    }
+}

@@ -1,0 +1,296 @@
+//! A client of many that are served by turns.
+
+ghost use Rattle.std.specs.Prelude.{◌<◌, length};
+ghost use Rattle.http_front.specs.Driven.{IsAlive};
+
+use crate::head_reader::Deadline;
+use crate::request_log::{RequestLog, told_by};
+use crate::socket::Socket;
+use crate::system_clock::SystemClock;
+use byte_streams::{StdSink, StdSource};
+use filter_chain::{Files, Host};
+use http_front::{FrontFault, FrontKind, HttpConn, Next, Served, Site, Turned};
+use mio::net::TcpStream;
+use std::io::{ErrorKind, Read};
+use std::net::{Shutdown, SocketAddr};
+use std::rt::Clock;
+use std::time::{Duration, Instant};
+
+/// How long a client that is answered may go on to send.
+const LINGER_MILLIS: u64 = 1000;
+
+/// How many reads what it sends may take.
+const LINGER_READS: u32 = 64;
+
+/// How many moves a client makes in one turn: it reads, answers, writes and reads again.
+const MOVES: u32 = 4;
+
+/// What a turn comes to.
+#[derive(Clone, Copy, Debug, PartialEq, Eq)]
+pub enum Turn {
+    /// It can go on.
+    Again,
+    /// It waits for its socket.
+    Waits,
+    /// It is over.
+    Over,
+}
+
+/// What the turns of all clients share.
+#[derive(Drop)]
+pub struct Shared<'a, R: Clock + Eprint + AllocGlobal> {
+    pub runtime: &'a R,
+    pub site: &'a Site,
+    /// How long a head may take, a response to be taken, and an idle connection.
+    pub patience: Duration,
+    /// Whether requests and connections are told.
+    pub logs: bool,
+    pub buffer: Vec<u8>,
+    ghost room: { 0 < length buffer.items },
+}
+
+/// A client, from its acceptance to the close of its connection on the host.
+#[derive(Drop)]
+pub struct Client {
+    pub stream: TcpStream,
+    conn: HttpConn,
+    /// What the system reported of the socket, until a call said otherwise.
+    pub readable: bool,
+    pub writable: bool,
+    /// It stands in the queue.
+    pub queued: bool,
+    /// When it is to have moved.
+    pub due: Instant,
+    /// All is written, and what the client still sends is read and dropped: so many reads more.
+    lingers: Option<u32>,
+    /// It is served no more, and its connection on the host is still to be closed.
+    pub gone: bool,
+    /// Its number on the host, and as the program counts.
+    pub host_number: u64,
+    number: u64,
+    peer: SocketAddr,
+    deadline: Deadline,
+}
+
+/// A moment that much later.
+pub fn later(now: Instant, by: Duration) -> Instant {
+    now.checked_add(by).unwrap_or(now)
+}
+
+impl Client {
+    /// A client that was just taken.
+    pub fn new<R: Clock + Eprint + AllocGlobal>(
+        shared: &Shared<'_, R>,
+        stream: TcpStream,
+        peer: SocketAddr,
+        host_number: u64,
+        number: u64,
+        now: Instant,
+    ) -> Client {
+        Client {
+            stream,
+            conn: HttpConn::new(shared.runtime.alloc()),
+            readable: true,
+            writable: true,
+            queued: false,
+            due: later(now, shared.patience),
+            lingers: None,
+            gone: false,
+            host_number,
+            number,
+            peer,
+            deadline: Deadline::new(shared.patience),
+        }
+    }
+
+    /// Reads what is still sent, and drops it.
+    fn linger(&mut self, buffer: &mut [u8], left: u32) -> Turn {
+        if left == 0 {
+            return Turn::Over;
+        }
+        if !self.readable {
+            return Turn::Waits;
+        }
+        let mut socket = Socket {
+            stream: &self.stream,
+        };
+        match socket.read(buffer) {
+            Ok(0) => Turn::Over,
+            Ok(_) => {
+                self.lingers = Some(left - 1);
+                Turn::Again
+            }
+            Err(error) if error.kind() == ErrorKind::WouldBlock => {
+                self.readable = false;
+                Turn::Waits
+            }
+            Err(_) => Turn::Over,
+        }
+    }
+
+    /// Ends sending, so that the last response is not lost: a socket that is closed with bytes unread takes back what is not yet delivered.
+    fn end_sending(&mut self, now: Instant) -> Turn {
+        if self.stream.shutdown(Shutdown::Write).is_err() {
+            return Turn::Over;
+        }
+        self.due = later(now, Duration::from_millis(LINGER_MILLIS));
+        self.lingers = Some(LINGER_READS);
+        Turn::Again
+    }
+
+    /// What follows a turn of the connection.
+    fn follow(&mut self, turned: Turned, patience: Duration, now: Instant) -> Turn {
+        match turned {
+            Turned::Moved => {
+                if self.conn.next() == Next::Writes && !self.deadline.is_writing() {
+                    self.deadline.begin_write();
+                    self.due = later(now, patience);
+                }
+                Turn::Again
+            }
+            Turned::Sent => {
+                self.deadline.renew();
+                self.due = later(now, patience);
+                Turn::Again
+            }
+            Turned::NoBytes => {
+                self.readable = false;
+                Turn::Waits
+            }
+            Turned::NoRoom => {
+                self.writable = false;
+                Turn::Waits
+            }
+            Turned::Over => self.end_sending(now),
+        }
+    }
+
+    /// Whether the socket is not ready for what the connection waits for.
+    fn must_wait(&self) -> bool {
+        match self.conn.next() {
+            Next::Reads => !self.readable,
+            Next::Writes => !self.writable,
+            Next::Steps | Next::Over => false,
+        }
+    }
+
+    /// One move: a read, a step, or a write.
+    fn move_once<R: Clock + Eprint + AllocGlobal, F: Files + Drop>(
+        &mut self,
+        shared: &mut Shared<'_, R>,
+        host: &mut Host<F>,
+        now: Instant,
+    ) -> Turn
+        requires { IsAlive F.device host.old }
+        ensures { IsAlive F.device host.new }
+    {
+        if let Some(left) = self.lingers {
+            return self.linger(shared.buffer.as_mut_slice(), left);
+        }
+        if self.must_wait() {
+            return Turn::Waits;
+        }
+        let reads = self.conn.next() == Next::Reads;
+        let log = RequestLog {
+            runtime: shared.runtime,
+            deadline: &self.deadline,
+            peer: self.peer,
+            number: self.number,
+        };
+        let mut clock = SystemClock {
+            runtime: shared.runtime,
+            log: told_by(shared.logs, &log),
+        };
+        let turned = self.conn.turn(
+            shared.runtime.alloc(),
+            &mut StdSource::polled(Socket {
+                stream: &self.stream,
+            }),
+            &mut StdSink::polled(Socket {
+                stream: &self.stream,
+            }),
+            shared.site,
+            host,
+            self.host_number,
+            &mut clock,
+            shared.buffer.as_mut_slice(),
+        );
+        match turned {
+            Ok(turned) => {
+                if reads && turned == Turned::Moved {
+                    self.deadline.note_bytes(Some(now));
+                }
+                self.follow(turned, shared.patience, now)
+            }
+            Err(kind) => {
+                self.tell_end(shared, Err(FrontFault { kind, left: None }));
+                Turn::Over
+            }
+        }
+    }
+
+    /// As many moves as one turn has.
+    pub fn turn<R: Clock + Eprint + AllocGlobal, F: Files + Drop>(
+        &mut self,
+        shared: &mut Shared<'_, R>,
+        host: &mut Host<F>,
+        now: Instant,
+    ) -> Turn
+        requires { IsAlive F.device host.old }
+        ensures { IsAlive F.device host.new }
+    {
+        for _ in 0..MOVES {
+            let had_all = self.lingers.is_some();
+            match self.move_once(shared, host, now) {
+                Turn::Again => {
+                    if !had_all && self.lingers.is_some() {
+                        self.tell_end(
+                            shared,
+                            Ok(Served {
+                                requests: self.conn.requests(),
+                            }),
+                        );
+                    }
+                }
+                other => return other,
+            }
+        }
+        Turn::Again
+    }
+
+    /// Tells how it ended, where that is told.
+    fn tell_end<R: Clock + Eprint + AllocGlobal>(
+        &self,
+        shared: &Shared<'_, R>,
+        outcome: Result<Served, FrontFault>,
+    ) {
+        if shared.logs {
+            self.log(shared).tell_end(outcome);
+        }
+    }
+
+    fn log<'a, R: Clock + Eprint + AllocGlobal>(
+        &'a self,
+        shared: &Shared<'a, R>,
+    ) -> RequestLog<'a, R> {
+        RequestLog {
+            runtime: shared.runtime,
+            deadline: &self.deadline,
+            peer: self.peer,
+            number: self.number,
+        }
+    }
+
+    /// Its time is over.
+    pub fn tell_late<R: Clock + Eprint + AllocGlobal>(&self, shared: &Shared<'_, R>) {
+        if self.lingers.is_some() || self.gone {
+            return;
+        }
+        let kind = match self.conn.next() {
+            Next::Writes => FrontKind::Write,
+            _ => FrontKind::Read,
+        };
+        self.deadline.pass();
+        self.tell_end(shared, Err(FrontFault { kind, left: None }));
+    }
+}

@@ -1,0 +1,351 @@
+//! Many connections on one thread, by turns.
+
+ghost use Rattle.http_front.specs.Driven.{IsAlive};
+
+use crate::client::{Client, Shared, Turn, later};
+use crate::listening::ServeSettings;
+use crate::request_log::{tell_refused, tell_unready};
+use filter_chain::{Files, Host};
+use http_front::{Site, close_turns, open_turns};
+use mio::net::{TcpListener, TcpStream};
+use mio::{Events, Interest, Poll, Token};
+use slab::Slab;
+use std::collections::VecDeque;
+use std::io::{self, ErrorKind};
+use std::net::{Net, SocketAddr};
+use std::rt::Clock;
+use std::time::{Duration, Instant};
+
+/// The token of the listener; those of the clients are their keys, which are below it.
+const DOOR: usize = 1 << 40;
+
+/// How many reports a wait gives at most.
+const REPORTS: usize = 256;
+
+/// How many connections are taken in a row.
+const TAKEN_IN_A_ROW: u32 = 64;
+
+/// How often deadlines are looked at.
+const SWEEP_MILLIS: u64 = 250;
+
+/// How long no connection is taken where one could not be.
+const PAUSE_MILLIS: u64 = 100;
+
+/// The clients, and those whose turn it is.
+#[derive(Drop)]
+struct Hall {
+    clients: Slab<Client>,
+    queue: VecDeque<usize>,
+    late: Vec<usize>,
+}
+
+impl Hall {
+    /// Takes note of what the system reported of a client.
+    fn wake(&mut self, key: usize, readable: bool, writable: bool) {
+        let Some(client) = self.clients.get_mut(key) else {
+            return;
+        };
+        client.readable = client.readable || readable;
+        client.writable = client.writable || writable;
+        if !client.queued && self.queue.push_back(key).is_ok() {
+            client.queued = true;
+        }
+    }
+
+    /// A client leaves. Where there is no memory to close its connection on the host, that is tried again at each sweep.
+    fn leave<F: Files + Drop>(&mut self, host: &mut Host<F>, key: usize)
+        requires { IsAlive F.device host.old }
+        ensures { IsAlive F.device host.new }
+    {
+        let Some(client) = self.clients.get_mut(key) else {
+            return;
+        };
+        if close_turns(host, client.host_number) {
+            let _ = self.clients.try_remove(key);
+            return;
+        }
+        client.gone = true;
+    }
+
+    /// The turns of those that are in the queue.
+    fn go_round<R: Clock + Eprint + AllocGlobal, F: Files + Drop>(
+        &mut self,
+        shared: &mut Shared<'_, R>,
+        host: &mut Host<F>,
+        now: Instant,
+    )
+        requires { IsAlive F.device host.old }
+        ensures { IsAlive F.device host.new }
+    {
+        for _ in 0..self.queue.len() {
+            let Some(key) = self.queue.pop_front() else {
+                return;
+            };
+            let Some(client) = self.clients.get_mut(key) else {
+                continue;
+            };
+            client.queued = false;
+            if client.gone {
+                continue;
+            }
+            match client.turn(shared, host, now) {
+                Turn::Waits => {}
+                Turn::Again => self.wake(key, false, false),
+                Turn::Over => self.leave(host, key),
+            }
+        }
+    }
+
+    /// Finds those that are too late.
+    fn find_late<R: Clock + Eprint + AllocGlobal>(&mut self, shared: &Shared<'_, R>, now: Instant) {
+        self.late.clear();
+        for (key, client) in self.clients.iter() {
+            if client.due <= now || client.gone {
+                client.tell_late(shared);
+                let _ = self.late.push(key);
+            }
+        }
+    }
+
+    /// Sends away those that are too late.
+    fn sweep<R: Clock + Eprint + AllocGlobal, F: Files + Drop>(
+        &mut self,
+        shared: &Shared<'_, R>,
+        host: &mut Host<F>,
+        now: Instant,
+    )
+        requires { IsAlive F.device host.old }
+        ensures { IsAlive F.device host.new }
+    {
+        self.find_late(shared, now);
+        for _ in 0..self.late.len() {
+            let Some(key) = self.late.pop() else {
+                return;
+            };
+            self.leave(host, key);
+        }
+    }
+}
+
+/// The listener, and when it is asked again.
+#[derive(Drop)]
+struct Door {
+    listener: TcpListener,
+    /// Somebody may wait there.
+    open: bool,
+    pause: Option<Instant>,
+    /// How many are taken yet, and how many were, and may be there at once.
+    left: u64,
+    taken: u64,
+    at_once: usize,
+}
+
+impl Door {
+    /// Whether nobody can be taken now.
+    fn waits(&self, inside: usize) -> bool {
+        !self.open || self.pause.is_some() || self.left == 0 || inside >= self.at_once
+    }
+
+    /// The next that waits; none where none can be taken now.
+    fn next<R: Clock + Eprint + AllocGlobal>(
+        &mut self,
+        rt: &R,
+        logs: bool,
+        now: Instant,
+    ) -> Option<(TcpStream, SocketAddr)> {
+        match self.listener.accept() {
+            Ok(taken) => {
+                self.left = self.left.saturating_sub(1);
+                self.taken = self.taken.saturating_add(1);
+                Some(taken)
+            }
+            Err(error) if error.kind() == ErrorKind::WouldBlock => {
+                self.open = false;
+                None
+            }
+            Err(error) => {
+                if logs {
+                    tell_refused(rt, &error);
+                }
+                self.pause = Some(later(now, Duration::from_millis(PAUSE_MILLIS)));
+                None
+            }
+        }
+    }
+
+    /// The pause is over, where its time is.
+    fn end_pause(&mut self, now: Instant) {
+        if let Some(until) = self.pause {
+            if now >= until {
+                self.pause = None;
+            }
+        }
+    }
+}
+
+/// A client comes in.
+fn welcome<R: Clock + Eprint + AllocGlobal, F: Files + Drop>(
+    hall: &mut Hall,
+    shared: &Shared<'_, R>,
+    host: &mut Host<F>,
+    poll: &Poll,
+    taken: (TcpStream, SocketAddr),
+    number: u64,
+    now: Instant,
+) -> io::Result<()>
+    requires { IsAlive F.device host.old }
+    ensures { IsAlive F.device host.new }
+{
+    let (mut stream, peer) = taken;
+    stream.set_nodelay(true)?;
+    let entry = hall.clients.vacant_key();
+    poll.registry().register(
+        &mut stream,
+        Token(entry),
+        Interest::READABLE | Interest::WRITABLE,
+    )?;
+    let Ok(host_number) = open_turns(host) else {
+        return Err(io::Error::from(ErrorKind::OutOfMemory));
+    };
+    let client = Client::new(shared, stream, peer, host_number, number, now);
+    let Ok(key) = hall.clients.insert(client) else {
+        let _ = close_turns(host, host_number);
+        return Err(io::Error::from(ErrorKind::OutOfMemory));
+    };
+    hall.wake(key, true, true);
+    Ok(())
+}
+
+/// Takes those that wait, as many as there are places.
+fn take<R: Clock + Eprint + AllocGlobal, F: Files + Drop>(
+    door: &mut Door,
+    hall: &mut Hall,
+    shared: &Shared<'_, R>,
+    host: &mut Host<F>,
+    poll: &Poll,
+    now: Instant,
+)
+    requires { IsAlive F.device host.old }
+    ensures { IsAlive F.device host.new }
+{
+    door.end_pause(now);
+    for _ in 0..TAKEN_IN_A_ROW {
+        if door.waits(hall.clients.len()) {
+            return;
+        }
+        let Some(taken) = door.next(shared.runtime, shared.logs, now) else {
+            continue;
+        };
+        let peer = taken.1;
+        let number = door.taken;
+        if let Err(error) = welcome(hall, shared, host, poll, taken, number, now) {
+            if shared.logs {
+                tell_unready(shared.runtime, peer, number, &error);
+            }
+        }
+    }
+}
+
+/// How long the loop may wait: not at all where somebody's turn is, or somebody can be taken; to the next sweep where there is any client, or the
+/// door pauses.
+fn patience_of(hall: &Hall, door: &Door) -> Option<Duration> {
+    if !hall.queue.is_empty() || !door.waits(hall.clients.len()) {
+        return Some(Duration::ZERO);
+    }
+    if hall.clients.is_empty() && door.pause.is_none() {
+        return None;
+    }
+    Some(Duration::from_millis(SWEEP_MILLIS))
+}
+
+/// Takes note of what the system reports.
+fn note(events: &Events, hall: &mut Hall, door: &mut Door) {
+    for event in events.iter() {
+        let Token(key) = event.token();
+        if key == DOOR {
+            door.open = true;
+        } else {
+            hall.wake(key, event.is_readable(), event.is_writable());
+        }
+    }
+}
+
+/// Waits for what the system reports. A wait that a signal interrupts reports nothing.
+fn wait(poll: &mut Poll, events: &mut Events, most: Option<Duration>) -> io::Result<()> {
+    match poll.poll(events, most) {
+        Err(error) if error.kind() != ErrorKind::Interrupted => Err(error),
+        _ => Ok(()),
+    }
+}
+
+/// Serves connections by turns, up to so many at once.
+fn run<R: Clock + Eprint + AllocGlobal, F: Files + Drop>(
+    shared: &mut Shared<'_, R>,
+    host: &mut Host<F>,
+    poll: &mut Poll,
+    events: &mut Events,
+    door: &mut Door,
+) -> io::Result<()>
+    requires { IsAlive F.device host.old }
+{
+    let alloc = shared.runtime.alloc();
+    let mut hall = Hall {
+        clients: Slab::new(alloc),
+        queue: VecDeque::new(alloc),
+        late: Vec::new(alloc),
+    };
+    let mut swept = Instant::now(shared.runtime)?;
+    let sweep = Duration::from_millis(SWEEP_MILLIS);
+    for _ in 0..u64::MAX {
+        if door.left == 0 && hall.clients.is_empty() {
+            return Ok(());
+        }
+        let most = patience_of(&hall, door);
+        wait(poll, events, most)?;
+        note(events, &mut hall, door);
+        let now = Instant::now(shared.runtime)?;
+        take(door, &mut hall, shared, host, poll, now);
+        hall.go_round(shared, host, now);
+        if now.checked_duration_since(swept).unwrap_or(sweep) >= sweep {
+            hall.sweep(shared, host, now);
+            swept = now;
+        }
+    }
+    Ok(())
+}
+
+/// Serves connections by turns, up to so many at once. One that cannot be taken is none. It fails only where the system reports no events.
+pub fn serve_turns<R: Clock + Eprint + AllocGlobal + Net, F: Files + Drop>(
+    rt: &R,
+    listener: TcpListener,
+    site: &Site,
+    host: &mut Host<F>,
+    manner: ServeSettings,
+) -> io::Result<()>
+    requires { IsAlive F.device host.old }
+{
+    let mut poll = Poll::new(rt)?;
+    let mut events = Events::with_capacity(rt.alloc(), REPORTS)?;
+    let mut listener = listener;
+    poll.registry()
+        .register(&mut listener, Token(DOOR), Interest::READABLE)?;
+    let mut door = Door {
+        listener,
+        open: true,
+        pause: None,
+        left: match manner.conns {
+            Some(conns) => u64::from(conns),
+            None => u64::MAX,
+        },
+        taken: 0,
+        at_once: manner.at_once,
+    };
+    let mut shared = Shared {
+        runtime: rt,
+        site,
+        patience: manner.patience,
+        logs: manner.logs,
+        buffer: vec![in rt.alloc(); 0; 8192]?,
+    };
+    run(&mut shared, host, &mut poll, &mut events, &mut door)
+}

@@ -1,0 +1,45 @@
+//! A socket that does not wait. A call that a signal interrupts is made again.
+
+ghost use Rattle.std.specs.Prelude.{◌≡◌, ◌≤◌, IfOk, length};
+
+use mio::net::TcpStream;
+use std::io::{self, ErrorKind, Read, Write};
+
+/// How many times a call is made that a signal interrupts.
+const TRIES: u32 = 1000;
+
+/// A socket that does not wait.
+#[derive(Drop)]
+pub struct Socket<'a> {
+    pub stream: &'a TcpStream,
+}
+
+impl Read for Socket<'_> {
+    fn read(&mut self, buf: &mut [u8]) -> io::Result<usize> {
+        let mut stream = self.stream;
+        for _ in 0..TRIES {
+            match stream.read(buf) {
+                Err(error) if error.kind() == ErrorKind::Interrupted => {}
+                given => return given,
+            }
+        }
+        Err(io::Error::from(ErrorKind::Interrupted))
+    }
+}
+
+impl Write for Socket<'_> {
+    fn write(&mut self, buf: &[u8]) -> io::Result<usize> {
+        let mut stream = self.stream;
+        for _ in 0..TRIES {
+            match stream.write(buf) {
+                Err(error) if error.kind() == ErrorKind::Interrupted => {}
+                given => return given,
+            }
+        }
+        Err(io::Error::from(ErrorKind::Interrupted))
+    }
+
+    fn flush(&mut self) -> io::Result<()> {
+        Ok(())
+    }
+}
