@@ -17,7 +17,8 @@ use std::rt::Files as FileSystem;
 use std::{fs, io, str};
 
 /// Files of a disk, reached by a runtime. What they hold is not told, and they may always fail. A name is a path: one that is not UTF-8, that holds a
-/// NUL, or that leads to no regular file is `NotThere`. Any other fault of an opening is `Failed`, and is counted.
+/// NUL, that is too long, or that leads to no regular file is `NotThere`: a folder, a pipe or a device is never opened, nor waited for. Any other
+/// fault of an opening is `Failed`, and is counted.
 #[derive(Drop)]
 pub struct DiskFiles<R: FileSystem + AllocGlobal> {
     runtime: R,
@@ -35,6 +36,23 @@ fn path_of(name: &[u8]) -> Option<&str> {
         return None;
     }
     str::from_utf8(name).ok()
+}
+
+// Whether a path leads to something that is no regular file, as a folder, a pipe or a device. It is looked at before it is opened, since who opens a
+// pipe that nobody writes into waits.
+fn leads_elsewhere(runtime: &impl FileSystem, path: &str) -> bool {
+    match fs::metadata(runtime, path) {
+        Ok(found) => !found.is_file(),
+        Err(_) => false,
+    }
+}
+
+// Whether a path that was not opened so leads nowhere: nothing is there, it lies below a file, or a name in it is longer than names are.
+fn leads_nowhere(kind: io::ErrorKind) -> bool {
+    matches!(
+        kind,
+        io::ErrorKind::NotFound | io::ErrorKind::NotADirectory | io::ErrorKind::InvalidFilename
+    )
 }
 
 // Fills the buffer from a place of a file on, as far as the file reaches.
@@ -89,11 +107,12 @@ where
         let Some(path) = path_of(name) else {
             return Err(FileFault::NotThere);
         };
+        if leads_elsewhere(&self.runtime, path) {
+            return Err(FileFault::NotThere);
+        }
         let file = match fs::File::open(&self.runtime, path) {
             Ok(file) => file,
-            Err(error) if error.kind() == io::ErrorKind::NotFound => {
-                return Err(FileFault::NotThere);
-            }
+            Err(error) if leads_nowhere(error.kind()) => return Err(FileFault::NotThere),
             Err(_) => return Err(self.fail()),
         };
         let Ok(metadata) = file.metadata() else {
