@@ -120,7 +120,7 @@ impl<R: Rings<Bucket> + Drop> Brigades<R> {
     }
 
     /// Finds the place behind the shortest front of a brigade whose lengths add up to a point (`apr_brigade_partition`). A bucket that
-    /// the point lies inside is split, which alone may be refused: `NamesSpent` where the next name is `u64::MAX`, else `NoMemory`. Refused,
+    /// the point lies inside is split, which alone may be refused: `NamesSpent` only where the next name is `u64::MAX`, or `NoMemory`. Refused,
     /// nothing is changed. `Incomplete`: the brigade is shorter, and nothing is changed.
     pub fn partition(&mut self, b: BrigadeId, point: u64) -> Result<Cut, RingRefusal>
         requires there { is_some (lists self.old b) ≡ true }

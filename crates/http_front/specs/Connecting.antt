@@ -53,7 +53,7 @@ module _ (budget : ℕ) (chain : List Program) (number : ℕ) where
 
 module _ {H K : Type 0} (site : Site) (handles : H → Method → List ℕ → RequestOutcome → H → Type 0) (tells : K → Said → K → Type 0) where
   -- What is written of the responses to a stream, where serving it ends by this kind of fault. unread: what the reader has left. Only where the
-  -- writer failed, the last response is cut. Where the reader failed, or gave no end, all whole requests that were read are answered. Where names
+  -- writer failed, or had no memory, the last response is cut. Where the reader failed, or gave no end, all whole requests that were read are answered. Where names
   -- or memory are lacking, all before the one at hand are: names only for a request that nothing refuses and whose path has a file. All responses
   -- are written, where no more than the close lacks memory.
   abbrev pub FallsBy : (H → Method → List ℕ → FrontKind → H → Type 0) → FrontKind → Option ℕ → H → K → List ℕ → List ℕ → Option (List ℕ) → H → K → Type 0

@@ -60,7 +60,7 @@ module _ {H K : Type 0} (site : Site) (handles : H → Method → List ℕ → R
   abbrev pub EndsWell : H → K → Option (List ℕ) → Option (List ℕ) → Option (List ℕ) → ℕ → H → K → Type 0
   EndsWell old before r w v n new after = Writes r w v (λ stream text. Responses site handles tells old before stream text n new after)
 
-  -- Serving fails. Only where the writer failed, a response is cut. All whole requests that were read are answered, where the reader failed,
+  -- Serving fails. Only where the writer failed, or had no memory, a response is cut. All whole requests that were read are answered, where the reader failed,
   -- or gave no end. All before the one at hand are, where memory or names are lacking: names only for a request that nothing refuses and whose
   -- path has a file.
   -- lacks: what the handler says of a request that it left.

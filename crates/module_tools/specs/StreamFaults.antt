@@ -3,7 +3,7 @@ use Rattle.std.specs.Prelude.{◌≡◌, ℕ, Bool, true, ◌⊎◌, Result, Ok,
 use Rattle.module_tools.specs.declared.fault.PlayFault.{PlayFault}
 use Rattle.module_tools.specs.declared.fault.PlayFault.TheVariants as fault
 
--- a writer: it failed exactly where the answer is `Write`
+-- a writer: where it had not failed before, it failed exactly where the answer is `Write`
 abbrev pub LeavesWriter : Bool → Bool → PlayFault → Type 0
 LeavesWriter was is fault.Read = is ≡ was
 LeavesWriter was is fault.Write = is ≡ true
@@ -17,7 +17,7 @@ TellsOfWriter was is (Err f) = LeavesWriter was is f
 abbrev pub IsReadOut : Bool → Bool → ℕ → Type 0
 IsReadOut was is left = (is ≡ true) ⊎ ((left ≡ 0) × (is ≡ was))
 
--- a reader: it failed only where the answer is `Read`, and the answer is `Read` only where it failed or was read out
+-- a reader that had not failed before: it failed only where the answer is `Read`, and the answer is `Read` only where it failed or was read out
 abbrev pub LeavesReader : Bool → Bool → ℕ → PlayFault → Type 0
 LeavesReader was is left fault.Read = IsReadOut was is left
 LeavesReader was is left fault.Write = is ≡ was
