@@ -126,9 +126,16 @@ fn check_file(rt: &HostRuntime, file: &str, cert: &str, asked: bool) -> ExitCode
     let file_read = &reader.source().reader;
     let cert_read = &certs.source().reader;
     if helps && is_refused(&checked) {
-        tell_help(rt, explain_check(rt.alloc(), file_read.given(), cert_read.given()));
+        tell_help(
+            rt,
+            explain_check(rt.alloc(), file_read.given(), cert_read.given()),
+        );
     }
-    let name = if cert_read.reader().is_read() { cert } else { file };
+    let name = if cert_read.reader().is_read() {
+        cert
+    } else {
+        file
+    };
     end(rt, checked, name)
 }
 

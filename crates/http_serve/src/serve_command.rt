@@ -94,7 +94,11 @@ fn read_part<R: FileSystem + AllocGlobal>(rt: &R, name: &str) -> Result<Part, St
             let CommandOutput { text, ended: _ } = answer;
             Err(StartError::Told(text))
         }
-        Err(fault) if cert.source().reader.is_read() => Err(stop_of(alloc, fault, cert_name.as_str())),
+        Err(fault) if cert.source().reader.is_read() => Err(stop_of(
+            alloc,
+            fault,
+            cert_name.as_str(),
+        )),
         Err(fault) => Err(stop_of(alloc, fault, name)),
     }
 }

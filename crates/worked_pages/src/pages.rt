@@ -88,12 +88,7 @@ fn host(alloc: Global, server: Server) -> Result<Host<MemFiles>>
     if files.next_number() == 0 {
         return Err(NoFiles.into());
     }
-    Ok(Host::checked(
-        alloc,
-        files,
-        chain(alloc, server.module)?,
-        limits,
-    )?)
+    Ok(Host::checked(alloc, files, chain(alloc, server.module)?, limits)?)
 }
 
 /// Serves a stream, and tells how many responses were written, and what.
