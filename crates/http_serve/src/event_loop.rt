@@ -125,6 +125,25 @@ impl Hall {
             self.leave(host, key);
         }
     }
+
+    /// Sends away those that are too late, where it was not done for a while. Answers when it was done last.
+    fn sweep_in_time<R: Clock + Eprint + AllocGlobal, F: Files + Drop>(
+        &mut self,
+        shared: &Shared<'_, R>,
+        host: &mut Host<F>,
+        swept: Instant,
+        now: Instant,
+    ) -> Instant
+        requires { IsAlive F.device host.old }
+        ensures { IsAlive F.device host.new }
+    {
+        let due = Duration::from_millis(SWEEP_MILLIS);
+        if now.checked_duration_since(swept).unwrap_or(due) < due {
+            return swept;
+        }
+        self.sweep(shared, host, now);
+        now
+    }
 }
 
 /// The listener, and when it is asked again.
@@ -295,7 +314,6 @@ fn run<R: Clock + Eprint + AllocGlobal, F: Files + Drop>(
         late: Vec::new(alloc),
     };
     let mut swept = Instant::now(shared.runtime)?;
-    let sweep = Duration::from_millis(SWEEP_MILLIS);
     for _ in 0..u64::MAX {
         if door.left == 0 && hall.clients.is_empty() {
             return Ok(());
@@ -306,10 +324,7 @@ fn run<R: Clock + Eprint + AllocGlobal, F: Files + Drop>(
         let now = Instant::now(shared.runtime)?;
         take(door, &mut hall, shared, host, poll, now);
         hall.go_round(shared, host, now);
-        if now.checked_duration_since(swept).unwrap_or(sweep) >= sweep {
-            hall.sweep(shared, host, now);
-            swept = now;
-        }
+        swept = hall.sweep_in_time(shared, host, swept, now);
     }
     Ok(())
 }
