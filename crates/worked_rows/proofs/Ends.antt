@@ -6,16 +6,12 @@ use Rattle.bucket_ring.specs.declared.names.BucketId.{BucketId}
 use Rattle.bucket_ring.specs.Lists.{found, same, upd, on, list_at, by_birth, numbered}
 use Rattle.bucket_ring.proofs.Counted.{upd_on}
 use Rattle.run_model.specs.declared.bucket.Bucket.{Bucket}
-use Rattle.run_model.specs.Cutting.{EndsInFile}
 use Rattle.brigade_ops.specs.Items.{Items}
 
-abbrev pub Ends : Bucket → Type 0
-Ends x = EndsInFile x.content
-
-ends_found : (n : ℕ) (id : BucketId) (x : Bucket) (xs : Items) (bs : List Bucket) → by_birth xs ≡ numbered n bs → All Ends bs → found id xs ≡ Some x → Ends x
-ends_found n id x [] bs alike ends is = absurd (cc)
-ends_found n id x (y ∷ ys) [] alike ends is = absurd (cc)
-ends_found n id x (y ∷ ys) (b ∷ bs) alike ends is = go (same y.0 id) refl (ends_found (n + 1) id x ys bs others (All-tail Ends b bs ends)) where
+ends_found : (Ends : Bucket → Type 0) (n : ℕ) (id : BucketId) (x : Bucket) (xs : Items) (bs : List Bucket) → by_birth xs ≡ numbered n bs → All Ends bs → found id xs ≡ Some x → Ends x
+ends_found Ends n id x [] bs alike ends is = absurd (cc)
+ends_found Ends n id x (y ∷ ys) [] alike ends is = absurd (cc)
+ends_found Ends n id x (y ∷ ys) (b ∷ bs) alike ends is = go (same y.0 id) refl (ends_found Ends (n + 1) id x ys bs others (All-tail Ends b bs ends)) where
   others : by_birth ys ≡ numbered (n + 1) bs
   others = cc
 
@@ -29,12 +25,12 @@ ends_found n id x (y ∷ ys) (b ∷ bs) alike ends is = go (same y.0 id) refl (e
   go true hit later = let here : Some y.1 ≡ Some x = rw hit at is in let e : y.1 ≡ x = cc in subst Ends (sym first ∙ e) (All-head Ends b bs ends)
   go false miss later = later (rw miss at is)
 
--- what was put into an empty brigade
-pub filled_ends : (r n : ℕ) (id : BucketId) (x : Bucket) (xs : Items) (bs : List Bucket) (none lists new : ℕ → Option Items)
+-- what is true of each that was put into an empty brigade
+pub filled_ends : (Ends : Bucket → Type 0) (r n : ℕ) (id : BucketId) (x : Bucket) (xs : Items) (bs : List Bucket) (none lists new : ℕ → Option Items)
     → ((m : ℕ) → lists m ≡ upd none r (Some []) m) → by_birth xs ≡ numbered n bs → ((m : ℕ) → new m ≡ on r (λ ys. ys ++ xs) lists m)
     → All Ends bs → found id (list_at new r) ≡ Some x → Ends x
-filled_ends r n id x xs bs none lists new made alike put ends is =
+filled_ends Ends r n id x xs bs none lists new made alike put ends is =
     let begun : lists r ≡ Some [] = made r ∙ upd_on none r (Some []) in
     let now : new r ≡ Some xs = put r ∙ upd_on lists r (option_map (λ ys. ys ++ xs) (lists r)) ∙ ap (option_map (λ (ys : Items). ys ++ xs)) begun in
     let all : list_at new r ≡ xs = ap (λ (o : Option Items). option_map_or (λ ys. ys) o []) now in
-    ends_found n id x xs bs alike ends (rw all at is)
+    ends_found Ends n id x xs bs alike ends (rw all at is)

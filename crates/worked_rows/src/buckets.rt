@@ -1,7 +1,7 @@
 //! Rows of one bucket: splits, copies and setting aside.
 
 ghost use Rattle.std.specs.Prelude.{◌≡◌, ◌≤◌, ◌+◌, IfOk, true};
-ghost use Rattle.run_model.specs.Cutting.{EndsInFile};
+ghost use Rattle.run_model.specs.Cutting.{EndsInFile, Memory, form_of, form_of_kind};
 
 use crate::shown::Shown;
 use anyhow::Result;
@@ -17,6 +17,7 @@ pub(crate) fn in_memory(
 ) -> Result<Bucket, AllocError>
     ensures content { IfOk result (λ b. b.content ≡ Content.Bytes text.now) }
     ensures ends { IfOk result (λ b. EndsInFile b.content) }
+    ensures fits { form_of_kind kind ≡ Memory → IfOk result (λ b. form_of b.content ≡ form_of_kind b.kind) }
 {
     let mut bytes = Seq::new(alloc);
     bytes.extend(text)?;
@@ -28,7 +29,8 @@ pub(crate) fn in_memory(
 }
 
 pub(crate) fn eos() -> Bucket
-    ensures { EndsInFile result.content }
+    ensures ends { EndsInFile result.content }
+    ensures fits { form_of result.content ≡ form_of_kind result.kind }
 {
     Bucket {
         kind: Kind::Eos,

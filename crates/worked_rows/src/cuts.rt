@@ -1,7 +1,7 @@
 //! Rows of one bucket of a brigade: it is split, copied and read, and a brigade is parted at a point.
 
 ghost use Rattle.std.specs.Prelude.{◌≡◌, Some, All, IfOk, true, IsTrue};
-ghost use Rattle.run_model.specs.Cutting.{EndsInFile};
+ghost use Rattle.run_model.specs.Cutting.{EndsInFile, form_of, form_of_kind};
 ghost use Rattle.run_model.specs.declared.bucket.Bucket.{Bucket};
 ghost use Rattle.bucket_kinds.specs.Device.{Device, is_there};
 ghost use Rattle.bucket_kinds.specs.Reading.{IsOpenFor};
@@ -78,8 +78,10 @@ pub(crate) fn copies_into_a_brigade(rt: &HostRuntime) -> Result<()> {
 
 /// A store with one brigade, of these buckets.
 fn filled(alloc: Global, buckets: Vec<Bucket>) -> Result<(Store, BrigadeId)>
-    requires { All (λ x. EndsInFile x.content) buckets.items }
-    ensures { IfOk result (λ s. (id : BucketId) (x : Bucket) → brigade_of s.0 id ≡ Some s.1 → bucket_at s.0 id ≡ Some x → EndsInFile x.content) }
+    requires ends { All (λ x. EndsInFile x.content) buckets.items }
+    requires fits { All (λ x. form_of x.content ≡ form_of_kind x.kind) buckets.items }
+    ensures ends { IfOk result (λ s. (id : BucketId) (x : Bucket) → brigade_of s.0 id ≡ Some s.1 → bucket_at s.0 id ≡ Some x → EndsInFile x.content) }
+    ensures fits { IfOk result (λ s. (id : BucketId) (x : Bucket) → brigade_of s.0 id ≡ Some s.1 → bucket_at s.0 id ≡ Some x → form_of x.content ≡ form_of_kind x.kind) }
 {
     let mut store = Store::new(alloc, 1);
     let brigade = store.loose()?;
@@ -92,7 +94,8 @@ fn filled(alloc: Global, buckets: Vec<Bucket>) -> Result<(Store, BrigadeId)>
 
 /// Parts a brigade of these buckets at a point, and tells the place and the brigade.
 fn show_partition(rt: &HostRuntime, buckets: Vec<Bucket>, point: u64) -> Result<()>
-    requires { All (λ x. EndsInFile x.content) buckets.items }
+    requires ends { All (λ x. EndsInFile x.content) buckets.items }
+    requires fits { All (λ x. form_of x.content ≡ form_of_kind x.kind) buckets.items }
 {
     let (mut store, brigade) = filled(rt.alloc(), buckets)?;
     print!(rt; "at {point}: ")?;
