@@ -13,8 +13,8 @@ fn number<'a>(alloc: Global, name: &'a str, shown: &'a str, help: &'a str) -> Ar
         .help(help)
 }
 
-/// The command, with its words.
-pub fn serve_command<'a>(alloc: Global) -> Result<Command<'a>, AllocError> {
+/// The words on what is served, and where.
+fn with_place<'a>(alloc: Global, command: Command<'a>) -> Result<Command<'a>, AllocError> {
     let site = Arg::new(alloc, "site")
         .long("site")
         .value_name("FILE")
@@ -31,6 +31,11 @@ pub fn serve_command<'a>(alloc: Global) -> Result<Command<'a>, AllocError> {
         .value_name("ADDRESS")
         .default_value("127.0.0.1")
         .help("The address that is listened on; 0.0.0.0 stands for all of them");
+    command.arg(site)?.arg(port)?.arg(listen)
+}
+
+/// The words on how many connections are served, and for how long.
+fn with_limits<'a>(alloc: Global, command: Command<'a>) -> Result<Command<'a>, AllocError> {
     let conns = number(alloc, "conns", "N", "How many connections are served").default_value("1");
     let forever = Arg::new(alloc, "forever")
         .long("forever")
@@ -60,6 +65,16 @@ pub fn serve_command<'a>(alloc: Global) -> Result<Command<'a>, AllocError> {
     )
     .value_parser(value_parser!(u32).range(1..=4096))
     .default_value("1");
+    command
+        .arg(conns)?
+        .arg(forever)?
+        .arg(budget)?
+        .arg(timeout)?
+        .arg(at_once)
+}
+
+/// The command, with its words.
+pub fn serve_command<'a>(alloc: Global) -> Result<Command<'a>, AllocError> {
     let log = Arg::new(alloc, "log")
         .long("log")
         .action(ArgAction::SetTrue)
@@ -68,18 +83,10 @@ pub fn serve_command<'a>(alloc: Global) -> Result<Command<'a>, AllocError> {
         .required(true)
         .num_args(1..=16)
         .help("The filters, the first first; the certificate of each in MODULE.cert");
-    Command::new(alloc, "serve")
-        .about(
-            "Serves the files of a site over HTTP/1.1, through a chain of filters that is checked first",
-        )
-        .arg(site)?
-        .arg(port)?
-        .arg(listen)?
-        .arg(conns)?
-        .arg(forever)?
-        .arg(budget)?
-        .arg(timeout)?
-        .arg(at_once)?
+    let command = Command::new(alloc, "serve").about(
+        "Serves the files of a site over HTTP/1.1, through a chain of filters that is checked first",
+    );
+    with_limits(alloc, with_place(alloc, command)?)?
         .arg(log)?
         .arg(modules)
 }
