@@ -18,7 +18,7 @@ IsNoFault (Step (stepped.Fault k m pc)) = ⊥
 IsNoFault (Output bytes) = Unit {0}
 IsNoFault (Opened file len) = Unit {0}
 IsNoFault (Labels texts) = Unit {0}
-IsNoFault (Tree pools) = Unit {0}
+IsNoFault (Tree root pools) = Unit {0}
 
 unfoldable pub NoFaults : List Answer → Type 0
 NoFaults [] = Unit {0}

@@ -47,8 +47,8 @@ pub data Answer : Type 0 where
   Opened : ℕ → ℕ → Answer
   -- the labels run
   Labels : List (List ℕ) → Answer
-  -- the pools
-  Tree : Pools Payload → Answer
+  -- the pools, under this root
+  Tree : ℕ → Pools Payload → Answer
 
 -- The connection k changes, and what is shared. Every other connection stays.
 abbrev pub put_conn : ℕ → Linked → World → World
@@ -107,7 +107,7 @@ tree_of w = tree_below w.last w.conns (record (planted w.common.root) { next = w
 unfoldable pub happens_on : Bool → ℕ → List Program → Told → Event → ℕ → Option Connection → World → Answer × World
 happens_on memory budget chain told event.Open k c w = opens memory chain w
 happens_on memory budget chain told (event.AddFile name bytes) k c w = adds_file memory w
-happens_on memory budget chain told event.TellPools k c w = (Tree (tree_of w), w)
+happens_on memory budget chain told event.TellPools k c w = (Tree w.common.root (tree_of w), w)
 happens_on memory budget chain told e k None w = (Refused refusal.NoSuchConn, w)
 happens_on memory budget chain told (event.OpenFile name) k (Some c) w = file_answered k w (opens_file memory told.opening (w.common, c))
 happens_on memory budget chain told event.Begin k (Some c) w = answered k w (begins memory chain (w.common, c))
