@@ -145,7 +145,7 @@ opened_on d old new w hosts chain budget last conn conns modules same lasts open
       chained = hosts.chained;
       reached = reached;
       last_is = number ∙ sym last;
-      pools = pools 1 root ∙ ap (created 1) hosts.pools ∙ sym (opening_plants (budget_of old) programs w hosts.chained hosts.reached);
+      pools = pools w.common.root root ∙ ap (created w.common.root) hosts.pools ∙ sym (opening_plants (budget_of old) programs w hosts.chained hosts.reached);
       names = left.seen.given;
       files = (let le = hosts.files in let file = opened_file programs w.common in omega (arith, le, file));
       house = left.house;
@@ -180,8 +180,8 @@ opened_on d old new w hosts chain budget last conn conns modules same lasts open
       after : (k : ℕ) → conn_at new.conns k ≡ upd (conn_at old.conns) (w.last + 1) (Some conn) k
       after = subst (λ (n : ℕ). (k : ℕ) → conn_at new.conns k ≡ upd (conn_at old.conns) n (Some conn) k) (sym number) conns
 
-      root : (map_of old.tree).path 1 ≡ 1 ∷ []
-      root = ap (λ (ps : Pools Payload). ps.path 1) hosts.pools ∙ (reached_tree (budget_of old) programs w hosts.chained hosts.reached).root
+      root : (map_of old.tree).path w.common.root ≡ w.common.root ∷ []
+      root = ap (λ (ps : Pools Payload). ps.path w.common.root) hosts.pools ∙ (reached_tree (budget_of old) programs w hosts.chained hosts.reached).root
 
       left : LeftAs programs new.tree new.store d conn (opening.over (map_of new.tree) v)
       left = subst (λ (m : List Program). (d : Device) (g : Common) → AreOpen (references old.store) d → g.pools ≡ (map_of old.tree).next → g.next ≡ next_name old.store → LeftAs m new.tree new.store d conn (opening.over (map_of new.tree) (opened m g))) same opens

@@ -1,7 +1,7 @@
 -- On a chain that was checked no event of a host answers a fault.
 use Rattle.std.proofs.Common.{ℕ, List, [], ◌∷◌, ◌++◌}
 use Rattle.run_model.specs.declared.event.Event.{Event}
-use Rattle.run_model.specs.Worlds.{World, Answer, empty_world}
+use Rattle.run_model.specs.Worlds.{World, Answer, new_world}
 use Rattle.model_laws.proofs.chains.Reached.{world_run_goes_on}
 use Rattle.bucket_kinds.specs.Device.{Device}
 use Rattle.life_check.specs.ChainTheorem.{IsNoFault, NoFaults}
@@ -18,7 +18,12 @@ last_well (b ∷ answers) a well = last_well answers a well.1
 pub reached_worlds_answer_no_fault : ReachedWorldsAnswerNoFault
 reached_worlds_answer_no_fault budget chain number what old new answer never reached acts =
     last_well reached.answers answer (never budget (reached.events ++ (number, what) ∷ []) (reached.answers ++ answer ∷ []) new.world
-    (world_run_goes_on acts.memory budget chain acts.told number what empty_world old.world new.world reached.events reached.answers answer reached.run acts.is))
+    (record {
+      first = reached.run.first;
+      named = reached.run.named;
+      given = reached.run.given;
+      run = world_run_goes_on acts.memory budget chain acts.told number what (new_world reached.run.first) old.world new.world reached.events reached.answers answer reached.run.run acts.is;
+    }))
 
 -- So it is of each call of a host.
 pub happens_well : {F : Type 0} (d e : Device) (old new : Host F) (number : ℕ) (what : Event) (answer : Answer) (w : World) → IsHosting d old w → IsSafe old → Happens d e old new number what answer w → IsNoFault answer

@@ -66,7 +66,7 @@ abbrev pub close_answer : Result (Vec (Vec (ℕ × Payload))) Refusal → Answer
 close_answer (Ok labels) = Labels (labels_handed labels.items)
 close_answer (Err r) = Refused r
 
--- Connections on one tree of pools and in one store of brigades stand for a world that is reached from the empty one by some events. last: the
+-- Connections on one tree of pools and in one store of brigades stand for a world that is reached from a new one by some events. last: the
 -- number that was given last. pools: the tree is the world's. names, files: the names that are given next; a device may have used up numbers
 -- of files that no opening told. house, open_files: the brigades stand on the pools of the tree, and files that these refer to are open. none: no
 -- brigade has the name 0. apart: no brigade is held by two connections.

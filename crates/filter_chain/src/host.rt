@@ -1,8 +1,8 @@
 //! The host.
 
-ghost use Rattle.std.specs.Prelude.{◌≡◌, ◌<◌, IfOk};
+ghost use Rattle.std.specs.Prelude.{◌≡◌, ◌<◌, ◌↔◌, IfOk, IsErrOf};
 ghost use Rattle.run_model.specs.Chains.{IsChain};
-ghost use Rattle.run_model.specs.Worlds.{empty_world};
+ghost use Rattle.run_model.specs.Worlds.{new_world};
 
 use crate::conns::Conns;
 use crate::limits::Limits;
@@ -10,7 +10,7 @@ use crate::spare::Spare;
 use brigade_ops::{Brigades, PlainRings};
 use bucket_kinds::Files;
 use life_check::CheckedChain;
-use pool_tree::PoolTree;
+use pool_tree::{PoolError, PoolId, PoolTree};
 use run_model::{Bucket, Module, Payload};
 use std::alloc::{AllocError, Global};
 
@@ -33,8 +33,8 @@ impl<F: Files + Drop> Host<F> {
     ghost use Rattle.filter_chain.specs.Hosting.{IsHosting, budget_of, chain_of, files_of};
     ghost use Rattle.filter_chain.specs.Safe.{IsSafe};
 
-    /// No connection, on a chain of modules. Each step is watched: a fault breaks its connection. Refused where there is no memory for the
-    /// root of the pools.
+    /// No connection, on a chain of modules. Each step is watched: a fault breaks its connection. Names begin with 1. Refused where there is
+    /// no memory for the root of the pools.
     pub fn watched(
         alloc: Global,
         files: F,
@@ -43,14 +43,36 @@ impl<F: Files + Drop> Host<F> {
     ) -> Result<Self, AllocError>
         requires chain { IsChain modules.items }
         requires numbered { 0 < (F.device files).next }
-        ensures empty { IfOk result (λ host. IsHosting (F.device (files_of host)) host empty_world) }
+        ensures empty { IfOk result (λ host. IsHosting (F.device (files_of host)) host (new_world 1)) }
         ensures chain { IfOk result (λ host. chain_of host ≡ modules.items) }
         ensures budget { IfOk result (λ host. budget_of host ≡ limits.budget) }
         ensures files { IfOk result (λ host. files_of host ≡ files) }
     {
-        let Ok(tree) = PoolTree::new(alloc, 1) else {
-            return Err(AllocError);
-        };
+        match Host::watched_at(alloc, files, modules, limits, 1) {
+            Ok(host) => Ok(host),
+            Err(_) => Err(AllocError),
+        }
+    }
+
+    /// As `watched`. The names of pools, and those of brigades, buckets and calls, begin with `first`, which is not 0: that is no call's name.
+    /// `NamesSpent`: it is `u64::MAX`, which is never given out. `NoMemory`: there is none for the root of the pools.
+    pub fn watched_at(
+        alloc: Global,
+        files: F,
+        modules: Vec<Module>,
+        limits: Limits,
+        first: PoolId,
+    ) -> Result<Self, PoolError>
+        requires chain { IsChain modules.items }
+        requires numbered { 0 < (F.device files).next }
+        requires named { 0 < first }
+        ensures empty { IfOk result (λ host. IsHosting (F.device (files_of host)) host (new_world first)) }
+        ensures chain { IfOk result (λ host. chain_of host ≡ modules.items) }
+        ensures budget { IfOk result (λ host. budget_of host ≡ limits.budget) }
+        ensures files { IfOk result (λ host. files_of host ≡ files) }
+        ensures spent { IsErrOf result PoolError.NamesSpent ↔ (first ≡ u64.MAX) }
+    {
+        let tree = PoolTree::new(alloc, first)?;
         Ok(Host {
             alloc,
             modules,
@@ -58,13 +80,14 @@ impl<F: Files + Drop> Host<F> {
             conns: Conns::new(alloc),
             last: 0,
             tree,
-            store: Brigades::new(alloc, 1),
+            store: Brigades::new(alloc, first),
             files,
             spare: Spare::new(alloc),
         })
     }
 
-    /// No connection, on a chain that was checked: no call answers a fault. Refused where there is no memory for the root of the pools.
+    /// No connection, on a chain that was checked: no call answers a fault. Names begin with 1. Refused where there is no memory for the
+    /// root of the pools.
     pub fn checked(
         alloc: Global,
         files: F,
@@ -72,13 +95,36 @@ impl<F: Files + Drop> Host<F> {
         limits: Limits,
     ) -> Result<Self, AllocError>
         requires numbered { 0 < (F.device files).next }
-        ensures empty { IfOk result (λ host. IsHosting (F.device (files_of host)) host empty_world) }
+        ensures empty { IfOk result (λ host. IsHosting (F.device (files_of host)) host (new_world 1)) }
         ensures chain { IfOk result (λ host. chain_of host ≡ chain) }
         ensures budget { IfOk result (λ host. budget_of host ≡ limits.budget) }
         ensures files { IfOk result (λ host. files_of host ≡ files) }
         ensures safe { IfOk result (λ host. IsSafe host) }
     {
-        Host::watched(alloc, files, chain.into_modules(), limits)
+        match Host::checked_at(alloc, files, chain, limits, 1) {
+            Ok(host) => Ok(host),
+            Err(_) => Err(AllocError),
+        }
+    }
+
+    /// As `checked`. Names begin with `first`, and it is refused as `watched_at` is.
+    pub fn checked_at(
+        alloc: Global,
+        files: F,
+        chain: CheckedChain,
+        limits: Limits,
+        first: PoolId,
+    ) -> Result<Self, PoolError>
+        requires numbered { 0 < (F.device files).next }
+        requires named { 0 < first }
+        ensures empty { IfOk result (λ host. IsHosting (F.device (files_of host)) host (new_world first)) }
+        ensures chain { IfOk result (λ host. chain_of host ≡ chain) }
+        ensures budget { IfOk result (λ host. budget_of host ≡ limits.budget) }
+        ensures files { IfOk result (λ host. files_of host ≡ files) }
+        ensures safe { IfOk result (λ host. IsSafe host) }
+        ensures spent { IsErrOf result PoolError.NamesSpent ↔ (first ≡ u64.MAX) }
+    {
+        Host::watched_at(alloc, files, chain.into_modules(), limits, first)
     }
 
     /// The chain.

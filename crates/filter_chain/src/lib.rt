@@ -20,5 +20,5 @@ pub use byte_text::WriteFault;
 pub use host::Host;
 pub use life_check::CheckedChain;
 pub use limits::Limits;
-pub use pool_tree::PoolId;
+pub use pool_tree::{PoolError, PoolId};
 pub use run_model::{Cause, Module, Payload, Piece, Refusal, Seq, Stepped};

@@ -24,7 +24,7 @@ use Rattle.life_check.specs.Typed.{first_below, first_refusal}
 use Rattle.life_check.proofs.TypedLaws.{typed_of}
 use Rattle.model_laws.specs.Examples.{bare, told_by, left_by, answers_from, never_creates}
 use Rattle.model_laws.specs.ChainExamples.{cleans_none}
-use Rattle.run_model.specs.Worlds.{World, empty_world, happens, IsRun}
+use Rattle.run_model.specs.Worlds.{World, new_world, happens, IsRun}
 use Rattle.model_laws.proofs.ChainExamples.{chain_runs}
 use Rattle.life_check.specs.ChainTheorem.{NoFaults, ChainNeverFaults}
 use Rattle.life_check.proofs.chains.Never.{typed_alone_never_faults}
@@ -133,8 +133,8 @@ ample_run budget chain w (e ∷ es) = (true, told_by bare e.1, (happens true bud
 a_fault : ChainNeverFaults (never_creates ∷ []) → ⊥
 unfolding NoFaults
 a_fault never =
-    (subst NoFaults chain_runs.no_brigade (never 100 cleans_none (answers_from bare 100 (never_creates ∷ []) empty_world cleans_none) (left_by bare 100 (never_creates ∷ []) empty_world cleans_none)
-    (ample_run 100 (never_creates ∷ []) empty_world cleans_none))).1.1.1.1.1.0
+    (subst NoFaults chain_runs.no_brigade (never 100 cleans_none (answers_from bare 100 (never_creates ∷ []) (new_world 1) cleans_none) (left_by bare 100 (never_creates ∷ []) (new_world 1) cleans_none)
+    (record { first = 1; named = omega arith; given = omega arith; run = ample_run 100 (never_creates ∷ []) (new_world 1) cleans_none }))).1.1.1.1.1.0
 
 pub fault_rows : FaultRows
 fault_rows = record {

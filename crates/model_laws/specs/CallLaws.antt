@@ -7,7 +7,7 @@ use Rattle.run_model.specs.State.{Call}
 use Rattle.model_laws.specs.Ranges.{AreBytes}
 use Rattle.model_laws.specs.CursorLaws.{name_held}
 use Rattle.run_model.specs.Chains.{Connection, Common, IsChain}
-use Rattle.run_model.specs.Worlds.{World, Told, Answer, empty_world, happens, IsRun}
+use Rattle.run_model.specs.Worlds.{World, Told, Answer, happens, IsWholeRun}
 use Rattle.model_laws.specs.ChainSound.{WorldSound}
 
 -- bytes, size: what is in the buffer are bytes, no more of them than it holds. given: a cursor that is set holds a name below the next.
@@ -28,4 +28,4 @@ EventKeepsCalls = (memory : Bool) (budget : ℕ) (chain : List Program) (told : 
     → IsChain chain → WorldSound chain w → WorldCalls w → WorldCalls (happens memory budget chain told k e w).1
 
 abbrev pub RunKeepsCalls : Type 0
-RunKeepsCalls = (budget : ℕ) (chain : List Program) (es : List (ℕ × Event)) (answers : List Answer) (w : World) → IsChain chain → IsRun budget chain empty_world es answers w → WorldCalls w
+RunKeepsCalls = (budget : ℕ) (chain : List Program) (es : List (ℕ × Event)) (answers : List Answer) (w : World) → IsChain chain → IsWholeRun budget chain es answers w → WorldCalls w

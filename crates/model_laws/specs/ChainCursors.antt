@@ -7,7 +7,7 @@ use Rattle.run_model.specs.Cursors.{spot_of}
 use Rattle.run_model.specs.State.{Call, fresh_call}
 use Rattle.model_laws.specs.CursorLaws.{name_held, StandsOnce}
 use Rattle.run_model.specs.Chains.{Frame, Connection, Common, configuration, IsChain}
-use Rattle.run_model.specs.Worlds.{World, Told, Answer, empty_world, happens, IsRun}
+use Rattle.run_model.specs.Worlds.{World, Told, Answer, happens, IsWholeRun}
 use Rattle.model_laws.specs.ChainSound.{WorldSound}
 
 -- A cursor of a call that is set holds a name that was given out, where this is the next.
@@ -27,7 +27,7 @@ EventKeepsWorldCursors = (memory : Bool) (budget : ℕ) (chain : List Program) (
     → IsChain chain → WorldSound chain w → WorldCursors w → WorldCursors (happens memory budget chain told k e w).1
 
 abbrev pub RunKeepsWorldCursors : Type 0
-RunKeepsWorldCursors = (budget : ℕ) (chain : List Program) (es : List (ℕ × Event)) (answers : List Answer) (w : World) → IsChain chain → IsRun budget chain empty_world es answers w → WorldCursors w
+RunKeepsWorldCursors = (budget : ℕ) (chain : List Program) (es : List (ℕ × Event)) (answers : List Answer) (w : World) → IsChain chain → IsWholeRun budget chain es answers w → WorldCursors w
 
 -- Of each call, whether it runs or waits: a bucket that a cursor names is in exactly one list of what the call sees, once, in one
 -- brigade or loose, and it is nowhere only where no list has it. The same is true of a brigade at whose end a cursor is.
@@ -47,4 +47,4 @@ abbrev pub SoundWorldStandsOnce : Type 0
 SoundWorldStandsOnce = (chain : List Program) (w : World) → WorldSound chain w → WorldStandsOnce chain w
 
 abbrev pub WorldRunStandsOnce : Type 0
-WorldRunStandsOnce = (budget : ℕ) (chain : List Program) (es : List (ℕ × Event)) (answers : List Answer) (w : World) → IsChain chain → IsRun budget chain empty_world es answers w → WorldStandsOnce chain w
+WorldRunStandsOnce = (budget : ℕ) (chain : List Program) (es : List (ℕ × Event)) (answers : List Answer) (w : World) → IsChain chain → IsWholeRun budget chain es answers w → WorldStandsOnce chain w

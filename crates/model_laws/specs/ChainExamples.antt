@@ -21,7 +21,7 @@ use Rattle.run_model.specs.declared.fault.FaultKind.TheVariants as fault_kind
 use Rattle.model_laws.specs.Examples.{bare, left_by, answers_from, identity, with_main, never_creates}
 use Rattle.run_model.specs.Chains.{Connection}
 use Rattle.run_model.specs.Turns.{Opening, Found, Missing, Failing}
-use Rattle.run_model.specs.Worlds.{World, Answer, Done, Refused, Connected, Step, Output, Opened, Labels, empty_world, happens, tree_of}
+use Rattle.run_model.specs.Worlds.{World, Answer, Done, Refused, Connected, Step, Output, Opened, Labels, new_world, happens, tree_of}
 
 abbrev pub stepping : ℕ → ℕ → List (ℕ × Event)
 stepping n c = replicate n (c, event.Step)
@@ -38,7 +38,7 @@ brings c = (c, event.Bring (piece.Heap (97 ∷ []) ∷ piece.Eos ∷ [])) ∷ []
 
 -- Two filters that pass on what comes: five instructions go on, and the sixth ends the outermost call.
 abbrev pub ChainOfTwo : Type 0
-ChainOfTwo = answers_from bare 100 (identity ∷ identity ∷ []) empty_world
+ChainOfTwo = answers_from bare 100 (identity ∷ identity ∷ []) (new_world 1)
     ((1, event.Open) ∷ (stepping 2 1 ++ ((1, event.Begin) ∷ (stepping 2 1 ++ (brings 1 ++ (stepping 6 1 ++ ((1, event.TakeOutput) ∷ [])))))))
     ≡ Connected 1 ∷ (wents 1 ++ (ended ++ (Done ∷ (wents 1 ++ (ended ++ (Done ∷ (wents 5 ++ (ended ++ (Output (97 ∷ []) ∷ [])))))))))
 
@@ -56,13 +56,13 @@ uses_passed = record {
 
 -- The fault is that of the second module, and the connection breaks; nothing was put out.
 abbrev pub FaultInSecond : Type 0
-FaultInSecond = answers_from bare 100 (identity ∷ uses_passed ∷ []) empty_world
+FaultInSecond = answers_from bare 100 (identity ∷ uses_passed ∷ []) (new_world 1)
     ((1, event.Open) ∷ (stepping 3 1 ++ ((1, event.Begin) ∷ (stepping 2 1 ++ (brings 1 ++ (stepping 7 1 ++ ((1, event.TakeOutput) ∷ (stepping 1 1))))))))
     ≡ Connected 1 ∷ (wents 2 ++ (ended ++ (Done ∷ (wents 1 ++ (ended ++ (Done ∷ (wents 6 ++ (Step (stepped.Fault fault_kind.F7 1 7) ∷ (Output [] ∷ (Refused (refusal.Broken cause.Faulted) ∷ []))))))))))
 
 -- One of two connections is closed in the middle of a call. The other goes on.
 abbrev pub InterleavedClose : Type 0
-InterleavedClose = answers_from bare 100 (identity ∷ []) empty_world
+InterleavedClose = answers_from bare 100 (identity ∷ []) (new_world 1)
     ((1, event.Open) ∷ (1, event.Step) ∷ (2, event.Open) ∷ (2, event.Step) ∷ (1, event.Begin) ∷ (1, event.Step) ∷ (2, event.Begin) ∷ (2, event.Step)
     ∷ (1, event.Bring (piece.Heap (120 ∷ []) ∷ piece.Eos ∷ [])) ∷ (2, event.Bring (piece.Heap (121 ∷ []) ∷ piece.Eos ∷ []))
     ∷ (1, event.Step) ∷ (2, event.Step) ∷ (1, event.Close) ∷ (1, event.Step) ∷ (2, event.Step) ∷ (2, event.Step) ∷ (2, event.TakeOutput) ∷ [])
@@ -70,13 +70,13 @@ InterleavedClose = answers_from bare 100 (identity ∷ []) empty_world
 
 -- The budget is met by one connection and not by the other: its count is its own.
 abbrev pub BudgetIsItsOwn : Type 0
-BudgetIsItsOwn = answers_from bare 2 (identity ∷ []) empty_world
+BudgetIsItsOwn = answers_from bare 2 (identity ∷ []) (new_world 1)
     ((1, event.Open) ∷ (1, event.Step) ∷ (2, event.Open) ∷ (2, event.Step) ∷ (1, event.Begin) ∷ (1, event.Step) ∷ (brings 1 ++ (stepping 3 1 ++ ((2, event.Begin) ∷ (2, event.Step) ∷ []))))
     ≡ Connected 1 ∷ (ended ++ (Connected 2 ∷ (ended ++ (Done ∷ (ended ++ (Done ∷ (wents 2 ++ (Refused (refusal.Broken cause.OutOfSteps) ∷ (Done ∷ ended)))))))))
 
 -- The refusals, by the state of a connection.
 abbrev pub RefusalsByState : Type 0
-RefusalsByState = answers_from bare 100 (identity ∷ []) empty_world
+RefusalsByState = answers_from bare 100 (identity ∷ []) (new_world 1)
     ((1, event.Open) ∷ (1, event.Begin) ∷ (1, event.Step) ∷ (1, event.Step) ∷ (1, event.Bring (piece.Eos ∷ [])) ∷ (1, event.Begin) ∷ (1, event.Step) ∷ (1, event.Begin)
     ∷ (1, event.Bring (piece.File 1 0 1 ∷ [])) ∷ (9, event.Step) ∷ (1, event.End) ∷ (1, event.End) ∷ (9, event.TellLabels) ∷ [])
     ≡ Connected 1 ∷ Refused refusal.Busy ∷ Step (stepped.CallEnded Success) ∷ Refused refusal.Idle ∷ Refused refusal.NotInRequest ∷ Done ∷ Step (stepped.CallEnded Success) ∷ Refused refusal.InRequest
@@ -95,7 +95,7 @@ takes_nothing = with_main (instr.Ret Success ∷ [])
 
 -- What the second filter leaves is the first one's again, in the brigade that it passed, which stays marked.
 abbrev pub LeftoversComeBack : Type 0
-LeftoversComeBack = brigade_in 1 0 8 (left_by bare 100 (identity ∷ takes_nothing ∷ []) empty_world
+LeftoversComeBack = brigade_in 1 0 8 (left_by bare 100 (identity ∷ takes_nothing ∷ []) (new_world 1)
     ((1, event.Open) ∷ (stepping 2 1 ++ ((1, event.Begin) ∷ (stepping 2 1 ++ ((1, event.Bring (piece.Heap (97 ∷ []) ∷ [])) ∷ stepping 3 1))))))
     ≡ Some (var.Live (record { name = 6; on = None; mark = Passed; items = record { name = 7; bucket = record { kind = kind.Heap; content = content.Bytes (97 ∷ []); home = home.Free } } ∷ [] }))
 
@@ -117,7 +117,7 @@ keeps = record { pools = []; brigades = pool.Conn ∷ []; texts = []; init = 2; 
 
 -- A clear reaches what another filter keeps: a POOL bucket of the pool becomes HEAP.
 abbrev pub ClearReachesOthers : Type 0
-ClearReachesOthers = brigade_in 1 1 0 (left_by bare 100 (clears_its_pool ∷ keeps ∷ []) empty_world
+ClearReachesOthers = brigade_in 1 1 0 (left_by bare 100 (clears_its_pool ∷ keeps ∷ []) (new_world 1)
     ((1, event.Open) ∷ (stepping 5 1 ++ ((1, event.Begin) ∷ (stepping 2 1 ++ ((1, event.Bring []) ∷ stepping 8 1))))))
     ≡ Some (var.Live (record { name = 4; on = Some 2; mark = Usable; items = record { name = 9; bucket = record { kind = kind.Heap; content = content.Bytes []; home = home.Free } } ∷ [] }))
 
@@ -132,7 +132,7 @@ opening_of opening w = opening_on 1 opening w
 -- at each opening, also under a later number. Out of a request nothing is opened, whatever the device tells.
 abbrev pub OpeningsAreTold : Type 0
 OpeningsAreTold =
-    let idle = left_by bare 100 (identity ∷ []) empty_world ((1, event.Open) ∷ (1, event.Step) ∷ []) in
+    let idle = left_by bare 100 (identity ∷ []) (new_world 1) ((1, event.Open) ∷ (1, event.Step) ∷ []) in
     let serving = left_by bare 100 (identity ∷ []) idle ((1, event.Begin) ∷ (1, event.Step) ∷ []) in
     let first = opening_of (Found 0 (97 ∷ 98 ∷ [])) serving in
     let failed = opening_of Failing first.1 in
@@ -142,7 +142,7 @@ OpeningsAreTold =
 
 -- two connections, each in a request
 abbrev pub two_serving : World
-two_serving = left_by bare 100 (identity ∷ []) empty_world
+two_serving = left_by bare 100 (identity ∷ []) (new_world 1)
     ((1, event.Open) ∷ (1, event.Step) ∷ (2, event.Open) ∷ (2, event.Step) ∷ (1, event.Begin) ∷ (1, event.Step) ∷ (2, event.Begin) ∷ (2, event.Step) ∷ [])
 
 -- what an open file of a connection held
@@ -171,7 +171,7 @@ abbrev pub cleans_none : List (ℕ × Event)
 cleans_none = (1, event.Open) ∷ (1, event.Step) ∷ (1, event.Begin) ∷ (1, event.Step) ∷ (1, event.Bring []) ∷ (1, event.Step) ∷ []
 
 abbrev pub NoBrigade : Type 0
-NoBrigade = answers_from bare 100 (never_creates ∷ []) empty_world cleans_none ≡ Connected 1 ∷ (ended ++ (Done ∷ (ended ++ (Done ∷ Step (stepped.Fault fault_kind.F2 0 2) ∷ []))))
+NoBrigade = answers_from bare 100 (never_creates ∷ []) (new_world 1) cleans_none ≡ Connected 1 ∷ (ended ++ (Done ∷ (ended ++ (Done ∷ Step (stepped.Fault fault_kind.F2 0 2) ∷ []))))
 
 pub record ChainRuns : Type 0 where
   pub two : ChainOfTwo

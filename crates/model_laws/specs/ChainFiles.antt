@@ -15,7 +15,7 @@ use Rattle.model_laws.specs.Laws.{HasReference}
 use Rattle.run_model.specs.Chains.{Connection, Common, pools_of, IsChain}
 use Rattle.run_model.specs.Passing.{Reads}
 use Rattle.run_model.specs.Turns.{steps, brought_in}
-use Rattle.run_model.specs.Worlds.{World, Told, Answer, Opened, empty_world, happens, IsRun}
+use Rattle.run_model.specs.Worlds.{World, Told, Answer, Opened, happens, IsWholeRun}
 use Rattle.model_laws.specs.ChainSound.{WorldSound}
 
 -- This is true of each bucket of a connection: in the brigades of its instances, and loose in its calls.
@@ -65,7 +65,7 @@ EventKeepsWorldEnds = (memory : Bool) (budget : ℕ) (chain : List Program) (tol
 
 abbrev pub RunEndsWorld : Type 0
 RunEndsWorld = (budget : ℕ) (chain : List Program) (es : List (ℕ × Event)) (answers : List Answer) (w : World)
-    → IsChain chain → IsRun budget chain empty_world es answers w → All (TellsLengths IsShortLength) answers → WorldEnds w
+    → IsChain chain → IsWholeRun budget chain es answers w → All (TellsLengths IsShortLength) answers → WorldEnds w
 
 -- Files.
 
@@ -91,7 +91,7 @@ EventKeepsWorldFiles = (memory : Bool) (budget : ℕ) (chain : List Program) (to
     → IsChain chain → WorldSound chain w → WorldFiles w → WorldFiles (happens memory budget chain told k e w).1
 
 abbrev pub RunKeepsWorldFiles : Type 0
-RunKeepsWorldFiles = (budget : ℕ) (chain : List Program) (es : List (ℕ × Event)) (answers : List Answer) (w : World) → IsChain chain → IsRun budget chain empty_world es answers w → WorldFiles w
+RunKeepsWorldFiles = (budget : ℕ) (chain : List Program) (es : List (ℕ × Event)) (answers : List Answer) (w : World) → IsChain chain → IsWholeRun budget chain es answers w → WorldFiles w
 
 -- Whose files they are.
 
@@ -106,4 +106,4 @@ EventKeepsFilesApart = (memory : Bool) (budget : ℕ) (chain : List Program) (to
     → IsChain chain → WorldFilesApart w → WorldFilesApart (happens memory budget chain told k e w).1
 
 abbrev pub RunKeepsFilesApart : Type 0
-RunKeepsFilesApart = (budget : ℕ) (chain : List Program) (es : List (ℕ × Event)) (answers : List Answer) (w : World) → IsChain chain → IsRun budget chain empty_world es answers w → WorldFilesApart w
+RunKeepsFilesApart = (budget : ℕ) (chain : List Program) (es : List (ℕ × Event)) (answers : List Answer) (w : World) → IsChain chain → IsWholeRun budget chain es answers w → WorldFilesApart w

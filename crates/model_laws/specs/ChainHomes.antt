@@ -6,7 +6,7 @@ use Rattle.run_model.specs.declared.event.Event.{Event}
 use Rattle.run_model.specs.Pools.{is_live}
 use Rattle.model_laws.specs.Laws.{MatchHome}
 use Rattle.run_model.specs.Chains.{Frame, Connection, Common, pools_of, IsChain}
-use Rattle.run_model.specs.Worlds.{World, Told, Answer, empty_world, happens, IsRun}
+use Rattle.run_model.specs.Worlds.{World, Told, Answer, happens, IsWholeRun}
 use Rattle.model_laws.specs.ChainSound.{WorldSound}
 use Rattle.model_laws.specs.ChainFiles.{OfEachBucket}
 
@@ -32,4 +32,4 @@ EventKeepsWorldHomes = (memory : Bool) (budget : ℕ) (chain : List Program) (to
     → IsChain chain → WorldSound chain w → WorldHomes w → WorldHomes (happens memory budget chain told k e w).1
 
 abbrev pub RunKeepsWorldHomes : Type 0
-RunKeepsWorldHomes = (budget : ℕ) (chain : List Program) (es : List (ℕ × Event)) (answers : List Answer) (w : World) → IsChain chain → IsRun budget chain empty_world es answers w → WorldHomes w
+RunKeepsWorldHomes = (budget : ℕ) (chain : List Program) (es : List (ℕ × Event)) (answers : List Answer) (w : World) → IsChain chain → IsWholeRun budget chain es answers w → WorldHomes w

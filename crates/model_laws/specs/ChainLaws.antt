@@ -8,7 +8,7 @@ use Rattle.run_model.specs.Steps.{current, lacks_names, is_spent}
 use Rattle.run_model.specs.Chains.{Frame, Connection, Common, Linked, module_at, configuration, IsChain}
 use Rattle.run_model.specs.Passing.{Reads, proceeds}
 use Rattle.run_model.specs.Turns.{calls_of}
-use Rattle.run_model.specs.Worlds.{World, Told, Answer, empty_world, happens, IsRun}
+use Rattle.run_model.specs.Worlds.{World, Told, Answer, happens, IsWholeRun}
 use Rattle.model_laws.specs.ChainSound.{ChainNames, ChainBuckets, ChainPools, ChainCalls, ChainSound, WorldSound}
 
 -- the call on top is at an instruction that has no fault, and the names that it gives out are there
@@ -23,12 +23,13 @@ pub record MayProceed (chain : List Program) (g : Common) (c : Connection) (f : 
 abbrev pub after_top : List Program → Reads → Common → Connection → Frame → List Frame → Linked
 after_top chain reads g c f rest = (proceeds chain reads (current (module_at chain f.of) f.pc) f rest (g, c)).1
 
--- what others do to what is shared: names rise, and stay below 2^64
+-- what others do to what is shared: names rise, and stay below 2^64, and the root is the same
 pub record Rises (g new : Common) : Type 0 where
   pub next : g.next ≤ new.next
   pub next_limit : new.next < 2 ^ 64
   pub pools : g.pools ≤ new.pools
   pub pools_limit : new.pools < 2 ^ 64
+  pub root : new.root ≡ g.root
 
 -- The instruction of the call on top keeps what is sound, and names rise.
 abbrev pub TopKeepsNames : Type 0
@@ -55,12 +56,12 @@ TopRaisesNames = (chain : List Program) (reads : Reads) (g : Common) (c : Connec
 abbrev pub RisingKeepsSound : Type 0
 RisingKeepsSound = (chain : List Program) (g new : Common) (c : Connection) → Rises g new → ChainSound chain g c → ChainSound chain new c
 
--- Each event keeps each connection sound, and so each run from the empty world leads to a sound one.
+-- Each event keeps each connection sound, and so each whole run leads to a sound one.
 abbrev pub EventKeepsWorld : Type 0
 EventKeepsWorld = (memory : Bool) (budget : ℕ) (chain : List Program) (told : Told) (k : ℕ) (e : Event) (w : World) → IsChain chain → WorldSound chain w → WorldSound chain (happens memory budget chain told k e w).1
 
 abbrev pub RunKeepsWorld : Type 0
-RunKeepsWorld = (budget : ℕ) (chain : List Program) (es : List (ℕ × Event)) (answers : List Answer) (w : World) → IsChain chain → IsRun budget chain empty_world es answers w → WorldSound chain w
+RunKeepsWorld = (budget : ℕ) (chain : List Program) (es : List (ℕ × Event)) (answers : List Answer) (w : World) → IsChain chain → IsWholeRun budget chain es answers w → WorldSound chain w
 
 -- An event of one connection leaves every other exactly as it was.
 abbrev pub OthersStay : Type 0

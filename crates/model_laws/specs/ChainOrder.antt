@@ -4,7 +4,7 @@ use Rattle.module_code.specs.Program.{Program}
 use Rattle.run_model.specs.declared.bucket.BrigadeVar.TheVariants as var
 use Rattle.run_model.specs.declared.event.Event.{Event}
 use Rattle.run_model.specs.Chains.{Frame, Connection, IsChain}
-use Rattle.run_model.specs.Worlds.{World, Told, Answer, empty_world, happens, IsRun}
+use Rattle.run_model.specs.Worlds.{World, Told, Answer, happens, IsWholeRun}
 
 -- whether a call of the module k runs or waits
 unfoldable pub has_call : List Frame → ℕ → Bool
@@ -25,4 +25,4 @@ abbrev pub EventKeepsWorldOrder : Type 0
 EventKeepsWorldOrder = (memory : Bool) (budget : ℕ) (chain : List Program) (told : Told) (k : ℕ) (e : Event) (w : World) → IsChain chain → WorldOrder budget w → WorldOrder budget (happens memory budget chain told k e w).1
 
 abbrev pub RunKeepsWorldOrder : Type 0
-RunKeepsWorldOrder = (budget : ℕ) (chain : List Program) (es : List (ℕ × Event)) (answers : List Answer) (w : World) → IsChain chain → IsRun budget chain empty_world es answers w → WorldOrder budget w
+RunKeepsWorldOrder = (budget : ℕ) (chain : List Program) (es : List (ℕ × Event)) (answers : List Answer) (w : World) → IsChain chain → IsWholeRun budget chain es answers w → WorldOrder budget w

@@ -6,7 +6,7 @@ use Rattle.run_model.specs.Holding.{refers}
 use Rattle.model_laws.specs.Ranges.{AreBytes, HoldsBytes, BufferInRange, BringsBytes, LiesInFile, HasLength}
 use Rattle.run_model.specs.Chains.{Connection, Common, pools_of, files_of, IsChain}
 use Rattle.run_model.specs.Turns.{Found}
-use Rattle.run_model.specs.Worlds.{World, Told, Answer, empty_world, happens, IsRun}
+use Rattle.run_model.specs.Worlds.{World, Told, Answer, new_world, happens, IsRun, IsWholeRun}
 use Rattle.model_laws.specs.ChainSound.{WorldSound}
 use Rattle.model_laws.specs.ChainFiles.{OfEachBucket, WorldFiles}
 
@@ -24,7 +24,7 @@ abbrev pub EventKeepsBuffers : Type 0
 EventKeepsBuffers = (memory : Bool) (budget : ℕ) (chain : List Program) (told : Told) (k : ℕ) (e : Event) (w : World) → WorldBuffers w → WorldBuffers (happens memory budget chain told k e w).1
 
 abbrev pub RunKeepsBuffers : Type 0
-RunKeepsBuffers = (budget : ℕ) (chain : List Program) (es : List (ℕ × Event)) (answers : List Answer) (w : World) → IsRun budget chain empty_world es answers w → WorldBuffers w
+RunKeepsBuffers = (budget : ℕ) (chain : List Program) (es : List (ℕ × Event)) (answers : List Answer) (w : World) → IsWholeRun budget chain es answers w → WorldBuffers w
 
 -- numbers: each number of an instance is below 2^32. buffers: the buffer of each call is in range. held, opened: what buckets and open files
 -- hold are bytes.
@@ -61,7 +61,7 @@ RunsOfBytesAreRuns = (budget : ℕ) (chain : List Program) (es : List (ℕ × Ev
 
 -- So it is true of each world that such a run reaches.
 abbrev pub RunIsInRangeWorld : Type 0
-RunIsInRangeWorld = (budget : ℕ) (chain : List Program) (es : List (ℕ × Event)) (answers : List Answer) (w : World) → IsChain chain → IsRunOfBytes budget chain empty_world es answers w → WorldInRange w
+RunIsInRangeWorld = (first budget : ℕ) (chain : List Program) (es : List (ℕ × Event)) (answers : List Answer) (w : World) → IsChain chain → IsRunOfBytes budget chain (new_world first) es answers w → WorldInRange w
 
 -- Ranges.
 
@@ -81,4 +81,4 @@ EventKeepsWorldRanges = (memory : Bool) (budget : ℕ) (chain : List Program) (t
     → IsChain chain → WorldSound chain w → WorldFiles w → WorldRanges w → WorldRanges (happens memory budget chain told k e w).1
 
 abbrev pub RunKeepsWorldRanges : Type 0
-RunKeepsWorldRanges = (budget : ℕ) (chain : List Program) (es : List (ℕ × Event)) (answers : List Answer) (w : World) → IsChain chain → IsRun budget chain empty_world es answers w → WorldRanges w
+RunKeepsWorldRanges = (budget : ℕ) (chain : List Program) (es : List (ℕ × Event)) (answers : List Answer) (w : World) → IsChain chain → IsWholeRun budget chain es answers w → WorldRanges w

@@ -4,7 +4,7 @@ use Rattle.module_code.specs.Program.{Program}
 use Rattle.run_model.specs.declared.event.Event.{Event}
 use Rattle.model_laws.specs.Registered.{IsMadeInOne, AreRegistered}
 use Rattle.run_model.specs.Chains.{Connection, Common, pools_of, IsChain}
-use Rattle.run_model.specs.Worlds.{World, Told, Answer, empty_world, happens, IsRun}
+use Rattle.run_model.specs.Worlds.{World, Told, Answer, happens, IsWholeRun}
 use Rattle.model_laws.specs.ChainSound.{WorldSound}
 
 -- Each live brigade of all instances stands once with its pool, and no other brigade stands with a pool of the connection.
@@ -20,4 +20,4 @@ EventKeepsWorldRegistered = (memory : Bool) (budget : ℕ) (chain : List Program
     → IsChain chain → WorldSound chain w → WorldRegistered w → WorldRegistered (happens memory budget chain told k e w).1
 
 abbrev pub RunKeepsWorldRegistered : Type 0
-RunKeepsWorldRegistered = (budget : ℕ) (chain : List Program) (es : List (ℕ × Event)) (answers : List Answer) (w : World) → IsChain chain → IsRun budget chain empty_world es answers w → WorldRegistered w
+RunKeepsWorldRegistered = (budget : ℕ) (chain : List Program) (es : List (ℕ × Event)) (answers : List Answer) (w : World) → IsChain chain → IsWholeRun budget chain es answers w → WorldRegistered w

@@ -97,11 +97,11 @@ pub record ChainSound (chain : List Program) (g : Common) (c : Connection) : Typ
   pub pools : ChainPools chain g c
   pub calls : ChainCalls chain g c
 
--- what is shared, where names are not spent; 0 is no call's name
+-- what is shared, where names are not spent; 0 is no call's name, and the root was given out
 pub record HasNames (g : Common) : Type 0 where
   pub first : 0 < g.next
   pub next : g.next < 2 ^ 64
-  pub pools : (1 < g.pools) × (g.pools < 2 ^ 64)
+  pub pools : (g.root < g.pools) × (g.pools < 2 ^ 64)
 
 -- each connection of a world is sound
 pub record WorldSound (chain : List Program) (w : World) : Type 0 where

@@ -36,7 +36,7 @@ use Rattle.run_model.specs.Steps.{do_return}
 use Rattle.run_model.specs.Chains.{Frame, Linked, configuration}
 use Rattle.run_model.specs.Passing.{Reads}
 use Rattle.run_model.specs.Turns.{Opening, Found, Missing, opened, fresh_connection, request_over}
-use Rattle.run_model.specs.Worlds.{World, Told, Answer, Done, Refused, Connected, Step, Output, Opened, Labels, empty_world, happens, tree_of}
+use Rattle.run_model.specs.Worlds.{World, Told, Answer, Done, Refused, Connected, Step, Output, Opened, Labels, new_world, happens, tree_of}
 
 -- What the device tells: what an opening finds under a name, and what the reads of an event give.
 pub record ExampleDevice : Type 0 where
@@ -74,16 +74,16 @@ answers_from d budget chain w (e ∷ es) =
 abbrev pub of_first : List Event → List (ℕ × Event)
 of_first es = map (λ e. (1, e)) es
 
--- the answers of a chain of this module alone, from the empty world on
+-- the answers of a chain of this module alone, from a new world on, whose first name is 1
 abbrev pub answers : ℕ → Program → List Event → List Answer
-answers budget p es = answers_from bare budget (p ∷ []) empty_world (of_first es)
+answers budget p es = answers_from bare budget (p ∷ []) (new_world 1) (of_first es)
 
 abbrev pub answers_with : ExampleDevice → Program → List Event → List Answer
-answers_with d p es = answers_from d 1000000 (p ∷ []) empty_world (of_first es)
+answers_with d p es = answers_from d 1000000 (p ∷ []) (new_world 1) (of_first es)
 
 -- what it leads to
 abbrev pub world_after : Program → List Event → World
-world_after p es = left_by bare 1000000 (p ∷ []) empty_world (of_first es)
+world_after p es = left_by bare 1000000 (p ∷ []) (new_world 1) (of_first es)
 
 -- one event of the first connection; memory: whether a growth succeeds
 abbrev pub happening : Bool → Program → Event → World → Answer × World
@@ -419,7 +419,7 @@ seen_by (f ∷ fs) (g, c) = configuration g c f
 
 -- what the call 1 of the first connection sees, as `open` of its one module begins
 abbrev pub at_open : Configuration
-at_open = (let w = opened (identity ∷ []) empty_world.common in seen_by w.1.stack w)
+at_open = (let w = opened (identity ∷ []) (new_world 1).common in seen_by w.1.stack w)
 
 -- The call 1 of a connection with the pool 2, the request's pool 3 and the instance's own pool 5, whose brigade of this
 -- number has these buckets.
@@ -441,8 +441,8 @@ dead_and_live = record at_open { instance = record at_open.instance { pools = λ
 -- the first connection, where its instance and its pools are those of such a call, and none runs
 abbrev pub between_calls : Configuration → Linked
 between_calls r = (
-  record { pools = r.shared.pools.next; next = r.shared.next; file = r.shared.files.next },
-  record (fresh_connection empty_world.common) { instances = λ k. r.instance; path = r.shared.pools.path; payloads = r.shared.pools.payloads; req = r.shared.req },
+  record { root = 1; pools = r.shared.pools.next; next = r.shared.next; file = r.shared.files.next },
+  record (fresh_connection (new_world 1).common) { instances = λ k. r.instance; path = r.shared.pools.path; payloads = r.shared.pools.payloads; req = r.shared.req },
 )
 
 -- Faults of what may be held, and their order.

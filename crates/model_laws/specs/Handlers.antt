@@ -8,7 +8,7 @@ use Rattle.run_model.specs.State.{fresh_call}
 use Rattle.run_model.specs.Chains.{Frame, Connection, Common, module_at, is_last, touched_frame, IsChain}
 use Rattle.run_model.specs.Passing.{Reads, handler_at}
 use Rattle.run_model.specs.Turns.{opened, begun, brought_in, steps}
-use Rattle.run_model.specs.Worlds.{World, Answer, empty_world, IsRun}
+use Rattle.run_model.specs.Worlds.{World, Answer, IsWholeRun}
 use Rattle.model_laws.specs.ChainSound.{IsFramePlaced, WaitsAtPass}
 
 -- The code of a handler, `open`, `init` or `main`: from its first instruction to that behind its last.
@@ -56,4 +56,4 @@ StepStaysInHandler = (memory : Bool) (budget : ℕ) (chain : List Program) (read
 -- In each run a call is at an instruction of its module; no request is open in `open`, and one is in `init` and `main`.
 abbrev pub RunPlacesCalls : Type 0
 RunPlacesCalls = (budget : ℕ) (chain : List Program) (es : List (ℕ × Event)) (answers : List Answer) (w : World) (k : ℕ) (c : Connection)
-    → IsChain chain → IsRun budget chain empty_world es answers w → w.conns k ≡ Some c → All (IsFramePlaced chain c.req) c.stack
+    → IsChain chain → IsWholeRun budget chain es answers w → w.conns k ≡ Some c → All (IsFramePlaced chain c.req) c.stack

@@ -20,15 +20,15 @@ pub record StandsWith (w : World) (ps : Pools Payload) (n : ℕ) : Type 0 where
   pub there : w.conns (suc number) ≡ Some conn
   pub under : is_under ps conn.conn n ≡ true
 
--- The pools of a world: each connection has its part of them, each pool but the root 1 stands under a connection's, and nothing is
+-- The pools of a world: each connection has its part of them, each pool but the root stands under a connection's, and nothing is
 -- registered on the root.
 pub record ArePoolsOf (w : World) (ps : Pools Payload) : Type 0 where
   pub formed : IsPoolMap ps
-  pub root : ps.path 1 ≡ 1 ∷ []
-  pub bare : ps.payloads 1 ≡ []
+  pub root : ps.path w.common.root ≡ w.common.root ∷ []
+  pub bare : ps.payloads w.common.root ≡ []
   pub next : ps.next ≡ w.common.pools
   pub parts : (k : ℕ) (c : Connection) → w.conns k ≡ Some c → HasItsPart ps c
-  pub covered : (n : ℕ) → is_live ps n ≡ true → n ≢ 1 → StandsWith w ps n
+  pub covered : (n : ℕ) → is_live ps n ≡ true → n ≢ w.common.root → StandsWith w ps n
 
 -- A part that is joined to the whole changes nothing.
 abbrev pub JoinedPartStays : Type 0

@@ -67,9 +67,9 @@ pub record RootStays (root : ℕ) (ps new : Pools Payload) : Type 0 where
 abbrev pub ChangesSpareTheRoot : Type 0
 ChangesSpareTheRoot = (change : Change) (c p : ℕ) (ps : Pools Payload) (h : HasPart ps c) → is_under ps c p ≡ true → RootStays h.root ps (changed change p ps)
 
--- A pool that is made under the root 1, on which nothing is registered, is a part of its own: that of an only connection.
+-- A pool that is made under the root, on which nothing is registered, is a part of its own: that of an only connection.
 abbrev pub NewPartIsPlanted : Type 0
-NewPartIsPlanted = (ps : Pools Payload) → IsPoolMap ps → ps.path 1 ≡ 1 ∷ [] → ps.payloads 1 ≡ [] → part ps.next (created 1 ps) ≡ created 1 (record (planted 1) { next = ps.next })
+NewPartIsPlanted = (root : ℕ) (ps : Pools Payload) → IsPoolMap ps → ps.path root ≡ root ∷ [] → ps.payloads root ≡ [] → part ps.next (created root ps) ≡ created root (record (planted root) { next = ps.next })
 
 -- Of other parts it changes the next name alone.
 abbrev pub NewPartSparesOthers : Type 0

@@ -1,8 +1,8 @@
--- What a host carries of its world: it is reached from the empty one by some events, and so all the laws of runs hold there.
-use Rattle.std.specs.Prelude.{◌≡◌, ℕ, Bool, List, [], ◌∷◌, ◌++◌, All}
+-- What a host carries of its world: it is reached from a new one by some events, and so all the laws of runs hold there.
+use Rattle.std.specs.Prelude.{◌≡◌, ℕ, ◌+◌, ◌^◌, ◌<◌, Bool, List, [], ◌∷◌, ◌++◌, All}
 use Rattle.module_code.specs.Program.{Program}
 use Rattle.run_model.specs.declared.event.Event.{Event}
-use Rattle.run_model.specs.Worlds.{World, Told, Answer, empty_world, happens, IsRun}
+use Rattle.run_model.specs.Worlds.{World, Told, Answer, new_world, happens, IsRun, IsWholeRun}
 use Rattle.model_laws.specs.ChainSound.{WorldSound}
 use Rattle.run_model.specs.Chains.{IsChain}
 use Rattle.model_laws.specs.ChainFiles.{TellsLengths, IsShortLength, WorldEnds, WorldFiles, WorldFilesApart}
@@ -11,16 +11,16 @@ use Rattle.model_laws.specs.ChainHomes.{WorldHomes}
 use Rattle.model_laws.specs.ChainNumbers.{WorldNumbers}
 use Rattle.model_laws.specs.ChainRegistered.{WorldRegistered}
 
--- Some events lead from the empty world to this one, and each file that they opened has fewer than 2^64 bytes.
+-- Some events lead from a new world to this one, and each file that they opened has fewer than 2^64 bytes.
 pub record IsReached (budget : ℕ) (chain : List Program) (w : World) : Type 0 where
   pub events : List (ℕ × Event)
   pub answers : List Answer
-  pub run : IsRun budget chain empty_world events answers w
+  pub run : IsWholeRun budget chain events answers w
   pub short : All (TellsLengths IsShortLength) answers
 
--- The empty world is reached, and what an event leaves of one that is.
-abbrev pub EmptyIsReached : Type 0
-EmptyIsReached = (budget : ℕ) (chain : List Program) → IsReached budget chain empty_world
+-- A new world is reached, and what an event leaves of one that is.
+abbrev pub NewIsReached : Type 0
+NewIsReached = (first budget : ℕ) (chain : List Program) → 0 < first → first + 1 < 2 ^ 64 → IsReached budget chain (new_world first)
 
 abbrev pub EventReaches : Type 0
 EventReaches = (memory : Bool) (budget : ℕ) (chain : List Program) (told : Told) (k : ℕ) (e : Event) (w new : World) (a : Answer)

@@ -9,7 +9,7 @@ use Rattle.run_model.specs.declared.event.Event.{Event}
 use Rattle.run_model.specs.Chains.{Frame, Connection, Common, configuration, IsChain}
 use Rattle.run_model.specs.Cursors.{spot, bucket_at, read_cursor}
 use Rattle.run_model.specs.Faults.{WHome, fault_want}
-use Rattle.run_model.specs.Worlds.{World, Answer, empty_world, IsRun}
+use Rattle.run_model.specs.Worlds.{World, Answer, IsWholeRun}
 use Rattle.model_laws.specs.ChainHomes.{IsCalled}
 
 -- no pool, and no call that returned: none, or one of these calls
@@ -27,11 +27,11 @@ ReadsLast g c = (above below : List Frame) (f : Frame) (x : NamedBucket) → c.s
 
 -- It is so in each world that a run reaches.
 abbrev pub RunKeepsReads : Type 0
-RunKeepsReads = (budget : ℕ) (chain : List Program) (es : List (ℕ × Event)) (answers : List Answer) (w : World) → IsChain chain → IsRun budget chain empty_world es answers w
+RunKeepsReads = (budget : ℕ) (chain : List Program) (es : List (ℕ × Event)) (answers : List Answer) (w : World) → IsChain chain → IsWholeRun budget chain es answers w
     → (k : ℕ) (c : Connection) → w.conns k ≡ Some c → ReadsLast w.common c
 
 -- There the test of the home of what was read (F5) would find nothing, in no call.
 abbrev pub ReadsPassTheTest : Type 0
-ReadsPassTheTest = (budget : ℕ) (chain : List Program) (es : List (ℕ × Event)) (answers : List Answer) (w : World) → IsChain chain → IsRun budget chain empty_world es answers w
+ReadsPassTheTest = (budget : ℕ) (chain : List Program) (es : List (ℕ × Event)) (answers : List Answer) (w : World) → IsChain chain → IsWholeRun budget chain es answers w
     → (k : ℕ) (c : Connection) → w.conns k ≡ Some c → (above below : List Frame) (f : Frame) → c.stack ≡ above ++ f ∷ below
     → fault_want (configuration w.common c f) (WHome read_cursor) ≡ None

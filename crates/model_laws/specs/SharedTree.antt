@@ -38,7 +38,7 @@ EndsLeaveTheTree = (memory : Bool) (budget : ℕ) (chain : List Program) → Lea
 -- A connection that is opened has a new pool right under the root.
 abbrev pub OpeningPlantsAPool : Type 0
 OpeningPlantsAPool = (budget : ℕ) (chain : List Program) (w : World) → IsChain chain → IsReached budget chain w
-    → tree_of (put_conn (w.last + 1) (opened chain w.common) (record w { last = w.last + 1 })) ≡ created 1 (tree_of w)
+    → tree_of (put_conn (w.last + 1) (opened chain w.common) (record w { last = w.last + 1 })) ≡ created w.common.root (tree_of w)
 
 -- With one that is closed its pool goes, and all under it.
 abbrev pub ClosingTakesItsPool : Type 0

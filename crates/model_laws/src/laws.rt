@@ -29,7 +29,7 @@ ghost use Rattle.model_laws.specs.ChainPaths.{EventKeepsWorldPaths, RunKeepsWorl
 ghost use Rattle.model_laws.specs.OpenRuns.{OpenRunsStaySound, PassedMayBeBrought};
 ghost use Rattle.model_laws.specs.ReadHomes.{RunKeepsReads, ReadsPassTheTest};
 ghost use Rattle.model_laws.specs.ChainNumbers.{EventKeepsNumbers, RunKeepsNumbers};
-ghost use Rattle.model_laws.specs.Reached.{EmptyIsReached, EventReaches, WorldRunGoesOn, ReachedHolds};
+ghost use Rattle.model_laws.specs.Reached.{NewIsReached, EventReaches, WorldRunGoesOn, ReachedHolds};
 ghost use Rattle.model_laws.specs.ChainClears.{MadePoolsAreOwn, OthersKeepBrigades};
 ghost use Rattle.model_laws.specs.ChainTrees.{EventKeepsPoolsApart, RunKeepsPoolsApart, JoinedIsPoolMap, ReachedPartsJoin, ReachedTreeIsOfAll};
 ghost use Rattle.model_laws.specs.CursorLaws.{StepKeepsCursors, CursorsStandOnce, MadeAreNew, CopiesAreNew, SplitsInOrder, RefusedSplitJumps, BrigadesSplitInOrder, PartitionsInOrder, PastEndJumps};
@@ -301,7 +301,7 @@ pub fn chains_stay_sound()
     ensures rises { TopRaisesNames }
 {}
 
-/// Each event keeps each connection of a world sound, and so every connection is sound in each run from the empty world, with any
+/// Each event keeps each connection of a world sound, and so every connection is sound in each run from a new world, with any
 /// number of connections and any chain. Names that others take change nothing of it.
 pub fn worlds_are_sound()
     ensures rising { RisingKeepsSound }
@@ -366,10 +366,10 @@ pub fn connections_are_numbered()
     ensures run { RunKeepsNumbers }
 {}
 
-/// The empty world is reached, and so is what each event leaves of a world that is, where the file that it opens has fewer than 2^64
+/// A new world is reached, and so is what each event leaves of a world that is, where the file that it opens has fewer than 2^64
 /// bytes: a run goes on by one event. In a world that is reached all the laws of runs hold.
 pub fn reached_worlds_go_on()
-    ensures empty { EmptyIsReached }
+    ensures new { NewIsReached }
     ensures event { EventReaches }
     ensures run { WorldRunGoesOn }
     ensures laws { ReachedHolds }

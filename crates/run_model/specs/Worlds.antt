@@ -1,6 +1,6 @@
 -- The world: connections by number, each with the same chain of modules, and what they share. What each event answers and leaves,
--- and runs of events from the empty world.
-use Rattle.std.specs.Prelude.{◌≡◌, ℕ, zero, suc, ◌+◌, Bool, ◌||◌, not, if◌then◌else◌, List, [], ◌∷◌, Option, Some, None, Result, Ok, Err}
+-- and runs of events from a new world.
+use Rattle.std.specs.Prelude.{◌≡◌, ℕ, zero, suc, ◌+◌, ◌^◌, ◌<◌, Bool, ◌||◌, not, if◌then◌else◌, List, [], ◌∷◌, Option, Some, None, Result, Ok, Err}
 use Rattle.module_code.specs.Program.{Program}
 use Rattle.run_model.specs.declared.event.Event.{Event}
 use Rattle.run_model.specs.declared.event.Event.TheVariants as event
@@ -27,9 +27,9 @@ pub record World : Type 0 where
   pub last : ℕ
   pub common : Common
 
--- pool 1 is the root
-abbrev pub empty_world : World
-empty_world = record { conns = λ k. None; last = 0; common = record { pools = 2; next = 1; file = 1 } }
+-- A world without connections. Its names begin with this one: it is the root's, and that of what a call makes first.
+abbrev pub new_world : ℕ → World
+new_world first = record { conns = λ k. None; last = 0; common = record { root = first; pools = first + 1; next = first; file = 1 } }
 
 -- what an event answers
 pub data Answer : Type 0 where
@@ -47,8 +47,8 @@ pub data Answer : Type 0 where
   Opened : ℕ → ℕ → Answer
   -- the labels run
   Labels : List (List ℕ) → Answer
-  -- the pools
-  Tree : Pools Payload → Answer
+  -- the pools, under this root
+  Tree : ℕ → Pools Payload → Answer
 
 -- The connection k changes, and what is shared. Every other connection stays.
 abbrev pub put_conn : ℕ → Linked → World → World
@@ -101,13 +101,13 @@ tree_below zero conns root = root
 tree_below (suc k) conns root = with_part (conns (suc k)) (tree_below k conns root)
 
 abbrev pub tree_of : World → Pools Payload
-tree_of w = tree_below w.last w.conns (record (planted 1) { next = w.common.pools })
+tree_of w = tree_below w.last w.conns (record (planted w.common.root) { next = w.common.pools })
 
 -- What an event of the connection k answers and leaves. memory: whether a growth would succeed. told: what the files tell.
 unfoldable pub happens_on : Bool → ℕ → List Program → Told → Event → ℕ → Option Connection → World → Answer × World
 happens_on memory budget chain told event.Open k c w = opens memory chain w
 happens_on memory budget chain told (event.AddFile name bytes) k c w = adds_file memory w
-happens_on memory budget chain told event.TellPools k c w = (Tree (tree_of w), w)
+happens_on memory budget chain told event.TellPools k c w = (Tree w.common.root (tree_of w), w)
 happens_on memory budget chain told e k None w = (Refused refusal.NoSuchConn, w)
 happens_on memory budget chain told (event.OpenFile name) k (Some c) w = file_answered k w (opens_file memory told.opening (w.common, c))
 happens_on memory budget chain told event.Begin k (Some c) w = answered k w (begins memory chain (w.common, c))
@@ -131,3 +131,10 @@ IsRun budget chain old (e ∷ es) (a ∷ answers) new =
     (memory : Bool) × (told : Told) × (mid : World) × (happens memory budget chain told e.0 e.1 old ≡ (a, mid)) × IsRun budget chain mid es answers new
 IsRun budget chain old [] (a ∷ answers) new = ⊥
 IsRun budget chain old (e ∷ es) [] new = ⊥
+
+-- A whole run: from a new world, whatever its first name is. It is not 0, which is no call's name, nor 2^64 - 1, which is never given out.
+pub record IsWholeRun (budget : ℕ) (chain : List Program) (events : List (ℕ × Event)) (answers : List Answer) (w : World) : Type 0 where
+  pub first : ℕ
+  pub named : 0 < first
+  pub given : first + 1 < 2 ^ 64
+  pub run : IsRun budget chain (new_world first) events answers w

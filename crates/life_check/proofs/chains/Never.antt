@@ -11,7 +11,7 @@ use Rattle.model_laws.proofs.chains.Modules.{module_at_proper}
 use Rattle.model_laws.proofs.chains.TopCalls.{top_keeps_calls}
 use Rattle.model_laws.proofs.chains.TopNames.{top_keeps_names}
 use Rattle.model_laws.proofs.chains.TopPools.{top_keeps_pools}
-use Rattle.model_laws.proofs.chains.WorldKept.{empty_sound, event_keeps_world}
+use Rattle.model_laws.proofs.chains.WorldKept.{event_keeps_world}
 use Rattle.life_check.specs.Certificates.{Certificate, AllBounded}
 use Rattle.life_check.specs.Accepted.{IsCheckedChain}
 use Rattle.life_check.specs.ChainTheorem.{AllTyped, ChainNeverFaults, TypedChainNeverFaults}
@@ -50,7 +50,7 @@ module _ (chain : List Program) (certs : ℕ → Certificate) (proper : IsChain 
 
 pub typed_chain_never_faults : TypedChainNeverFaults
 typed_chain_never_faults chain certs proper typed =
-    chain_never_faults chain certs proper (top_lands chain certs proper typed) (events_land chain certs proper typed) event_keeps_world (empty_sound chain)
+    chain_never_faults chain certs proper (top_lands chain certs proper typed) (events_land chain certs proper typed) event_keeps_world
 
 pub checked_never_faults : (chain : List Program) → IsCheckedChain chain → ChainNeverFaults chain
 checked_never_faults chain h = typed_chain_never_faults chain h.certs h.chained h.typed

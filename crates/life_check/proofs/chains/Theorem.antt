@@ -2,12 +2,13 @@
 use Rattle.std.proofs.Common.{◌≡◌, ℕ, List, [], ◌∷◌, Some, None, subst}
 use Rattle.module_code.specs.Program.{Program}
 use Rattle.run_model.specs.declared.event.Event.{Event}
-use Rattle.run_model.specs.Worlds.{World, Answer, empty_world, IsRun}
+use Rattle.run_model.specs.Worlds.{World, Answer, new_world, IsRun}
 use Rattle.model_laws.specs.ChainSound.{WorldSound}
 use Rattle.run_model.specs.Chains.{IsChain}
 use Rattle.model_laws.specs.ChainLaws.{EventKeepsWorld}
 use Rattle.life_check.specs.Certificates.{Certificate}
 use Rattle.life_check.specs.ChainTheorem.{IsNoFault, NoFaults, ChainNeverFaults}
+use Rattle.model_laws.proofs.chains.WorldKept.{new_sound}
 use Rattle.life_check.proofs.chains.Turning.{TopLands}
 use Rattle.life_check.proofs.chains.Events.{WorldStands, EventsLand, happens_told}
 
@@ -25,10 +26,10 @@ module _ (chain : List Program) (certs : ℕ → Certificate) (proper : IsChain 
       let mid_stands = subst (λ (x : Answer × World). WorldStands chain certs x.1) is now.1 in
       (none, run_answers budget mid new es answers mid_sound mid_stands rest)
 
-  nowhere : WorldStands chain certs empty_world
-  nowhere k c at = absurd (apart at) where
+  nowhere : (first : ℕ) → WorldStands chain certs (new_world first)
+  nowhere first k c at = absurd (apart at) where
     apart : None ≡ Some c → ⊥
     apart e = cc
 
-  pub chain_never_faults : WorldSound chain empty_world → ChainNeverFaults chain
-  chain_never_faults empty budget es answers w run = run_answers budget empty_world w es answers empty nowhere run
+  pub chain_never_faults : ChainNeverFaults chain
+  chain_never_faults budget es answers w run = run_answers budget (new_world run.first) w es answers (new_sound chain run.first run.named run.given) (nowhere run.first) run.run

@@ -35,56 +35,7 @@ use Rattle.model_laws.proofs.chains.Proceeds.{proceeds_so}
 use Rattle.model_laws.proofs.chains.PutBack.{looking}
 use Rattle.model_laws.proofs.chains.WorldKept.{AnyLength}
 
--- Pool maps.
-
-abbrev pub IsBare : Pools Payload → Type 0
-IsBare ps = ps.payloads 1 ≡ []
-
-pub created_bare : (parent : ℕ) (ps : Pools Payload) → 1 < ps.next → IsBare ps → IsBare (created parent ps)
-unfolding created
-created_bare parent ps newer bare = upd_off ps.payloads ps.next 1 [] (λ same. absurd (omega (arith, same))) ∙ bare
-
-registered_bare : (p : ℕ) (x : Payload) (ps : Pools Payload) → 1 < p → IsBare ps → IsBare (registered p x ps)
-unfolding registered
-registered_bare p x ps newer bare = upd_off ps.payloads p 1 _ (λ same. absurd (omega (arith, same))) ∙ bare
-
-killed_bare : (p : ℕ) (test : Payload → Bool) (ps : Pools Payload) → 1 < p → IsBare ps → IsBare (killed p test ps)
-unfolding killed
-killed_bare p test ps newer bare = upd_off ps.payloads p 1 _ (λ same. absurd (omega (arith, same))) ∙ bare
-
-gone_bare : (t : Bool) (xs : List Payload) → xs ≡ [] → cond t [] xs ≡ []
-gone_bare true xs bare = refl
-gone_bare false xs bare = bare
-
-cleared_bare : (p : ℕ) (ps : Pools Payload) → IsBare ps → IsBare (cleared p ps)
-unfolding cleared
-cleared_bare p ps bare = gone_bare (is_under ps p 1) (ps.payloads 1) bare
-
-destroyed_bare : (p : ℕ) (ps : Pools Payload) → IsBare ps → IsBare (destroyed p ps)
-unfolding destroyed
-destroyed_bare p ps bare = gone_bare (is_under ps p 1) (ps.payloads 1) bare
-
-referred_bare : (target : ℕ) (files : List ℕ) (ps : Pools Payload) → 1 < target → IsBare ps → IsBare (all_referred target files ps)
-unfolding all_referred
-referred_bare target [] ps newer bare = bare
-referred_bare target (file ∷ files) ps newer bare = referred_bare target files (registered target (FileRef file) ps) newer (registered_bare target (FileRef file) ps newer bare)
-
--- Steps.
-
-abbrev Bares : Configuration → Type 0
-Bares r = IsBare r.shared.pools
-
-with_brigade_bare : (on : Option ℕ) (name : ℕ) (ps : Pools Payload) → ((n : ℕ) → on ≡ Some n → 1 < n) → IsBare ps → IsBare (with_brigade on name ps)
-unfolding with_brigade
-with_brigade_bare None name ps newer bare = bare
-with_brigade_bare (Some n) name ps newer bare = registered_bare n _ ps (newer n refl) bare
-
-aside_bare : (s : Place) (target : ℕ) (r : Configuration) → 1 < target → Bares r → Bares (aside_into s target r)
-unfolding set_brigade set_loose with_pools
-aside_bare Nowhere target r newer bare = bare
-aside_bare (AtLoose x) target r newer bare = referred_bare target (filter_map (new_ref r.shared.pools target) (x ∷ [])) r.shared.pools newer bare
-aside_bare (Within b x) target r newer bare = referred_bare target (filter_map (new_ref r.shared.pools target) (x ∷ [])) r.shared.pools newer bare
-aside_bare (AtEndOf b) target r newer bare = bare
+-- Where a brigade lies.
 
 live_on : (v : BrigadeVar) (n : ℕ) → made_on v ≡ Some n → (w : Brigade) × (v ≡ var.Live w) × (w.on ≡ Some n)
 live_on var.Null n e = absurd (cc)
@@ -103,41 +54,93 @@ brigade_newer p r s d b n is =
       | inr own ↦ named_newer r (pool_of_brigade p b) n s (sym (d.brigades b held.0 own.1 held.1).0 ∙ held.2)
     ]
 
-module _ (p : Program) (r : Configuration) (s : SoundPools r) (d : AsDeclared p r) (newer : 1 < r.shared.conn) where
-  named_after : (o : PoolRef) (n : ℕ) → pool_named r o ≡ Some n → 1 < n
-  named_after o n is = (let le = named_newer r o n s is in omega arith)
+-- Pool maps.
 
-  pub step_bare : (choice : Choice) (i : Instr) → Bares r → Bares (step p choice i r).state
-  unfolding with_pools set_pool run_down set_brigade
-  step_bare choice (instr.PCreate q) bare = made_under_named Bares p q r bare (λ parent is. created_bare parent r.shared.pools (let lt = conn_given r s in omega arith) bare)
-  step_bare choice (instr.PClear q) bare = on_named Bares pool_cleared (pool_named r (pool.Own q)) r bare (λ n is. cleared_bare n r.shared.pools bare)
-  step_bare choice (instr.PDestroy q) bare = on_named Bares pool_destroyed (pool_named r (pool.Own q)) r bare (λ n is. destroyed_bare n r.shared.pools bare)
-  step_bare choice (instr.Label q t) bare = on_named Bares (label_registered (text_of p t)) (pool_named r q) r bare (λ n is. registered_bare n _ r.shared.pools (named_after q n is) bare)
-  step_bare choice (instr.Unlabel q t) bare = on_named Bares (label_killed (text_of p t)) (pool_named r q) r bare (λ n is. killed_bare n _ r.shared.pools (named_after q n is) bare)
-  step_bare choice (instr.BCreate o) bare = with_brigade_bare (pool_named r (pool_of_brigade p o)) r.shared.next r.shared.pools (λ n is. named_after (pool_of_brigade p o) n is) bare
-  step_bare choice (instr.BSave o b) bare = on_named Bares (saved_into o b) (made_on (r.instance.brigades o)) r bare (λ n is.
-      referred_bare n (filter_map (new_ref r.shared.pools n) (items_of (r.instance.brigades b))) r.shared.pools (let le = brigade_newer p r s d o n is in omega arith) bare)
-  step_bare choice (instr.Aside c q) bare = on_named Bares (aside_into (spot r c)) (pool_named r q) r bare (λ n is. aside_bare (spot r c) n r (named_after q n is) bare)
-  step_bare choice i bare = ap (λ (ps : Pools Payload). ps.payloads 1) ((step_changes_only p choice i r).tree refl) ∙ bare
+module _ (root : ℕ) where
+  abbrev pub IsBare : Pools Payload → Type 0
+  IsBare ps = ps.payloads root ≡ []
 
--- Events.
+  pub created_bare : (parent : ℕ) (ps : Pools Payload) → root < ps.next → IsBare ps → IsBare (created parent ps)
+  unfolding created
+  created_bare parent ps newer bare = upd_off ps.payloads ps.next root [] (λ same. absurd (omega (arith, same))) ∙ bare
 
-went_bare : (chain : List Program) (reads : Reads) (f : Frame) (rest : List Frame) (g : Common) (c : Connection) → ChainSound chain g c → 1 < c.conn → IsBare (pools_of g c)
-    → IsBare (pools_of (after_top chain reads g c f rest).0 (after_top chain reads g c f rest).1)
-unfolding configuration
-went_bare chain reads f rest g c s newer bare =
-    let i : Instr = current (module_at chain f.of) f.pc in
-    proceeds_so (λ ps files next req. IsBare ps) chain reads i f rest g c (λ choice. step_bare (module_at chain f.of) (configuration g c f) (s.pools.sound f) (s.pools.declared f) newer choice i bare) bare
+  registered_bare : (p : ℕ) (x : Payload) (ps : Pools Payload) → root < p → IsBare ps → IsBare (registered p x ps)
+  unfolding registered
+  registered_bare p x ps newer bare = upd_off ps.payloads p root _ (λ same. absurd (omega (arith, same))) ∙ bare
 
-pub turn_bare : (chain : List Program) (g : Common) (c : Connection) (v : Linked) → Turn chain AnyLength g c v → ChainSound chain g c → 1 < c.conn → c.payloads 1 ≡ [] → v.1.payloads 1 ≡ []
-unfolding begun all_called configuration run_down with_pools
-turn_bare chain g c v Same s newer bare = bare
-turn_bare chain g c v Drained s newer bare = bare
-turn_bare chain g c v (Broke k other) s newer bare = bare
-turn_bare chain g c v (Faulted f rest k whole top is) s newer bare = bare
-turn_bare chain g c v (Went reads f rest whole may) s newer bare = went_bare chain reads f rest g c s newer bare
-turn_bare chain g c v (Begun whole idle none pools next) s newer bare = created_bare c.conn (pools_of g c) (let lt = conn_given (configuration g c (looking 0)) (s.pools.sound (looking 0)) in omega arith) bare
-turn_bare chain g c v (Brought pieces req whole idle is there next) s newer bare = bare
-turn_bare chain g c v (FileTaken req file bytes whole idle is short newest last) s newer bare =
-    registered_bare req (FileRef file) (pools_of g c) (let lt = ((s.pools.sound (looking 0)).req req is).1 in omega arith) bare
-turn_bare chain g c v (Ended req whole idle is) s newer bare = destroyed_bare req (pools_of g c) bare
+  killed_bare : (p : ℕ) (test : Payload → Bool) (ps : Pools Payload) → root < p → IsBare ps → IsBare (killed p test ps)
+  unfolding killed
+  killed_bare p test ps newer bare = upd_off ps.payloads p root _ (λ same. absurd (omega (arith, same))) ∙ bare
+
+  gone_bare : (t : Bool) (xs : List Payload) → xs ≡ [] → cond t [] xs ≡ []
+  gone_bare true xs bare = refl
+  gone_bare false xs bare = bare
+
+  cleared_bare : (p : ℕ) (ps : Pools Payload) → IsBare ps → IsBare (cleared p ps)
+  unfolding cleared
+  cleared_bare p ps bare = gone_bare (is_under ps p root) (ps.payloads root) bare
+
+  destroyed_bare : (p : ℕ) (ps : Pools Payload) → IsBare ps → IsBare (destroyed p ps)
+  unfolding destroyed
+  destroyed_bare p ps bare = gone_bare (is_under ps p root) (ps.payloads root) bare
+
+  referred_bare : (target : ℕ) (files : List ℕ) (ps : Pools Payload) → root < target → IsBare ps → IsBare (all_referred target files ps)
+  unfolding all_referred
+  referred_bare target [] ps newer bare = bare
+  referred_bare target (file ∷ files) ps newer bare = referred_bare target files (registered target (FileRef file) ps) newer (registered_bare target (FileRef file) ps newer bare)
+
+  -- Steps.
+
+  abbrev Bares : Configuration → Type 0
+  Bares r = IsBare r.shared.pools
+
+  with_brigade_bare : (on : Option ℕ) (name : ℕ) (ps : Pools Payload) → ((n : ℕ) → on ≡ Some n → root < n) → IsBare ps → IsBare (with_brigade on name ps)
+  unfolding with_brigade
+  with_brigade_bare None name ps newer bare = bare
+  with_brigade_bare (Some n) name ps newer bare = registered_bare n _ ps (newer n refl) bare
+
+  aside_bare : (s : Place) (target : ℕ) (r : Configuration) → root < target → Bares r → Bares (aside_into s target r)
+  unfolding set_brigade set_loose with_pools
+  aside_bare Nowhere target r newer bare = bare
+  aside_bare (AtLoose x) target r newer bare = referred_bare target (filter_map (new_ref r.shared.pools target) (x ∷ [])) r.shared.pools newer bare
+  aside_bare (Within b x) target r newer bare = referred_bare target (filter_map (new_ref r.shared.pools target) (x ∷ [])) r.shared.pools newer bare
+  aside_bare (AtEndOf b) target r newer bare = bare
+
+  module _ (p : Program) (r : Configuration) (s : SoundPools r) (d : AsDeclared p r) (newer : root < r.shared.conn) where
+    named_after : (o : PoolRef) (n : ℕ) → pool_named r o ≡ Some n → root < n
+    named_after o n is = (let le = named_newer r o n s is in omega arith)
+
+    pub step_bare : (choice : Choice) (i : Instr) → Bares r → Bares (step p choice i r).state
+    unfolding with_pools set_pool run_down set_brigade
+    step_bare choice (instr.PCreate q) bare = made_under_named Bares p q r bare (λ parent is. created_bare parent r.shared.pools (let lt = conn_given r s in omega arith) bare)
+    step_bare choice (instr.PClear q) bare = on_named Bares pool_cleared (pool_named r (pool.Own q)) r bare (λ n is. cleared_bare n r.shared.pools bare)
+    step_bare choice (instr.PDestroy q) bare = on_named Bares pool_destroyed (pool_named r (pool.Own q)) r bare (λ n is. destroyed_bare n r.shared.pools bare)
+    step_bare choice (instr.Label q t) bare = on_named Bares (label_registered (text_of p t)) (pool_named r q) r bare (λ n is. registered_bare n _ r.shared.pools (named_after q n is) bare)
+    step_bare choice (instr.Unlabel q t) bare = on_named Bares (label_killed (text_of p t)) (pool_named r q) r bare (λ n is. killed_bare n _ r.shared.pools (named_after q n is) bare)
+    step_bare choice (instr.BCreate o) bare = with_brigade_bare (pool_named r (pool_of_brigade p o)) r.shared.next r.shared.pools (λ n is. named_after (pool_of_brigade p o) n is) bare
+    step_bare choice (instr.BSave o b) bare = on_named Bares (saved_into o b) (made_on (r.instance.brigades o)) r bare (λ n is.
+        referred_bare n (filter_map (new_ref r.shared.pools n) (items_of (r.instance.brigades b))) r.shared.pools (let le = brigade_newer p r s d o n is in omega arith) bare)
+    step_bare choice (instr.Aside c q) bare = on_named Bares (aside_into (spot r c)) (pool_named r q) r bare (λ n is. aside_bare (spot r c) n r (named_after q n is) bare)
+    step_bare choice i bare = ap (λ (ps : Pools Payload). ps.payloads root) ((step_changes_only p choice i r).tree refl) ∙ bare
+
+  -- Events.
+
+  went_bare : (chain : List Program) (reads : Reads) (f : Frame) (rest : List Frame) (g : Common) (c : Connection) → ChainSound chain g c → root < c.conn → IsBare (pools_of g c)
+      → IsBare (pools_of (after_top chain reads g c f rest).0 (after_top chain reads g c f rest).1)
+  unfolding configuration
+  went_bare chain reads f rest g c s newer bare =
+      let i : Instr = current (module_at chain f.of) f.pc in
+      proceeds_so (λ ps files next req. IsBare ps) chain reads i f rest g c (λ choice. step_bare (module_at chain f.of) (configuration g c f) (s.pools.sound f) (s.pools.declared f) newer choice i bare) bare
+
+  pub turn_bare : (chain : List Program) (g : Common) (c : Connection) (v : Linked) → Turn chain AnyLength g c v → ChainSound chain g c → root < c.conn → c.payloads root ≡ [] → v.1.payloads root ≡ []
+  unfolding begun all_called configuration run_down with_pools
+  turn_bare chain g c v Same s newer bare = bare
+  turn_bare chain g c v Drained s newer bare = bare
+  turn_bare chain g c v (Broke k other) s newer bare = bare
+  turn_bare chain g c v (Faulted f rest k whole top is) s newer bare = bare
+  turn_bare chain g c v (Went reads f rest whole may) s newer bare = went_bare chain reads f rest g c s newer bare
+  turn_bare chain g c v (Begun whole idle none pools next) s newer bare = created_bare c.conn (pools_of g c) (let lt = conn_given (configuration g c (looking 0)) (s.pools.sound (looking 0)) in omega arith) bare
+  turn_bare chain g c v (Brought pieces req whole idle is there next) s newer bare = bare
+  turn_bare chain g c v (FileTaken req file bytes whole idle is short newest last) s newer bare =
+      registered_bare req (FileRef file) (pools_of g c) (let lt = ((s.pools.sound (looking 0)).req req is).1 in omega arith) bare
+  turn_bare chain g c v (Ended req whole idle is) s newer bare = destroyed_bare req (pools_of g c) bare

@@ -15,7 +15,7 @@ use Rattle.model_laws.specs.Ranges.{BufferInRange}
 use Rattle.run_model.specs.Chains.{Frame, Connection, Common, Linked, module_at, is_last, configuration, touched_frame, put_back, stepped_in}
 use Rattle.run_model.specs.Passing.{Reads, passed_to, returned_to, delivered, delivered_by, next_called, returned_from, proceeds}
 use Rattle.run_model.specs.Turns.{Opening, Found, Missing, Failing, steps, unless_refused, all_called, opened, begun, begins, file_answer, opens_file, brought, brings, ended, ends}
-use Rattle.run_model.specs.Worlds.{Told, empty_world}
+use Rattle.run_model.specs.Worlds.{Told, new_world}
 use Rattle.model_laws.specs.ChainRanges.{BuffersInRange, WorldBuffers, EventKeepsBuffers, RunKeepsBuffers}
 use Rattle.model_laws.proofs.InRange.{bare_buffer, step_buffer}
 use Rattle.model_laws.proofs.chains.EachConnection.{Made, OnOpening, OnBegin, OnBring, OnStep, OnEnd, OnTake, event_each, run_each}
@@ -132,4 +132,4 @@ event_buffers memory budget chain told k e w h = event_each RangeIn memory budge
 })
 
 pub run_buffers : RunKeepsBuffers
-run_buffers budget chain es answers w run = run_each WorldBuffers budget chain (λ memory told k e v h. event_buffers memory budget chain told k e v h) es answers empty_world w run (λ k c e. absurd (cc))
+run_buffers budget chain es answers w run = run_each WorldBuffers budget chain (λ memory told k e v h. event_buffers memory budget chain told k e v h) es answers (new_world run.first) w run.run (λ k c e. absurd (cc))

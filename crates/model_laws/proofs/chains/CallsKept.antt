@@ -1,12 +1,11 @@
 -- The buffer and the cursors of each call of a chain stay sound.
 use Rattle.std.proofs.Common.{◌≤◌, arith}
 use Rattle.std.proofs.lemmas.List.Elements.{All-nil}
-use Rattle.run_model.specs.Worlds.{empty_world}
 use Rattle.model_laws.specs.CallLaws.{SoundCall, CallsSound, EventKeepsCalls, RunKeepsCalls}
 use Rattle.model_laws.proofs.InRange.{step_buffer}
 use Rattle.model_laws.proofs.CursorNames.{step_cursors}
 use Rattle.model_laws.proofs.chains.EachCall.{KeepsCall, each_call_kept}
-use Rattle.model_laws.proofs.chains.WorldKept.{event_kept, run_kept, empty_kept, AnyLength, any_length, any_lengths}
+use Rattle.model_laws.proofs.chains.WorldKept.{event_kept, whole_run_kept, AnyLength, any_length, any_lengths}
 
 calls_keep : KeepsCall SoundCall
 calls_keep = record {
@@ -24,4 +23,4 @@ event_keeps_calls memory budget chain told k e w chained s h =
 
 pub run_keeps_calls : RunKeepsCalls
 run_keeps_calls budget chain es answers w chained run =
-    (run_kept chain chained AnyLength CallsSound (each_call_kept SoundCall calls_keep chain) budget es answers empty_world w run (any_lengths answers) (empty_kept chain CallsSound)).kept
+    (whole_run_kept chain chained AnyLength CallsSound (each_call_kept SoundCall calls_keep chain) budget es answers w run (any_lengths answers)).kept

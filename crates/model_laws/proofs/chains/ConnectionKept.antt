@@ -6,7 +6,7 @@ use Rattle.run_model.specs.declared.event.Piece.{Piece}
 use Rattle.run_model.specs.Chains.{Connection, Common, Linked}
 use Rattle.run_model.specs.Passing.{Reads}
 use Rattle.run_model.specs.Turns.{Opening, steps, opened, begins, opens_file, brings, ends}
-use Rattle.run_model.specs.Worlds.{World, Told, Answer, empty_world, happens, IsRun}
+use Rattle.run_model.specs.Worlds.{World, Told, Answer, new_world, happens, IsWholeRun}
 use Rattle.model_laws.proofs.chains.EachConnection.{Made, OnOpening, OnBegin, OnBring, OnStep, OnEnd, OnTake, event_each, run_each}
 
 -- A property of connections that an opening makes and each event keeps.
@@ -42,5 +42,5 @@ module _ (budget : ℕ) (chain : List Program) (P : Connection → Type 0) (keep
     unopened = λ x px. px;
   })
 
-  pub run_so : (es : List (ℕ × Event)) (answers : List Answer) (w : World) → IsRun budget chain empty_world es answers w → OfEach P w
-  run_so es answers w run = run_each (OfEach P) budget chain event_so es answers empty_world w run (λ k c e. absurd (none_some c e))
+  pub run_so : (es : List (ℕ × Event)) (answers : List Answer) (w : World) → IsWholeRun budget chain es answers w → OfEach P w
+  run_so es answers w run = run_each (OfEach P) budget chain event_so es answers (new_world run.first) w run.run (λ k c e. absurd (none_some c e))

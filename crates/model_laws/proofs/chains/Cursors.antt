@@ -1,14 +1,13 @@
 -- A cursor holds a name that was given out, and what it names is in one place, in each world that is sound.
 use Rattle.std.proofs.Common.{arith}
 use Rattle.run_model.specs.State.{fresh_call}
-use Rattle.run_model.specs.Worlds.{empty_world}
 use Rattle.model_laws.specs.ChainCursors.{HoldsGiven, CursorsGiven, EventKeepsWorldCursors, RunKeepsWorldCursors, SoundWorldStandsOnce, WorldRunStandsOnce}
 use Rattle.run_model.specs.Chains.{configuration}
 use Rattle.model_laws.proofs.CursorNames.{step_cursors}
 use Rattle.model_laws.proofs.CursorSpots.{cursors_stand_once}
 use Rattle.model_laws.proofs.chains.Views.{sound_of, sound_resting}
 use Rattle.model_laws.proofs.chains.EachCall.{KeepsCall, each_call_kept}
-use Rattle.model_laws.proofs.chains.WorldKept.{run_keeps_world, event_kept, run_kept, empty_kept, AnyLength, any_length, any_lengths}
+use Rattle.model_laws.proofs.chains.WorldKept.{run_keeps_world, event_kept, whole_run_kept, AnyLength, any_length, any_lengths}
 
 pub cursors_keep : KeepsCall HoldsGiven
 cursors_keep = record {
@@ -23,7 +22,7 @@ event_keeps_cursors memory budget chain told k e w chained s h =
 
 pub run_keeps_cursors : RunKeepsWorldCursors
 run_keeps_cursors budget chain es answers w chained run =
-    (run_kept chain chained AnyLength CursorsGiven (each_call_kept HoldsGiven cursors_keep chain) budget es answers empty_world w run (any_lengths answers) (empty_kept chain CursorsGiven)).kept
+    (whole_run_kept chain chained AnyLength CursorsGiven (each_call_kept HoldsGiven cursors_keep chain) budget es answers w run (any_lengths answers)).kept
 
 pub sound_world_stands_once : SoundWorldStandsOnce
 sound_world_stands_once chain w sound k c at = (

@@ -24,7 +24,7 @@ module _ (T : NamedBucket → Type 0) where
   -- there is none yet
   pub opened_each : (chain : List Program) (g : Common) → OfEachBucket T (opened chain g).1
   unfolding opened
-  opened_each chain g = all_called_each chain (created 1 (pools_of g (fresh_connection g))) g (fresh_connection g) (record { brigades = λ k b. none T; loose = no_calls T })
+  opened_each chain g = all_called_each chain (created g.root (pools_of g (fresh_connection g))) g (fresh_connection g) (record { brigades = λ k b. none T; loose = no_calls T })
 
   pub begun_each : (chain : List Program) (g : Common) (c : Connection) → OfEachBucket T c → OfEachBucket T (begun chain (g, c)).1
   unfolding begun

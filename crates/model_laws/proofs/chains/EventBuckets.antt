@@ -1,5 +1,5 @@
 -- Events keep home and content of each bucket as its kind has them, and names rise.
-use Rattle.std.proofs.Common.{◌≡◌, ℕ, ◌+◌, ◌^◌, ◌<◌, List, [], length, Some, None, All, sym, subst, arith}
+use Rattle.std.proofs.Common.{◌≡◌, ℕ, ◌+◌, ◌^◌, ◌<◌, List, [], length, Some, None, All, refl, sym, subst, arith}
 use Rattle.std.proofs.lemmas.List.Elements.{All-cons}
 use Rattle.module_code.specs.Program.{Program}
 use Rattle.run_model.specs.declared.bucket.BrigadeVar.{BrigadeVar}
@@ -27,7 +27,7 @@ all_called_buckets chain ps g c s = called_buckets chain 0 _ (with_pools ps (g, 
 
 pub opened_buckets : (chain : List Program) (g : Common) → ChainBuckets (opened chain g).1
 unfolding opened
-opened_buckets chain g = all_called_buckets chain (created 1 (pools_of g (fresh_connection g))) g (fresh_connection g) (record { brigades = λ k b. none_proper; loose = no_calls })
+opened_buckets chain g = all_called_buckets chain (created g.root (pools_of g (fresh_connection g))) g (fresh_connection g) (record { brigades = λ k b. none_proper; loose = no_calls })
 
 pub begun_buckets : (chain : List Program) (g : Common) (c : Connection) → ChainBuckets c → ChainBuckets (begun chain (g, c)).1
 unfolding begun
@@ -59,18 +59,18 @@ same_chain_buckets c new instances stack s = record {
 
 pub opened_raises : (chain : List Program) (g : Common) → g.next + 1 < 2 ^ 64 → g.pools + 1 < 2 ^ 64 → Rises g (opened chain g).0
 unfolding opened all_called created
-opened_raises chain g next pools = record { next = omega arith; next_limit = next; pools = omega arith; pools_limit = pools }
+opened_raises chain g next pools = record { next = omega arith; next_limit = next; pools = omega arith; pools_limit = pools; root = refl }
 
 pub begun_raises : (chain : List Program) (g : Common) (c : Connection) → g.next + 1 < 2 ^ 64 → g.pools + 1 < 2 ^ 64 → Rises g (begun chain (g, c)).0
 unfolding begun all_called created
-begun_raises chain g c next pools = record { next = omega arith; next_limit = next; pools = omega arith; pools_limit = pools }
+begun_raises chain g c next pools = record { next = omega arith; next_limit = next; pools = omega arith; pools_limit = pools; root = refl }
 
 pub brought_in_raises : (chain : List Program) (pieces : List Piece) (req : ℕ) (g : Common) (c : Connection) → g.next + (2 + length pieces) < 2 ^ 64 → g.pools < 2 ^ 64 → Rises g (brought_in chain pieces req (g, c)).0
-brought_in_raises chain pieces req g c next pools = record { next = omega arith; next_limit = omega arith; pools = omega arith; pools_limit = pools }
+brought_in_raises chain pieces req g c next pools = record { next = omega arith; next_limit = omega arith; pools = omega arith; pools_limit = pools; root = refl }
 
 pub file_taken_raises : (req file : ℕ) (bytes : List ℕ) (g : Common) (c : Connection) → g.next < 2 ^ 64 → g.pools < 2 ^ 64 → Rises g (file_taken req file bytes (g, c)).0
-file_taken_raises req file bytes g c next pools = record { next = omega arith; next_limit = next; pools = omega arith; pools_limit = pools }
+file_taken_raises req file bytes g c next pools = record { next = omega arith; next_limit = next; pools = omega arith; pools_limit = pools; root = refl }
 
 pub request_over_raises : (req : ℕ) (g : Common) (c : Connection) → g.next < 2 ^ 64 → g.pools < 2 ^ 64 → Rises g (request_over req (g, c)).0
 unfolding configuration run_down destroyed state.with_pools
-request_over_raises req g c next pools = record { next = omega arith; next_limit = next; pools = omega arith; pools_limit = pools }
+request_over_raises req g c next pools = record { next = omega arith; next_limit = next; pools = omega arith; pools_limit = pools; root = refl }

@@ -66,7 +66,7 @@ all_called_names chain ps g c limit s =
 
 pub opened_names : (chain : List Program) (g : Common) → g.next + 1 < 2 ^ 64 → NamesOf chain (opened chain g)
 unfolding opened
-opened_names chain g limit = all_called_names chain (created 1 (pools_of g (fresh_connection g))) g (fresh_connection g) limit (empty_names chain g (omega arith))
+opened_names chain g limit = all_called_names chain (created g.root (pools_of g (fresh_connection g))) g (fresh_connection g) limit (empty_names chain g (omega arith))
 
 -- A request begins.
 pub begun_names : (chain : List Program) (g : Common) (c : Connection) → g.next + 1 < 2 ^ 64 → ChainNames chain g c → NamesOf chain (begun chain (g, c))

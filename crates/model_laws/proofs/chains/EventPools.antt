@@ -61,17 +61,17 @@ all_called_pools chain w h = same_instances chain w.0 _ w.1 _ refl refl refl ref
 
 -- The connection is opened.
 
-planted_below : (n : ℕ) → 1 < n → (planted {T = Payload} 1).next ≤ n
+planted_below : (root n : ℕ) → root < n → (planted {T = Payload} root).next ≤ n
 unfolding planted
-planted_below n lt = omega arith
+planted_below root n lt = omega arith
 
-pub opened_pools : (chain : List Program) (g : Common) → 1 < g.pools → g.pools + 1 < 2 ^ 64 → LinkedPools chain (opened chain g)
+pub opened_pools : (chain : List Program) (g : Common) → g.root < g.pools → g.pools + 1 < 2 ^ 64 → LinkedPools chain (opened chain g)
 unfolding opened configuration planted is_live
 opened_pools chain g given limit = all_called_pools chain _ (record {
   sound = λ f. record {
-    limit = subst (λ (k : ℕ). k < 2 ^ 64) (sym (created_next 1 start)) limit;
-    formed = created_formed 1 start root_lives (rising_formed (planted 1) g.pools below (planted_formed Payload 1));
-    conn = new_lives 1 start;
+    limit = subst (λ (k : ℕ). k < 2 ^ 64) (sym (created_next g.root start)) limit;
+    formed = created_formed g.root start root_lives (rising_formed (planted g.root) g.pools below (planted_formed Payload g.root));
+    conn = new_lives g.root start;
     req = λ n e. absurd (cc);
     own = λ q n e. absurd (cc);
     brigades = λ b n e. absurd (cc);
@@ -82,11 +82,11 @@ opened_pools chain g given limit = all_called_pools chain _ (record {
   start : Pools Payload
   start = pools_of g (fresh_connection g)
 
-  root_lives : is_live (pools_of g (fresh_connection g)) 1 ≡ true
-  root_lives = planted_live Payload 1
+  root_lives : is_live (pools_of g (fresh_connection g)) g.root ≡ true
+  root_lives = planted_live Payload g.root
 
-  below : (planted {T = Payload} 1).next ≤ g.pools
-  below = planted_below g.pools given
+  below : (planted {T = Payload} g.root).next ≤ g.pools
+  below = planted_below g.root g.pools given
 
 -- A request begins: its pool is new, under the connection's.
 

@@ -21,7 +21,7 @@ use Rattle.run_model.specs.Steps.{Choice, step, current, pool_cleared, pool_dest
 use Rattle.run_model.specs.Chains.{Frame, Connection, Common, Linked, module_at, configuration, pools_of, files_of, IsChain}
 use Rattle.run_model.specs.Passing.{Reads}
 use Rattle.run_model.specs.Turns.{Opening, all_called, opened, opens_file, begun}
-use Rattle.run_model.specs.Worlds.{World, Told, Answer, empty_world, put_conn, answered, file_answered, step_answered, closes, opens_if, opens, adds_file, happens_on, IsRun}
+use Rattle.run_model.specs.Worlds.{World, Told, Answer, new_world, put_conn, answered, file_answered, step_answered, closes, opens_if, opens, adds_file, happens_on, IsRun}
 use Rattle.model_laws.specs.ChainLaws.{after_top}
 use Rattle.model_laws.specs.ChainFiles.{WorldFilesApart, EventKeepsFilesApart, RunKeepsFilesApart}
 use Rattle.run_model.proofs.Updates.{upd_either}
@@ -202,4 +202,4 @@ run_apart budget chain (e ∷ es) (a ∷ answers) old new chained run h =
     run_apart budget chain es answers run.2 new chained run.4 (subst WorldFilesApart (ap (λ (x : Answer × World). x.1) run.3) (event_keeps_files_apart run.0 budget chain run.1 e.0 e.1 old chained h))
 
 pub run_keeps_files_apart : RunKeepsFilesApart
-run_keeps_files_apart budget chain es answers w chained run = run_apart budget chain es answers empty_world w chained run (record { given = λ k file c e is_open. absurd (cc); own = λ j k file c d e at is_open there. absurd (cc) })
+run_keeps_files_apart budget chain es answers w chained run = run_apart budget chain es answers (new_world run.first) w chained run.run (record { given = λ k file c e is_open. absurd (cc); own = λ j k file c d e at is_open there. absurd (cc) })

@@ -24,7 +24,6 @@ use Rattle.model_laws.specs.Laws.{HasReference, SoundFiles}
 use Rattle.run_model.specs.Chains.{Frame, Connection, Common, Linked, module_at, configuration, pools_of, is_under_named, touched_bucket}
 use Rattle.run_model.specs.Passing.{Reads, proceeds}
 use Rattle.run_model.specs.Turns.{all_called, fresh_connection, opened, begun, file_taken, request_over}
-use Rattle.run_model.specs.Worlds.{empty_world}
 use Rattle.model_laws.specs.ChainSound.{ChainSound}
 use Rattle.model_laws.specs.ChainLaws.{MayProceed, after_top}
 use Rattle.model_laws.specs.ChainFiles.{OfEachBucket, IsOpen, ChainFiles, EventKeepsWorldFiles, RunKeepsWorldFiles}
@@ -42,7 +41,7 @@ use Rattle.model_laws.proofs.chains.EachBucket.{seen_each, each_bucket_so, proce
 use Rattle.model_laws.proofs.chains.EachEvent.{opened_each, begun_each, brought_in_each, request_over_each}
 use Rattle.model_laws.proofs.chains.EventTurns.{Turn, Same, Drained, Broke, Faulted, Went, Begun, Brought, FileTaken, Ended}
 use Rattle.model_laws.proofs.chains.Proceeds.{proceeds_files, proceeds_so}
-use Rattle.model_laws.proofs.chains.WorldKept.{TurnsKeep, event_kept, run_kept, empty_kept, AnyLength, any_length, any_lengths}
+use Rattle.model_laws.proofs.chains.WorldKept.{TurnsKeep, event_kept, whole_run_kept, AnyLength, any_length, any_lengths}
 
 -- What an instruction leaves of the references in pools.
 
@@ -156,7 +155,7 @@ went_files chain reads f rest g c may s h = record {
 opened_files : (chain : List Program) (g : Common) → Kept (opened chain g).0 (opened chain g).1
 unfolding opened all_called planted
 opened_files chain g = record {
-  lasts = λ p file h. absurd (let none : false ≡ true = created_back 1 (pools_of g (fresh_connection g)) p file h in cc);
+  lasts = λ p file h. absurd (let none : false ≡ true = created_back g.root (pools_of g (fresh_connection g)) p file h in cc);
   held = opened_each (HasReference (pools_of (opened chain g).0 (opened chain g).1)) chain g;
   request = λ file end q has is. absurd (cc);
   between = λ none. refl;
@@ -265,4 +264,4 @@ event_keeps_files memory budget chain told k e w chained s h =
 
 pub run_keeps_files : RunKeepsWorldFiles
 run_keeps_files budget chain es answers w chained run =
-    (run_kept chain chained AnyLength ChainFiles (files_kept chain) budget es answers empty_world w run (any_lengths answers) (empty_kept chain ChainFiles)).kept
+    (whole_run_kept chain chained AnyLength ChainFiles (files_kept chain) budget es answers w run (any_lengths answers)).kept

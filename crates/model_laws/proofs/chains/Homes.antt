@@ -18,7 +18,6 @@ use Rattle.run_model.specs.Sound.{Sound}
 use Rattle.run_model.specs.Chains.{Frame, Connection, Common, Linked, module_at, is_last, configuration, pools_of, touched_bucket, touched_frame, put_back, stepped_in}
 use Rattle.run_model.specs.Passing.{Reads, passed_to, returned_to, delivered, delivered_by, returned_from, proceeds}
 use Rattle.run_model.specs.Turns.{all_called, opened, begun, brought_in, request_over}
-use Rattle.run_model.specs.Worlds.{empty_world}
 use Rattle.model_laws.specs.ChainSound.{ChainSound}
 use Rattle.model_laws.specs.ChainLaws.{MayProceed, after_top}
 use Rattle.model_laws.specs.ChainFiles.{OfEachBucket}
@@ -33,7 +32,7 @@ use Rattle.model_laws.proofs.chains.EachBucket.{Steps, Holding, none, seen_each,
 use Rattle.model_laws.proofs.chains.EachEvent.{opened_each, begun_each, brought_in_each, request_over_each}
 use Rattle.model_laws.proofs.chains.EventTurns.{Turn, Same, Drained, Broke, Faulted, Went, Begun, Brought, FileTaken, Ended}
 use Rattle.model_laws.proofs.chains.StepHomes.{AliveHome, AliveAs, home_so, cleared_home, destroyed_lasts, touched_alive, step_alive, returned_alive, return_alive}
-use Rattle.model_laws.proofs.chains.WorldKept.{TurnsKeep, event_kept, run_kept, empty_kept, AnyLength, any_length, any_lengths}
+use Rattle.model_laws.proofs.chains.WorldKept.{TurnsKeep, event_kept, whole_run_kept, AnyLength, any_length, any_lengths}
 
 -- The stack that an instruction leaves.
 
@@ -187,4 +186,4 @@ event_keeps_homes memory budget chain told k e w chained s h =
 
 pub run_keeps_homes : RunKeepsWorldHomes
 run_keeps_homes budget chain es answers w chained run =
-    (run_kept chain chained AnyLength ChainHomes (homes_kept chain) budget es answers empty_world w run (any_lengths answers) (empty_kept chain ChainHomes)).kept
+    (whole_run_kept chain chained AnyLength ChainHomes (homes_kept chain) budget es answers w run (any_lengths answers)).kept

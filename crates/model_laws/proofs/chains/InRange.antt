@@ -19,7 +19,7 @@ use Rattle.model_laws.specs.Ranges.{AreBytes, HoldsBytes, BufferInRange, InRange
 use Rattle.run_model.specs.Chains.{Frame, Connection, Common, Linked, module_at, is_last, configuration, pools_of, touched_bucket, touched_var, touched_instance, touched_frame, led_to, put_back, stepped_in, IsChain}
 use Rattle.run_model.specs.Passing.{Reads, passed_to, passed_by, returned_to, called, delivered, delivered_by, next_called, returned_from, proceeds}
 use Rattle.run_model.specs.Turns.{Opening, Found, Missing, Failing, steps, unless_refused, all_called, opened, begun, begins, file_answer, opens_file, brought, brings, ended, ends}
-use Rattle.run_model.specs.Worlds.{World, Told, Answer, empty_world, IsRun}
+use Rattle.run_model.specs.Worlds.{World, Told, Answer, new_world, IsRun}
 use Rattle.model_laws.specs.ChainRanges.{ChainInRange, WorldInRange, TellsBytes, EventKeepsWorldInRange, IsRunOfBytes, RunsOfBytesAreRuns, RunIsInRangeWorld}
 use Rattle.run_model.proofs.Updates.{upd_either}
 use Rattle.model_laws.proofs.InRange.{bare_buffer, destroyed_files, step_in_range}
@@ -253,4 +253,4 @@ run_of_bytes budget chain (e ∷ es) [] old new run = absurd run
 run_of_bytes budget chain (e ∷ es) (a ∷ answers) old new run = (run.0, run.1, run.2, run.5, run_of_bytes budget chain es answers run.2 new run.6)
 
 pub run_in_range : RunIsInRangeWorld
-run_in_range budget chain es answers w chained run = from_world budget chain es answers empty_world w chained run (λ k c e. absurd (cc))
+run_in_range first budget chain es answers w chained run = from_world budget chain es answers (new_world first) w chained run (λ k c e. absurd (cc))

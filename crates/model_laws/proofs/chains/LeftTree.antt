@@ -1,5 +1,5 @@
 -- What an event leaves of the tree of its world is the tree of the world that it leaves.
-use Rattle.std.proofs.Common.{◌≡◌, ◌≢◌, ℕ, suc, ◌<◌, true, false, not, nat_lt, List, Some, Result, Ok, Err, inl, inr, refl, sym, ◌∙◌, ap, subst}
+use Rattle.std.proofs.Common.{◌≡◌, ◌≢◌, ℕ, suc, ◌<◌, true, false, not, nat_lt, List, [], ◌∷◌, Some, Result, Ok, Err, inl, inr, refl, sym, ◌∙◌, ap, subst}
 use Rattle.std.proofs.lemmas.Bool.{cases_Bool, both_ways, false_from_ne_true, ltb-true, ltb-false}
 use Rattle.module_code.specs.Program.{Program}
 use Rattle.module_code.specs.declared.instr.Instr.{Instr}
@@ -31,7 +31,7 @@ use Rattle.model_laws.proofs.chains.Proceeds.{proceeds_conn, proceeds_so}
 use Rattle.model_laws.proofs.chains.PutBack.{looking}
 use Rattle.model_laws.proofs.chains.Reached.{reached_holds}
 use Rattle.model_laws.proofs.chains.TreeParts.{numbered, reached_tree, same_number, top_in}
-use Rattle.model_laws.proofs.chains.TurnsSound.{turn_sound}
+use Rattle.model_laws.proofs.chains.TurnsSound.{turn_rises, turn_sound}
 use Rattle.model_laws.proofs.chains.WorldKept.{AnyLength}
 use Rattle.model_laws.proofs.parts.Joined.{parts_whole}
 use Rattle.model_laws.proofs.parts.Others.{others_stay, same_next}
@@ -132,11 +132,14 @@ module _ (chain : List Program) (w : World) (ps : Pools Payload) (k : ℕ) (c : 
   within : StaysWithin c.conn (pools_of w.common (over ps c)) now
   within = turn_within chain ps w.common c s.lies v t
 
-  root_off : is_under (pools_of w.common (over ps c)) c.conn 1 ≡ false
-  root_off = false_from_ne_true (is_under (pools_of w.common (over ps c)) c.conn 1) (λ under. both_ways (is_top (ps.path 1)) (top_apart (pools_of w.common (over ps c)) c.conn 1 (has chain ps w.common c s.lies) under) (ap is_top s.pools.root))
+  same_root : v.0.root ≡ w.common.root
+  same_root = (turn_rises chain AnyLength w.common (over ps c) v s.names t (sound_over chain ps w.common c s.lies s.sound)).root
 
-  root_stays : (now.path 1 ≡ ps.path 1) × (now.payloads 1 ≡ ps.payloads 1)
-  root_stays = within.off 1 s.names.pools.0 root_off
+  root_off : is_under (pools_of w.common (over ps c)) c.conn w.common.root ≡ false
+  root_off = false_from_ne_true (is_under (pools_of w.common (over ps c)) c.conn w.common.root) (λ under. both_ways (is_top (ps.path w.common.root)) (top_apart (pools_of w.common (over ps c)) c.conn w.common.root (has chain ps w.common c s.lies) under) (ap is_top s.pools.root))
+
+  root_stays : (now.path w.common.root ≡ ps.path w.common.root) × (now.payloads w.common.root ≡ ps.payloads w.common.root)
+  root_stays = within.off w.common.root s.names.pools.0 root_off
 
   formed : IsPoolMap now
   unfolding configuration
@@ -175,7 +178,7 @@ module _ (chain : List Program) (w : World) (ps : Pools Payload) (k : ℕ) (c : 
     other : suc o.number ≢ k
     other is = both_ways (is_in c.conn (ps.path n)) apart (ap (λ (x : Connection). is_in x.conn (ps.path n)) (some_is c o.conn (sym s.here ∙ ap w.conns (sym is) ∙ o.there)) ∙ o.under)
 
-  covered : (n : ℕ) → is_live now n ≡ true → n ≢ 1 → StandsWith left now n
+  covered : (n : ℕ) → is_live now n ≡ true → n ≢ w.common.root → StandsWith left now n
   unfolding is_live
   covered n live other = elim (cases_Bool (is_under (pools_of w.common (over ps c)) c.conn n)) [
     | inl under ↦ mine n (within.inside n (inl under) live)
@@ -186,7 +189,14 @@ module _ (chain : List Program) (w : World) (ps : Pools Payload) (k : ℕ) (c : 
   ]
 
   pub left_pools : ArePoolsOf (put_conn k (linked_in_part c.conn v) w) (pools_of v.0 v.1)
-  left_pools = record { formed = formed; root = root_stays.0 ∙ s.pools.root; bare = root_stays.1 ∙ s.pools.bare; next = refl; parts = parts_then; covered = covered }
+  left_pools = record {
+    formed = formed;
+    root = subst (λ (n : ℕ). now.path n ≡ n ∷ []) (sym same_root) (root_stays.0 ∙ s.pools.root);
+    bare = subst (λ (n : ℕ). now.payloads n ≡ []) (sym same_root) (root_stays.1 ∙ s.pools.bare);
+    next = refl;
+    parts = parts_then;
+    covered = λ n live other. covered n live (λ is. other (is ∙ sym same_root));
+  }
 
   pub left_tree : tree_of (put_conn k (linked_in_part c.conn v) w) ≡ pools_of v.0 v.1
   left_tree = parts_whole (put_conn k (linked_in_part c.conn v) w) (pools_of v.0 v.1) left_pools

@@ -10,7 +10,7 @@ use Rattle.run_model.specs.Steps.{is_spent}
 use Rattle.run_model.specs.Refusals.{first_refusal, refused_if}
 use Rattle.run_model.specs.Chains.{Connection, Linked}
 use Rattle.run_model.specs.Turns.{opened}
-use Rattle.run_model.specs.Worlds.{World, Told, Answer, empty_world, put_conn, answered, file_answered, step_answered, closes, opens_if, opens, adds_file, happens_on, IsRun}
+use Rattle.run_model.specs.Worlds.{World, Told, Answer, new_world, put_conn, answered, file_answered, step_answered, closes, opens_if, opens, adds_file, happens_on, IsRun}
 use Rattle.model_laws.specs.ChainNumbers.{WorldNumbers, EventKeepsNumbers, RunKeepsNumbers}
 use Rattle.model_laws.proofs.StepFiles.{neither}
 use Rattle.run_model.proofs.Updates.{upd_either}
@@ -85,8 +85,8 @@ on_numbered memory budget chain told e k None w at h = h
 pub event_keeps_numbers : EventKeepsNumbers
 event_keeps_numbers memory budget chain told k e w h = on_numbered memory budget chain told e k (w.conns k) w refl h
 
-pub empty_numbered : WorldNumbers empty_world
-empty_numbered = record { first = refl; later = λ k lt. refl; limit = omega arith }
+pub new_numbered_world : (first : ℕ) → WorldNumbers (new_world first)
+new_numbered_world first = record { first = refl; later = λ k lt. refl; limit = omega arith }
 
 run_numbered : (budget : ℕ) (chain : List Program) (es : List (ℕ × Event)) (answers : List Answer) (old new : World) → IsRun budget chain old es answers new → WorldNumbers old → WorldNumbers new
 unfolding IsRun
@@ -97,4 +97,4 @@ run_numbered budget chain (e ∷ es) (a ∷ answers) old new run h =
     run_numbered budget chain es answers run.2 new run.4 (subst WorldNumbers (ap (λ (x : Answer × World). x.1) run.3) (event_keeps_numbers run.0 budget chain run.1 e.0 e.1 old h))
 
 pub run_keeps_numbers : RunKeepsNumbers
-run_keeps_numbers budget chain es answers w run = run_numbered budget chain es answers empty_world w run empty_numbered
+run_keeps_numbers budget chain es answers w run = run_numbered budget chain es answers (new_world run.first) w run.run (new_numbered_world run.first)

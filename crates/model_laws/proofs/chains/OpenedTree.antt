@@ -41,8 +41,8 @@ module _ (chain : List Program) (w : World) (ps : Pools Payload) (k : ℕ) (c : 
   has : HasPart ps c.conn
   has = s.tops k c s.here
 
-  root_stays : (gone.path 1 ≡ ps.path 1) × (gone.payloads 1 ≡ ps.payloads 1)
-  root_stays = destroyed_apart c.conn ps 1 (false_from_ne_true (is_under ps c.conn 1) (λ under. both_ways (is_top (ps.path 1)) (top_apart ps c.conn 1 has under) (ap is_top s.pools.root)))
+  root_stays : (gone.path w.common.root ≡ ps.path w.common.root) × (gone.payloads w.common.root ≡ ps.payloads w.common.root)
+  root_stays = destroyed_apart c.conn ps w.common.root (false_from_ne_true (is_under ps c.conn w.common.root) (λ under. both_ways (is_top (ps.path w.common.root)) (top_apart ps c.conn w.common.root has under) (ap is_top s.pools.root)))
 
   -- who is there then was there before, and is another
   was : (j : ℕ) (d : Connection) → closed.conns j ≡ Some d → (w.conns j ≡ Some d) × (j ≢ k)
@@ -61,7 +61,7 @@ module _ (chain : List Program) (w : World) (ps : Pools Payload) (k : ℕ) (c : 
     other : suc o.number ≢ k
     other is = both_ways (is_in c.conn (ps.path n)) apart (ap (λ (x : Connection). is_in x.conn (ps.path n)) (some_is c o.conn (sym s.here ∙ ap w.conns (sym is) ∙ o.there)) ∙ o.under)
 
-  covered : (n : ℕ) → is_live gone n ≡ true → n ≢ 1 → StandsWith closed gone n
+  covered : (n : ℕ) → is_live gone n ≡ true → n ≢ w.common.root → StandsWith closed gone n
   unfolding is_live
   covered n live other = elim (cases_Bool (is_under ps c.conn n)) [
     | inl under ↦ absurd (live_path gone n live (destroyed_under c.conn ps n under).0)
@@ -96,24 +96,24 @@ module _ (budget : ℕ) (chain : List Program) (w : World) (chained : IsChain ch
   more = put_conn (w.last + 1) (opened chain w.common) (record w { last = w.last + 1 })
 
   abbrev now : Pools Payload
-  now = created 1 ps
+  now = created w.common.root ps
 
   tops : (j : ℕ) (d : Connection) → w.conns j ≡ Some d → HasPart ps d.conn
   tops = (let l = laws budget chain w chained r in top_in chain w l.sound l.numbers l.paths (pools_apart budget chain w chained r))
 
-  newer : 1 < ps.next
+  newer : w.common.root < ps.next
   newer = (let lt = (laws budget chain w chained r).sound.names.pools.0 in let same : ps.next ≡ w.common.pools = pools.next in omega (arith, same))
 
   its_conn : fresh.conn ≡ w.common.pools
   unfolding opened all_called
   its_conn = refl
 
-  its_pools : (fresh.path ≡ (created {T = Payload} 1 (record (planted 1) { next = w.common.pools })).path) × (fresh.payloads ≡ (created {T = Payload} 1 (record (planted 1) { next = w.common.pools })).payloads)
+  its_pools : (fresh.path ≡ (created {T = Payload} w.common.root (record (planted w.common.root) { next = w.common.pools })).path) × (fresh.payloads ≡ (created {T = Payload} w.common.root (record (planted w.common.root) { next = w.common.pools })).payloads)
   unfolding opened all_called
   its_pools = (refl, refl)
 
-  planted_part : part w.common.pools now ≡ created 1 (record (planted 1) { next = w.common.pools })
-  planted_part = subst (λ (n : ℕ). part n now ≡ created 1 (record (planted 1) { next = n })) pools.next (new_planted ps pools.formed pools.root pools.bare)
+  planted_part : part w.common.pools now ≡ created w.common.root (record (planted w.common.root) { next = w.common.pools })
+  planted_part = subst (λ (n : ℕ). part n now ≡ created w.common.root (record (planted w.common.root) { next = n })) pools.next (new_planted w.common.root ps pools.formed pools.root pools.bare)
 
   fresh_part : HasItsPart now fresh
   fresh_part = record {
@@ -123,7 +123,7 @@ module _ (budget : ℕ) (chain : List Program) (w : World) (chained : IsChain ch
 
   old_part : (j : ℕ) (d : Connection) → w.conns j ≡ Some d → HasItsPart now d
   old_part j d at =
-      let still = new_spares d.conn 1 ps (tops j d at) pools.root in
+      let still = new_spares d.conn w.common.root ps (tops j d at) pools.root in
       let old = pools.parts j d at in
       record { path = old.path ∙ sym (ap (λ (qs : Pools Payload). qs.path) still); payloads = old.payloads ∙ sym (ap (λ (qs : Pools Payload). qs.payloads) still) }
 
@@ -140,7 +140,7 @@ module _ (budget : ℕ) (chain : List Program) (w : World) (chained : IsChain ch
     conn = fresh;
     given = omega arith;
     there = ap (upd w.conns (w.last + 1) (Some fresh)) (sym one_more) ∙ upd_at w.conns (w.last + 1) (Some fresh);
-    under = ap (λ (m : ℕ). is_in m (now.path n)) (its_conn ∙ sym pools.next) ∙ ap (is_in ps.next) (ap now.path is ∙ created_at 1 ps) ∙ or_left (ps.next == ps.next) (is_in ps.next (ps.path 1)) (eq-eqb ps.next ps.next refl);
+    under = ap (λ (m : ℕ). is_in m (now.path n)) (its_conn ∙ sym pools.next) ∙ ap (is_in ps.next) (ap now.path is ∙ created_at w.common.root ps) ∙ or_left (ps.next == ps.next) (is_in ps.next (ps.path w.common.root)) (eq-eqb ps.next ps.next refl);
   } where
     one_more : w.last + 1 ≡ suc w.last
     one_more = omega arith
@@ -155,9 +155,9 @@ module _ (budget : ℕ) (chain : List Program) (w : World) (chained : IsChain ch
     under = ap (is_in o.conn.conn) same ∙ o.under;
   }
 
-  covered_then : (n : ℕ) → is_live now n ≡ true → n ≢ 1 → StandsWith more now n
+  covered_then : (n : ℕ) → is_live now n ≡ true → n ≢ w.common.root → StandsWith more now n
   unfolding is_live created
-  covered_then n live other = elim (upd_either ps.path ps.next n (ps.next ∷ ps.path 1)) [
+  covered_then n live other = elim (upd_either ps.path ps.next n (ps.next ∷ ps.path w.common.root)) [
     | inl here ↦ mine n here.0
     | inr off ↦ still_another n off.1 (pools.covered n (ap (λ (path : List ℕ). not (is_empty path)) (sym off.1) ∙ live) other)
   ]
@@ -166,11 +166,12 @@ module _ (budget : ℕ) (chain : List Program) (w : World) (chained : IsChain ch
   unfolding opened all_called created
   next_then = ap (λ (n : ℕ). n + 1) pools.next
 
-  opened_tree : tree_of (put_conn (w.last + 1) (opened chain w.common) (record w { last = w.last + 1 })) ≡ created 1 (tree_of w)
+  opened_tree : tree_of (put_conn (w.last + 1) (opened chain w.common) (record w { last = w.last + 1 })) ≡ created w.common.root (tree_of w)
+  unfolding opened all_called
   opened_tree = parts_whole more now (record {
-    formed = created_formed 1 ps (path_live ps 1 1 [] pools.root) pools.formed;
-    root = created_kept 1 ps 1 newer ∙ pools.root;
-    bare = created_bare 1 ps newer pools.bare;
+    formed = created_formed w.common.root ps (path_live ps w.common.root w.common.root [] pools.root) pools.formed;
+    root = created_kept w.common.root ps w.common.root newer ∙ pools.root;
+    bare = created_bare w.common.root w.common.root ps newer pools.bare;
     next = next_then;
     parts = parts_then;
     covered = covered_then;

@@ -50,7 +50,7 @@ module _ (chain : List Program) (w : World) (sound : WorldSound chain w) (number
   same_under : (n : ℕ) (s : StandsBelow chain w sound paths h w.last n) → k ≡ s.number → is_under whole c.conn n ≡ true
   same_under n s same = own_under n (subst (λ (x : Connection). is_own x n ≡ true) (same_conn s.conn c (sym s.there ∙ ap w.conns (sym same) ∙ at)) s.own)
 
-  root_older : 1 < c.conn
+  root_older : w.common.root < c.conn
   root_older = (paths k c at).newer
 
   seen_sound : (f : Frame) → SoundPools (configuration w.common c f)
@@ -87,7 +87,7 @@ module _ (chain : List Program) (w : World) (sound : WorldSound chain w) (number
   opened_by j q file d there own holds = (files j d there).lasts q file (ap (list_any (is_file_ref file)) (sym (in_all chain w sound numbers paths h j q d there own).payloads) ∙ holds)
 
   -- the root stands under no connection's pool
-  not_root : (p : ℕ) → is_under whole c.conn p ≡ true → p ≢ 1
+  not_root : (p : ℕ) → is_under whole c.conn p ≡ true → p ≢ w.common.root
   unfolding is_under
   not_root p under root = both_ways (is_top (whole.path p)) (top_apart whole c.conn p has under) (ap (λ (n : ℕ). is_top (whole.path n)) root ∙ ap is_top grown_whole.root)
 

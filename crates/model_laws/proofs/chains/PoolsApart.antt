@@ -24,9 +24,9 @@ use Rattle.run_model.specs.Sound.{SoundPools}
 use Rattle.run_model.specs.Chains.{Frame, Connection, Common, Linked, module_at, configuration, pools_of, IsChain}
 use Rattle.run_model.specs.Passing.{Reads}
 use Rattle.run_model.specs.Turns.{Opening, all_called, fresh_connection, opened, opens_file, begun}
-use Rattle.run_model.specs.Worlds.{World, Told, Answer, empty_world, put_conn, answered, file_answered, step_answered, closes, opens_if, opens, adds_file, happens_on, happens, IsRun}
+use Rattle.run_model.specs.Worlds.{World, Told, Answer, new_world, put_conn, answered, file_answered, step_answered, closes, opens_if, opens, adds_file, happens_on, happens, IsRun}
 use Rattle.model_laws.specs.ChainSound.{ChainSound, WorldSound}
-use Rattle.model_laws.specs.ChainLaws.{after_top}
+use Rattle.model_laws.specs.ChainLaws.{Rises, after_top}
 use Rattle.model_laws.specs.ChainNumbers.{WorldNumbers}
 use Rattle.model_laws.specs.ChainTrees.{is_own, WorldPoolsApart, EventKeepsPoolsApart, RunKeepsPoolsApart}
 use Rattle.run_model.proofs.Updates.{upd_either}
@@ -42,8 +42,8 @@ use Rattle.model_laws.proofs.chains.Proceeds.{proceeds_conn, proceeds_so}
 use Rattle.model_laws.proofs.chains.Paths.{aside_path}
 use Rattle.model_laws.proofs.chains.OwnNames.{turn_names}
 use Rattle.model_laws.proofs.chains.BareRoot.{created_bare, turn_bare}
-use Rattle.model_laws.proofs.chains.WorldKept.{AnyLength, empty_sound, event_keeps_world}
-use Rattle.model_laws.proofs.chains.Numbers.{event_keeps_numbers, empty_numbered}
+use Rattle.model_laws.proofs.chains.WorldKept.{AnyLength, new_sound, event_keeps_world}
+use Rattle.model_laws.proofs.chains.Numbers.{event_keeps_numbers, new_numbered_world}
 
 -- What an instruction leaves of paths.
 
@@ -138,11 +138,12 @@ module _ (chain : List Program) (g : Common) (c : Connection) (s : ChainSound ch
 
 -- k's new connection: an own pool has a new name, or was its own before
 record PutsNew (k : ℕ) (w : World) (v : Linked) : Type 0 where
+  root : v.0.root ≡ w.common.root
   rises : w.common.pools ≤ v.0.pools
-  top : v.1.path v.1.conn ≡ v.1.conn ∷ 1 ∷ []
+  top : v.1.path v.1.conn ≡ v.1.conn ∷ w.common.root ∷ []
   from : (n : ℕ) → is_own v.1 n ≡ true → ((w.common.pools ≤ n) × (n < v.0.pools)) ⊎ ((c : Connection) × (w.conns k ≡ Some c) × (is_own c n ≡ true))
   names : (i q n : ℕ) → (v.1.instances i).pools q ≡ poolvar.Made n → (w.common.pools ≤ n) ⊎ ((c : Connection) × (w.conns k ≡ Some c) × ((c.instances i).pools q ≡ poolvar.Made n))
-  bare : v.1.payloads 1 ≡ []
+  bare : v.1.payloads w.common.root ≡ []
   earlier : (j : ℕ) (c : Connection) → w.conns j ≡ Some c → j < k → c.conn < v.1.conn
   later : (j : ℕ) (c : Connection) → w.conns j ≡ Some c → k < j → v.1.conn < c.conn
 
@@ -214,20 +215,23 @@ module _ (chain : List Program) (k : ℕ) (w : World) (v : Linked) (sound : Worl
 
   put_apart : WorldPoolsApart (put_conn k v w)
   put_apart = record {
-    top = λ j x e. elim (which j x e) [
-      | inl at ↦ subst (λ (y : Connection). y.path y.conn ≡ y.conn ∷ 1 ∷ []) at.1 new.top
+    top = λ j x e. subst (λ (m : ℕ). x.path x.conn ≡ x.conn ∷ m ∷ []) (sym new.root) (elim (which j x e) [
+      | inl at ↦ subst (λ (y : Connection). y.path y.conn ≡ y.conn ∷ w.common.root ∷ []) at.1 new.top
       | inr old ↦ h.top j x old
-    ];
+    ]);
     own = λ i j n x y at_i at_j own_x own_y. both i j n (comes i n x at_i own_x) (comes j n y at_j own_y);
     named = λ l j i q n x y at_l at_j made own_y. same_of l j i q n (names_come l i q n x at_l made) (comes j n y at_j own_y);
-    bare = λ j x e. elim (which j x e) [ inl at ↦ subst (λ (y : Connection). y.payloads 1 ≡ []) at.1 new.bare | inr old ↦ h.bare j x old ];
+    bare = λ j x e. subst (λ (m : ℕ). x.payloads m ≡ []) (sym new.root) (elim (which j x e) [ inl at ↦ subst (λ (y : Connection). y.payloads w.common.root ≡ []) at.1 new.bare | inr old ↦ h.bare j x old ]);
     rising = λ i j x y at_i at_j lt. rises i j x y (which i x at_i) (which j y at_j) lt;
   }
 
 module _ (chain : List Program) (chained : IsChain chain) (k : ℕ) (c : Connection) (w : World) (here : w.conns k ≡ Some c) (sound : WorldSound chain w) (h : WorldPoolsApart w) where
   turned_apart : (v : Linked) → Turn chain AnyLength w.common c v → WorldPoolsApart (put_conn k v w)
   unfolding From configuration
-  turned_apart v t = put_apart chain k w v sound (record { rises = (turn_rises chain AnyLength w.common c v sound.names t (sound.conns k c here)).pools; top = at_top; from = from_own; names = named_from; bare = turn_bare chain w.common c v t (sound.conns k c here) below_root (h.bare k c here); earlier = before; later = after }) h where
+  turned_apart v t = put_apart chain k w v sound (record { root = rises.root; rises = rises.pools; top = at_top; from = from_own; names = named_from; bare = turn_bare w.common.root chain w.common c v t (sound.conns k c here) below_root (h.bare k c here); earlier = before; later = after }) h where
+    rises : Rises w.common v.0
+    rises = turn_rises chain AnyLength w.common c v sound.names t (sound.conns k c here)
+
     turns : TurnsFrom w.common c v
     turns = turn_from chain w.common c v t
 
@@ -246,14 +250,14 @@ module _ (chain : List Program) (chained : IsChain chain) (k : ℕ) (c : Connect
     named_from : (i q n : ℕ) → (v.1.instances i).pools q ≡ poolvar.Made n → (w.common.pools ≤ n) ⊎ ((x : Connection) × (w.conns k ≡ Some x) × ((x.instances i).pools q ≡ poolvar.Made n))
     named_from i q n made = elim (turn_names chain w.common c v t i q n made) [ inl old ↦ inr (c, here, old) | inr fresh ↦ inl fresh ]
 
-    below_root : 1 < c.conn
-    below_root = (sound_of chain w.common c (sound.conns k c here)).formed.rises c.conn c.conn 1 [] (h.top k c here)
+    below_root : w.common.root < c.conn
+    below_root = (sound_of chain w.common c (sound.conns k c here)).formed.rises c.conn c.conn w.common.root [] (h.top k c here)
 
-    at_top : v.1.path v.1.conn ≡ v.1.conn ∷ 1 ∷ []
+    at_top : v.1.path v.1.conn ≡ v.1.conn ∷ w.common.root ∷ []
     at_top = elim (turns.from v.1.conn) [
       | inl gone ↦ absurd (live_path (pools_of v.0 v.1) v.1.conn (conn_there chain v.0 v.1 left).0 gone)
       | inr stays ↦ (elim stays [
-        | inl same ↦ same ∙ subst (λ (m : ℕ). c.path m ≡ m ∷ 1 ∷ []) (sym turns.conn) (h.top k c here)
+        | inl same ↦ same ∙ subst (λ (m : ℕ). c.path m ≡ m ∷ w.common.root ∷ []) (sym turns.conn) (h.top k c here)
         | inr fresh ↦ (let is : v.1.conn ≡ c.conn = turns.conn in let lt : c.conn < w.common.pools = (conn_there chain w.common c (sound.conns k c here)).1 in let le : w.common.pools ≤ v.1.conn = fresh.0 in absurd (omega (arith, is, lt, le)))
       ])
     ]
@@ -303,7 +307,7 @@ added_apart true w h = h
 
 -- A connection is opened.
 module _ (chain : List Program) (w : World) (sound : WorldSound chain w) (numbers : WorldNumbers w) (h : WorldPoolsApart w) where
-  opened_path : (opened chain w.common).1.path ≡ (created 1 (pools_of w.common (fresh_connection w.common))).path
+  opened_path : (opened chain w.common).1.path ≡ (created w.common.root (pools_of w.common (fresh_connection w.common))).path
   unfolding opened all_called
   opened_path = refl
 
@@ -315,22 +319,22 @@ module _ (chain : List Program) (w : World) (sound : WorldSound chain w) (number
   unfolding opened all_called created
   opened_next = refl
 
-  root_fresh : (fresh_connection w.common).path 1 ≡ 1 ∷ []
+  root_fresh : (fresh_connection w.common).path w.common.root ≡ w.common.root ∷ []
   unfolding planted
-  root_fresh = elim (upd_either {X = List ℕ} (λ k. []) 1 1 (1 ∷ [])) [ inl at ↦ at.1 | inr off ↦ absurd (off.0 refl) ]
+  root_fresh = elim (upd_either {X = List ℕ} (λ k. []) w.common.root w.common.root (w.common.root ∷ [])) [ inl at ↦ at.1 | inr off ↦ absurd (off.0 refl) ]
 
-  opened_top : (opened chain w.common).1.path (opened chain w.common).1.conn ≡ (opened chain w.common).1.conn ∷ 1 ∷ []
-  opened_top = subst (λ (m : ℕ). (opened chain w.common).1.path m ≡ m ∷ 1 ∷ []) (sym opened_conn)
-      (ap (λ (path : ℕ → List ℕ). path w.common.pools) opened_path ∙ created_at 1 (pools_of w.common (fresh_connection w.common)) ∙ ap (λ (xs : List ℕ). w.common.pools ∷ xs) root_fresh)
+  opened_top : (opened chain w.common).1.path (opened chain w.common).1.conn ≡ (opened chain w.common).1.conn ∷ w.common.root ∷ []
+  opened_top = subst (λ (m : ℕ). (opened chain w.common).1.path m ≡ m ∷ w.common.root ∷ []) (sym opened_conn)
+      (ap (λ (path : ℕ → List ℕ). path w.common.pools) opened_path ∙ created_at w.common.root (pools_of w.common (fresh_connection w.common)) ∙ ap (λ (xs : List ℕ). w.common.pools ∷ xs) root_fresh)
 
-  only_one : is_in w.common.pools (1 ∷ []) ≡ true → ⊥
-  only_one there = elim (or_cases (1 == w.common.pools) false there) [ inl e ↦ (let same : 1 ≡ w.common.pools = eqb-true 1 w.common.pools e in let lt : 1 < w.common.pools = sound.names.pools.0 in omega (arith, same, lt)) | inr never ↦ cc ]
+  only_one : is_in w.common.pools (w.common.root ∷ []) ≡ true → ⊥
+  only_one there = elim (or_cases (w.common.root == w.common.pools) false there) [ inl e ↦ (let same : w.common.root ≡ w.common.pools = eqb-true w.common.root w.common.pools e in let lt : w.common.root < w.common.pools = sound.names.pools.0 in omega (arith, same, lt)) | inr never ↦ cc ]
 
-  is_new : (n : ℕ) → is_in w.common.pools ((created 1 (pools_of w.common (fresh_connection w.common))).path n) ≡ true → n ≡ w.common.pools
+  is_new : (n : ℕ) → is_in w.common.pools ((created w.common.root (pools_of w.common (fresh_connection w.common))).path n) ≡ true → n ≡ w.common.pools
   unfolding created planted
-  is_new n inside = elim (upd_either (fresh_connection w.common).path w.common.pools n (w.common.pools ∷ (fresh_connection w.common).path 1)) [
+  is_new n inside = elim (upd_either (fresh_connection w.common).path w.common.pools n (w.common.pools ∷ (fresh_connection w.common).path w.common.root)) [
     | inl at ↦ at.0
-    | inr off ↦ (elim (upd_either {X = List ℕ} (λ k. []) 1 n (1 ∷ [])) [
+    | inr off ↦ (elim (upd_either {X = List ℕ} (λ k. []) w.common.root n (w.common.root ∷ [])) [
       | inl one ↦ absurd (only_one (ap (is_in w.common.pools) (sym one.1 ∙ sym off.1) ∙ inside))
       | inr none ↦ absurd (let nothing : is_in w.common.pools [] ≡ true = ap (is_in w.common.pools) (sym none.1 ∙ sym off.1) ∙ inside in cc)
     ])
@@ -348,9 +352,13 @@ module _ (chain : List Program) (w : World) (sound : WorldSound chain w) (number
   unfolding opened all_called
   opened_names i q n made = cc
 
-  opened_bare : (opened chain w.common).1.payloads 1 ≡ []
+  opened_root : (opened chain w.common).0.root ≡ w.common.root
+  unfolding opened all_called
+  opened_root = refl
+
+  opened_bare : (opened chain w.common).1.payloads w.common.root ≡ []
   unfolding opened all_called planted
-  opened_bare = created_bare 1 (pools_of w.common (fresh_connection w.common)) sound.names.pools.0 refl
+  opened_bare = created_bare w.common.root w.common.root (pools_of w.common (fresh_connection w.common)) sound.names.pools.0 refl
 
   opens_apart : (memory : Bool) → WorldPoolsApart (opens memory chain w).1
   unfolding opens
@@ -358,6 +366,7 @@ module _ (chain : List Program) (w : World) (sound : WorldSound chain w) (number
     by_refusal : (o : Option Refusal) → first_refusal (refused_if (is_spent (w.last + 1) 1 || (is_spent w.common.pools 1 || is_spent w.common.next 1)) refusal.NamesSpent ∷ (refused_if (not memory) refusal.NoMemory ∷ [])) ≡ o → WorldPoolsApart (opens_if o chain w).1
     by_refusal (Some r) is = h
     by_refusal None is = put_apart chain (w.last + 1) (record w { last = w.last + 1 }) (opened chain w.common) (record { names = sound.names; conns = sound.conns }) (record {
+      root = opened_root;
       rises = (let next : (opened chain w.common).0.pools ≡ w.common.pools + 1 = opened_next in omega (arith, next));
       top = opened_top;
       from = λ n own. inl (opened_own n own);
@@ -400,4 +409,4 @@ run_apart budget chain (e ∷ es) (a ∷ answers) old new chained run s numbers 
 
 pub run_keeps_pools_apart : RunKeepsPoolsApart
 run_keeps_pools_apart budget chain es answers w chained run =
-    run_apart budget chain es answers empty_world w chained run (empty_sound chain) empty_numbered (record { top = λ k c at. absurd (cc); own = λ j k n c d at. absurd (cc); named = λ j k i q n c d at. absurd (cc); bare = λ k c at. absurd (cc); rising = λ j k c d at. absurd (cc) })
+    run_apart budget chain es answers (new_world run.first) w chained run.run (new_sound chain run.first run.named run.given) (new_numbered_world run.first) (record { top = λ k c at. absurd (cc); own = λ j k n c d at. absurd (cc); named = λ j k i q n c d at. absurd (cc); bare = λ k c at. absurd (cc); rising = λ j k c d at. absurd (cc) })

@@ -69,11 +69,11 @@ step_raises m p choice i r may h = placed_step (HasRisen m) (risen_frame m) (ris
 -- What is shared.
 
 same_raises : (g : Common) → g.next < 2 ^ 64 → g.pools < 2 ^ 64 → Rises g g
-same_raises g next pools = record { next = omega arith; next_limit = next; pools = omega arith; pools_limit = pools }
+same_raises g next pools = record { next = omega arith; next_limit = next; pools = omega arith; pools_limit = pools; root = refl }
 
 -- one more name of a call
 one_more_raises : (g : Common) → g.next + 1 < 2 ^ 64 → g.pools < 2 ^ 64 → Rises g (record g { next = g.next + 1 })
-one_more_raises g next pools = record { next = omega arith; next_limit = next; pools = omega arith; pools_limit = pools }
+one_more_raises g next pools = record { next = omega arith; next_limit = next; pools = omega arith; pools_limit = pools; root = refl }
 
 stepped_raises : (chain : List Program) (choice : Choice) (i : Instr) (f : Frame) (rest : List Frame) (g : Common) (c : Connection)
     → MayExecute (module_at chain f.of) (configuration g c f) i → SoundPools (configuration g c f) → Rises g (stepped_in (module_at chain f.of) choice i f rest (g, c)).0
@@ -85,6 +85,7 @@ stepped_raises chain choice i f rest g c may s =
       next_limit = given.limit;
       pools = step_raises g.pools (module_at chain f.of) choice i (configuration g c f) may (omega arith);
       pools_limit = (step_pools (module_at chain f.of) choice i (configuration g c f) may s).limit;
+      root = refl;
     }
 
 delivered_raises : (chain : List Program) (reads : Reads) (b : ℕ) (i : Instr) (f : Frame) (rest : List Frame) (g : Common) (c : Connection)

@@ -30,7 +30,7 @@ use Rattle.model_laws.specs.Ranges.{Reaches, LiesInFile, HasLength, SoundRanges}
 use Rattle.run_model.specs.Chains.{Frame, Connection, Common, Linked, module_at, configuration, pools_of, files_of, touched_bucket, cleared_by}
 use Rattle.run_model.specs.Passing.{Reads}
 use Rattle.run_model.specs.Turns.{all_called, fresh_connection, opened, begun, file_taken, request_over}
-use Rattle.run_model.specs.Worlds.{World, empty_world}
+use Rattle.run_model.specs.Worlds.{World, new_world}
 use Rattle.model_laws.specs.ChainSound.{ChainSound, WorldSound}
 use Rattle.model_laws.specs.ChainLaws.{MayProceed, after_top}
 use Rattle.model_laws.specs.ChainFiles.{OfEachBucket, IsOpen, ChainFiles, WorldFiles}
@@ -52,7 +52,7 @@ use Rattle.model_laws.proofs.chains.FilesApart.{turn_opens}
 use Rattle.model_laws.proofs.chains.FilesKept.{files_kept, event_keeps_files}
 use Rattle.model_laws.proofs.chains.Proceeds.{proceeds_files, proceeds_so}
 use Rattle.model_laws.proofs.chains.TurnsSound.{turn_sound}
-use Rattle.model_laws.proofs.chains.WorldKept.{AnyLength, empty_sound, event_keeps_world}
+use Rattle.model_laws.proofs.chains.WorldKept.{AnyLength, new_sound, event_keeps_world}
 
 -- What is brought.
 
@@ -219,7 +219,7 @@ unfolding opened all_called planted
 opened_ranges chain g = record {
   lie = opened_each (LiesInFile (files_of (opened chain g).0 (opened chain g).1)) chain g;
   told = λ q is. absurd (cc);
-  given = λ p file there. absurd (let none : false ≡ true = created_back 1 (pools_of g (fresh_connection g)) p file there in cc);
+  given = λ p file there. absurd (let none : false ≡ true = created_back g.root (pools_of g (fresh_connection g)) p file there in cc);
 }
 
 turn_ranges : (chain : List Program) (g : Common) (c : Connection) (v : Linked) → Turn chain AnyLength g c v → ChainSound chain g c → ChainFiles g c → ChainFiles v.0 v.1 → ChainRanges g c → ChainRanges v.0 v.1
@@ -277,4 +277,4 @@ pub run_keeps_ranges : RunKeepsWorldRanges
 run_keeps_ranges budget chain es answers w chained run =
     (run_each (Kept chain) budget chain
     (λ memory told k e v h. (event_keeps_world memory budget chain told k e v chained h.0, event_keeps_files memory budget chain told k e v chained h.0 h.1, event_keeps_ranges memory budget chain told k e v chained h.0 h.1 h.2))
-    es answers empty_world w run (empty_sound chain, λ k c e. absurd (cc), λ k c e. absurd (cc))).2
+    es answers (new_world run.first) w run.run (new_sound chain run.first run.named run.given, λ k c e. absurd (cc), λ k c e. absurd (cc))).2

@@ -15,7 +15,7 @@ use Rattle.run_model.specs.Steps.{current}
 use Rattle.run_model.specs.Chains.{Frame, Connection, Common, Linked, module_at, configuration, touched_bucket}
 use Rattle.run_model.specs.Passing.{Reads, proceeds}
 use Rattle.run_model.specs.Turns.{all_called, opened, begun}
-use Rattle.run_model.specs.Worlds.{Told, empty_world}
+use Rattle.run_model.specs.Worlds.{Told}
 use Rattle.model_laws.specs.ChainFiles.{OfEachBucket, IsShortLength, BucketsEnd, ConnectionStepKeepsEnds, BringKeepsEnds, ChainEnds, EventKeepsBucketsEnd, EventKeepsWorldEnds, RunEndsWorld}
 use Rattle.model_laws.proofs.RangesEnd.{pieces_end, told_end, step_ends}
 use Rattle.model_laws.proofs.chains.EachBucket.{Steps, seen_each, proceeds_each}
@@ -24,7 +24,7 @@ use Rattle.model_laws.proofs.chains.EachConnection.{Made, OnOpening, OnBegin, On
 use Rattle.model_laws.proofs.chains.StepCases.{steps_so}
 use Rattle.model_laws.proofs.chains.EventTurns.{Turn, Same, Drained, Broke, Faulted, Went, Begun, Brought, FileTaken, Ended, begins_turn, brings_turn, ends_turn}
 use Rattle.model_laws.proofs.chains.Proceeds.{proceeds_files}
-use Rattle.model_laws.proofs.chains.WorldKept.{AnyLength, TurnsKeep, event_kept, run_kept, empty_kept}
+use Rattle.model_laws.proofs.chains.WorldKept.{AnyLength, TurnsKeep, event_kept, whole_run_kept}
 
 abbrev Ends : Pools Payload → NamedBucket → Type 0
 Ends ps x = EndsInFile x.bucket.content
@@ -114,4 +114,4 @@ pub event_keeps_ends : EventKeepsWorldEnds
 event_keeps_ends memory budget chain told k e w chained s short h = (event_kept chain chained IsShortLength EndsIn (ends_kept chain) memory budget told k e w short (record { sound = s; kept = h })).kept
 
 pub run_ends_world : RunEndsWorld
-run_ends_world budget chain es answers w chained run short = (run_kept chain chained IsShortLength EndsIn (ends_kept chain) budget es answers empty_world w run short (empty_kept chain EndsIn)).kept
+run_ends_world budget chain es answers w chained run short = (whole_run_kept chain chained IsShortLength EndsIn (ends_kept chain) budget es answers w run short).kept

@@ -1,9 +1,9 @@
--- Worlds that are reached from the empty one.
+-- Worlds that are reached from a new one.
 use Rattle.std.proofs.Common.{◌≡◌, [], ◌∷◌, ◌++◌, refl, subst}
 use Rattle.std.proofs.lemmas.List.Elements.{All-nil, All-cons, All-append}
-use Rattle.run_model.specs.Worlds.{World, empty_world, happens, IsRun}
+use Rattle.run_model.specs.Worlds.{World, new_world, happens, IsRun}
 use Rattle.model_laws.specs.ChainFiles.{TellsLengths, IsShortLength}
-use Rattle.model_laws.specs.Reached.{EmptyIsReached, EventReaches, WorldRunGoesOn, ReachedHolds}
+use Rattle.model_laws.specs.Reached.{NewIsReached, EventReaches, WorldRunGoesOn, ReachedHolds}
 use Rattle.model_laws.proofs.chains.WorldKept.{run_keeps_world}
 use Rattle.model_laws.proofs.chains.RangesEnd.{run_ends_world}
 use Rattle.model_laws.proofs.chains.FilesKept.{run_keeps_files}
@@ -13,9 +13,9 @@ use Rattle.model_laws.proofs.chains.Homes.{run_keeps_homes}
 use Rattle.model_laws.proofs.chains.Numbers.{run_keeps_numbers}
 use Rattle.model_laws.proofs.chains.Registered.{run_keeps_registered}
 
-pub empty_is_reached : EmptyIsReached
+pub new_is_reached : NewIsReached
 unfolding IsRun
-empty_is_reached budget chain = record { events = []; answers = []; run = refl; short = All-nil (TellsLengths IsShortLength) }
+new_is_reached first budget chain named given = record { events = []; answers = []; run = record { first = first; named = named; given = given; run = refl }; short = All-nil (TellsLengths IsShortLength) }
 
 pub world_run_goes_on : WorldRunGoesOn
 unfolding IsRun
@@ -29,7 +29,7 @@ pub event_reaches : EventReaches
 event_reaches memory budget chain told k e w new a is short r = record {
   events = r.events ++ (k, e) ∷ [];
   answers = r.answers ++ a ∷ [];
-  run = world_run_goes_on memory budget chain told k e empty_world w new r.events r.answers a r.run is;
+  run = record { first = r.run.first; named = r.run.named; given = r.run.given; run = world_run_goes_on memory budget chain told k e (new_world r.run.first) w new r.events r.answers a r.run.run is };
   short = All-append (TellsLengths IsShortLength) r.answers (a ∷ []) r.short (All-cons (TellsLengths IsShortLength) a [] short (All-nil (TellsLengths IsShortLength)));
 }
 

@@ -35,7 +35,6 @@ use Rattle.run_model.specs.Pools.{is_live}
 use Rattle.run_model.specs.State.{Configuration, items_of, set_brigade, set_cursor, Instance, fresh_call}
 use Rattle.run_model.specs.Steps.{Choice, answer_to, current, step, with_items}
 use Rattle.run_model.specs.Turns.{opened, begun, all_called}
-use Rattle.run_model.specs.Worlds.{empty_world}
 use Rattle.run_model.proofs.EachBucket.{of_named}
 use Rattle.run_model.proofs.Spots.{Stands, stands, named_is}
 use Rattle.run_model.proofs.Updates.{upd_at}
@@ -61,7 +60,7 @@ use Rattle.model_laws.proofs.chains.ReadSteps.{Lasts, NamedLasts, lasts_more, st
 use Rattle.model_laws.proofs.chains.TopNames.{top_keeps_names}
 use Rattle.model_laws.proofs.chains.TopSteps.{may_step}
 use Rattle.model_laws.proofs.chains.Views.{all_within}
-use Rattle.model_laws.proofs.chains.WorldKept.{TurnsKeep, run_kept, empty_kept, AnyLength, any_lengths}
+use Rattle.model_laws.proofs.chains.WorldKept.{TurnsKeep, whole_run_kept, AnyLength, any_lengths}
 
 -- Of each call: each bucket of the name at which its read cursor is lasts as long as the call.
 unfoldable StackReads : Connection → List Frame → Type 0
@@ -531,7 +530,7 @@ reads_last chain g c h above below f x is at =
 
 pub run_keeps_reads : RunKeepsReads
 run_keeps_reads budget chain es answers w chained run k c at =
-    reads_last chain w.common c ((run_kept chain chained AnyLength (ReadsKept chain) (reads_kept chain chained) budget es answers empty_world w run (any_lengths answers) (empty_kept chain (ReadsKept chain))).kept k c at)
+    reads_last chain w.common c ((whole_run_kept chain chained AnyLength (ReadsKept chain) (reads_kept chain chained) budget es answers w run (any_lengths answers)).kept k c at)
 
 -- The test of its home.
 

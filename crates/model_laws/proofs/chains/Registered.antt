@@ -29,7 +29,6 @@ use Rattle.run_model.specs.Holding.{times_held}
 use Rattle.run_model.specs.Chains.{Frame, Connection, Common, Linked, module_at, is_last, configuration, pools_of, touched_var, touched_instance, put_back, stepped_in}
 use Rattle.run_model.specs.Passing.{Reads, delivered, delivered_by, handed_in, set_in, passed_to, passed_by, given_back, gone_on, returned_to, next_called, returned_from, proceeds}
 use Rattle.run_model.specs.Turns.{all_called, fresh_connection, opened, begun, brought_in, file_taken, request_over}
-use Rattle.run_model.specs.Worlds.{empty_world}
 use Rattle.model_laws.specs.ChainSound.{ChainSound}
 use Rattle.model_laws.specs.ChainRegistered.{ChainRegistered, EventKeepsWorldRegistered, RunKeepsWorldRegistered}
 use Rattle.run_model.proofs.Updates.{upd_either}
@@ -40,7 +39,7 @@ use Rattle.model_laws.proofs.chains.PutBack.{looking}
 use Rattle.model_laws.proofs.chains.Views.{sound_top}
 use Rattle.model_laws.proofs.chains.TopSteps.{may_step}
 use Rattle.model_laws.proofs.chains.EventTurns.{Turn, Same, Drained, Broke, Faulted, Went, Begun, Brought, FileTaken, Ended}
-use Rattle.model_laws.proofs.chains.WorldKept.{TurnsKeep, event_kept, run_kept, empty_kept, AnyLength, any_length, any_lengths}
+use Rattle.model_laws.proofs.chains.WorldKept.{TurnsKeep, event_kept, whole_run_kept, AnyLength, any_length, any_lengths}
 
 -- Instances.
 
@@ -189,10 +188,10 @@ opened_registered chain g = record {
   nothing : ℕ → List Payload
   nothing k = []
 
-  nowhere : (name p : ℕ) → 0 < times_held (created 1 (pools_of g (fresh_connection g))) name p → ⊥
+  nowhere : (name p : ℕ) → 0 < times_held (created g.root (pools_of g (fresh_connection g))) name p → ⊥
   nowhere name p h = elim (upd_either nothing g.pools p []) [
-    | inl q ↦ (let none : times_held (created 1 (pools_of g (fresh_connection g))) name p ≡ 0 = ap (count_by (is_brigade name)) q.1 in omega arith)
-    | inr q ↦ (let none : times_held (created 1 (pools_of g (fresh_connection g))) name p ≡ 0 = ap (count_by (is_brigade name)) q.1 in omega arith)
+    | inl q ↦ (let none : times_held (created g.root (pools_of g (fresh_connection g))) name p ≡ 0 = ap (count_by (is_brigade name)) q.1 in omega arith)
+    | inr q ↦ (let none : times_held (created g.root (pools_of g (fresh_connection g))) name p ≡ 0 = ap (count_by (is_brigade name)) q.1 in omega arith)
   ]
 
 -- payloads count alike, and instances are as before
@@ -255,4 +254,4 @@ event_keeps_registered memory budget chain told k e w chained s h =
 
 pub run_keeps_registered : RunKeepsWorldRegistered
 run_keeps_registered budget chain es answers w chained run =
-    (run_kept chain chained AnyLength ChainRegistered (registered_kept chain) budget es answers empty_world w run (any_lengths answers) (empty_kept chain ChainRegistered)).kept
+    (whole_run_kept chain chained AnyLength ChainRegistered (registered_kept chain) budget es answers w run (any_lengths answers)).kept

@@ -39,12 +39,12 @@ module _ (chain : List Program) (w : World) (sound : WorldSound chain w) (number
   joined_at : (k n : ℕ) (c : Connection) (o : Option Connection) → w.conns (suc k) ≡ o → tree_up_to (suc k) w ≡ with_part o (tree_up_to k w) → is_own c n ≡ true → IsAt k n c → IsAt (suc k) n c
   joined_at k n c None at is own old = record { path = ap (λ (ps : Pools Payload). ps.path n) is ∙ old.path; payloads = ap (λ (ps : Pools Payload). ps.payloads n) is ∙ old.payloads }
   joined_at k n c (Some d) at is own old =
-      let stays = joined_there d (tree_up_to k w) (joins_next chain w sound paths h k d (grown chain w sound paths h k) at) n (λ none. own_there n c own (sym old.path ∙ none)) in
+      let stays = joined_there w.common.root d (tree_up_to k w) (joins_next chain w sound paths h k d (grown chain w sound paths h k) at) n (λ none. own_there n c own (sym old.path ∙ none)) in
       record { path = ap (λ (ps : Pools Payload). ps.path n) is ∙ stays.0 ∙ old.path; payloads = ap (λ (ps : Pools Payload). ps.payloads n) is ∙ stays.1 ∙ old.payloads }
 
   comes_at : (k n : ℕ) (c : Connection) → w.conns (suc k) ≡ Some c → is_own c n ≡ true → IsAt (suc k) n c
   unfolding tree_below
-  comes_at k n c at own = elim (joined_either c (tree_up_to k w) (joins_next chain w sound paths h k c (grown chain w sound paths h k) at) n) [
+  comes_at k n c at own = elim (joined_either w.common.root c (tree_up_to k w) (joins_next chain w sound paths h k c (grown chain w sound paths h k) at) n) [
     | inl here ↦ record { path = ap (λ (o : Option Connection). (with_part o (tree_up_to k w)).path n) at ∙ here.1; payloads = ap (λ (o : Option Connection). (with_part o (tree_up_to k w)).payloads n) at ∙ here.2 }
     | inr off ↦ absurd (both_ways (is_own c n) off.0 own)
   ]
@@ -79,11 +79,11 @@ module _ (chain : List Program) (w : World) (sound : WorldSound chain w) (number
   in_all k n c at own = (let is = numbered k c at in at_each w.last is.0 n c (ap w.conns (sym is.1) ∙ at) is.2 own)
 
   pub own_conn : (k : ℕ) (c : Connection) → w.conns k ≡ Some c → is_own c c.conn ≡ true
-  own_conn k c at = ap (is_in c.conn) (h.top k c at) ∙ or_left (c.conn == c.conn) (is_in c.conn (1 ∷ [])) (eq-eqb c.conn c.conn refl)
+  own_conn k c at = ap (is_in c.conn) (h.top k c at) ∙ or_left (c.conn == c.conn) (is_in c.conn (w.common.root ∷ [])) (eq-eqb c.conn c.conn refl)
 
   -- a connection's pool stands right under the root
   pub top_in : (k : ℕ) (c : Connection) → w.conns k ≡ Some c → HasPart all c.conn
-  top_in k c at = record { formed = tree.formed; root = 1; top = (in_all k c.conn c at (own_conn k c at)).path ∙ h.top k c at }
+  top_in k c at = record { formed = tree.formed; root = w.common.root; top = (in_all k c.conn c at (own_conn k c at)).path ∙ h.top k c at }
 
   -- two connections have two pools
   pub same_number : (j k : ℕ) (c d : Connection) → w.conns j ≡ Some c → w.conns k ≡ Some d → c.conn ≡ d.conn → j ≡ k
@@ -91,7 +91,7 @@ module _ (chain : List Program) (w : World) (sound : WorldSound chain w) (number
 
   module _ (k : ℕ) (c : Connection) (at : w.conns k ≡ Some c) where
     -- what stands under its pool is its own
-    pub through_own : (n : ℕ) → n ≢ 1 → is_under all c.conn n ≡ true → is_own c n ≡ true
+    pub through_own : (n : ℕ) → n ≢ w.common.root → is_under all c.conn n ≡ true → is_own c n ≡ true
     unfolding is_under
     through_own n other under = elim (tree.from n (λ none. let e : is_in c.conn [] ≡ true = ap (is_in c.conn) (sym none) ∙ under in cc)) [
       | inl root ↦ absurd (other root)
@@ -103,10 +103,10 @@ module _ (chain : List Program) (w : World) (sound : WorldSound chain w) (number
           subst (λ (x : Connection). is_own x n ≡ true) (same_conn s.conn c (sym s.there ∙ ap w.conns number ∙ at)) s.own
       by_name s (inr apart) = absurd (both_ways (is_under all s.conn.conn n) (apart_under all c.conn s.conn.conn n (top_in k c at) (top_in s.number s.conn s.there) apart.1 under) (ap (is_in s.conn.conn) s.path ∙ s.own))
 
-    root_path : c.path 1 ≡ 1 ∷ []
-    root_path = (part_formed chain w sound paths h k c at).closed c.conn c.conn 1 [] (h.top k c at)
+    root_path : c.path w.common.root ≡ w.common.root ∷ []
+    root_path = (part_formed chain w sound paths h k c at).closed c.conn c.conn w.common.root [] (h.top k c at)
 
-    not_own : (n : ℕ) → n ≢ 1 → is_own c n ≡ false → (c.path n ≡ []) × (c.payloads n ≡ [])
+    not_own : (n : ℕ) → n ≢ w.common.root → is_own c n ≡ false → (c.path n ≡ []) × (c.payloads n ≡ [])
     unfolding is_live is_under
     not_own n other off = by_path (c.path n) refl where
       by_path : (xs : List ℕ) → c.path n ≡ xs → (c.path n ≡ []) × (c.payloads n ≡ [])
@@ -116,25 +116,25 @@ module _ (chain : List Program) (w : World) (sound : WorldSound chain w) (number
         | inr under ↦ absurd (both_ways (is_own c n) off under)
       ]
 
-    outside : (n : ℕ) → n ≢ 1 → is_own c n ≡ false → belongs c.conn (all.path n) ≡ false
+    outside : (n : ℕ) → n ≢ w.common.root → is_own c n ≡ false → belongs c.conn (all.path n) ≡ false
     unfolding is_under
     outside n other off = false_from_ne_true (belongs c.conn (all.path n)) (λ here. elim (or_cases (is_top (all.path n)) (is_in c.conn (all.path n)) here) [
-      | inl top ↦ (let alone = top_path (all.path n) top in other (tree.formed.alone n 1 alone.0 1 alone.1 tree.root))
+      | inl top ↦ (let alone = top_path (all.path n) top in other (tree.formed.alone n w.common.root alone.0 w.common.root alone.1 tree.root))
       | inr under ↦ both_ways (is_own c n) off (through_own n other under)
     ])
 
     alike : (n : ℕ) → (c.path n ≡ (part c.conn all).path n) × (c.payloads n ≡ (part c.conn all).payloads n)
-    alike n = elim (eqb_tells n 1) [
+    alike n = elim (eqb_tells n w.common.root) [
       | inl root ↦ subst (λ (m : ℕ). (c.path m ≡ (part c.conn all).path m) × (c.payloads m ≡ (part c.conn all).payloads m)) (sym root.1) at_root
       | inr other ↦ (elim (cases_Bool (is_own c n)) [
         | inl own ↦ of_own own
         | inr off ↦ (let none = not_own n other.1 off in let out = part_off all c.conn n (outside n other.1 off) in (none.0 ∙ sym out.0, none.1 ∙ sym out.1))
       ])
     ] where
-      at_root : (c.path 1 ≡ (part c.conn all).path 1) × (c.payloads 1 ≡ (part c.conn all).payloads 1)
+      at_root : (c.path w.common.root ≡ (part c.conn all).path w.common.root) × (c.payloads w.common.root ≡ (part c.conn all).payloads w.common.root)
       at_root =
-          let here : belongs c.conn (all.path 1) ≡ true = ap (belongs c.conn) tree.root in
-          (root_path ∙ sym tree.root ∙ sym (part_path all c.conn 1 here), h.bare k c at ∙ sym tree.bare ∙ sym (part_payloads all c.conn 1 here))
+          let here : belongs c.conn (all.path w.common.root) ≡ true = ap (belongs c.conn) tree.root in
+          (root_path ∙ sym tree.root ∙ sym (part_path all c.conn w.common.root here), h.bare k c at ∙ sym tree.bare ∙ sym (part_payloads all c.conn w.common.root here))
 
       of_own : is_own c n ≡ true → (c.path n ≡ (part c.conn all).path n) × (c.payloads n ≡ (part c.conn all).payloads n)
       of_own own =
@@ -145,7 +145,7 @@ module _ (chain : List Program) (w : World) (sound : WorldSound chain w) (number
     pub its_part : HasItsPart all c
     its_part = record { path = fun_ext (λ n. (alike n).0); payloads = fun_ext (λ n. (alike n).1) }
 
-  stands : (n : ℕ) → is_live all n ≡ true → n ≢ 1 → StandsWith w all n
+  stands : (n : ℕ) → is_live all n ≡ true → n ≢ w.common.root → StandsWith w all n
   unfolding is_under
   stands n live other = elim (tree.from n (live_path all n live)) [
     | inl root ↦ absurd (other root)

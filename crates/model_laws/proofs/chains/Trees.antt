@@ -18,7 +18,7 @@ use Rattle.model_laws.proofs.chains.PoolsApart.{run_keeps_pools_apart}
 use Rattle.model_laws.proofs.chains.Reached.{reached_holds}
 
 -- A part is joined.
-module _ (c : Connection) (ps : Pools Payload) (h : MayJoin c ps) where
+module _ (root : ℕ) (c : Connection) (ps : Pools Payload) (h : MayJoin root c ps) where
   -- a pool is the part's, or it is as it was
   pub joined_either : (n : ℕ) → ((is_own c n ≡ true) × ((with_part (Some c) ps).path n ≡ c.path n) × ((with_part (Some c) ps).payloads n ≡ c.payloads n))
       ⊎ ((is_own c n ≡ false) × ((with_part (Some c) ps).path n ≡ ps.path n) × ((with_part (Some c) ps).payloads n ≡ ps.payloads n))
@@ -31,16 +31,16 @@ module _ (c : Connection) (ps : Pools Payload) (h : MayJoin c ps) where
   pub joined_there : (n : ℕ) → ps.path n ≢ [] → ((with_part (Some c) ps).path n ≡ ps.path n) × ((with_part (Some c) ps).payloads n ≡ ps.payloads n)
   joined_there n there = elim (joined_either n) [ inl own ↦ absurd (there (h.apart n own.0)) | inr off ↦ (off.1, off.2) ]
 
-  pub joined_root : (with_part (Some c) ps).path 1 ≡ 1 ∷ []
-  joined_root = (joined_there 1 (λ none. let e : (1 ∷ []) ≡ [] = sym h.root ∙ none in cc)).0 ∙ h.root
+  pub joined_root : (with_part (Some c) ps).path root ≡ root ∷ []
+  joined_root = (joined_there root (λ none. let e : (root ∷ []) ≡ [] = sym h.first ∙ none in cc)).0 ∙ h.first
 
-  pub joined_bare : (with_part (Some c) ps).payloads 1 ≡ ps.payloads 1
-  joined_bare = (joined_there 1 (λ none. let e : (1 ∷ []) ≡ [] = sym h.root ∙ none in cc)).1
+  pub joined_bare : (with_part (Some c) ps).payloads root ≡ ps.payloads root
+  joined_bare = (joined_there root (λ none. let e : (root ∷ []) ≡ [] = sym h.first ∙ none in cc)).1
 
   -- the pool above an own one is an own one, or that is the connection's
-  pub above_own : (n p : ℕ) (above : List ℕ) → c.path n ≡ n ∷ p ∷ above → is_own c n ≡ true → ((n ≡ c.conn) × (p ≡ 1) × (above ≡ [])) ⊎ (is_own c p ≡ true)
+  pub above_own : (n p : ℕ) (above : List ℕ) → c.path n ≡ n ∷ p ∷ above → is_own c n ≡ true → ((n ≡ c.conn) × (p ≡ root) × (above ≡ [])) ⊎ (is_own c p ≡ true)
   above_own n p above is own = elim (or_cases (n == c.conn) (is_in c.conn (p ∷ above)) (ap (is_in c.conn) (sym is) ∙ own)) [
-    | inl here ↦ (let at : n ≡ c.conn = eqb-true n c.conn here in let whole : (n ∷ p ∷ above) ≡ (c.conn ∷ 1 ∷ []) = sym is ∙ ap c.path at ∙ h.top in inl (at, the_second n c.conn p 1 above [] whole, the_rest n c.conn p 1 above [] whole))
+    | inl here ↦ (let at : n ≡ c.conn = eqb-true n c.conn here in let whole : (n ∷ p ∷ above) ≡ (c.conn ∷ root ∷ []) = sym is ∙ ap c.path at ∙ h.top in inl (at, the_second n c.conn p root above [] whole, the_rest n c.conn p root above [] whole))
     | inr further ↦ inr (ap (is_in c.conn) (h.own.closed n n p above is) ∙ further)
   ] where
     the_second : (n m p q : ℕ) (xs ys : List ℕ) → (n ∷ p ∷ xs) ≡ (m ∷ q ∷ ys) → p ≡ q
@@ -52,7 +52,7 @@ module _ (c : Connection) (ps : Pools Payload) (h : MayJoin c ps) where
   -- an own pool is not at the top
   own_deep : (n k : ℕ) → c.path n ≡ k ∷ [] → is_own c n ≡ true → ⊥
   own_deep n k is own = elim (or_cases (k == c.conn) false (ap (is_in c.conn) (sym is) ∙ own)) [
-    | inl here ↦ (let at : n ≡ c.conn = sym (h.own.first n k [] is) ∙ eqb-true k c.conn here in let whole : (k ∷ []) ≡ (c.conn ∷ 1 ∷ []) = sym is ∙ ap c.path at ∙ h.top in cc)
+    | inl here ↦ (let at : n ≡ c.conn = sym (h.own.first n k [] is) ∙ eqb-true k c.conn here in let whole : (k ∷ []) ≡ (c.conn ∷ root ∷ []) = sym is ∙ ap c.path at ∙ h.top in cc)
     | inr never ↦ cc
   ]
 
@@ -105,7 +105,7 @@ module _ (c : Connection) (ps : Pools Payload) (h : MayJoin c ps) where
   }
 
 pub joined_is_formed : JoinedIsPoolMap
-joined_is_formed c ps h = joined_formed c ps h
+joined_is_formed root c ps h = joined_formed root c ps h
 
 -- What is put together.
 
@@ -122,38 +122,38 @@ module _ (chain : List Program) (w : World) (sound : WorldSound chain w) (paths 
   -- Each pool but the root is one of a connection, and nothing is registered on the root.
   pub record Grown (k : ℕ) : Type 0 where
     pub formed : IsPoolMap (tree_up_to k w)
-    pub root : (tree_up_to k w).path 1 ≡ 1 ∷ []
-    pub bare : (tree_up_to k w).payloads 1 ≡ []
+    pub root : (tree_up_to k w).path w.common.root ≡ w.common.root ∷ []
+    pub bare : (tree_up_to k w).payloads w.common.root ≡ []
     pub next : (tree_up_to k w).next ≡ w.common.pools
-    pub from : (n : ℕ) → (tree_up_to k w).path n ≢ [] → (n ≡ 1) ⊎ StandsBelow k n
+    pub from : (n : ℕ) → (tree_up_to k w).path n ≢ [] → (n ≡ w.common.root) ⊎ StandsBelow k n
 
   pub part_formed : (k : ℕ) (c : Connection) → w.conns k ≡ Some c → IsPoolMap (pools_of w.common c)
   unfolding configuration
   part_formed k c at = ((sound.conns k c at).pools.sound (looking 0)).formed
 
-  own_newer : (k n : ℕ) (c : Connection) → w.conns k ≡ Some c → is_own c n ≡ true → n ≢ 1
+  own_newer : (k n : ℕ) (c : Connection) → w.conns k ≡ Some c → is_own c n ≡ true → n ≢ w.common.root
   own_newer k n c at own one =
-      let root : c.path 1 ≡ 1 ∷ [] = (part_formed k c at).closed c.conn c.conn 1 [] (h.top k c at) in
-      let newer : 1 < c.conn = (paths k c at).newer in
-      elim (or_cases (1 == c.conn) false (ap (is_in c.conn) (sym root ∙ ap c.path (sym one)) ∙ own)) [
-        | inl e ↦ (let same : 1 ≡ c.conn = eqb-true 1 c.conn e in absurd (omega (arith, same, newer)))
+      let root : c.path w.common.root ≡ w.common.root ∷ [] = (part_formed k c at).closed c.conn c.conn w.common.root [] (h.top k c at) in
+      let newer : w.common.root < c.conn = (paths k c at).newer in
+      elim (or_cases (w.common.root == c.conn) false (ap (is_in c.conn) (sym root ∙ ap c.path (sym one)) ∙ own)) [
+        | inl e ↦ (let same : w.common.root ≡ c.conn = eqb-true w.common.root c.conn e in absurd (omega (arith, same, newer)))
         | inr never ↦ cc
       ]
 
   -- an own pool right under the root is the connection's
-  own_top : (k n : ℕ) (c : Connection) (above : List ℕ) → w.conns k ≡ Some c → is_own c n ≡ true → c.path n ≡ n ∷ 1 ∷ above → n ≡ c.conn
-  own_top k n c above at own is = elim (or_cases (n == c.conn) (is_in c.conn (1 ∷ above)) (ap (is_in c.conn) (sym is) ∙ own)) [
+  own_top : (k n : ℕ) (c : Connection) (above : List ℕ) → w.conns k ≡ Some c → is_own c n ≡ true → c.path n ≡ n ∷ w.common.root ∷ above → n ≡ c.conn
+  own_top k n c above at own is = elim (or_cases (n == c.conn) (is_in c.conn (w.common.root ∷ above)) (ap (is_in c.conn) (sym is) ∙ own)) [
     | inl e ↦ eqb-true n c.conn e
-    | inr further ↦ absurd (own_newer k 1 c at (ap (is_in c.conn) ((part_formed k c at).closed n n 1 above is) ∙ further) refl)
+    | inr further ↦ absurd (own_newer k w.common.root c at (ap (is_in c.conn) ((part_formed k c at).closed n n w.common.root above is) ∙ further) refl)
   ]
 
   -- The next connection's part is joined.
-  pub joins_next : (k : ℕ) (c : Connection) → Grown k → w.conns (suc k) ≡ Some c → MayJoin c (tree_up_to k w)
+  pub joins_next : (k : ℕ) (c : Connection) → Grown k → w.conns (suc k) ≡ Some c → MayJoin w.common.root c (tree_up_to k w)
   unfolding is_child
   joins_next k c g at = record {
     formed = g.formed;
     own = subst (λ (next : ℕ). IsPoolMap (record { path = c.path; payloads = c.payloads; next = next })) (sym g.next) (part_formed (suc k) c at);
-    root = g.root;
+    first = g.root;
     top = h.top (suc k) c at;
     newer = (paths (suc k) c at).newer;
     apart = apart;
@@ -171,11 +171,11 @@ module _ (chain : List Program) (w : World) (sound : WorldSound chain w) (paths 
       by_path [] is = is
       by_path (m ∷ xs) is = absurd (none_other n own (λ none. let e : (m ∷ xs) ≡ [] = sym is ∙ none in cc))
 
-    later : (n : ℕ) → is_child (tree_up_to k w) 1 n ≡ true → n < c.conn
+    later : (n : ℕ) → is_child (tree_up_to k w) w.common.root n ≡ true → n < c.conn
     later n child =
-        let up = child_path (tree_up_to k w) g.formed 1 n ((tree_up_to k w).path n) refl child in
-        elim (g.from n (λ none. let e : (n ∷ 1 ∷ up.0) ≡ [] = sym up.1 ∙ none in cc)) [
-          | inl one ↦ (let lt = child_above (tree_up_to k w) g.formed 1 n child in absurd (omega (arith, one, lt)))
+        let up = child_path (tree_up_to k w) g.formed w.common.root n ((tree_up_to k w).path n) refl child in
+        elim (g.from n (λ none. let e : (n ∷ w.common.root ∷ up.0) ≡ [] = sym up.1 ∙ none in cc)) [
+          | inl one ↦ (let lt = child_above (tree_up_to k w) g.formed w.common.root n child in absurd (omega (arith, one, lt)))
           | inr s ↦ (let same : n ≡ s.conn.conn = own_top s.number n s.conn up.0 s.there s.own (sym s.path ∙ up.1) in
               let rises : s.conn.conn < c.conn = h.rising s.number (suc k) s.conn c s.there at (omega (arith, s.below)) in omega (arith, same, rises))
         ]
@@ -184,18 +184,18 @@ module _ (chain : List Program) (w : World) (sound : WorldSound chain w) (paths 
   unfolding tree_below planted is_live
   start_grown = record { formed = at_first; root = root; bare = refl; next = refl; from = λ n there. elim (either n) [ inl one ↦ inl one.0 | inr none ↦ absurd (there none.1) ] } where
     first : Pools Payload
-    first = record (planted 1) { next = w.common.pools }
+    first = record (planted w.common.root) { next = w.common.pools }
 
-    either : (n : ℕ) → ((n ≡ 1) × (first.path n ≡ 1 ∷ [])) ⊎ ((n ≢ 1) × (first.path n ≡ []))
-    either n = upd_either {X = List ℕ} (λ k. []) 1 n (1 ∷ [])
+    either : (n : ℕ) → ((n ≡ w.common.root) × (first.path n ≡ w.common.root ∷ [])) ⊎ ((n ≢ w.common.root) × (first.path n ≡ []))
+    either n = upd_either {X = List ℕ} (λ k. []) w.common.root n (w.common.root ∷ [])
 
-    root : first.path 1 ≡ 1 ∷ []
-    root = elim (either 1) [ inl at ↦ at.1 | inr off ↦ absurd (off.0 refl) ]
+    root : first.path w.common.root ≡ w.common.root ∷ []
+    root = elim (either w.common.root) [ inl at ↦ at.1 | inr off ↦ absurd (off.0 refl) ]
 
     -- what is there is the root
-    only : (n m : ℕ) (above : List ℕ) → first.path n ≡ m ∷ above → (n ≡ 1) × (m ≡ 1) × (above ≡ [])
+    only : (n m : ℕ) (above : List ℕ) → first.path n ≡ m ∷ above → (n ≡ w.common.root) × (m ≡ w.common.root) × (above ≡ [])
     only n m above is = elim (either n) [
-      | inl at ↦ (let whole : (1 ∷ []) ≡ (m ∷ above) = sym at.1 ∙ is in (at.0, cc, cc))
+      | inl at ↦ (let whole : (w.common.root ∷ []) ≡ (m ∷ above) = sym at.1 ∙ is in (at.0, cc, cc))
       | inr off ↦ absurd (let none : [] ≡ (m ∷ above) = sym off.1 ∙ is in cc)
     ]
 
@@ -206,7 +206,7 @@ module _ (chain : List Program) (w : World) (sound : WorldSound chain w) (paths 
       closed = λ n m p above is. absurd (let none : (p ∷ above) ≡ [] = (only n m (p ∷ above) is).2 in cc);
       alone = λ n m k l at_n at_m. (only n k [] at_n).0 ∙ sym (only m l [] at_m).0;
       named = λ n live. elim (either n) [
-        | inl at ↦ (let one : n ≡ 1 = at.0 in let more : 1 < w.common.pools = sound.names.pools.0 in omega (arith, one, more))
+        | inl at ↦ (let one : n ≡ w.common.root = at.0 in let more : w.common.root < w.common.pools = sound.names.pools.0 in omega (arith, one, more))
         | inr off ↦ absurd (live_path first n live off.1)
       ];
       bare = λ n none. refl;
@@ -218,17 +218,17 @@ module _ (chain : List Program) (w : World) (sound : WorldSound chain w) (paths 
   grows : (k : ℕ) (o : Option Connection) → w.conns (suc k) ≡ o → tree_up_to (suc k) w ≡ with_part o (tree_up_to k w) → Grown k → Grown (suc k)
   grows k None at is g = record {
     formed = subst IsPoolMap (sym is) g.formed;
-    root = ap (λ (ps : Pools Payload). ps.path 1) is ∙ g.root;
-    bare = ap (λ (ps : Pools Payload). ps.payloads 1) is ∙ g.bare;
+    root = ap (λ (ps : Pools Payload). ps.path w.common.root) is ∙ g.root;
+    bare = ap (λ (ps : Pools Payload). ps.payloads w.common.root) is ∙ g.bare;
     next = ap (λ (ps : Pools Payload). ps.next) is ∙ g.next;
     from = λ n there. (let same : (tree_up_to (suc k) w).path n ≡ (tree_up_to k w).path n = ap (λ (ps : Pools Payload). ps.path n) is in elim (g.from n (λ none. there (same ∙ none))) [ inl one ↦ inl one | inr s ↦ inr (raised k n s same) ]);
   }
   grows k (Some c) at is g = record {
-    formed = subst IsPoolMap (sym is) (joined_formed c (tree_up_to k w) (joins_next k c g at));
-    root = ap (λ (ps : Pools Payload). ps.path 1) is ∙ joined_root c (tree_up_to k w) (joins_next k c g at);
-    bare = ap (λ (ps : Pools Payload). ps.payloads 1) is ∙ joined_bare c (tree_up_to k w) (joins_next k c g at) ∙ g.bare;
+    formed = subst IsPoolMap (sym is) (joined_formed w.common.root c (tree_up_to k w) (joins_next k c g at));
+    root = ap (λ (ps : Pools Payload). ps.path w.common.root) is ∙ joined_root w.common.root c (tree_up_to k w) (joins_next k c g at);
+    bare = ap (λ (ps : Pools Payload). ps.payloads w.common.root) is ∙ joined_bare w.common.root c (tree_up_to k w) (joins_next k c g at) ∙ g.bare;
     next = ap (λ (ps : Pools Payload). ps.next) is ∙ g.next;
-    from = λ n there. (let same : (tree_up_to (suc k) w).path n ≡ (with_part (Some c) (tree_up_to k w)).path n = ap (λ (ps : Pools Payload). ps.path n) is in elim (joined_either c (tree_up_to k w) (joins_next k c g at) n) [
+    from = λ n there. (let same : (tree_up_to (suc k) w).path n ≡ (with_part (Some c) (tree_up_to k w)).path n = ap (λ (ps : Pools Payload). ps.path n) is in elim (joined_either w.common.root c (tree_up_to k w) (joins_next k c g at) n) [
       | inl own ↦ inr (record { number = suc k; conn = c; below = omega arith; there = at; own = own.0; path = same ∙ own.1 })
       | inr off ↦ (elim (g.from n (λ none. there (same ∙ off.1 ∙ none))) [ inl one ↦ inl one | inr s ↦ inr (raised k n s (same ∙ off.1)) ])
     ]);
@@ -239,7 +239,7 @@ module _ (chain : List Program) (w : World) (sound : WorldSound chain w) (paths 
   grown zero = start_grown
   grown (suc k) = grows k (w.conns (suc k)) refl refl (grown k)
 
-  pub joins_each : (k : ℕ) (c : Connection) → w.conns (suc k) ≡ Some c → MayJoin c (tree_up_to k w)
+  pub joins_each : (k : ℕ) (c : Connection) → w.conns (suc k) ≡ Some c → MayJoin w.common.root c (tree_up_to k w)
   joins_each k c at = joins_next k c (grown k) at
 
 pub reached_parts_join : ReachedPartsJoin

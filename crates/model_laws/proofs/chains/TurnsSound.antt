@@ -46,7 +46,7 @@ opened_sound chain g chained has next pools = record {
 }
 
 pub same_rises : (g : Common) → HasNames g → Rises g g
-same_rises g has = record { next = omega arith; next_limit = has.next; pools = omega arith; pools_limit = has.pools.1 }
+same_rises g has = record { next = omega arith; next_limit = has.next; pools = omega arith; pools_limit = has.pools.1; root = refl }
 
 pub turn_sound : (chain : List Program) (Lengths : ℕ → Type 0) (g : Common) (c : Connection) (v : Linked) → IsChain chain → HasNames g → Turn chain Lengths g c v → ChainSound chain g c → ChainSound chain v.0 v.1
 turn_sound chain Lengths g c v chained has Same s = s

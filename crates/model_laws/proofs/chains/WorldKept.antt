@@ -1,5 +1,5 @@
 -- What each turn of a connection keeps, each event keeps of all connections, and so each run.
-use Rattle.std.proofs.Common.{◌≡◌, ℕ, ◌+◌, ◌<◌, Bool, true, false, ◌||◌, not, List, [], ◌∷◌, Option, Some, None, Result, Ok, Err, All, inl, inr, refl, sym, ◌∙◌, ap, subst, arith}
+use Rattle.std.proofs.Common.{◌≡◌, ℕ, ◌+◌, ◌^◌, ◌<◌, Bool, true, false, ◌||◌, not, List, [], ◌∷◌, Option, Some, None, Result, Ok, Err, All, inl, inr, refl, sym, ◌∙◌, ap, subst, arith}
 use Rattle.std.proofs.lemmas.List.Elements.{All-nil, All-cons, All-head, All-tail}
 use Rattle.module_code.specs.Program.{Program}
 use Rattle.run_model.specs.declared.event.Event.{Event}
@@ -11,7 +11,7 @@ use Rattle.run_model.specs.Steps.{is_spent}
 use Rattle.run_model.specs.Refusals.{first_refusal, refused_if}
 use Rattle.run_model.specs.Chains.{Connection, Common, Linked, IsChain}
 use Rattle.run_model.specs.Turns.{Opening, opened, opens_file}
-use Rattle.run_model.specs.Worlds.{World, Told, Answer, Opened, empty_world, put_conn, answered, file_answered, step_answered, closes, opens_if, opens, adds_file, happens_on, happens, IsRun}
+use Rattle.run_model.specs.Worlds.{World, Told, Answer, Opened, new_world, put_conn, answered, file_answered, step_answered, closes, opens_if, opens, adds_file, happens_on, happens, IsRun, IsWholeRun}
 use Rattle.model_laws.specs.ChainSound.{ChainSound, HasNames, WorldSound}
 use Rattle.model_laws.specs.ChainLaws.{Rises, EventKeepsWorld, RunKeepsWorld}
 use Rattle.model_laws.specs.ChainFiles.{TellsLengths}
@@ -38,7 +38,7 @@ some_same : (a b : Connection) → Some a ≡ Some b → a ≡ b
 some_same a b e = cc
 
 still_named : (g new : Common) → Rises g new → HasNames g → HasNames new
-still_named g new rises has = (let some : 1 < g.pools = has.pools.0 in record { first = omega (arith, rises.next, has.first); next = rises.next_limit; pools = (omega (arith, rises.pools), rises.pools_limit) })
+still_named g new rises has = (let some : g.root < g.pools = has.pools.0 in let same : new.root ≡ g.root = rises.root in record { first = omega (arith, rises.next, has.first); next = rises.next_limit; pools = (omega (arith, rises.pools, same), rises.pools_limit) })
 
 module _ (chain : List Program) (chained : IsChain chain) (Lengths : ℕ → Type 0) (P : Common → Connection → Type 0) (keeps : TurnsKeep chain Lengths P) where
   -- names rise, and the connections are as before, but this one
@@ -139,11 +139,13 @@ module _ (chain : List Program) (chained : IsChain chain) (Lengths : ℕ → Typ
       run_kept budget es answers run.2 new run.4 (All-tail (TellsLengths Lengths) a answers may) (subst (KeptWorld chain P) (ap (λ (x : Answer × World). x.1) run.3) (event_kept run.0 budget run.1 e.0 e.1 old first h))
 
 -- Where nothing is there, all of it is so.
-pub empty_sound : (chain : List Program) → WorldSound chain empty_world
-empty_sound chain = record { names = record { first = omega arith; next = omega arith; pools = (omega arith, omega arith) }; conns = λ k c e. absurd (cc) }
+pub new_sound : (chain : List Program) (first : ℕ) → 0 < first → first + 1 < 2 ^ 64 → WorldSound chain (new_world first)
+new_sound chain first named given = record { names = record { first = named; next = omega arith; pools = (omega arith, given) }; conns = λ k c e. absurd (cc) }
 
-pub empty_kept : (chain : List Program) (P : Common → Connection → Type 0) → KeptWorld chain P empty_world
-empty_kept chain P = record { sound = empty_sound chain; kept = λ k c e. absurd (cc) }
+pub whole_run_kept : (chain : List Program) → IsChain chain → (Lengths : ℕ → Type 0) (P : Common → Connection → Type 0) → TurnsKeep chain Lengths P
+    → (budget : ℕ) (es : List (ℕ × Event)) (answers : List Answer) (w : World) → IsWholeRun budget chain es answers w → All (TellsLengths Lengths) answers → KeptWorld chain P w
+whole_run_kept chain chained Lengths P keeps budget es answers w run may =
+    run_kept chain chained Lengths P keeps budget es answers (new_world run.first) w run.run may (record { sound = new_sound chain run.first run.named run.given; kept = λ k c e. absurd (cc) })
 
 Anything : Common → Connection → Type 0
 Anything g c = Unit {0}
@@ -170,4 +172,4 @@ event_keeps_world memory budget chain told k e w chained s =
     (event_kept chain chained AnyLength Anything (anything_kept chain) memory budget told k e w (any_length _) (record { sound = s; kept = λ j c at. tt })).sound
 
 pub run_keeps_world : RunKeepsWorld
-run_keeps_world budget chain es answers w chained run = (run_kept chain chained AnyLength Anything (anything_kept chain) budget es answers empty_world w run (any_lengths answers) (empty_kept chain Anything)).sound
+run_keeps_world budget chain es answers w chained run = (whole_run_kept chain chained AnyLength Anything (anything_kept chain) budget es answers w run (any_lengths answers)).sound

@@ -106,17 +106,17 @@ no_path ps n dead = by_path (ps.path n) dead where
   by_path (m ∷ xs) dead = absurd (cc)
 
 module _ (w : World) (ps : Pools Payload) (h : ArePoolsOf w ps) where
-  at_root : IsAt 1 ps (record (planted 1) { next = w.common.pools })
+  at_root : IsAt w.common.root ps (record (planted w.common.root) { next = w.common.pools })
   unfolding planted
-  at_root = record { path = upd_at (λ (k : ℕ). []) 1 (1 ∷ []) ∙ sym h.root; payloads = sym h.bare }
+  at_root = record { path = upd_at (λ (k : ℕ). []) w.common.root (w.common.root ∷ []) ∙ sym h.root; payloads = sym h.bare }
 
-  at_dead : (n : ℕ) → n ≢ 1 → is_live ps n ≡ false → IsAt n ps (record (planted 1) { next = w.common.pools })
+  at_dead : (n : ℕ) → n ≢ w.common.root → is_live ps n ≡ false → IsAt n ps (record (planted w.common.root) { next = w.common.pools })
   unfolding planted
-  at_dead n ne dead = record { path = upd_off (λ (k : ℕ). []) 1 n (1 ∷ []) ne ∙ sym (no_path ps n dead); payloads = sym (h.formed.bare n (no_path ps n dead)) }
+  at_dead n ne dead = record { path = upd_off (λ (k : ℕ). []) w.common.root n (w.common.root ∷ []) ne ∙ sym (no_path ps n dead); payloads = sym (h.formed.bare n (no_path ps n dead)) }
 
   joined_at : (n : ℕ) → IsAt n ps (tree_of w)
-  joined_at n = elim (cases_eq n 1) [
-    | inl same ↦ up_to w.conns ps _ h.parts 0 w.last n (omega arith) (start w.conns ps _ h.parts n (subst (λ (k : ℕ). IsAt k ps (record (planted 1) { next = w.common.pools })) (sym same) at_root))
+  joined_at n = elim (cases_eq n w.common.root) [
+    | inl same ↦ up_to w.conns ps _ h.parts 0 w.last n (omega arith) (start w.conns ps _ h.parts n (subst (λ (k : ℕ). IsAt k ps (record (planted w.common.root) { next = w.common.pools })) (sym same) at_root))
     | inr ne ↦ (elim (cases_Bool (is_live ps n)) [
       | inl live ↦ (let s = h.covered n live ne in up_to w.conns ps _ h.parts (suc s.number) w.last n (omega (arith, s.given)) (joined w.conns ps _ h.parts s.number s.conn n s.there s.under))
       | inr dead ↦ up_to w.conns ps _ h.parts 0 w.last n (omega arith) (start w.conns ps _ h.parts n (at_dead n ne dead))
@@ -125,4 +125,4 @@ module _ (w : World) (ps : Pools Payload) (h : ArePoolsOf w ps) where
 
 pub parts_whole : PartsAreTheWhole
 parts_whole w ps h = same_pools (tree_of w) ps (λ n. (joined_at w ps h n).path) (λ n. (joined_at w ps h n).payloads)
-    (next_stays w.conns ps (record (planted 1) { next = w.common.pools }) h.parts w.last ∙ sym h.next)
+    (next_stays w.conns ps (record (planted w.common.root) { next = w.common.pools }) h.parts w.last ∙ sym h.next)

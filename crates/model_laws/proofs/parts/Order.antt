@@ -118,41 +118,41 @@ reads_alike c ps h = record {
 itself_belongs : (m : ℕ) (xs : List ℕ) → belongs m (m ∷ xs) ≡ true
 itself_belongs m xs = or_right (is_top (m ∷ xs)) (is_in m (m ∷ xs)) (or_left (m == m) (is_in m xs) (eq-eqb m m refl))
 
-module _ {T : Type 0} (ps : Pools T) (f : IsPoolMap ps) (at : ps.path 1 ≡ 1 ∷ []) where
-  older_off : (n : ℕ) → (n == 1) ≡ false → belongs ps.next (ps.path n) ≡ false
+module _ {T : Type 0} (root : ℕ) (ps : Pools T) (f : IsPoolMap ps) (at : ps.path root ≡ root ∷ []) where
+  older_off : (n : ℕ) → (n == root) ≡ false → belongs ps.next (ps.path n) ≡ false
   older_off n apart = false_from_ne_true (belongs ps.next (ps.path n)) (λ here. elim (or_cases (is_top (ps.path n)) (is_in ps.next (ps.path n)) here) [
     | inl top ↦
         (let alone = top_path (ps.path n) top in
-        let same : n ≡ 1 = f.alone n 1 alone.0 1 alone.1 at in
-        both_ways (n == 1) apart (eq-eqb n 1 same))
+        let same : n ≡ root = f.alone n root alone.0 root alone.1 at in
+        both_ways (n == root) apart (eq-eqb n root same))
     | inr inside ↦
         (let le : ps.next ≤ n = formed_older ps f n ps.next inside in
         let none : belongs ps.next (ps.path n) ≡ false = ap (belongs ps.next) (formed_fresh ps f n le) in
         both_ways (belongs ps.next (ps.path n)) none here)
   ])
 
-  new_path : (n : ℕ) → (part ps.next (created 1 ps)).path n ≡ (created 1 (record (planted {T = T} 1) { next = ps.next })).path n
+  new_path : (n : ℕ) → (part ps.next (created root ps)).path n ≡ (created root (record (planted {T = T} root) { next = ps.next })).path n
   unfolding part created planted upd
-  new_path n = by_test (n == ps.next) (n == 1) refl where
-    by_test : (b e : Bool) → (n == 1) ≡ e → cond (belongs ps.next (cond b (ps.next ∷ ps.path 1) (ps.path n))) (cond b (ps.next ∷ ps.path 1) (ps.path n)) [] ≡ cond b (ps.next ∷ 1 ∷ []) (cond e (1 ∷ []) [])
-    by_test true e is = ap (λ (t : Bool). cond t (ps.next ∷ ps.path 1) []) (itself_belongs ps.next (ps.path 1)) ∙ ap (λ (xs : List ℕ). ps.next ∷ xs) at
-    by_test false true is = ap (λ (xs : List ℕ). cond (belongs ps.next xs) xs []) (ap ps.path (eqb-true n 1 is) ∙ at)
+  new_path n = by_test (n == ps.next) (n == root) refl where
+    by_test : (b e : Bool) → (n == root) ≡ e → cond (belongs ps.next (cond b (ps.next ∷ ps.path root) (ps.path n))) (cond b (ps.next ∷ ps.path root) (ps.path n)) [] ≡ cond b (ps.next ∷ cond (root == root) (root ∷ []) []) (cond e (root ∷ []) [])
+    by_test true e is = ap (λ (t : Bool). cond t (ps.next ∷ ps.path root) []) (itself_belongs ps.next (ps.path root)) ∙ ap (λ (xs : List ℕ). ps.next ∷ xs) (at ∙ ap (λ (t : Bool). cond t (root ∷ []) []) (sym (eq-eqb root root refl)))
+    by_test false true is = ap (λ (xs : List ℕ). cond (belongs ps.next xs) xs []) (ap ps.path (eqb-true n root is) ∙ at)
     by_test false false is = ap (λ (t : Bool). cond t (ps.path n) []) (older_off n is)
 
-  new_payloads : ps.payloads 1 ≡ [] → (n : ℕ) → (part ps.next (created 1 ps)).payloads n ≡ (created 1 (record (planted {T = T} 1) { next = ps.next })).payloads n
+  new_payloads : ps.payloads root ≡ [] → (n : ℕ) → (part ps.next (created root ps)).payloads n ≡ (created root (record (planted {T = T} root) { next = ps.next })).payloads n
   unfolding part created planted upd
-  new_payloads none n = by_test (n == ps.next) (n == 1) refl where
-    by_test : (b e : Bool) → (n == 1) ≡ e → cond (belongs ps.next (cond b (ps.next ∷ ps.path 1) (ps.path n))) (cond b [] (ps.payloads n)) [] ≡ cond b [] []
-    by_test true e is = never (belongs ps.next (ps.next ∷ ps.path 1)) []
-    by_test false true is = ap (λ (xs : List T). cond (belongs ps.next (ps.path n)) xs []) (ap ps.payloads (eqb-true n 1 is) ∙ none) ∙ never (belongs ps.next (ps.path n)) []
+  new_payloads none n = by_test (n == ps.next) (n == root) refl where
+    by_test : (b e : Bool) → (n == root) ≡ e → cond (belongs ps.next (cond b (ps.next ∷ ps.path root) (ps.path n))) (cond b [] (ps.payloads n)) [] ≡ cond b [] []
+    by_test true e is = never (belongs ps.next (ps.next ∷ ps.path root)) []
+    by_test false true is = ap (λ (xs : List T). cond (belongs ps.next (ps.path n)) xs []) (ap ps.payloads (eqb-true n root is) ∙ none) ∙ never (belongs ps.next (ps.path n)) []
     by_test false false is = ap (λ (t : Bool). cond t (ps.payloads n) []) (older_off n is)
 
-  new_next : (part ps.next (created 1 ps)).next ≡ (created 1 (record (planted {T = T} 1) { next = ps.next })).next
+  new_next : (part ps.next (created root ps)).next ≡ (created root (record (planted {T = T} root) { next = ps.next })).next
   unfolding part created
   new_next = refl
 
-  new_part : ps.payloads 1 ≡ [] → part ps.next (created 1 ps) ≡ created 1 (record (planted 1) { next = ps.next })
-  new_part none = same_pools (part ps.next (created 1 ps)) (created 1 (record (planted 1) { next = ps.next })) new_path (new_payloads none) new_next
+  new_part : ps.payloads root ≡ [] → part ps.next (created root ps) ≡ created root (record (planted root) { next = ps.next })
+  new_part none = same_pools (part ps.next (created root ps)) (created root (record (planted root) { next = ps.next })) new_path (new_payloads none) new_next
 
 pub new_planted : NewPartIsPlanted
-new_planted ps f at none = new_part ps f at none
+new_planted root ps f at none = new_part root ps f at none

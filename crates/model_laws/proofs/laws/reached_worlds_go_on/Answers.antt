@@ -1,8 +1,8 @@
-use Rattle.model_laws.proofs.chains.Reached.{empty_is_reached, event_reaches, world_run_goes_on, reached_holds}
+use Rattle.model_laws.proofs.chains.Reached.{new_is_reached, event_reaches, world_run_goes_on, reached_holds}
 use Rattle.model_laws.proofs.laws.reached_worlds_go_on.Goals as goal
 
-pub returns-clause-empty : goal.returns-clause-empty
-returns-clause-empty c = empty_is_reached
+pub returns-clause-new : goal.returns-clause-new
+returns-clause-new c = new_is_reached
 
 pub returns-clause-event : goal.returns-clause-event
 returns-clause-event c = event_reaches

@@ -14,5 +14,5 @@ unfolding IsHosting
 returns g c w hosts =
     let host = c.args.self.now in
     let root = (reached_tree (budget_of host) (chain_of host) w hosts.chained hosts.reached).root in
-    subst (λ (ps : Pools Payload). OnOk c.print.result (Appends (g.W.Write.contents c.args.out.now) (g.W.Write.contents c.print.new.out) (printed payload_text ps 0 1))) hosts.pools
-    (c.print.ensures 1 (ap (λ (ps : Pools Payload). ps.path 1) hosts.pools ∙ root))
+    subst (λ (ps : Pools Payload). OnOk c.print.result (Appends (g.W.Write.contents c.args.out.now) (g.W.Write.contents c.print.new.out) (printed payload_text ps 0 w.common.root))) hosts.pools
+    (c.print.ensures w.common.root (ap (λ (ps : Pools Payload). ps.path w.common.root) hosts.pools ∙ root))
