@@ -1,5 +1,5 @@
 -- Names of buckets that depend on a pool no more may be thrown out.
-use Rattle.std.proofs.Common.{◌≡◌, ◌≢◌, ◌==◌, ◌&&◌, ◌||◌, ◌≤◌, ℕ, Bool, true, false, cond, Option, None, Some, List, filter, is_some, [], ◌⊎◌, refl, sym, ap, ◌∙◌, inl, inr}
+use Rattle.std.proofs.Common.{◌≡◌, ◌≢◌, ◌==◌, ◌&&◌, ◌||◌, ◌≤◌, ℕ, Bool, true, false, cond, Option, None, Some, List, filter, is_some, ◌⊎◌, refl, sym, ap, ◌∙◌, inl, inr}
 use Rattle.std.specs.List.{list_all}
 use Rattle.std.specs.Option.{option_and_then}
 use Rattle.std.proofs.lemmas.Bool.{cases_eq, eq-eqb, ne_eqb, and_parts}
@@ -13,13 +13,13 @@ use Rattle.bucket_ring.specs.Lists.{list_at, times, found}
 use Rattle.bucket_ring.specs.Kept.{IsKept}
 use Rattle.bucket_ring.specs.Laws.{in_found}
 use Rattle.brigade_ops.specs.declared.dependents.Dependents.{Dependents}
-use Rattle.brigade_ops.specs.Dependents.{names_of, noted}
+use Rattle.brigade_ops.specs.Dependents.{names_of, noted, StayNoted}
 use Rattle.brigade_ops.specs.Due.{kind_reached, home_reached, depends}
 use Rattle.brigade_ops.specs.Items.{Items}
 use Rattle.brigade_ops.specs.Morphs.{is_named}
 use Rattle.brigade_ops.specs.Noted.{kind_under, home_under, is_noted, AreNoted, bucket_named, still_under}
 use Rattle.brigade_ops.proofs.DueBuckets.{named_filtered, either_named, first_named, second_named}
-use Rattle.brigade_ops.proofs.Noted.{all_found, listed_by_found, noted_item}
+use Rattle.brigade_ops.proofs.Noted.{all_found, are_kept, listed_by_found, noted_item}
 use Rattle.brigade_ops.proofs.Saves.{here_at}
 use Rattle.brigade_ops.proofs.Walks.{once_listed}
 
@@ -47,23 +47,20 @@ module _ (names more : ℕ → BucketId → Bool) (id : BucketId) (x : Bucket) (
       let parts = and_parts (kind_under (λ p. names p id) x.kind) (home_under (λ p. names p id) x.home) e in
       noted_item more id x (kind_stays x.kind refl parts.0) (home_stays x.home refl parts.1)
 
--- The names under one pool are put back without those whose buckets are gone or depend on it no more.
-module _ (at : BucketId → Option ℕ) (lists : ℕ → Option Items) (next : ℕ) (law : IsKept at lists next) (old taken new : Dependents) (pool : ℕ)
-    (out : (p : ℕ) → names_of taken p ≡ cond (p == pool) [] (names_of old p)) (still_lost : taken.lost ≡ old.lost)
-    (back : (id : BucketId) → is_named id (filter (λ i. still_under pool (bucket_named at lists i)) (names_of old pool)) ≡ true → noted new pool id ≡ true)
-    (others : (p : ℕ) (id : BucketId) → p ≢ pool → noted taken p id ≡ true → noted new p id ≡ true) (lost : taken.lost ≡ true → new.lost ≡ true) where
+-- Names are thrown out from under one pool whose buckets are gone or depend on it no more.
+module _ (at : BucketId → Option ℕ) (lists : ℕ → Option Items) (next : ℕ) (law : IsKept at lists next) (old new : Dependents) (pool : ℕ)
+    (out : (p : ℕ) → names_of new p ≡ cond (p == pool) (filter (λ i. still_under pool (bucket_named at lists i)) (names_of old p)) (names_of old p)) (still : new.lost ≡ old.lost) where
   under_kept : (id : BucketId) (x : Bucket) → bucket_named at lists id ≡ Some x → (p : ℕ) → depends (λ q. q == p) x ≡ true → noted old p id ≡ true → noted new p id ≡ true
   unfolding noted
   under_kept id x there p on e = elim (either_named old.lost (is_named id (names_of old p)) e) [
-    | inl gone ↦ first_named new.lost (is_named id (names_of new p)) (lost (still_lost ∙ gone))
-    | inr named ↦ by_pool (cases_eq p pool) named
+    | inl gone ↦ first_named new.lost (is_named id (names_of new p)) (still ∙ gone)
+    | inr named ↦ second_named new.lost (is_named id (names_of new p)) (ap (is_named id) (out p) ∙ by_pool (cases_eq p pool) named)
   ] where
-    by_pool : (p ≡ pool) ⊎ (p ≢ pool) → is_named id (names_of old p) ≡ true → (new.lost || is_named id (names_of new p)) ≡ true
+    by_pool : (p ≡ pool) ⊎ (p ≢ pool) → is_named id (names_of old p) ≡ true → is_named id (cond (p == pool) (filter (λ i. still_under pool (bucket_named at lists i)) (names_of old p)) (names_of old p)) ≡ true
     by_pool (inl here) named =
-        ap (λ (q : ℕ). new.lost || is_named id (names_of new q)) here
-        ∙ back id (named_filtered (λ i. still_under pool (bucket_named at lists i)) id (names_of old pool)
-        ∙ rw (ap (still_under pool) there ∙ (ap (λ (q : ℕ). depends (λ n. n == q) x) (sym here) ∙ on), ap (λ (q : ℕ). is_named id (names_of old q)) (sym here) ∙ named) refl)
-    by_pool (inr apart) named = others p id apart (second_named taken.lost (is_named id (names_of taken p)) (ap (is_named id) (out p ∙ rw (ne_eqb p pool apart) refl) ∙ named))
+        rw (eq-eqb p pool here) (named_filtered (λ i. still_under pool (bucket_named at lists i)) id (names_of old p)
+        ∙ rw (ap (still_under pool) there ∙ (ap (λ (q : ℕ). depends (λ n. n == q) x) (sym here) ∙ on), named) refl)
+    by_pool (inr apart) named = rw (ne_eqb p pool apart) named
 
   pub pruned : AreNoted (noted old) lists → AreNoted (noted new) lists
   pruned are b =
@@ -71,3 +68,9 @@ module _ (at : BucketId → Option ℕ) (lists : ℕ → Option Items) (next : �
       (λ id x is.
       let there = here_at (at id) lists id b x (in_found at lists next law id b (ap is_some is)) is in
       item_stays (noted old) (noted new) id x (under_kept id x there) (all_found (is_noted (noted old)) id x (list_at lists b) (are b) is))
+
+-- Where the names under all pools are as they were, what was noted is noted.
+pub same_names : (old new : Dependents) → ((p : ℕ) → names_of new p ≡ names_of old p) → new.lost ≡ old.lost → StayNoted old new
+unfolding noted
+same_names old new names lost lists are = are_kept (noted old) (noted new)
+    (λ p id e. ap (λ (b : Bool). b || is_named id (names_of new p)) lost ∙ (ap (λ (ns : List BucketId). old.lost || is_named id ns) (names p) ∙ e)) lists are

@@ -33,6 +33,14 @@ impl<R: Rings<Bucket> + Drop> Brigades<R> {
         ensures err { OnErr result ((n : ℕ) → lists self.new n ≡ lists self.old n) }
         ensures back { IfErr result (λ why. why.1 ≡ bucket) }
     {
+        let next = self.held.next_name();
+        if let Err(why) = self
+            .held
+            .dependents
+            .make_room_for(next, bucket.kind, bucket.home)
+        {
+            return Err((why, bucket));
+        }
         self.held.add_tail(b, bucket)
     }
 
@@ -69,6 +77,14 @@ impl<R: Rings<Bucket> + Drop> Brigades<R> {
         ensures err { OnErr result ((n : ℕ) → lists self.new n ≡ lists self.old n) }
         ensures back { IfErr result (λ why. why.1 ≡ bucket) }
     {
+        let next = self.held.next_name();
+        if let Err(why) = self
+            .held
+            .dependents
+            .make_room_for(next, bucket.kind, bucket.home)
+        {
+            return Err((why, bucket));
+        }
         self.held.add_head(b, bucket)
     }
 
@@ -90,6 +106,14 @@ impl<R: Rings<Bucket> + Drop> Brigades<R> {
         ensures err { OnErr result ((n : ℕ) → lists self.new n ≡ lists self.old n) }
         ensures back { IfErr result (λ why. why.1 ≡ bucket) }
     {
+        let next = self.held.next_name();
+        if let Err(why) = self
+            .held
+            .dependents
+            .make_room_for(next, bucket.kind, bucket.home)
+        {
+            return Err((why, bucket));
+        }
         self.held.add_before(at, bucket)
     }
 
@@ -111,6 +135,14 @@ impl<R: Rings<Bucket> + Drop> Brigades<R> {
         ensures err { OnErr result ((n : ℕ) → lists self.new n ≡ lists self.old n) }
         ensures back { IfErr result (λ why. why.1 ≡ bucket) }
     {
+        let next = self.held.next_name();
+        if let Err(why) = self
+            .held
+            .dependents
+            .make_room_for(next, bucket.kind, bucket.home)
+        {
+            return Err((why, bucket));
+        }
         self.held.add_after(at, bucket)
     }
 

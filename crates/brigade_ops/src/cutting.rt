@@ -65,6 +65,7 @@ impl<R: Rings<Bucket> + Drop> Brigades<R> {
         ensures err { OnErr result ((m : ℕ) → lists self.new m ≡ lists self.old m) }
     {
         let (front, rest) = halves(self.alloc, self.payload(id), n)?;
+        self.held.dependents.make_room(rest.kind, rest.home, 1)?;
         let new = self.put_behind(id, rest)?;
         let _whole = self.held.set_payload(id, front);
         Ok(new)

@@ -1,17 +1,17 @@
 //! Which buckets depend on a pool.
 
-ghost use Rattle.std.specs.Prelude.{◌≡◌, ◌≢◌, ◌==◌, ◌++◌, ℕ, [], ◌∷◌, true, if◌then◌else◌, OnOk};
+ghost use Rattle.std.specs.Prelude.{◌≡◌, ◌↔◌, ◌==◌, ◌++◌, ℕ, [], ◌∷◌, true, if◌then◌else◌, IsOk, OnOk};
 ghost use Rattle.bucket_ring.specs.declared.names.BucketId.{BucketId};
-ghost use Rattle.brigade_ops.specs.Morphs.{is_named};
+ghost use Rattle.brigade_ops.specs.Dependents.{StayNoted};
 ghost use Rattle.brigade_ops.specs.Noted.{kind_under, home_under};
 
-use bucket_ring::BucketId;
+use bucket_ring::{BucketId, RingRefusal};
 use run_model::{Home, Kind};
 use std::alloc::{AllocError, Global};
 use std::collections::HashMap;
 
 /// So many names come under a pool before it is looked at which of them have gone.
-const FIRST_LIMIT: usize = 8;
+pub(crate) const FIRST_LIMIT: usize = 8;
 
 /// The names under one pool, and how many there may be before it is looked at which of them have gone.
 #[derive(Drop)]
@@ -21,8 +21,9 @@ pub(crate) struct DependentNames {
 }
 
 /// For each pool the names of the buckets that depend on it: those whose bytes lie in it, and those whose home it is. Names of buckets
-/// that are gone, or depend on it no more, may linger. Where memory for a name was refused the names are lost, all of them, and then
-/// nothing is said of any pool.
+/// that are gone, or depend on it no more, may linger. The calls of a store make room for a name before they put its bucket in or give it
+/// the pool as its home, and are refused where there is none. A name for which nobody made room, and which finds none, is lost, and all
+/// others with it; then nothing is said of any pool.
 #[derive(Drop)]
 pub(crate) struct Dependents {
     pub(crate) alloc: Global,
@@ -30,7 +31,7 @@ pub(crate) struct Dependents {
     pub(crate) lost: bool,
 }
 
-#[tactic(auto, unfolding(crate::specs::Dependents::names_of, crate::specs::Dependents::noted))]
+#[tactic(auto, unfolding(crate::specs::Dependents::names_of, crate::specs::Dependents::noted), using(crate::proofs::Pruned::same_names))]
 impl Dependents {
     ghost use Rattle.brigade_ops.specs.Dependents.{names_of, noted};
 
@@ -75,6 +76,62 @@ impl Dependents {
         Ok(())
     }
 
+    /// Makes room for more names under a pool.
+    fn make_room_under(&mut self, pool: u64, more: usize) -> Result<(), AllocError>
+        ensures names { (p : ℕ) → names_of self.new p ≡ names_of self.old p }
+        ensures lost { self.new.lost ≡ self.old.lost }
+    {
+        if let Some(names) = self.names.get_mut(&pool) {
+            return names.ids.reserve(more);
+        }
+        let mut ids = Vec::new(self.alloc);
+        ids.reserve(more)?;
+        let limit = FIRST_LIMIT;
+        self.names.insert(pool, DependentNames { ids, limit })?;
+        Ok(())
+    }
+
+    /// Makes room for the names of so many buckets of this kind and home, each under its pools. What is noted stays so, also where it is
+    /// refused.
+    pub(crate) fn make_room(
+        &mut self,
+        kind: Kind,
+        home: Home,
+        buckets: usize,
+    ) -> Result<(), AllocError>
+        ensures kept { StayNoted self.old self.new }
+        ensures sure { buckets ≡ 0 → IsOk result }
+    {
+        if buckets == 0 {
+            return Ok(());
+        }
+        let more = buckets.saturating_mul(2);
+        if let Kind::Pool(pool) = kind {
+            self.make_room_under(pool, more)?;
+        }
+        if let Home::Pool(pool) = home {
+            self.make_room_under(pool, more)?;
+        }
+        Ok(())
+    }
+
+    /// Makes room for the names of a new bucket, which gets the next name. `NamesSpent`: that is `u64::MAX`.
+    pub(crate) fn make_room_for(
+        &mut self,
+        next: u64,
+        kind: Kind,
+        home: Home,
+    ) -> Result<(), RingRefusal>
+        ensures kept { StayNoted self.old self.new }
+        ensures spent { (result ≡ Err RingRefusal.NamesSpent) ↔ (next ≡ u64.MAX) }
+    {
+        if next == u64::MAX {
+            return Err(RingRefusal::NamesSpent);
+        }
+        self.make_room(kind, home, 1)?;
+        Ok(())
+    }
+
     /// Gives all names up.
     fn lose(&mut self)
         ensures { self.new.lost ≡ true }
@@ -91,34 +148,13 @@ impl Dependents {
         }
     }
 
-    /// Takes the names under a pool out.
-    pub(crate) fn take(&mut self, pool: u64) -> Vec<BucketId>
-        ensures names { result.items ≡ names_of self.old pool }
-        ensures rest { (p : ℕ) → names_of self.new p ≡ (if p == pool then [] else names_of self.old p) }
+    /// Takes a pool out that has no names.
+    pub(crate) fn drop_empty(&mut self, pool: u64)
+        ensures names { (p : ℕ) → names_of self.new p ≡ names_of self.old p }
         ensures lost { self.new.lost ≡ self.old.lost }
     {
-        match self.names.remove(&pool) {
-            Some(names) => names.ids,
-            None => Vec::new(self.alloc),
-        }
-    }
-
-    /// Puts names under a pool that has none.
-    pub(crate) fn put_back(&mut self, pool: u64, ids: Vec<BucketId>)
-        ensures here { (id : BucketId) → is_named id ids.items ≡ true → noted self.new pool id ≡ true }
-        ensures kept { (p : ℕ) (id : BucketId) → p ≢ pool → noted self.old p id ≡ true → noted self.new p id ≡ true }
-        ensures lost { self.old.lost ≡ true → self.new.lost ≡ true }
-    {
-        if ids.is_empty() {
-            return;
-        }
-        let limit = ids.len().saturating_mul(2).saturating_add(FIRST_LIMIT);
-        if self
-            .names
-            .insert(pool, DependentNames { ids, limit })
-            .is_err()
-        {
-            self.lose();
+        if self.names(pool).is_empty() {
+            self.names.remove(&pool);
         }
     }
 

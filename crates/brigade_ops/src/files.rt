@@ -17,7 +17,7 @@ use crate::store::{BrigadeId, Brigades};
 use bucket_kinds::{FileNo, Files};
 use bucket_ring::Rings;
 use pool_tree::{PoolId, PoolTree};
-use run_model::{Bucket, Payload};
+use run_model::{Bucket, Home, Kind, Payload};
 use std::alloc::AllocError;
 
 #[tactic(auto, unfolding(crate::specs::Store::lists, crate::specs::Store::brigade_of, crate::specs::Store::bucket_at, crate::specs::Store::pool_of, crate::specs::Store::next_name, crate::specs::Store::references, crate::specs::Numbers::count_at, bucket_ring::specs::Lists::upd), using(pool_tree::proofs::Trees::tree_formed))]
@@ -71,7 +71,12 @@ impl<R: Rings<Bucket> + Drop> Brigades<R> {
         ensures house { IsHouse self.old (map_of tree.old) → IsHouse self.new (map_of tree.new) }
     {
         match file {
-            Some(file) => self.refer(tree, pool, file),
+            Some(file) => {
+                self.held
+                    .dependents
+                    .make_room(Kind::File, Home::Pool(pool), 1)?;
+                self.refer(tree, pool, file)
+            }
             None => Ok(()),
         }
     }

@@ -8,7 +8,7 @@ ghost use Rattle.brigade_ops.specs.Dependents.{noted};
 ghost use Rattle.brigade_ops.specs.Noted.{AreNoted};
 
 use crate::dependents::Dependents;
-use crate::noting::{note_changed, note_ring};
+use crate::noting::{make_room_for_all, note_changed, note_ring};
 use crate::pruning::{prune, tidy};
 use bucket_ring::{BucketId, RingId, RingRefusal, Rings};
 use pool_tree::PoolId;
@@ -33,6 +33,7 @@ impl<R: Rings<Bucket> + Drop> Indexed<R> {
     {
         for pool in pools {
             prune(&mut self.dependents, &self.rings, *pool);
+            self.dependents.drop_empty(*pool);
         }
     }
 }
@@ -100,6 +101,10 @@ impl<R: Rings<Bucket> + Drop> Rings<Bucket> for Indexed<R> {
         ensures err { OnErr result ((n : ℕ) → R.lists self.new.rings n ≡ R.lists self.old.rings n) }
     {
         let before = self.rings.next_name();
+        if u64::MAX - before < given.len() as u64 {
+            return Err(RingRefusal::NamesSpent);
+        }
+        make_room_for_all(&mut self.dependents, given.as_slice())?;
         self.rings.add_all(ring, given)?;
         note_ring(&mut self.dependents, &self.rings, ring, before);
         Ok(())
@@ -114,6 +119,11 @@ impl<R: Rings<Bucket> + Drop> Rings<Bucket> for Indexed<R> {
         ensures spent { (result ≡ Err RingRefusal.NamesSpent) ↔ (u64.MAX < R.next_name self.old.rings + 2 + length given.items) }
         ensures err { OnErr result ((n : ℕ) → R.lists self.new.rings n ≡ R.lists self.old.rings n) }
     {
+        let left = u64::MAX - self.rings.next_name();
+        if left < 2 || left - 2 < given.len() as u64 {
+            return Err(RingRefusal::NamesSpent);
+        }
+        make_room_for_all(&mut self.dependents, given.as_slice())?;
         let (first, second) = self.rings.new_pair(given)?;
         note_ring(&mut self.dependents, &self.rings, second, 0);
         Ok((first, second))

@@ -3,7 +3,7 @@
 ghost use Rattle.std.specs.Prelude.{◌≡◌, ◌≤◌, ℕ, drop, Some, true, is_some, IfSome};
 ghost use Rattle.bucket_ring.specs.declared.names.BucketId.{BucketId};
 ghost use Rattle.bucket_ring.specs.Lists.{list_at, rest, found};
-ghost use Rattle.brigade_ops.specs.Dependents.{noted};
+ghost use Rattle.brigade_ops.specs.Dependents.{noted, StayNoted};
 ghost use Rattle.brigade_ops.specs.Items.{from_place};
 ghost use Rattle.brigade_ops.specs.Noted.{kind_under, home_under, is_noted};
 
@@ -11,6 +11,7 @@ use crate::dependents::Dependents;
 use crate::pruning::keeps_pools;
 use bucket_ring::{BucketId, RingId, Rings};
 use run_model::{Bucket, Home, Kind};
+use std::alloc::AllocError;
 
 /// Where a walk along a ring goes on behind a bucket.
 fn after<R: Rings<Bucket>>(rings: &R, ring: RingId, id: BucketId) -> Option<BucketId>
@@ -22,6 +23,19 @@ fn after<R: Rings<Bucket>>(rings: &R, ring: RingId, id: BucketId) -> Option<Buck
         Ok(next) => Some(next),
         Err(_) => None,
     }
+}
+
+/// Makes room for the names of new buckets.
+pub(crate) fn make_room_for_all(
+    dependents: &mut Dependents,
+    buckets: &[Bucket],
+) -> Result<(), AllocError>
+    ensures { StayNoted dependents.old dependents.new }
+{
+    for bucket in buckets {
+        dependents.make_room(bucket.kind, bucket.home, buckets.len())?;
+    }
+    Ok(())
 }
 
 /// Notes a bucket of a ring whose birth is not below a name.

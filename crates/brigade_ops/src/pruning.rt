@@ -5,7 +5,7 @@ ghost use Rattle.brigade_ops.specs.Dependents.{names_of, noted};
 ghost use Rattle.brigade_ops.specs.Due.{kind_reached, home_reached};
 ghost use Rattle.brigade_ops.specs.Noted.{bucket_named, kind_under, home_under, still_under, AreNoted};
 
-use crate::dependents::Dependents;
+use crate::dependents::{Dependents, FIRST_LIMIT};
 use bucket_ring::{BucketId, Rings};
 use run_model::{Bucket, Home, Kind};
 
@@ -67,13 +67,28 @@ fn keep_dependent<R: Rings<Bucket>>(names: &mut Vec<BucketId>, rings: &R, pool: 
     names.retain(|id| depends_there(rings, *id, pool));
 }
 
-/// Throws out the names under a pool whose buckets are gone or depend on it no more.
+/// Throws names out from under a pool.
+#[tactic(auto, unfolding(crate::specs::Dependents::names_of))]
+fn prune_names<R: Rings<Bucket>>(dependents: &mut Dependents, rings: &R, pool: u64)
+    ensures names { (p : ℕ) → names_of dependents.new p
+        ≡ (if p == pool then filter (λ id. still_under pool (bucket_named (R.ring_at rings.now) (R.lists rings.now) id)) (names_of dependents.old p) else names_of dependents.old p) }
+    ensures lost { dependents.new.lost ≡ dependents.old.lost }
+{
+    if let Some(names) = dependents.names.get_mut(&pool) {
+        keep_dependent(&mut names.ids, rings, pool);
+        names.limit = names
+            .ids
+            .len()
+            .saturating_mul(2)
+            .saturating_add(FIRST_LIMIT);
+    }
+}
+
+/// Throws out the names under a pool whose buckets are gone or depend on it no more. It takes no memory.
 pub(crate) fn prune<R: Rings<Bucket>>(dependents: &mut Dependents, rings: &R, pool: u64)
     ensures { AreNoted (noted dependents.old) (R.lists rings.now) → AreNoted (noted dependents.new) (R.lists rings.now) }
 {
-    let mut names = dependents.take(pool);
-    keep_dependent(&mut names, rings, pool);
-    dependents.put_back(pool, names);
+    prune_names(dependents, rings, pool);
 }
 
 /// Throws them out where so many names came since the last time that it is worth while.

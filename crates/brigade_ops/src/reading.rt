@@ -148,6 +148,7 @@ impl<R: Rings<Bucket> + Drop> Brigades<R> {
         if self.held.next_name() == u64::MAX {
             return Err(ReadRefusal::NamesSpent);
         }
+        self.held.dependents.make_room(rest.kind, rest.home, 1)?;
         self.make_room()?;
         match self.read_front(files, id, bucket, room, rest) {
             Ok(new) => Ok(Some(new)),

@@ -3,6 +3,7 @@
 ghost use Rattle.std.specs.Prelude.{◌≡◌};
 ghost use Rattle.brigade_ops.specs.Refusals.{unsplit, unnamed, unread};
 ghost use Rattle.brigade_ops.specs.declared.refusal.ReadRefusal.TheVariants as read;
+ghost use Rattle.brigade_ops.specs.declared.refusal.SplitRefusal.TheVariants as split;
 
 use bucket_kinds::{ReadFault, SplitError};
 use bucket_ring::RingRefusal;
@@ -60,6 +61,14 @@ impl From<RingRefusal> for SplitRefusal {
             RingRefusal::NoMemory => SplitRefusal::NoMemory,
             RingRefusal::NamesSpent => SplitRefusal::NamesSpent,
         }
+    }
+}
+
+impl From<AllocError> for SplitRefusal {
+    ghost from_gives = { λ _ e. e ≡ split.NoMemory };
+
+    fn from(_error: AllocError) -> Self {
+        SplitRefusal::NoMemory
     }
 }
 

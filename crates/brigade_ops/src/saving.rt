@@ -18,7 +18,7 @@ use crate::store::{BrigadeId, Brigades};
 use bucket_kinds::FileNo;
 use bucket_ring::{BucketId, Rings};
 use pool_tree::{PoolId, PoolTree};
-use run_model::{Bucket, Payload, Seq};
+use run_model::{Bucket, Home, Kind, Payload, Seq};
 use std::alloc::AllocError;
 
 /// Puts an item, where there is one, behind others.
@@ -115,6 +115,10 @@ impl<R: Rings<Bucket> + Drop> Brigades<R> {
             unreachable!()
         };
         let files = self.files_for(tree, b, pool)?;
+        let home = Home::Pool(pool);
+        self.held
+            .dependents
+            .make_room(Kind::File, home, files.len())?;
         let first = self.start(b);
         refer_all(&mut self.references, tree, pool, files.as_slice())?;
         let Ok(()) = self.held.splice_tail(o, b) else {

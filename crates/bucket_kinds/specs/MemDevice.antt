@@ -1,5 +1,5 @@
 -- Files in memory as the files of the model, and as a device.
-use Rattle.std.specs.Prelude.{ℕ, Bool, List, Option, Some, None}
+use Rattle.std.specs.Prelude.{ℕ, ◌<◌, Bool, List, Option, Some, None}
 use Rattle.run_model.specs.Files.{Files}
 use Rattle.bucket_kinds.specs.Device.{Held, Missing, Holds, Device}
 use Rattle.bucket_kinds.specs.InMemory.{under, at_number}
@@ -27,3 +27,8 @@ device_of fs failures may_fail =
 
 abbrev pub mem_device : MemFiles → Device
 mem_device m = device_of (files_of m) (failures_of m) (may_fail_of m)
+
+-- no file has the number 0
+pub mem_numbered : (m : MemFiles) → 0 < (mem_device m).next
+unfolding files_of
+mem_numbered m = m.numbered

@@ -28,6 +28,8 @@ pub struct DiskFiles<R: FileSystem + AllocGlobal> {
 
     // The number of an open file was given.
     ghost given: { (n : ℕ) → IsSome (get nat_cmp opened n) → n < next },
+    // No file has the number 0.
+    ghost numbered: { 0 < next },
 }
 
 // The path that a name is, if it may be one.
@@ -102,6 +104,8 @@ where
     R::File: FileExt,
 {
     ghost device = { λ d. disk_device d.opened d.next d.failures };
+
+    ghost numbered = { λ d. d.numbered };
 
     fn open_file(&mut self, name: &[u8]) -> Result<(FileNo, u64), FileFault> {
         let Some(path) = path_of(name) else {

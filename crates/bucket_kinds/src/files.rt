@@ -1,6 +1,6 @@
 //! A device that has files, which are read at any place.
 
-ghost use Rattle.std.specs.Prelude.{◌≡◌, true};
+ghost use Rattle.std.specs.Prelude.{◌≡◌, ◌<◌, true};
 ghost use Rattle.bucket_kinds.specs.Device.{Device, is_there, closed};
 ghost use Rattle.bucket_kinds.specs.Answers.{IsOpening, IsReading};
 
@@ -34,4 +34,7 @@ pub trait Files {
     /// How often the device failed. At `u64::MAX` the count stays.
     fn failures(&self) -> u64
         ensures { result ≡ (device self.now).failures };
+
+    /// No file has the number 0.
+    ghost numbered: { (s : Self) → 0 < (device s).next };
 }

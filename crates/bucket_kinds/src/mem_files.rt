@@ -28,6 +28,8 @@ pub struct MemFiles {
     // An open file is there, and its number was given.
     ghost there: { (n : ℕ) (name : Bytes) → get nat_cmp opened n ≡ Some name → is_some (under files name.items) ≡ true },
     ghost given: { (n : ℕ) → IsSome (get nat_cmp opened n) → n < next },
+    // No file has the number 0.
+    ghost numbered: { 0 < next },
     // A read that is to fail was told to.
     ghost told: { IsSome fails_in → may_fail ≡ true },
 }
@@ -213,10 +215,12 @@ impl Files for MemFiles {
     ghost use Rattle.run_model.specs.Files.{fails_now, read_done};
     ghost use Rattle.bucket_kinds.specs.Device.{is_there, closed};
     ghost use Rattle.bucket_kinds.specs.Answers.{IsOpening, IsReading};
-    ghost use Rattle.bucket_kinds.specs.MemDevice.{files_of, mem_device};
+    ghost use Rattle.bucket_kinds.specs.MemDevice.{files_of, mem_device, mem_numbered};
     ghost use Rattle.bucket_kinds.specs.MemAnswers.{IsFileOpening, file_closed};
 
     ghost device = { mem_device };
+
+    ghost numbered = { mem_numbered };
 
     fn open_file(&mut self, name: &[u8]) -> Result<(FileNo, u64), FileFault>
         ensures device { IsOpening (mem_device self.old) name.now result (mem_device self.new) }
