@@ -1,0 +1,7 @@
+pub mod Blocks
+pub mod Maps
+pub mod Places
+pub mod Rows
+pub mod Sharing
+pub mod Steps
+pub mod Tuples
