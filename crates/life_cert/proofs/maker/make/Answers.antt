@@ -1,5 +1,5 @@
 -- The certificate of the rounds is the least; where some is accepted, the check finds nothing in it.
-use Rattle.std.proofs.Common.{◌≡◌, Some, None, sym, subst, ◌∙◌, ap, rules}
+use Rattle.std.proofs.Common.{◌≡◌, Some, None, refl, sym, subst, ◌∙◌, ap, rules}
 use Rattle.life_check.specs.Certificates.{Certificate}
 use Rattle.life_check.specs.Seen.{seen_cert}
 use Rattle.life_check.specs.Typed.{first_refusal}
@@ -20,3 +20,6 @@ pub returns-in_err-check-clause-complete : goal.returns-in_err-check-clause-comp
 returns-in_err-check-clause-complete c = λ refused other formed typed.
     let found : first_refusal c.args.code.now (seen_cert c.in_ok-cert.cert) ≡ Some c.in_err-check.field-0.0 = search rules in
     none_some c.in_err-check.field-0.0 (sym (refuses_only_then c.args.code.now other c.in_ok-cert.ensures.proper formed typed) ∙ (ap (first_refusal c.args.code.now) (sym c.in_ok-cert.ensures.made) ∙ found))
+
+pub returns-clause-safe : goal.returns-clause-safe
+returns-clause-safe c = c.in_ok-check.ensures.safe refl
