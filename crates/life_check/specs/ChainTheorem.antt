@@ -1,10 +1,11 @@
 -- The lifetime theorem for chains: where each module of a chain is typed, no run of any number of connections answers a fault.
 use Rattle.std.specs.Prelude.{ℕ, ◌<◌, List, [], ◌∷◌, length}
-use Rattle.module_code.specs.Program.{Program}
+use Rattle.module_code.specs.Program.{Program, IsModule}
 use Rattle.run_model.specs.declared.event.Event.{Event}
 use Rattle.run_model.specs.declared.event.Stepped.TheVariants as stepped
 use Rattle.run_model.specs.Chains.{module_at, IsChain}
 use Rattle.run_model.specs.Worlds.{World, Answer, Done, Refused, Connected, Step, Output, Opened, Labels, Tree, IsWholeRun}
+use Rattle.model_laws.specs.OpenRuns.{InstancesAreSafe}
 use Rattle.life_check.specs.Certificates.{Certificate, AllBounded}
 use Rattle.life_check.specs.Typed.{IsTyped}
 
@@ -35,3 +36,7 @@ AllTyped chain certs = (k : ℕ) → k < length chain → AllBounded (certs k) �
 
 abbrev pub TypedChainNeverFaults : Type 0
 TypedChainNeverFaults = (chain : List Program) (certs : ℕ → Certificate) → IsChain chain → AllTyped chain certs → ChainNeverFaults chain
+
+-- Each module that is typed with a certificate is safe by itself, beside filters that nobody checked.
+abbrev pub TypedModulesAreSafe : Type 0
+TypedModulesAreSafe = (p : Program) (cert : Certificate) → IsModule p → AllBounded cert → IsTyped p cert → InstancesAreSafe p

@@ -4,7 +4,7 @@ ghost use Rattle.std.specs.Prelude.{Bool};
 ghost use Rattle.module_code.specs.Program.{Program};
 ghost use Rattle.run_model.specs.declared.bucket.Home.{Home};
 ghost use Rattle.run_model.specs.State.{PoolView};
-ghost use Rattle.life_check.specs.ChainTheorem.{TypedChainNeverFaults};
+ghost use Rattle.life_check.specs.ChainTheorem.{TypedChainNeverFaults, TypedModulesAreSafe};
 ghost use Rattle.life_check.specs.Examples.{BesideRows, FaultRows, IdentityAnswers};
 ghost use Rattle.life_check.specs.Meaning.{Covers};
 ghost use Rattle.life_check.specs.Soundness.{LivesByTest, StepLands, MetIsFaultless, GreaterFits, RequestEndLands};
@@ -21,6 +21,12 @@ pub fn worked_certificates()
 /// whatever happens on which of them, and whatever each opening of a file and each read tells.
 pub fn typed_chains_never_fault()
     ensures { TypedChainNeverFaults }
+{}
+
+/// Where a module is typed with a certificate, its instances are safe by themselves: no open run of one reaches a fault, whatever filters
+/// stand before and behind.
+pub fn typed_modules_are_safe()
+    ensures { TypedModulesAreSafe }
 {}
 
 /// The rules are sound, step by step, whatever lives through a call. What a step leaves is described by the state on the edge that it

@@ -20,13 +20,14 @@ use Rattle.module_run.specs.declared.conn.OpenFile.{OpenFile}
 use Rattle.module_run.specs.Conns.{conn_of, filter_at, labels_handed, waiting}
 use Rattle.module_run.specs.Stacked.{StackedOver}
 use Rattle.module_run.proofs.Stacking.{names_same}
+use Rattle.ring_run.specs.declared.labels_run.LabelsRun.{LabelsRun}
 
 -- with these labels, pools, files, output, count and cause
-abbrev pub beside : Conn → Vec (Vec (ℕ × Payload)) → ℕ → Option ℕ → Vec OpenFile → List ℕ → Bool → ℕ → Option Cause → Conn
+abbrev pub beside : Conn → Vec LabelsRun → ℕ → Option ℕ → Vec OpenFile → List ℕ → Bool → ℕ → Option Cause → Conn
 beside c labels conn req files out ended count broken = record c { labels = labels; conn = conn; req = req; files = files; out = out; ended = ended; count = count; broken = broken }
 
 pub stacked_beside : (chain : List Program) (at : BucketId → Option ℕ) (rings : ℕ → Option Items) (pools : ℕ → Option ℕ) (next : ℕ) (c : Conn)
-    (labels : Vec (Vec (ℕ × Payload))) (conn : ℕ) (req : Option ℕ) (files : Vec OpenFile) (out : List ℕ) (ended : Bool) (count : ℕ) (broken : Option Cause)
+    (labels : Vec LabelsRun) (conn : ℕ) (req : Option ℕ) (files : Vec OpenFile) (out : List ℕ) (ended : Bool) (count : ℕ) (broken : Option Cause)
     → StackedOver chain at rings pools next c → StackedOver chain at rings pools next (beside c labels conn req files out ended count broken)
 unfolding filter_at
 stacked_beside chain at rings pools next c labels conn req files out ended count broken stacked = record {
@@ -50,7 +51,7 @@ stacked_beside chain at rings pools next c labels conn req files out ended count
 }
 
 -- labels that are the same change nothing
-pub left_relabelled : {R : Type 0} {g : Ghosts R Bucket} (chain : List Program) (tree : PoolTree Payload) (store : Brigades R g) (d : Device) (c : Conn) (v : Linked) (labels : Vec (Vec (ℕ × Payload))) → labels.items ≡ c.labels.items
+pub left_relabelled : {R : Type 0} {g : Ghosts R Bucket} (chain : List Program) (tree : PoolTree Payload) (store : Brigades R g) (d : Device) (c : Conn) (v : Linked) (labels : Vec LabelsRun) → labels.items ≡ c.labels.items
     → LeftAs chain tree store d c v → LeftAs chain tree store d (record c { labels = labels }) v
 unfolding conn_of filter_at
 left_relabelled chain tree store d c v labels same left = record {

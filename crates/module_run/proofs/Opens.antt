@@ -47,6 +47,7 @@ use Rattle.module_run.proofs.Tops.{filter_within, frame_at}
 use Rattle.module_run.proofs.Unchanged.{next_off_pools, off_pools}
 use Rattle.ring_run.proofs.Changes.{ring_off}
 use Rattle.std.proofs.lemmas.Bool.{cases_eq}
+use Rattle.ring_run.specs.declared.labels_run.LabelsRun.{LabelsRun}
 
 pub all_pushed : {X : Type 0} (T : X → Type 0) (xs : List X) (x : X) → ((k : ℕ) (y : X) → slice_get xs k ≡ Some y → T y) → T x → (k : ℕ) (y : X) → slice_get (xs ++ x ∷ []) k ≡ Some y → T y
 all_pushed T [] x each last zero y is = subst T (some_same x y is) last
@@ -148,7 +149,7 @@ module _ {R : Type 0} {g : Ghosts R Bucket} (chain : List Program) (tree : PoolT
       ∙ (ap (λ (q : List ℕ). view shown_at (stack_of (lists old) c) q k.pools None [] [] [] false 0 None) new_queue
       ∙ (ap (λ (n : ℕ). rest n None [] [] [] false 0 None) (named ∙ sym is.conn)
       ∙ (ap (λ (r : Option ℕ). rest c.conn r [] [] [] false 0 None) (sym is.req)
-      ∙ (ap (λ (ls : List (Vec (ℕ × Payload))). rest c.conn c.req (labels_handed ls) [] [] false 0 None) (sym is.labels)
+      ∙ (ap (λ (ls : List LabelsRun). rest c.conn c.req (labels_handed ls) [] [] false 0 None) (sym is.labels)
       ∙ (ap (λ (fs : List OpenFile). rest c.conn c.req (labels_handed c.labels.items) (lengths fs) [] false 0 None) (sym is.files)
       ∙ (ap (λ (bytes : List ℕ). rest c.conn c.req (labels_handed c.labels.items) (lengths c.files.items) bytes false 0 None) (sym is.out)
       ∙ (ap (λ (e : Bool). rest c.conn c.req (labels_handed c.labels.items) (lengths c.files.items) c.out e 0 None) (sym is.ended)

@@ -47,6 +47,7 @@ use Rattle.ring_run.proofs.HeldAlike.{held_slots}
 use Rattle.module_run.proofs.Looked.{some_same}
 use Rattle.module_run.proofs.Tops.{frame_at}
 use Rattle.module_run.proofs.RequestBegins.{conn_is, pools_are}
+use Rattle.ring_run.specs.declared.labels_run.LabelsRun.{LabelsRun}
 
 pub quiet_length : (xs : List Filter) → length (map quieted xs) ≡ length xs
 quiet_length [] = refl
@@ -107,7 +108,7 @@ module _ {R : Type 0} {g : Ghosts R Bucket} (chain : List Program) (tree newer :
     go false t = subst (λ (h : Held). MayHold h bytes) (sym (gone.closed file ∙ ap (λ (b : Bool). if b then Missing else dev.numbered file) t)) (opens file bytes (sym (ap (λ (b : Bool). if b then None else fs.opened file) t) ∙ is))
 
   -- The request is over, and no filter has passed an EOS in the next one.
-  module _ (filters : Vec Filter) (labels : Vec (Vec (ℕ × Payload))) (files : Vec OpenFile) (quiet : filters.items ≡ map quieted c.filters.items) where
+  module _ (filters : Vec Filter) (labels : Vec LabelsRun) (files : Vec OpenFile) (quiet : filters.items ≡ map quieted c.filters.items) where
     abbrev after : Conn
     after = request_left c filters labels files
 

@@ -22,13 +22,14 @@ use Rattle.module_run.specs.declared.conn.OpenFile.{OpenFile}
 use Rattle.module_run.specs.Conns.{filter_at}
 use Rattle.module_run.specs.Neighbours.{Holds}
 use Rattle.module_run.specs.Stacked.{named_at}
+use Rattle.ring_run.specs.declared.labels_run.LabelsRun.{LabelsRun}
 
 -- in no request an EOS was passed
 abbrev pub quieted : Filter → Filter
 quieted f = record f { instance = record f.instance { sent = false } }
 
 -- a connection whose request is over, with these filters, labels and files
-abbrev pub request_left : Conn → Vec Filter → Vec (Vec (ℕ × Payload)) → Vec OpenFile → Conn
+abbrev pub request_left : Conn → Vec Filter → Vec LabelsRun → Vec OpenFile → Conn
 request_left c filters labels files = record c { filters = filters; labels = labels; req = None; files = files; ended = false }
 
 module _ {R : Type 0} {g : Ghosts R Bucket} where

@@ -2,8 +2,9 @@
 
 use brigade_ops::{BrigadeId, FileNo, PoolId};
 use ring_run::OutputBlock;
+use ring_run::labels_run::LabelsRun;
 use ring_run::machine::{Call, Instance};
-use run_model::{Cause, Payload};
+use run_model::Cause;
 use std::alloc::Global;
 
 /// A filter of a connection: its instance and its call. While the call waits for a pass to return, `lent` is the brigade variable that
@@ -38,7 +39,7 @@ pub struct Conn {
     pub(crate) queue: usize,
     pub(crate) conn: PoolId,
     pub(crate) req: Option<PoolId>,
-    pub(crate) labels: Vec<Vec<(PoolId, Payload)>>,
+    pub(crate) labels: Vec<LabelsRun>,
     pub(crate) files: Vec<OpenFile>,
     pub(crate) out: OutputBlock,
     pub(crate) ended: bool,

@@ -11,6 +11,7 @@ ghost use Rattle.module_run.specs.Stacked.{StackedOver};
 use crate::conn::Conn;
 use brigade_ops::PoolId;
 use ring_run::OutputBlock;
+use ring_run::labels_run::LabelsRun;
 use run_model::{Payload, Seq};
 use std::mem;
 
@@ -48,14 +49,14 @@ impl Conn {
     /// The labels that ran, each with its pool, in a list for each clear or end of a pool that ran any, the oldest first. It takes no memory,
     /// and serves in any state.
     #[tactic(auto, unfolding(crate::specs::Conns::conn_of))]
-    pub fn labels(&self) -> &[Vec<(PoolId, Payload)>]
+    pub fn labels(&self) -> &[LabelsRun]
         ensures { (ps : Pools Payload) (rings : ℕ → Option Items) (opened : ℕ → Option (List ℕ)) → labels_handed result.now ≡ (conn_of ps rings opened self.now).labels }
     {
         self.labels.as_slice()
     }
 
     /// The labels that ran, as `labels` has them.
-    pub fn into_labels(self) -> Vec<Vec<(PoolId, Payload)>>
+    pub fn into_labels(self) -> Vec<LabelsRun>
         ensures { result ≡ self.labels }
     {
         self.labels

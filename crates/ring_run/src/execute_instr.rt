@@ -26,12 +26,13 @@ use crate::execute_on_pools::execute_on_pools;
 use crate::execute_on_store::execute_on_store;
 use crate::exits::{exit, jumps_if};
 use crate::labels::add_labels;
+use crate::labels_run::LabelsRun;
 use crate::machine::{Call, Instance};
 use crate::outside::Outside;
 use crate::pool_clears::{clear_named, cleared_pool};
 use crate::reads::read;
 use crate::setting::Setting;
-use brigade_ops::{Brigades, Bucket, Files, PoolId, PoolTree, Rings};
+use brigade_ops::{Brigades, Bucket, Files, PoolTree, Rings};
 use run_model::{Exit, Instr, Module, Payload};
 use std::alloc::{AllocError, Global};
 
@@ -102,7 +103,7 @@ fn execute_clear<R: Rings<Bucket> + Drop, F: Files>(
     instance: &Instance,
     call: &Call,
     setting: &Setting<'_>,
-    handed: &mut Vec<Vec<(PoolId, Payload)>>,
+    handed: &mut Vec<LabelsRun>,
     tree: &mut PoolTree<Payload>,
     store: &mut Brigades<R>,
     files: &mut F,
@@ -153,7 +154,7 @@ pub fn execute_instr<R: Rings<Bucket> + Drop, F: Files>(
     instance: &mut Instance,
     call: &mut Call,
     setting: &Setting<'_>,
-    handed: &mut Vec<Vec<(PoolId, Payload)>>,
+    handed: &mut Vec<LabelsRun>,
     tree: &mut PoolTree<Payload>,
     store: &mut Brigades<R>,
     files: &mut F,

@@ -5,8 +5,9 @@ ghost use Rattle.std.specs.List.{list_any};
 ghost use Rattle.run_model.specs.Payloads.{is_label, labels_in};
 ghost use Rattle.pool_tree.specs.Payloads.{IsLastAt};
 ghost use Rattle.ring_run.specs.CarriedOut.{labels_handed};
-ghost use Rattle.ring_run.specs.LabelsKept.{is_run};
+ghost use Rattle.ring_run.specs.LabelsKept.{is_run, AreLabels};
 
+use crate::labels_run::LabelsRun;
 use brigade_ops::PoolId;
 use run_model::Payload;
 
@@ -43,13 +44,14 @@ fn is_run(payload: &Payload) -> bool
 
 /// Leaves the labels alone, in their order. It takes no memory.
 fn keep_labels(ran: &mut Vec<(PoolId, Payload)>)
-    ensures { ran.new.items ≡ filter (λ x. is_run x.1) ran.old.items }
+    ensures kept { ran.new.items ≡ filter (λ x. is_run x.1) ran.old.items }
+    ensures labels { AreLabels ran.new.items }
 {
     ran.retain(|entry| is_run(&entry.1));
 }
 
 /// Adds the labels among what a clear handed on, where there is room. Where there are none, nothing is added.
-pub fn add_labels(handed: &mut Vec<Vec<(PoolId, Payload)>>, ran: Vec<(PoolId, Payload)>)
+pub fn add_labels(handed: &mut Vec<LabelsRun>, ran: Vec<(PoolId, Payload)>)
     requires { vec_len handed.old < vec_capacity handed.old }
     ensures told { labels_handed handed.new.items ≡ labels_handed handed.old.items ++ labels_in ran.items }
     ensures none { labels_in ran.items ≡ [] → handed.new.items ≡ handed.old.items }
@@ -59,5 +61,6 @@ pub fn add_labels(handed: &mut Vec<Vec<(PoolId, Payload)>>, ran: Vec<(PoolId, Pa
     if kept.is_empty() {
         return;
     }
-    handed.push(kept).unwrap();
+    let run = LabelsRun::of(kept);
+    handed.push(run).unwrap();
 }

@@ -21,6 +21,7 @@ mod faults;
 mod home_walks;
 mod home_wants;
 pub mod labels;
+pub mod labels_run;
 pub mod led_to;
 pub mod machine;
 mod makers;

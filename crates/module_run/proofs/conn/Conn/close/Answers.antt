@@ -1,6 +1,5 @@
 -- By what the end of the pool hands on, and what of its calls is ended.
 use Rattle.std.proofs.Common.{◌≡◌, ℕ, ◌<◌, List, length, Option, Some, None, is_some, ◌++◌, refl, sym, ap, subst, ◌∙◌, inr, arith}
-use Rattle.std.specs.Global.{Vec}
 use Rattle.std.proofs.lemmas.Option.{slice_get_read}
 use Rattle.bucket_kinds.specs.Device.{Device}
 use Rattle.bucket_ring.specs.Lists as ring
@@ -24,6 +23,7 @@ use Rattle.module_run.proofs.RequestBegins.{conn_live}
 use Rattle.module_run.proofs.RequestEnds.{closed_labels}
 use Rattle.module_run.proofs.Unchanged.{left_same, on_err}
 use Rattle.module_run.proofs.Unreferred.{unreferred_stays}
+use Rattle.ring_run.specs.declared.labels_run.LabelsRun.{LabelsRun}
 use Rattle.module_run.proofs.conn.Conn.close.Goals as goal
 
 pub destroy-requires-clause-live : goal.destroy-requires-clause-live
@@ -82,7 +82,7 @@ returns-in_default-clause-leaves g c =
 
 pub returns-in-Some-clause-labels : goal.returns-in-Some-clause-labels
 returns-in-Some-clause-labels g c chain v stands =
-    (c.add_labels.ensures.told ∙ (ap (λ (hs : List (Vec (ℕ × Payload))). labels_handed hs ++ labels_in c.in_ok-ran.ran.items) c.reserve.ensures.items ∙ ap (λ (xs : List (ℕ × Payload)). labels_handed c.args.self.now.labels.items ++ labels_in xs) c.in_ok-ran.ensures.ran))
+    (c.add_labels.ensures.told ∙ (ap (λ (hs : List LabelsRun). labels_handed hs ++ labels_in c.in_ok-ran.ran.items) c.reserve.ensures.items ∙ ap (λ (xs : List (ℕ × Payload)). labels_handed c.args.self.now.labels.items ++ labels_in xs) c.in_ok-ran.ensures.ran))
     ∙ closed_labels (map_of c.args.tree.now) (lists c.args.store.now) (next_name c.args.store.now) c.args.self.now v stands.left.seen
 
 pub returns-in-Some-clause-unreferred : goal.returns-in-Some-clause-unreferred
@@ -92,7 +92,7 @@ returns-in-Some-clause-unreferred g c file none =
 
 pub returns-in_default-clause-labels : goal.returns-in_default-clause-labels
 returns-in_default-clause-labels g c chain v stands =
-    (c.add_labels.ensures.told ∙ (ap (λ (hs : List (Vec (ℕ × Payload))). labels_handed hs ++ labels_in c.in_ok-ran.ran.items) c.reserve.ensures.items ∙ ap (λ (xs : List (ℕ × Payload)). labels_handed c.args.self.now.labels.items ++ labels_in xs) c.in_ok-ran.ensures.ran))
+    (c.add_labels.ensures.told ∙ (ap (λ (hs : List LabelsRun). labels_handed hs ++ labels_in c.in_ok-ran.ran.items) c.reserve.ensures.items ∙ ap (λ (xs : List (ℕ × Payload)). labels_handed c.args.self.now.labels.items ++ labels_in xs) c.in_ok-ran.ensures.ran))
     ∙ closed_labels (map_of c.args.tree.now) (lists c.args.store.now) (next_name c.args.store.now) c.args.self.now v stands.left.seen
 
 pub returns-in_default-clause-unreferred : goal.returns-in_default-clause-unreferred

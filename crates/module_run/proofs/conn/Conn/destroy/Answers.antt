@@ -1,6 +1,5 @@
 -- By what was handed on.
 use Rattle.std.proofs.Common.{ℕ, List, ◌++◌, ap, ◌∙◌}
-use Rattle.std.specs.Global.{Vec}
 use Rattle.run_model.specs.declared.payload.Payload.{Payload}
 use Rattle.run_model.specs.Files.{is_referred}
 use Rattle.run_model.specs.Payloads.{labels_in}
@@ -8,10 +7,11 @@ use Rattle.pool_tree.specs.Tree.{map_of}
 use Rattle.pool_tree.proofs.Trees.{tree_formed}
 use Rattle.module_run.specs.Conns.{labels_handed}
 use Rattle.module_run.proofs.Unreferred.{unreferred_stays}
+use Rattle.ring_run.specs.declared.labels_run.LabelsRun.{LabelsRun}
 use Rattle.module_run.proofs.conn.Conn.destroy.Goals as goal
 
 pub returns-clause-labels : goal.returns-clause-labels
-returns-clause-labels g c = c.add_labels.ensures.told ∙ (ap (λ (hs : List (Vec (ℕ × Payload))). labels_handed hs ++ labels_in c.in_ok-ran.ran.items) c.reserve.ensures.items ∙ ap (λ (xs : List (ℕ × Payload)). labels_handed c.args.self.now.labels.items ++ labels_in xs) c.in_ok-ran.ensures.ran)
+returns-clause-labels g c = c.add_labels.ensures.told ∙ (ap (λ (hs : List LabelsRun). labels_handed hs ++ labels_in c.in_ok-ran.ran.items) c.reserve.ensures.items ∙ ap (λ (xs : List (ℕ × Payload)). labels_handed c.args.self.now.labels.items ++ labels_in xs) c.in_ok-ran.ensures.ran)
 
 pub returns-clause-unreferred : goal.returns-clause-unreferred
 returns-clause-unreferred g c file none =
