@@ -71,7 +71,7 @@ refused_answer (Step s) r is = absurd (cc)
 refused_answer (Output bytes) r is = absurd (cc)
 refused_answer (Opened file len) r is = absurd (cc)
 refused_answer (Labels labels) r is = absurd (cc)
-refused_answer (Tree pools) r is = absurd (cc)
+refused_answer (Tree root pools) r is = absurd (cc)
 
 refused_steps : (n : ℕ) (answer : Result Stepped Refusal) (r : Refusal) → steps_reply n answer ≡ reply.Refused r → step_answer answer ≡ Refused r
 refused_steps n (Ok stepped.Went) r is = absurd (cc)

@@ -34,7 +34,7 @@ reply_of (Step s) = reply.Stepped s
 reply_of (Output bytes) = reply.Output bytes
 reply_of (Opened file len) = reply.Done
 reply_of (Labels labels) = reply.Labels labels
-reply_of (Tree pools) = reply.Pools (printed payload_text pools 0 1)
+reply_of (Tree root pools) = reply.Pools (printed payload_text pools 0 root)
 
 -- how steps are told of which so many were asked for
 abbrev pub steps_reply : ℕ → Result Stepped Refusal → Reply

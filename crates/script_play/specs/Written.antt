@@ -4,7 +4,7 @@ use Rattle.module_code.specs.Program.{Program}
 use Rattle.byte_text.specs.TextLines.{RawLine, lines_of}
 use Rattle.run_model.specs.declared.event.Refusal.TheVariants as refusal
 use Rattle.run_model.specs.Files.{no_files}
-use Rattle.run_model.specs.Worlds.{empty_world}
+use Rattle.run_model.specs.Worlds.{new_world}
 use Rattle.bucket_kinds.specs.MemDevice.{device_of}
 use Rattle.life_check.specs.declared.refusal.CheckRefusal.{CheckRefusal}
 use Rattle.filter_chain.specs.HostViews.{HostView, host_view}
@@ -45,9 +45,9 @@ is_over Over = true
 
 -- The commands begin.
 
--- no connection, and no file; none may fail
+-- no connection, whose names begin with 1, and no file; none may fail
 abbrev pub first_view : HostView
-first_view = host_view empty_world (device_of no_files 0 false)
+first_view = host_view (new_world 1) (device_of no_files 0 false)
 
 abbrev pub session_of : Bool → ScriptHead → Session
 session_of checked h = record { chain = codes_of h.parts; budget = h.budget; is_checked = checked; host_view = first_view }
