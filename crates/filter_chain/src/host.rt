@@ -1,6 +1,6 @@
 //! The host.
 
-ghost use Rattle.std.specs.Prelude.{◌≡◌, ◌<◌, IfOk};
+ghost use Rattle.std.specs.Prelude.{◌≡◌, IfOk};
 ghost use Rattle.run_model.specs.Chains.{IsChain};
 ghost use Rattle.run_model.specs.Worlds.{empty_world};
 
@@ -41,8 +41,7 @@ impl<F: Files + Drop> Host<F> {
         modules: Vec<Module>,
         limits: Limits,
     ) -> Result<Self, AllocError>
-        requires chain { IsChain modules.items }
-        requires numbered { 0 < (F.device files).next }
+        requires { IsChain modules.items }
         ensures empty { IfOk result (λ host. IsHosting (F.device (files_of host)) host empty_world) }
         ensures chain { IfOk result (λ host. chain_of host ≡ modules.items) }
         ensures budget { IfOk result (λ host. budget_of host ≡ limits.budget) }
@@ -71,7 +70,6 @@ impl<F: Files + Drop> Host<F> {
         chain: CheckedChain,
         limits: Limits,
     ) -> Result<Self, AllocError>
-        requires numbered { 0 < (F.device files).next }
         ensures empty { IfOk result (λ host. IsHosting (F.device (files_of host)) host empty_world) }
         ensures chain { IfOk result (λ host. chain_of host ≡ chain) }
         ensures budget { IfOk result (λ host. budget_of host ≡ limits.budget) }

@@ -9,8 +9,8 @@ if_ok_weaker : {X E : Type 0} {P Q : X → Type 0} (r : Result X E) → ((x : X)
 if_ok_weaker (Ok x) f p = f x p
 if_ok_weaker (Err e) f p = tt
 
-pub watched-requires-clause-chain : goal.watched-requires-clause-chain
-watched-requires-clause-chain g c = subst (λ (chain : List Program). IsChain chain) (sym c.into_modules.ensures.value) c.into_modules.ensures.checked.chained
+pub watched-requires : goal.watched-requires
+watched-requires g c = subst (λ (chain : List Program). IsChain chain) (sym c.into_modules.ensures.value) c.into_modules.ensures.checked.chained
 
 pub returns-clause-chain : goal.returns-clause-chain
 returns-clause-chain g c = if_ok_weaker c.watched.result (λ host same. same ∙ c.into_modules.ensures.value) c.watched.ensures.chain

@@ -23,12 +23,12 @@ returns-clause-empty g c =
     let store = c.new-3.result in
     let root = c.in-Ok.ensures.ok in
     record {
-      chained = c.requires.chain;
+      chained = c.requires;
       reached = empty_is_reached c.args.limits.budget c.args.modules.items;
       last_is = refl;
       pools = root ∙ first_tree;
       names = sym c.new-3.ensures.next;
-      files = (let lt = c.requires.numbered in omega (arith, lt));
+      files = (let lt = g.met.F.Files.numbered c.args.files in omega (arith, lt));
       house = subst (IsHouse store) (sym root) (house_begins (lists store) (pool_of store) (references store) 1 c.new-3.ensures.loose c.new-3.ensures.unreferred);
       open_files = λ file more. absurd (omega (arith, more, c.new-3.ensures.unreferred file));
       none = c.new-3.ensures.empty 0;
