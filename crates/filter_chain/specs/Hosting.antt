@@ -27,6 +27,7 @@ use Rattle.module_run.specs.Neighbours.{Holds}
 use Rattle.filter_chain.specs.declared.host.Host.{Host}
 use Rattle.filter_chain.specs.HostViews.{Answers, host_view}
 use Rattle.filter_chain.specs.Hosted.{conn_at, IsHosted}
+use Rattle.ring_run.specs.declared.labels_run.LabelsRun.{LabelsRun}
 
 -- It is there exactly where the model has it, and as the model has it.
 abbrev pub IsHostedIf : {R : Type 0} {g : Ghosts R Bucket} → List Program → PoolTree Payload → Brigades R g → Device → Option Conn → Option Connection → Type 0
@@ -62,7 +63,7 @@ abbrev pub file_answer : Result (ℕ × ℕ) Refusal → Answer
 file_answer (Ok file) = Opened file.0 file.1
 file_answer (Err r) = Refused r
 
-abbrev pub close_answer : Result (Vec (Vec (ℕ × Payload))) Refusal → Answer
+abbrev pub close_answer : Result (Vec LabelsRun) Refusal → Answer
 close_answer (Ok labels) = Labels (labels_handed labels.items)
 close_answer (Err r) = Refused r
 

@@ -6,15 +6,15 @@ ghost use Rattle.run_model.specs.Worlds.{World};
 
 use crate::host::Host;
 use bucket_kinds::Files;
-use pool_tree::PoolId;
-use run_model::{Payload, Refusal};
+use ring_run::labels_run::LabelsRun;
+use run_model::Refusal;
 
 impl<F: Files + Drop> Host<F> {
     ghost use Rattle.filter_chain.specs.Hosting.{IsHosting, Happens, close_answer, files_of};
 
     /// Closes a connection, in any state: its calls are destroyed, and then its pool with all under it. Answers the labels that ran, as
     /// `labels_run` has them, those of its own pool last. Refused, nothing is changed: `NoSuchConn`; `NoMemory`.
-    pub fn close(&mut self, number: u64) -> Result<Vec<Vec<(PoolId, Payload)>>, Refusal>
+    pub fn close(&mut self, number: u64) -> Result<Vec<LabelsRun>, Refusal>
         requires { (w : World) × IsHosting (F.device (files_of self.old)) self.old w }
         ensures event { (w : World) → IsHosting (F.device (files_of self.old)) self.old w → Happens (F.device (files_of self.old)) (F.device (files_of self.new)) self.old self.new number Close (close_answer result) w }
     {

@@ -42,7 +42,6 @@ impl<F: Files + Drop> Host<F> {
         limits: Limits,
     ) -> Result<Self, AllocError>
         requires chain { IsChain modules.items }
-        requires numbered { 0 < (F.device files).next }
         ensures empty { IfOk result (λ host. IsHosting (F.device (files_of host)) host (new_world 1)) }
         ensures chain { IfOk result (λ host. chain_of host ≡ modules.items) }
         ensures budget { IfOk result (λ host. budget_of host ≡ limits.budget) }
@@ -64,7 +63,6 @@ impl<F: Files + Drop> Host<F> {
         first: PoolId,
     ) -> Result<Self, PoolError>
         requires chain { IsChain modules.items }
-        requires numbered { 0 < (F.device files).next }
         requires named { 0 < first }
         ensures empty { IfOk result (λ host. IsHosting (F.device (files_of host)) host (new_world first)) }
         ensures chain { IfOk result (λ host. chain_of host ≡ modules.items) }
@@ -94,7 +92,6 @@ impl<F: Files + Drop> Host<F> {
         chain: CheckedChain,
         limits: Limits,
     ) -> Result<Self, AllocError>
-        requires numbered { 0 < (F.device files).next }
         ensures empty { IfOk result (λ host. IsHosting (F.device (files_of host)) host (new_world 1)) }
         ensures chain { IfOk result (λ host. chain_of host ≡ chain) }
         ensures budget { IfOk result (λ host. budget_of host ≡ limits.budget) }
@@ -115,7 +112,6 @@ impl<F: Files + Drop> Host<F> {
         limits: Limits,
         first: PoolId,
     ) -> Result<Self, PoolError>
-        requires numbered { 0 < (F.device files).next }
         requires named { 0 < first }
         ensures empty { IfOk result (λ host. IsHosting (F.device (files_of host)) host (new_world first)) }
         ensures chain { IfOk result (λ host. chain_of host ≡ chain) }

@@ -21,4 +21,5 @@ pub use host::Host;
 pub use life_check::CheckedChain;
 pub use limits::Limits;
 pub use pool_tree::{PoolError, PoolId};
+pub use ring_run::labels_run::LabelsRun;
 pub use run_model::{Cause, Module, Payload, Piece, Refusal, Seq, Stepped};

@@ -8,8 +8,8 @@ ghost use Rattle.module_run.specs.Happened.{refusal_of};
 
 use crate::host::Host;
 use bucket_kinds::Files;
-use pool_tree::PoolId;
-use run_model::{Payload, Refusal, Seq};
+use ring_run::labels_run::LabelsRun;
+use run_model::{Refusal, Seq};
 
 impl<F: Files + Drop> Host<F> {
     ghost use Rattle.filter_chain.specs.Hosting.{IsHosting, Happens, output_answer, output_in, files_of};
@@ -64,7 +64,7 @@ impl<F: Files + Drop> Host<F> {
 
     /// The labels of the connection that ran so far, each with its pool, in a list for each clear that ran any, the oldest first. Refused:
     /// `NoSuchConn`.
-    pub fn labels_run(&self, number: u64) -> Result<&[Vec<(PoolId, Payload)>], Refusal>
+    pub fn labels_run(&self, number: u64) -> Result<&[LabelsRun], Refusal>
         ensures told { IfOk result (λ labels. (w : World) → IsHosting (F.device (files_of self.now)) self.now w → Happens (F.device (files_of self.now)) (F.device (files_of self.now)) self.now self.now number TellLabels (Labels (labels_handed labels.now)) w) }
         ensures missing { IfErr result (λ why. (w : World) → IsHosting (F.device (files_of self.now)) self.now w → Happens (F.device (files_of self.now)) (F.device (files_of self.now)) self.now self.now number TellLabels (Refused why) w) }
     {

@@ -4,7 +4,6 @@ use Rattle.std.specs.Global.{Vec}
 use Rattle.std.specs.Option.{option_copied_mut, IsSome}
 use Rattle.run_model.specs.declared.event.Event.TheVariants as event
 use Rattle.run_model.specs.declared.event.Refusal.TheVariants as refusal
-use Rattle.run_model.specs.declared.payload.Payload.{Payload}
 use Rattle.run_model.specs.Worlds.{Refused}
 use Rattle.module_run.specs.declared.conn.Conn.{Conn}
 use Rattle.module_run.specs.Conns.{labels_handed}
@@ -16,6 +15,7 @@ use Rattle.filter_chain.proofs.HostCloses.{close_serves, closed_on, taken_is}
 use Rattle.filter_chain.proofs.HostsLeft.{written}
 use Rattle.filter_chain.proofs.HostEvents.{can_serve, none_found, served_on}
 use Rattle.filter_chain.proofs.KnownEvents.{closed_spares}
+use Rattle.ring_run.specs.declared.labels_run.LabelsRun.{LabelsRun}
 use Rattle.filter_chain.proofs.host.Host.close.Goals as goal
 
 pub close-requires : goal.close-requires
@@ -79,7 +79,7 @@ returns g c =
     record {
       event = λ w hosts. closed_on host c.args.number s lent wrote d e w hosts c.in-Some.conn.now at c.take.new.self c.take.ensures.rest
           (record host { conns = c.take.new.self; tree = c.close.new.tree; store = c.close.new.store; files = c.close.new.files }) refl (labels_handed c.into_labels.result.items)
-          (λ v so. ap (λ (x : Vec (Vec (ℕ × Payload))). labels_handed x.items) c.into_labels.ensures ∙ ap (λ (x : Conn). labels_handed x.labels.items) same ∙ c.in-Ok.ensures.labels (chain_of host) v so)
+          (λ v so. ap (λ (x : Vec LabelsRun). labels_handed x.items) c.into_labels.ensures ∙ ap (λ (x : Conn). labels_handed x.labels.items) same ∙ c.in-Ok.ensures.labels (chain_of host) v so)
           (λ k so. closed_spares (chain_of host) d e w host.tree host.store c.in-Some.conn.now k so out.others out.unreferred)
           (record { pools = c.in-Ok.ensures.pools; next = out.next; house = out.house; references = out.references; none = λ _. c.in-Ok.ensures.none; leaves = out.leaves; closed = c.in-Ok.ensures.closed; others = out.others });
     }

@@ -35,7 +35,7 @@ returns-clause-empty g c =
       last_is = refl;
       pools = root ∙ first_tree c.args.first;
       names = sym c.new-3.ensures.next;
-      files = (let lt = c.requires.numbered in omega (arith, lt));
+      files = (let lt = g.met.F.Files.numbered c.args.files in omega (arith, lt));
       house = subst (IsHouse store) (sym root) (house_begins (lists store) (pool_of store) (references store) c.args.first c.new-3.ensures.loose c.new-3.ensures.unreferred);
       open_files = λ file more. absurd (omega (arith, more, c.new-3.ensures.unreferred file));
       none = c.new-3.ensures.empty 0;
