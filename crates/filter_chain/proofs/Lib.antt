@@ -16,3 +16,4 @@ pub mod HostCloses
 pub mod StepCounts
 pub mod Driving
 pub mod Going
+pub mod QuietGoing

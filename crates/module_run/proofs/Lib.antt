@@ -61,3 +61,4 @@ pub mod Neighbours
 pub mod NeighboursLeft
 pub mod CallsLeave
 pub mod Leaving
+pub mod QuietGoes

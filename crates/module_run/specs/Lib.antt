@@ -12,3 +12,4 @@ pub mod Refused
 pub mod Opening
 pub mod Destroyed
 pub mod OpenedFile
+pub mod StepsGo

@@ -12,6 +12,7 @@ mod conn_file;
 mod conn_open;
 mod conn_pass_to_next;
 mod conn_pass_to_output;
+mod conn_quiet;
 mod conn_return_last;
 mod conn_return_to_caller;
 mod conn_rings;

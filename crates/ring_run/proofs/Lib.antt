@@ -15,6 +15,7 @@ pub mod Splits
 pub mod Cuts
 pub mod Points
 pub mod Quiet
+pub mod QuietRuns
 pub mod Parts
 pub mod Wanted
 pub mod Running

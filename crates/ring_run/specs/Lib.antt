@@ -23,3 +23,4 @@ pub mod NamedBelow
 pub mod Pieces
 pub mod CarriedOut
 pub mod LabelsKept
+pub mod QuietSteps

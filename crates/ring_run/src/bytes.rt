@@ -47,6 +47,8 @@ pub(crate) fn put(instance: &Instance, call: &mut Call, x: Value) -> Result<(), 
     ensures sure { (rings : ℕ → Option Items) (next : ℕ) (around : Around) → is_full (seen_over rings next around instance.now call.old) x ≡ true → IsOk result }
     ensures err { OnErr result ((rings : ℕ → Option Items) (next : ℕ) (around : Around) → seen_over rings next around instance.now call.new ≡ seen_over rings next around instance.now call.old) }
     ensures cursors { (c : ℕ) → cursor_at call.new c ≡ cursor_at call.old c }
+    ensures same { OnErr result (call.new ≡ call.old) }
+    ensures pc { call.new.pc ≡ call.old.pc }
     ensures name { call.new.name ≡ call.old.name }
     ensures held { (at : BucketId → Option ℕ) (rings : ℕ → Option Items) (pools : ℕ → Option ℕ) (next : ℕ) → HeldOver at rings pools next instance.now call.old → HeldOver at rings pools next instance.now call.new }
 {
@@ -94,7 +96,7 @@ pub(crate) fn len<R: Rings<Bucket> + Drop>(
 }
 
 /// A byte of a content in memory.
-fn byte_of(content: &Content, k: u32) -> Option<u8>
+pub(crate) fn byte_of(content: &Content, k: u32) -> Option<u8>
     ensures { result ≡ byte_of k content.now }
 {
     match content {

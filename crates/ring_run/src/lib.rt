@@ -35,6 +35,7 @@ mod places;
 mod pool_clears;
 mod pool_steps;
 mod pool_wants;
+pub mod quiet_steps;
 mod reads;
 mod saves;
 pub mod setting;

@@ -42,6 +42,8 @@ impl Call {
     pub(crate) fn buffer_byte(&mut self, byte: u8) -> Result<(), AllocError>
         ensures ok { OnOk result ((rings : ℕ → Option Items) (next : ℕ) (around : Around) (i : Instance) → let r = seen_over rings next around i self.old in seen_over rings next around i self.new ≡ record r { call = record r.call { buffer = r.call.buffer ++ byte ∷ [] } }) }
         ensures err { OnErr result ((rings : ℕ → Option Items) (next : ℕ) (around : Around) (i : Instance) → seen_over rings next around i self.new ≡ seen_over rings next around i self.old) }
+        ensures same { OnErr result (self.new ≡ self.old) }
+        ensures pc { self.new.pc ≡ self.old.pc }
         ensures cursors { (c : ℕ) → cursor_at self.new c ≡ cursor_at self.old c }
         ensures name { self.new.name ≡ self.old.name }
     {
@@ -51,6 +53,7 @@ impl Call {
     /// Empties the buffer.
     pub(crate) fn clear_buffer(&mut self)
         ensures new { (rings : ℕ → Option Items) (next : ℕ) (around : Around) (i : Instance) → seen_over rings next around i self.new ≡ do_clearbuf (seen_over rings next around i self.old) }
+        ensures pc { self.new.pc ≡ self.old.pc }
         ensures cursors { (c : ℕ) → cursor_at self.new c ≡ cursor_at self.old c }
         ensures name { self.new.name ≡ self.old.name }
     {
