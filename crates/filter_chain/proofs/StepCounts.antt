@@ -101,7 +101,7 @@ module _ (memory : Bool) (budget : ℕ) (chain : List Program) (told : Told) (nu
 -- Many steps.
 
 module _ (budget : ℕ) (chain : List Program) (number : ℕ) where
-  acts_count : (old new : HostView) → Answers budget chain number event.Step old (Step stepped.Went) new → IsCounted budget number old.world new.world
+  pub acts_count : (old new : HostView) → Answers budget chain number event.Step old (Step stepped.Went) new → IsCounted budget number old.world new.world
   acts_count old new a = world_counts a.memory budget chain a.told number old.world new.world a.is
 
   -- one more at the end

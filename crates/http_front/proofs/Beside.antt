@@ -50,6 +50,12 @@ module _ {F : Type 0} (device : F → Device) (number : ℕ) where
         leads_on device from old new (λ b c s t. Some-events b c number s t) (λ b c s t. steps.StepsToEnd b c number s answer t) (λ b c s t. Some-events b c number s t)
         (λ b c s m t x r. one_more b c number event.Step (step_answer answer) s r.before t tt (steps_more b c number r.count s m r.before x r.goes) r.last) so h
 
+    pub beside_steps : (more : ℕ) (answer : Result Stepped Refusal) → Refines device old new (λ b c s t. steps.StepsOn b c number more s answer t) → OnlyEventsOf device from number new
+    unfolding OnlyEventsOf
+    beside_steps more answer h =
+        leads_on device from old new (λ b c s t. Some-events b c number s t) (λ b c s t. steps.StepsOn b c number more s answer t) (λ b c s t. Some-events b c number s t)
+        (λ b c s m t x r. one_more b c number event.Step (step_answer answer) s r.before t tt (steps_more b c number r.count s m r.before x r.goes) r.last) so h
+
     -- the last event of them was refused
     pub beside_lacks : (what : Event) (why : Refusal) (e : FrontKind) → IsOfRequest what → lack_of why ≡ Some e → Happened device old new number what (Refused why) → LacksFor device from number e new
     unfolding OnlyEventsOf LacksFor

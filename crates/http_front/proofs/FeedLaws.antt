@@ -8,6 +8,7 @@ use Rattle.filter_chain.specs.declared.host.Host.{Host}
 use Rattle.filter_chain.specs.HostViews.{HostView}
 use Rattle.http_front.specs.declared.fault.FrontKind.{FrontKind}
 use Rattle.http_front.specs.Driven.{IsAlive, Refines}
+use Rattle.http_front.specs.RequestEvents as by
 use Rattle.http_front.specs.Requests.{BringsBrigade, BringsAll, IfSucceeded, brigades_from, brigades_of, last_brigade, piece_bytes}
 use Rattle.http_front.specs.declared.running.CallEnd.{CallEnd}
 use Rattle.http_front.specs.declared.running.CallEnd.TheVariants as ended
@@ -53,7 +54,7 @@ module _ {F : Type 0} (device : F → Device) (number file len : ℕ) where
     module _ (left : ℕ) (so : IsFeeding device old now number file len start left) where
       module _ (some : 0 < left) (how : CallEnd) (one : Refines device now new (λ b c s t. BringsBrigade b c number (piece.File file start piece_bytes ∷ []) s how t)) where
         pub feeding_on : how ≡ ended.Succeeded → IsFeeding device old new number file len (start + piece_bytes) (left - 1)
-        unfolding BringsAll
+        unfolding by.BringsAll
         feeding_on well = record {
           alive = alive_then device now new (λ b c s t. BringsBrigade b c number (piece.File file start piece_bytes ∷ []) s how t) so.alive one;
           goes = leads_on device old now new
@@ -65,7 +66,7 @@ module _ {F : Type 0} (device : F → Device) (number file len : ℕ) where
         }
 
         pub feeding_stops : ¬ (how ≡ ended.Succeeded) → Refines device old new (λ b c s t. BringsAll b c number (brigades_of file len) s how t)
-        unfolding BringsAll
+        unfolding by.BringsAll
         feeding_stops not = leads_on device old now new
             (λ b c s m. (how : CallEnd) (t : HostView) → BringsAll b c number (brigades_from file len start left) m how t → BringsAll b c number (brigades_of file len) s how t)
             (λ b c s t. BringsBrigade b c number (piece.File file start piece_bytes ∷ []) s how t)
@@ -76,7 +77,7 @@ module _ {F : Type 0} (device : F → Device) (number file len : ℕ) where
       -- none but the last is left
       pub feeding_ends : (r : Result CallEnd FrontKind) → left ≡ 0 → Refines device now new (λ b c s t. IfOk r (λ how. BringsBrigade b c number (last_brigade file start (len - start)) s how t))
           → Refines device old new (λ b c s t. IfOk r (λ how. BringsAll b c number (brigades_of file len) s how t))
-      unfolding BringsAll brigades_from
+      unfolding by.BringsAll brigades_from
       feeding_ends r none one = leads_on device old now new
           (λ b c s m. (how : CallEnd) (t : HostView) → BringsAll b c number (brigades_from file len start left) m how t → BringsAll b c number (brigades_of file len) s how t)
           (λ b c s t. IfOk r (λ how. BringsBrigade b c number (last_brigade file start (len - start)) s how t))
@@ -89,6 +90,6 @@ module _ {F : Type 0} (device : F → Device) (number file len : ℕ) where
 
 -- No brigade is brought.
 pub feeds_nothing : {F : Type 0} (device : F → Device) (number : ℕ) (host : Host F) (brigades : List (List Piece)) → brigades ≡ [] → Refines device host host (λ b c s t. BringsAll b c number brigades s ended.Succeeded t)
-unfolding BringsAll
+unfolding by.BringsAll
 feeds_nothing device number host brigades none =
     leads_still device host (λ b c s t. BringsAll b c number brigades s ended.Succeeded t) (λ b c s. subst (λ (bs : List (List Piece)). BringsAll b c number bs s ended.Succeeded s) (sym none) (refl, refl))

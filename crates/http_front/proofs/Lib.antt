@@ -15,3 +15,6 @@ pub mod Beside
 pub mod SharingLaws
 pub mod RestLaws
 pub mod PassLaws
+pub mod SliceSteps
+pub mod SliceLaws
+pub mod BeginLaws

@@ -42,7 +42,7 @@ unfolding file_of
 no_file site h target same is = ap (file_at site) (sym is ∙ ap target_path same)
 
 -- a head has a byte
-some_bytes : (h : RequestHead) → 0 < length (print_request h)
+pub some_bytes : (h : RequestHead) → 0 < length (print_request h)
 some_bytes h = omega (arith, simp length-append at (ap length (print_request-append h [])))
 
 -- an empty list begins with no head
@@ -57,7 +57,7 @@ pub none_wants : (seen : List ℕ) → seen ≡ [] → WantsMore seen
 none_wants seen none = subst WantsMore (sym none) (record { few = omega arith; hopeful = inl refl; headless = none_headless head_limit fields_limit })
 
 -- a head that a front of the bytes begins with
-begins_wider : (limit : ℕ) (room : ℕ) (seen : List ℕ) (h : RequestHead) (size : ℕ) → size ≤ length (take limit seen)
+pub begins_wider : (limit : ℕ) (room : ℕ) (seen : List ℕ) (h : RequestHead) (size : ℕ) → size ≤ length (take limit seen)
     → BeginsWithin limit room (take limit seen) h (drop size (take limit seen)) → BeginsWithin limit room seen h (drop size seen)
 begins_wider limit room seen h size fits begins =
     let text = print_request h in

@@ -11,12 +11,17 @@ pub mod Texts
 pub mod Outcomes
 pub mod Turns
 pub mod Stepping
+pub mod RequestEvents
 pub mod Requests
 pub mod Driven
+pub mod Nearing
+pub mod Among
 pub mod Connecting
 pub mod Serving
 pub mod Rows
 pub mod FeedRows
+pub mod UnderWays
 pub mod Sharing
 pub mod Talking
 pub mod Apart
+pub mod Before

@@ -15,12 +15,6 @@ PassesAll {K} tells (s ∷ said) old new = (mid : K) × PassesAll tells said old
 abbrev pub Passes : {K : Type 0} → (K → Said → K → Type 0) → K → K → Type 0
 Passes tells old new = (said : List Said) × PassesAll tells said old new
 
--- A request is handled. Before it, only what belongs to other connections happened. apart: it did
-pub record HandlesLater {H : Type 0} (apart : H → H → Type 0) (handles : H → Method → List ℕ → RequestOutcome → H → Type 0) (old : H) (method : Method) (file : List ℕ) (o : RequestOutcome) (new : H) : Type 0 where
-  pub mid : H
-  pub others : apart old mid
-  pub handled : handles mid method file o new
-
 -- The clock tells, or is told. Before it, other connections asked and told it, it may be.
 pub record TellsLater {K : Type 0} (tells : K → Said → K → Type 0) (old : K) (said : Said) (new : K) : Type 0 where
   pub mid : K

@@ -1,11 +1,12 @@
 -- How far a connection is that is served beside others.
-use Rattle.std.specs.Prelude.{◌≡◌, ℕ, ◌≤◌, Bool, true, false, List, [], ◌++◌, length, drop, Result, Ok, Err}
+use Rattle.std.specs.Prelude.{◌≡◌, ℕ, Bool, true, false, List, [], ◌++◌, drop, Option, Some, None, Result, Ok, Err}
 use Rattle.http_message.specs.Clocks.{Said}
 use Rattle.http_message.specs.Inboxes.{unread}
 use Rattle.http_message.specs.declared.reply.Method.{Method}
 use Rattle.http_message.specs.declared.site.Site.{Site}
-use Rattle.http_front.specs.Sharing.{HandlesLater, IsSo, Passes, TellsLater}
+use Rattle.http_front.specs.Sharing.{IsSo, Passes, TellsLater}
 use Rattle.http_front.specs.Texts.{text_of}
+use Rattle.http_front.specs.UnderWays.{IsUnderWay}
 use Rattle.http_front.specs.declared.fault.FrontKind.{FrontKind}
 use Rattle.http_front.specs.declared.handler.RequestOutcome.{RequestOutcome}
 use Rattle.http_front.specs.declared.http_conn.HttpConn.{HttpConn}
@@ -14,27 +15,37 @@ use Rattle.http_front.specs.declared.http_conn.Next.TheVariants as next
 use Rattle.http_front.specs.declared.http_conn.Turned.{Turned}
 use Rattle.http_front.specs.declared.steps.ServeStep.{ServeStep}
 use Rattle.http_front.specs.declared.steps.ServeStep.TheVariants as step
+use Rattle.http_front.specs.declared.under_way.StepSlice.{StepSlice}
+use Rattle.http_front.specs.declared.under_way.StepSlice.TheVariants as slice
+use Rattle.http_front.specs.declared.under_way.UnderWay.{UnderWay}
 
 -- what is answered and not written
-abbrev pub pending : HttpConn → List ℕ
+abbrev pub pending : {T : Type 0} → HttpConn T → List ℕ
 pending c = drop c.sent (text_of c.text)
 
 -- what a connection waits for: what is answered goes out first
-abbrev pub IsNext : HttpConn → Next → Type 0
+abbrev pub IsNext : {T : Type 0} → HttpConn T → Next → Type 0
 IsNext c next.Writes = ¬ (pending c ≡ [])
 IsNext c next.Over = (pending c ≡ []) × (c.over ≡ true)
-IsNext c next.Reads = (pending c ≡ []) × (c.over ≡ false) × (c.wants ≡ true)
-IsNext c next.Steps = (pending c ≡ []) × (c.over ≡ false) × (c.wants ≡ false)
+IsNext c next.Reads = (pending c ≡ []) × (c.over ≡ false) × (c.wants ≡ true) × (c.hand ≡ None)
+IsNext c next.Steps = (pending c ≡ []) × (c.over ≡ false) × (c.wants ≡ false) × (c.hand ≡ None)
+IsNext c next.Works = (pending c ≡ []) × (c.over ≡ false) × ¬ (c.hand ≡ None)
 
--- apart: only what belongs to other connections happened. start, first: the handler and the clock as the connection began. came: all bytes that were
--- taken in. went: all that were written.
-module _ {H K : Type 0} (site : Site) (handles : H → Method → List ℕ → RequestOutcome → H → Type 0) (tells : K → Said → K → Type 0) (apart : H → H → Type 0) (start : H) (first : K) (came went : List ℕ) where
-  -- What went and what is to go are the responses to what came, by the events of this connection, and no others. now, at: handler and clock
-  pub record Stands (c : HttpConn) (now : H) (at : K) : Type 0 where
+-- among: what a request comes to, beside others. rests: what is left of one does. apart: only what belongs to other connections happened. start, first: the
+-- handler and the clock as the connection began. came: all bytes that were taken in. went: all that were written.
+module _ {H K T : Type 0} (site : Site) (among : H → Method → List ℕ → RequestOutcome → H → Type 0) (rests : H → T → RequestOutcome → H → Type 0) (tells : K → Said → K → Type 0) (apart : H → H → Type 0) (start : H) (first : K) (came went : List ℕ) where
+  -- Since the last answer only others had their turns; or a request is under way. mid, now: the handler then, and now
+  abbrev pub IsInHand : Option (UnderWay T) → List ℕ → H → H → Type 0
+  IsInHand None seen mid now = apart mid now
+  IsInHand (Some u) seen mid now = IsUnderWay site among rests seen u mid now
+
+  -- What went and what is to go are the responses to what came, by the events of this connection, and no others; and those of the request that is
+  -- under way, if there is one. now, at: handler and clock
+  pub record Stands (c : HttpConn T) (now : H) (at : K) : Type 0 where
     pub mid : H
     pub then : K
-    pub so : IsSo site (HandlesLater apart handles) (TellsLater tells) start first came c.over (went ++ pending c) (unread c.inbox) mid then
-    pub others : apart mid now
+    pub so : IsSo site among (TellsLater tells) start first came c.over (went ++ pending c) (unread c.inbox) mid then
+    pub hand : IsInHand c.hand (unread c.inbox) mid now
     pub passed : Passes tells then at
 
   -- What went is a front of the responses to what came.
@@ -44,28 +55,27 @@ module _ {H K : Type 0} (site : Site) (handles : H → Method → List ℕ → R
     pub left : List ℕ
     pub mid : H
     pub then : K
-    pub so : IsSo site (HandlesLater apart handles) (TellsLater tells) start first came over (went ++ rest) left mid then
+    pub so : IsSo site among (TellsLater tells) start first came over (went ++ rest) left mid then
 
   -- how far it is behind a turn
-  abbrev pub GoesSo : Result Turned FrontKind → HttpConn → H → K → Type 0
+  abbrev pub GoesSo : Result Turned FrontKind → HttpConn T → H → K → Type 0
   GoesSo (Ok t) c now at = Stands c now at
   GoesSo (Err e) c now at = StandsCut
 
--- A step answers no more than the bytes at hand.
-abbrev pub Fits : List ℕ → ServeStep → Type 0
-Fits seen (step.Stays size) = size ≤ length seen
-Fits seen (step.Closes size) = size ≤ length seen
-Fits seen s = Unit {0}
-
 -- what is left behind a step, whether more bytes are wanted, and whether no more is answered
-pub record FollowsAs (left : List ℕ) (reads ends : Bool) (new : HttpConn) : Type 0 where
+pub record FollowsAs {T : Type 0} (left : List ℕ) (reads ends : Bool) (new : HttpConn T) : Type 0 where
   pub still : unread new.inbox ≡ left
   pub wants : new.wants ≡ reads
   pub over : new.over ≡ ends
 
-abbrev pub Follows : ServeStep → HttpConn → HttpConn → Type 0
+abbrev pub Follows : {T : Type 0} → ServeStep → HttpConn T → HttpConn T → Type 0
 Follows (step.Stays size) old new = FollowsAs (drop size (unread old.inbox)) old.wants false new
 Follows (step.Closes size) old new = FollowsAs (drop size (unread old.inbox)) old.wants true new
 Follows step.Refused old new = FollowsAs (unread old.inbox) old.wants true new
 Follows step.More old new = FollowsAs (unread old.inbox) true false new
 Follows step.Done old new = FollowsAs (unread old.inbox) old.wants true new
+
+-- what follows a slice: a step is made, and nothing is in hand; or a request is
+abbrev pub Lands : {T : Type 0} → StepSlice T → HttpConn T → HttpConn T → Type 0
+Lands (slice.Did s) old new = Follows s old new × (new.hand ≡ None)
+Lands (slice.Works u) old new = FollowsAs (unread old.inbox) old.wants false new × (new.hand ≡ Some u)

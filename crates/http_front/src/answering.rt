@@ -20,7 +20,7 @@ use http_message::{
 use httparse::spans::{HeaderSpan, RequestSpans};
 use std::alloc::Global;
 
-fn bare(alloc: Global, status: StatusCode) -> RequestOutcome
+pub(crate) fn bare(alloc: Global, status: StatusCode) -> RequestOutcome
     ensures { IsBare status result }
 {
     RequestOutcome {
@@ -30,7 +30,7 @@ fn bare(alloc: Global, status: StatusCode) -> RequestOutcome
     }
 }
 
-fn closes_with(closes: bool, status: StatusCode) -> bool
+pub(crate) fn closes_with(closes: bool, status: StatusCode) -> bool
     ensures { result ≡ (closes || status_closes status) }
 {
     closes || status_closes(status)

@@ -15,9 +15,9 @@ use http_message::Method;
 use std::alloc::{AllocError, Global};
 
 /// The most bytes of a file in one brigade.
-const PIECE_BYTES: u64 = 65536;
+pub(crate) const PIECE_BYTES: u64 = 65536;
 
-fn whole_brigade(alloc: Global, file: u64, start: u64) -> Result<Seq<Piece>, AllocError>
+pub(crate) fn whole_brigade(alloc: Global, file: u64, start: u64) -> Result<Seq<Piece>, AllocError>
     ensures { IfOk result (λ pieces. pieces ≡ File file start piece_bytes ∷ []) }
 {
     let mut pieces = Seq::new(alloc);
@@ -29,7 +29,12 @@ fn whole_brigade(alloc: Global, file: u64, start: u64) -> Result<Seq<Piece>, All
     Ok(pieces)
 }
 
-fn last_brigade(alloc: Global, file: u64, start: u64, len: u64) -> Result<Seq<Piece>, AllocError>
+pub(crate) fn last_brigade(
+    alloc: Global,
+    file: u64,
+    start: u64,
+    len: u64,
+) -> Result<Seq<Piece>, AllocError>
     ensures { IfOk result (λ pieces. pieces ≡ last_brigade file start len) }
 {
     let mut pieces = Seq::new(alloc);
@@ -79,7 +84,7 @@ fn bring_last<F: Files + Drop>(
     }
 }
 
-fn succeeded(how: CallEnd) -> bool
+pub(crate) fn succeeded(how: CallEnd) -> bool
     ensures { IsTrue result ↔ how ≡ CallEnd.Succeeded }
 {
     matches!(how, CallEnd::Succeeded)

@@ -1,16 +1,18 @@
 //! A connection as a machine: what was read and not answered, and what is answered and not written. It never waits.
 
-ghost use Rattle.std.specs.Prelude.{◌≡◌, ◌≢◌, ◌≤◌, ◌<◌, ◌^◌, ◌++◌, ◌⊎◌, ℕ, List, [], true, false, length, take, drop, Ok, Err, IfOk, IfErr, IfSome, OnOk, OnErr};
+ghost use Rattle.std.specs.Prelude.{◌≡◌, ◌≢◌, ◌≤◌, ◌<◌, ◌^◌, ◌++◌, ◌⊎◌, ℕ, List, [], true, false, None, Some, Option, length, take, drop, Ok, Err, IfOk, IfErr, IfSome, OnOk, OnErr};
 ghost use Rattle.std.specs.Io.KnownBytes.{Appends, Consumes, IsAtEnd};
 ghost use Rattle.http_message.specs.Inboxes.{unread};
-ghost use Rattle.http_front.specs.Stepping.{DoesStep};
+ghost use Rattle.http_front.specs.UnderWays.{StepsFrom};
 ghost use Rattle.http_front.specs.Texts.{text_of};
 ghost use Rattle.http_front.specs.Sharing.{Passes};
 
 use crate::fault::FrontKind;
 use crate::handler::Handler;
 use crate::response::ResponseText;
-use crate::steps::{ServeStep, take_step};
+use crate::step_slices::step_on;
+use crate::steps::ServeStep;
+use crate::under_way::{StepSlice, UnderWay};
 use byte_streams::{READS, ReadAnswer, Sink, SinkFault, Source, WriteAnswer};
 use http_message::{Clock, Inbox, Site};
 use std::alloc::Global;
@@ -41,12 +43,14 @@ pub enum Next {
     Reads,
     /// A step.
     Steps,
+    /// A slice more of the request that is under way.
+    Works,
 }
 
 /// A connection: what was read and not answered, and what is answered and not written. What is answered goes out before more is read, so that it
-/// holds the bytes of one read, those of a head that is not whole, and one response.
+/// holds the bytes of one read, those of a head that is not whole, and one response. `T` is a request that is under way (`Handler::Task`).
 #[derive(Drop)]
-pub struct HttpConn {
+pub struct HttpConn<T> {
     inbox: Inbox,
     text: ResponseText,
     size: usize,
@@ -54,20 +58,35 @@ pub struct HttpConn {
     whole: bool,
     wants: bool,
     over: bool,
+    hand: Option<UnderWay<T>>,
     reads: u32,
     requests: u64,
     ghost sized: { size ≡ length (text_of text) },
     ghost sends: { sent ≤ size },
 }
 
-impl HttpConn {
-    ghost use Rattle.http_front.specs.Talking.{Fits, Follows, GoesSo, IsNext, Stands, pending};
+/// Skips so many bytes, or all where there are fewer.
+#[tactic(auto, using(crate::proofs::RestLaws::skip_over))]
+fn skip_up_to(inbox: &mut Inbox, size: usize)
+    ensures { unread inbox.new ≡ drop size (unread inbox.old) }
+{
+    let all = inbox.unread().len();
+    if size < all {
+        inbox.skip(size);
+        return;
+    }
+    inbox.skip(all);
+}
+
+impl<T: Drop> HttpConn<T> {
+    ghost use Rattle.http_front.specs.Talking.{Follows, GoesSo, IsNext, Lands, Stands, pending};
 
     /// Nothing came yet. It takes no memory.
-    pub fn new(alloc: Global) -> HttpConn
+    pub fn new(alloc: Global) -> HttpConn<T>
         ensures unread { unread result.inbox ≡ [] }
         ensures pending { pending result ≡ [] }
         ensures over { result.over ≡ false }
+        ensures hand { result.hand ≡ None }
     {
         HttpConn {
             inbox: Inbox::new(alloc),
@@ -77,6 +96,7 @@ impl HttpConn {
             whole: false,
             wants: true,
             over: false,
+            hand: None,
             reads: READS,
             requests: 0,
         }
@@ -97,6 +117,9 @@ impl HttpConn {
         if self.over {
             return Next::Over;
         }
+        if self.hand.is_some() {
+            return Next::Works;
+        }
         if self.wants {
             return Next::Reads;
         }
@@ -109,6 +132,7 @@ impl HttpConn {
         ensures took { (bytes : List ℕ) × Consumes (R.remaining reader.old) (R.remaining reader.new) bytes × OnOk result (unread self.new.inbox ≡ unread self.old.inbox ++ bytes) }
         ensures text { pending self.new ≡ pending self.old }
         ensures over { self.new.over ≡ self.old.over }
+        ensures hand { self.new.hand ≡ self.old.hand }
         ensures whole { self.new.whole ≡ true → (self.old.whole ≡ true) ⊎ IsAtEnd (R.remaining reader.new) }
     {
         if self.reads == 0 {
@@ -139,6 +163,7 @@ impl HttpConn {
         ensures pending { pending self.new ≡ [] }
         ensures inbox { self.new.inbox ≡ self.old.inbox }
         ensures over { self.new.over ≡ self.old.over }
+        ensures hand { self.new.hand ≡ self.old.hand }
         ensures whole { self.new.whole ≡ self.old.whole }
         ensures wants { self.new.wants ≡ self.old.wants }
         ensures still { handler.new ≡ handler.old }
@@ -160,6 +185,7 @@ impl HttpConn {
         ensures wrote { (n : ℕ) × Appends (W.contents sink.old) (W.contents sink.new) (take n (pending self.old)) × (pending self.new ≡ drop n (pending self.old)) }
         ensures inbox { self.new.inbox ≡ self.old.inbox }
         ensures over { self.new.over ≡ self.old.over }
+        ensures hand { self.new.hand ≡ self.old.hand }
         ensures whole { self.new.whole ≡ self.old.whole }
         ensures still { handler.new ≡ handler.old }
     {
@@ -180,22 +206,22 @@ impl HttpConn {
 
     /// What follows a step: its text is there.
     fn follow(&mut self, step: ServeStep)
-        requires fits { Fits (unread self.old.inbox) step }
         requires going { self.old.over ≡ false }
         ensures follows { Follows step self.old self.new }
         ensures text { self.new.text ≡ self.old.text }
         ensures sent { self.new.sent ≡ self.old.sent }
+        ensures hand { self.new.hand ≡ self.old.hand }
         ensures whole { self.new.whole ≡ self.old.whole }
     {
         match step {
             ServeStep::More => self.wants = true,
             ServeStep::Done => self.over = true,
             ServeStep::Stays(size) => {
-                self.inbox.skip(size);
+                skip_up_to(&mut self.inbox, size);
                 self.requests = self.requests.saturating_add(1);
             }
             ServeStep::Closes(size) => {
-                self.inbox.skip(size);
+                skip_up_to(&mut self.inbox, size);
                 self.requests = self.requests.saturating_add(1);
                 self.over = true;
             }
@@ -206,8 +232,8 @@ impl HttpConn {
         }
     }
 
-    /// A step on what is at hand.
-    fn step<H: Handler, K: Clock>(
+    /// A slice of a step: of the request that is in hand, or on the bytes at hand.
+    fn step<H: Handler<Task = T>, K: Clock>(
         &mut self,
         alloc: Global,
         site: &Site,
@@ -216,49 +242,47 @@ impl HttpConn {
         clock: &mut K,
     ) -> Result<Turned, FrontKind>
         requires open { H.is_open handler.old number }
-        requires sent { pending self.old ≡ [] }
         requires going { self.old.over ≡ false }
         ensures open { H.is_open handler.new number }
         ensures beside { (from : H) → H.beside from number handler.old → H.beside from number handler.new }
         ensures clock { (from : K) → Passes K.tells from clock.old → Passes K.tells from clock.new }
-        ensures did { OnOk result ((s : ServeStep) × DoesStep site.now (λ old. H.handles old number) K.tells handler.old clock.old (unread self.old.inbox) self.old.whole s (pending self.new) handler.new clock.new
-            × Follows s self.old self.new) }
+        ensures did { OnOk result ((x : StepSlice T) × StepsFrom site.now (λ old. H.among old number) (λ old. H.rests old number) K.tells self.old.hand handler.old clock.old (unread self.old.inbox) self.old.whole x (pending self.new) handler.new clock.new
+            × Lands x self.old self.new) }
         ensures whole { self.new.whole ≡ self.old.whole }
     {
         self.sent = 0;
         self.size = 0;
+        let hand = self.hand.take();
         let seen = self.inbox.unread();
-        match take_step(
+        let slice = step_on(
             alloc,
             seen,
             self.whole,
+            hand,
             site,
             handler,
             number,
             clock,
             &mut self.text,
-        ) {
-            Ok(step) => match self.text.size() {
-                Some(size) => {
-                    self.size = size;
-                    self.follow(step);
-                    Ok(Turned::Moved)
-                }
-                None => {
-                    self.text.clear(alloc);
-                    Err(FrontKind::NoMemory)
-                }
-            },
-            Err(why) => {
+        );
+        self.size = match self.text.size() {
+            Some(size) => size,
+            None => {
                 self.text.clear(alloc);
-                Err(why)
+                return Err(FrontKind::NoMemory);
             }
+        };
+        match slice {
+            Ok(StepSlice::Did(step)) => self.follow(step),
+            Ok(StepSlice::Works(under_way)) => self.hand = Some(under_way),
+            Err(why) => return Err(why),
         }
+        Ok(Turned::Moved)
     }
 
-    /// One turn: a write, a read, or a step, whichever it waits for. It waits for nothing, where source and sink do not. `number` is that of the
+    /// One turn: a write, a read, or a slice of a step, whichever it waits for. It waits for nothing, where source and sink do not. `number` is that of the
     /// connection with which the handler serves it; that connection is open.
-    pub fn turn<R: Source, W: Sink, H: Handler, K: Clock>(
+    pub fn turn<R: Source, W: Sink, H: Handler<Task = T>, K: Clock>(
         &mut self,
         alloc: Global,
         reader: &mut R,
@@ -273,17 +297,18 @@ impl HttpConn {
         requires room { 0 < length buffer.old }
         ensures open { H.is_open handler.new number }
         ensures own { (bytes text : List ℕ) × Consumes (R.remaining reader.old) (R.remaining reader.new) bytes × Appends (W.contents sink.old) (W.contents sink.new) text
-            × ((start : H) (first : K) (came went : List ℕ) → Stands site.now (λ old. H.handles old number) K.tells (λ old new. H.apart old number new) start first came went self.old handler.old clock.old
-            → GoesSo site.now (λ old. H.handles old number) K.tells (λ old new. H.apart old number new) start first (came ++ bytes) (went ++ text) result self.new handler.new clock.new) }
-        ensures others { (k : ℕ) → k ≢ number → (start : H) (first : K) (came went : List ℕ) (other : HttpConn)
-            → Stands site.now (λ old. H.handles old k) K.tells (λ old new. H.apart old k new) start first came went other handler.old clock.old
-            → Stands site.now (λ old. H.handles old k) K.tells (λ old new. H.apart old k new) start first came went other handler.new clock.new }
+            × ((start : H) (first : K) (came went : List ℕ) → Stands site.now (λ old. H.among old number) (λ old. H.rests old number) K.tells (λ old new. H.apart old number new) start first came went self.old handler.old clock.old
+            → GoesSo site.now (λ old. H.among old number) (λ old. H.rests old number) K.tells (λ old new. H.apart old number new) start first (came ++ bytes) (went ++ text) result self.new handler.new clock.new) }
+        ensures others { (k : ℕ) → k ≢ number → (start : H) (first : K) (came went : List ℕ) (other : HttpConn T)
+            → Stands site.now (λ old. H.among old k) (λ old. H.rests old k) K.tells (λ old new. H.apart old k new) start first came went other handler.old clock.old
+            → Stands site.now (λ old. H.among old k) (λ old. H.rests old k) K.tells (λ old new. H.apart old k new) start first came went other handler.new clock.new }
         ensures whole { self.new.whole ≡ true → (self.old.whole ≡ true) ⊎ IsAtEnd (R.remaining reader.new) }
     {
         match self.next() {
             Next::Writes => self.put_out(alloc, sink, handler),
             Next::Over => Ok(Turned::Over),
             Next::Reads => self.take_in(reader, buffer),
+            Next::Works => self.step(alloc, site, handler, number, clock),
             Next::Steps => self.step(alloc, site, handler, number, clock),
         }
     }

@@ -12,12 +12,17 @@ mod requests;
 mod response;
 mod running;
 mod serving;
+mod slicing;
+mod step_slices;
 mod steps;
+mod task;
 mod texts;
+mod under_way;
+mod wanted;
 
 pub use connection::{close_turns, open_turns, serve};
 pub use fault::{FrontFault, FrontKind, Served};
-pub use handler::{Handler, RequestOutcome};
+pub use handler::{Handler, RequestOutcome, Slice};
 pub use http_conn::{HttpConn, Next, Turned};
 pub use http_message::{
     Clock, Exchange, Failure, HeadLook, Method, Reply, Site, SiteFault, StatusCode, Version,
@@ -26,4 +31,7 @@ pub use http_message::{
 pub use laws::worked_rows;
 pub use response::ResponseText;
 pub use running::CallEnd;
+pub use slicing::SLICE_STEPS;
 pub use steps::{ServeStep, take_step};
+pub use task::{FileRest, RequestTask};
+pub use under_way::{Asked, StepSlice, UnderWay};

@@ -9,14 +9,16 @@ ghost use Rattle.http_front.specs.Requests.{ComesOf, EndsBare, EndsWithOutput, F
 
 use crate::fault::FrontKind;
 use crate::feeding::feed;
-use crate::handler::{Handler, RequestOutcome};
+use crate::handler::{Handler, RequestOutcome, Slice};
 use crate::running::{CallEnd, end_request, run_call, unless_lack};
+use crate::slicing::{begin_request, go_on_request};
+use crate::task::RequestTask;
 use filter_chain::{Files, Host, Refusal, Seq};
 use http_message::{Failure, Method, StatusCode};
 use std::alloc::Global;
 
 /// 500 for a failure; 404 where there is none.
-fn bare(alloc: Global, failure: Option<Failure>) -> RequestOutcome
+pub(crate) fn bare(alloc: Global, failure: Option<Failure>) -> RequestOutcome
     ensures { IsUnserved failure result }
 {
     let status = match failure {
@@ -31,7 +33,7 @@ fn bare(alloc: Global, failure: Option<Failure>) -> RequestOutcome
 }
 
 /// The failure where a file is not opened: none where it is not there.
-fn unopened(refusal: Refusal) -> Option<Failure>
+pub(crate) fn unopened(refusal: Refusal) -> Option<Failure>
     ensures { result ≡ unopened refusal }
 {
     match refusal {
@@ -74,7 +76,7 @@ fn finish_with_output<F: Files + Drop>(
 }
 
 /// Ends the request without content.
-fn finish_bare<F: Files + Drop>(
+pub(crate) fn finish_bare<F: Files + Drop>(
     alloc: Global,
     host: &mut Host<F>,
     number: u64,
@@ -91,7 +93,7 @@ fn finish_bare<F: Files + Drop>(
 }
 
 /// Finishes a request whose last call ended so.
-fn finish<F: Files + Drop>(
+pub(crate) fn finish<F: Files + Drop>(
     alloc: Global,
     host: &mut Host<F>,
     number: u64,
@@ -217,8 +219,12 @@ fn request<F: Files + Drop>(
 }
 
 impl<F: Files + Drop> Handler for Host<F> {
+    ghost use Rattle.http_front.specs.Among.{HandlesAmong, RestsAmong};
     ghost use Rattle.http_front.specs.Driven.{LacksFor, NoEventsOf, OnlyEventsOf, IsAlive, Handles};
     ghost use Rattle.http_front.specs.Apart.{apart_beside, apart_same, own_same};
+    ghost use Rattle.http_front.specs.Before.{among_later, rests_later};
+
+    type Task = RequestTask;
 
     ghost is_open = { λ host number. IsAlive F.device host };
 
@@ -236,6 +242,14 @@ impl<F: Files + Drop> Handler for Host<F> {
 
     ghost handles = { λ old number method file o new. Handles F.device old number method file o new };
 
+    ghost among = { λ old number method file o new. HandlesAmong F.device old number method file o new };
+
+    ghost rests = { λ old number task o new. RestsAmong F.device old number task o new };
+
+    ghost among_later = { λ old now new number method file o. among_later F.device number old now new method file o };
+
+    ghost rests_later = { λ old now new number task o. rests_later F.device number old now new task o };
+
     fn handle(
         &mut self,
         alloc: Global,
@@ -244,6 +258,25 @@ impl<F: Files + Drop> Handler for Host<F> {
         file: &[u8],
     ) -> Result<RequestOutcome, FrontKind> {
         request(alloc, self, number, method, file)
+    }
+
+    fn begin(
+        &mut self,
+        alloc: Global,
+        number: u64,
+        method: Method,
+        file: &[u8],
+    ) -> Result<Slice<RequestTask>, FrontKind> {
+        begin_request(alloc, self, number, method, file)
+    }
+
+    fn go_on(
+        &mut self,
+        alloc: Global,
+        number: u64,
+        task: RequestTask,
+    ) -> Result<Slice<RequestTask>, FrontKind> {
+        go_on_request(alloc, self, number, task)
     }
 
     fn give_back(&mut self, body: Seq<u8>) {

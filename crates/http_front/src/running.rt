@@ -36,7 +36,7 @@ pub(crate) fn unless_lack(refusal: Refusal) -> Result<(), FrontKind>
     }
 }
 
-fn how_ended(answer: Result<Stepped, Refusal>) -> CallEnd
+pub(crate) fn how_ended(answer: Result<Stepped, Refusal>) -> CallEnd
     ensures { result ≡ ended_of answer }
 {
     match answer {

@@ -20,9 +20,9 @@ use httparse::spans::{EMPTY_HEADER_SPAN, HeaderSpan, RequestSpans};
 use std::alloc::Global;
 
 // The bytes of a head, and its fields, at most.
-const HEAD_LIMIT: usize = 8192;
+pub(crate) const HEAD_LIMIT: usize = 8192;
 
-const FIELDS_LIMIT: usize = 64;
+pub(crate) const FIELDS_LIMIT: usize = 64;
 
 /// What a step does.
 #[derive(Clone, Copy, Debug, PartialEq, Eq)]
@@ -112,13 +112,13 @@ fn step_within<H: Handler, K: Clock>(
     }
 }
 
-fn ends_within(whole: bool, size: usize, limit: usize) -> bool
+pub(crate) fn ends_within(whole: bool, size: usize, limit: usize) -> bool
     ensures { result ≡ (whole && nat_le size limit) }
 {
     whole && size <= limit
 }
 
-fn front(bytes: &[u8], limit: usize) -> &[u8]
+pub(crate) fn front(bytes: &[u8], limit: usize) -> &[u8]
     ensures is { result.now ≡ take limit bytes.now }
     ensures size { length result.now ≤ limit }
 {

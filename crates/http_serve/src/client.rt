@@ -9,7 +9,7 @@ use crate::socket::Socket;
 use crate::system_clock::SystemClock;
 use byte_streams::{StdSink, StdSource};
 use filter_chain::{Files, Host};
-use http_front::{FrontFault, FrontKind, HttpConn, Next, Served, Site, Turned};
+use http_front::{FrontFault, FrontKind, HttpConn, Next, RequestTask, Served, Site, Turned};
 use mio::net::TcpStream;
 use std::io::{ErrorKind, Read};
 use std::net::{Shutdown, SocketAddr};
@@ -53,7 +53,7 @@ pub struct Shared<'a, R: Clock + Eprint + AllocGlobal> {
 #[derive(Drop)]
 pub struct Client {
     pub stream: TcpStream,
-    conn: HttpConn,
+    conn: HttpConn<RequestTask>,
     /// What the system reported of the socket, until a call said otherwise.
     pub readable: bool,
     pub writable: bool,
@@ -165,16 +165,21 @@ impl Client {
         }
     }
 
+    /// Whether a request of it is under way. Its time is the host's, so no deadline of the client counts.
+    pub fn works(&self) -> bool {
+        self.conn.next() == Next::Works
+    }
+
     /// Whether the socket is not ready for what the connection waits for.
     fn must_wait(&self) -> bool {
         match self.conn.next() {
             Next::Reads => !self.readable,
             Next::Writes => !self.writable,
-            Next::Steps | Next::Over => false,
+            Next::Steps | Next::Works | Next::Over => false,
         }
     }
 
-    /// One move: a read, a step, or a write.
+    /// One move: a read, a slice of a step, or a write.
     fn move_once<R: Clock + Eprint + AllocGlobal, F: Files + Drop>(
         &mut self,
         shared: &mut Shared<'_, R>,
@@ -229,7 +234,7 @@ impl Client {
         }
     }
 
-    /// As many moves as one turn has.
+    /// As many moves as one turn has. Behind a slice of a request that is then under way there is none.
     pub fn turn<R: Clock + Eprint + AllocGlobal, F: Files + Drop>(
         &mut self,
         shared: &mut Shared<'_, R>,
@@ -250,6 +255,9 @@ impl Client {
                                 requests: self.conn.requests(),
                             }),
                         );
+                    }
+                    if self.works() {
+                        return Turn::Again;
                     }
                 }
                 other => return other,

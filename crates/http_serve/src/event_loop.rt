@@ -100,7 +100,7 @@ impl Hall {
     fn find_late<R: Clock + Eprint + AllocGlobal>(&mut self, shared: &Shared<'_, R>, now: Instant) {
         self.late.clear();
         for (key, client) in self.clients.iter() {
-            if client.due <= now || client.gone {
+            if client.gone || (client.due <= now && !client.works()) {
                 client.tell_late(shared);
                 let _ = self.late.push(key);
             }

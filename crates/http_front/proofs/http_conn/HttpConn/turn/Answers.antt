@@ -12,7 +12,7 @@ returns-in-Writes-clause-own g c =
       take w.0 (pending c.args.self.now),
       Consumes-nil (g.R.Source.remaining c.args.reader.now),
       w.1,
-      own_wrote c.args.site.now (λ old. g.H.Handler.handles old c.args.number) g.K.Clock.tells (λ old new. g.H.Handler.apart old c.args.number new) (λ h. g.met.H.Handler.apart_self h c.args.number) c.put_out.result c.args.self.now c.put_out.new.self c.args.handler.now c.put_out.new.handler c.args.clock.now w.0 c.put_out.ensures.still w.2 c.put_out.ensures.inbox c.put_out.ensures.over,
+      own_wrote c.args.site.now (λ old. g.H.Handler.among old c.args.number) (λ old. g.H.Handler.rests old c.args.number) g.K.Clock.tells (λ old new. g.H.Handler.apart old c.args.number new) (λ h. g.met.H.Handler.apart_self h c.args.number) (λ mid now new method file o. g.met.H.Handler.among_later mid now new c.args.number method file o) c.put_out.result c.args.self.now c.put_out.new.self c.args.handler.now c.put_out.new.handler c.args.clock.now w.0 c.put_out.ensures.still w.2 c.put_out.ensures.inbox c.put_out.ensures.over c.put_out.ensures.hand,
     )
 
 pub returns-in-Over-clause-own : goal.returns-in-Over-clause-own
@@ -21,7 +21,7 @@ returns-in-Over-clause-own g c = (
   [],
   Consumes-nil (g.R.Source.remaining c.args.reader.now),
   Appends-nil (g.W.Sink.contents c.args.sink.now),
-  own_over c.args.site.now (λ old. g.H.Handler.handles old c.args.number) g.K.Clock.tells (λ old new. g.H.Handler.apart old c.args.number new) (λ h. g.met.H.Handler.apart_self h c.args.number) (Ok turned.Over) c.args.self.now c.args.handler.now c.args.clock.now,
+  own_over c.args.site.now (λ old. g.H.Handler.among old c.args.number) (λ old. g.H.Handler.rests old c.args.number) g.K.Clock.tells (λ old new. g.H.Handler.apart old c.args.number new) (λ h. g.met.H.Handler.apart_self h c.args.number) (λ mid now new method file o. g.met.H.Handler.among_later mid now new c.args.number method file o) (Ok turned.Over) c.args.self.now c.args.handler.now c.args.clock.now,
 )
 
 pub returns-in-Reads-clause-own : goal.returns-in-Reads-clause-own
@@ -31,8 +31,24 @@ returns-in-Reads-clause-own g c =
       [],
       t.1,
       Appends-nil (g.W.Sink.contents c.args.sink.now),
-      own_read c.args.site.now (λ old. g.H.Handler.handles old c.args.number) g.K.Clock.tells (λ old new. g.H.Handler.apart old c.args.number new) (λ h. g.met.H.Handler.apart_self h c.args.number) c.take_in.result c.args.self.now c.take_in.new.self c.args.handler.now c.args.clock.now t.0 t.2 c.take_in.ensures.text c.take_in.ensures.over c.in-Reads.ensures.1,
+      own_read c.args.site.now (λ old. g.H.Handler.among old c.args.number) (λ old. g.H.Handler.rests old c.args.number) g.K.Clock.tells (λ old new. g.H.Handler.apart old c.args.number new) (λ h. g.met.H.Handler.apart_self h c.args.number) (λ mid now new method file o. g.met.H.Handler.among_later mid now new c.args.number method file o) c.take_in.result c.args.self.now c.take_in.new.self c.args.handler.now c.args.clock.now t.0 t.2 c.take_in.ensures.text c.take_in.ensures.over c.in-Reads.ensures.1 c.take_in.ensures.hand c.in-Reads.ensures.3,
     )
+
+pub returns-in-Works-clause-own : goal.returns-in-Works-clause-own
+returns-in-Works-clause-own g c = (
+  [],
+  [],
+  Consumes-nil (g.R.Source.remaining c.args.reader.now),
+  Appends-nil (g.W.Sink.contents c.args.sink.now),
+  own_step c.args.site.now (λ old. g.H.Handler.among old c.args.number) (λ old. g.H.Handler.rests old c.args.number) g.K.Clock.tells (λ old new. g.H.Handler.apart old c.args.number new) (λ h. g.met.H.Handler.apart_self h c.args.number) (λ mid now new method file o. g.met.H.Handler.among_later mid now new c.args.number method file o) c.step.result c.args.self.now c.step.new.self c.args.handler.now c.step.new.handler c.args.clock.now c.step.new.clock c.in-Works.ensures.0 c.in-Works.ensures.1 c.step.ensures.did,
+)
+
+pub returns-in-Works-clause-others : goal.returns-in-Works-clause-others
+returns-in-Works-clause-others g c k apart start first came went other s =
+    let own = c.step.ensures.beside c.args.handler.now (g.met.H.Handler.beside_self c.args.handler.now c.args.number) in
+    let gap = g.met.H.Handler.apart_on c.args.handler.now c.args.handler.now c.step.new.handler c.args.number k apart (g.met.H.Handler.apart_self c.args.handler.now k) own in
+    stands_later c.args.site.now (λ old. g.H.Handler.among old k) (λ old. g.H.Handler.rests old k) g.K.Clock.tells (λ old new. g.H.Handler.apart old k new) start first came went other c.args.handler.now c.step.new.handler c.args.clock.now c.step.new.clock
+    (λ from before. g.met.H.Handler.apart_on from c.args.handler.now c.step.new.handler c.args.number k apart before own) (λ task o z rest. g.met.H.Handler.rests_later c.args.handler.now c.step.new.handler z k task o gap rest) c.step.ensures.clock s
 
 pub returns-in-Steps-clause-own : goal.returns-in-Steps-clause-own
 returns-in-Steps-clause-own g c = (
@@ -40,11 +56,12 @@ returns-in-Steps-clause-own g c = (
   [],
   Consumes-nil (g.R.Source.remaining c.args.reader.now),
   Appends-nil (g.W.Sink.contents c.args.sink.now),
-  own_step c.args.site.now (λ old. g.H.Handler.handles old c.args.number) g.K.Clock.tells (λ old new. g.H.Handler.apart old c.args.number new) (λ h. g.met.H.Handler.apart_self h c.args.number) c.step.result c.args.self.now c.step.new.self c.args.handler.now c.step.new.handler c.args.clock.now c.step.new.clock c.in-Steps.ensures.0 c.in-Steps.ensures.1 c.step.ensures.did,
+  own_step c.args.site.now (λ old. g.H.Handler.among old c.args.number) (λ old. g.H.Handler.rests old c.args.number) g.K.Clock.tells (λ old new. g.H.Handler.apart old c.args.number new) (λ h. g.met.H.Handler.apart_self h c.args.number) (λ mid now new method file o. g.met.H.Handler.among_later mid now new c.args.number method file o) c.step-in-Steps.result c.args.self.now c.step-in-Steps.new.self c.args.handler.now c.step-in-Steps.new.handler c.args.clock.now c.step-in-Steps.new.clock c.in-Steps.ensures.0 c.in-Steps.ensures.1 c.step-in-Steps.ensures.did,
 )
 
 pub returns-in-Steps-clause-others : goal.returns-in-Steps-clause-others
 returns-in-Steps-clause-others g c k apart start first came went other s =
-    let own = c.step.ensures.beside c.args.handler.now (g.met.H.Handler.beside_self c.args.handler.now c.args.number) in
-    stands_later c.args.site.now (λ old. g.H.Handler.handles old k) g.K.Clock.tells (λ old new. g.H.Handler.apart old k new) start first came went other c.args.handler.now c.step.new.handler c.args.clock.now c.step.new.clock
-    (λ from gap. g.met.H.Handler.apart_on from c.args.handler.now c.step.new.handler c.args.number k apart gap own) c.step.ensures.clock s
+    let own = c.step-in-Steps.ensures.beside c.args.handler.now (g.met.H.Handler.beside_self c.args.handler.now c.args.number) in
+    let gap = g.met.H.Handler.apart_on c.args.handler.now c.args.handler.now c.step-in-Steps.new.handler c.args.number k apart (g.met.H.Handler.apart_self c.args.handler.now k) own in
+    stands_later c.args.site.now (λ old. g.H.Handler.among old k) (λ old. g.H.Handler.rests old k) g.K.Clock.tells (λ old new. g.H.Handler.apart old k new) start first came went other c.args.handler.now c.step-in-Steps.new.handler c.args.clock.now c.step-in-Steps.new.clock
+    (λ from before. g.met.H.Handler.apart_on from c.args.handler.now c.step-in-Steps.new.handler c.args.number k apart before own) (λ task o z rest. g.met.H.Handler.rests_later c.args.handler.now c.step-in-Steps.new.handler z k task o gap rest) c.step-in-Steps.ensures.clock s

@@ -1,0 +1,5 @@
+use Rattle.http_front.proofs.SliceLaws.{gone_on_host}
+use Rattle.http_front.proofs.requests.HostHandler.go_on.Goals as goal
+
+pub returns-clause-ok : goal.returns-clause-ok
+returns-clause-ok g c = gone_on_host g.F.Files.device c.args.number c.go_on_request.result c.args.self.now c.go_on_request.new.host c.args.task c.go_on_request.ensures.leads

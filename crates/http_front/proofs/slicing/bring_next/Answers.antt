@@ -1,0 +1,23 @@
+use Rattle.std.proofs.Common.{Some}
+use Rattle.http_front.specs.Among.{brigades_left}
+use Rattle.http_front.proofs.Beside.{beside_event}
+use Rattle.http_front.proofs.SliceLaws.{brought, not_brought}
+use Rattle.http_front.proofs.slicing.bring_next.Goals as goal
+
+pub returns-in-Ok-clause-leads : goal.returns-in-Ok-clause-leads
+returns-in-Ok-clause-leads g c =
+    brought g.F.Files.device c.args.number c.args.host.now c.bring.new.self c.in_ok-pieces.pieces (brigades_left (Some c.args.rest)) c.in_ok-pieces.left c.in_ok-pieces.ensures c.in-Ok.ensures.event
+
+pub returns-in_ok-unless_lack-in-Err-clause-leads : goal.returns-in_ok-unless_lack-in-Err-clause-leads
+returns-in_ok-unless_lack-in-Err-clause-leads g c =
+    not_brought g.F.Files.device c.args.number c.args.host.now c.bring.new.self c.finish_slice.new.host c.finish_slice.result c.in_ok-pieces.pieces (brigades_left (Some c.args.rest)) (brigades_left c.in_ok-pieces.left) c.in-Err.refusal
+    c.in_ok-pieces.ensures c.in_ok-unless_lack-in-Err.ensures.ok c.in-Err.ensures.event c.finish_slice.ensures.leads
+
+pub returns-in-Ok-clause-beside : goal.returns-in-Ok-clause-beside
+returns-in-Ok-clause-beside g c from so = beside_event g.F.Files.device c.args.number from c.args.host.now c.bring.new.self so _ _ tt c.in-Ok.ensures.event
+
+pub returns-in_err-unless_lack-in-Err-clause-beside : goal.returns-in_err-unless_lack-in-Err-clause-beside
+returns-in_err-unless_lack-in-Err-clause-beside g c from so = beside_event g.F.Files.device c.args.number from c.args.host.now c.bring.new.self so _ _ tt c.in-Err.ensures.event
+
+pub returns-in_ok-unless_lack-in-Err-clause-beside : goal.returns-in_ok-unless_lack-in-Err-clause-beside
+returns-in_ok-unless_lack-in-Err-clause-beside g c from so = c.finish_slice.ensures.beside from (beside_event g.F.Files.device c.args.number from c.args.host.now c.bring.new.self so _ _ tt c.in-Err.ensures.event)

@@ -1,0 +1,109 @@
+-- A request on the host of chains beside which others are served: what belongs to other connections may stand between its events.
+use Rattle.std.specs.Prelude.{◌≡◌, ℕ, zero, suc, ◌≤◌, List, [], ◌∷◌, Option, Some, None, Result, Ok}
+use Rattle.module_code.specs.Program.{Program}
+use Rattle.run_model.specs.declared.event.Event.{Event}
+use Rattle.run_model.specs.declared.event.Event.TheVariants as event
+use Rattle.run_model.specs.declared.event.Piece.{Piece}
+use Rattle.run_model.specs.declared.event.Refusal.{Refusal}
+use Rattle.run_model.specs.declared.event.Stepped.{Stepped}
+use Rattle.run_model.specs.declared.event.Stepped.TheVariants as stepped
+use Rattle.run_model.specs.Worlds.{Answer, Step}
+use Rattle.bucket_kinds.specs.Device.{Device}
+use Rattle.filter_chain.specs.declared.host.Host.{Host}
+use Rattle.filter_chain.specs.Hosting.{step_answer}
+use Rattle.filter_chain.specs.HostViews.{HostView, Answers}
+use Rattle.http_message.specs.declared.failure.Failure.{Failure}
+use Rattle.http_message.specs.declared.reply.Method.{Method}
+use Rattle.http_front.specs.Driven.{GoesByOthers, Refines}
+use Rattle.http_front.specs.Nearing.{Nears}
+use Rattle.http_front.specs.RequestEvents as by
+use Rattle.http_front.specs.declared.handler.RequestOutcome.{RequestOutcome}
+use Rattle.http_front.specs.declared.handler.Slice.{Slice}
+use Rattle.http_front.specs.declared.running.CallEnd.{CallEnd}
+use Rattle.http_front.specs.declared.task.FileRest.{FileRest}
+use Rattle.http_front.specs.declared.task.RequestTask.{RequestTask}
+use Rattle.http_front.specs.declared.task.RequestTask.TheVariants as task
+
+-- the brigades that are left to be brought
+abbrev pub brigades_left : Option FileRest → List (List Piece)
+brigades_left None = []
+brigades_left (Some rest) = by.brigades_from rest.file rest.len rest.start rest.left
+
+module _ (budget : ℕ) (chain : List Program) (number : ℕ) where
+  -- Events of other connections happened, it may be none.
+  abbrev pub Others : HostView → HostView → Type 0
+  Others old new = (events : List (ℕ × Event × Answer)) × GoesByOthers budget chain number events old new
+
+  -- An event of this connection is answered. Before it, only events of others happened.
+  abbrev pub AnswersLater : Event → HostView → Answer → HostView → Type 0
+  AnswersLater what old answer new = (mid : HostView) × Others old mid × Answers budget chain number what mid answer new
+
+  -- So many steps go on, and events of others happened before each.
+  unfoldable pub GoesOnLater : ℕ → HostView → HostView → Type 0
+  GoesOnLater zero old new = new ≡ old
+  GoesOnLater (suc n) old new = (mid : HostView) × AnswersLater event.Step old (Step stepped.Went) mid × GoesOnLater n mid new
+
+  -- Steps are made until one answers something else than that it went. No more go on than the budget allows.
+  pub record StepsLater (old : HostView) (answer : Result Stepped Refusal) (new : HostView) : Type 0 where
+    pub count : ℕ
+    pub before : HostView
+    pub few : count ≤ budget
+    pub goes : GoesOnLater count old before
+    pub last : AnswersLater event.Step before (step_answer answer) new
+    pub stops : ¬ (answer ≡ Ok stepped.Went)
+
+  abbrev pub RunsLater : HostView → CallEnd → HostView → Type 0
+  RunsLater = by.RunsCall AnswersLater StepsLater
+
+  abbrev pub EndsBareLater : Option Failure → HostView → RequestOutcome → HostView → Type 0
+  EndsBareLater = by.EndsBare AnswersLater StepsLater
+
+  abbrev pub FinishesLater : CallEnd → HostView → RequestOutcome → HostView → Type 0
+  FinishesLater = by.Finishes AnswersLater StepsLater
+
+  abbrev pub CarriesLater : CallEnd → List (List Piece) → HostView → RequestOutcome → HostView → Type 0
+  CarriesLater = by.Carries AnswersLater StepsLater
+
+  abbrev pub OpensLater : CallEnd → Method → List ℕ → HostView → RequestOutcome → HostView → Type 0
+  OpensLater = by.OpensAndFeeds AnswersLater StepsLater
+
+  abbrev pub OpensUnlessLater : CallEnd → Method → List ℕ → HostView → RequestOutcome → HostView → Type 0
+  OpensUnlessLater = by.OpensUnless AnswersLater StepsLater
+
+  abbrev pub InitsLater : Method → List ℕ → HostView → RequestOutcome → HostView → Type 0
+  InitsLater = by.Inits AnswersLater StepsLater
+
+  abbrev pub ComesLater : Method → List ℕ → HostView → RequestOutcome → HostView → Type 0
+  ComesLater = by.ComesOf AnswersLater StepsLater
+
+  -- A slice of a call ended it so. Or what is left of the call, when it is run, makes it whole.
+  abbrev pub RunsSlice : Option CallEnd → HostView → HostView → Type 0
+  RunsSlice (Some how) old now = RunsLater old how now
+  RunsSlice None old now = (how : CallEnd) (new : HostView) → RunsLater now how new → RunsLater old how new
+
+  -- what is left behind the call that was under way, which ended so
+  abbrev pub RestsBehind : RequestTask → CallEnd → HostView → RequestOutcome → HostView → Type 0
+  RestsBehind (task.Opens method name) how old o new = OpensUnlessLater how method name.items old o new
+  RestsBehind (task.Brings rest) how old o new = CarriesLater how (brigades_left rest) old o new
+
+  -- What is left of a request that is under way comes to this outcome.
+  abbrev pub Rests : RequestTask → HostView → RequestOutcome → HostView → Type 0
+  Rests (task.Opens method name) old o new = InitsLater method name.items old o new
+  Rests (task.Brings rest) old o new = by.EndsCall AnswersLater StepsLater (brigades_left rest) old o new
+
+  -- A slice of a request came to its outcome, and this was done. Or it was done once what is left is.
+  abbrev pub Slices : (HostView → RequestOutcome → HostView → Type 0) → HostView → Slice RequestTask → HostView → Type 0
+  Slices all old slice now = Nears (all old) (λ task. Rests task now) now slice
+
+-- A request for a file on the connection of this number comes to this outcome.
+unfoldable pub HandlesAmong : {F : Type 0} → (F → Device) → Host F → ℕ → Method → List ℕ → RequestOutcome → Host F → Type 0
+HandlesAmong device old number method file o new = Refines device old new (λ b c s t. ComesLater b c number method file s o t)
+
+-- So does what is left of one.
+unfoldable pub RestsAmong : {F : Type 0} → (F → Device) → Host F → ℕ → RequestTask → RequestOutcome → Host F → Type 0
+RestsAmong device old number task o new = Refines device old new (λ b c s t. Rests b c number task s o t)
+
+-- `init` is under way, and then this file is to be opened.
+abbrev pub IsOpening : Method → List ℕ → RequestTask → Type 0
+IsOpening method name (task.Opens m n) = (m ≡ method) × (n.items ≡ name)
+IsOpening method name (task.Brings rest) = ⊥

@@ -1,0 +1,88 @@
+-- Requests that are under way, on a connection.
+use Rattle.std.specs.Prelude.{◌≡◌, ℕ, ◌≤◌, ◌⊎◌, Bool, true, false, List, [], length, take, drop, Option, Some, None}
+use Rattle.httparse.specs.Grammar.{RequestHead}
+use Rattle.httparse.specs.Spans.{IsRequestAt, IsRequestWithin}
+use Rattle.httparse.specs.declared.spans.HeaderSpan.{HeaderSpan}
+use Rattle.http_message.specs.Asking.{head_closes, method_of, refusal}
+use Rattle.http_message.specs.Clocks.{Said}
+use Rattle.http_message.specs.Heads.{BeginsWithin}
+use Rattle.http_message.specs.declared.reply.Method.{Method}
+use Rattle.http_message.specs.declared.reply.Reply.{Reply}
+use Rattle.http_message.specs.declared.site.Site.{Site}
+use Rattle.http_message.specs.declared.status.StatusCode.TheVariants.{NotFound}
+use Rattle.http_front.specs.Outcomes.{IsReplyTo, file_of}
+use Rattle.http_front.specs.Stepping.{DoesStep, IsWritten}
+use Rattle.http_front.specs.Turns.{ComesUnless, fields_limit, head_limit}
+use Rattle.http_front.specs.declared.handler.RequestOutcome.{RequestOutcome}
+use Rattle.http_front.specs.declared.handler.Slice.{Slice}
+use Rattle.http_front.specs.declared.handler.Slice.TheVariants as request
+use Rattle.http_front.specs.declared.steps.ServeStep.{ServeStep}
+use Rattle.http_front.specs.declared.steps.ServeStep.TheVariants as step
+use Rattle.http_front.specs.declared.under_way.Asked.{Asked}
+use Rattle.http_front.specs.declared.under_way.StepSlice.{StepSlice}
+use Rattle.http_front.specs.declared.under_way.StepSlice.TheVariants as slice
+use Rattle.http_front.specs.declared.under_way.UnderWay.{UnderWay}
+use Rattle.http_front.specs.declared.wanted.Wanted.{Wanted}
+use Rattle.http_front.specs.declared.wanted.Wanted.TheVariants as wanted
+
+-- What was found of a head, with which these bytes begin.
+pub record IsAskedBy (seen : List ℕ) (a : Asked) (h : RequestHead) : Type 0 where
+  pub spans : List HeaderSpan
+  pub within : IsRequestWithin seen spans a.head
+  pub at : IsRequestAt seen spans a.head h
+  pub method : a.method ≡ method_of h.method
+  pub closes : a.closes ≡ head_closes h
+
+-- A head that nothing refuses asks for the file at its path: 404 where there is none.
+abbrev pub WantsPath : Site → RequestHead → Wanted → Type 0
+WantsPath site h (wanted.Status status) = (file_of site h ≡ None) × (status ≡ NotFound)
+WantsPath site h (wanted.File file) = file_of site h ≡ Some file.now
+
+-- A head gets the status that refuses it, or asks for the file at its path.
+abbrev pub Wants : Site → RequestHead → Wanted → Type 0
+Wants site h (wanted.Status status) = (refusal h ≡ Some status) ⊎ ((refusal h ≡ None) × WantsPath site h (wanted.Status status))
+Wants site h (wanted.File file) = (refusal h ≡ None) × WantsPath site h (wanted.File file)
+
+-- A request of this length is answered, and the connection closes or not.
+abbrev pub Answered : Bool → ℕ → ServeStep → Type 0
+Answered true size s = s ≡ step.Closes size
+Answered false size s = s ≡ step.Stays size
+
+-- The text of the reply to a head, with this outcome, is made, and the clock is told of it.
+pub record Sends {K : Type 0} (tells : K → Said → K → Type 0) (before : K) (h : RequestHead) (o : RequestOutcome) (size : ℕ) (s : ServeStep) (text : List ℕ) (after : K) : Type 0 where
+  pub reply : Reply
+  pub is : IsReplyTo h o reply
+  pub written : IsWritten tells before h.method h.target reply text after
+  pub answered : Answered reply.closes size s
+
+module _ {H T : Type 0} (site : Site) (among : H → Method → List ℕ → RequestOutcome → H → Type 0) (rests : H → T → RequestOutcome → H → Type 0) where
+  -- Nothing refuses a head, its path has a file, and a request for that is under way. What is left of it, when it is done, makes it whole. old, now: the
+  -- handler before the request, and now
+  pub record Asks (head : RequestHead) (task : T) (old now : H) : Type 0 where
+    pub file : List ℕ
+    pub allowed : refusal head ≡ None
+    pub named : file_of site head ≡ Some file
+    pub goes : (o : RequestOutcome) (new : H) → rests now task o new → among old (method_of head.method) file o new
+
+  -- what a head comes to in a slice
+  abbrev pub BeginsHead : RequestHead → H → Slice T → H → Type 0
+  BeginsHead h old (request.Done o) now = ComesUnless site among (refusal h) old h o now
+  BeginsHead h old (request.Works task) now = Asks h task old now
+
+  -- The bytes begin with a head whose request is under way.
+  pub record IsUnderWay (seen : List ℕ) (u : UnderWay T) (old now : H) : Type 0 where
+    pub head : RequestHead
+    pub asked : IsAskedBy (take head_limit seen) u.asked head
+    pub begins : BeginsWithin head_limit fields_limit seen head (drop u.asked.head.len seen)
+    pub fits : u.asked.head.len ≤ length seen
+    pub asks : Asks head u.task old now
+
+  -- a step is made, or a request is under way, and nothing is answered yet
+  abbrev pub Steps : {K : Type 0} → (K → Said → K → Type 0) → H → K → List ℕ → Bool → StepSlice T → List ℕ → H → K → Type 0
+  Steps tells old before seen whole (slice.Did s) text new after = DoesStep site among tells old before seen whole s text new after
+  Steps tells old before seen whole (slice.Works u) text new after = IsUnderWay seen u old new × (after ≡ before) × (text ≡ [])
+
+  -- the same, from a request that is in hand, if there is one
+  abbrev pub StepsFrom : {K : Type 0} → (K → Said → K → Type 0) → Option (UnderWay T) → H → K → List ℕ → Bool → StepSlice T → List ℕ → H → K → Type 0
+  StepsFrom tells None now before seen whole x text new after = Steps tells now before seen whole x text new after
+  StepsFrom tells (Some u) now before seen whole x text new after = (old : H) → IsUnderWay seen u old now → Steps tells old before seen whole x text new after

@@ -1,0 +1,227 @@
+//! A step of a connection, in slices.
+
+ghost use Rattle.std.specs.Prelude.{◌≡◌, ◌≤◌, ℕ, Bool, List, [], length, IfOk, IfErr};
+ghost use Rattle.httparse.specs.Grammar.{RequestHead};
+ghost use Rattle.httparse.specs.Spans.{IsRequestAt, IsRequestWithin};
+ghost use Rattle.http_message.specs.Asking.{method_of};
+ghost use Rattle.http_message.specs.Looking.{IsFound};
+ghost use Rattle.http_front.specs.Sharing.{Passes};
+ghost use Rattle.http_front.specs.Texts.{text_of};
+ghost use Rattle.http_front.specs.Turns.{head_limit, fields_limit};
+ghost use Rattle.http_front.specs.UnderWays.{BeginsHead, IsAskedBy, IsUnderWay, Sends, Steps, StepsFrom, Wants};
+ghost use Rattle.http_message.specs.declared.site.Site.{Site};
+
+use crate::answering::{bad_reply, bare};
+use crate::fault::FrontKind;
+use crate::handler::{Handler, RequestOutcome, Slice};
+use crate::response::ResponseText;
+use crate::steps::{FIELDS_LIMIT, HEAD_LIMIT, ServeStep, ends_within, front};
+use crate::texts::put_reply;
+use crate::under_way::{Asked, StepSlice, UnderWay, asked_by, reply_of, span_in};
+use crate::wanted::{Wanted, wanted_of};
+use http_message::{Clock, HeadLook, Method, Site, look_at};
+use httparse::spans::{EMPTY_HEADER_SPAN, HeaderSpan, RequestSpans};
+use std::alloc::{AllocError, Global};
+
+/// Makes the text of the response to a head with this outcome. The clock is told of it. A body that is copied goes back to the handler.
+fn send<H: Handler, K: Clock>(
+    alloc: Global,
+    seen: &[u8],
+    asked: Asked,
+    outcome: RequestOutcome,
+    handler: &mut H,
+    clock: &mut K,
+    text: &mut ResponseText,
+) -> Result<ServeStep, AllocError>
+    ensures still { handler.new ≡ handler.old }
+    ensures clock { (from : K) → Passes K.tells from clock.old → Passes K.tells from clock.new }
+    ensures ok { IfOk result (λ s. (h : RequestHead) → IsAskedBy seen.now asked h → Sends K.tells clock.old h outcome asked.head.len s (text_of text.new) clock.new) }
+{
+    let mut reply = reply_of(asked, outcome);
+    let closes = reply.closes;
+    let method = span_in(asked.head.method, seen);
+    let target = span_in(asked.head.path, seen);
+    put_reply(alloc, method, target, &mut reply, clock, text)?;
+    handler.give_back(reply.body);
+    if closes {
+        return Ok(ServeStep::Closes(asked.head.len));
+    }
+    Ok(ServeStep::Stays(asked.head.len))
+}
+
+/// Begins what a head asks for.
+fn begin_wanted<H: Handler>(
+    alloc: Global,
+    wanted: Wanted<'_>,
+    method: Method,
+    handler: &mut H,
+    number: u64,
+) -> Result<Slice<H::Task>, FrontKind>
+    requires { H.is_open handler.old number }
+    ensures open { H.is_open handler.new number }
+    ensures beside { (from : H) → H.beside from number handler.old → H.beside from number handler.new }
+    ensures ok { IfOk result (λ s. (site : Site) (h : RequestHead) → Wants site h wanted.entry → method ≡ method_of h.method
+        → BeginsHead site (λ old. H.among old number) (λ old. H.rests old number) h handler.old s handler.new) }
+{
+    match wanted {
+        Wanted::Status(status) => Ok(Slice::Done(bare(alloc, status))),
+        Wanted::File(file) => handler.begin(alloc, number, method, file),
+    }
+}
+
+/// Begins the request of a head that was found.
+fn begin_head<H: Handler, K: Clock>(
+    alloc: Global,
+    seen: &[u8],
+    spans: &[HeaderSpan],
+    head: RequestSpans,
+    site: &Site,
+    handler: &mut H,
+    number: u64,
+    clock: &mut K,
+    text: &mut ResponseText,
+) -> Result<StepSlice<H::Task>, FrontKind>
+    requires within { IsRequestWithin seen.now spans.now head }
+    requires found { IsFound head_limit seen.now spans.now head }
+    requires room { length spans.now ≡ fields_limit }
+    requires size { length seen.now ≤ head_limit }
+    requires empty { text_of text.old ≡ [] }
+    requires open { H.is_open handler.old number }
+    ensures open { H.is_open handler.new number }
+    ensures beside { (from : H) → H.beside from number handler.old → H.beside from number handler.new }
+    ensures clock { (from : K) → Passes K.tells from clock.old → Passes K.tells from clock.new }
+    ensures ok { IfOk result (λ x. (whole : Bool) → Steps site.now (λ old. H.among old number) (λ old. H.rests old number) K.tells handler.old clock.old seen.now whole x (text_of text.new) handler.new clock.new) }
+{
+    let asked = asked_by(seen, spans, head);
+    let wanted = wanted_of(alloc, seen, spans, head, site)?;
+    match begin_wanted(alloc, wanted, asked.method, handler, number)? {
+        Slice::Done(outcome) => {
+            let step = send(alloc, seen, asked, outcome, handler, clock, text)?;
+            Ok(StepSlice::Did(step))
+        }
+        Slice::Works(task) => Ok(StepSlice::Works(UnderWay { asked, task })),
+    }
+}
+
+// A slice where the bytes are within the limit.
+fn begin_within<H: Handler, K: Clock>(
+    alloc: Global,
+    seen: &[u8],
+    whole: bool,
+    spans: &mut [HeaderSpan],
+    site: &Site,
+    handler: &mut H,
+    number: u64,
+    clock: &mut K,
+    text: &mut ResponseText,
+) -> Result<StepSlice<H::Task>, FrontKind>
+    requires size { length seen.now ≤ head_limit }
+    requires room { length spans.old ≡ fields_limit }
+    requires open { H.is_open handler.old number }
+    ensures open { H.is_open handler.new number }
+    ensures beside { (from : H) → H.beside from number handler.old → H.beside from number handler.new }
+    ensures clock { (from : K) → Passes K.tells from clock.old → Passes K.tells from clock.new }
+    ensures ok { IfOk result (λ x. Steps site.now (λ old. H.among old number) (λ old. H.rests old number) K.tells handler.old clock.old seen.now whole x (text_of text.new) handler.new clock.new) }
+{
+    text.clear(alloc);
+    if seen.is_empty() && whole {
+        return Ok(StepSlice::Did(ServeStep::Done));
+    }
+    if seen.is_empty() {
+        return Ok(StepSlice::Did(ServeStep::More));
+    }
+    match look_at(seen, HEAD_LIMIT, whole, spans) {
+        HeadLook::Head(head) => begin_head(
+            alloc, seen, spans, head, site, handler, number, clock, text,
+        ),
+        HeadLook::More => Ok(StepSlice::Did(ServeStep::More)),
+        HeadLook::Headless => {
+            put_reply(alloc, &[], &[], &mut bad_reply(alloc), clock, text)?;
+            Ok(StepSlice::Did(ServeStep::Refused))
+        }
+    }
+}
+
+/// As `take_step`, but a request that takes longer than a slice is left under way.
+fn begin_step<H: Handler, K: Clock>(
+    alloc: Global,
+    seen: &[u8],
+    whole: bool,
+    site: &Site,
+    handler: &mut H,
+    number: u64,
+    clock: &mut K,
+    text: &mut ResponseText,
+) -> Result<StepSlice<H::Task>, FrontKind>
+    requires { H.is_open handler.old number }
+    ensures open { H.is_open handler.new number }
+    ensures beside { (from : H) → H.beside from number handler.old → H.beside from number handler.new }
+    ensures clock { (from : K) → Passes K.tells from clock.old → Passes K.tells from clock.new }
+    ensures ok { IfOk result (λ x. Steps site.now (λ old. H.among old number) (λ old. H.rests old number) K.tells handler.old clock.old seen.now whole x (text_of text.new) handler.new clock.new) }
+{
+    let mut spans = [EMPTY_HEADER_SPAN; FIELDS_LIMIT];
+    begin_within(
+        alloc,
+        front(seen, HEAD_LIMIT),
+        ends_within(whole, seen.len(), HEAD_LIMIT),
+        &mut spans,
+        site,
+        handler,
+        number,
+        clock,
+        text,
+    )
+}
+
+/// Makes a slice more of a request that is under way, and answers it where it is handled.
+fn go_on_step<H: Handler, K: Clock>(
+    alloc: Global,
+    seen: &[u8],
+    under_way: UnderWay<H::Task>,
+    handler: &mut H,
+    number: u64,
+    clock: &mut K,
+    text: &mut ResponseText,
+) -> Result<StepSlice<H::Task>, FrontKind>
+    requires { H.is_open handler.old number }
+    ensures open { H.is_open handler.new number }
+    ensures beside { (from : H) → H.beside from number handler.old → H.beside from number handler.new }
+    ensures clock { (from : K) → Passes K.tells from clock.old → Passes K.tells from clock.new }
+    ensures ok { IfOk result (λ x. (site : Site) (whole : Bool) (old : H) → IsUnderWay site (λ old. H.among old number) (λ old. H.rests old number) seen.now under_way old handler.old
+        → Steps site (λ old. H.among old number) (λ old. H.rests old number) K.tells old clock.old seen.now whole x (text_of text.new) handler.new clock.new) }
+{
+    text.clear(alloc);
+    let asked = under_way.asked;
+    match handler.go_on(alloc, number, under_way.task)? {
+        Slice::Done(outcome) => {
+            let low = front(seen, HEAD_LIMIT);
+            let step = send(alloc, low, asked, outcome, handler, clock, text)?;
+            Ok(StepSlice::Did(step))
+        }
+        Slice::Works(task) => Ok(StepSlice::Works(UnderWay { asked, task })),
+    }
+}
+
+/// A slice of a step: of the request that is in hand, or of the next one.
+pub(crate) fn step_on<H: Handler, K: Clock>(
+    alloc: Global,
+    seen: &[u8],
+    whole: bool,
+    hand: Option<UnderWay<H::Task>>,
+    site: &Site,
+    handler: &mut H,
+    number: u64,
+    clock: &mut K,
+    text: &mut ResponseText,
+) -> Result<StepSlice<H::Task>, FrontKind>
+    requires { H.is_open handler.old number }
+    ensures open { H.is_open handler.new number }
+    ensures beside { (from : H) → H.beside from number handler.old → H.beside from number handler.new }
+    ensures clock { (from : K) → Passes K.tells from clock.old → Passes K.tells from clock.new }
+    ensures ok { IfOk result (λ x. StepsFrom site.now (λ old. H.among old number) (λ old. H.rests old number) K.tells hand handler.old clock.old seen.now whole x (text_of text.new) handler.new clock.new) }
+{
+    match hand {
+        Some(under_way) => go_on_step(alloc, seen, under_way, handler, number, clock, text),
+        None => begin_step(alloc, seen, whole, site, handler, number, clock, text),
+    }
+}
