@@ -1,201 +1,175 @@
 //! What a certificate says against its module.
 
-use crate::advice::{Advice, Item};
-use crate::flow::{Way, add_ways_of, state_at};
+use crate::doubt::Topic;
+use crate::flow::{add_ways_of, state_at};
 use crate::source::Source;
-use crate::told::handler_name;
+use crate::state_words::put_known;
+use crate::told::{handler_name, put_at};
 use life_cert::StatePlace;
 use life_check::{Cert, CheckRefusal, Rule};
 use life_state::{State, at_open, leq};
+use line_help::Page;
 use module_code::Module;
 use std::alloc::AllocError;
 
-// What two states may differ in.
-#[derive(Clone, Copy)]
-enum Part {
-    Sent,
-    Pool(u8),
-    Brigade(u8),
-    Cursor(u8),
-    Facts,
+// The variables and cursors of a state: eight pools, nine brigades and nine cursors.
+const PARTS: u8 = 26;
+
+// The variable or cursor of this number.
+fn part(index: u8) -> (Topic, u8) {
+    if index < 8 {
+        (Topic::Pool, index)
+    } else if index < 17 {
+        (Topic::Brigade, index.wrapping_sub(8))
+    } else {
+        (Topic::Cursor, index.wrapping_sub(17))
+    }
 }
 
-// The first pool, brigade or cursor of which the given state says more.
-fn differing_variable(state: &State, given: &State) -> Option<Part> {
-    for v in 0..8u8 {
-        let mut with = *given;
-        with.set_pool(v, state.pool(v));
-        if !leq(&with, given) {
-            return Some(Part::Pool(v));
-        }
+// Whether a state says no more of a part than another.
+fn is_part_below(state: &State, given: &State, index: u8) -> bool {
+    let mut with = *given;
+    match part(index) {
+        (Topic::Pool, q) if q < 8 => with.set_pool(q, state.pool(q)),
+        (Topic::Brigade, b) if b < 9 => with.set_brigade(b, state.brigade(b)),
+        (Topic::Cursor, c) if c < 9 => with.put_cursor(c, state.cursor(c)),
+        _ => {}
     }
-    for v in 0..9u8 {
-        let mut with = *given;
-        with.set_brigade(v, state.brigade(v));
-        if !leq(&with, given) {
-            return Some(Part::Brigade(v));
-        }
-    }
-    None
+    leq(&with, given)
 }
 
-fn differing_cursor(state: &State, given: &State) -> Option<Part> {
-    for c in 0..9u8 {
-        let mut with = *given;
-        with.put_cursor(c, state.cursor(c));
-        if !leq(&with, given) {
-            return Some(Part::Cursor(c));
+// The first part of which the given state says more; `PARTS` where it is none of these.
+fn differing(state: &State, given: &State) -> u8 {
+    for index in 0..PARTS {
+        if !is_part_below(state, given, index) {
+            return index;
         }
     }
-    None
+    PARTS
 }
 
-// The first part of which the given state says more.
-fn difference(state: &State, given: &State) -> Part {
+fn put_place(told: &mut Page, source: &Source, form: &str, place: StatePlace) {
+    told.push(form);
+    match place {
+        StatePlace::Idle => told.push("`idle`"),
+        StatePlace::Ready => told.push("`ready`"),
+        StatePlace::At(pc) => put_at(told, source, pc, "line #, `@`", ""),
+    }
+}
+
+// Tells what the certificate says of the first part in which a state that comes is not below the one that is given.
+fn put_difference(told: &mut Page, state: &State, given: &State) {
+    let there = "  the certificate says there: ";
+    let index = differing(state, given);
     if state.sent() && !given.sent() {
-        return Part::Sent;
+        told.push("an EOS of this request may have been passed\n");
+        told.push(there);
+        told.push("no EOS of this request was passed\n");
+    } else if index == PARTS {
+        told.push("two cursors may be at one bucket\n");
+        told.push(there);
+        told.push("they are at different buckets\n");
+    } else {
+        let (topic, of) = part(index);
+        put_known(told, state, topic, of);
+        told.push(there);
+        put_known(told, given, topic, of);
     }
-    differing_variable(state, given)
-        .or(differing_cursor(state, given))
-        .unwrap_or(Part::Facts)
 }
 
-impl Advice {
-    // What a state says of a part, the one that comes or the one that is given.
-    fn put_part(&mut self, state: &State, part: Part, is_given: bool) -> Result<(), AllocError> {
-        match part {
-            Part::Sent if state.sent() => self.say("an EOS of this request may have been passed"),
-            Part::Sent => self.say("no EOS of this request was passed"),
-            Part::Facts if is_given => self.say("they are at different buckets"),
-            Part::Facts => self.say("two cursors may be at one bucket"),
-            Part::Pool(q) => {
-                self.put_pool(state, q)?;
-                self.put("\n", &[])
+// Tells how a state that comes to a place is not below the one that the certificate has there, and whether it is not.
+fn put_not_below(
+    told: &mut Page,
+    source: &Source,
+    cert: &Cert,
+    place: StatePlace,
+    state: &State,
+) -> bool {
+    match state_at(cert, place) {
+        Some(given) => {
+            let is_below = leq(state, &given);
+            if !is_below {
+                put_place(told, source, "  what comes to ", place);
+                told.push(": ");
+                put_difference(told, state, &given);
             }
-            Part::Brigade(b) => {
-                self.put_brigade(state, b)?;
-                self.put("\n", &[])
-            }
-            Part::Cursor(c) => {
-                self.put_cursor(state, c)?;
-                self.put("\n", &[])
-            }
+            !is_below
+        }
+        None => {
+            put_place(told, source, "  the certificate has no state for ", place);
+            told.push("\n");
+            true
         }
     }
+}
 
-    fn put_place(&mut self, source: &Source<'_>, place: StatePlace) -> Result<(), AllocError> {
-        match place {
-            StatePlace::Idle => self.put("`idle`", &[]),
-            StatePlace::Ready => self.put("`ready`", &[]),
-            StatePlace::At(pc) => self.put_at(source, pc, "line $, `$`", ""),
+fn put_from(
+    told: &mut Page,
+    source: &Source,
+    code: &Module,
+    cert: &Cert,
+    place: StatePlace,
+) -> Result<(), AllocError> {
+    let mut ways = Vec::new(told.alloc);
+    if let Some(state) = state_at(cert, place) {
+        add_ways_of(code, place, &state, false, &mut ways)?;
+    }
+    for way in &ways {
+        if put_not_below(told, source, cert, way.to, &way.state) {
+            break;
         }
     }
+    Ok(())
+}
 
-    // Tells how a state that comes to a place is not below the one that the certificate has there.
-    fn not_below(
-        &mut self,
-        source: &Source<'_>,
-        place: StatePlace,
-        state: &State,
-        given: Option<State>,
-    ) -> Result<(), AllocError> {
-        let Some(given) = given else {
-            self.put("  the certificate has no state for ", &[])?;
-            self.put_place(source, place)?;
-            return self.put("\n", &[]);
-        };
-        let part = difference(state, &given);
-        self.put("  what comes to ", &[])?;
-        self.put_place(source, place)?;
-        self.put(": ", &[])?;
-        self.put_part(state, part, false)?;
-        self.put("  the certificate says there: ", &[])?;
-        self.put_part(&given, part, true)
-    }
-
-    fn ways_not_below(
-        &mut self,
-        source: &Source<'_>,
-        cert: &Cert,
-        ways: &[Way],
-    ) -> Result<(), AllocError> {
-        for way in ways {
-            let given = state_at(cert, way.to);
-            let below = match given {
-                Some(given) => leq(&way.state, &given),
-                None => false,
-            };
-            if !below {
-                return self.not_below(source, way.to, &way.state, given);
-            }
-        }
+fn put_entry(
+    told: &mut Page,
+    source: &Source,
+    code: &Module,
+    cert: &Cert,
+    pc: usize,
+) -> Result<(), AllocError> {
+    let form = "line #: `$` does not begin as the certificate says\n";
+    put_at(told, source, pc, form, handler_name(code, pc));
+    if pc == code.main() {
+        put_from(told, source, code, cert, StatePlace::Ready)
+    } else if pc == code.init() {
+        put_from(told, source, code, cert, StatePlace::Idle)
+    } else {
+        let first = at_open(code.pool_count(), code.brigade_count());
+        put_not_below(told, source, cert, StatePlace::At(0), &first);
         Ok(())
     }
+}
 
-    fn from_place(
-        &mut self,
-        source: &Source<'_>,
-        code: &Module,
-        cert: &Cert,
-        place: StatePlace,
-    ) -> Result<(), AllocError> {
-        let Some(state) = state_at(cert, place) else {
-            return Ok(());
-        };
-        let mut ways = Vec::new(self.alloc);
-        add_ways_of(code, place, &state, false, &mut ways)?;
-        self.ways_not_below(source, cert, ways.as_slice())
-    }
-
-    fn entry(
-        &mut self,
-        source: &Source<'_>,
-        code: &Module,
-        cert: &Cert,
-        pc: usize,
-    ) -> Result<(), AllocError> {
-        if pc == code.main() {
-            self.from_place(source, code, cert, StatePlace::Ready)
-        } else if pc == code.init() {
-            self.from_place(source, code, cert, StatePlace::Idle)
-        } else {
-            let first = at_open(code.pool_count(), code.brigade_count());
-            self.not_below(source, StatePlace::At(0), &first, cert.state(0))
+/// Tells what a certificate says against its module.
+pub fn put_certificate(
+    told: &mut Page,
+    source: &Source,
+    code: &Module,
+    cert: &Cert,
+    refusal: CheckRefusal,
+) -> Result<(), AllocError> {
+    let pc = refusal.pc;
+    match refusal.rule {
+        Rule::Shape => {
+            told.push(
+                "the states of the certificate are not of this module: other variables, `in` elsewhere than in `main`, a cursor between calls, or a line for no instruction\n",
+            );
+            Ok(())
         }
-    }
-
-    /// Tells what a certificate says against its module.
-    pub fn certificate(
-        &mut self,
-        source: &Source<'_>,
-        code: &Module,
-        cert: &Cert,
-        refusal: CheckRefusal,
-    ) -> Result<(), AllocError> {
-        let pc = refusal.pc;
-        match refusal.rule {
-            Rule::Shape => self.say(
-                "the states of the certificate are not of this module: other variables, `in` elsewhere than in `main`, a cursor between calls, or a line for no instruction",
-            ),
-            Rule::Request => {
-                self.say("the end of a request leaves what `idle` does not allow")?;
-                self.from_place(source, code, cert, StatePlace::Ready)
-            }
-            Rule::Entry => {
-                let line = Item::Number(source.number_of(pc));
-                let handler = Item::Text(handler_name(code, pc));
-                let form = "line $: `$` does not begin as the certificate says\n";
-                self.put(form, &[line, handler])?;
-                self.entry(source, code, cert, pc)
-            }
-            Rule::Exit | Rule::Flow | Rule::May(_) => {
-                let says = match refusal.rule {
-                    Rule::Exit => "leaves what the certificate does not allow between calls",
-                    _ => "leads to what the certificate does not allow",
-                };
-                self.put_at(source, pc, "line $: `$` $\n", says)?;
-                self.from_place(source, code, cert, StatePlace::At(pc))
-            }
+        Rule::Request => {
+            told.push("the end of a request leaves what `idle` does not allow\n");
+            put_from(told, source, code, cert, StatePlace::Ready)
+        }
+        Rule::Entry => put_entry(told, source, code, cert, pc),
+        Rule::Exit | Rule::Flow | Rule::May(_) => {
+            let says = match refusal.rule {
+                Rule::Exit => "leaves what the certificate does not allow between calls",
+                _ => "leads to what the certificate does not allow",
+            };
+            put_at(told, source, pc, "line #: `@` $\n", says);
+            put_from(told, source, code, cert, StatePlace::At(pc))
         }
     }
 }

@@ -1,279 +1,351 @@
 //! What may be so before an instruction, and may not where its rule is met.
 
-use life_state::{Contents, CursorState, State};
-use module_code::{Instr, Module, PoolRef};
+use crate::patterns::Pattern;
+use life_state::{BrigadeState, Classes, Contents, CursorState, PoolState, State};
 
-/// What may be so in a state, though a rule wants that it cannot. Pools, brigades and cursors are numbered as in a state.
+/// What may be so in a state, though a rule wants that it cannot.
 #[derive(Clone, Copy)]
-pub enum Doubt {
+pub enum Sort {
     /// Nothing was made in the pool variable.
-    NullPool(u8),
+    NullPool,
     /// The pool has ended.
-    GonePool(u8),
+    GonePool,
     /// The pool is live.
-    LivePool(u8),
+    LivePool,
     /// Nothing was made in the brigade variable.
-    NullBrigade(u8),
+    NullBrigade,
     /// The brigade has ended.
-    GoneBrigade(u8),
+    GoneBrigade,
     /// The brigade is live.
-    LiveBrigade(u8),
+    LiveBrigade,
     /// The brigade was passed.
-    Passed(u8),
+    Passed,
     /// A bucket in the brigade is dead.
-    DeadIn(u8),
-    /// The loose bucket at the cursor is dead.
-    DeadAt(u8),
+    DeadIn,
     /// Data stands behind an EOS in the brigade.
-    LateData(u8),
+    LateData,
     /// An EOS was passed in this request, and the brigade has more than FLUSH buckets.
-    Sent(u8),
+    Sent,
     /// A bucket that ends with the call is in the brigade.
-    Kept(u8),
+    Kept,
+    /// The loose bucket at the cursor is dead.
+    DeadAt,
     /// The cursor names nothing that is known.
-    Unset(u8),
+    Unset,
+    /// No bucket is known that was read.
+    Unread,
     /// The cursor is at an end.
-    AtEnd(u8),
+    AtEnd,
     /// The bucket at the cursor is in a brigade.
-    InBrigade(u8),
+    InBrigade,
     /// The bucket at the cursor is loose.
-    Loose(u8),
-    /// The cursor is not at this brigade, the second.
-    Elsewhere(u8, u8),
+    Loose,
+    /// The cursor is not at the other brigade.
+    Elsewhere,
+}
+
+/// What a doubt is about.
+#[derive(Clone, Copy)]
+pub enum Topic {
+    Pool,
+    Brigade,
+    Cursor,
+}
+
+/// What is told of a sort.
+#[derive(Clone, Copy)]
+pub struct SortRow {
+    pub topic: Topic,
+    /// What the rule wants, with a `$` for the name of the variable, or a `#` for the number of a pool.
+    pub wanted: &'static str,
+    /// What the instruction did that made it so.
+    pub deed: &'static str,
+    /// The pattern that it is mostly of.
+    pub pattern: Pattern,
+}
+
+// What is told of each sort, in their order.
+const SORTS: [SortRow; 18] = [
+    SortRow {
+        topic: Topic::Pool,
+        wanted: "`p#` is live",
+        deed: "leaves it unmade",
+        pattern: Pattern::MakeWhereItBegins,
+    },
+    SortRow {
+        topic: Topic::Pool,
+        wanted: "`p#` is live",
+        deed: "ends it",
+        pattern: Pattern::ClearNotDestroy,
+    },
+    SortRow {
+        topic: Topic::Pool,
+        wanted: "`p#` is null or gone",
+        deed: "makes it",
+        pattern: Pattern::MakeWhereItBegins,
+    },
+    SortRow {
+        topic: Topic::Brigade,
+        wanted: "`$` is live",
+        deed: "leaves it unmade",
+        pattern: Pattern::MakeWhereItBegins,
+    },
+    SortRow {
+        topic: Topic::Brigade,
+        wanted: "`$` is live",
+        deed: "ends it",
+        pattern: Pattern::MakeWhereItBegins,
+    },
+    SortRow {
+        topic: Topic::Brigade,
+        wanted: "`$` is null or gone",
+        deed: "makes it",
+        pattern: Pattern::MakeWhereItBegins,
+    },
+    SortRow {
+        topic: Topic::Brigade,
+        wanted: "`$` is usable: it was not passed, or cleaned since",
+        deed: "passes it",
+        pattern: Pattern::CleanWhenFailed,
+    },
+    SortRow {
+        topic: Topic::Brigade,
+        wanted: "no bucket in `$` is dead",
+        deed: "ends what a bucket depends on",
+        pattern: Pattern::OutliveTheRequest,
+    },
+    SortRow {
+        topic: Topic::Brigade,
+        wanted: "no data stands behind an EOS in `$`",
+        deed: "may put data behind an EOS",
+        pattern: Pattern::LeaveAtEos,
+    },
+    SortRow {
+        topic: Topic::Brigade,
+        wanted: "no EOS of this request was passed, or `$` holds FLUSH buckets at most",
+        deed: "may pass an EOS",
+        pattern: Pattern::Guard,
+    },
+    SortRow {
+        topic: Topic::Brigade,
+        wanted: "each bucket in `$` outlasts the call",
+        deed: "puts in a bucket that may end with the call",
+        pattern: Pattern::AsideWhatIsKept,
+    },
+    SortRow {
+        topic: Topic::Cursor,
+        wanted: "the bucket at $ is not dead",
+        deed: "ends what a bucket depends on",
+        pattern: Pattern::OutliveTheRequest,
+    },
+    SortRow {
+        topic: Topic::Cursor,
+        wanted: "$ is at a bucket",
+        deed: "makes it unknown",
+        pattern: Pattern::SetAgain,
+    },
+    SortRow {
+        topic: Topic::Cursor,
+        wanted: "a bucket was read on each way here, and is still there",
+        deed: "makes it unknown",
+        pattern: Pattern::ReadOnEachWay,
+    },
+    SortRow {
+        topic: Topic::Cursor,
+        wanted: "$ is at a bucket",
+        deed: "may come to the end",
+        pattern: Pattern::AskJend,
+    },
+    SortRow {
+        topic: Topic::Cursor,
+        wanted: "the bucket at $ is loose",
+        deed: "finds or leaves it in a brigade",
+        pattern: Pattern::MoveInTwoSteps,
+    },
+    SortRow {
+        topic: Topic::Cursor,
+        wanted: "the bucket at $ is in a brigade",
+        deed: "leaves it loose",
+        pattern: Pattern::MoveInTwoSteps,
+    },
+    SortRow {
+        topic: Topic::Cursor,
+        wanted: "$ is in `@`",
+        deed: "puts it elsewhere",
+        pattern: Pattern::MoveInTwoSteps,
+    },
+];
+
+const NO_ROW: SortRow = SortRow {
+    topic: Topic::Cursor,
+    wanted: "",
+    deed: "",
+    pattern: Pattern::SetAgain,
+};
+
+const BRIGADES: [&str; 9] = ["b0", "b1", "b2", "b3", "b4", "b5", "b6", "b7", "in"];
+
+const CURSORS: [&str; 9] = [
+    "`c0`",
+    "`c1`",
+    "`c2`",
+    "`c3`",
+    "`c4`",
+    "`c5`",
+    "`c6`",
+    "`c7`",
+    "what was read last",
+];
+
+/// The name of a brigade variable, or `in`.
+pub fn brigade_name(b: u8) -> &'static str {
+    BRIGADES.get(usize::from(b)).copied().unwrap_or("")
+}
+
+/// What a cursor is called, or what was read last.
+pub fn cursor_name(c: u8) -> &'static str {
+    CURSORS.get(usize::from(c)).copied().unwrap_or("")
+}
+
+/// A sort, and the variable or cursor that it is about, by its number in a state; the other brigade is that of `Elsewhere`.
+#[derive(Clone, Copy)]
+pub struct Doubt {
+    pub sort: Sort,
+    pub of: u8,
+    pub other: u8,
+}
+
+/// Buckets of any kind.
+const ANY_KIND: Classes = Classes {
+    bytes: true,
+    flush: true,
+    eos: true,
+};
+
+// A brigade in which a bucket could stand.
+fn some_brigade(state: &State) -> u8 {
+    for b in 0..8u8 {
+        if state.brigade(b).live && !state.brigade(8).live {
+            return b;
+        }
+    }
+    8
 }
 
 impl Doubt {
+    /// What is told of its sort.
+    pub fn row(self) -> SortRow {
+        match SORTS.get(self.sort as usize) {
+            Some(row) => *row,
+            None => NO_ROW,
+        }
+    }
+
     /// Whether it is about a cursor, which no call finds set.
     pub fn is_of_cursor(self) -> bool {
-        matches!(
-            self,
-            Doubt::Unset(_)
-                | Doubt::AtEnd(_)
-                | Doubt::InBrigade(_)
-                | Doubt::Loose(_)
-                | Doubt::Elsewhere(_, _)
-                | Doubt::DeadAt(_)
-        )
+        matches!(self.row().topic, Topic::Cursor)
+    }
+
+    /// What the variable or cursor is called; nothing of a pool.
+    pub fn name(self) -> &'static str {
+        match self.row().topic {
+            Topic::Pool => "",
+            Topic::Brigade => brigade_name(self.of),
+            Topic::Cursor => cursor_name(self.of),
+        }
     }
 
     /// Whether a state allows it.
     pub fn holds(self, state: &State) -> bool {
-        match self {
-            Doubt::NullPool(q) => state.pool(q).null,
-            Doubt::GonePool(q) => state.pool(q).gone,
-            Doubt::LivePool(q) => state.pool(q).live,
-            Doubt::NullBrigade(b) => state.brigade(b).null,
-            Doubt::GoneBrigade(b) => state.brigade(b).gone,
-            Doubt::LiveBrigade(b) => state.brigade(b).live,
-            Doubt::Passed(b) => state.brigade(b).passed,
-            Doubt::DeadIn(b) => state.brigade(b).homes.dead,
-            Doubt::LateData(b) => matches!(state.brigade(b).content, Contents::Any),
-            Doubt::Sent(_) => state.sent(),
-            Doubt::Kept(b) => keeps(state, b),
-            Doubt::DeadAt(c)
-            | Doubt::Unset(c)
-            | Doubt::AtEnd(c)
-            | Doubt::InBrigade(c)
-            | Doubt::Loose(c)
-            | Doubt::Elsewhere(c, _) => self.holds_at(state.cursor(c)),
+        let pool = state.pool(self.of);
+        let brigade = state.brigade(self.of);
+        match self.sort {
+            Sort::NullPool => pool.null,
+            Sort::GonePool => pool.gone,
+            Sort::LivePool => pool.live,
+            Sort::NullBrigade => brigade.null,
+            Sort::GoneBrigade => brigade.gone,
+            Sort::LiveBrigade => brigade.live,
+            Sort::Passed => brigade.passed,
+            Sort::DeadIn => brigade.homes.dead,
+            Sort::LateData => matches!(brigade.content, Contents::Any),
+            Sort::Sent => state.sent(),
+            Sort::Kept => brigade.live && brigade.usable && brigade.homes.call,
+            _ => self.holds_at(state.cursor(self.of)),
         }
     }
 
     fn holds_at(self, cursor: CursorState) -> bool {
-        match (self, cursor) {
-            (Doubt::DeadAt(_), CursorState::Loose(_, homes)) => homes.dead,
-            (Doubt::Unset(_), CursorState::Unset) => true,
-            (Doubt::AtEnd(_), CursorState::End(_)) => true,
-            (Doubt::AtEnd(_), CursorState::InOrEnd(_, _)) => true,
-            (Doubt::InBrigade(_), CursorState::In(_, _)) => true,
-            (Doubt::Loose(_), CursorState::Loose(_, _)) => true,
-            (Doubt::Elsewhere(_, b), CursorState::In(a, _)) => a != b,
-            (Doubt::Elsewhere(_, b), CursorState::InOrEnd(a, _)) => a != b,
-            (Doubt::Elsewhere(_, b), CursorState::End(a)) => a != b,
-            _ => false,
+        match cursor {
+            CursorState::Unset => matches!(self.sort, Sort::Unset | Sort::Unread),
+            CursorState::Loose(_, homes) => match self.sort {
+                Sort::DeadAt => homes.dead,
+                sort => matches!(sort, Sort::Loose),
+            },
+            CursorState::In(b, _) => match self.sort {
+                Sort::Elsewhere => b != self.other,
+                sort => matches!(sort, Sort::InBrigade),
+            },
+            CursorState::End(b) | CursorState::InOrEnd(b, _) => match self.sort {
+                Sort::Elsewhere => b != self.other,
+                sort => matches!(sort, Sort::AtEnd),
+            },
         }
     }
-}
 
-/// Whether a usable brigade keeps a bucket that ends with the call.
-pub fn keeps(state: &State, b: u8) -> bool {
-    let brigade = state.brigade(b);
-    brigade.live && brigade.usable && brigade.homes.call
-}
-
-// What an instruction wants of a state, by one test of its rule.
-#[derive(Clone, Copy)]
-enum Want {
-    Nothing,
-    Pool(PoolRef),
-    NewPool(u8),
-    New(u8),
-    Live(u8),
-    Usable(u8),
-    Homes(u8),
-    Home(u8),
-    Send(u8),
-    Return,
-    Anywhere(u8),
-    Bucket(u8),
-    Loose(u8),
-    Inside(u8),
-    This(u8, u8),
-}
-
-fn parent_of(code: &Module, q: u8) -> PoolRef {
-    if q < code.pool_count() {
-        code.pool_parent(q)
-    } else {
-        PoolRef::Conn
+    // The brigade as the rule wants it; what was known of its buckets stays.
+    fn mended(self, brigade: BrigadeState) -> BrigadeState {
+        let mut mended = brigade;
+        match self.sort {
+            Sort::LiveBrigade => return BrigadeState::UNMADE,
+            Sort::DeadIn => mended.homes.dead = false,
+            Sort::LateData => mended.content = Contents::NoLateData,
+            Sort::Kept => mended.homes.call = false,
+            _ => {
+                mended.null = false;
+                mended.gone = false;
+                mended.live = true;
+                mended.usable = true;
+                mended.passed = false;
+            }
+        }
+        mended
     }
-}
 
-/// The pool that a brigade variable is declared on.
-pub fn home_of(code: &Module, b: u8) -> PoolRef {
-    if b < code.brigade_count() {
-        code.brigade_pool(b)
-    } else {
-        PoolRef::Req
-    }
-}
-
-fn some_if(holds: bool, doubt: Doubt) -> Option<Doubt> {
-    if holds { Some(doubt) } else { None }
-}
-
-fn of_pool(state: &State, pool: PoolRef) -> Option<Doubt> {
-    let PoolRef::Own(q) = pool else {
-        return None;
-    };
-    let pool = state.pool(q);
-    some_if(pool.gone, Doubt::GonePool(q)).or(some_if(!pool.is_live(), Doubt::NullPool(q)))
-}
-
-fn of_live(state: &State, b: u8) -> Option<Doubt> {
-    let brigade = state.brigade(b);
-    some_if(brigade.gone, Doubt::GoneBrigade(b)).or(some_if(
-        !brigade.is_live(),
-        Doubt::NullBrigade(b),
-    ))
-}
-
-fn of_usable(state: &State, b: u8) -> Option<Doubt> {
-    let brigade = state.brigade(b);
-    some_if(brigade.is_live() && !brigade.is_usable(), Doubt::Passed(b)).or(of_live(state, b))
-}
-
-fn of_homes(state: &State, b: u8) -> Option<Doubt> {
-    some_if(state.brigade(b).homes.dead, Doubt::DeadIn(b))
-}
-
-fn of_home(state: &State, c: u8) -> Option<Doubt> {
-    match state.cursor(c) {
-        CursorState::Loose(_, homes) => some_if(homes.dead, Doubt::DeadAt(c)),
-        CursorState::In(b, _) | CursorState::InOrEnd(b, _) => of_homes(state, b),
-        CursorState::Unset | CursorState::End(_) => None,
-    }
-}
-
-fn of_send(state: &State, b: u8) -> Option<Doubt> {
-    match state.brigade(b).content {
-        Contents::Empty | Contents::Flushes => None,
-        Contents::Any => Some(Doubt::LateData(b)),
-        Contents::NoEos | Contents::NoLateData => some_if(state.sent(), Doubt::Sent(b)),
-    }
-}
-
-fn of_return(state: &State) -> Option<Doubt> {
-    for b in 0..8u8 {
-        if keeps(state, b) {
-            return Some(Doubt::Kept(b));
+    // The cursor as the rule wants it: at a bucket of a brigade, or loose where it is at one already.
+    fn set(self, state: &State) -> CursorState {
+        match (self.sort, state.cursor(self.of)) {
+            (Sort::DeadAt, CursorState::Loose(classes, homes)) => {
+                let mut homes = homes;
+                homes.dead = false;
+                CursorState::Loose(classes, homes)
+            }
+            (Sort::DeadAt, cursor) => cursor,
+            (Sort::Elsewhere, _) => CursorState::In(self.other, ANY_KIND),
+            (_, CursorState::Unset) => CursorState::In(some_brigade(state), ANY_KIND),
+            (_, CursorState::Loose(classes, _)) => CursorState::In(some_brigade(state), classes),
+            (_, CursorState::In(b, classes)) => CursorState::Loose(classes, state.brigade(b).homes),
+            (_, CursorState::End(b)) => CursorState::In(b, ANY_KIND),
+            (_, CursorState::InOrEnd(b, classes)) => CursorState::In(b, classes),
         }
     }
-    None
-}
 
-fn of_cursor(cursor: CursorState, want: Want) -> Option<Doubt> {
-    match (want, cursor) {
-        (
-            Want::Anywhere(c)
-            | Want::Bucket(c)
-            | Want::Loose(c)
-            | Want::Inside(c)
-            | Want::This(c, _),
-            CursorState::Unset,
-        ) => Some(Doubt::Unset(c)),
-        (
-            Want::Bucket(c) | Want::Loose(c) | Want::Inside(c),
-            CursorState::End(_) | CursorState::InOrEnd(_, _),
-        ) => Some(Doubt::AtEnd(c)),
-        (Want::Loose(c), CursorState::In(_, _)) => Some(Doubt::InBrigade(c)),
-        (Want::Inside(c) | Want::This(c, _), CursorState::Loose(_, _)) => Some(Doubt::Loose(c)),
-        (
-            Want::This(c, b),
-            CursorState::In(a, _) | CursorState::End(a) | CursorState::InOrEnd(a, _),
-        ) => some_if(a != b, Doubt::Elsewhere(c, b)),
-        _ => None,
+    /// Makes the state one that does not allow it.
+    pub fn mend(self, state: &mut State) {
+        let of = self.of;
+        match (self.row().topic, self.sort) {
+            (_, Sort::Sent) => state.set_sent(false),
+            (Topic::Pool, Sort::LivePool) if of < 8 => state.set_pool(of, PoolState::NULL),
+            (Topic::Pool, _) if of < 8 => state.set_pool(of, PoolState::LIVE),
+            (Topic::Brigade, _) if of < 9 => {
+                let brigade = self.mended(state.brigade(of));
+                state.set_brigade(of, brigade);
+            }
+            (Topic::Cursor, _) if of < 9 => {
+                let cursor = self.set(state);
+                state.put_cursor(of, cursor);
+            }
+            _ => {}
+        }
     }
-}
-
-// What may be so against a want.
-fn unmet(state: &State, want: Want) -> Option<Doubt> {
-    match want {
-        Want::Nothing => None,
-        Want::Pool(pool) => of_pool(state, pool),
-        Want::NewPool(q) => some_if(state.pool(q).live, Doubt::LivePool(q)),
-        Want::New(b) => some_if(state.brigade(b).live, Doubt::LiveBrigade(b)),
-        Want::Live(b) => of_live(state, b),
-        Want::Usable(b) => of_usable(state, b),
-        Want::Homes(b) => of_homes(state, b),
-        Want::Home(c) => of_home(state, c),
-        Want::Send(b) => of_send(state, b),
-        Want::Return => of_return(state),
-        Want::Anywhere(c) | Want::Bucket(c) | Want::Loose(c) | Want::Inside(c) | Want::This(c, _) =>
-            of_cursor(state.cursor(c), want),
-    }
-}
-
-fn one(first: Want) -> [Want; 3] {
-    [first, Want::Nothing, Want::Nothing]
-}
-
-fn two(first: Want, second: Want) -> [Want; 3] {
-    [first, second, Want::Nothing]
-}
-
-// What an instruction wants, in the order of its rule's tests.
-fn wants(code: &Module, instr: Instr) -> [Want; 3] {
-    match instr {
-        Instr::PCreate(q) => two(Want::Pool(parent_of(code, q)), Want::NewPool(q)),
-        Instr::PClear(q) | Instr::PDestroy(q) => one(Want::Pool(PoolRef::Own(q))),
-        Instr::Label(p, _) | Instr::Unlabel(p, _) | Instr::PoolB(_, p) => one(Want::Pool(p)),
-        Instr::BCreate(o) => two(Want::Pool(home_of(code, o)), Want::New(o)),
-        Instr::BClean(b) => one(Want::Live(b)),
-        Instr::BConcat(a, b) => two(Want::Usable(a), Want::Usable(b)),
-        Instr::BSplit(b, c, a) => [Want::Usable(b), Want::This(c, b), Want::Usable(a)],
-        Instr::BPart(b, _, _, _) => two(Want::Usable(b), Want::Homes(b)),
-        Instr::BSave(o, b) => [Want::Usable(o), Want::Usable(b), Want::Homes(b)],
-        Instr::JEmpty(b, _) | Instr::First(_, b) => one(Want::Usable(b)),
-        Instr::Pass(b, _) => [Want::Usable(b), Want::Homes(b), Want::Send(b)],
-        Instr::Ret(_) => one(Want::Return),
-        Instr::JEnd(c, _) => one(Want::Anywhere(c)),
-        Instr::Next(_, c) | Instr::Unlink(c) => one(Want::Inside(c)),
-        Instr::JKind(c, _, _) | Instr::BDelete(c) | Instr::Len(_, c) => one(Want::Bucket(c)),
-        Instr::Get(_, _, _) => one(Want::Bucket(8)),
-        Instr::Tail(b, c) | Instr::Head(b, c) => two(Want::Usable(b), Want::Loose(c)),
-        Instr::Before(c, d) => two(Want::Loose(c), Want::Inside(d)),
-        Instr::Split(c, _, _) | Instr::Read(c, _) => two(Want::Inside(c), Want::Home(c)),
-        Instr::Copy(_, c) => two(Want::Bucket(c), Want::Home(c)),
-        Instr::Aside(c, p) => [Want::Bucket(c), Want::Pool(p), Want::Home(c)],
-        _ => one(Want::Nothing),
-    }
-}
-
-/// The first that an instruction may find in a state against its rule, in the order of the rule's tests.
-pub fn doubt_of(code: &Module, instr: Instr, state: &State) -> Option<Doubt> {
-    let [first, second, third] = wants(code, instr);
-    unmet(state, first)
-        .or(unmet(state, second))
-        .or(unmet(state, third))
 }

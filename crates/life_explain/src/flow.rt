@@ -1,7 +1,7 @@
 //! The states of a module, and the ways by which they come.
 
-use crate::doubt::{Doubt, doubt_of};
-use crate::mend::mend;
+use crate::doubt::Doubt;
+use crate::needs::doubt_of;
 use life_cert::{Arrival, Growth, StatePlace, round_count};
 use life_check::{Cert, target};
 use life_state::{State, Successors, after, at_end_of_request, at_main, at_return};
@@ -26,6 +26,16 @@ pub struct FlowRefusal {
     pub kind: FaultKind,
     pub doubt: Doubt,
 }
+
+/// The refusals of a module in its states, one at most of each instruction, and how many tests may fail in all.
+#[derive(Drop)]
+pub struct Judged {
+    pub refusals: Vec<FlowRefusal>,
+    pub failures: usize,
+}
+
+/// How many tests a rule has at most: a return asks each brigade.
+const TESTS: u8 = 9;
 
 /// Whether two places are the same.
 pub fn is_same(a: StatePlace, b: StatePlace) -> bool {
@@ -66,44 +76,36 @@ pub fn instr_at(code: &Module, pc: usize) -> Option<Instr> {
     }
 }
 
-/// How many tests a rule has at most: a return asks each brigade.
-const TESTS: u8 = 9;
-
 // The refusal of an instruction in a state, if it has one; the state is then as if that test were met.
 fn next_refusal(code: &Module, pc: usize, state: &mut State) -> Option<FlowRefusal> {
     match answer(code, pc, state)? {
         Ok(_) => None,
         Err(kind) => {
             let doubt = doubt_of(code, instr_at(code, pc)?, state)?;
-            mend(state, doubt);
+            doubt.mend(state);
             Some(FlowRefusal { pc, kind, doubt })
         }
     }
 }
 
-// Where an instruction leads. One that may have a fault leads nowhere, or where it would if its rule were met.
-fn led_to(code: &Module, pc: usize, state: &State, goes_on: bool) -> Option<Successors> {
-    let mut state = *state;
-    if goes_on {
-        for _ in 0..TESTS {
-            if next_refusal(code, pc, &mut state).is_none() {
-                break;
-            }
+// How many tests of its rule an instruction may fail in a state, which is then as if these were met.
+fn meet(code: &Module, pc: usize, state: &mut State) -> usize {
+    for count in 0..TESTS {
+        if next_refusal(code, pc, state).is_none() {
+            return usize::from(count);
         }
     }
-    match answer(code, pc, &state)? {
-        Ok(led) => Some(led),
-        Err(_) => None,
-    }
+    usize::from(TESTS)
 }
 
 fn add_way(
     ways: &mut Vec<Way>,
-    (from, to): (StatePlace, StatePlace),
-    jumps: bool,
+    from: StatePlace,
+    to: StatePlace,
     state: Option<State>,
 ) -> Result<(), AllocError> {
     if let Some(state) = state {
+        let jumps = false;
         ways.push(Way {
             from,
             to,
@@ -114,44 +116,34 @@ fn add_way(
     Ok(())
 }
 
-fn ways_of_line(
+fn add_ways_of_line(
     code: &Module,
     pc: usize,
     state: &State,
     goes_on: bool,
     ways: &mut Vec<Way>,
 ) -> Result<(), AllocError> {
-    let from = StatePlace::At(pc);
-    let (Some(led), Some(instr)) = (led_to(code, pc, state, goes_on), instr_at(code, pc)) else {
+    let mut met = *state;
+    if goes_on {
+        meet(code, pc, &mut met);
+    }
+    let (Some(Ok(led)), Some(instr)) = (answer(code, pc, &met), instr_at(code, pc)) else {
         return Ok(());
     };
-    let next = StatePlace::At(pc.saturating_add(1));
-    add_way(ways, (from, next), false, led.next)?;
-    add_way(ways, (from, StatePlace::At(target(instr))), true, led.jump)?;
-    match instr {
-        Instr::Ret(_) if pc < code.init() => {
-            add_way(
-                ways,
-                (from, StatePlace::Idle),
-                false,
-                Some(at_return(state)),
-            )
-        }
-        Instr::Ret(_) => add_way(
-            ways,
-            (from, StatePlace::Ready),
-            false,
-            Some(at_return(state)),
-        ),
-        _ => Ok(()),
+    let from = StatePlace::At(pc);
+    add_way(ways, from, StatePlace::At(pc.saturating_add(1)), led.next)?;
+    add_way(ways, from, StatePlace::At(target(instr)), led.jump)?;
+    if let (Some(_), Some(last)) = (led.jump, ways.last_mut()) {
+        last.jumps = true;
     }
-}
-
-fn end_of_request(code: &Module, state: &State) -> Option<State> {
-    if state.pool_count() == code.pool_count() && state.brigade_count() == code.brigade_count() {
-        Some(at_end_of_request(code, state))
+    let left = if pc < code.init() {
+        StatePlace::Idle
     } else {
-        None
+        StatePlace::Ready
+    };
+    match instr {
+        Instr::Ret(_) => add_way(ways, from, left, Some(at_return(state))),
+        _ => Ok(()),
     }
 }
 
@@ -165,16 +157,18 @@ pub fn add_ways_of(
     ways: &mut Vec<Way>,
 ) -> Result<(), AllocError> {
     match place {
-        StatePlace::At(pc) => ways_of_line(code, pc, state, goes_on, ways),
-        StatePlace::Idle => {
-            let init = StatePlace::At(code.init());
-            add_way(ways, (place, init), false, Some(*state))
-        }
+        StatePlace::At(pc) => add_ways_of_line(code, pc, state, goes_on, ways),
+        StatePlace::Idle => add_way(ways, place, StatePlace::At(code.init()), Some(*state)),
         StatePlace::Ready => {
             let main = StatePlace::At(code.main());
-            add_way(ways, (place, main), false, Some(at_main(state)))?;
-            let ended = end_of_request(code, state);
-            add_way(ways, (place, StatePlace::Idle), false, ended)
+            add_way(ways, place, main, Some(at_main(state)))?;
+            if state.pool_count() == code.pool_count()
+                && state.brigade_count() == code.brigade_count()
+            {
+                let ended = at_end_of_request(code, state);
+                add_way(ways, place, StatePlace::Idle, Some(ended))?;
+            }
+            Ok(())
         }
     }
 }
@@ -250,64 +244,35 @@ pub fn states_of(alloc: Global, code: &Module) -> Result<Cert, AllocError> {
     Ok(growth.cert)
 }
 
-/// How many tests of its rule an instruction may fail in this state.
-pub fn failures(code: &Module, pc: usize, state: &State) -> usize {
-    let mut state = *state;
-    let mut count = 0usize;
-    for _ in 0..TESTS {
-        if next_refusal(code, pc, &mut state).is_none() {
-            break;
-        }
-        count = count.saturating_add(1);
-    }
-    count
-}
-
-/// The refusal of an instruction, if it has one in these states.
-pub fn refusal_of(code: &Module, states: &Cert, pc: usize) -> Option<FlowRefusal> {
-    let mut state = states.state(pc)?;
-    next_refusal(code, pc, &mut state)
-}
-
-/// The refusal of an instruction by this fault, if it has one in these states.
-pub fn refusal_by(code: &Module, states: &Cert, pc: usize, kind: FaultKind) -> Option<FlowRefusal> {
+/// The refusal of an instruction, by this fault where one is given, if it has one in these states.
+pub fn refusal_of(
+    code: &Module,
+    states: &Cert,
+    pc: usize,
+    kind: Option<FaultKind>,
+) -> Option<FlowRefusal> {
     let mut state = states.state(pc)?;
     for _ in 0..TESTS {
         let refusal = next_refusal(code, pc, &mut state)?;
-        if is_kind(refusal.kind, kind) {
-            return Some(refusal);
+        match kind {
+            Some(kind) if refusal.kind as u8 != kind as u8 => {}
+            _ => return Some(refusal),
         }
     }
     None
 }
 
-fn is_kind(a: FaultKind, b: FaultKind) -> bool {
-    matches!(
-        (a, b),
-        (FaultKind::F1, FaultKind::F1)
-            | (FaultKind::F2, FaultKind::F2)
-            | (FaultKind::F3, FaultKind::F3)
-            | (FaultKind::F4, FaultKind::F4)
-            | (FaultKind::F5, FaultKind::F5)
-            | (FaultKind::F6, FaultKind::F6)
-            | (FaultKind::F7, FaultKind::F7)
-            | (FaultKind::F8, FaultKind::F8)
-            | (FaultKind::F9, FaultKind::F9)
-            | (FaultKind::F10, FaultKind::F10)
-    )
-}
-
 /// The instructions that may have a fault in these states.
-pub fn refusals(
-    alloc: Global,
-    code: &Module,
-    states: &Cert,
-) -> Result<Vec<FlowRefusal>, AllocError> {
-    let mut found = Vec::new(alloc);
+pub fn judge(alloc: Global, code: &Module, states: &Cert) -> Result<Judged, AllocError> {
+    let mut refusals = Vec::new(alloc);
+    let mut failures = 0usize;
     for pc in 0..code.len() {
-        if let Some(refusal) = refusal_of(code, states, pc) {
-            found.push(refusal)?;
+        if let Some(refusal) = refusal_of(code, states, pc, None) {
+            refusals.push(refusal)?;
+        }
+        if let Some(mut state) = states.state(pc) {
+            failures = failures.saturating_add(meet(code, pc, &mut state));
         }
     }
-    Ok(found)
+    Ok(Judged { refusals, failures })
 }

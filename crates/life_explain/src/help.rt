@@ -1,18 +1,17 @@
 //! The help on a module text that gets no certificate, and on one that is refused with a certificate.
 
-use crate::advice::Advice;
-use crate::faulty_line::{tell_asm_fault, tell_cert_fault};
-use crate::script::{ScriptText, TextKind};
+use crate::certificate::put_certificate;
 use crate::session::tell_refusals;
 use crate::source::Source;
 use life_cert::{CertRefusal, MakeRefusal, grown, make, read_cert};
 use life_check::{Cert, CheckRefusal, Rule, check};
+use line_help::{Page, ScriptText, tell_asm_fault, tell_cert_fault};
 use module_code::Module;
 use module_lang::{AsmRefusal, assemble};
 use std::alloc::{AllocError, Global};
 
 /// The module of a text; nothing where its fault is told.
-pub fn module_of(told: &mut Advice, text: ScriptText<'_>) -> Result<Option<Module>, AllocError> {
+pub fn module_of(told: &mut Page, text: ScriptText<'_>) -> Result<Option<Module>, AllocError> {
     match assemble(told.alloc, text.text) {
         Ok(code) => Ok(Some(code)),
         Err(AsmRefusal::Fault { line, code }) => {
@@ -24,7 +23,7 @@ pub fn module_of(told: &mut Advice, text: ScriptText<'_>) -> Result<Option<Modul
 }
 
 /// The certificate of a text; nothing where its fault is told.
-pub fn cert_of(told: &mut Advice, text: ScriptText<'_>) -> Result<Option<Cert>, AllocError> {
+pub fn cert_of(told: &mut Page, text: ScriptText<'_>) -> Result<Option<Cert>, AllocError> {
     match read_cert(told.alloc, text.text) {
         Ok(cert) => Ok(Some(cert)),
         Err(CertRefusal::Fault { line, code }) => {
@@ -35,18 +34,9 @@ pub fn cert_of(told: &mut Advice, text: ScriptText<'_>) -> Result<Option<Cert>, 
     }
 }
 
-// A text that stands alone.
-fn alone(kind: TextKind, text: &[u8]) -> ScriptText<'_> {
-    ScriptText {
-        kind,
-        before: 0,
-        text,
-    }
-}
-
 /// Tells what is wrong with the texts of a script, or why a module is refused, alone or with its certificate.
 pub fn tell_texts(
-    told: &mut Advice,
+    told: &mut Page,
     text: ScriptText<'_>,
     cert: Option<ScriptText<'_>>,
 ) -> Result<(), AllocError> {
@@ -55,22 +45,18 @@ pub fn tell_texts(
     };
     let source = Source::of(told.alloc, text.text, text.before)?;
     let Some(given) = cert else {
-        return without_certificate(told, source, &code);
+        return tell_unmade(told, source, &code);
     };
     let Some(cert) = cert_of(told, given)? else {
         return Ok(());
     };
     match check(&code, &cert) {
         Ok(()) => Ok(()),
-        Err(refusal) => with_certificate(told, source, &code, &cert, refusal),
+        Err(refusal) => tell_unchecked(told, source, &code, &cert, refusal),
     }
 }
 
-fn without_certificate(
-    told: &mut Advice,
-    source: Source<'_>,
-    code: &Module,
-) -> Result<(), AllocError> {
+fn tell_unmade(told: &mut Page, source: Source, code: &Module) -> Result<(), AllocError> {
     match make(told.alloc, code) {
         Ok(_) => Ok(()),
         Err(MakeRefusal::NoMemory) => Err(AllocError),
@@ -81,44 +67,46 @@ fn without_certificate(
     }
 }
 
-/// Why no certificate of a module text is made, in words; nothing where one is made.
-pub fn explain_certify(alloc: Global, text: &[u8]) -> Result<String, AllocError> {
-    let mut told = Advice::new(alloc);
-    tell_texts(&mut told, alone(TextKind::Module, text), None)?;
-    Ok(told.text)
-}
-
-// Tells whether there is another certificate with which the module is accepted.
-fn tell_other(told: &mut Advice, code: &Module) -> Result<(), AllocError> {
-    match make(told.alloc, code) {
-        Ok(_) => told.say("`certify` makes a certificate with which the module is accepted"),
-        Err(MakeRefusal::NoMemory) => Err(AllocError),
-        Err(MakeRefusal::At { pc: _, rule: _ }) => {
-            told.say("the module is refused whatever its certificate; ask `certify --explain`")
-        }
-    }
-}
-
-fn with_certificate(
-    told: &mut Advice,
-    source: Source<'_>,
+fn tell_unchecked(
+    told: &mut Page,
+    source: Source,
     code: &Module,
     cert: &Cert,
     refusal: CheckRefusal,
 ) -> Result<(), AllocError> {
-    match refusal.rule {
-        Rule::May(_) => tell_refusals(told, source, code, cert, refusal.pc),
-        Rule::Shape | Rule::Entry | Rule::Flow | Rule::Exit | Rule::Request => {
-            told.certificate(&source, code, cert, refusal)?;
-            tell_other(told, code)
-        }
+    if let Rule::May(_) = refusal.rule {
+        return tell_refusals(told, source, code, cert, refusal.pc);
     }
+    put_certificate(told, &source, code, cert, refusal)?;
+    match make(told.alloc, code) {
+        Ok(_) => told.push("`certify` makes a certificate with which the module is accepted\n"),
+        Err(MakeRefusal::NoMemory) => return Err(AllocError),
+        Err(MakeRefusal::At { pc: _, rule: _ }) => told.push(
+            "the module is refused whatever its certificate; ask `certify --explain`\n",
+        ),
+    }
+    Ok(())
+}
+
+// A text that stands alone.
+fn alone(text: &[u8], is_cert: bool) -> ScriptText<'_> {
+    ScriptText {
+        is_cert,
+        before: 0,
+        text,
+    }
+}
+
+/// Why no certificate of a module text is made, in words; nothing where one is made.
+pub fn explain_certify(alloc: Global, text: &[u8]) -> Result<String, AllocError> {
+    let mut told = Page::new(alloc);
+    tell_texts(&mut told, alone(text, false), None)?;
+    told.finished()
 }
 
 /// Why a module text is refused with a certificate text, in words; nothing where it is accepted.
 pub fn explain_check(alloc: Global, text: &[u8], cert: &[u8]) -> Result<String, AllocError> {
-    let mut told = Advice::new(alloc);
-    let cert = alone(TextKind::Cert, cert);
-    tell_texts(&mut told, alone(TextKind::Module, text), Some(cert))?;
-    Ok(told.text)
+    let mut told = Page::new(alloc);
+    tell_texts(&mut told, alone(text, false), Some(alone(cert, true)))?;
+    told.finished()
 }

@@ -1,15 +1,14 @@
 //! The help on what a play answered.
 
-use crate::advice::{Advice, Item};
-use crate::command_line::tell_script_fault;
 use crate::help::{cert_of, module_of, tell_texts};
-use crate::line_words::{number, word, word_text};
-use crate::refused::{Answered, is_told, tell_refused};
-use crate::script::{Script, TextKind, lines_of};
+use crate::patterns::fault_of;
 use crate::session::tell_fault;
 use crate::source::Source;
-use crate::words::fault_text;
-use byte_text::is_text;
+use crate::told::put_at;
+use byte_text::{is_text, token};
+use line_help::{
+    Answered, Page, Script, is_told, lines_of, number, shown, tell_refused, tell_script_fault, word,
+};
 use script_text::{fault_name, fault_named};
 use std::alloc::{AllocError, Global};
 
@@ -22,30 +21,29 @@ enum AnswerKind {
     Fault,
     Refused,
     RefusedModule,
-    Asm,
-    Cert,
+    Text,
     Script,
     Well,
 }
 
 fn kind_of(answer: &[u8]) -> AnswerKind {
-    match (word_text(answer, 0), word_text(answer, 1)) {
-        ("fault", _) => AnswerKind::Fault,
-        ("refused", "module") => AnswerKind::RefusedModule,
-        ("refused", _) => AnswerKind::Refused,
-        ("asm", "line") => AnswerKind::Asm,
-        ("cert", "line") => AnswerKind::Cert,
-        ("script", "line") => AnswerKind::Script,
-        _ => AnswerKind::Well,
+    let first = token(answer);
+    let is_line = is_text(word(answer, 1), b"line");
+    if is_text(first, b"fault") {
+        AnswerKind::Fault
+    } else if is_text(first, b"refused") {
+        if is_text(word(answer, 1), b"module") {
+            AnswerKind::RefusedModule
+        } else {
+            AnswerKind::Refused
+        }
+    } else if is_line && is_text(first, b"script") {
+        AnswerKind::Script
+    } else if is_line && (is_text(first, b"asm") || is_text(first, b"cert")) {
+        AnswerKind::Text
+    } else {
+        AnswerKind::Well
     }
-}
-
-// Whether it answers a command, and does not tell where the play ended.
-fn is_of_command(answer: &[u8]) -> bool {
-    matches!(
-        kind_of(answer),
-        AnswerKind::Fault | AnswerKind::Refused | AnswerKind::Well
-    )
 }
 
 // The lines of the answers, each with its command. Of `pools` the last line alone is that of the next command.
@@ -58,10 +56,12 @@ fn answered<'a>(
     let mut at = script.before;
     for line in &lines_of(alloc, answers, 0)? {
         let answer = line.text;
-        let command = if is_of_command(answer) {
-            script.lines.get(at).copied()
-        } else {
-            None
+        let command = match kind_of(answer) {
+            AnswerKind::Fault | AnswerKind::Refused | AnswerKind::Well => script
+                .lines
+                .get(at)
+                .copied(),
+            _ => None,
         };
         found.push(Answered { command, answer })?;
         let prints = match command {
@@ -76,10 +76,10 @@ fn answered<'a>(
 }
 
 // Tells what a fault means, where it is and what to write instead.
-fn tell_fault_of<'a>(
-    told: &mut Advice,
-    script: &Script<'a>,
-    answered: &Answered<'a>,
+fn tell_fault_of(
+    told: &mut Page,
+    script: &Script<'_>,
+    answered: &Answered<'_>,
 ) -> Result<(), AllocError> {
     let answer = answered.answer;
     let (Some(kind), Some(index), Some(pc), Some(command)) = (
@@ -94,69 +94,54 @@ fn tell_fault_of<'a>(
         return Ok(());
     };
     let source = Source::of(told.alloc, text.text, text.before)?;
-    told.put(
-        "line $, `$`: line $, `$`, of module $ has $: $\n",
-        &[
-            Item::Number(command.number),
-            Item::Shown(command.text),
-            Item::Number(source.number_of(pc)),
-            Item::Line(source.instruction(pc)),
-            Item::Number(index),
-            Item::Text(fault_name(kind)),
-            Item::Text(fault_text(kind)),
-        ],
-    )?;
+    told.put("line #, `@`: ", command.number, shown(command.text), "");
+    put_at(told, &source, pc, "line #, `@`, of module ", "");
+    told.put("# has $: ", index, &[], fault_name(kind));
+    told.put("$\n", 0, &[], fault_of(kind).0);
     tell_fault(told, &source, pc, kind)
 }
 
-fn tell_module(told: &mut Advice, script: &Script<'_>, answer: &[u8]) -> Result<(), AllocError> {
+fn tell_module(told: &mut Page, script: &Script<'_>, answer: &[u8]) -> Result<(), AllocError> {
     let Some(index) = number(answer, 2) else {
         return Ok(());
     };
     let Some((text, cert)) = script.module(index) else {
         return Ok(());
     };
-    let first = Item::Number(text.before.saturating_add(1));
-    told.put(
-        "module $, from line $ on, is not accepted\n",
-        &[Item::Number(index), first],
-    )?;
+    told.put("module #, ", index, &[], "");
+    let first = text.before.saturating_add(1);
+    told.put("from line # on, is not accepted\n", first, &[], "");
     tell_texts(told, text, cert)
 }
 
 // Tells what is wrong with the text that a line of this number is of.
-fn tell_text(told: &mut Advice, script: &Script<'_>, answer: &[u8]) -> Result<(), AllocError> {
-    let Some(text) = script.text_with(number(answer, 2).unwrap_or(0)) else {
-        return Ok(());
-    };
-    match text.kind {
-        TextKind::Module => {
-            let _ = module_of(told, text)?;
-        }
-        TextKind::Cert => {
+fn tell_text(told: &mut Page, script: &Script<'_>, number: usize) -> Result<(), AllocError> {
+    match script.text_with(number) {
+        Some(text) if text.is_cert => {
             let _ = cert_of(told, text)?;
         }
+        Some(text) => {
+            let _ = module_of(told, text)?;
+        }
+        None => {}
     }
     Ok(())
 }
 
 // Tells what an answer means; whether there was something to tell.
 fn tell_answer(
-    told: &mut Advice,
+    told: &mut Page,
     script: &Script<'_>,
     earlier: &[Answered<'_>],
     answered: &Answered<'_>,
 ) -> Result<bool, AllocError> {
+    let line = number(answered.answer, 2).unwrap_or(0);
     match kind_of(answered.answer) {
         AnswerKind::Fault => tell_fault_of(told, script, answered)?,
-        AnswerKind::Refused => tell_refused(told, script, earlier, answered)?,
+        AnswerKind::Refused => tell_refused(told, script, earlier, answered),
         AnswerKind::RefusedModule => tell_module(told, script, answered.answer)?,
-        AnswerKind::Asm | AnswerKind::Cert => tell_text(told, script, answered.answer)?,
-        AnswerKind::Script => {
-            if let Some(line) = number(answered.answer, 2) {
-                tell_script_fault(told, script, line)?;
-            }
-        }
+        AnswerKind::Text => tell_text(told, script, line)?,
+        AnswerKind::Script => tell_script_fault(told, script, line),
         AnswerKind::Well => return Ok(false),
     }
     Ok(true)
@@ -171,11 +156,11 @@ pub fn explain_play<'a>(
 ) -> Result<String, AllocError> {
     let script = Script::of(alloc, script)?;
     let answered = answered(alloc, &script, answers)?;
-    let mut told = Advice::new(alloc);
+    let mut told = Page::new(alloc);
     let mut done = Vec::new(alloc);
     for (index, answer) in answered.iter().enumerate() {
         if done.len() == MOST {
-            told.say("what is answered from then on is not explained")?;
+            told.push("what is answered from then on is not explained\n");
             break;
         }
         let earlier = answered.get(..index).unwrap_or(&[]);
@@ -184,5 +169,5 @@ pub fn explain_play<'a>(
             done.push(*answer)?;
         }
     }
-    Ok(told.text)
+    told.finished()
 }

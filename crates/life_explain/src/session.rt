@@ -1,16 +1,19 @@
 //! All refusals of a module that do not follow from one another, with lines that were tried.
 
-use crate::advice::Advice;
-use crate::case::Case;
-use crate::doubt::Doubt;
-use crate::flow::{FlowRefusal, all_ways, failures, refusal_by, refusal_of, refusals, states_of};
-use crate::pattern::{Pattern, pattern_of_fault};
-use crate::source::{Change, Edit, Source};
+use crate::doubt::Sort;
+use crate::flow::{FlowRefusal, Judged, all_ways, judge, refusal_of, states_of};
+use crate::patterns::{Pattern, fault_of};
+use crate::remedy::Case;
+use crate::source::{Edit, Source};
+use crate::state_words::put_rule;
+use crate::told::{put_advice, put_at, put_remedy, put_trail};
 use crate::trail::{Known, trail_to};
 use life_check::Cert;
+use line_help::Page;
 use module_code::Module;
 use module_lang::{AsmRefusal, assemble};
 use run_model::FaultKind;
+use script_text::fault_name;
 use std::alloc::{AllocError, Global};
 
 /// How many refusals are told of a module at most.
@@ -24,62 +27,43 @@ const TRIES: usize = 40;
 struct Study {
     code: Module,
     states: Cert,
-    refusals: Vec<FlowRefusal>,
-    failures: usize,
+    judged: Judged,
 }
 
 // What was made of a refusal: the edits that help, the source with them, how many tests may still fail, and whether its line is
 // refused no more.
 #[derive(Drop)]
-struct Mended<'t> {
+struct Mended {
     pattern: Pattern,
-    edits: Vec<Edit<'t>>,
-    source: Source<'t>,
+    edits: Vec<Edit>,
+    source: Source,
     left: usize,
     settled: bool,
 }
 
-fn module_of(alloc: Global, source: &Source<'_>) -> Result<Option<Module>, AllocError> {
-    let text = source.text(alloc)?;
-    match assemble(alloc, text.as_bytes()) {
-        Ok(code) => Ok(Some(code)),
+fn study_of(alloc: Global, source: &Source) -> Result<Option<Study>, AllocError> {
+    if source.page.full {
+        return Err(AllocError);
+    }
+    match assemble(alloc, source.page.text.as_bytes()) {
+        Ok(code) => {
+            let states = states_of(alloc, &code)?;
+            let judged = judge(alloc, &code, &states)?;
+            Ok(Some(Study {
+                code,
+                states,
+                judged,
+            }))
+        }
         Err(AsmRefusal::Fault { line: _, code: _ }) => Ok(None),
         Err(AsmRefusal::NoMemory) => Err(AllocError),
     }
 }
 
-fn all_failures(code: &Module, states: &Cert) -> usize {
-    let mut count = 0usize;
-    for pc in 0..code.len() {
-        if let Some(state) = states.state(pc) {
-            count = count.saturating_add(failures(code, pc, &state));
-        }
-    }
-    count
-}
-
-fn study_of(alloc: Global, source: &Source<'_>) -> Result<Option<Study>, AllocError> {
-    let Some(code) = module_of(alloc, source)? else {
-        return Ok(None);
-    };
-    let states = states_of(alloc, &code)?;
-    let refusals = refusals(alloc, &code, &states)?;
-    let failures = all_failures(&code, &states);
-    Ok(Some(Study {
-        code,
-        states,
-        refusals,
-        failures,
-    }))
-}
-
 // Whether an edit takes out a line that is to be written.
-fn undoes(source: &Source<'_>, edits: &[Edit<'_>]) -> bool {
+fn undoes(source: &Source, edits: &[Edit]) -> bool {
     for edit in edits {
-        if let (Change::Remove | Change::Instead(_), Some(line)) = (
-            edit.change,
-            source.lines.get(edit.at),
-        ) {
+        if let (true, Some(line)) = (edit.removes, source.lines.get(edit.at)) {
             if line.number == 0 {
                 return true;
             }
@@ -88,31 +72,8 @@ fn undoes(source: &Source<'_>, edits: &[Edit<'_>]) -> bool {
     false
 }
 
-// What is left with these edits; nothing where the text is no module then.
-fn tried<'t>(
-    case: &Case<'_, 't>,
-    pattern: Pattern,
-    edits: Vec<Edit<'t>>,
-) -> Result<Option<Mended<'t>>, AllocError> {
-    if undoes(case.source, edits.as_slice()) {
-        return Ok(None);
-    }
-    let source = case.source.edited(case.alloc, edits.as_slice())?;
-    let Some(study) = study_of(case.alloc, &source)? else {
-        return Ok(None);
-    };
-    let line = case.source.number_of(case.refusal.pc);
-    Ok(Some(Mended {
-        pattern,
-        edits,
-        settled: !refuses(&source, study.refusals.as_slice(), line),
-        source,
-        left: study.failures,
-    }))
-}
-
 // Whether the line is refused.
-fn refuses(source: &Source<'_>, refusals: &[FlowRefusal], line: usize) -> bool {
+fn refuses(source: &Source, refusals: &[FlowRefusal], line: usize) -> bool {
     for refusal in refusals {
         if source.number_of(refusal.pc) == line {
             return true;
@@ -121,33 +82,61 @@ fn refuses(source: &Source<'_>, refusals: &[FlowRefusal], line: usize) -> bool {
     false
 }
 
-// Whether a remedy may bring to light as much as it settles.
-fn uncovers(doubt: Doubt) -> bool {
-    matches!(
-        doubt,
-        Doubt::LivePool(_)
-            | Doubt::LiveBrigade(_)
-            | Doubt::NullPool(_)
-            | Doubt::NullBrigade(_)
-            | Doubt::GonePool(_)
-            | Doubt::GoneBrigade(_)
-    )
+// What is left with these edits; nothing where the text is no module then.
+fn tried(
+    case: &Case<'_>,
+    pattern: Pattern,
+    edits: Vec<Edit>,
+) -> Result<Option<Mended>, AllocError> {
+    if undoes(case.source, edits.as_slice()) {
+        return Ok(None);
+    }
+    let source = case.source.edited(&case.page, edits.as_slice());
+    let Some(study) = study_of(case.page.alloc, &source)? else {
+        return Ok(None);
+    };
+    let line = case.source.number_of(case.refusal.pc);
+    Ok(Some(Mended {
+        pattern,
+        edits,
+        settled: !refuses(&source, study.judged.refusals.as_slice(), line),
+        source,
+        left: study.judged.failures,
+    }))
+}
+
+// The edits of a remedy.
+fn edits_of(case: &Case<'_>, index: usize) -> Result<Vec<Edit>, AllocError> {
+    let from = match case.heads.get(index) {
+        Some(head) => head.from,
+        None => 0,
+    };
+    let to = match case.heads.get(index.saturating_add(1)) {
+        Some(next) => next.from,
+        None => case.edits.len(),
+    };
+    Vec::from_slice(case.page.alloc, case.edits.get(from..to).unwrap_or(&[]))
 }
 
 // The first remedy that leaves the fewest tests that may fail, and fewer than there are.
-fn best<'t>(case: &Case<'_, 't>, now: usize) -> Result<Option<Mended<'t>>, AllocError> {
-    let mut best: Option<Mended<'t>> = None;
+fn best(case: &Case<'_>, now: usize) -> Result<Option<Mended>, AllocError> {
+    let mut best: Option<Mended> = None;
     let mut least = now;
-    let mut ties = uncovers(case.refusal.doubt);
-    let remedies = case.remedies()?;
-    for index in 0..TRIES {
-        let Some((pattern, edits)) = remedies.get(case.alloc, index)? else {
-            break;
-        };
+    // A variable that is made may bring to light as much as it settles.
+    let mut ties = matches!(
+        case.refusal.doubt.sort,
+        Sort::NullPool
+            | Sort::GonePool
+            | Sort::LivePool
+            | Sort::NullBrigade
+            | Sort::GoneBrigade
+            | Sort::LiveBrigade
+    );
+    for (index, head) in case.heads.iter().take(TRIES).enumerate() {
         if least == 0 {
             break;
         }
-        if let Some(mended) = tried(case, pattern, edits)? {
+        if let Some(mended) = tried(case, head.pattern, edits_of(case, index)?)? {
             if mended.left < least || (ties && mended.settled && mended.left == least) {
                 ties = false;
                 least = mended.left;
@@ -155,36 +144,21 @@ fn best<'t>(case: &Case<'_, 't>, now: usize) -> Result<Option<Mended<'t>>, Alloc
             }
         }
     }
-    match best {
-        Some(mended) => Ok(Some(pruned(case, mended)?)),
-        None => Ok(None),
-    }
-}
-
-// The edits without that of this number.
-fn without<'t>(
-    alloc: Global,
-    edits: &[Edit<'t>],
-    left_out: usize,
-) -> Result<Vec<Edit<'t>>, AllocError> {
-    let mut kept = Vec::new(alloc);
-    for (index, edit) in edits.iter().enumerate() {
-        if index != left_out {
-            kept.push(*edit)?;
-        }
-    }
-    Ok(kept)
+    Ok(best)
 }
 
 // The same without cleans that change nothing.
-fn pruned<'t>(case: &Case<'_, 't>, mended: Mended<'t>) -> Result<Mended<'t>, AllocError> {
+fn pruned(case: &Case<'_>, mended: Mended) -> Result<Mended, AllocError> {
     let mut kept = mended;
     let mut index = 0usize;
     for _ in 0..kept.edits.len() {
         if !matches!(kept.pattern, Pattern::CleanWhenFailed) || kept.edits.len() < 2 {
             break;
         }
-        let fewer = without(case.alloc, kept.edits.as_slice(), index)?;
+        let mut fewer = Vec::from_slice(case.page.alloc, kept.edits.as_slice())?;
+        if index < fewer.len() {
+            fewer.remove(index);
+        }
         match tried(case, kept.pattern, fewer)? {
             Some(mended) if mended.left <= kept.left => kept = mended,
             _ => index = index.saturating_add(1),
@@ -194,45 +168,40 @@ fn pruned<'t>(case: &Case<'_, 't>, mended: Mended<'t>) -> Result<Mended<'t>, All
 }
 
 // Tells what to write, as it was tried, or in words.
-fn tell_remedy<'t>(
-    told: &mut Advice,
-    case: &Case<'_, 't>,
+fn tell_remedy(
+    told: &mut Page,
+    case: &mut Case<'_>,
     now: usize,
-) -> Result<Option<Mended<'t>>, AllocError> {
+) -> Result<Option<Mended>, AllocError> {
     if now == 0 {
         return Ok(None);
     }
-    let mended = best(case, now)?;
-    match &mended {
-        Some(mended) => told.remedy(case.source, mended.pattern, mended.edits.as_slice())?,
-        None => told.advice(case.pattern())?,
+    case.find_remedies();
+    if case.page.full {
+        return Err(AllocError);
     }
-    Ok(mended)
-}
-
-// Tells a refusal in these states. It gives the source as it is mended, where lines were found that help.
-fn tell<'t>(
-    told: &mut Advice,
-    source: &Source<'t>,
-    module: (&Module, &Cert),
-    refusal: FlowRefusal,
-    now: usize,
-) -> Result<Option<Mended<'t>>, AllocError> {
-    let Some(state) = module.1.state(refusal.pc) else {
-        return Ok(None);
-    };
-    told.refusal(source, &state, &refusal)?;
-    tell_cause(told, source, module, refusal, now)
+    match best(case, now)? {
+        Some(mended) => {
+            let mended = pruned(case, mended)?;
+            let edits = mended.edits.as_slice();
+            put_remedy(told, case.source, mended.pattern, &case.page, edits);
+            Ok(Some(mended))
+        }
+        None => {
+            put_advice(told, case.pattern());
+            Ok(None)
+        }
+    }
 }
 
 // Tells where what may be so comes from, and what to write. It gives the source as it is mended, where lines were found that help.
-fn tell_cause<'t>(
-    told: &mut Advice,
-    source: &Source<'t>,
+fn tell_cause(
+    told: &mut Page,
+    source: &Source,
     module: (&Module, &Cert),
     refusal: FlowRefusal,
     now: usize,
-) -> Result<Option<Mended<'t>>, AllocError> {
+) -> Result<Option<Mended>, AllocError> {
     let (code, states) = module;
     let alloc = told.alloc;
     let ways = all_ways(alloc, code, states)?;
@@ -243,24 +212,45 @@ fn tell_cause<'t>(
         ways: ways.as_slice(),
     };
     let trail = trail_to(&known, refusal.pc, refusal.doubt)?;
-    told.trail(source, code, &trail, refusal.doubt)?;
-    let case = Case {
-        alloc,
-        source,
-        code,
-        states,
-        trail: &trail,
-        refusal,
-    };
-    tell_remedy(told, &case, now)
+    put_trail(told, source, code, &trail, refusal.doubt);
+    let mut case = Case::new(alloc, source, module, &trail, refusal);
+    tell_remedy(told, &mut case, now)
+}
+
+// Tells a refusal in these states. It gives the source as it is mended, where lines were found that help; if these do not leave fewer
+// tests that may fail, the line is one of those that were seen.
+fn tell(
+    told: &mut Page,
+    source: &Source,
+    module: (&Module, &Cert),
+    refusal: FlowRefusal,
+    now: usize,
+    seen: &mut Vec<usize>,
+) -> Result<Option<Source>, AllocError> {
+    if let Some(state) = module.1.state(refusal.pc) {
+        let kind = refusal.kind;
+        let form = "line #: `@` may have $: ";
+        put_at(told, source, refusal.pc, form, fault_name(kind));
+        told.put("$\n", 0, &[], fault_of(kind).0);
+        put_rule(told, &state, refusal.doubt);
+    }
+    let mended = tell_cause(told, source, module, refusal, now)?;
+    match mended {
+        Some(mended) => {
+            if mended.left >= now {
+                seen.push(source.number_of(refusal.pc))?;
+            }
+            Ok(Some(mended.source))
+        }
+        None => {
+            seen.push(source.number_of(refusal.pc))?;
+            Ok(None)
+        }
+    }
 }
 
 // The first refusal whose line was not told yet.
-fn next_refusal(
-    source: &Source<'_>,
-    refusals: &[FlowRefusal],
-    seen: &[usize],
-) -> Option<FlowRefusal> {
+fn next_refusal(source: &Source, refusals: &[FlowRefusal], seen: &[usize]) -> Option<FlowRefusal> {
     for refusal in refusals {
         if !seen.contains(&source.number_of(refusal.pc)) {
             return Some(*refusal);
@@ -269,76 +259,64 @@ fn next_refusal(
     None
 }
 
-fn tell_rest(told: &mut Advice, source: Source<'_>, seen: Vec<usize>) -> Result<(), AllocError> {
+// Tells the refusals that are left, up to sixteen.
+fn tell_rest(told: &mut Page, source: Source, seen: Vec<usize>) -> Result<(), AllocError> {
     let mut source = source;
     let mut seen = seen;
     for _ in 0..MOST {
         let Some(study) = study_of(told.alloc, &source)? else {
             break;
         };
-        if study.refusals.is_empty() {
-            return told.say("with these lines the module is accepted");
+        let refusals = study.judged.refusals.as_slice();
+        if refusals.is_empty() {
+            told.push("with these lines the module is accepted\n");
+            break;
         }
-        let Some(refusal) = next_refusal(&source, study.refusals.as_slice(), seen.as_slice()) else {
+        let Some(refusal) = next_refusal(&source, refusals, seen.as_slice()) else {
             break;
         };
-        let line = source.number_of(refusal.pc);
         let module = (&study.code, &study.states);
-        let mended = tell(told, &source, module, refusal, study.failures)?;
-        if !lessens(&mended, study.failures) {
-            seen.push(line)?;
-        }
-        if let Some(mended) = mended {
-            source = mended.source;
+        let now = study.judged.failures;
+        if let Some(mended) = tell(told, &source, module, refusal, now, &mut seen)? {
+            source = mended;
         }
     }
     Ok(())
 }
 
-// Whether fewer tests may fail than before.
-fn lessens(mended: &Option<Mended<'_>>, now: usize) -> bool {
-    match mended {
-        Some(mended) => mended.left < now,
-        None => false,
-    }
-}
-
 /// Tells why an instruction of a module is refused in these states, and why others are that do not follow from it.
 pub fn tell_refusals(
-    told: &mut Advice,
-    source: Source<'_>,
+    told: &mut Page,
+    source: Source,
     code: &Module,
     states: &Cert,
     pc: usize,
 ) -> Result<(), AllocError> {
-    let Some(refusal) = refusal_of(code, states, pc) else {
+    let Some(refusal) = refusal_of(code, states, pc, None) else {
         return Ok(());
     };
     let now = match study_of(told.alloc, &source)? {
-        Some(study) => study.failures,
+        Some(study) => study.judged.failures,
         None => 0,
     };
-    let line = source.number_of(pc);
-    let mended = tell(told, &source, (code, states), refusal, now)?;
-    if now == 0 {
-        return told.say(
-            "  write: nothing; `certify` makes a certificate with which the module is accepted",
-        );
-    }
     let mut seen = Vec::new(told.alloc);
-    if !lessens(&mended, now) {
-        seen.push(line)?;
+    let mended = tell(told, &source, (code, states), refusal, now, &mut seen)?;
+    if now == 0 {
+        let form =
+            "  write: nothing; `certify` makes a certificate with which the module is accepted\n";
+        told.push(form);
+        return Ok(());
     }
     match mended {
-        Some(mended) => tell_rest(told, mended.source, seen),
+        Some(mended) => tell_rest(told, mended, seen),
         None => tell_rest(told, source, seen),
     }
 }
 
 /// Tells what the rule of an instruction wants that had this fault, where that comes from, and what to write instead.
 pub fn tell_fault(
-    told: &mut Advice,
-    source: &Source<'_>,
+    told: &mut Page,
+    source: &Source,
     pc: usize,
     kind: FaultKind,
 ) -> Result<(), AllocError> {
@@ -347,17 +325,19 @@ pub fn tell_fault(
     };
     let module = (&study.code, &study.states);
     let (Some(refusal), Some(state)) = (
-        refusal_by(module.0, module.1, pc, kind),
+        refusal_of(module.0, module.1, pc, Some(kind)),
         module.1.state(pc),
     ) else {
-        return told.advice(pattern_of_fault(kind));
+        put_advice(told, fault_of(kind).1);
+        return Ok(());
     };
-    told.rule(&state, refusal.doubt)?;
-    match tell_cause(told, source, module, refusal, study.failures)? {
-        Some(mended) if mended.left == 0 => told.say("with these lines the module is accepted"),
-        Some(_) => told.say(
-            "with these lines other instructions may have a fault; `certify --explain` tells them",
+    put_rule(told, &state, refusal.doubt);
+    match tell_cause(told, source, module, refusal, study.judged.failures)? {
+        Some(mended) if mended.left == 0 => told.push("with these lines the module is accepted\n"),
+        Some(_) => told.push(
+            "with these lines other instructions may have a fault; `certify --explain` tells them\n",
         ),
-        None => Ok(()),
+        None => {}
     }
+    Ok(())
 }

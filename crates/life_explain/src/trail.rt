@@ -1,8 +1,7 @@
 //! Where what may be so at an instruction comes from.
 
-use crate::doubt::Doubt;
+use crate::doubt::{Doubt, Sort};
 use crate::flow::{Way, add_ways_of, is_same, state_at};
-use crate::mend::mend;
 use life_cert::StatePlace;
 use life_check::Cert;
 use module_code::Module;
@@ -17,18 +16,7 @@ pub struct Known<'a> {
     pub ways: &'a [Way],
 }
 
-/// Where it began.
-#[derive(Clone, Copy)]
-pub enum Origin {
-    /// What stands there made it so: an instruction, or the end of a request.
-    Made(StatePlace),
-    /// It is so where a handler begins.
-    Begun(usize),
-    /// Ways meet there that know different things.
-    Met(StatePlace),
-}
-
-/// A part of the way from there on.
+/// A part of the way to an instruction.
 #[derive(Clone, Copy)]
 pub struct TrailStep {
     pub from: StatePlace,
@@ -39,7 +27,11 @@ pub struct TrailStep {
 /// How it came to an instruction.
 #[derive(Drop)]
 pub struct Trail {
-    pub origin: Origin,
+    /// Where it began.
+    pub origin: StatePlace,
+    /// Whether what stands there made it so: an instruction, or the end of a request. If not, a handler begins there, or ways meet
+    /// there that know different things.
+    pub is_made: bool,
     /// From where it began up to the instruction.
     pub steps: Vec<TrailStep>,
 }
@@ -68,7 +60,7 @@ struct TrailNode {
 
 // Whether it comes by this way.
 fn comes_by(way: &Way, place: StatePlace, doubt: Doubt) -> bool {
-    let ends = doubt.is_of_cursor() && matches!(way.from, StatePlace::Idle | StatePlace::Ready);
+    let ends = doubt.is_of_cursor() && !matches!(way.from, StatePlace::At(_));
     is_same(way.to, place) && !ends && doubt.holds(&way.state)
 }
 
@@ -77,9 +69,9 @@ fn is_made(known: &Known<'_>, way: &Way, doubt: Doubt) -> Result<bool, AllocErro
     let Some(mut state) = state_at(known.states, way.from) else {
         return Ok(false);
     };
-    mend(&mut state, doubt);
+    doubt.mend(&mut state);
     let mut led = Vec::new(known.alloc);
-    let goes_on = !matches!(doubt, Doubt::LivePool(_) | Doubt::LiveBrigade(_));
+    let goes_on = !matches!(doubt.sort, Sort::LivePool | Sort::LiveBrigade);
     add_ways_of(known.code, way.from, &state, goes_on, &mut led)?;
     for other in &led {
         if is_same(other.to, way.to) && other.jumps == way.jumps && doubt.holds(&other.state) {
@@ -87,16 +79,6 @@ fn is_made(known: &Known<'_>, way: &Way, doubt: Doubt) -> Result<bool, AllocErro
         }
     }
     Ok(false)
-}
-
-// The way by which it comes to a place from one that makes it so.
-fn maker(known: &Known<'_>, place: StatePlace, doubt: Doubt) -> Result<Option<Way>, AllocError> {
-    for way in known.ways {
-        if comes_by(way, place, doubt) && is_made(known, way, doubt)? {
-            return Ok(Some(*way));
-        }
-    }
-    Ok(None)
 }
 
 fn is_seen(nodes: &[TrailNode], place: StatePlace) -> bool {
@@ -108,36 +90,42 @@ fn is_seen(nodes: &[TrailNode], place: StatePlace) -> bool {
     false
 }
 
-// Adds the places from which it comes to the place of this number; tells whether there is one.
-fn add_sources(
+// Finds the way by which it comes to the place of this number from one that makes it so. Adds the places from which it comes,
+// and tells whether there is one.
+fn look(
+    known: &Known<'_>,
     nodes: &mut Vec<TrailNode>,
-    ways: &[Way],
-    number: usize,
+    next: usize,
     place: StatePlace,
     doubt: Doubt,
-) -> Result<bool, AllocError> {
+) -> Result<(bool, Option<Way>), AllocError> {
     let mut comes = false;
-    for way in ways {
+    for way in known.ways {
         if comes_by(way, place, doubt) {
+            if is_made(known, way, doubt)? {
+                return Ok((true, Some(*way)));
+            }
             comes = true;
             if !is_seen(nodes.as_slice(), way.from) {
                 nodes.push(TrailNode {
                     place: way.from,
                     jumps: way.jumps,
-                    next: number,
+                    next,
                 })?;
             }
         }
     }
-    Ok(comes)
+    Ok((comes, None))
 }
 
-// The steps from a place that was looked at up to the first.
-fn steps_from(
+// The trail from the place of this number up to the first.
+fn trail_from(
     alloc: Global,
     nodes: &[TrailNode],
     number: usize,
-) -> Result<Vec<TrailStep>, AllocError> {
+    origin: StatePlace,
+    is_made: bool,
+) -> Result<Trail, AllocError> {
     let mut steps = Vec::new(alloc);
     let mut at = number;
     for _ in 0..nodes.len() {
@@ -155,41 +143,16 @@ fn steps_from(
         })?;
         at = node.next;
     }
-    Ok(steps)
-}
-
-fn made_by(
-    alloc: Global,
-    nodes: &[TrailNode],
-    number: usize,
-    way: &Way,
-) -> Result<Trail, AllocError> {
-    let mut steps = vec![in alloc;
-        TrailStep {
-            from: way.from,
-            to: way.to,
-            jumps: way.jumps,
-        },
-    ]?;
-    for step in &steps_from(alloc, nodes, number)? {
-        steps.push(*step)?;
-    }
-    let origin = Origin::Made(way.from);
-    Ok(Trail { origin, steps })
-}
-
-fn begins_at(code: &Module, place: StatePlace) -> Origin {
-    match place {
-        StatePlace::At(pc) if pc == 0 || pc == code.init() || pc == code.main() => Origin::Begun(
-            pc,
-        ),
-        _ => Origin::Met(place),
-    }
+    Ok(Trail {
+        origin,
+        is_made,
+        steps,
+    })
 }
 
 /// How it came to an instruction, by the fewest steps.
 pub fn trail_to(known: &Known<'_>, pc: usize, doubt: Doubt) -> Result<Trail, AllocError> {
-    let Known { alloc, code, .. } = *known;
+    let alloc = known.alloc;
     let start = StatePlace::At(pc);
     let mut nodes = vec![in alloc;
         TrailNode {
@@ -198,22 +161,23 @@ pub fn trail_to(known: &Known<'_>, pc: usize, doubt: Doubt) -> Result<Trail, All
             next: 0
         },
     ]?;
-    for number in 0..code.len() + 2 {
-        let Some(node) = nodes.get(number).copied() else {
+    for number in 0..known.code.len().saturating_add(2) {
+        let Some(TrailNode { place, .. }) = nodes.get(number).copied() else {
             break
         };
-        if let Some(way) = maker(known, node.place, doubt)? {
-            return made_by(alloc, nodes.as_slice(), number, &way);
+        let (comes, made) = look(known, &mut nodes, number, place, doubt)?;
+        if let Some(way) = made {
+            let last = nodes.len();
+            nodes.push(TrailNode {
+                place: way.from,
+                jumps: way.jumps,
+                next: number,
+            })?;
+            return trail_from(alloc, nodes.as_slice(), last, way.from, true);
         }
-        if !add_sources(&mut nodes, known.ways, number, node.place, doubt)? {
-            let steps = steps_from(alloc, nodes.as_slice(), number)?;
-            let origin = begins_at(code, node.place);
-            return Ok(Trail { origin, steps });
+        if !comes {
+            return trail_from(alloc, nodes.as_slice(), number, place, false);
         }
     }
-    let steps = Vec::new(alloc);
-    Ok(Trail {
-        origin: begins_at(code, start),
-        steps,
-    })
+    trail_from(alloc, nodes.as_slice(), 0, start, false)
 }

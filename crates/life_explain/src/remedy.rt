@@ -1,0 +1,573 @@
+//! A refusal with what is known around it, and the remedies that the rules have for it.
+
+use crate::doubt::{Sort, Topic, brigade_name};
+use crate::flow::{FlowRefusal, instr_at};
+use crate::needs::{home_of, parent_of};
+use crate::patterns::Pattern;
+use crate::rules::{Fresh, Per, RULES, Rule, Test, When, names_of};
+use crate::source::{Edit, NONE, Source};
+use crate::trail::Trail;
+use byte_text::{after_token, begins, is_text, tail, token};
+use life_cert::StatePlace;
+use life_check::{Cert, target};
+use life_state::{Classes, CursorState};
+use line_help::{Page, last_word, stands_in, text_of};
+use module_code::parts::parts;
+use module_code::{Args, Instr, Module, Op, PoolRef, Status};
+use std::alloc::Global;
+
+const CURSORS: [&str; 8] = ["c0", "c1", "c2", "c3", "c4", "c5", "c6", "c7"];
+
+const POOLS: [&str; 8] = ["p0", "p1", "p2", "p3", "p4", "p5", "p6", "p7"];
+
+// The places of the capitals.
+const A: usize = 0;
+
+const B: usize = 1;
+
+const C: usize = 2;
+
+const D: usize = 3;
+
+const L: usize = 11;
+
+const M: usize = 12;
+
+const N: usize = 13;
+
+const O: usize = 14;
+
+const P: usize = 15;
+
+const Q: usize = 16;
+
+const S: usize = 18;
+
+const T: usize = 19;
+
+const V: usize = 21;
+
+const X: usize = 23;
+
+const Y: usize = 24;
+
+const Z: usize = 25;
+
+/// A remedy: its pattern, and where its edits begin.
+#[derive(Clone, Copy)]
+pub struct Head {
+    pub pattern: Pattern,
+    pub from: usize,
+}
+
+/// A refusal with what is known around it.
+#[derive(Drop)]
+pub struct Case<'s> {
+    pub source: &'s Source,
+    pub code: &'s Module,
+    pub states: &'s Cert,
+    pub trail: &'s Trail,
+    pub refusal: FlowRefusal,
+    /// The remedies so far, their edits, and the lines that these write.
+    pub heads: Vec<Head>,
+    pub edits: Vec<Edit>,
+    pub page: Page,
+    // The instruction that made it so, and the return by which it left an earlier call; `NONE` where there is none.
+    maker: usize,
+    exit: usize,
+    // The instruction that fits, and how many did.
+    at: usize,
+    number: usize,
+    // The place of the last edit.
+    last: usize,
+    // What stands for each capital.
+    names: [&'s [u8]; 26],
+}
+
+fn cursor_text(c: u8) -> &'static [u8] {
+    match CURSORS.get(usize::from(c)) {
+        Some(name) => name.as_bytes(),
+        None => b"",
+    }
+}
+
+fn pool_text(pool: PoolRef) -> &'static [u8] {
+    let name = match pool {
+        PoolRef::Conn => Some("conn"),
+        PoolRef::Req => Some("req"),
+        PoolRef::Own(q) => POOLS.get(usize::from(q)).copied(),
+    };
+    name.unwrap_or("").as_bytes()
+}
+
+impl<'s> Case<'s> {
+    /// A refusal, and no remedies yet.
+    pub fn new(
+        alloc: Global,
+        source: &'s Source,
+        module: (&'s Module, &'s Cert),
+        trail: &'s Trail,
+        refusal: FlowRefusal,
+    ) -> Case<'s> {
+        let nothing: &'s [u8] = &[];
+        let maker = match trail.origin {
+            StatePlace::At(pc) if trail.is_made => pc,
+            _ => NONE,
+        };
+        Case {
+            source,
+            code: module.0,
+            states: module.1,
+            trail,
+            refusal,
+            heads: Vec::new(alloc),
+            edits: Vec::new(alloc),
+            page: Page::new(alloc),
+            maker,
+            exit: trail.ending_call().unwrap_or(NONE),
+            at: NONE,
+            number: 0,
+            last: NONE,
+            names: [nothing; 26],
+        }
+    }
+
+    // The word and the operands of an instruction; those of `clearbuf` where there is none.
+    fn shape(&self, pc: usize) -> (Op, Args) {
+        parts(instr_at(self.code, pc).unwrap_or(Instr::ClearBuf))
+    }
+
+    /// The word of the instruction that made it so; nothing where none did.
+    fn made_by(&self) -> &'static str {
+        if self.maker == NONE {
+            return "";
+        }
+        text_of(self.shape(self.maker).0.text())
+    }
+
+    /// The pattern of the refusal.
+    pub fn pattern(&self) -> Pattern {
+        let doubt = self.refusal.doubt;
+        let is_late = matches!(doubt.sort, Sort::LateData);
+        let made = self.made_by();
+        let mut cuts = false;
+        for pc in self.code.main()..self.refusal.pc {
+            let cut = matches!(instr_at(self.code, pc), Some(Instr::BSplit(_, _, _)));
+            cuts = cuts || cut && self.exit == NONE;
+        }
+        if cuts && (is_late || matches!(doubt.sort, Sort::Sent)) || is_late && made == "bsplit" {
+            Pattern::CutWithoutEos
+        } else if is_late && doubt.of == 8 {
+            Pattern::InsertIntoOwn
+        } else if is_late && stands_in("bsave bconcat", made) {
+            Pattern::MoveOneByOne
+        } else {
+            doubt.row().pattern
+        }
+    }
+
+    // What is known of a cursor before an instruction.
+    fn cursor(&self, pc: usize, c: u8) -> CursorState {
+        match self.states.state(pc) {
+            Some(state) => state.cursor(c),
+            None => CursorState::Unset,
+        }
+    }
+
+    // Whether a bucket at the cursor is an EOS and nothing else.
+    fn is_eos(&self, pc: usize, c: u8) -> bool {
+        match self.cursor(pc, c) {
+            CursorState::Loose(classes, _)
+            | CursorState::In(_, classes)
+            | CursorState::InOrEnd(_, classes) => {
+                let Classes { bytes, eos, .. } = classes;
+                eos && !bytes
+            }
+            CursorState::Unset | CursorState::End(_) => false,
+        }
+    }
+
+    // Whether the brigade may be usable before an instruction, and whether it may be passed.
+    fn may_be(&self, pc: usize) -> (bool, bool) {
+        match self.states.state(pc) {
+            Some(state) => {
+                let brigade = state.brigade(self.refusal.doubt.of);
+                (brigade.usable, brigade.passed)
+            }
+            None => (false, false),
+        }
+    }
+
+    // Finds an `aside` of the cursor a few instructions before the one that puts the bucket in.
+    fn finds_early(&mut self, c: u8) -> bool {
+        for step in 1..5usize {
+            let pc = self.maker.saturating_sub(step);
+            if let Some(Instr::Aside(d, _)) = instr_at(self.code, pc) {
+                if c == d {
+                    self.at = pc;
+                    return true;
+                }
+            }
+        }
+        false
+    }
+
+    // The cursor that the doubt is about, or of the bucket that was put in.
+    fn first_cursor(&self) -> u8 {
+        let (op, args) = self.shape(self.maker);
+        match (self.refusal.doubt.is_of_cursor(), op) {
+            (true, _) => self.refusal.doubt.of,
+            (_, Op::Before) => args.first.index(),
+            _ => args.second.index(),
+        }
+    }
+
+    fn is_when(&mut self, when: When) -> bool {
+        let of = self.refusal.doubt.of;
+        let second = self.shape(self.maker).1.second.index();
+        let is_whole = second == 8 && self.is_made_by("bsave bconcat");
+        let here = instr_at(self.code, self.refusal.pc);
+        let fails = matches!(here, Some(Instr::Ret(Status::Fail)));
+        match when {
+            When::Always => true,
+            When::Gone => self.source.find(":gone") != NONE,
+            When::Brought => of == 8 && self.code.brigade_count() < 8,
+            When::Whole => of != 8 && is_whole,
+            When::Part => of != 8 && !is_whole,
+            When::Keeps => self.exit == NONE || self.may_be(self.exit).0,
+            When::Lost => self.exit != NONE && !self.may_be(self.exit).0,
+            When::Left => self.exit != NONE,
+            When::Own => of != 8,
+            When::Fails => fails,
+            When::Ends => !fails,
+            When::Early => self.finds_early(self.first_cursor()),
+        }
+    }
+
+    fn is_made_by(&self, words: &str) -> bool {
+        let made = self.made_by();
+        match words {
+            "" => true,
+            "-" => made.is_empty(),
+            "*" => !made.is_empty(),
+            words => stands_in(words, made),
+        }
+    }
+
+    // Whether an instruction that goes to a label leads to where brigades are cleaned and the call ends well.
+    fn drops(&mut self, pc: usize) -> bool {
+        self.names[L] = last_word(self.source.instruction(pc));
+        if pc >= self.code.main().saturating_add(3) {
+            return false;
+        }
+        let Some(instr) = instr_at(self.code, pc) else {
+            return false;
+        };
+        for step in 0..4usize {
+            match instr_at(self.code, target(instr).saturating_add(step)) {
+                Some(Instr::BClean(_)) => {}
+                Some(Instr::Ret(Status::Success)) => return true,
+                _ => return false,
+            }
+        }
+        false
+    }
+
+    // Finds the jump that an instruction leads to, a few instructions behind it.
+    fn finds_jump(&mut self, pc: usize) -> bool {
+        for step in 1..6usize {
+            let next = pc.saturating_add(step);
+            match instr_at(self.code, next) {
+                Some(Instr::Jump(_)) => {
+                    self.at = next;
+                    return true;
+                }
+                None | Some(Instr::Ret(_) | Instr::Pass(_, _)) => return false,
+                _ => {}
+            }
+        }
+        false
+    }
+
+    // The handler in which what lies on a pool is made: `init` where that ends with the request.
+    fn beginning(&self) -> &'static str {
+        let of = self.refusal.doubt.of;
+        let mut pool = match self.refusal.doubt.sort {
+            Sort::NullPool | Sort::GonePool | Sort::LivePool => PoolRef::Own(of),
+            _ => home_of(self.code, of),
+        };
+        for _ in 0..8u8 {
+            match pool {
+                PoolRef::Conn => return "open",
+                PoolRef::Req => return "init",
+                PoolRef::Own(q) => pool = parent_of(self.code, q),
+            }
+        }
+        "open"
+    }
+
+    // What is written where an instruction is about `in`, with a brigade of its own in place of that.
+    fn rewritten(&mut self, pc: usize) -> &'static str {
+        let (op, args) = self.shape(pc);
+        let (x, y) = (args.first.index(), args.second.index());
+        self.names[A] = brigade_name(y).as_bytes();
+        self.names[C] = cursor_text(x);
+        self.names[D] = cursor_text(y);
+        self.names[L] = last_word(self.source.instruction(pc));
+        match op {
+            Op::Next if matches!(self.cursor(pc, y), CursorState::In(8, _)) =>
+                "over at unlink D;over at tail O D;over at first C in",
+            Op::Before
+                if matches!(self.cursor(pc, y), CursorState::In(8, _)) && self.is_eos(pc, y) =>
+                "over at tail O C;over at unlink D;over at tail O D",
+            Op::Before if matches!(self.cursor(pc, y), CursorState::In(8, _)) => "over at tail O C",
+            Op::Tail | Op::Head if x == 8 => "over at tail O D",
+            Op::BConcat if x == 8 => "over at bconcat O A",
+            Op::Pass if x == 8 => "over at pass O L;over at bclean O",
+            Op::Ret if matches!(instr_at(self.code, pc), Some(Instr::Ret(Status::Fail))) =>
+                "before at bclean O",
+            _ => "",
+        }
+    }
+
+    // Whether an instruction fits, or what is of this number.
+    fn fits(&mut self, test: Test, pc: usize) -> bool {
+        let (op, args) = self.shape(pc);
+        let (x, y) = (args.first.index(), args.second.index());
+        let of = self.refusal.doubt.of;
+        let is_pool = matches!(self.refusal.doubt.row().topic, Topic::Pool);
+        let in_main = pc >= self.code.main();
+        self.names[C] = cursor_text(if let Op::Aside = op { x } else { y });
+        match (test, op) {
+            (Test::LiesOn | Test::Inside, _) => self.fits_number(test, pc),
+            (Test::Makes, Op::PCreate) => is_pool && x == of,
+            (Test::Makes, Op::BCreate) => !is_pool && x == of,
+            (Test::Drops, Op::JEq | Op::JLt) => in_main && self.drops(pc),
+            (Test::Saves, Op::BSave | Op::BConcat) => in_main && x == of && y == 8,
+            (Test::PutsEos, Op::Tail) => x == of && self.is_eos(pc, y) && self.finds_jump(pc),
+            (Test::Tails, Op::Tail) => x == of,
+            (Test::Leaves, Op::Ret) => in_main && self.may_be(pc).1,
+            (Test::PutsOfCall, Op::Tail | Op::Head) if x == of => match self.cursor(pc, y) {
+                CursorState::Loose(_, homes) => in_main && homes.call,
+                _ => false,
+            },
+            (Test::Reads, Op::Read) => in_main,
+            (Test::Asides, Op::Aside) => in_main && !matches!(args.second.place(), PoolRef::Conn),
+            _ => false,
+        }
+    }
+
+    // Whether the brigade of this number lies on the pool that ended, or the cursor is at a bucket of a brigade.
+    fn fits_number(&mut self, test: Test, number: usize) -> bool {
+        let number = number.min(255) as u8;
+        let ended = self.shape(self.maker).1.first.index();
+        self.names[A] = brigade_name(number).as_bytes();
+        self.names[C] = cursor_text(number);
+        if let Test::Inside = test {
+            let cursor = self.cursor(self.refusal.pc, number);
+            return number < 8 && matches!(cursor, CursorState::In(_, _));
+        }
+        match home_of(self.code, number) {
+            PoolRef::Own(q) => q == ended && number < self.code.brigade_count(),
+            PoolRef::Conn | PoolRef::Req => false,
+        }
+    }
+
+    // The script of a rule for an instruction; nothing where it does not fit.
+    fn script(&mut self, rule: &Rule, pc: usize) -> &'static str {
+        if let Test::Nothing = rule.test {
+            return "";
+        }
+        self.at = pc;
+        self.names[Z] = self.source.instruction(pc);
+        if let (Test::Brought, true) = (rule.test, pc >= self.code.main()) {
+            return self.rewritten(pc);
+        }
+        let fits = self.fits(rule.test, pc);
+        if !fits {
+            return "";
+        }
+        self.number = self.number.saturating_add(1);
+        rule.each
+    }
+
+    // The place of a line, by the word of a step.
+    fn place(&self, word: &[u8]) -> usize {
+        match text_of(word) {
+            "here" => self.source.line_of(self.refusal.pc),
+            "maker" => self.source.line_of(self.maker),
+            "exit" => self.source.line_of(self.exit),
+            "at" => self.source.line_of(self.at),
+            "begin" => self.source.find(self.beginning()),
+            line => self.source.find(line),
+        }
+    }
+
+    // Adds a form to the lines that are to be written, with the names in place of capitals.
+    fn expand(&mut self, form: &[u8]) {
+        for byte in form {
+            let byte = *byte;
+            let name = self
+                .names
+                .get(usize::from(byte.wrapping_sub(b'A')))
+                .copied();
+            if let Some(name) = name {
+                self.page.push_line(name);
+            } else if byte == b'#' {
+                self.page.put("#", self.number, &[], "");
+            } else {
+                self.page.push_line(&[byte]);
+            }
+        }
+    }
+
+    fn edit(&mut self, how: &[u8], place: &[u8], form: &[u8]) {
+        let line = self.place(place);
+        let at = line.saturating_add(usize::from(is_text(how, b"behind")));
+        let start = self.page.text.len();
+        self.expand(form);
+        let edit = Edit {
+            at,
+            removes: is_text(how, b"over"),
+            follows: at == self.last,
+            start,
+            end: self.page.text.len(),
+        };
+        self.last = at;
+        self.page.full |= self.edits.push(edit).is_err();
+    }
+
+    // The label before the refused instruction: the one that is there, or a new one that is written.
+    fn mark(&mut self) {
+        let there = self
+            .source
+            .label_before(self.source.line_of(self.refusal.pc));
+        self.names[L] = there;
+        if there.is_empty() {
+            let name = self.source.new_label(names_of(Fresh::Send)).as_bytes();
+            self.edit(b"before", b"here", name);
+            self.names[L] = tail(name);
+        }
+    }
+
+    fn write(&mut self, script: &str) {
+        self.last = NONE;
+        for step in script.split(';') {
+            let how = token(step.as_bytes());
+            let rest = tail(after_token(step.as_bytes()));
+            if is_text(how, b"label") {
+                self.mark();
+            } else if !how.is_empty() {
+                self.edit(how, token(rest), tail(after_token(rest)));
+            }
+        }
+    }
+
+    // Adds a remedy.
+    fn add(&mut self, rule: &Rule, script: &str) {
+        let head = Head {
+            pattern: rule.pattern,
+            from: self.edits.len(),
+        };
+        self.page.full |= self.heads.push(head).is_err();
+        self.write(script);
+    }
+
+    // Adds a remedy, or one for each instruction that fits.
+    fn add_all(&mut self, rule: &Rule) {
+        if let Per::Once = rule.per {
+            self.add(rule, rule.first);
+        }
+        for pc in 0..self.code.len().saturating_add(8) {
+            let script = self.script(rule, pc);
+            match rule.per {
+                Per::Once => self.write(script),
+                Per::Each if !script.is_empty() => self.add(rule, script),
+                Per::Read if !script.is_empty() => self.add_read(rule),
+                _ => {}
+            }
+        }
+        self.write(rule.last);
+    }
+
+    // A remedy behind what set the cursor, and one before the refused instruction, to this label.
+    fn add_label(&mut self, rule: &Rule, label: &'s [u8]) {
+        self.names[L] = label;
+        if !rule.first.is_empty() && self.is_made_by("first next") {
+            self.add(rule, rule.first);
+        }
+        self.add(rule, rule.last);
+    }
+
+    // The label of a `jempty` or `jend` nearest before the use goes first.
+    fn add_likely(&mut self, rule: &Rule) {
+        for step in 1..8usize {
+            let pc = self.refusal.pc.saturating_sub(step);
+            if let Some(Instr::JEmpty(_, _) | Instr::JEnd(_, _)) = instr_at(self.code, pc) {
+                return self.add_label(rule, last_word(self.source.instruction(pc)));
+            }
+        }
+    }
+
+    fn add_labels(&mut self, rule: &Rule) {
+        if !rule.first.is_empty() {
+            self.add_likely(rule);
+        }
+        let main = self.source.find("main");
+        let count = self.source.lines.len();
+        for step in 0..count {
+            let index = count.saturating_sub(step).saturating_sub(1);
+            let line = self.source.text_at(index);
+            if index > main && begins(line, b':') {
+                self.add_label(rule, tail(line));
+            }
+        }
+    }
+
+    fn add_read(&mut self, rule: &Rule) {
+        let trail = self.trail;
+        for step in &trail.steps {
+            if let (StatePlace::At(from), true) = (step.from, step.jumps) {
+                self.at = from;
+                self.add(rule, rule.first);
+            }
+        }
+        self.add(rule, rule.each);
+    }
+
+    fn add_rule(&mut self, rule: &Rule) {
+        self.number = 0;
+        let name = self.source.new_label(names_of(rule.fresh)).as_bytes();
+        self.names[M] = name;
+        self.names[N] = tail(name);
+        self.names[C] = cursor_text(self.first_cursor());
+        self.names[L] = last_word(self.names[Y]);
+        if let Per::Label = rule.per {
+            self.add_labels(rule);
+        } else {
+            self.add_all(rule);
+        }
+    }
+
+    /// Finds the remedies of the refusal, the likeliest first.
+    pub fn find_remedies(&mut self) {
+        let of = self.refusal.doubt.of;
+        let args = self.shape(self.maker).1;
+        let first = args.first.index();
+        self.names[B] = brigade_name(of).as_bytes();
+        self.names[O] = brigade_name(self.code.brigade_count()).as_bytes();
+        self.names[S] = brigade_name(first).as_bytes();
+        self.names[T] = brigade_name(args.second.index()).as_bytes();
+        self.names[P] = pool_text(home_of(self.code, of));
+        self.names[Q] = pool_text(PoolRef::Own(first));
+        self.names[V] = pool_text(PoolRef::Own(of));
+        self.names[X] = self.source.instruction(self.maker);
+        self.names[Y] = self.source.instruction(self.refusal.pc);
+        let sort = self.refusal.doubt.sort as u8;
+        for rule in &RULES {
+            if rule.sort as u8 == sort && self.is_made_by(rule.made) && self.is_when(rule.when) {
+                self.add_rule(rule);
+            }
+        }
+    }
+}

@@ -1,0 +1,346 @@
+//! What is wrong with a line that is of no module text, of no certificate text or no command, and what to write instead.
+
+use crate::forms::{letters_of, letters_of_command, near_command, near_word, tell_form};
+use crate::page::Page;
+use crate::script::{Script, ScriptLine, ScriptText, lines_of};
+use crate::words::{found_in, last_word, text_of, word};
+use byte_text::{
+    all_printable, begins, decimal_u64, is_printable, is_text, tail, token, unindented,
+};
+use life_cert::CertCode;
+use module_code::{Op, Word, word_of};
+use module_lang::Code;
+use script_text::{LINE_BYTES, is_skipped};
+use std::alloc::AllocError;
+
+/// How many bytes of a line are shown at most.
+const SHOWN: usize = 100;
+
+// What may stand behind a line that begins so.
+const DUE: [(&str, &str); 7] = [
+    ("module", "`pool`, `brigade` or `open`"),
+    ("pool", "`pool`, `brigade` or `open`"),
+    ("brigade", "`brigade` or `open`"),
+    ("open", "an instruction, a label or `init`"),
+    ("init", "an instruction, a label or `main`"),
+    ("main", "an instruction, a label or `end`"),
+    ("end", "nothing: the module has ended"),
+];
+
+// What is wrong with a word of a text that stands among commands.
+const MISPLACED: [(&str, &str); 4] = [
+    (
+        "module",
+        "  module texts stand before the commands, 16 at most; before `budget` and `checked`, too\n",
+    ),
+    (
+        "cert",
+        "  a certificate stands right behind its module, and a module has one at most\n",
+    ),
+    (
+        "budget",
+        "  `budget N` stands once, behind the texts and before `checked`; N is a number without leading zeros\n",
+    ),
+    (
+        "checked",
+        "  `checked` stands once, alone, between the texts and the commands\n",
+    ),
+];
+
+/// The front of a line, as it is shown.
+pub fn shown(line: &[u8]) -> &[u8] {
+    line.get(..SHOWN).unwrap_or(line)
+}
+
+// A faulty line of a module text, and all of its lines.
+#[derive(Clone, Copy)]
+struct Faulty<'a> {
+    there: ScriptLine<'a>,
+    text: &'a [u8],
+    lines: &'a [ScriptLine<'a>],
+}
+
+// What may stand behind these lines: the last of them that says it.
+fn due_behind(lines: &[ScriptLine<'_>]) -> &'static str {
+    for line in lines.iter().rev() {
+        let due = found_in(&DUE, token(unindented(line.text)));
+        if !due.is_empty() {
+            return due;
+        }
+    }
+    "`module 1`"
+}
+
+// Tells which byte may not stand on a line, of a text that may have so many bytes.
+fn tell_bad_byte(told: &mut Page, line: &ScriptLine<'_>, most: &str) {
+    if line.text.ends_with(b"\r") {
+        return told.push(
+            "  it ends with CR LF; each line ends with LF alone, so take out the CR\n",
+        );
+    }
+    for (index, byte) in line.text.iter().enumerate() {
+        let byte = *byte;
+        if !is_printable(byte) {
+            let name = if byte == b'\t' { ", a tab" } else { "" };
+            told.put("  its byte # is 0x", index.saturating_add(1), &[], "");
+            told.full |= write!(told.text, "{byte:02x}{name}").is_err();
+            told.push(
+                "; a line has bytes from 0x20 to 0x7e alone, and other bytes stand in quotes, as `",
+            );
+            told.full |= writeln!(told.text, "\\x{byte:02x}`").is_err();
+            return;
+        }
+    }
+    if line.ended {
+        told.put("  the text has more than $ bytes here\n", 0, &[], most);
+    } else {
+        told.push("  it is the last line, and has no LF; write one behind it\n");
+    }
+}
+
+fn tell_near(told: &mut Page, near: &str, unknown: &str) {
+    if near.is_empty() {
+        told.push(unknown);
+    } else {
+        told.put("  perhaps `$` is meant\n", 0, &[], near);
+    }
+}
+
+// The number of the first line above one that begins with this word and this name; 0 where there is none.
+fn line_with(lines: &[ScriptLine<'_>], head: &str, name: &[u8], above: usize) -> usize {
+    for line in lines {
+        let text = unindented(line.text);
+        if line.number >= above {
+            break;
+        }
+        if token(text) == head.as_bytes() && word(text, 1) == name {
+            return line.number;
+        }
+    }
+    0
+}
+
+// What declares a variable of this name.
+fn declaration_of(name: &[u8]) -> &'static str {
+    if name.len() != 2 || decimal_u64(tail(name)).is_none() {
+        ""
+    } else if begins(name, b'p') {
+        "pool"
+    } else if begins(name, b'b') {
+        "brigade"
+    } else {
+        ""
+    }
+}
+
+impl Faulty<'_> {
+    // The number of the line that marks this label; 0 where none does.
+    fn label_line(&self, name: &[u8]) -> usize {
+        for line in self.lines {
+            let text = unindented(line.text);
+            if begins(text, b':') && tail(text) == name {
+                return line.number;
+            }
+        }
+        0
+    }
+
+    fn tell_operands(&self, told: &mut Page) {
+        let Some(first) = word_of(token(self.text)) else {
+            return told.push(
+                "  a label is `:` and a letter, then up to 15 letters or digits, all lower case\n",
+            );
+        };
+        tell_form(told, token(self.text), &letters_of(first), self.text);
+        let other = match first {
+            Word::Op(Op::BConcat | Op::BSave) => 2usize,
+            Word::Op(Op::BSplit) => 3,
+            _ => 1,
+        };
+        if other != 1 && word(self.text, 1) == word(self.text, other) {
+            told.push("  its two brigades have to be different ones\n");
+        }
+    }
+
+    fn tell_undeclared(&self, told: &mut Page) {
+        let first = match word_of(token(self.text)) {
+            Some(Word::Pool | Word::Brigade) => 2usize,
+            _ => 1,
+        };
+        for index in first..5usize {
+            let name = word(self.text, index);
+            let head = declaration_of(name);
+            if !head.is_empty() && line_with(self.lines, head, name, self.there.number) == 0 {
+                let form = "  `@` is not declared; write `$ @ conn` before it, above `open`\n";
+                return told.put(form, 0, name, head);
+            }
+        }
+    }
+
+    // Tells where a label stands, twice or in another handler.
+    fn tell_label(&self, told: &mut Page, doubled: bool) {
+        let marks = begins(self.text, b':');
+        let name = if marks {
+            tail(self.text)
+        } else {
+            last_word(self.text)
+        };
+        let number = self.label_line(name);
+        let form = if doubled {
+            "  line # has this label already; a name is used once in the module\n"
+        } else if marks {
+            "  no instruction of its handler follows it\n"
+        } else if number == 0 {
+            "  its handler has no line `:@`\n"
+        } else {
+            "  `:@` stands on line #, which is of another handler\n"
+        };
+        told.put(form, number, name, "");
+    }
+
+    fn tell(&self, told: &mut Page, code: Code) {
+        match code {
+            Code::BadByte => tell_bad_byte(told, &self.there, "1,048,576"),
+            Code::NotDue => {}
+            Code::UnknownWord => tell_near(
+                told,
+                near_word(token(self.text)),
+                "  a line is a label, as `:out`, or begins with the word of an instruction, in lower case\n",
+            ),
+            Code::WrongOperands => self.tell_operands(told),
+            Code::FaultyText => told.push(
+                "  a text stands in quotes and has 255 bytes at most; in it stand `\\\"` for a quote, `\\\\` for a backslash, `\\n`, `\\r`, and `\\xHH` for any byte, with two digits, lower case\n",
+            ),
+            Code::Undeclared => self.tell_undeclared(told),
+            Code::DoubledLabel => self.tell_label(told, true),
+            Code::LostLabel => self.tell_label(told, false),
+            Code::Misplaced => told.push(
+                "  `in`, `pass` and `ret fail` stand in `main` alone, and nothing of the request stands in `open`\n",
+            ),
+            Code::OpenEnd => told.push("  the last instruction of a handler is `ret` or `jump`\n"),
+            Code::TooMany => told.push("  a module has 1024 instructions and 64 texts at most\n"),
+        }
+    }
+}
+
+// Tells which line of a text is faulty.
+fn tell_line(told: &mut Page, number: usize, of: &str, line: Option<&[u8]>) {
+    told.put("line #$: ", number, &[], of);
+    match line {
+        Some(line) => told.put("`@`: ", 0, shown(line), ""),
+        None => told.push("the text ends here: "),
+    }
+}
+
+/// Tells what is wrong with the first faulty line of a module text, by its number in the text.
+pub fn tell_asm_fault(
+    told: &mut Page,
+    text: ScriptText<'_>,
+    line: usize,
+    code: Code,
+) -> Result<(), AllocError> {
+    let lines = lines_of(told.alloc, text.text, text.before)?;
+    let index = line.saturating_sub(1);
+    let number = text.before.saturating_add(line);
+    match lines.get(index).copied() {
+        Some(there) => {
+            let text = unindented(there.text);
+            tell_line(told, number, "", Some(text));
+            writeln!(told.text, "{code}")?;
+            let lines = lines.as_slice();
+            Faulty { there, text, lines }.tell(told, code);
+        }
+        None => {
+            tell_line(told, number, "", None);
+            writeln!(told.text, "{code}")?;
+        }
+    }
+    if let Code::NotDue = code {
+        let due = due_behind(lines.get(..index).unwrap_or(&[]));
+        told.put("  due here is $\n", 0, &[], due);
+    }
+    Ok(())
+}
+
+/// Tells what is wrong with the first faulty line of a certificate text, by its number in the text.
+pub fn tell_cert_fault(
+    told: &mut Page,
+    text: ScriptText<'_>,
+    line: usize,
+    code: CertCode,
+) -> Result<(), AllocError> {
+    let lines = lines_of(told.alloc, text.text, text.before)?;
+    let there = lines.get(line.saturating_sub(1)).copied();
+    let of = if text.before == 0 {
+        " of the certificate"
+    } else {
+        ""
+    };
+    let number = text.before.saturating_add(line);
+    match there {
+        Some(line) => tell_line(told, number, of, Some(line.text)),
+        None => tell_line(told, number, of, None),
+    }
+    writeln!(told.text, "{code}")?;
+    match (code, there) {
+        (CertCode::BadByte, Some(there)) => tell_bad_byte(told, &there, "4,194,304"),
+        (CertCode::NotState, _) => told.push(
+            "  a state has one spelling, the one that `certify` prints\n",
+        ),
+        _ => told.push(
+            "  its lines are `cert 1`, `idle`, `ready`, one of each instruction that is reached, by rising numbers, and `end`; no empty lines, no comments, no spaces in front\n",
+        ),
+    }
+    Ok(())
+}
+
+// What is wrong with the bytes of a printable line, whatever its words.
+fn wrong_bytes(line: &ScriptLine<'_>) -> &'static str {
+    if line.text.len() > LINE_BYTES {
+        "  it has more than 65,536 bytes\n"
+    } else if is_skipped(line.text, line.ended) {
+        "  empty lines and comments stand in module texts and before them, and nowhere else\n"
+    } else if begins(line.text, b' ') {
+        "  no space stands at its front, since it is of no module text\n"
+    } else {
+        found_in(&MISPLACED, token(line.text))
+    }
+}
+
+fn tell_words(told: &mut Page, script: &Script<'_>, line: &ScriptLine<'_>) {
+    let first = token(line.text);
+    let Some(letters) = letters_of_command(first) else {
+        return tell_near(
+            told,
+            near_command(first),
+            "  commands are `open`, `begin`, `bring`, `run`, `step`, `end`, `output`, `labels`, `close`, `pools` and `file`\n",
+        );
+    };
+    tell_form(told, first, letters, line.text);
+    let commands = script.lines.get(script.before..).unwrap_or(&[]);
+    let number = line_with(commands, "file", word(line.text, 1), line.number);
+    if number != 0 && is_text(first, b"file") {
+        let form = "  line # gave this name to a file; a name may be given once\n";
+        told.put(form, number, &[], "");
+    }
+}
+
+/// Tells why a line of this number is no command that may stand there.
+pub fn tell_script_fault(told: &mut Page, script: &Script<'_>, number: usize) {
+    let Some(line) = script.lines.get(number.wrapping_sub(1)) else {
+        return;
+    };
+    if line.text.is_empty() {
+        told.put("line #: an empty line is no command\n", number, &[], "");
+    } else {
+        let form = "line #: `@`: no command that may stand here\n";
+        told.put(form, number, shown(line.text), "");
+    }
+    if !all_printable(line.text) || !line.ended {
+        return tell_bad_byte(told, line, "");
+    }
+    match wrong_bytes(line) {
+        "" => tell_words(told, script, line),
+        wrong => told.push(wrong),
+    }
+}
