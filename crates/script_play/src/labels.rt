@@ -1,30 +1,34 @@
-//! The labels among what pools handed on.
+//! The labels that pools ran.
 
-ghost use Rattle.std.specs.Prelude.{◌≡◌, ℕ, ◌++◌, ◌∷◌, [], IfOk, OnOk};
+ghost use Rattle.std.specs.Prelude.{◌≡◌, ℕ, ◌++◌, ◌∷◌, [], true, IfOk, OnOk};
 ghost use Rattle.run_model.specs.Payloads.{labels_in};
+ghost use Rattle.ring_run.specs.LabelsKept.{is_run, AreLabels};
 ghost use Rattle.module_run.specs.Conns.{labels_handed};
 
+use filter_chain::LabelsRun;
 use pool_tree::PoolId;
 use run_model::{Payload, Seq};
 use script_text::copied;
 use std::alloc::{AllocError, Global};
 
-/// Adds the text of a payload that is a label.
+/// Adds the text of a label.
 fn push_label(alloc: Global, labels: &mut Seq<Seq<u8>>, payload: &Payload) -> Result<(), AllocError>
+    requires { is_run payload.now ≡ true }
     ensures { OnOk result ((pool : ℕ) → labels.new ≡ labels.old ++ labels_in ((pool, payload.now) ∷ [])) }
 {
     match payload {
         Payload::Label(text) => labels.push(copied(alloc, text.as_slice())?),
-        Payload::FileRef(_) | Payload::Brigade(_) => Ok(()),
+        Payload::FileRef(_) | Payload::Brigade(_) => unreachable!(),
     }
 }
 
-/// Adds the labels among the payloads that one clear handed on.
+/// Adds the labels that one clear ran.
 fn push_labels(
     alloc: Global,
     labels: &mut Seq<Seq<u8>>,
     handed: &[(PoolId, Payload)],
 ) -> Result<(), AllocError>
+    requires { AreLabels handed.now }
     ensures { OnOk result (labels.new ≡ labels.old ++ labels_in handed.now) }
 {
     for pair in handed {
@@ -33,8 +37,8 @@ fn push_labels(
     Ok(())
 }
 
-/// The labels among the payloads that clears handed on.
-pub fn labels_of(alloc: Global, runs: &[Vec<(PoolId, Payload)>]) -> Result<Seq<Seq<u8>>, AllocError>
+/// The texts of the labels that clears ran.
+pub fn labels_of(alloc: Global, runs: &[LabelsRun]) -> Result<Seq<Seq<u8>>, AllocError>
     ensures { IfOk result (λ labels. labels ≡ labels_handed runs.now) }
 {
     let mut labels = Seq::new(alloc);
