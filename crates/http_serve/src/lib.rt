@@ -9,8 +9,8 @@ mod request_log;
 mod serve_command;
 mod socket;
 mod system_clock;
-#[cfg(test)]
-mod tests;
 mod unclosed;
 
+pub use head_reader::Deadline;
+pub use listening::serve_stream;
 pub use serve_command::{ServeOptions, serve_front};

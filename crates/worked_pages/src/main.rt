@@ -1,6 +1,8 @@
-//! The worked responses of the server, in memory. Each row serves a stream and prints what is written; what it must print is `stdout`.
+//! The worked responses of the server. Each row serves a stream in memory, the last one a socket, and prints what is written; what it
+//! must print is `stdout`.
 #![tactic(auto)]
 
+mod loopback;
 mod modules;
 mod pages;
 mod requests;
@@ -10,16 +12,7 @@ mod stopped_clock;
 use anyhow::Result;
 
 fn main(rt: HostRuntime) -> Result<()> {
-    requests::gets(&rt)?;
-    requests::bad_heads(&rt)?;
-    requests::fields_up_to_the_limit(&rt)?;
-    requests::old_version(&rt)?;
-    requests::methods_and_missing_files(&rt)?;
-    requests::known_methods(&rt)?;
-    requests::contents(&rt)?;
-    requests::empty_and_large_files(&rt)?;
-    requests::failures(&rt)?;
-    requests::bytes_of_filters(&rt)?;
-    requests::no_date(&rt)?;
-    requests::cut_requests(&rt)
+    requests::show_rows(&rt)?;
+    requests::cut_requests(&rt)?;
+    loopback::serves_over_a_socket(&rt)
 }

@@ -69,7 +69,7 @@ fn files(alloc: Global, fails_at: Option<u64>) -> Result<MemFiles> {
 }
 
 /// Each file under a path of one letter, and a path whose file is not there.
-fn site(alloc: Global) -> Result<Site> {
+pub(crate) fn site(alloc: Global) -> Result<Site> {
     let mut site = Site::new(alloc);
     site.add("/a", b"a")?;
     site.add("/e", b"e")?;
@@ -78,7 +78,7 @@ fn site(alloc: Global) -> Result<Site> {
     Ok(site)
 }
 
-fn host(alloc: Global, server: Server) -> Result<Host<MemFiles>>
+pub(crate) fn host(alloc: Global, server: Server) -> Result<Host<MemFiles>>
     ensures { IfOk result (λ h. IsAlive ⟦<MemFiles as Files>⟧.device h) }
 {
     let limits = Limits {
