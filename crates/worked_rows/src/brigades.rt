@@ -1,11 +1,12 @@
 //! Rows of brigades: buckets are put in, moved and split off.
 
-use crate::buckets::in_memory;
+use crate::buckets::{Made, make};
+use crate::calls::{Call, Four, Place, show_named, show_two};
 use crate::missing::Missing;
 use crate::shown::Shown;
 use anyhow::Result;
 use brigade_ops::{BrigadeId, Brigades, BucketId, PlainRings};
-use bucket_kinds::{Bucket, Home, Kind};
+use bucket_kinds::Bucket;
 use std::alloc::{AllocError, Global};
 
 /// No brigade of a row has more buckets.
@@ -13,15 +14,6 @@ const MOST: usize = 9;
 
 /// The store of a row.
 pub(crate) type Store = Brigades<PlainRings<Bucket>>;
-
-/// Where a bucket is put.
-#[derive(Clone, Copy)]
-enum Place {
-    Head(BrigadeId),
-    Tail(BrigadeId),
-    Before(BucketId),
-    After(BucketId),
-}
 
 /// Tells the buckets of a brigade.
 pub(crate) fn show_brigade(rt: &HostRuntime, store: &Store, brigade: BrigadeId) -> Result<()> {
@@ -68,26 +60,14 @@ fn letters(alloc: Global, store: &Store, brigade: BrigadeId) -> Result<String, A
     Ok(text)
 }
 
-fn show(
-    rt: &HostRuntime,
-    what: &str,
-    store: &Store,
-    first: BrigadeId,
-    second: BrigadeId,
-) -> Result<()> {
-    let first = letters(rt.alloc(), store, first)?;
-    let second = letters(rt.alloc(), store, second)?;
-    println!(rt; "{what}: \"{first}\" and \"{second}\"")?;
-    Ok(())
-}
-
-/// A bucket of one letter.
-fn letter(alloc: Global, text: &[u8]) -> Result<Bucket, AllocError> {
-    in_memory(alloc, Kind::Heap, Home::Free, text)
+fn show(rt: &HostRuntime, what: &str, store: &Store, r: BrigadeId, s: BrigadeId) -> Result<()> {
+    let first = letters(rt.alloc(), store, r)?;
+    let second = letters(rt.alloc(), store, s)?;
+    show_two(rt, what, first.as_str(), second.as_str())
 }
 
 /// Puts a new bucket in.
-fn put(store: &mut Store, place: Place, bucket: Bucket) -> Result<BucketId> {
+pub(crate) fn put(store: &mut Store, place: Place, bucket: Bucket) -> Result<BucketId> {
     let put = match place {
         Place::Head(brigade) if store.has(brigade) => store.add_head(brigade, bucket),
         Place::Tail(brigade) if store.has(brigade) => store.add_tail(brigade, bucket),
@@ -101,9 +81,14 @@ fn put(store: &mut Store, place: Place, bucket: Bucket) -> Result<BucketId> {
     }
 }
 
-/// Puts a new bucket at the tail of a brigade.
-pub(crate) fn put_tail(store: &mut Store, brigade: BrigadeId, bucket: Bucket) -> Result<BucketId> {
-    put(store, Place::Tail(brigade), bucket)
+/// Puts a new bucket of these bytes in.
+fn put_letter(
+    store: &mut Store,
+    alloc: Global,
+    place: Place,
+    letter: &'static [u8],
+) -> Result<BucketId> {
+    put(store, place, make(alloc, Made::Heap(letter))?)
 }
 
 /// Moves a bucket.
@@ -120,13 +105,14 @@ fn shift(store: &mut Store, id: BucketId, place: Place) -> Result<()> {
     Ok(())
 }
 
-/// Moves all buckets of the second brigade to the tail of the first.
-fn concat(store: &mut Store, brigade: BrigadeId, from: BrigadeId) -> Result<()> {
-    if brigade == from || !store.has(brigade) || !store.has(from) {
-        return Err(Missing.into());
+fn make_call(store: &mut Store, call: Call) -> Result<()> {
+    match call {
+        Call::Move(id, place) => shift(store, id, place),
+        Call::All(onto, from) if onto != from && store.has(onto) && store.has(from) => {
+            Ok(store.concat(onto, from)?)
+        }
+        _ => Err(Missing.into()),
     }
-    store.concat(brigade, from)?;
-    Ok(())
 }
 
 /// Splits a brigade at a place into another.
@@ -148,75 +134,76 @@ fn split_at(
     Ok(())
 }
 
-/// Two brigades, and three of the four buckets that are put into the first.
-#[derive(Clone, Copy)]
-struct Four {
-    r: BrigadeId,
-    s: BrigadeId,
-    a: BucketId,
-    c: BucketId,
-    d: BucketId,
-}
-
 /// Puts four buckets into one of two brigades.
-fn put_four(rt: &HostRuntime, store: &mut Store) -> Result<Four> {
-    let alloc = rt.alloc();
+fn put_four(store: &mut Store, alloc: Global) -> Result<Four> {
     let r = store.loose()?;
     let s = store.loose()?;
-    let a = put(store, Place::Tail(r), letter(alloc, b"a")?)?;
-    put(store, Place::Head(r), letter(alloc, b"b")?)?;
-    let c = put(store, Place::Before(a), letter(alloc, b"c")?)?;
-    let d = put(store, Place::After(a), letter(alloc, b"d")?)?;
-    show(rt, "tail a, head b, c before a, d after a", store, r, s)?;
-    Ok(Four { r, s, a, c, d })
+    let a = put_letter(store, alloc, Place::Tail(r), b"a")?;
+    let b = put_letter(store, alloc, Place::Head(r), b"b")?;
+    let c = put_letter(store, alloc, Place::Before(a), b"c")?;
+    let d = put_letter(store, alloc, Place::After(a), b"d")?;
+    Ok(Four { r, s, a, b, c, d })
 }
 
-/// Moves two of them, to the head and to the other brigade, and that one behind the first.
-fn move_to_ends(rt: &HostRuntime, store: &mut Store, four: Four) -> Result<()> {
-    let Four { r, s, c, d, .. } = four;
-    shift(store, d, Place::Head(r))?;
-    show(rt, "d to the head", store, r, s)?;
-    shift(store, c, Place::Tail(s))?;
-    show(rt, "c to the tail of the other", store, r, s)?;
-    concat(store, r, s)?;
-    show(rt, "all of the other behind it", store, r, s)
-}
-
-/// Moves them before one another, and all to the other brigade.
-fn move_before_others(rt: &HostRuntime, store: &mut Store, four: Four) -> Result<()> {
-    let Four { r, s, a, c, d } = four;
-    shift(store, a, Place::Before(d))?;
-    show(rt, "a before d", store, r, s)?;
-    shift(store, c, Place::Before(c))?;
-    show(rt, "c before itself", store, r, s)?;
-    shift(store, a, Place::Tail(r))?;
-    show(rt, "a to the tail", store, r, s)?;
-    concat(store, s, r)?;
-    show(rt, "all of it into the other", store, r, s)
+fn moves(four: Four) -> [(&'static str, Call); 7] {
+    let Four { r, s, a, c, d, .. } = four;
+    [
+        ("d to the head", Call::Move(d, Place::Head(r))),
+        ("c to the tail of the other", Call::Move(c, Place::Tail(s))),
+        ("all of the other behind it", Call::All(r, s)),
+        ("a before d", Call::Move(a, Place::Before(d))),
+        ("c before itself", Call::Move(c, Place::Before(c))),
+        ("a to the tail", Call::Move(a, Place::Tail(r))),
+        ("all of it into the other", Call::All(s, r)),
+    ]
 }
 
 /// Four buckets are put into a brigade, and moved, to another and back.
 pub(crate) fn brigade_moves(rt: &HostRuntime) -> Result<()> {
     println!(rt; "moves of brigades")?;
     let mut store = Store::new(rt.alloc(), 1);
-    let four = put_four(rt, &mut store)?;
-    move_to_ends(rt, &mut store, four)?;
-    move_before_others(rt, &mut store, four)
+    let four = put_four(&mut store, rt.alloc())?;
+    show(
+        rt,
+        "tail a, head b, c before a, d after a",
+        &store,
+        four.r,
+        four.s,
+    )?;
+    for (what, call) in moves(four) {
+        make_call(&mut store, call)?;
+        show(rt, what, &store, four.r, four.s)?;
+    }
+    Ok(())
 }
 
-/// Puts three buckets into a brigade and one into another, and splits the first at its middle bucket or at its end.
-fn show_split_at(rt: &HostRuntime, what: &str, at_end: bool) -> Result<()> {
-    let alloc = rt.alloc();
+/// A store, two brigades and the middle one of the three buckets of the first. The second has one bucket.
+#[derive(Drop)]
+struct Filled {
+    store: Store,
+    r: BrigadeId,
+    s: BrigadeId,
+    b: BucketId,
+}
+
+fn fill(alloc: Global) -> Result<Filled> {
     let mut store = Store::new(alloc, 1);
     let r = store.loose()?;
     let s = store.loose()?;
-    put_tail(&mut store, r, letter(alloc, b"a")?)?;
-    let b = put_tail(&mut store, r, letter(alloc, b"b")?)?;
-    put_tail(&mut store, r, letter(alloc, b"c")?)?;
-    put_tail(&mut store, s, letter(alloc, b"x")?)?;
-    show(rt, "before", &store, r, s)?;
-    split_at(&mut store, r, if at_end { None } else { Some(b) }, s)?;
-    show(rt, what, &store, r, s)
+    put_letter(&mut store, alloc, Place::Tail(r), b"a")?;
+    let b = put_letter(&mut store, alloc, Place::Tail(r), b"b")?;
+    put_letter(&mut store, alloc, Place::Tail(r), b"c")?;
+    put_letter(&mut store, alloc, Place::Tail(s), b"x")?;
+    Ok(Filled { store, r, s, b })
+}
+
+/// Splits the first of two brigades at its middle bucket or at its end.
+fn show_split_at(rt: &HostRuntime, what: &str, at_end: bool) -> Result<()> {
+    let mut filled = fill(rt.alloc())?;
+    show(rt, "before", &filled.store, filled.r, filled.s)?;
+    let place = if at_end { None } else { Some(filled.b) };
+    split_at(&mut filled.store, filled.r, place, filled.s)?;
+    show(rt, what, &filled.store, filled.r, filled.s)
 }
 
 /// The brigade that takes what is split off is cleaned first. At the end nothing moves.
@@ -226,22 +213,48 @@ pub(crate) fn brigade_splits(rt: &HostRuntime) -> Result<()> {
     show_split_at(rt, "at the end", true)
 }
 
+/// The buckets of two letters.
+fn two(alloc: Global, first: &'static [u8], second: &'static [u8]) -> Result<Vec<Bucket>> {
+    let first = make(alloc, Made::Heap(first))?;
+    let second = make(alloc, Made::Heap(second))?;
+    Ok(vec![in alloc; first, second]?)
+}
+
+/// Puts two buckets at the tail of a brigade at once.
+fn add_two(store: &mut Store, alloc: Global, brigade: BrigadeId) -> Result<()> {
+    if !store.has(brigade) {
+        return Err(Missing.into());
+    }
+    store.add_all(brigade, two(alloc, b"c", b"d")?)?;
+    Ok(())
+}
+
 /// Two brigades are made at once, and buckets are put in at once.
 pub(crate) fn brigades_at_once(rt: &HostRuntime) -> Result<()> {
     println!(rt; "brigades and buckets at once")?;
-    let alloc = rt.alloc();
-    let mut store = Store::new(alloc, 1);
-    let (r, s) = store.loose_pair(vec![in alloc; letter(alloc, b"a")?, letter(alloc, b"b")?]?)?;
+    let mut store = Store::new(rt.alloc(), 1);
+    let (r, s) = store.loose_pair(two(rt.alloc(), b"a", b"b")?)?;
     show(rt, "a pair with a and b", &store, r, s)?;
-    if !store.has(r) {
-        return Err(Missing.into());
-    }
-    store.add_all(
-        r,
-        vec![in alloc; letter(alloc, b"c")?, letter(alloc, b"d")?]?,
-    )?;
+    add_two(&mut store, rt.alloc(), r)?;
     show(rt, "c and d at the tail of the first", &store, r, s)?;
     println!(rt; "brigades {r} and {s}, and next {}", store.next_name())?;
+    Ok(())
+}
+
+fn show_added(
+    rt: &HostRuntime,
+    store: &mut Store,
+    brigade: BrigadeId,
+    letter: &'static [u8],
+) -> Result<()> {
+    let bucket = make(rt.alloc(), Made::Heap(letter))?;
+    if !store.has(brigade) {
+        return Err(Missing.into());
+    }
+    match store.add_tail(brigade, bucket) {
+        Ok(id) => println!(rt; "bucket {}", id.birth)?,
+        Err((why, back)) => println!(rt; "{why}, and {} comes back", Shown(&back))?,
+    }
     Ok(())
 }
 
@@ -250,20 +263,8 @@ pub(crate) fn brigade_names_spent(rt: &HostRuntime) -> Result<()> {
     println!(rt; "the names of brigades run out")?;
     let mut store = Store::new(rt.alloc(), u64::MAX - 2);
     let brigade = store.loose()?;
-    println!(rt; "brigade {brigade}")?;
-    let first = put_tail(&mut store, brigade, letter(rt.alloc(), b"a")?)?;
-    println!(rt; "bucket {}", first.birth)?;
-    let bucket = letter(rt.alloc(), b"b")?;
-    if !store.has(brigade) {
-        return Err(Missing.into());
-    }
-    match store.add_tail(brigade, bucket) {
-        Ok(id) => println!(rt; "bucket {}", id.birth)?,
-        Err((why, back)) => println!(rt; "{why}, and {} comes back", Shown(&back))?,
-    }
-    match store.loose() {
-        Ok(name) => println!(rt; "brigade {name}")?,
-        Err(why) => println!(rt; "{why}")?,
-    }
-    Ok(())
+    show_named(rt, "brigade", &Ok::<u64, AllocError>(brigade))?;
+    show_added(rt, &mut store, brigade, b"a")?;
+    show_added(rt, &mut store, brigade, b"b")?;
+    show_named(rt, "brigade", &store.loose())
 }

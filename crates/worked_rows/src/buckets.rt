@@ -7,6 +7,20 @@ use crate::shown::Shown;
 use anyhow::Result;
 use bucket_kinds::{Bucket, Content, Home, Kind, Seq, aside_bucket, copy_bucket, split_bucket};
 use std::alloc::{AllocError, Global};
+use std::fmt;
+
+/// A bucket that a row makes.
+#[derive(Clone, Copy)]
+pub(crate) enum Made {
+    Heap(&'static [u8]),
+    /// Bytes of a call.
+    Transient(u64, &'static [u8]),
+    /// Bytes in a pool.
+    Pool(u64, &'static [u8]),
+    /// A file, and the first byte and the length of a range of it. Its home is the pool 2.
+    Range(u64, u32, u32),
+    Eos,
+}
 
 /// A bucket of bytes in memory.
 pub(crate) fn in_memory(
@@ -28,7 +42,7 @@ pub(crate) fn in_memory(
     })
 }
 
-pub(crate) fn eos() -> Bucket
+fn eos() -> Bucket
     ensures ends { EndsInFile result.content }
     ensures fits { form_of result.content ≡ form_of_kind result.kind }
 {
@@ -43,6 +57,7 @@ pub(crate) fn eos() -> Bucket
 pub(crate) fn range(file: u64, start: u32, len: u32) -> Bucket
     ensures content { result.content ≡ Content.Range file start len }
     ensures ends { EndsInFile result.content }
+    ensures fits { form_of result.content ≡ form_of_kind result.kind }
 {
     Bucket {
         kind: Kind::File,
@@ -55,59 +70,61 @@ pub(crate) fn range(file: u64, start: u32, len: u32) -> Bucket
     }
 }
 
-/// Splits a bucket and tells both parts, or why not and the bucket.
-fn show_split(rt: &HostRuntime, mut bucket: Bucket, at: u64) -> Result<()>
-    requires { EndsInFile bucket.content }
+pub(crate) fn make(alloc: Global, made: Made) -> Result<Bucket, AllocError>
+    ensures ends { IfOk result (λ b. EndsInFile b.content) }
+    ensures fits { IfOk result (λ b. form_of b.content ≡ form_of_kind b.kind) }
 {
+    match made {
+        Made::Heap(text) => in_memory(alloc, Kind::Heap, Home::Free, text),
+        Made::Transient(call, text) => in_memory(alloc, Kind::Transient, Home::Call(call), text),
+        Made::Pool(pool, text) => in_memory(alloc, Kind::Pool(pool), Home::Free, text),
+        Made::Range(file, start, len) => Ok(range(file, start, len)),
+        Made::Eos => Ok(eos()),
+    }
+}
+
+/// Tells a bucket, and what was split off it or left by a read.
+pub(crate) fn show_parts(rt: &HostRuntime, bucket: &Bucket, rest: Option<&Bucket>) -> Result<()> {
+    match rest {
+        Some(rest) => println!(rt; "{} | {}", Shown(bucket), Shown(rest))?,
+        None => println!(rt; "{}", Shown(bucket))?,
+    }
+    Ok(())
+}
+
+/// Tells why a bucket was left as it is, and the bucket.
+pub(crate) fn show_refused<E: fmt::Display>(
+    rt: &HostRuntime,
+    why: &E,
+    bucket: &Bucket,
+) -> Result<()> {
+    println!(rt; "{why}, and it is {}", Shown(bucket))?;
+    Ok(())
+}
+
+/// Splits a bucket and tells both parts, or why not and the bucket.
+pub(crate) fn show_split(rt: &HostRuntime, made: Made, at: u64) -> Result<()> {
+    let mut bucket = make(rt.alloc(), made)?;
     print!(rt; "{} at {at}: ", Shown(&bucket))?;
     match split_bucket(rt.alloc(), &mut bucket, at) {
-        Ok(rest) => println!(rt; "{} | {}", Shown(&bucket), Shown(&rest))?,
-        Err(why) => println!(rt; "{why}, and it is {}", Shown(&bucket))?,
+        Ok(rest) => show_parts(rt, &bucket, Some(&rest)),
+        Err(why) => show_refused(rt, &why, &bucket),
     }
+}
+
+/// Copies a bucket: the copy has its kind, its bytes and its home.
+pub(crate) fn show_copy(rt: &HostRuntime, made: Made) -> Result<()> {
+    let bucket = make(rt.alloc(), made)?;
+    let copy = copy_bucket(rt.alloc(), &bucket)?;
+    println!(rt; "{}: {}", Shown(&bucket), Shown(&copy))?;
     Ok(())
 }
 
-/// A bucket is split by its bytes or by its range. Past its end, and metadata at all, it is refused.
-pub(crate) fn bucket_splits(rt: &HostRuntime) -> Result<()> {
-    println!(rt; "buckets are split")?;
-    for at in [0, 1, 2, 3] {
-        let bucket = in_memory(rt.alloc(), Kind::Heap, Home::Free, b"ab")?;
-        show_split(rt, bucket, at)?;
-    }
-    for at in [0, 1] {
-        show_split(rt, eos(), at)?;
-    }
-    show_split(rt, range(7, 5, 10), 4)
-}
-
-/// A copy has the kind, the bytes and the home of the bucket.
-pub(crate) fn bucket_copies(rt: &HostRuntime) -> Result<()> {
-    println!(rt; "buckets are copied")?;
-    let pool = in_memory(rt.alloc(), Kind::Pool(2), Home::Free, b"ab")?;
-    for bucket in [pool, eos()] {
-        let copy = copy_bucket(rt.alloc(), &bucket)?;
-        println!(rt; "{}: {}", Shown(&bucket), Shown(&copy))?;
-    }
-    Ok(())
-}
-
-/// Sets a bucket aside into the pool 9.
-fn show_aside(rt: &HostRuntime, mut bucket: Bucket, is_ancestor: bool) -> Result<()> {
+/// Sets a bucket aside into the pool 9, which its home is above or not.
+pub(crate) fn show_aside(rt: &HostRuntime, made: Made, is_ancestor: bool) -> Result<()> {
+    let mut bucket = make(rt.alloc(), made)?;
     print!(rt; "{}: ", Shown(&bucket))?;
     aside_bucket(&mut bucket, 9, is_ancestor);
     println!(rt; "{}", Shown(&bucket))?;
     Ok(())
-}
-
-/// Bytes of a call go to the heap. A file gets the pool as its home, where its home is not above it.
-pub(crate) fn buckets_set_aside(rt: &HostRuntime) -> Result<()> {
-    println!(rt; "buckets are set aside into pool 9")?;
-    let transient = in_memory(rt.alloc(), Kind::Transient, Home::Call(3), b"a")?;
-    show_aside(rt, transient, false)?;
-    println!(rt; "its home is above:")?;
-    show_aside(rt, range(7, 5, 10), true)?;
-    println!(rt; "its home is not above:")?;
-    show_aside(rt, range(7, 5, 10), false)?;
-    let heap = in_memory(rt.alloc(), Kind::Heap, Home::Free, b"a")?;
-    show_aside(rt, heap, false)
 }

@@ -14,6 +14,7 @@ use module_lang::{Module, assemble, print_module};
 use run_model::FaultKind;
 use std::alloc::Global;
 use std::fmt;
+use std::io::{self, Write};
 
 /// What a check refuses by, in the words of `certify`.
 #[derive(Clone, Copy)]
@@ -47,169 +48,170 @@ fn number(kind: FaultKind) -> u8 {
     }
 }
 
-fn module(alloc: Global, text: &[u8]) -> Result<Module> {
-    Ok(assemble(alloc, text)?)
+/// A row of modules and certificates. The first text is that of a module.
+#[derive(Clone, Copy)]
+enum Row {
+    /// What the next rows are of.
+    Says(&'static str),
+    /// The module is printed.
+    Printed(&'static [u8]),
+    /// A certificate is made of it.
+    Made(&'static [u8]),
+    /// It is checked with a certificate.
+    Checked(&'static str, &'static [u8], &'static [u8]),
+    /// The first module is checked with its certificate, without this line.
+    Without(usize),
+    /// The same, where the end of a request says no more than its beginning.
+    ReadyAsIdle,
+    /// The first bytes of a certificate are read, so many that so many are left.
+    Read(&'static [u8], usize),
+    /// The first module and another, with this certificate, are a chain.
+    Chain(&'static [u8], &'static [u8]),
+    /// The first module and itself are a chain, the second without what holds after a request.
+    ChainUnready,
 }
 
-/// The certificate that a text spells.
-fn cert(alloc: Global, text: &[u8]) -> Result<Cert> {
-    Ok(read_cert(alloc, text)?)
-}
+/// A text is read as a module, which is printed in the one way. A certificate is made where no instruction may have a fault; else the
+/// lowest that may is told. It is accepted where its states follow from one another, and refused without any one of its lines. What is read
+/// is printed as it was. A chain is accepted where each module is; else the first is told that is not.
+const ROWS: &[Row] = &[
+    Row::Says("a module is printed"),
+    Row::Printed(IDENTITY),
+    Row::Says("certificates are made"),
+    Row::Made(IDENTITY),
+    Row::Made(NEXT_THEN_UNLINK),
+    Row::Made(LOOPING_INIT),
+    Row::Made(KEEPER_CONCATS),
+    Row::Made(REUSED_PASSED_BRIGADE),
+    Row::Made(READ_AFTER_DELETE),
+    Row::Made(ALIAS_DELETED),
+    Row::Made(ASIDE_INTO_REQUEST),
+    Row::Says("certificates are checked"),
+    Row::Checked("of what passes on what it gets", IDENTITY, IDENTITY_CERT),
+    Row::Checked(
+        "of two cursors that may be at one bucket",
+        ALIAS_DELETED,
+        ALIAS_WITHOUT_FACT,
+    ),
+    Row::Checked("of the same, said to be at two", ALIAS_DELETED, ALIAS_CERT),
+    Row::Checked(
+        "of what is kept past its request",
+        ASIDE_INTO_REQUEST,
+        ASIDE_CERT,
+    ),
+    Row::Without(0),
+    Row::Without(1),
+    Row::Without(2),
+    Row::Without(3),
+    Row::Without(4),
+    Row::Without(5),
+    Row::Without(6),
+    Row::Without(7),
+    Row::ReadyAsIdle,
+    Row::Says("certificates are read"),
+    Row::Read(IDENTITY_CERT, 0),
+    Row::Read(IDENTITY_CERT, 4),
+    Row::Read(b"cert 1\nidle sent=yes\nready none\nend\n", 0),
+    Row::Says("chains are accepted"),
+    Row::Chain(IDENTITY, IDENTITY_CERT),
+    Row::Chain(ALIAS_DELETED, ALIAS_CERT),
+    Row::ChainUnready,
+];
 
 /// Tells a text of one line or more.
 fn show_text(rt: &HostRuntime, text: &[u8]) -> Result<()> {
-    for byte in text {
-        print!(rt; "{}", *byte as char)?;
-    }
+    io::writer(rt).write_all(text)?;
     Ok(())
 }
 
-/// A text is read as a module, which is printed in the one way.
-pub(crate) fn modules_are_printed(rt: &HostRuntime) -> Result<()> {
-    println!(rt; "a module is printed")?;
+fn show_module(rt: &HostRuntime, text: &[u8]) -> Result<()> {
+    let mut printed = Vec::new(rt.alloc());
+    print_module(&assemble(rt.alloc(), text)?, &mut printed)?;
+    show_text(rt, printed.as_slice())
+}
+
+fn show_cert(rt: &HostRuntime, cert: &Cert) -> Result<()> {
     let mut text = Vec::new(rt.alloc());
-    print_module(&module(rt.alloc(), IDENTITY)?, &mut text)?;
+    print_cert(cert, &mut text)?;
     show_text(rt, text.as_slice())
+}
+
+/// Tells that something is refused at a place.
+fn show_refused(rt: &HostRuntime, what: &str, pc: usize, rule: Rule) -> Result<()> {
+    println!(rt; "refused {what}at {pc}: {}", ByRule(rule))?;
+    Ok(())
+}
+
+fn say(rt: &HostRuntime, text: &str) -> Result<()> {
+    println!(rt; "{text}")?;
+    Ok(())
 }
 
 /// Tells the certificate that is made of a module, or why there is none.
 fn show_made(rt: &HostRuntime, text: &[u8]) -> Result<()> {
-    match make(rt.alloc(), &module(rt.alloc(), text)?) {
-        Ok(cert) => {
-            let mut text = Vec::new(rt.alloc());
-            print_cert(&cert, &mut text)?;
-            show_text(rt, text.as_slice())
-        }
-        Err(MakeRefusal::At { pc, rule }) => {
-            println!(rt; "refused at {pc}: {}", ByRule(rule))?;
-            Ok(())
-        }
-        Err(MakeRefusal::NoMemory) => {
-            println!(rt; "no memory")?;
-            Ok(())
-        }
+    match make(rt.alloc(), &assemble(rt.alloc(), text)?) {
+        Ok(cert) => show_cert(rt, &cert),
+        Err(MakeRefusal::At { pc, rule }) => show_refused(rt, "", pc, rule),
+        Err(MakeRefusal::NoMemory) => say(rt, "no memory"),
     }
-}
-
-/// A certificate is made where no instruction may have a fault; else the lowest that may is told.
-pub(crate) fn certificates_are_made(rt: &HostRuntime) -> Result<()> {
-    println!(rt; "certificates are made")?;
-    for text in [
-        IDENTITY,
-        NEXT_THEN_UNLINK,
-        LOOPING_INIT,
-        KEEPER_CONCATS,
-        REUSED_PASSED_BRIGADE,
-        READ_AFTER_DELETE,
-        ALIAS_DELETED,
-        ASIDE_INTO_REQUEST,
-    ] {
-        show_made(rt, text)?;
-    }
-    Ok(())
 }
 
 /// Tells what a check answers.
 fn show_checked(rt: &HostRuntime, code: &Module, cert: &Cert) -> Result<()> {
     match check(code, cert) {
-        Ok(()) => println!(rt; "accepted")?,
-        Err(CheckRefusal { pc, rule }) => println!(rt; "refused at {pc}: {}", ByRule(rule))?,
+        Ok(()) => say(rt, "accepted"),
+        Err(CheckRefusal { pc, rule }) => show_refused(rt, "", pc, rule),
     }
-    Ok(())
 }
 
 /// Tells what a check answers to the texts of a module and a certificate.
 fn show_texts(rt: &HostRuntime, what: &str, text: &[u8], known: &[u8]) -> Result<()> {
-    let code = module(rt.alloc(), text)?;
-    let known = cert(rt.alloc(), known)?;
+    let code = assemble(rt.alloc(), text)?;
+    let known = read_cert(rt.alloc(), known)?;
     print!(rt; "{what}: ")?;
     show_checked(rt, &code, &known)
 }
 
 /// Tells what a check answers to the certificate of the first module without a line.
-fn show_without(rt: &HostRuntime, code: &Module, line: usize) -> Result<()> {
-    let mut less = cert(rt.alloc(), IDENTITY_CERT)?;
+fn show_without(rt: &HostRuntime, line: usize) -> Result<()> {
+    let code = assemble(rt.alloc(), IDENTITY)?;
+    let mut less = read_cert(rt.alloc(), IDENTITY_CERT)?;
     if line < less.at.len() {
         less.at[line] = None;
     }
     print!(rt; "without line {line}: ")?;
-    show_checked(rt, code, &less)
+    show_checked(rt, &code, &less)
 }
 
-/// A certificate is refused without any one of its lines, and where one says more than what leads to it.
-pub(crate) fn certificates_that_say_less(rt: &HostRuntime) -> Result<()> {
-    let code = module(rt.alloc(), IDENTITY)?;
-    for line in 0..8usize {
-        show_without(rt, &code, line)?;
-    }
-    let mut less = cert(rt.alloc(), IDENTITY_CERT)?;
+/// Tells what a check answers where the certificate says as much after a request as before it.
+fn show_ready_as_idle(rt: &HostRuntime) -> Result<()> {
+    let code = assemble(rt.alloc(), IDENTITY)?;
+    let mut less = read_cert(rt.alloc(), IDENTITY_CERT)?;
     less.ready = less.idle;
     print!(rt; "with ready as idle: ")?;
     show_checked(rt, &code, &less)
 }
 
-/// A certificate is accepted where its states follow from one another.
-pub(crate) fn certificates_are_checked(rt: &HostRuntime) -> Result<()> {
-    println!(rt; "certificates are checked")?;
-    show_texts(
-        rt,
-        "of what passes on what it gets",
-        IDENTITY,
-        IDENTITY_CERT,
-    )?;
-    show_texts(
-        rt,
-        "of two cursors that may be at one bucket",
-        ALIAS_DELETED,
-        ALIAS_WITHOUT_FACT,
-    )?;
-    show_texts(
-        rt,
-        "of the same, said to be at two",
-        ALIAS_DELETED,
-        ALIAS_CERT,
-    )?;
-    show_texts(
-        rt,
-        "of what is kept past its request",
-        ASIDE_INTO_REQUEST,
-        ASIDE_CERT,
-    )
-}
-
 /// Tells the first faulty line of a certificate text, or what is printed of it.
-fn show_read(rt: &HostRuntime, text: &[u8]) -> Result<()> {
+fn show_read(rt: &HostRuntime, text: &[u8], left: usize) -> Result<()> {
+    let (text, _) = text.split_at(text.len().saturating_sub(left));
     match read_cert(rt.alloc(), text) {
-        Ok(cert) => {
-            let mut text = Vec::new(rt.alloc());
-            print_cert(&cert, &mut text)?;
-            show_text(rt, text.as_slice())
-        }
-        Err(CertRefusal::Fault { line, code }) => {
-            println!(rt; "cert line {line} code {}", code.number())?;
-            Ok(())
-        }
-        Err(CertRefusal::NoMemory) => {
-            println!(rt; "no memory")?;
-            Ok(())
-        }
+        Ok(cert) => show_cert(rt, &cert),
+        Err(CertRefusal::Fault { line, code }) => show_line(rt, line, code.number()),
+        Err(CertRefusal::NoMemory) => say(rt, "no memory"),
     }
 }
 
-/// What is read is printed as it was. A text without its end, and one with a state that no module has, are refused.
-pub(crate) fn certificates_are_read(rt: &HostRuntime) -> Result<()> {
-    println!(rt; "certificates are read")?;
-    show_read(rt, IDENTITY_CERT)?;
-    let without_end = IDENTITY_CERT.len().saturating_sub(4);
-    show_read(rt, &IDENTITY_CERT[..without_end])?;
-    show_read(rt, b"cert 1\nidle sent=yes\nready none\nend\n")
+fn show_line(rt: &HostRuntime, line: usize, code: u8) -> Result<()> {
+    println!(rt; "cert line {line} code {code}")?;
+    Ok(())
 }
 
 /// Tells what becomes of the chain of the module that passes on what it gets, and another.
 fn show_chain(rt: &HostRuntime, text: &[u8], known: Cert) -> Result<()> {
     let alloc = rt.alloc();
-    let first = (module(alloc, IDENTITY)?, cert(alloc, IDENTITY_CERT)?);
-    let second = (module(alloc, text)?, known);
+    let first = (assemble(alloc, IDENTITY)?, read_cert(alloc, IDENTITY_CERT)?);
+    let second = (assemble(alloc, text)?, known);
     match accept_chain(alloc, vec![in alloc; first, second]?) {
         Ok(chain) => println!(rt; "accepted, of {} modules", chain.modules().len())?,
         Err(ChainRefusal::At { index, refusal }) => {
@@ -224,13 +226,31 @@ fn show_chain(rt: &HostRuntime, text: &[u8], known: Cert) -> Result<()> {
     Ok(())
 }
 
-/// A chain is accepted where each module is, with its certificate; else the first is told that is not.
-pub(crate) fn chains_are_accepted(rt: &HostRuntime) -> Result<()> {
-    println!(rt; "chains are accepted")?;
-    let alloc = rt.alloc();
-    show_chain(rt, IDENTITY, cert(alloc, IDENTITY_CERT)?)?;
-    show_chain(rt, ALIAS_DELETED, cert(alloc, ALIAS_CERT)?)?;
-    let mut less = cert(alloc, IDENTITY_CERT)?;
+/// The certificate of the first module, without what holds after a request.
+fn unready(alloc: Global) -> Result<Cert> {
+    let mut less = read_cert(alloc, IDENTITY_CERT)?;
     less.ready = None;
-    show_chain(rt, IDENTITY, less)
+    Ok(less)
+}
+
+fn show_row(rt: &HostRuntime, row: Row) -> Result<()> {
+    match row {
+        Row::Says(text) => say(rt, text),
+        Row::Printed(text) => show_module(rt, text),
+        Row::Made(text) => show_made(rt, text),
+        Row::Checked(what, text, known) => show_texts(rt, what, text, known),
+        Row::Without(line) => show_without(rt, line),
+        Row::ReadyAsIdle => show_ready_as_idle(rt),
+        Row::Read(text, left) => show_read(rt, text, left),
+        Row::Chain(text, known) => show_chain(rt, text, read_cert(rt.alloc(), known)?),
+        Row::ChainUnready => show_chain(rt, IDENTITY, unready(rt.alloc())?),
+    }
+}
+
+/// Tells the rows one after another.
+pub(crate) fn show_rows(rt: &HostRuntime) -> Result<()> {
+    for row in ROWS {
+        show_row(rt, *row)?;
+    }
+    Ok(())
 }

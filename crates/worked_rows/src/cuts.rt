@@ -8,14 +8,15 @@ ghost use Rattle.bucket_kinds.specs.Reading.{IsOpenFor};
 ghost use Rattle.bucket_ring.specs.declared.names.BucketId.{BucketId};
 ghost use Rattle.brigade_ops.specs.Store.{brigade_of, bucket_at};
 
-use crate::brigades::{Store, put_tail, show_brigade};
-use crate::buckets::{eos, in_memory, range};
+use crate::brigades::{Store, put, show_brigade};
+use crate::buckets::{Made, make, range};
+use crate::calls::Place;
 use crate::missing::Missing;
 use crate::shown::Shown;
 use anyhow::Result;
 use brigade_ops::{BrigadeId, BucketId, Cut};
-use bucket_kinds::{Bucket, Content, FileNo, Files, Home, Kind, MemFiles};
-use std::alloc::{AllocError, Global};
+use bucket_kinds::{Bucket, Content, FileNo, Files, MemFiles};
+use std::alloc::Global;
 
 /// Whether what a bucket stands for ends below 2^64.
 fn ends_in_file(bucket: &Bucket) -> bool
@@ -28,11 +29,12 @@ fn ends_in_file(bucket: &Bucket) -> bool
 }
 
 /// Splits the one bucket of a brigade, and tells the brigade.
-fn show_split(rt: &HostRuntime, bucket: Bucket, at: u64) -> Result<()> {
+pub(crate) fn show_split(rt: &HostRuntime, made: Made, at: u64) -> Result<()> {
+    let bucket = make(rt.alloc(), made)?;
     print!(rt; "{} at {at}: ", Shown(&bucket))?;
     let mut store = Store::new(rt.alloc(), 1);
     let brigade = store.loose()?;
-    let id = put_tail(&mut store, brigade, bucket)?;
+    let id = put(&mut store, Place::Tail(brigade), bucket)?;
     if store.ring_of(id).is_none() || !ends_in_file(store.payload(id)) {
         return Err(Missing.into());
     }
@@ -42,25 +44,12 @@ fn show_split(rt: &HostRuntime, bucket: Bucket, at: u64) -> Result<()> {
     show_brigade(rt, &store, brigade)
 }
 
-/// The rest of a bucket that is split stands behind it.
-pub(crate) fn splits_in_a_brigade(rt: &HostRuntime) -> Result<()> {
-    println!(rt; "buckets of a brigade are split")?;
-    for at in [0, 1, 2, 3] {
-        let bucket = in_memory(rt.alloc(), Kind::Heap, Home::Free, b"ab")?;
-        show_split(rt, bucket, at)?;
-    }
-    for at in [0, 1] {
-        show_split(rt, eos(), at)?;
-    }
-    show_split(rt, range(7, 5, 10), 4)
-}
-
 /// Puts a copy of the bucket of a brigade into another, and tells both.
-fn show_copy(rt: &HostRuntime, bucket: Bucket) -> Result<()> {
+pub(crate) fn show_copy(rt: &HostRuntime, made: Made) -> Result<()> {
     let mut store = Store::new(rt.alloc(), 1);
     let brigade = store.loose()?;
     let other = store.loose()?;
-    let id = put_tail(&mut store, brigade, bucket)?;
+    let id = put(&mut store, Place::Tail(brigade), make(rt.alloc(), made)?)?;
     if store.ring_of(id).is_none() || !store.has(other) {
         return Err(Missing.into());
     }
@@ -69,15 +58,21 @@ fn show_copy(rt: &HostRuntime, bucket: Bucket) -> Result<()> {
     show_brigade(rt, &store, other)
 }
 
-/// A copy stands at the tail of another brigade.
-pub(crate) fn copies_into_a_brigade(rt: &HostRuntime) -> Result<()> {
-    println!(rt; "buckets are copied into a brigade")?;
-    show_copy(rt, in_memory(rt.alloc(), Kind::Pool(2), Home::Free, b"ab")?)?;
-    show_copy(rt, eos())
+/// The buckets of a row, three at most.
+pub(crate) fn make_all(alloc: Global, made: &[Made]) -> Result<Vec<Bucket>>
+    ensures ends { IfOk result (λ bs. All (λ x. EndsInFile x.content) bs.items) }
+    ensures fits { IfOk result (λ bs. All (λ x. form_of x.content ≡ form_of_kind x.kind) bs.items) }
+{
+    match made {
+        [a] => Ok(vec![in alloc; make(alloc, *a)?]?),
+        [a, b] => Ok(vec![in alloc; make(alloc, *a)?, make(alloc, *b)?]?),
+        [a, b, c] => Ok(vec![in alloc; make(alloc, *a)?, make(alloc, *b)?, make(alloc, *c)?]?),
+        _ => Ok(Vec::new(alloc)),
+    }
 }
 
 /// A store with one brigade, of these buckets.
-fn filled(alloc: Global, buckets: Vec<Bucket>) -> Result<(Store, BrigadeId)>
+pub(crate) fn filled(alloc: Global, buckets: Vec<Bucket>) -> Result<(Store, BrigadeId)>
     requires ends { All (λ x. EndsInFile x.content) buckets.items }
     requires fits { All (λ x. form_of x.content ≡ form_of_kind x.kind) buckets.items }
     ensures ends { IfOk result (λ s. (id : BucketId) (x : Bucket) → brigade_of s.0 id ≡ Some s.1 → bucket_at s.0 id ≡ Some x → EndsInFile x.content) }
@@ -93,38 +88,24 @@ fn filled(alloc: Global, buckets: Vec<Bucket>) -> Result<(Store, BrigadeId)>
 }
 
 /// Parts a brigade of these buckets at a point, and tells the place and the brigade.
-fn show_partition(rt: &HostRuntime, buckets: Vec<Bucket>, point: u64) -> Result<()>
-    requires ends { All (λ x. EndsInFile x.content) buckets.items }
-    requires fits { All (λ x. form_of x.content ≡ form_of_kind x.kind) buckets.items }
-{
-    let (mut store, brigade) = filled(rt.alloc(), buckets)?;
-    print!(rt; "at {point}: ")?;
+pub(crate) fn show_partition(rt: &HostRuntime, made: &[Made], point: u64) -> Result<()> {
+    let (mut store, brigade) = filled(rt.alloc(), make_all(rt.alloc(), made)?)?;
     if !store.has(brigade) {
         return Err(Missing.into());
     }
-    match store.partition(brigade, point)? {
-        Cut::Found(id) if store.ring_of(id).is_some() => {
-            print!(rt; "before {}, ", Shown(store.payload(id)))?
-        }
-        Cut::Found(_) => return Err(Missing.into()),
-        Cut::AtEnd => print!(rt; "the end, ")?,
-        Cut::Incomplete => print!(rt; "incomplete, ")?,
-    }
+    let cut = store.partition(brigade, point)?;
+    show_cut(rt, &store, point, cut)?;
     show_brigade(rt, &store, brigade)
 }
 
-/// A bucket that the point lies inside is split. Past the end nothing is changed.
-pub(crate) fn partition_points(rt: &HostRuntime) -> Result<()> {
-    println!(rt; "brigades are parted")?;
-    let alloc = rt.alloc();
-    for point in [0, 1, 2, 3] {
-        let ab = in_memory(alloc, Kind::Heap, Home::Free, b"ab")?;
-        show_partition(rt, vec![in alloc; ab, eos()]?, point)?;
-    }
-    let ab = in_memory(alloc, Kind::Heap, Home::Free, b"ab")?;
-    show_partition(rt, vec![in alloc; ab]?, 2)?;
-    for point in [0, 1] {
-        show_partition(rt, Vec::new(alloc), point)?;
+fn show_cut(rt: &HostRuntime, store: &Store, point: u64, cut: Cut) -> Result<()> {
+    match cut {
+        Cut::Found(id) if store.ring_of(id).is_some() => {
+            print!(rt; "at {point}: before {}, ", Shown(store.payload(id)))?
+        }
+        Cut::Found(_) => return Err(Missing.into()),
+        Cut::AtEnd => print!(rt; "at {point}: the end, ")?,
+        Cut::Incomplete => print!(rt; "at {point}: incomplete, ")?,
     }
     Ok(())
 }
@@ -162,22 +143,14 @@ fn read<F: Files>(
 }
 
 /// Reads the first bytes of a file of so many, by the bucket of a brigade.
-fn show_read(rt: &HostRuntime, size: usize, len: u32) -> Result<()> {
+pub(crate) fn show_read(rt: &HostRuntime, size: usize, len: u32) -> Result<()> {
     let mut store = Store::new(rt.alloc(), 1);
     let brigade = store.loose()?;
     let mut files = MemFiles::new(rt.alloc());
     files.add(b"f", vec![in rt.alloc(); b'x'; size]?)?;
     let (file, size) = files.open_file(b"f")?;
     print!(rt; "{len} of {size}: ")?;
-    let id = put_tail(&mut store, brigade, range(file, 0, len))?;
+    let id = put(&mut store, Place::Tail(brigade), range(file, 0, len))?;
     read(rt, &mut store, &mut files, file, id)?;
     show_brigade(rt, &store, brigade)
-}
-
-/// The rest of a bucket that is read stands behind it.
-pub(crate) fn reads_in_a_brigade(rt: &HostRuntime) -> Result<()> {
-    println!(rt; "buckets of a brigade are read")?;
-    show_read(rt, 8001, 8001)?;
-    show_read(rt, 8001, 8000)?;
-    show_read(rt, 7999, 8000)
 }

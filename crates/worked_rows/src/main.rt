@@ -3,6 +3,7 @@
 
 mod brigades;
 mod buckets;
+mod calls;
 mod certs;
 mod cuts;
 mod disk;
@@ -11,6 +12,7 @@ mod modules;
 mod pools;
 mod reads;
 mod rings;
+mod rows;
 mod saves;
 mod shown;
 
@@ -26,26 +28,13 @@ fn main(rt: HostRuntime) -> Result<()> {
     brigades::brigade_splits(&rt)?;
     brigades::brigades_at_once(&rt)?;
     brigades::brigade_names_spent(&rt)?;
-    buckets::bucket_splits(&rt)?;
-    buckets::bucket_copies(&rt)?;
-    buckets::buckets_set_aside(&rt)?;
-    cuts::splits_in_a_brigade(&rt)?;
-    cuts::copies_into_a_brigade(&rt)?;
-    cuts::partition_points(&rt)?;
-    cuts::reads_in_a_brigade(&rt)?;
-    saves::asides_in_a_brigade(&rt)?;
+    rows::show_rows(&rt, rows::BUCKETS)?;
     saves::saves(&rt)?;
     saves::references(&rt)?;
     saves::clears_under_a_brigade(&rt)?;
-    reads::reads_of_files(&rt)?;
-    reads::reads_of_memory(&rt)?;
+    rows::show_rows(&rt, rows::READS)?;
     reads::reads_that_fail(&rt)?;
     disk::reads_of_a_disk(&rt)?;
     disk::failures_of_a_disk(&rt)?;
-    certs::modules_are_printed(&rt)?;
-    certs::certificates_are_made(&rt)?;
-    certs::certificates_are_checked(&rt)?;
-    certs::certificates_that_say_less(&rt)?;
-    certs::certificates_are_read(&rt)?;
-    certs::chains_are_accepted(&rt)
+    certs::show_rows(&rt)
 }

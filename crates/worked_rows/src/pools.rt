@@ -1,8 +1,10 @@
 //! Rows of pools.
 
+use crate::calls::show_named;
 use crate::missing::Missing;
 use anyhow::Result;
 use pool_tree::{PoolId, PoolTree};
+use std::alloc::AllocError;
 
 /// Makes a pool under another.
 pub(crate) fn create<T: Drop>(tree: &mut PoolTree<T>, parent: PoolId) -> Result<PoolId> {
@@ -34,17 +36,18 @@ pub(crate) fn pool_names_spent(rt: &HostRuntime) -> Result<()> {
     println!(rt; "the names of pools run out")?;
     let mut tree: PoolTree<u8> = PoolTree::new(rt.alloc(), u64::MAX - 1)?;
     let root = tree.root();
-    println!(rt; "root {root}")?;
-    match tree.create(root) {
-        Ok(pool) => println!(rt; "pool {pool}")?,
-        Err(why) => println!(rt; "{why}")?,
+    show_named(rt, "root", &Ok::<u64, AllocError>(root))?;
+    show_named(rt, "pool", &tree.create(root))?;
+    let none = PoolTree::<u8>::new(rt.alloc(), u64::MAX).map(|tree| tree.root());
+    show_named(rt, "root", &none)
+}
+
+fn show_destroyed(rt: &HostRuntime, tree: &mut PoolTree<u8>, pool: PoolId) -> Result<()> {
+    if !tree.is_live(pool) || pool == tree.root() {
+        return Err(Missing.into());
     }
-    let none: Result<PoolTree<u8>, _> = PoolTree::new(rt.alloc(), u64::MAX);
-    match none {
-        Ok(tree) => println!(rt; "root {}", tree.root())?,
-        Err(why) => println!(rt; "{why}")?,
-    }
-    Ok(())
+    let ran = tree.destroy(pool)?;
+    show_ran(rt, ran.as_slice())
 }
 
 /// A pool is destroyed with the pool under it, whose payload comes first.
@@ -56,19 +59,24 @@ pub(crate) fn destroy_run_order(rt: &HostRuntime) -> Result<()> {
     let below = create(&mut tree, pool)?;
     register(&mut tree, pool, b'k')?;
     register(&mut tree, below, b'm')?;
-    if !tree.is_live(pool) || pool == tree.root() {
+    show_destroyed(rt, &mut tree, pool)?;
+    for name in [root, pool, below] {
+        let not = if tree.is_live(name) { "" } else { "not " };
+        println!(rt; "pool {name} is {not}live")?;
+    }
+    Ok(())
+}
+
+fn show_killed(rt: &HostRuntime, tree: &mut PoolTree<u8>, letter: u8) -> Result<()> {
+    let root = tree.root();
+    if !tree.is_live(root) {
         return Err(Missing.into());
     }
-    let ran = tree.destroy(pool)?;
-    show_ran(rt, ran.as_slice())?;
-    for name in [root, pool, below] {
-        let told = if tree.is_live(name) {
-            "is live"
-        } else {
-            "is not live"
-        };
-        println!(rt; "pool {name} {told}")?;
-    }
+    let (told, letter) = match tree.kill(root, &letter) {
+        Some(killed) => ("killed", killed),
+        None => ("no", letter),
+    };
+    println!(rt; "{told} {}", letter as char)?;
     Ok(())
 }
 
@@ -80,15 +88,8 @@ pub(crate) fn kills(rt: &HostRuntime) -> Result<()> {
     for letter in [b'a', b'b', b'a', b'c'] {
         register(&mut tree, root, letter)?;
     }
-    for letter in [b'a', b'z'] {
-        if !tree.is_live(root) {
-            return Err(Missing.into());
-        }
-        match tree.kill(root, &letter) {
-            Some(killed) => println!(rt; "killed {}", killed as char)?,
-            None => println!(rt; "no {}", letter as char)?,
-        }
-    }
+    show_killed(rt, &mut tree, b'a')?;
+    show_killed(rt, &mut tree, b'z')?;
     if !tree.is_live(root) {
         return Err(Missing.into());
     }

@@ -5,14 +5,16 @@ ghost use Rattle.run_model.specs.Pools.{is_live};
 ghost use Rattle.pool_tree.specs.Tree.{map_of};
 ghost use Rattle.brigade_ops.specs.Store.{pool_of};
 
-use crate::brigades::{Store, put_tail, show_brigade};
-use crate::buckets::{eos, in_memory, range};
+use crate::brigades::{Store, put, show_brigade};
+use crate::buckets::{Made, make};
+use crate::calls::Place;
+use crate::cuts::{filled, make_all};
 use crate::missing::Missing;
 use crate::pools::create;
 use crate::shown::Shown;
 use anyhow::Result;
 use brigade_ops::BrigadeId;
-use bucket_kinds::{Bucket, Home, Kind};
+use bucket_kinds::Bucket;
 use pool_tree::{PoolId, PoolTree};
 use run_model::Payload;
 use std::alloc::Global;
@@ -54,29 +56,21 @@ fn show_payloads(rt: &HostRuntime, tree: &PoolTree<Payload>, pool: PoolId) -> Re
     Ok(())
 }
 
-/// Sets the one bucket of a brigade aside into a pool.
-fn show_aside(rt: &HostRuntime, bucket: Bucket, below: bool) -> Result<()> {
+/// Sets the one bucket of a brigade aside into a pool: the one under its home, or another.
+pub(crate) fn show_aside(rt: &HostRuntime, made: Made, below: bool) -> Result<()> {
     let mut pools = make_pools(rt.alloc())?;
     let pool = if below { pools.below } else { pools.beside };
+    let bucket = make(rt.alloc(), made)?;
     print!(rt; "{}: ", Shown(&bucket))?;
     let mut store = Store::new(rt.alloc(), 1);
     let brigade = store.loose()?;
-    let id = put_tail(&mut store, brigade, bucket)?;
+    let id = put(&mut store, Place::Tail(brigade), bucket)?;
     if store.ring_of(id).is_none() || !pools.tree.is_live(pool) {
         return Err(Missing.into());
     }
     store.aside(&mut pools.tree, id, pool)?;
     show_brigade(rt, &store, brigade)?;
     show_payloads(rt, &pools.tree, pool)
-}
-
-/// A file gets a reference in the pool, where its home is not above it.
-pub(crate) fn asides_in_a_brigade(rt: &HostRuntime) -> Result<()> {
-    println!(rt; "buckets of a brigade are set aside")?;
-    let transient = in_memory(rt.alloc(), Kind::Transient, Home::Call(3), b"a")?;
-    show_aside(rt, transient, false)?;
-    show_aside(rt, range(7, 5, 10), true)?;
-    show_aside(rt, range(7, 5, 10), false)
 }
 
 /// Saves a brigade into one on a pool.
@@ -122,19 +116,16 @@ fn save(
     Ok(onto)
 }
 
+/// What a row saves.
+const SAVED: &[Made] = &[Made::Transient(3, b"a"), Made::Range(7, 5, 10), Made::Eos];
+
 /// The buckets of a brigade are set aside into the pool of another, and move to its tail.
 pub(crate) fn saves(rt: &HostRuntime) -> Result<()> {
     println!(rt; "a brigade is saved")?;
-    let alloc = rt.alloc();
-    let mut pools = make_pools(alloc)?;
-    let mut store = Store::new(alloc, 1);
-    let from = store.loose()?;
-    let transient = in_memory(alloc, Kind::Transient, Home::Call(3), b"a")?;
-    put_tail(&mut store, from, transient)?;
-    put_tail(&mut store, from, range(7, 5, 10))?;
-    put_tail(&mut store, from, eos())?;
-    let first = in_memory(alloc, Kind::Heap, Home::Free, b"x")?;
+    let mut pools = make_pools(rt.alloc())?;
     let pool = pools.beside;
+    let (mut store, from) = filled(rt.alloc(), make_all(rt.alloc(), SAVED)?)?;
+    let first = make(rt.alloc(), Made::Heap(b"x"))?;
     let onto = save(&mut store, &mut pools.tree, pool, first, from)?;
     show_brigade(rt, &store, onto)?;
     show_brigade(rt, &store, from)?;
@@ -153,31 +144,39 @@ pub(crate) fn references(rt: &HostRuntime) -> Result<()> {
     show_payloads(rt, &pools.tree, pools.above)
 }
 
+/// What lies in a brigade under which the pool 2 is cleared, with the pool 3 under it. The pool 4 is beside it.
+const CLEARED: &[Made] = &[
+    Made::Pool(3, b"hi"),
+    Made::Pool(4, b"ho"),
+    Made::Range(7, 5, 10),
+];
+
+/// Clears a pool under a brigade, and gives the number of cleanups that ran.
+fn clear(
+    store: &mut Store,
+    tree: &mut PoolTree<Payload>,
+    pool: PoolId,
+    brigade: BrigadeId,
+) -> Result<usize> {
+    if !tree.is_live(pool) {
+        return Err(Missing.into());
+    }
+    let morphs = store.plan_morphs(&[brigade], pool, tree)?;
+    let ran = tree.clear(pool)?;
+    store.apply_morphs(morphs);
+    Ok(ran.len())
+}
+
 /// Bytes that lie under a pool that is cleared go to the heap, and homes under it end.
 pub(crate) fn clears_under_a_brigade(rt: &HostRuntime) -> Result<()> {
     println!(rt; "a pool is cleared under a brigade")?;
-    let alloc = rt.alloc();
-    let mut pools = make_pools(alloc)?;
-    let mut store = Store::new(alloc, 1);
-    let brigade = store.loose()?;
-    let below = in_memory(alloc, Kind::Pool(pools.below), Home::Free, b"hi")?;
-    let beside = in_memory(alloc, Kind::Pool(pools.beside), Home::Free, b"ho")?;
-    put_tail(&mut store, brigade, below)?;
-    put_tail(&mut store, brigade, beside)?;
-    put_tail(&mut store, brigade, range(7, 5, 10))?;
+    let mut pools = make_pools(rt.alloc())?;
+    let (mut store, brigade) = filled(rt.alloc(), make_all(rt.alloc(), CLEARED)?)?;
     show_brigade(rt, &store, brigade)?;
     let pool = pools.above;
-    if !pools.tree.is_live(pool) {
-        return Err(Missing.into());
-    }
-    let morphs = store.plan_morphs(&[brigade], pool, &pools.tree)?;
-    let ran = pools.tree.clear(pool)?;
-    store.apply_morphs(morphs);
+    let ran = clear(&mut store, &mut pools.tree, pool, brigade)?;
     show_brigade(rt, &store, brigade)?;
-    println!(rt;
-        "{} ran, and pool 3 is live: {}",
-        ran.len(),
-        pools.tree.is_live(pools.below)
-    )?;
+    let is_live = pools.tree.is_live(pools.below);
+    println!(rt; "{ran} ran, and pool 3 is live: {is_live}")?;
     Ok(())
 }
