@@ -2,6 +2,7 @@
 #![tactic(auto)]
 
 mod modules;
+mod names_spent;
 mod pages;
 mod requests;
 mod shown;
@@ -21,5 +22,6 @@ fn main(rt: HostRuntime) -> Result<()> {
     requests::failures(&rt)?;
     requests::bytes_of_filters(&rt)?;
     requests::no_date(&rt)?;
-    requests::cut_requests(&rt)
+    requests::cut_requests(&rt)?;
+    names_spent::names_spent_host(&rt)
 }
