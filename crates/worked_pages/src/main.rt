@@ -4,6 +4,7 @@
 
 mod loopback;
 mod modules;
+mod names_spent;
 mod pages;
 mod requests;
 mod shown;
@@ -14,5 +15,6 @@ use anyhow::Result;
 fn main(rt: HostRuntime) -> Result<()> {
     requests::show_rows(&rt)?;
     requests::cut_requests(&rt)?;
+    names_spent::names_spent_host(&rt)?;
     loopback::serves_over_a_socket(&rt)
 }

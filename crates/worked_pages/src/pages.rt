@@ -45,7 +45,8 @@ pub(crate) struct Server {
     pub(crate) fails_at: Option<u64>,
 }
 
-fn chain(alloc: Global, text: &[u8]) -> Result<CheckedChain> {
+/// The chain of one module, which is accepted.
+pub(crate) fn chain(alloc: Global, text: &[u8]) -> Result<CheckedChain> {
     let code = assemble(alloc, text)?;
     let Ok(cert) = make(alloc, &code) else {
         return Err(Refused.into());

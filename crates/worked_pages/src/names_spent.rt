@@ -1,0 +1,120 @@
+//! Hosts whose names are nearly spent.
+
+ghost use Rattle.std.specs.Prelude.{◌<◌, IfOk};
+ghost use Rattle.filter_chain.specs.Led.{IsAlive};
+
+use crate::modules::{CLEANUP_ORDER, IDENTITY};
+use crate::pages::{BUDGET, chain};
+use anyhow::Result;
+use filter_chain::{Files, Host, Limits, MemFiles, PoolId, Refusal};
+use std::alloc::Global;
+use std::io;
+
+/// The first name: of pools, there are two.
+const FIRST: PoolId = u64::MAX - 2;
+
+/// The one connection.
+const CONN: u64 = 1;
+
+/// A call of a host.
+#[derive(Clone, Copy, Debug)]
+enum Call {
+    Open,
+    Step,
+    Begin,
+    Close,
+}
+
+/// A host, and the calls that are made of it.
+struct Row {
+    what: &'static str,
+    module: &'static [u8],
+    checked: bool,
+    calls: &'static [Call],
+}
+
+/// The pool of the connection takes the last name, so that none is left for the pool of a request, or of a filter.
+const ROWS: [Row; 3] = [
+    Row {
+        what: "a filter that passes on, watched",
+        module: IDENTITY,
+        checked: false,
+        calls: &BEGUN_TWICE,
+    },
+    Row {
+        what: "a filter that passes on, checked",
+        module: IDENTITY,
+        checked: true,
+        calls: &BEGUN_TWICE,
+    },
+    Row {
+        what: "a filter that makes pools",
+        module: CLEANUP_ORDER,
+        checked: false,
+        calls: &[Call::Open, Call::Step, Call::Step],
+    },
+];
+
+const BEGUN_TWICE: [Call; 5] = [Call::Open, Call::Step, Call::Begin, Call::Begin, Call::Step];
+
+/// A host of one filter, whose names begin with `first`.
+fn host(alloc: Global, module: &[u8], checked: bool, first: PoolId) -> Result<Host<MemFiles>>
+    requires named { 0 < first }
+    ensures { IfOk result (λ h. IsAlive ⟦<MemFiles as Files>⟧.device h) }
+{
+    let chain = chain(alloc, module)?;
+    let files = MemFiles::new(alloc);
+    let limits = Limits { budget: BUDGET };
+    if checked {
+        return Ok(Host::checked_at(alloc, files, chain, limits, first)?);
+    }
+    let modules = chain.into_modules();
+    Ok(Host::watched_at(alloc, files, modules, limits, first)?)
+}
+
+fn make(host: &mut Host<MemFiles>, call: Call) -> Result<(), Refusal>
+    requires { IsAlive ⟦<MemFiles as Files>⟧.device host.old }
+    ensures { IsAlive ⟦<MemFiles as Files>⟧.device host.new }
+{
+    match call {
+        Call::Open => host.open_conn().map(|_| ()),
+        Call::Step => host.step(CONN).map(|_| ()),
+        Call::Begin => host.begin(CONN),
+        Call::Close => host.close(CONN).map(|_| ()),
+    }
+}
+
+/// Makes a call, and prints what it answers.
+fn tell(rt: &HostRuntime, host: &mut Host<MemFiles>, call: Call) -> io::Result<()>
+    requires { IsAlive ⟦<MemFiles as Files>⟧.device host.old }
+    ensures { IsAlive ⟦<MemFiles as Files>⟧.device host.new }
+{
+    match make(host, call) {
+        Ok(()) => println!(rt; "{call:?}: done"),
+        Err(refusal) => println!(rt; "{call:?}: {refusal}"),
+    }
+}
+
+/// Makes the calls of a row, prints the pools, and closes the connection.
+fn show(rt: &HostRuntime, row: &Row) -> Result<()> {
+    println!(rt; "{}, names from {FIRST}", row.what)?;
+    let mut host = host(rt.alloc(), row.module, row.checked, FIRST)?;
+    for call in row.calls {
+        tell(rt, &mut host, *call)?;
+    }
+    host.print_pools(&mut io::writer(rt))?;
+    tell(rt, &mut host, Call::Close)?;
+    Ok(())
+}
+
+/// Names that begin so near to the end that the first request finds none, or the first pool of a filter; and names that cannot begin.
+pub(crate) fn names_spent_host(rt: &HostRuntime) -> Result<()> {
+    for row in &ROWS {
+        show(rt, row)?;
+    }
+    match host(rt.alloc(), IDENTITY, false, u64::MAX) {
+        Ok(_) => println!(rt; "a host of no names")?,
+        Err(refusal) => println!(rt; "names from {}: {refusal}", u64::MAX)?,
+    }
+    Ok(())
+}
