@@ -6,7 +6,8 @@ use Rattle.filter_chain.specs.Running.{StepsToEnd}
 use Rattle.filter_chain.specs.HostViews.{HostView, Answers}
 use Rattle.http_message.specs.declared.failure.Failure.{Failure}
 use Rattle.http_message.specs.declared.reply.Method.{Method}
-pub use Rattle.http_front.specs.RequestEvents.{piece_bytes, last_brigade, brigades_from, brigades_of, brigades_for, lack_of, ended_of, unopened, IfSucceeded, IsOfRequest}
+unfoldable pub use Rattle.http_front.specs.RequestEvents.{brigades_from, brigades_of}
+pub use Rattle.http_front.specs.RequestEvents.{piece_bytes, last_brigade, brigades_for, lack_of, ended_of, unopened, IfSucceeded, IsOfRequest}
 use Rattle.http_front.specs.RequestEvents as by
 use Rattle.http_front.specs.declared.fault.FrontKind.{FrontKind}
 use Rattle.http_front.specs.declared.handler.RequestOutcome.{RequestOutcome}

@@ -2,6 +2,7 @@
 #![tactic(auto)]
 
 mod client;
+mod descriptors;
 mod event_loop;
 mod head_reader;
 mod listening;

@@ -4,6 +4,7 @@ ghost use Rattle.std.specs.Prelude.{IfOk};
 ghost use Rattle.filter_chain.specs.Safe.{IsSafe};
 ghost use Rattle.http_front.specs.Driven.{IsAlive};
 
+use crate::descriptors::too_few;
 use crate::event_loop::serve_turns;
 use crate::listening::{ServeSettings, serve_all};
 use bucket_kinds::DiskFiles;
@@ -190,6 +191,17 @@ fn cannot_listen(alloc: Global) -> StartError {
     told(alloc, format!(in alloc; "cannot listen\n"))
 }
 
+/// Stops where the descriptors are too few to serve so many connections at once.
+fn unless_too_few(alloc: Global, at_once: u32) -> Result<(), StartError> {
+    match too_few(at_once) {
+        None => Ok(()),
+        Some(there) => Err(told(
+            alloc,
+            format!(in alloc; "cannot serve {at_once} at once: {there} descriptors\n"),
+        )),
+    }
+}
+
 /// Reads and checks the chain, reads the site, and listens: what listens has a host of a chain that is accepted, which never faults.
 fn get_ready<R>(rt: &R, front: &ServeOptions<'_>) -> Result<Server<R>, StartError>
 where
@@ -198,6 +210,7 @@ where
     ensures alive { IfOk result (λ r. IsAlive ⟦<DiskFiles<R> as Files>⟧.device r.host) }
     ensures safe { IfOk result (λ r. IsSafe r.host) }
 {
+    unless_too_few(rt.alloc(), front.at_once)?;
     let chain = read_chain(rt, front.modules.as_slice())?;
     let site = read_site(rt, front.site)?;
     let files = DiskFiles::new(rt.clone()?);
