@@ -28,7 +28,7 @@ enum Object {
 // A want of the instructions with this word: none of these may be so, in this order.
 #[derive(Clone, Copy)]
 struct Need {
-    word: &'static [u8],
+    word: &'static str,
     object: Object,
     sorts: [Sort; 3],
 }
@@ -66,297 +66,297 @@ const READ: [Sort; 3] = [Sort::Unread, Sort::Unread, Sort::Unread];
 // What instructions want, in the order of their rules' tests. One that has no row wants nothing.
 const NEEDS: [Need; 59] = [
     Need {
-        word: b"pcreate",
+        word: "pcreate",
         object: Object::Parent,
         sorts: POOL,
     },
     Need {
-        word: b"pcreate",
+        word: "pcreate",
         object: Object::First,
         sorts: NEW_POOL,
     },
     Need {
-        word: b"pclear",
+        word: "pclear",
         object: Object::First,
         sorts: POOL,
     },
     Need {
-        word: b"pdestroy",
+        word: "pdestroy",
         object: Object::First,
         sorts: POOL,
     },
     Need {
-        word: b"label",
+        word: "label",
         object: Object::FirstPlace,
         sorts: POOL,
     },
     Need {
-        word: b"unlabel",
+        word: "unlabel",
         object: Object::FirstPlace,
         sorts: POOL,
     },
     Need {
-        word: b"poolb",
+        word: "poolb",
         object: Object::SecondPlace,
         sorts: POOL,
     },
     Need {
-        word: b"bcreate",
+        word: "bcreate",
         object: Object::Home,
         sorts: POOL,
     },
     Need {
-        word: b"bcreate",
+        word: "bcreate",
         object: Object::First,
         sorts: NEW,
     },
     Need {
-        word: b"bclean",
+        word: "bclean",
         object: Object::First,
         sorts: LIVE,
     },
     Need {
-        word: b"bconcat",
+        word: "bconcat",
         object: Object::First,
         sorts: USABLE,
     },
     Need {
-        word: b"bconcat",
+        word: "bconcat",
         object: Object::Second,
         sorts: USABLE,
     },
     Need {
-        word: b"bsplit",
+        word: "bsplit",
         object: Object::First,
         sorts: USABLE,
     },
     Need {
-        word: b"bsplit",
+        word: "bsplit",
         object: Object::Second,
         sorts: IN_THIS,
     },
     Need {
-        word: b"bsplit",
+        word: "bsplit",
         object: Object::Third,
         sorts: USABLE,
     },
     Need {
-        word: b"bpart",
+        word: "bpart",
         object: Object::First,
         sorts: USABLE,
     },
     Need {
-        word: b"bpart",
-        object: Object::First,
-        sorts: ALIVE,
-    },
-    Need {
-        word: b"bsave",
-        object: Object::First,
-        sorts: USABLE,
-    },
-    Need {
-        word: b"bsave",
-        object: Object::Second,
-        sorts: USABLE,
-    },
-    Need {
-        word: b"bsave",
-        object: Object::Second,
-        sorts: ALIVE,
-    },
-    Need {
-        word: b"jempty",
-        object: Object::First,
-        sorts: USABLE,
-    },
-    Need {
-        word: b"first",
-        object: Object::Second,
-        sorts: USABLE,
-    },
-    Need {
-        word: b"pass",
-        object: Object::First,
-        sorts: USABLE,
-    },
-    Need {
-        word: b"pass",
+        word: "bpart",
         object: Object::First,
         sorts: ALIVE,
     },
     Need {
-        word: b"pass",
+        word: "bsave",
+        object: Object::First,
+        sorts: USABLE,
+    },
+    Need {
+        word: "bsave",
+        object: Object::Second,
+        sorts: USABLE,
+    },
+    Need {
+        word: "bsave",
+        object: Object::Second,
+        sorts: ALIVE,
+    },
+    Need {
+        word: "jempty",
+        object: Object::First,
+        sorts: USABLE,
+    },
+    Need {
+        word: "first",
+        object: Object::Second,
+        sorts: USABLE,
+    },
+    Need {
+        word: "pass",
+        object: Object::First,
+        sorts: USABLE,
+    },
+    Need {
+        word: "pass",
+        object: Object::First,
+        sorts: ALIVE,
+    },
+    Need {
+        word: "pass",
         object: Object::First,
         sorts: SENDING,
     },
     Need {
-        word: b"ret",
+        word: "ret",
         object: Object::Fixed(0),
         sorts: LASTING,
     },
     Need {
-        word: b"ret",
+        word: "ret",
         object: Object::Fixed(1),
         sorts: LASTING,
     },
     Need {
-        word: b"ret",
+        word: "ret",
         object: Object::Fixed(2),
         sorts: LASTING,
     },
     Need {
-        word: b"ret",
+        word: "ret",
         object: Object::Fixed(3),
         sorts: LASTING,
     },
     Need {
-        word: b"ret",
+        word: "ret",
         object: Object::Fixed(4),
         sorts: LASTING,
     },
     Need {
-        word: b"ret",
+        word: "ret",
         object: Object::Fixed(5),
         sorts: LASTING,
     },
     Need {
-        word: b"ret",
+        word: "ret",
         object: Object::Fixed(6),
         sorts: LASTING,
     },
     Need {
-        word: b"ret",
+        word: "ret",
         object: Object::Fixed(7),
         sorts: LASTING,
     },
     Need {
-        word: b"jend",
+        word: "jend",
         object: Object::First,
         sorts: ANYWHERE,
     },
     Need {
-        word: b"next",
+        word: "next",
         object: Object::Second,
         sorts: INSIDE,
     },
     Need {
-        word: b"unlink",
+        word: "unlink",
         object: Object::First,
         sorts: INSIDE,
     },
     Need {
-        word: b"jkind",
+        word: "jkind",
         object: Object::First,
         sorts: BUCKET,
     },
     Need {
-        word: b"bdelete",
+        word: "bdelete",
         object: Object::First,
         sorts: BUCKET,
     },
     Need {
-        word: b"len",
+        word: "len",
         object: Object::Second,
         sorts: BUCKET,
     },
     Need {
-        word: b"get",
+        word: "get",
         object: Object::Fixed(8),
         sorts: READ,
     },
     Need {
-        word: b"tail",
+        word: "tail",
         object: Object::First,
         sorts: USABLE,
     },
     Need {
-        word: b"tail",
+        word: "tail",
         object: Object::Second,
         sorts: LOOSE,
     },
     Need {
-        word: b"head",
+        word: "head",
         object: Object::First,
         sorts: USABLE,
     },
     Need {
-        word: b"head",
+        word: "head",
         object: Object::Second,
         sorts: LOOSE,
     },
     Need {
-        word: b"before",
+        word: "before",
         object: Object::First,
         sorts: LOOSE,
     },
     Need {
-        word: b"before",
+        word: "before",
         object: Object::Second,
         sorts: INSIDE,
     },
     Need {
-        word: b"split",
+        word: "split",
         object: Object::First,
         sorts: INSIDE,
     },
     Need {
-        word: b"split",
+        word: "split",
         object: Object::First,
         sorts: ALIVE_AT,
     },
     Need {
-        word: b"split",
+        word: "split",
         object: Object::BrigadeOfFirst,
         sorts: ALIVE,
     },
     Need {
-        word: b"read",
+        word: "read",
         object: Object::First,
         sorts: INSIDE,
     },
     Need {
-        word: b"read",
+        word: "read",
         object: Object::First,
         sorts: ALIVE_AT,
     },
     Need {
-        word: b"read",
+        word: "read",
         object: Object::BrigadeOfFirst,
         sorts: ALIVE,
     },
     Need {
-        word: b"copy",
+        word: "copy",
         object: Object::Second,
         sorts: BUCKET,
     },
     Need {
-        word: b"copy",
+        word: "copy",
         object: Object::Second,
         sorts: ALIVE_AT,
     },
     Need {
-        word: b"copy",
+        word: "copy",
         object: Object::BrigadeOfSecond,
         sorts: ALIVE,
     },
     Need {
-        word: b"aside",
+        word: "aside",
         object: Object::First,
         sorts: BUCKET,
     },
     Need {
-        word: b"aside",
+        word: "aside",
         object: Object::SecondPlace,
         sorts: POOL,
     },
     Need {
-        word: b"aside",
+        word: "aside",
         object: Object::First,
         sorts: ALIVE_AT,
     },
     Need {
-        word: b"aside",
+        word: "aside",
         object: Object::BrigadeOfFirst,
         sorts: ALIVE,
     },
@@ -429,7 +429,7 @@ fn first_of(state: &State, sorts: [Sort; 3], of: u8, other: u8) -> Option<Doubt>
 pub fn doubt_of(code: &Module, instr: Instr, state: &State) -> Option<Doubt> {
     let (op, args) = parts(instr);
     for need in &NEEDS {
-        if need.word == op.text() {
+        if need.word.as_bytes() == op.text() {
             if let Some(of) = object_of(code, state, args, need.object) {
                 let doubt = first_of(state, need.sorts, of, args.first.index());
                 if doubt.is_some() {

@@ -407,6 +407,7 @@ impl<'s> Case<'s> {
     fn expand(&mut self, form: &[u8]) {
         for byte in form {
             let byte = *byte;
+            let number = self.number;
             let name = self
                 .names
                 .get(usize::from(byte.wrapping_sub(b'A')))
@@ -414,7 +415,7 @@ impl<'s> Case<'s> {
             if let Some(name) = name {
                 self.page.push_line(name);
             } else if byte == b'#' {
-                self.page.put("#", self.number, &[], "");
+                self.page.put("#", number, &[], "");
             } else {
                 self.page.push_line(&[byte]);
             }
