@@ -17,7 +17,7 @@ REFUSED = ('identity', 'bsave_keeps_transient', 'cleanup_order', 'aside_into_the
            'close_while_a_call_runs')
 # scripts of one connection that is closed after each of its steps
 CLOSED = ('identity', 'bsave_keeps_transient', 'cleanup_order', 'aside_into_the_request_within_it', 'pool_bucket_survives_its_pool',
-          'poolb_loose_at_a_clear', 'file_closed_with_its_last_reference', 'keeper_of_single_buckets', 'read_get_put', 'f7_pass_twice')
+          'poolb_loose_at_a_clear', 'read_in_parts', 'keeper_of_single_buckets', 'read_get_put', 'f7_pass_twice')
 MOST_STEPS = 200
 
 
