@@ -1,14 +1,13 @@
 -- Steps in slices: a head begins a request, and the response to it.
-use Rattle.std.proofs.Common.{◌≡◌, ℕ, ◌≤◌, ◌<◌, Bool, true, false, Ok, Err, Option, Some, None, List, [], length, take, drop, refl, sym, inl, inr, ◌∙◌, ap, subst, arith, length-take}
+use Rattle.std.proofs.Common.{◌≡◌, ℕ, ◌≤◌, ◌<◌, Bool, true, false, Ok, Err, Option, Some, None, List, length, take, drop, refl, sym, inl, inr, ◌∙◌, ap, subst, arith, length-take}
 use Rattle.std.specs.Prelude.{Result, IfOk, ◌⊎◌, ◌&&◌, nat_le}
 use Rattle.std.proofs.lemmas.List.{take_all}
-use Rattle.httparse.specs.Grammar.{RequestHead, print_request}
+use Rattle.httparse.specs.Grammar.{RequestHead}
 use Rattle.httparse.specs.Spans.{IsRequestAt, IsRequestWithin, IsWithin, span_bytes}
 use Rattle.httparse.specs.declared.spans.HeaderSpan.{HeaderSpan}
 use Rattle.httparse.specs.declared.spans.RequestSpans.{RequestSpans}
-use Rattle.httparse.specs.declared.spans.Span.{Span}
 use Rattle.http_message.specs.Asking.{method_of, refusal}
-use Rattle.http_message.specs.Clocks.{Said, IsNoted}
+use Rattle.http_message.specs.Clocks.{Said}
 use Rattle.http_message.specs.Heads.{BeginsWithin}
 use Rattle.http_message.specs.Inboxes.{unread}
 use Rattle.http_message.specs.Looking.{IsFound}
@@ -23,7 +22,7 @@ use Rattle.http_front.specs.Stepping.{DoesStep, IsWritten, ServesRequest}
 use Rattle.http_front.specs.Talking.{Follows, pending}
 use Rattle.http_front.specs.Texts.{text_of}
 use Rattle.http_front.specs.Turns.{ComesTo, ComesUnless, fields_limit, head_limit}
-use Rattle.http_front.specs.UnderWays.{Answered, Asks, BeginsHead, IsAskedBy, IsUnderWay, Sends, Steps, StepsFrom, Wants, WantsPath}
+use Rattle.http_front.specs.UnderWays.{Answered, BeginsHead, IsAskedBy, IsUnderWay, Sends, Steps, StepsFrom, Wants, WantsPath}
 use Rattle.http_front.specs.declared.handler.RequestOutcome.{RequestOutcome}
 use Rattle.http_front.specs.declared.handler.Slice.{Slice}
 use Rattle.http_front.specs.declared.handler.Slice.TheVariants as request

@@ -1,5 +1,5 @@
 -- Connections that are served by turns.
-use Rattle.std.proofs.Common.{◌≡◌, ◌≢◌, ℕ, ◌+◌, inl, inr, Bool, true, false, List, [], ◌∷◌, ◌++◌, length, take, drop, Option, Some, None, Result, Ok, Err, refl, sym, subst, ap, ◌∙◌}
+use Rattle.std.proofs.Common.{◌≡◌, ℕ, ◌+◌, inl, inr, Bool, true, false, List, [], ◌∷◌, ◌++◌, length, take, drop, Option, Some, None, Result, Ok, Err, refl, sym, subst, ap, ◌∙◌}
 use Rattle.std.proofs.lemmas.List.{append_assoc, append-nil, take-append-drop}
 use Rattle.std.specs.Prelude.{OnOk}
 use Rattle.httparse.specs.Grammar.{RequestHead, print_request}
@@ -16,7 +16,7 @@ use Rattle.http_front.specs.Stepping.{DoesStep, ServesRequest}
 use Rattle.http_front.specs.Talking.{Follows, GoesSo, IsInHand, Lands, Stands, StandsCut, pending}
 use Rattle.http_front.specs.UnderWays.{IsUnderWay, StepsFrom}
 use Rattle.http_message.specs.Heads.{IsHeadlessWithin, StaysHeadless}
-use Rattle.http_front.specs.Turns.{Turn, fields_limit, head_limit, AllStay, AnswersAll, AnswersRequest, ComesTo, ComesUnless, IsDated, Responses, SendsBad, heads_of, texts_of}
+use Rattle.http_front.specs.Turns.{Turn, fields_limit, head_limit, AnswersRequest, ComesTo, ComesUnless, IsDated, Responses, SendsBad, heads_of, texts_of}
 use Rattle.http_front.specs.declared.fault.FrontKind.{FrontKind}
 use Rattle.http_front.specs.declared.handler.RequestOutcome.{RequestOutcome}
 use Rattle.http_front.specs.declared.http_conn.HttpConn.{HttpConn}

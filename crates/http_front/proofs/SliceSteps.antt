@@ -1,5 +1,5 @@
 -- Steps in slices: what is left of a call, when it is run, makes it whole.
-use Rattle.std.proofs.Common.{◌≡◌, ◌≢◌, ℕ, zero, suc, ◌+◌, ◌<◌, ◌≤◌, Bool, List, [], ◌∷◌, Option, Some, None, Result, Ok, refl, ap, sym, subst, ◌∙◌, arith}
+use Rattle.std.proofs.Common.{◌≡◌, ◌≢◌, ℕ, zero, suc, ◌+◌, ◌<◌, ◌≤◌, Bool, List, [], ◌∷◌, Some, None, Result, Ok, refl, ap, sym, subst, ◌∙◌, arith}
 use Rattle.module_code.specs.Program.{Program}
 use Rattle.run_model.specs.declared.event.Event.{Event}
 use Rattle.run_model.specs.declared.event.Event.TheVariants as event
@@ -18,7 +18,7 @@ use Rattle.filter_chain.specs.HostViews.{HostView, Answers}
 use Rattle.filter_chain.specs.Led.{Refines}
 use Rattle.filter_chain.specs.Running.{HostGoesOn, StepsOn}
 use Rattle.filter_chain.proofs.StepCounts.{acts_count, goes_more}
-use Rattle.http_front.specs.Among.{AnswersLater, GoesOnLater, Others, RunsLater, RunsSlice}
+use Rattle.http_front.specs.Among.{AnswersLater, GoesOnLater, RunsLater, RunsSlice}
 use Rattle.http_front.specs.Driven.{GoesByOthers}
 use Rattle.http_front.specs.RequestEvents.{ended_of}
 use Rattle.http_front.specs.declared.running.CallEnd.{CallEnd}

@@ -1,12 +1,12 @@
 -- What happens beside a connection. An `impl` of `Handler` gives these as its laws, so they stand here.
-use Rattle.std.proofs.Common.{◌≡◌, ◌≢◌, ℕ, List, [], ◌∷◌, refl, sym, subst}
+use Rattle.std.proofs.Common.{◌≢◌, ℕ, List, [], ◌∷◌, refl, sym, subst}
 use Rattle.module_code.specs.Program.{Program}
 use Rattle.run_model.specs.declared.event.Event.{Event}
 use Rattle.run_model.specs.Worlds.{Answer}
 use Rattle.bucket_kinds.specs.Device.{Device}
 use Rattle.filter_chain.specs.declared.host.Host.{Host}
 use Rattle.filter_chain.specs.HostViews.{HostView, Answers}
-use Rattle.http_front.specs.Driven.{GoesBy, GoesByOthers, NoEventsOf, OnlyEventsOf, Refines}
+use Rattle.http_front.specs.Driven.{GoesBy, GoesByOthers, NoEventsOf, OnlyEventsOf}
 use Rattle.filter_chain.proofs.Driving.{Happened, by_event, leads_on, leads_still}
 
 abbrev Others : ℕ → List Program → ℕ → HostView → HostView → Type 0

@@ -1,18 +1,16 @@
 -- What belongs to others may stand before a request, and before what is left of one. An `impl` of `Handler` gives these as its laws, so they stand here.
-use Rattle.std.proofs.Common.{◌≡◌, ◌≢◌, ℕ, zero, suc, List, [], ◌∷◌, ◌++◌, Option, Some, None, Result, refl, sym, subst}
+use Rattle.std.proofs.Common.{ℕ, zero, suc, List, [], ◌∷◌, refl, sym, subst}
 use Rattle.module_code.specs.Program.{Program}
 use Rattle.run_model.specs.declared.event.Event.{Event}
 use Rattle.run_model.specs.declared.event.Event.TheVariants as event
-use Rattle.run_model.specs.declared.event.Refusal.{Refusal}
-use Rattle.run_model.specs.declared.event.Stepped.{Stepped}
 use Rattle.run_model.specs.Worlds.{Answer}
 use Rattle.bucket_kinds.specs.Device.{Device}
 use Rattle.filter_chain.specs.declared.host.Host.{Host}
 use Rattle.filter_chain.specs.Hosting.{step_answer}
-use Rattle.filter_chain.specs.HostViews.{HostView, Answers}
+use Rattle.filter_chain.specs.HostViews.{HostView}
 use Rattle.http_message.specs.declared.reply.Method.{Method}
-use Rattle.http_front.specs.Among.{AnswersLater, ComesLater, GoesOnLater, HandlesAmong, InitsLater, Others, Rests, RestsAmong, RunsLater, StepsLater}
-use Rattle.http_front.specs.Driven.{GoesByOthers, NoEventsOf, Refines}
+use Rattle.http_front.specs.Among.{AnswersLater, ComesLater, GoesOnLater, HandlesAmong, Others, Rests, RestsAmong, RunsLater}
+use Rattle.http_front.specs.Driven.{GoesByOthers, NoEventsOf}
 use Rattle.http_front.specs.declared.handler.RequestOutcome.{RequestOutcome}
 use Rattle.http_front.specs.declared.running.CallEnd.{CallEnd}
 use Rattle.http_front.specs.declared.task.RequestTask.{RequestTask}
