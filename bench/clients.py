@@ -41,6 +41,7 @@ CLIENTS = (1, 8, 64, 1000)
 PARTS = ('wrk', 'work', 'slow', 'idle', 'flat')
 LARGE = 16 << 20
 ASKED = 2000
+IDLE = 10_000
 
 
 def lay_out(program, folder):
@@ -56,7 +57,7 @@ def lay_out(program, folder):
                 file.write(b'x' * size)
 
 
-def serve(program, folder, module='pass', places=4096):
+def serve(program, folder, module='pass', places=2048):
     """A running `serve`, and its port."""
     port = free_port()
     words = [program, 'serve', '--site', 'site', '--port', str(port), '--forever', '--at-once', str(places), '--budget', '4294967295', module]
@@ -209,19 +210,23 @@ def slow(program, folder):
 
 
 def idle(program, folder):
-    limit = resource.getrlimit(resource.RLIMIT_NOFILE)[1]
-    resource.setrlimit(resource.RLIMIT_NOFILE, (limit, limit))
-    running, port = serve(program, folder)
+    """Twice as many descriptors as connections are wanted, and some more; root may ask for them."""
+    try:
+        resource.setrlimit(resource.RLIMIT_NOFILE, (32768, 32768))
+    except (OSError, ValueError):
+        limit = resource.getrlimit(resource.RLIMIT_NOFILE)[1]
+        resource.setrlimit(resource.RLIMIT_NOFILE, (limit, limit))
+    count = min(IDLE, (resource.getrlimit(resource.RLIMIT_NOFILE)[0] - 16) // 2 - 10)
+    running, port = serve(program, folder, places=count + 5)
     try:
         before = memory(running.pid)
         links = []
-        for _ in range(4000):
+        for _ in range(count):
             link = connect(port)
             link.sendall(ask_for(2))
             links.append(link)
-        for link in links:
-            link.recv(4096)
-        print('%d idle connections: %.1f KiB each' % (len(links), (memory(running.pid) - before) / len(links)), flush=True)
+        answered = sum(link.recv(4096).startswith(b'HTTP/1.1 200') for link in links)
+        print('%d idle connections, %d answered: %.1f KiB each' % (count, answered, (memory(running.pid) - before) / count), flush=True)
     finally:
         stop(running)
 

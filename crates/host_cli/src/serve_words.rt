@@ -63,7 +63,7 @@ fn with_limits<'a>(alloc: Global, command: Command<'a>) -> Result<Command<'a>, A
         "N",
         "How many connections are served at once, by turns",
     )
-    .value_parser(value_parser!(u32).range(1..=4096))
+    .value_parser(value_parser!(u32).range(1..=65_535))
     .default_value("1");
     command
         .arg(conns)?
