@@ -275,7 +275,11 @@ impl<T: Drop> HttpConn<T> {
         match slice {
             Ok(StepSlice::Did(step)) => self.follow(step),
             Ok(StepSlice::Works(under_way)) => self.hand = Some(under_way),
-            Err(why) => return Err(why),
+            Err(why) => {
+                self.text.clear(alloc);
+                self.size = 0;
+                return Err(why);
+            }
         }
         Ok(Turned::Moved)
     }

@@ -25,4 +25,5 @@ mod pieces;
 pub use brigade_ops::{BrigadeId, Brigades, BucketId, PlainRings, PoolId, PoolTree, Rings};
 pub use conn::{Conn, Filter, OpenFile};
 pub use conn_step::step_watched;
+pub use ring_run::LabelsRun;
 pub use run_model::{Bucket, Mark, Payload, PoolVar, Seq, StepRefusal, Stepped};

@@ -44,6 +44,7 @@ mod values;
 pub mod wants;
 
 pub use brigade_ops::{BrigadeId, Brigades, BucketId, PlainRings, PoolId, PoolTree, Rings};
+pub use labels_run::LabelsRun;
 pub use machine::{Call, CursorValue, Instance, Slot};
 pub use output_block::OutputBlock;
 pub use outside::Outside;
