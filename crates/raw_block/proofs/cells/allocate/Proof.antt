@@ -27,7 +27,7 @@ use Rattle.std_alloc.proofs.ResultValues.{ok_of, err_of}
 use Rattle.std_alloc.proofs.RcSteps.{first_Good}
 use Rattle.raw_block.specs.Ownership.{run_owned}
 use Rattle.raw_block.proofs.Rows.{of_room}
-use Rattle.raw_block.proofs.Tuples.{three_val, three_made}
+use Rattle.raw_block.proofs.Tuples.{triple_of, three_made}
 use Rattle.raw_block.specs.contracts.cells.allocate as f
 use Rattle.raw_block.proofs.cells.allocate.Statement.{statement}
 use Rattle.raw_block.proofs.cells.allocate.Code as code
@@ -63,7 +63,7 @@ allocate_spec 𝓤 𝓛 𝓜 𝓡 wired X W LX LW g₀ di dd met md =
     let p : Ptr = block_ptr b o in let base : (Br E).Denot = record { ptr = p } in
     let cells : (Cr E).Denot = record { mark = record {}; start = p; places = replicate n None } in
     let right : (Rr E Z).Denot = record { mark = record {}; start = p; len = n; alloc = self.now } in
-    let made : Val = three_val (word p) mark mark in
+    let made : Val = triple_of (word p) mark mark in
     let typed : Good (layout Three) made = (tt, ((tt, tt), ((tt, tt), ((tt, tt), tt)))) in let ok = first_Good (layout Three) made typed in
     lands_as ! e refl (Answer-typed true b o) $ first ! $ switches_on ! (get_tag ! (vrt ! refl (fld ! refl (stop !))) (whole !)) $ exec ! 𝓣.C 𝓣.Λ En (arm_body 0 both) Then $
     sets ! (of_opd ! (get_in ! (vrt ! refl (fld ! refl (stop !))) (in_variant ! 0 0 refl refl (whole !)))) refl (tt, tt) $ sets ! (of_opd ! (get ! refl)) refl (tt, tt) $
