@@ -275,11 +275,7 @@ impl<T: Drop> HttpConn<T> {
         match slice {
             Ok(StepSlice::Did(step)) => self.follow(step),
             Ok(StepSlice::Works(under_way)) => self.hand = Some(under_way),
-            Err(why) => {
-                self.text.clear(alloc);
-                self.size = 0;
-                return Err(why);
-            }
+            Err(why) => return Err(why),
         }
         Ok(Turned::Moved)
     }
