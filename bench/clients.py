@@ -200,7 +200,7 @@ def slow(program, folder):
         for link in silent:
             link.setsockopt(socket.SOL_SOCKET, socket.SO_RCVBUF, 4096)
             link.sendall(ask_for(SIZES[2]))
-        time.sleep(2)
+        time.sleep(8)
         tell('beside 1,000 that take nothing of 1 MiB', latencies(port), alone)
         print('memory meanwhile: %.1f MiB' % (memory(running.pid) / 1024))
         for link in silent:

@@ -28,7 +28,7 @@ PROGRAM = built(sys.argv[1] if len(sys.argv) > 1 else BUILT)
 
 OTHERS = (0, 1_000, 10_000, 100_000)
 CHAINS = (1, 4, 16)
-STEPS = 3_000_000
+STEPS = 60_000_000
 REQUESTS = 20_000
 OPENS = 10_000
 TURNS = (10_000, 100_000, 1_000_000)
