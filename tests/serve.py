@@ -585,6 +585,30 @@ def check_descriptors(program, folder, told):
     return 3
 
 
+def check_stop_and_go(program, folder, told):
+    """A server that the system stops for a while goes on where it was, and one that is ended has written whole lines of its log."""
+    good = Oracle(FILES).answers(GET)
+    with Server(program, folder, ['--forever', '--at-once', '8', '--log']) as server:
+        links = [server.connect() for _ in range(8)]
+        for number, link in enumerate(links):
+            link.sendall(GET[:3 * number])
+        server.process.send_signal(signal.SIGSTOP)
+        for number, link in enumerate(links):
+            link.sendall(GET[3 * number:])
+            link.shutdown(socket.SHUT_WR)
+        time.sleep(1)
+        server.process.send_signal(signal.SIGCONT)
+        for link in links:
+            expect(told, 'behind a stop', blank(rest_of(link)), good)
+            link.close()
+        server.process.send_signal(signal.SIGTERM)
+        server.process.wait(PATIENCE)
+        lines = server.process.stderr.read()
+        if not lines.endswith(b'\n') or lines.count(b': 200 OK') != 8:
+            told('the log of a server that was ended: %r' % lines[-300:])
+    return 2
+
+
 def check_clients(server, good, told):
     """Clients that keep silent, drip, reset or do not read free the server."""
     silent = server.connect()
@@ -645,6 +669,7 @@ def check(program):
             with Server(program, folder, ['--forever', '--at-once', number]) as server:
                 count += check_streams(server, told)
         count += check_at_once(program, folder, told) + check_interleaved(program, folder, told) + check_descriptors(program, folder, told)
+        count += check_stop_and_go(program, folder, told)
     print('serve: %d played, %d not as they should be' % (count, len(faults)))
     return len(faults)
 
