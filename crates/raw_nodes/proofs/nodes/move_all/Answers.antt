@@ -1,0 +1,9 @@
+use Rattle.std.proofs.Common.{◌≡◌, ◌<◌, ℕ, subst, is_some, true, Option}
+use Rattle.raw_block.specs.declared.block.Block.{Block}
+use Rattle.raw_nodes.specs.declared.node.Node.{Node}
+use Rattle.raw_nodes.specs.Free.{place, size}
+use Rattle.raw_nodes.proofs.nodes.move_all.Goals as goal
+
+pub move_to-requires-clause-full : goal.move_to-requires-clause-full
+unfolding place
+move_to-requires-clause-full g c = subst (λ (o : Option (Block (Node g.row.T.Denot))). (k : ℕ) → k < size o → is_some (place o k) ≡ true) c.in-Some.is c.requires.full
