@@ -7,6 +7,7 @@ use Rattle.std.specs.Option.{option_map}
 use Rattle.bucket_ring.specs.declared.names.BucketId.{BucketId}
 use Rattle.bucket_ring.specs.declared.links.Position.{Position}
 use Rattle.bucket_ring.specs.declared.links.Links.{Links}
+use Rattle.bucket_ring.specs.declared.slots.Slots.{Ghosts}
 use Rattle.bucket_ring.specs.Lists.{upd, on, list_at, same, times, front, rest, without, found, payload_of}
 use Rattle.bucket_ring.specs.Spots.{placed, picked}
 use Rattle.bucket_ring.specs.Kept.{once_in, IsKept}
@@ -75,72 +76,6 @@ module _ {T : Type 0} where
 
   pub list_off : (q : ℕ) (f : List (BucketId × T) → List (BucketId × T)) (lists new : ℕ → Option (List (BucketId × T))) → ((n : ℕ) → new n ≡ on q f lists n) → (r : ℕ) → r ≢ q → list_at new r ≡ list_at lists r
   list_off q f lists new lists_new r ne = ap items (lists_new r ∙ upd_off lists q (option_map f (lists q)) r ne)
-
-  pub links_counted : (s : Links T) → AreLinked s → (id : BucketId) (r : ℕ) → times id (list_at (lists_of s) r) ≡ once_in r (ring_at s id)
-  unfolding lists_of ring_at
-  links_counted s linked id r = lists_counted (bucket_of s) (mark_of s) (at_of s) (shown_of s) (behind_of s) (before_of s) (head_of s) linked id r
-
-  -- each call in which no bucket and no ring is new
-  pub kept_still : (s t : Links T) (next : ℕ) → AreLinked t → ((j : BucketId) → is_some (ring_at t j) ≡ true → is_some (ring_at s j) ≡ true) → ((r : ℕ) → is_some (lists_of t r) ≡ true → is_some (lists_of s r) ≡ true)
-      → IsKept (ring_at s) (lists_of s) next → IsKept (ring_at t) (lists_of t) next
-  kept_still s t next linked was_there was_ring kept = record {
-    counted = links_counted t linked;
-    young = λ j h. kept.young j (was_there j h);
-    births = λ i j hi hj e. kept.births i j (was_there i hi) (was_there j hj) e;
-    rings = λ r h. kept.rings r (was_ring r h);
-    limit = kept.limit;
-  }
-
-  pub kept_same : (s t : Links T) (next : ℕ) → AreLinked t → ((n : ℕ) → lists_of t n ≡ lists_of s n) → ((j : BucketId) → ring_at t j ≡ ring_at s j) → IsKept (ring_at s) (lists_of s) next → IsKept (ring_at t) (lists_of t) next
-  kept_same s t next linked lists places kept = kept_still s t next linked (λ j h. sym (ap is_some (places j)) ∙ h) (λ r h. sym (ap is_some (lists r)) ∙ h) kept
-
-  -- a ring is new
-  pub kept_ring : (s t : Links T) (next : ℕ) → AreLinked t → ((n : ℕ) → lists_of t n ≡ upd (lists_of s) next (Some []) n) → ((j : BucketId) → ring_at t j ≡ ring_at s j) → next < 2 ^ 64 - 1 → IsKept (ring_at s) (lists_of s) next → IsKept (ring_at t) (lists_of t) (next + 1)
-  kept_ring s t next linked lists places unspent kept = record {
-    counted = links_counted t linked;
-    young = λ j h. let young : j.birth < next = kept.young j (sym (ap is_some (places j)) ∙ h) in omega arith;
-    births = λ i j hi hj e. kept.births i j (sym (ap is_some (places i)) ∙ hi) (sym (ap is_some (places j)) ∙ hj) e;
-    rings = λ r h. elim (cases_eq r next) [
-      | inl e ↦ omega arith
-      | inr ne ↦ let named : r < next = kept.rings r (sym (ap is_some (lists r ∙ upd_off (lists_of s) next (Some []) r ne)) ∙ h) in omega arith
-    ];
-    limit = omega (arith, unspent);
-  }
-
-  -- a bucket is new
-  module _ (s t : Links T) (next r : ℕ) (id : BucketId) (linked : AreLinked t) (was_ring : (n : ℕ) → is_some (lists_of t n) ≡ true → is_some (lists_of s n) ≡ true) (at_new : (j : BucketId) → ring_at t j ≡ (if same id j then Some r else ring_at s j))
-      (kept : IsKept (ring_at s) (lists_of s) next) (birth : id.birth ≡ next) (unspent : next < 2 ^ 64 - 1) where
-    old_or_new : (j : BucketId) → is_some (ring_at t j) ≡ true → (same id j ≡ true) ⊎ (is_some (ring_at s j) ≡ true)
-    old_or_new j h = was_put id r (ring_at s) (ring_at t) at_new j h
-
-    still_young : (j : BucketId) → is_some (ring_at t j) ≡ true → j.birth < next + 1
-    still_young j h =
-        elim (old_or_new j h) [
-          | inl e ↦ omega (arith, same_birth id j e, birth)
-          | inr old ↦ omega (arith, kept.young j old)
-        ]
-
-    still_births : (i j : BucketId) → is_some (ring_at t i) ≡ true → is_some (ring_at t j) ≡ true → i.birth ≡ j.birth → i.slot ≡ j.slot
-    still_births i j hi hj e =
-        elim (old_or_new i hi) [
-          | inl new_i ↦ elim (old_or_new j hj) [
-            | inl new_j ↦ sym (same_slot id i new_i) ∙ same_slot id j new_j
-            | inr old_j ↦ absurd (omega (arith, same_birth id i new_i, kept.young j old_j, birth))
-          ]
-          | inr old_i ↦ elim (old_or_new j hj) [
-            | inl new_j ↦ absurd (omega (arith, same_birth id j new_j, kept.young i old_i, birth))
-            | inr old_j ↦ kept.births i j old_i old_j e
-          ]
-        ]
-
-    pub kept_added : IsKept (ring_at t) (lists_of t) (next + 1)
-    kept_added = record {
-      counted = links_counted t linked;
-      young = still_young;
-      births = still_births;
-      rings = λ n h. let named : n < next = kept.rings n (was_ring n h) in omega arith;
-      limit = omega (arith, unspent);
-    }
 
   pub on_same : (r n : ℕ) (f : List (BucketId × T) → List (BucketId × T)) (lists new : ℕ → Option (List (BucketId × T))) → ((n : ℕ) → new n ≡ lists n) → on r f new n ≡ on r f lists n
   on_same r n f lists new e =
@@ -212,15 +147,6 @@ module _ {T : Type 0} where
       put n ∙ on_same r n (placed position ((id_of id.slot birth, y) ∷ [])) (on q (without id) lists) between taken
       ∙ ap (λ (b : BucketId × T). on r (placed position (b ∷ [])) (on q (without id) lists) n) (pair_is (id_of id.slot birth, y) id x (ap (id_of id.slot) e) (same_Some y x (sym had ∙ is)))
 
-  pub nothing_kept : (s : Links T) (next : ℕ) → AreLinked s → ((n : ℕ) → lists_of s n ≡ None) → ((id : BucketId) → ring_at s id ≡ None) → next < 2 ^ 64 → IsKept (ring_at s) (lists_of s) next
-  nothing_kept s next linked lists places limit = record {
-    counted = links_counted s linked;
-    young = λ j h. let clash : false ≡ true = sym (ap is_some (places j)) ∙ h in absurd (cc);
-    births = λ i j hi hj e. let clash : false ≡ true = sym (ap is_some (places i)) ∙ hi in absurd (cc);
-    rings = λ r h. let clash : false ≡ true = sym (ap is_some (lists r)) ∙ h in absurd (cc);
-    limit = limit;
-  }
-
   -- all of a ring goes
   pub on_over : (r n : ℕ) (f : List (BucketId × T) → List (BucketId × T)) (lists : ℕ → Option (List (BucketId × T))) → on r (λ bs. []) (on r f lists) n ≡ on r (λ bs. []) lists n
   on_over r n f lists =
@@ -248,3 +174,79 @@ module _ {T : Type 0} where
 
   pub ended_was : (r : ℕ) (lists new : ℕ → Option (List (BucketId × T))) → ((n : ℕ) → new n ≡ upd lists r None n) → (q : ℕ) → is_some (new q) ≡ true → is_some (lists q) ≡ true
   ended_was r lists new lists_new q h = upd_some lists new r None lists_new (λ h. cc) q h
+
+module _ {T N : Type 0} {g : Ghosts N T} where
+  pub links_counted : (s : Links T N g) → AreLinked s → (id : BucketId) (r : ℕ) → times id (list_at (lists_of s) r) ≡ once_in r (ring_at s id)
+  unfolding lists_of ring_at
+  links_counted s linked id r = lists_counted (bucket_of s) (mark_of s) (at_of s) (shown_of s) (behind_of s) (before_of s) (head_of s) linked id r
+
+  -- each call in which no bucket and no ring is new
+  pub kept_still : (s t : Links T N g) (next : ℕ) → AreLinked t → ((j : BucketId) → is_some (ring_at t j) ≡ true → is_some (ring_at s j) ≡ true) → ((r : ℕ) → is_some (lists_of t r) ≡ true → is_some (lists_of s r) ≡ true)
+      → IsKept (ring_at s) (lists_of s) next → IsKept (ring_at t) (lists_of t) next
+  kept_still s t next linked was_there was_ring kept = record {
+    counted = links_counted t linked;
+    young = λ j h. kept.young j (was_there j h);
+    births = λ i j hi hj e. kept.births i j (was_there i hi) (was_there j hj) e;
+    rings = λ r h. kept.rings r (was_ring r h);
+    limit = kept.limit;
+  }
+
+  pub kept_same : (s t : Links T N g) (next : ℕ) → AreLinked t → ((n : ℕ) → lists_of t n ≡ lists_of s n) → ((j : BucketId) → ring_at t j ≡ ring_at s j) → IsKept (ring_at s) (lists_of s) next → IsKept (ring_at t) (lists_of t) next
+  kept_same s t next linked lists places kept = kept_still s t next linked (λ j h. sym (ap is_some (places j)) ∙ h) (λ r h. sym (ap is_some (lists r)) ∙ h) kept
+
+  -- a ring is new
+  pub kept_ring : (s t : Links T N g) (next : ℕ) → AreLinked t → ((n : ℕ) → lists_of t n ≡ upd (lists_of s) next (Some []) n) → ((j : BucketId) → ring_at t j ≡ ring_at s j) → next < 2 ^ 64 - 1 → IsKept (ring_at s) (lists_of s) next → IsKept (ring_at t) (lists_of t) (next + 1)
+  kept_ring s t next linked lists places unspent kept = record {
+    counted = links_counted t linked;
+    young = λ j h. let young : j.birth < next = kept.young j (sym (ap is_some (places j)) ∙ h) in omega arith;
+    births = λ i j hi hj e. kept.births i j (sym (ap is_some (places i)) ∙ hi) (sym (ap is_some (places j)) ∙ hj) e;
+    rings = λ r h. elim (cases_eq r next) [
+      | inl e ↦ omega arith
+      | inr ne ↦ let named : r < next = kept.rings r (sym (ap is_some (lists r ∙ upd_off (lists_of s) next (Some []) r ne)) ∙ h) in omega arith
+    ];
+    limit = omega (arith, unspent);
+  }
+
+  -- a bucket is new
+  module _ (s t : Links T N g) (next r : ℕ) (id : BucketId) (linked : AreLinked t) (was_ring : (n : ℕ) → is_some (lists_of t n) ≡ true → is_some (lists_of s n) ≡ true) (at_new : (j : BucketId) → ring_at t j ≡ (if same id j then Some r else ring_at s j))
+      (kept : IsKept (ring_at s) (lists_of s) next) (birth : id.birth ≡ next) (unspent : next < 2 ^ 64 - 1) where
+    old_or_new : (j : BucketId) → is_some (ring_at t j) ≡ true → (same id j ≡ true) ⊎ (is_some (ring_at s j) ≡ true)
+    old_or_new j h = was_put id r (ring_at s) (ring_at t) at_new j h
+
+    still_young : (j : BucketId) → is_some (ring_at t j) ≡ true → j.birth < next + 1
+    still_young j h =
+        elim (old_or_new j h) [
+          | inl e ↦ omega (arith, same_birth id j e, birth)
+          | inr old ↦ omega (arith, kept.young j old)
+        ]
+
+    still_births : (i j : BucketId) → is_some (ring_at t i) ≡ true → is_some (ring_at t j) ≡ true → i.birth ≡ j.birth → i.slot ≡ j.slot
+    still_births i j hi hj e =
+        elim (old_or_new i hi) [
+          | inl new_i ↦ elim (old_or_new j hj) [
+            | inl new_j ↦ sym (same_slot id i new_i) ∙ same_slot id j new_j
+            | inr old_j ↦ absurd (omega (arith, same_birth id i new_i, kept.young j old_j, birth))
+          ]
+          | inr old_i ↦ elim (old_or_new j hj) [
+            | inl new_j ↦ absurd (omega (arith, same_birth id j new_j, kept.young i old_i, birth))
+            | inr old_j ↦ kept.births i j old_i old_j e
+          ]
+        ]
+
+    pub kept_added : IsKept (ring_at t) (lists_of t) (next + 1)
+    kept_added = record {
+      counted = links_counted t linked;
+      young = still_young;
+      births = still_births;
+      rings = λ n h. let named : n < next = kept.rings n (was_ring n h) in omega arith;
+      limit = omega (arith, unspent);
+    }
+
+  pub nothing_kept : (s : Links T N g) (next : ℕ) → AreLinked s → ((n : ℕ) → lists_of s n ≡ None) → ((id : BucketId) → ring_at s id ≡ None) → next < 2 ^ 64 → IsKept (ring_at s) (lists_of s) next
+  nothing_kept s next linked lists places limit = record {
+    counted = links_counted s linked;
+    young = λ j h. let clash : false ≡ true = sym (ap is_some (places j)) ∙ h in absurd (cc);
+    births = λ i j hi hj e. let clash : false ≡ true = sym (ap is_some (places i)) ∙ hi in absurd (cc);
+    rings = λ r h. let clash : false ≡ true = sym (ap is_some (lists r)) ∙ h in absurd (cc);
+    limit = limit;
+  }

@@ -4,10 +4,10 @@ use Rattle.std.proofs.Math.Path.{fun_ext}
 use Rattle.std.specs.Option.{option_map}
 use Rattle.std.proofs.lemmas.Bool.{cases_eq}
 use Rattle.std.proofs.lemmas.Option.{same_Some}
-use Rattle.slab.specs.Slab.{get}
 use Rattle.bucket_ring.specs.declared.names.BucketId.{BucketId}
 use Rattle.bucket_ring.specs.declared.links.RingHead.{RingHead}
 use Rattle.bucket_ring.specs.declared.links.Links.{Links}
+use Rattle.bucket_ring.specs.declared.slots.Slots.{Ghosts}
 use Rattle.bucket_ring.specs.Lists.{upd, on, rest, with_payload}
 use Rattle.bucket_ring.specs.Kept.{once_in}
 use Rattle.bucket_ring.specs.Laws.{same_name}
@@ -83,20 +83,6 @@ module _ (f b : ℕ → ℕ) (mark mark2 at : ℕ → Option ℕ) (heads heads2 
         ]
 
 module _ {T : Type 0} where
-  -- no slot and no ring
-  pub nothing_linked : (s : Links T) → ((j : ℕ) → get s.nodes j ≡ None) → ((n : ℕ) → head_of s n ≡ None) → AreLinked s
-  unfolding before_of
-  nothing_linked s nodes heads =
-      none_linked (behind_of s) (before_of s) (mark_of s) (at_of s) (head_of s) (λ k. (nothing_there s k (nodes k)).0) (λ k. rw (nodes k) refl) (λ k. (nothing_there s k (nodes k)).2) heads
-
-  pub nothing_listed : (s : Links T) → ((n : ℕ) → head_of s n ≡ None) → (n : ℕ) → lists_of s n ≡ None
-  unfolding lists_of
-  nothing_listed s heads n = ap (option_map (λ (h : RingHead). listed (bucket_of s) (slots (behind_of s) (Some h)))) (heads n)
-
-  pub nothing_placed : (s : Links T) → ((j : ℕ) → get s.nodes j ≡ None) → (id : BucketId) → ring_at s id ≡ None
-  unfolding ring_at bucket_of
-  nothing_placed s nodes id = rw (nodes id.slot) refl
-
   heads_on : (f : ℕ → ℕ) (bucket : ℕ → Option (BucketId × T)) (heads heads2 : ℕ → Option RingHead) (q : ℕ) (o : Option RingHead) → ((n : ℕ) → heads2 n ≡ upd heads q o n) → (n : ℕ)
       → lists_by f bucket heads2 n ≡ upd (lists_by f bucket heads) q (option_map (λ (h : RingHead). listed bucket (slots f (Some h))) o) n
   heads_on f bucket heads heads2 q o heads_new n =
@@ -105,18 +91,33 @@ module _ {T : Type 0} where
         | inr ne ↦ ap (option_map (λ (h : RingHead). listed bucket (slots f (Some h)))) (heads_new n ∙ upd_off heads q o n ne) ∙ sym (upd_off (lists_by f bucket heads) q (option_map (λ (h : RingHead). listed bucket (slots f (Some h))) o) n ne)
       ]
 
+module _ {T N : Type 0} {g : Ghosts N T} where
+  -- no slot and no ring
+  pub nothing_linked : (s : Links T N g) → ((j : ℕ) → g.node s.nodes j ≡ None) → ((n : ℕ) → head_of s n ≡ None) → AreLinked s
+  unfolding before_of
+  nothing_linked s nodes heads =
+      none_linked (behind_of s) (before_of s) (mark_of s) (at_of s) (head_of s) (λ k. (nothing_there s k (nodes k)).0) (λ k. rw (nodes k) refl) (λ k. (nothing_there s k (nodes k)).2) heads
+
+  pub nothing_listed : (s : Links T N g) → ((n : ℕ) → head_of s n ≡ None) → (n : ℕ) → lists_of s n ≡ None
+  unfolding lists_of
+  nothing_listed s heads n = ap (option_map (λ (h : RingHead). listed (bucket_of s) (slots (behind_of s) (Some h)))) (heads n)
+
+  pub nothing_placed : (s : Links T N g) → ((j : ℕ) → g.node s.nodes j ≡ None) → (id : BucketId) → ring_at s id ≡ None
+  unfolding ring_at bucket_of
+  nothing_placed s nodes id = rw (nodes id.slot) refl
+
   -- the lists after one head changed, and no bucket
-  pub head_lists : (s t : Links T) (q : ℕ) (o : Option RingHead) → KeepsLinks s t → ((j : ℕ) → bucket_of t j ≡ bucket_of s j) → ((n : ℕ) → head_of t n ≡ upd (head_of s) q o n) → (n : ℕ)
+  pub head_lists : (s t : Links T N g) (q : ℕ) (o : Option RingHead) → KeepsLinks s t → ((j : ℕ) → bucket_of t j ≡ bucket_of s j) → ((n : ℕ) → head_of t n ≡ upd (head_of s) q o n) → (n : ℕ)
       → lists_of t n ≡ upd (lists_of s) q (option_map (λ (h : RingHead). listed (bucket_of s) (slots (behind_of s) (Some h))) o) n
   unfolding lists_of
   head_lists s t q o links bucket heads n =
       ap (λ (x : ℕ → ℕ). lists_by x (bucket_of t) (head_of t) n) (fun_ext links.behind) ∙ ap (λ (x : ℕ → Option (BucketId × T)). lists_by (behind_of s) x (head_of t) n) (fun_ext bucket) ∙ heads_on (behind_of s) (bucket_of s) (head_of s) (head_of t) q o heads n
 
-  pub same_places : (s t : Links T) → ((j : ℕ) → at_of t j ≡ at_of s j) → ((j : ℕ) → bucket_of t j ≡ bucket_of s j) → (id : BucketId) → ring_at t id ≡ ring_at s id
+  pub same_places : (s t : Links T N g) → ((j : ℕ) → at_of t j ≡ at_of s j) → ((j : ℕ) → bucket_of t j ≡ bucket_of s j) → (id : BucketId) → ring_at t id ≡ ring_at s id
   unfolding ring_at
   same_places s t at bucket id = ap (λ (x : ℕ → Option (BucketId × T)). ring_named x (at_of t) id) (fun_ext bucket) ∙ ap (λ (x : ℕ → Option ℕ). ring_named (bucket_of s) x id) (fun_ext at)
 
-  pub no_ring : (s : Links T) (r : ℕ) → lists_of s r ≡ None → head_of s r ≡ None
+  pub no_ring : (s : Links T N g) (r : ℕ) → lists_of s r ≡ None → head_of s r ≡ None
   unfolding lists_of
   no_ring s r = go (head_of s r) where
     go : (o : Option RingHead) → option_map (λ (h : RingHead). listed (bucket_of s) (slots (behind_of s) (Some h))) o ≡ None → o ≡ None
@@ -124,7 +125,7 @@ module _ {T : Type 0} where
     go (Some h) e = cc
 
   -- one bucket has another payload
-  module _ (s t : Links T) (id : BucketId) (r : ℕ) (x : T) (linked : AreLinked s) (in_r : ring_at s id ≡ Some r) (links : KeepsLinks s t) (at : (j : ℕ) → at_of t j ≡ at_of s j)
+  module _ (s t : Links T N g) (id : BucketId) (r : ℕ) (x : T) (linked : AreLinked s) (in_r : ring_at s id ≡ Some r) (links : KeepsLinks s t) (at : (j : ℕ) → at_of t j ≡ at_of s j)
       (bucket : (j : ℕ) → bucket_of t j ≡ upd (bucket_of s) id.slot (option_map (λ (b : BucketId × T). (b.0, x)) (bucket_of s id.slot)) j) (heads : (n : ℕ) → head_of t n ≡ head_of s n) where
     off : (j : ℕ) → j ≢ id.slot → bucket_of t j ≡ bucket_of s j
     off j ne = bucket j ∙ upd_off (bucket_of s) id.slot (option_map (λ (b : BucketId × T). (b.0, x)) (bucket_of s id.slot)) j ne

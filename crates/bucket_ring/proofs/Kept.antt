@@ -3,12 +3,13 @@ use Rattle.std.proofs.Common.{◌≡◌, ◌≢◌, ℕ, ◌==◌, true, if◌th
 use Rattle.std.specs.Option.{option_map, option_map_or, option_and_then}
 use Rattle.std.proofs.lemmas.Bool.{cases_eq}
 use Rattle.std.proofs.lemmas.Option.{same_Some}
-use Rattle.slab.specs.Slab.{get}
 use Rattle.bucket_ring.specs.declared.names.BucketId.{BucketId}
 use Rattle.bucket_ring.specs.declared.links.RingHead.{RingHead}
-use Rattle.bucket_ring.specs.declared.links.Node.{Node}
-use Rattle.bucket_ring.specs.declared.links.SlotBucket.{SlotBucket}
+use Rattle.raw_nodes.specs.Loads.{bucket_in}
+use Rattle.raw_nodes.specs.declared.node.Node.{Node}
+use Rattle.raw_nodes.specs.declared.node.SlotBucket.{SlotBucket}
 use Rattle.bucket_ring.specs.declared.links.Links.{Links}
+use Rattle.bucket_ring.specs.declared.slots.Slots.{Ghosts}
 use Rattle.bucket_ring.specs.Lists.{upd, list_at}
 use Rattle.bucket_ring.specs.Walks.{slots, turned}
 use Rattle.bucket_ring.specs.Links.{listed, IsShown, with_name, named_in, sentinel_ring, bucket_ring, behind_of, before_of, mark_of, at_of, bucket_of, head_of, lists_of, AreLinked, Changed, KeepsLinks, KeepsBuckets, KeepsRoom}
@@ -26,20 +27,20 @@ turned_same : (f f2 b b2 : ℕ → ℕ) (a k j : ℕ) → ((i : ℕ) → f2 i �
 turned_same f f2 b b2 a k j e_f e_b =
     ap (λ (n : ℕ). if j == k then a else if j == b2 a then f2 k else n) (e_f j) ∙ ap (λ (n : ℕ). if j == k then a else if j == n then f2 k else f j) (e_b a) ∙ ap (λ (n : ℕ). if j == k then a else if j == b a then n else f j) (e_f k)
 
-module _ {T : Type 0} where
-  pub room_twice : (a b c : Links T) → KeepsRoom a b → KeepsRoom b c → KeepsRoom a c
+module _ {T N : Type 0} {g : Ghosts N T} where
+  pub room_twice : (a b c : Links T N g) → KeepsRoom a b → KeepsRoom b c → KeepsRoom a c
   room_twice a b c first second = record {
     there = λ j. second.there j ∙ first.there j;
     room = λ n h. second.room n (first.room n h);
   }
 
   -- what a slot says of its bucket
-  pub shown_of : (s : Links T) → IsShown (mark_of s) (at_of s) (bucket_of s)
+  pub shown_of : (s : Links T N g) → IsShown (mark_of s) (at_of s) (bucket_of s)
   unfolding mark_of at_of bucket_of
   shown_of s = record {
-    named = λ k b e. is_named_in k (get s.nodes k) b e;
-    full = λ k. is_full k (get s.nodes k);
-    empty = λ k r e. is_empty k r (get s.nodes k) e;
+    named = λ k b e. is_named_in k (g.node s.nodes k) b e;
+    full = λ k. is_full k (g.node s.nodes k);
+    empty = λ k r e. is_empty k r (g.node s.nodes k) e;
   } where
     named_so : (k : ℕ) (o : Option (SlotBucket T)) (b : BucketId × T) → option_map (with_name k) o ≡ Some b → b.0.slot ≡ k
     named_so k None b e = cc
@@ -47,7 +48,7 @@ module _ {T : Type 0} where
 
     is_named_in : (k : ℕ) (o : Option (Node T)) (b : BucketId × T) → option_and_then (named_in k) o ≡ Some b → b.0.slot ≡ k
     is_named_in k None b e = cc
-    is_named_in k (Some v) b e = named_so k v.bucket b e
+    is_named_in k (Some v) b e = named_so k (bucket_in v.load) b e
 
     full_so : (k r : ℕ) (o : Option (SlotBucket T)) → is_some (option_map_or (λ _. Some r) o None) ≡ is_some (option_map (with_name k) o)
     full_so k r None = refl
@@ -55,7 +56,7 @@ module _ {T : Type 0} where
 
     is_full : (k : ℕ) (o : Option (Node T)) → is_some (option_and_then bucket_ring o) ≡ is_some (option_and_then (named_in k) o)
     is_full k None = refl
-    is_full k (Some v) = full_so k v.ring v.bucket
+    is_full k (Some v) = full_so k v.ring (bucket_in v.load)
 
     empty_so : (k r q : ℕ) (o : Option (SlotBucket T)) → option_map_or (λ _. None) o (Some q) ≡ Some r → option_map (with_name k) o ≡ None
     empty_so k r q None e = refl
@@ -63,40 +64,40 @@ module _ {T : Type 0} where
 
     is_empty : (k r : ℕ) (o : Option (Node T)) → option_and_then sentinel_ring o ≡ Some r → option_and_then (named_in k) o ≡ None
     is_empty k r None e = refl
-    is_empty k r (Some v) e = empty_so k r v.ring v.bucket e
+    is_empty k r (Some v) e = empty_so k r v.ring (bucket_in v.load) e
 
   -- a slot that has a bucket or is a sentinel is there
-  pub there_at : (s : Links T) (k r : ℕ) → at_of s k ≡ Some r → is_some (get s.nodes k) ≡ true
+  pub there_at : (s : Links T N g) (k r : ℕ) → at_of s k ≡ Some r → is_some (g.node s.nodes k) ≡ true
   unfolding at_of
-  there_at s k r e = go (get s.nodes k) e where
+  there_at s k r e = go (g.node s.nodes k) e where
     go : (o : Option (Node T)) → option_and_then bucket_ring o ≡ Some r → is_some o ≡ true
     go None e = cc
     go (Some v) e = refl
 
-  pub there_mark : (s : Links T) (k r : ℕ) → mark_of s k ≡ Some r → is_some (get s.nodes k) ≡ true
+  pub there_mark : (s : Links T N g) (k r : ℕ) → mark_of s k ≡ Some r → is_some (g.node s.nodes k) ≡ true
   unfolding mark_of
-  there_mark s k r e = go (get s.nodes k) e where
+  there_mark s k r e = go (g.node s.nodes k) e where
     go : (o : Option (Node T)) → option_and_then sentinel_ring o ≡ Some r → is_some o ≡ true
     go None e = cc
     go (Some v) e = refl
 
   -- a ring is there where its head is
-  pub lists_there : (s : Links T) (r : ℕ) → is_some (lists_of s r) ≡ is_some (head_of s r)
+  pub lists_there : (s : Links T N g) (r : ℕ) → is_some (lists_of s r) ≡ is_some (head_of s r)
   unfolding lists_of
   lists_there s r = go (head_of s r) where
     go : (o : Option RingHead) → is_some (option_map (λ (h : RingHead). listed (bucket_of s) (slots (behind_of s) (Some h))) o) ≡ is_some o
     go None = refl
     go (Some h) = refl
 
-  pub length_of : (s : Links T) (r : ℕ) (h : RingHead) → AreLinked s → head_of s r ≡ Some h → length (list_at (lists_of s) r) ≡ h.count
+  pub length_of : (s : Links T N g) (r : ℕ) (h : RingHead) → AreLinked s → head_of s r ≡ Some h → length (list_at (lists_of s) r) ≡ h.count
   unfolding lists_of
   length_of s r h linked e = ring_length (bucket_of s) (mark_of s) (at_of s) (shown_of s) (behind_of s) (before_of s) (head_of s) linked r h e
 
-  pub heads_same : (s t : Links T) → t.heads ≡ s.heads → (n : ℕ) → head_of t n ≡ head_of s n
+  pub heads_same : (s t : Links T N g) → t.heads ≡ s.heads → (n : ℕ) → head_of t n ≡ head_of s n
   unfolding head_of
   heads_same s t e n = rw e refl
 
-  pub nodes_same : (s t : Links T) → t.nodes ≡ s.nodes → KeepsLinks s t × KeepsBuckets s t × KeepsRoom s t
+  pub nodes_same : (s t : Links T N g) → t.nodes ≡ s.nodes → KeepsLinks s t × KeepsBuckets s t × KeepsRoom s t
   unfolding behind_of before_of mark_of at_of bucket_of
   nodes_same s t e = (
     record { behind = λ j. rw e refl; before = λ j. rw e refl },
@@ -105,7 +106,7 @@ module _ {T : Type 0} where
   )
 
   -- a bucket is written, the links are turned, and the count is written
-  module _ (s s1 s2 s3 : Links T) (k a r m : ℕ) (w : Option (BucketId × T)) (v : Option ℕ) (h : RingHead) (bucket : (j : ℕ) → bucket_of s1 j ≡ upd (bucket_of s) k w j) (at : (j : ℕ) → at_of s1 j ≡ upd (at_of s) k v j) (mark : (j : ℕ) → j ≢ k → mark_of s1 j ≡ mark_of s j)
+  module _ (s s1 s2 s3 : Links T N g) (k a r m : ℕ) (w : Option (BucketId × T)) (v : Option ℕ) (h : RingHead) (bucket : (j : ℕ) → bucket_of s1 j ≡ upd (bucket_of s) k w j) (at : (j : ℕ) → at_of s1 j ≡ upd (at_of s) k v j) (mark : (j : ℕ) → j ≢ k → mark_of s1 j ≡ mark_of s j)
       (links : KeepsLinks s s1) (room : KeepsRoom s s1) (heads : s1.heads ≡ s.heads) where
     pub changed_back : AreLinked s → (j : ℕ) → before_of s1 (behind_of s1 j) ≡ j
     changed_back linked j = links.before (behind_of s1 j) ∙ ap (before_of s) (links.behind j) ∙ linked.back j

@@ -10,6 +10,7 @@ pub mod Taken
 pub mod Read
 pub mod Heads
 pub mod Batches
+pub mod Rewritten
 pub mod Short
 pub mod Splices
 pub mod Written

@@ -2,11 +2,11 @@
 use Rattle.std.proofs.Common.{◌≡◌, ◌≢◌, ℕ, ◌≤◌, true, false, Option, None, Some, is_some, List, ◌∷◌, ◌++◌, drop, refl, ap, sym, subst, ◌∙◌, arith, inl, inr}
 use Rattle.std.proofs.Math.Path.{fun_ext}
 use Rattle.std.specs.Option.{option_map}
-use Rattle.slab.specs.Slab.{get}
 use Rattle.bucket_ring.specs.declared.names.BucketId.{BucketId}
 use Rattle.bucket_ring.specs.declared.links.Position.{Position}
 use Rattle.bucket_ring.specs.declared.links.RingHead.{RingHead}
 use Rattle.bucket_ring.specs.declared.links.Links.{Links}
+use Rattle.bucket_ring.specs.declared.slots.Slots.{Ghosts}
 use Rattle.bucket_ring.specs.Lists.{list_at, same, found, front, rest, first_of, payload_of}
 use Rattle.bucket_ring.specs.Kept.{once_in}
 use Rattle.bucket_ring.specs.Walks.{count, slots, SlotsLinked}
@@ -33,8 +33,8 @@ linked_as f f2 b b2 mark mark2 at at2 heads heads2 e_f e_b e_at e_heads marks li
       counted = linked.counted;
     }))))
 
-module _ {T : Type 0} where
-  module _ (s : Links T) (linked : AreLinked s) where
+module _ {T N : Type 0} {g : Ghosts N T} where
+  module _ (s : Links T N g) (linked : AreLinked s) where
     read_ring : (r : ℕ) (h : RingHead) → head_of s r ≡ Some h → list_at (lists_of s) r ≡ listed (bucket_of s) (slots (behind_of s) (Some h))
     unfolding lists_of
     read_ring r h e = list_here (bucket_of s) (mark_of s) (at_of s) (shown_of s) (behind_of s) (before_of s) (head_of s) linked r ∙ ap (λ (o : Option RingHead). listed (bucket_of s) (slots (behind_of s) o)) e
@@ -77,17 +77,17 @@ module _ {T : Type 0} where
         ap (found id) (read_ring r h.0 h.1) ∙ ap payload_of w.9 ∙ sym (ap (option_map (λ (b : BucketId × T). b.1)) w.3)
 
     -- the slot at a spot is there
-    pub spot_there : (r : ℕ) (h : RingHead) (position : Position) → head_of s r ≡ Some h → IsSpot (ring_at s) r position → is_some (get s.nodes (target (behind_of s) h position)) ≡ true
+    pub spot_there : (r : ℕ) (h : RingHead) (position : Position) → head_of s r ≡ Some h → IsSpot (ring_at s) r position → is_some (g.node s.nodes (target (behind_of s) h position)) ≡ true
     unfolding ring_at
     spot_there r h position e is =
         let p = parted (bucket_of s) (mark_of s) (at_of s) (shown_of s) (behind_of s) (before_of s) (head_of s) linked r h position e is in
         elim (on_spot (bucket_of s) (mark_of s) (at_of s) (shown_of s) (behind_of s) (before_of s) (head_of s) linked r h (target (behind_of s) h position) p.0 p.1 e p.2.whole p.2.from) [
-          | inl here ↦ ap (λ (k : ℕ). is_some (get s.nodes k)) here.0 ∙ there_mark s h.sentinel r (linked.marked r h e)
+          | inl here ↦ ap (λ (k : ℕ). is_some (g.node s.nodes k)) here.0 ∙ there_mark s h.sentinel r (linked.marked r h e)
           | inr here ↦ there_at s (target (behind_of s) h position) r here.0
         ]
 
   -- nothing that is read changes
-  pub same_all : (s t : Links T) → KeepsLinks s t → ((j : ℕ) → at_of t j ≡ at_of s j) → ((j : ℕ) → bucket_of t j ≡ bucket_of s j) → ((n : ℕ) → head_of t n ≡ head_of s n) → ((r : ℕ) (h : RingHead) → head_of s r ≡ Some h → mark_of t h.sentinel ≡ mark_of s h.sentinel) → AreLinked s
+  pub same_all : (s t : Links T N g) → KeepsLinks s t → ((j : ℕ) → at_of t j ≡ at_of s j) → ((j : ℕ) → bucket_of t j ≡ bucket_of s j) → ((n : ℕ) → head_of t n ≡ head_of s n) → ((r : ℕ) (h : RingHead) → head_of s r ≡ Some h → mark_of t h.sentinel ≡ mark_of s h.sentinel) → AreLinked s
       → AreLinked t × ((n : ℕ) → lists_of t n ≡ lists_of s n) × ((id : BucketId) → ring_at t id ≡ ring_at s id)
   unfolding lists_of ring_at
   same_all s t links at bucket heads marks linked =
@@ -100,25 +100,25 @@ module _ {T : Type 0} where
       )
 
   -- a slot where nothing is
-  pub nothing_there : (s : Links T) (k : ℕ) → get s.nodes k ≡ None → (behind_of s k ≡ k) × (mark_of s k ≡ None) × (at_of s k ≡ None)
+  pub nothing_there : (s : Links T N g) (k : ℕ) → g.node s.nodes k ≡ None → (behind_of s k ≡ k) × (mark_of s k ≡ None) × (at_of s k ≡ None)
   unfolding behind_of mark_of at_of
   nothing_there s k e = (rw e refl, rw e refl, rw e refl)
 
   -- a slot that is no sentinel's
-  pub unmarked : (s : Links T) → AreLinked s → (k : ℕ) → mark_of s k ≡ None → (r : ℕ) (h : RingHead) → head_of s r ≡ Some h → h.sentinel ≢ k
+  pub unmarked : (s : Links T N g) → AreLinked s → (k : ℕ) → mark_of s k ≡ None → (r : ℕ) (h : RingHead) → head_of s r ≡ Some h → h.sentinel ≢ k
   unmarked s linked k none r h e same = let clash : Some r ≡ None = sym (linked.marked r h e) ∙ ap (mark_of s) same ∙ none in cc
 
   -- where no bucket of a ring is, no bucket is
-  pub no_bucket_at : (s : Links T) (k : ℕ) → at_of s k ≡ None → bucket_of s k ≡ None
+  pub no_bucket_at : (s : Links T N g) (k : ℕ) → at_of s k ≡ None → bucket_of s k ≡ None
   no_bucket_at s k none = go (bucket_of s k) (sym ((shown_of s).full k) ∙ ap is_some none) where
     go : (o : Option (BucketId × T)) → is_some o ≡ false → o ≡ None
     go None e = refl
     go (Some b) e = cc
 
-  pub linked_by : (s t : Links T) → KeepsLinks s t → ((j : ℕ) → at_of t j ≡ at_of s j) → ((n : ℕ) → head_of t n ≡ head_of s n) → ((r : ℕ) (h : RingHead) → head_of s r ≡ Some h → mark_of t h.sentinel ≡ mark_of s h.sentinel) → AreLinked s → AreLinked t
+  pub linked_by : (s t : Links T N g) → KeepsLinks s t → ((j : ℕ) → at_of t j ≡ at_of s j) → ((n : ℕ) → head_of t n ≡ head_of s n) → ((r : ℕ) (h : RingHead) → head_of s r ≡ Some h → mark_of t h.sentinel ≡ mark_of s h.sentinel) → AreLinked s → AreLinked t
   linked_by s t links at heads marks linked =
       linked_as (behind_of s) (behind_of t) (before_of s) (before_of t) (mark_of s) (mark_of t) (at_of s) (at_of t) (head_of s) (head_of t) (fun_ext links.behind) (fun_ext links.before) (fun_ext at) (fun_ext heads) marks linked
 
-  pub linked_as_new : (s t : Links T) → KeepsLinks s t → ((j : ℕ) → at_of t j ≡ at_of s j) → SlotsLinked (behind_of s) (before_of s) (mark_of t) (at_of s) (head_of t) → AreLinked t
+  pub linked_as_new : (s t : Links T N g) → KeepsLinks s t → ((j : ℕ) → at_of t j ≡ at_of s j) → SlotsLinked (behind_of s) (before_of s) (mark_of t) (at_of s) (head_of t) → AreLinked t
   linked_as_new s t links at linked =
       linked_as (behind_of s) (behind_of t) (before_of s) (before_of t) (mark_of t) (mark_of t) (at_of s) (at_of t) (head_of t) (head_of t) (fun_ext links.behind) (fun_ext links.before) (fun_ext at) refl (λ r h e. refl) linked

@@ -5,6 +5,7 @@ use Rattle.bucket_ring.specs.declared.names.BucketId.{BucketId}
 use Rattle.bucket_ring.specs.declared.links.Position.{Position}
 use Rattle.bucket_ring.specs.declared.links.RingHead.{RingHead}
 use Rattle.bucket_ring.specs.declared.links.Links.{Links}
+use Rattle.bucket_ring.specs.declared.slots.Slots.{Ghosts}
 use Rattle.bucket_ring.specs.Lists.{on, list_at, same, found, without, front, rest, payload_of}
 use Rattle.bucket_ring.specs.Spots.{placed}
 use Rattle.bucket_ring.specs.Laws.{same_name, same_birth}
@@ -17,9 +18,9 @@ use Rattle.bucket_ring.proofs.Shown.{listed_append, listed_same, stands_in, list
 use Rattle.bucket_ring.proofs.Parted.{one_list, one_ring_at, IsParted, parted, spot_elsewhere, spot_before}
 use Rattle.bucket_ring.proofs.Kept.{shown_of, there_at, length_of}
 
-module _ {T : Type 0} where
+module _ {T N : Type 0} {g : Ghosts N T} where
   -- a bucket is taken out
-  module _ (s t : Links T) (ring m : ℕ) (id : BucketId) (birth : ℕ) (x : T) (h : RingHead) (linked : AreLinked s) (in_ring : ring_at s id ≡ Some ring) (head : head_of s ring ≡ Some h) (less : m + 1 ≡ h.count) (had : bucket_of s id.slot ≡ Some (id_of id.slot birth, x))
+  module _ (s t : Links T N g) (ring m : ℕ) (id : BucketId) (birth : ℕ) (x : T) (h : RingHead) (linked : AreLinked s) (in_ring : ring_at s id ≡ Some ring) (head : head_of s ring ≡ Some h) (less : m + 1 ≡ h.count) (had : bucket_of s id.slot ≡ Some (id_of id.slot birth, x))
       (change : Changed s t id.slot id.slot ring None None (record { sentinel = h.sentinel; count = m })) where
     abbrev out : RingHead
     out = record { sentinel = h.sentinel; count = m }
@@ -88,7 +89,7 @@ module _ {T : Type 0} where
     taken_birth = ap (λ (c : BucketId × T). c.0.birth) is_it ∙ same_birth around.0.0 id around.4
 
   -- a bucket is put in
-  module _ (s t : Links T) (slot ring : ℕ) (position : Position) (birth : ℕ) (x : T) (h : RingHead) (linked : AreLinked s) (loose : IsLooseSlot s slot) (is : IsSpot (ring_at s) ring position) (head : head_of s ring ≡ Some h) (few : length (list_at (lists_of s) ring) + 1 < 2 ^ 64)
+  module _ (s t : Links T N g) (slot ring : ℕ) (position : Position) (birth : ℕ) (x : T) (h : RingHead) (linked : AreLinked s) (loose : IsLooseSlot s slot) (is : IsSpot (ring_at s) ring position) (head : head_of s ring ≡ Some h) (few : length (list_at (lists_of s) ring) + 1 < 2 ^ 64)
       (change : Changed s t slot (target (behind_of s) h position) ring (Some (id_of slot birth, x)) (Some ring) (record { sentinel = h.sentinel; count = h.count + 1 })) where
     abbrev longer : RingHead
     longer = record { sentinel = h.sentinel; count = h.count + 1 }

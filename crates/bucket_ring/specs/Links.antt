@@ -1,15 +1,16 @@
 -- What stands in the rings, read along the links.
-use Rattle.std.specs.Prelude.{◌≡◌, ◌≢◌, ℕ, is_some, nat_eq, Bool, true, false, if◌then◌else◌, Option, None, Some, List, [], ◌∷◌}
+use Rattle.std.specs.Prelude.{◌≡◌, ◌≢◌, ◌≤◌, ℕ, is_some, nat_eq, Bool, true, false, if◌then◌else◌, Option, None, Some, List, [], ◌∷◌}
 use Rattle.std.specs.Option.{option_map, option_map_or, option_and_then}
 use Rattle.std.specs.HashMap.{get as get_head}
-use Rattle.slab.specs.Slab.{get, HasRoomFor}
+use Rattle.raw_nodes.specs.declared.node.SlotBucket.{SlotBucket}
+use Rattle.raw_nodes.specs.declared.node.Node.{Node}
+use Rattle.raw_nodes.specs.Loads.{bucket_in}
 use Rattle.bucket_ring.specs.declared.names.BucketId.{BucketId}
 use Rattle.bucket_ring.specs.declared.links.Position.{Position}
 use Rattle.bucket_ring.specs.declared.links.Position.TheVariants.{Tail, Head as AtHead, Before, After}
-use Rattle.bucket_ring.specs.declared.links.SlotBucket.{SlotBucket}
-use Rattle.bucket_ring.specs.declared.links.Node.{Node}
 use Rattle.bucket_ring.specs.declared.links.RingHead.{RingHead}
 use Rattle.bucket_ring.specs.declared.links.Links.{Links}
+use Rattle.bucket_ring.specs.declared.slots.Slots.{Ghosts}
 use Rattle.bucket_ring.specs.Lists.{upd, same}
 use Rattle.bucket_ring.specs.Walks.{id_of, slots, turned, SlotsLinked}
 
@@ -50,63 +51,17 @@ module _ {T : Type 0} where
   abbrev pub lists_by : (ℕ → ℕ) → (ℕ → Option (BucketId × T)) → (ℕ → Option RingHead) → ℕ → Option (List (BucketId × T))
   lists_by behind bucket heads r = option_map (λ (h : RingHead). listed bucket (slots behind (Some h))) (heads r)
 
-  -- a slot where nothing is leads to itself
-  unfoldable pub behind_of : Links T → ℕ → ℕ
-  behind_of links k = option_map_or (λ (node : Node T). node.behind) (get links.nodes k) k
-
-  unfoldable pub before_of : Links T → ℕ → ℕ
-  before_of links k = option_map_or (λ (node : Node T). node.before) (get links.nodes k) k
-
   abbrev pub sentinel_ring : Node T → Option ℕ
-  sentinel_ring node = option_map_or (λ _. None) node.bucket (Some node.ring)
+  sentinel_ring node = option_map_or (λ _. None) (bucket_in node.load) (Some node.ring)
 
   abbrev pub bucket_ring : Node T → Option ℕ
-  bucket_ring node = option_map_or (λ _. Some node.ring) node.bucket None
+  bucket_ring node = option_map_or (λ _. Some node.ring) (bucket_in node.load) None
 
   abbrev pub with_name : ℕ → SlotBucket T → BucketId × T
   with_name k bucket = (id_of k bucket.birth, bucket.payload)
 
   abbrev pub named_in : ℕ → Node T → Option (BucketId × T)
-  named_in k node = option_map (with_name k) node.bucket
-
-  -- the ring whose sentinel is in a slot
-  unfoldable pub mark_of : Links T → ℕ → Option ℕ
-  mark_of links k = option_and_then sentinel_ring (get links.nodes k)
-
-  -- the ring of the bucket in a slot
-  unfoldable pub at_of : Links T → ℕ → Option ℕ
-  at_of links k = option_and_then bucket_ring (get links.nodes k)
-
-  -- the bucket in a slot
-  unfoldable pub bucket_of : Links T → ℕ → Option (BucketId × T)
-  bucket_of links k = option_and_then (named_in k) (get links.nodes k)
-
-  unfoldable pub head_of : Links T → ℕ → Option RingHead
-  head_of links r = get_head nat_eq links.heads r
-
-  -- the slots before and behind each are the same
-  pub record KeepsLinks (old new : Links T) : Type 0 where
-    pub behind : (j : ℕ) → behind_of new j ≡ behind_of old j
-    pub before : (j : ℕ) → before_of new j ≡ before_of old j
-
-  -- each slot has the same bucket, in the same ring
-  pub record KeepsBuckets (old new : Links T) : Type 0 where
-    pub mark : (j : ℕ) → mark_of new j ≡ mark_of old j
-    pub at : (j : ℕ) → at_of new j ≡ at_of old j
-    pub bucket : (j : ℕ) → bucket_of new j ≡ bucket_of old j
-
-  -- as many slots are left
-  pub record KeepsRoom (old new : Links T) : Type 0 where
-    pub there : (j : ℕ) → is_some (get new.nodes j) ≡ is_some (get old.nodes j)
-    pub room : (n : ℕ) → HasRoomFor old.nodes n → HasRoomFor new.nodes n
-
-  -- the ring that a bucket is in
-  unfoldable pub ring_at : Links T → BucketId → Option ℕ
-  ring_at links = ring_named (bucket_of links) (at_of links)
-
-  -- what stands in each ring
-  unfoldable pub lists_of : Links T → ℕ → Option (List (BucketId × T))
-  lists_of links = lists_by (behind_of links) (bucket_of links) (head_of links)
+  named_in k node = option_map (with_name k) (bucket_in node.load)
 
   -- what a slot says of its bucket: `mark` the ring whose sentinel it is, `at` the ring that its bucket is in
   pub record IsShown (mark at : ℕ → Option ℕ) (bucket : ℕ → Option (BucketId × T)) : Type 0 where
@@ -114,18 +69,65 @@ module _ {T : Type 0} where
     pub full : (k : ℕ) → is_some (at k) ≡ is_some (bucket k)
     pub empty : (k r : ℕ) → mark k ≡ Some r → bucket k ≡ None
 
-  abbrev pub AreLinked : Links T → Type 0
+module _ {T N : Type 0} {g : Ghosts N T} where
+  -- a slot where nothing is leads to itself
+  unfoldable pub behind_of : Links T N g → ℕ → ℕ
+  behind_of links k = option_map_or (λ (node : Node T). node.behind) (g.node links.nodes k) k
+
+  unfoldable pub before_of : Links T N g → ℕ → ℕ
+  before_of links k = option_map_or (λ (node : Node T). node.before) (g.node links.nodes k) k
+
+  -- the ring whose sentinel is in a slot
+  unfoldable pub mark_of : Links T N g → ℕ → Option ℕ
+  mark_of links k = option_and_then sentinel_ring (g.node links.nodes k)
+
+  -- the ring of the bucket in a slot
+  unfoldable pub at_of : Links T N g → ℕ → Option ℕ
+  at_of links k = option_and_then bucket_ring (g.node links.nodes k)
+
+  -- the bucket in a slot
+  unfoldable pub bucket_of : Links T N g → ℕ → Option (BucketId × T)
+  bucket_of links k = option_and_then (named_in k) (g.node links.nodes k)
+
+  unfoldable pub head_of : Links T N g → ℕ → Option RingHead
+  head_of links r = get_head nat_eq links.heads r
+
+  -- the slots before and behind each are the same
+  pub record KeepsLinks (old new : Links T N g) : Type 0 where
+    pub behind : (j : ℕ) → behind_of new j ≡ behind_of old j
+    pub before : (j : ℕ) → before_of new j ≡ before_of old j
+
+  -- each slot has the same bucket, in the same ring
+  pub record KeepsBuckets (old new : Links T N g) : Type 0 where
+    pub mark : (j : ℕ) → mark_of new j ≡ mark_of old j
+    pub at : (j : ℕ) → at_of new j ≡ at_of old j
+    pub bucket : (j : ℕ) → bucket_of new j ≡ bucket_of old j
+
+  -- as many slots are left
+  pub record KeepsRoom (old new : Links T N g) : Type 0 where
+    pub there : (j : ℕ) → is_some (g.node new.nodes j) ≡ is_some (g.node old.nodes j)
+    pub room : (n : ℕ) → n ≤ g.room old.nodes → n ≤ g.room new.nodes
+
+  -- the ring that a bucket is in
+  unfoldable pub ring_at : Links T N g → BucketId → Option ℕ
+  ring_at links = ring_named (bucket_of links) (at_of links)
+
+  -- what stands in each ring
+  unfoldable pub lists_of : Links T N g → ℕ → Option (List (BucketId × T))
+  lists_of links = lists_by (behind_of links) (bucket_of links) (head_of links)
+
+  abbrev pub AreLinked : Links T N g → Type 0
   AreLinked links = SlotsLinked (behind_of links) (before_of links) (mark_of links) (at_of links) (head_of links)
 
   -- a slot that is in no ring, and leads to itself
-  pub record IsLooseSlot (links : Links T) (k : ℕ) : Type 0 where
-    pub there : is_some (get links.nodes k) ≡ true
+  pub record IsLooseSlot (links : Links T N g) (k : ℕ) : Type 0 where
+    pub there : is_some (g.node links.nodes k) ≡ true
     pub itself : behind_of links k ≡ k
     pub nowhere : at_of links k ≡ None
     pub apart : (r : ℕ) (h : RingHead) → head_of links r ≡ Some h → h.sentinel ≢ k
 
   -- what changes where slot k, which then comes before slot a, has another bucket in another ring, and ring r another count
-  pub record Changed (old new : Links T) (k a r : ℕ) (bucket : Option (BucketId × T)) (ring : Option ℕ) (head : RingHead) : Type 0 where
+  pub record Changed (old new : Links T N g) (k a r : ℕ) (bucket : Option (BucketId × T)) (ring : Option ℕ) (head : RingHead) : Type 0 where
     pub behind : (j : ℕ) → behind_of new j ≡ turned (behind_of old) (before_of old) a k j
     pub before : (j : ℕ) → before_of new j ≡ turned (before_of old) (behind_of old) k a j
     pub bucket_new : (j : ℕ) → bucket_of new j ≡ upd (bucket_of old) k bucket j

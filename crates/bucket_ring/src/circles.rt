@@ -2,15 +2,16 @@
 
 ghost use Rattle.std.specs.Prelude.{◌≡◌, ℕ, ◌+◌, ◌<◌, ◌≤◌, ◌^◌, length, drop, [], ◌∷◌, if◌then◌else◌, Some, None, true, is_some};
 ghost use Rattle.std.specs.HashMap.{spare};
-ghost use Rattle.slab.specs.Slab.{get, HasRoomFor};
 ghost use Rattle.bucket_ring.specs.Lists.{upd, on, list_at, same, rest, without, found, first_of, with_payload};
 ghost use Rattle.bucket_ring.specs.Spots.{placed};
 ghost use Rattle.bucket_ring.specs.Walks.{id_of};
 
-use crate::links::{Links, Position, RingHead, SlotBucket};
+use crate::links::{Links, Position, RingHead};
 use crate::names::{BucketId, RingId};
+use crate::slots::Slots;
+use raw_nodes::SlotBucket;
 
-impl<T: Drop> Links<T> {
+impl<T: Drop, S: Slots<T> + Drop> Links<T, S> {
     ghost use Rattle.bucket_ring.specs.Links.{behind_of, before_of, mark_of, at_of, bucket_of, head_of, ring_at, lists_of, target, IsSpot, AreLinked, IsLooseSlot, KeepsRoom};
 
     /// The slot behind what is put at a spot.
@@ -73,12 +74,12 @@ impl<T: Drop> Links<T> {
     pub(crate) fn put_ring(&mut self, ring: RingId)
         requires linked { AreLinked self.old }
         requires none { lists_of self.old ring ≡ None }
-        requires room { HasRoomFor self.old.nodes 1 }
+        requires room { 1 ≤ S.room self.old.nodes }
         requires spare { 0 < spare self.old.heads }
         ensures linked { AreLinked self.new }
         ensures lists { (n : ℕ) → lists_of self.new n ≡ upd (lists_of self.old) ring (Some []) n }
         ensures places { (j : _) → ring_at self.new j ≡ ring_at self.old j }
-        ensures room { (n : ℕ) → HasRoomFor self.old.nodes (n + 1) → HasRoomFor self.new.nodes n }
+        ensures room { (n : ℕ) → n + 1 ≤ S.room self.old.nodes → n ≤ S.room self.new.nodes }
         ensures spare { spare self.old.heads ≤ spare self.new.heads + 1 }
     {
         let sentinel = self.fresh(ring);
@@ -101,12 +102,12 @@ impl<T: Drop> Links<T> {
     /// A new slot that is in no ring. There is room for it.
     pub(crate) fn add(&mut self) -> usize
         requires linked { AreLinked self.old }
-        requires room { HasRoomFor self.old.nodes 1 }
+        requires room { 1 ≤ S.room self.old.nodes }
         ensures linked { AreLinked self.new }
         ensures loose { IsLooseSlot self.new result }
         ensures lists { (n : ℕ) → lists_of self.new n ≡ lists_of self.old n }
         ensures places { (j : _) → ring_at self.new j ≡ ring_at self.old j }
-        ensures room { (n : ℕ) → HasRoomFor self.old.nodes (n + 1) → HasRoomFor self.new.nodes n }
+        ensures room { (n : ℕ) → n + 1 ≤ S.room self.old.nodes → n ≤ S.room self.new.nodes }
     {
         self.fresh(0)
     }

@@ -4,13 +4,15 @@
 mod circles;
 mod hashing;
 mod laws;
+mod linked_rings;
 mod links;
 mod names;
-mod plain;
 mod rings;
+mod slots;
 
 pub use hashing::NameHasher;
 pub use laws::{names_run_out, worked_moves};
+pub use linked_rings::{LinkedRings, PlainRings, RawRings};
 pub use names::{BucketId, RingId, RingRefusal};
-pub use plain::PlainRings;
 pub use rings::Rings;
+pub use slots::Slots;

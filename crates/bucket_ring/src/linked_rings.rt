@@ -1,39 +1,47 @@
-//! Rings as links between the slots of a slab.
+//! Rings as links between slots.
 
 ghost use Rattle.std.specs.Prelude.{◌≡◌, ◌≢◌, ◌↔◌, ℕ, ◌+◌, ◌<◌, ◌≤◌, ◌^◌, length, List, [], ◌∷◌, ◌++◌, Some, None, true, is_some, is_ok, if◌then◌else◌, IsOk, IfOk, IfErr, OnOk, OnErr};
 ghost use Rattle.bucket_ring.specs.Lists.{upd, on, list_at, found, front, rest, without, same, by_birth, numbered};
 ghost use Rattle.bucket_ring.specs.declared.names.BucketId.{BucketId};
-ghost use Rattle.slab.specs.Slab.{HasRoomFor};
 ghost use Rattle.std.specs.HashMap.{spare};
 ghost use Rattle.bucket_ring.specs.Spots.{placed};
 ghost use Rattle.bucket_ring.specs.Links.{ring_at, lists_of, IsSpot, AreLinked};
 ghost use Rattle.bucket_ring.specs.Kept.{IsKept, NoneRevived};
 
-use crate::links::{Links, Position, SlotBucket};
+use crate::links::{Links, Position};
 use crate::names::{BucketId, RingId, RingRefusal};
 use crate::rings::Rings;
+use crate::slots::Slots;
+use raw_nodes::{Node, Nodes, SlotBucket};
+use slab::Slab;
 use std::alloc::{AllocError, Global};
 
 /// Rings as links between the slots of a slab. Each call takes constant time, but those that move, make or end many buckets.
+pub type PlainRings<T> = LinkedRings<T, Slab<Node<T>>>;
+
+/// Rings as links between nodes of one raw block. Only `new_ring`, `new_pair` and the calls that add take memory; times as `PlainRings`.
+pub type RawRings<T> = LinkedRings<T, Nodes<T>>;
+
+/// Rings as links between slots. Each call takes constant time, but those that move, make or end many buckets.
 #[derive(Drop)]
-pub struct PlainRings<T> {
+pub struct LinkedRings<T, S: Slots<T>> {
     next: u64,
-    links: Links<T>,
+    links: Links<T, S>,
     ghost linked: { AreLinked links },
     ghost kept: { IsKept (ring_at links) (lists_of links) next },
 }
 
-impl<T: Drop> PlainRings<T> {
+impl<T: Drop, S: Slots<T> + Drop> LinkedRings<T, S> {
     /// Puts a new bucket into a ring. There is room for it, and a name.
     fn settle(&mut self, ring: RingId, position: Position, payload: T) -> BucketId
         requires there { is_some (lists_of self.old.links ring) ≡ true }
         requires position { IsSpot (ring_at self.old.links) ring position }
-        requires room { HasRoomFor self.old.links.nodes 1 }
+        requires room { 1 ≤ S.room self.old.links.nodes }
         requires unspent { self.old.next < u64.MAX }
         ensures out { (n : ℕ) → lists_of self.new.links n ≡ on ring (placed position ((result, payload) ∷ [])) (lists_of self.old.links) n }
         ensures name { result.birth ≡ self.old.next }
         ensures next { self.new.next ≡ self.old.next + 1 }
-        ensures room { (count : ℕ) → HasRoomFor self.old.links.nodes (count + 1) → HasRoomFor self.new.links.nodes count }
+        ensures room { (count : ℕ) → count + 1 ≤ S.room self.old.links.nodes → count ≤ S.room self.new.links.nodes }
         ensures names { NoneRevived (ring_at self.old.links) (ring_at self.new.links) self.old.next }
     {
         let id = BucketId {
@@ -56,7 +64,7 @@ impl<T: Drop> PlainRings<T> {
     /// Puts new buckets at the tail of a ring. There is room for them, and names.
     fn settle_all(&mut self, ring: RingId, given: Vec<T>)
         requires there { is_some (lists_of self.old.links ring) ≡ true }
-        requires room { HasRoomFor self.old.links.nodes (length given.items) }
+        requires room { length given.items ≤ S.room self.old.links.nodes }
         requires unspent { self.old.next + length given.items ≤ u64.MAX }
         ensures out { (bs : List (BucketId × T)) × (by_birth bs ≡ numbered self.old.next given.items) × ((n : ℕ) → lists_of self.new.links n ≡ on ring (λ xs. xs ++ bs) (lists_of self.old.links) n) }
         ensures next { self.new.next ≡ self.old.next + length given.items }
@@ -70,9 +78,9 @@ impl<T: Drop> PlainRings<T> {
 
     /// Makes room for so many slots, and rings. Where there is room, it takes no memory.
     fn reserve(&mut self, slots: usize, rings: usize) -> Result<(), AllocError>
-        ensures room { OnOk result (HasRoomFor self.new.links.nodes slots) }
+        ensures room { OnOk result (slots ≤ S.room self.new.links.nodes) }
         ensures spare { OnOk result (rings ≤ spare self.new.links.heads) }
-        ensures sure { HasRoomFor self.old.links.nodes slots → rings ≤ spare self.old.links.heads → IsOk result }
+        ensures sure { slots ≤ S.room self.old.links.nodes → rings ≤ spare self.old.links.heads → IsOk result }
         ensures same { (n : ℕ) → lists_of self.new.links n ≡ lists_of self.old.links n }
         ensures still { (id : BucketId) → ring_at self.new.links id ≡ ring_at self.old.links id }
         ensures next { self.new.next ≡ self.old.next }
@@ -83,7 +91,7 @@ impl<T: Drop> PlainRings<T> {
     /// Makes room for so many buckets and rings, where so many names are left.
     fn ready(&mut self, count: usize, rings: usize) -> Result<(), RingRefusal>
         requires { rings ≤ 2 }
-        ensures room { OnOk result (HasRoomFor self.new.links.nodes (count + rings)) }
+        ensures room { OnOk result (count + rings ≤ S.room self.new.links.nodes) }
         ensures spare { OnOk result (rings ≤ spare self.new.links.heads) }
         ensures spent { (result ≡ Err RingRefusal.NamesSpent) ↔ (u64.MAX < self.old.next + rings + count) }
         ensures same { (n : ℕ) → lists_of self.new.links n ≡ lists_of self.old.links n }
@@ -113,7 +121,7 @@ impl<T: Drop> PlainRings<T> {
         ensures names { NoneRevived (ring_at self.old.links) (ring_at self.new.links) self.old.next }
         ensures spent { self.old.next ≡ u64.MAX → result ≡ Err (RingRefusal.NamesSpent, payload) }
         ensures unspent { IfErr result (λ why. why.0 ≡ RingRefusal.NamesSpent → self.old.next ≡ u64.MAX) }
-        ensures sure { HasRoomFor self.old.links.nodes 1 → self.old.next < u64.MAX → IsOk result }
+        ensures sure { 1 ≤ S.room self.old.links.nodes → self.old.next < u64.MAX → IsOk result }
         ensures err { OnErr result ((n : ℕ) → lists_of self.new.links n ≡ lists_of self.old.links n) }
         ensures back { IfErr result (λ why. why.1 ≡ payload) }
     {
@@ -128,13 +136,13 @@ impl<T: Drop> PlainRings<T> {
 
     /// Makes an empty ring. There is room for it, and a name.
     fn put_ring(&mut self) -> RingId
-        requires room { HasRoomFor self.old.links.nodes 1 }
+        requires room { 1 ≤ S.room self.old.links.nodes }
         requires spare { 0 < spare self.old.links.heads }
         requires unspent { self.old.next < u64.MAX }
         ensures name { result ≡ self.old.next }
         ensures out { (n : ℕ) → lists_of self.new.links n ≡ upd (lists_of self.old.links) result (Some []) n }
         ensures next { self.new.next ≡ self.old.next + 1 }
-        ensures room { (count : ℕ) → HasRoomFor self.old.links.nodes (count + 1) → HasRoomFor self.new.links.nodes count }
+        ensures room { (count : ℕ) → count + 1 ≤ S.room self.old.links.nodes → count ≤ S.room self.new.links.nodes }
         ensures spare { spare self.old.links.heads ≤ spare self.new.links.heads + 1 }
         ensures places { (id : BucketId) → ring_at self.new.links id ≡ ring_at self.old.links id }
     {
@@ -172,7 +180,7 @@ impl<T: Drop> PlainRings<T> {
     }
 }
 
-impl<T: Drop> Rings<T> for PlainRings<T> {
+impl<T: Drop, S: Slots<T> + Drop> Rings<T> for LinkedRings<T, S> {
     ghost use Rattle.bucket_ring.specs.Laws.{found_in, in_found, ring_there};
 
     ghost lists = { λ s. lists_of s.links };
@@ -181,7 +189,7 @@ impl<T: Drop> Rings<T> for PlainRings<T> {
 
     ghost next_name = { λ s. s.next };
 
-    ghost has_room = { λ s. (HasRoomFor s.links.nodes 1) × (1 ≤ spare s.links.heads) };
+    ghost has_room = { λ s. (1 ≤ S.room s.links.nodes) × (1 ≤ spare s.links.heads) };
 
     ghost kept = { λ s. s.kept };
 
@@ -202,7 +210,7 @@ impl<T: Drop> Rings<T> for PlainRings<T> {
     ghost limit = { λ s. s.kept.limit };
 
     fn new(alloc: Global, first: u64) -> Self {
-        PlainRings {
+        LinkedRings {
             next: first,
             links: Links::new(alloc),
         }

@@ -3,7 +3,6 @@
 ghost use Rattle.std.specs.Prelude.{◌≡◌, ◌≢◌, ℕ, ◌+◌, ◌<◌, ◌≤◌, ◌==◌, if◌then◌else◌, Some, None, true, is_some, IsOk, OnOk};
 ghost use Rattle.std.specs.Option.{option_map};
 ghost use Rattle.std.specs.HashMap.{spare};
-ghost use Rattle.slab.specs.Slab.{get, HasRoomFor};
 ghost use Rattle.bucket_ring.specs.Lists.{upd};
 ghost use Rattle.bucket_ring.specs.Walks.{id_of, turned};
 ghost use Rattle.bucket_ring.specs.declared.names.BucketId.{BucketId};
@@ -11,11 +10,12 @@ ghost use Rattle.bucket_ring.specs.declared.links.RingHead.{RingHead};
 
 use crate::hashing::NameHasher;
 use crate::names::{BucketId, RingId};
-use slab::Slab;
+use crate::slots::Slots;
+use raw_nodes::{Load, SlotBucket};
 use std::alloc::{AllocError, Global};
 use std::collections::HashMap;
 use std::hash::BuildHasherDefault;
-use std::mem::replace;
+use std::marker::PhantomData;
 
 /// Where buckets are put in a ring.
 #[derive(Clone, Copy)]
@@ -24,22 +24,6 @@ pub(crate) enum Position {
     Head,
     Before(BucketId),
     After(BucketId),
-}
-
-/// A bucket in its slot.
-#[derive(Drop)]
-pub(crate) struct SlotBucket<T> {
-    pub(crate) birth: u64,
-    pub(crate) payload: T,
-}
-
-/// A slot of a ring. That of its sentinel has no bucket.
-#[derive(Drop)]
-pub(crate) struct Node<T> {
-    pub(crate) ring: RingId,
-    pub(crate) before: usize,
-    pub(crate) behind: usize,
-    pub(crate) bucket: Option<SlotBucket<T>>,
 }
 
 /// Where a ring begins and ends, and how many buckets it has.
@@ -51,22 +35,25 @@ pub(crate) struct RingHead {
 
 /// The slots of all rings, and the head of each ring by its name.
 #[derive(Drop)]
-pub(crate) struct Links<T> {
-    pub(crate) nodes: Slab<Node<T>>,
+pub(crate) struct Links<T, S: Slots<T>> {
+    pub(crate) nodes: S,
+    pub(crate) mark: PhantomData<T>,
     pub(crate) heads: HashMap<u64, RingHead, BuildHasherDefault<NameHasher>>,
+    ghost slots: { (k : ℕ) → S.node nodes k ≡ S.node nodes k },
 }
 
 #[tactic(auto, unfolding(crate::specs::Links::behind_of, crate::specs::Links::before_of, crate::specs::Links::mark_of, crate::specs::Links::at_of, crate::specs::Links::bucket_of, crate::specs::Links::head_of, crate::specs::Links::ring_at, crate::specs::Lists::upd))]
-impl<T: Drop> Links<T> {
+impl<T: Drop, S: Slots<T> + Drop> Links<T, S> {
     ghost use Rattle.bucket_ring.specs.Links.{behind_of, before_of, mark_of, at_of, bucket_of, head_of, ring_at, KeepsLinks, KeepsBuckets, KeepsRoom};
 
     /// No slot, and no ring.
     pub(crate) fn new(alloc: Global) -> Self
-        ensures nodes { (j : ℕ) → get result.nodes j ≡ None }
+        ensures nodes { (j : ℕ) → S.node result.nodes j ≡ None }
         ensures heads { (n : ℕ) → head_of result n ≡ None }
     {
         Links {
-            nodes: Slab::new(alloc),
+            nodes: S::new(alloc),
+            mark: PhantomData,
             heads: HashMap::with_hasher(alloc, BuildHasherDefault::new()),
         }
     }
@@ -96,12 +83,12 @@ impl<T: Drop> Links<T> {
         ensures { result ≡ option_map (λ (b : BucketId × T). b.0) (bucket_of self.now slot) }
     {
         let node = self.nodes.get(slot)?;
-        match &node.bucket {
-            Some(bucket) => Some(BucketId {
+        match &node.load {
+            Load::Bucket(bucket) => Some(BucketId {
                 slot,
                 birth: bucket.birth,
             }),
-            None => None,
+            _ => None,
         }
     }
 
@@ -111,7 +98,7 @@ impl<T: Drop> Links<T> {
         ensures { option_map (λ (b : BucketId × T). b.1) (bucket_of self.now slot) ≡ Some result.now }
     {
         if let Some(node) = self.nodes.get(slot) {
-            if let Some(bucket) = &node.bucket {
+            if let Load::Bucket(bucket) = &node.load {
                 return &bucket.payload;
             }
         }
@@ -120,9 +107,9 @@ impl<T: Drop> Links<T> {
 
     /// Makes room for so many more slots and rings.
     pub(crate) fn reserve(&mut self, slots: usize, rings: usize) -> Result<(), AllocError>
-        ensures room { OnOk result (HasRoomFor self.new.nodes slots) }
+        ensures room { OnOk result (slots ≤ S.room self.new.nodes) }
         ensures spare { OnOk result (rings ≤ spare self.new.heads) }
-        ensures sure { HasRoomFor self.old.nodes slots → rings ≤ spare self.old.heads → IsOk result }
+        ensures sure { slots ≤ S.room self.old.nodes → rings ≤ spare self.old.heads → IsOk result }
         ensures links { KeepsLinks self.old self.new }
         ensures buckets { KeepsBuckets self.old self.new }
         ensures heads { (n : ℕ) → head_of self.new n ≡ head_of self.old n }
@@ -164,8 +151,8 @@ impl<T: Drop> Links<T> {
         ensures { result ≡ ring_at self.now id }
     {
         let node = self.nodes.get(id.slot)?;
-        match &node.bucket {
-            Some(bucket) if bucket.birth == id.birth => Some(node.ring),
+        match &node.load {
+            Load::Bucket(bucket) if bucket.birth == id.birth => Some(node.ring),
             _ => None,
         }
     }
@@ -183,35 +170,31 @@ impl<T: Drop> Links<T> {
 
     /// Writes the slot behind one.
     fn set_behind(&mut self, slot: usize, to: usize)
-        requires { is_some (get self.old.nodes slot) ≡ true }
+        requires { is_some (S.node self.old.nodes slot) ≡ true }
         ensures behind { (j : ℕ) → behind_of self.new j ≡ (if j == slot then to else behind_of self.old j) }
         ensures before { (j : ℕ) → before_of self.new j ≡ before_of self.old j }
         ensures buckets { KeepsBuckets self.old self.new }
         ensures room { KeepsRoom self.old self.new }
         ensures heads { self.new.heads ≡ self.old.heads }
     {
-        if let Some(node) = self.nodes.get_mut(slot) {
-            node.behind = to;
-        }
+        self.nodes.set_behind(slot, to);
     }
 
     /// Writes the slot before one.
     fn set_before(&mut self, slot: usize, to: usize)
-        requires { is_some (get self.old.nodes slot) ≡ true }
+        requires { is_some (S.node self.old.nodes slot) ≡ true }
         ensures before { (j : ℕ) → before_of self.new j ≡ (if j == slot then to else before_of self.old j) }
         ensures behind { (j : ℕ) → behind_of self.new j ≡ behind_of self.old j }
         ensures buckets { KeepsBuckets self.old self.new }
         ensures room { KeepsRoom self.old self.new }
         ensures heads { self.new.heads ≡ self.old.heads }
     {
-        if let Some(node) = self.nodes.get_mut(slot) {
-            node.before = to;
-        }
+        self.nodes.set_before(slot, to);
     }
 
     /// Puts a bucket of a ring into a slot.
     pub(crate) fn fill(&mut self, slot: usize, ring: RingId, bucket: SlotBucket<T>)
-        requires { is_some (get self.old.nodes slot) ≡ true }
+        requires { is_some (S.node self.old.nodes slot) ≡ true }
         ensures bucket { (j : ℕ) → bucket_of self.new j ≡ upd (bucket_of self.old) slot (Some (id_of slot bucket.birth, bucket.payload)) j }
         ensures at { (j : ℕ) → at_of self.new j ≡ upd (at_of self.old) slot (Some ring) j }
         ensures mark { (j : ℕ) → j ≢ slot → mark_of self.new j ≡ mark_of self.old j }
@@ -219,10 +202,7 @@ impl<T: Drop> Links<T> {
         ensures room { KeepsRoom self.old self.new }
         ensures heads { self.new.heads ≡ self.old.heads }
     {
-        if let Some(node) = self.nodes.get_mut(slot) {
-            node.ring = ring;
-            node.bucket = Some(bucket);
-        }
+        self.nodes.fill(slot, ring, bucket.birth, bucket.payload);
     }
 
     /// Takes the bucket out of a slot.
@@ -236,12 +216,7 @@ impl<T: Drop> Links<T> {
         ensures room { KeepsRoom self.old self.new }
         ensures heads { self.new.heads ≡ self.old.heads }
     {
-        if let Some(node) = self.nodes.get_mut(slot) {
-            if let Some(bucket) = node.bucket.take() {
-                return bucket;
-            }
-        }
-        unreachable!()
+        self.nodes.empty(slot)
     }
 
     /// Gives the bucket in a slot another payload, and answers what it had.
@@ -254,46 +229,46 @@ impl<T: Drop> Links<T> {
         ensures links { KeepsLinks self.old self.new }
         ensures heads { self.new.heads ≡ self.old.heads }
     {
-        if let Some(node) = self.nodes.get_mut(slot) {
-            if let Some(bucket) = &mut node.bucket {
-                return replace(&mut bucket.payload, payload);
-            }
-        }
-        unreachable!()
+        let ring = match self.nodes.get(slot) {
+            Some(node) => node.ring,
+            None => unreachable!(),
+        };
+        let had = self.empty(slot);
+        let bucket = SlotBucket {
+            birth: had.birth,
+            payload,
+        };
+        self.fill(slot, ring, bucket);
+        had.payload
     }
 
     /// A new slot, which has no bucket and leads to itself. There is room for it.
     pub(crate) fn fresh(&mut self, ring: RingId) -> usize
-        requires { HasRoomFor self.old.nodes 1 }
-        ensures was { get self.old.nodes result ≡ None }
-        ensures there { is_some (get self.new.nodes result) ≡ true }
+        requires { 1 ≤ S.room self.old.nodes }
+        ensures was { S.node self.old.nodes result ≡ None }
+        ensures there { is_some (S.node self.new.nodes result) ≡ true }
         ensures mark { (j : ℕ) → mark_of self.new j ≡ upd (mark_of self.old) result (Some ring) j }
         ensures at { (j : ℕ) → at_of self.new j ≡ at_of self.old j }
         ensures bucket { (j : ℕ) → bucket_of self.new j ≡ bucket_of self.old j }
         ensures links { KeepsLinks self.old self.new }
-        ensures room { (n : ℕ) → HasRoomFor self.old.nodes (n + 1) → HasRoomFor self.new.nodes n }
+        ensures room { (n : ℕ) → n + 1 ≤ S.room self.old.nodes → n ≤ S.room self.new.nodes }
         ensures heads { self.new.heads ≡ self.old.heads }
     {
-        let slot = self.nodes.vacant_key();
-        self.nodes.insert_reserved(Node {
-            ring,
-            before: slot,
-            behind: slot,
-            bucket: None,
-        })
+        self.nodes.add(ring)
     }
 
     /// Ends a slot, which leads to itself and has no bucket.
     pub(crate) fn remove(&mut self, slot: usize)
         requires links { (behind_of self.old slot ≡ slot) × (before_of self.old slot ≡ slot) }
         requires bucket { bucket_of self.old slot ≡ None }
+        requires there { is_some (S.node self.old.nodes slot) ≡ true }
         ensures mark { (j : ℕ) → j ≢ slot → mark_of self.new j ≡ mark_of self.old j }
         ensures at { (j : ℕ) → at_of self.new j ≡ at_of self.old j }
         ensures bucket { (j : ℕ) → bucket_of self.new j ≡ bucket_of self.old j }
         ensures links { KeepsLinks self.old self.new }
         ensures heads { self.new.heads ≡ self.old.heads }
     {
-        self.nodes.try_remove(slot);
+        self.nodes.remove(slot);
     }
 
     /// Writes how many buckets a ring has.
@@ -310,8 +285,8 @@ impl<T: Drop> Links<T> {
     pub(crate) fn turn(&mut self, slot: usize, at: usize)
         requires forth { (j : ℕ) → behind_of self.old (before_of self.old j) ≡ j }
         requires back { (j : ℕ) → before_of self.old (behind_of self.old j) ≡ j }
-        requires slot { is_some (get self.old.nodes slot) ≡ true }
-        requires at { is_some (get self.old.nodes at) ≡ true }
+        requires slot { is_some (S.node self.old.nodes slot) ≡ true }
+        requires at { is_some (S.node self.old.nodes at) ≡ true }
         ensures behind { (j : ℕ) → behind_of self.new j ≡ turned (behind_of self.old) (before_of self.old) at slot j }
         ensures before { (j : ℕ) → before_of self.new j ≡ turned (before_of self.old) (behind_of self.old) slot at j }
         ensures buckets { KeepsBuckets self.old self.new }

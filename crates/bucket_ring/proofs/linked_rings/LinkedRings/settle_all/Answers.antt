@@ -1,14 +1,13 @@
-use Rattle.std.proofs.Common.{◌≡◌, ℕ, ◌+◌, Option, List, [], ◌∷◌, ◌++◌, length, refl, sym, ap, subst, ◌∙◌, arith}
+use Rattle.std.proofs.Common.{◌≡◌, ℕ, ◌+◌, ◌≤◌, Option, List, [], ◌∷◌, ◌++◌, length, refl, sym, ap, subst, ◌∙◌, arith}
 use Rattle.std.specs.Option.{option_to_list}
 use Rattle.std.specs.Vec.Iter.{into_iter_items}
 use Rattle.std.proofs.lemmas.List.{length-append}
-use Rattle.slab.specs.Slab.{HasRoomFor}
 use Rattle.bucket_ring.specs.Lists.{list_at, by_birth, numbered}
 use Rattle.bucket_ring.specs.Laws.{none_revived_twice}
 use Rattle.bucket_ring.specs.Links.{ring_at, lists_of}
 use Rattle.bucket_ring.proofs.Changes.{on_some, list_on}
 use Rattle.bucket_ring.proofs.Batches.{put_twice, named_more, put_none}
-use Rattle.bucket_ring.proofs.plain.PlainRings.settle_all.Goals as goal
+use Rattle.bucket_ring.proofs.linked_rings.LinkedRings.settle_all.Goals as goal
 
 pub loop-payload-init : goal.loop-payload-init
 loop-payload-init g c =
@@ -44,7 +43,7 @@ loop-payload-preserved g c =
         λ n. put_twice ring n d.0 ((id, x) ∷ []) (lists_of c.args.self.now.links) (lists_of s.links) (lists_of new.links) d.2 put,
       );
       there = on_some ring (λ xs. xs ++ (id, x) ∷ []) (lists_of s.links) (lists_of new.links) put ring i.there;
-      room = c.settle.ensures.room (length (into_iter_items left)) (subst (λ (k : ℕ). HasRoomFor s.links.nodes k) size i.room);
+      room = c.settle.ensures.room (length (into_iter_items left)) (subst (λ (k : ℕ). k ≤ g.S.Slots.room s.links.nodes) size i.room);
       next = omega (arith, i.next, c.settle.ensures.next, size);
       rises = omega (arith, i.rises, c.settle.ensures.next);
       names = none_revived_twice (ring_at c.args.self.now.links) (ring_at s.links) (ring_at new.links) c.args.self.now.next s.next i.rises i.names c.settle.ensures.names;

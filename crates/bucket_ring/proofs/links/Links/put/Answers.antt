@@ -1,5 +1,4 @@
 use Rattle.std.proofs.Common.{◌+◌, ℕ, Some, is_some, ap, sym, subst, ◌∙◌, arith}
-use Rattle.slab.specs.Slab.{get}
 use Rattle.bucket_ring.specs.Walks.{id_of}
 use Rattle.bucket_ring.specs.Links.{behind_of, target, Changed}
 use Rattle.bucket_ring.proofs.Kept.{lists_there, length_of, changed}
@@ -15,7 +14,7 @@ overflow_add-head g c = omega (arith, c.requires.few, length_of c.args.self.now 
 
 pub turn-requires-clause-at : goal.turn-requires-clause-at
 turn-requires-clause-at g c =
-    c.fill.ensures.room.there c.target-at.result ∙ ap (λ (k : ℕ). is_some (get c.args.self.now.nodes k)) c.target-at.ensures ∙ spot_there c.args.self.now c.requires.linked c.args.ring c.head-head.result c.args.position c.head-head.ensures c.requires.position
+    c.fill.ensures.room.there c.target-at.result ∙ ap (λ (k : ℕ). is_some (g.S.Slots.node c.args.self.now.nodes k)) c.target-at.ensures ∙ spot_there c.args.self.now c.requires.linked c.args.ring c.head-head.result c.args.position c.head-head.ensures c.requires.position
 
 pub returns : goal.returns
 returns g c =
