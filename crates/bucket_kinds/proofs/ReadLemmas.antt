@@ -5,8 +5,9 @@ use Rattle.std.proofs.lemmas.Bool.Decides.{nat_tests}
 use Rattle.run_model.specs.Files.{Files, part_of, read_part, read_done, after_read, fails_now}
 use Rattle.bucket_kinds.specs.Device.{Holds}
 use Rattle.bucket_kinds.specs.Answers.{IsFilled}
+use Rattle.bucket_kinds.specs.MemAnswers.{planned}
 
--- A read that fails later comes nearer.
+-- A call that fails later comes nearer.
 pub after_well : (n : ℕ) → n ≢ 0 → after_read (Some n) ≡ Some (n - 1)
 after_well zero not_zero = absurd (not_zero refl)
 after_well (suc n) not_zero = ap (λ k. Some k) (omega arith)
@@ -14,6 +15,10 @@ after_well (suc n) not_zero = ap (λ k. Some k) (omega arith)
 pub well_now : (n : ℕ) → n ≢ 0 → fails_now (Some n) ≡ false
 well_now zero not_zero = absurd (not_zero refl)
 well_now (suc n) not_zero = refl
+
+pub planned_from : (call : ℕ) → 1 ≤ call → planned call ≡ Some (call - 1)
+planned_from zero some = absurd (omega (arith, some))
+planned_from (suc n) some = ap (λ k. Some k) (omega arith)
 
 at_least : (a b : ℕ) → a ≤ b → nat_le a b ≡ true
 at_least a b le = grind (arith, nat_tests)

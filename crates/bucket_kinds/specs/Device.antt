@@ -1,4 +1,4 @@
--- What a device of files is: which names have a file, which numbers are open, how often it failed, and whether it may fail.
+-- What a device of files is: which names have a file, which numbers are open, how often it failed, whether it may fail, and whether it counts its calls.
 use Rattle.std.specs.Prelude.{◌≡◌, ℕ, ◌+◌, Bool, true, false, ◌==◌, if◌then◌else◌, List}
 use Rattle.run_model.specs.Indexed.{upd}
 
@@ -10,13 +10,15 @@ pub data Held : Type 0 where
   Holds : List ℕ → Held
 
 -- `named` goes by a file's name, `numbered` by the number of an open file. `next` is the number that is given next. A device that may not fail
--- tells of no failure. Of a file of which nothing is told it may still give fewer bytes than were asked for.
+-- tells of no failure. Of a file of which nothing is told it may still give fewer bytes than were asked for. A device that counts its openings and
+-- reads fails at one of those to come, and which one that is depends on how many are asked for.
 pub record Device : Type 0 where
   pub named : List ℕ → Held
   pub numbered : ℕ → Held
   pub next : ℕ
   pub failures : ℕ
   pub may_fail : Bool
+  pub counts : Bool
 
 abbrev pub last_number : ℕ
 last_number = 18446744073709551615
@@ -30,9 +32,9 @@ is_there (Holds bytes) = true
 abbrev pub one_more : ℕ → ℕ
 one_more n = if n == last_number then n else n + 1
 
--- The device failed once more, and nothing else changed.
+-- The device failed once more, and nothing else changed, but that no failure is planned any more.
 abbrev pub failed : Device → Device
-failed d = record d { failures = one_more d.failures }
+failed d = record d { failures = one_more d.failures; counts = false }
 
 -- So did it, being one that may fail.
 abbrev pub HasFailed : Device → Device → Type 0

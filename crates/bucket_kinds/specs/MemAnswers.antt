@@ -1,7 +1,7 @@
 -- What files in memory answer, and what they are afterwards.
-use Rattle.std.specs.Prelude.{ℕ, ◌≡◌, ◌<◌, Bool, true, if◌then◌else◌, List, length, Some, None, is_some, Result, Ok, Err}
+use Rattle.std.specs.Prelude.{ℕ, zero, suc, ◌≡◌, ◌<◌, Bool, true, false, if◌then◌else◌, List, length, Option, Some, None, is_some, Result, Ok, Err}
 use Rattle.run_model.specs.Indexed.{upd}
-use Rattle.run_model.specs.Files.{Files, file_added, file_opened, fails_now}
+use Rattle.run_model.specs.Files.{Files, file_added, file_opened, read_done, fails_now}
 use Rattle.bucket_kinds.specs.Device.{last_number, one_more}
 use Rattle.bucket_kinds.specs.declared.refusal.FileFault.{FileFault}
 use Rattle.bucket_kinds.specs.declared.refusal.FileFault.TheVariants as fault
@@ -24,23 +24,37 @@ pub record OpensMemFile (fs : Files) (name : List ℕ) (number len : ℕ) (gs : 
   pub number_is_new : fs.opened fs.next ≡ None
   pub after : gs ≡ file_opened name fs
 
--- An opening, which never fails. That there is no such file is told before anything else.
+-- An opening of which no failure is due. That there is no such file is told before anything else.
+abbrev pub IsSoundOpening : Files → List ℕ → Result (ℕ × ℕ) FileFault → Files → Type 0
+IsSoundOpening fs name (Ok r) gs = OpensMemFile fs name r.0 r.1 gs
+IsSoundOpening fs name (Err fault.NotThere) gs = (fs.named name ≡ None) × (gs ≡ fs)
+IsSoundOpening fs name (Err fault.Failed) gs = ⊥
+IsSoundOpening fs name (Err fault.NamesSpent) gs = (is_some (fs.named name) ≡ true) × (fs.next ≡ last_number) × (gs ≡ fs)
+IsSoundOpening fs name (Err fault.NoMemory) gs = (is_some (fs.named name) ≡ true) × (fs.next < last_number) × (gs ≡ fs)
+
+-- An opening that fails where that is due, whatever its name.
+abbrev pub IsOpeningDue : Bool → Files → List ℕ → Result (ℕ × ℕ) FileFault → Files → Type 0
+IsOpeningDue true fs name r gs = (r ≡ Err fault.Failed) × (gs ≡ fs)
+IsOpeningDue false fs name r gs = IsSoundOpening fs name r gs
+
+-- An opening counts as a read does, whatever is answered.
 abbrev pub IsFileOpening : Files → List ℕ → Result (ℕ × ℕ) FileFault → Files → Type 0
-IsFileOpening fs name (Ok r) gs = OpensMemFile fs name r.0 r.1 gs
-IsFileOpening fs name (Err fault.NotThere) gs = (fs.named name ≡ None) × (gs ≡ fs)
-IsFileOpening fs name (Err fault.Failed) gs = ⊥
-IsFileOpening fs name (Err fault.NamesSpent) gs = (is_some (fs.named name) ≡ true) × (fs.next ≡ last_number) × (gs ≡ fs)
-IsFileOpening fs name (Err fault.NoMemory) gs = (is_some (fs.named name) ≡ true) × (fs.next < last_number) × (gs ≡ fs)
+IsFileOpening fs name r gs = IsOpeningDue (fails_now fs.fails_in) (read_done fs) name r gs
 
 -- the number is that of no open file
 abbrev pub file_closed : ℕ → Files → Files
 file_closed file fs = record fs { opened = upd fs.opened file None }
 
--- So many reads go on well from now on, and then one fails.
-abbrev pub failing_in : ℕ → Files → Files
-failing_in reads fs = record fs { fails_in = Some reads }
+-- Where the call of this number is to fail, counted from 1, so many go on well before; 0 is the number of none.
+abbrev pub planned : ℕ → Option ℕ
+planned zero = None
+planned (suc n) = Some n
 
--- how many reads failed, after one more read
+-- Of the openings and reads that follow, the one of this number is to fail.
+abbrev pub failing_at : ℕ → Files → Files
+failing_at call fs = record fs { fails_in = planned call }
+
+-- how many openings and reads failed, after one more
 abbrev pub counted_if : Bool → ℕ → ℕ
 counted_if fails failures = if fails then one_more failures else failures
 

@@ -1,5 +1,5 @@
 -- Files in memory as the files of the model, and as a device.
-use Rattle.std.specs.Prelude.{ℕ, ◌<◌, Bool, List, Option, Some, None}
+use Rattle.std.specs.Prelude.{ℕ, ◌<◌, Bool, List, Option, Some, None, is_some}
 use Rattle.run_model.specs.Files.{Files}
 use Rattle.bucket_kinds.specs.Device.{Held, Missing, Holds, Device}
 use Rattle.bucket_kinds.specs.InMemory.{under, at_number}
@@ -9,11 +9,11 @@ use Rattle.bucket_kinds.specs.declared.mem_files.MemFiles.{MemFiles}
 unfoldable pub files_of : MemFiles → Files
 files_of m = record { named = under m.files; opened = at_number m.files m.opened; next = m.next; fails_in = m.fails_in }
 
--- how many reads failed because they were told to
+-- how many openings and reads failed because they were told to
 unfoldable pub failures_of : MemFiles → ℕ
 failures_of m = m.failures
 
--- whether a read was ever told to fail; no other fails
+-- whether an opening or a read was told to fail; no other fails
 unfoldable pub may_fail_of : MemFiles → Bool
 may_fail_of m = m.may_fail
 
@@ -23,7 +23,14 @@ held_of (Some bytes) = Holds bytes
 
 abbrev pub device_of : Files → ℕ → Bool → Device
 device_of fs failures may_fail =
-    record { named = λ name. held_of (fs.named name); numbered = λ n. held_of (fs.opened n); next = fs.next; failures = failures; may_fail = may_fail }
+    record {
+      named = λ name. held_of (fs.named name);
+      numbered = λ n. held_of (fs.opened n);
+      next = fs.next;
+      failures = failures;
+      may_fail = may_fail;
+      counts = is_some fs.fails_in;
+    }
 
 abbrev pub mem_device : MemFiles → Device
 mem_device m = device_of (files_of m) (failures_of m) (may_fail_of m)

@@ -151,4 +151,8 @@ where
     fn failures(&self) -> u64 {
         self.failures
     }
+
+    fn counts_calls(&self) -> bool {
+        false
+    }
 }

@@ -10,7 +10,7 @@ use crate::refusal::FileFault;
 pub type FileNo = u64;
 
 /// A device that has files. Contracts see it as its files by name, its open files by number, the next number,
-/// how often it failed and whether it may fail; a device need not tell what its files hold.
+/// how often it failed, whether it may fail and whether it counts its calls; a device need not tell what its files hold.
 pub trait Files {
     ghost device: { Self → Device };
 
@@ -34,6 +34,11 @@ pub trait Files {
     /// How often the device failed. At `u64::MAX` the count stays.
     fn failures(&self) -> u64
         ensures { result ≡ (device self.now).failures };
+
+    /// Whether the device counts its openings and reads, since one of those to come is to fail. Then who asks for more of them, or
+    /// fewer, gets other answers.
+    fn counts_calls(&self) -> bool
+        ensures { result ≡ (device self.now).counts };
 
     /// No file has the number 0.
     ghost numbered: { (s : Self) → 0 < (device s).next };

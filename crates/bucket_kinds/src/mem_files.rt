@@ -14,7 +14,7 @@ use crate::refusal::{AddRefusal, FileFault, ReadFault};
 use std::alloc::{AllocError, Global};
 use std::collections::BTreeMap;
 
-/// Files in memory: a map from name to bytes. A read fails only where it was told to.
+/// Files in memory: a map from name to bytes. An opening or a read fails only where it was told to.
 #[derive(Drop)]
 pub struct MemFiles {
     alloc: Global,
@@ -30,7 +30,7 @@ pub struct MemFiles {
     ghost given: { (n : ℕ) → IsSome (get nat_cmp opened n) → n < next },
     // No file has the number 0.
     ghost numbered: { 0 < next },
-    // A read that is to fail was told to.
+    // A call that is to fail was told to.
     ghost told: { IsSome fails_in → may_fail ≡ true },
 }
 
@@ -67,9 +67,9 @@ fn copy_from(text: &[u8], at: u64, buffer: &mut [u8]) -> usize
 impl MemFiles {
     ghost use Rattle.run_model.specs.Files.{no_files, fails_now, read_part, read_done};
     ghost use Rattle.bucket_kinds.specs.MemDevice.{files_of, failures_of, may_fail_of};
-    ghost use Rattle.bucket_kinds.specs.MemAnswers.{IsAdding, IsFileOpening, file_closed, failing_in, failures_after};
+    ghost use Rattle.bucket_kinds.specs.MemAnswers.{IsAdding, IsFileOpening, IsOpeningDue, IsSoundOpening, file_closed, planned, failing_at, failures_after};
 
-    /// No files, of which no read fails before `fail_at` tells it to. It takes no memory.
+    /// No files. No call on them fails before `fail_at` tells it to. It takes no memory.
     pub fn new(alloc: Global) -> Self
         ensures files { files_of result ≡ no_files }
         ensures failures { failures_of result ≡ 0 }
@@ -115,21 +115,21 @@ impl MemFiles {
         self.next
     }
 
-    /// From now on `reads` reads go on well, the next one fails, and those after it go on well again. Since then these are files that may
-    /// fail.
-    pub fn fail_at(&mut self, reads: u64)
-        ensures files { files_of self.new ≡ failing_in reads (files_of self.old) }
+    /// Of the openings and reads that follow, the one of number `call`, counted from 1, answers `Failed` and raises `failures` by one, and
+    /// all others go on as ever. 0 is the number of none. What was told before is forgotten. It takes no memory.
+    #[tactic(auto, using(crate::proofs::ReadLemmas::planned_from), unfolding(crate::specs::MemDevice::files_of, crate::specs::MemDevice::failures_of, crate::specs::MemDevice::may_fail_of))]
+    pub fn fail_at(&mut self, call: u64)
+        ensures files { files_of self.new ≡ failing_at call (files_of self.old) }
         ensures failures { failures_of self.new ≡ failures_of self.old }
-        ensures may_fail { may_fail_of self.new ≡ true }
+        ensures may_fail { may_fail_of self.new ≡ is_some (planned call) }
     {
-        self.fails_in = Some(reads);
-        self.may_fail = true;
+        self.fails_in = call.checked_sub(1);
+        self.may_fail = self.fails_in.is_some();
     }
 
-    /// Opens the file of a name, and gives its new number and its length in bytes. `NotThere` is told of a name
-    /// without a file, then `NamesSpent` where the number would be `u64::MAX`. Refused, nothing is changed.
-    pub fn open(&mut self, name: &[u8]) -> Result<(FileNo, u64), FileFault>
-        ensures files { IsFileOpening (files_of self.old) name.now result (files_of self.new) }
+    // Opens a file, where no failure is due.
+    fn open_named(&mut self, name: &[u8]) -> Result<(FileNo, u64), FileFault>
+        ensures files { IsSoundOpening (files_of self.old) name.now result (files_of self.new) }
         ensures failures { failures_of self.new ≡ failures_of self.old }
         ensures may_fail { may_fail_of self.new ≡ may_fail_of self.old }
     {
@@ -147,6 +147,30 @@ impl MemFiles {
         Ok((number, len))
     }
 
+    // Opens a file, unless that is to fail.
+    fn open_unless(&mut self, fails: bool, name: &[u8]) -> Result<(FileNo, u64), FileFault>
+        ensures files { IsOpeningDue fails (files_of self.old) name.now result (files_of self.new) }
+        ensures failures { failures_of self.new ≡ failures_of self.old }
+        ensures may_fail { may_fail_of self.new ≡ may_fail_of self.old }
+    {
+        if fails {
+            return Err(FileFault::Failed);
+        }
+        self.open_named(name)
+    }
+
+    /// Opens the file of a name, and gives its new number and its length in bytes. `Failed` is told where the opening is one that is to
+    /// fail, whatever the name is. Then `NotThere` is told of a name without a file, and then `NamesSpent` where the number would be
+    /// `u64::MAX`. Refused, nothing is changed but the count of calls.
+    pub fn open(&mut self, name: &[u8]) -> Result<(FileNo, u64), FileFault>
+        ensures files { IsFileOpening (files_of self.old) name.now result (files_of self.new) }
+        ensures failures { failures_of self.new ≡ failures_after (files_of self.old) (failures_of self.old) }
+        ensures may_fail { may_fail_of self.new ≡ may_fail_of self.old }
+    {
+        let fails = self.call_fails();
+        self.open_unless(fails, name)
+    }
+
     // The bytes of an open file.
     fn text(&self, file: FileNo) -> Option<&Vec<u8>>
         ensures { MatchOption result ((files_of self.now).opened file ≡ None)
@@ -156,9 +180,9 @@ impl MemFiles {
         find(&self.files, name.as_slice())
     }
 
-    // Counts a read, and tells whether it fails.
+    // Counts an opening or a read, and tells whether it fails.
     #[tactic(auto, using(crate::proofs::ReadLemmas::after_well, crate::proofs::ReadLemmas::well_now), unfolding(crate::specs::MemDevice::files_of, crate::specs::MemDevice::failures_of, crate::specs::MemDevice::may_fail_of))]
-    fn read_fails(&mut self) -> bool
+    fn call_fails(&mut self) -> bool
         ensures result { result ≡ fails_now (files_of self.old).fails_in }
         ensures told { result ≡ true → may_fail_of self.old ≡ true }
         ensures files { files_of self.new ≡ read_done (files_of self.old) }
@@ -172,8 +196,8 @@ impl MemFiles {
                 self.failures = self.failures.saturating_add(1);
                 true
             }
-            Some(reads) => {
-                self.fails_in = Some(reads - 1);
+            Some(calls) => {
+                self.fails_in = Some(calls - 1);
                 false
             }
         }
@@ -189,7 +213,7 @@ impl MemFiles {
         ensures failures { failures_of self.new ≡ failures_after (files_of self.old) (failures_of self.old) }
         ensures may_fail { may_fail_of self.new ≡ may_fail_of self.old }
     {
-        if self.read_fails() {
+        if self.call_fails() {
             return Err(ReadFault);
         }
         let Some(text) = self.text(file) else {
@@ -235,7 +259,7 @@ impl Files for MemFiles {
         ensures files { files_of self.new ≡ read_done (files_of self.old) }
         ensures fails { IsErr result ↔ (fails_now (files_of self.old).fails_in ≡ true) }
     {
-        if self.read_fails() {
+        if self.call_fails() {
             return Err(FileFault::Failed);
         }
         let Some(text) = self.text(file) else {
@@ -254,5 +278,10 @@ impl Files for MemFiles {
     #[tactic(auto, unfolding(crate::specs::MemDevice::failures_of))]
     fn failures(&self) -> u64 {
         self.failures
+    }
+
+    #[tactic(auto, unfolding(crate::specs::MemDevice::files_of))]
+    fn counts_calls(&self) -> bool {
+        self.fails_in.is_some()
     }
 }

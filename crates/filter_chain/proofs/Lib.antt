@@ -11,6 +11,7 @@ pub mod HostOpens
 pub mod HostTells
 pub mod HostFiles
 pub mod HostAdds
+pub mod HostFails
 pub mod Safety
 pub mod HostCloses
 pub mod StepCounts

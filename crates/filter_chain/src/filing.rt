@@ -27,7 +27,8 @@ impl<F: Files + Drop> Host<F> {
 
 impl Host<MemFiles> {
     ghost use Rattle.bucket_kinds.specs.MemDevice.{mem_device};
-    ghost use Rattle.filter_chain.specs.Hosting.{IsHosting, TriesToAdd, files_of};
+    ghost use Rattle.filter_chain.specs.Failing.{SetsToFail};
+    ghost use Rattle.filter_chain.specs.Hosting.{IsHosting, TriesToAdd, budget_of, chain_of, files_of};
 
     /// Adds a file. `Taken` is told where there is a file of that name, and `NoMemory` only where there is none. Refused, nothing is
     /// changed.
@@ -35,5 +36,17 @@ impl Host<MemFiles> {
         ensures { (w : World) → IsHosting (mem_device (files_of self.old)) self.old w → TriesToAdd (mem_device (files_of self.old)) (mem_device (files_of self.new)) self.old self.new name.now bytes.items result w }
     {
         self.files.add(name, bytes)
+    }
+
+    /// Of the openings and reads of files that follow, on whichever connection, the one of number `call`, counted from 1, fails, and all
+    /// others go on as ever. 0 is the number of none. What was told before is forgotten. Every connection is left as it was. It takes no
+    /// memory.
+    pub fn fail_at(&mut self, call: u64)
+        ensures fails { SetsToFail call self.old self.new }
+        ensures hosts { (w : World) → IsHosting (mem_device (files_of self.old)) self.old w → IsHosting (mem_device (files_of self.new)) self.new w }
+        ensures chain { chain_of self.new ≡ chain_of self.old }
+        ensures budget { budget_of self.new ≡ budget_of self.old }
+    {
+        self.files.fail_at(call);
     }
 }

@@ -1,11 +1,12 @@
 -- Bytes that are fetched at once are those of the reads of which they are made.
-use Rattle.std.proofs.Common.{◌≡◌, ◌≢◌, ◌⊎◌, inl, inr, ℕ, zero, suc, ◌+◌, ◌-◌, ◌*◌, ◌<◌, ◌≤◌, min, false, List, [], ◌++◌, length, take, drop, refl, sym, ap, subst, ⊎_elim, ◌∙◌, append_assoc, arith}
+use Rattle.std.proofs.Common.{◌≡◌, ◌≢◌, ◌⊎◌, inl, inr, ℕ, zero, suc, ◌+◌, ◌-◌, ◌*◌, ◌<◌, ◌≤◌, min, Bool, true, false, cond, List, [], ◌++◌, length, take, drop, refl, sym, ap, subst, ⊎_elim, ◌∙◌, append_assoc, arith}
 use Rattle.std.proofs.Math.Seq.{drop-append_seam, take-append_seam}
 use Rattle.std.proofs.lemmas.Bool.{cases_lt}
 use Rattle.std.proofs.lemmas.List.{append-nil, length-take-le, length-drop, nil_from_length, take-take, drop-take, drop-drop, take-append-drop}
 use Rattle.bucket_kinds.specs.Device.{Held, Missing, Untold, Holds, Device, HasFailed}
 use Rattle.bucket_kinds.specs.Reading.{MayGiveBytes, MayEnd}
 use Rattle.run_model.specs.declared.bucket.Content.TheVariants as content
+use Rattle.run_model.specs.Cutting.{read_limit}
 use Rattle.ring_run.specs.Delivery.{ContentAdded, HasFront, SpanAdded, given_of}
 use Rattle.ring_run.specs.declared.output.Fetched.{Fetched}
 use Rattle.ring_run.specs.declared.output.Fetched.TheVariants as fetched
@@ -31,6 +32,11 @@ give_rest (Holds text) at m n k bytes is g = (
   let all = length-drop m bytes in let long = g.0 in omega (arith, all, long, is),
   ap (drop m) (g.1 ∙ ap (λ j. take j (drop at text)) is) ∙ (drop-take m k (drop at text) ∙ ap (take k) (drop-drop m at text)),
 )
+
+-- One read is made at once, or ten.
+pub span_of : (counts : Bool) (limit : ℕ) → limit ≡ cond counts read_limit (10 * read_limit) → (k : ℕ) × (limit ≡ 8000 * k) × (0 < k)
+span_of true limit is = (1, omega (arith, is), omega arith)
+span_of false limit is = (10, omega (arith, is), omega arith)
 
 pub none_given : (f : Fetched) (bytes : List ℕ) → f ≢ fetched.All → given_of f bytes ≡ []
 none_given fetched.All bytes never = absurd (never refl)

@@ -1,6 +1,6 @@
 //! The end of the chain, where the bytes of brigades become output.
 
-ghost use Rattle.std.specs.Prelude.{◌≡◌, ◌==◌, ◌⊎◌, ◌+◌, ◌<◌, ◌≤◌, ◌^◌, ℕ, Bool, true, false, not, ◌&&◌, length, is_some, if◌then◌else◌, All, Some, IsOk, IfOk, OnOk, OnErr};
+ghost use Rattle.std.specs.Prelude.{◌≡◌, ◌==◌, ◌⊎◌, ◌+◌, ◌<◌, ◌≤◌, ◌^◌, ◌*◌, ℕ, Bool, true, false, not, ◌&&◌, length, is_some, if◌then◌else◌, All, Some, IsOk, IfOk, OnOk, OnErr};
 ghost use Rattle.bucket_kinds.specs.Device.{is_there};
 ghost use Rattle.bucket_kinds.specs.Reading.{IsOpenFor};
 ghost use Rattle.bucket_ring.specs.declared.names.BucketId.{BucketId};
@@ -9,7 +9,7 @@ ghost use Rattle.run_model.specs.Buckets.{is_eos_kind};
 ghost use Rattle.run_model.specs.BrigadeLists.{length_in};
 ghost use Rattle.run_model.specs.State.{items_of};
 ghost use Rattle.run_model.specs.Steps.{do_pass, has_bytes};
-ghost use Rattle.run_model.specs.Cutting.{EndsInFile, length_of};
+ghost use Rattle.run_model.specs.Cutting.{EndsInFile, length_of, read_limit};
 ghost use Rattle.run_model.specs.declared.bucket.Bucket.{Bucket};
 ghost use Rattle.brigade_ops.specs.Items.{named};
 ghost use Rattle.brigade_ops.specs.Store.{lists, brigade_of, bucket_at};
@@ -34,7 +34,7 @@ use std::alloc::AllocError;
 /// How many bytes a read takes from a file, at most.
 const READ_LIMIT: u64 = 8000;
 
-/// How many bytes are asked for at once: those of ten reads. So a file of 64 KiB takes one.
+/// How many bytes are asked for at once of a device that does not count its calls: those of ten reads. So a file of 64 KiB takes one.
 const SPAN_LIMIT: u64 = 80_000;
 
 /// What became of bytes that were asked for.
@@ -63,8 +63,20 @@ pub(crate) fn fetch<F: Files>(files: &mut F, file: FileNo, at: u64, buffer: &mut
     }
 }
 
-/// Adds a range to the output, up to a read that fails, and tells whether none did. Ten reads are made as one, and one by one where the
-/// file ends within them. Room is made for no more than is read next. Without memory some parts may have been added.
+/// How many bytes are asked for at once. A device that counts its calls is asked for those of each read alone, so that the read which is
+/// to fail does.
+fn span_limit<F: Files>(files: &F) -> u64
+    ensures { result ≡ (if (F.device files.now).counts then read_limit else 10 * read_limit) }
+{
+    if files.counts_calls() {
+        READ_LIMIT
+    } else {
+        SPAN_LIMIT
+    }
+}
+
+/// Adds a range to the output, up to a read that fails, and tells whether none did. Ten reads are made as one, but one by one where the
+/// device counts its calls, and where the file ends within them. Room is made for no more than is read next. Without memory some parts may have been added.
 fn add_range<F: Files>(
     out: &mut OutputBlock,
     files: &mut F,
@@ -81,7 +93,7 @@ fn add_range<F: Files>(
     ensures open_files { (F.device files.new).numbered ≡ (F.device files.old).numbered }
 {
     let mut count = 0;
-    let mut limit = SPAN_LIMIT;
+    let mut limit = span_limit(files);
     while count < len {
         let part = limit.min(len - count);
         match out.add_span(files, file, start + count, part)? {

@@ -41,8 +41,8 @@ pub(crate) struct Server {
     pub(crate) budget: u64,
     /// The moment that it is.
     pub(crate) moment: u64,
-    /// How many reads of its files go well before one fails; none: all do.
-    pub(crate) fails_at: Option<u64>,
+    /// Which of the openings and reads of its files fails, counted from 1; 0: none does.
+    pub(crate) fails_at: u64,
 }
 
 /// The chain of one module, which is accepted.
@@ -57,14 +57,14 @@ pub(crate) fn chain(alloc: Global, text: &[u8]) -> Result<CheckedChain> {
     }
 }
 
-/// A short file, an empty one and a long one.
-fn files(alloc: Global, fails_at: Option<u64>) -> Result<MemFiles> {
+/// Two short files, an empty one, one of three reads and a long one.
+fn files(alloc: Global, fails_at: u64) -> Result<MemFiles> {
     let mut files = MemFiles::new(alloc);
-    if let Some(reads) = fails_at {
-        files.fail_at(reads);
-    }
+    files.fail_at(fails_at);
     files.add(b"a", b"hi".to_vec(alloc)?)?;
+    files.add(b"b", b"ab".to_vec(alloc)?)?;
     files.add(b"e", Vec::new(alloc))?;
+    files.add(b"s", vec![in alloc; b'x'; 16_001]?)?;
     files.add(b"l", vec![in alloc; b'x'; 65_537]?)?;
     Ok(files)
 }

@@ -10,7 +10,7 @@ pub(crate) const PLAIN: Server = Server {
     module: IDENTITY,
     budget: BUDGET,
     moment: MOMENT,
-    fails_at: None,
+    fails_at: 0,
 };
 
 /// Each of its connections breaks at its second instruction.
@@ -18,7 +18,7 @@ const SHORT: Server = Server {
     module: IDENTITY,
     budget: 1,
     moment: MOMENT,
-    fails_at: None,
+    fails_at: 0,
 };
 
 /// Its filter answers that it failed.
@@ -26,15 +26,31 @@ const FAILS: Server = Server {
     module: FAILING,
     budget: BUDGET,
     moment: MOMENT,
-    fails_at: None,
+    fails_at: 0,
 };
 
-/// The first read of its files fails.
-const BROKEN: Server = Server {
+/// The first call on its files fails, which is an opening.
+const UNOPENED: Server = Server {
     module: IDENTITY,
     budget: BUDGET,
     moment: MOMENT,
-    fails_at: Some(0),
+    fails_at: 1,
+};
+
+/// The second fails, which is a read for the output.
+const UNREAD: Server = Server {
+    module: IDENTITY,
+    budget: BUDGET,
+    moment: MOMENT,
+    fails_at: 2,
+};
+
+/// The third fails, which a short file does not need.
+const READ: Server = Server {
+    module: IDENTITY,
+    budget: BUDGET,
+    moment: MOMENT,
+    fails_at: 3,
 };
 
 /// Its filter passes on bytes of its own.
@@ -42,7 +58,7 @@ const OWN_BYTES: Server = Server {
     module: POOL_BYTES,
     budget: BUDGET,
     moment: MOMENT,
-    fails_at: None,
+    fails_at: 0,
 };
 
 /// The last second of the year 9999.
@@ -50,7 +66,7 @@ const LAST: Server = Server {
     module: IDENTITY,
     budget: BUDGET,
     moment: 253_402_300_799,
-    fails_at: None,
+    fails_at: 0,
 };
 
 /// The next.
@@ -58,7 +74,7 @@ const LATER: Server = Server {
     module: IDENTITY,
     budget: BUDGET,
     moment: 253_402_300_800,
-    fails_at: None,
+    fails_at: 0,
 };
 
 /// The request of most rows.
@@ -179,7 +195,9 @@ const ROWS: &[(Server, &str, Stream)] = &[
     // A connection that breaks, a filter that fails, and a device that does.
     (SHORT, "a budget of one instruction", Stream::Text(GET)),
     (FAILS, "a filter that fails", Stream::Text(GET)),
-    (BROKEN, "a device whose first read fails", Stream::Text(GET)),
+    (UNOPENED, "a device that fails at the opening", Stream::Text(GET)),
+    (UNREAD, "a device that fails at the read", Stream::Text(GET)),
+    (READ, "a device that fails behind it", Stream::Text(GET)),
     // The content is what the chain makes of the file.
     (
         OWN_BYTES,

@@ -28,7 +28,7 @@ pub(crate) fn reads_of_a_disk(rt: &HostRuntime) -> Result<()> {
 }
 
 /// Tells why a name is that of no file.
-fn show_unopened<F: Files>(rt: &HostRuntime, files: &mut F, name: &[u8]) -> Result<()> {
+pub(crate) fn show_unopened<F: Files>(rt: &HostRuntime, files: &mut F, name: &[u8]) -> Result<()> {
     match files.open_file(name) {
         Ok(_) => println!(rt; "opened")?,
         Err(why) => println!(rt; "{why}, {} failures", files.failures())?,

@@ -34,6 +34,7 @@ fn main(rt: HostRuntime) -> Result<()> {
     saves::clears_under_a_brigade(&rt)?;
     rows::show_rows(&rt, rows::READS)?;
     reads::reads_that_fail(&rt)?;
+    reads::openings_that_fail(&rt)?;
     disk::reads_of_a_disk(&rt)?;
     disk::failures_of_a_disk(&rt)?;
     certs::show_rows(&rt)

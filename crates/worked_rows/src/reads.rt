@@ -6,6 +6,7 @@ ghost use Rattle.bucket_kinds.specs.Device.{is_there};
 ghost use Rattle.bucket_kinds.specs.Reading.{IsOpenFor};
 
 use crate::buckets::{in_memory, range, show_parts, show_refused};
+use crate::disk::show_unopened;
 use anyhow::Result;
 use bucket_kinds::{Bucket, FileNo, Files, Home, Kind, MemFiles, read_bucket};
 use std::alloc::Global;
@@ -65,10 +66,27 @@ pub(crate) fn show_opened<F: Files>(rt: &HostRuntime, files: &mut F, name: &[u8]
 pub(crate) fn reads_that_fail(rt: &HostRuntime) -> Result<()> {
     println!(rt; "the second read fails")?;
     let mut files = files_of(rt.alloc(), 10)?;
-    files.fail_at(1);
+    // Each file that is read is opened before.
+    files.fail_at(4);
     for _ in 0..3 {
         show_opened(rt, &mut files, b"f")?;
     }
+    println!(rt; "{} failures", files.failures())?;
+    Ok(())
+}
+
+/// The first of two openings fails and is counted, though there is no file of that name. Of no number none fails.
+pub(crate) fn openings_that_fail(rt: &HostRuntime) -> Result<()> {
+    println!(rt; "the first opening fails")?;
+    let mut files = files_of(rt.alloc(), 10)?;
+    files.fail_at(1);
+    for _ in 0..2 {
+        show_unopened(rt, &mut files, b"g")?;
+    }
+    println!(rt; "none fails any more")?;
+    files.fail_at(1);
+    files.fail_at(0);
+    show_opened(rt, &mut files, b"f")?;
     println!(rt; "{} failures", files.failures())?;
     Ok(())
 }

@@ -4,7 +4,7 @@ use Rattle.std.proofs.Math.Seq.{drop-length}
 use Rattle.std.proofs.lemmas.List.{take_all}
 use Rattle.ring_run.proofs.Buffers.{both_parts}
 use Rattle.ring_run.proofs.Delivering.{range_none, range_done}
-use Rattle.ring_run.proofs.Spans.{span_all, span_ended, span_lacks}
+use Rattle.ring_run.proofs.Spans.{span_of, span_all, span_ended, span_lacks}
 use Rattle.ring_run.proofs.output.add_range.Goals as goal
 
 pub loop-count-init : goal.loop-count-init
@@ -15,7 +15,7 @@ loop-count-init g c =
       front = take_all (length old) old (omega arith);
       device = refl;
       read = range_none (g.F.Files.device c.args.files.now) c.args.file c.args.start c.args.len (drop (length old) old) (drop-length old);
-      span = (10, omega arith, omega arith);
+      span = span_of (g.F.Files.device c.args.files.now).counts c.span_limit-limit.result c.span_limit-limit.ensures;
     }
 
 pub loop-count-preserved-in-All-1 : goal.loop-count-preserved-in-All-1

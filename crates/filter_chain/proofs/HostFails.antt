@@ -1,0 +1,22 @@
+-- A host of which a call of its files is set to fail.
+use Rattle.std.proofs.Common.{◌≡◌, ℕ, Bool, ap}
+use Rattle.run_model.specs.Files.{Files}
+use Rattle.run_model.specs.Worlds.{World}
+use Rattle.bucket_kinds.specs.Device.{Device}
+use Rattle.bucket_kinds.specs.MemAnswers.{failing_at}
+use Rattle.bucket_kinds.specs.MemDevice.{held_of, device_of}
+use Rattle.bucket_kinds.specs.declared.mem_files.MemFiles.{MemFiles}
+use Rattle.filter_chain.specs.Hosted.{conn_at}
+use Rattle.filter_chain.specs.Hosting.{IsHosting, chain_of, budget_of}
+use Rattle.filter_chain.specs.declared.host.Host.{Host}
+use Rattle.filter_chain.proofs.HostAdds.{renamed_holds}
+
+module _ (old : Host MemFiles) (files : MemFiles) (w : World) where
+  still_hosts : (d e : Device) → IsHosting d old w → e.numbered ≡ d.numbered → e.next ≡ d.next → IsHosting e (record old { files = files }) w
+  unfolding IsHosting chain_of budget_of
+  still_hosts d e hosts numbered same = renamed_holds (budget_of old) (chain_of old) d e old.tree old.store old.last (conn_at old.conns) w hosts numbered same
+
+  -- It stands for the same world.
+  pub hosts_failing : (call : ℕ) (fs gs : Files) (m n : ℕ) (b c : Bool) → gs ≡ failing_at call fs → IsHosting (device_of fs m b) old w → IsHosting (device_of gs n c) (record old { files = files }) w
+  hosts_failing call fs gs m n b c is hosts =
+      still_hosts (device_of fs m b) (device_of gs n c) hosts (ap (λ (x : Files) k. held_of (x.opened k)) is) (ap (λ (x : Files). x.next) is)
