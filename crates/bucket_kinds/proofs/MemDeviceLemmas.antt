@@ -81,9 +81,11 @@ failed_counted fs failures b fails = ap (with_counts (device_of fs (one_more fai
 -- A call that fails is counted, and one that goes on well leaves the device.
 pub failed_device : (fs gs : Files) (old new : ℕ) (b c : Bool) → gs ≡ read_done fs → new ≡ failures_after fs old → c ≡ b → fails_now fs.fails_in ≡ true → b ≡ true
     → HasFailed (device_of fs old b) (device_of gs new c)
-failed_device fs gs old new b c after counted kept fails may =
-    (may, ap (λ x. device_of x new c) after ∙ (ap (device_of (read_done fs) new) kept ∙ (ap (λ n. device_of (read_done fs) n b) (counted ∙ ap (λ f. counted_if f old) fails)
-    ∙ failed_counted fs old b fails)))
+failed_device fs gs old new b c after counted kept fails may = (
+  may,
+  ap (λ x. device_of x new c) after ∙ (ap (device_of (read_done fs) new) kept ∙ (ap (λ n. device_of (read_done fs) n b) (counted ∙ ap (λ f. counted_if f old) fails)
+      ∙ failed_counted fs old b fails)),
+)
 
 pub well_device : (fs gs : Files) (old new : ℕ) (b c : Bool) → gs ≡ read_done fs → new ≡ failures_after fs old → c ≡ b → fails_now fs.fails_in ≡ false
     → device_of gs new c ≡ device_of fs old b

@@ -52,11 +52,11 @@ pigeons zero [] once within = omega arith
 pigeons zero (k ∷ ks) once within = absurd (omega (arith, within k (omega (arith, count_here k ks))))
 pigeons (suc n) ks once within =
     let fewer : length (less n ks) ≤ n = pigeons n (less n ks) (λ j. omega (arith, once j, less_count j n ks)) (λ j some.
-      let below : j < suc n = within j (omega (arith, some, less_count j n ks)) in
-      elim (cases_eq j n) [
-        | inl e ↦ absurd (omega (arith, some, ap (λ i. count i (less n ks)) e, less_none n ks))
-        | inr ne ↦ omega (arith, below, ne)
-      ]) in
+    let below : j < suc n = within j (omega (arith, some, less_count j n ks)) in
+    elim (cases_eq j n) [
+      | inl e ↦ absurd (omega (arith, some, ap (λ i. count i (less n ks)) e, less_none n ks))
+      | inr ne ↦ omega (arith, below, ne)
+    ]) in
     omega (arith, fewer, less_length n ks, once n)
 
 pub walk_length : (f : ℕ → ℕ) (t n : ℕ) → length (walk f t n) ≡ n

@@ -151,11 +151,10 @@ module _ {T : Type 0} where
       core : IsListed (at b) free spare b.len → is_some (used (at b k)) ≡ true → IsListed (at t) free spare t.len × ((n : Node T) → used (at b k) ≡ Some n → (j : ℕ) → used (at t j) ≡ upd (λ i. used (at b i)) k (Some (f n)) j)
       core l some =
           let u = used_is (at b k) some in
-          let step : (j : ℕ) → at t j ≡ upd (at b) k (Some (f u.0)) j = new u.0 u.1 in
-          (
+          let step : (j : ℕ) → at t j ≡ upd (at b) k (Some (f u.0)) j = new u.0 u.1 in (
             subst (λ i. IsListed (at t) free spare i) (sym len) (kept (at b) (at t) k b.len (f u.0) step free spare l (ap is_some u.1) (ap once_free u.1 ∙ u.2) (stays u.0 u.2)),
             λ n is j. let it : u.0 ≡ n = same_Some u.0 n (sym (used_some u.0 u.2) ∙ ap used (sym u.1) ∙ is) in
-              used_new (at b) (at t) k (Some (f u.0)) step j ∙ ap (λ w. upd (λ i. used (at b i)) k w j) (used_some (f u.0) (stays u.0 u.2) ∙ ap (λ m. Some (f m)) it),
+                used_new (at b) (at t) k (Some (f u.0)) step j ∙ ap (λ w. upd (λ i. used (at b i)) k w j) (used_some (f u.0) (stays u.0 u.2) ∙ ap (λ m. Some (f m)) it),
           )
 
   -- the first free node is there, and free
@@ -173,7 +172,7 @@ module _ {T : Type 0} where
   taken_in o b t free spare n m is l some was new len load =
       subst (λ (o : Option (Block (Node T))). IsListed (place o) free spare (size o) → IsListed (at t) n.behind (spare - 1) t.len) (sym is)
       (λ l. subst (λ i. IsListed (at t) n.behind (spare - 1) i) (sym len) (subst (λ (w : Option (Node T)). IsListed (at t) (option_map_or (λ (x : Node T). x.behind) w free) (spare - 1) b.len) was
-        (taken (at b) (at t) free b.len m new spare (spare - 1) l (omega (arith, some)) (ap is_some was) load))) l
+      (taken (at b) (at t) free b.len m new spare (spare - 1) l (omega (arith, some)) (ap is_some was) load))) l
 
   -- a node of a block is freed
   pub freed_in : (o : Option (Block (Node T))) (b t : Block (Node T)) (k free spare : ℕ) (m : Node T) → o ≡ Some b → IsListed (place o) free spare (size o) → is_some (used (place o k)) ≡ true → ((j : ℕ) → at t j ≡ upd (at b) k (Some m) j) → t.len ≡ b.len → free_load m.load ≡ 1 → m.behind ≡ free
@@ -182,7 +181,7 @@ module _ {T : Type 0} where
   freed_in o b t k free spare m is l some new len load links =
       subst (λ (o : Option (Block (Node T))). IsListed (place o) free spare (size o) → is_some (used (place o k)) ≡ true → IsListed (at t) k (spare + 1) t.len) (sym is)
       (λ l some. let u = used_is (at b k) some in
-        subst (λ i. IsListed (at t) k (spare + 1) i) (sym len) (freed (at b) (at t) k b.len m new free spare b.len l (ap once_free u.1 ∙ u.2) load links (l.within k (ap is_some u.1)) (omega arith) (λ j lt ne. lt))) l some
+      subst (λ i. IsListed (at t) k (spare + 1) i) (sym len) (freed (at b) (at t) k b.len m new free spare b.len l (ap once_free u.1 ∙ u.2) load links (l.within k (ap is_some u.1)) (omega arith) (λ j lt ne. lt))) l some
 
   pub listed_as : (p q : ℕ → Option (Node T)) (free spare len : ℕ) → ((k : ℕ) → q k ≡ p k) → IsListed p free spare len → IsListed q free spare len
   listed_as p q free spare len e l = record {

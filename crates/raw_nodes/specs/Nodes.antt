@@ -7,4 +7,3 @@ use Rattle.raw_nodes.specs.Free.{place, used}
 -- the node in a place, where it is not free
 unfoldable pub node_at : {T : Type 0} → Nodes T → ℕ → Option (Node T)
 node_at s k = used (place s.block k)
-

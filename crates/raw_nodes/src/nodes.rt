@@ -237,12 +237,7 @@ fn move_all<T>(old: Option<Block<Node<T>>>, larger: &mut Block<Node<T>>)
 
 /// Puts free nodes into all places from one on, and answers the first of all free ones.
 #[tactic(auto, unfolding(raw_block::specs::Maps::upd))]
-fn list_free<T: Drop>(
-    block: &mut Block<Node<T>>,
-    from: usize,
-    free: usize,
-    spare: usize,
-) -> usize
+fn list_free<T: Drop>(block: &mut Block<Node<T>>, from: usize, free: usize, spare: usize) -> usize
     requires listed { IsListed (at block.old) free spare from }
     requires within { from ≤ block.old.len }
     ensures listed { IsListed (at block.new) result (spare + (block.new.len - from)) block.new.len }

@@ -195,7 +195,11 @@ const ROWS: &[(Server, &str, Stream)] = &[
     // A connection that breaks, a filter that fails, and a device that does.
     (SHORT, "a budget of one instruction", Stream::Text(GET)),
     (FAILS, "a filter that fails", Stream::Text(GET)),
-    (UNOPENED, "a device that fails at the opening", Stream::Text(GET)),
+    (
+        UNOPENED,
+        "a device that fails at the opening",
+        Stream::Text(GET),
+    ),
     (UNREAD, "a device that fails at the read", Stream::Text(GET)),
     (READ, "a device that fails behind it", Stream::Text(GET)),
     // The content is what the chain makes of the file.
