@@ -18,3 +18,4 @@ pub mod PassLaws
 pub mod SliceSteps
 pub mod SliceLaws
 pub mod BeginLaws
+pub mod TurnLaws

@@ -54,7 +54,8 @@ GoesByOthers budget chain number (x ∷ xs) old new =
 unfoldable pub NoEventsOf : {F : Type 0} → (F → Device) → Host F → ℕ → Host F → Type 0
 NoEventsOf device old number new = Refines device old new (λ b c s t. (events : List (ℕ × Event × Answer)) × GoesByOthers b c number events s t)
 
--- Events of this connection happened, and then one of a request was refused, for want of this. Or memory was lacking for the pieces of a brigade.
+-- Events of this connection happened, and then one of a request was refused, for want of this. Or memory was lacking for the pieces of a brigade, or for
+-- the name of a file that is opened later.
 pub record Lacks (budget : ℕ) (chain : List Program) (number : ℕ) (e : FrontKind) (old new : HostView) : Type 0 where
   pub events : List (Event × Answer)
   pub mid : HostView

@@ -54,6 +54,9 @@ pub trait Handler {
     // In the first state a request for this file was left without an outcome, for want of this, and the second state is left.
     ghost lacks: { Self → ℕ → Method → List ℕ → FrontKind → Self → Type 0 };
 
+    // In the first state what was left of a request was left without an outcome, for want of this, and the second state is left.
+    ghost lacks_rest: { Self → ℕ → Self.Task → FrontKind → Self → Type 0 };
+
     // Nothing happened from the first state to the second but what belongs to other connections than that of this number.
     ghost apart: { Self → ℕ → Self → Type 0 };
 
@@ -86,7 +89,7 @@ pub trait Handler {
         ensures ok { IfOk result (λ s. Nears (among self.old number method file.now) (rests self.new number) self.new s) }
         ensures open { is_open self.new number }
         ensures beside { (from : Self) → beside from number self.old → beside from number self.new }
-        ensures err { IfErr result IsLack };
+        ensures err { IfErr result (λ e. IsLack e × lacks self.old number method file.now e self.new) };
 
     /// Makes a slice more of a request that is under way. `NoMemory` and `NamesSpent` leave it without an outcome.
     fn go_on(
@@ -99,7 +102,7 @@ pub trait Handler {
         ensures ok { IfOk result (λ s. Nears (rests self.old number task) (rests self.new number) self.new s) }
         ensures open { is_open self.new number }
         ensures beside { (from : Self) → beside from number self.old → beside from number self.new }
-        ensures err { IfErr result IsLack };
+        ensures err { IfErr result (λ e. IsLack e × lacks_rest self.old number task e self.new) };
 
     /// Gives back the content of an outcome, which has gone out, so that its room is used again. It changes nothing.
     fn give_back(&mut self, body: Seq<u8>)

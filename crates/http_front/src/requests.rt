@@ -240,6 +240,8 @@ impl<F: Files + Drop> Handler for Host<F> {
 
     ghost lacks = { λ old number method file e new. LacksFor F.device old number e new };
 
+    ghost lacks_rest = { λ old number task e new. LacksFor F.device old number e new };
+
     ghost handles = { λ old number method file o new. Handles F.device old number method file o new };
 
     ghost among = { λ old number method file o new. HandlesAmong F.device old number method file o new };

@@ -4,7 +4,7 @@ ghost use Rattle.std.specs.Prelude.{◌≡◌, ◌↔◌, ◌∷◌, ℕ, List, 
 ghost use Rattle.module_code.specs.Program.{Program};
 ghost use Rattle.filter_chain.specs.HostViews.{HostView};
 ghost use Rattle.http_front.specs.Outcomes.{IsLack};
-ghost use Rattle.http_front.specs.Driven.{IsAlive, OnlyEventsOf, Refines};
+ghost use Rattle.http_front.specs.Driven.{IsAlive, LacksFor, OnlyEventsOf, Refines};
 ghost use Rattle.http_front.specs.Requests.{brigades_for};
 ghost use Rattle.http_front.specs.Among.{CarriesLater, ComesLater, EndsBareLater, FinishesLater, IsOpening, InitsLater, OpensLater, OpensUnlessLater, Rests, RestsBehind, RunsSlice, Slices, brigades_left};
 
@@ -85,6 +85,7 @@ fn finish_slice<F: Files + Drop>(
     ensures leads { Refines F.device host.old host.new (λ (b : ℕ) (c : List Program) (s t : HostView). IfOk result (λ r. Slices b c number (FinishesLater b c number how) s r t)) }
     ensures beside { (from : Host F) → OnlyEventsOf F.device from number host.old → OnlyEventsOf F.device from number host.new }
     ensures err { IfErr result IsLack }
+    ensures lacks { (from : Host F) → OnlyEventsOf F.device from number host.old → IfErr result (λ e. LacksFor F.device from number e host.new) }
 {
     Ok(Slice::Done(finish(alloc, host, number, how)?))
 }
@@ -100,6 +101,7 @@ fn bare_slice<F: Files + Drop>(
     ensures leads { Refines F.device host.old host.new (λ (b : ℕ) (c : List Program) (s t : HostView). IfOk result (λ r. Slices b c number (EndsBareLater b c number failure) s r t)) }
     ensures beside { (from : Host F) → OnlyEventsOf F.device from number host.old → OnlyEventsOf F.device from number host.new }
     ensures err { IfErr result IsLack }
+    ensures lacks { (from : Host F) → OnlyEventsOf F.device from number host.old → IfErr result (λ e. LacksFor F.device from number e host.new) }
 {
     Ok(Slice::Done(finish_bare(alloc, host, number, failure)?))
 }
@@ -115,6 +117,7 @@ fn bring_next<F: Files + Drop>(
     ensures leads { Refines F.device host.old host.new (λ (b : ℕ) (c : List Program) (s t : HostView). IfOk result (λ r. Slices b c number (CarriesLater b c number CallEnd.Succeeded (brigades_left (Some rest))) s r t)) }
     ensures beside { (from : Host F) → OnlyEventsOf F.device from number host.old → OnlyEventsOf F.device from number host.new }
     ensures err { IfErr result IsLack }
+    ensures lacks { (from : Host F) → OnlyEventsOf F.device from number host.old → IfErr result (λ e. LacksFor F.device from number e host.new) }
 {
     let (pieces, left) = next_brigade(alloc, rest)?;
     match host.bring(number, pieces) {
@@ -139,6 +142,7 @@ fn carry_on<F: Files + Drop>(
     ensures leads { Refines F.device host.old host.new (λ (b : ℕ) (c : List Program) (s t : HostView). IfOk result (λ r. Slices b c number (CarriesLater b c number how (brigades_left rest)) s r t)) }
     ensures beside { (from : Host F) → OnlyEventsOf F.device from number host.old → OnlyEventsOf F.device from number host.new }
     ensures err { IfErr result IsLack }
+    ensures lacks { (from : Host F) → OnlyEventsOf F.device from number host.old → IfErr result (λ e. LacksFor F.device from number e host.new) }
 {
     if !succeeded(how) {
         return finish_slice(alloc, host, number, how);
@@ -162,6 +166,7 @@ fn open_slice<F: Files + Drop>(
     ensures leads { Refines F.device host.old host.new (λ (b : ℕ) (c : List Program) (s t : HostView). IfOk result (λ r. Slices b c number (OpensLater b c number init method name.now) s r t)) }
     ensures beside { (from : Host F) → OnlyEventsOf F.device from number host.old → OnlyEventsOf F.device from number host.new }
     ensures err { IfErr result IsLack }
+    ensures lacks { (from : Host F) → OnlyEventsOf F.device from number host.old → IfErr result (λ e. LacksFor F.device from number e host.new) }
 {
     match host.open_file(number, name) {
         Ok(file) => carry_on(alloc, host, number, init, wanted(method, file)),
@@ -185,6 +190,7 @@ fn open_unless<F: Files + Drop>(
     ensures leads { Refines F.device host.old host.new (λ (b : ℕ) (c : List Program) (s t : HostView). IfOk result (λ r. Slices b c number (OpensUnlessLater b c number init method name.now) s r t)) }
     ensures beside { (from : Host F) → OnlyEventsOf F.device from number host.old → OnlyEventsOf F.device from number host.new }
     ensures err { IfErr result IsLack }
+    ensures lacks { (from : Host F) → OnlyEventsOf F.device from number host.old → IfErr result (λ e. LacksFor F.device from number e host.new) }
 {
     match init {
         CallEnd::Broke(why) => Ok(Slice::Done(bare(alloc, Some(why)))),
@@ -214,6 +220,7 @@ fn init_slice<F: Files + Drop>(
     ensures leads { Refines F.device host.old host.new (λ (b : ℕ) (c : List Program) (s t : HostView). IfOk result (λ r. Slices b c number (InitsLater b c number method name.now) s r t)) }
     ensures beside { (from : Host F) → OnlyEventsOf F.device from number host.old → OnlyEventsOf F.device from number host.new }
     ensures err { IfErr result IsLack }
+    ensures lacks { (from : Host F) → OnlyEventsOf F.device from number host.old → IfErr result (λ e. LacksFor F.device from number e host.new) }
 {
     match step_slice(host, number) {
         Some(init) => open_unless(alloc, host, number, init, method, name),
@@ -233,6 +240,7 @@ fn begin_init<F: Files + Drop>(
     ensures leads { Refines F.device host.old host.new (λ (b : ℕ) (c : List Program) (s t : HostView). IfOk result (λ r. Slices b c number (ComesLater b c number method name.now) s r t)) }
     ensures beside { (from : Host F) → OnlyEventsOf F.device from number host.old → OnlyEventsOf F.device from number host.new }
     ensures err { IfErr result IsLack }
+    ensures lacks { (from : Host F) → OnlyEventsOf F.device from number host.old → IfErr result (λ e. LacksFor F.device from number e host.new) }
 {
     match host.begin(number) {
         Ok(()) => init_slice(alloc, host, number, method, name),
@@ -255,6 +263,7 @@ fn end_call<F: Files + Drop>(
     ensures leads { Refines F.device host.old host.new (λ (b : ℕ) (c : List Program) (s t : HostView). IfOk result (λ r. Slices b c number (RestsBehind b c number task how) s r t)) }
     ensures beside { (from : Host F) → OnlyEventsOf F.device from number host.old → OnlyEventsOf F.device from number host.new }
     ensures err { IfErr result IsLack }
+    ensures lacks { (from : Host F) → OnlyEventsOf F.device from number host.old → IfErr result (λ e. LacksFor F.device from number e host.new) }
 {
     match task {
         RequestTask::Opens { method, name } => {
@@ -275,6 +284,7 @@ pub(crate) fn go_on_request<F: Files + Drop>(
     ensures leads { Refines F.device host.old host.new (λ (b : ℕ) (c : List Program) (s t : HostView). IfOk result (λ r. Slices b c number (Rests b c number task) s r t)) }
     ensures beside { (from : Host F) → OnlyEventsOf F.device from number host.old → OnlyEventsOf F.device from number host.new }
     ensures err { IfErr result IsLack }
+    ensures lacks { (from : Host F) → OnlyEventsOf F.device from number host.old → IfErr result (λ e. LacksFor F.device from number e host.new) }
 {
     match step_slice(host, number) {
         None => Ok(Slice::Works(task)),
@@ -294,6 +304,7 @@ pub(crate) fn begin_request<F: Files + Drop>(
     ensures leads { Refines F.device host.old host.new (λ (b : ℕ) (c : List Program) (s t : HostView). IfOk result (λ r. Slices b c number (ComesLater b c number method name.now) s r t)) }
     ensures beside { (from : Host F) → OnlyEventsOf F.device from number host.old → OnlyEventsOf F.device from number host.new }
     ensures err { IfErr result IsLack }
+    ensures lacks { (from : Host F) → OnlyEventsOf F.device from number host.old → IfErr result (λ e. LacksFor F.device from number e host.new) }
 {
     let slice = begin_init(alloc, host, number, method, name)?;
     match slice {
