@@ -158,7 +158,7 @@ impl<T: Drop> HttpConn<T> {
         ensures over { self.new.over ≡ self.old.over }
         ensures hand { self.new.hand ≡ self.old.hand }
         ensures whole { self.new.whole ≡ true → (self.old.whole ≡ true) ⊎ IsAtEnd (R.remaining reader.new) }
-        ensures lost { IfErr result (Loses (length buffer.old) (R.remaining reader.old) (R.remaining reader.new)) }
+        ensures lost { IfErr result (λ e. Loses (length buffer.new) (R.remaining reader.old) (R.remaining reader.new) e) }
         ensures source { BlamesSource result (R.failed reader.old) (R.failed reader.new) self.new.reads }
         ensures unwritten { result ≢ Err FrontKind.Write }
     {
@@ -328,7 +328,7 @@ impl<T: Drop> HttpConn<T> {
             → Stands site.now (λ old. H.among old k) (λ old. H.rests old k) K.tells (λ old new. H.apart old k new) start first came went other handler.old clock.old
             → Stands site.now (λ old. H.among old k) (λ old. H.rests old k) K.tells (λ old new. H.apart old k new) start first came went other handler.new clock.new }
         ensures whole { self.new.whole ≡ true → (self.old.whole ≡ true) ⊎ IsAtEnd (R.remaining reader.new) }
-        ensures fails { IfErr result (Fails site.now (λ old. H.lacks old number) (λ old. H.lacks_rest old number) (length buffer.old) (R.remaining reader.old) (R.remaining reader.new) handler.old handler.new self.old) }
+        ensures fails { IfErr result (Fails site.now (λ old. H.lacks old number) (λ old. H.lacks_rest old number) (length buffer.new) (R.remaining reader.old) (R.remaining reader.new) handler.old handler.new self.old) }
         ensures none { OnErr result (pending self.old ≡ [] → pending self.new ≡ []) }
         ensures source { BlamesSource result (R.failed reader.old) (R.failed reader.new) self.new.reads }
         ensures sink { BlamesSink result (W.failed sink.old) (W.failed sink.new) }

@@ -84,7 +84,8 @@ impl ResponseText {
         ensures none { result ≡ None → ¬ (text_of self.now ≡ []) }
     {
         let opening = self.head.len().checked_add(self.body.as_slice().len())?;
-        opening.checked_add(self.tail.len())
+        let size = opening.checked_add(self.tail.len())?;
+        Some(size)
     }
 
     /// What follows a place, as far as it lies in one part.
