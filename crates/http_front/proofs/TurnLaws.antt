@@ -1,5 +1,6 @@
 -- How a turn fails.
-use Rattle.std.proofs.Common.{◌≡◌, ◌≢◌, ℕ, Bool, List, [], Option, Some, None, Result, Ok, Err, refl, sym, subst, inl, inr}
+use Rattle.std.proofs.Common.{◌≡◌, ◌≢◌, ◌∙◌, ℕ, ◌+◌, ◌<◌, ◌≤◌, Bool, List, [], ◌++◌, length, take, Option, Some, None, Result, Ok, Err, refl, sym, ap, subst, inl, inr, arith}
+use Rattle.std.proofs.lemmas.List.{length-append, length-take-le}
 use Rattle.std.specs.Prelude.{IfErr, IfOk, OnErr, ◌⊎◌}
 use Rattle.http_message.specs.Clocks.{Said}
 use Rattle.http_message.specs.Inboxes.{unread}
@@ -23,8 +24,8 @@ use Rattle.http_front.proofs.BlameLaws.{sink_apart, source_apart}
 module _ {A : Type 0} (was is : Bool) (same : is ≡ was) where
   pub sink_lack : (r : Result A FrontKind) → IfErr r IsLack → BlamesSink r was is
   sink_lack (Ok x) lack = same
-  sink_lack (Err kind.Write) (inl no) = absurd (cc)
-  sink_lack (Err kind.Write) (inr no) = absurd (cc)
+  sink_lack (Err kind.Write) (inl ill) = absurd (cc)
+  sink_lack (Err kind.Write) (inr ill) = absurd (cc)
   sink_lack (Err kind.Read) lack = same
   sink_lack (Err kind.TooManyReads) lack = same
   sink_lack (Err kind.NoMemory) lack = same
@@ -32,10 +33,10 @@ module _ {A : Type 0} (was is : Bool) (same : is ≡ was) where
 
   pub source_lack : (left : ℕ) (r : Result A FrontKind) → IfErr r IsLack → BlamesSource r was is left
   source_lack left (Ok x) lack = same
-  source_lack left (Err kind.Read) (inl no) = absurd (cc)
-  source_lack left (Err kind.Read) (inr no) = absurd (cc)
-  source_lack left (Err kind.TooManyReads) (inl no) = absurd (cc)
-  source_lack left (Err kind.TooManyReads) (inr no) = absurd (cc)
+  source_lack left (Err kind.Read) (inl ill) = absurd (cc)
+  source_lack left (Err kind.Read) (inr ill) = absurd (cc)
+  source_lack left (Err kind.TooManyReads) (inl ill) = absurd (cc)
+  source_lack left (Err kind.TooManyReads) (inr ill) = absurd (cc)
   source_lack left (Err kind.Write) lack = same
   source_lack left (Err kind.NoMemory) lack = same
   source_lack left (Err kind.NamesSpent) lack = same
@@ -43,10 +44,10 @@ module _ {A : Type 0} (was is : Bool) (same : is ≡ was) where
   -- of a write
   pub source_wrote : (left : ℕ) (r : Result A FrontKind) → IfErr r IsSinkKind → BlamesSource r was is left
   source_wrote left (Ok x) kinds = same
-  source_wrote left (Err kind.Read) (inl no) = absurd (cc)
-  source_wrote left (Err kind.Read) (inr no) = absurd (cc)
-  source_wrote left (Err kind.TooManyReads) (inl no) = absurd (cc)
-  source_wrote left (Err kind.TooManyReads) (inr no) = absurd (cc)
+  source_wrote left (Err kind.Read) (inl ill) = absurd (cc)
+  source_wrote left (Err kind.Read) (inr ill) = absurd (cc)
+  source_wrote left (Err kind.TooManyReads) (inl ill) = absurd (cc)
+  source_wrote left (Err kind.TooManyReads) (inr ill) = absurd (cc)
   source_wrote left (Err kind.Write) kinds = same
   source_wrote left (Err kind.NoMemory) kinds = same
   source_wrote left (Err kind.NamesSpent) kinds = same
@@ -67,8 +68,8 @@ module _ {A E : Type 0} where
   on_err (Err e) P p = p
 
   pub on_err_as : (r : Result A E) (P Q : Type 0) → (P → Q) → OnErr r P → OnErr r Q
-  on_err_as (Ok x) P Q as h = tt
-  on_err_as (Err e) P Q as h = as h
+  on_err_as (Ok x) P Q into h = tt
+  on_err_as (Err e) P Q into h = into h
 
 -- a result that is there
 pub ok_at : {A E : Type 0} (P : A → Type 0) (r : Result A E) (x : A) → r ≡ Ok x → IfOk r P → P x
@@ -93,12 +94,12 @@ module _ {H T : Type 0} (site : Site) (lacks : H → Method → List ℕ → Fro
     by : (e : FrontKind) → IsLack e → (e ≡ kind.NamesSpent → lacks_rest old u.task e new) → LacksSlice site lacks lacks_rest (Some u) old seen whole new e
     by kind.NoMemory lack names = tt
     by kind.NamesSpent lack names = names refl
-    by kind.Read (inl no) names = absurd (cc)
-    by kind.Read (inr no) names = absurd (cc)
-    by kind.Write (inl no) names = absurd (cc)
-    by kind.Write (inr no) names = absurd (cc)
-    by kind.TooManyReads (inl no) names = absurd (cc)
-    by kind.TooManyReads (inr no) names = absurd (cc)
+    by kind.Read (inl ill) names = absurd (cc)
+    by kind.Read (inr ill) names = absurd (cc)
+    by kind.Write (inl ill) names = absurd (cc)
+    by kind.Write (inr ill) names = absurd (cc)
+    by kind.TooManyReads (inl ill) names = absurd (cc)
+    by kind.TooManyReads (inr ill) names = absurd (cc)
 
   -- a text is made only where an answer is wanted
   module _ {K : Type 0} (among : H → Method → List ℕ → RequestOutcome → H → Type 0) (rests : H → T → RequestOutcome → H → Type 0) (tells : K → Said → K → Type 0) (before after : K) (text : List ℕ) (some : ¬ (text ≡ [])) where
@@ -128,3 +129,23 @@ pub lack_as : {H T : Type 0} (site : Site) (lacks : H → Method → List ℕ �
     → took ≡ hand → low ≡ seen → LacksSlice site lacks lacks_rest took old low whole new e → LacksSlice site lacks lacks_rest hand old seen whole new e
 lack_as site lacks lacks_rest old new took hand low seen whole e taken same h =
     subst (λ (l : List ℕ). LacksSlice site lacks lacks_rest hand old l whole new e) same (subst (λ o. LacksSlice site lacks lacks_rest o old low whole new e) taken h)
+
+-- What a read gives is something, and no more than fits.
+pub read_some : (n : ℕ) (xs : List ℕ) → 0 < n → n ≤ length xs → take n xs ≡ [] → ⊥
+read_some n xs some within none =
+    let all = length-take-le n xs within in
+    let empty = ap (λ (l : List ℕ). length l) none in
+    omega (arith, all, empty, some)
+
+pub read_short : (n : ℕ) (xs : List ℕ) → n ≤ length xs → length (take n xs) ≤ length xs
+read_short n xs within =
+    let all = length-take-le n xs within in
+    omega (arith, all, within)
+
+-- the lengths of three parts that are nothing together
+pub lengths_of_none : (a b c : List ℕ) → a ++ b ++ c ≡ [] → length a + length b + length c ≡ 0
+lengths_of_none a b c none =
+    let whole = length-append (a ++ b) c in
+    let rest = length-append a b in
+    let empty : length (a ++ b ++ c) ≡ 0 = ap (λ (l : List ℕ). length l) none in
+    omega (arith, whole, rest, empty)

@@ -26,9 +26,9 @@ returns-in_ok-unless_lack-in-Err-clause-beside g c from so = c.finish_slice.ensu
 
 pub returns-in_err-unless_lack-in-Err-clause-lacks : goal.returns-in_err-unless_lack-in-Err-clause-lacks
 returns-in_err-unless_lack-in-Err-clause-lacks g c from so =
-    let p = err_from_is_err_and c.from_residual-2.result c.from_residual-2.ensures.1 in
+    let p = err_from_is_err_and c.from_residual-in_err-unless_lack-in-Err.result c.from_residual-in_err-unless_lack-in-Err.ensures.1 in
     let e = c.in_err-unless_lack-in-Err.field-0.0 in
-    err_by _ c.from_residual-2.result p.0 e p.1 p.2 (beside_lacks g.F.Files.device c.args.number from c.args.host.now c.bring.new.self so _ c.in-Err.refusal e tt c.in_err-unless_lack-in-Err.ensures.lack c.in-Err.ensures.event)
+    err_by _ c.from_residual-in_err-unless_lack-in-Err.result p.0 e p.1 p.2 (beside_lacks g.F.Files.device c.args.number from c.args.host.now c.bring.new.self so _ c.in-Err.refusal e tt c.in_err-unless_lack-in-Err.ensures.lack c.in-Err.ensures.event)
 
 pub returns-in_ok-unless_lack-in-Err-clause-lacks : goal.returns-in_ok-unless_lack-in-Err-clause-lacks
 returns-in_ok-unless_lack-in-Err-clause-lacks g c from so = c.finish_slice.ensures.lacks from (beside_event g.F.Files.device c.args.number from c.args.host.now c.bring.new.self so _ _ tt c.in-Err.ensures.event)
