@@ -19,3 +19,5 @@ pub mod SliceSteps
 pub mod SliceLaws
 pub mod BeginLaws
 pub mod TurnLaws
+pub mod CloseLaws
+pub mod FewLaws

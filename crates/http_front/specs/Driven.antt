@@ -1,5 +1,5 @@
 -- How a host of chains handles a request, by the devices of its files.
-use Rattle.std.specs.Prelude.{◌≡◌, ◌≢◌, ℕ, List, [], ◌∷◌, ◌⊎◌, Some}
+use Rattle.std.specs.Prelude.{◌≡◌, ◌≢◌, ◌≤◌, ◌+◌, ℕ, List, [], ◌∷◌, ◌⊎◌, Some}
 use Rattle.module_code.specs.Program.{Program}
 use Rattle.run_model.specs.declared.event.Event.{Event}
 use Rattle.run_model.specs.declared.event.Event.TheVariants as event
@@ -42,6 +42,19 @@ GoesBy budget chain number (x ∷ xs) old new = (mid : HostView) × GoesBy budge
 -- Nothing happened to the host but events of this connection, and it was neither opened nor closed.
 unfoldable pub OnlyEventsOf : {F : Type 0} → (F → Device) → Host F → ℕ → Host F → Type 0
 OnlyEventsOf device old number new = Refines device old new (λ b c s t. (events : List (Event × Answer)) × GoesBy b c number events s t)
+
+-- how many of these events are steps
+abbrev pub is_step : Event → ℕ
+is_step event.Step = 1
+is_step e = 0
+
+unfoldable pub steps_in : List (Event × Answer) → ℕ
+steps_in [] = 0
+steps_in (x ∷ xs) = is_step x.0 + steps_in xs
+
+-- Nothing happened to the host but events of this connection, neither its opening nor its close, and no more of them are steps than this.
+unfoldable pub StepsAtMost : {F : Type 0} → (F → Device) → Host F → ℕ → ℕ → Host F → Type 0
+StepsAtMost device old number n new = Refines device old new (λ b c s t. (events : List (Event × Answer)) × GoesBy b c number events s t × (steps_in events ≤ n))
 
 -- These events, each of the connection of its number, with their answers, lead from one scene to another, and none is of this connection: openings and
 -- closes of others among them. (An opening has the number 0.) The last stands first.

@@ -1,5 +1,5 @@
 -- Requests that are under way, on a connection.
-use Rattle.std.specs.Prelude.{◌≡◌, ℕ, ◌≤◌, ◌⊎◌, Bool, true, false, List, [], length, take, drop, Option, Some, None}
+use Rattle.std.specs.Prelude.{◌≡◌, ℕ, ◌*◌, ◌≤◌, ◌⊎◌, Bool, true, false, List, [], length, take, drop, Option, Some, None}
 use Rattle.httparse.specs.Grammar.{RequestHead}
 use Rattle.httparse.specs.Spans.{IsRequestAt, IsRequestWithin}
 use Rattle.httparse.specs.declared.spans.HeaderSpan.{HeaderSpan}
@@ -10,6 +10,7 @@ use Rattle.http_message.specs.declared.reply.Method.{Method}
 use Rattle.http_message.specs.declared.reply.Reply.{Reply}
 use Rattle.http_message.specs.declared.site.Site.{Site}
 use Rattle.http_message.specs.declared.status.StatusCode.TheVariants.{NotFound}
+use Rattle.http_front.specs.Nearing.{slice_steps}
 use Rattle.http_front.specs.Outcomes.{IsReplyTo, file_of}
 use Rattle.http_front.specs.Stepping.{DoesStep, IsWritten, LacksAnswer}
 use Rattle.http_front.specs.Turns.{ComesUnless, fields_limit, head_limit}
@@ -97,3 +98,8 @@ module _ {H T : Type 0} (site : Site) (lacks : H → Method → List ℕ → Fro
   LacksSlice (Some u) old seen whole new kind.NoMemory = Unit {0}
   LacksSlice (Some u) old seen whole new kind.NamesSpent = lacks_rest old u.task kind.NamesSpent new
   LacksSlice (Some u) old seen whole new e = ⊥
+
+-- how many steps a slice makes of the request that is in hand, at most; one that begins a request makes twice as many
+abbrev pub most_steps : {T : Type 0} → Option (UnderWay T) → ℕ
+most_steps None = 2 * slice_steps
+most_steps (Some u) = slice_steps

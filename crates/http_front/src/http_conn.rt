@@ -3,7 +3,7 @@
 ghost use Rattle.std.specs.Prelude.{◌≡◌, ◌≢◌, ◌≤◌, ◌<◌, ◌^◌, ◌++◌, ◌⊎◌, ℕ, List, [], true, false, None, Some, Option, length, take, drop, Ok, Err, IfOk, IfErr, IfSome, OnOk, OnErr};
 ghost use Rattle.std.specs.Io.KnownBytes.{Appends, Consumes, IsAtEnd};
 ghost use Rattle.http_message.specs.Inboxes.{unread};
-ghost use Rattle.http_front.specs.UnderWays.{LacksSlice, StepsFrom};
+ghost use Rattle.http_front.specs.UnderWays.{LacksSlice, StepsFrom, most_steps};
 ghost use Rattle.http_front.specs.Serving.{BlamesSink, BlamesSource, IsSinkKind, Loses};
 ghost use Rattle.http_front.specs.Texts.{text_of};
 ghost use Rattle.http_front.specs.Sharing.{Passes};
@@ -280,6 +280,7 @@ impl<T: Drop> HttpConn<T> {
         ensures whole { self.new.whole ≡ self.old.whole }
         ensures lacks { IfErr result (LacksSlice site.now (λ old. H.lacks old number) (λ old. H.lacks_rest old number) self.old.hand handler.old (unread self.old.inbox) self.old.whole handler.new) }
         ensures none { OnErr result (pending self.new ≡ []) }
+        ensures few { H.steps handler.old number (most_steps self.old.hand) handler.new }
     {
         self.sent = 0;
         self.size = 0;
@@ -330,6 +331,7 @@ impl<T: Drop> HttpConn<T> {
         ensures whole { self.new.whole ≡ true → (self.old.whole ≡ true) ⊎ IsAtEnd (R.remaining reader.new) }
         ensures fails { IfErr result (Fails site.now (λ old. H.lacks old number) (λ old. H.lacks_rest old number) (length buffer.new) (R.remaining reader.old) (R.remaining reader.new) handler.old handler.new self.old) }
         ensures none { OnErr result (pending self.old ≡ [] → pending self.new ≡ []) }
+        ensures few { H.steps handler.old number (most_steps self.old.hand) handler.new }
         ensures source { BlamesSource result (R.failed reader.old) (R.failed reader.new) self.new.reads }
         ensures sink { BlamesSink result (W.failed sink.old) (W.failed sink.new) }
     {

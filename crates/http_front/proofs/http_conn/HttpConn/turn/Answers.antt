@@ -1,7 +1,8 @@
-use Rattle.std.proofs.Common.{[], take, Ok, refl, ◌∙◌}
+use Rattle.std.proofs.Common.{[], take, Ok, refl, ◌∙◌, sym, subst}
 use Rattle.std.proofs.lemmas.Result.{IfErr-weaker}
 use Rattle.std.proofs.KnownBytes.{Appends-nil, Consumes-nil}
 use Rattle.http_message.specs.Inboxes.{unread}
+use Rattle.http_front.specs.UnderWays.{most_steps}
 use Rattle.http_front.specs.Talking.{pending}
 use Rattle.http_front.specs.declared.http_conn.Next.TheVariants as next
 use Rattle.http_front.specs.declared.http_conn.Turned.TheVariants as turned
@@ -115,3 +116,12 @@ returns-in-Steps-clause-source g c =
 pub returns-in-Steps-clause-sink : goal.returns-in-Steps-clause-sink
 returns-in-Steps-clause-sink g c =
     sink_lack _ _ refl c.step-in-Steps.result (IfErr-weaker c.step-in-Steps.result _ _ (λ e how. slice_lack c.args.site.now (λ old. g.H.Handler.lacks old c.args.number) (λ old. g.H.Handler.lacks_rest old c.args.number) c.args.handler.now c.step-in-Steps.new.handler (unread c.args.self.now.inbox) c.args.self.now.whole c.args.self.now.hand e how) c.step-in-Steps.ensures.lacks)
+
+pub returns-in-Writes-clause-few : goal.returns-in-Writes-clause-few
+returns-in-Writes-clause-few g c = subst (λ h. g.H.Handler.steps c.args.handler.now c.args.number (most_steps c.args.self.now.hand) h) (sym c.put_out.ensures.still) (g.met.H.Handler.steps_none c.args.handler.now c.args.number (most_steps c.args.self.now.hand))
+
+pub returns-in-Over-clause-few : goal.returns-in-Over-clause-few
+returns-in-Over-clause-few g c = g.met.H.Handler.steps_none c.args.handler.now c.args.number _
+
+pub returns-in-Reads-clause-few : goal.returns-in-Reads-clause-few
+returns-in-Reads-clause-few g c = g.met.H.Handler.steps_none c.args.handler.now c.args.number _
