@@ -27,7 +27,9 @@ module _ (b : ℕ) (c : List Program) (number : ℕ) where
 
   goes_on : (k n : ℕ) (s m t : HostView) → Few n s m → steps.HostGoesOn b c number k m t → Few (k + n) s t
   unfolding steps.HostGoesOn
-  goes_on zero n s m t so same = subst (λ (v : HostView). Few n s v) (sym same) so
+  goes_on zero n s m t so same =
+      let bound = so.2 in
+      subst (λ (v : HostView). Few (0 + n) s v) (sym same) (so.0, so.1, omega (arith, bound))
   goes_on (suc k) n s m t so goes =
       let rest = goes_on k (1 + n) s goes.0 t (one_more n event.Step (Step stepped.Went) s m goes.0 tt so goes.1) goes.2 in
       let bound = rest.2 in
@@ -46,7 +48,7 @@ module _ {F : Type 0} (device : F → Device) (number : ℕ) (from old : Host F)
   unfolding StepsAtMost
   few_event new what answer own none h =
       leads_on device from old new (λ b c s t. Few b c number n s t) (λ b c s t. Answers b c number what s answer t) (λ b c s t. Few b c number n s t)
-      (λ b c s m t x a. subst (λ (k : ℕ). Few b c number (k + n) s t) none (one_more b c number n what answer s m t own x a)) so (by_event device old new number what answer h)
+      (λ b c s m t x a. (let y = one_more b c number n what answer s m t own x a in (let bound = y.2 in (y.0, y.1, omega (arith, bound, none))))) so (by_event device old new number what answer h)
 
   pub few_steps : (new : Host F) (more most : ℕ) (answer : Result Stepped Refusal) → more + 1 ≤ most → Refines device old new (λ b c s t. steps.StepsOn b c number more s answer t) → StepsAtMost device from number (n + most) new
   unfolding StepsAtMost
@@ -57,4 +59,4 @@ module _ {F : Type 0} (device : F → Device) (number : ℕ) (from old : Host F)
   pub few_more : (most : ℕ) → n ≤ most → StepsAtMost device from number most old
   unfolding StepsAtMost
   few_more most room =
-      leads_as device from old (λ b c s t. Few b c number n s t) (λ b c s t. Few b c number most s t) (λ b c s t x. (let bound = x.2 in (x.0, x.1, omega (arith, bound, room))))
+      leads_as device from old (λ b c s t. Few b c number n s t) (λ b c s t. Few b c number most s t) (λ b c s t x. (let bound = x.2 in (x.0, x.1, omega (arith, bound, room)))) so
