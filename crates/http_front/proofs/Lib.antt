@@ -18,3 +18,6 @@ pub mod PassLaws
 pub mod SliceSteps
 pub mod SliceLaws
 pub mod BeginLaws
+pub mod TurnLaws
+pub mod CloseLaws
+pub mod FewLaws

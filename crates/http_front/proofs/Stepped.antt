@@ -128,14 +128,14 @@ module _ {H : Type 0} (site : Site) (lacks : H → Method → List ℕ → Front
   lack_before seen whole kind.Write lack = absurd lack
   lack_before seen whole kind.TooManyReads lack = absurd lack
 
-  pub lack_wider : (seen low : List ℕ) (whole ended : Bool) (r : Result ServeStep FrontKind) → low ≡ take head_limit seen → ended ≡ (whole && nat_le (length seen) head_limit)
+  pub lack_wider : {A : Type 0} (seen low : List ℕ) (whole ended : Bool) (r : Result A FrontKind) → low ≡ take head_limit seen → ended ≡ (whole && nat_le (length seen) head_limit)
       → IfErr r (LacksAnswer site lacks old low ended new) → IfErr r (LacksAnswer site lacks old seen whole new)
   lack_wider seen low whole ended (Ok s) front over h = tt
   lack_wider seen low whole ended (Err e) front over h =
       lack_before seen whole e (subst (λ (l : List ℕ). LacksAnswer site lacks old l (whole && nat_le (length seen) head_limit) new e) front (subst (λ (b : Bool). LacksAnswer site lacks old low b new e) over h))
 
   -- why a head that was found gets no answer
-  pub found_lack : (seen : List ℕ) (spans : List HeaderSpan) (whole : Bool) (head : RequestSpans) (r : Result ServeStep FrontKind) → length spans ≡ fields_limit → IsFound head_limit seen spans head
+  pub found_lack : {A : Type 0} (seen : List ℕ) (spans : List HeaderSpan) (whole : Bool) (head : RequestSpans) (r : Result A FrontKind) → length spans ≡ fields_limit → IsFound head_limit seen spans head
       → IfErr r (λ e. IsLack e × (e ≡ kind.NamesSpent → (h : RequestHead) → IsRequestAt seen spans head h → LacksNamesAt lacks site old h new)) → IfErr r (LacksAnswer site lacks old seen whole new)
   found_lack seen spans whole head (Ok s) room found lack = tt
   found_lack seen spans whole head (Err e) room found lack =

@@ -1,12 +1,12 @@
 -- What happens beside a connection. An `impl` of `Handler` gives these as its laws, so they stand here.
-use Rattle.std.proofs.Common.{◌≢◌, ℕ, List, [], ◌∷◌, refl, sym, subst}
+use Rattle.std.proofs.Common.{◌≢◌, ◌≤◌, ℕ, List, [], ◌∷◌, refl, sym, subst, arith}
 use Rattle.module_code.specs.Program.{Program}
 use Rattle.run_model.specs.declared.event.Event.{Event}
 use Rattle.run_model.specs.Worlds.{Answer}
 use Rattle.bucket_kinds.specs.Device.{Device}
 use Rattle.filter_chain.specs.declared.host.Host.{Host}
 use Rattle.filter_chain.specs.HostViews.{HostView, Answers}
-use Rattle.http_front.specs.Driven.{GoesBy, GoesByOthers, NoEventsOf, OnlyEventsOf}
+use Rattle.http_front.specs.Driven.{GoesBy, GoesByOthers, NoEventsOf, OnlyEventsOf, StepsAtMost, steps_in}
 use Rattle.filter_chain.proofs.Driving.{Happened, by_event, leads_on, leads_still}
 
 abbrev Others : ℕ → List Program → ℕ → HostView → HostView → Type 0
@@ -27,6 +27,11 @@ module _ {F : Type 0} (device : F → Device) (number : ℕ) where
   pub own_same : (host : Host F) → OnlyEventsOf device host number host
   unfolding OnlyEventsOf GoesBy
   own_same host = leads_still device host (λ b c s t. Own b c number s t) (λ b c s. ([], refl))
+
+  -- no step was made
+  pub none_made : (host : Host F) (n : ℕ) → StepsAtMost device host number n host
+  unfolding StepsAtMost GoesBy steps_in
+  none_made host n = leads_still device host (λ b c s t. (events : List (Event × Answer)) × GoesBy b c number events s t × (steps_in events ≤ n)) (λ b c s. ([], refl, omega arith))
 
   pub apart_same : (host : Host F) → NoEventsOf device host number host
   unfolding NoEventsOf GoesByOthers

@@ -1,5 +1,5 @@
 -- A connection of the host: it is opened, its requests are served, and it is closed.
-use Rattle.std.specs.Prelude.{◌≡◌, ℕ, List, [], Option, Some, None, Result, Ok, Err, ◌⊎◌}
+use Rattle.std.specs.Prelude.{◌≡◌, ℕ, Bool, true, false, List, [], Option, Some, None, Result, Ok, Err, ◌⊎◌}
 use Rattle.std.specs.Io.KnownBytes.{Appends}
 use Rattle.module_code.specs.Program.{Program}
 use Rattle.run_model.specs.declared.event.Event.TheVariants as event
@@ -50,6 +50,11 @@ module _ (budget : ℕ) (chain : List Program) (number : ℕ) where
   abbrev pub IsClosed : Option ℕ → HostView → HostView → Type 0
   IsClosed None old new = (labels : List (List ℕ)) × Answers budget chain number event.Close old (Labels labels) new
   IsClosed (Some n) old new = (n ≡ number) × Answers budget chain number event.Close old (Refused refusal.NoMemory) new
+
+  -- It is closed, or it was not there; there is none of this number then. Or it is left, since memory is lacking.
+  abbrev pub ClosesTurns : Bool → HostView → HostView → Type 0
+  ClosesTurns true old new = (IsClosed None old new ⊎ Answers budget chain number event.Close old (Refused refusal.NoSuchConn) new) × (new.world.conns number ≡ None)
+  ClosesTurns false old new = Answers budget chain number event.Close old (Refused refusal.NoMemory) new
 
 module _ {H K : Type 0} (site : Site) (handles : H → Method → List ℕ → RequestOutcome → H → Type 0) (tells : K → Said → K → Type 0) where
   -- What is written of the responses to a stream, where serving it ends by this kind of fault. unread: what the reader has left. Only where the

@@ -1,5 +1,5 @@
 -- How a host of chains handles a request, by the devices of its files.
-use Rattle.std.specs.Prelude.{◌≡◌, ◌≢◌, ℕ, List, [], ◌∷◌, ◌⊎◌, Some}
+use Rattle.std.specs.Prelude.{◌≡◌, ◌≢◌, ◌≤◌, ◌+◌, ℕ, List, [], ◌∷◌, ◌⊎◌, Some}
 use Rattle.module_code.specs.Program.{Program}
 use Rattle.run_model.specs.declared.event.Event.{Event}
 use Rattle.run_model.specs.declared.event.Event.TheVariants as event
@@ -43,6 +43,19 @@ GoesBy budget chain number (x ∷ xs) old new = (mid : HostView) × GoesBy budge
 unfoldable pub OnlyEventsOf : {F : Type 0} → (F → Device) → Host F → ℕ → Host F → Type 0
 OnlyEventsOf device old number new = Refines device old new (λ b c s t. (events : List (Event × Answer)) × GoesBy b c number events s t)
 
+-- how many of these events are steps
+abbrev pub is_step : Event → ℕ
+is_step event.Step = 1
+is_step e = 0
+
+unfoldable pub steps_in : List (Event × Answer) → ℕ
+steps_in [] = 0
+steps_in (x ∷ xs) = is_step x.0 + steps_in xs
+
+-- Nothing happened to the host but events of this connection, neither its opening nor its close, and no more of them are steps than this.
+unfoldable pub StepsAtMost : {F : Type 0} → (F → Device) → Host F → ℕ → ℕ → Host F → Type 0
+StepsAtMost device old number n new = Refines device old new (λ b c s t. (events : List (Event × Answer)) × GoesBy b c number events s t × (steps_in events ≤ n))
+
 -- These events, each of the connection of its number, with their answers, lead from one scene to another, and none is of this connection: openings and
 -- closes of others among them. (An opening has the number 0.) The last stands first.
 unfoldable pub GoesByOthers : ℕ → List Program → ℕ → List (ℕ × Event × Answer) → HostView → HostView → Type 0
@@ -54,7 +67,8 @@ GoesByOthers budget chain number (x ∷ xs) old new =
 unfoldable pub NoEventsOf : {F : Type 0} → (F → Device) → Host F → ℕ → Host F → Type 0
 NoEventsOf device old number new = Refines device old new (λ b c s t. (events : List (ℕ × Event × Answer)) × GoesByOthers b c number events s t)
 
--- Events of this connection happened, and then one of a request was refused, for want of this. Or memory was lacking for the pieces of a brigade.
+-- Events of this connection happened, and then one of a request was refused, for want of this. Or memory was lacking for the pieces of a brigade, or for
+-- the name of a file that is opened later.
 pub record Lacks (budget : ℕ) (chain : List Program) (number : ℕ) (e : FrontKind) (old new : HostView) : Type 0 where
   pub events : List (Event × Answer)
   pub mid : HostView

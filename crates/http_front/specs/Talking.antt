@@ -6,7 +6,8 @@ use Rattle.http_message.specs.declared.reply.Method.{Method}
 use Rattle.http_message.specs.declared.site.Site.{Site}
 use Rattle.http_front.specs.Sharing.{IsSo, Passes, TellsLater}
 use Rattle.http_front.specs.Texts.{text_of}
-use Rattle.http_front.specs.UnderWays.{IsUnderWay}
+use Rattle.http_front.specs.Serving.{IsSinkKind, Loses}
+use Rattle.http_front.specs.UnderWays.{IsUnderWay, LacksSlice}
 use Rattle.http_front.specs.declared.fault.FrontKind.{FrontKind}
 use Rattle.http_front.specs.declared.handler.RequestOutcome.{RequestOutcome}
 use Rattle.http_front.specs.declared.http_conn.HttpConn.{HttpConn}
@@ -79,3 +80,17 @@ Follows step.Done old new = FollowsAs (unread old.inbox) old.wants true new
 abbrev pub Lands : {T : Type 0} → StepSlice T → HttpConn T → HttpConn T → Type 0
 Lands (slice.Did s) old new = Follows s old new × (new.hand ≡ None)
 Lands (slice.Works u) old new = FollowsAs (unread old.inbox) old.wants false new × (new.hand ≡ Some u)
+
+-- How a turn fails, by what the connection waited for. limit: the bytes of a read, at most. r, q: what the reader had left, and has. now, new: the handler before
+-- the turn, and after it
+module _ {H T : Type 0} (site : Site) (lacks : H → Method → List ℕ → FrontKind → H → Type 0) (lacks_rest : H → T → FrontKind → H → Type 0) (limit : ℕ) (r q : Option (List ℕ)) (now new : H) where
+  abbrev pub FailsAs : Next → HttpConn T → FrontKind → Type 0
+  FailsAs next.Writes c e = IsSinkKind e
+  FailsAs next.Over c e = ⊥
+  FailsAs next.Reads c e = Loses limit r q e
+  FailsAs next.Steps c e = LacksSlice site lacks lacks_rest c.hand now (unread c.inbox) c.whole new e
+  FailsAs next.Works c e = LacksSlice site lacks lacks_rest c.hand now (unread c.inbox) c.whole new e
+
+  -- what it waited for, and how it failed
+  abbrev pub Fails : HttpConn T → FrontKind → Type 0
+  Fails c e = (n : Next) × IsNext c n × FailsAs n c e

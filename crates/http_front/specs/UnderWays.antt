@@ -1,5 +1,5 @@
 -- Requests that are under way, on a connection.
-use Rattle.std.specs.Prelude.{◌≡◌, ℕ, ◌≤◌, ◌⊎◌, Bool, true, false, List, [], length, take, drop, Option, Some, None}
+use Rattle.std.specs.Prelude.{◌≡◌, ℕ, ◌*◌, ◌≤◌, ◌⊎◌, Bool, true, false, List, [], length, take, drop, Option, Some, None}
 use Rattle.httparse.specs.Grammar.{RequestHead}
 use Rattle.httparse.specs.Spans.{IsRequestAt, IsRequestWithin}
 use Rattle.httparse.specs.declared.spans.HeaderSpan.{HeaderSpan}
@@ -10,9 +10,12 @@ use Rattle.http_message.specs.declared.reply.Method.{Method}
 use Rattle.http_message.specs.declared.reply.Reply.{Reply}
 use Rattle.http_message.specs.declared.site.Site.{Site}
 use Rattle.http_message.specs.declared.status.StatusCode.TheVariants.{NotFound}
+use Rattle.http_front.specs.Nearing.{slice_steps}
 use Rattle.http_front.specs.Outcomes.{IsReplyTo, file_of}
-use Rattle.http_front.specs.Stepping.{DoesStep, IsWritten}
+use Rattle.http_front.specs.Stepping.{DoesStep, IsWritten, LacksAnswer}
 use Rattle.http_front.specs.Turns.{ComesUnless, fields_limit, head_limit}
+use Rattle.http_front.specs.declared.fault.FrontKind.{FrontKind}
+use Rattle.http_front.specs.declared.fault.FrontKind.TheVariants as kind
 use Rattle.http_front.specs.declared.handler.RequestOutcome.{RequestOutcome}
 use Rattle.http_front.specs.declared.handler.Slice.{Slice}
 use Rattle.http_front.specs.declared.handler.Slice.TheVariants as request
@@ -86,3 +89,17 @@ module _ {H T : Type 0} (site : Site) (among : H → Method → List ℕ → Req
   abbrev pub StepsFrom : {K : Type 0} → (K → Said → K → Type 0) → Option (UnderWay T) → H → K → List ℕ → Bool → StepSlice T → List ℕ → H → K → Type 0
   StepsFrom tells None now before seen whole x text new after = Steps tells now before seen whole x text new after
   StepsFrom tells (Some u) now before seen whole x text new after = (old : H) → IsUnderWay seen u old now → Steps tells old before seen whole x text new after
+
+-- Why a slice of a step fails: there is no request in hand, and the bytes get no answer for this. Or memory is lacking for the request that is in hand, or for
+-- its response; or names are, for what is left of that request. lacks, lacks_rest: that the handler leaves a request without an outcome, or what was left of one
+module _ {H T : Type 0} (site : Site) (lacks : H → Method → List ℕ → FrontKind → H → Type 0) (lacks_rest : H → T → FrontKind → H → Type 0) where
+  abbrev pub LacksSlice : Option (UnderWay T) → H → List ℕ → Bool → H → FrontKind → Type 0
+  LacksSlice None old seen whole new e = LacksAnswer site lacks old seen whole new e
+  LacksSlice (Some u) old seen whole new kind.NoMemory = Unit {0}
+  LacksSlice (Some u) old seen whole new kind.NamesSpent = lacks_rest old u.task kind.NamesSpent new
+  LacksSlice (Some u) old seen whole new e = ⊥
+
+-- how many steps a slice makes of the request that is in hand, at most; one that begins a request makes twice as many
+abbrev pub most_steps : {T : Type 0} → Option (UnderWay T) → ℕ
+most_steps None = 2 * slice_steps
+most_steps (Some u) = slice_steps

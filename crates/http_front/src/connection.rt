@@ -1,12 +1,12 @@
 //! A connection of the host, from its opening to its close.
 
 ghost use Rattle.byte_streams.specs.Counted.{reads_left, source_of};
-ghost use Rattle.std.specs.Prelude.{◌≡◌, ◌≢◌, ℕ, List, IfOk, IfErr, IfSome};
+ghost use Rattle.std.specs.Prelude.{◌≡◌, ◌≢◌, ◌↔◌, ℕ, List, IfOk, IfErr, IfSome, IsTrue};
 ghost use Rattle.module_code.specs.Program.{Program};
 ghost use Rattle.run_model.specs.Worlds.{Connected, Refused};
 ghost use Rattle.run_model.specs.declared.event.Event.TheVariants.{Open};
 ghost use Rattle.filter_chain.specs.HostViews.{HostView, Answers};
-ghost use Rattle.http_front.specs.Connecting.{kind_result, ServingFails, IsClosed, IsOpened, ServesAll, Visits, kind_of, outcome_of};
+ghost use Rattle.http_front.specs.Connecting.{kind_result, ClosesTurns, ServingFails, IsClosed, IsOpened, ServesAll, Visits, kind_of, outcome_of};
 ghost use Rattle.http_front.specs.Serving.{BlamesSink, BlamesSource};
 ghost use Rattle.http_front.specs.Driven.{HasConn, IsAlive, NoEventsOf, Refines};
 
@@ -57,18 +57,22 @@ pub fn open_turns<F: Files + Drop>(host: &mut Host<F>) -> Result<u64, FrontKind>
     }
 }
 
-fn lacks_memory(refusal: Refusal) -> bool {
+fn lacks_memory(refusal: Refusal) -> bool
+    ensures { IsTrue result ↔ refusal ≡ Refusal.NoMemory }
+{
     matches!(refusal, Refusal::NoMemory)
 }
 
-/// Closes a connection of the host that was served by turns. Answers whether it is there no more: there may be no memory for it now. To every
-/// other connection nothing happens.
+/// Closes a connection of the host that was served by turns: its labels run, and it is there no more. Answers `true` then, and where there was none
+/// of this number. `false`: there was no memory for it now, and it is as it was. To every other connection nothing happens.
 pub fn close_turns<F: Files + Drop>(host: &mut Host<F>, number: u64) -> bool
     requires { IsAlive F.device host.old }
     ensures still { IsAlive F.device host.new }
+    ensures closed { Refines F.device host.old host.new (λ (b : ℕ) (c : List Program) (s t : HostView). ClosesTurns b c number result s t) }
     ensures others { (k : ℕ) → k ≢ number → (from : Host F) → NoEventsOf F.device from k host.old → NoEventsOf F.device from k host.new }
 {
-    match host.close(number) {
+    let answer = host.close(number);
+    match answer {
         Ok(_) => true,
         Err(refusal) => !lacks_memory(refusal),
     }

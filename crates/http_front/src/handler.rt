@@ -1,6 +1,6 @@
 //! What makes the content of a response.
 
-ghost use Rattle.std.specs.Prelude.{◌≡◌, ◌≢◌, ℕ, List, IfOk, IfErr};
+ghost use Rattle.std.specs.Prelude.{◌≡◌, ◌≢◌, ◌*◌, ℕ, List, IfOk, IfErr};
 ghost use Rattle.http_front.specs.Outcomes.{IsLack};
 
 use crate::fault::FrontKind;
@@ -36,7 +36,7 @@ pub trait Handler {
     ghost use Rattle.http_message.specs.declared.reply.Method.{Method};
     ghost use Rattle.http_front.specs.declared.fault.FrontKind.{FrontKind};
     ghost use Rattle.http_front.specs.declared.handler.RequestOutcome.{RequestOutcome};
-    ghost use Rattle.http_front.specs.Nearing.{Nears};
+    ghost use Rattle.http_front.specs.Nearing.{Nears, slice_steps};
 
     // It can take a request on the connection of this number.
     ghost is_open: { Self → ℕ → Type 0 };
@@ -54,11 +54,17 @@ pub trait Handler {
     // In the first state a request for this file was left without an outcome, for want of this, and the second state is left.
     ghost lacks: { Self → ℕ → Method → List ℕ → FrontKind → Self → Type 0 };
 
+    // In the first state what was left of a request was left without an outcome, for want of this, and the second state is left.
+    ghost lacks_rest: { Self → ℕ → Self.Task → FrontKind → Self → Type 0 };
+
     // Nothing happened from the first state to the second but what belongs to other connections than that of this number.
     ghost apart: { Self → ℕ → Self → Type 0 };
 
     // Nothing happened from the first state to the second but what belongs to the connection of this number.
     ghost beside: { Self → ℕ → Self → Type 0 };
+
+    // From the first state to the second no more steps of calls were made on the connection of this number than so many.
+    ghost steps: { Self → ℕ → ℕ → Self → Type 0 };
 
     /// Handles a request for a file. `NoMemory` and `NamesSpent` leave the request without an outcome.
     fn handle(
@@ -74,7 +80,7 @@ pub trait Handler {
         ensures beside { (from : Self) → beside from number self.old → beside from number self.new }
         ensures err { IfErr result (λ e. IsLack e × lacks self.old number method file.now e self.new) };
 
-    /// Begins a request for a file, and makes the first slice of it. `NoMemory` and `NamesSpent` leave it without an outcome.
+    /// Begins a request for a file, and makes the first two slices of it. `NoMemory` and `NamesSpent` leave it without an outcome.
     fn begin(
         &mut self,
         alloc: Global,
@@ -86,7 +92,8 @@ pub trait Handler {
         ensures ok { IfOk result (λ s. Nears (among self.old number method file.now) (rests self.new number) self.new s) }
         ensures open { is_open self.new number }
         ensures beside { (from : Self) → beside from number self.old → beside from number self.new }
-        ensures err { IfErr result IsLack };
+        ensures err { IfErr result (λ e. IsLack e × lacks self.old number method file.now e self.new) }
+        ensures few { steps self.old number (2 * slice_steps) self.new };
 
     /// Makes a slice more of a request that is under way. `NoMemory` and `NamesSpent` leave it without an outcome.
     fn go_on(
@@ -99,11 +106,14 @@ pub trait Handler {
         ensures ok { IfOk result (λ s. Nears (rests self.old number task) (rests self.new number) self.new s) }
         ensures open { is_open self.new number }
         ensures beside { (from : Self) → beside from number self.old → beside from number self.new }
-        ensures err { IfErr result IsLack };
+        ensures err { IfErr result (λ e. IsLack e × lacks_rest self.old number task e self.new) }
+        ensures few { steps self.old number slice_steps self.new };
 
     /// Gives back the content of an outcome, which has gone out, so that its room is used again. It changes nothing.
     fn give_back(&mut self, body: Seq<u8>)
         ensures { self.new ≡ self.old };
+
+    ghost steps_none: { (s : Self) (number n : ℕ) → steps s number n s };
 
     ghost beside_self: { (s : Self) (number : ℕ) → beside s number s };
 

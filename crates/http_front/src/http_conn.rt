@@ -3,7 +3,8 @@
 ghost use Rattle.std.specs.Prelude.{◌≡◌, ◌≢◌, ◌≤◌, ◌<◌, ◌^◌, ◌++◌, ◌⊎◌, ℕ, List, [], true, false, None, Some, Option, length, take, drop, Ok, Err, IfOk, IfErr, IfSome, OnOk, OnErr};
 ghost use Rattle.std.specs.Io.KnownBytes.{Appends, Consumes, IsAtEnd};
 ghost use Rattle.http_message.specs.Inboxes.{unread};
-ghost use Rattle.http_front.specs.UnderWays.{StepsFrom};
+ghost use Rattle.http_front.specs.UnderWays.{LacksSlice, StepsFrom, most_steps};
+ghost use Rattle.http_front.specs.Serving.{BlamesSink, BlamesSource, IsSinkKind, Loses};
 ghost use Rattle.http_front.specs.Texts.{text_of};
 ghost use Rattle.http_front.specs.Sharing.{Passes};
 
@@ -78,8 +79,31 @@ fn skip_up_to(inbox: &mut Inbox, size: usize)
     inbox.skip(all);
 }
 
+/// How many bytes the text of a slice has. Where the slice failed, or that is no number, the text is emptied.
+fn sized<T: Drop>(
+    alloc: Global,
+    slice: Result<StepSlice<T>, FrontKind>,
+    text: &mut ResponseText,
+) -> Result<(StepSlice<T>, usize), FrontKind>
+    ensures ok { IfOk result (λ r. (slice ≡ Ok r.0) × (text.new ≡ text.old) × (r.1 ≡ length (text_of text.new))) }
+    ensures err { IfErr result (λ e. (slice ≡ Err e) ⊎ ((x : StepSlice T) × (slice ≡ Ok x) × (e ≡ FrontKind.NoMemory) × ¬ (text_of text.old ≡ []))) }
+    ensures none { OnErr result (text_of text.new ≡ []) }
+{
+    match (slice, text.size()) {
+        (Ok(slice), Some(size)) => Ok((slice, size)),
+        (Ok(_), None) => {
+            text.clear(alloc);
+            Err(FrontKind::NoMemory)
+        }
+        (Err(why), _) => {
+            text.clear(alloc);
+            Err(why)
+        }
+    }
+}
+
 impl<T: Drop> HttpConn<T> {
-    ghost use Rattle.http_front.specs.Talking.{Follows, GoesSo, IsNext, Lands, Stands, pending};
+    ghost use Rattle.http_front.specs.Talking.{Fails, Follows, GoesSo, IsNext, Lands, Stands, pending};
 
     /// Nothing came yet. It takes no memory.
     pub fn new(alloc: Global) -> HttpConn<T>
@@ -134,6 +158,9 @@ impl<T: Drop> HttpConn<T> {
         ensures over { self.new.over ≡ self.old.over }
         ensures hand { self.new.hand ≡ self.old.hand }
         ensures whole { self.new.whole ≡ true → (self.old.whole ≡ true) ⊎ IsAtEnd (R.remaining reader.new) }
+        ensures lost { IfErr result (λ e. Loses (length buffer.new) (R.remaining reader.old) (R.remaining reader.new) e) }
+        ensures source { BlamesSource result (R.failed reader.old) (R.failed reader.new) self.new.reads }
+        ensures unwritten { result ≢ Err FrontKind.Write }
     {
         if self.reads == 0 {
             return Err(FrontKind::TooManyReads);
@@ -188,6 +215,8 @@ impl<T: Drop> HttpConn<T> {
         ensures hand { self.new.hand ≡ self.old.hand }
         ensures whole { self.new.whole ≡ self.old.whole }
         ensures still { handler.new ≡ handler.old }
+        ensures kinds { IfErr result IsSinkKind }
+        ensures sink { BlamesSink result (W.failed sink.old) (W.failed sink.new) }
     {
         match sink.write(self.text.rest(self.sent)) {
             Ok(WriteAnswer::Bytes(count)) => {
@@ -249,12 +278,15 @@ impl<T: Drop> HttpConn<T> {
         ensures did { OnOk result ((x : StepSlice T) × StepsFrom site.now (λ old. H.among old number) (λ old. H.rests old number) K.tells self.old.hand handler.old clock.old (unread self.old.inbox) self.old.whole x (pending self.new) handler.new clock.new
             × Lands x self.old self.new) }
         ensures whole { self.new.whole ≡ self.old.whole }
+        ensures lacks { IfErr result (LacksSlice site.now (λ old. H.lacks old number) (λ old. H.lacks_rest old number) self.old.hand handler.old (unread self.old.inbox) self.old.whole handler.new) }
+        ensures none { OnErr result (pending self.new ≡ []) }
+        ensures few { H.steps handler.old number (most_steps self.old.hand) handler.new }
     {
         self.sent = 0;
         self.size = 0;
         let hand = self.hand.take();
         let seen = self.inbox.unread();
-        let slice = step_on(
+        let did = step_on(
             alloc,
             seen,
             self.whole,
@@ -265,17 +297,11 @@ impl<T: Drop> HttpConn<T> {
             clock,
             &mut self.text,
         );
-        self.size = match self.text.size() {
-            Some(size) => size,
-            None => {
-                self.text.clear(alloc);
-                return Err(FrontKind::NoMemory);
-            }
-        };
+        let (slice, size) = sized(alloc, did, &mut self.text)?;
+        self.size = size;
         match slice {
-            Ok(StepSlice::Did(step)) => self.follow(step),
-            Ok(StepSlice::Works(under_way)) => self.hand = Some(under_way),
-            Err(why) => return Err(why),
+            StepSlice::Did(step) => self.follow(step),
+            StepSlice::Works(under_way) => self.hand = Some(under_way),
         }
         Ok(Turned::Moved)
     }
@@ -303,6 +329,11 @@ impl<T: Drop> HttpConn<T> {
             → Stands site.now (λ old. H.among old k) (λ old. H.rests old k) K.tells (λ old new. H.apart old k new) start first came went other handler.old clock.old
             → Stands site.now (λ old. H.among old k) (λ old. H.rests old k) K.tells (λ old new. H.apart old k new) start first came went other handler.new clock.new }
         ensures whole { self.new.whole ≡ true → (self.old.whole ≡ true) ⊎ IsAtEnd (R.remaining reader.new) }
+        ensures fails { IfErr result (Fails site.now (λ old. H.lacks old number) (λ old. H.lacks_rest old number) (length buffer.new) (R.remaining reader.old) (R.remaining reader.new) handler.old handler.new self.old) }
+        ensures none { OnErr result (pending self.old ≡ [] → pending self.new ≡ []) }
+        ensures few { H.steps handler.old number (most_steps self.old.hand) handler.new }
+        ensures source { BlamesSource result (R.failed reader.old) (R.failed reader.new) self.new.reads }
+        ensures sink { BlamesSink result (W.failed sink.old) (W.failed sink.new) }
     {
         match self.next() {
             Next::Writes => self.put_out(alloc, sink, handler),

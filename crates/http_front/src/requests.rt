@@ -4,7 +4,7 @@ ghost use Rattle.std.specs.Prelude.{◌≡◌, ℕ, List, IfOk, IfErr};
 ghost use Rattle.module_code.specs.Program.{Program};
 ghost use Rattle.filter_chain.specs.HostViews.{HostView};
 ghost use Rattle.http_front.specs.Outcomes.{IsLack, IsUnserved};
-ghost use Rattle.http_front.specs.Driven.{LacksFor, OnlyEventsOf, IsAlive, Refines};
+ghost use Rattle.http_front.specs.Driven.{LacksFor, OnlyEventsOf, IsAlive, Refines, StepsAtMost};
 ghost use Rattle.http_front.specs.Requests.{ComesOf, EndsBare, EndsWithOutput, Feeds, Finishes, Inits, OpensAndFeeds, OpensUnless, TakesOutput, unopened};
 
 use crate::fault::FrontKind;
@@ -47,6 +47,7 @@ fn output<F: Files + Drop>(alloc: Global, host: &mut Host<F>, number: u64) -> Re
     requires { IsAlive F.device host.old }
     ensures leads { Refines F.device host.old host.new (λ (b : ℕ) (c : List Program) (s t : HostView). TakesOutput b c number s result t) }
     ensures beside { (from : Host F) → OnlyEventsOf F.device from number host.old → OnlyEventsOf F.device from number host.new }
+    ensures few { (from : Host F) (n : ℕ) → StepsAtMost F.device from number n host.old → StepsAtMost F.device from number n host.new }
 {
     match host.take_output(number) {
         Ok(body) => RequestOutcome {
@@ -69,6 +70,7 @@ fn finish_with_output<F: Files + Drop>(
     ensures beside { (from : Host F) → OnlyEventsOf F.device from number host.old → OnlyEventsOf F.device from number host.new }
     ensures err { IfErr result IsLack }
     ensures lacks { (from : Host F) → OnlyEventsOf F.device from number host.old → IfErr result (λ e. LacksFor F.device from number e host.new) }
+    ensures few { (from : Host F) (n : ℕ) → StepsAtMost F.device from number n host.old → StepsAtMost F.device from number n host.new }
 {
     let outcome = output(alloc, host, number);
     end_request(host, number)?;
@@ -87,6 +89,7 @@ pub(crate) fn finish_bare<F: Files + Drop>(
     ensures beside { (from : Host F) → OnlyEventsOf F.device from number host.old → OnlyEventsOf F.device from number host.new }
     ensures err { IfErr result IsLack }
     ensures lacks { (from : Host F) → OnlyEventsOf F.device from number host.old → IfErr result (λ e. LacksFor F.device from number e host.new) }
+    ensures few { (from : Host F) (n : ℕ) → StepsAtMost F.device from number n host.old → StepsAtMost F.device from number n host.new }
 {
     end_request(host, number)?;
     Ok(bare(alloc, failure))
@@ -104,6 +107,7 @@ pub(crate) fn finish<F: Files + Drop>(
     ensures beside { (from : Host F) → OnlyEventsOf F.device from number host.old → OnlyEventsOf F.device from number host.new }
     ensures err { IfErr result IsLack }
     ensures lacks { (from : Host F) → OnlyEventsOf F.device from number host.old → IfErr result (λ e. LacksFor F.device from number e host.new) }
+    ensures few { (from : Host F) (n : ℕ) → StepsAtMost F.device from number n host.old → StepsAtMost F.device from number n host.new }
 {
     match how {
         CallEnd::Succeeded => finish_with_output(alloc, host, number),
@@ -220,8 +224,8 @@ fn request<F: Files + Drop>(
 
 impl<F: Files + Drop> Handler for Host<F> {
     ghost use Rattle.http_front.specs.Among.{HandlesAmong, RestsAmong};
-    ghost use Rattle.http_front.specs.Driven.{LacksFor, NoEventsOf, OnlyEventsOf, IsAlive, Handles};
-    ghost use Rattle.http_front.specs.Apart.{apart_beside, apart_same, own_same};
+    ghost use Rattle.http_front.specs.Driven.{LacksFor, NoEventsOf, OnlyEventsOf, IsAlive, Handles, StepsAtMost};
+    ghost use Rattle.http_front.specs.Apart.{apart_beside, apart_same, none_made, own_same};
     ghost use Rattle.http_front.specs.Before.{among_later, rests_later};
 
     type Task = RequestTask;
@@ -232,6 +236,10 @@ impl<F: Files + Drop> Handler for Host<F> {
 
     ghost beside_self = { λ s number. own_same F.device number s };
 
+    ghost steps = { λ old number n new. StepsAtMost F.device old number n new };
+
+    ghost steps_none = { λ s number n. none_made F.device number s n };
+
     ghost apart_self = { λ s number. apart_same F.device number s };
 
     ghost apart_on = { λ from old new number other. apart_beside F.device number other from old new };
@@ -239,6 +247,8 @@ impl<F: Files + Drop> Handler for Host<F> {
     ghost beside = { λ old number new. OnlyEventsOf F.device old number new };
 
     ghost lacks = { λ old number method file e new. LacksFor F.device old number e new };
+
+    ghost lacks_rest = { λ old number task e new. LacksFor F.device old number e new };
 
     ghost handles = { λ old number method file o new. Handles F.device old number method file o new };
 

@@ -1,6 +1,6 @@
 //! The text of a response, in the parts that are written.
 
-ghost use Rattle.std.specs.Prelude.{◌≡◌, ◌<◌, [], IfSome, length, drop};
+ghost use Rattle.std.specs.Prelude.{◌≡◌, ◌<◌, [], IfSome, None, length, drop};
 ghost use Rattle.http_front.specs.Texts.{BeginsWith, IsPut, text_of};
 
 use crate::handler::Handler;
@@ -80,10 +80,12 @@ impl ResponseText {
 
     /// How many bytes it has, where that is a number.
     pub(crate) fn size(&self) -> Option<usize>
-        ensures { IfSome result (λ n. n ≡ length (text_of self.now)) }
+        ensures some { IfSome result (λ n. n ≡ length (text_of self.now)) }
+        ensures none { result ≡ None → ¬ (text_of self.now ≡ []) }
     {
         let opening = self.head.len().checked_add(self.body.as_slice().len())?;
-        opening.checked_add(self.tail.len())
+        let size = opening.checked_add(self.tail.len())?;
+        Some(size)
     }
 
     /// What follows a place, as far as it lies in one part.

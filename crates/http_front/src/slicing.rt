@@ -1,10 +1,11 @@
 //! A request for a file on the host of chains, in slices. Between two of them others are served.
 
-ghost use Rattle.std.specs.Prelude.{◌≡◌, ◌↔◌, ◌∷◌, ℕ, List, Ok, Some, IfOk, IfErr, IsTrue};
+ghost use Rattle.std.specs.Prelude.{◌≡◌, ◌↔◌, ◌∷◌, ◌+◌, ℕ, List, Ok, Some, IfOk, IfErr, IsTrue};
 ghost use Rattle.module_code.specs.Program.{Program};
 ghost use Rattle.filter_chain.specs.HostViews.{HostView};
 ghost use Rattle.http_front.specs.Outcomes.{IsLack};
-ghost use Rattle.http_front.specs.Driven.{IsAlive, OnlyEventsOf, Refines};
+ghost use Rattle.http_front.specs.Nearing.{slice_steps};
+ghost use Rattle.http_front.specs.Driven.{IsAlive, LacksFor, OnlyEventsOf, Refines, StepsAtMost};
 ghost use Rattle.http_front.specs.Requests.{brigades_for};
 ghost use Rattle.http_front.specs.Among.{CarriesLater, ComesLater, EndsBareLater, FinishesLater, IsOpening, InitsLater, OpensLater, OpensUnlessLater, Rests, RestsBehind, RunsSlice, Slices, brigades_left};
 
@@ -32,6 +33,7 @@ fn step_slice<F: Files + Drop>(host: &mut Host<F>, number: u64) -> Option<CallEn
     requires { IsAlive F.device host.old }
     ensures leads { Refines F.device host.old host.new (λ (b : ℕ) (c : List Program) (s t : HostView). RunsSlice b c number result s t) }
     ensures beside { (from : Host F) → OnlyEventsOf F.device from number host.old → OnlyEventsOf F.device from number host.new }
+    ensures few { (from : Host F) (n : ℕ) → StepsAtMost F.device from number n host.old → StepsAtMost F.device from number (n + slice_steps) host.new }
 {
     let answer = host.step_up_to(number, SLICE_STEPS);
     if went(&answer) {
@@ -85,6 +87,8 @@ fn finish_slice<F: Files + Drop>(
     ensures leads { Refines F.device host.old host.new (λ (b : ℕ) (c : List Program) (s t : HostView). IfOk result (λ r. Slices b c number (FinishesLater b c number how) s r t)) }
     ensures beside { (from : Host F) → OnlyEventsOf F.device from number host.old → OnlyEventsOf F.device from number host.new }
     ensures err { IfErr result IsLack }
+    ensures lacks { (from : Host F) → OnlyEventsOf F.device from number host.old → IfErr result (λ e. LacksFor F.device from number e host.new) }
+    ensures few { (from : Host F) (n : ℕ) → StepsAtMost F.device from number n host.old → StepsAtMost F.device from number n host.new }
 {
     Ok(Slice::Done(finish(alloc, host, number, how)?))
 }
@@ -100,6 +104,8 @@ fn bare_slice<F: Files + Drop>(
     ensures leads { Refines F.device host.old host.new (λ (b : ℕ) (c : List Program) (s t : HostView). IfOk result (λ r. Slices b c number (EndsBareLater b c number failure) s r t)) }
     ensures beside { (from : Host F) → OnlyEventsOf F.device from number host.old → OnlyEventsOf F.device from number host.new }
     ensures err { IfErr result IsLack }
+    ensures lacks { (from : Host F) → OnlyEventsOf F.device from number host.old → IfErr result (λ e. LacksFor F.device from number e host.new) }
+    ensures few { (from : Host F) (n : ℕ) → StepsAtMost F.device from number n host.old → StepsAtMost F.device from number n host.new }
 {
     Ok(Slice::Done(finish_bare(alloc, host, number, failure)?))
 }
@@ -115,6 +121,8 @@ fn bring_next<F: Files + Drop>(
     ensures leads { Refines F.device host.old host.new (λ (b : ℕ) (c : List Program) (s t : HostView). IfOk result (λ r. Slices b c number (CarriesLater b c number CallEnd.Succeeded (brigades_left (Some rest))) s r t)) }
     ensures beside { (from : Host F) → OnlyEventsOf F.device from number host.old → OnlyEventsOf F.device from number host.new }
     ensures err { IfErr result IsLack }
+    ensures lacks { (from : Host F) → OnlyEventsOf F.device from number host.old → IfErr result (λ e. LacksFor F.device from number e host.new) }
+    ensures few { (from : Host F) (n : ℕ) → StepsAtMost F.device from number n host.old → StepsAtMost F.device from number n host.new }
 {
     let (pieces, left) = next_brigade(alloc, rest)?;
     match host.bring(number, pieces) {
@@ -139,6 +147,8 @@ fn carry_on<F: Files + Drop>(
     ensures leads { Refines F.device host.old host.new (λ (b : ℕ) (c : List Program) (s t : HostView). IfOk result (λ r. Slices b c number (CarriesLater b c number how (brigades_left rest)) s r t)) }
     ensures beside { (from : Host F) → OnlyEventsOf F.device from number host.old → OnlyEventsOf F.device from number host.new }
     ensures err { IfErr result IsLack }
+    ensures lacks { (from : Host F) → OnlyEventsOf F.device from number host.old → IfErr result (λ e. LacksFor F.device from number e host.new) }
+    ensures few { (from : Host F) (n : ℕ) → StepsAtMost F.device from number n host.old → StepsAtMost F.device from number n host.new }
 {
     if !succeeded(how) {
         return finish_slice(alloc, host, number, how);
@@ -162,6 +172,8 @@ fn open_slice<F: Files + Drop>(
     ensures leads { Refines F.device host.old host.new (λ (b : ℕ) (c : List Program) (s t : HostView). IfOk result (λ r. Slices b c number (OpensLater b c number init method name.now) s r t)) }
     ensures beside { (from : Host F) → OnlyEventsOf F.device from number host.old → OnlyEventsOf F.device from number host.new }
     ensures err { IfErr result IsLack }
+    ensures lacks { (from : Host F) → OnlyEventsOf F.device from number host.old → IfErr result (λ e. LacksFor F.device from number e host.new) }
+    ensures few { (from : Host F) (n : ℕ) → StepsAtMost F.device from number n host.old → StepsAtMost F.device from number n host.new }
 {
     match host.open_file(number, name) {
         Ok(file) => carry_on(alloc, host, number, init, wanted(method, file)),
@@ -185,6 +197,8 @@ fn open_unless<F: Files + Drop>(
     ensures leads { Refines F.device host.old host.new (λ (b : ℕ) (c : List Program) (s t : HostView). IfOk result (λ r. Slices b c number (OpensUnlessLater b c number init method name.now) s r t)) }
     ensures beside { (from : Host F) → OnlyEventsOf F.device from number host.old → OnlyEventsOf F.device from number host.new }
     ensures err { IfErr result IsLack }
+    ensures lacks { (from : Host F) → OnlyEventsOf F.device from number host.old → IfErr result (λ e. LacksFor F.device from number e host.new) }
+    ensures few { (from : Host F) (n : ℕ) → StepsAtMost F.device from number n host.old → StepsAtMost F.device from number n host.new }
 {
     match init {
         CallEnd::Broke(why) => Ok(Slice::Done(bare(alloc, Some(why)))),
@@ -214,6 +228,8 @@ fn init_slice<F: Files + Drop>(
     ensures leads { Refines F.device host.old host.new (λ (b : ℕ) (c : List Program) (s t : HostView). IfOk result (λ r. Slices b c number (InitsLater b c number method name.now) s r t)) }
     ensures beside { (from : Host F) → OnlyEventsOf F.device from number host.old → OnlyEventsOf F.device from number host.new }
     ensures err { IfErr result IsLack }
+    ensures lacks { (from : Host F) → OnlyEventsOf F.device from number host.old → IfErr result (λ e. LacksFor F.device from number e host.new) }
+    ensures few { (from : Host F) (n : ℕ) → StepsAtMost F.device from number n host.old → StepsAtMost F.device from number (n + slice_steps) host.new }
 {
     match step_slice(host, number) {
         Some(init) => open_unless(alloc, host, number, init, method, name),
@@ -233,6 +249,8 @@ fn begin_init<F: Files + Drop>(
     ensures leads { Refines F.device host.old host.new (λ (b : ℕ) (c : List Program) (s t : HostView). IfOk result (λ r. Slices b c number (ComesLater b c number method name.now) s r t)) }
     ensures beside { (from : Host F) → OnlyEventsOf F.device from number host.old → OnlyEventsOf F.device from number host.new }
     ensures err { IfErr result IsLack }
+    ensures lacks { (from : Host F) → OnlyEventsOf F.device from number host.old → IfErr result (λ e. LacksFor F.device from number e host.new) }
+    ensures few { (from : Host F) (n : ℕ) → StepsAtMost F.device from number n host.old → StepsAtMost F.device from number (n + slice_steps) host.new }
 {
     match host.begin(number) {
         Ok(()) => init_slice(alloc, host, number, method, name),
@@ -255,6 +273,8 @@ fn end_call<F: Files + Drop>(
     ensures leads { Refines F.device host.old host.new (λ (b : ℕ) (c : List Program) (s t : HostView). IfOk result (λ r. Slices b c number (RestsBehind b c number task how) s r t)) }
     ensures beside { (from : Host F) → OnlyEventsOf F.device from number host.old → OnlyEventsOf F.device from number host.new }
     ensures err { IfErr result IsLack }
+    ensures lacks { (from : Host F) → OnlyEventsOf F.device from number host.old → IfErr result (λ e. LacksFor F.device from number e host.new) }
+    ensures few { (from : Host F) (n : ℕ) → StepsAtMost F.device from number n host.old → StepsAtMost F.device from number n host.new }
 {
     match task {
         RequestTask::Opens { method, name } => {
@@ -275,6 +295,8 @@ pub(crate) fn go_on_request<F: Files + Drop>(
     ensures leads { Refines F.device host.old host.new (λ (b : ℕ) (c : List Program) (s t : HostView). IfOk result (λ r. Slices b c number (Rests b c number task) s r t)) }
     ensures beside { (from : Host F) → OnlyEventsOf F.device from number host.old → OnlyEventsOf F.device from number host.new }
     ensures err { IfErr result IsLack }
+    ensures lacks { (from : Host F) → OnlyEventsOf F.device from number host.old → IfErr result (λ e. LacksFor F.device from number e host.new) }
+    ensures few { (from : Host F) (n : ℕ) → StepsAtMost F.device from number n host.old → StepsAtMost F.device from number (n + slice_steps) host.new }
 {
     match step_slice(host, number) {
         None => Ok(Slice::Works(task)),
@@ -294,6 +316,8 @@ pub(crate) fn begin_request<F: Files + Drop>(
     ensures leads { Refines F.device host.old host.new (λ (b : ℕ) (c : List Program) (s t : HostView). IfOk result (λ r. Slices b c number (ComesLater b c number method name.now) s r t)) }
     ensures beside { (from : Host F) → OnlyEventsOf F.device from number host.old → OnlyEventsOf F.device from number host.new }
     ensures err { IfErr result IsLack }
+    ensures lacks { (from : Host F) → OnlyEventsOf F.device from number host.old → IfErr result (λ e. LacksFor F.device from number e host.new) }
+    ensures few { (from : Host F) (n : ℕ) → StepsAtMost F.device from number n host.old → StepsAtMost F.device from number (n + slice_steps + slice_steps) host.new }
 {
     let slice = begin_init(alloc, host, number, method, name)?;
     match slice {

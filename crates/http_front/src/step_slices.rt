@@ -1,14 +1,17 @@
 //! A step of a connection, in slices.
 
-ghost use Rattle.std.specs.Prelude.{◌≡◌, ◌≤◌, ℕ, Bool, List, [], length, IfOk, IfErr};
+ghost use Rattle.std.specs.Prelude.{◌≡◌, ◌≤◌, ◌*◌, ℕ, Bool, List, [], length, IfOk, IfErr};
 ghost use Rattle.httparse.specs.Grammar.{RequestHead};
 ghost use Rattle.httparse.specs.Spans.{IsRequestAt, IsRequestWithin};
 ghost use Rattle.http_message.specs.Asking.{method_of};
 ghost use Rattle.http_message.specs.Looking.{IsFound};
+ghost use Rattle.http_front.specs.Nearing.{slice_steps};
+ghost use Rattle.http_front.specs.Outcomes.{IsLack, LacksNamesAt};
 ghost use Rattle.http_front.specs.Sharing.{Passes};
+ghost use Rattle.http_front.specs.Stepping.{LacksAnswer};
 ghost use Rattle.http_front.specs.Texts.{text_of};
 ghost use Rattle.http_front.specs.Turns.{head_limit, fields_limit};
-ghost use Rattle.http_front.specs.UnderWays.{BeginsHead, IsAskedBy, IsUnderWay, Sends, Steps, StepsFrom, Wants};
+ghost use Rattle.http_front.specs.UnderWays.{BeginsHead, IsAskedBy, IsUnderWay, LacksSlice, Sends, Steps, StepsFrom, Wants, most_steps};
 ghost use Rattle.http_message.specs.declared.site.Site.{Site};
 
 use crate::answering::{bad_reply, bare};
@@ -62,6 +65,9 @@ fn begin_wanted<H: Handler>(
     ensures beside { (from : H) → H.beside from number handler.old → H.beside from number handler.new }
     ensures ok { IfOk result (λ s. (site : Site) (h : RequestHead) → Wants site h wanted.entry → method ≡ method_of h.method
         → BeginsHead site (λ old. H.among old number) (λ old. H.rests old number) h handler.old s handler.new) }
+    ensures err { IfErr result (λ e. IsLack e × (e ≡ FrontKind.NamesSpent → (site : Site) (h : RequestHead) → Wants site h wanted.entry → method ≡ method_of h.method
+        → LacksNamesAt (λ old. H.lacks old number) site handler.old h handler.new)) }
+    ensures few { H.steps handler.old number (2 * slice_steps) handler.new }
 {
     match wanted {
         Wanted::Status(status) => Ok(Slice::Done(bare(alloc, status))),
@@ -91,6 +97,9 @@ fn begin_head<H: Handler, K: Clock>(
     ensures beside { (from : H) → H.beside from number handler.old → H.beside from number handler.new }
     ensures clock { (from : K) → Passes K.tells from clock.old → Passes K.tells from clock.new }
     ensures ok { IfOk result (λ x. (whole : Bool) → Steps site.now (λ old. H.among old number) (λ old. H.rests old number) K.tells handler.old clock.old seen.now whole x (text_of text.new) handler.new clock.new) }
+    ensures err { IfErr result (λ e. IsLack e × (e ≡ FrontKind.NamesSpent → (h : RequestHead) → IsRequestAt seen.now spans.now head h
+        → LacksNamesAt (λ old. H.lacks old number) site.now handler.old h handler.new)) }
+    ensures few { H.steps handler.old number (2 * slice_steps) handler.new }
 {
     let asked = asked_by(seen, spans, head);
     let wanted = wanted_of(alloc, seen, spans, head, site)?;
@@ -122,6 +131,8 @@ fn begin_within<H: Handler, K: Clock>(
     ensures beside { (from : H) → H.beside from number handler.old → H.beside from number handler.new }
     ensures clock { (from : K) → Passes K.tells from clock.old → Passes K.tells from clock.new }
     ensures ok { IfOk result (λ x. Steps site.now (λ old. H.among old number) (λ old. H.rests old number) K.tells handler.old clock.old seen.now whole x (text_of text.new) handler.new clock.new) }
+    ensures err { IfErr result (LacksAnswer site.now (λ old. H.lacks old number) handler.old seen.now whole handler.new) }
+    ensures few { H.steps handler.old number (2 * slice_steps) handler.new }
 {
     text.clear(alloc);
     if seen.is_empty() && whole {
@@ -158,6 +169,8 @@ fn begin_step<H: Handler, K: Clock>(
     ensures beside { (from : H) → H.beside from number handler.old → H.beside from number handler.new }
     ensures clock { (from : K) → Passes K.tells from clock.old → Passes K.tells from clock.new }
     ensures ok { IfOk result (λ x. Steps site.now (λ old. H.among old number) (λ old. H.rests old number) K.tells handler.old clock.old seen.now whole x (text_of text.new) handler.new clock.new) }
+    ensures err { IfErr result (LacksAnswer site.now (λ old. H.lacks old number) handler.old seen.now whole handler.new) }
+    ensures few { H.steps handler.old number (2 * slice_steps) handler.new }
 {
     let mut spans = [EMPTY_HEADER_SPAN; FIELDS_LIMIT];
     begin_within(
@@ -189,6 +202,8 @@ fn go_on_step<H: Handler, K: Clock>(
     ensures clock { (from : K) → Passes K.tells from clock.old → Passes K.tells from clock.new }
     ensures ok { IfOk result (λ x. (site : Site) (whole : Bool) (old : H) → IsUnderWay site (λ old. H.among old number) (λ old. H.rests old number) seen.now under_way old handler.old
         → Steps site (λ old. H.among old number) (λ old. H.rests old number) K.tells old clock.old seen.now whole x (text_of text.new) handler.new clock.new) }
+    ensures err { IfErr result (λ e. IsLack e × (e ≡ FrontKind.NamesSpent → H.lacks_rest handler.old number under_way.task e handler.new)) }
+    ensures few { H.steps handler.old number slice_steps handler.new }
 {
     text.clear(alloc);
     let asked = under_way.asked;
@@ -219,6 +234,8 @@ pub(crate) fn step_on<H: Handler, K: Clock>(
     ensures beside { (from : H) → H.beside from number handler.old → H.beside from number handler.new }
     ensures clock { (from : K) → Passes K.tells from clock.old → Passes K.tells from clock.new }
     ensures ok { IfOk result (λ x. StepsFrom site.now (λ old. H.among old number) (λ old. H.rests old number) K.tells hand handler.old clock.old seen.now whole x (text_of text.new) handler.new clock.new) }
+    ensures err { IfErr result (LacksSlice site.now (λ old. H.lacks old number) (λ old. H.lacks_rest old number) hand handler.old seen.now whole handler.new) }
+    ensures few { H.steps handler.old number (most_steps hand) handler.new }
 {
     match hand {
         Some(under_way) => go_on_step(alloc, seen, under_way, handler, number, clock, text),

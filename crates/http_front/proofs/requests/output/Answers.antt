@@ -1,4 +1,5 @@
 use Rattle.std.proofs.Common.{refl}
+use Rattle.http_front.proofs.FewLaws.{few_event}
 use Rattle.http_front.proofs.Beside.{beside_event}
 use Rattle.http_front.proofs.RequestLaws.{output_taken, output_refused}
 use Rattle.http_front.proofs.requests.output.Goals as goal
@@ -16,3 +17,9 @@ returns-in-Ok-clause-beside g c from so = beside_event g.F.Files.device c.args.n
 
 pub returns-in-Err-clause-beside : goal.returns-in-Err-clause-beside
 returns-in-Err-clause-beside g c from so = beside_event g.F.Files.device c.args.number from c.args.host.now c.take_output.new.self so _ _ tt c.in-Err.ensures.event
+
+pub returns-in-Ok-clause-few : goal.returns-in-Ok-clause-few
+returns-in-Ok-clause-few g c from n so = few_event g.F.Files.device c.args.number from c.args.host.now n so c.take_output.new.self _ _ tt refl c.in-Ok.ensures.event
+
+pub returns-in-Err-clause-few : goal.returns-in-Err-clause-few
+returns-in-Err-clause-few g c from n so = few_event g.F.Files.device c.args.number from c.args.host.now n so c.take_output.new.self _ _ tt refl c.in-Err.ensures.event

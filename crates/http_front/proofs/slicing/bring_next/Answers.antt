@@ -1,6 +1,9 @@
-use Rattle.std.proofs.Common.{Some}
+use Rattle.std.proofs.Common.{Some, refl}
+use Rattle.http_front.specs.declared.fault.FrontKind.TheVariants as kind
 use Rattle.http_front.specs.Among.{brigades_left}
-use Rattle.http_front.proofs.Beside.{beside_event}
+use Rattle.std.proofs.lemmas.Result.{err_from_is_err_and}
+use Rattle.http_front.proofs.FewLaws.{few_event}
+use Rattle.http_front.proofs.Beside.{beside_event, beside_lacks, beside_none, err_by}
 use Rattle.http_front.proofs.SliceLaws.{brought, not_brought}
 use Rattle.http_front.proofs.slicing.bring_next.Goals as goal
 
@@ -21,3 +24,26 @@ returns-in_err-unless_lack-in-Err-clause-beside g c from so = beside_event g.F.F
 
 pub returns-in_ok-unless_lack-in-Err-clause-beside : goal.returns-in_ok-unless_lack-in-Err-clause-beside
 returns-in_ok-unless_lack-in-Err-clause-beside g c from so = c.finish_slice.ensures.beside from (beside_event g.F.Files.device c.args.number from c.args.host.now c.bring.new.self so _ _ tt c.in-Err.ensures.event)
+
+pub returns-in_err-unless_lack-in-Err-clause-lacks : goal.returns-in_err-unless_lack-in-Err-clause-lacks
+returns-in_err-unless_lack-in-Err-clause-lacks g c from so =
+    let p = err_from_is_err_and c.from_residual-in_err-unless_lack-in-Err.result c.from_residual-in_err-unless_lack-in-Err.ensures.1 in
+    let e = c.in_err-unless_lack-in-Err.field-0.0 in
+    err_by _ c.from_residual-in_err-unless_lack-in-Err.result p.0 e p.1 p.2 (beside_lacks g.F.Files.device c.args.number from c.args.host.now c.bring.new.self so _ c.in-Err.refusal e tt c.in_err-unless_lack-in-Err.ensures.lack c.in-Err.ensures.event)
+
+pub returns-in_ok-unless_lack-in-Err-clause-lacks : goal.returns-in_ok-unless_lack-in-Err-clause-lacks
+returns-in_ok-unless_lack-in-Err-clause-lacks g c from so = c.finish_slice.ensures.lacks from (beside_event g.F.Files.device c.args.number from c.args.host.now c.bring.new.self so _ _ tt c.in-Err.ensures.event)
+
+pub returns-in_err-pieces-clause-lacks : goal.returns-in_err-pieces-clause-lacks
+returns-in_err-pieces-clause-lacks g c from so =
+    let p = err_from_is_err_and c.from_residual.result c.from_residual.ensures.1 in
+    err_by _ c.from_residual.result p.0 kind.NoMemory p.1 p.2 (beside_none g.F.Files.device c.args.number from c.args.host.now so)
+
+pub returns-in-Ok-clause-few : goal.returns-in-Ok-clause-few
+returns-in-Ok-clause-few g c from n so = few_event g.F.Files.device c.args.number from c.args.host.now n so c.bring.new.self _ _ tt refl c.in-Ok.ensures.event
+
+pub returns-in_err-unless_lack-in-Err-clause-few : goal.returns-in_err-unless_lack-in-Err-clause-few
+returns-in_err-unless_lack-in-Err-clause-few g c from n so = few_event g.F.Files.device c.args.number from c.args.host.now n so c.bring.new.self _ _ tt refl c.in-Err.ensures.event
+
+pub returns-in_ok-unless_lack-in-Err-clause-few : goal.returns-in_ok-unless_lack-in-Err-clause-few
+returns-in_ok-unless_lack-in-Err-clause-few g c from n so = c.finish_slice.ensures.few from n (few_event g.F.Files.device c.args.number from c.args.host.now n so c.bring.new.self _ _ tt refl c.in-Err.ensures.event)

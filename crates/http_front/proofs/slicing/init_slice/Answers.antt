@@ -1,3 +1,6 @@
+use Rattle.std.proofs.lemmas.Result.{err_from_is_err_and}
+use Rattle.http_front.specs.declared.fault.FrontKind.TheVariants as kind
+use Rattle.http_front.proofs.Beside.{beside_none, err_by}
 use Rattle.http_front.proofs.SliceLaws.{init_on, inited}
 use Rattle.http_front.proofs.slicing.init_slice.Goals as goal
 
@@ -8,3 +11,8 @@ returns-in-Some-clause-leads g c =
 pub returns-in_ok-opens_later-in-None-clause-leads : goal.returns-in_ok-opens_later-in-None-clause-leads
 returns-in_ok-opens_later-in-None-clause-leads g c =
     init_on g.F.Files.device c.args.number c.args.host.now c.step_slice.new.host c.args.method c.args.name.now c.in_ok-opens_later-in-None.field-0 c.in_ok-opens_later-in-None.ensures c.in-None.ensures.leads
+
+pub returns-in_err-opens_later-in-None-clause-lacks : goal.returns-in_err-opens_later-in-None-clause-lacks
+returns-in_err-opens_later-in-None-clause-lacks g c from so =
+    let p = err_from_is_err_and c.from_residual.result c.from_residual.ensures.1 in
+    err_by _ c.from_residual.result p.0 kind.NoMemory p.1 p.2 (beside_none g.F.Files.device c.args.number from c.step_slice.new.host (c.step_slice.ensures.beside from so))

@@ -1,4 +1,6 @@
-use Rattle.std.proofs.Common.{◌≡◌, true, false, sym, ◌∙◌}
+use Rattle.std.proofs.Common.{◌≡◌, true, false, sym, ◌∙◌, arith}
+use Rattle.http_front.specs.Nearing.{slice_steps}
+use Rattle.http_front.proofs.FewLaws.{few_steps}
 use Rattle.http_front.proofs.Beside.{beside_steps}
 use Rattle.http_front.proofs.SliceSteps.{sliced_ends, sliced_on}
 use Rattle.http_front.proofs.slicing.step_slice.Goals as goal
@@ -17,3 +19,9 @@ returns-then-went-clause-beside g c from so = beside_steps g.F.Files.device c.ar
 
 pub returns-clause-beside : goal.returns-clause-beside
 returns-clause-beside g c from so = beside_steps g.F.Files.device c.args.number from c.args.host.now c.step_up_to-answer.new.self so _ c.step_up_to-answer.result c.step_up_to-answer.ensures.steps
+
+pub returns-then-went-clause-few : goal.returns-then-went-clause-few
+returns-then-went-clause-few g c from n so = few_steps g.F.Files.device c.args.number from c.args.host.now n so c.step_up_to-answer.new.self _ slice_steps c.step_up_to-answer.result (omega arith) c.step_up_to-answer.ensures.steps
+
+pub returns-clause-few : goal.returns-clause-few
+returns-clause-few g c from n so = few_steps g.F.Files.device c.args.number from c.args.host.now n so c.step_up_to-answer.new.self _ slice_steps c.step_up_to-answer.result (omega arith) c.step_up_to-answer.ensures.steps

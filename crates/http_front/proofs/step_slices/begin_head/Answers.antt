@@ -1,7 +1,9 @@
 use Rattle.std.proofs.Common.{refl, subst, sym}
+use Rattle.std.proofs.lemmas.Result.{err_from_is_err_and}
 use Rattle.http_front.specs.Stepping.{DoesStep}
 use Rattle.http_front.specs.Texts.{text_of}
 use Rattle.http_front.specs.UnderWays.{BeginsHead}
+use Rattle.http_front.proofs.Beside.{err_by}
 use Rattle.http_front.proofs.BeginLaws.{found_does, found_works}
 use Rattle.http_front.proofs.step_slices.begin_head.Goals as goal
 
@@ -22,3 +24,11 @@ returns-in-Works-clause-ok g c whole = (
   refl,
   c.requires.empty,
 )
+
+pub returns-in_err-outcome-clause-err : goal.returns-in_err-outcome-clause-err
+returns-in_err-outcome-clause-err g c =
+    let p = err_from_is_err_and c.from_residual-in_err-outcome.result c.from_residual-in_err-outcome.ensures.1 in
+    let e = c.in_err-outcome.field-0.0 in
+    let why = c.in_err-outcome.ensures.err in
+    err_by _ c.from_residual-in_err-outcome.result p.0 e p.1 p.2
+    (why.0, λ names h at. why.1 names c.args.site.now h (c.in_ok-wanted.ensures h at) (c.asked_by-asked.ensures.by h at).method)

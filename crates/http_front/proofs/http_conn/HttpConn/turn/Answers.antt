@@ -1,7 +1,12 @@
-use Rattle.std.proofs.Common.{[], take, Ok}
+use Rattle.std.proofs.Common.{[], take, Ok, refl, ◌∙◌, sym, subst}
+use Rattle.std.proofs.lemmas.Result.{IfErr-weaker}
 use Rattle.std.proofs.KnownBytes.{Appends-nil, Consumes-nil}
+use Rattle.http_message.specs.Inboxes.{unread}
+use Rattle.http_front.specs.UnderWays.{most_steps}
 use Rattle.http_front.specs.Talking.{pending}
+use Rattle.http_front.specs.declared.http_conn.Next.TheVariants as next
 use Rattle.http_front.specs.declared.http_conn.Turned.TheVariants as turned
+use Rattle.http_front.proofs.TurnLaws.{on_err, on_err_as, sink_lack, sink_read, slice_lack, source_lack, source_wrote}
 use Rattle.http_front.proofs.SharingLaws.{own_over, own_read, own_step, own_wrote, stands_later}
 use Rattle.http_front.proofs.http_conn.HttpConn.turn.Goals as goal
 
@@ -65,3 +70,58 @@ returns-in-Steps-clause-others g c k apart start first came went other s =
     let gap = g.met.H.Handler.apart_on c.args.handler.now c.args.handler.now c.step-in-Steps.new.handler c.args.number k apart (g.met.H.Handler.apart_self c.args.handler.now k) own in
     stands_later c.args.site.now (λ old. g.H.Handler.among old k) (λ old. g.H.Handler.rests old k) g.K.Clock.tells (λ old new. g.H.Handler.apart old k new) start first came went other c.args.handler.now c.step-in-Steps.new.handler c.args.clock.now c.step-in-Steps.new.clock
     (λ from before. g.met.H.Handler.apart_on from c.args.handler.now c.step-in-Steps.new.handler c.args.number k apart before own) (λ task o z rest. g.met.H.Handler.rests_later c.args.handler.now c.step-in-Steps.new.handler z k task o gap rest) c.step-in-Steps.ensures.clock s
+
+pub returns-in-Writes-clause-fails : goal.returns-in-Writes-clause-fails
+returns-in-Writes-clause-fails g c = IfErr-weaker c.put_out.result _ _ (λ e how. (next.Writes, c.in-Writes.ensures, how)) c.put_out.ensures.kinds
+
+pub returns-in-Reads-clause-fails : goal.returns-in-Reads-clause-fails
+returns-in-Reads-clause-fails g c = IfErr-weaker c.take_in.result _ _ (λ e how. (next.Reads, c.in-Reads.ensures, how)) c.take_in.ensures.lost
+
+pub returns-in-Works-clause-fails : goal.returns-in-Works-clause-fails
+returns-in-Works-clause-fails g c = IfErr-weaker c.step.result _ _ (λ e how. (next.Works, c.in-Works.ensures, how)) c.step.ensures.lacks
+
+pub returns-in-Steps-clause-fails : goal.returns-in-Steps-clause-fails
+returns-in-Steps-clause-fails g c = IfErr-weaker c.step-in-Steps.result _ _ (λ e how. (next.Steps, c.in-Steps.ensures, how)) c.step-in-Steps.ensures.lacks
+
+pub returns-in-Writes-clause-none : goal.returns-in-Writes-clause-none
+returns-in-Writes-clause-none g c = on_err c.put_out.result _ (λ none. absurd (c.in-Writes.ensures none))
+
+pub returns-in-Reads-clause-none : goal.returns-in-Reads-clause-none
+returns-in-Reads-clause-none g c = on_err c.take_in.result _ (λ none. c.take_in.ensures.text ∙ none)
+
+pub returns-in-Works-clause-none : goal.returns-in-Works-clause-none
+returns-in-Works-clause-none g c = on_err_as c.step.result _ _ (λ left none. left) c.step.ensures.none
+
+pub returns-in-Steps-clause-none : goal.returns-in-Steps-clause-none
+returns-in-Steps-clause-none g c = on_err_as c.step-in-Steps.result _ _ (λ left none. left) c.step-in-Steps.ensures.none
+
+pub returns-in-Writes-clause-source : goal.returns-in-Writes-clause-source
+returns-in-Writes-clause-source g c = source_wrote _ _ refl _ c.put_out.result c.put_out.ensures.kinds
+
+pub returns-in-Reads-clause-sink : goal.returns-in-Reads-clause-sink
+returns-in-Reads-clause-sink g c = sink_read _ _ refl c.take_in.result c.take_in.ensures.unwritten
+
+pub returns-in-Works-clause-source : goal.returns-in-Works-clause-source
+returns-in-Works-clause-source g c =
+    source_lack _ _ refl _ c.step.result (IfErr-weaker c.step.result _ _ (λ e how. slice_lack c.args.site.now (λ old. g.H.Handler.lacks old c.args.number) (λ old. g.H.Handler.lacks_rest old c.args.number) c.args.handler.now c.step.new.handler (unread c.args.self.now.inbox) c.args.self.now.whole c.args.self.now.hand e how) c.step.ensures.lacks)
+
+pub returns-in-Works-clause-sink : goal.returns-in-Works-clause-sink
+returns-in-Works-clause-sink g c =
+    sink_lack _ _ refl c.step.result (IfErr-weaker c.step.result _ _ (λ e how. slice_lack c.args.site.now (λ old. g.H.Handler.lacks old c.args.number) (λ old. g.H.Handler.lacks_rest old c.args.number) c.args.handler.now c.step.new.handler (unread c.args.self.now.inbox) c.args.self.now.whole c.args.self.now.hand e how) c.step.ensures.lacks)
+
+pub returns-in-Steps-clause-source : goal.returns-in-Steps-clause-source
+returns-in-Steps-clause-source g c =
+    source_lack _ _ refl _ c.step-in-Steps.result (IfErr-weaker c.step-in-Steps.result _ _ (λ e how. slice_lack c.args.site.now (λ old. g.H.Handler.lacks old c.args.number) (λ old. g.H.Handler.lacks_rest old c.args.number) c.args.handler.now c.step-in-Steps.new.handler (unread c.args.self.now.inbox) c.args.self.now.whole c.args.self.now.hand e how) c.step-in-Steps.ensures.lacks)
+
+pub returns-in-Steps-clause-sink : goal.returns-in-Steps-clause-sink
+returns-in-Steps-clause-sink g c =
+    sink_lack _ _ refl c.step-in-Steps.result (IfErr-weaker c.step-in-Steps.result _ _ (λ e how. slice_lack c.args.site.now (λ old. g.H.Handler.lacks old c.args.number) (λ old. g.H.Handler.lacks_rest old c.args.number) c.args.handler.now c.step-in-Steps.new.handler (unread c.args.self.now.inbox) c.args.self.now.whole c.args.self.now.hand e how) c.step-in-Steps.ensures.lacks)
+
+pub returns-in-Writes-clause-few : goal.returns-in-Writes-clause-few
+returns-in-Writes-clause-few g c = subst (λ h. g.H.Handler.steps c.args.handler.now c.args.number (most_steps c.args.self.now.hand) h) (sym c.put_out.ensures.still) (g.met.H.Handler.steps_none c.args.handler.now c.args.number (most_steps c.args.self.now.hand))
+
+pub returns-in-Over-clause-few : goal.returns-in-Over-clause-few
+returns-in-Over-clause-few g c = g.met.H.Handler.steps_none c.args.handler.now c.args.number _
+
+pub returns-in-Reads-clause-few : goal.returns-in-Reads-clause-few
+returns-in-Reads-clause-few g c = g.met.H.Handler.steps_none c.args.handler.now c.args.number _

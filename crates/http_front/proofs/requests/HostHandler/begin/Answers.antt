@@ -1,5 +1,13 @@
+use Rattle.http_front.specs.Apart.{none_made}
+use Rattle.http_front.proofs.Beside.{beside_same, err_both}
 use Rattle.http_front.proofs.SliceLaws.{begun_host}
 use Rattle.http_front.proofs.requests.HostHandler.begin.Goals as goal
 
 pub returns-clause-ok : goal.returns-clause-ok
 returns-clause-ok g c = begun_host g.F.Files.device c.args.number c.begin_request.result c.args.self.now c.begin_request.new.host c.args.method c.args.file.now c.begin_request.ensures.leads
+
+pub returns-clause-err : goal.returns-clause-err
+returns-clause-err g c = err_both c.begin_request.result _ _ c.begin_request.ensures.err (c.begin_request.ensures.lacks c.args.self.now (beside_same g.F.Files.device c.args.number c.args.self.now))
+
+pub returns-clause-few : goal.returns-clause-few
+returns-clause-few g c = c.begin_request.ensures.few c.args.self.now 0 (none_made g.F.Files.device c.args.number c.args.self.now 0)

@@ -1,0 +1,151 @@
+-- How a turn fails.
+use Rattle.std.proofs.Common.{◌≡◌, ◌≢◌, ◌∙◌, ℕ, ◌+◌, ◌<◌, ◌≤◌, Bool, List, [], ◌++◌, length, take, Option, Some, None, Result, Ok, Err, refl, sym, ap, subst, inl, inr, arith}
+use Rattle.std.proofs.lemmas.List.{length-append, length-take-le}
+use Rattle.std.specs.Prelude.{IfErr, IfOk, OnErr, ◌⊎◌}
+use Rattle.http_message.specs.Clocks.{Said}
+use Rattle.http_message.specs.Inboxes.{unread}
+use Rattle.http_message.specs.declared.reply.Method.{Method}
+use Rattle.http_message.specs.declared.site.Site.{Site}
+use Rattle.http_front.specs.Outcomes.{IsLack}
+use Rattle.http_front.specs.Serving.{BlamesSink, BlamesSource, IsSinkKind}
+use Rattle.http_front.specs.Stepping.{DoesStep, LacksAnswer}
+use Rattle.http_front.specs.UnderWays.{LacksSlice, Steps, StepsFrom}
+use Rattle.http_front.specs.declared.fault.FrontKind.{FrontKind}
+use Rattle.http_front.specs.declared.fault.FrontKind.TheVariants as kind
+use Rattle.http_front.specs.declared.handler.RequestOutcome.{RequestOutcome}
+use Rattle.http_front.specs.declared.steps.ServeStep.{ServeStep}
+use Rattle.http_front.specs.declared.steps.ServeStep.TheVariants as step
+use Rattle.http_front.specs.declared.under_way.StepSlice.{StepSlice}
+use Rattle.http_front.specs.declared.under_way.StepSlice.TheVariants as slice
+use Rattle.http_front.specs.declared.under_way.UnderWay.{UnderWay}
+use Rattle.http_front.proofs.BlameLaws.{sink_apart, source_apart}
+
+-- what is told of source and sink, where neither failed
+module _ {A : Type 0} (was is : Bool) (same : is ≡ was) where
+  pub sink_lack : (r : Result A FrontKind) → IfErr r IsLack → BlamesSink r was is
+  sink_lack (Ok x) lack = same
+  sink_lack (Err kind.Write) (inl ill) = absurd (cc)
+  sink_lack (Err kind.Write) (inr ill) = absurd (cc)
+  sink_lack (Err kind.Read) lack = same
+  sink_lack (Err kind.TooManyReads) lack = same
+  sink_lack (Err kind.NoMemory) lack = same
+  sink_lack (Err kind.NamesSpent) lack = same
+
+  pub source_lack : (left : ℕ) (r : Result A FrontKind) → IfErr r IsLack → BlamesSource r was is left
+  source_lack left (Ok x) lack = same
+  source_lack left (Err kind.Read) (inl ill) = absurd (cc)
+  source_lack left (Err kind.Read) (inr ill) = absurd (cc)
+  source_lack left (Err kind.TooManyReads) (inl ill) = absurd (cc)
+  source_lack left (Err kind.TooManyReads) (inr ill) = absurd (cc)
+  source_lack left (Err kind.Write) lack = same
+  source_lack left (Err kind.NoMemory) lack = same
+  source_lack left (Err kind.NamesSpent) lack = same
+
+  -- of a write
+  pub source_wrote : (left : ℕ) (r : Result A FrontKind) → IfErr r IsSinkKind → BlamesSource r was is left
+  source_wrote left (Ok x) kinds = same
+  source_wrote left (Err kind.Read) (inl ill) = absurd (cc)
+  source_wrote left (Err kind.Read) (inr ill) = absurd (cc)
+  source_wrote left (Err kind.TooManyReads) (inl ill) = absurd (cc)
+  source_wrote left (Err kind.TooManyReads) (inr ill) = absurd (cc)
+  source_wrote left (Err kind.Write) kinds = same
+  source_wrote left (Err kind.NoMemory) kinds = same
+  source_wrote left (Err kind.NamesSpent) kinds = same
+
+  -- of a read
+  pub sink_read : (r : Result A FrontKind) → r ≢ Err kind.Write → BlamesSink r was is
+  sink_read (Ok x) not = same
+  sink_read (Err kind.Write) not = absurd (not refl)
+  sink_read (Err kind.Read) not = same
+  sink_read (Err kind.TooManyReads) not = same
+  sink_read (Err kind.NoMemory) not = same
+  sink_read (Err kind.NamesSpent) not = same
+
+-- what a failure leaves
+module _ {A E : Type 0} where
+  pub on_err : (r : Result A E) (P : Type 0) → P → OnErr r P
+  on_err (Ok x) P p = tt
+  on_err (Err e) P p = p
+
+  pub on_err_as : (r : Result A E) (P Q : Type 0) → (P → Q) → OnErr r P → OnErr r Q
+  on_err_as (Ok x) P Q into h = tt
+  on_err_as (Err e) P Q into h = into h
+
+-- a result that is there
+pub ok_at : {A E : Type 0} (P : A → Type 0) (r : Result A E) (x : A) → r ≡ Ok x → IfOk r P → P x
+ok_at P r x is h = subst (λ y. IfOk y P) is h
+
+-- why a slice fails
+module _ {H T : Type 0} (site : Site) (lacks : H → Method → List ℕ → FrontKind → H → Type 0) (lacks_rest : H → T → FrontKind → H → Type 0) (old new : H) (seen : List ℕ) (whole : Bool) where
+  pub slice_lack : (hand : Option (UnderWay T)) (e : FrontKind) → LacksSlice site lacks lacks_rest hand old seen whole new e → IsLack e
+  slice_lack hand kind.NoMemory h = inl refl
+  slice_lack hand kind.NamesSpent h = inr refl
+  slice_lack None kind.Read h = absurd h
+  slice_lack None kind.Write h = absurd h
+  slice_lack None kind.TooManyReads h = absurd h
+  slice_lack (Some u) kind.Read h = absurd h
+  slice_lack (Some u) kind.Write h = absurd h
+  slice_lack (Some u) kind.TooManyReads h = absurd h
+
+  -- of a request that was in hand
+  pub in_hand : {A : Type 0} (hand : Option (UnderWay T)) (u : UnderWay T) (r : Result A FrontKind) → hand ≡ Some u → IfErr r (λ e. IsLack e × (e ≡ kind.NamesSpent → lacks_rest old u.task e new)) → IfErr r (LacksSlice site lacks lacks_rest hand old seen whole new)
+  in_hand hand u (Ok x) is h = tt
+  in_hand hand u (Err e) is h = subst (λ (o : Option (UnderWay T)). LacksSlice site lacks lacks_rest o old seen whole new e) (sym is) (by e h.0 h.1) where
+    by : (e : FrontKind) → IsLack e → (e ≡ kind.NamesSpent → lacks_rest old u.task e new) → LacksSlice site lacks lacks_rest (Some u) old seen whole new e
+    by kind.NoMemory lack names = tt
+    by kind.NamesSpent lack names = names refl
+    by kind.Read (inl ill) names = absurd (cc)
+    by kind.Read (inr ill) names = absurd (cc)
+    by kind.Write (inl ill) names = absurd (cc)
+    by kind.Write (inr ill) names = absurd (cc)
+    by kind.TooManyReads (inl ill) names = absurd (cc)
+    by kind.TooManyReads (inr ill) names = absurd (cc)
+
+  -- a text is made only where an answer is wanted
+  module _ {K : Type 0} (among : H → Method → List ℕ → RequestOutcome → H → Type 0) (rests : H → T → RequestOutcome → H → Type 0) (tells : K → Said → K → Type 0) (before after : K) (text : List ℕ) (some : ¬ (text ≡ [])) where
+    did_wanted : (s : ServeStep) → DoesStep site among tells old before seen whole s text new after → LacksAnswer site lacks old seen whole new kind.NoMemory
+    did_wanted (step.Stays size) x = inl (x.turn.head, _, x.begins)
+    did_wanted (step.Closes size) x = inl (x.turn.head, _, x.begins)
+    did_wanted step.Refused x = inr (x.0, x.1)
+    did_wanted step.More x = absurd (some x.2.none)
+    did_wanted step.Done x = absurd (some x.2.none)
+
+    pub text_wanted : (hand : Option (UnderWay T)) (x : StepSlice T) → StepsFrom site among rests tells hand old before seen whole x text new after → LacksSlice site lacks lacks_rest hand old seen whole new kind.NoMemory
+    text_wanted None (slice.Did s) did = did_wanted s did
+    text_wanted None (slice.Works u) did = absurd (some did.2)
+    text_wanted (Some u) x did = tt
+
+  -- how a slice fails: by itself, or its text has too many bytes
+  module _ {K : Type 0} (among : H → Method → List ℕ → RequestOutcome → H → Type 0) (rests : H → T → RequestOutcome → H → Type 0) (tells : K → Said → K → Type 0) (before after : K) (text : List ℕ) where
+    pub sized_lack : (hand : Option (UnderWay T)) (did : Result (StepSlice T) FrontKind) (e : FrontKind) → IfOk did (λ x. StepsFrom site among rests tells hand old before seen whole x text new after) → IfErr did (LacksSlice site lacks lacks_rest hand old seen whole new)
+        → (did ≡ Err e) ⊎ ((x : StepSlice T) × (did ≡ Ok x) × (e ≡ kind.NoMemory) × ¬ (text ≡ [])) → LacksSlice site lacks lacks_rest hand old seen whole new e
+    sized_lack hand did e well ill (inl is) = subst (λ (r : Result (StepSlice T) FrontKind). IfErr r (LacksSlice site lacks lacks_rest hand old seen whole new)) is ill
+    sized_lack hand did e well ill (inr (x, is, memory, some)) =
+        let steps = subst (λ (r : Result (StepSlice T) FrontKind). IfOk r (λ y. StepsFrom site among rests tells hand old before seen whole y text new after)) is well in
+        subst (LacksSlice site lacks lacks_rest hand old seen whole new) (sym memory) (text_wanted among rests tells before after text some hand x steps)
+
+-- the same, of what was taken in hand and seen
+pub lack_as : {H T : Type 0} (site : Site) (lacks : H → Method → List ℕ → FrontKind → H → Type 0) (lacks_rest : H → T → FrontKind → H → Type 0) (old new : H) (took hand : Option (UnderWay T)) (low seen : List ℕ) (whole : Bool) (e : FrontKind)
+    → took ≡ hand → low ≡ seen → LacksSlice site lacks lacks_rest took old low whole new e → LacksSlice site lacks lacks_rest hand old seen whole new e
+lack_as site lacks lacks_rest old new took hand low seen whole e taken same h =
+    subst (λ (l : List ℕ). LacksSlice site lacks lacks_rest hand old l whole new e) same (subst (λ o. LacksSlice site lacks lacks_rest o old low whole new e) taken h)
+
+-- What a read gives is something, and no more than fits.
+pub read_some : (n : ℕ) (xs : List ℕ) → 0 < n → n ≤ length xs → take n xs ≡ [] → ⊥
+read_some n xs some within none =
+    let all = length-take-le n xs within in
+    let empty = ap (λ (l : List ℕ). length l) none in
+    omega (arith, all, empty, some)
+
+pub read_short : (n : ℕ) (xs : List ℕ) → n ≤ length xs → length (take n xs) ≤ length xs
+read_short n xs within =
+    let all = length-take-le n xs within in
+    omega (arith, all, within)
+
+-- the lengths of three parts that are nothing together
+pub lengths_of_none : (a b c : List ℕ) → a ++ b ++ c ≡ [] → length a + length b + length c ≡ 0
+lengths_of_none a b c none =
+    let whole = length-append (a ++ b) c in
+    let rest = length-append a b in
+    let empty : length (a ++ b ++ c) ≡ 0 = ap (λ (l : List ℕ). length l) none in
+    omega (arith, whole, rest, empty)
