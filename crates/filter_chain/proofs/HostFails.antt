@@ -2,7 +2,7 @@
 use Rattle.std.proofs.Common.{◌≡◌, ℕ, Bool, ap}
 use Rattle.run_model.specs.Files.{Files}
 use Rattle.run_model.specs.Worlds.{World}
-use Rattle.bucket_kinds.specs.Device.{Device}
+use Rattle.bucket_kinds.specs.Device.{Device, Held}
 use Rattle.bucket_kinds.specs.MemAnswers.{failing_at}
 use Rattle.bucket_kinds.specs.MemDevice.{held_of, device_of}
 use Rattle.bucket_kinds.specs.declared.mem_files.MemFiles.{MemFiles}
@@ -19,4 +19,4 @@ module _ (old : Host MemFiles) (files : MemFiles) (w : World) where
   -- It stands for the same world.
   pub hosts_failing : (call : ℕ) (fs gs : Files) (m n : ℕ) (b c : Bool) → gs ≡ failing_at call fs → IsHosting (device_of fs m b) old w → IsHosting (device_of gs n c) (record old { files = files }) w
   hosts_failing call fs gs m n b c is hosts =
-      still_hosts (device_of fs m b) (device_of gs n c) hosts (ap (λ (x : Files) k. held_of (x.opened k)) is) (ap (λ (x : Files). x.next) is)
+      still_hosts (device_of fs m b) (device_of gs n c) hosts (ap {B = ℕ → Held} (λ (x : Files) (k : ℕ). held_of (x.opened k)) is) (ap (λ (x : Files). x.next) is)

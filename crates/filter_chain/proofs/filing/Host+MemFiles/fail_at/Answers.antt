@@ -1,6 +1,7 @@
 -- By what is set to fail of the files alone.
 use Rattle.std.proofs.Common.{refl}
 use Rattle.bucket_kinds.specs.MemDevice.{files_of, failures_of, may_fail_of}
+use Rattle.filter_chain.specs.Hosting.{chain_of, budget_of}
 use Rattle.filter_chain.proofs.HostFails.{hosts_failing}
 use Rattle.filter_chain.proofs.filing.Host+MemFiles.fail_at.Goals as goal
 
@@ -12,3 +13,11 @@ returns-clause-hosts c w hosts =
     let old = c.args.self.now.files in
     let new = c.fail_at.new.self in
     hosts_failing c.args.self.now new w c.args.call (files_of old) (files_of new) (failures_of old) (failures_of new) (may_fail_of old) (may_fail_of new) c.fail_at.ensures.files hosts
+
+pub returns-clause-chain : goal.returns-clause-chain
+unfolding chain_of
+returns-clause-chain c = refl
+
+pub returns-clause-budget : goal.returns-clause-budget
+unfolding budget_of
+returns-clause-budget c = refl
