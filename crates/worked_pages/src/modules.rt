@@ -72,25 +72,3 @@ main
 ret ok
 end
 ";
-
-/// Passes on what it gets, and before it a copy of its first byte, where that can be read.
-pub(crate) const READS_A_BYTE: &[u8] = b"module 1
-open
-ret ok
-init
-ret ok
-main
-first c0 in
-jend c0 out
-read c0 out
-get n0 0 out
-put n0 out
-frombuf c1
-head in c1
-:out
-pass in bad
-ret ok
-:bad
-ret fail
-end
-";

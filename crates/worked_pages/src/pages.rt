@@ -57,14 +57,12 @@ pub(crate) fn chain(alloc: Global, text: &[u8]) -> Result<CheckedChain> {
     }
 }
 
-/// Two short files, an empty one, one of three reads and a long one.
+/// A short file, an empty one and a long one.
 fn files(alloc: Global, fails_at: u64) -> Result<MemFiles> {
     let mut files = MemFiles::new(alloc);
     files.fail_at(fails_at);
     files.add(b"a", b"hi".to_vec(alloc)?)?;
-    files.add(b"b", b"ab".to_vec(alloc)?)?;
     files.add(b"e", Vec::new(alloc))?;
-    files.add(b"s", vec![in alloc; b'x'; 16_001]?)?;
     files.add(b"l", vec![in alloc; b'x'; 65_537]?)?;
     Ok(files)
 }
