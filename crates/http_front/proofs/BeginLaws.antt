@@ -19,7 +19,7 @@ use Rattle.http_message.specs.declared.status.StatusCode.TheVariants.{NotFound}
 use Rattle.http_front.specs.Nearing.{Nears}
 use Rattle.http_front.specs.Outcomes.{IsBare, IsReplyTo, file_of}
 use Rattle.http_front.specs.Stepping.{DoesStep, IsWritten, ServesRequest}
-use Rattle.http_front.specs.Talking.{Follows, pending}
+use Rattle.http_front.specs.Talking.{Follows, one_more, pending}
 use Rattle.http_front.specs.Texts.{text_of}
 use Rattle.http_front.specs.Turns.{ComesTo, ComesUnless, fields_limit, head_limit}
 use Rattle.http_front.specs.UnderWays.{Answered, BeginsHead, IsAskedBy, IsUnderWay, Sends, Steps, StepsFrom, Wants, WantsPath}
@@ -58,12 +58,12 @@ module _ {K : Type 0} (tells : K → Said → K → Type 0) (before after : K) w
 pub pending_all : {T : Type 0} (c : HttpConn T) (t : ResponseText) → c.sent ≡ 0 → c.text ≡ t → pending c ≡ text_of t
 pending_all c t none is = subst (λ (n : ℕ). drop n (text_of c.text) ≡ text_of t) (sym none) (ap text_of is)
 
-pub follows_as : {T : Type 0} (s : ServeStep) (a b new : HttpConn T) → a.inbox ≡ b.inbox → a.wants ≡ b.wants → Follows s a new → Follows s b new
-follows_as (step.Stays size) a b new inbox wants f = record { still = f.still ∙ ap (λ i. drop size (unread i)) inbox; wants = f.wants ∙ wants; over = f.over }
-follows_as (step.Closes size) a b new inbox wants f = record { still = f.still ∙ ap (λ i. drop size (unread i)) inbox; wants = f.wants ∙ wants; over = f.over }
-follows_as step.Refused a b new inbox wants f = record { still = f.still ∙ ap unread inbox; wants = f.wants ∙ wants; over = f.over }
-follows_as step.More a b new inbox wants f = record { still = f.still ∙ ap unread inbox; wants = f.wants; over = f.over }
-follows_as step.Done a b new inbox wants f = record { still = f.still ∙ ap unread inbox; wants = f.wants ∙ wants; over = f.over }
+pub follows_as : {T : Type 0} (s : ServeStep) (a b new : HttpConn T) → a.inbox ≡ b.inbox → a.wants ≡ b.wants → a.requests ≡ b.requests → Follows s a new → Follows s b new
+follows_as (step.Stays size) a b new inbox wants count f = record { still = f.still ∙ ap (λ i. drop size (unread i)) inbox; wants = f.wants ∙ wants; over = f.over; counted = f.counted ∙ ap one_more count }
+follows_as (step.Closes size) a b new inbox wants count f = record { still = f.still ∙ ap (λ i. drop size (unread i)) inbox; wants = f.wants ∙ wants; over = f.over; counted = f.counted ∙ ap one_more count }
+follows_as step.Refused a b new inbox wants count f = record { still = f.still ∙ ap unread inbox; wants = f.wants ∙ wants; over = f.over; counted = f.counted ∙ ap one_more count }
+follows_as step.More a b new inbox wants count f = record { still = f.still ∙ ap unread inbox; wants = f.wants; over = f.over; counted = f.counted ∙ count }
+follows_as step.Done a b new inbox wants count f = record { still = f.still ∙ ap unread inbox; wants = f.wants ∙ wants; over = f.over; counted = f.counted ∙ count }
 
 -- A head that nothing refuses wants what its path does.
 pub wants_path : (site : Site) (h : RequestHead) (w : Wanted) → refusal h ≡ None → WantsPath site h w → Wants site h w

@@ -5,6 +5,7 @@ pub mod FeedLaws
 pub mod RequestLaws
 pub mod ConnectLaws
 pub mod ServedLaws
+pub mod NextLaws
 pub mod Rows
 pub mod Parts
 pub mod PutLaws

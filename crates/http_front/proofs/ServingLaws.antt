@@ -1,5 +1,5 @@
 -- Serving a connection, turn by turn.
-use Rattle.std.proofs.Common.{◌≡◌, ◌≤◌, ℕ, ◌+◌, ◌<◌, inl, inr, Bool, true, false, List, [], ◌∷◌, ◌++◌, length, take, drop, Option, Some, None, Result, Err, refl, ap, sym, subst, ◌∙◌, arith}
+use Rattle.std.proofs.Common.{◌≡◌, ◌≤◌, ℕ, ◌+◌, ◌<◌, inl, inr, Bool, true, false, List, [], ◌∷◌, ◌++◌, length, take, drop, Option, Some, None, refl, ap, sym, subst, ◌∙◌, arith}
 use Rattle.std.proofs.lemmas.List.{append_assoc, append-nil, length-append, length-drop, take-append-drop}
 use Rattle.std.proofs.lemmas.Grind.{flat_map-append}
 use Rattle.std.proofs.KnownBytes.{Appends-nil, Appends-trans, Consumes-nil, Consumes-trans}
@@ -14,10 +14,8 @@ use Rattle.http_front.specs.declared.fault.FrontKind.{FrontKind}
 use Rattle.http_front.specs.declared.fault.FrontKind.TheVariants as kind
 use Rattle.http_front.specs.declared.handler.RequestOutcome.{RequestOutcome}
 use Rattle.http_front.specs.Turns.{Turn, AllStay, AnswersRequest, AnswersAll, AnswersRequestsRead, SendsBad, WantsMore, heads_of, texts_of, head_limit, fields_limit, ClosesAfter, RefusesAfter, IsDue, IsResponsesFront, IsCut, IsNext, LacksAt, LacksFile, LacksMemory}
-use Rattle.http_front.specs.Stepping.{LacksAnswer, ServesRequest, DoesStep, WantsAnswer}
-use Rattle.http_front.specs.Serving.{Writes, SoFar, Goes, EndsWell, FailsBy, IsSinkKind}
-use Rattle.http_front.specs.declared.serving.AfterStep.{AfterStep}
-use Rattle.http_front.specs.declared.steps.ServeStep.{ServeStep}
+use Rattle.http_front.specs.Stepping.{LacksAnswer, ServesRequest, WantsAnswer}
+use Rattle.http_front.specs.Serving.{Writes, SoFar, EndsWell, FailsBy, IsSinkKind}
 
 -- Lists of turns with one more.
 
@@ -313,7 +311,7 @@ module _ {H K : Type 0} (site : Site) (handles : H → Method → List ℕ → R
     lack_memory None q w v old before new after h = tt
     lack_memory (Some stream) q w v old before new after h = (h.0, inl h.1, h.2)
 
-    far_lacks_by : (old : H) (before : K) (r q w v : Option (List ℕ)) (unread : List ℕ) (whole : Bool) (n : ℕ) (mid new : H) (then after : K) (e : FrontKind)
+    pub far_lacks_by : (old : H) (before : K) (r q w v : Option (List ℕ)) (unread : List ℕ) (whole : Bool) (n : ℕ) (mid new : H) (then after : K) (e : FrontKind)
         → Far old before r q w v unread n mid then → (whole ≡ true → IsAtEnd q) → LacksAnswer site lacks mid unread whole new e → FailsBy site handles tells lacks old before r q w v new after e
     far_lacks_by old before r q w v unread whole n mid new then after kind.NoMemory so end wants =
         lack_memory r q w v old before new after (far_lacks (λ m. IsDue) old before r q w v unread n mid then so (λ left leaves. is_due unread left whole (λ is. at_end q left leaves (end is)) wants))
@@ -328,28 +326,6 @@ module _ {H K : Type 0} (site : Site) (handles : H → Method → List ℕ → R
     cut_lacks None q w v old before new after h = tt
     cut_lacks (Some stream) q w v old before new after h = (h.0, inr (inr h.1), h.2)
 
-    cut_by : (old : H) (before : K) (r q w v : Option (List ℕ)) (new : H) (after : K) (e : FrontKind) → IsSinkKind e → Writes r w v (λ stream text. IsCut site handles tells old before stream text new after) → FailsBy site handles tells lacks old before r q w v new after e
+    pub cut_by : (old : H) (before : K) (r q w v : Option (List ℕ)) (new : H) (after : K) (e : FrontKind) → IsSinkKind e → Writes r w v (λ stream text. IsCut site handles tells old before stream text new after) → FailsBy site handles tells lacks old before r q w v new after e
     cut_by old before r q w v new after e (inl write) cut = subst (FailsBy site handles tells lacks old before r q w v new after) (sym write) cut
     cut_by old before r q w v new after e (inr memory) cut = subst (FailsBy site handles tells lacks old before r q w v new after) (sym memory) (cut_lacks r q w v old before new after cut)
-
-    -- How a `?` leaves.
-
-    abbrev GoesOn : H → K → Option (List ℕ) → Option (List ℕ) → Option (List ℕ) → Option (List ℕ) → Bool → List ℕ → ℕ → H → K → Result AfterStep FrontKind → Type 0
-    GoesOn = Goes site handles tells lacks
-
-    pub fails_lacking : (old : H) (before : K) (r q w v : Option (List ℕ)) (whole : Bool) (given unread : List ℕ) (n : ℕ) (mid new : H) (then after : K) (result : Result AfterStep FrontKind) (y e : FrontKind) (left : List ℕ)
-        → result ≡ Err y → y ≡ e → (whole ≡ true → IsAtEnd q) → given ≡ unread → LacksAnswer site lacks mid given whole new e → Far old before r q w v unread n mid then → GoesOn old before r q w v whole left n new after result
-    fails_lacking old before r q w v whole given unread n mid new then after result y e left is same end are lack so =
-        subst (GoesOn old before r q w v whole left n new after) (sym (is ∙ ap Err same))
-        (far_lacks_by old before r q w v unread whole n mid new then after e so end (subst (λ (l : List ℕ). LacksAnswer site lacks mid l whole new e) are lack))
-
-    pub fails_by : (old : H) (before : K) (r q w v : Option (List ℕ)) (whole : Bool) (unread : List ℕ) (n : ℕ) (new : H) (after : K) (result : Result AfterStep FrontKind) (y e : FrontKind)
-        → result ≡ Err y → y ≡ e → IsSinkKind e → Writes r w v (λ stream text. IsCut site handles tells old before stream text new after) → GoesOn old before r q w v whole unread n new after result
-    fails_by old before r q w v whole unread n new after result y e is same of_sink cut =
-        subst (GoesOn old before r q w v whole unread n new after) (sym (is ∙ ap Err same)) (cut_by old before r q w v new after e of_sink cut)
-
-  -- What a step did with these bytes, by what it answers. left: the handler behind it, which is as the step left it.
-  pub did : (old : H) (before : K) (given seen : List ℕ) (whole : Bool) (s t : ServeStep) (text : List ℕ) (new left : H) (after : K) → given ≡ seen → s ≡ t → left ≡ new
-      → DoesStep site handles tells old before given whole s text new after → DoesStep site handles tells old before seen whole t text left after
-  did old before given seen whole s t text new left after are same still h =
-      subst (λ x. DoesStep site handles tells old before seen whole x text left after) same (subst (λ l. DoesStep site handles tells old before l whole s text left after) are (subst (λ x. DoesStep site handles tells old before given whole s text x after) (sym still) h))

@@ -1,15 +1,24 @@
 -- How far serving a connection is, and what it wrote where it is known what the reader had left and what the writer holds.
-use Rattle.std.specs.Prelude.{◌≡◌, ℕ, ◌≤◌, Bool, true, false, List, [], ◌++◌, length, Option, IfSome, Result, Ok, Err, ◌⊎◌}
+use Rattle.std.specs.Prelude.{◌≡◌, ℕ, ◌+◌, ◌≤◌, Bool, true, false, List, [], ◌++◌, length, Option, IfSome, Result, Ok, Err, ◌⊎◌}
 use Rattle.std.specs.Io.KnownBytes.{Consumes, Appends, IsAtEnd}
 use Rattle.http_message.specs.Clocks.{Said}
+use Rattle.http_message.specs.Inboxes.{unread}
 use Rattle.http_message.specs.declared.reply.Method.{Method}
 use Rattle.http_message.specs.declared.site.Site.{Site}
 use Rattle.http_front.specs.declared.fault.FrontKind.{FrontKind}
 use Rattle.http_front.specs.declared.fault.FrontKind.TheVariants as kind
 use Rattle.http_front.specs.declared.handler.RequestOutcome.{RequestOutcome}
 use Rattle.http_front.specs.Turns.{Turn, AllStay, AnswersAll, AnswersRequestsRead, heads_of, texts_of, Responses, IsCut, LacksMemory, LacksNames, WantsMore}
-use Rattle.http_front.specs.declared.serving.AfterStep.{AfterStep}
-use Rattle.http_front.specs.declared.serving.AfterStep.TheVariants as next
+use Rattle.http_front.specs.declared.http_conn.HttpConn.{HttpConn}
+
+-- one, where something is still to come
+abbrev pub unless_so : Bool → ℕ
+unless_so true = 0
+unless_so false = 1
+
+-- What is left to be done with the bytes at hand, at most.
+abbrev pub to_do : {T : Type 0} → HttpConn T → ℕ
+to_do c = length (unread c.inbox) + unless_so c.wants + unless_so c.over
 
 -- the kinds of faults of a sink
 abbrev pub IsSinkKind : FrontKind → Type 0
@@ -71,9 +80,12 @@ module _ {H K : Type 0} (site : Site) (handles : H → Method → List ℕ → R
   FailsBy lacks old before r q w v new after kind.NoMemory = Writes r w v (λ stream text. LacksMemory site handles tells old before stream text q new after)
   FailsBy lacks old before r q w v new after kind.NamesSpent = Writes r w v (λ stream text. LacksNames site handles tells lacks old before stream text q new)
 
-  -- what comes next
-  abbrev pub Goes : (H → Method → List ℕ → FrontKind → H → Type 0) → H → K → Option (List ℕ) → Option (List ℕ) → Option (List ℕ) → Option (List ℕ) → Bool → List ℕ → ℕ → H → K → Result AfterStep FrontKind → Type 0
-  Goes lacks old before r q w v whole unread n new after (Ok next.Again) = SoFar old before r q w v unread n new after
-  Goes lacks old before r q w v whole unread n new after (Ok next.Reads) = SoFar old before r q w v unread n new after × (whole ≡ false) × WantsMore unread
-  Goes lacks old before r q w v whole unread n new after (Ok next.Over) = EndsWell old before r w v n new after
-  Goes lacks old before r q w v whole unread n new after (Err e) = FailsBy lacks old before r q w v new after e
+  -- It ends well where no more is answered; else so many requests are answered, and it stays open.
+  abbrev pub Standing : H → K → Option (List ℕ) → Option (List ℕ) → Option (List ℕ) → Option (List ℕ) → Bool → List ℕ → ℕ → H → K → Type 0
+  Standing old before r q w v true unread n new after = EndsWell old before r w v n new after
+  Standing old before r q w v false unread n new after = SoFar old before r q w v unread n new after
+
+  -- It goes on so, or fails.
+  abbrev pub Goes : {T : Type 0} → (H → Method → List ℕ → FrontKind → H → Type 0) → H → K → Option (List ℕ) → Option (List ℕ) → Option (List ℕ) → Option (List ℕ) → Bool → List ℕ → ℕ → H → K → Result T FrontKind → Type 0
+  Goes lacks old before r q w v over unread n new after (Ok x) = Standing old before r q w v over unread n new after
+  Goes lacks old before r q w v over unread n new after (Err e) = FailsBy lacks old before r q w v new after e

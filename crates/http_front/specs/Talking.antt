@@ -1,5 +1,5 @@
 -- How far a connection is that is served beside others.
-use Rattle.std.specs.Prelude.{◌≡◌, ℕ, Bool, true, false, List, [], ◌++◌, drop, Option, Some, None, Result, Ok, Err}
+use Rattle.std.specs.Prelude.{◌≡◌, ℕ, ◌+◌, min, Bool, true, false, List, [], ◌++◌, drop, Option, Some, None, Result, Ok, Err}
 use Rattle.http_message.specs.Clocks.{Said}
 use Rattle.http_message.specs.Inboxes.{unread}
 use Rattle.http_message.specs.declared.reply.Method.{Method}
@@ -63,23 +63,28 @@ module _ {H K T : Type 0} (site : Site) (among : H → Method → List ℕ → R
   GoesSo (Ok t) c now at = Stands c now at
   GoesSo (Err e) c now at = StandsCut
 
--- what is left behind a step, whether more bytes are wanted, and whether no more is answered
-pub record FollowsAs {T : Type 0} (left : List ℕ) (reads ends : Bool) (new : HttpConn T) : Type 0 where
+-- what is left behind a step, whether more bytes are wanted, whether no more is answered, and how many responses were made
+pub record FollowsAs {T : Type 0} (left : List ℕ) (reads ends : Bool) (count : ℕ) (new : HttpConn T) : Type 0 where
   pub still : unread new.inbox ≡ left
   pub wants : new.wants ≡ reads
   pub over : new.over ≡ ends
+  pub counted : new.requests ≡ count
+
+-- one more, up to the greatest number
+abbrev pub one_more : ℕ → ℕ
+one_more n = min (n + 1) 18446744073709551615
 
 abbrev pub Follows : {T : Type 0} → ServeStep → HttpConn T → HttpConn T → Type 0
-Follows (step.Stays size) old new = FollowsAs (drop size (unread old.inbox)) old.wants false new
-Follows (step.Closes size) old new = FollowsAs (drop size (unread old.inbox)) old.wants true new
-Follows step.Refused old new = FollowsAs (unread old.inbox) old.wants true new
-Follows step.More old new = FollowsAs (unread old.inbox) true false new
-Follows step.Done old new = FollowsAs (unread old.inbox) old.wants true new
+Follows (step.Stays size) old new = FollowsAs (drop size (unread old.inbox)) old.wants false (one_more old.requests) new
+Follows (step.Closes size) old new = FollowsAs (drop size (unread old.inbox)) old.wants true (one_more old.requests) new
+Follows step.Refused old new = FollowsAs (unread old.inbox) old.wants true (one_more old.requests) new
+Follows step.More old new = FollowsAs (unread old.inbox) true false old.requests new
+Follows step.Done old new = FollowsAs (unread old.inbox) old.wants true old.requests new
 
 -- what follows a slice: a step is made, and nothing is in hand; or a request is
 abbrev pub Lands : {T : Type 0} → StepSlice T → HttpConn T → HttpConn T → Type 0
 Lands (slice.Did s) old new = Follows s old new × (new.hand ≡ None)
-Lands (slice.Works u) old new = FollowsAs (unread old.inbox) old.wants false new × (new.hand ≡ Some u)
+Lands (slice.Works u) old new = FollowsAs (unread old.inbox) old.wants false old.requests new × (new.hand ≡ Some u)
 
 -- How a turn fails, by what the connection waited for. limit: the bytes of a read, at most. r, q: what the reader had left, and has. now, new: the handler before
 -- the turn, and after it

@@ -1,20 +1,24 @@
 //! A connection as a machine: what was read and not answered, and what is answered and not written. It never waits.
 
-ghost use Rattle.std.specs.Prelude.{◌≡◌, ◌≢◌, ◌≤◌, ◌<◌, ◌^◌, ◌++◌, ◌⊎◌, ℕ, List, [], true, false, None, Some, Option, length, take, drop, Ok, Err, IfOk, IfErr, IfSome, OnOk, OnErr};
+ghost use Rattle.std.specs.Prelude.{◌≡◌, ◌≢◌, ◌+◌, ◌≤◌, ◌<◌, ◌^◌, ◌++◌, ◌⊎◌, ℕ, List, [], true, false, None, Some, Option, length, take, drop, Ok, Err, IfOk, IfErr, IfSome, OnOk, OnErr};
 ghost use Rattle.std.specs.Io.KnownBytes.{Appends, Consumes, IsAtEnd};
 ghost use Rattle.http_message.specs.Inboxes.{unread};
 ghost use Rattle.http_front.specs.UnderWays.{LacksSlice, StepsFrom, most_steps};
-ghost use Rattle.http_front.specs.Serving.{BlamesSink, BlamesSource, IsSinkKind, Loses};
-ghost use Rattle.http_front.specs.Texts.{text_of};
+ghost use Rattle.byte_streams.specs.Counted.{reads_left, source_of};
+ghost use Rattle.http_front.specs.Serving.{AddsBytes, BlamesSink, BlamesSource, IsSinkKind, Loses};
+ghost use Rattle.http_front.specs.Texts.{AppendsFront, text_of};
 ghost use Rattle.http_front.specs.Sharing.{Passes};
 
 use crate::fault::FrontKind;
 use crate::handler::Handler;
+use crate::pace::{InSlices, Pace};
 use crate::response::ResponseText;
 use crate::step_slices::step_on;
 use crate::steps::ServeStep;
 use crate::under_way::{StepSlice, UnderWay};
-use byte_streams::{READS, ReadAnswer, Sink, SinkFault, Source, WriteAnswer};
+use byte_streams::{
+    CountedFault, CountedSource, READS, ReadAnswer, Sink, SinkFault, Source, WriteAnswer,
+};
 use http_message::{Clock, Inbox, Site};
 use std::alloc::Global;
 
@@ -111,6 +115,9 @@ impl<T: Drop> HttpConn<T> {
         ensures pending { pending result ≡ [] }
         ensures over { result.over ≡ false }
         ensures hand { result.hand ≡ None }
+        ensures whole { result.whole ≡ false }
+        ensures wants { result.wants ≡ true }
+        ensures requests { result.requests ≡ 0 }
     {
         HttpConn {
             inbox: Inbox::new(alloc),
@@ -126,8 +133,10 @@ impl<T: Drop> HttpConn<T> {
         }
     }
 
-    /// How many requests are answered.
-    pub fn requests(&self) -> u64 {
+    /// How many responses were made. Where there are more than 2^64 - 1, it is that.
+    pub fn requests(&self) -> u64
+        ensures { result ≡ self.now.requests }
+    {
         self.requests
     }
 
@@ -193,6 +202,7 @@ impl<T: Drop> HttpConn<T> {
         ensures hand { self.new.hand ≡ self.old.hand }
         ensures whole { self.new.whole ≡ self.old.whole }
         ensures wants { self.new.wants ≡ self.old.wants }
+        ensures requests { self.new.requests ≡ self.old.requests }
         ensures still { handler.new ≡ handler.old }
     {
         self.text.give_back(alloc, handler);
@@ -233,6 +243,73 @@ impl<T: Drop> HttpConn<T> {
         }
     }
 
+    /// Writes all of what a step made, of which nothing has gone out, into a sink that waits. Where the sink fails the rest is dropped.
+    pub(crate) fn put_all<W: Sink, H: Handler>(
+        &mut self,
+        alloc: Global,
+        sink: &mut W,
+        handler: &mut H,
+    ) -> Result<(), FrontKind>
+        requires { self.old.sent ≡ 0 }
+        ensures ok { IfOk result (λ u. Appends (W.contents sink.old) (W.contents sink.new) (pending self.old)) }
+        ensures err { IfErr result (λ e. IsSinkKind e × AppendsFront (W.contents sink.old) (W.contents sink.new) (pending self.old)) }
+        ensures blames { BlamesSink result (W.failed sink.old) (W.failed sink.new) }
+        ensures pending { pending self.new ≡ [] }
+        ensures inbox { self.new.inbox ≡ self.old.inbox }
+        ensures over { self.new.over ≡ self.old.over }
+        ensures whole { self.new.whole ≡ self.old.whole }
+        ensures wants { self.new.wants ≡ self.old.wants }
+        ensures requests { self.new.requests ≡ self.old.requests }
+        ensures still { handler.new ≡ handler.old }
+    {
+        let written = self.text.write(sink);
+        self.sent = self.size;
+        self.forget_text(alloc, handler);
+        match written {
+            Ok(()) => Ok(()),
+            Err(SinkFault::Failed) => Err(FrontKind::Write),
+            Err(SinkFault::NoMemory) => Err(FrontKind::NoMemory),
+        }
+    }
+
+    /// Reads once, through a buffer, from a source that is read so many times at most.
+    pub(crate) fn take_counted<R: Source>(
+        &mut self,
+        reader: &mut CountedSource<R>,
+        buffer: &mut [u8],
+    ) -> Result<(), FrontKind>
+        requires room { length buffer.old ≡ 8192 }
+        requires more { self.old.whole ≡ false }
+        ensures ok { OnOk result (AddsBytes (R.remaining (source_of reader.old)) (R.remaining (source_of reader.new)) (unread self.old.inbox) (unread self.new.inbox) 8192 self.new.whole) }
+        ensures waits { OnOk result (self.new.wants ≡ true → (self.new.whole ≡ false) × (unread self.new.inbox ≡ unread self.old.inbox)) }
+        ensures err { IfErr result (λ e. Loses 8192 (R.remaining (source_of reader.old)) (R.remaining (source_of reader.new)) e) }
+        ensures blames { BlamesSource result (R.failed (source_of reader.old)) (R.failed (source_of reader.new)) (reads_left reader.new) }
+        ensures counted { OnOk result (reads_left reader.old ≡ reads_left reader.new + 1) }
+        ensures unwritten { result ≢ Err FrontKind.Write }
+        ensures pending { pending self.new ≡ pending self.old }
+        ensures over { self.new.over ≡ self.old.over }
+        ensures requests { self.new.requests ≡ self.old.requests }
+        ensures room { length buffer.new ≡ 8192 }
+    {
+        match reader.read(buffer) {
+            Ok(ReadAnswer::End) => {
+                self.whole = true;
+                self.wants = false;
+                Ok(())
+            }
+            Ok(ReadAnswer::NotNow) => Ok(()),
+            Ok(ReadAnswer::Bytes(count)) => match self.inbox.add(&buffer[..count]) {
+                Ok(()) => {
+                    self.wants = false;
+                    Ok(())
+                }
+                Err(_) => Err(FrontKind::NoMemory),
+            },
+            Err(CountedFault::Failed) => Err(FrontKind::Read),
+            Err(CountedFault::TooManyReads) => Err(FrontKind::TooManyReads),
+        }
+    }
+
     /// What follows a step: its text is there.
     fn follow(&mut self, step: ServeStep)
         requires going { self.old.over ≡ false }
@@ -262,7 +339,7 @@ impl<T: Drop> HttpConn<T> {
     }
 
     /// A slice of a step: of the request that is in hand, or on the bytes at hand.
-    fn step<H: Handler<Task = T>, K: Clock>(
+    pub(crate) fn step<H: Handler, K: Clock, P: Pace<H, Task = T>>(
         &mut self,
         alloc: Global,
         site: &Site,
@@ -275,18 +352,19 @@ impl<T: Drop> HttpConn<T> {
         ensures open { H.is_open handler.new number }
         ensures beside { (from : H) → H.beside from number handler.old → H.beside from number handler.new }
         ensures clock { (from : K) → Passes K.tells from clock.old → Passes K.tells from clock.new }
-        ensures did { OnOk result ((x : StepSlice T) × StepsFrom site.now (λ old. H.among old number) (λ old. H.rests old number) K.tells self.old.hand handler.old clock.old (unread self.old.inbox) self.old.whole x (pending self.new) handler.new clock.new
+        ensures did { OnOk result ((x : StepSlice T) × StepsFrom site.now (λ old. P.comes old number) (λ old. P.rests old number) K.tells self.old.hand handler.old clock.old (unread self.old.inbox) self.old.whole x (pending self.new) handler.new clock.new
             × Lands x self.old self.new) }
         ensures whole { self.new.whole ≡ self.old.whole }
-        ensures lacks { IfErr result (LacksSlice site.now (λ old. H.lacks old number) (λ old. H.lacks_rest old number) self.old.hand handler.old (unread self.old.inbox) self.old.whole handler.new) }
+        ensures lacks { IfErr result (LacksSlice site.now (λ old. H.lacks old number) (λ old. P.lacks_rest old number) self.old.hand handler.old (unread self.old.inbox) self.old.whole handler.new) }
         ensures none { OnErr result (pending self.new ≡ []) }
-        ensures few { H.steps handler.old number (most_steps self.old.hand) handler.new }
+        ensures sent { self.new.sent ≡ 0 }
+        ensures few { P.steps handler.old number (most_steps self.old.hand) handler.new }
     {
         self.sent = 0;
         self.size = 0;
         let hand = self.hand.take();
         let seen = self.inbox.unread();
-        let did = step_on(
+        let did = step_on::<H, K, P>(
             alloc,
             seen,
             self.whole,
@@ -339,8 +417,8 @@ impl<T: Drop> HttpConn<T> {
             Next::Writes => self.put_out(alloc, sink, handler),
             Next::Over => Ok(Turned::Over),
             Next::Reads => self.take_in(reader, buffer),
-            Next::Works => self.step(alloc, site, handler, number, clock),
-            Next::Steps => self.step(alloc, site, handler, number, clock),
+            Next::Works => self.step::<H, K, InSlices>(alloc, site, handler, number, clock),
+            Next::Steps => self.step::<H, K, InSlices>(alloc, site, handler, number, clock),
         }
     }
 }

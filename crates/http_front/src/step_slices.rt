@@ -17,6 +17,7 @@ ghost use Rattle.http_message.specs.declared.site.Site.{Site};
 use crate::answering::{bad_reply, bare};
 use crate::fault::FrontKind;
 use crate::handler::{Handler, RequestOutcome, Slice};
+use crate::pace::Pace;
 use crate::response::ResponseText;
 use crate::steps::{FIELDS_LIMIT, HEAD_LIMIT, ServeStep, ends_within, front};
 use crate::texts::put_reply;
@@ -53,30 +54,30 @@ fn send<H: Handler, K: Clock>(
 }
 
 /// Begins what a head asks for.
-fn begin_wanted<H: Handler>(
+fn begin_wanted<H: Handler, P: Pace<H>>(
     alloc: Global,
     wanted: Wanted<'_>,
     method: Method,
     handler: &mut H,
     number: u64,
-) -> Result<Slice<H::Task>, FrontKind>
+) -> Result<Slice<P::Task>, FrontKind>
     requires { H.is_open handler.old number }
     ensures open { H.is_open handler.new number }
     ensures beside { (from : H) → H.beside from number handler.old → H.beside from number handler.new }
     ensures ok { IfOk result (λ s. (site : Site) (h : RequestHead) → Wants site h wanted.entry → method ≡ method_of h.method
-        → BeginsHead site (λ old. H.among old number) (λ old. H.rests old number) h handler.old s handler.new) }
+        → BeginsHead site (λ old. P.comes old number) (λ old. P.rests old number) h handler.old s handler.new) }
     ensures err { IfErr result (λ e. IsLack e × (e ≡ FrontKind.NamesSpent → (site : Site) (h : RequestHead) → Wants site h wanted.entry → method ≡ method_of h.method
         → LacksNamesAt (λ old. H.lacks old number) site handler.old h handler.new)) }
-    ensures few { H.steps handler.old number (2 * slice_steps) handler.new }
+    ensures few { P.steps handler.old number (2 * slice_steps) handler.new }
 {
     match wanted {
         Wanted::Status(status) => Ok(Slice::Done(bare(alloc, status))),
-        Wanted::File(file) => handler.begin(alloc, number, method, file),
+        Wanted::File(file) => P::begin(alloc, handler, number, method, file),
     }
 }
 
 /// Begins the request of a head that was found.
-fn begin_head<H: Handler, K: Clock>(
+fn begin_head<H: Handler, K: Clock, P: Pace<H>>(
     alloc: Global,
     seen: &[u8],
     spans: &[HeaderSpan],
@@ -86,7 +87,7 @@ fn begin_head<H: Handler, K: Clock>(
     number: u64,
     clock: &mut K,
     text: &mut ResponseText,
-) -> Result<StepSlice<H::Task>, FrontKind>
+) -> Result<StepSlice<P::Task>, FrontKind>
     requires within { IsRequestWithin seen.now spans.now head }
     requires found { IsFound head_limit seen.now spans.now head }
     requires room { length spans.now ≡ fields_limit }
@@ -96,14 +97,14 @@ fn begin_head<H: Handler, K: Clock>(
     ensures open { H.is_open handler.new number }
     ensures beside { (from : H) → H.beside from number handler.old → H.beside from number handler.new }
     ensures clock { (from : K) → Passes K.tells from clock.old → Passes K.tells from clock.new }
-    ensures ok { IfOk result (λ x. (whole : Bool) → Steps site.now (λ old. H.among old number) (λ old. H.rests old number) K.tells handler.old clock.old seen.now whole x (text_of text.new) handler.new clock.new) }
+    ensures ok { IfOk result (λ x. (whole : Bool) → Steps site.now (λ old. P.comes old number) (λ old. P.rests old number) K.tells handler.old clock.old seen.now whole x (text_of text.new) handler.new clock.new) }
     ensures err { IfErr result (λ e. IsLack e × (e ≡ FrontKind.NamesSpent → (h : RequestHead) → IsRequestAt seen.now spans.now head h
         → LacksNamesAt (λ old. H.lacks old number) site.now handler.old h handler.new)) }
-    ensures few { H.steps handler.old number (2 * slice_steps) handler.new }
+    ensures few { P.steps handler.old number (2 * slice_steps) handler.new }
 {
     let asked = asked_by(seen, spans, head);
     let wanted = wanted_of(alloc, seen, spans, head, site)?;
-    match begin_wanted(alloc, wanted, asked.method, handler, number)? {
+    match begin_wanted::<H, P>(alloc, wanted, asked.method, handler, number)? {
         Slice::Done(outcome) => {
             let step = send(alloc, seen, asked, outcome, handler, clock, text)?;
             Ok(StepSlice::Did(step))
@@ -113,7 +114,7 @@ fn begin_head<H: Handler, K: Clock>(
 }
 
 // A slice where the bytes are within the limit.
-fn begin_within<H: Handler, K: Clock>(
+fn begin_within<H: Handler, K: Clock, P: Pace<H>>(
     alloc: Global,
     seen: &[u8],
     whole: bool,
@@ -123,16 +124,16 @@ fn begin_within<H: Handler, K: Clock>(
     number: u64,
     clock: &mut K,
     text: &mut ResponseText,
-) -> Result<StepSlice<H::Task>, FrontKind>
+) -> Result<StepSlice<P::Task>, FrontKind>
     requires size { length seen.now ≤ head_limit }
     requires room { length spans.old ≡ fields_limit }
     requires open { H.is_open handler.old number }
     ensures open { H.is_open handler.new number }
     ensures beside { (from : H) → H.beside from number handler.old → H.beside from number handler.new }
     ensures clock { (from : K) → Passes K.tells from clock.old → Passes K.tells from clock.new }
-    ensures ok { IfOk result (λ x. Steps site.now (λ old. H.among old number) (λ old. H.rests old number) K.tells handler.old clock.old seen.now whole x (text_of text.new) handler.new clock.new) }
+    ensures ok { IfOk result (λ x. Steps site.now (λ old. P.comes old number) (λ old. P.rests old number) K.tells handler.old clock.old seen.now whole x (text_of text.new) handler.new clock.new) }
     ensures err { IfErr result (LacksAnswer site.now (λ old. H.lacks old number) handler.old seen.now whole handler.new) }
-    ensures few { H.steps handler.old number (2 * slice_steps) handler.new }
+    ensures few { P.steps handler.old number (2 * slice_steps) handler.new }
 {
     text.clear(alloc);
     if seen.is_empty() && whole {
@@ -142,7 +143,7 @@ fn begin_within<H: Handler, K: Clock>(
         return Ok(StepSlice::Did(ServeStep::More));
     }
     match look_at(seen, HEAD_LIMIT, whole, spans) {
-        HeadLook::Head(head) => begin_head(
+        HeadLook::Head(head) => begin_head::<H, K, P>(
             alloc, seen, spans, head, site, handler, number, clock, text,
         ),
         HeadLook::More => Ok(StepSlice::Did(ServeStep::More)),
@@ -153,8 +154,9 @@ fn begin_within<H: Handler, K: Clock>(
     }
 }
 
-/// As `take_step`, but a request that takes longer than a slice is left under way.
-fn begin_step<H: Handler, K: Clock>(
+/// Answers the request that the bytes at hand begin with, if they hold its head (RFC 9112, section 2.1), or leaves it under way. A head has at
+/// most 8192 bytes, the empty lines before it among them, and 64 fields.
+fn begin_step<H: Handler, K: Clock, P: Pace<H>>(
     alloc: Global,
     seen: &[u8],
     whole: bool,
@@ -163,17 +165,17 @@ fn begin_step<H: Handler, K: Clock>(
     number: u64,
     clock: &mut K,
     text: &mut ResponseText,
-) -> Result<StepSlice<H::Task>, FrontKind>
+) -> Result<StepSlice<P::Task>, FrontKind>
     requires { H.is_open handler.old number }
     ensures open { H.is_open handler.new number }
     ensures beside { (from : H) → H.beside from number handler.old → H.beside from number handler.new }
     ensures clock { (from : K) → Passes K.tells from clock.old → Passes K.tells from clock.new }
-    ensures ok { IfOk result (λ x. Steps site.now (λ old. H.among old number) (λ old. H.rests old number) K.tells handler.old clock.old seen.now whole x (text_of text.new) handler.new clock.new) }
+    ensures ok { IfOk result (λ x. Steps site.now (λ old. P.comes old number) (λ old. P.rests old number) K.tells handler.old clock.old seen.now whole x (text_of text.new) handler.new clock.new) }
     ensures err { IfErr result (LacksAnswer site.now (λ old. H.lacks old number) handler.old seen.now whole handler.new) }
-    ensures few { H.steps handler.old number (2 * slice_steps) handler.new }
+    ensures few { P.steps handler.old number (2 * slice_steps) handler.new }
 {
     let mut spans = [EMPTY_HEADER_SPAN; FIELDS_LIMIT];
-    begin_within(
+    begin_within::<H, K, P>(
         alloc,
         front(seen, HEAD_LIMIT),
         ends_within(whole, seen.len(), HEAD_LIMIT),
@@ -187,27 +189,27 @@ fn begin_step<H: Handler, K: Clock>(
 }
 
 /// Makes a slice more of a request that is under way, and answers it where it is handled.
-fn go_on_step<H: Handler, K: Clock>(
+fn go_on_step<H: Handler, K: Clock, P: Pace<H>>(
     alloc: Global,
     seen: &[u8],
-    under_way: UnderWay<H::Task>,
+    under_way: UnderWay<P::Task>,
     handler: &mut H,
     number: u64,
     clock: &mut K,
     text: &mut ResponseText,
-) -> Result<StepSlice<H::Task>, FrontKind>
+) -> Result<StepSlice<P::Task>, FrontKind>
     requires { H.is_open handler.old number }
     ensures open { H.is_open handler.new number }
     ensures beside { (from : H) → H.beside from number handler.old → H.beside from number handler.new }
     ensures clock { (from : K) → Passes K.tells from clock.old → Passes K.tells from clock.new }
-    ensures ok { IfOk result (λ x. (site : Site) (whole : Bool) (old : H) → IsUnderWay site (λ old. H.among old number) (λ old. H.rests old number) seen.now under_way old handler.old
-        → Steps site (λ old. H.among old number) (λ old. H.rests old number) K.tells old clock.old seen.now whole x (text_of text.new) handler.new clock.new) }
-    ensures err { IfErr result (λ e. IsLack e × (e ≡ FrontKind.NamesSpent → H.lacks_rest handler.old number under_way.task e handler.new)) }
-    ensures few { H.steps handler.old number slice_steps handler.new }
+    ensures ok { IfOk result (λ x. (site : Site) (whole : Bool) (old : H) → IsUnderWay site (λ old. P.comes old number) (λ old. P.rests old number) seen.now under_way old handler.old
+        → Steps site (λ old. P.comes old number) (λ old. P.rests old number) K.tells old clock.old seen.now whole x (text_of text.new) handler.new clock.new) }
+    ensures err { IfErr result (λ e. IsLack e × (e ≡ FrontKind.NamesSpent → P.lacks_rest handler.old number under_way.task e handler.new)) }
+    ensures few { P.steps handler.old number slice_steps handler.new }
 {
     text.clear(alloc);
     let asked = under_way.asked;
-    match handler.go_on(alloc, number, under_way.task)? {
+    match P::go_on(alloc, handler, number, under_way.task)? {
         Slice::Done(outcome) => {
             let low = front(seen, HEAD_LIMIT);
             let step = send(alloc, low, asked, outcome, handler, clock, text)?;
@@ -218,27 +220,27 @@ fn go_on_step<H: Handler, K: Clock>(
 }
 
 /// A slice of a step: of the request that is in hand, or of the next one.
-pub(crate) fn step_on<H: Handler, K: Clock>(
+pub(crate) fn step_on<H: Handler, K: Clock, P: Pace<H>>(
     alloc: Global,
     seen: &[u8],
     whole: bool,
-    hand: Option<UnderWay<H::Task>>,
+    hand: Option<UnderWay<P::Task>>,
     site: &Site,
     handler: &mut H,
     number: u64,
     clock: &mut K,
     text: &mut ResponseText,
-) -> Result<StepSlice<H::Task>, FrontKind>
+) -> Result<StepSlice<P::Task>, FrontKind>
     requires { H.is_open handler.old number }
     ensures open { H.is_open handler.new number }
     ensures beside { (from : H) → H.beside from number handler.old → H.beside from number handler.new }
     ensures clock { (from : K) → Passes K.tells from clock.old → Passes K.tells from clock.new }
-    ensures ok { IfOk result (λ x. StepsFrom site.now (λ old. H.among old number) (λ old. H.rests old number) K.tells hand handler.old clock.old seen.now whole x (text_of text.new) handler.new clock.new) }
-    ensures err { IfErr result (LacksSlice site.now (λ old. H.lacks old number) (λ old. H.lacks_rest old number) hand handler.old seen.now whole handler.new) }
-    ensures few { H.steps handler.old number (most_steps hand) handler.new }
+    ensures ok { IfOk result (λ x. StepsFrom site.now (λ old. P.comes old number) (λ old. P.rests old number) K.tells hand handler.old clock.old seen.now whole x (text_of text.new) handler.new clock.new) }
+    ensures err { IfErr result (LacksSlice site.now (λ old. H.lacks old number) (λ old. P.lacks_rest old number) hand handler.old seen.now whole handler.new) }
+    ensures few { P.steps handler.old number (most_steps hand) handler.new }
 {
     match hand {
-        Some(under_way) => go_on_step(alloc, seen, under_way, handler, number, clock, text),
-        None => begin_step(alloc, seen, whole, site, handler, number, clock, text),
+        Some(under_way) => go_on_step::<H, K, P>(alloc, seen, under_way, handler, number, clock, text),
+        None => begin_step::<H, K, P>(alloc, seen, whole, site, handler, number, clock, text),
     }
 }

@@ -57,6 +57,8 @@ pub struct Client {
     /// What the system reported of the socket, until a call said otherwise.
     pub readable: bool,
     pub writable: bool,
+    /// The system reported that the peer sends no more: reads are tried up to the end.
+    pub ended: bool,
     /// It stands in the queue.
     pub queued: bool,
     /// When it is to have moved.
@@ -92,6 +94,7 @@ impl Client {
             conn: HttpConn::new(shared.runtime.alloc()),
             readable: true,
             writable: true,
+            ended: false,
             queued: false,
             due: later(now, shared.patience),
             lingers: None,
@@ -111,10 +114,7 @@ impl Client {
         if !self.readable {
             return Turn::Waits;
         }
-        let mut socket = Socket {
-            stream: &self.stream,
-        };
-        match socket.read(buffer) {
+        match Socket::new(&self.stream).read(buffer) {
             Ok(0) => Turn::Over,
             Ok(_) => {
                 self.lingers = Some(left - 1);
@@ -206,20 +206,21 @@ impl Client {
             runtime: shared.runtime,
             log: told_by(shared.logs, &log),
         };
+        let mut source = StdSource::polled(Socket::new(&self.stream));
         let turned = self.conn.turn(
             shared.runtime.alloc(),
-            &mut StdSource::polled(Socket {
-                stream: &self.stream,
-            }),
-            &mut StdSink::polled(Socket {
-                stream: &self.stream,
-            }),
+            &mut source,
+            &mut StdSink::polled(Socket::new(&self.stream)),
             shared.site,
             host,
             self.host_number,
             &mut clock,
             shared.buffer.as_mut_slice(),
         );
+        // The system reports more bytes when they come, and the end of them once.
+        if source.reader.drained && !self.ended {
+            self.readable = false;
+        }
         match turned {
             Ok(turned) => {
                 if reads && turned == Turned::Moved {

@@ -7,6 +7,7 @@ use crate::listening::ServeSettings;
 use crate::request_log::{tell_refused, tell_unready};
 use filter_chain::{Files, Host};
 use http_front::{Site, close_turns, open_turns};
+use mio::event::Event;
 use mio::net::{TcpListener, TcpStream};
 use mio::{Events, Interest, Poll, Token};
 use slab::Slab;
@@ -41,12 +42,21 @@ struct Hall {
 
 impl Hall {
     /// Takes note of what the system reported of a client.
-    fn wake(&mut self, key: usize, readable: bool, writable: bool) {
+    fn note(&mut self, key: usize, event: &Event) {
         let Some(client) = self.clients.get_mut(key) else {
             return;
         };
-        client.readable = client.readable || readable;
-        client.writable = client.writable || writable;
+        client.readable = client.readable || event.is_readable() || event.is_read_closed();
+        client.writable = client.writable || event.is_writable();
+        client.ended = client.ended || event.is_read_closed();
+        self.wake(key);
+    }
+
+    /// A client gets its turn.
+    fn wake(&mut self, key: usize) {
+        let Some(client) = self.clients.get_mut(key) else {
+            return;
+        };
         if !client.queued && self.queue.push_back(key).is_ok() {
             client.queued = true;
         }
@@ -90,7 +100,7 @@ impl Hall {
             }
             match client.turn(shared, host, now) {
                 Turn::Waits => {}
-                Turn::Again => self.wake(key, false, false),
+                Turn::Again => self.wake(key),
                 Turn::Over => self.leave(host, key),
             }
         }
@@ -231,7 +241,7 @@ fn welcome<R: Clock + Eprint + AllocGlobal, F: Files + Drop>(
         let _ = close_turns(host, host_number);
         return Err(io::Error::from(ErrorKind::OutOfMemory));
     };
-    hall.wake(key, true, true);
+    hall.wake(key);
     Ok(())
 }
 
@@ -284,7 +294,7 @@ fn note(events: &Events, hall: &mut Hall, door: &mut Door) {
         if key == DOOR {
             door.open = true;
         } else {
-            hall.wake(key, event.is_readable(), event.is_writable());
+            hall.note(key, event);
         }
     }
 }

@@ -12,6 +12,17 @@ const TRIES: u32 = 1000;
 #[derive(Drop)]
 pub struct Socket<'a> {
     pub stream: &'a TcpStream,
+    /// The last read gave fewer bytes than there was room for: the next one would give nothing.
+    pub drained: bool,
+}
+
+impl<'a> Socket<'a> {
+    pub fn new(stream: &'a TcpStream) -> Socket<'a> {
+        Socket {
+            stream,
+            drained: false,
+        }
+    }
 }
 
 impl Read for Socket<'_> {
@@ -20,7 +31,11 @@ impl Read for Socket<'_> {
         for _ in 0..TRIES {
             match stream.read(buf) {
                 Err(error) if error.kind() == ErrorKind::Interrupted => {}
-                given => return given,
+                Ok(count) => {
+                    self.drained = count < buf.len();
+                    return Ok(count);
+                }
+                Err(error) => return Err(error),
             }
         }
         Err(io::Error::from(ErrorKind::Interrupted))

@@ -1,60 +1,16 @@
+use Rattle.std.proofs.Common.{◌≡◌, ◌<◌, ◌≤◌, ◌+◌, length, false, true, refl, sym, subst, ◌∙◌}
 use Rattle.std.proofs.lemmas.Result.{err_from_is_err_and}
 use Rattle.http_message.specs.Inboxes.{unread}
-use Rattle.http_front.specs.Texts.{text_of}
-use Rattle.http_front.specs.Stepping.{DoesStep}
-use Rattle.http_front.specs.declared.steps.ServeStep.TheVariants as step
-use Rattle.http_front.proofs.ServingLaws.{far_stays, far_closes, far_refused, fails_by, fails_lacking, cut_stays, cut_closes, cut_refused, did}
+use Rattle.http_front.specs.Talking.{pending}
+use Rattle.http_front.proofs.NextLaws.{few_put, goes_put, less_put, slice_lacks, slice_step, stays_some, step_few, step_less, wants_more, wants_put}
+use Rattle.http_front.proofs.ServedLaws.{fails_as}
+use Rattle.http_front.proofs.ServingLaws.{far_lacks_by}
 use Rattle.http_front.proofs.serving.answer_next.Goals as goal
 
-pub returns-in_err-step-clause-goes : goal.returns-in_err-step-clause-goes
-returns-in_err-step-clause-goes g c old before r q w ends so =
-    let p = err_from_is_err_and c.from_residual.result c.from_residual.ensures.1 in
-    fails_lacking c.args.site.now (λ h. g.H.Handler.handles h c.args.number) g.K.Clock.tells (λ h. g.H.Handler.lacks h c.args.number) old before r q w _ _ _ _ _ _ _ _ _ c.from_residual.result p.0 c.in_err-step.field-0.0 _ p.1 p.2 ends c.unread.ensures c.in_err-step.ensures.err so
-
-pub returns-in_err-put-in-Stays-clause-goes : goal.returns-in_err-put-in-Stays-clause-goes
-returns-in_err-put-in-Stays-clause-goes g c old before r q w ends so =
-    let one : DoesStep c.args.site.now (λ h. g.H.Handler.handles h c.args.number) g.K.Clock.tells c.args.handler.now c.args.clock.now c.unread.result.now c.args.so_far.now.whole c.in_ok-step.step (text_of c.take_step.new.text) c.take_step.new.handler c.take_step.new.clock = c.in_ok-step.ensures.ok in
-    let stepped = did c.args.site.now (λ h. g.H.Handler.handles h c.args.number) g.K.Clock.tells c.args.handler.now c.args.clock.now c.unread.result.now (unread c.args.so_far.now.inbox) c.args.so_far.now.whole c.in_ok-step.step (step.Stays c.in-Stays.size) (text_of c.take_step.new.text) c.take_step.new.handler _ c.take_step.new.clock c.unread.ensures c.in-Stays.is c.in_err-put-in-Stays.ensures.still one in
-    let p = err_from_is_err_and c.from_residual-in_err-put-in-Stays.result c.from_residual-in_err-put-in-Stays.ensures.1 in
-    let e = c.in_err-put-in-Stays.ensures.err in
-    fails_by _ _ _ (λ h. g.H.Handler.lacks h c.args.number) old before r q w _ _ _ _ _ _ c.from_residual-in_err-put-in-Stays.result p.0 c.in_err-put-in-Stays.field-0.0 p.1 p.2 e.0
-    (cut_stays _ _ _ old before r q w _ _ _ _ c.in-Stays.size e.1.0 _ _ _ _ _ so stepped e.1.1 e.1.2)
-
-pub returns-in_err-put-in-Closes-clause-goes : goal.returns-in_err-put-in-Closes-clause-goes
-returns-in_err-put-in-Closes-clause-goes g c old before r q w ends so =
-    let one : DoesStep c.args.site.now (λ h. g.H.Handler.handles h c.args.number) g.K.Clock.tells c.args.handler.now c.args.clock.now c.unread.result.now c.args.so_far.now.whole c.in_ok-step.step (text_of c.take_step.new.text) c.take_step.new.handler c.take_step.new.clock = c.in_ok-step.ensures.ok in
-    let stepped = did c.args.site.now (λ h. g.H.Handler.handles h c.args.number) g.K.Clock.tells c.args.handler.now c.args.clock.now c.unread.result.now (unread c.args.so_far.now.inbox) c.args.so_far.now.whole c.in_ok-step.step (step.Closes c.in-Closes.size) (text_of c.take_step.new.text) c.take_step.new.handler _ c.take_step.new.clock c.unread.ensures c.in-Closes.is c.in_err-put-in-Closes.ensures.still one in
-    let p = err_from_is_err_and c.from_residual-in_err-put-in-Closes.result c.from_residual-in_err-put-in-Closes.ensures.1 in
-    let e = c.in_err-put-in-Closes.ensures.err in
-    fails_by _ _ _ (λ h. g.H.Handler.lacks h c.args.number) old before r q w _ _ _ _ _ _ c.from_residual-in_err-put-in-Closes.result p.0 c.in_err-put-in-Closes.field-0.0 p.1 p.2 e.0
-    (cut_closes _ _ _ old before r q w _ _ _ _ c.in-Closes.size e.1.0 _ _ _ _ _ so stepped e.1.1 e.1.2)
-
-pub returns-in_err-put-in-Refused-clause-goes : goal.returns-in_err-put-in-Refused-clause-goes
-returns-in_err-put-in-Refused-clause-goes g c old before r q w ends so =
-    let one : DoesStep c.args.site.now (λ h. g.H.Handler.handles h c.args.number) g.K.Clock.tells c.args.handler.now c.args.clock.now c.unread.result.now c.args.so_far.now.whole c.in_ok-step.step (text_of c.take_step.new.text) c.take_step.new.handler c.take_step.new.clock = c.in_ok-step.ensures.ok in
-    let stepped = did c.args.site.now (λ h. g.H.Handler.handles h c.args.number) g.K.Clock.tells c.args.handler.now c.args.clock.now c.unread.result.now (unread c.args.so_far.now.inbox) c.args.so_far.now.whole c.in_ok-step.step step.Refused (text_of c.take_step.new.text) c.take_step.new.handler _ c.take_step.new.clock c.unread.ensures c.in-Refused.is c.in_err-put-in-Refused.ensures.still one in
-    let p = err_from_is_err_and c.from_residual-in_err-put-in-Refused.result c.from_residual-in_err-put-in-Refused.ensures.1 in
-    let e = c.in_err-put-in-Refused.ensures.err in
-    fails_by _ _ _ (λ h. g.H.Handler.lacks h c.args.number) old before r q w _ _ _ _ _ _ c.from_residual-in_err-put-in-Refused.result p.0 c.in_err-put-in-Refused.field-0.0 p.1 p.2 e.0
-    (cut_refused _ _ _ old before r q w _ _ _ _ _ e.1.0 _ _ _ _ _ so ends stepped e.1.1 e.1.2)
-
-pub returns-in_ok-put-in-Stays-clause-goes : goal.returns-in_ok-put-in-Stays-clause-goes
-returns-in_ok-put-in-Stays-clause-goes g c old before r q w ends so =
-    let one : DoesStep c.args.site.now (λ h. g.H.Handler.handles h c.args.number) g.K.Clock.tells c.args.handler.now c.args.clock.now c.unread.result.now c.args.so_far.now.whole c.in_ok-step.step (text_of c.take_step.new.text) c.take_step.new.handler c.take_step.new.clock = c.in_ok-step.ensures.ok in
-    let k = c.in_ok-put-in-Stays.ensures in
-    let stepped = did c.args.site.now (λ h. g.H.Handler.handles h c.args.number) g.K.Clock.tells c.args.handler.now c.args.clock.now c.unread.result.now (unread c.args.so_far.now.inbox) c.args.so_far.now.whole c.in_ok-step.step (step.Stays c.in-Stays.size) (text_of c.take_step.new.text) c.take_step.new.handler _ c.take_step.new.clock c.unread.ensures c.in-Stays.is k.still one in
-    far_stays _ _ _ old before r q w _ _ _ _ _ _ c.in-Stays.size _ _ _ _ _ so stepped k.ok k.skipped k.counted
-
-pub returns-in_ok-put-in-Closes-clause-goes : goal.returns-in_ok-put-in-Closes-clause-goes
-returns-in_ok-put-in-Closes-clause-goes g c old before r q w ends so =
-    let one : DoesStep c.args.site.now (λ h. g.H.Handler.handles h c.args.number) g.K.Clock.tells c.args.handler.now c.args.clock.now c.unread.result.now c.args.so_far.now.whole c.in_ok-step.step (text_of c.take_step.new.text) c.take_step.new.handler c.take_step.new.clock = c.in_ok-step.ensures.ok in
-    let k = c.in_ok-put-in-Closes.ensures in
-    let stepped = did c.args.site.now (λ h. g.H.Handler.handles h c.args.number) g.K.Clock.tells c.args.handler.now c.args.clock.now c.unread.result.now (unread c.args.so_far.now.inbox) c.args.so_far.now.whole c.in_ok-step.step (step.Closes c.in-Closes.size) (text_of c.take_step.new.text) c.take_step.new.handler _ c.take_step.new.clock c.unread.ensures c.in-Closes.is k.still one in
-    far_closes _ _ _ old before r q w _ _ _ _ _ c.in-Closes.size _ _ _ _ _ so stepped k.ok k.counted
-
-pub returns-in_ok-put-in-Refused-clause-goes : goal.returns-in_ok-put-in-Refused-clause-goes
-returns-in_ok-put-in-Refused-clause-goes g c old before r q w ends so =
-    let one : DoesStep c.args.site.now (λ h. g.H.Handler.handles h c.args.number) g.K.Clock.tells c.args.handler.now c.args.clock.now c.unread.result.now c.args.so_far.now.whole c.in_ok-step.step (text_of c.take_step.new.text) c.take_step.new.handler c.take_step.new.clock = c.in_ok-step.ensures.ok in
-    let k = c.in_ok-put-in-Refused.ensures in
-    let stepped = did c.args.site.now (λ h. g.H.Handler.handles h c.args.number) g.K.Clock.tells c.args.handler.now c.args.clock.now c.unread.result.now (unread c.args.so_far.now.inbox) c.args.so_far.now.whole c.in_ok-step.step step.Refused (text_of c.take_step.new.text) c.take_step.new.handler _ c.take_step.new.clock c.unread.ensures c.in-Refused.is k.still one in
-    far_refused _ _ _ old before r q w _ _ _ _ _ _ _ _ _ _ _ so ends stepped k.ok k.counted
+pub returns-clause-goes : goal.returns-clause-goes
+returns-clause-goes g c old before r q w ends so =
+    let did = c.in_ok-step.ensures.did in
+    let x = slice_step c.args.site.now (λ h. g.H.Handler.handles h c.args.number) (λ h k o z. ⊥) g.K.Clock.tells (λ t. elim t [ ]) c.args.conn.now.hand did.0 c.args.conn.now c.step.new.self (unread c.args.conn.now.inbox) c.args.conn.now.whole c.args.handler.now c.step.new.handler c.args.clock.now c.step.new.clock (pending c.step.new.self) did.1 did.2 in
+    subst (λ h. _) (sym c.put_all.ensures.still)
+    (goes_put c.args.site.now (λ h. g.H.Handler.handles h c.args.number) g.K.Clock.tells c.args.conn.now c.step.new.self c.args.handler.now c.step.new.handler c.args.clock.now c.step.new.clock (pending c.step.new.self) old before r q w (g.W.Sink.contents c.args.sink.now) (g.W.Sink.contents c.put_all.new.sink) so ends
+    (λ h. g.H.Handler.lacks h c.args.number) c.put_all.new.self x.0 c.put_all.result c.requires.few x.1 x.2 c.put_all.ensures.over c.put_all.ensures.inbox c.put_all.ensures.requests c.put_all.ensures.ok c.put_all.ensures.err)
