@@ -9,7 +9,7 @@ use Rattle.run_model.specs.Worlds.{World, Told, Answer, Labels, Refused, closes,
 use Rattle.run_model.proofs.Updates.{upd_at}
 use Rattle.bucket_kinds.specs.Device.{Device}
 use Rattle.filter_chain.specs.declared.host.Host.{Host}
-use Rattle.filter_chain.specs.HostViews.{HostView, Answers}
+use Rattle.filter_chain.specs.HostViews.{Answers}
 use Rattle.http_front.specs.Connecting.{ClosesTurns}
 use Rattle.http_front.specs.Driven.{Refines}
 use Rattle.filter_chain.proofs.Driving.{Happened, by_event, leads_as}

@@ -1,5 +1,5 @@
 -- What a step of serving comes to, once its text is written.
-use Rattle.std.proofs.Common.{◌≡◌, ◌≤◌, ◌<◌, ◌+◌, ◌^◌, ℕ, Bool, true, false, List, [], ◌++◌, Option, Some, None, Result, Ok, Err, length, drop, refl, ap, sym, subst, ◌∙◌, arith, append-nil, length-drop}
+use Rattle.std.proofs.Common.{◌≡◌, ◌≤◌, ◌<◌, ◌+◌, ◌^◌, ℕ, Bool, true, false, List, [], ◌++◌, Option, Some, None, Result, Ok, Err, length, refl, ap, sym, subst, ◌∙◌, arith, append-nil, length-drop}
 use Rattle.std.specs.Prelude.{IfErr, IfOk, OnOk}
 use Rattle.std.proofs.Math.Nat.{min-eq_left}
 use Rattle.std.proofs.KnownBytes.{Appends-trans}
@@ -9,7 +9,6 @@ use Rattle.http_message.specs.Inboxes.{unread}
 use Rattle.http_message.specs.declared.reply.Method.{Method}
 use Rattle.http_message.specs.declared.site.Site.{Site}
 use Rattle.http_front.specs.declared.fault.FrontKind.{FrontKind}
-use Rattle.http_front.specs.declared.fault.FrontKind.TheVariants as kind
 use Rattle.http_front.specs.declared.handler.RequestOutcome.{RequestOutcome}
 use Rattle.http_front.specs.declared.http_conn.HttpConn.{HttpConn}
 use Rattle.http_front.specs.declared.http_conn.Next.{Next}
@@ -21,11 +20,11 @@ use Rattle.http_front.specs.declared.under_way.StepSlice.TheVariants as slice
 use Rattle.http_front.specs.declared.under_way.UnderWay.{UnderWay}
 use Rattle.http_front.specs.Turns.{IsCut, WantsMore, texts_of}
 use Rattle.http_front.specs.Stepping.{DoesStep, LacksAnswer}
-use Rattle.http_front.specs.Serving.{Goes, FailsBy, IsSinkKind, SoFar, Standing, Writes, to_do, unless_so}
-use Rattle.http_front.specs.Talking.{Follows, IsNext, Lands, one_more, pending}
+use Rattle.http_front.specs.Serving.{Goes, IsSinkKind, SoFar, Standing, Writes}
+use Rattle.http_front.specs.Talking.{Follows, IsNext, Lands, one_more, pending, to_do}
 use Rattle.http_front.specs.Texts.{AppendsFront}
 use Rattle.http_front.specs.UnderWays.{LacksSlice, StepsFrom}
-use Rattle.http_front.proofs.ServingLaws.{cut_by, cut_closes, cut_refused, cut_stays, far_closes, far_done, far_lacks_by, far_refused, far_stays}
+use Rattle.http_front.proofs.ServingLaws.{cut_by, cut_closes, cut_refused, cut_stays, far_closes, far_done, far_refused, far_stays}
 
 -- whatever a result is
 on_ok : {A E P : Type 0} (r : Result A E) → P → OnOk r P

@@ -1,5 +1,5 @@
 -- Serving a connection, read by read.
-use Rattle.std.proofs.Common.{◌≡◌, ℕ, List, [], Option, Result, Ok, Err, refl, sym, subst, append-nil}
+use Rattle.std.proofs.Common.{◌≡◌, ℕ, List, [], Option, Result, Ok, Err, sym, subst, append-nil}
 use Rattle.http_message.specs.Clocks.{Said}
 use Rattle.http_message.specs.declared.reply.Method.{Method}
 use Rattle.http_message.specs.declared.site.Site.{Site}

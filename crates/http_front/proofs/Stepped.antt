@@ -4,23 +4,22 @@ use Rattle.std.specs.Prelude.{Result, IfOk, IfErr}
 use Rattle.std.proofs.lemmas.Bool.{eqb-true, leb-true, le-leb}
 use Rattle.std.proofs.lemmas.List.{drop_all, nil_from_length, take_all}
 use Rattle.httparse.specs.Grammar.{RequestHead, print_request}
-use Rattle.httparse.specs.Spans.{IsRequestAt, IsRequestWithin, span_bytes}
+use Rattle.httparse.specs.Spans.{IsRequestAt}
 use Rattle.httparse.specs.declared.spans.HeaderSpan.{HeaderSpan}
 use Rattle.httparse.specs.declared.spans.RequestSpans.{RequestSpans}
 use Rattle.httparse.proofs.GrammarLemmas.{print_request-append}
 use Rattle.percent_encoding.specs.Percent.{percent_decode}
-use Rattle.http_message.specs.Clocks.{Said, IsNoted}
+use Rattle.http_message.specs.Clocks.{Said}
 use Rattle.http_message.specs.Asking.{target_path}
 use Rattle.http_message.specs.Heads.{BeginsWithin, IsHeadlessWithin, StaysHeadless}
 use Rattle.http_message.specs.Looking.{IsFound}
 use Rattle.http_message.specs.Sites.{route_of}
 use Rattle.http_message.specs.declared.reply.Method.{Method}
-use Rattle.http_message.specs.declared.reply.Reply.{Reply}
 use Rattle.http_message.specs.declared.site.Site.{Site}
 use Rattle.http_message.proofs.Headless.{front_only}
-use Rattle.http_front.specs.Outcomes.{file_at, file_of, IsBadReply, IsLack, LacksNamesAt}
-use Rattle.http_front.specs.Stepping.{IsReplied, IsWritten, LacksAnswer, ServesRequest, DoesStep, WantsAnswer}
-use Rattle.http_front.specs.Turns.{SendsBad, WantsMore, head_limit, fields_limit}
+use Rattle.http_front.specs.Outcomes.{file_at, file_of, IsLack, LacksNamesAt}
+use Rattle.http_front.specs.Stepping.{LacksAnswer, ServesRequest, DoesStep, WantsAnswer}
+use Rattle.http_front.specs.Turns.{WantsMore, head_limit, fields_limit}
 use Rattle.http_front.specs.declared.fault.FrontKind.{FrontKind}
 use Rattle.http_front.specs.declared.fault.FrontKind.TheVariants as kind
 use Rattle.http_front.specs.declared.handler.RequestOutcome.{RequestOutcome}
@@ -151,31 +150,6 @@ done_wider limit seen true is none = (refl, sym (take_all limit seen (leb-true (
 done_wider limit seen false is none = cc
 
 module _ {H K : Type 0} (site : Site) (handles : H → Method → List ℕ → RequestOutcome → H → Type 0) (tells : K → Said → K → Type 0) where
-  -- a head that was found is answered
-  pub serves : (old new : H) (before after : K) (seen : List ℕ) (spans : List HeaderSpan) (head : RequestSpans) (r : Reply) (closes : Bool) (text method target : List ℕ)
-      → IsRequestWithin seen spans head → length spans ≡ fields_limit → IsFound head_limit seen spans head
-      → ((h : RequestHead) → IsRequestAt seen spans head h → IsReplied site handles old h r new)
-      → method ≡ span_bytes seen head.method → target ≡ span_bytes seen head.path → IsWritten tells before method target r text after → r.closes ≡ closes
-      → ServesRequest site handles tells old before seen closes head.len text new after
-  serves old new before after seen spans head r closes text method target within room found replied sent named written is =
-      let says = replied found.0 found.1 in
-      let begins = subst (λ (n : ℕ). BeginsWithin head_limit n seen found.0 (drop head.len seen)) room found.2 in
-      record {
-        turn = record { head = found.0; reply = r; date = written.date };
-        begins = begins;
-        fits = within.section.len_fits;
-        some = subst (λ (n : ℕ). 0 < n) (sym found.1.len) (some_bytes found.0);
-        answers = record { valid = begins.reads.0; within = record { size = begins.size; count = begins.count }; outcome = says.outcome; comes = says.comes; reply = says.reply; then = written.then; dated = written.dated; noted = subst (λ m. IsNoted tells written.then m found.0.target r after) (sent ∙ found.1.method) (subst (λ t. IsNoted tells written.then method t r after) (named ∙ found.1.path) written.noted) };
-        written = written.written;
-        goes_on = is;
-      }
-
-  -- a bad reply is sent
-  pub sends_bad : (before after : K) (r : Reply) (text : List ℕ) → IsBadReply r → IsWritten tells before [] [] r text after
-      → SendsBad site handles tells before text after
-  sends_bad before after r text bad w =
-      record { reply = r; date = w.date; bad = bad; then = w.then; dated = w.dated; noted = w.noted; written = w.written }
-
   serves_wider : (old new : H) (before after : K) (seen : List ℕ) (closes : Bool) (size : ℕ) (text : List ℕ)
       → ServesRequest site handles tells old before (take head_limit seen) closes size text new after
       → ServesRequest site handles tells old before seen closes size text new after

@@ -1,15 +1,14 @@
 -- How a turn fails.
-use Rattle.std.proofs.Common.{◌≡◌, ◌≢◌, ◌∙◌, ℕ, ◌+◌, ◌<◌, ◌≤◌, Bool, List, [], ◌++◌, length, take, Option, Some, None, Result, Ok, Err, refl, sym, ap, subst, inl, inr, arith}
+use Rattle.std.proofs.Common.{◌≡◌, ◌≢◌, ℕ, ◌+◌, ◌<◌, ◌≤◌, Bool, List, [], ◌++◌, length, take, Option, Some, None, Result, Ok, Err, refl, sym, ap, subst, inl, inr, arith}
 use Rattle.std.proofs.lemmas.List.{length-append, length-take-le}
 use Rattle.std.specs.Prelude.{IfErr, IfOk, OnErr, ◌⊎◌}
 use Rattle.http_message.specs.Clocks.{Said}
-use Rattle.http_message.specs.Inboxes.{unread}
 use Rattle.http_message.specs.declared.reply.Method.{Method}
 use Rattle.http_message.specs.declared.site.Site.{Site}
 use Rattle.http_front.specs.Outcomes.{IsLack}
 use Rattle.http_front.specs.Serving.{BlamesSink, BlamesSource, IsSinkKind}
 use Rattle.http_front.specs.Stepping.{DoesStep, LacksAnswer}
-use Rattle.http_front.specs.UnderWays.{LacksSlice, Steps, StepsFrom}
+use Rattle.http_front.specs.UnderWays.{LacksSlice, StepsFrom}
 use Rattle.http_front.specs.declared.fault.FrontKind.{FrontKind}
 use Rattle.http_front.specs.declared.fault.FrontKind.TheVariants as kind
 use Rattle.http_front.specs.declared.handler.RequestOutcome.{RequestOutcome}
@@ -18,7 +17,6 @@ use Rattle.http_front.specs.declared.steps.ServeStep.TheVariants as step
 use Rattle.http_front.specs.declared.under_way.StepSlice.{StepSlice}
 use Rattle.http_front.specs.declared.under_way.StepSlice.TheVariants as slice
 use Rattle.http_front.specs.declared.under_way.UnderWay.{UnderWay}
-use Rattle.http_front.proofs.BlameLaws.{sink_apart, source_apart}
 
 -- what is told of source and sink, where neither failed
 module _ {A : Type 0} (was is : Bool) (same : is ≡ was) where

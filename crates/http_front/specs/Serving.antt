@@ -1,24 +1,13 @@
 -- How far serving a connection is, and what it wrote where it is known what the reader had left and what the writer holds.
-use Rattle.std.specs.Prelude.{◌≡◌, ℕ, ◌+◌, ◌≤◌, Bool, true, false, List, [], ◌++◌, length, Option, IfSome, Result, Ok, Err, ◌⊎◌}
+use Rattle.std.specs.Prelude.{◌≡◌, ℕ, ◌≤◌, Bool, true, false, List, [], ◌++◌, length, Option, IfSome, Result, Ok, Err, ◌⊎◌}
 use Rattle.std.specs.Io.KnownBytes.{Consumes, Appends, IsAtEnd}
 use Rattle.http_message.specs.Clocks.{Said}
-use Rattle.http_message.specs.Inboxes.{unread}
 use Rattle.http_message.specs.declared.reply.Method.{Method}
 use Rattle.http_message.specs.declared.site.Site.{Site}
 use Rattle.http_front.specs.declared.fault.FrontKind.{FrontKind}
 use Rattle.http_front.specs.declared.fault.FrontKind.TheVariants as kind
 use Rattle.http_front.specs.declared.handler.RequestOutcome.{RequestOutcome}
-use Rattle.http_front.specs.Turns.{Turn, AllStay, AnswersAll, AnswersRequestsRead, heads_of, texts_of, Responses, IsCut, LacksMemory, LacksNames, WantsMore}
-use Rattle.http_front.specs.declared.http_conn.HttpConn.{HttpConn}
-
--- one, where something is still to come
-abbrev pub unless_so : Bool → ℕ
-unless_so true = 0
-unless_so false = 1
-
--- What is left to be done with the bytes at hand, at most.
-abbrev pub to_do : {T : Type 0} → HttpConn T → ℕ
-to_do c = length (unread c.inbox) + unless_so c.wants + unless_so c.over
+use Rattle.http_front.specs.Turns.{Turn, AllStay, AnswersAll, AnswersRequestsRead, heads_of, texts_of, Responses, IsCut, LacksMemory, LacksNames}
 
 -- the kinds of faults of a sink
 abbrev pub IsSinkKind : FrontKind → Type 0

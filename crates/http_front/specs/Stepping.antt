@@ -1,15 +1,13 @@
 -- What a step does with the bytes at hand.
 use Rattle.std.specs.Prelude.{◌≡◌, ℕ, ◌<◌, ◌≤◌, ◌⊎◌, Bool, true, false, List, [], length, drop}
 use Rattle.httparse.specs.Grammar.{RequestHead}
-use Rattle.http_message.specs.Asking.{refusal}
 use Rattle.http_message.specs.Clocks.{Said, IsNoted}
 use Rattle.http_message.specs.Heads.{BeginsWithin, StaysHeadless}
 use Rattle.http_message.specs.Replying.{reply_text}
 use Rattle.http_message.specs.declared.reply.Method.{Method}
 use Rattle.http_message.specs.declared.reply.Reply.{Reply}
 use Rattle.http_message.specs.declared.site.Site.{Site}
-use Rattle.http_front.specs.Outcomes.{IsReplyTo}
-use Rattle.http_front.specs.Turns.{Turn, head_limit, fields_limit, ComesUnless, IsDated, AnswersRequest, SendsBad, LacksFile, WantsMore}
+use Rattle.http_front.specs.Turns.{Turn, head_limit, fields_limit, IsDated, AnswersRequest, SendsBad, LacksFile, WantsMore}
 use Rattle.http_front.specs.declared.fault.FrontKind.{FrontKind}
 use Rattle.http_front.specs.declared.fault.FrontKind.TheVariants as kind
 use Rattle.http_front.specs.declared.handler.RequestOutcome.{RequestOutcome}
@@ -27,12 +25,6 @@ abbrev pub LacksAnswer : {H : Type 0} → Site → (H → Method → List ℕ �
 LacksAnswer site lacks old seen whole new kind.NoMemory = WantsAnswer seen whole
 LacksAnswer site lacks old seen whole new kind.NamesSpent = LacksFile site lacks old seen new
 LacksAnswer site lacks old seen whole new e = ⊥
-
--- A head comes to this reply.
-pub record IsReplied {H : Type 0} (site : Site) (handles : H → Method → List ℕ → RequestOutcome → H → Type 0) (old : H) (h : RequestHead) (r : Reply) (new : H) : Type 0 where
-  pub outcome : RequestOutcome
-  pub comes : ComesUnless site handles (refusal h) old h outcome new
-  pub reply : IsReplyTo h outcome r
 
 -- The text of a reply to such a request is made, with the Date line of a moment that the clock told. The clock is told of it.
 pub record IsWritten {K : Type 0} (tells : K → Said → K → Type 0) (before : K) (method target : List ℕ) (r : Reply) (text : List ℕ) (after : K) : Type 0 where

@@ -1,5 +1,5 @@
 -- How far a connection is that is served beside others.
-use Rattle.std.specs.Prelude.{◌≡◌, ℕ, ◌+◌, min, Bool, true, false, List, [], ◌++◌, drop, Option, Some, None, Result, Ok, Err}
+use Rattle.std.specs.Prelude.{◌≡◌, ℕ, ◌+◌, min, Bool, true, false, List, [], ◌++◌, length, drop, Option, Some, None, Result, Ok, Err}
 use Rattle.http_message.specs.Clocks.{Said}
 use Rattle.http_message.specs.Inboxes.{unread}
 use Rattle.http_message.specs.declared.reply.Method.{Method}
@@ -85,6 +85,15 @@ Follows step.Done old new = FollowsAs (unread old.inbox) old.wants true old.requ
 abbrev pub Lands : {T : Type 0} → StepSlice T → HttpConn T → HttpConn T → Type 0
 Lands (slice.Did s) old new = Follows s old new × (new.hand ≡ None)
 Lands (slice.Works u) old new = FollowsAs (unread old.inbox) old.wants false old.requests new × (new.hand ≡ Some u)
+
+-- one, where something is still to come
+abbrev pub unless_so : Bool → ℕ
+unless_so true = 0
+unless_so false = 1
+
+-- what is left to be done with the bytes at hand, at most
+abbrev pub to_do : {T : Type 0} → HttpConn T → ℕ
+to_do c = length (unread c.inbox) + unless_so c.wants + unless_so c.over
 
 -- How a turn fails, by what the connection waited for. limit: the bytes of a read, at most. r, q: what the reader had left, and has. now, new: the handler before
 -- the turn, and after it

@@ -298,13 +298,16 @@ impl<T: Drop> HttpConn<T> {
                 Ok(())
             }
             Ok(ReadAnswer::NotNow) => Ok(()),
-            Ok(ReadAnswer::Bytes(count)) => match self.inbox.add(&buffer[..count]) {
-                Ok(()) => {
-                    self.wants = false;
-                    Ok(())
+            Ok(ReadAnswer::Bytes(count)) => {
+                let read = &buffer[..count];
+                match self.inbox.add(read) {
+                    Ok(()) => {
+                        self.wants = false;
+                        Ok(())
+                    }
+                    Err(_) => Err(FrontKind::NoMemory),
                 }
-                Err(_) => Err(FrontKind::NoMemory),
-            },
+            }
             Err(CountedFault::Failed) => Err(FrontKind::Read),
             Err(CountedFault::TooManyReads) => Err(FrontKind::TooManyReads),
         }

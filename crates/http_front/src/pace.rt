@@ -1,6 +1,6 @@
 //! How a request is made: whole, where nothing else is to be served meanwhile, or in slices.
 
-ghost use Rattle.std.specs.Prelude.{◌≡◌, ◌*◌, ℕ, List, IfOk, IfErr, Unit, ⊥};
+ghost use Rattle.std.specs.Prelude.{◌≡◌, ◌*◌, ℕ, List, IfOk, IfErr};
 
 use crate::fault::FrontKind;
 use crate::handler::{Handler, RequestOutcome, Slice};

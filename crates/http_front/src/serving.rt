@@ -4,8 +4,8 @@ ghost use Rattle.byte_streams.specs.Counted.{reads_left, source_of};
 ghost use Rattle.std.specs.Prelude.{◌≡◌, ◌≢◌, ℕ, List, ◌+◌, ◌<◌, ◌≤◌, ◌^◌, Option, length, [], true, false, Ok, Err, IfOk, IfErr, OnOk, OnErr};
 ghost use Rattle.std.specs.Io.KnownBytes.{IsAtEnd};
 ghost use Rattle.http_message.specs.Inboxes.{unread};
-ghost use Rattle.http_front.specs.Serving.{SoFar, Goes, EndsWell, FailsBy, BlamesSink, BlamesSource, to_do};
-ghost use Rattle.http_front.specs.Talking.{pending};
+ghost use Rattle.http_front.specs.Serving.{SoFar, Goes, EndsWell, FailsBy, BlamesSink, BlamesSource};
+ghost use Rattle.http_front.specs.Talking.{pending, to_do};
 ghost use Rattle.http_front.specs.Turns.{WantsMore};
 
 use crate::fault::{FrontKind, Served};

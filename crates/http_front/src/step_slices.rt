@@ -240,7 +240,9 @@ pub(crate) fn step_on<H: Handler, K: Clock, P: Pace<H>>(
     ensures few { P.steps handler.old number (most_steps hand) handler.new }
 {
     match hand {
-        Some(under_way) => go_on_step::<H, K, P>(alloc, seen, under_way, handler, number, clock, text),
+        Some(under_way) => go_on_step::<H, K, P>(
+            alloc, seen, under_way, handler, number, clock, text,
+        ),
         None => begin_step::<H, K, P>(alloc, seen, whole, site, handler, number, clock, text),
     }
 }

@@ -1,14 +1,14 @@
 use Rattle.std.proofs.Common.{◌≡◌, ℕ, List, [], Option, ◌+◌, ◌≤◌, length, true, false}
 use Rattle.std.specs.Io.KnownBytes.{IsAtEnd}
 use Rattle.http_message.specs.Inboxes.{unread}
-use Rattle.http_front.specs.Serving.{SoFar, Standing, to_do}
-use Rattle.http_front.specs.Talking.{pending}
+use Rattle.http_front.specs.Serving.{SoFar, Standing}
+use Rattle.http_front.specs.Talking.{pending, to_do}
 use Rattle.http_front.specs.Turns.{WantsMore}
 use Rattle.http_front.proofs.serving.answer_all.Given as goal
 
 -- From what was at hand, serving came to what is at hand.
-abbrev pub invariant-loop : goal.invariant-loop
-invariant-loop g l = record {
+abbrev pub invariant-loop-conn : goal.invariant-loop-conn
+invariant-loop-conn g l = record {
   opened : g.H.Handler.is_open l.handler l.fn.number;
   beside : (from : g.row.H.Denot) → g.H.Handler.beside from l.fn.number l.fn.handler → g.H.Handler.beside from l.fn.number l.handler;
   few : l.conn.over ≡ false → l.conn.requests + length (unread l.conn.inbox) ≤ l.fn.conn.requests + length (unread l.fn.conn.inbox);
@@ -21,5 +21,5 @@ invariant-loop g l = record {
       → Standing l.site (λ h. g.H.Handler.handles h l.fn.number) g.K.Clock.tells old before r q w (g.W.Sink.contents l.sink) l.conn.over (unread l.conn.inbox) l.conn.requests l.handler l.clock;
 }
 
-abbrev pub decreases-loop : goal.decreases-loop
-decreases-loop g l = to_do l.conn
+abbrev pub decreases-loop-conn : goal.decreases-loop-conn
+decreases-loop-conn g l = to_do l.conn

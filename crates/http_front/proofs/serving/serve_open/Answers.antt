@@ -1,16 +1,15 @@
-use Rattle.std.proofs.Common.{Unit, Bool, true, false, length, Ok, Err, ap, refl, ◌∙◌, sym, subst, arith, length-append}
+use Rattle.std.proofs.Common.{◌≡◌, ℕ, Bool, true, false, length, Ok, ap, refl, ◌∙◌, sym, subst, arith, length-append}
 use Rattle.byte_streams.specs.Counted.{source_of}
 use Rattle.std.proofs.lemmas.Result.{err_from_is_err_and}
 use Rattle.http_message.specs.Inboxes.{unread}
-use Rattle.http_front.specs.declared.fault.Served.{Served}
-use Rattle.http_front.proofs.BlameLaws.{sink_apart, sink_by, sink_since, source_apart, source_by, source_since}
+use Rattle.http_front.specs.Serving.{EndsWell, SoFar, Standing}
 use Rattle.http_front.proofs.ServingLaws.{far_start}
 use Rattle.http_front.proofs.Stepped.{none_wants}
 use Rattle.http_front.proofs.ServedLaws.{far_adds, far_loses, fails_err}
 use Rattle.http_front.proofs.serving.serve_open.Goals as goal
 
-pub loop-init : goal.loop-init
-loop-init g c = record {
+pub loop-conn-init : goal.loop-conn-init
+loop-conn-init g c = record {
   opened = c.requires;
   beside = λ from so. so;
   few = let long = ap length c.new-conn.ensures.unread in let none = c.new-conn.ensures.requests in omega (arith, long, none);
@@ -31,5 +30,64 @@ returns-in_err-take_counted-clause-err g c =
     let site = c.args.site.now in
     let r = g.R.Source.remaining in
     let w = g.W.Sink.contents in
-    fails_err site (λ h. g.H.Handler.handles h c.args.number) g.K.Clock.tells (λ h. g.H.Handler.lacks h c.args.number) c.args.handler.now c.args.clock.now (r (source_of c.args.reader.now)) (r (source_of c.take_counted.new.reader)) (w c.args.sink.now) (w c.loop.sink) c.loop.handler c.loop.clock c.from_residual.result p.0 c.in_err-take_counted.field-0.0 p.1 p.2
-    (far_loses site (λ h. g.H.Handler.handles h c.args.number) g.K.Clock.tells (λ h. g.H.Handler.lacks h c.args.number) c.args.handler.now c.args.clock.now (r (source_of c.args.reader.now)) (r (source_of c.loop.reader)) (r (source_of c.take_counted.new.reader)) (w c.args.sink.now) (w c.loop.sink) _ _ _ _ c.in_err-take_counted.field-0.0 c.loop.invariant.far c.loop.invariant.wants c.in_err-take_counted.ensures.err)
+    fails_err site (λ h. g.H.Handler.handles h c.args.number) g.K.Clock.tells (λ h. g.H.Handler.lacks h c.args.number) c.args.handler.now c.args.clock.now (r (source_of c.args.reader.now)) (r (source_of c.take_counted.new.reader)) (w c.args.sink.now) (w c.loop-conn.sink) c.loop-conn.handler c.loop-conn.clock c.from_residual.result p.0 c.in_err-take_counted.field-0.0 p.1 p.2
+    (far_loses site (λ h. g.H.Handler.handles h c.args.number) g.K.Clock.tells (λ h. g.H.Handler.lacks h c.args.number) c.args.handler.now c.args.clock.now (r (source_of c.args.reader.now)) (r (source_of c.loop-conn.reader)) (r (source_of c.take_counted.new.reader)) (w c.args.sink.now) (w c.loop-conn.sink) _ _ _ _ c.in_err-take_counted.field-0.0 c.loop-conn.invariant.far c.loop-conn.invariant.wants c.in_err-take_counted.ensures.err)
+
+pub returns-in_err-answer_all-clause-err : goal.returns-in_err-answer_all-clause-err
+returns-in_err-answer_all-clause-err g c =
+    let p = err_from_is_err_and c.from_residual-in_err-answer_all.result c.from_residual-in_err-answer_all.ensures.1 in
+    let adds = c.in_ok-take_counted.ensures.ok in
+    let r = g.R.Source.remaining in
+    let w = g.W.Sink.contents in
+    fails_err c.args.site.now (λ h. g.H.Handler.handles h c.args.number) g.K.Clock.tells (λ h. g.H.Handler.lacks h c.args.number) c.args.handler.now c.args.clock.now (r (source_of c.args.reader.now)) (r (source_of c.take_counted.new.reader)) (w c.args.sink.now) (w c.answer_all.new.sink) c.answer_all.new.handler c.answer_all.new.clock c.from_residual-in_err-answer_all.result p.0 c.in_err-answer_all.field-0.0 p.1 p.2
+    (c.in_err-answer_all.ensures.goes c.args.handler.now c.args.clock.now (r (source_of c.args.reader.now)) (r (source_of c.take_counted.new.reader)) (w c.args.sink.now) adds.end
+    (subst (λ (n : ℕ). SoFar c.args.site.now (λ h. g.H.Handler.handles h c.args.number) g.K.Clock.tells c.args.handler.now c.args.clock.now (r (source_of c.args.reader.now)) (r (source_of c.take_counted.new.reader)) (w c.args.sink.now) (w c.loop-conn.sink) (unread c.take_counted.new.self.inbox) n c.loop-conn.handler c.loop-conn.clock) (sym c.take_counted.ensures.requests)
+    (far_adds _ _ _ (λ h. g.H.Handler.lacks h c.args.number) _ _ _ _ _ _ _ _ _ _ _ _ _ _ c.loop-conn.invariant.far adds)))
+
+pub returns-then-branch-clause-ok : goal.returns-then-branch-clause-ok
+returns-then-branch-clause-ok g c =
+    let adds = c.in_ok-take_counted.ensures.ok in
+    let r = g.R.Source.remaining in
+    let w = g.W.Sink.contents in
+    let e = c.in_ok-answer_all.ensures in
+    let over : c.answer_all.new.conn.over ≡ true = e.over ∙ c.if-branch.true in
+    subst (λ (n : ℕ). EndsWell c.args.site.now (λ h. g.H.Handler.handles h c.args.number) g.K.Clock.tells c.args.handler.now c.args.clock.now (r (source_of c.args.reader.now)) (w c.args.sink.now) (w c.answer_all.new.sink) n c.answer_all.new.handler c.answer_all.new.clock) (sym c.requests.ensures)
+    (subst (λ (b : Bool). Standing c.args.site.now (λ h. g.H.Handler.handles h c.args.number) g.K.Clock.tells c.args.handler.now c.args.clock.now (r (source_of c.args.reader.now)) (r (source_of c.take_counted.new.reader)) (w c.args.sink.now) (w c.answer_all.new.sink) b (unread c.answer_all.new.conn.inbox) c.answer_all.new.conn.requests c.answer_all.new.handler c.answer_all.new.clock) over
+    (e.goes c.args.handler.now c.args.clock.now (r (source_of c.args.reader.now)) (r (source_of c.take_counted.new.reader)) (w c.args.sink.now) adds.end
+    (subst (λ (n : ℕ). SoFar c.args.site.now (λ h. g.H.Handler.handles h c.args.number) g.K.Clock.tells c.args.handler.now c.args.clock.now (r (source_of c.args.reader.now)) (r (source_of c.take_counted.new.reader)) (w c.args.sink.now) (w c.loop-conn.sink) (unread c.take_counted.new.self.inbox) n c.loop-conn.handler c.loop-conn.clock) (sym c.take_counted.ensures.requests)
+    (far_adds _ _ _ (λ h. g.H.Handler.lacks h c.args.number) _ _ _ _ _ _ _ _ _ _ _ _ _ _ c.loop-conn.invariant.far adds))))
+
+pub loop-conn-preserved : goal.loop-conn-preserved
+loop-conn-preserved g c =
+    let adds = c.in_ok-take_counted.ensures.ok in
+    let r = g.R.Source.remaining in
+    let w = g.W.Sink.contents in
+    let e = c.in_ok-answer_all.ensures in
+    let inv = c.loop-conn.invariant in
+    let going : c.answer_all.new.conn.over ≡ false = e.over ∙ c.if-branch.false in
+    let wants = e.wants (ap Ok c.if-branch.false) in
+    record {
+      opened = c.answer_all.ensures.open;
+      beside = λ from so. c.answer_all.ensures.beside from (inv.beside from so);
+      few =
+          let one = e.few (ap Ok c.if-branch.false) in
+          let all = inv.few in
+          let read = adds.few in
+          let long = ap length adds.added ∙ length-append (unread c.loop-conn.conn.inbox) adds.bytes in
+          let count = c.in_ok-take_counted.ensures.counted in
+          let same = c.take_counted.ensures.requests in
+          omega (arith, one, all, read, long, count, same);
+      range = inv.range;
+      room = c.take_counted.ensures.room;
+      going = going;
+      written = c.answer_all.ensures.written;
+      more = wants.0;
+      far =
+          subst (λ (b : Bool). Standing c.args.site.now (λ h. g.H.Handler.handles h c.args.number) g.K.Clock.tells c.args.handler.now c.args.clock.now (r (source_of c.args.reader.now)) (r (source_of c.take_counted.new.reader)) (w c.args.sink.now) (w c.answer_all.new.sink) b (unread c.answer_all.new.conn.inbox) c.answer_all.new.conn.requests c.answer_all.new.handler c.answer_all.new.clock) going
+          (e.goes c.args.handler.now c.args.clock.now (r (source_of c.args.reader.now)) (r (source_of c.take_counted.new.reader)) (w c.args.sink.now) adds.end
+          (subst (λ (n : ℕ). SoFar c.args.site.now (λ h. g.H.Handler.handles h c.args.number) g.K.Clock.tells c.args.handler.now c.args.clock.now (r (source_of c.args.reader.now)) (r (source_of c.take_counted.new.reader)) (w c.args.sink.now) (w c.loop-conn.sink) (unread c.take_counted.new.self.inbox) n c.loop-conn.handler c.loop-conn.clock) (sym c.take_counted.ensures.requests)
+          (far_adds _ _ _ (λ h. g.H.Handler.lacks h c.args.number) _ _ _ _ _ _ _ _ _ _ _ _ _ _ inv.far adds)));
+      wants = wants.1;
+      read_well = c.in_ok-take_counted.ensures.blames ∙ inv.read_well;
+      wrote_well = e.blames ∙ inv.wrote_well;
+    }

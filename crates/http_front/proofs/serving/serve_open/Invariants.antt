@@ -7,8 +7,8 @@ use Rattle.http_front.specs.Turns.{WantsMore}
 use Rattle.http_front.proofs.serving.serve_open.Given as goal
 
 -- how far serving is, no more requests than bytes that were read, no whole request that was read and is not answered, and no failure
-abbrev pub invariant-loop : goal.invariant-loop
-invariant-loop g l = record {
+abbrev pub invariant-loop-conn : goal.invariant-loop-conn
+invariant-loop-conn g l = record {
   opened : g.H.Handler.is_open l.handler l.number;
   beside : (from : g.row.H.Denot) → g.H.Handler.beside from l.number l.fn.handler → g.H.Handler.beside from l.number l.handler;
   few : l.conn.requests + length (unread l.conn.inbox) + 8192 * reads_left l.reader ≤ 8192 * reads_left l.fn.reader;
@@ -23,5 +23,5 @@ invariant-loop g l = record {
   wrote_well : g.W.Sink.failed l.sink ≡ g.W.Sink.failed l.fn.sink;
 }
 
-abbrev pub decreases-loop : goal.decreases-loop
-decreases-loop g l = reads_left l.reader
+abbrev pub decreases-loop-conn : goal.decreases-loop-conn
+decreases-loop-conn g l = reads_left l.reader
