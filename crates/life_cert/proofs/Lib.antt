@@ -4,7 +4,6 @@ pub mod Writing
 pub mod DraftLaws
 pub mod ReadLaws
 pub mod Growing
-pub mod EdgeLaws
 pub mod Handed
 pub mod Arriving
 pub mod Settled
