@@ -98,7 +98,7 @@ each_fits p c ends shape pc =
     ]
 
 module _ (p : Program) (c : Certificate) (m : IsModule p) (formed : AreFormed c) (fits : (pc : ℕ) → fits_line p pc (c.at pc) ≡ true) where
-  given : (pc : ℕ) → IfSome (c.at pc) (IsFormedIn p (nat_le p.main pc))
+  pub given : (pc : ℕ) → IfSome (c.at pc) (IsFormedIn p (nat_le p.main pc))
   given pc = of (c.at pc) (fits pc) (formed.at pc)
     where
       of : (o : Option State) → fits_line p pc o ≡ true → IfSome o IsFormed → IfSome o (IsFormedIn p (nat_le p.main pc))

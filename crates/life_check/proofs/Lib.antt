@@ -17,6 +17,7 @@ pub mod Instructions
 pub mod Lists
 pub mod Makers
 pub mod Onward
+pub mod Meant
 pub mod Orders
 pub mod Partitions
 pub mod Passes

@@ -1,6 +1,6 @@
 -- What a certificate means. A slim one gives states at heads alone: before the first instruction of each handler, and before each
 -- that some instruction names as its target. The rules hand on the others.
-use Rattle.std.specs.Prelude.{◌≡◌, ℕ, zero, suc, ◌+◌, ◌≤◌, Bool, true, false, ◌&&◌, ◌||◌, not, ◌==◌, if◌then◌else◌, length, Option, Some, None, is_some, Result, Ok, Err, slice_get, unwrap_or}
+use Rattle.std.specs.Prelude.{◌≡◌, ℕ, zero, suc, ◌<◌, ◌≤◌, Bool, true, false, ◌&&◌, ◌||◌, not, ◌==◌, if◌then◌else◌, List, length, Option, Some, None, is_some, Result, Ok, Err, slice_get, slice_index_or, unwrap_or}
 use Rattle.module_code.specs.declared.instr.Instr.{Instr}
 use Rattle.module_code.specs.Program.{Program, IsModule, target}
 use Rattle.run_model.specs.declared.fault.FaultKind.{FaultKind}
@@ -28,6 +28,10 @@ is_first p pc = (pc == 0) || (pc == p.init) || (pc == p.main)
 
 unfoldable pub is_head : Program → ℕ → Bool
 is_head p pc = is_first p pc || any_below (length p.code) (λ k. names pc (slice_get p.code k))
+
+-- a table of the heads
+abbrev pub AreHeads : Program → List Bool → Type 0
+AreHeads p marks = (pc : ℕ) → pc < 1025 → slice_index_or marks pc false ≡ is_head p pc
 
 -- What is meant where no state is given.
 

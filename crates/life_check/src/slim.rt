@@ -2,7 +2,7 @@
 
 ghost use Rattle.std.specs.Prelude.{◌≡◌, ◌<◌, ◌≤◌, ℕ, true, false, length, slice_index_or};
 ghost use Rattle.run_model.specs.Indexed.{upd};
-ghost use Rattle.life_check.specs.Slim.{is_first, is_head};
+ghost use Rattle.life_check.specs.Slim.{is_first, AreHeads};
 
 use crate::lines::target;
 use module_code::Module;
@@ -28,7 +28,7 @@ fn firsts(code: &Module) -> [bool; 1025]
 
 /// Which instructions are heads: the first of each handler, and each that some instruction names as its target.
 pub fn heads(code: &Module) -> [bool; 1025]
-    ensures { (pc : ℕ) → pc < 1025 → slice_index_or result pc false ≡ is_head code.now pc }
+    ensures { AreHeads code.now result }
 {
     let count = code.len();
     let mut heads = firsts(code);
