@@ -1,5 +1,5 @@
 -- The completion of a slim certificate: each of its states is in form, and stands where it may.
-use Rattle.std.proofs.Common.{◌≡◌, ℕ, zero, suc, ◌+◌, ◌<◌, ◌≤◌, Bool, true, false, ◌&&◌, not, ◌==◌, nat_lt, nat_le, if◌then◌else◌, length, ◌⊎◌, inl, inr, Option, Some, None, IfSome, Result, Ok, Err, slice_get, refl, ap, sym, ◌∙◌, subst, arith, add-one, lt-ltb, eq-eqb}
+use Rattle.std.proofs.Common.{◌≡◌, ℕ, zero, suc, ◌+◌, ◌<◌, Bool, true, false, ◌&&◌, not, ◌==◌, nat_lt, nat_le, if◌then◌else◌, length, inl, inr, Option, Some, None, IfSome, Result, Ok, Err, slice_get, refl, ap, sym, ◌∙◌, subst, add-one, lt-ltb, eq-eqb}
 use Rattle.std.proofs.lemmas.Bool.{cases_lt, eqb-true}
 use Rattle.module_code.specs.declared.instr.Instr.{Instr}
 use Rattle.module_code.specs.Program.{Program, IsModule, goes_on}
@@ -18,7 +18,7 @@ use Rattle.life_state.proofs.OrderLaws.{leq_same, leq_trans}
 use Rattle.life_state.proofs.Tests.{split2, split3, and2, and3, all_at}
 use Rattle.life_check.specs.Certificates.{Certificate, AreFormed}
 use Rattle.life_check.specs.Slim.{is_head, next_of, handed_next, full_at, completion, slim_of, EndsWithLines}
-use Rattle.life_check.specs.Typed.{is_below, flows, declares, has_in, fits_between, fits_line, fits_lines, has_shape}
+use Rattle.life_check.specs.Typed.{is_below, declares, has_in, fits_between, fits_line, fits_lines, has_shape}
 use Rattle.life_check.proofs.EdgeLaws.{goes_on_next, rule_edges}
 use Rattle.life_check.proofs.Sides.{same_side, next_side}
 

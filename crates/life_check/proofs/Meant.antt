@@ -1,13 +1,13 @@
 -- What a certificate means, by whether it is slim.
-use Rattle.std.proofs.Common.{◌≡◌, ℕ, zero, suc, ◌+◌, ◌<◌, ◌≤◌, Bool, true, false, ◌&&◌, ◌||◌, not, ◌==◌, nat_le, nat_lt, is_some, unwrap_or, ap₂, add-one, if◌then◌else◌, length, Option, Some, None, IfSome, Result, Ok, Err, slice_get, refl, ap, sym, ◌∙◌, subst, arith, IsOk, ◌↔◌, rules}
+use Rattle.std.proofs.Common.{◌≡◌, ℕ, suc, ◌+◌, ◌<◌, ◌≤◌, Bool, true, false, ◌&&◌, ◌||◌, not, ◌==◌, nat_le, nat_lt, is_some, unwrap_or, ap₂, add-one, if◌then◌else◌, length, Option, Some, None, IfSome, Result, Ok, Err, slice_get, refl, ap, sym, ◌∙◌, subst, arith, IsOk, ◌↔◌, rules}
 use Rattle.std.proofs.lemmas.Bool.{ltb-true}
 use Rattle.std.proofs.lemmas.Option.{slice_get_past}
 use Rattle.module_code.specs.declared.instr.Instr.{Instr}
 use Rattle.module_code.specs.Program.{Program, IsModule, target}
-use Rattle.life_state.specs.States.{Unset, State}
+use Rattle.life_state.specs.States.{State}
 use Rattle.life_state.specs.Facts.{is_set, is_apart}
 use Rattle.life_state.specs.Bounded.{IsBounded}
-use Rattle.life_state.specs.Form.{IsFormed, is_to_write}
+use Rattle.life_state.specs.Form.{IsFormed}
 use Rattle.life_state.specs.FormLaws.{IsFormedIn}
 use Rattle.life_state.specs.InForm.{is_formed}
 use Rattle.life_state.specs.Rules.{Edges, rule}
@@ -18,7 +18,7 @@ use Rattle.life_check.specs.declared.refusal.Rule.TheVariants.{Shape, Request}
 use Rattle.life_check.specs.Certificates.{Certificate, IsBoundedSome, AllBounded, AreFormed}
 use Rattle.life_check.specs.Seen.{seen_line, seen_cert}
 use Rattle.life_check.specs.Slim.{is_head, at_heads, next_of, handed_next, completion, meant, is_slim_shape, cert_refusal, Accepts, EndsWithLines}
-use Rattle.life_check.specs.Typed.{flows, leads_on, declares, has_in, fits_line, has_shape, refusal, unless, or_else, line_refusal, refusal_at, entry_refusal, first_below, requests, first_refusal, IsTyped, IsAnswer}
+use Rattle.life_check.specs.Typed.{flows, leads_on, declares, has_in, fits_line, has_shape, refusal, unless, or_else, line_refusal, refusal_at, entry_refusal, first_below, requests, first_refusal, IsAnswer}
 use Rattle.life_check.proofs.Completed.{declared, head_full, next_full, each_fits, given, full_formed, completion_shaped, completion_formed}
 use Rattle.life_check.proofs.Firsts.{unless_none, unless_holds, or_none, none_or, before_some, after_none}
 use Rattle.life_check.proofs.TypedLaws.{typed_of, none_typed, none_past}
@@ -224,7 +224,7 @@ pub last_first : (p : Program) (m : Certificate) (r : Result (Unit {0}) CheckRef
     → IsAnswer (unless (requests p m) 0 Request) r → IsAnswer (first_refusal p m) r
 last_first p m r shape entry lines h =
     let same : first_refusal p m ≡ unless (requests p m) 0 Request
-        = first_is p m shape
-          ∙ (after_none (entry_refusal p m) (or_else (first_below (length p.code) (refusal_at p m)) (unless (requests p m) 0 Request)) entry
-          ∙ after_none (first_below (length p.code) (refusal_at p m)) (unless (requests p m) 0 Request) lines) in
+    = first_is p m shape
+    ∙ (after_none (entry_refusal p m) (or_else (first_below (length p.code) (refusal_at p m)) (unless (requests p m) 0 Request)) entry
+    ∙ after_none (first_below (length p.code) (refusal_at p m)) (unless (requests p m) 0 Request) lines) in
     subst (λ (o : Option CheckRefusal). IsAnswer o r) (sym same) h

@@ -1,5 +1,5 @@
 -- What is accepted is accepted in its slim form: each state of the completion is below the one that was given there.
-use Rattle.std.proofs.Common.{◌≡◌, ℕ, zero, suc, ◌+◌, ◌<◌, ◌≤◌, Bool, true, false, ◌&&◌, ◌||◌, nat_lt, nat_le, if◌then◌else◌, length, Option, Some, None, IfSome, unwrap_or, Result, Ok, slice_get, refl, ap, sym, ◌∙◌, subst, arith, add-one}
+use Rattle.std.proofs.Common.{◌≡◌, ℕ, zero, suc, ◌+◌, Bool, true, false, nat_le, if◌then◌else◌, length, Option, Some, None, IfSome, unwrap_or, Result, Ok, slice_get, refl, ap, sym, ◌∙◌, subst, add-one}
 use Rattle.std.proofs.lemmas.Option.{slice_get_within}
 use Rattle.module_code.specs.declared.instr.Instr.{Instr}
 use Rattle.module_code.specs.declared.instr.Instr.TheVariants as instr
@@ -12,11 +12,11 @@ use Rattle.life_state.specs.Form.{IsFormed}
 use Rattle.life_state.specs.FormLaws.{IsFormedIn}
 use Rattle.life_state.specs.Monotone.{edge_le, LeadsBelow}
 use Rattle.life_state.proofs.Below.{all_below_holds}
-use Rattle.life_state.proofs.Tests.{split2, split3, and2, and3, or_left, or_right}
+use Rattle.life_state.proofs.Tests.{split2, split3, and2, and3}
 use Rattle.life_state.proofs.WithinRules.{rules_are_monotone, entries_are_monotone}
 use Rattle.life_check.specs.Certificates.{Certificate, AreFormed}
-use Rattle.life_check.specs.Slim.{is_first, is_head, next_of, handed_next, full_at, completion, slim_of, EndsWithLines, SlimIsTyped}
-use Rattle.life_check.specs.Typed.{is_below, flows, main_from, fits_between, fits_line, fits_lines, has_shape, exits, left_by, leads_on, IsLed, IsTyped}
+use Rattle.life_check.specs.Slim.{is_head, next_of, handed_next, full_at, completion, slim_of, EndsWithLines, SlimIsTyped}
+use Rattle.life_check.specs.Typed.{is_below, flows, main_from, fits_between, fits_line, fits_lines, has_shape, exits, left_by, IsLed, IsTyped}
 use Rattle.life_check.proofs.Completed.{below_itself, below_trans, head_full, next_full, head_kept, only_formed, each_fits, full_formed, completion_shaped}
 use Rattle.life_check.proofs.Targets.{target_head, first_head, head_at_init, head_at_main}
 
@@ -108,7 +108,7 @@ module _ (p : Program) (c : Certificate) (m : IsModule p) (formed : AreFormed c)
   next_there pc i s e here line is under true h = ap (flows e.next) (at_head (suc pc) h) ∙ under
   next_there pc i s e here line is under false h =
       let same : full_at p slim (suc pc) ≡ e.next
-          = next_full p slim pc h ∙ (ap (λ (o : Option Instr). handed_next p o (full_at p slim pc)) here ∙ (ap (handed_next p (Some i)) line ∙ ap next_of is)) in
+      = next_full p slim pc h ∙ (ap (λ (o : Option Instr). handed_next p o (full_at p slim pc)) here ∙ (ap (handed_next p (Some i)) line ∙ ap next_of is)) in
       ap (flows e.next) same ∙ flows_itself p (nat_le p.main (suc pc)) e.next (subst (λ (x : Option State). IfSome x (IsFormedIn p (nat_le p.main (suc pc)))) same (formed_there (suc pc)))
 
   led_by : (pc : ℕ) (i : Instr) (s : State) (q : Option State) → slice_get p.code pc ≡ Some i → full_at p slim pc ≡ Some s → c.at pc ≡ q → IsFormed s → is_below s q ≡ true → IsLed p (completion p slim) pc i s
@@ -121,8 +121,8 @@ module _ (p : Program) (c : Certificate) (m : IsModule p) (formed : AreFormed c)
         edges = d.edges;
         safe = d.safe;
         leads = and2 (flows d.edges.next (full_at p slim (pc + 1))) (flows d.edges.jump (full_at p slim at))
-          (subst (λ (n : ℕ). flows d.edges.next (full_at p slim n) ≡ true) (sym (add-one pc)) (next_there pc i s d.edges here line d.safe (next_under pc i s u here e f le) (is_head p (suc pc)) refl))
-          (ap (flows d.edges.jump) (at_head at (target_head p pc i here (slice_get_within p.code pc i here))) ∙ jump_under pc i s u here e f le);
+            (subst (λ (n : ℕ). flows d.edges.next (full_at p slim n) ≡ true) (sym (add-one pc)) (next_there pc i s d.edges here line d.safe (next_under pc i s u here e f le) (is_head p (suc pc)) refl))
+            (ap (flows d.edges.jump) (at_head at (target_head p pc i here (slice_get_within p.code pc i here))) ∙ jump_under pc i s u here e f le);
         exits = returns_under pc i s u f (formed_u pc i s u here e f le) le of_u.exits;
       }
 
@@ -133,8 +133,8 @@ module _ (p : Program) (c : Certificate) (m : IsModule p) (formed : AreFormed c)
     inits = ap (flows c.idle) (at_head p.init (head_at_init p)) ∙ typed.inits;
     serves = ap (flows (main_from c.ready)) (at_head p.main (head_at_main p)) ∙ typed.serves;
     lines = λ pc i s here line.
-      led_by pc i s (c.at pc) here line refl (only_formed p (nat_le p.main pc) (Some s) (subst (λ (x : Option State). IfSome x (IsFormedIn p (nat_le p.main pc))) line (formed_there pc)))
-      (subst (λ (x : Option State). flows x (c.at pc) ≡ true) line (over pc));
+        led_by pc i s (c.at pc) here line refl (only_formed p (nat_le p.main pc) (Some s) (subst (λ (x : Option State). IfSome x (IsFormedIn p (nat_le p.main pc))) line (formed_there pc)))
+        (subst (λ (x : Option State). flows x (c.at pc) ≡ true) line (over pc));
     requests = typed.requests;
   }
 

@@ -1,7 +1,7 @@
 -- Which instructions are heads.
-use Rattle.std.proofs.Common.{◌≡◌, ℕ, zero, suc, ◌+◌, ◌<◌, Bool, true, false, ◌||◌, ◌==◌, if◌then◌else◌, length, Option, Some, None, unwrap_or, slice_get, slice_index_or, refl, ap, sym, ◌∙◌, subst, arith, add-one, eq-eqb, IfSome}
+use Rattle.std.proofs.Common.{◌≡◌, ℕ, suc, ◌+◌, ◌<◌, Bool, true, false, ◌||◌, ◌==◌, if◌then◌else◌, length, Option, Some, None, unwrap_or, slice_get, refl, ap, sym, ◌∙◌, add-one, eq-eqb, IfSome}
 use Rattle.module_code.specs.declared.instr.Instr.{Instr}
-use Rattle.module_code.specs.Program.{Program, IsModule, IsPlaced, target}
+use Rattle.module_code.specs.Program.{Program, IsPlaced, target}
 use Rattle.run_model.specs.Indexed.{upd, any_below}
 use Rattle.life_state.proofs.Below.{some_below}
 use Rattle.life_state.proofs.Tests.{or_left, or_right}

@@ -1,20 +1,15 @@
 -- No refusal, and no rule that refuses.
-use Rattle.std.proofs.Common.{◌≡◌, ℕ, zero, suc, ◌<◌, [], ◌∷◌, arith, true, ◌&&◌, not, nat_lt, nat_le, if◌then◌else◌, List, IsOk, ◌↔◌, length, subst, rules, Option, Some, None, Result, Ok, Err, slice_get, refl, ap, sym, ◌∙◌}
+use Rattle.std.proofs.Common.{◌≡◌, ℕ, zero, suc, ◌<◌, [], ◌∷◌, arith, List, length, subst, Option, Some, None, Result, Ok, Err, slice_get, refl, ap, sym, ◌∙◌}
 use Rattle.std.proofs.lemmas.Option.{slice_get_within}
 use Rattle.module_code.specs.declared.instr.Instr.{Instr}
 use Rattle.module_code.specs.Program.{Program}
 use Rattle.run_model.specs.declared.fault.FaultKind.{FaultKind}
-use Rattle.life_state.specs.InForm.{is_formed}
 use Rattle.life_state.specs.States.{State}
 use Rattle.life_state.specs.Rules.{Edges, rule}
-use Rattle.life_state.specs.declared.state.State as code
-use Rattle.life_state.proofs.Tests.{split2, split3, all_at}
-use Rattle.life_check.specs.Seen.{seen_line, seen_cert}
-use Rattle.life_check.specs.declared.cert.Cert.{Cert}
 use Rattle.life_check.specs.declared.refusal.CheckRefusal.{CheckRefusal}
 use Rattle.life_check.specs.declared.refusal.Rule.TheVariants.{Shape, Entry, Flow, Exit, Request}
 use Rattle.life_check.specs.Certificates.{Certificate}
-use Rattle.life_check.specs.Typed.{has_shape, opens, inits, serves, declares, has_in, fits_between, fits_line, fits_lines, requests, exits, leads_on, unless, or_else, entry_refusal, first_below, step_refusal, line_refusal, refusal_at, first_refusal, IsLed, IsTyped, IsAnswer}
+use Rattle.life_check.specs.Typed.{has_shape, opens, inits, serves, requests, exits, leads_on, unless, or_else, entry_refusal, first_below, step_refusal, line_refusal, refusal_at, first_refusal, IsLed, IsTyped, IsAnswer}
 use Rattle.life_check.proofs.Firsts.{unless_none, unless_holds, or_none, none_or, none_below, none_at}
 
 -- by what the rule answers

@@ -77,13 +77,7 @@ fn next_meant(
     if given { next } else { handed }
 }
 
-fn leads_on(
-    code: &Module,
-    cert: &Cert,
-    pc: usize,
-    edges: &Successors,
-    next: Option<State>,
-) -> bool
+fn leads_on(code: &Module, cert: &Cert, pc: usize, edges: &Successors, next: Option<State>) -> bool
     requires inside { pc < length code.now.code }
     requires next { seen_some next ≡ (meant code.now cert.now).at (pc + 1) }
     ensures { (i : instr.Instr) → slice_get code.now.code pc ≡ Some i → result ≡ leads_on (meant code.now cert.now) pc i (seen_edges edges.now) }

@@ -1,10 +1,8 @@
 -- The shape of what is given, and then what is meant.
-use Rattle.std.proofs.Common.{◌≡◌, ◌||◌, Bool, true, false, not, Some, None, sym, ap, ◌∙◌, rules}
+use Rattle.std.proofs.Common.{◌≡◌, true, Some, sym, ap, ◌∙◌, rules}
 use Rattle.life_check.specs.declared.refusal.Rule.TheVariants.{Shape}
-use Rattle.life_check.specs.Certificates.{AreFormed}
-use Rattle.life_check.specs.Seen.{seen_cert}
-use Rattle.life_check.specs.Slim.{meant, at_heads}
-use Rattle.life_check.specs.Typed.{has_shape, unless}
+use Rattle.life_check.specs.Slim.{meant}
+use Rattle.life_check.specs.Typed.{unless}
 use Rattle.life_check.proofs.Firsts.{unless_none, unless_refused}
 use Rattle.life_check.proofs.Meant.{all_bounded, meant_formed, refused_by_shape}
 use Rattle.life_check.proofs.checked.check_all.Goals as goal

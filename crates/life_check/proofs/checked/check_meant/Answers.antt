@@ -1,5 +1,5 @@
 -- What is meant has the shape; then the first refusal is that of the parts.
-use Rattle.std.proofs.Common.{◌≡◌, Bool, subst, Some, None, true, length, refl, sym, ◌∙◌, rules}
+use Rattle.std.proofs.Common.{◌≡◌, Bool, subst, Some, None, length, rules}
 use Rattle.life_check.specs.declared.refusal.Rule.TheVariants.{Request}
 use Rattle.life_check.specs.Slim.{meant}
 use Rattle.life_check.specs.Typed.{unless, IsAnswer, entry_refusal, refusal_at, first_below}

@@ -1,5 +1,5 @@
 -- A state has the module's variables, and an instruction that it stands before.
-use Rattle.std.proofs.Common.{◌≡◌, None, Some, ap, sym, ◌∙◌, slice_get}
+use Rattle.std.proofs.Common.{◌≡◌, None, ap, sym, ◌∙◌, slice_get}
 use Rattle.life_state.specs.Seen.{seen, seen_some}
 use Rattle.life_check.specs.Slim.{meant, handed_next}
 use Rattle.life_check.proofs.Meant.{meant_declared, handed_none, none_stands}

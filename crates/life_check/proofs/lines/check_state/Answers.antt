@@ -1,11 +1,9 @@
 -- The instruction's rule, and what it leads to.
-use Rattle.std.proofs.Common.{◌≡◌, Result, Ok, Err, None, Some, refl, ap, sym, subst, ◌∙◌}
-use Rattle.run_model.specs.declared.fault.FaultKind.{FaultKind}
-use Rattle.life_state.specs.Rules.{Edges, rule}
-use Rattle.life_state.specs.Seen.{seen, seen_some, seen_edges, seen_answer}
+use Rattle.std.proofs.Common.{Err, ap, sym}
+use Rattle.life_state.specs.Seen.{seen, seen_edges}
 use Rattle.life_check.specs.declared.refusal.Rule.TheVariants.{May}
 use Rattle.life_check.specs.Slim.{meant}
-use Rattle.life_check.specs.Typed.{refusal, step_refusal, IsAnswer}
+use Rattle.life_check.specs.Typed.{refusal, step_refusal}
 use Rattle.life_check.proofs.Meant.{handed_is}
 use Rattle.life_check.proofs.TypedLaws.{told}
 use Rattle.life_check.proofs.lines.check_state.Goals as goal

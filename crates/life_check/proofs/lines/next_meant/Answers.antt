@@ -1,5 +1,5 @@
 -- A state is given at a head, and handed on elsewhere.
-use Rattle.std.proofs.Common.{◌≡◌, ◌+◌, Bool, true, false, not, ◌||◌, slice_index_or, sym, ◌∙◌, arith, rules}
+use Rattle.std.proofs.Common.{◌≡◌, ◌+◌, true, false, not, ◌||◌, slice_index_or, ◌∙◌, arith, rules}
 use Rattle.life_check.proofs.Meant.{next_given, next_handed}
 use Rattle.life_check.proofs.lines.next_meant.Goals as goal
 

@@ -1,5 +1,5 @@
 -- One that does not decides, and all do where the loop ends.
-use Rattle.std.proofs.Common.{◌≡◌, ◌<◌, ℕ, Bool, ◌||◌, not, true, false, is_some, length, subst, sym, ap, ◌∙◌, arith, rules, below_more}
+use Rattle.std.proofs.Common.{◌≡◌, ◌<◌, ℕ, Bool, ◌||◌, not, true, false, is_some, length, sym, ap, ◌∙◌, arith, below_more}
 use Rattle.life_state.proofs.Below.{all_below_holds, all_below_fails}
 use Rattle.life_check.specs.Seen.{seen_cert}
 use Rattle.life_check.specs.Slim.{is_head}
@@ -10,7 +10,7 @@ pub stands_at_head-stands-requires-clause-few : goal.stands_at_head-stands-requi
 stands_at_head-stands-requires-clause-few c = λ some.
     let d = c.args.cert.now in
     let inside : c.loop-pc.pc < length c.args.code.now.code
-        = line_inside c.args.code.now (seen_cert d) (ends_with_lines d) c.requires.shape c.loop-pc.pc (ap is_some (sym c.state.ensures) ∙ some) in
+    = line_inside c.args.code.now (seen_cert d) (ends_with_lines d) c.requires.shape c.loop-pc.pc (ap is_some (sym c.state.ensures) ∙ some) in
     omega (arith, inside, c.len-count.ensures.count, c.len-count.ensures.small)
 
 pub loop-pc-preserved : goal.loop-pc-preserved

@@ -1,4 +1,4 @@
-use Rattle.std.proofs.Common.{◌≡◌, ℕ, Bool, false, true, slice_index_or, replicate, sym, ap, ◌∙◌, arith}
+use Rattle.std.proofs.Common.{ℕ, false, true, slice_index_or, replicate, ap, ◌∙◌}
 use Rattle.std.proofs.lemmas.List.{get_or-replicate}
 use Rattle.run_model.specs.Indexed.{upd}
 use Rattle.life_check.proofs.Targets.{firsts_are}

@@ -1,4 +1,4 @@
-use Rattle.std.proofs.Common.{◌≡◌, ℕ, Bool, false, true, length, slice_index_or, sym, ap, subst, ◌∙◌, arith}
+use Rattle.std.proofs.Common.{◌≡◌, ℕ, Bool, false, true, length, slice_index_or, sym, ap, ◌∙◌, arith}
 use Rattle.run_model.specs.Indexed.{upd}
 use Rattle.life_check.specs.Slim.{is_head}
 use Rattle.life_check.proofs.Targets.{is_marked, none_marked, one_more}
