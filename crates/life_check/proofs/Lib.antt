@@ -29,6 +29,7 @@ pub mod Saved
 pub mod SetFits
 pub mod Sets
 pub mod Sides
+pub mod SlimForms
 pub mod SlimTyped
 pub mod Splits
 pub mod Standards

@@ -144,6 +144,10 @@ accepts_of p c h =
 pub none_accepts : (p : Program) (c : Cert) → Accepts p c → cert_refusal p c ≡ None
 none_accepts p c a = none_or (unless (is_slim_shape p c) 0 Shape) (first_refusal p (meant p c)) (unless_holds (is_slim_shape p c) 0 Shape a.given) (none_typed p (meant p c) a.typed)
 
+-- of a certificate that gives all states the first refusal is that of these
+pub whole_refusal : (p : Program) (c : Cert) → c.slim ≡ false → cert_refusal p c ≡ first_refusal p (seen_cert c)
+whole_refusal p c w = ap (λ (b : Bool). or_else (unless (not b || (has_shape p (seen_cert c) && at_heads p (seen_cert c))) 0 Shape) (first_refusal p (if b then completion p (seen_cert c) else seen_cert c))) w
+
 apart : (r : CheckRefusal) → None ≡ Some r → ⊥
 apart r h = cc
 

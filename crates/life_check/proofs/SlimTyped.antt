@@ -42,7 +42,7 @@ module _ (p : Program) (c : Certificate) (m : IsModule p) (formed : AreFormed c)
   slim_formed : AreFormed slim
   slim_formed = record { idle = formed.idle; ready = formed.ready; at = λ pc. elim (is_head p pc) as (λ b. IfSome (if b then c.at pc else None) IsFormed) [ true ↦ formed.at pc | false ↦ tt ] }
 
-  slim_shaped : has_shape p slim ≡ true
+  pub slim_shaped : has_shape p slim ≡ true
   slim_shaped =
       let parts = split3 (fits_between p c.idle) (fits_between p c.ready) (fits_lines p c) typed.shape in
       and3 (fits_between p c.idle) (fits_between p c.ready) (fits_lines p slim) (parts.0) (parts.1) (all_below_holds c.lines (λ pc. fits_line p pc (slim.at pc)) (λ pc low. slim_fits pc))

@@ -1,10 +1,11 @@
 -- Which instructions are heads.
-use Rattle.std.proofs.Common.{◌≡◌, ℕ, suc, ◌+◌, ◌<◌, Bool, true, false, ◌||◌, ◌==◌, if◌then◌else◌, length, Option, Some, None, unwrap_or, slice_get, refl, ap, sym, ◌∙◌, add-one, eq-eqb, IfSome}
+use Rattle.std.proofs.Common.{◌≡◌, ℕ, suc, ◌+◌, ◌<◌, Bool, true, false, ◌||◌, ◌==◌, if◌then◌else◌, length, Option, Some, None, unwrap_or, slice_get, refl, ap, sym, ◌∙◌, add-one, eq-eqb, IfSome, inl, inr, ◌⊎◌, zero, arith}
+use Rattle.std.proofs.lemmas.Bool.{eqb-true}
 use Rattle.module_code.specs.declared.instr.Instr.{Instr}
-use Rattle.module_code.specs.Program.{Program, IsPlaced, target}
+use Rattle.module_code.specs.Program.{Program, IsModule, IsPlaced, target}
 use Rattle.run_model.specs.Indexed.{upd, any_below}
 use Rattle.life_state.proofs.Below.{some_below}
-use Rattle.life_state.proofs.Tests.{or_left, or_right}
+use Rattle.life_state.proofs.Tests.{or_left, or_right, or_either}
 use Rattle.life_check.specs.Slim.{names, is_first, is_head}
 
 -- the heads that the instructions below n make
@@ -78,3 +79,40 @@ head_at_init p = first_head p p.init (or_left (p.init == 0 || p.init == p.init) 
 
 pub head_at_main : (p : Program) → is_head p p.main ≡ true
 head_at_main p = first_head p p.main (or_right (p.main == 0 || p.main == p.init) (p.main == p.main) (eq-eqb p.main p.main refl))
+
+-- a head is an instruction
+
+found_below : (n : ℕ) (f : ℕ → Bool) → any_below n f ≡ true → (k : ℕ) × ((k < n) × (f k ≡ true))
+unfolding any_below
+found_below zero f h = cc
+found_below (suc n) f h =
+    elim (or_either (f n) (any_below n f) h) [
+      | inl here ↦ (n, (omega arith, here))
+      | inr below ↦ (let k = found_below n f below in (k.0, (let low = k.1.0 in omega (arith, low), k.1.1)))
+    ]
+
+pub head_inside : (p : Program) (pc : ℕ) → IsModule p → is_head p pc ≡ true → pc < length p.code
+unfolding is_head
+head_inside p pc m h =
+    elim (or_either (is_first p pc) (any_below (length p.code) (λ k. names pc (slice_get p.code k))) h) [
+      | inl first ↦ firsts (or_either (pc == 0 || pc == p.init) (pc == p.main) first)
+      | inr named ↦ (let k = found_below (length p.code) (λ j. names pc (slice_get p.code j)) named in named_by k.0 (slice_get p.code k.0) refl k.1.1)
+    ]
+  where
+    named_by : (k : ℕ) (o : Option Instr) → slice_get p.code k ≡ o → names pc o ≡ true → pc < length p.code
+    named_by k None e h = cc
+    named_by k (Some i) e h =
+        let is = eqb-true pc (unwrap_or (target i) 0) h in
+        let inside = target_inside p k i (m.placed k i e) m.opens in
+        omega (arith, is, inside)
+
+    at : (n : ℕ) → n < length p.code → pc == n ≡ true → pc < length p.code
+    at n inside h = let is = eqb-true pc n h in omega (arith, is, inside)
+
+    two : ((pc == 0) ≡ true) ⊎ ((pc == p.init) ≡ true) → pc < length p.code
+    two (inl h) = at 0 m.opens h
+    two (inr h) = at p.init m.inits h
+
+    firsts : ((pc == 0 || pc == p.init) ≡ true) ⊎ ((pc == p.main) ≡ true) → pc < length p.code
+    firsts (inl h) = two (or_either (pc == 0) (pc == p.init) h)
+    firsts (inr h) = at p.main m.mains h

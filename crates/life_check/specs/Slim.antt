@@ -80,6 +80,10 @@ pub record Accepts (p : Program) (c : Cert) : Type 0 where
 abbrev pub slim_of : Program → Certificate → Certificate
 slim_of p c = record { idle = c.idle; ready = c.ready; at = λ pc. if is_head p pc then c.at pc else None; lines = c.lines }
 
+-- a slim certificate is its own slim form
+abbrev pub slim_form : Program → Cert → Certificate
+slim_form p c = if c.slim then seen_cert c else slim_of p (seen_cert c)
+
 -- from the last line on there is no state
 abbrev pub EndsWithLines : Certificate → Type 0
 EndsWithLines c = (pc : ℕ) → c.lines ≤ pc → c.at pc ≡ None
