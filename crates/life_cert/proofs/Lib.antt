@@ -1,4 +1,5 @@
 pub mod Homes
+pub mod SlimLists
 pub mod Lines
 pub mod Writing
 pub mod DraftLaws

@@ -88,11 +88,11 @@ no_number k m at (suc n) pc low high e =
 
 module _ (at bt : ℕ → Option State) (f : (pc : ℕ) → IfSome (at pc) IsFormed) (g : (pc : ℕ) → IfSome (bt pc) IsFormed) where
   -- the first of the lines, and those behind it
-  first_line : (pc n : ℕ) (o p : Option State) → pc + suc n ≤ 1024 → IfSome o IsFormed → IfSome p IsFormed → pc_line pc o ++ pcs (pc + 1) n at ≡ pc_line pc p ++ pcs (pc + 1) n bt → (o ≡ p) × (pcs (pc + 1) n at ≡ pcs (pc + 1) n bt)
-  first_line pc n None None high h k e = (refl, e)
-  first_line pc n None (Some t) high h k e = absurd (no_number pc (state_text t ++ (10 ∷ pcs (pc + 1) n bt)) at n (pc + 1) (omega arith) (omega (arith, high)) (e ∙ some_line pc t (pcs (pc + 1) n bt)))
-  first_line pc n (Some s) None high h k e = absurd (no_number pc (state_text s ++ (10 ∷ pcs (pc + 1) n at)) bt n (pc + 1) (omega arith) (omega (arith, high)) (sym e ∙ some_line pc s (pcs (pc + 1) n at)))
-  first_line pc n (Some s) (Some t) high h k e =
+  one_line : (pc n : ℕ) (o p : Option State) → pc + suc n ≤ 1024 → IfSome o IsFormed → IfSome p IsFormed → pc_line pc o ++ pcs (pc + 1) n at ≡ pc_line pc p ++ pcs (pc + 1) n bt → (o ≡ p) × (pcs (pc + 1) n at ≡ pcs (pc + 1) n bt)
+  one_line pc n None None high h k e = (refl, e)
+  one_line pc n None (Some t) high h k e = absurd (no_number pc (state_text t ++ (10 ∷ pcs (pc + 1) n bt)) at n (pc + 1) (omega arith) (omega (arith, high)) (e ∙ some_line pc t (pcs (pc + 1) n bt)))
+  one_line pc n (Some s) None high h k e = absurd (no_number pc (state_text s ++ (10 ∷ pcs (pc + 1) n at)) bt n (pc + 1) (omega arith) (omega (arith, high)) (sym e ∙ some_line pc s (pcs (pc + 1) n at)))
+  one_line pc n (Some s) (Some t) high h k e =
       let m = pcs (pc + 1) n at in
       let r = pcs (pc + 1) n bt in
       let behind : 32 ∷ (state_text s ++ (10 ∷ m)) ≡ 32 ∷ (state_text t ++ (10 ∷ r)) = append_cancel_left (decimal pc) (32 ∷ (state_text s ++ (10 ∷ m))) (32 ∷ (state_text t ++ (10 ∷ r))) (sym (some_line pc s m) ∙ e ∙ some_line pc t r) in
@@ -102,7 +102,7 @@ module _ (at bt : ℕ → Option State) (f : (pc : ℕ) → IfSome (at pc) IsFor
   one_each : (n pc : ℕ) → pc + n ≤ 1024 → pcs pc n at ≡ pcs pc n bt → (i : ℕ) → pc ≤ i → i < pc + n → at i ≡ bt i
   one_each zero pc high e i low below = absurd (omega (arith, low, below))
   one_each (suc n) pc high e i low below =
-      let both = first_line pc n (at pc) (bt pc) (omega (arith, high)) (f pc) (g pc) (sym (pcs_next pc n at) ∙ e ∙ pcs_next pc n bt) in
+      let both = one_line pc n (at pc) (bt pc) (omega (arith, high)) (f pc) (g pc) (sym (pcs_next pc n at) ∙ e ∙ pcs_next pc n bt) in
       ⊎_elim
       (λ (is : i ≡ pc). ap at is ∙ both.0 ∙ ap bt (sym is))
       (λ (ne : i ≡ pc → ⊥). one_each n (pc + 1) (omega (arith, high)) both.1 i (omega (arith, low, ne)) (omega (arith, below)))
