@@ -78,11 +78,12 @@ fn is_refused(ended: &Result<Ended, PlayFault>) -> bool {
     matches!(ended, Ok(Ended::Refused))
 }
 
-fn certify_file(rt: &HostRuntime, file: &str, asked: bool) -> ExitCode {
+fn certify_file(rt: &HostRuntime, file: &str, is_slim: bool, asked: bool) -> ExitCode {
     let helps = tells_help(rt, asked);
     let file_reader = Recorded::new(rt.alloc(), NamedFile::new(rt, file), helps);
     let mut reader = CountedSource::from_reader(file_reader);
-    let certified = run_certify(rt.alloc(), &mut reader, &mut StdSink::new(rt.stdout()));
+    let mut writer = StdSink::new(rt.stdout());
+    let certified = run_certify(rt.alloc(), &mut reader, &mut writer, is_slim);
     if helps && is_refused(&certified) {
         let given = reader.source().reader.given();
         tell_help(rt, explain_certify(rt.alloc(), given));
@@ -90,11 +91,12 @@ fn certify_file(rt: &HostRuntime, file: &str, asked: bool) -> ExitCode {
     end(rt, certified, file)
 }
 
-fn certify_input(rt: &HostRuntime, asked: bool) -> ExitCode {
+fn certify_input(rt: &HostRuntime, is_slim: bool, asked: bool) -> ExitCode {
     let helps = tells_help(rt, asked);
     let input = Recorded::new(rt.alloc(), rt.stdin(), helps);
     let mut reader = CountedSource::from_reader(input);
-    let certified = run_certify(rt.alloc(), &mut reader, &mut StdSink::new(rt.stdout()));
+    let mut writer = StdSink::new(rt.stdout());
+    let certified = run_certify(rt.alloc(), &mut reader, &mut writer, is_slim);
     if helps && is_refused(&certified) {
         let given = reader.source().reader.given();
         tell_help(rt, explain_certify(rt.alloc(), given));
@@ -146,12 +148,14 @@ fn perform(rt: &HostRuntime, task: Task<'_>) -> ExitCode {
         Task::Assemble { file } => assemble_file(rt, file),
         Task::Certify {
             file: Some(file),
+            is_slim,
             explains,
-        } => certify_file(rt, file, explains),
+        } => certify_file(rt, file, is_slim, explains),
         Task::Certify {
             file: None,
+            is_slim,
             explains,
-        } => certify_input(rt, explains),
+        } => certify_input(rt, is_slim, explains),
         Task::Check {
             file,
             cert,

@@ -13,6 +13,10 @@ const EXPLAINS_MODULES: &str =
 const EXPLAINS_PLAYS: &str =
     "Tells on the standard error, behind the answers, what faults and refusals mean, and what to write instead; so it does on a terminal";
 
+/// What `--slim` does.
+const SLIM: &str =
+    "Gives states only for the first instruction of each handler and for targets; the rules say the others";
+
 /// What the words of the command line ask for.
 #[derive(Drop)]
 pub enum Task<'a> {
@@ -29,6 +33,7 @@ pub enum Task<'a> {
     /// A certificate is made, of the module of this file, or of standard input.
     Certify {
         file: Option<&'a str>,
+        is_slim: bool,
         explains: bool,
     },
     /// A certificate is checked.
@@ -55,11 +60,16 @@ fn play_command<'a>(alloc: Global) -> Result<Command<'a>, AllocError> {
 }
 
 fn certify_command<'a>(alloc: Global) -> Result<Command<'a>, AllocError> {
+    let slim = Arg::new(alloc, "slim")
+        .long("slim")
+        .action(ArgAction::SetTrue)
+        .help(SLIM);
     Command::new(alloc, "certify")
         .about(
             "Makes a certificate of a module, or tells why there is none; of standard input with no file",
         )
         .arg(Arg::new(alloc, "FILE"))?
+        .arg(slim)?
         .arg(explain_flag(alloc, EXPLAINS_MODULES))
 }
 
@@ -104,6 +114,7 @@ pub fn task_of<'a>(alloc: Global, words: &'a [String]) -> Result<Task<'a>, Error
         "assemble" => Task::Assemble { file },
         "certify" => Task::Certify {
             file: given_file,
+            is_slim: given.get_flag("slim"),
             explains,
         },
         "check" => Task::Check {

@@ -12,6 +12,7 @@ use Rattle.life_state.proofs.JoinAbove.{join_above}
 use Rattle.life_state.proofs.OrderLaws.{leq_same, leq_trans}
 use Rattle.life_check.specs.Certificates.{Certificate}
 use Rattle.life_check.specs.Typed.{is_below}
+use Rattle.life_check.proofs.Completed.{below_itself}
 use Rattle.life_cert.specs.declared.growth.StatePlace.{StatePlace}
 use Rattle.life_cert.specs.declared.growth.StatePlace.TheVariants as place
 use Rattle.life_cert.specs.Rounds.{Arrival, Grown, state_at, with_state, handed_by, handed_on, grow, arrive_by, arrive, arrived, round, nothing, begun, rounds, enough, made}
@@ -29,18 +30,6 @@ pub under_grown : (s : State) (o q : Option State) → HasGrown o q → is_below
 under_grown s None q h k = cc
 under_grown s (Some t) None h k = absurd h
 under_grown s (Some t) (Some u) h k = elim h [ inl e ↦ subst (λ (x : State). leq s x ≡ true) e k | inr le ↦ leq_trans s t u k le ]
-
--- a state in form is below itself
-pub below_itself : (p : Program) (call : Bool) (s : State) → IsFormedIn p call s → leq s s ≡ true
-below_itself p call s h = leq_same s (λ c. alone c (s.facts c c) refl)
-  where
-    no_self : (x y z u : Bool) → x ≡ true → (not x && y && z && u) ≡ true → ⊥
-    no_self true y z u e w = cc
-    no_self false y z u e w = cc
-
-    alone : (c : ℕ) (b : Bool) → s.facts c c ≡ b → b ≡ false
-    alone c true e = absurd (no_self (c == c) (is_set (s.cursors c)) (is_set (s.cursors c)) (not (is_apart (s.cursors c) (s.cursors c))) (eq-eqb c c refl) (h.formed.facts c c e))
-    alone c false e = refl
 
 written : (w : StatePlace) (s : State) (c : Certificate) → state_at (with_state w s c) w ≡ Some s
 written place.Idle s c = refl

@@ -14,7 +14,7 @@ use Rattle.life_cert.specs.declared.growth.StatePlace.{StatePlace}
 use Rattle.life_cert.specs.declared.growth.StatePlace.TheVariants as place
 use Rattle.life_cert.specs.Rounds.{Arrival, state_at, arriving, left_place, returned, edges_arriving, handed_by_rule, handed_by_line, handed_by, handed_on}
 use Rattle.life_cert.specs.Fitting.{is_inside, IsDeclared, IsFit}
-use Rattle.life_cert.proofs.EdgeLaws.{AreAlike, SomeAlike, edges_alike, goes_on_next, rule_edges}
+use Rattle.life_check.proofs.EdgeLaws.{AreAlike, SomeAlike, edges_alike, goes_on_next, rule_edges}
 
 -- a state that arrives, if there is one, fits
 some_fits : (p : Program) (w : StatePlace) (o : Option State) → ((s : State) → o ≡ Some s → IsFit p (record { place = w; state = s })) → All (IsFit p) (arriving w o)

@@ -18,16 +18,13 @@ use Rattle.life_check.specs.Typed.{is_below, flows, main_from, request_end, left
 use Rattle.life_cert.specs.declared.growth.StatePlace.{StatePlace}
 use Rattle.life_cert.specs.declared.growth.StatePlace.TheVariants as place
 use Rattle.life_cert.specs.Rounds.{Arrival, Grown, state_at, arriving, left_place, returned, edges_arriving, handed_by_rule, handed_by_line, handed_by, handed_on, grow, arrive_by, arrive, arrived, nothing, begun, rounds, enough, made}
+use Rattle.life_check.proofs.Completed.{below_trans}
 use Rattle.life_cert.specs.Least.{IsBelow}
 use Rattle.life_cert.proofs.Arriving.{read_written}
 use Rattle.life_cert.proofs.RoundsFormed.{AllFormed, Good, on_good, formed_by, rounds_formed}
 
 abbrev pub Under : Certificate → Arrival → Type 0
 Under c a = is_below a.state (state_at c a.place) ≡ true
-
-pub below_trans : (s t : State) (o : Option State) → leq s t ≡ true → is_below t o ≡ true → is_below s o ≡ true
-below_trans s t None p q = cc
-below_trans s t (Some u) p q = leq_trans s t u p q
 
 join_under : (s t : State) (o : Option State) → IsFormed s → IfSome o IsFormed → is_below s o ≡ true → is_below t o ≡ true → is_below (join s t) o ≡ true
 join_under s t None f g p q = cc

@@ -21,6 +21,7 @@ use Rattle.life_state.proofs.Tests.{and2, and3}
 use Rattle.life_state.proofs.WithinRules.{rules_are_monotone}
 use Rattle.life_check.specs.Certificates.{Certificate, AreFormed}
 use Rattle.life_check.specs.Typed.{is_below, flows, declares, has_in, has_no_cursor, fits_between, fits_line, fits_lines, has_shape, main_from, request_end, left_by, exits, first_refusal, IsLed, IsTyped}
+use Rattle.life_check.proofs.Completed.{below_itself, declared, line_fits}
 use Rattle.life_check.proofs.TypedLaws.{none_typed}
 use Rattle.life_cert.specs.declared.growth.StatePlace.{StatePlace}
 use Rattle.life_cert.specs.declared.growth.StatePlace.TheVariants as place
@@ -29,7 +30,7 @@ use Rattle.life_cert.specs.Laws.{is_in_main}
 use Rattle.life_cert.proofs.Arriving.{read_written}
 use Rattle.life_cert.proofs.RoundsFit.{rounds_fit, states_only_grow}
 use Rattle.life_cert.proofs.RoundsFormed.{begun_formed, rounds_formed}
-use Rattle.life_cert.proofs.Closed.{under_grown, below_itself, states_are_closed}
+use Rattle.life_cert.proofs.Closed.{under_grown, states_are_closed}
 use Rattle.life_cert.proofs.Least.{Under, made_is_least}
 
 -- Between calls no cursor is set.
@@ -149,28 +150,17 @@ module _ (p : Program) (c : Certificate) (m : IsModule p) (formed : AreFormed c)
 
   -- The shape.
 
-  declared : (call : Bool) (s : State) → IsFormedIn p call s → declares p s ≡ true
-  declared call s f = and2 (s.pool_count == length p.pools) (s.brigade_count == length p.brigades) (eq-eqb s.pool_count (length p.pools) f.pools) (eq-eqb s.brigade_count (length p.brigades) f.brigades)
-
   between : (o : Option State) → ((s : State) → o ≡ Some s → IsFormedIn p false s × ((k : ℕ) → s.cursors k ≡ Unset)) → fits_between p o ≡ true
   between None h = refl
   between (Some s) h =
       let both = h s refl in
       and2 (declares p s && not (has_in s) && has_no_cursor s) (is_formed s)
-      (and3 (declares p s) (not (has_in s)) (has_no_cursor s) (declared false s (both.0)) (ap not ((both.0).brought)) (all_below_holds 9 (λ k. not (is_set (s.cursors k))) (λ k low. ap (λ x. not (is_set x)) ((both.1) k))))
+      (and3 (declares p s) (not (has_in s)) (has_no_cursor s) (declared p false s (both.0)) (ap not ((both.0).brought)) (all_below_holds 9 (λ k. not (is_set (s.cursors k))) (λ k low. ap (λ x. not (is_set x)) ((both.1) k))))
       (passes_form s (both.0).formed)
 
-  in_part : (b : Bool) (s : State) → has_in s ≡ b → (if b then has_in s else not (has_in s)) ≡ true
-  in_part true s h = h
-  in_part false s h = ap not h
-
-  line_fits : (pc : ℕ) (o : Option State) → pc < length p.code → ((s : State) → o ≡ Some s → IsFormedIn p (nat_le p.main pc) s) → fits_line p pc o ≡ true
-  line_fits pc None inside h = refl
-  line_fits pc (Some s) inside h =
-      let f = h s refl in
-      let part = if nat_le p.main pc then has_in s else not (has_in s) in
-      and2 (declares p s && nat_lt pc (length p.code) && part) (is_formed s)
-      (and3 (declares p s) (nat_lt pc (length p.code)) part (declared (nat_le p.main pc) s f) (lt-ltb pc (length p.code) inside) (in_part (nat_le p.main pc) s f.brought)) (passes_form s f.formed)
+  line_there : (pc : ℕ) (o : Option State) → pc < length p.code → ((s : State) → o ≡ Some s → IsFormedIn p (nat_le p.main pc) s) → fits_line p pc o ≡ true
+  line_there pc None inside h = refl
+  line_there pc (Some s) inside h = line_fits p pc (Some s) inside (h s refl)
 
   lines_are : (made p).lines ≡ length p.code
   unfolding made
@@ -181,7 +171,7 @@ module _ (p : Program) (c : Certificate) (m : IsModule p) (formed : AreFormed c)
   shaped =
       and3 (fits_between p (made p).idle) (fits_between p (made p).ready) (fits_lines p (made p))
       (between (made p).idle (λ s e. (each place.Idle s e, bare place.Idle s e))) (between (made p).ready (λ s e. (each place.Ready s e, bare place.Ready s e)))
-      (all_below_holds (made p).lines (λ pc. fits_line p pc ((made p).at pc)) (λ pc low. line_fits pc ((made p).at pc) (subst (λ (n : ℕ). pc < n) lines_are low) (λ s e. each (place.At pc) s e)))
+      (all_below_holds (made p).lines (λ pc. fits_line p pc ((made p).at pc)) (λ pc low. line_there pc ((made p).at pc) (subst (λ (n : ℕ). pc < n) lines_are low) (λ s e. each (place.At pc) s e)))
 
   -- What is handed on has arrived.
 

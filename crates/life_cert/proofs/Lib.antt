@@ -1,10 +1,10 @@
 pub mod Homes
+pub mod SlimLists
 pub mod Lines
 pub mod Writing
 pub mod DraftLaws
 pub mod ReadLaws
 pub mod Growing
-pub mod EdgeLaws
 pub mod Handed
 pub mod Arriving
 pub mod Settled

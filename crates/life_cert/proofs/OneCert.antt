@@ -16,7 +16,7 @@ use Rattle.life_check.specs.Seen.{seen_cert, seen_line}
 use Rattle.life_cert.specs.declared.refusal.CertRefusal.{CertRefusal}
 use Rattle.life_cert.specs.declared.refusal.CertRefusal.TheVariants.{Fault, NoMemory}
 use Rattle.life_cert.specs.StateText.{each, sent_text, state_text}
-use Rattle.life_cert.specs.CertText.{between_line, cert_text, pc_line, state_or_none}
+use Rattle.life_cert.specs.CertText.{first_line, between_line, cert_text, pc_line, state_or_none}
 use Rattle.life_cert.specs.Reading.{HaveSameStates, IsCertificate, IsPrinted, IsCertText, IsTold, IsWritable}
 use Rattle.life_cert.proofs.OneState.{read_as, state_back}
 use Rattle.life_cert.proofs.PrintedCert.{no_fault}
@@ -88,11 +88,11 @@ no_number k m at (suc n) pc low high e =
 
 module _ (at bt : ℕ → Option State) (f : (pc : ℕ) → IfSome (at pc) IsFormed) (g : (pc : ℕ) → IfSome (bt pc) IsFormed) where
   -- the first of the lines, and those behind it
-  first_line : (pc n : ℕ) (o p : Option State) → pc + suc n ≤ 1024 → IfSome o IsFormed → IfSome p IsFormed → pc_line pc o ++ pcs (pc + 1) n at ≡ pc_line pc p ++ pcs (pc + 1) n bt → (o ≡ p) × (pcs (pc + 1) n at ≡ pcs (pc + 1) n bt)
-  first_line pc n None None high h k e = (refl, e)
-  first_line pc n None (Some t) high h k e = absurd (no_number pc (state_text t ++ (10 ∷ pcs (pc + 1) n bt)) at n (pc + 1) (omega arith) (omega (arith, high)) (e ∙ some_line pc t (pcs (pc + 1) n bt)))
-  first_line pc n (Some s) None high h k e = absurd (no_number pc (state_text s ++ (10 ∷ pcs (pc + 1) n at)) bt n (pc + 1) (omega arith) (omega (arith, high)) (sym e ∙ some_line pc s (pcs (pc + 1) n at)))
-  first_line pc n (Some s) (Some t) high h k e =
+  one_line : (pc n : ℕ) (o p : Option State) → pc + suc n ≤ 1024 → IfSome o IsFormed → IfSome p IsFormed → pc_line pc o ++ pcs (pc + 1) n at ≡ pc_line pc p ++ pcs (pc + 1) n bt → (o ≡ p) × (pcs (pc + 1) n at ≡ pcs (pc + 1) n bt)
+  one_line pc n None None high h k e = (refl, e)
+  one_line pc n None (Some t) high h k e = absurd (no_number pc (state_text t ++ (10 ∷ pcs (pc + 1) n bt)) at n (pc + 1) (omega arith) (omega (arith, high)) (e ∙ some_line pc t (pcs (pc + 1) n bt)))
+  one_line pc n (Some s) None high h k e = absurd (no_number pc (state_text s ++ (10 ∷ pcs (pc + 1) n at)) bt n (pc + 1) (omega arith) (omega (arith, high)) (sym e ∙ some_line pc s (pcs (pc + 1) n at)))
+  one_line pc n (Some s) (Some t) high h k e =
       let m = pcs (pc + 1) n at in
       let r = pcs (pc + 1) n bt in
       let behind : 32 ∷ (state_text s ++ (10 ∷ m)) ≡ 32 ∷ (state_text t ++ (10 ∷ r)) = append_cancel_left (decimal pc) (32 ∷ (state_text s ++ (10 ∷ m))) (32 ∷ (state_text t ++ (10 ∷ r))) (sym (some_line pc s m) ∙ e ∙ some_line pc t r) in
@@ -102,7 +102,7 @@ module _ (at bt : ℕ → Option State) (f : (pc : ℕ) → IfSome (at pc) IsFor
   one_each : (n pc : ℕ) → pc + n ≤ 1024 → pcs pc n at ≡ pcs pc n bt → (i : ℕ) → pc ≤ i → i < pc + n → at i ≡ bt i
   one_each zero pc high e i low below = absurd (omega (arith, low, below))
   one_each (suc n) pc high e i low below =
-      let both = first_line pc n (at pc) (bt pc) (omega (arith, high)) (f pc) (g pc) (sym (pcs_next pc n at) ∙ e ∙ pcs_next pc n bt) in
+      let both = one_line pc n (at pc) (bt pc) (omega (arith, high)) (f pc) (g pc) (sym (pcs_next pc n at) ∙ e ∙ pcs_next pc n bt) in
       ⊎_elim
       (λ (is : i ≡ pc). ap at is ∙ both.0 ∙ ap bt (sym is))
       (λ (ne : i ≡ pc → ⊥). one_each n (pc + 1) (omega (arith, high)) both.1 i (omega (arith, low, ne)) (omega (arith, below)))
@@ -112,17 +112,25 @@ at_pc : (c d : Certificate) → IsWritable c → IsWritable d → pcs 0 1024 c.a
 at_pc c d f g e pc true low = let below = ltb-true pc 1024 low in one_each c.at d.at f.at g.at 1024 0 (omega arith) e pc (omega arith) (omega (arith, below))
 at_pc c d f g e pc false high = let past = ltb-false pc 1024 high in f.few pc past ∙ sym (g.few pc past)
 
-pub one_cert : (c d : Certificate) → IsWritable c → IsWritable d → cert_text c ≡ cert_text d → HaveSameStates c d
+-- the first line tells itself
+one_first : (s t : Bool) (x y : List ℕ) → first_line s ++ x ≡ first_line t ++ y → (s ≡ t) × (x ≡ y)
+one_first true true x y e = (refl, append_cancel_left (codes "slim 1\n") x y e)
+one_first false false x y e = (refl, append_cancel_left (codes "cert 1\n") x y e)
+one_first true false x y e = let no : false ≡ true = ap (begins 99) e in cc no
+one_first false true x y e = let no : true ≡ false = ap (begins 99) e in cc no
+
+pub one_cert : (s t : Bool) (c d : Certificate) → IsWritable c → IsWritable d → cert_text s c ≡ cert_text t d → (s ≡ t) × HaveSameStates c d
 unfolding cert_text
-one_cert c d f g e =
+one_cert s t c d f g e =
     let ct = each 0 c.lines (λ i. pc_line i (c.at i)) ++ codes "end\n" in
     let dt = each 0 d.lines (λ i. pc_line i (d.at i)) ++ codes "end\n" in
     let cr = between_line (codes "ready ") c.ready ++ ct in
     let dr = between_line (codes "ready ") d.ready ++ dt in
-    let idle = one_between (codes "idle ") c.idle d.idle cr dr f.idle g.idle (append_cancel_left (codes "cert 1\n") (between_line (codes "idle ") c.idle ++ cr) (between_line (codes "idle ") d.idle ++ dr) e) in
+    let first = one_first s t (between_line (codes "idle ") c.idle ++ cr) (between_line (codes "idle ") d.idle ++ dr) e in
+    let idle = one_between (codes "idle ") c.idle d.idle cr dr f.idle g.idle first.1 in
     let ready = one_between (codes "ready ") c.ready d.ready ct dt f.ready g.ready idle.1 in
     let lines : pcs 0 1024 c.at ≡ pcs 0 1024 d.at = sym (ap (λ t. t ++ codes "end\n") (all_lines c f)) ∙ ready.1 ∙ ap (λ t. t ++ codes "end\n") (all_lines d g) in
-    record { idle = idle.0; ready = ready.0; at = λ pc. at_pc c d f g lines pc (nat_lt pc 1024) refl }
+    (first.0, record { idle = idle.0; ready = ready.0; at = λ pc. at_pc c d f g lines pc (nat_lt pc 1024) refl })
 
 -- what the reader gives may be printed
 seen_writable : (r : Cert) → IsCertificate (seen_cert r) → IsWritable (seen_cert r)
@@ -132,12 +140,12 @@ seen_writable r h =
     record { idle = h.idle; ready = h.ready; at = h.at; none = gone; few = λ pc high. gone pc (omega (arith, few, high)) }
 
 -- What was printed is read again.
-pub read_again : (text : List ℕ) (r : Result Cert CertRefusal) → IfOk r (λ x. IsCertText text (seen_cert x)) → IfErr r (λ e. IsTold text e) → (c : Certificate) → IsPrinted text c → MatchResult r (λ x. HaveSameStates (seen_cert x) c) (λ e. e ≡ NoMemory)
-read_again text (Ok x) is told c p = one_cert (seen_cert x) c (seen_writable x is.sound) p.writable (sym is.whole ∙ p.whole)
-read_again text (Err (Fault n k)) is told c p = absurd (no_fault text c n k p told.fits)
-read_again text (Err NoMemory) is told c p = refl
+pub read_again : (text : List ℕ) (r : Result Cert CertRefusal) → IfOk r (λ x. IsCertText text x.slim (seen_cert x)) → IfErr r (λ e. IsTold text e) → (slim : Bool) (c : Certificate) → IsPrinted text slim c → MatchResult r (λ x. (x.slim ≡ slim) × HaveSameStates (seen_cert x) c) (λ e. e ≡ NoMemory)
+read_again text (Ok x) is told slim c p = one_cert x.slim slim (seen_cert x) c (seen_writable x is.sound) p.writable (sym is.whole ∙ p.whole)
+read_again text (Err (Fault n k)) is told slim c p = absurd (no_fault text slim c n k p told.fits)
+read_again text (Err NoMemory) is told slim c p = refl
 
 -- as the reader of lines tells it
-pub read_short : (text : List ℕ) (r : Result Cert CertRefusal) → IfOk r (λ x. (false ≡ false) × IsCertText text (seen_cert x)) → IfErr r (λ e. IsTold text e) → (c : Certificate) → IsPrinted text c → MatchResult r (λ x. HaveSameStates (seen_cert x) c) (λ e. e ≡ NoMemory)
-read_short text (Ok x) is told c p = read_again text (Ok x) is.1 told c p
-read_short text (Err e) is told c p = read_again text (Err e) is told c p
+pub read_short : (text : List ℕ) (r : Result Cert CertRefusal) → IfOk r (λ x. (false ≡ false) × IsCertText text x.slim (seen_cert x)) → IfErr r (λ e. IsTold text e) → (slim : Bool) (c : Certificate) → IsPrinted text slim c → MatchResult r (λ x. (x.slim ≡ slim) × HaveSameStates (seen_cert x) c) (λ e. e ≡ NoMemory)
+read_short text (Ok x) is told slim c p = read_again text (Ok x) is.1 told slim c p
+read_short text (Err e) is told slim c p = read_again text (Err e) is told slim c p

@@ -22,7 +22,7 @@ use Rattle.life_cert.specs.declared.due.CertLine.TheVariants as line
 use Rattle.life_cert.specs.declared.refusal.CertCode.{CertCode}
 use Rattle.life_cert.specs.declared.refusal.CertCode.TheVariants as code
 use Rattle.life_cert.specs.StateText.{each, state_text}
-use Rattle.life_cert.specs.CertText.{between_line, cert_text, pc_line, state_or_none}
+use Rattle.life_cert.specs.CertText.{first_line, between_line, cert_text, pc_line, state_or_none}
 use Rattle.life_cert.specs.Reading.{HasCertLineCode, HasState, IsPrinted, IsWritable, CertLinesHaveCode, due_after, due_line, goes_on, left_by}
 use Rattle.life_cert.proofs.DraftLaws.{right}
 use Rattle.life_cert.proofs.PrintedStates.{IsClean, both, decimal_clean, plain, state_clean}
@@ -37,9 +37,14 @@ abbrev pub pc_lines : ℕ → ℕ → (ℕ → Option State) → List (List ℕ)
 pc_lines pc zero at = codes "end" ∷ []
 pc_lines pc (suc n) at = more_lines pc (at pc) (pc_lines (pc + 1) n at)
 
-abbrev pub cert_lines : Certificate → List (List ℕ)
-cert_lines c =
-    codes "cert 1" ∷ ((codes "idle" ++ (32 ∷ state_or_none c.idle)) ∷ ((codes "ready" ++ (32 ∷ state_or_none c.ready)) ∷ pc_lines 0 c.lines c.at))
+-- the first line
+abbrev pub head_line : Bool → List ℕ
+head_line false = codes "cert 1"
+head_line true = codes "slim 1"
+
+abbrev pub cert_lines : Bool → Certificate → List (List ℕ)
+cert_lines slim c =
+    head_line slim ∷ ((codes "idle" ++ (32 ∷ state_or_none c.idle)) ∷ ((codes "ready" ++ (32 ∷ state_or_none c.ready)) ∷ pc_lines 0 c.lines c.at))
 
 lines_joined : (pc n : ℕ) (at : ℕ → Option State) → joined (pc_lines pc n at) ≡ each pc n (λ i. pc_line i (at i)) ++ codes "end\n"
 unfolding each
@@ -57,15 +62,19 @@ lines_joined pc (suc n) at = by (at pc) (lines_joined (pc + 1) n at)
         ap (λ t. line ++ 10 ∷ t) others
         ∙ sym (append_assoc (pc_line pc (Some s)) rest (codes "end\n") ∙ ap (λ t. t ++ (rest ++ codes "end\n")) same ∙ append_assoc line (10 ∷ []) (rest ++ codes "end\n"))
 
-pub cert_joined : (c : Certificate) → joined (cert_lines c) ≡ cert_text c
+head_joined : (slim : Bool) (x y : List ℕ) → x ≡ y → head_line slim ++ (10 ∷ x) ≡ first_line slim ++ y
+head_joined false x y e = ap (λ t. codes "cert 1\n" ++ t) e
+head_joined true x y e = ap (λ t. codes "slim 1\n" ++ t) e
+
+pub cert_joined : (slim : Bool) (c : Certificate) → joined (cert_lines slim c) ≡ cert_text slim c
 unfolding cert_text
-cert_joined c =
+cert_joined slim c =
     let i = state_or_none c.idle in
     let r = state_or_none c.ready in
     let ls = joined (pc_lines 0 c.lines c.at) in
     let idle : (codes "idle" ++ (32 ∷ i)) ++ (10 ∷ ((codes "ready" ++ (32 ∷ r)) ++ 10 ∷ ls)) ≡ between_line (codes "idle ") c.idle ++ ((codes "ready" ++ (32 ∷ r)) ++ 10 ∷ ls) = sym (append_assoc (codes "idle ") (i ++ codes "\n") ((codes "ready" ++ (32 ∷ r)) ++ 10 ∷ ls) ∙ ap (λ t. codes "idle " ++ t) (append_assoc i (codes "\n") ((codes "ready" ++ (32 ∷ r)) ++ 10 ∷ ls))) in
     let ready : (codes "ready" ++ (32 ∷ r)) ++ (10 ∷ ls) ≡ between_line (codes "ready ") c.ready ++ ls = sym (append_assoc (codes "ready ") (r ++ codes "\n") ls ∙ ap (λ t. codes "ready " ++ t) (append_assoc r (codes "\n") ls)) in
-    ap (λ t. codes "cert 1\n" ++ t) (idle ∙ ap (λ t. between_line (codes "idle ") c.idle ++ t) (ready ∙ ap (λ t. between_line (codes "ready ") c.ready ++ t) (lines_joined 0 c.lines c.at)))
+    head_joined slim _ _ (idle ∙ ap (λ t. between_line (codes "idle ") c.idle ++ t) (ready ∙ ap (λ t. between_line (codes "ready ") c.ready ++ t) (lines_joined 0 c.lines c.at)))
 
 abbrev pub AreClean : List (List ℕ) → Type 0
 AreClean [] = Unit {0}
@@ -101,6 +110,10 @@ low_pc c h pc s e = by (nat_lt pc 1024) refl
     by true k = ltb-true pc 1024 k
     by false k = let gone = h.few pc (ltb-false pc 1024 k) in absurd (cc (gone, e))
 
+head_clean : (slim : Bool) → IsClean (head_line slim)
+head_clean false = plain (codes "cert 1") refl
+head_clean true = plain (codes "slim 1") refl
+
 module _ (c : Certificate) (h : IsWritable c) where
   pcs_clean : (pc n : ℕ) → AreClean (pc_lines pc n c.at)
   pcs_clean pc zero = (plain (codes "end") refl, tt)
@@ -112,9 +125,9 @@ module _ (c : Certificate) (h : IsWritable c) where
           let low = low_pc c h pc s e in
           (both (decimal pc) (32 ∷ state_text s) (decimal_clean pc (omega (arith, low))) (both (codes " ") (state_text s) (plain (codes " ") refl) (state_clean s formed)), others)
 
-  pub lines_clean : AreClean (cert_lines c)
-  lines_clean = (
-    plain (codes "cert 1") refl,
+  pub lines_clean : (slim : Bool) → AreClean (cert_lines slim c)
+  lines_clean slim = (
+    head_clean slim,
     (
       both (codes "idle ") (state_or_none c.idle) (plain (codes "idle ") refl) (or_none_clean c.idle h.idle),
       (both (codes "ready ") (state_or_none c.ready) (plain (codes "ready ") refl) (or_none_clean c.ready h.ready), pcs_clean 0 c.lines),
@@ -140,6 +153,11 @@ not_end : (ds r : List ℕ) → begins 101 ds ≡ false → pointwise nat_eq (ds
 not_end [] r h = refl
 not_end (d ∷ ds) r h = ap (λ (b : Bool). b && pointwise nat_eq (ds ++ (32 ∷ r)) (codes "nd")) h
 
+head_due : (slim : Bool) → due_line due.Header (head_line slim) ≡ Some (line.Header slim)
+unfolding due_line
+head_due false = refl
+head_due true = refl
+
 pc_is_due : (next pc : ℕ) (r : List ℕ) → next ≤ pc → pc < 1024 → due_line (due.States next) (decimal pc ++ (32 ∷ r)) ≡ Some (line.Instruction pc)
 unfolding due_line constant_of
 pc_is_due next pc r low high =
@@ -161,27 +179,27 @@ module _ (c : Certificate) (h : IsWritable c) where
           no_faults (due.States next) (decimal pc ++ (32 ∷ state_text s)) (pc_lines (pc + 1) n c.at) (line.Instruction pc) clean (pc_is_due next pc (state_text s) low high)
           (s, (formed, after_again (decimal pc) (32 ∷ state_text s) (decimal_without 32 pc refl (omega (arith, high))) refl)) others
 
-  lines_right : NoFaults due.Header (cert_lines c)
+  lines_right : (slim : Bool) → NoFaults due.Header (cert_lines slim c)
   unfolding due_line
-  lines_right =
+  lines_right slim =
       let i = state_or_none c.idle in
       let r = state_or_none c.ready in
       let idle_is : due_line due.Idle (codes "idle" ++ (32 ∷ i)) ≡ Some line.Idle = rw (token_again (codes "idle") (32 ∷ i) refl refl) refl in
       let ready_is : due_line due.Ready (codes "ready" ++ (32 ∷ r)) ≡ Some line.Ready = rw (token_again (codes "ready") (32 ∷ r) refl refl) refl in
-      let clean = lines_clean c h in
+      let clean = lines_clean c h slim in
       let third = pc_lines 0 c.lines c.at in
       let second = (codes "ready" ++ (32 ∷ r)) ∷ third in
       let first = (codes "idle" ++ (32 ∷ i)) ∷ second in
-      no_faults due.Header (codes "cert 1") first line.Header clean.0 refl tt
+      no_faults due.Header (head_line slim) first (line.Header slim) clean.0 (head_due slim) tt
       (no_faults due.Idle (codes "idle" ++ (32 ∷ i)) second line.Idle clean.1.0 idle_is (c.idle, (h.idle, after_again (codes "idle") (32 ∷ i) refl refl))
       (no_faults due.Ready (codes "ready" ++ (32 ∷ r)) third line.Ready clean.1.1.0 ready_is (c.ready, (h.ready, after_again (codes "ready") (32 ∷ r) refl refl)) (pcs_right 0 0 c.lines (omega arith))))
 
 -- What was printed has no fault.
-pub no_fault : (text : List ℕ) (c : Certificate) (n : ℕ) (k : CertCode) → IsPrinted text c → HasCertLineCode text n k → ⊥
-no_fault text c n k p f =
-    let small = printed_is_short text c p in
-    let cut : take 4194304 text ≡ joined (cert_lines c) = take_all 4194304 text small ∙ p.whole ∙ sym (cert_joined c) in
-    let found = lines_found (cert_lines c) (lines_clean c p.writable) in
-    let lines : lines_from [] (take 4194304 text) ≡ cert_lines c = ap (λ t. lines_from [] t) cut ∙ found.0 in
+pub no_fault : (text : List ℕ) (slim : Bool) (c : Certificate) (n : ℕ) (k : CertCode) → IsPrinted text slim c → HasCertLineCode text n k → ⊥
+no_fault text slim c n k p f =
+    let small = printed_is_short text slim c p in
+    let cut : take 4194304 text ≡ joined (cert_lines slim c) = take_all 4194304 text small ∙ p.whole ∙ sym (cert_joined slim c) in
+    let found = lines_found (cert_lines slim c) (lines_clean c p.writable slim) in
+    let lines : lines_from [] (take 4194304 text) ≡ cert_lines slim c = ap (λ t. lines_from [] t) cut ∙ found.0 in
     let over : goes_on text ≡ false = ap (λ (r : List ℕ). nat_lt 4194304 (length text) || not (eqb (length r) 0)) (ap (λ t. rest_from [] t) cut ∙ found.1) ∙ ap (λ (b : Bool). b || false) (le-ltb 4194304 (length text) small) in
-    lines_right c p.writable 1 n k (subst (λ (b : Bool). CertLinesHaveCode b due.Header 1 (cert_lines c) n k) over (subst (λ (ls : List (List ℕ)). CertLinesHaveCode (goes_on text) due.Header 1 ls n k) lines f))
+    lines_right c p.writable slim 1 n k (subst (λ (b : Bool). CertLinesHaveCode b due.Header 1 (cert_lines slim c) n k) over (subst (λ (ls : List (List ℕ)). CertLinesHaveCode (goes_on text) due.Header 1 ls n k) lines f))

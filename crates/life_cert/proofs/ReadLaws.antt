@@ -18,11 +18,11 @@ use Rattle.life_cert.specs.Reading.{EndTold, IsCertificate, IsCertText, IsTold, 
 use Rattle.life_cert.specs.Drafts.{Counts, IsLineAdded, IsCertDraft, IsRefused, LineAdded, seen_draft, text_so_far}
 
 -- the text of lines that were taken
-pub taken_text : (ls : List (List ℕ)) (d e : CertDraft) (n : ℕ) → AreTaken LineAdded d n ls e → text_so_far e.due (seen_draft e) ≡ text_so_far d.due (seen_draft d) ++ joined ls
-taken_text [] d e n h = ap (λ (x : CertDraft). text_so_far x.due (seen_draft x)) (sym h) ∙ sym (append-nil (text_so_far d.due (seen_draft d)))
+pub taken_text : (ls : List (List ℕ)) (d e : CertDraft) (n : ℕ) → AreTaken LineAdded d n ls e → text_so_far e.due e.slim (seen_draft e) ≡ text_so_far d.due d.slim (seen_draft d) ++ joined ls
+taken_text [] d e n h = ap (λ (x : CertDraft). text_so_far x.due x.slim (seen_draft x)) (sym h) ∙ sym (append-nil (text_so_far d.due d.slim (seen_draft d)))
 taken_text (l ∷ ls) d e n h =
     let one : IsLineAdded d l h.0 = h.1 in
-    let t = text_so_far d.due (seen_draft d) in
+    let t = text_so_far d.due d.slim (seen_draft d) in
     taken_text ls h.0 e (n + 1) h.2 ∙ ap (λ x. x ++ joined ls) one.text ∙ append_assoc t (l ++ 10 ∷ []) (joined ls) ∙ ap (λ x. t ++ x) (append_assoc l (10 ∷ []) (joined ls))
 
 -- a text is its lines and what stands behind them
@@ -115,7 +115,7 @@ over d h is = by d.due refl is
     by due.Nothing e t = (e, record { idle = h.idle; ready = h.ready; at = h.at; few = subst (λ (u : Due). Counts u (length d.at.items)) e h.counts; last = h.last })
 
 -- the text is read to its end
-pub read_whole : (long : Bool) (text : List ℕ) (d s : CertDraft) (n : ℕ) → d.due ≡ due.Header → IsCertDraft s → AreTaken LineAdded d 1 (lines_from [] text) s → EndTold (more_than long (rest_from [] text)) s.due n (Ok tt) → length text ≤ 4194304 → (long ≡ false) × IsCertText text (seen_draft s)
+pub read_whole : (long : Bool) (text : List ℕ) (d s : CertDraft) (n : ℕ) → d.due ≡ due.Header → IsCertDraft s → AreTaken LineAdded d 1 (lines_from [] text) s → EndTold (more_than long (rest_from [] text)) s.due n (Ok tt) → length text ≤ 4194304 → (long ≡ false) × IsCertText text s.slim (seen_draft s)
 unfolding text_so_far
 read_whole long text d s n at sound taken r small =
     let both = or_there long (not (eqb (length (rest_from [] text)) 0)) r.0 in
@@ -123,7 +123,7 @@ read_whole long text d s n at sound taken r small =
     let done = over s sound r.1 in
     let lines = joined (lines_from [] text) in
     let whole : text ≡ lines = text_lines text [] ∙ ap (λ t. lines ++ t) none ∙ append-nil lines in
-    let text_is : cert_text (seen_draft s) ≡ lines = ap (λ (u : Due). text_so_far u (seen_draft s)) (sym done.0) ∙ taken_text (lines_from [] text) d s 1 taken ∙ ap (λ (u : Due). text_so_far u (seen_draft d) ++ lines) at in
+    let text_is : cert_text s.slim (seen_draft s) ≡ lines = ap (λ (u : Due). text_so_far u s.slim (seen_draft s)) (sym done.0) ∙ taken_text (lines_from [] text) d s 1 taken ∙ ap (λ (u : Due). text_so_far u d.slim (seen_draft d) ++ lines) at in
     (both.0, record { sound = done.1; whole = whole ∙ sym text_is; small = small })
 
 -- A text that is not too long is read whole.

@@ -19,7 +19,8 @@ use Rattle.life_cert.specs.declared.growth.StatePlace.{StatePlace}
 use Rattle.life_cert.specs.declared.growth.StatePlace.TheVariants as place
 use Rattle.life_cert.specs.Rounds.{Arrival, Grown, state_at, arriving, left_place, returned, edges_arriving, handed_by_rule, handed_by_line, handed_by, handed_on, grow, arrive_by, arrive, arrived, nothing, begun, rounds}
 use Rattle.life_cert.specs.Laws.{is_in_main, StatesAreFormed}
-use Rattle.life_cert.proofs.EdgeLaws.{goes_on_next, rule_edges}
+use Rattle.life_check.proofs.EdgeLaws.{goes_on_next, rule_edges}
+use Rattle.life_check.proofs.Sides.{SameSide, same_side, if_some, target_side, next_side}
 use Rattle.life_cert.proofs.Arriving.{read_written}
 
 -- where instructions lead
@@ -41,45 +42,8 @@ jump_target p (instr.JSent l) s t h = (l, refl)
 jump_target p (instr.Jump l) s t h = (l, refl)
 jump_target p _ s t h = cc
 
--- both stand before `main`, or neither
-record SameSide (m a b : ℕ) : Type 0 where
-  before : a < m → b < m
-  behind : m ≤ a → m ≤ b
-
-same_side : (m a b : ℕ) → SameSide m a b → nat_le m a ≡ nat_le m b
-same_side m a b h =
-    elim (cases_lt a m) [
-      | inl less ↦ lt-leb m a less ∙ sym (lt-leb m b (h.before less))
-      | inr more ↦ le-leb m a more ∙ sym (le-leb m b (h.behind more))
-    ]
-
-if_some : {X : Type 0} (o : Option X) (l : X) (P : X → Type 0) → o ≡ Some l → IfSome o P → P l
-if_some {X = X} o l P e h = subst (λ (x : Option X). IfSome x P) e h
-
-target_side : (p : Program) → IsModule p → (pc l : ℕ) (i : Instr) → slice_get p.code pc ≡ Some i → pc < length p.code → target i ≡ Some l → SameSide p.main pc l
-target_side p m pc l i here inside e = record {
-  before = λ less. elim (cases_lt pc p.init) [
-    | inl first ↦ (let t = if_some (target i) l (λ x. (0 ≤ x) × (x < p.init)) e (m.opening.inside pc i (omega arith) first here).target in let some = m.initial.some in let u = t.1 in omega arith)
-    | inr second ↦ (let t = if_some (target i) l (λ x. (p.init ≤ x) × (x < p.main)) e (m.initial.inside pc i second less here).target in t.1)
-  ];
-  behind = λ more. (if_some (target i) l (λ x. (p.main ≤ x) × (x < length p.code)) e (m.serving.inside pc i more inside here).target).0;
-}
-
 some_is : {X : Type 0} {x y : X} → Some x ≡ Some y → x ≡ y
 some_is e = cc
-
-next_side : (p : Program) → IsModule p → (pc : ℕ) (i : Instr) → slice_get p.code pc ≡ Some i → goes_on i ≡ true → SameSide p.main pc (pc + 1)
-next_side p m pc i here on = record {
-  before = λ less. elim (cases_eq (pc + 1) p.main) [
-    | inl last ↦ (let e : p.main - 1 ≡ pc = omega arith in absurd (not_both (goes_on i) on (m.initial.ends i (ap (slice_get p.code) e ∙ here))))
-    | inr other ↦ omega arith
-  ];
-  behind = λ more. omega arith;
-}
-  where
-    not_both : (b : Bool) → b ≡ true → b ≡ false → ⊥
-    not_both true h k = cc
-    not_both false h k = cc
 
 -- What is handed on.
 

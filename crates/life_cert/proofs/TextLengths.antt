@@ -13,7 +13,7 @@ use Rattle.life_state.specs.States.{BrigadeKnown, CursorKnown, End, Homes, In, I
 use Rattle.life_check.specs.Certificates.{Certificate}
 use Rattle.life_cert.specs.declared.print_state.HomeWord.{HomeWord}
 use Rattle.life_cert.specs.declared.print_state.HomeWord.TheVariants as home
-use Rattle.life_cert.specs.CertText.{between_line, cert_text, pc_line, state_or_none}
+use Rattle.life_cert.specs.CertText.{first_line, between_line, cert_text, pc_line, state_or_none}
 use Rattle.life_cert.specs.Lengths.{StateTextsAreShort, CertTextsAreShort}
 use Rattle.life_cert.specs.Reading.{IsPrinted, IsWritable}
 use Rattle.life_cert.specs.StateText.{brigade_name, brigade_text, classes_text, content_text, cursor_name, cursor_text, each, fact_text, facts_text, has_home, home_text, homes, homes_text, in_text, live_text, more_homes, place_text_of, pool_text, sent_text, set_text, some_homes, state_text, usable_text, where_holds}
@@ -255,25 +255,29 @@ most_is : total 0 1024 (λ pc. 1193) ≡ 1221632
 unfolding total
 most_is = refl
 
+first_within : (slim : Bool) → IsWithin 7 (first_line slim)
+first_within true = exact (codes "slim 1\n")
+first_within false = exact (codes "cert 1\n")
+
 pub cert_texts_are_short : CertTextsAreShort
 unfolding cert_text
-cert_texts_are_short c h =
+cert_texts_are_short slim c h =
     let lines = each 0 1024 (λ pc. pc_line pc (c.at pc)) in
     let idle = between_line (codes "idle ") c.idle in
     let ready = between_line (codes "ready ") c.ready in
     let most = total 0 1024 (λ pc. 1193) in
-    let whole : IsWithin (7 + (1193 + (1194 + (most + 4)))) (codes "cert 1\n" ++ (idle ++ (ready ++ (lines ++ codes "end\n")))) =
-    both 7 (1193 + (1194 + (most + 4))) (codes "cert 1\n") (idle ++ (ready ++ (lines ++ codes "end\n"))) (exact (codes "cert 1\n"))
+    let whole : IsWithin (7 + (1193 + (1194 + (most + 4)))) (first_line slim ++ (idle ++ (ready ++ (lines ++ codes "end\n")))) =
+    both 7 (1193 + (1194 + (most + 4))) (first_line slim) (idle ++ (ready ++ (lines ++ codes "end\n"))) (first_within slim)
     (both 1193 (1194 + (most + 4)) idle (ready ++ (lines ++ codes "end\n")) (between_within 5 (codes "idle ") c.idle (exact (codes "idle ")) h.idle)
     (both 1194 (most + 4) ready (lines ++ codes "end\n") (between_within 6 (codes "ready ") c.ready (exact (codes "ready ")) h.ready)
     (both most 4 lines (codes "end\n") (each_within (λ pc. pc_line pc (c.at pc)) (λ pc. 1193) 1024 1024 0 (omega arith) (λ pc from low. line_within pc (c.at pc) low (h.at pc))) (exact (codes "end\n"))))) in
     let few = whole.within in
     let sum = most_is in
-    let same = ap (λ (t : List ℕ). length (codes "cert 1\n" ++ (idle ++ (ready ++ (t ++ codes "end\n"))))) (all_lines c h) in
+    let same = ap (λ (t : List ℕ). length (first_line slim ++ (idle ++ (ready ++ (t ++ codes "end\n"))))) (all_lines c h) in
     omega (arith, few, sum, same)
 
-pub printed_is_short : (text : List ℕ) (c : Certificate) → IsPrinted text c → length text ≤ 4194304
-printed_is_short text c p =
-    let few = cert_texts_are_short c p.writable in
+pub printed_is_short : (text : List ℕ) (slim : Bool) (c : Certificate) → IsPrinted text slim c → length text ≤ 4194304
+printed_is_short text slim c p =
+    let few = cert_texts_are_short slim c p.writable in
     let same = ap (λ (t : List ℕ). length t) p.whole in
     omega (arith, few, same)

@@ -1,5 +1,5 @@
 -- How a certificate is written.
-use Rattle.std.specs.Prelude.{ℕ, List, [], ◌++◌, codes, decimal, Option, Some, None}
+use Rattle.std.specs.Prelude.{ℕ, Bool, true, false, List, [], ◌++◌, codes, decimal, Option, Some, None}
 use Rattle.life_state.specs.States.{State}
 use Rattle.life_check.specs.Certificates.{Certificate}
 use Rattle.life_cert.specs.StateText.{each, state_text}
@@ -17,7 +17,12 @@ abbrev pub pc_line : ℕ → Option State → List ℕ
 pc_line pc None = []
 pc_line pc (Some s) = decimal pc ++ (codes " " ++ (state_text s ++ codes "\n"))
 
-unfoldable pub cert_text : Certificate → List ℕ
-cert_text c =
-    codes "cert 1\n" ++ (between_line (codes "idle ") c.idle ++ (between_line (codes "ready ") c.ready
+-- the first line, and whether a certificate is slim
+abbrev pub first_line : Bool → List ℕ
+first_line false = codes "cert 1\n"
+first_line true = codes "slim 1\n"
+
+unfoldable pub cert_text : Bool → Certificate → List ℕ
+cert_text slim c =
+    first_line slim ++ (between_line (codes "idle ") c.idle ++ (between_line (codes "ready ") c.ready
     ++ (each 0 c.lines (λ pc. pc_line pc (c.at pc)) ++ codes "end\n")))

@@ -1,5 +1,5 @@
 -- What the lines so far say, and what one more line adds.
-use Rattle.std.specs.Prelude.{◌≡◌, ℕ, ◌+◌, ◌≤◌, List, [], ◌∷◌, ◌++◌, length, slice_get, codes, Option, Some, None, Result, Ok, Err, IfSome, IsSome}
+use Rattle.std.specs.Prelude.{◌≡◌, ℕ, Bool, ◌+◌, ◌≤◌, List, [], ◌∷◌, ◌++◌, length, slice_get, codes, Option, Some, None, Result, Ok, Err, IfSome, IsSome}
 use Rattle.life_state.specs.Seen.{seen_some}
 use Rattle.life_state.specs.Form.{IsFormed}
 use Rattle.life_state.specs.States.{State}
@@ -14,7 +14,7 @@ use Rattle.life_cert.specs.declared.refusal.CertRefusal.{CertRefusal}
 use Rattle.life_cert.specs.declared.refusal.CertRefusal.TheVariants.{Fault, NoMemory}
 use Rattle.life_cert.specs.Codes.{code_number}
 use Rattle.life_cert.specs.StateText.{each, state_text}
-use Rattle.life_cert.specs.CertText.{between_line, pc_line, cert_text}
+use Rattle.life_cert.specs.CertText.{first_line, between_line, pc_line, cert_text}
 use Rattle.life_cert.specs.Reading.{HasCode, IsState, IsStateOrNone, left}
 
 abbrev pub seen_draft : CertDraft → Certificate
@@ -26,13 +26,13 @@ seen_draft d = record {
 }
 
 -- the lines so far, where this one is due
-unfoldable pub text_so_far : Due → Certificate → List ℕ
-text_so_far due.Header c = []
-text_so_far due.Idle c = codes "cert 1\n"
-text_so_far due.Ready c = codes "cert 1\n" ++ between_line (codes "idle ") c.idle
-text_so_far (due.States n) c =
-    (codes "cert 1\n" ++ between_line (codes "idle ") c.idle) ++ (between_line (codes "ready ") c.ready ++ each 0 c.lines (λ pc. pc_line pc (c.at pc)))
-text_so_far due.Nothing c = cert_text c
+unfoldable pub text_so_far : Due → Bool → Certificate → List ℕ
+text_so_far due.Header slim c = []
+text_so_far due.Idle slim c = first_line slim
+text_so_far due.Ready slim c = first_line slim ++ between_line (codes "idle ") c.idle
+text_so_far (due.States n) slim c =
+    (first_line slim ++ between_line (codes "idle ") c.idle) ++ (between_line (codes "ready ") c.ready ++ each 0 c.lines (λ pc. pc_line pc (c.at pc)))
+text_so_far due.Nothing slim c = cert_text slim c
 
 -- how many lines for instructions there may be
 abbrev pub Counts : Due → ℕ → Type 0
@@ -51,7 +51,7 @@ pub record IsCertDraft (d : CertDraft) : Type 0 where
 pub record IsLineAdded (d : CertDraft) (l : List ℕ) (e : CertDraft) : Type 0 where
   pub right : (c : CertCode) → HasCode d.due l c → ⊥
   pub due : e.due ≡ left d.due l
-  pub text : text_so_far e.due (seen_draft e) ≡ text_so_far d.due (seen_draft d) ++ (l ++ 10 ∷ [])
+  pub text : text_so_far e.due e.slim (seen_draft e) ≡ text_so_far d.due d.slim (seen_draft d) ++ (l ++ 10 ∷ [])
 
 -- a line is refused by a code that fits it, and no lower one does
 pub record IsRefused (d : CertDraft) (l : List ℕ) (c : CertCode) : Type 0 where

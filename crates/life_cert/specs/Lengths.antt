@@ -1,5 +1,5 @@
 -- How long texts are.
-use Rattle.std.specs.Prelude.{◌≤◌, length}
+use Rattle.std.specs.Prelude.{◌≤◌, Bool, length}
 use Rattle.life_state.specs.Form.{IsFormed}
 use Rattle.life_state.specs.States.{State}
 use Rattle.life_check.specs.Certificates.{Certificate}
@@ -12,4 +12,4 @@ StateTextsAreShort = (s : State) → IsFormed s → length (state_text s) ≤ 11
 
 -- so what may be printed is no longer than a text may be
 abbrev pub CertTextsAreShort : Type 0
-CertTextsAreShort = (c : Certificate) → IsWritable c → length (cert_text c) ≤ 1224030
+CertTextsAreShort = (slim : Bool) (c : Certificate) → IsWritable c → length (cert_text slim c) ≤ 1224030

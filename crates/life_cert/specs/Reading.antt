@@ -27,9 +27,9 @@ pub record IsCertificate (c : Certificate) : Type 0 where
   pub few : c.lines ≤ 1024
   pub last : (pc : ℕ) → c.lines ≡ pc + 1 → IsSome (c.at pc)
 
-pub record IsCertText (text : List ℕ) (c : Certificate) : Type 0 where
+pub record IsCertText (text : List ℕ) (slim : Bool) (c : Certificate) : Type 0 where
   pub sound : IsCertificate c
-  pub whole : text ≡ cert_text c
+  pub whole : text ≡ cert_text slim c
   pub small : length text ≤ 4194304
 
 -- What may be printed: each state is in form, and none stands where no line is, or beyond instruction 1023. Its last lines may have
@@ -41,9 +41,9 @@ pub record IsWritable (c : Certificate) : Type 0 where
   pub none : (pc : ℕ) → c.lines ≤ pc → c.at pc ≡ None
   pub few : (pc : ℕ) → 1024 ≤ pc → c.at pc ≡ None
 
-pub record IsPrinted (text : List ℕ) (c : Certificate) : Type 0 where
+pub record IsPrinted (text : List ℕ) (slim : Bool) (c : Certificate) : Type 0 where
   pub writable : IsWritable c
-  pub whole : text ≡ cert_text c
+  pub whole : text ≡ cert_text slim c
 
 -- two certificates say the same; lines at the end that have no state say nothing
 pub record HaveSameStates (c d : Certificate) : Type 0 where
@@ -65,9 +65,13 @@ pc_due next (Some pc) = where_due (nat_le next pc && nat_le pc 1023) (line.Instr
 abbrev pub end_or_pc : ℕ → List ℕ → Option CertLine
 end_or_pc next l = if pointwise nat_eq l (codes "end") then Some line.End else pc_due next (decimal_below (2 ^ 32) (token l))
 
+-- the first line: of a slim certificate, or of one that gives all states
+abbrev pub header : List ℕ → Option CertLine
+header l = if pointwise nat_eq l (codes "slim 1") then Some (line.Header true) else where_due (pointwise nat_eq l (codes "cert 1")) (line.Header false)
+
 -- which line stands there, if it is due
 unfoldable pub due_line : Due → List ℕ → Option CertLine
-due_line due.Header l = where_due (pointwise nat_eq l (codes "cert 1")) line.Header
+due_line due.Header l = header l
 due_line due.Idle l = where_due (pointwise nat_eq (token l) (codes "idle")) line.Idle
 due_line due.Ready l = where_due (pointwise nat_eq (token l) (codes "ready")) line.Ready
 due_line (due.States next) l = end_or_pc next l
@@ -75,7 +79,7 @@ due_line due.Nothing l = None
 
 -- which line is due behind it
 abbrev pub due_after : CertLine → Due
-due_after line.Header = due.Idle
+due_after (line.Header slim) = due.Idle
 due_after line.Idle = due.Ready
 due_after line.Ready = due.States 0
 due_after (line.Instruction pc) = due.States (pc + 1)
@@ -89,7 +93,7 @@ abbrev pub IsStateOrNone : List ℕ → Option State → Type 0
 IsStateOrNone rest o = IfSome o IsFormed × (rest ≡ codes " " ++ state_or_none o)
 
 abbrev pub HasState : CertLine → List ℕ → Type 0
-HasState line.Header rest = Unit {0}
+HasState (line.Header slim) rest = Unit {0}
 HasState line.Idle rest = (o : Option State) × IsStateOrNone rest o
 HasState line.Ready rest = (o : Option State) × IsStateOrNone rest o
 HasState (line.Instruction pc) rest = (s : State) × IsState rest s

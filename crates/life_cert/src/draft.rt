@@ -21,6 +21,7 @@ use std::alloc::{AllocError, Global};
 #[derive(Drop)]
 pub(crate) struct CertDraft {
     pub(crate) due: Due,
+    pub(crate) slim: bool,
     pub(crate) idle: Option<State>,
     pub(crate) ready: Option<State>,
     pub(crate) at: Vec<Option<State>>,
@@ -100,6 +101,7 @@ impl CertDraft {
     {
         CertDraft {
             due: Due::Header,
+            slim: false,
             idle: None,
             ready: None,
             at: Vec::new(alloc),
@@ -135,7 +137,10 @@ impl CertDraft {
         ensures refused { IfErr result (λ e. IsNoState number (LacksState (Some line) (after_token bytes.now)) e) }
     {
         match line {
-            CertLine::Header => self.due = Due::Idle,
+            CertLine::Header(slim) => {
+                self.slim = slim;
+                self.due = Due::Idle;
+            }
             CertLine::Idle => {
                 self.idle = state_or_none(alloc, number, bytes)?;
                 self.due = Due::Ready;

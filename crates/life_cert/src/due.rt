@@ -1,7 +1,7 @@
 //! Which line of a certificate text stands where.
 
 ghost use Rattle.std.specs.Prelude.{◌≡◌};
-ghost use Rattle.life_cert.specs.Reading.{where_due, due_line, end_or_pc, is_over};
+ghost use Rattle.life_cert.specs.Reading.{where_due, header, due_line, end_or_pc, is_over};
 
 use byte_text::{decimal_u32, is_text, token};
 
@@ -23,7 +23,8 @@ pub(crate) enum Due {
 /// A line, by its first word.
 #[derive(Clone, Copy)]
 pub(crate) enum CertLine {
-    Header,
+    /// That of the version, and whether the certificate is slim.
+    Header(bool),
     Idle,
     Ready,
     Instruction(usize),
@@ -46,13 +47,22 @@ fn end_or_pc(next: usize, bytes: &[u8]) -> Option<CertLine>
     where_due((next <= pc) & (pc <= 1023), CertLine::Instruction(pc))
 }
 
+fn header(bytes: &[u8]) -> Option<CertLine>
+    ensures { result ≡ header bytes.now }
+{
+    if is_text(bytes, b"slim 1") {
+        return Some(CertLine::Header(true));
+    }
+    where_due(is_text(bytes, b"cert 1"), CertLine::Header(false))
+}
+
 /// Which line stands there, if it is due.
 #[tactic(auto, unfolding(crate::specs::Reading::due_line))]
 pub(crate) fn due_line(due: Due, bytes: &[u8]) -> Option<CertLine>
     ensures { result ≡ due_line due bytes.now }
 {
     match due {
-        Due::Header => where_due(is_text(bytes, b"cert 1"), CertLine::Header),
+        Due::Header => header(bytes),
         Due::Idle => where_due(is_text(token(bytes), b"idle"), CertLine::Idle),
         Due::Ready => where_due(is_text(token(bytes), b"ready"), CertLine::Ready),
         Due::States(next) => end_or_pc(next, bytes),

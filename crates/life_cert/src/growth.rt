@@ -62,6 +62,7 @@ impl Growth {
         prove!(has_code);
         let first = at_open(code.pool_count(), code.brigade_count());
         let mut cert = Cert {
+            slim: false,
             idle: None,
             ready: None,
             at: vec![in alloc; None; code.len()]?,

@@ -11,6 +11,7 @@ mod print;
 mod print_state;
 mod read;
 mod refusal;
+mod slimming;
 mod state_text;
 mod unread;
 
@@ -19,3 +20,4 @@ pub use maker::{grown, make, round_count};
 pub use print::print_cert;
 pub use read::read_cert;
 pub use refusal::{CertCode, CertRefusal, MakeRefusal};
+pub use slimming::slim;

@@ -1,6 +1,6 @@
 //! The maker of certificates.
 
-ghost use Rattle.std.specs.Prelude.{◌≡◌, ◌∷◌, [], OnOk, IfOk};
+ghost use Rattle.std.specs.Prelude.{◌≡◌, ◌∷◌, [], false, OnOk, IfOk};
 ghost use Rattle.module_code.specs.Program.{IsModule};
 ghost use Rattle.life_check.specs.Certificates.{Certificate, AreFormed};
 ghost use Rattle.life_check.specs.Seen.{seen_cert};
@@ -45,6 +45,7 @@ fn round(alloc: Global, code: &Module, growth: &mut Growth) -> Result<(), AllocE
 /// The states of a module after so many rounds that none grows any more, whether it is accepted with them or not. `AllocError`: they
 /// cannot be held.
 pub fn grown(alloc: Global, code: &Module) -> Result<Cert, AllocError>
+    ensures whole { IfOk result (λ c. c.slim ≡ false) }
     ensures made { IfOk result (λ c. seen_cert c ≡ made code.now) }
     ensures proper { IsModule code.now }
 {
@@ -55,7 +56,10 @@ pub fn grown(alloc: Global, code: &Module) -> Result<Cert, AllocError>
         }
         round(alloc, code, &mut growth)?;
     }
-    Ok(growth.cert)
+    Ok(Cert {
+        slim: false,
+        ..growth.cert
+    })
 }
 
 /// Makes a certificate. The states grow from none, in rounds over all instructions at once: each hands on what it leads to, where its
@@ -63,6 +67,7 @@ pub fn grown(alloc: Global, code: &Module) -> Result<Cert, AllocError>
 /// is not, the refusal is the first of `check`, which is at the lowest instruction that may have a fault. Of all certificates that `check` accepts it is the least, and a module is
 /// refused only where there is none. It takes a line for each instruction, and `NoMemory` comes where these or what is handed on cannot be held.
 pub fn make(alloc: Global, code: &Module) -> Result<Cert, MakeRefusal>
+    ensures whole { IfOk result (λ c. c.slim ≡ false) }
     ensures typed { IfOk result (λ c. IsTyped code.now (seen_cert c)) }
     ensures made { IsMade code.now result }
     ensures least { IfOk result (λ c. (other : Certificate) → AreFormed other → IsTyped code.now other → IsBelow (seen_cert c) other) }

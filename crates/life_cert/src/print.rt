@@ -4,7 +4,7 @@ ghost use Rattle.std.specs.Prelude.{◌≡◌, length, Some, slice_get};
 ghost use Rattle.byte_text.specs.Writes.{Wrote};
 ghost use Rattle.life_state.specs.Seen.{seen, seen_some};
 ghost use Rattle.life_check.specs.Seen.{seen_cert, seen_line};
-ghost use Rattle.life_cert.specs.CertText.{state_or_none, between_line, pc_line, cert_text};
+ghost use Rattle.life_cert.specs.CertText.{first_line, state_or_none, between_line, pc_line, cert_text};
 ghost use Rattle.life_cert.specs.StateText.{each};
 
 use crate::print_state::put_state;
@@ -13,6 +13,16 @@ use itoa::Buffer;
 use life_check::Cert;
 use life_state::State;
 use std::io::Write;
+
+fn put_first_line<W: Write>(out: &mut W, slim: bool) -> Result<(), WriteFault>
+    ensures { Wrote result (W.contents out.old) (W.contents out.new) (first_line slim) }
+{
+    if slim {
+        put_all(out, b"slim 1\n")
+    } else {
+        put_all(out, b"cert 1\n")
+    }
+}
 
 fn put_state_or_none<W: Write>(out: &mut W, state: &Option<State>) -> Result<(), WriteFault>
     ensures { Wrote result (W.contents out.old) (W.contents out.new) (state_or_none (seen_some state.now)) }
@@ -66,9 +76,9 @@ fn put_lines<W: Write>(out: &mut W, at: &[Option<State>]) -> Result<(), WriteFau
 ///
 /// `WriteFault`: the writer failed or took no byte; a front of the text is written.
 pub fn print_cert<W: Write>(cert: &Cert, out: &mut W) -> Result<(), WriteFault>
-    ensures { Wrote result (W.contents out.old) (W.contents out.new) (cert_text (seen_cert cert.now)) }
+    ensures { Wrote result (W.contents out.old) (W.contents out.new) (cert_text cert.now.slim (seen_cert cert.now)) }
 {
-    put_all(out, b"cert 1\n")?;
+    put_first_line(out, cert.slim)?;
     put_between(out, b"idle ", &cert.idle)?;
     put_between(out, b"ready ", &cert.ready)?;
     put_lines(out, cert.at.as_slice())?;

@@ -1,6 +1,6 @@
 //! Certificates from their texts.
 
-ghost use Rattle.std.specs.Prelude.{◌≡◌, ◌≤◌, ◌<◌, ◌++◌, IfOk, IfErr, MatchResult, OnOk, Result, length, take, not, ◌||◌, ◌==◌, true, false};
+ghost use Rattle.std.specs.Prelude.{◌≡◌, Bool, ◌≤◌, ◌<◌, ◌++◌, IfOk, IfErr, MatchResult, OnOk, Result, length, take, not, ◌||◌, ◌==◌, true, false};
 ghost use Rattle.life_check.specs.Certificates.{Certificate};
 ghost use Rattle.life_check.specs.Seen.{seen_cert};
 ghost use Rattle.life_cert.specs.Reading.{HaveSameStates, IsPrinted, IsCertText, IsTold, IsToldOf, EndTold, more_than};
@@ -38,7 +38,7 @@ fn end_lines(due: Due, number: usize, rest: &[u8], long: bool) -> Result<(), Cer
 /// What the lines of a text say, of which more follows where it is `long`.
 fn read_lines(alloc: Global, text: &[u8], long: bool) -> Result<Cert, CertRefusal>
     requires { length text.now ≤ 4194304 }
-    ensures right { IfOk result (λ c. (long ≡ false) × IsCertText text.now (seen_cert c)) }
+    ensures right { IfOk result (λ c. (long ≡ false) × IsCertText text.now c.slim (seen_cert c)) }
     ensures told { IfErr result (λ e. IsToldOf long text.now e) }
 {
     let mut draft = CertDraft::new(alloc);
@@ -46,19 +46,25 @@ fn read_lines(alloc: Global, text: &[u8], long: bool) -> Result<Cert, CertRefusa
     end_lines(draft.due, last.number, &text[last.start..], long)?;
     let CertDraft {
         due: _,
+        slim,
         idle,
         ready,
         at,
     } = draft;
-    Ok(Cert { idle, ready, at })
+    Ok(Cert {
+        slim,
+        idle,
+        ready,
+        at,
+    })
 }
 
 /// The certificate that a text spells, or its first faulty line, from 1, with the lowest code that fits it. A text has at
 /// most 4,194,304 bytes; `NoMemory` is the answer where memory was wanting.
 pub fn read_cert(alloc: Global, text: &[u8]) -> Result<Cert, CertRefusal>
-    ensures right { IfOk result (λ c. IsCertText text.now (seen_cert c)) }
+    ensures right { IfOk result (λ c. IsCertText text.now c.slim (seen_cert c)) }
     ensures told { IfErr result (λ e. IsTold text.now e) }
-    ensures again { (c : Certificate) → IsPrinted text.now c → MatchResult result (λ r. HaveSameStates (seen_cert r) c) (λ e. e ≡ NoMemory) }
+    ensures again { (slim : Bool) (c : Certificate) → IsPrinted text.now slim c → MatchResult result (λ r. (r.slim ≡ slim) × HaveSameStates (seen_cert r) c) (λ e. e ≡ NoMemory) }
 {
     if MAX_LEN < text.len() {
         read_lines(alloc, &text[..MAX_LEN], true)

@@ -8,16 +8,16 @@ use Rattle.model_laws.specs.OpenRuns.{InstancesAreSafe}
 use Rattle.life_check.specs.Accepted.{CertifiedModule, modules_of, IsAccepted, IsChecked, IsCheckedChain}
 use Rattle.life_check.specs.Certificates.{Certificate}
 use Rattle.life_check.specs.ChainTheorem.{AllTyped}
-use Rattle.life_check.specs.Seen.{seen_cert}
+use Rattle.life_check.specs.Slim.{meant}
 use Rattle.life_check.proofs.alone.Safe.{typed_is_safe}
 
 pub all_accepted : (parts : List CertifiedModule) → All IsChecked parts → All IsAccepted parts
-all_accepted parts all = All-weaker IsChecked IsAccepted (λ x h. h.typed) parts all
+all_accepted parts all = All-weaker IsChecked IsAccepted (λ x h. h.accepts) parts all
 
 -- each module that was checked is safe by itself
 pub all_safe : (parts : List CertifiedModule) → All IsChecked parts → All InstancesAreSafe (modules_of parts)
 all_safe parts all =
-    All-map InstancesAreSafe (λ (x : CertifiedModule). x.0) parts (All-weaker IsChecked (λ x. InstancesAreSafe x.0) (λ x h. typed_is_safe x.0 (seen_cert x.1) h.proper h.bounded h.typed) parts all)
+    All-map InstancesAreSafe (λ (x : CertifiedModule). x.0) parts (All-weaker IsChecked (λ x. InstancesAreSafe x.0) (λ x h. typed_is_safe x.0 (meant x.0 x.1) h.proper h.bounded h.accepts.typed) parts all)
 
 -- The certificates of a chain, by the places of their modules.
 
@@ -26,13 +26,13 @@ no_cert = record { idle = None; ready = None; at = λ pc. None; lines = 0 }
 
 abbrev cert_at : List CertifiedModule → ℕ → Certificate
 cert_at [] k = no_cert
-cert_at (x ∷ xs) zero = seen_cert x.1
+cert_at (x ∷ xs) zero = meant x.0 x.1
 cert_at (x ∷ xs) (suc k) = cert_at xs k
 
 all_typed : (parts : List CertifiedModule) → All IsChecked parts → AllTyped (modules_of parts) (cert_at parts)
 unfolding module_at
 all_typed [] all k inside = absurd (omega arith)
-all_typed (x ∷ xs) all zero inside = (let h : IsChecked x = All-head IsChecked x xs all in (h.bounded, h.typed))
+all_typed (x ∷ xs) all zero inside = (let h : IsChecked x = All-head IsChecked x xs all in (h.bounded, h.accepts.typed))
 all_typed (x ∷ xs) all (suc k) inside = all_typed xs (All-tail IsChecked x xs all) k (omega arith)
 
 pub checked_chain : (parts : List CertifiedModule) → 0 < length parts → length parts ≤ 16 → All IsChecked parts → IsCheckedChain (modules_of parts)

@@ -3,7 +3,7 @@ use Rattle.std.proofs.Common.{◌≡◌, ℕ, zero, suc, ◌<◌, Bool, true, fa
 use Rattle.std.proofs.lemmas.Bool.{cases_eq}
 use Rattle.life_check.specs.declared.refusal.CheckRefusal.{CheckRefusal}
 use Rattle.life_check.specs.declared.refusal.Rule.{Rule}
-use Rattle.life_check.specs.Typed.{unless, or_else, first_below}
+use Rattle.life_check.specs.Typed.{refusal, unless, or_else, first_below}
 
 pub unless_none : (b : Bool) (pc : ℕ) (r : Rule) → unless b pc r ≡ None → b ≡ true
 unless_none true pc r h = refl
@@ -12,6 +12,13 @@ unless_none false pc r h = cc
 pub unless_holds : (b : Bool) (pc : ℕ) (r : Rule) → b ≡ true → unless b pc r ≡ None
 unless_holds true pc r h = refl
 unless_holds false pc r h = cc
+
+pub unless_refused : (b : Bool) (pc : ℕ) (r : Rule) (x : CheckRefusal) → unless b pc r ≡ Some x → (b ≡ false) × (refusal pc r ≡ x)
+unless_refused true pc r x h = cc
+unless_refused false pc r x h = (refl, some_is h)
+  where
+    some_is : {u v : CheckRefusal} → Some u ≡ Some v → u ≡ v
+    some_is e = cc
 
 pub or_none : (a b : Option CheckRefusal) → or_else a b ≡ None → (a ≡ None) × (b ≡ None)
 or_none None b h = (refl, h)

@@ -4,7 +4,9 @@ pub mod Asides
 pub mod Brigades
 pub mod Cleared
 pub mod chains
+pub mod Completed
 pub mod Cuts
+pub mod EdgeLaws
 pub mod Examples
 pub mod Filled
 pub mod Finer
@@ -15,6 +17,7 @@ pub mod Instructions
 pub mod Lists
 pub mod Makers
 pub mod Onward
+pub mod Meant
 pub mod Orders
 pub mod Partitions
 pub mod Passes
@@ -25,11 +28,15 @@ pub mod Puts
 pub mod Saved
 pub mod SetFits
 pub mod Sets
+pub mod Sides
+pub mod SlimForms
+pub mod SlimTyped
 pub mod Splits
 pub mod Standards
 pub mod Standing
 pub mod Starting
 pub mod Takes
+pub mod Targets
 pub mod Tree
 pub mod TypedLaws
 pub mod Wants

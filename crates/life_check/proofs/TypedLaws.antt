@@ -1,24 +1,16 @@
 -- No refusal, and no rule that refuses.
-use Rattle.std.proofs.Common.{◌≡◌, ℕ, zero, suc, ◌<◌, [], ◌∷◌, arith, true, ◌&&◌, not, nat_lt, nat_le, if◌then◌else◌, List, IsOk, ◌↔◌, length, subst, rules, Option, Some, None, Result, Ok, Err, slice_get, refl, ap, sym, ◌∙◌}
+use Rattle.std.proofs.Common.{◌≡◌, ℕ, zero, suc, ◌<◌, [], ◌∷◌, arith, List, length, subst, Option, Some, None, Result, Ok, Err, slice_get, refl, ap, sym, ◌∙◌}
 use Rattle.std.proofs.lemmas.Option.{slice_get_within}
 use Rattle.module_code.specs.declared.instr.Instr.{Instr}
 use Rattle.module_code.specs.Program.{Program}
 use Rattle.run_model.specs.declared.fault.FaultKind.{FaultKind}
-use Rattle.life_state.specs.InForm.{is_formed}
 use Rattle.life_state.specs.States.{State}
 use Rattle.life_state.specs.Rules.{Edges, rule}
-use Rattle.life_state.specs.declared.state.State as code
-use Rattle.life_state.proofs.Tests.{split2, split3, all_at}
-use Rattle.life_check.specs.Seen.{seen_line, seen_cert}
-use Rattle.life_check.specs.declared.cert.Cert.{Cert}
 use Rattle.life_check.specs.declared.refusal.CheckRefusal.{CheckRefusal}
 use Rattle.life_check.specs.declared.refusal.Rule.TheVariants.{Shape, Entry, Flow, Exit, Request}
 use Rattle.life_check.specs.Certificates.{Certificate}
-use Rattle.life_check.specs.Typed.{has_shape, opens, inits, serves, declares, has_in, fits_between, fits_line, fits_lines, requests, exits, leads_on, unless, or_else, entry_refusal, first_below, step_refusal, line_refusal, refusal_at, first_refusal, IsLed, IsTyped, IsAnswer}
+use Rattle.life_check.specs.Typed.{has_shape, opens, inits, serves, requests, exits, leads_on, unless, or_else, entry_refusal, first_below, step_refusal, line_refusal, refusal_at, first_refusal, IsLed, IsTyped, IsAnswer}
 use Rattle.life_check.proofs.Firsts.{unless_none, unless_holds, or_none, none_or, none_below, none_at}
-
-apart : (r : CheckRefusal) → None ≡ Some r → ⊥
-apart r h = cc
 
 -- by what the rule answers
 led_by : (p : Program) (c : Certificate) (pc : ℕ) (i : Instr) (s : State) (a : Result Edges FaultKind) → rule p i s ≡ a → step_refusal p c pc i s a ≡ None → IsLed p c pc i s
@@ -76,24 +68,7 @@ none_typed p c t =
     (none_below (length p.code) (refusal_at p c) (λ k below. none_of p c k (slice_get p.code k) (c.at k) (λ i s here line. t.lines k i s here line)))
     (unless_holds (requests p c) 0 Request t.requests)))
 
-pub accepted : (p : Program) (c : Certificate) (r : Result (Unit {0}) CheckRefusal) → IsAnswer (first_refusal p c) r → IsOk r ↔ IsTyped p c
-accepted p c (Ok u) h = (λ o. typed_of p c h, λ t. search)
-accepted p c (Err r) h = (λ o. absurd (search rules), λ t. absurd (apart r (sym (none_typed p c t) ∙ h)))
-
--- the line that a state stands on is given
-within : (xs : List (Option code.State)) (pc : ℕ) (s : State) (o : Option (Option code.State)) → slice_get xs pc ≡ o → seen_line o ≡ Some s → pc < length xs
-within xs pc s None e h = cc
-within xs pc s (Some line) e h = slice_get_within xs pc line e
-
-pub declared_at : (p : Program) (c : Cert) (pc : ℕ) (s : State) → has_shape p (seen_cert c) ≡ true → (seen_cert c).at pc ≡ Some s → declares p s ≡ true
-declared_at p c pc s shape line =
-    let m = seen_cert c in
-    let lines = (split3 (fits_between p m.idle) (fits_between p m.ready) (fits_lines p m) shape).2 in
-    let fits = all_at m.lines pc (λ k. fits_line p k (m.at k)) lines (within c.at.items pc s (slice_get c.at.items pc) refl line) in
-    let part = if nat_le p.main pc then has_in s else not (has_in s) in
-    (split3 (declares p s) (nat_lt pc (length p.code)) part (split2 (declares p s && nat_lt pc (length p.code) && part) (is_formed s) (sym (ap (fits_line p pc) line) ∙ fits)).0).0
-
-none_past : (xs : List Instr) (i : ℕ) → slice_get xs i ≡ None → i < length xs → ⊥
+pub none_past : (xs : List Instr) (i : ℕ) → slice_get xs i ≡ None → i < length xs → ⊥
 none_past [] i e h = omega arith
 none_past (x ∷ xs) zero e h = cc
 none_past (x ∷ xs) (suc i) e h = none_past xs i e (omega arith)

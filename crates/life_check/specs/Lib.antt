@@ -3,6 +3,7 @@ pub use Rattle.life_state.specs.Rules
 pub mod Certificates
 pub mod Seen
 pub mod Typed
+pub mod Slim
 pub mod Examples
 pub mod Meaning
 pub mod Soundness

@@ -9,6 +9,9 @@ use life_state::State;
 /// States for a module: what is known between calls, and before each instruction that can be reached. Anybody may have made it.
 #[derive(Drop)]
 pub struct Cert {
+    /// Whether states are given at heads alone: before the first instruction of each handler, and before each that some instruction
+    /// names as its target. Those in between are what the rules hand on.
+    pub slim: bool,
     /// Between calls, before `init`. None says that no call ends there.
     pub idle: Option<State>,
     /// Between calls, from `init` on to the end of the request. None says that no call ends there.

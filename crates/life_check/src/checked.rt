@@ -1,22 +1,24 @@
 //! The check of a certificate.
 
-ghost use Rattle.std.specs.Prelude.{◌≤◌, ◌↔◌, ◌∷◌, [], length, IsOk};
+ghost use Rattle.std.specs.Prelude.{◌≤◌, ◌≡◌, ◌↔◌, ◌∷◌, [], true, length, IsOk};
 ghost use Rattle.module_code.specs.Program.{IsModule};
 ghost use Rattle.model_laws.specs.OpenRuns.{InstancesAreSafe};
 ghost use Rattle.life_check.specs.Seen.{seen_cert};
 ghost use Rattle.life_check.specs.Certificates.{AllBounded, AreFormed};
 ghost use Rattle.life_check.specs.ChainTheorem.{ChainNeverFaults};
-ghost use Rattle.life_check.specs.Typed.{entry_refusal, first_refusal, IsAnswer, IsTyped};
+ghost use Rattle.life_check.specs.Slim.{meant, cert_refusal, Accepts, AreHeads};
+ghost use Rattle.life_check.specs.Typed.{has_shape, entry_refusal, first_refusal, IsAnswer};
 
 use crate::cert::Cert;
 use crate::entries::{inits, opens, requests, serves};
 use crate::lines::{check_lines, unless};
 use crate::refusal::{CheckRefusal, Rule};
-use crate::shape::has_shape;
+use crate::shape::{at_heads, has_shape};
+use crate::slim::heads;
 use module_code::Module;
 
 fn check_entries(code: &Module, cert: &Cert) -> Result<(), CheckRefusal>
-    ensures first { IsAnswer (entry_refusal code.now (seen_cert cert.now)) result }
+    ensures first { IsAnswer (entry_refusal code.now (meant code.now cert.now)) result }
     ensures few { length code.now.pools ≤ 8 }
 {
     unless(opens(code, cert), 0, Rule::Entry)?;
@@ -24,34 +26,42 @@ fn check_entries(code: &Module, cert: &Cert) -> Result<(), CheckRefusal>
     unless(serves(code, cert), code.main(), Rule::Entry)
 }
 
-#[tactic(auto, unfolding(crate::specs::Typed::first_refusal))]
-pub(crate) fn check_all(code: &Module, cert: &Cert) -> Result<(), CheckRefusal>
-    ensures first { IsAnswer (first_refusal code.now (seen_cert cert.now)) result }
-    ensures bounded { IsOk result → AllBounded (seen_cert cert.now) }
-    ensures formed { IsOk result → AreFormed (seen_cert cert.now) }
-    ensures proper { IsOk result → IsModule code.now }
+/// The first refusal of what is meant, where the states that are given have the shape.
+fn check_meant(code: &Module, cert: &Cert, heads: &[bool; 1025]) -> Result<(), CheckRefusal>
+    requires heads { AreHeads code.now heads.now }
+    requires shape { has_shape code.now (seen_cert cert.now) ≡ true }
+    requires formed { AreFormed (seen_cert cert.now) }
+    ensures first { IsAnswer (first_refusal code.now (meant code.now cert.now)) result }
+    ensures proper { IsModule code.now }
 {
-    let shaped = has_shape(code, cert);
-    if !shaped {
-        return Err(CheckRefusal {
-            pc: 0,
-            rule: Rule::Shape,
-        });
-    }
+    let _count = code.len();
     check_entries(code, cert)?;
-    check_lines(code, cert)?;
+    check_lines(code, cert, heads)?;
     unless(requests(code, cert), 0, Rule::Request)
 }
 
+pub(crate) fn check_all(code: &Module, cert: &Cert) -> Result<(), CheckRefusal>
+    ensures first { IsAnswer (cert_refusal code.now cert.now) result }
+    ensures bounded { IsOk result → AllBounded (meant code.now cert.now) }
+    ensures formed { IsOk result → AreFormed (meant code.now cert.now) }
+    ensures proper { IsOk result → IsModule code.now }
+{
+    let heads = heads(code);
+    unless(has_shape(code, cert), 0, Rule::Shape)?;
+    unless(!cert.slim || at_heads(code, cert, &heads), 0, Rule::Shape)?;
+    check_meant(code, cert, &heads)
+}
+
 /// Whether the states of a certificate follow from one another by the rules, so that no instruction has a fault: Ok exactly where
-/// no rule refuses, and then each state is in form. Else the first refusal: by the shape of the states; where a handler begins; at the lowest instruction with a
-/// state by a fault that it may have, by where it leads, or by what it leaves where it returns; at the end of the request. It
-/// takes no memory. No run of a chain that is this module alone answers a fault, on however many connections, and whatever is found
+/// no rule refuses, and then each state is in form. Else the first refusal: by the shape of the states; where a handler begins; at the
+/// lowest instruction with a state by a fault that it may have, by where it leads, or by what it leaves where it returns; at the end of
+/// the request. Of a slim certificate the shape is that of the states that are given, which stand at heads alone; all else is asked of
+/// what it means. It takes no memory. No run of a chain that is this module alone answers a fault, on however many connections, and whatever is found
 /// and read, or cannot be. No instance of it has a fault, whatever filters stand before and behind.
 pub fn check(code: &Module, cert: &Cert) -> Result<(), CheckRefusal>
-    ensures first { IsAnswer (first_refusal code.now (seen_cert cert.now)) result }
-    ensures accepts { IsOk result ↔ IsTyped code.now (seen_cert cert.now) }
-    ensures formed { IsOk result → AreFormed (seen_cert cert.now) }
+    ensures first { IsAnswer (cert_refusal code.now cert.now) result }
+    ensures accepts { IsOk result ↔ Accepts code.now cert.now }
+    ensures formed { IsOk result → AreFormed (meant code.now cert.now) }
     ensures safe { IsOk result → ChainNeverFaults (code.now ∷ []) }
     ensures instances { IsOk result → InstancesAreSafe code.now }
 {

@@ -3,6 +3,7 @@
 ghost use Rattle.std.specs.Prelude.{◌≡◌, ◌≤◌, true, length};
 ghost use Rattle.life_state.specs.Seen.{seen, seen_some};
 ghost use Rattle.life_check.specs.Seen.{seen_cert};
+ghost use Rattle.life_check.specs.Slim.{meant};
 ghost use Rattle.life_check.specs.Typed.{is_below, flows, main_from, fits_between, has_shape, opens, inits, serves, request_end, requests};
 
 use crate::cert::Cert;
@@ -39,7 +40,7 @@ fn main_from(ready: Option<State>) -> Option<State>
 }
 
 pub(crate) fn opens(code: &Module, cert: &Cert) -> bool
-    ensures value { result ≡ opens code.now (seen_cert cert.now) }
+    ensures value { result ≡ opens code.now (meant code.now cert.now) }
     ensures few { length code.now.pools ≤ 8 }
 {
     let first = at_open(code.pool_count(), code.brigade_count());
@@ -47,13 +48,13 @@ pub(crate) fn opens(code: &Module, cert: &Cert) -> bool
 }
 
 pub(crate) fn inits(code: &Module, cert: &Cert) -> bool
-    ensures { result ≡ inits code.now (seen_cert cert.now) }
+    ensures { result ≡ inits code.now (meant code.now cert.now) }
 {
     flows(cert.idle, cert.state(code.init()))
 }
 
 pub(crate) fn serves(code: &Module, cert: &Cert) -> bool
-    ensures { result ≡ serves code.now (seen_cert cert.now) }
+    ensures { result ≡ serves code.now (meant code.now cert.now) }
 {
     flows(main_from(cert.ready), cert.state(code.main()))
 }
@@ -72,7 +73,7 @@ fn request_end(code: &Module, ready: Option<State>) -> Option<State>
 pub(crate) fn requests(code: &Module, cert: &Cert) -> bool
     requires shape { has_shape code.now (seen_cert cert.now) ≡ true }
     requires few { length code.now.pools ≤ 8 }
-    ensures { result ≡ requests code.now (seen_cert cert.now) }
+    ensures { result ≡ requests code.now (meant code.now cert.now) }
 {
     flows(request_end(code, cert.ready), cert.idle)
 }

@@ -8,6 +8,7 @@ ghost use Rattle.life_check.specs.ChainTheorem.{TypedChainNeverFaults, TypedModu
 ghost use Rattle.life_check.specs.Examples.{BesideRows, FaultRows, IdentityAnswers};
 ghost use Rattle.life_check.specs.Meaning.{Covers};
 ghost use Rattle.life_check.specs.Soundness.{LivesByTest, StepLands, MetIsFaultless, GreaterFits, RequestEndLands};
+ghost use Rattle.life_check.specs.Slim.{SlimIsTyped};
 
 /// Certificates worked out by hand, of a module that passes on what it gets; a module that never faults, and one that does; one that is
 /// safe beside any filters, and two that are not.
@@ -37,4 +38,9 @@ pub fn rules_are_sound()
     ensures needs { (lives : Home → Bool) (p : Program) (v : PoolView) → MetIsFaultless (Covers p v (LivesByTest lives)) }
     ensures greater { (lives : Home → Bool) → GreaterFits (LivesByTest lives) }
     ensures ends { RequestEndLands }
+{}
+
+/// What is accepted is accepted in its slim form.
+pub fn slim_forms_are_typed()
+    ensures { SlimIsTyped }
 {}

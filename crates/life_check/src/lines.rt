@@ -1,11 +1,12 @@
 //! What instructions lead to.
 
-ghost use Rattle.std.specs.Prelude.{◌≡◌, ◌<◌, ◌+◌, true, length, Some, slice_get, unwrap_or};
+ghost use Rattle.std.specs.Prelude.{◌≡◌, ◌<◌, ◌+◌, true, length, None, Some, IfOk, IfErr, OnOk, slice_get, unwrap_or, Ok};
 ghost use Rattle.module_code.specs.declared.instr.Instr as instr;
 ghost use Rattle.module_code.specs.Program.{IsModule, target};
-ghost use Rattle.life_state.specs.Rules.{rule};
-ghost use Rattle.life_state.specs.Seen.{seen, seen_some, seen_edges, seen_answer};
+ghost use Rattle.life_state.specs.Seen.{seen, seen_some, seen_edges};
+ghost use Rattle.life_check.specs.Certificates.{AreFormed};
 ghost use Rattle.life_check.specs.Seen.{seen_cert};
+ghost use Rattle.life_check.specs.Slim.{AreHeads, handed_next, meant};
 ghost use Rattle.life_check.specs.Typed.{declares, has_shape, left_by, exits, leads_on, unless, step_refusal, refusal_at, first_below, IsAnswer};
 
 use crate::cert::Cert;
@@ -13,7 +14,6 @@ use crate::entries::{flows, is_below};
 use crate::refusal::{CheckRefusal, Rule};
 use life_state::{State, Successors, after, at_return};
 use module_code::{Instr, Module};
-use run_model::FaultKind;
 
 /// The instruction that an instruction names as its target; 0 where it names none.
 pub fn target(instr: Instr) -> usize
@@ -39,7 +39,7 @@ pub fn target(instr: Instr) -> usize
 }
 
 fn left_by(code: &Module, cert: &Cert, pc: usize) -> Option<State>
-    ensures { seen_some result ≡ left_by code.now (seen_cert cert.now) pc }
+    ensures { seen_some result ≡ left_by code.now (meant code.now cert.now) pc }
 {
     if pc < code.init() {
         cert.idle
@@ -49,7 +49,7 @@ fn left_by(code: &Module, cert: &Cert, pc: usize) -> Option<State>
 }
 
 fn exits(code: &Module, cert: &Cert, pc: usize, instr: Instr, state: &State) -> bool
-    ensures { result ≡ exits code.now (seen_cert cert.now) pc instr (seen state.now) }
+    ensures { result ≡ exits code.now (meant code.now cert.now) pc instr (seen state.now) }
 {
     match instr {
         Instr::Ret(_) => is_below(&at_return(state), left_by(code, cert, pc)),
@@ -57,11 +57,33 @@ fn exits(code: &Module, cert: &Cert, pc: usize, instr: Instr, state: &State) -> 
     }
 }
 
-fn leads_on(cert: &Cert, pc: usize, instr: Instr, edges: &Successors) -> bool
-    requires { pc < 1024 }
-    ensures { result ≡ leads_on (seen_cert cert.now) pc instr (seen_edges edges.now) }
+/// The state that is meant before the next instruction: the one that is given, or the one that is handed on where a slim certificate
+/// gives none.
+fn next_meant(
+    code: &Module,
+    cert: &Cert,
+    heads: &[bool; 1025],
+    pc: usize,
+    handed: Option<State>,
+) -> Option<State>
+    requires proper { IsModule code.now }
+    requires inside { pc < length code.now.code }
+    requires heads { AreHeads code.now heads.now }
+    requires handed { seen_some handed ≡ handed_next code.now (slice_get code.now.code pc) ((meant code.now cert.now).at pc) }
+    ensures { seen_some result ≡ (meant code.now cert.now).at (pc + 1) }
 {
-    flows(edges.next, cert.state(pc + 1)) & flows(edges.jump, cert.state(target(instr)))
+    let next = cert.state(pc + 1);
+    let given = !cert.slim | heads[pc + 1];
+    if given { next } else { handed }
+}
+
+fn leads_on(code: &Module, cert: &Cert, pc: usize, edges: &Successors, next: Option<State>) -> bool
+    requires inside { pc < length code.now.code }
+    requires next { seen_some next ≡ (meant code.now cert.now).at (pc + 1) }
+    ensures { (i : instr.Instr) → slice_get code.now.code pc ≡ Some i → result ≡ leads_on (meant code.now cert.now) pc i (seen_edges edges.now) }
+{
+    let jump = cert.state(target(code.at(pc)));
+    flows(edges.next, next) & flows(edges.jump, jump)
 }
 
 /// The answer where the test fails.
@@ -75,56 +97,91 @@ pub(crate) fn unless(holds: bool, pc: usize, rule: Rule) -> Result<(), CheckRefu
     }
 }
 
-fn check_step(
+fn check_edges(
     code: &Module,
     cert: &Cert,
     pc: usize,
     state: &State,
-    answer: Result<Successors, FaultKind>,
+    edges: &Successors,
+    next: Option<State>,
 ) -> Result<(), CheckRefusal>
-    requires { pc < length code.now.code }
-    ensures { (i : instr.Instr) → slice_get code.now.code pc ≡ Some i → IsAnswer (step_refusal code.now (seen_cert cert.now) pc i (seen state.now) (seen_answer answer)) result }
+    requires inside { pc < length code.now.code }
+    requires next { seen_some next ≡ (meant code.now cert.now).at (pc + 1) }
+    ensures { (i : instr.Instr) → slice_get code.now.code pc ≡ Some i → IsAnswer (step_refusal code.now (meant code.now cert.now) pc i (seen state.now) (Ok (seen_edges edges.now))) result }
 {
-    let instr = code.at(pc);
-    match answer {
+    unless(leads_on(code, cert, pc, edges, next), pc, Rule::Flow)?;
+    unless(exits(code, cert, pc, code.at(pc), state), pc, Rule::Exit)
+}
+
+/// The refusal of an instruction in its state, or the state that is meant before the next.
+fn check_state(
+    code: &Module,
+    cert: &Cert,
+    heads: &[bool; 1025],
+    pc: usize,
+    state: &State,
+) -> Result<Option<State>, CheckRefusal>
+    requires proper { IsModule code.now }
+    requires inside { pc < length code.now.code }
+    requires heads { AreHeads code.now heads.now }
+    requires declared { declares code.now (seen state.now) ≡ true }
+    requires stands { (meant code.now cert.now).at pc ≡ Some (seen state.now) }
+    ensures next { IfOk result (λ next. seen_some next ≡ (meant code.now cert.now).at (pc + 1)) }
+    ensures passes { OnOk result (refusal_at code.now (meant code.now cert.now) pc ≡ None) }
+    ensures refused { IfErr result (λ r. refusal_at code.now (meant code.now cert.now) pc ≡ Some r) }
+{
+    match after(code, pc, state) {
         Err(kind) => Err(CheckRefusal {
             pc,
             rule: Rule::May(kind),
         }),
         Ok(edges) => {
-            unless(leads_on(cert, pc, instr, &edges), pc, Rule::Flow)?;
-            unless(exits(code, cert, pc, instr, state), pc, Rule::Exit)
+            let next = next_meant(code, cert, heads, pc, edges.next);
+            check_edges(code, cert, pc, state, &edges, next)?;
+            Ok(next)
         }
     }
 }
 
-fn check_state(code: &Module, cert: &Cert, pc: usize, state: &State) -> Result<(), CheckRefusal>
+fn check_line(
+    code: &Module,
+    cert: &Cert,
+    heads: &[bool; 1025],
+    pc: usize,
+    here: Option<State>,
+) -> Result<Option<State>, CheckRefusal>
+    requires proper { IsModule code.now }
     requires inside { pc < length code.now.code }
-    requires declared { declares code.now (seen state.now) ≡ true }
-    ensures { (i : instr.Instr) → slice_get code.now.code pc ≡ Some i → IsAnswer (step_refusal code.now (seen_cert cert.now) pc i (seen state.now) (rule code.now i (seen state.now))) result }
-{
-    check_step(code, cert, pc, state, after(code, pc, state))
-}
-
-fn check_line(code: &Module, cert: &Cert, pc: usize) -> Result<(), CheckRefusal>
-    requires inside { pc < length code.now.code }
+    requires heads { AreHeads code.now heads.now }
     requires shape { has_shape code.now (seen_cert cert.now) ≡ true }
-    ensures { IsAnswer (refusal_at code.now (seen_cert cert.now) pc) result }
+    requires formed { AreFormed (seen_cert cert.now) }
+    requires here { seen_some here ≡ (meant code.now cert.now).at pc }
+    ensures next { IfOk result (λ next. seen_some next ≡ (meant code.now cert.now).at (pc + 1)) }
+    ensures passes { OnOk result (refusal_at code.now (meant code.now cert.now) pc ≡ None) }
+    ensures refused { IfErr result (λ r. refusal_at code.now (meant code.now cert.now) pc ≡ Some r) }
 {
-    match cert.state(pc) {
-        None => Ok(()),
-        Some(state) => check_state(code, cert, pc, &state),
+    match here {
+        None => Ok(next_meant(code, cert, heads, pc, None)),
+        Some(state) => check_state(code, cert, heads, pc, &state),
     }
 }
 
-/// The first refusal of an instruction that has a state.
-pub(crate) fn check_lines(code: &Module, cert: &Cert) -> Result<(), CheckRefusal>
-    requires { has_shape code.now (seen_cert cert.now) ≡ true }
-    ensures first { IsAnswer (first_below (length code.now.code) (refusal_at code.now (seen_cert cert.now))) result }
+/// The first refusal of an instruction that has a state. One state is held at a time: the one that is meant before the instruction.
+pub(crate) fn check_lines(
+    code: &Module,
+    cert: &Cert,
+    heads: &[bool; 1025],
+) -> Result<(), CheckRefusal>
+    requires heads { AreHeads code.now heads.now }
+    requires shape { has_shape code.now (seen_cert cert.now) ≡ true }
+    requires formed { AreFormed (seen_cert cert.now) }
+    ensures first { IsAnswer (first_below (length code.now.code) (refusal_at code.now (meant code.now cert.now))) result }
     ensures proper { IsModule code.now }
 {
-    for pc in 0..code.len() {
-        check_line(code, cert, pc)?;
+    let count = code.len();
+    let mut here = cert.state(0);
+    for pc in 0..count {
+        here = check_line(code, cert, heads, pc, here)?;
     }
     Ok(())
 }

@@ -1,15 +1,15 @@
 //! Whether states are in form and of a module's variables, and stand where they may.
 
-ghost use Rattle.std.specs.Prelude.{◌≡◌, ℕ, true, nat_le, not, if◌then◌else◌, IfSome};
+ghost use Rattle.std.specs.Prelude.{◌≡◌, ℕ, ◌||◌, ◌<◌, length, true, nat_le, not, if◌then◌else◌, is_some, IfSome};
 ghost use Rattle.life_state.specs.Form.{IsFormed};
 ghost use Rattle.life_state.specs.Facts.{is_set};
 ghost use Rattle.life_state.specs.Seen.{seen, seen_cursor, seen_some};
 ghost use Rattle.life_check.specs.Seen.{seen_cert};
-ghost use Rattle.life_check.specs.Certificates.{AllBounded, AreFormed, IsBoundedSome};
+ghost use Rattle.life_check.specs.Certificates.{AreFormed};
 ghost use Rattle.life_check.specs.Typed.{declares, has_in, has_no_cursor, fits_between, fits_line, fits_lines, has_shape};
+ghost use Rattle.life_check.specs.Slim.{is_head, at_heads, AreHeads};
 
 use crate::cert::Cert;
-use life_state::laws::states_are_bounded;
 use life_state::{CursorState, State};
 use module_code::Module;
 
@@ -51,13 +51,11 @@ fn has_no_cursor(state: &State) -> bool
 
 fn fits_between(code: &Module, state: Option<State>) -> bool
     ensures value { result ≡ fits_between code.now (seen_some state) }
-    ensures bounded { IsBoundedSome (seen_some state) }
     ensures formed { result ≡ true → IfSome (seen_some state) IsFormed }
 {
     match state {
         None => true,
         Some(state) => {
-            states_are_bounded(&state);
             let fits = declares(code, &state) & !has_in(&state) & has_no_cursor(&state);
             fits & state.is_formed()
         }
@@ -76,13 +74,11 @@ fn stands_in_part(code: &Module, pc: usize, state: &State) -> bool
 
 fn fits_line(code: &Module, pc: usize, state: Option<State>) -> bool
     ensures value { result ≡ fits_line code.now pc (seen_some state) }
-    ensures bounded { IsBoundedSome (seen_some state) }
     ensures formed { result ≡ true → IfSome (seen_some state) IsFormed }
 {
     match state {
         None => true,
         Some(state) => {
-            states_are_bounded(&state);
             let stands = declares(code, &state)
                 & (pc < code.len())
                 & stands_in_part(code, pc, &state);
@@ -93,7 +89,6 @@ fn fits_line(code: &Module, pc: usize, state: Option<State>) -> bool
 
 fn fits_lines(code: &Module, cert: &Cert) -> bool
     ensures value { result ≡ fits_lines code.now (seen_cert cert.now) }
-    ensures bounded { result ≡ true → (pc : ℕ) → IsBoundedSome ((seen_cert cert.now).at pc) }
     ensures formed { result ≡ true → (pc : ℕ) → IfSome ((seen_cert cert.now).at pc) IsFormed }
 {
     for pc in 0..cert.at.len() {
@@ -107,8 +102,34 @@ fn fits_lines(code: &Module, cert: &Cert) -> bool
 
 pub(crate) fn has_shape(code: &Module, cert: &Cert) -> bool
     ensures value { result ≡ has_shape code.now (seen_cert cert.now) }
-    ensures bounded { result ≡ true → AllBounded (seen_cert cert.now) }
     ensures formed { result ≡ true → AreFormed (seen_cert cert.now) }
 {
     fits_between(code, cert.idle) & fits_between(code, cert.ready) & fits_lines(code, cert)
+}
+
+fn stands_at_head(code: &Module, heads: &[bool; 1025], pc: usize, state: Option<State>) -> bool
+    requires heads { AreHeads code.now heads.now }
+    requires few { is_some (seen_some state) ≡ true → pc < 1025 }
+    ensures { result ≡ is_head code.now pc || not (is_some (seen_some state)) }
+{
+    match state {
+        None => true,
+        Some(_) => heads[pc],
+    }
+}
+
+/// Whether states are given at heads alone.
+pub(crate) fn at_heads(code: &Module, cert: &Cert, heads: &[bool; 1025]) -> bool
+    requires heads { AreHeads code.now heads.now }
+    requires shape { has_shape code.now (seen_cert cert.now) ≡ true }
+    ensures { result ≡ at_heads code.now (seen_cert cert.now) }
+{
+    let _count = code.len();
+    for pc in 0..cert.at.len() {
+        let stands = stands_at_head(code, heads, pc, cert.state(pc));
+        if !stands {
+            return false;
+        }
+    }
+    true
 }

@@ -156,6 +156,11 @@ pub fn put_certificate(
             told.push(
                 "the states of the certificate are not of this module: other variables, `in` elsewhere than in `main`, a cursor between calls, or a line for no instruction\n",
             );
+            if cert.slim {
+                told.push(
+                    "  a slim certificate has lines only for the first instruction of each handler and for targets\n",
+                );
+            }
             Ok(())
         }
         Rule::Request => {

@@ -3,7 +3,7 @@
 use crate::doubt::Doubt;
 use crate::needs::doubt_of;
 use life_cert::{Arrival, Growth, StatePlace, round_count};
-use life_check::{Cert, target};
+use life_check::{Cert, heads, target};
 use life_state::{State, Successors, after, at_end_of_request, at_main, at_return};
 use module_code::{Instr, Module};
 use run_model::FaultKind;
@@ -65,6 +65,36 @@ fn answer(code: &Module, pc: usize, state: &State) -> Option<Result<Successors, 
     } else {
         None
     }
+}
+
+// What an instruction hands on to the next one.
+fn handed_next(code: &Module, pc: usize, state: Option<State>) -> Option<State> {
+    match answer(code, pc, &state?)? {
+        Ok(led) => led.next,
+        Err(_) => None,
+    }
+}
+
+/// The states that a certificate means, one by one: where a slim one gives none, what the instruction before hands on.
+pub fn meant(alloc: Global, code: &Module, cert: &Cert) -> Result<Cert, AllocError> {
+    let heads = heads(code);
+    let mut at = Vec::new(alloc);
+    let mut here = cert.state(0);
+    for pc in 0..code.len() {
+        at.push(here)?;
+        let is_given = !cert.slim || heads[pc + 1];
+        here = if is_given {
+            cert.state(pc + 1)
+        } else {
+            handed_next(code, pc, here)
+        };
+    }
+    Ok(Cert {
+        slim: false,
+        idle: cert.idle,
+        ready: cert.ready,
+        at,
+    })
 }
 
 /// The instruction, if there is one of this number.

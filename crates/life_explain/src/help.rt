@@ -1,6 +1,7 @@
 //! The help on a module text that gets no certificate, and on one that is refused with a certificate.
 
 use crate::certificate::put_certificate;
+use crate::flow::meant;
 use crate::session::tell_refusals;
 use crate::source::Source;
 use life_cert::{CertRefusal, MakeRefusal, grown, make, read_cert};
@@ -34,6 +35,19 @@ pub fn cert_of(told: &mut Page, text: ScriptText<'_>) -> Result<Option<Cert>, Al
     }
 }
 
+// The states that a refusal is about: those that are given where their shape is refused, else those that are meant.
+fn told_states(
+    alloc: Global,
+    code: &Module,
+    cert: Cert,
+    rule: Rule,
+) -> Result<Cert, AllocError> {
+    match rule {
+        Rule::Shape => Ok(cert),
+        _ => meant(alloc, code, &cert),
+    }
+}
+
 /// Tells what is wrong with the texts of a script, or why a module is refused, alone or with its certificate.
 pub fn tell_texts(
     told: &mut Page,
@@ -52,7 +66,10 @@ pub fn tell_texts(
     };
     match check(&code, &cert) {
         Ok(()) => Ok(()),
-        Err(refusal) => tell_unchecked(told, source, &code, &cert, refusal),
+        Err(refusal) => {
+            let states = told_states(told.alloc, &code, cert, refusal.rule)?;
+            tell_unchecked(told, source, &code, &states, refusal)
+        }
     }
 }
 

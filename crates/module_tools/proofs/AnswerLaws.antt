@@ -1,16 +1,18 @@
 -- Fronts of an answer to a text.
-use Rattle.std.proofs.Common.{◌≡◌, ◌∙◌, ℕ, List, ◌++◌, take, drop, Option, Some, None, IfSome, Result, Ok, Err, IfOk, inr, sym, subst, ap}
+use Rattle.std.proofs.Common.{◌≡◌, ◌∙◌, ℕ, List, ◌++◌, take, drop, Option, Some, None, IfSome, Result, Ok, Err, IfOk, inl, inr, sym, subst, ap}
 use Rattle.std.proofs.lemmas.List.{take-append-drop, append-nil}
 use Rattle.std.specs.Io.KnownBytes.{Appends, Consumes, IsAtEnd}
 use Rattle.module_code.specs.Program.{Program}
-use Rattle.life_cert.specs.Reading.{IsTold}
+use Rattle.life_check.specs.Seen.{seen_cert}
+use Rattle.life_check.specs.declared.cert.Cert.{Cert}
+use Rattle.life_cert.specs.Reading.{IsCertText, IsTold}
 use Rattle.life_cert.specs.declared.refusal.CertRefusal.{CertRefusal}
 use Rattle.module_tools.specs.declared.answer.CommandOutput.{CommandOutput}
 use Rattle.module_tools.specs.declared.ended.Ended.{Ended}
 use Rattle.module_tools.specs.declared.fault.PlayFault.{PlayFault}
 use Rattle.module_tools.specs.declared.fault.PlayFault.TheVariants as fault
 use Rattle.module_tools.specs.Streams.{Writes, WritesText}
-use Rattle.module_tools.specs.TextAnswers.{IsCheckOf, IsOutputFront, TellsCertFault}
+use Rattle.module_tools.specs.TextAnswers.{IsVerdict, IsCheckOf, IsOutputFront, TellsCertFault}
 
 front_of : (P : List ℕ → Ended → Type 0) (out : List ℕ) (e : Ended) (n : ℕ) → P out e → IsOutputFront P (take n out)
 front_of P out e n is =
@@ -68,3 +70,8 @@ of_any P (Some xs) all = all xs
 pub tells_cert_fault : {E : Type 0} (q : Result CommandOutput E) (text : List ℕ) (p : Program) (r : CertRefusal) → IsTold text r → IfOk q (λ a. TellsCertFault r a.text.items a.ended) → IfOk q (λ a. IsCheckOf text p a.text.items a.ended)
 tells_cert_fault (Ok a) text p r told tells = inr (r, told, tells)
 tells_cert_fault (Err e) text p r told tells = tt
+
+-- The verdict on a certificate text is what is answered of it.
+pub tells_verdict : {E : Type 0} (q : Result CommandOutput E) (text : List ℕ) (p : Program) (c : Cert) → IsCertText text c.slim (seen_cert c) → IfOk q (λ a. IsVerdict p c a.text.items a.ended) → IfOk q (λ a. IsCheckOf text p a.text.items a.ended)
+tells_verdict (Ok a) text p c is tells = inl (c, is, tells)
+tells_verdict (Err e) text p c is tells = tt

@@ -5,7 +5,8 @@ use Rattle.module_lang.specs.FirstFault.{IsReadAs}
 use Rattle.module_lang.specs.declared.refusal.AsmRefusal.{AsmRefusal}
 use Rattle.life_cert.specs.Reading.{IsCertText, IsTold}
 use Rattle.life_cert.specs.declared.refusal.CertRefusal.{CertRefusal}
-use Rattle.life_check.specs.Certificates.{Certificate}
+use Rattle.life_check.specs.Seen.{seen_cert}
+use Rattle.life_check.specs.declared.cert.Cert.{Cert}
 use Rattle.module_tools.specs.declared.loading.Loaded.{Loaded}
 use Rattle.module_tools.specs.declared.loading.Loaded.TheVariants as loaded
 use Rattle.script_text.specs.Heads.{seen_part}
@@ -14,7 +15,7 @@ use Rattle.module_tools.specs.TextAnswers.{TellsAsmFault, TellsCertFault}
 -- a module, and a certificate text: the certificate, or the line of its first fault
 abbrev pub IsLoadedWith : List ℕ → Program → Loaded → Type 0
 IsLoadedWith certificate p (loaded.Part x) =
-    (c : Certificate) × IsCertText certificate c × (seen_part x ≡ record { code = p; cert = Some c })
+    (c : Cert) × IsCertText certificate c.slim (seen_cert c) × (seen_part x ≡ record { code = p; cert = Some c })
 IsLoadedWith certificate p (loaded.Told a) = (r : CertRefusal) × IsTold certificate r × TellsCertFault r a.text.items a.ended
 
 abbrev pub IsLoadedOf : List ℕ → Result Program AsmRefusal → Loaded → Type 0

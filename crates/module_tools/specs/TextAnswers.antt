@@ -1,5 +1,5 @@
 -- What the commands answer that are given texts.
-use Rattle.std.specs.Prelude.{◌≡◌, ℕ, List, ◌++◌, ◌⊎◌, Some, Result, Ok, Err}
+use Rattle.std.specs.Prelude.{◌≡◌, ℕ, Bool, true, false, List, ◌++◌, ◌⊎◌, Some, Result, Ok, Err}
 use Rattle.module_code.specs.Program.{Program}
 use Rattle.module_lang.specs.Codes.{code_number}
 use Rattle.module_lang.specs.FirstFault.{IsReadAs}
@@ -8,6 +8,9 @@ use Rattle.module_lang.specs.declared.refusal.AsmRefusal.{AsmRefusal}
 use Rattle.module_lang.specs.declared.refusal.AsmRefusal.TheVariants as asm
 use Rattle.life_check.specs.declared.refusal.CheckRefusal.{CheckRefusal}
 use Rattle.life_check.specs.Certificates.{Certificate}
+use Rattle.life_check.specs.Seen.{seen_cert}
+use Rattle.life_check.specs.Slim.{slim_of, cert_refusal, Accepts}
+use Rattle.life_check.specs.declared.cert.Cert.{Cert}
 use Rattle.life_check.specs.Typed.{IsTyped, first_refusal}
 use Rattle.life_cert.specs.CertText.{cert_text}
 use Rattle.life_cert.specs.Rounds.{made}
@@ -54,21 +57,26 @@ IsOutputFront P out = (more : List ℕ) × (e : Ended) × P (out ++ more) e
 abbrev pub TellsRefusal : CheckRefusal → OutputSpec
 TellsRefusal r out e = (out ≡ refused_at_line r.pc r.rule) × (e ≡ ended.Refused)
 
+-- the states that are printed: those of the rounds, or their slim form
+abbrev pub made_form : Bool → Program → Certificate
+made_form false p = made p
+made_form true p = slim_of p (made p)
+
 -- the certificate of the rounds, which the module is typed with, or what it is first refused for
-abbrev pub IsCertification : Program → OutputSpec
-IsCertification p out e =
-    (IsTyped p (made p) × (out ≡ cert_text (made p)) × (e ≡ ended.Done))
+abbrev pub IsCertification : Bool → Program → OutputSpec
+IsCertification slim p out e =
+    (IsTyped p (made p) × (out ≡ cert_text slim (made_form slim p)) × (e ≡ ended.Done))
     ⊎ ((r : CheckRefusal) × (first_refusal p (made p) ≡ Some r) × TellsRefusal r out e)
 
 -- what `certify` answers to a text
-abbrev pub IsCertified : List ℕ → OutputSpec
-IsCertified text out e = IsOutputFor IsCertification text out e
+abbrev pub IsCertified : Bool → List ℕ → OutputSpec
+IsCertified slim text out e = IsOutputFor (IsCertification slim) text out e
 
--- whether the module is typed with a certificate, or the first refusal
-abbrev pub IsVerdict : Program → Certificate → OutputSpec
+-- whether the module is accepted with a certificate, or the first refusal
+abbrev pub IsVerdict : Program → Cert → OutputSpec
 IsVerdict p c out e =
-    (IsTyped p c × (out ≡ accepted_line) × (e ≡ ended.Done))
-    ⊎ ((r : CheckRefusal) × (first_refusal p c ≡ Some r) × TellsRefusal r out e)
+    (Accepts p c × (out ≡ accepted_line) × (e ≡ ended.Done))
+    ⊎ ((r : CheckRefusal) × (cert_refusal p c ≡ Some r) × TellsRefusal r out e)
 
 -- the first fault of a certificate text
 abbrev pub TellsCertFault : CertRefusal → OutputSpec
@@ -78,7 +86,7 @@ TellsCertFault cert.NoMemory out e = ⊥
 -- what is answered of a module and a certificate text
 abbrev pub IsCheckOf : List ℕ → Program → OutputSpec
 IsCheckOf text p out e =
-    ((c : Certificate) × IsCertText text c × IsVerdict p c out e)
+    ((c : Cert) × IsCertText text c.slim (seen_cert c) × IsVerdict p c out e)
     ⊎ ((r : CertRefusal) × IsTold text r × TellsCertFault r out e)
 
 -- what `check` answers to a module text and a certificate text

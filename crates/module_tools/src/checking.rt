@@ -2,7 +2,6 @@
 
 ghost use Rattle.std.specs.Prelude.{◌≡◌, ◌≢◌, IfOk, IfErr, IfSome};
 ghost use Rattle.byte_streams.specs.Counted.{reads_left, source_of};
-ghost use Rattle.life_check.specs.Seen.{seen_cert};
 ghost use Rattle.module_tools.specs.StreamFaults.{TellsOfReader, TellsOfReaders, TellsOfWriter};
 ghost use Rattle.module_tools.specs.Streams.{Writes};
 ghost use Rattle.module_tools.specs.TextAnswers.{TellsCertFault, IsVerdict, IsCheckOf, IsCheckOutput, IsOutputFront};
@@ -35,7 +34,7 @@ pub fn cert_fault(alloc: Global, refusal: CertRefusal) -> Result<CommandOutput, 
 }
 
 fn verdict(alloc: Global, code: &Module, cert: &Cert) -> Result<CommandOutput, AllocError>
-    ensures { IfOk result (λ a. IsVerdict code.now (seen_cert cert.now) a.text.items a.ended) }
+    ensures { IfOk result (λ a. IsVerdict code.now cert.now a.text.items a.ended) }
 {
     match check(code, cert) {
         Ok(()) => line_answer(alloc, "accepted\n", Ended::Done),

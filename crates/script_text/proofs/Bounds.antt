@@ -6,7 +6,7 @@ use Rattle.module_code.specs.Program.{Program}
 use Rattle.byte_text.specs.TextLines.{RawLine}
 use Rattle.module_lang.specs.declared.refusal.AsmRefusal.{AsmRefusal}
 use Rattle.module_lang.specs.declared.refusal.AsmRefusal.TheVariants as asm
-use Rattle.life_check.specs.Certificates.{Certificate}
+use Rattle.life_check.specs.declared.cert.Cert.{Cert}
 use Rattle.life_cert.specs.declared.refusal.CertRefusal.{CertRefusal}
 use Rattle.life_cert.specs.declared.refusal.CertRefusal.TheVariants as cert
 use Rattle.script_text.specs.declared.texts.HeadPlace.{HeadPlace}
@@ -49,7 +49,7 @@ module_kept n h t out new room before e = by e.0 e.2
     by (Err (asm.Fault k c)) m = over_kept n _ t out new m
     by (Err asm.NoMemory) m = absurd m
 
-with_cert_long : (c : Certificate) (xs : List ScriptPart) → length (with_cert c xs) ≡ length xs
+with_cert_long : (c : Cert) (xs : List ScriptPart) → length (with_cert c xs) ≡ length xs
 unfolding with_cert
 with_cert_long c [] = refl
 with_cert_long c (x ∷ []) = refl
@@ -58,7 +58,7 @@ with_cert_long c (x ∷ (y ∷ ys)) = let e = with_cert_long c (y ∷ ys) in ome
 cert_kept : (n : ℕ) (h : ScriptHead) (t : LineTaken) (out : List ℕ) (new : ScriptHead) → 0 < length h.parts → length h.parts ≤ 16 → (h.before ≤ n) × (h.before < 2 ^ 63) → EndsCert h t out new → Kept n t out new
 cert_kept n h t out new some few before e = by e.0 e.2
   where
-    by : (m : Result Certificate CertRefusal) → IsCertRead m h t out new → Kept n t out new
+    by : (m : Result Cert CertRefusal) → IsCertRead m h t out new → Kept n t out new
     by (Ok c) m =
         let long = with_cert_long c h.parts in
         more_kept n _ new t out (record { few = omega (arith, long); room = λ e. absurd (cc e); before = before.0; small = before.1; some = λ _. omega (arith, long) }) m

@@ -1,5 +1,5 @@
 -- Laws on the modules of a script, one after another.
-use Rattle.std.proofs.Common.{◌≡◌, ℕ, zero, suc, ◌+◌, List, [], ◌∷◌, ◌++◌, All, length, map, take, Option, Some, None, slice_get, refl, ap, sym, subst, ◌∙◌, append_assoc, arith}
+use Rattle.std.proofs.Common.{◌≡◌, false, ℕ, zero, suc, ◌+◌, List, [], ◌∷◌, ◌++◌, All, length, map, take, Option, Some, None, slice_get, refl, ap, sym, subst, ◌∙◌, append_assoc, arith}
 use Rattle.std.proofs.lemmas.List.{length-append, map-append, append-nil}
 use Rattle.std.proofs.lemmas.List.Elements.{All-head, All-tail, All-push}
 use Rattle.module_code.specs.Program.{Program}
@@ -10,22 +10,24 @@ use Rattle.life_check.specs.Typed.{IsTyped, first_refusal}
 use Rattle.life_check.specs.declared.cert.Cert.{Cert}
 use Rattle.life_check.specs.declared.refusal.CheckRefusal.{CheckRefusal}
 use Rattle.life_check.specs.declared.refusal.ChainRefusal.TheVariants as chain
+use Rattle.life_check.specs.Slim.{cert_refusal}
+use Rattle.life_check.proofs.Meant.{none_accepts, whole_refusal}
 use Rattle.life_check.proofs.TypedLaws.{none_typed}
 use Rattle.life_cert.specs.Rounds.{made}
 use Rattle.script_text.specs.declared.part.Part.{Part}
-use Rattle.script_text.specs.Heads.{ScriptPart, seen_given, seen_part}
+use Rattle.script_text.specs.Heads.{ScriptPart, seen_part}
 use Rattle.script_text.specs.Certified.{AreCertified, refusal_with}
 use Rattle.script_text.specs.Parts.{codes_of, first_from, refusal_of, refused_in, unless_first, unmade}
 
 abbrev pub given : Program → Option Cert → ScriptPart
-given p o = record { code = p; cert = seen_given o }
+given p o = record { code = p; cert = o }
 
 -- What is made is not refused.
 made_none : (p : Program) (m : Certificate) → IsTyped p m → m ≡ made p → first_refusal p (made p) ≡ None
 made_none p m typed is = none_typed p (made p) (subst (IsTyped p) is typed)
 
-pub made_certified : (p : Program) (o : Option Cert) (c : Cert) → o ≡ None → IsTyped p (seen_cert c) → seen_cert c ≡ made p → (unmade (given p o) ≡ None) × (first_refusal p (seen_cert c) ≡ refusal_of (given p o))
-made_certified p o c none typed is = (ap (λ x. unmade (given p x)) none ∙ made_none p (seen_cert c) typed is, ap (first_refusal p) is ∙ ap (λ x. refusal_of (given p x)) (sym none))
+pub made_certified : (p : Program) (o : Option Cert) (c : Cert) → o ≡ None → c.slim ≡ false → IsTyped p (seen_cert c) → seen_cert c ≡ made p → (unmade (given p o) ≡ None) × (cert_refusal p c ≡ refusal_of (given p o))
+made_certified p o c none whole typed is = (ap (λ x. unmade (given p x)) none ∙ made_none p (seen_cert c) typed is, whole_refusal p c whole ∙ (ap (first_refusal p) is ∙ ap (λ x. refusal_of (given p x)) (sym none)))
 
 -- The first of some refusals.
 
@@ -98,13 +100,13 @@ first_at k (y ∷ ys) zero n x r is at refused before =
     let here : y ≡ x = cc in
     stops k (refusal_with y) (map refusal_with ys) r (ap refusal_with here ∙ refused) ∙ ap (λ m. Some (m, r)) (omega (arith, is))
 first_at k (y ∷ ys) (suc index) n x r is at refused before =
-    goes_on k (refusal_with y) (map refusal_with ys) (none_typed y.0 (seen_cert y.1) (All-head IsAccepted y (take index ys) before))
+    goes_on k (refusal_with y) (map refusal_with ys) (none_accepts y.0 y.1 (All-head IsAccepted y (take index ys) before))
     ∙ first_at (k + 1) ys index n x r (omega (arith, is)) at refused (All-tail IsAccepted y (take index ys) before)
 
 none_at : (k : ℕ) (pairs : List Pair) → All IsAccepted pairs → first_from k (map refusal_with pairs) ≡ None
 none_at k [] all = none_left k
 none_at k (y ∷ ys) all =
-    goes_on k (refusal_with y) (map refusal_with ys) (none_typed y.0 (seen_cert y.1) (All-head IsAccepted y ys all)) ∙ none_at (k + 1) ys (All-tail IsAccepted y ys all)
+    goes_on k (refusal_with y) (map refusal_with ys) (none_accepts y.0 y.1 (All-head IsAccepted y ys all)) ∙ none_at (k + 1) ys (All-tail IsAccepted y ys all)
 
 -- A certificate is missing, and none can be made.
 pub refused_unmade : (xs : List ScriptPart) (index : ℕ) (r : CheckRefusal) → first_from 0 (map unmade xs) ≡ Some (index, r) → refused_in xs ≡ Some (index, r)

@@ -1,8 +1,7 @@
 -- The modules of a script, each with the certificate that is given, or else made.
 use Rattle.std.specs.Prelude.{◌≡◌, List, map, Option, None, Some}
 use Rattle.life_check.specs.Accepted.{CertifiedModule, modules_of}
-use Rattle.life_check.specs.Seen.{seen_cert}
-use Rattle.life_check.specs.Typed.{first_refusal}
+use Rattle.life_check.specs.Slim.{cert_refusal}
 use Rattle.life_check.specs.declared.refusal.CheckRefusal.{CheckRefusal}
 use Rattle.script_text.specs.declared.part.Certified.{Certified}
 use Rattle.script_text.specs.declared.part.Certified.TheVariants as certified
@@ -11,11 +10,11 @@ use Rattle.script_text.specs.Parts.{codes_of, first_from, refusal_of, unmade}
 
 -- why a module is refused with its certificate
 abbrev pub refusal_with : CertifiedModule → Option CheckRefusal
-refusal_with x = first_refusal x.0 (seen_cert x.1)
+refusal_with x = cert_refusal x.0 x.1
 
 -- This is its certificate; or this is why none can be made.
 abbrev pub IsCertified : ScriptPart → Certified → Type 0
-IsCertified x (certified.With c) = (unmade x ≡ None) × (first_refusal x.code (seen_cert c) ≡ refusal_of x)
+IsCertified x (certified.With c) = (unmade x ≡ None) × (cert_refusal x.code c ≡ refusal_of x)
 IsCertified x (certified.Refused r) = unmade x ≡ Some r
 
 -- Each module has its certificate.

@@ -9,7 +9,6 @@ use Rattle.module_code.specs.Program.{Program}
 use Rattle.byte_text.specs.TextLines.{RawLine}
 use Rattle.module_lang.specs.declared.refusal.AsmRefusal.{AsmRefusal}
 use Rattle.module_lang.specs.declared.refusal.AsmRefusal.TheVariants as asm
-use Rattle.life_check.specs.Certificates.{Certificate}
 use Rattle.life_cert.specs.Codes.{code_number as cert_code_number}
 use Rattle.life_cert.specs.Reading.{IsCertText, IsTold}
 use Rattle.life_cert.specs.declared.refusal.CertRefusal.{CertRefusal}
@@ -30,7 +29,7 @@ use Rattle.life_check.specs.Seen.{seen_cert}
 -- a module, and the certificate that stands behind it
 pub record ScriptPart : Type 0 where
   pub code : Program
-  pub cert : Option Certificate
+  pub cert : Option Cert
 
 -- What was read so far. place: what the next line may be. text: so far, of the text that is being read; before: how many lines stand
 -- before it.
@@ -41,13 +40,8 @@ pub record ScriptHead : Type 0 where
   pub text : List ℕ
   pub before : ℕ
 
--- the certificate that a module was given
-abbrev pub seen_given : Option Cert → Option Certificate
-seen_given None = None
-seen_given (Some c) = Some (seen_cert c)
-
 abbrev pub seen_part : Part → ScriptPart
-seen_part p = record { code = p.code; cert = seen_given p.cert }
+seen_part p = record { code = p.code; cert = p.cert }
 
 abbrev pub head_of : Texts → ScriptHead
 head_of t = record { parts = map seen_part t.parts.items; budget = t.budget; place = t.place; text = t.text.items; before = t.before }
@@ -80,22 +74,22 @@ EndsModule h t out new = (m : Result Program AsmRefusal) × IsReadAs h.text m ×
 
 -- A certificate text ends. It is that of the last module.
 
-unfoldable pub with_cert : Certificate → List ScriptPart → List ScriptPart
+unfoldable pub with_cert : Cert → List ScriptPart → List ScriptPart
 with_cert c [] = []
 with_cert c (x ∷ []) = (record x { cert = Some c }) ∷ []
 with_cert c (x ∷ (y ∷ ys)) = x ∷ with_cert c (y ∷ ys)
 
-abbrev pub ReadsCertText : List ℕ → Result Certificate CertRefusal → Type 0
-ReadsCertText text (Ok c) = IsCertText text c
+abbrev pub ReadsCertText : List ℕ → Result Cert CertRefusal → Type 0
+ReadsCertText text (Ok c) = IsCertText text c.slim (seen_cert c)
 ReadsCertText text (Err r) = IsTold text r
 
-abbrev pub IsCertRead : Result Certificate CertRefusal → ScriptHead → LineMoves
+abbrev pub IsCertRead : Result Cert CertRefusal → ScriptHead → LineMoves
 IsCertRead (Ok c) h t out new = more (record h { parts = with_cert c h.parts; text = []; place = place.BehindCert }) t out new
 IsCertRead (Err (cert.Fault n c)) h t out new = over (cert_line (h.before + n) (cert_code_number c)) t out new
 IsCertRead (Err cert.NoMemory) h t out new = ⊥
 
 abbrev pub EndsCert : ScriptHead → LineMoves
-EndsCert h t out new = (c : Result Certificate CertRefusal) × ReadsCertText h.text c × IsCertRead c h t out new
+EndsCert h t out new = (c : Result Cert CertRefusal) × ReadsCertText h.text c × IsCertRead c h t out new
 
 -- Lines.
 

@@ -1,8 +1,9 @@
 -- The modules of a script's chain: which of them is refused.
 use Rattle.std.specs.Prelude.{ℕ, ◌+◌, List, [], ◌∷◌, map, Option, Some, None}
 use Rattle.module_code.specs.Program.{Program}
-use Rattle.life_check.specs.Certificates.{Certificate}
+use Rattle.life_check.specs.Slim.{cert_refusal}
 use Rattle.life_check.specs.Typed.{first_refusal}
+use Rattle.life_check.specs.declared.cert.Cert.{Cert}
 use Rattle.life_check.specs.declared.refusal.CheckRefusal.{CheckRefusal}
 use Rattle.life_cert.specs.Rounds.{made}
 use Rattle.script_text.specs.Heads.{ScriptPart}
@@ -11,17 +12,21 @@ use Rattle.script_text.specs.Heads.{ScriptPart}
 abbrev pub codes_of : List ScriptPart → List Program
 codes_of parts = map (λ (x : ScriptPart). x.code) parts
 
--- the certificate of a module: that which stands behind it, or else the one that is made
-abbrev pub cert_of : ScriptPart → Option Certificate → Certificate
-cert_of x None = made x.code
-cert_of x (Some c) = c
+-- the first refusal of the certificate that is made
+abbrev pub made_refusal : Program → Option CheckRefusal
+made_refusal p = first_refusal p (made p)
+
+-- the first refusal of a module: by the certificate that stands behind it, or else by the one that is made
+abbrev pub refusal_by : Program → Option Cert → Option CheckRefusal
+refusal_by p None = made_refusal p
+refusal_by p (Some c) = cert_refusal p c
 
 abbrev pub refusal_of : ScriptPart → Option CheckRefusal
-refusal_of x = first_refusal x.code (cert_of x x.cert)
+refusal_of x = refusal_by x.code x.cert
 
 -- why none can be made, where none is given
-abbrev pub unmade_by : ScriptPart → Option Certificate → Option CheckRefusal
-unmade_by x None = refusal_of x
+abbrev pub unmade_by : ScriptPart → Option Cert → Option CheckRefusal
+unmade_by x None = made_refusal x.code
 unmade_by x (Some c) = None
 
 abbrev pub unmade : ScriptPart → Option CheckRefusal

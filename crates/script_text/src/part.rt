@@ -3,7 +3,7 @@
 ghost use Rattle.std.specs.Prelude.{◌≡◌, ◌<◌, ◌≤◌, None, Some, All, length, map, IfErr, IfOk};
 ghost use Rattle.module_code.specs.Program.{IsModule};
 ghost use Rattle.life_check.specs.ChainTheorem.{ChainNeverFaults};
-ghost use Rattle.script_text.specs.Heads.{seen_given, seen_part};
+ghost use Rattle.script_text.specs.Heads.{seen_part};
 ghost use Rattle.script_text.specs.Certified.{AreCertified, IsCertified};
 ghost use Rattle.script_text.specs.Parts.{codes_of, first_from, refused_in, unmade};
 
@@ -39,7 +39,7 @@ pub struct Refused {
 
 /// The certificate that is given, or else one that is made.
 fn certificate_of(alloc: Global, code: &Module, cert: Option<Cert>) -> Result<Certified, AllocError>
-    ensures { IfOk result (IsCertified (record { code = code.now; cert = seen_given cert })) }
+    ensures { IfOk result (IsCertified (record { code = code.now; cert = cert })) }
 {
     if let Some(cert) = cert {
         return Ok(Certified::With(cert));

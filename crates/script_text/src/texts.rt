@@ -1,7 +1,6 @@
 //! What stands in a script before its commands: module texts, certificate texts, and the lines `budget` and `checked`.
 
 ghost use Rattle.std.specs.Prelude.{◌≡◌, ◌<◌, ◌+◌, ◌^◌, [], map, IfOk, OnOk, OnErr};
-ghost use Rattle.life_check.specs.Seen.{seen_cert};
 ghost use Rattle.script_text.specs.Scripts.{budget_at};
 ghost use Rattle.script_text.specs.Heads.{seen_part, with_cert, head_of, no_head, is_skipped, begins_module, with_line, EndsModule, EndsCert, TakesInModule, TakesInCert, TakesBehind, TakesBehindModule, TakesBehindSkipped, TakesHeading, TakesChecked, taken_as, TakesLine, EndsHead, TellsMore, at_line};
 
@@ -79,7 +78,7 @@ pub fn begins_module(text: &[u8], ended: bool) -> bool
 /// The last module has this certificate.
 #[tactic(auto, using(crate::proofs::HeadLaws::given_last, crate::proofs::HeadLaws::given_none))]
 fn give_cert(parts: &mut Vec<Part>, cert: Cert) -> Result<(), AllocError>
-    ensures { OnOk result (map seen_part parts.new.items ≡ with_cert (seen_cert cert) (map seen_part parts.old.items)) }
+    ensures { OnOk result (map seen_part parts.new.items ≡ with_cert cert (map seen_part parts.old.items)) }
 {
     let Some(part) = parts.pop() else {
         return Ok(());

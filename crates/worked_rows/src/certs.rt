@@ -4,11 +4,11 @@ ghost use Rattle.std.specs.Prelude.{◌<◌, ◌≤◌, length};
 
 use crate::modules::{
     ALIAS_CERT, ALIAS_DELETED, ALIAS_WITHOUT_FACT, ASIDE_CERT, ASIDE_INTO_REQUEST, IDENTITY,
-    IDENTITY_CERT, KEEPER_CONCATS, LOOPING_INIT, NEXT_THEN_UNLINK, READ_AFTER_DELETE,
-    REUSED_PASSED_BRIGADE,
+    IDENTITY_CERT, IDENTITY_SLIM, KEEPER_CONCATS, LOOPING_INIT, NEXT_THEN_UNLINK,
+    READ_AFTER_DELETE, REUSED_PASSED_BRIGADE, SLIM_WITHOUT_TARGET, SLIM_WITH_OTHER,
 };
 use anyhow::Result;
-use life_cert::{CertRefusal, MakeRefusal, make, print_cert, read_cert};
+use life_cert::{CertRefusal, MakeRefusal, make, print_cert, read_cert, slim};
 use life_check::{Cert, ChainRefusal, CheckRefusal, Rule, accept_chain, check};
 use module_lang::{Module, assemble, print_module};
 use run_model::FaultKind;
@@ -57,6 +57,8 @@ enum Row {
     Printed(&'static [u8]),
     /// A certificate is made of it.
     Made(&'static [u8]),
+    /// A certificate is made of it, and told in its slim form.
+    Slimmed(&'static [u8]),
     /// It is checked with a certificate.
     Checked(&'static str, &'static [u8], &'static [u8]),
     /// The first module is checked with its certificate, without this line.
@@ -108,9 +110,16 @@ const ROWS: &[Row] = &[
     Row::Without(6),
     Row::Without(7),
     Row::ReadyAsIdle,
+    Row::Says("slim certificates"),
+    Row::Slimmed(IDENTITY),
+    Row::Checked("of what passes on what it gets", IDENTITY, IDENTITY_SLIM),
+    Row::Checked("without the state of a target", IDENTITY, SLIM_WITHOUT_TARGET),
+    Row::Checked("with a state elsewhere", IDENTITY, SLIM_WITH_OTHER),
     Row::Says("certificates are read"),
     Row::Read(IDENTITY_CERT, 0),
     Row::Read(IDENTITY_CERT, 4),
+    Row::Read(IDENTITY_SLIM, 0),
+    Row::Read(IDENTITY_SLIM, 4),
     Row::Read(b"cert 1\nidle sent=yes\nready none\nend\n", 0),
     Row::Says("chains are accepted"),
     Row::Chain(IDENTITY, IDENTITY_CERT),
@@ -153,6 +162,15 @@ fn show_made(rt: &HostRuntime, text: &[u8]) -> Result<()> {
         Ok(cert) => show_cert(rt, &cert),
         Err(MakeRefusal::At { pc, rule }) => show_refused(rt, "", pc, rule),
         Err(MakeRefusal::NoMemory) => say(rt, "no memory"),
+    }
+}
+
+/// Tells the slim form of the certificate that is made of a module.
+fn show_slimmed(rt: &HostRuntime, text: &[u8]) -> Result<()> {
+    let code = assemble(rt.alloc(), text)?;
+    match make(rt.alloc(), &code) {
+        Ok(cert) => show_cert(rt, &slim(rt.alloc(), &code, &cert)?),
+        Err(_) => say(rt, "none is made"),
     }
 }
 
@@ -238,6 +256,7 @@ fn show_row(rt: &HostRuntime, row: Row) -> Result<()> {
         Row::Says(text) => say(rt, text),
         Row::Printed(text) => show_module(rt, text),
         Row::Made(text) => show_made(rt, text),
+        Row::Slimmed(text) => show_slimmed(rt, text),
         Row::Checked(what, text, known) => show_texts(rt, what, text, known),
         Row::Without(line) => show_without(rt, line),
         Row::ReadyAsIdle => show_ready_as_idle(rt),

@@ -2,7 +2,9 @@
 use Rattle.std.proofs.Common.{◌≡◌, Some, None, refl, sym, subst, ◌∙◌, ap, rules}
 use Rattle.life_check.specs.Certificates.{Certificate}
 use Rattle.life_check.specs.Seen.{seen_cert}
-use Rattle.life_check.specs.Typed.{first_refusal}
+use Rattle.life_check.specs.Slim.{cert_refusal, Accepts}
+use Rattle.life_check.specs.Typed.{first_refusal, IsTyped}
+use Rattle.life_check.proofs.Meant.{whole_means, whole_refusal}
 use Rattle.life_check.specs.declared.refusal.CheckRefusal.{CheckRefusal}
 use Rattle.life_cert.specs.Least.{IsBelow}
 use Rattle.life_cert.proofs.Least.{made_is_least}
@@ -16,10 +18,17 @@ pub returns-clause-least : goal.returns-clause-least
 returns-clause-least c = λ other formed typed.
     subst (λ (d : Certificate). IsBelow d other) (sym c.in_ok-cert.ensures.made) (made_is_least c.args.code.now other c.in_ok-cert.ensures.proper formed typed)
 
+pub returns-clause-typed : goal.returns-clause-typed
+returns-clause-typed c =
+    let a : Accepts c.args.code.now c.in_ok-cert.cert = c.in_ok-check.ensures.accepts.0 refl in
+    subst (IsTyped c.args.code.now) (whole_means c.args.code.now c.in_ok-cert.cert c.in_ok-cert.ensures.whole) a.typed
+
 pub returns-in_err-check-clause-complete : goal.returns-in_err-check-clause-complete
 returns-in_err-check-clause-complete c = λ refused other formed typed.
-    let found : first_refusal c.args.code.now (seen_cert c.in_ok-cert.cert) ≡ Some c.in_err-check.field-0.0 = search rules in
-    none_some c.in_err-check.field-0.0 (sym (refuses_only_then c.args.code.now other c.in_ok-cert.ensures.proper formed typed) ∙ (ap (first_refusal c.args.code.now) (sym c.in_ok-cert.ensures.made) ∙ found))
+    let p = c.args.code.now in
+    let told : cert_refusal p c.in_ok-cert.cert ≡ Some c.in_err-check.field-0.0 = search rules in
+    let found : first_refusal p (seen_cert c.in_ok-cert.cert) ≡ Some c.in_err-check.field-0.0 = sym (whole_refusal p c.in_ok-cert.cert c.in_ok-cert.ensures.whole) ∙ told in
+    none_some c.in_err-check.field-0.0 (sym (refuses_only_then p other c.in_ok-cert.ensures.proper formed typed) ∙ (ap (first_refusal p) (sym c.in_ok-cert.ensures.made) ∙ found))
 
 pub returns-clause-safe : goal.returns-clause-safe
 returns-clause-safe c = c.in_ok-check.ensures.safe refl

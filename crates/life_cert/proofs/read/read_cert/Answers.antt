@@ -15,7 +15,7 @@ pub returns-else-text-gt-MAX_LEN-clause-told : goal.returns-else-text-gt-MAX_LEN
 returns-else-text-gt-MAX_LEN-clause-told c = all_told c.args.text.now c.read_lines-else-text-gt-MAX_LEN.result c.if-text-gt-MAX_LEN.false c.read_lines-else-text-gt-MAX_LEN.ensures.told
 
 pub returns-then-text-gt-MAX_LEN-clause-again : goal.returns-then-text-gt-MAX_LEN-clause-again
-returns-then-text-gt-MAX_LEN-clause-again c = λ d p. let small = printed_is_short c.args.text.now d p in absurd (omega (arith, small))
+returns-then-text-gt-MAX_LEN-clause-again c = λ slim d p. let small = printed_is_short c.args.text.now slim d p in absurd (omega (arith, small))
 
 pub returns-else-text-gt-MAX_LEN-clause-again : goal.returns-else-text-gt-MAX_LEN-clause-again
 returns-else-text-gt-MAX_LEN-clause-again c =

@@ -19,15 +19,15 @@ add_state-requires-clause-few c = (found c.args.self.now.due c.args.bytes.now (l
 pub returns-in-Header-clause-added : goal.returns-in-Header-clause-added
 returns-in-Header-clause-added c =
     let d = c.args.self.now in
-    let e : CertDraft = record d { due = due.Idle } in
+    let e : CertDraft = record d { slim = c.in-Header.slim; due = due.Idle } in
     let is = rw c.in-Header.is at c.requires.due in
-    let f = found d.due c.args.bytes.now line.Header is in
-    added d c.args.bytes.now e line.Header c.requires.printable is tt refl (header_text d e c.args.bytes.now f.0 f.1)
+    let f = found d.due c.args.bytes.now (line.Header c.in-Header.slim) is in
+    added d c.args.bytes.now e (line.Header c.in-Header.slim) c.requires.printable is tt refl (header_text d e c.args.bytes.now f.0 f.1)
 
 pub returns-in-Header-clause-draft : goal.returns-in-Header-clause-draft
 returns-in-Header-clause-draft c =
     let h = c.requires.draft in
-    let f = found c.args.self.now.due c.args.bytes.now line.Header (rw c.in-Header.is at c.requires.due) in
+    let f = found c.args.self.now.due c.args.bytes.now (line.Header c.in-Header.slim) (rw c.in-Header.is at c.requires.due) in
     record { idle = h.idle; ready = h.ready; at = h.at; counts = counts_at c.args.self.now due.Header h f.0; last = h.last }
 
 pub returns-in_ok-self-in-Idle-clause-added : goal.returns-in_ok-self-in-Idle-clause-added
@@ -37,7 +37,7 @@ returns-in_ok-self-in-Idle-clause-added c =
     let is = rw c.in-Idle.is at c.requires.due in
     let f = found d.due c.args.bytes.now line.Idle is in
     let has = c.in_ok-self-in-Idle.ensures in
-    added d c.args.bytes.now e line.Idle c.requires.printable is (seen_some c.in_ok-self-in-Idle.field-0, has) refl (idle_text d e c.args.bytes.now f.0 f.1 has)
+    added d c.args.bytes.now e line.Idle c.requires.printable is (seen_some c.in_ok-self-in-Idle.field-0, has) refl (idle_text d e c.args.bytes.now f.0 f.1 has refl)
 
 pub returns-in_ok-self-in-Idle-clause-draft : goal.returns-in_ok-self-in-Idle-clause-draft
 returns-in_ok-self-in-Idle-clause-draft c =
@@ -53,7 +53,7 @@ returns-in_ok-self-in-Ready-clause-added c =
     let is = rw c.in-Ready.is at c.requires.due in
     let f = found d.due c.args.bytes.now line.Ready is in
     let has = c.in_ok-self-in-Ready.ensures in
-    added d c.args.bytes.now e line.Ready c.requires.printable is (seen_some c.in_ok-self-in-Ready.field-0, has) refl (ready_text d e c.args.bytes.now f.0 f.1 has refl (counts_at d due.Ready c.requires.draft f.0))
+    added d c.args.bytes.now e line.Ready c.requires.printable is (seen_some c.in_ok-self-in-Ready.field-0, has) refl (ready_text d e c.args.bytes.now f.0 f.1 has refl (counts_at d due.Ready c.requires.draft f.0) refl)
 
 pub returns-in_ok-self-in-Ready-clause-draft : goal.returns-in_ok-self-in-Ready-clause-draft
 returns-in_ok-self-in-Ready-clause-draft c =
@@ -76,7 +76,7 @@ returns-in_ok-add_state-in-Instruction-clause-added c =
     let others = c.in_ok-add_state-in-Instruction.ensures.others in
     let items = c.in_ok-add_state-in-Instruction.ensures.items in
     added d c.args.bytes.now e (line.Instruction pc) c.requires.printable is (seen s, has) (ap (λ (x : CertDraft). x.due) others)
-    (pc_text d e c.args.bytes.now f.0 pc (pc - length d.at.items) s f.1.0 f.1.3 has (ap (λ (x : CertDraft). seen_some x.idle) others) (ap (λ (x : CertDraft). seen_some x.ready) others) items long)
+    (pc_text d e c.args.bytes.now f.0 pc (pc - length d.at.items) s f.1.0 f.1.3 has (ap (λ (x : CertDraft). seen_some x.idle) others) (ap (λ (x : CertDraft). seen_some x.ready) others) items long (ap (λ (x : CertDraft). x.slim) others))
 
 pub returns-in_ok-add_state-in-Instruction-clause-draft : goal.returns-in_ok-add_state-in-Instruction-clause-draft
 returns-in_ok-add_state-in-Instruction-clause-draft c =
@@ -98,7 +98,7 @@ returns-in-End-clause-added c =
     let e : CertDraft = record d { due = due.Nothing } in
     let is = rw c.in-End.is at c.requires.due in
     let f = found d.due c.args.bytes.now line.End is in
-    added d c.args.bytes.now e line.End c.requires.printable is tt refl (end_text d e c.args.bytes.now f.0 f.1.0 f.1.1 refl)
+    added d c.args.bytes.now e line.End c.requires.printable is tt refl (end_text d e c.args.bytes.now f.0 f.1.0 f.1.1 refl refl)
 
 pub returns-in-End-clause-draft : goal.returns-in-End-clause-draft
 returns-in-End-clause-draft c =

@@ -1,5 +1,4 @@
 use Rattle.std.proofs.Common.{ap, ◌∙◌}
-use Rattle.life_check.specs.Seen.{seen_cert}
 use Rattle.life_cert.specs.Codes.{code_number}
 use Rattle.script_text.specs.Heads.{head_of}
 use Rattle.script_text.proofs.HeadLaws.{cert_over, cert_taken}
@@ -14,4 +13,4 @@ returns-in_ok-put_cert_fault-in-Err-Fault-clause-ok c =
 
 pub returns-in_ok-give_cert-in-Ok-clause-ok : goal.returns-in_ok-give_cert-in-Ok-clause-ok
 returns-in_ok-give_cert-in-Ok-clause-ok c =
-    cert_taken (head_of c.args.self.now) (seen_cert c.in-Ok.cert) c.args.out.now.items _ _ _ c.as_slice.ensures.value c.in-Ok.ensures.right c.in_ok-give_cert-in-Ok.ensures c.clear.ensures.items
+    cert_taken (head_of c.args.self.now) c.in-Ok.cert c.args.out.now.items _ _ _ c.as_slice.ensures.value c.in-Ok.ensures.right c.in_ok-give_cert-in-Ok.ensures c.clear.ensures.items

@@ -1,0 +1,47 @@
+//! Slim forms of certificates.
+
+ghost use Rattle.std.specs.Prelude.{◌≡◌, true, IfOk};
+ghost use Rattle.module_code.specs.Program.{IsModule};
+ghost use Rattle.life_state.specs.Seen.{seen_some};
+ghost use Rattle.life_check.specs.Certificates.{AreFormed};
+ghost use Rattle.life_check.specs.Seen.{seen_cert};
+ghost use Rattle.life_check.specs.Slim.{AreHeads, slim_form, Accepts};
+
+use life_check::{Cert, heads};
+use life_state::State;
+use module_code::Module;
+use std::alloc::{AllocError, Global};
+
+/// The state that the slim form gives before an instruction.
+fn kept(cert: &Cert, heads: &[bool; 1025], pc: usize, code: &Module) -> Option<State>
+    requires proper { IsModule code.now }
+    requires heads { AreHeads code.now heads.now }
+    ensures { seen_some result ≡ (slim_form code.now cert.now).at pc }
+{
+    if cert.slim || (pc < 1025 && heads[pc]) {
+        cert.state(pc)
+    } else {
+        None
+    }
+}
+
+/// The slim form of a certificate: its states between calls, and those at heads. One that is slim stays as it is. Where `check`
+/// accepts a certificate whose states are in form, it accepts its slim form. `AllocError`: it cannot be held.
+pub fn slim(alloc: Global, code: &Module, cert: &Cert) -> Result<Cert, AllocError>
+    ensures slim { IfOk result (λ c. c.slim ≡ true) }
+    ensures states { IfOk result (λ c. seen_cert c ≡ slim_form code.now cert.now) }
+    ensures accepted { IfOk result (λ c. AreFormed (seen_cert cert.now) → Accepts code.now cert.now → Accepts code.now c) }
+{
+    let _count = code.len();
+    let heads = heads(code);
+    let mut at = Vec::new(alloc);
+    for pc in 0..cert.at.len() {
+        at.push(kept(cert, &heads, pc, code))?;
+    }
+    Ok(Cert {
+        slim: true,
+        idle: cert.idle,
+        ready: cert.ready,
+        at,
+    })
+}
