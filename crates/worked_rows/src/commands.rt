@@ -2,7 +2,7 @@
 //!
 //! The commands are made from a rule. A number begins at 1, and before each command it is multiplied by 6364136223846793005, and
 //! 1442695040888963407 is added, all modulo 2^64. What it is divided by 2^33 has the digits of the command, from the last: which of the 32
-//! rows of `play`, a ring of the four, another, the place of a bucket in the first, and one in the other, each below 8, and a letter of 26.
+//! rows of `Four::play`, a ring of the four, another, the place of a bucket in the first, and one in the other, each below 8, and a letter of 26.
 //! A place behind the last bucket stands for the last. A command that wants a bucket, and finds its ring empty, is left out.
 
 use crate::calls::{Call, Place};
@@ -48,6 +48,19 @@ fn bucket_at(buckets: &[(BucketId, u8)], place: usize) -> Option<BucketId> {
     Some(*id)
 }
 
+/// Puts a new bucket at an end of a ring, or beside a bucket of it, where there is one.
+fn add<R: Rings<u8>>(rings: &mut R, ring: RingId, at: Option<BucketId>, c: Command) -> Result<()> {
+    let place = match (c.which, at) {
+        (0..=2, _) => Place::Tail(ring),
+        (3..=5, _) => Place::Head(ring),
+        (6..=8, Some(at)) => Place::Before(at),
+        (9..=11, Some(at)) => Place::After(at),
+        _ => return Ok(()),
+    };
+    put(rings, place, c.letter)?;
+    Ok(())
+}
+
 impl<R: Rings<u8> + Drop> Four<R> {
     /// Four empty rings.
     fn new(alloc: Global) -> Result<Four<R>> {
@@ -78,20 +91,16 @@ impl<R: Rings<u8> + Drop> Four<R> {
         let j = bucket_at(&listed(alloc, &self.rings, s)?, c.j);
         let rings = &mut self.rings;
         match (c.which, i, j) {
-            (0..=2, _, _) => put(rings, Place::Tail(r), c.letter).map(|_| ())?,
-            (3..=5, _, _) => put(rings, Place::Head(r), c.letter).map(|_| ())?,
-            (6..=8, Some(at), _) => put(rings, Place::Before(at), c.letter).map(|_| ())?,
-            (9..=11, Some(at), _) => put(rings, Place::After(at), c.letter).map(|_| ())?,
-            (12..=13, Some(id), _) => make_call(rings, Call::Move(id, Place::Tail(s)))?,
-            (14..=15, Some(id), _) => make_call(rings, Call::Move(id, Place::Head(s)))?,
-            (16..=17, Some(id), Some(at)) => make_call(rings, Call::Move(id, Place::Before(at)))?,
-            (18..=19, _, _) => make_call(rings, Call::All(s, r))?,
-            (20..=21, Some(id), _) => make_call(rings, Call::WithRest(id, s))?,
-            (22..=25, Some(id), _) => self.change(id, c)?,
-            (26..=31, _, _) => self.change_ring(alloc, c)?,
-            _ => {}
+            (0..=11, _, _) => add(rings, r, i, c),
+            (12..=13, Some(id), _) => make_call(rings, Call::Move(id, Place::Tail(s))),
+            (14..=15, Some(id), _) => make_call(rings, Call::Move(id, Place::Head(s))),
+            (16..=17, Some(id), Some(at)) => make_call(rings, Call::Move(id, Place::Before(at))),
+            (18..=19, _, _) => make_call(rings, Call::All(s, r)),
+            (20..=21, Some(id), _) => make_call(rings, Call::WithRest(id, s)),
+            (22..=25, Some(id), _) => self.change(id, c),
+            (26..=31, _, _) => self.change_ring(alloc, c),
+            _ => Ok(()),
         }
-        Ok(())
     }
 
     /// Drops a bucket, or gives it another letter.
