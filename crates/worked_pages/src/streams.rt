@@ -5,7 +5,7 @@ ghost use Rattle.std.specs.Prelude.{◌≡◌, refl};
 use byte_streams::{ReadAnswer, ReadFailed, Sink, SinkFault, Source, WriteAnswer};
 
 /// A reader that gives a text, and another one again and again behind it.
-#[derive(Clone, Copy, Drop)]
+#[derive(Clone, Copy)]
 pub(crate) struct Feed<'a> {
     pub(crate) text: &'a [u8],
     /// What it gives at the end of the text; where this is empty, it ends.
@@ -41,7 +41,7 @@ impl Source for Feed<'_> {
 }
 
 /// A writer that takes so many bytes and then fails. It compares them with what is due.
-#[derive(Clone, Copy, Drop)]
+#[derive(Clone, Copy)]
 pub(crate) struct Taker<'a> {
     /// What is due next.
     pub(crate) due: &'a [u8],
