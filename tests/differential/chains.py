@@ -1,19 +1,23 @@
 #!/usr/bin/env python3
 """Plays random chains of filters that the checker accepts, on random commands of up to three connections. None may have a fault.
 
-    python3 tests/differential/chains.py [N] [SEED] [--program PATH] [--keep FOLDER]
+    python3 tests/differential/chains.py [N] [SEED] [--program PATH] [--driver PATH] [--keep FOLDER]
     python3 tests/differential/chains.py [N] [SEED] --unchecked [--program PATH]
+    python3 tests/differential/chains.py [N] [SEED] --write FOLDER
 
 Bodies come in random cuts, and connections are closed at any moment. In every other chain things fail too: openings and reads of
-files, and growths of memory. No script can say that, so these chains are played by the reading alone.
+files, and growths of memory. No script can say that, so these chains are played by the reading; and then, with names that run out, a
+device that fails where it is told, closes after each step of a call and growths that are refused, by the driver, `troubled_play`.
 """
 import argparse
 import os
+import sys
 import tempfile
 import time
 import traceback
 from contextlib import suppress
 
+import trials
 from accepted import hand_written
 from check import pieces
 from compare import answer_of, generator_of, report, shown
@@ -23,7 +27,7 @@ from odd import quote, some_bytes
 from reading.certificates import Refusal, make, show_certificate
 from reading.chains import Host
 from reading.counts import ARISEN, arose, table, uncounted
-from reading.scripts import TooBig, answer, play
+from reading.scripts import TooBig, play
 from reading.texts import FaultyText, assemble_alone
 
 MOST_CONNECTIONS = 3
@@ -99,10 +103,15 @@ class Filters:
 class Talk:
     """Random commands, which are played on the reading as they are written."""
 
-    def __init__(self, rng, chain, troubled):
+    def __init__(self, rng, chain, troubled, first=None):
         self.rng = rng
-        self.host = Host([filter.module for filter in chain], self.fails)
-        self.host.budget = rng.choice([40, 400, 3000])
+        budget = rng.choice([40, 400, 3000])
+        if first is None:
+            self.host = Host([filter.module for filter in chain], self.fails)
+            self.host.budget = budget
+        else:
+            self.host = trials.host_of(chain, budget, first)
+        self.chance_of_telling = 0 if first is None else rng.choice([0, .02, .1])
         self.lines = []
         self.answers = []
         self.files = {}                  # their lengths
@@ -121,7 +130,7 @@ class Talk:
     def say(self, *words):
         line = ' '.join(map(str, words))
         self.lines.append(line)
-        self.answers.append(answer(self.host, line))
+        self.answers.append(trials.told(self.host, line))
 
     def file(self):
         """A new file."""
@@ -167,6 +176,8 @@ class Talk:
     def turn(self):
         """A command that some connection's state allows, mostly."""
         rng, connections = self.rng, self.host.connections
+        if self.chance_of_telling and rng.random() < self.chance_of_telling:
+            self.say('fail_at', rng.choice([0, 1, 1, 1, 2, 3, 5, 10]))
         chance = rng.random()
         if not connections or len(connections) < MOST_CONNECTIONS and chance < .05:
             self.say('open')
@@ -257,6 +268,51 @@ def play_troubled(rng, chain, path):
     return wrong is None
 
 
+def trials_of(rng, chain):
+    """Scripts for the driver, with their answers."""
+    first = trials.first_name(rng)
+    talk = Talk(rng, chain, troubled=False, first=first)
+    talk.all()
+    yield trials.script(chain, talk.host.budget, first, talk.lines), ''.join(talk.answers).encode('latin-1')
+    if rng.random() < .2:
+        for lines in trials.closes(rng, chain, talk.host.budget, first, talk.lines):
+            answers = trials.played(chain, talk.host.budget, first, lines)[0]
+            yield trials.script(chain, talk.host.budget, first, lines), ''.join(answers).encode('latin-1')
+
+
+def drive(rng, chain, path, driver, refuser):
+    """Plays scripts with the driver; gives whether all is well, and keeps the script where it is not."""
+    for number, (script, due) in enumerate(trials_of(rng, chain)):
+        wrong = b'fault ' in due and 'FAULT of an accepted chain, where things fail'
+        if not wrong and driver and trials.driven(driver, script) != (due, 0, b''):
+            wrong = 'the driver answers otherwise'
+        if not wrong and refuser and number == 0:
+            growths = refuser.call([], 0, script)[2]
+            for refused in rng.sample(range(1, growths + 1), min(growths, 5)):
+                arose('growth that is refused to the driver')
+                if not trials.well_refused(due, refuser.call([], refused, script)[0]):
+                    wrong = 'the driver answers otherwise where growth %d is refused' % refused
+        if wrong:
+            with open(path + '.trial', 'wb') as file, open(path + '.due', 'wb') as answers:
+                file.write(script)
+                answers.write(due)
+            print('%s\n  %s.trial' % (wrong, path))
+            return False
+    return True
+
+
+def write_trials(rng, chain, path):
+    """Writes scripts for the driver beside their answers; gives whether none of these is a fault."""
+    for number, (script, due) in enumerate(trials_of(rng, chain)):
+        with open('%s_%d' % (path, number), 'wb') as file, open('%s_%d.stdout' % (path, number), 'wb') as answers:
+            file.write(script)
+            answers.write(due)
+        if b'fault ' in due:
+            print('FAULT of an accepted chain, where things fail\n  %s_%d' % (path, number))
+            return False
+    return True
+
+
 def script_of(rng, chain, unchecked):
     """The bytes of a script: the chain with some of its certificates, and a talk."""
     talk = Talk(rng, chain, troubled=False)
@@ -298,6 +354,13 @@ def play_chain(players, script, path, unchecked):
     return True
 
 
+def refuser_of(driver):
+    """The driver with one of its growths refused, as tests/refusals.py does it."""
+    sys.path.insert(0, os.path.dirname(os.path.dirname(os.path.abspath(__file__))))
+    from refusals import Refuser
+    return Refuser(driver, tempfile.mkdtemp())
+
+
 def main():
     parser = argparse.ArgumentParser(description='Plays chains of filters that the checker accepts; none may have a fault.')
     parser.add_argument('n', nargs='?', type=int, default=2000, metavar='N', help='how many chains')
@@ -305,16 +368,22 @@ def main():
     parser.add_argument('--program', help='a program, whose answers are compared with those of the reading')
     parser.add_argument('--keep', default=tempfile.gettempdir(), help='the folder for a script on which something is amiss')
     parser.add_argument('--unchecked', action='store_true', help='chains of any filters, which may have faults')
+    parser.add_argument('--driver', help='the program `troubled_play`, which plays the chains in which things fail')
+    parser.add_argument('--growths', action='store_true', help='refuse growths of memory to the driver; this needs a compiler cc')
+    parser.add_argument('--write', metavar='FOLDER', help='write the scripts for the driver, with their answers, and play nothing')
     options = parser.parse_args()
     players = [chain_answer] + ([answer_of(options.program)] if options.program else [])
+    refuser = refuser_of(options.driver) if options.driver and options.growths else None
     filters = Filters(options.unchecked)
     start = time.monotonic()
     for number in range(options.n):
         rng = generator_of(options.seed, number)
         chain = filters.chain(rng)
         path = os.path.join(options.keep, 'chain_%s_%d' % (options.seed.replace('/', '_'), number))
-        if number % 2 and not options.unchecked:
-            well = play_troubled(rng, chain, path)
+        if options.write:
+            well = write_trials(rng, chain, os.path.join(options.write, os.path.basename(path)))
+        elif number % 2 and not options.unchecked:
+            well = play_troubled(rng, chain, path) and drive(rng, chain, path, options.driver, refuser)
         else:
             well = play_chain(players, script_of(rng, chain, options.unchecked), path, options.unchecked)
         if not well:

@@ -7,8 +7,9 @@ ghost use Rattle.run_model.specs.Worlds.{new_world};
 use crate::conns::Conns;
 use crate::limits::Limits;
 use crate::spare::Spare;
-use brigade_ops::{Brigades, PlainRings};
+use brigade_ops::Brigades;
 use bucket_kinds::Files;
+use bucket_ring::RawRings;
 use life_check::CheckedChain;
 use pool_tree::{PoolError, PoolId, PoolTree};
 use run_model::{Bucket, Module, Payload};
@@ -24,7 +25,7 @@ pub struct Host<F: Files> {
     pub(crate) conns: Conns,
     pub(crate) last: u64,
     pub(crate) tree: PoolTree<Payload>,
-    pub(crate) store: Brigades<PlainRings<Bucket>>,
+    pub(crate) store: Brigades<RawRings<Bucket>>,
     pub(crate) files: F,
     pub(crate) spare: Spare,
 }

@@ -8,4 +8,6 @@ mod player;
 mod playing;
 mod session;
 
+pub use commands::serve;
+pub use due::due_command;
 pub use playing::run_play;

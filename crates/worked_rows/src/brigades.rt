@@ -5,15 +5,16 @@ use crate::calls::{Call, Four, Place, show_named, show_two};
 use crate::missing::Missing;
 use crate::shown::Shown;
 use anyhow::Result;
-use brigade_ops::{BrigadeId, Brigades, BucketId, PlainRings};
+use brigade_ops::{BrigadeId, Brigades, BucketId};
 use bucket_kinds::Bucket;
+use bucket_ring::RawRings;
 use std::alloc::{AllocError, Global};
 
 /// No brigade of a row has more buckets.
 const MOST: usize = 9;
 
 /// The store of a row.
-pub(crate) type Store = Brigades<PlainRings<Bucket>>;
+pub(crate) type Store = Brigades<RawRings<Bucket>>;
 
 /// Tells the buckets of a brigade.
 pub(crate) fn show_brigade(rt: &HostRuntime, store: &Store, brigade: BrigadeId) -> Result<()> {

@@ -5,22 +5,29 @@ mod brigades;
 mod buckets;
 mod calls;
 mod certs;
+mod commands;
 mod cuts;
 mod disk;
 mod missing;
 mod modules;
 mod pools;
 mod reads;
+mod regions;
 mod rings;
 mod rows;
 mod saves;
 mod shown;
 
 use anyhow::Result;
+use bucket_ring::{PlainRings, RawRings};
 
 fn main(rt: HostRuntime) -> Result<()> {
-    rings::ring_moves(&rt)?;
-    rings::ring_names_spent(&rt)?;
+    rings::ring_moves::<PlainRings<u8>>(&rt, "in a slab")?;
+    rings::ring_moves::<RawRings<u8>>(&rt, "in a raw block")?;
+    rings::ring_names_spent::<PlainRings<u8>>(&rt, "in a slab")?;
+    rings::ring_names_spent::<RawRings<u8>>(&rt, "in a raw block")?;
+    commands::commands_alike(&rt)?;
+    regions::region_spans(&rt)?;
     pools::pool_names_spent(&rt)?;
     pools::destroy_run_order(&rt)?;
     pools::kills(&rt)?;

@@ -1,42 +1,55 @@
-//! Rows of rings.
+//! Rows of rings, of either kind.
 
 use crate::calls::{Call, Four, Place, show_named, show_two};
 use crate::missing::Missing;
 use anyhow::Result;
-use bucket_ring::{BucketId, PlainRings, RingId, Rings};
+use bucket_ring::{BucketId, RingId, Rings};
 use std::alloc::{AllocError, Global};
 
 /// No ring of a row has more buckets.
-const MOST: usize = 9;
+const MOST: usize = 1_000;
 
-/// The payloads of a ring, from its first bucket on.
-fn letters(alloc: Global, rings: &PlainRings<u8>, ring: RingId) -> Result<String, AllocError> {
-    let mut text = String::new(alloc);
+/// The names and payloads of a ring, from its first bucket on.
+pub(crate) fn listed<R: Rings<u8>>(
+    alloc: Global,
+    rings: &R,
+    ring: RingId,
+) -> Result<Vec<(BucketId, u8)>, AllocError> {
+    let mut buckets = Vec::new(alloc);
     if !rings.has_ring(ring) {
-        return Ok(text);
+        return Ok(buckets);
     }
     let mut place = rings.first(ring);
     for _ in 0..MOST {
         let Some(id) = place else {
-            return Ok(text);
+            return Ok(buckets);
         };
         if rings.ring_of(id).is_none() {
-            return Ok(text);
+            return Ok(buckets);
         }
-        text.push(*rings.payload(id) as char)?;
+        buckets.push((id, *rings.payload(id)))?;
         place = rings.next(id).ok();
+    }
+    Ok(buckets)
+}
+
+/// The payloads of a ring as a text.
+fn letters<R: Rings<u8>>(alloc: Global, rings: &R, ring: RingId) -> Result<String, AllocError> {
+    let mut text = String::new(alloc);
+    for (_, letter) in listed(alloc, rings, ring)? {
+        text.push(letter as char)?;
     }
     Ok(text)
 }
 
-fn show(rt: &HostRuntime, what: &str, rings: &PlainRings<u8>, r: RingId, s: RingId) -> Result<()> {
+fn show<R: Rings<u8>>(rt: &HostRuntime, what: &str, rings: &R, r: RingId, s: RingId) -> Result<()> {
     let first = letters(rt.alloc(), rings, r)?;
     let second = letters(rt.alloc(), rings, s)?;
     show_two(rt, what, first.as_str(), second.as_str())
 }
 
 /// Puts a new bucket in.
-fn put(rings: &mut PlainRings<u8>, place: Place, letter: u8) -> Result<BucketId> {
+pub(crate) fn put<R: Rings<u8>>(rings: &mut R, place: Place, letter: u8) -> Result<BucketId> {
     let put = match place {
         Place::Head(ring) if rings.has_ring(ring) => rings.add_head(ring, letter),
         Place::Tail(ring) if rings.has_ring(ring) => rings.add_tail(ring, letter),
@@ -51,7 +64,7 @@ fn put(rings: &mut PlainRings<u8>, place: Place, letter: u8) -> Result<BucketId>
 }
 
 /// Moves a bucket.
-fn shift(rings: &mut PlainRings<u8>, id: BucketId, place: Place) -> Result<()> {
+fn shift<R: Rings<u8>>(rings: &mut R, id: BucketId, place: Place) -> Result<()> {
     if rings.ring_of(id).is_none() {
         return Err(Missing.into());
     }
@@ -64,7 +77,7 @@ fn shift(rings: &mut PlainRings<u8>, id: BucketId, place: Place) -> Result<()> {
     Ok(())
 }
 
-fn make_call(rings: &mut PlainRings<u8>, call: Call) -> Result<()> {
+pub(crate) fn make_call<R: Rings<u8>>(rings: &mut R, call: Call) -> Result<()> {
     match call {
         Call::Move(id, place) => return shift(rings, id, place),
         Call::WithRest(id, ring) if rings.ring_of(id).is_some() && rings.has_ring(ring) => {
@@ -79,7 +92,7 @@ fn make_call(rings: &mut PlainRings<u8>, call: Call) -> Result<()> {
 }
 
 /// Puts four buckets into one of two rings.
-fn put_four(rings: &mut PlainRings<u8>) -> Result<Four> {
+fn put_four<R: Rings<u8>>(rings: &mut R) -> Result<Four> {
     let r = rings.new_ring()?;
     let s = rings.new_ring()?;
     let a = put(rings, Place::Tail(r), b'a')?;
@@ -104,9 +117,9 @@ fn moves(four: Four) -> [(&'static str, Call); 8] {
 }
 
 /// Four buckets are put into a ring, moved, and spliced to another and back.
-pub(crate) fn ring_moves(rt: &HostRuntime) -> Result<()> {
-    println!(rt; "moves of a ring")?;
-    let mut rings: PlainRings<u8> = PlainRings::new(rt.alloc(), 1);
+pub(crate) fn ring_moves<R: Rings<u8> + Drop>(rt: &HostRuntime, kind: &str) -> Result<()> {
+    println!(rt; "moves of a ring, {kind}")?;
+    let mut rings = R::new(rt.alloc(), 1);
     let four = put_four(&mut rings)?;
     show(
         rt,
@@ -122,9 +135,9 @@ pub(crate) fn ring_moves(rt: &HostRuntime) -> Result<()> {
     Ok(())
 }
 
-fn show_added(
+fn show_added<R: Rings<u8>>(
     rt: &HostRuntime,
-    rings: &mut PlainRings<u8>,
+    rings: &mut R,
     ring: RingId,
     letter: u8,
 ) -> Result<()> {
@@ -139,9 +152,9 @@ fn show_added(
 }
 
 /// With two names left a ring and a bucket get them. A second bucket is refused, and its payload comes back.
-pub(crate) fn ring_names_spent(rt: &HostRuntime) -> Result<()> {
-    println!(rt; "the names of rings run out")?;
-    let mut rings: PlainRings<u8> = PlainRings::new(rt.alloc(), u64::MAX - 2);
+pub(crate) fn ring_names_spent<R: Rings<u8> + Drop>(rt: &HostRuntime, kind: &str) -> Result<()> {
+    println!(rt; "the names of rings run out, {kind}")?;
+    let mut rings = R::new(rt.alloc(), u64::MAX - 2);
     let ring = rings.new_ring()?;
     show_named(rt, "ring", &Ok::<u64, AllocError>(ring))?;
     show_added(rt, &mut rings, ring, b'x')?;

@@ -6,6 +6,7 @@ from .counts import arose
 from .texts import show_text
 
 ROOT = 1
+LAST = 2 ** 64 - 1
 DATA = ('heap', 'transient', 'immortal', 'pool', 'file')
 FREE = ('free', None)            # a home is FREE, ('call', name), ('pool', name) or DEAD
 DEAD = ('dead', None)
@@ -57,8 +58,10 @@ class OpenFile:
 class Pools:
     """The pools of all connections, and their files. A name is given once, to whichever connection asks."""
 
-    def __init__(self, fails=never):
+    def __init__(self, fails=never, first=1):
         self.fails = fails               # told 'opening', 'read' or 'growth', it says whether that fails now
+        self.first = first               # what the name 1 is told as
+        self.given = 0                   # how many names of brigades, buckets and calls were given
         self.tree = {ROOT: Pool(None)}
         self.files = {}                  # the bytes of each file
         self.open_files = {}
@@ -68,6 +71,10 @@ class Pools:
         """The next name of this kind."""
         self.last[kind] += 1
         return self.last[kind]
+
+    def lack(self, names, pools=0):
+        """Whether so many names of brigades, buckets and calls, or of pools, would reach 2^64 - 1, which is no name."""
+        return max(self.given + names, self.last['pool'] + pools) + self.first > LAST
 
     def make_pool(self, parent):
         name = self.name('pool')
@@ -136,5 +143,5 @@ class Pools:
     def show(self, pool=ROOT, depth=0):
         """A line for each pool at and under a pool, with its labels."""
         labels = [value for kind, value in self.tree[pool].payloads if kind == 'label']
-        line = '  ' * depth + ' '.join(['pool %d' % pool] + [show_text(label) for label in labels]) + '\n'
+        line = '  ' * depth + ' '.join(['pool %d' % (pool + self.first - 1)] + [show_text(label) for label in labels]) + '\n'
         return line + ''.join(self.show(child, depth + 1) for child in self.children(pool))
