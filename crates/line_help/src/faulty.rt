@@ -288,7 +288,7 @@ pub fn tell_cert_fault(
             "  a state has one spelling, the one that `certify` prints\n",
         ),
         _ => told.push(
-            "  its lines are `cert 1`, `idle`, `ready`, one of each instruction that is reached, by rising numbers, and `end`; no empty lines, no comments, no spaces in front\n",
+            "  its lines are `cert 1` or `slim 1`, `idle`, `ready`, one of each instruction that is reached, by rising numbers, and `end`; no empty lines, no comments, no spaces in front\n",
         ),
     }
     Ok(())

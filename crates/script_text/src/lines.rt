@@ -24,5 +24,6 @@ pub fn is_end(text: &[u8], ended: bool) -> bool
 pub fn begins_cert(text: &[u8], ended: bool) -> bool
     ensures { result ≡ begins_cert (record { text = text.now; ended = ended }) }
 {
-    is_text(token(text), b"cert")
+    let word = token(text);
+    is_text(word, b"cert") | is_text(word, b"slim")
 }
