@@ -1,15 +1,13 @@
 -- After the rounds, what is handed on stands where it arrives.
-use Rattle.std.proofs.Common.{◌≡◌, ℕ, zero, suc, Bool, true, false, not, ◌==◌, ◌&&◌, if◌then◌else◌, List, [], ◌∷◌, ◌++◌, length, All, ◌⊎◌, inl, inr, Option, Some, None, refl, ap, sym, ◌∙◌, subst, arith, eq-eqb}
+use Rattle.std.proofs.Common.{◌≡◌, ℕ, zero, suc, Bool, true, false, if◌then◌else◌, List, [], ◌∷◌, ◌++◌, length, All, ◌⊎◌, inl, inr, Option, Some, None, refl, ap, sym, ◌∙◌, subst, arith}
 use Rattle.std.proofs.lemmas.List.Elements.{All-nil, All-cons}
 use Rattle.module_code.specs.Program.{Program, IsModule}
 use Rattle.run_model.proofs.Updates.{upd_at}
 use Rattle.life_state.specs.States.{State}
-use Rattle.life_state.specs.Facts.{is_set, is_apart}
-use Rattle.life_state.specs.FormLaws.{IsFormedIn}
 use Rattle.life_state.specs.Order.{leq, join}
 use Rattle.life_state.specs.Rules.{at_open}
 use Rattle.life_state.proofs.JoinAbove.{join_above}
-use Rattle.life_state.proofs.OrderLaws.{leq_same, leq_trans}
+use Rattle.life_state.proofs.OrderLaws.{leq_trans}
 use Rattle.life_check.specs.Certificates.{Certificate}
 use Rattle.life_check.specs.Typed.{is_below}
 use Rattle.life_check.proofs.Completed.{below_itself}

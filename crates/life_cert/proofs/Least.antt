@@ -10,7 +10,6 @@ use Rattle.life_state.specs.Order.{leq, join}
 use Rattle.life_state.specs.Rules.{Edges, rule, at_open, at_main, at_return, at_end_of_request}
 use Rattle.life_state.specs.Form.{IsFormed}
 use Rattle.life_state.specs.Monotone.{edge_le, LeadsBelow}
-use Rattle.life_state.proofs.OrderLaws.{leq_trans}
 use Rattle.life_state.proofs.JoinLeast.{join_least}
 use Rattle.life_state.proofs.WithinRules.{rules_are_monotone, entries_are_monotone}
 use Rattle.life_check.specs.Certificates.{Certificate, AreFormed}

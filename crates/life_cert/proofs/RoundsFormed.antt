@@ -1,6 +1,6 @@
 -- The states of all rounds are in form, and have `in` in `main` alone.
-use Rattle.std.proofs.Common.{◌≡◌, ℕ, zero, suc, ◌+◌, ◌-◌, ◌<◌, ◌≤◌, Bool, true, false, nat_lt, nat_le, if◌then◌else◌, List, [], ◌∷◌, length, All, inl, inr, Option, Some, None, IfSome, unwrap_or, Result, Ok, Err, slice_get, refl, ap, sym, ◌∙◌, subst, arith}
-use Rattle.std.proofs.lemmas.Bool.{cases_eq, cases_lt, le-leb, lt-leb}
+use Rattle.std.proofs.Common.{◌≡◌, ℕ, zero, suc, ◌+◌, ◌<◌, Bool, true, false, nat_lt, nat_le, if◌then◌else◌, List, [], ◌∷◌, length, All, inl, inr, Option, Some, None, unwrap_or, Result, Ok, Err, slice_get, refl, ap, sym, ◌∙◌, subst, arith}
+use Rattle.std.proofs.lemmas.Bool.{le-leb, lt-leb}
 use Rattle.std.proofs.lemmas.Option.{slice_get_within}
 use Rattle.std.proofs.lemmas.List.Elements.{All-nil, All-cons, All-append}
 use Rattle.module_code.specs.declared.instr.Instr.{Instr}
@@ -20,7 +20,7 @@ use Rattle.life_cert.specs.declared.growth.StatePlace.TheVariants as place
 use Rattle.life_cert.specs.Rounds.{Arrival, Grown, state_at, arriving, left_place, returned, edges_arriving, handed_by_rule, handed_by_line, handed_by, handed_on, grow, arrive_by, arrive, arrived, nothing, begun, rounds}
 use Rattle.life_cert.specs.Laws.{is_in_main, StatesAreFormed}
 use Rattle.life_check.proofs.EdgeLaws.{goes_on_next, rule_edges}
-use Rattle.life_check.proofs.Sides.{SameSide, same_side, if_some, target_side, next_side}
+use Rattle.life_check.proofs.Sides.{same_side, if_some, target_side, next_side}
 use Rattle.life_cert.proofs.Arriving.{read_written}
 
 -- where instructions lead

@@ -1,14 +1,12 @@
 -- The states that a slim form keeps.
-use Rattle.std.proofs.Common.{◌≡◌, ℕ, ◌+◌, ◌<◌, ◌≤◌, Bool, true, false, ◌||◌, if◌then◌else◌, List, [], ◌∷◌, ◌++◌, length, Option, Some, None, slice_get, refl, ap, sym, ◌∙◌, subst, arith, inl, inr, ⊎_elim}
+use Rattle.std.proofs.Common.{◌≡◌, ℕ, ◌<◌, ◌≤◌, Bool, true, false, if◌then◌else◌, List, length, Option, None, slice_get, refl, ap, sym, ◌∙◌, subst, arith, ⊎_elim}
 use Rattle.std.proofs.Math.Path.{fun_ext}
 use Rattle.std.proofs.lemmas.Bool.{cases_lt}
 use Rattle.std.proofs.lemmas.Option.{slice_get_past}
 use Rattle.module_code.specs.Program.{Program, IsModule}
-use Rattle.life_state.specs.States.{State}
 use Rattle.life_state.specs.declared.state.State as code
 use Rattle.life_state.specs.Seen.{seen_some}
 use Rattle.life_check.specs.declared.cert.Cert.{Cert}
-use Rattle.life_check.specs.Certificates.{Certificate}
 use Rattle.life_check.specs.Seen.{seen_line, seen_cert}
 use Rattle.life_check.specs.Slim.{is_head, slim_of, slim_form}
 use Rattle.life_check.proofs.Meant.{ends_with_lines}
@@ -61,4 +59,4 @@ slim_is p c xs long each = λ i. record { idle = form_idle p c i; ready = form_r
   where
     at : (λ pc. seen_line (slice_get xs pc)) ≡ (slim_form p c).at
     at = fun_ext (λ pc. ⊎_elim (λ (low : pc < length xs). each pc low)
-      (λ (past : length xs ≤ pc). ap seen_line (slice_get_past xs pc past) ∙ sym (past_form p c pc (subst (λ (n : ℕ). n ≤ pc) long past))) (cases_lt pc (length xs)))
+        (λ (past : length xs ≤ pc). ap seen_line (slice_get_past xs pc past) ∙ sym (past_form p c pc (subst (λ (n : ℕ). n ≤ pc) long past))) (cases_lt pc (length xs)))

@@ -1,5 +1,5 @@
 -- The slim form of a certificate that is accepted is accepted.
-use Rattle.std.proofs.Common.{◌≡◌, ℕ, Bool, true, false, ◌&&◌, ◌||◌, not, if◌then◌else◌, Option, Some, None, is_some, refl, ap, ap₂, sym, ◌∙◌, subst}
+use Rattle.std.proofs.Common.{◌≡◌, Bool, true, false, ◌&&◌, ◌||◌, not, if◌then◌else◌, Option, None, is_some, refl, ap, ap₂, sym, ◌∙◌, subst}
 use Rattle.module_code.specs.Program.{Program, IsModule}
 use Rattle.life_state.specs.States.{State}
 use Rattle.life_state.proofs.Below.{all_below_holds}
@@ -7,7 +7,7 @@ use Rattle.life_state.proofs.Tests.{and2}
 use Rattle.life_check.specs.declared.cert.Cert.{Cert}
 use Rattle.life_check.specs.Certificates.{Certificate, AreFormed}
 use Rattle.life_check.specs.Seen.{seen_cert}
-use Rattle.life_check.specs.Slim.{is_head, at_heads, completion, meant, is_slim_shape, slim_of, slim_form, Accepts}
+use Rattle.life_check.specs.Slim.{is_head, at_heads, completion, slim_of, slim_form, Accepts}
 use Rattle.life_check.specs.Typed.{has_shape, IsTyped}
 use Rattle.life_check.proofs.Meant.{ends_with_lines, slim_means, whole_means}
 use Rattle.life_check.proofs.SlimTyped.{slim_is_typed, slim_shaped}

@@ -36,12 +36,7 @@ pub fn cert_of(told: &mut Page, text: ScriptText<'_>) -> Result<Option<Cert>, Al
 }
 
 // The states that a refusal is about: those that are given where their shape is refused, else those that are meant.
-fn told_states(
-    alloc: Global,
-    code: &Module,
-    cert: Cert,
-    rule: Rule,
-) -> Result<Cert, AllocError> {
+fn told_states(alloc: Global, code: &Module, cert: Cert, rule: Rule) -> Result<Cert, AllocError> {
     match rule {
         Rule::Shape => Ok(cert),
         _ => meant(alloc, code, &cert),

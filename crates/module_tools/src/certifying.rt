@@ -54,11 +54,7 @@ fn made_text(
     }
 }
 
-fn certification(
-    alloc: Global,
-    code: &Module,
-    is_slim: bool,
-) -> Result<CommandOutput, AllocError>
+fn certification(alloc: Global, code: &Module, is_slim: bool) -> Result<CommandOutput, AllocError>
     ensures { IfOk result (λ a. IsCertification is_slim code.now a.text.items a.ended) }
 {
     match make(alloc, code) {

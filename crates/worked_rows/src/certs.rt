@@ -5,7 +5,7 @@ ghost use Rattle.std.specs.Prelude.{◌<◌, ◌≤◌, length};
 use crate::modules::{
     ALIAS_CERT, ALIAS_DELETED, ALIAS_WITHOUT_FACT, ASIDE_CERT, ASIDE_INTO_REQUEST, IDENTITY,
     IDENTITY_CERT, IDENTITY_SLIM, KEEPER_CONCATS, LOOPING_INIT, NEXT_THEN_UNLINK,
-    READ_AFTER_DELETE, REUSED_PASSED_BRIGADE, SLIM_WITHOUT_TARGET, SLIM_WITH_OTHER,
+    READ_AFTER_DELETE, REUSED_PASSED_BRIGADE, SLIM_WITH_OTHER, SLIM_WITHOUT_TARGET,
 };
 use anyhow::Result;
 use life_cert::{CertRefusal, MakeRefusal, make, print_cert, read_cert, slim};
@@ -113,7 +113,11 @@ const ROWS: &[Row] = &[
     Row::Says("slim certificates"),
     Row::Slimmed(IDENTITY),
     Row::Checked("of what passes on what it gets", IDENTITY, IDENTITY_SLIM),
-    Row::Checked("without the state of a target", IDENTITY, SLIM_WITHOUT_TARGET),
+    Row::Checked(
+        "without the state of a target",
+        IDENTITY,
+        SLIM_WITHOUT_TARGET,
+    ),
     Row::Checked("with a state elsewhere", IDENTITY, SLIM_WITH_OTHER),
     Row::Says("certificates are read"),
     Row::Read(IDENTITY_CERT, 0),

@@ -1,5 +1,5 @@
 -- The states that are kept are those of the slim form, and it is accepted.
-use Rattle.std.proofs.Common.{◌≡◌, ◌∙◌, length, sym, subst, refl, arith, ℕ, ◌<◌}
+use Rattle.std.proofs.Common.{◌≡◌, length, refl, arith}
 use Rattle.life_check.proofs.SlimForms.{slim_accepts}
 use Rattle.life_cert.proofs.SlimLists.{slim_is}
 use Rattle.life_cert.proofs.slimming.slim.Goals as goal

@@ -1,7 +1,6 @@
-use Rattle.std.proofs.Common.{◌≡◌, ◌∷◌, [], ◌+◌, length, map, ap, sym, subst, ◌∙◌, None, Some, rules, arith}
+use Rattle.std.proofs.Common.{◌≡◌, ◌∷◌, [], length, ap, subst, ◌∙◌, rules, arith}
 use Rattle.std.proofs.lemmas.List.{length-append}
-use Rattle.std.specs.Vec.Iter.{into_iter_items, into_iter_len}
-use Rattle.module_code.specs.Program.{Program}
+use Rattle.std.specs.Vec.Iter.{into_iter_items}
 use Rattle.life_check.specs.Accepted.{CertifiedModule as Pair}
 use Rattle.script_text.specs.Certified.{IsCertified, refusal_with}
 use Rattle.script_text.specs.Heads.{ScriptPart, seen_part}
