@@ -86,7 +86,7 @@ impl<R: Rings<u8> + Drop> Four<R> {
 
     /// Makes a call of one of 32 rows.
     fn play(&mut self, alloc: Global, c: Command) -> Result<()> {
-        let (r, s) = (self.names[c.r], self.names[c.s]);
+        let (r, s) = (self.names[c.r % 4], self.names[c.s % 4]);
         let i = bucket_at(&listed(alloc, &self.rings, r)?, c.i);
         let j = bucket_at(&listed(alloc, &self.rings, s)?, c.j);
         let rings = &mut self.rings;
@@ -119,7 +119,8 @@ impl<R: Rings<u8> + Drop> Four<R> {
     /// Puts two buckets into a ring at once, drops all that it has, ends it, which makes way for a new one, ends it with another, which
     /// makes way for a pair, or takes up to seven names and makes room.
     fn change_ring(&mut self, alloc: Global, c: Command) -> Result<()> {
-        let ring = self.names[c.r];
+        let (r, s) = (c.r % 4, c.s % 4);
+        let ring = self.names[r];
         let two = vec![in alloc; c.letter, b'z']?;
         if !self.rings.has_ring(ring) {
             return Err(Missing.into());
@@ -129,17 +130,17 @@ impl<R: Rings<u8> + Drop> Four<R> {
             28 => self.rings.drop_all(ring),
             29 => {
                 self.rings.end_ring(ring);
-                self.names[c.r] = self.rings.new_ring()?;
+                self.names[r] = self.rings.new_ring()?;
             }
-            30 if c.r != c.s => {
+            30 if r != s => {
                 self.rings.end_ring(ring);
-                let other = self.names[c.s];
+                let other = self.names[s];
                 if self.rings.has_ring(other) {
                     self.rings.end_ring(other);
                 }
                 let (first, second) = self.rings.new_pair(two)?;
-                self.names[c.r] = first;
-                self.names[c.s] = second;
+                self.names[r] = first;
+                self.names[s] = second;
             }
             31 => {
                 let next = self.rings.next_name();
