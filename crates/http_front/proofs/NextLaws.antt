@@ -24,12 +24,8 @@ use Rattle.http_front.specs.Serving.{Goes, IsSinkKind, SoFar, Standing, Writes}
 use Rattle.http_front.specs.Talking.{Follows, IsNext, Lands, one_more, pending, to_do}
 use Rattle.http_front.specs.Texts.{AppendsFront}
 use Rattle.http_front.specs.UnderWays.{LacksSlice, StepsFrom}
+use Rattle.http_front.proofs.TurnLaws.{on_ok}
 use Rattle.http_front.proofs.ServingLaws.{cut_by, cut_closes, cut_refused, cut_stays, far_closes, far_done, far_refused, far_stays}
-
--- whatever a result is
-on_ok : {A E P : Type 0} (r : Result A E) → P → OnOk r P
-on_ok (Ok x) p = p
-on_ok (Err e) p = tt
 
 -- a count that is no greatest one
 counts : (n k m : ℕ) → n + k < 2 ^ 63 → m ≡ one_more n → m ≡ n + 1

@@ -1,7 +1,7 @@
 -- How a turn fails.
-use Rattle.std.proofs.Common.{◌≡◌, ◌≢◌, ℕ, ◌+◌, ◌<◌, ◌≤◌, Bool, List, [], ◌++◌, length, take, Option, Some, None, Result, Ok, Err, refl, sym, ap, subst, inl, inr, arith}
+use Rattle.std.proofs.Common.{◌≡◌, ◌≢◌, ◌∙◌, ℕ, ◌+◌, ◌<◌, ◌≤◌, Bool, true, List, [], ◌++◌, length, take, Option, Some, None, Result, Ok, Err, refl, sym, ap, subst, inl, inr, arith}
 use Rattle.std.proofs.lemmas.List.{length-append, length-take-le}
-use Rattle.std.specs.Prelude.{IfErr, IfOk, OnErr, ◌⊎◌}
+use Rattle.std.specs.Prelude.{IfErr, IfOk, OnErr, OnOk, ◌⊎◌}
 use Rattle.http_message.specs.Clocks.{Said}
 use Rattle.http_message.specs.declared.reply.Method.{Method}
 use Rattle.http_message.specs.declared.site.Site.{Site}
@@ -12,11 +12,15 @@ use Rattle.http_front.specs.UnderWays.{LacksSlice, StepsFrom}
 use Rattle.http_front.specs.declared.fault.FrontKind.{FrontKind}
 use Rattle.http_front.specs.declared.fault.FrontKind.TheVariants as kind
 use Rattle.http_front.specs.declared.handler.RequestOutcome.{RequestOutcome}
+use Rattle.http_front.specs.declared.http_conn.HttpConn.{HttpConn}
 use Rattle.http_front.specs.declared.steps.ServeStep.{ServeStep}
 use Rattle.http_front.specs.declared.steps.ServeStep.TheVariants as step
 use Rattle.http_front.specs.declared.under_way.StepSlice.{StepSlice}
 use Rattle.http_front.specs.declared.under_way.StepSlice.TheVariants as slice
 use Rattle.http_front.specs.declared.under_way.UnderWay.{UnderWay}
+use Rattle.http_message.specs.Inboxes.{unread}
+use Rattle.http_front.specs.Talking.{CountsOn, Follows, Lands, WantsSo}
+use Rattle.http_front.specs.Turns.{WantsMore}
 
 -- what is told of source and sink, where neither failed
 module _ {A : Type 0} (was is : Bool) (same : is ≡ was) where
@@ -64,6 +68,10 @@ module _ {A E : Type 0} where
   pub on_err : (r : Result A E) (P : Type 0) → P → OnErr r P
   on_err (Ok x) P p = tt
   on_err (Err e) P p = p
+
+  pub on_ok : (r : Result A E) {P : Type 0} → P → OnOk r P
+  on_ok (Ok x) p = p
+  on_ok (Err e) p = tt
 
   pub on_err_as : (r : Result A E) (P Q : Type 0) → (P → Q) → OnErr r P → OnErr r Q
   on_err_as (Ok x) P Q into h = tt
@@ -147,3 +155,48 @@ lengths_of_none a b c none =
     let rest = length-append a b in
     let empty : length (a ++ b ++ c) ≡ 0 = ap (λ (l : List ℕ). length l) none in
     omega (arith, whole, rest, empty)
+
+-- what a turn leaves of what is wanted, and of the count
+module _ {A E T : Type 0} (r : Result A E) (c d : HttpConn T) where
+  pub wants_kept : (d.wants ≡ true → c.wants ≡ true) → OnOk r (WantsSo c d)
+  wants_kept kept = on_ok r (λ none is. inl (kept is))
+
+  pub count_kept : d.requests ≡ c.requests → OnOk r (CountsOn c d)
+  count_kept same = on_ok r (inl same)
+
+-- what a step does
+module _ {T : Type 0} (c d : HttpConn T) where
+  counts_step : (s : ServeStep) → Follows s c d → CountsOn c d
+  counts_step (step.Stays size) f = inr f.counted
+  counts_step (step.Closes size) f = inr f.counted
+  counts_step step.Refused f = inr f.counted
+  counts_step step.More f = inl f.counted
+  counts_step step.Done f = inl f.counted
+
+  counts_slice : (x : StepSlice T) → Lands x c d → CountsOn c d
+  counts_slice (slice.Did s) l = counts_step s l.0
+  counts_slice (slice.Works u) l = inl l.0.counted
+
+  module _ {H K : Type 0} (site : Site) (among : H → Method → List ℕ → RequestOutcome → H → Type 0) (rests : H → T → RequestOutcome → H → Type 0) (tells : K → Said → K → Type 0) (now new : H) (before after : K) (whole : Bool) (text : List ℕ) where
+    wants_step : (s : ServeStep) → DoesStep site among tells now before (unread c.inbox) whole s text new after → Follows s c d → d.wants ≡ true → (c.wants ≡ true) ⊎ WantsMore (unread d.inbox)
+    wants_step (step.Stays size) did f is = inl (sym f.wants ∙ is)
+    wants_step (step.Closes size) did f is = inl (sym f.wants ∙ is)
+    wants_step step.Refused did f is = inl (sym f.wants ∙ is)
+    wants_step step.More did f is = inr (subst WantsMore (sym f.still) did.1)
+    wants_step step.Done did f is = inl (sym f.wants ∙ is)
+
+    wants_slice : (hand : Option (UnderWay T)) (x : StepSlice T) → StepsFrom site among rests tells hand now before (unread c.inbox) whole x text new after → Lands x c d → hand ≡ None → d.wants ≡ true → (c.wants ≡ true) ⊎ WantsMore (unread d.inbox)
+    wants_slice None (slice.Did s) did l none is = wants_step s did l.0 is
+    wants_slice hand (slice.Works u) did l none is = inl (sym l.0.wants ∙ is)
+    wants_slice (Some u) (slice.Did s) did l none is = absurd (cc)
+
+    abbrev Made : Type 0
+    Made = (x : StepSlice T) × StepsFrom site among rests tells c.hand now before (unread c.inbox) whole x text new after × Lands x c d
+
+    pub wants_made : {A E : Type 0} (r : Result A E) → OnOk r Made → OnOk r (WantsSo c d)
+    wants_made (Ok y) m = λ none is. wants_slice c.hand m.0 m.1 m.2 none is
+    wants_made (Err e) m = tt
+
+    pub counts_made : {A E : Type 0} (r : Result A E) → OnOk r Made → OnOk r (CountsOn c d)
+    counts_made (Ok y) m = counts_slice m.0 m.2
+    counts_made (Err e) m = tt

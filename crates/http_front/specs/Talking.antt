@@ -1,11 +1,12 @@
 -- How far a connection is that is served beside others.
-use Rattle.std.specs.Prelude.{◌≡◌, ℕ, ◌+◌, min, Bool, true, false, List, [], ◌++◌, length, drop, Option, Some, None, Result, Ok, Err}
+use Rattle.std.specs.Prelude.{◌≡◌, ℕ, ◌+◌, min, Bool, true, false, List, [], ◌++◌, ◌⊎◌, length, drop, Option, Some, None, Result, Ok, Err}
 use Rattle.http_message.specs.Clocks.{Said}
 use Rattle.http_message.specs.Inboxes.{unread}
 use Rattle.http_message.specs.declared.reply.Method.{Method}
 use Rattle.http_message.specs.declared.site.Site.{Site}
 use Rattle.http_front.specs.Sharing.{IsSo, Passes, TellsLater}
 use Rattle.http_front.specs.Texts.{text_of}
+use Rattle.http_front.specs.Turns.{WantsMore}
 use Rattle.http_front.specs.Serving.{IsSinkKind, Loses}
 use Rattle.http_front.specs.UnderWays.{IsUnderWay, LacksSlice}
 use Rattle.http_front.specs.declared.fault.FrontKind.{FrontKind}
@@ -85,6 +86,14 @@ Follows step.Done old new = FollowsAs (unread old.inbox) old.wants true old.requ
 abbrev pub Lands : {T : Type 0} → StepSlice T → HttpConn T → HttpConn T → Type 0
 Lands (slice.Did s) old new = Follows s old new × (new.hand ≡ None)
 Lands (slice.Works u) old new = FollowsAs (unread old.inbox) old.wants false old.requests new × (new.hand ≡ Some u)
+
+-- Where no request was in hand, more bytes are wanted only where those at hand begin with no head yet, or where they were wanted.
+abbrev pub WantsSo : {T : Type 0} → HttpConn T → HttpConn T → Type 0
+WantsSo old new = old.hand ≡ None → new.wants ≡ true → (old.wants ≡ true) ⊎ WantsMore (unread new.inbox)
+
+-- One response more was made, or none.
+abbrev pub CountsOn : {T : Type 0} → HttpConn T → HttpConn T → Type 0
+CountsOn old new = (new.requests ≡ old.requests) ⊎ (new.requests ≡ one_more old.requests)
 
 -- one, where something is still to come
 abbrev pub unless_so : Bool → ℕ

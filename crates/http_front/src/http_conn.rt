@@ -107,7 +107,7 @@ fn sized<T: Drop>(
 }
 
 impl<T: Drop> HttpConn<T> {
-    ghost use Rattle.http_front.specs.Talking.{Fails, Follows, GoesSo, IsNext, Lands, Stands, pending};
+    ghost use Rattle.http_front.specs.Talking.{CountsOn, Fails, Follows, GoesSo, IsNext, Lands, Stands, WantsSo, pending};
 
     /// Nothing came yet. It takes no memory.
     pub fn new(alloc: Global) -> HttpConn<T>
@@ -167,6 +167,8 @@ impl<T: Drop> HttpConn<T> {
         ensures over { self.new.over ≡ self.old.over }
         ensures hand { self.new.hand ≡ self.old.hand }
         ensures whole { self.new.whole ≡ true → (self.old.whole ≡ true) ⊎ IsAtEnd (R.remaining reader.new) }
+        ensures wants { self.new.wants ≡ true → self.old.wants ≡ true }
+        ensures requests { self.new.requests ≡ self.old.requests }
         ensures lost { IfErr result (λ e. Loses (length buffer.new) (R.remaining reader.old) (R.remaining reader.new) e) }
         ensures source { BlamesSource result (R.failed reader.old) (R.failed reader.new) self.new.reads }
         ensures unwritten { result ≢ Err FrontKind.Write }
@@ -224,6 +226,8 @@ impl<T: Drop> HttpConn<T> {
         ensures over { self.new.over ≡ self.old.over }
         ensures hand { self.new.hand ≡ self.old.hand }
         ensures whole { self.new.whole ≡ self.old.whole }
+        ensures wants { self.new.wants ≡ self.old.wants }
+        ensures requests { self.new.requests ≡ self.old.requests }
         ensures still { handler.new ≡ handler.old }
         ensures kinds { IfErr result IsSinkKind }
         ensures sink { BlamesSink result (W.failed sink.old) (W.failed sink.new) }
@@ -413,6 +417,8 @@ impl<T: Drop> HttpConn<T> {
         ensures fails { IfErr result (Fails site.now (λ old. H.lacks old number) (λ old. H.lacks_rest old number) (length buffer.new) (R.remaining reader.old) (R.remaining reader.new) handler.old handler.new self.old) }
         ensures none { OnErr result (pending self.old ≡ [] → pending self.new ≡ []) }
         ensures few { H.steps handler.old number (most_steps self.old.hand) handler.new }
+        ensures wants { OnOk result (WantsSo self.old self.new) }
+        ensures counted { OnOk result (CountsOn self.old self.new) }
         ensures source { BlamesSource result (R.failed reader.old) (R.failed reader.new) self.new.reads }
         ensures sink { BlamesSink result (W.failed sink.old) (W.failed sink.new) }
     {

@@ -22,8 +22,8 @@ const LINGER_MILLIS: u64 = 1000;
 /// How many reads what it sends may take.
 const LINGER_READS: u32 = 64;
 
-/// How many moves a client makes in one turn: it reads, answers, writes and reads again.
-const MOVES: u32 = 4;
+/// How many moves a client makes in one turn: it reads, answers, writes, looks at what is left, and reads again.
+const MOVES: u32 = 5;
 
 /// What a turn comes to.
 #[derive(Clone, Copy, Debug, PartialEq, Eq)]
@@ -57,8 +57,9 @@ pub struct Client {
     /// What the system reported of the socket, until a call said otherwise.
     pub readable: bool,
     pub writable: bool,
-    /// The system reported that the peer sends no more: reads are tried up to the end.
-    pub ended: bool,
+    /// Reads are tried until nothing is there, also behind a short one: the system reported that the peer sends no more, or urgent
+    /// data, at which a read stops short.
+    pub reads_on: bool,
     /// It stands in the queue.
     pub queued: bool,
     /// When it is to have moved.
@@ -94,7 +95,7 @@ impl Client {
             conn: HttpConn::new(shared.runtime.alloc()),
             readable: true,
             writable: true,
-            ended: false,
+            reads_on: false,
             queued: false,
             due: later(now, shared.patience),
             lingers: None,
@@ -217,8 +218,8 @@ impl Client {
             &mut clock,
             shared.buffer.as_mut_slice(),
         );
-        // The system reports more bytes when they come, and the end of them once.
-        if source.reader.drained && !self.ended {
+        // The system reports more bytes when they come.
+        if source.reader.drained && !self.reads_on {
             self.readable = false;
         }
         match turned {

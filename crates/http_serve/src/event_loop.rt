@@ -48,7 +48,7 @@ impl Hall {
         };
         client.readable = client.readable || event.is_readable() || event.is_read_closed();
         client.writable = client.writable || event.is_writable();
-        client.ended = client.ended || event.is_read_closed();
+        client.reads_on = client.reads_on || event.is_read_closed() || event.is_priority();
         self.wake(key);
     }
 
@@ -231,7 +231,7 @@ fn welcome<R: Clock + Eprint + AllocGlobal, F: Files + Drop>(
     poll.registry().register(
         &mut stream,
         Token(entry),
-        Interest::READABLE | Interest::WRITABLE,
+        Interest::READABLE | Interest::WRITABLE | Interest::PRIORITY,
     )?;
     let Ok(host_number) = open_turns(host) else {
         return Err(io::Error::from(ErrorKind::OutOfMemory));

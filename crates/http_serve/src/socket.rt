@@ -12,7 +12,7 @@ const TRIES: u32 = 1000;
 #[derive(Drop)]
 pub struct Socket<'a> {
     pub stream: &'a TcpStream,
-    /// The last read gave fewer bytes than there was room for: the next one would give nothing.
+    /// The last read gave fewer bytes than there was room for. Nothing else was there then, but the end, or what is behind urgent data.
     pub drained: bool,
 }
 

@@ -6,7 +6,7 @@ use Rattle.http_front.specs.UnderWays.{most_steps}
 use Rattle.http_front.specs.Talking.{pending}
 use Rattle.http_front.specs.declared.http_conn.Next.TheVariants as next
 use Rattle.http_front.specs.declared.http_conn.Turned.TheVariants as turned
-use Rattle.http_front.proofs.TurnLaws.{on_err, on_err_as, sink_lack, sink_read, slice_lack, source_lack, source_wrote}
+use Rattle.http_front.proofs.TurnLaws.{count_kept, counts_made, on_err, on_err_as, sink_lack, sink_read, slice_lack, source_lack, source_wrote, wants_kept, wants_made}
 use Rattle.http_front.proofs.SharingLaws.{own_over, own_read, own_step, own_wrote, stands_later}
 use Rattle.http_front.proofs.http_conn.HttpConn.turn.Goals as goal
 
@@ -125,3 +125,27 @@ returns-in-Over-clause-few g c = g.met.H.Handler.steps_none c.args.handler.now c
 
 pub returns-in-Reads-clause-few : goal.returns-in-Reads-clause-few
 returns-in-Reads-clause-few g c = g.met.H.Handler.steps_none c.args.handler.now c.args.number _
+
+pub returns-in-Writes-clause-wants : goal.returns-in-Writes-clause-wants
+returns-in-Writes-clause-wants g c = wants_kept c.put_out.result c.args.self.now c.put_out.new.self (λ is. sym c.put_out.ensures.wants ∙ is)
+
+pub returns-in-Writes-clause-counted : goal.returns-in-Writes-clause-counted
+returns-in-Writes-clause-counted g c = count_kept c.put_out.result c.args.self.now c.put_out.new.self c.put_out.ensures.requests
+
+pub returns-in-Reads-clause-wants : goal.returns-in-Reads-clause-wants
+returns-in-Reads-clause-wants g c = wants_kept c.take_in.result c.args.self.now c.take_in.new.self (c.take_in.ensures.wants)
+
+pub returns-in-Reads-clause-counted : goal.returns-in-Reads-clause-counted
+returns-in-Reads-clause-counted g c = count_kept c.take_in.result c.args.self.now c.take_in.new.self c.take_in.ensures.requests
+
+pub returns-in-Works-clause-wants : goal.returns-in-Works-clause-wants
+returns-in-Works-clause-wants g c = wants_made c.args.self.now c.step.new.self c.args.site.now (λ old. g.H.Handler.among old c.args.number) (λ old. g.H.Handler.rests old c.args.number) g.K.Clock.tells c.args.handler.now c.step.new.handler c.args.clock.now c.step.new.clock c.args.self.now.whole (pending c.step.new.self) c.step.result c.step.ensures.did
+
+pub returns-in-Works-clause-counted : goal.returns-in-Works-clause-counted
+returns-in-Works-clause-counted g c = counts_made c.args.self.now c.step.new.self c.args.site.now (λ old. g.H.Handler.among old c.args.number) (λ old. g.H.Handler.rests old c.args.number) g.K.Clock.tells c.args.handler.now c.step.new.handler c.args.clock.now c.step.new.clock c.args.self.now.whole (pending c.step.new.self) c.step.result c.step.ensures.did
+
+pub returns-in-Steps-clause-wants : goal.returns-in-Steps-clause-wants
+returns-in-Steps-clause-wants g c = wants_made c.args.self.now c.step-in-Steps.new.self c.args.site.now (λ old. g.H.Handler.among old c.args.number) (λ old. g.H.Handler.rests old c.args.number) g.K.Clock.tells c.args.handler.now c.step-in-Steps.new.handler c.args.clock.now c.step-in-Steps.new.clock c.args.self.now.whole (pending c.step-in-Steps.new.self) c.step-in-Steps.result c.step-in-Steps.ensures.did
+
+pub returns-in-Steps-clause-counted : goal.returns-in-Steps-clause-counted
+returns-in-Steps-clause-counted g c = counts_made c.args.self.now c.step-in-Steps.new.self c.args.site.now (λ old. g.H.Handler.among old c.args.number) (λ old. g.H.Handler.rests old c.args.number) g.K.Clock.tells c.args.handler.now c.step-in-Steps.new.handler c.args.clock.now c.step-in-Steps.new.clock c.args.self.now.whole (pending c.step-in-Steps.new.self) c.step-in-Steps.result c.step-in-Steps.ensures.did
