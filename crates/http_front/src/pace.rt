@@ -1,6 +1,8 @@
 //! How a request is made: whole, where nothing else is to be served meanwhile, or in slices.
 
-ghost use Rattle.std.specs.Prelude.{◌≡◌, ◌*◌, ℕ, List, IfOk, IfErr};
+ghost use Rattle.std.specs.Prelude.{◌≡◌, ◌*◌, ℕ, List, IfOk, IfErr, IfSome};
+ghost use Rattle.http_front.specs.Nearing.{Nears, slice_steps};
+ghost use Rattle.http_front.specs.Outcomes.{IsLack};
 
 use crate::fault::FrontKind;
 use crate::handler::{Handler, RequestOutcome, Slice};
@@ -46,18 +48,19 @@ pub(crate) trait Pace<H: Handler> {
         ensures err { IfErr result (λ e. IsLack e × H.lacks handler.old number method file.now e handler.new) }
         ensures few { steps handler.old number (2 * slice_steps) handler.new };
 
-    /// Goes on with a request that is under way. `NoMemory` and `NamesSpent` leave it without an outcome.
+    /// Goes on with a request that is under way. `NoMemory` and `NamesSpent` leave it without an outcome. Where none is under way there is no outcome
+    /// either.
     fn go_on(
         alloc: Global,
         handler: &mut H,
         number: u64,
-        task: Self::Task,
+        task: Option<Self::Task>,
     ) -> Result<Slice<Self::Task>, FrontKind>
         requires { H.is_open handler.old number }
-        ensures ok { IfOk result (λ s. Nears (rests handler.old number task) (rests handler.new number) handler.new s) }
+        ensures ok { IfOk result (λ s. IfSome task (λ t. Nears (rests handler.old number t) (rests handler.new number) handler.new s)) }
         ensures open { H.is_open handler.new number }
         ensures beside { (from : H) → H.beside from number handler.old → H.beside from number handler.new }
-        ensures err { IfErr result (λ e. IsLack e × lacks_rest handler.old number task e handler.new) }
+        ensures err { IfErr result (λ e. IsLack e × IfSome task (λ t. lacks_rest handler.old number t e handler.new)) }
         ensures few { steps handler.old number slice_steps handler.new };
 
     ghost steps_none: { (s : H) (number n : ℕ) → steps s number n s };
@@ -96,9 +99,19 @@ impl<H: Handler> Pace<H> for AtOnce {
         _alloc: Global,
         _handler: &mut H,
         _number: u64,
-        task: Infallible,
-    ) -> Result<Slice<Infallible>, FrontKind> {
-        match task {}
+        task: Option<Infallible>,
+    ) -> Result<Slice<Infallible>, FrontKind>
+        requires { H.is_open _handler.old _number }
+        ensures ok { IfOk result (λ s. IfSome task (λ t. Nears (λ (o : RequestOutcome) (z : H). ⊥) (λ (k : Infallible) (o : RequestOutcome) (z : H). ⊥) _handler.new s)) }
+        ensures open { H.is_open _handler.new _number }
+        ensures beside { (from : H) → H.beside from _number _handler.old → H.beside from _number _handler.new }
+        ensures err { IfErr result (λ e. IsLack e × IfSome task (λ t. ⊥)) }
+        ensures few { Unit {0} }
+    {
+        match task {
+            Some(task) => match task {},
+            None => Err(FrontKind::NoMemory),
+        }
     }
 }
 
@@ -129,8 +142,18 @@ impl<H: Handler> Pace<H> for InSlices {
         alloc: Global,
         handler: &mut H,
         number: u64,
-        task: H::Task,
-    ) -> Result<Slice<H::Task>, FrontKind> {
-        handler.go_on(alloc, number, task)
+        task: Option<H::Task>,
+    ) -> Result<Slice<H::Task>, FrontKind>
+        requires { H.is_open handler.old number }
+        ensures ok { IfOk result (λ s. IfSome task (λ t. Nears (H.rests handler.old number t) (H.rests handler.new number) handler.new s)) }
+        ensures open { H.is_open handler.new number }
+        ensures beside { (from : H) → H.beside from number handler.old → H.beside from number handler.new }
+        ensures err { IfErr result (λ e. IsLack e × IfSome task (λ t. H.lacks_rest handler.old number t e handler.new)) }
+        ensures few { H.steps handler.old number slice_steps handler.new }
+    {
+        match task {
+            Some(task) => handler.go_on(alloc, number, task),
+            None => Err(FrontKind::NoMemory),
+        }
     }
 }

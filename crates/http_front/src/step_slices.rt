@@ -209,7 +209,7 @@ fn go_on_step<H: Handler, K: Clock, P: Pace<H>>(
 {
     text.clear(alloc);
     let asked = under_way.asked;
-    match P::go_on(alloc, handler, number, under_way.task)? {
+    match P::go_on(alloc, handler, number, Some(under_way.task))? {
         Slice::Done(outcome) => {
             let low = front(seen, HEAD_LIMIT);
             let step = send(alloc, low, asked, outcome, handler, clock, text)?;
