@@ -95,7 +95,7 @@ fn ask<R: Source + Drop, W: Sink>(
         Call::Serve => end_of_serve(alloc, &mut reader, writer),
         Call::Play => Ok(end_of(run_play(alloc, &mut reader, writer))),
         Call::Assemble => Ok(end_of(run_assemble(alloc, &mut reader, writer))),
-        Call::Certify => Ok(end_of(run_certify(alloc, &mut reader, writer))),
+        Call::Certify => Ok(end_of(run_certify(alloc, &mut reader, writer, false))),
         Call::Check => Ok(end_of(run_check(alloc, &mut reader, &mut cert, writer))),
         Call::CheckWith => Ok(end_of(run_check(alloc, &mut module, &mut reader, writer))),
     }
