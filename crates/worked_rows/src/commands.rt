@@ -170,7 +170,7 @@ pub(crate) fn commands_alike(rt: &HostRuntime) -> Result<()> {
     let mut raw: Four<RawRings<u8>> = Four::new(alloc)?;
     let mut number: u64 = 1;
     let mut sum = 0;
-    let mut alike = 0;
+    let mut alike: u64 = 0;
     for _ in 0..10_000 {
         number = number
             .wrapping_mul(6364136223846793005)
@@ -181,7 +181,7 @@ pub(crate) fn commands_alike(rt: &HostRuntime) -> Result<()> {
         let told = raw.told(alloc)?;
         sum = sum_of(told.as_slice(), sum);
         if plain.told(alloc)? == told {
-            alike += 1;
+            alike = alike.saturating_add(1);
         }
     }
     println!(rt; "ten thousand commands on rings in a slab and in a raw block")?;
