@@ -2,7 +2,6 @@
 //! must print is `stdout`.
 #![tactic(auto)]
 
-mod failing;
 mod loopback;
 mod modules;
 mod names_spent;
@@ -10,7 +9,6 @@ mod pages;
 mod requests;
 mod shown;
 mod stopped_clock;
-mod streams;
 
 use anyhow::Result;
 
@@ -18,6 +16,5 @@ fn main(rt: HostRuntime) -> Result<()> {
     requests::show_rows(&rt)?;
     requests::cut_requests(&rt)?;
     names_spent::names_spent_host(&rt)?;
-    failing::failing_streams(&rt)?;
     loopback::serves_over_a_socket(&rt)
 }
