@@ -1,6 +1,6 @@
 -- Buckets are noted under the pools that they depend on, whatever is done to the lists that they stand in.
-use Rattle.std.proofs.Common.{◌≡◌, ◌≤◌, ◌+◌, ℕ, suc, Bool, true, false, cond, ◌&&◌, ◌||◌, ltb, Option, None, Some, is_some, Result, Ok, Err, List, [], ◌∷◌, ◌++◌, take, drop, refl, sym, ap, ◌∙◌, arith, inl, inr}
-use Rattle.std.specs.Prelude.{IfOk, OnOk, OnErr, if◌then◌else◌}
+use Rattle.std.proofs.Common.{◌≡◌, ◌≤◌, ◌+◌, ℕ, suc, Bool, true, false, cond, ◌||◌, ltb, Option, None, Some, is_some, Result, Ok, Err, List, [], ◌∷◌, ◌++◌, take, drop, refl, sym, ap, ◌∙◌, arith, inl, inr}
+use Rattle.std.specs.Prelude.{IfOk, OnErr, if◌then◌else◌}
 use Rattle.std.specs.List.{list_all}
 use Rattle.std.specs.Option.{option_map, option_map_or}
 use Rattle.std.proofs.lemmas.Bool.{cases_Bool, cases_eq, eq-eqb, ne_eqb, and_parts, le-ltb, ltb-false}
@@ -21,10 +21,6 @@ use Rattle.brigade_ops.proofs.Lists.{front_rest, rest_head, some_of}
 use Rattle.brigade_ops.proofs.Saves.{found_some}
 
 -- what follows from either answer
-pub by_result : {A E X : Type 0} (P Q : Type 0) (r : Result A E) → OnOk r P → OnErr r Q → (P → X) → (Q → X) → X
-by_result P Q (Ok a) ok err f g = f ok
-by_result P Q (Err e) ok err f g = g err
-
 pub made : {A E X : Type 0} (P : A → Type 0) (Q : Type 0) (r : Result A E) → IfOk r P → OnErr r Q → ((a : A) → P a → X) → (Q → X) → X
 made P Q (Ok a) ok err f g = f a ok
 made P Q (Err e) ok err f g = g err

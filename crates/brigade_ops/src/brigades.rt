@@ -154,7 +154,8 @@ impl<R: Rings<Bucket> + Drop> Brigades<R> {
         ensures references { references self.new ≡ references self.old }
         ensures err { OnErr result ((n : ℕ) → lists self.new n ≡ lists self.old n) }
     {
-        self.held.splice_tail(a, b)
+        self.held.splice_tail(a, b);
+        Ok(())
     }
 
     /// Sets the name that the next brigade or bucket gets to this or a later one: those between were given by others.

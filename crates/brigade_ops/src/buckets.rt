@@ -146,49 +146,43 @@ impl<R: Rings<Bucket> + Drop> Brigades<R> {
         self.held.add_after(at, bucket)
     }
 
-    /// Moves a bucket to the tail of a brigade, which may be its own. It gets no new name. It takes no memory, and is never refused.
-    pub fn move_tail(&mut self, b: BrigadeId, id: BucketId) -> Result<(), AllocError>
+    /// Moves a bucket to the tail of a brigade, which may be its own. It gets no new name, and takes no memory.
+    pub fn move_tail(&mut self, b: BrigadeId, id: BucketId)
         requires brigade { is_some (lists self.old b) ≡ true }
         requires bucket { is_some (brigade_of self.old id) ≡ true }
-        ensures ok { OnOk result ((q n : ℕ) (x : Bucket) → brigade_of self.old id ≡ Some q → found id (list_at (lists self.old) q) ≡ Some x → lists self.new n ≡ on b (put_tail (id, x)) (on q (without id) (lists self.old)) n) }
-        ensures sure { IsOk result }
+        ensures out { (q n : ℕ) (x : Bucket) → brigade_of self.old id ≡ Some q → found id (list_at (lists self.old) q) ≡ Some x → lists self.new n ≡ on b (put_tail (id, x)) (on q (without id) (lists self.old)) n }
         ensures next { next_name self.new ≡ next_name self.old }
         ensures names { NoneRevived (brigade_of self.old) (brigade_of self.new) (next_name self.old) }
         ensures pools { pool_of self.new ≡ pool_of self.old }
         ensures references { references self.new ≡ references self.old }
-        ensures err { OnErr result ((n : ℕ) → lists self.new n ≡ lists self.old n) }
     {
-        self.held.move_tail(b, id)
+        self.held.move_tail(b, id);
     }
 
     /// Moves a bucket to the head of a brigade, else as `move_tail`.
-    pub fn move_head(&mut self, b: BrigadeId, id: BucketId) -> Result<(), AllocError>
+    pub fn move_head(&mut self, b: BrigadeId, id: BucketId)
         requires brigade { is_some (lists self.old b) ≡ true }
         requires bucket { is_some (brigade_of self.old id) ≡ true }
-        ensures ok { OnOk result ((q n : ℕ) (x : Bucket) → brigade_of self.old id ≡ Some q → found id (list_at (lists self.old) q) ≡ Some x → lists self.new n ≡ on b (put_head (id, x)) (on q (without id) (lists self.old)) n) }
-        ensures sure { IsOk result }
+        ensures out { (q n : ℕ) (x : Bucket) → brigade_of self.old id ≡ Some q → found id (list_at (lists self.old) q) ≡ Some x → lists self.new n ≡ on b (put_head (id, x)) (on q (without id) (lists self.old)) n }
         ensures next { next_name self.new ≡ next_name self.old }
         ensures names { NoneRevived (brigade_of self.old) (brigade_of self.new) (next_name self.old) }
         ensures pools { pool_of self.new ≡ pool_of self.old }
         ensures references { references self.new ≡ references self.old }
-        ensures err { OnErr result ((n : ℕ) → lists self.new n ≡ lists self.old n) }
     {
-        self.held.move_head(b, id)
+        self.held.move_head(b, id);
     }
 
     /// Moves a bucket before another, else as `move_tail`; before itself, nothing is changed.
-    pub fn move_before(&mut self, at: BucketId, id: BucketId) -> Result<(), AllocError>
+    pub fn move_before(&mut self, at: BucketId, id: BucketId)
         requires place { is_some (brigade_of self.old at) ≡ true }
         requires bucket { is_some (brigade_of self.old id) ≡ true }
-        ensures ok { OnOk result ((b q n : ℕ) (x : Bucket) → brigade_of self.old at ≡ Some b → brigade_of self.old id ≡ Some q → found id (list_at (lists self.old) q) ≡ Some x → lists self.new n ≡ (if same at id then lists self.old n else on b (put_before at (id, x)) (on q (without id) (lists self.old)) n)) }
-        ensures sure { IsOk result }
+        ensures out { (b q n : ℕ) (x : Bucket) → brigade_of self.old at ≡ Some b → brigade_of self.old id ≡ Some q → found id (list_at (lists self.old) q) ≡ Some x → lists self.new n ≡ (if same at id then lists self.old n else on b (put_before at (id, x)) (on q (without id) (lists self.old)) n) }
         ensures next { next_name self.new ≡ next_name self.old }
         ensures names { NoneRevived (brigade_of self.old) (brigade_of self.new) (next_name self.old) }
         ensures pools { pool_of self.new ≡ pool_of self.old }
         ensures references { references self.new ≡ references self.old }
-        ensures err { OnErr result ((n : ℕ) → lists self.new n ≡ lists self.old n) }
     {
-        self.held.move_before(at, id)
+        self.held.move_before(at, id);
     }
 
     /// Destroys a bucket (`apr_bucket_delete`).

@@ -165,24 +165,24 @@ impl<R: Rings<Bucket> + Drop> Rings<Bucket> for Indexed<R> {
         Ok(id)
     }
 
-    fn move_tail(&mut self, ring: RingId, id: BucketId) -> Result<(), AllocError> {
-        self.rings.move_tail(ring, id)
+    fn move_tail(&mut self, ring: RingId, id: BucketId) {
+        self.rings.move_tail(ring, id);
     }
 
-    fn move_head(&mut self, ring: RingId, id: BucketId) -> Result<(), AllocError> {
-        self.rings.move_head(ring, id)
+    fn move_head(&mut self, ring: RingId, id: BucketId) {
+        self.rings.move_head(ring, id);
     }
 
-    fn move_before(&mut self, at: BucketId, id: BucketId) -> Result<(), AllocError> {
-        self.rings.move_before(at, id)
+    fn move_before(&mut self, at: BucketId, id: BucketId) {
+        self.rings.move_before(at, id);
     }
 
-    fn splice_tail(&mut self, ring: RingId, from: RingId) -> Result<(), AllocError> {
-        self.rings.splice_tail(ring, from)
+    fn splice_tail(&mut self, ring: RingId, from: RingId) {
+        self.rings.splice_tail(ring, from);
     }
 
-    fn splice_from(&mut self, id: BucketId, ring: RingId) -> Result<(), AllocError> {
-        self.rings.splice_from(id, ring)
+    fn splice_from(&mut self, id: BucketId, ring: RingId) {
+        self.rings.splice_from(id, ring);
     }
 
     fn drop_bucket(&mut self, id: BucketId) {

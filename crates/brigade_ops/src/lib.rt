@@ -23,7 +23,7 @@ mod store;
 mod walking;
 
 pub use bucket_kinds::{FileNo, Files};
-pub use bucket_ring::{BucketId, PlainRings, RingRefusal, Rings};
+pub use bucket_ring::{BucketId, PlainRings, RawRings, RingRefusal, Rings};
 pub use laws::{lists_are_the_models, points_are_the_models, worked_changes};
 pub use morphs::Morphs;
 pub use pool_tree::{PoolId, PoolTree};

@@ -121,9 +121,7 @@ impl<R: Rings<Bucket> + Drop> Brigades<R> {
             .make_room(Kind::File, home, files.len())?;
         let first = self.start(b);
         refer_all(&mut self.references, tree, pool, files.as_slice())?;
-        let Ok(()) = self.held.splice_tail(o, b) else {
-            unreachable!()
-        };
+        self.held.splice_tail(o, b);
         self.put_all_aside(tree, o, first, pool);
         Ok(())
     }

@@ -176,7 +176,7 @@ impl<R: Rings<Bucket> + Drop> Brigades<R> {
             self.held.drop_all(a);
             return Ok(());
         };
-        self.held.splice_from(id, a)?;
+        self.held.splice_from(id, a);
         drop_before(&mut self.held, a, id);
         Ok(())
     }

@@ -16,14 +16,14 @@ use Rattle.bucket_ring.specs.Walks.{id_of}
 use Rattle.bucket_ring.specs.Links.{behind_of, before_of, mark_of, at_of, bucket_of, head_of, ring_at, lists_of, AreLinked}
 use Rattle.bucket_ring.proofs.Counts.{parts}
 use Rattle.bucket_ring.proofs.Counted.{items, upd_on, upd_off}
-use Rattle.bucket_ring.proofs.Shown.{head_is, lists_counted}
-use Rattle.bucket_ring.proofs.Kept.{shown_of, lists_there, length_of}
+use Rattle.bucket_ring.proofs.Shown.{lists_counted}
+use Rattle.bucket_ring.proofs.Kept.{shown_of}
 
 pub mapped_some : {X : Type 0} (f : X → X) (o : Option X) → is_some (option_map f o) ≡ is_some o
 mapped_some f None = refl
 mapped_some f (Some x) = refl
 
-pair_is : {T : Type 0} (b : BucketId × T) (id : BucketId) (x : T) → b.0 ≡ id → b.1 ≡ x → b ≡ (id, x)
+pub pair_is : {T : Type 0} (b : BucketId × T) (id : BucketId) (x : T) → b.0 ≡ id → b.1 ≡ x → b ≡ (id, x)
 pair_is b id x e f = ap (λ i. (i, b.1)) e ∙ ap (λ y. (id, y)) f
 
 -- a bucket that was put in or taken out
@@ -39,13 +39,12 @@ was_put id r at at2 at_new j h = go (same id j) refl (sym (ap is_some (at_new j)
   go true e h = inl e
   go false e h = inr h
 
--- a bucket that is taken out and put in
-pub was_moved : (id : BucketId) (birth r : ℕ) (at mid at2 : BucketId → Option ℕ) → birth ≡ id.birth → is_some (at id) ≡ true → ((j : BucketId) → mid j ≡ (if same id j then None else at j)) → ((j : BucketId) → at2 j ≡ (if same (id_of id.slot birth) j then Some r else mid j))
-    → (j : BucketId) → is_some (at2 j) ≡ true → is_some (at j) ≡ true
-was_moved id birth r at mid at2 e there taken put j h =
-    elim (was_put (id_of id.slot birth) r mid at2 put j h) [
-      | inl is ↦ ap (λ (i : BucketId). is_some (at i)) (sym (same_name (id_of id.slot birth) j is) ∙ ap (id_of id.slot) e) ∙ there
-      | inr old ↦ was_taken id at mid taken j old
+-- a bucket that goes to another ring
+pub was_moved : (id : BucketId) (r : ℕ) (at at2 : BucketId → Option ℕ) → is_some (at id) ≡ true → ((j : BucketId) → at2 j ≡ (if same id j then Some r else at j)) → (j : BucketId) → is_some (at2 j) ≡ true → is_some (at j) ≡ true
+was_moved id r at at2 there moved j h =
+    elim (was_put id r at at2 moved j h) [
+      | inl is ↦ ap (λ (i : BucketId). is_some (at i)) (sym (same_name id j is)) ∙ there
+      | inr old ↦ old
     ]
 
 module _ {T : Type 0} where

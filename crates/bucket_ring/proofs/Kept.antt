@@ -23,7 +23,7 @@ upd_as r x n f g e =
       | inr ne ↦ upd_off f r x n ne ∙ e n ∙ sym (upd_off g r x n ne)
     ]
 
-turned_same : (f f2 b b2 : ℕ → ℕ) (a k j : ℕ) → ((i : ℕ) → f2 i ≡ f i) → ((i : ℕ) → b2 i ≡ b i) → turned f2 b2 a k j ≡ turned f b a k j
+pub turned_same : (f f2 b b2 : ℕ → ℕ) (a k j : ℕ) → ((i : ℕ) → f2 i ≡ f i) → ((i : ℕ) → b2 i ≡ b i) → turned f2 b2 a k j ≡ turned f b a k j
 turned_same f f2 b b2 a k j e_f e_b =
     ap (λ (n : ℕ). if j == k then a else if j == b2 a then f2 k else n) (e_f j) ∙ ap (λ (n : ℕ). if j == k then a else if j == n then f2 k else f j) (e_b a) ∙ ap (λ (n : ℕ). if j == k then a else if j == b a then n else f j) (e_f k)
 

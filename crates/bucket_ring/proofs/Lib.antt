@@ -14,3 +14,4 @@ pub mod Rewritten
 pub mod Short
 pub mod Splices
 pub mod Written
+pub mod Carried

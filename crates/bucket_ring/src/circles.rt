@@ -5,6 +5,7 @@ ghost use Rattle.std.specs.HashMap.{spare};
 ghost use Rattle.bucket_ring.specs.Lists.{upd, on, list_at, same, rest, without, found, first_of, with_payload};
 ghost use Rattle.bucket_ring.specs.Spots.{placed};
 ghost use Rattle.bucket_ring.specs.Walks.{id_of};
+ghost use Rattle.bucket_ring.specs.Kept.{IsKept};
 
 use crate::links::{Links, Position, RingHead};
 use crate::names::{BucketId, RingId};
@@ -67,6 +68,27 @@ impl<T: Drop, S: Slots<T> + Drop> Links<T, S> {
         let at = self.target(head, position);
         self.fill(slot, ring, bucket);
         self.turn(slot, at);
+        self.resize(ring, head.count + 1);
+    }
+
+    /// Moves a bucket to a spot in a ring. It stays in its slot.
+    pub(crate) fn carry(&mut self, from: RingId, id: BucketId, ring: RingId, position: Position)
+        requires linked { AreLinked self.old }
+        requires bucket { ring_at self.old id ≡ Some from }
+        requires there { is_some (lists_of self.old ring) ≡ true }
+        requires position { IsSpot (λ j. if same id j then None else ring_at self.old j) ring position }
+        requires few { (next : ℕ) × IsKept (ring_at self.old) (lists_of self.old) next }
+        ensures linked { AreLinked self.new }
+        ensures lists { (n : ℕ) (x : T) → found id (list_at (lists_of self.old) from) ≡ Some x → lists_of self.new n ≡ on ring (placed position ((id, x) ∷ [])) (on from (without id) (lists_of self.old)) n }
+        ensures places { (j : _) → ring_at self.new j ≡ (if same id j then Some ring else ring_at self.old j) }
+    {
+        let old = self.head(from);
+        self.turn(id.slot, id.slot);
+        self.resize(from, old.count - 1);
+        let head = self.head(ring);
+        let at = self.target(head, position);
+        self.set_ring(id.slot, ring);
+        self.turn(id.slot, at);
         self.resize(ring, head.count + 1);
     }
 

@@ -175,8 +175,7 @@ impl<T: Drop, S: Slots<T> + Drop> LinkedRings<T, S> {
         ensures names { (j : BucketId) → is_some (ring_at self.new.links j) ≡ true → is_some (ring_at self.old.links j) ≡ true }
     {
         let from = self.ring_with(id);
-        let bucket = self.links.take(from, id);
-        self.links.put(id.slot, ring, position, bucket);
+        self.links.carry(from, id, ring, position);
     }
 }
 
@@ -275,43 +274,38 @@ impl<T: Drop, S: Slots<T> + Drop> Rings<T> for LinkedRings<T, S> {
         self.add(ring, Position::After(at), payload)
     }
 
-    fn move_tail(&mut self, ring: RingId, id: BucketId) -> Result<(), AllocError> {
+    fn move_tail(&mut self, ring: RingId, id: BucketId) {
         self.carry(ring, Position::Tail, id);
-        Ok(())
     }
 
-    fn move_head(&mut self, ring: RingId, id: BucketId) -> Result<(), AllocError> {
+    fn move_head(&mut self, ring: RingId, id: BucketId) {
         self.carry(ring, Position::Head, id);
-        Ok(())
     }
 
-    fn move_before(&mut self, at: BucketId, id: BucketId) -> Result<(), AllocError> {
+    fn move_before(&mut self, at: BucketId, id: BucketId) {
         if at == id {
-            return Ok(());
+            return;
         }
         let ring = self.ring_with(at);
         self.carry(ring, Position::Before(at), id);
-        Ok(())
     }
 
-    fn splice_tail(&mut self, ring: RingId, from: RingId) -> Result<(), AllocError> {
-        match self.links.first(from) {
-            Some(id) => self.splice_from(id, ring),
-            None => Ok(()),
+    fn splice_tail(&mut self, ring: RingId, from: RingId) {
+        if let Some(id) = self.links.first(from) {
+            self.splice_from(id, ring);
         }
     }
 
-    fn splice_from(&mut self, id: BucketId, ring: RingId) -> Result<(), AllocError> {
+    fn splice_from(&mut self, id: BucketId, ring: RingId) {
         let from = self.ring_with(id);
         if ring == from {
-            return Ok(());
+            return;
         }
         let mut here = Some(id);
         while let Some(id) = here {
             here = self.links.next(id);
             self.carry(ring, Position::Tail, id);
         }
-        Ok(())
     }
 
     fn drop_bucket(&mut self, id: BucketId) {

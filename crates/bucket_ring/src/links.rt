@@ -205,6 +205,19 @@ impl<T: Drop, S: Slots<T> + Drop> Links<T, S> {
         self.nodes.fill(slot, ring, bucket.birth, bucket.payload);
     }
 
+    /// Writes the ring of the bucket in a slot.
+    pub(crate) fn set_ring(&mut self, slot: usize, ring: RingId)
+        requires { is_some (bucket_of self.old slot) ≡ true }
+        ensures bucket { (j : ℕ) → bucket_of self.new j ≡ bucket_of self.old j }
+        ensures at { (j : ℕ) → at_of self.new j ≡ upd (at_of self.old) slot (Some ring) j }
+        ensures mark { (j : ℕ) → mark_of self.new j ≡ mark_of self.old j }
+        ensures links { KeepsLinks self.old self.new }
+        ensures room { KeepsRoom self.old self.new }
+        ensures heads { self.new.heads ≡ self.old.heads }
+    {
+        self.nodes.set_ring(slot, ring);
+    }
+
     /// Takes the bucket out of a slot.
     pub(crate) fn empty(&mut self, slot: usize) -> SlotBucket<T>
         requires { is_some (bucket_of self.old slot) ≡ true }

@@ -60,6 +60,12 @@ pub trait Slots<T> {
         ensures at { (v : Node T) → node self.old slot ≡ Some v → (k : ℕ) → node self.new k ≡ upd (node self.old) slot (Some (record v { before = to })) k }
         ensures room { room self.old ≤ room self.new };
 
+    /// Writes the ring of a node, which keeps what it holds.
+    fn set_ring(&mut self, slot: usize, ring: RingId)
+        requires { is_some (node self.old slot) ≡ true }
+        ensures at { (v : Node T) → node self.old slot ≡ Some v → (k : ℕ) → node self.new k ≡ upd (node self.old) slot (Some (record v { ring = ring })) k }
+        ensures room { room self.old ≤ room self.new };
+
     /// Puts a bucket of a ring into a node.
     fn fill(&mut self, slot: usize, ring: RingId, birth: u64, payload: T)
         requires { is_some (node self.old slot) ≡ true }
@@ -121,6 +127,12 @@ impl<T: Drop> Slots<T> for Slab<Node<T>> {
         }
     }
 
+    fn set_ring(&mut self, slot: usize, ring: RingId) {
+        if let Some(node) = self.get_mut(slot) {
+            node.ring = ring;
+        }
+    }
+
     fn fill(&mut self, slot: usize, ring: RingId, birth: u64, payload: T) {
         if let Some(node) = self.get_mut(slot) {
             node.ring = ring;
@@ -173,6 +185,10 @@ impl<T: Drop> Slots<T> for Nodes<T> {
 
     fn set_before(&mut self, slot: usize, to: usize) {
         Nodes::set_before(self, slot, to);
+    }
+
+    fn set_ring(&mut self, slot: usize, ring: RingId) {
+        Nodes::set_ring(self, slot, ring);
     }
 
     fn fill(&mut self, slot: usize, ring: RingId, birth: u64, payload: T) {

@@ -55,6 +55,16 @@ pub(crate) fn write_before<T>(block: &mut Block<Node<T>>, k: usize, to: usize)
     block.get_mut(k).before = to;
 }
 
+/// Writes the ring of a node.
+#[tactic(auto, unfolding(raw_block::specs::Blocks::at, raw_block::specs::Maps::upd))]
+pub(crate) fn write_ring<T>(block: &mut Block<Node<T>>, k: usize, ring: u64)
+    requires { is_some (at block.old k) ≡ true }
+    ensures at { (n : Node T) → at block.old k ≡ Some n → (j : ℕ) → at block.new j ≡ upd (at block.old) k (Some (record n { ring = ring })) j }
+    ensures len { block.new.len ≡ block.old.len }
+{
+    block.get_mut(k).ring = ring;
+}
+
 /// Writes the ring of a node and what it holds, and answers what it held.
 #[tactic(auto, unfolding(raw_block::specs::Blocks::at, raw_block::specs::Maps::upd))]
 pub(crate) fn write_load<T>(

@@ -5,7 +5,7 @@ ghost use Rattle.raw_block.specs.Maps.{upd};
 ghost use Rattle.raw_block.specs.Blocks.{at};
 ghost use Rattle.raw_nodes.specs.Free.{place, size, used, IsListed};
 
-use crate::node::{Load, Node, SlotBucket, write_before, write_behind, write_load};
+use crate::node::{Load, Node, SlotBucket, write_before, write_behind, write_load, write_ring};
 use raw_block::Block;
 use std::alloc::{AllocError, Global};
 use std::mem::replace;
@@ -171,6 +171,17 @@ impl<T: Drop> Nodes<T> {
     {
         if let Some(block) = &mut self.block {
             write_before(block, k, to);
+        }
+    }
+
+    /// Writes the ring of a node, which keeps what it holds.
+    pub fn set_ring(&mut self, k: usize, ring: u64)
+        requires { is_some (node_at self.old k) ≡ true }
+        ensures at { (n : Node T) → node_at self.old k ≡ Some n → (j : ℕ) → node_at self.new j ≡ upd (node_at self.old) k (Some (record n { ring = ring })) j }
+        ensures spare { self.new.spare ≡ self.old.spare }
+    {
+        if let Some(block) = &mut self.block {
+            write_ring(block, k, ring);
         }
     }
 

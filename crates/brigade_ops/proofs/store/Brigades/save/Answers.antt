@@ -28,7 +28,7 @@ put_all_aside-requires-clause-inside g c =
     let b = c.args.b in
     let new = c.splice_tail.new.self.rings in
     let whole : list_at (g.R.Rings.lists new) o ≡ list_at (g.R.Rings.lists s) o ++ list_at (g.R.Rings.lists s) b
-    = joined o b (g.R.Rings.lists s) (g.R.Rings.lists new) c.requires.apart c.requires.onto c.in-Ok.ensures.ok in
+    = joined o b (g.R.Rings.lists s) (g.R.Rings.lists new) c.requires.apart c.requires.onto c.splice_tail.ensures.out in
     if_some (λ id. g.R.Rings.ring_at new id ≡ Some o) c.start-first.result
     (λ id is.
     let inside = told_some (λ j. g.R.Rings.ring_at s j ≡ Some b) c.start-first.result c.start-first.ensures.inside id is in
@@ -59,7 +59,7 @@ returns-clause-ok g c p n at =
     ∙ none_other o b (times id (list_at (g.R.Rings.lists s) o)) (g.R.Rings.ring_at s id) c.requires.apart (told_some (λ j. g.R.Rings.ring_at s j ≡ Some b) first c.start-first.ensures.inside id is) (laws.counted s id o)) in
     c.put_all_aside.ensures.out n
     ∙ (ap (λ (f : Item → Item). on o (λ xs. before_place first xs ++ map f (from_place first xs)) (g.R.Rings.lists new) n) paths
-    ∙ (on_after o n (λ xs. xs ++ bs) (aside_behind ps pool first) (λ xs. xs ++ map (aside_item ps pool) bs) others (g.R.Rings.lists new) c.in-Ok.ensures.ok
+    ∙ (on_after o n (λ xs. xs ++ bs) (aside_behind ps pool first) (λ xs. xs ++ map (aside_item ps pool) bs) others (g.R.Rings.lists new) c.splice_tail.ensures.out
     (moved_aside ps pool first (list_at others o) bs c.start-first.ensures.whole none)
     ∙ ap (λ (q : ℕ). on o (λ xs. xs ++ map (aside_item ps q) bs) others n) same_pool))
 
@@ -88,7 +88,7 @@ returns-clause-house g c house =
     let s = g.R.Rings.lists store.held.rings in
     let bs : Items = list_at s b in
     let moved = g.R.Rings.lists c.splice_tail.new.self.rings in
-    let joined : ((n : ℕ) → moved n ≡ on o (λ xs. xs ++ bs) (on b (λ xs. []) s) n) = c.in-Ok.ensures.ok in
+    let joined : ((n : ℕ) → moved n ≡ on o (λ xs. xs ++ bs) (on b (λ xs. []) s) n) = c.splice_tail.ensures.out in
     subst (AreHoused (lists after) (pool_of after) (references after)) (sym c.in_ok-refer_all.ensures.ok)
     (house_referred (lists store) (pool_of store) (references store) ps house (lists after) (pool_of after) (references after) pool c.as_slice.result.now (tree_formed c.args.tree.now)
     (c.requires.live pool (sym c.get.ensures ∙ c.in-Some.is))

@@ -28,7 +28,7 @@ drop_before-requires g c =
     let in_b : g.R.Rings.ring_at s id ≡ Some b = told_some (λ (j : BucketId). g.R.Rings.ring_at s j ≡ Some b) c.args.place c.requires.inside id c.in-Some.is in
     let none : times id (list_at L a) ≡ 0 = laws.counted s id a ∙ (ap (once_in a) in_b ∙ once_elsewhere a b (λ e. c.requires.apart (sym e))) in
     let moved : list_at (g.R.Rings.lists new) a ≡ list_at L a ++ rest id (list_at L b) =
-    list_on a (λ bs. bs ++ rest id (list_at L b)) (on b (front id) L) (g.R.Rings.lists new) (λ k. c.in_ok-splice_from.ensures.ok b k in_b) (ap is_some (there_off a b (front id) L c.requires.apart) ∙ c.requires.into)
+    list_on a (λ bs. bs ++ rest id (list_at L b)) (on b (front id) L) (g.R.Rings.lists new) (λ k. c.splice_from.ensures.out b k in_b) (ap is_some (there_off a b (front id) L c.requires.apart) ∙ c.requires.into)
     ∙ ap (λ ys. ys ++ rest id (list_at L b)) (list_off a b (front id) L c.requires.apart) in
     laws.in_found new id a (ap (λ ys. is_some (payload_of ys)) (ap (rest id) moved ∙ (rest_append id (list_at L a) (rest id (list_at L b)) none ∙ rest_again id (list_at L b))) ∙ laws.found_in s id b in_b)
 
@@ -47,5 +47,5 @@ returns-clause-ok g c n =
     let left : rest id (list_at (on b (front id) L) a ++ rest id (list_at L b)) ≡ rest id (list_at L b) =
     ap (λ ys. rest id (ys ++ rest id (list_at L b))) (list_off a b (front id) L c.requires.apart) ∙ (rest_append id (list_at L a) (rest id (list_at L b)) none ∙ rest_again id (list_at L b)) in
     c.drop_before.ensures.out n
-    ∙ (on_after a n (λ bs. bs ++ rest id (list_at L b)) (rest id) (λ xs. rest id (list_at L b)) (on b (front id) L) (g.R.Rings.lists mid) (λ k. c.in_ok-splice_from.ensures.ok b k in_b) left
+    ∙ (on_after a n (λ bs. bs ++ rest id (list_at L b)) (rest id) (λ xs. rest id (list_at L b)) (on b (front id) L) (g.R.Rings.lists mid) (λ k. c.splice_from.ensures.out b k in_b) left
     ∙ ap (λ (p : Option BucketId). on a (λ (xs : Items). from_place p (list_at L b)) (on b (before_place p) L) n) (sym c.in-Some.is))

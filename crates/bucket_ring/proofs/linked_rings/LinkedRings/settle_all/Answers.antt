@@ -1,7 +1,6 @@
 use Rattle.std.proofs.Common.{◌≡◌, ℕ, ◌+◌, ◌≤◌, Option, List, [], ◌∷◌, ◌++◌, length, refl, sym, ap, subst, ◌∙◌, arith}
 use Rattle.std.specs.Option.{option_to_list}
 use Rattle.std.specs.Vec.Iter.{into_iter_items}
-use Rattle.std.proofs.lemmas.List.{length-append}
 use Rattle.bucket_ring.specs.Lists.{list_at, by_birth, numbered}
 use Rattle.bucket_ring.specs.Laws.{none_revived_twice}
 use Rattle.bucket_ring.specs.Links.{ring_at, lists_of}

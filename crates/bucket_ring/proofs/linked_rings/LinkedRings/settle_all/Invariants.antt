@@ -1,8 +1,8 @@
 -- The names of what was put in and of what is left are those of all.
-use Rattle.std.proofs.Common.{◌≡◌, ℕ, ◌+◌, ◌<◌, ◌≤◌, ◌^◌, length, List, ◌++◌, true, is_some}
+use Rattle.std.proofs.Common.{◌≡◌, ℕ, ◌+◌, ◌≤◌, length, List, ◌++◌, true, is_some}
 use Rattle.std.specs.Vec.Iter.{into_iter_items}
 use Rattle.bucket_ring.specs.declared.names.BucketId.{BucketId}
-use Rattle.bucket_ring.specs.Lists.{on, list_at, by_birth, numbered}
+use Rattle.bucket_ring.specs.Lists.{on, by_birth, numbered}
 use Rattle.bucket_ring.specs.Kept.{NoneRevived}
 use Rattle.bucket_ring.specs.Links.{ring_at, lists_of}
 use Rattle.bucket_ring.proofs.linked_rings.LinkedRings.settle_all.Given as goal
