@@ -2,18 +2,26 @@
 """Measures instructions on single buckets beside few and many other buckets, as ratios within one run.
 
     python3 bench/buckets.py [PROGRAM]
+    python3 bench/buckets.py rings [RAW SLAB]
 
 PROGRAM is crates/host_cli/out/host_cli where none is given (`./host` builds it). A step is measured in a loop that goes round as
 often as takes a tenth of a second, less the loop without it. Each time is the best of three runs. A ratio near 1 says that the
 time of a step does not depend on how many other buckets there are.
+
+With `rings` the host over rings in a raw block is measured beside the host over rings in a slab, each run of the one after one of the
+other. RAW and SLAB are the two programs. Where they are not given both are built: the program of this repository, and in
+/tmp/buckets_over_a_slab a copy of its crates in which the host has `PlainRings`. What is proved of the crates below the host is taken
+along; those above are proved again, which takes a while the first time.
 """
 import os
+import shutil
 import subprocess
 import sys
 import time
 
 TOP = os.path.dirname(os.path.dirname(os.path.abspath(__file__)))
-PROGRAM = sys.argv[1] if len(sys.argv) > 1 else os.path.join(TOP, 'crates', 'host_cli', 'out', 'host_cli')
+BUILT = os.path.join('crates', 'host_cli', 'out', 'host_cli')
+PROGRAM = sys.argv[1] if len(sys.argv) > 1 and sys.argv[1] != 'rings' else os.path.join(TOP, BUILT)
 
 SIZES = (10, 1_000, 10_000, 100_000)
 KEPT = (0, 1_000, 64_000)
@@ -56,16 +64,18 @@ def filled(brigade, count, label):
     return 'set n0 0 / :%s / heap c0 "x" / tail %s c0 / add n0 1 / jlt n0 %d %s' % (label, brigade, count, label)
 
 
+def once(program, text, last):
+    """The seconds that a script takes whose last answer is this."""
+    start = time.perf_counter()
+    done = subprocess.run([program], input=text.encode(), capture_output=True)
+    took = time.perf_counter() - start
+    if not done.stdout.endswith(b'\n' + last + b'\n'):
+        raise SystemExit('unexpected answer: %r' % done.stdout[-100:])
+    return took
+
+
 def seconds(text):
-    best = None
-    for _ in range(3):
-        start = time.perf_counter()
-        done = subprocess.run([PROGRAM], input=text.encode(), capture_output=True)
-        took = time.perf_counter() - start
-        if not done.stdout.endswith(b'ended ok\n'):
-            raise SystemExit('unexpected answer: %r' % done.stdout[-100:])
-        best = took if best is None else min(best, took)
-    return best
+    return min(once(PROGRAM, text, b'ended ok') for _ in range(3))
 
 
 def each(setup, code):
@@ -123,8 +133,8 @@ def returns(keeper, before):
 class Driven:
     """The program, driven line by line: each answer is read before the next line is sent."""
 
-    def __init__(self, module):
-        self.program = subprocess.Popen([PROGRAM], stdin=subprocess.PIPE, stdout=subprocess.PIPE)
+    def __init__(self, module, program=PROGRAM):
+        self.program = subprocess.Popen([program], stdin=subprocess.PIPE, stdout=subprocess.PIPE)
         self.program.stdin.write((module + 'budget 18446744073709551615\n').encode())
 
     def ask(self, line, answer):
@@ -170,7 +180,122 @@ def ends():
         print('the end of a request that saved %s files: %.0f us; ratio %.1f' % (format(size, ','), 1e6 * took, took / first))
 
 
+SLAB = '/tmp/buckets_over_a_slab'
+HOST = os.path.join('crates', 'filter_chain', 'src', 'host.rt')
+SWAPS = [('use bucket_ring::RawRings;', 'use bucket_ring::PlainRings;'), ('Brigades<RawRings<Bucket>>', 'Brigades<PlainRings<Bucket>>')]
+RUNS = 5
+
+
+def copied(crate):
+    """Copies a crate, and its proved library where the copy has none."""
+    source, copy = os.path.join(TOP, 'crates', crate), os.path.join(SLAB, 'crates', crate)
+    fresh = not os.path.isdir(os.path.join(copy, 'out'))
+    for part in os.listdir(source):
+        if part != 'out':
+            shutil.rmtree(os.path.join(copy, part), ignore_errors=True)
+
+    def left_out(folder, names):
+        if os.path.basename(folder) != 'out' or os.path.dirname(folder) != source:
+            return []
+        return [it for it in names if it != 'rlib'] if fresh else names
+
+    shutil.copytree(source, copy, ignore=left_out, dirs_exist_ok=True)
+
+
+def over_a_slab():
+    """The program whose host has rings in a slab."""
+    for crate in os.listdir(os.path.join(TOP, 'crates')):
+        copied(crate)
+    for file in ('crates.txt', 'HANDLES'):
+        shutil.copy2(os.path.join(TOP, file), SLAB)
+    with open(os.path.join(SLAB, HOST)) as it:
+        text = it.read()
+    for old, new in SWAPS:
+        if text.count(old) != 1:
+            raise SystemExit('%s: %r stands there %d times, and not once' % (HOST, old, text.count(old)))
+        text = text.replace(old, new)
+    with open(os.path.join(SLAB, HOST), 'w') as it:
+        it.write(text)
+    program = os.path.join(SLAB, BUILT)
+    done = subprocess.run(['rt', 'run'], cwd=os.path.join(SLAB, 'crates', 'host_cli'), stdin=subprocess.DEVNULL, capture_output=True, text=True)
+    if not os.access(program, os.X_OK):
+        raise SystemExit(done.stdout + done.stderr)
+    return program
+
+
+def both(programs, text, last):
+    """The best seconds of each program, run in turn."""
+    times = [[once(program, text, last) for program in programs] for _ in range(RUNS)]
+    return [min(column) for column in zip(*times)]
+
+
+def alone(programs, code, connection=1):
+    """The seconds of each program for one `step 1 1` within some code, which goes round forever; of a connection that is not there, for the command."""
+    count, text = 100_000, script('%s / first c1 b0 / %s' % (filled('b0', 1_000, 'fill'), code), '', 0)
+    text += 'step 1 5000\n' + 'step %d 1\n' % connection * count
+    answer = b'went 1' if connection == 1 else b'refused NoSuchConn'
+    text = text.replace('bring 1\nrun 1\n', 'bring 1\n')
+    return [took / count for took in both(programs, text, answer)]
+
+
+def single_steps(programs):
+    """A bucket that is moved, beside a round of `add jlt`: each instruction stepped alone, less what the command takes."""
+    none = alone(programs, ':round / add n1 1 / jlt n1 4294967295 round', 2)
+    move = alone(programs, ':move / first c1 b0 / jend c1 moved / unlink c1 / tail b1 c1 / jump move / :moved / bconcat b0 b1 / jump move')
+    count = alone(programs, ':round / add n1 1 / jlt n1 4294967295 round')
+    for kind, n, m, c in zip(KINDS, none, move, count):
+        print('over %s: an instruction of a bucket moved (`first jend unlink tail jump`) %.0f ns, one of `add jlt` %.0f ns, each stepped alone; ratio %.2f'
+              % (kind, 1e9 * (m - n), 1e9 * (c - n), (m - n) / (c - n)))
+
+
+def requests(programs):
+    """Requests of the identity filter, with a brigade of 1,000 buckets."""
+    module = 'module 1\nopen\nret ok\ninit\nret ok\nmain\npass in bad\nret ok\n:bad\nret fail\nend\nbudget 18446744073709551615\nopen\nrun 1\n'
+    one = 'begin 1\nrun 1\nbring 1%s eos\nrun 1\nend 1\n' % (' heap "x"' * 1_000)
+    count = 1_000
+    few, many = both(programs, module + one, b'ok'), both(programs, module + one * (count + 1), b'ok')
+    each_one = [(m - f) / count for f, m in zip(few, many)]
+    print('a request of the identity filter, a brigade of 1,000 buckets: %s; ratio %.2f'
+          % (', '.join('%.0f a second over %s' % (1 / took, kind) for kind, took in zip(KINDS, each_one)), each_one[1] / each_one[0]))
+
+
+def resident(program, count):
+    """The bytes that the program keeps while a brigade keeps so many buckets without content."""
+    fill = 'set n0 0 / :fill / flush c0 / tail b0 c0 / add n0 1 / jlt n0 %d fill' % count
+    driven = Driven(script(fill, '', 0).split('budget')[0], program)
+    for line, answer in (('open', 'conn 1'), ('run 1', 'ended ok'), ('begin 1', 'ok'), ('run 1', 'ended ok'), ('bring 1', 'ok'), ('run 1', 'ended ok')):
+        driven.ask(line, answer)
+    with open('/proc/%d/status' % driven.program.pid) as it:
+        kept = next(int(line.split()[1]) * 1024 for line in it if line.startswith('VmRSS'))
+    driven.end()
+    return kept
+
+
+def sizes_of_buckets(programs):
+    """What a bucket takes where the places of a ring's memory are all but full: 2^16 and 2^17 of them."""
+    few, many = 65_000, 130_000
+    for kind, program in zip(KINDS, programs):
+        print('over %s: %.0f bytes for a bucket in a ring, beside its content' % (kind, (resident(program, many) - resident(program, few)) / (many - few)))
+
+
+KINDS = ('a raw block', 'a slab')
+
+
+def rings():
+    """The host over rings of both kinds."""
+    if len(sys.argv) == 4:
+        programs = sys.argv[2:4]
+    else:
+        subprocess.run([os.path.join(TOP, 'host')], stdin=subprocess.DEVNULL, stdout=subprocess.DEVNULL)
+        programs = [PROGRAM, over_a_slab()]
+    single_steps(programs)
+    requests(programs)
+    sizes_of_buckets(programs)
+
+
 def main():
+    if sys.argv[1:2] == ['rings']:
+        return rings()
     if not os.access(PROGRAM, os.X_OK):
         raise SystemExit('bench/buckets.py: there is no program %s; ./host builds the one of this repository' % PROGRAM)
     steps()

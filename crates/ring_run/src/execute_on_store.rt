@@ -136,11 +136,11 @@ fn move_bucket<R: Rings<Bucket> + Drop>(
     ensures left { LeavesOthers store.old store.new instance.now call.old }
 {
     match instr {
-        Instr::Unlink(c) => bucket_steps::unlink(instance, call, store, c),
+        Instr::Unlink(c) => Ok(bucket_steps::unlink(instance, call, store, c)),
         Instr::BDelete(c) => Ok(bucket_steps::delete(instance, call, store, c)),
-        Instr::Tail(b, c) => bucket_steps::tail(instance, call, store, b, c),
-        Instr::Head(b, c) => bucket_steps::head(instance, call, store, b, c),
-        Instr::Before(c, d) => bucket_steps::before(instance, call, store, c, d),
+        Instr::Tail(b, c) => Ok(bucket_steps::tail(instance, call, store, b, c)),
+        Instr::Head(b, c) => Ok(bucket_steps::head(instance, call, store, b, c)),
+        Instr::Before(c, d) => Ok(bucket_steps::before(instance, call, store, c, d)),
         Instr::Split(c, x, _) => {
             let n = u64::from(value_of(instance, x));
             split_steps::split(instance, call, store, c, n)

@@ -43,7 +43,9 @@ mod split_steps;
 mod values;
 pub mod wants;
 
-pub use brigade_ops::{BrigadeId, Brigades, BucketId, PlainRings, PoolId, PoolTree, Rings};
+pub use brigade_ops::{
+    BrigadeId, Brigades, BucketId, PlainRings, PoolId, PoolTree, RawRings, Rings,
+};
 pub use labels_run::LabelsRun;
 pub use machine::{Call, CursorValue, Instance, Slot};
 pub use output_block::OutputBlock;

@@ -98,9 +98,9 @@ fn shift(store: &mut Store, id: BucketId, place: Place) -> Result<()> {
         return Err(Missing.into());
     }
     match place {
-        Place::Head(brigade) if store.has(brigade) => store.move_head(brigade, id)?,
-        Place::Tail(brigade) if store.has(brigade) => store.move_tail(brigade, id)?,
-        Place::Before(at) if store.ring_of(at).is_some() => store.move_before(at, id)?,
+        Place::Head(brigade) if store.has(brigade) => store.move_head(brigade, id),
+        Place::Tail(brigade) if store.has(brigade) => store.move_tail(brigade, id),
+        Place::Before(at) if store.ring_of(at).is_some() => store.move_before(at, id),
         _ => return Err(Missing.into()),
     }
     Ok(())

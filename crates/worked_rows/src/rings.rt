@@ -69,9 +69,9 @@ fn shift<R: Rings<u8>>(rings: &mut R, id: BucketId, place: Place) -> Result<()> 
         return Err(Missing.into());
     }
     match place {
-        Place::Head(ring) if rings.has_ring(ring) => rings.move_head(ring, id)?,
-        Place::Tail(ring) if rings.has_ring(ring) => rings.move_tail(ring, id)?,
-        Place::Before(at) if rings.ring_of(at).is_some() => rings.move_before(at, id)?,
+        Place::Head(ring) if rings.has_ring(ring) => rings.move_head(ring, id),
+        Place::Tail(ring) if rings.has_ring(ring) => rings.move_tail(ring, id),
+        Place::Before(at) if rings.ring_of(at).is_some() => rings.move_before(at, id),
         _ => return Err(Missing.into()),
     }
     Ok(())
@@ -81,10 +81,10 @@ pub(crate) fn make_call<R: Rings<u8>>(rings: &mut R, call: Call) -> Result<()> {
     match call {
         Call::Move(id, place) => return shift(rings, id, place),
         Call::WithRest(id, ring) if rings.ring_of(id).is_some() && rings.has_ring(ring) => {
-            rings.splice_from(id, ring)?
+            rings.splice_from(id, ring)
         }
         Call::All(ring, from) if rings.has_ring(ring) && rings.has_ring(from) => {
-            rings.splice_tail(ring, from)?
+            rings.splice_tail(ring, from)
         }
         _ => return Err(Missing.into()),
     }

@@ -1,34 +1,26 @@
 -- The bucket goes from its brigade to the loose ones.
-use Rattle.std.proofs.lemmas.Result.{on_ok_weaker}
 use Rattle.bucket_ring.specs.Lists as ring
 use Rattle.brigade_ops.specs.Store.{lists, brigade_of, pool_of, next_name}
 use Rattle.brigade_ops.proofs.Stores.{kept}
-use Rattle.ring_run.proofs.Names.{held_kept, no_less, still_same, by_result}
+use Rattle.ring_run.proofs.Names.{held_kept, no_less}
 use Rattle.ring_run.proofs.Steps.{unlink_step, moved_still, moved_off}
-use Rattle.ring_run.proofs.LeftAlone.{left_off, left_same, ours_slot, ours_loose}
+use Rattle.ring_run.proofs.LeftAlone.{left_off, ours_slot, ours_loose}
 use Rattle.ring_run.proofs.bucket_steps.unlink.Goals as goal
 
-pub returns-in-Within-clause-ok : goal.returns-in-Within-clause-ok
-returns-in-Within-clause-ok g c =
-    on_ok_weaker c.move_tail.result
-    (λ out around. unlink_step (brigade_of c.args.store.now) (lists c.args.store.now) (lists c.move_tail.new.self) (pool_of c.args.store.now) (next_name c.args.store.now) (next_name c.move_tail.new.self) (kept c.args.store.now) c.move_tail.ensures.next c.in-Within.id around c.args.instance.now c.args.call.now c.args.c c.requires.held c.in-Within.field-0 (c.in-Within.ensures.at (next_name c.args.store.now) around) c.in-Within.ensures.inside.1 c.requires.runs out)
-    c.move_tail.ensures.ok
+pub returns-in-Within-clause-new : goal.returns-in-Within-clause-new
+returns-in-Within-clause-new g c =
+    λ around.
+    unlink_step (brigade_of c.args.store.now) (lists c.args.store.now) (lists c.move_tail.new.self) (pool_of c.args.store.now) (next_name c.args.store.now) (next_name c.move_tail.new.self) (kept c.args.store.now) c.move_tail.ensures.next c.in-Within.id around c.args.instance.now c.args.call.now c.args.c c.requires.held c.in-Within.field-0 (c.in-Within.ensures.at (next_name c.args.store.now) around) c.in-Within.ensures.inside.1 c.requires.runs c.move_tail.ensures.out
 
 pub returns-in-Within-clause-held : goal.returns-in-Within-clause-held
 returns-in-Within-clause-held g c =
     held_kept c.args.store.now c.move_tail.new.self (no_less (next_name c.args.store.now) (next_name c.move_tail.new.self) c.move_tail.ensures.next) c.move_tail.ensures.names c.move_tail.ensures.pools
-    (by_result c.move_tail.result _ _
-    (λ out. moved_still (brigade_of c.args.store.now) (lists c.args.store.now) (lists c.move_tail.new.self) (pool_of c.args.store.now) (next_name c.args.store.now) (next_name c.move_tail.new.self) (kept c.args.store.now) c.move_tail.ensures.next c.in-Within.id c.in-Within.ensures.inside.1.0 c.args.call.now.name (λ x. ring.put_tail (c.in-Within.id, x)) c.in-Within.ensures.inside.1.1.1 out)
-    (λ out. still_same (lists c.args.store.now) (lists c.move_tail.new.self) out)
-    c.move_tail.ensures.ok c.move_tail.ensures.err)
+    (moved_still (brigade_of c.args.store.now) (lists c.args.store.now) (lists c.move_tail.new.self) (pool_of c.args.store.now) (next_name c.args.store.now) (next_name c.move_tail.new.self) (kept c.args.store.now) c.move_tail.ensures.next c.in-Within.id c.in-Within.ensures.inside.1.0 c.args.call.now.name (λ x. ring.put_tail (c.in-Within.id, x)) c.in-Within.ensures.inside.1.1.1 c.move_tail.ensures.out)
     c.args.instance.now c.args.call.now c.requires.held
 
 pub returns-in-Within-clause-left : goal.returns-in-Within-clause-left
 returns-in-Within-clause-left g c =
-    by_result c.move_tail.result _ _
-    (λ out. left_off c.args.store.now c.move_tail.new.self (no_less (next_name c.args.store.now) (next_name c.move_tail.new.self) c.move_tail.ensures.next) c.move_tail.ensures.names c.move_tail.ensures.pools c.move_tail.ensures.references c.args.call.now.name c.in-Within.ensures.inside.1.0
-    (moved_still (brigade_of c.args.store.now) (lists c.args.store.now) (lists c.move_tail.new.self) (pool_of c.args.store.now) (next_name c.args.store.now) (next_name c.move_tail.new.self) (kept c.args.store.now) c.move_tail.ensures.next c.in-Within.id c.in-Within.ensures.inside.1.0 c.args.call.now.name (λ x. ring.put_tail (c.in-Within.id, x)) c.in-Within.ensures.inside.1.1.1 out)
-    (moved_off (brigade_of c.args.store.now) (lists c.args.store.now) (lists c.move_tail.new.self) (pool_of c.args.store.now) (next_name c.args.store.now) (next_name c.move_tail.new.self) (kept c.args.store.now) c.move_tail.ensures.next c.in-Within.id c.in-Within.ensures.inside.1.0 c.args.call.now.name (λ x. ring.put_tail (c.in-Within.id, x)) c.in-Within.ensures.inside.1.1.1 out)
-    c.args.instance.now c.args.call.now (ours_loose c.args.instance.now c.args.call.now) (ours_slot c.args.instance.now c.args.call.now c.in-Within.field-0 c.in-Within.ensures.inside.1.0 c.in-Within.ensures.inside.1.1.0))
-    (λ out. left_same c.args.store.now c.move_tail.new.self (no_less (next_name c.args.store.now) (next_name c.move_tail.new.self) c.move_tail.ensures.next) c.move_tail.ensures.names c.move_tail.ensures.pools c.move_tail.ensures.references out c.args.instance.now c.args.call.now)
-    c.move_tail.ensures.ok c.move_tail.ensures.err
+    left_off c.args.store.now c.move_tail.new.self (no_less (next_name c.args.store.now) (next_name c.move_tail.new.self) c.move_tail.ensures.next) c.move_tail.ensures.names c.move_tail.ensures.pools c.move_tail.ensures.references c.args.call.now.name c.in-Within.ensures.inside.1.0
+    (moved_still (brigade_of c.args.store.now) (lists c.args.store.now) (lists c.move_tail.new.self) (pool_of c.args.store.now) (next_name c.args.store.now) (next_name c.move_tail.new.self) (kept c.args.store.now) c.move_tail.ensures.next c.in-Within.id c.in-Within.ensures.inside.1.0 c.args.call.now.name (λ x. ring.put_tail (c.in-Within.id, x)) c.in-Within.ensures.inside.1.1.1 c.move_tail.ensures.out)
+    (moved_off (brigade_of c.args.store.now) (lists c.args.store.now) (lists c.move_tail.new.self) (pool_of c.args.store.now) (next_name c.args.store.now) (next_name c.move_tail.new.self) (kept c.args.store.now) c.move_tail.ensures.next c.in-Within.id c.in-Within.ensures.inside.1.0 c.args.call.now.name (λ x. ring.put_tail (c.in-Within.id, x)) c.in-Within.ensures.inside.1.1.1 c.move_tail.ensures.out)
+    c.args.instance.now c.args.call.now (ours_loose c.args.instance.now c.args.call.now) (ours_slot c.args.instance.now c.args.call.now c.in-Within.field-0 c.in-Within.ensures.inside.1.0 c.in-Within.ensures.inside.1.1.0)
