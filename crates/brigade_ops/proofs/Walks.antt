@@ -1,11 +1,11 @@
 -- Walks along a brigade.
-use Rattle.std.proofs.Common.{◌≡◌, ◌==◌, eqb, ℕ, suc, ◌+◌, ◌<◌, ◌≤◌, Bool, true, false, Option, None, Some, Ok, Err, List, [], ◌∷◌, drop, length, refl, ap, subst, arith, map}
+use Rattle.std.proofs.Common.{◌≡◌, ◌==◌, ℕ, suc, ◌+◌, ◌≤◌, Bool, true, false, Option, None, Some, Ok, Err, List, [], ◌∷◌, drop, length, refl, ap, subst, arith}
 use Rattle.std.specs.Prelude.{IfSome, if◌then◌else◌}
 use Rattle.run_model.specs.declared.bucket.Bucket.{Bucket}
 use Rattle.run_model.specs.BrigadeLists.{length_in}
 use Rattle.run_model.specs.Cutting.{length_of}
 use Rattle.bucket_ring.specs.declared.names.BucketId.{BucketId}
-use Rattle.bucket_ring.specs.Lists.{same, times, rest, first_of, next_in, or_end, found}
+use Rattle.bucket_ring.specs.Lists.{times, rest, first_of, next_in, or_end, found}
 use Rattle.bucket_ring.specs.Kept.{once_in}
 use Rattle.bucket_ring.specs.Laws.{same_self}
 use Rattle.brigade_ops.specs.Items.{Items, named, from_place}

@@ -12,3 +12,4 @@ pub mod House
 pub mod Noted
 pub mod Dependents
 pub mod Due
+pub mod Views

@@ -10,8 +10,10 @@ ghost use Rattle.bucket_ring.specs.Lists.{on, with_payload};
 ghost use Rattle.bucket_ring.specs.Kept.{NoneRevived};
 ghost use Rattle.brigade_ops.specs.Items.{file_for, pools_for, count_for};
 ghost use Rattle.brigade_ops.specs.House.{IsHouse};
+ghost use Rattle.brigade_ops.specs.Views.{content_of};
 
 use crate::store::Brigades;
+use crate::view::{ContentView, View};
 use bucket_kinds::{FileNo, aside_bucket};
 use bucket_ring::{BucketId, Rings};
 use pool_tree::{PoolId, PoolTree};
@@ -40,11 +42,11 @@ pub(crate) fn is_above(pools: &PoolTree<Payload>, target: PoolId, home: Home) ->
 }
 
 /// The file of a FILE bucket.
-fn file_of(bucket: &Bucket) -> Option<FileNo>
-    ensures { result ≡ file_of bucket.now.kind bucket.now.content }
+fn file_of(bucket: View<'_>) -> Option<FileNo>
+    ensures { result ≡ file_of bucket.entry.kind (content_of bucket.entry.content) }
 {
-    match (bucket.kind, &bucket.content) {
-        (Kind::File, Content::Range { file, .. }) => Some(*file),
+    match (bucket.kind, bucket.content) {
+        (Kind::File, ContentView::Range { file, .. }) => Some(file),
         _ => None,
     }
 }
@@ -81,7 +83,7 @@ impl<R: Rings<Bucket> + Drop> Brigades<R> {
         ensures pools { pool_of self.new ≡ pool_of self.old }
         ensures references { references self.new ≡ references self.old }
     {
-        let nothing = hollow(self.payload(id));
+        let nothing = hollow(self.bucket(id));
         let mut bucket = self.held.set_payload(id, nothing);
         aside_bucket(&mut bucket, pool, above);
         let _nothing = self.held.set_payload(id, bucket);

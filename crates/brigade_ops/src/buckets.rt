@@ -4,8 +4,10 @@ ghost use Rattle.std.specs.Prelude.{◌≡◌, ◌↔◌, ℕ, ◌+◌, ◌<◌,
 ghost use Rattle.bucket_ring.specs.Lists.{on, list_at, same, first_of, next_in, found, put_tail, put_head, put_before, put_after, without, by_birth, numbered};
 ghost use Rattle.bucket_ring.specs.Kept.{NoneRevived};
 ghost use Rattle.brigade_ops.specs.Items.{Items, bytes_in};
+ghost use Rattle.brigade_ops.specs.Views.{bucket_of};
 
 use crate::store::{BrigadeId, Brigades};
+use crate::view::{ContentView, View};
 use bucket_ring::{BucketId, RingRefusal, Rings};
 use run_model::{Bucket, Content};
 use std::alloc::AllocError;
@@ -220,13 +222,35 @@ impl<R: Rings<Bucket> + Drop> Brigades<R> {
         self.held.ring_of(id)
     }
 
-    /// A bucket.
+    /// A bucket of the rings.
     #[tactic(auto, unfolding(crate::specs::Store::brigade_of, crate::specs::Store::bucket_at))]
-    pub fn payload(&self, id: BucketId) -> &Bucket
+    pub(crate) fn bucket(&self, id: BucketId) -> &Bucket
         requires { is_some (brigade_of self.now id) ≡ true }
         ensures { bucket_at self.now id ≡ Some result.now }
     {
         self.held.payload(id)
+    }
+
+    /// A bucket.
+    pub fn payload(&self, id: BucketId) -> View<'_>
+        requires { is_some (brigade_of self.now id) ≡ true }
+        ensures { bucket_at self.now id ≡ Some (bucket_of result) }
+    {
+        let bucket = self.bucket(id);
+        let content = match &bucket.content {
+            Content::Bytes(bytes) => ContentView::Bytes(bytes.as_slice()),
+            Content::Range { file, start, len } => ContentView::Range {
+                file: *file,
+                start: *start,
+                len: *len,
+            },
+            Content::Nothing => ContentView::Nothing,
+        };
+        View {
+            kind: bucket.kind,
+            content,
+            home: bucket.home,
+        }
     }
 
     /// The bytes of a bucket that lie in memory: none of a FILE bucket, and none of metadata.
@@ -234,9 +258,9 @@ impl<R: Rings<Bucket> + Drop> Brigades<R> {
         requires { is_some (brigade_of self.now id) ≡ true }
         ensures { (x : Bucket) → bucket_at self.now id ≡ Some x → result.now ≡ bytes_in x.content }
     {
-        match &self.payload(id).content {
-            Content::Bytes(bytes) => bytes.as_slice(),
-            Content::Range { .. } | Content::Nothing => &[],
+        match self.payload(id).content {
+            ContentView::Bytes(bytes) => bytes,
+            ContentView::Range { .. } | ContentView::Nothing => &[],
         }
     }
 }

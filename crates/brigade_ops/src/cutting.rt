@@ -64,7 +64,7 @@ impl<R: Rings<Bucket> + Drop> Brigades<R> {
         ensures unspent { result ≡ Err SplitRefusal.NamesSpent → next_name self.old ≡ u64.MAX }
         ensures err { OnErr result ((m : ℕ) → lists self.new m ≡ lists self.old m) }
     {
-        let (front, rest) = halves(self.alloc, self.payload(id), n)?;
+        let (front, rest) = halves(self.alloc, self.bucket(id), n)?;
         self.held.dependents.make_room(rest.kind, rest.home, 1)?;
         let new = self.put_behind(id, rest)?;
         let _whole = self.held.set_payload(id, front);
@@ -85,7 +85,7 @@ impl<R: Rings<Bucket> + Drop> Brigades<R> {
         ensures unspent { result ≡ Err RingRefusal.NamesSpent → next_name self.old ≡ u64.MAX }
         ensures err { OnErr result ((m : ℕ) → lists self.new m ≡ lists self.old m) }
     {
-        let copy = copy_bucket(self.alloc, self.payload(id))?;
+        let copy = copy_bucket(self.alloc, self.bucket(id))?;
         match self.add_tail(b, copy) {
             Ok(new) => Ok(new),
             Err((why, _)) => Err(why),

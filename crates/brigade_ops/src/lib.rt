@@ -20,6 +20,7 @@ mod references;
 mod refusal;
 mod saving;
 mod store;
+mod view;
 mod walking;
 
 pub use bucket_kinds::{FileNo, Files};
@@ -30,4 +31,5 @@ pub use pool_tree::{PoolId, PoolTree};
 pub use refusal::{ReadRefusal, SplitRefusal};
 pub use run_model::{Bucket, Content, Home, Kind, Payload, Seq};
 pub use store::{BrigadeId, Brigades};
+pub use view::{ContentView, View};
 pub use walking::Cut;

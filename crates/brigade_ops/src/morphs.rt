@@ -115,7 +115,7 @@ impl<R: Rings<Bucket> + Drop> Brigades<R> {
         ensures pools { pool_of self.new ≡ pool_of self.old }
         ensures references { references self.new ≡ references self.old }
     {
-        let nothing = hollow(self.payload(morph.id));
+        let nothing = hollow(self.bucket(morph.id));
         let mut bucket = self.held.set_payload(morph.id, nothing);
         bucket.kind = morph.kind;
         bucket.home = morph.home;

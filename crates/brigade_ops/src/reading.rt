@@ -11,6 +11,7 @@ ghost use Rattle.brigade_ops.specs.Reads.{IsRead};
 
 use crate::refusal::ReadRefusal;
 use crate::store::Brigades;
+use crate::view::ContentView;
 use bucket_kinds::{Files, ReadFault, read_into, rest_of_read, room_to_read};
 use bucket_ring::{BucketId, Rings};
 use run_model::{Bucket, Content, Seq};
@@ -26,14 +27,10 @@ impl<R: Rings<Bucket> + Drop> Brigades<R> {
         ensures range { (x : Bucket) → bucket_at self.now id ≡ Some x → result ≡ range_in x }
     {
         let bucket = self.payload(id);
-        let Content::Range { file, start, len } = &bucket.content else {
+        let ContentView::Range { file, start, len } = bucket.content else {
             return None;
         };
-        let content = Content::Range {
-            file: *file,
-            start: *start,
-            len: *len,
-        };
+        let content = Content::Range { file, start, len };
         Some(Bucket {
             kind: bucket.kind,
             content,

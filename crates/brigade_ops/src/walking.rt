@@ -10,7 +10,6 @@ ghost use Rattle.brigade_ops.specs.Points.{point_in, is_inside, cut_at};
 
 use crate::refusal::SplitRefusal;
 use crate::store::{BrigadeId, Brigades};
-use bucket_kinds::length;
 use bucket_ring::{BucketId, RingRefusal, Rings};
 use run_model::Bucket;
 use std::alloc::AllocError;
@@ -90,7 +89,7 @@ impl<R: Rings<Bucket> + Drop> Brigades<R> {
         ensures sum { (b : ℕ) → brigade_of self.now id ≡ Some b → length_in (named (rest id (list_at (lists self.now) b))) ≡ result + length_in (named (drop 1 (rest id (list_at (lists self.now) b)))) }
     {
         let bucket = self.payload(id);
-        length(&bucket.content)
+        bucket.content.len()
     }
 
     /// Where a point of a brigade lies.

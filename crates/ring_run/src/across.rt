@@ -8,7 +8,6 @@ ghost use Rattle.ring_run.specs.Seen.{shown};
 ghost use Rattle.ring_run.specs.Shown.{shown_at};
 
 use brigade_ops::{BrigadeId, Brigades, Bucket, BucketId, Rings};
-use bucket_kinds::length;
 
 /// The bucket that a point of a brigade lies inside.
 pub(crate) fn bucket_across<R: Rings<Bucket> + Drop>(
@@ -26,7 +25,7 @@ pub(crate) fn bucket_across<R: Rings<Bucket> + Drop>(
         if left == 0 {
             return None;
         }
-        let len = length(&store.payload(id).content);
+        let len = store.payload(id).content.len();
         if left < len {
             return Some(id);
         }

@@ -11,6 +11,7 @@ ghost use Rattle.run_model.specs.Steps.{is_null, is_spent, lacks_names, names_of
 ghost use Rattle.run_model.specs.declared.bucket.NamedBucket.{NamedBucket};
 ghost use Rattle.pool_tree.specs.Tree.{map_of};
 ghost use Rattle.brigade_ops.specs.Store.{brigade_of, bucket_at, next_name};
+ghost use Rattle.brigade_ops.specs.Views.{content_of};
 ghost use Rattle.ring_run.specs.declared.machine.Call.{Call};
 ghost use Rattle.ring_run.specs.Around.{Around};
 ghost use Rattle.ring_run.specs.Asked.{bucket_within};
@@ -27,8 +28,7 @@ use crate::outside::Outside;
 use crate::places::{Place, place_of};
 use crate::pool_wants;
 use crate::values::value_of;
-use brigade_ops::{Brigades, Bucket, BucketId, Content, Kind, Rings};
-use bucket_kinds::length;
+use brigade_ops::{Brigades, Bucket, BucketId, ContentView, Kind, Rings, View};
 use run_model::{Instr, KindTest, Module, PoolVar, Value, VarRef};
 
 /// How many bytes a read takes from a file, at most.
@@ -102,10 +102,10 @@ pub(crate) fn kind_is<R: Rings<Bucket> + Drop>(
 }
 
 /// Whether a split of a bucket at a place is refused: metadata is not split, nor is a bucket that is shorter.
-fn is_refused(bucket: &Bucket, n: u32) -> bool
-    ensures { (y : NamedBucket) → y.bucket.kind ≡ bucket.now.kind → y.bucket.content ≡ bucket.now.content → result ≡ is_some (split_refusal n y) }
+fn is_refused(bucket: View<'_>, n: u32) -> bool
+    ensures { (y : NamedBucket) → y.bucket.kind ≡ bucket.entry.kind → y.bucket.content ≡ content_of bucket.entry.content → result ≡ is_some (split_refusal n y) }
 {
-    matches!(bucket.kind, Kind::Flush | Kind::Eos) || length(&bucket.content) < u64::from(n)
+    matches!(bucket.kind, Kind::Flush | Kind::Eos) || bucket.content.len() < u64::from(n)
 }
 
 /// Whether a split at a cursor is refused.
@@ -146,12 +146,12 @@ fn names_to_split<R: Rings<Bucket> + Drop>(
 }
 
 /// Whether a read leaves a rest.
-fn has_rest(content: &Content) -> bool
-    ensures { result ≡ has_rest content.now }
+fn has_rest(content: ContentView<'_>) -> bool
+    ensures { result ≡ has_rest (content_of content.entry) }
 {
     match content {
-        Content::Range { len, .. } => *len > READ_LIMIT,
-        Content::Bytes(_) | Content::Nothing => false,
+        ContentView::Range { len, .. } => len > READ_LIMIT,
+        ContentView::Bytes(_) | ContentView::Nothing => false,
     }
 }
 
@@ -169,7 +169,7 @@ pub(crate) fn names_to_read<R: Rings<Bucket> + Drop>(
     let Some(id) = bucket_within(instance, call, store, c) else {
         return 0;
     };
-    if has_rest(&store.payload(id).content) {
+    if has_rest(store.payload(id).content) {
         1
     } else {
         0

@@ -7,6 +7,7 @@ ghost use Rattle.run_model.specs.Cursors.{spot, read_cursor};
 ghost use Rattle.run_model.specs.Cutting.{length_of};
 ghost use Rattle.run_model.specs.Steps.{buffer_limit, do_put, is_full, value_of};
 ghost use Rattle.brigade_ops.specs.Items.{Items};
+ghost use Rattle.brigade_ops.specs.Views.{content_of};
 ghost use Rattle.ring_run.specs.declared.machine.Instance.{Instance};
 ghost use Rattle.ring_run.specs.Around.{Around};
 ghost use Rattle.ring_run.specs.Held.{HeldOver, IsHeld};
@@ -16,8 +17,7 @@ ghost use Rattle.ring_run.specs.Slots.{cursor_at, slot_at};
 use crate::home_wants::bucket_of;
 use crate::machine::{Call, Instance};
 use crate::values::value_of;
-use brigade_ops::{Brigades, Bucket, Content, Rings};
-use bucket_kinds::length;
+use brigade_ops::{Brigades, Bucket, ContentView, Rings};
 use run_model::Value;
 use std::alloc::AllocError;
 
@@ -71,7 +71,7 @@ fn length_at<R: Rings<Bucket> + Drop>(
     ensures { (around : Around) → result ≡ length_of (content_at (spot (seen store.now around instance.now call.now) c)) }
 {
     match bucket_of(instance, call, store, c) {
-        Some(id) => length(&store.payload(id).content),
+        Some(id) => store.payload(id).content.len(),
         None => 0,
     }
 }
@@ -96,12 +96,12 @@ pub(crate) fn len<R: Rings<Bucket> + Drop>(
 }
 
 /// A byte of a content in memory.
-pub(crate) fn byte_of(content: &Content, k: u32) -> Option<u8>
-    ensures { result ≡ byte_of k content.now }
+pub(crate) fn byte_of(content: ContentView<'_>, k: u32) -> Option<u8>
+    ensures { result ≡ byte_of k (content_of content.entry) }
 {
     match content {
-        Content::Bytes(bytes) => bytes.as_slice().get(k as usize).copied(),
-        Content::Range { .. } | Content::Nothing => None,
+        ContentView::Bytes(bytes) => bytes.get(k as usize).copied(),
+        ContentView::Range { .. } | ContentView::Nothing => None,
     }
 }
 
@@ -116,7 +116,7 @@ pub(crate) fn byte_read<R: Rings<Bucket> + Drop>(
     ensures { (around : Around) → let r = seen store.now around instance.now call.now in result ≡ byte_of (value_of r x) (content_at (spot r read_cursor)) }
 {
     match bucket_of(instance, call, store, RD) {
-        Some(id) => byte_of(&store.payload(id).content, value_of(instance, x)),
+        Some(id) => byte_of(store.payload(id).content, value_of(instance, x)),
         None => None,
     }
 }

@@ -13,6 +13,7 @@ ghost use Rattle.run_model.specs.Cutting.{EndsInFile, length_of, read_limit};
 ghost use Rattle.run_model.specs.declared.bucket.Bucket.{Bucket};
 ghost use Rattle.brigade_ops.specs.Items.{named};
 ghost use Rattle.brigade_ops.specs.Store.{lists, brigade_of, bucket_at};
+ghost use Rattle.brigade_ops.specs.Views.{content_of};
 ghost use Rattle.ring_run.specs.Delivery.{ContentAdded, HasFront, IsFetched, ItemsAdded, WasDelivered, out_of};
 ghost use Rattle.ring_run.specs.declared.machine.Call.{Call};
 ghost use Rattle.ring_run.specs.Around.{Around};
@@ -27,7 +28,7 @@ use crate::effects::live;
 use crate::machine::Instance;
 use crate::output_block::OutputBlock;
 use crate::passes::{hand_over, has_eos, is_eos};
-use brigade_ops::{BrigadeId, Brigades, Bucket, Content, FileNo, Files, Rings};
+use brigade_ops::{BrigadeId, Brigades, Bucket, Content, ContentView, FileNo, Files, Rings};
 use run_model::Mark;
 use std::alloc::AllocError;
 
@@ -109,23 +110,23 @@ fn add_range<F: Files>(
 fn add<F: Files>(
     out: &mut OutputBlock,
     files: &mut F,
-    content: &Content,
+    content: ContentView<'_>,
 ) -> Result<bool, AllocError>
-    requires ends { EndsInFile content.now }
-    requires open { IsOpenFor (F.device files.old) content.now }
-    ensures added { IfOk result (λ whole. ContentAdded (F.device files.old) (F.device files.new) content.now whole out.old out.new) }
+    requires ends { EndsInFile (content_of content) }
+    requires open { IsOpenFor (F.device files.old) (content_of content) }
+    ensures added { IfOk result (λ whole. ContentAdded (F.device files.old) (F.device files.new) (content_of content.entry) whole out.old out.new) }
     ensures front { HasFront out.old out.new }
-    ensures sure { length_of content.now ≡ 0 → IsOk result }
+    ensures sure { length_of (content_of content.entry) ≡ 0 → IsOk result }
     ensures read { OnErr result (SomeWentWell (F.device files.old) (F.device files.new)) }
     ensures open_files { (F.device files.new).numbered ≡ (F.device files.old).numbered }
 {
     match content {
-        Content::Bytes(bytes) => {
-            out.extend(bytes.as_slice())?;
+        ContentView::Bytes(bytes) => {
+            out.extend(bytes)?;
             Ok(true)
         }
-        Content::Range { file, start, len } => add_range(out, files, *file, *start, *len),
-        Content::Nothing => Ok(true),
+        ContentView::Range { file, start, len } => add_range(out, files, file, start, len),
+        ContentView::Nothing => Ok(true),
     }
 }
 
@@ -152,7 +153,7 @@ fn add_all<R: Rings<Bucket> + Drop, F: Files>(
         if is_eos(bucket.kind) {
             return Ok(true);
         }
-        if !add(out, files, &bucket.content)? {
+        if !add(out, files, bucket.content)? {
             return Ok(false);
         }
         place = store.behind(id);

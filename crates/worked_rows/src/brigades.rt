@@ -3,7 +3,7 @@
 use crate::buckets::{Made, make};
 use crate::calls::{Call, Four, Place, show_named, show_two};
 use crate::missing::Missing;
-use crate::shown::Shown;
+use crate::shown::{Seen, Shown};
 use anyhow::Result;
 use brigade_ops::{BrigadeId, Brigades, BucketId};
 use bucket_kinds::Bucket;
@@ -32,7 +32,7 @@ pub(crate) fn show_brigade(rt: &HostRuntime, store: &Store, brigade: BrigadeId) 
             return Err(Missing.into());
         }
         let comma = if index == 0 { "" } else { ", " };
-        print!(rt; "{comma}{}", Shown(store.payload(id)))?;
+        print!(rt; "{comma}{}", Seen(store.payload(id)))?;
         place = store.next(id).ok();
     }
     println!(rt; "]")?;

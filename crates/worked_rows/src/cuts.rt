@@ -7,24 +7,25 @@ ghost use Rattle.bucket_kinds.specs.Device.{Device, is_there};
 ghost use Rattle.bucket_kinds.specs.Reading.{IsOpenFor};
 ghost use Rattle.bucket_ring.specs.declared.names.BucketId.{BucketId};
 ghost use Rattle.brigade_ops.specs.Store.{brigade_of, bucket_at};
+ghost use Rattle.brigade_ops.specs.Views.{content_of};
 
 use crate::brigades::{Store, put, show_brigade};
 use crate::buckets::{Made, make, range};
 use crate::calls::Place;
 use crate::missing::Missing;
-use crate::shown::Shown;
+use crate::shown::{Seen, Shown};
 use anyhow::Result;
-use brigade_ops::{BrigadeId, BucketId, Cut};
-use bucket_kinds::{Bucket, Content, FileNo, Files, MemFiles};
+use brigade_ops::{BrigadeId, BucketId, ContentView, Cut, View};
+use bucket_kinds::{Bucket, FileNo, Files, MemFiles};
 use std::alloc::Global;
 
 /// Whether what a bucket stands for ends below 2^64.
-fn ends_in_file(bucket: &Bucket) -> bool
-    ensures { IsTrue result → EndsInFile bucket.now.content }
+fn ends_in_file(bucket: View<'_>) -> bool
+    ensures { IsTrue result → EndsInFile (content_of bucket.entry.content) }
 {
-    match &bucket.content {
-        Content::Range { start, len, .. } => start.checked_add(*len).is_some(),
-        Content::Bytes(_) | Content::Nothing => true,
+    match bucket.content {
+        ContentView::Range { start, len, .. } => start.checked_add(len).is_some(),
+        ContentView::Bytes(_) | ContentView::Nothing => true,
     }
 }
 
@@ -101,7 +102,7 @@ pub(crate) fn show_partition(rt: &HostRuntime, made: &[Made], point: u64) -> Res
 fn show_cut(rt: &HostRuntime, store: &Store, point: u64, cut: Cut) -> Result<()> {
     match cut {
         Cut::Found(id) if store.ring_of(id).is_some() => {
-            print!(rt; "at {point}: before {}, ", Shown(store.payload(id)))?
+            print!(rt; "at {point}: before {}, ", Seen(store.payload(id)))?
         }
         Cut::Found(_) => return Err(Missing.into()),
         Cut::AtEnd => print!(rt; "at {point}: the end, ")?,
@@ -111,12 +112,12 @@ fn show_cut(rt: &HostRuntime, store: &Store, point: u64, cut: Cut) -> Result<()>
 }
 
 /// Whether a bucket that is a range of a file is one of this file.
-fn is_of_file(bucket: &Bucket, file: FileNo) -> bool
-    ensures { (d : Device) → IsTrue result → is_there (d.numbered file) ≡ true → IsOpenFor d bucket.now.content }
+fn is_of_file(bucket: View<'_>, file: FileNo) -> bool
+    ensures { (d : Device) → IsTrue result → is_there (d.numbered file) ≡ true → IsOpenFor d (content_of bucket.entry.content) }
 {
-    match &bucket.content {
-        Content::Range { file: other, .. } => *other == file,
-        Content::Bytes(_) | Content::Nothing => true,
+    match bucket.content {
+        ContentView::Range { file: other, .. } => other == file,
+        ContentView::Bytes(_) | ContentView::Nothing => true,
     }
 }
 

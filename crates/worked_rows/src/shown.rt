@@ -1,5 +1,6 @@
 //! How rows show a bucket.
 
+use brigade_ops::{ContentView, View};
 use bucket_kinds::{Bucket, Content, Home, Kind};
 use std::fmt;
 
@@ -9,6 +10,10 @@ const LONGEST: usize = 40;
 /// A bucket: its kind, its content, and its home where it has one.
 #[derive(Clone, Copy)]
 pub(crate) struct Shown<'a>(pub(crate) &'a Bucket);
+
+/// A bucket of a store, in the same form.
+#[derive(Clone, Copy)]
+pub(crate) struct Seen<'a>(pub(crate) View<'a>);
 
 fn is_all(bytes: &[u8], letter: u8) -> bool {
     for byte in bytes {
@@ -55,16 +60,32 @@ fn put_home<W: fmt::Write>(f: &mut fmt::Formatter<W>, home: Home) -> fmt::Result
     }
 }
 
-impl fmt::Display for Shown<'_> {
+impl fmt::Display for Seen<'_> {
     fn fmt<W: fmt::Write>(&self, f: &mut fmt::Formatter<W>) -> fmt::Result {
         put_kind(f, self.0.kind)?;
-        match &self.0.content {
-            Content::Bytes(bytes) => put_bytes(f, bytes.as_slice())?,
-            Content::Range { file, start, len } => {
+        match self.0.content {
+            ContentView::Bytes(bytes) => put_bytes(f, bytes)?,
+            ContentView::Range { file, start, len } => {
                 write!(f, " {file} from {start}, length {len}")?
             }
-            Content::Nothing => {}
+            ContentView::Nothing => {}
         }
         put_home(f, self.0.home)
+    }
+}
+
+impl fmt::Display for Shown<'_> {
+    fn fmt<W: fmt::Write>(&self, f: &mut fmt::Formatter<W>) -> fmt::Result {
+        let content = match &self.0.content {
+            Content::Bytes(bytes) => ContentView::Bytes(bytes.as_slice()),
+            Content::Range { file, start, len } => ContentView::Range {
+                file: *file,
+                start: *start,
+                len: *len,
+            },
+            Content::Nothing => ContentView::Nothing,
+        };
+        let (kind, home) = (self.0.kind, self.0.home);
+        write!(f, "{}", Seen(View { kind, content, home }))
     }
 }

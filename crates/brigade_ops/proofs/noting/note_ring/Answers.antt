@@ -1,17 +1,16 @@
-use Rattle.std.proofs.Common.{◌≡◌, ◌≤◌, ℕ, true, false, Option, Some, List, ◌∷◌, is_some, length, sym, ap, subst, ◌∙◌, arith, inl, inr}
+use Rattle.std.proofs.Common.{◌≡◌, ◌≤◌, true, Option, Some, ◌∷◌, is_some, sym, ap, subst, ◌∙◌, arith, inl, inr}
 use Rattle.std.proofs.lemmas.Bool.{cases_Bool}
-use Rattle.run_model.specs.declared.bucket.Bucket.{Bucket}
 use Rattle.bucket_ring.specs.declared.names.BucketId.{BucketId}
-use Rattle.bucket_ring.specs.Lists.{list_at, times, same, found, first_of}
-use Rattle.bucket_ring.specs.Laws.{same_name, first_found, times_found, found_times}
+use Rattle.bucket_ring.specs.Lists.{list_at, times, same, found}
+use Rattle.bucket_ring.specs.Laws.{same_name, first_found, found_times}
 use Rattle.brigade_ops.specs.Dependents.{noted}
 use Rattle.brigade_ops.specs.Items.{Items, from_place}
 use Rattle.brigade_ops.specs.Noted.{is_noted}
 use Rattle.brigade_ops.proofs.Noted.{item_kept}
 use Rattle.brigade_ops.proofs.Lists.{rest_head}
-use Rattle.brigade_ops.proofs.Plans.{later_times, none_left}
+use Rattle.brigade_ops.proofs.Plans.{later_times}
 use Rattle.brigade_ops.proofs.Saves.{found_some}
-use Rattle.brigade_ops.proofs.Walks.{start_whole, told_some, count_head}
+use Rattle.brigade_ops.proofs.Walks.{start_whole, told_some}
 use Rattle.brigade_ops.proofs.noting.note_ring.Goals as goal
 
 pub loop-place-init : goal.loop-place-init

@@ -5,6 +5,7 @@ use Rattle.run_model.specs.BrigadeLists.{bucket_across}
 use Rattle.run_model.specs.Cutting.{length_of}
 use Rattle.brigade_ops.specs.Items.{from_place, named_item}
 use Rattle.brigade_ops.specs.Store.{lists, brigade_of}
+use Rattle.brigade_ops.specs.Views.{bucket_of}
 use Rattle.brigade_ops.specs.Store as store
 use Rattle.brigade_ops.proofs.Walks.{told_some}
 use Rattle.ring_run.specs.Seen.{shown, item_in}
@@ -24,8 +25,8 @@ returns-then-left-len-clause-at g c =
     let xs = list_at (lists s) c.args.b in
     let id = c.in-Some.id in
     let in_b = c.loop-place.invariant.inside id c.in-Some.is in
-    let x = c.payload.result.now in
-    let len = c.length-len.ensures in
+    let x = (bucket_of c.payload.result) in
+    let len = c.len-len.ensures in
     let inside : c.loop-place.left < length_of x.content = omega (arith, len, c.if-left-len.true) in
     shown_is runs (store.bucket_at s) id x c.payload.ensures
     ∙ (sym (shown_here xs (drop 1 (rest id xs)) c.loop-place.place id x c.in-Some.is (head_here s id c.args.b x in_b c.payload.ensures) (bucket_across c.loop-place.left) runs
@@ -41,7 +42,7 @@ loop-place-smaller g c =
     let xs = list_at (lists s) c.args.b in
     let id = c.in-Some.id in
     let in_b = c.loop-place.invariant.inside id c.in-Some.is in
-    shorter xs (from_place c.behind-place.result xs) c.loop-place.place id c.payload.result.now c.in-Some.is (c.behind-place.ensures.head c.args.b c.payload.result.now in_b c.payload.ensures)
+    shorter xs (from_place c.behind-place.result xs) c.loop-place.place id (bucket_of c.payload.result) c.in-Some.is (c.behind-place.ensures.head c.args.b (bucket_of c.payload.result) in_b c.payload.ensures)
 
 pub loop-place-preserved : goal.loop-place-preserved
 loop-place-preserved g c =
@@ -49,8 +50,8 @@ loop-place-preserved g c =
     let xs = list_at (lists s) c.args.b in
     let id = c.in-Some.id in
     let in_b = c.loop-place.invariant.inside id c.in-Some.is in
-    let x = c.payload.result.now in
-    let len = c.length-len.ensures in
+    let x = (bucket_of c.payload.result) in
+    let len = c.len-len.ensures in
     let before : length_of x.content ≤ c.loop-place.left = omega (arith, len, c.if-left-len.false) in
     record {
       left = λ runs.

@@ -3,6 +3,7 @@ use Rattle.std.proofs.Common.{◌≡◌, drop, Some, sym, ap, ◌∙◌}
 use Rattle.bucket_ring.specs.Lists.{list_at, rest}
 use Rattle.brigade_ops.specs.Items.{from_place}
 use Rattle.brigade_ops.specs.Store.{lists, brigade_of}
+use Rattle.brigade_ops.specs.Views.{bucket_of}
 use Rattle.brigade_ops.proofs.Walks.{told_some}
 use Rattle.ring_run.specs.Seen.{shown}
 use Rattle.ring_run.specs.Tests.{late_data}
@@ -16,7 +17,7 @@ returns-then-is_late g c =
     let xs = list_at (lists s) c.args.b in
     let id = c.in-Some.id in
     let in_b = c.loop-place.invariant.inside id c.in-Some.is in
-    let x = c.payload.result.now in
+    let x = (bucket_of c.payload.result) in
     late_stop xs (drop 1 (rest id xs)) c.loop-place.place id x c.in-Some.is (head_here s id c.args.b x in_b c.payload.ensures) runs c.loop-place.late
     (sym c.is_late.ensures ∙ c.if-is_late.true)
     ∙ c.loop-place.invariant.left runs
@@ -27,7 +28,7 @@ loop-place-smaller g c =
     let xs = list_at (lists s) c.args.b in
     let id = c.in-Some.id in
     let in_b = c.loop-place.invariant.inside id c.in-Some.is in
-    shorter xs (from_place c.behind-place.result xs) c.loop-place.place id c.payload.result.now c.in-Some.is (c.behind-place.ensures.head c.args.b c.payload.result.now in_b c.payload.ensures)
+    shorter xs (from_place c.behind-place.result xs) c.loop-place.place id (bucket_of c.payload.result) c.in-Some.is (c.behind-place.ensures.head c.args.b (bucket_of c.payload.result) in_b c.payload.ensures)
 
 pub loop-place-preserved : goal.loop-place-preserved
 loop-place-preserved g c =
@@ -35,7 +36,7 @@ loop-place-preserved g c =
     let xs = list_at (lists s) c.args.b in
     let id = c.in-Some.id in
     let in_b = c.loop-place.invariant.inside id c.in-Some.is in
-    let x = c.payload.result.now in
+    let x = (bucket_of c.payload.result) in
     record {
       left = λ runs.
           ap (λ t. late_data t (shown runs (from_place c.behind-place.result xs))) c.comes_late-late.ensures

@@ -8,6 +8,7 @@ use Rattle.run_model.specs.Buckets.{is_eos_kind}
 use Rattle.run_model.specs.Steps.{has_bytes}
 use Rattle.brigade_ops.specs.Items.{Items, from_place, named}
 use Rattle.brigade_ops.specs.Store.{lists, brigade_of}
+use Rattle.brigade_ops.specs.Views.{bucket_of}
 use Rattle.brigade_ops.proofs.Walks.{told_some}
 use Rattle.ring_run.proofs.Buffers.{behind, both_parts}
 use Rattle.ring_run.proofs.Delivering.{ItemsSoFar, items_none, items_end, items_eos, items_failed, items_more, items_left, place_end as none_left}
@@ -36,7 +37,7 @@ returns-then-is_eos-clause-added g c =
     let d = g.F.Files.device c.args.files.now in
     let xs = list_at (lists s) c.args.b in
     let id = c.in-Some.id in
-    let x = c.payload-bucket.result.now in
+    let x = bucket_of c.payload-bucket.result in
     let ys : Items = drop 1 (rest id xs) in
     let in_b = l.invariant.inside id c.in-Some.is in
     let head : from_place l.place xs ≡ (id, x) ∷ ys = ap (λ p. from_place p xs) c.in-Some.is ∙ head_here s id c.args.b x in_b c.payload-bucket.ensures in
@@ -55,7 +56,7 @@ returns-then-not-branch-clause-added g c =
     let d = g.F.Files.device c.args.files.now in
     let xs = list_at (lists s) c.args.b in
     let id = c.in-Some.id in
-    let x = c.payload-bucket.result.now in
+    let x = bucket_of c.payload-bucket.result in
     let ys : Items = drop 1 (rest id xs) in
     let in_b = l.invariant.inside id c.in-Some.is in
     let head : from_place l.place xs ≡ (id, x) ∷ ys = ap (λ p. from_place p xs) c.in-Some.is ∙ head_here s id c.args.b x in_b c.payload-bucket.ensures in
@@ -78,7 +79,7 @@ loop-place-preserved g c =
     let d = g.F.Files.device c.args.files.now in
     let xs = list_at (lists s) c.args.b in
     let id = c.in-Some.id in
-    let x = c.payload-bucket.result.now in
+    let x = bucket_of c.payload-bucket.result in
     let ys : Items = drop 1 (rest id xs) in
     let in_b = l.invariant.inside id c.in-Some.is in
     let head : from_place l.place xs ≡ (id, x) ∷ ys = ap (λ p. from_place p xs) c.in-Some.is ∙ head_here s id c.args.b x in_b c.payload-bucket.ensures in
@@ -108,7 +109,7 @@ loop-place-smaller g c =
     let s = c.args.store.now in
     let xs = list_at (lists s) c.args.b in
     let id = c.in-Some.id in
-    let x = c.payload-bucket.result.now in
+    let x = bucket_of c.payload-bucket.result in
     let in_b = l.invariant.inside id c.in-Some.is in
     shorter xs (from_place c.behind-place.result xs) l.place id x c.in-Some.is (c.behind-place.ensures.head c.args.b x in_b c.payload-bucket.ensures)
 
@@ -129,7 +130,7 @@ returns-in_err-add-clause-sure g c none =
     let s = c.args.store.now in
     let xs = list_at (lists s) c.args.b in
     let id = c.in-Some.id in
-    let x = c.payload-bucket.result.now in
+    let x = bucket_of c.payload-bucket.result in
     let ys : Items = drop 1 (rest id xs) in
     let in_b = l.invariant.inside id c.in-Some.is in
     let head : from_place l.place xs ≡ (id, x) ∷ ys = ap (λ p. from_place p xs) c.in-Some.is ∙ head_here s id c.args.b x in_b c.payload-bucket.ensures in

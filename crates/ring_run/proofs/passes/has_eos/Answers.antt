@@ -4,6 +4,7 @@ use Rattle.bucket_ring.specs.Lists.{list_at, rest}
 use Rattle.run_model.specs.Buckets.{is_eos}
 use Rattle.brigade_ops.specs.Items.{from_place}
 use Rattle.brigade_ops.specs.Store.{lists, brigade_of}
+use Rattle.brigade_ops.specs.Views.{bucket_of}
 use Rattle.brigade_ops.proofs.Walks.{told_some}
 use Rattle.ring_run.proofs.Walked.{head_here, shorter, any_stop, any_on}
 use Rattle.ring_run.proofs.passes.has_eos.Goals as goal
@@ -15,7 +16,7 @@ returns-then-is_eos g c =
     let xs = list_at (lists s) c.args.b in
     let id = c.in-Some.id in
     let in_b = c.loop-place.invariant.inside id c.in-Some.is in
-    let x = c.payload.result.now in
+    let x = (bucket_of c.payload.result) in
     any_stop xs (drop 1 (rest id xs)) c.loop-place.place id x c.in-Some.is (head_here s id c.args.b x in_b c.payload.ensures) runs is_eos (sym c.is_eos.ensures ∙ c.if-is_eos.true)
     ∙ c.loop-place.invariant.left runs
 
@@ -25,7 +26,7 @@ loop-place-smaller g c =
     let xs = list_at (lists s) c.args.b in
     let id = c.in-Some.id in
     let in_b = c.loop-place.invariant.inside id c.in-Some.is in
-    shorter xs (from_place c.behind-place.result xs) c.loop-place.place id c.payload.result.now c.in-Some.is (c.behind-place.ensures.head c.args.b c.payload.result.now in_b c.payload.ensures)
+    shorter xs (from_place c.behind-place.result xs) c.loop-place.place id (bucket_of c.payload.result) c.in-Some.is (c.behind-place.ensures.head c.args.b (bucket_of c.payload.result) in_b c.payload.ensures)
 
 pub loop-place-preserved : goal.loop-place-preserved
 loop-place-preserved g c =
@@ -33,7 +34,7 @@ loop-place-preserved g c =
     let xs = list_at (lists s) c.args.b in
     let id = c.in-Some.id in
     let in_b = c.loop-place.invariant.inside id c.in-Some.is in
-    let x = c.payload.result.now in
+    let x = (bucket_of c.payload.result) in
     record {
       left = λ runs. any_on xs (from_place c.behind-place.result xs) c.loop-place.place id x c.in-Some.is (c.behind-place.ensures.head c.args.b x in_b c.payload.ensures) runs is_eos (sym c.is_eos.ensures ∙ c.if-is_eos.false)
           ∙ c.loop-place.invariant.left runs;

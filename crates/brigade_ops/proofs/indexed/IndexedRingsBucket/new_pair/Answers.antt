@@ -1,7 +1,5 @@
-use Rattle.std.proofs.Common.{◌≡◌, ◌≤◌, ◌+◌, ℕ, Option, Some, is_some, [], true, sym, ap, ◌∙◌, arith}
-use Rattle.std.specs.List.{list_all}
+use Rattle.std.proofs.Common.{◌≡◌, ◌+◌, ℕ, Option, Some, is_some, [], sym, ap, ◌∙◌, arith}
 use Rattle.std.specs.Option.{option_map_or}
-use Rattle.bucket_ring.specs.declared.names.BucketId.{BucketId}
 use Rattle.bucket_ring.specs.Lists.{upd, list_at, times, found}
 use Rattle.brigade_ops.specs.Dependents.{noted}
 use Rattle.brigade_ops.specs.Items.{Items}

@@ -1,5 +1,4 @@
-use Rattle.std.proofs.Common.{◌≡◌, ℕ, true, Some, Ok, [], Result}
-use Rattle.std.specs.Prelude.{IfOk, OnErr}
+use Rattle.std.proofs.Common.{◌≡◌, ℕ, true, Some, []}
 use Rattle.std.specs.List.{list_all}
 use Rattle.bucket_ring.specs.Lists.{list_at, upd}
 use Rattle.brigade_ops.specs.Dependents.{noted}

@@ -1,6 +1,4 @@
-use Rattle.std.proofs.Common.{◌≡◌, ◌∙◌, ℕ, true, Some, sym, ap}
 use Rattle.std.proofs.lemmas.Bool.{and_parts}
-use Rattle.std.proofs.lemmas.Option.{same_Some}
 use Rattle.bucket_ring.specs.Lists.{list_at, with_payload}
 use Rattle.brigade_ops.specs.Dependents.{noted}
 use Rattle.brigade_ops.specs.Noted.{kind_under, home_under, is_noted}

@@ -1,6 +1,7 @@
 use Rattle.std.proofs.Common.{◌+◌, sym, ap, ◌∙◌, drop, add-one}
 use Rattle.run_model.specs.BrigadeLists.{length_in}
 use Rattle.bucket_ring.specs.Lists.{list_at, rest, found}
+use Rattle.brigade_ops.specs.Views.{bucket_of}
 use Rattle.brigade_ops.specs.Items.{named}
 use Rattle.brigade_ops.specs.Store.{lists, brigade_of, bucket_at}
 use Rattle.brigade_ops.proofs.Lists.{and_then_told, rest_head}
@@ -12,7 +13,7 @@ unfolding lists brigade_of bucket_at
 returns-clause-one g c b at =
     let s = c.args.self.now.held.rings in
     let xs = list_at (g.R.Rings.lists s) b in
-    let x = c.payload-bucket.result.now in
+    let x = bucket_of c.payload-bucket.result in
     rw add-one (count_head c.args.id xs x (and_then_told (g.R.Rings.ring_at s c.args.id) (λ q. found c.args.id (list_at (g.R.Rings.lists s) q)) b x at c.payload-bucket.ensures))
 
 pub returns-clause-sum : goal.returns-clause-sum
@@ -20,14 +21,14 @@ unfolding lists brigade_of bucket_at
 returns-clause-sum g c b at =
     let s = c.args.self.now.held.rings in
     let xs = list_at (g.R.Rings.lists s) b in
-    let x = c.payload-bucket.result.now in
+    let x = bucket_of c.payload-bucket.result in
     length_head c.args.id xs x (and_then_told (g.R.Rings.ring_at s c.args.id) (λ q. found c.args.id (list_at (g.R.Rings.lists s) q)) b x at c.payload-bucket.ensures)
-    ∙ ap (λ n. n + length_in (named (drop 1 (rest c.args.id xs)))) (sym c.length.ensures)
+    ∙ ap (λ n. n + length_in (named (drop 1 (rest c.args.id xs)))) (sym c.len.ensures)
 
 pub returns-clause-head : goal.returns-clause-head
 unfolding lists brigade_of bucket_at
 returns-clause-head g c b at =
     let s = c.args.self.now.held.rings in
     let xs = list_at (g.R.Rings.lists s) b in
-    let x = c.payload-bucket.result.now in
-    (x, rest_head c.args.id xs x (and_then_told (g.R.Rings.ring_at s c.args.id) (λ q. found c.args.id (list_at (g.R.Rings.lists s) q)) b x at c.payload-bucket.ensures), c.length.ensures)
+    let x = bucket_of c.payload-bucket.result in
+    (x, rest_head c.args.id xs x (and_then_told (g.R.Rings.ring_at s c.args.id) (λ q. found c.args.id (list_at (g.R.Rings.lists s) q)) b x at c.payload-bucket.ensures), c.len.ensures)

@@ -5,6 +5,7 @@ use Rattle.run_model.specs.Steps.{is_above}
 use Rattle.pool_tree.specs.Tree.{map_of}
 use Rattle.bucket_ring.specs.Laws.{none_revived_twice}
 use Rattle.bucket_ring.specs.Lists.{on, list_at, found, rest, with_payload}
+use Rattle.brigade_ops.specs.Views.{bucket_of}
 use Rattle.brigade_ops.specs.Items.{Items, from_place, aside_behind}
 use Rattle.brigade_ops.specs.Store.{lists, brigade_of, bucket_at, next_name}
 use Rattle.brigade_ops.proofs.Lists.{and_then_told, found_set, list_on, on_after, on_same}
@@ -17,22 +18,22 @@ inside : (g : _) (c : After-put_aside g) → g.R.Rings.ring_at c.loop-place.self
 unfolding brigade_of
 inside g c = c.loop-place.invariant.inside c.in-Some.id c.in-Some.is
 
-here : (g : _) (c : After-put_aside g) → found c.in-Some.id (list_at (g.R.Rings.lists c.loop-place.self.held.rings) c.args.b) ≡ Some c.payload.result.now
+here : (g : _) (c : After-put_aside g) → found c.in-Some.id (list_at (g.R.Rings.lists c.loop-place.self.held.rings) c.args.b) ≡ Some (bucket_of c.payload.result)
 unfolding bucket_at
 here g c =
     let s = c.loop-place.self.held.rings in
-    and_then_told (g.R.Rings.ring_at s c.in-Some.id) (λ q. found c.in-Some.id (list_at (g.R.Rings.lists s) q)) c.args.b c.payload.result.now (inside g c) c.payload.ensures
+    and_then_told (g.R.Rings.ring_at s c.in-Some.id) (λ q. found c.in-Some.id (list_at (g.R.Rings.lists s) q)) c.args.b (bucket_of c.payload.result) (inside g c) c.payload.ensures
 
 change : (g : _) (c : After-put_aside g) (n : ℕ)
-    → g.R.Rings.lists c.put_aside.new.self.held.rings n ≡ on c.args.b (with_payload c.in-Some.id (set_aside c.args.pool (is_above (map_of c.args.tree.now) c.args.pool c.payload.result.now.home) c.payload.result.now)) (g.R.Rings.lists c.loop-place.self.held.rings) n
+    → g.R.Rings.lists c.put_aside.new.self.held.rings n ≡ on c.args.b (with_payload c.in-Some.id (set_aside c.args.pool (is_above (map_of c.args.tree.now) c.args.pool (bucket_of c.payload.result).home) (bucket_of c.payload.result))) (g.R.Rings.lists c.loop-place.self.held.rings) n
 unfolding lists brigade_of
 change g c n =
-    c.put_aside.ensures.out c.args.b n c.payload.result.now (inside g c) c.payload.ensures
-    ∙ ap (λ above. on c.args.b (with_payload c.in-Some.id (set_aside c.args.pool above c.payload.result.now)) (g.R.Rings.lists c.loop-place.self.held.rings) n) c.is_above-above.ensures
+    c.put_aside.ensures.out c.args.b n (bucket_of c.payload.result) (inside g c) c.payload.ensures
+    ∙ ap (λ above. on c.args.b (with_payload c.in-Some.id (set_aside c.args.pool above (bucket_of c.payload.result))) (g.R.Rings.lists c.loop-place.self.held.rings) n) c.is_above-above.ensures
 
 list : (g : _) (c : After-put_aside g)
     → list_at (g.R.Rings.lists c.put_aside.new.self.held.rings) c.args.b
-    ≡ with_payload c.in-Some.id (set_aside c.args.pool (is_above (map_of c.args.tree.now) c.args.pool c.payload.result.now.home) c.payload.result.now) (list_at (g.R.Rings.lists c.loop-place.self.held.rings) c.args.b)
+    ≡ with_payload c.in-Some.id (set_aside c.args.pool (is_above (map_of c.args.tree.now) c.args.pool (bucket_of c.payload.result).home) (bucket_of c.payload.result)) (list_at (g.R.Rings.lists c.loop-place.self.held.rings) c.args.b)
 list g c =
     let s = c.loop-place.self.held.rings in
     list_on c.args.b (with_payload c.in-Some.id _) (g.R.Rings.lists s) (g.R.Rings.lists c.put_aside.new.self.held.rings) (change g c) (g.met.R.Rings.ring_there s c.in-Some.id c.args.b (inside g c))
@@ -54,7 +55,7 @@ unfolding lists brigade_of
 loop-place-smaller g c =
     let d = (goal.at.loop-place-smaller g c).After-put_aside in
     let id = c.in-Some.id in
-    let x = c.payload.result.now in
+    let x = (bucket_of c.payload.result) in
     let ps = map_of c.args.tree.now in
     let xs : Items = list_at (g.R.Rings.lists c.loop-place.self.held.rings) c.args.b in
     let place = c.behind-place.result in
@@ -71,7 +72,7 @@ loop-place-preserved g c =
     let d = (goal.at.loop-place-preserved g c).After-put_aside in
     let s = c.loop-place.self.held.rings in
     let id = c.in-Some.id in
-    let x = c.payload.result.now in
+    let x = (bucket_of c.payload.result) in
     let ps = map_of c.args.tree.now in
     let pool = c.args.pool in
     let b = c.args.b in

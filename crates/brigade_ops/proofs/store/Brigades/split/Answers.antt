@@ -21,7 +21,7 @@ returns-clause-ok g c b m x at is =
     let n = c.args.n in
     let y : Item = (c.in_ok-new.new, c.in_ok-front.rest) in
     let xs : Items = list_at (g.R.Rings.lists old) b in
-    let whole : c.payload.result.now ≡ x = same_Some c.payload.result.now x (sym c.payload.ensures ∙ is) in
+    let whole : c.bucket.result.now ≡ x = same_Some c.bucket.result.now x (sym c.bucket.ensures ∙ is) in
     let parts : (c.in_ok-front.front, c.in_ok-front.rest) ≡ split_at n x = c.in_ok-front.ensures.ok ∙ ap (λ z. split_at n z) whole in
     c.set_payload-whole.ensures.out b m (c.in_ok-new.ensures.still b at)
     ∙ on_after b m (put_after id y) (with_payload id c.in_ok-front.front) (λ zs. front id zs ++ (id, (split_at n x).0) ∷ (c.in_ok-new.new, (split_at n x).1) ∷ drop 1 (rest id zs))

@@ -1,9 +1,7 @@
-use Rattle.std.proofs.Common.{◌≡◌, ◌<◌, ◌≤◌, true, is_some, sym, ap, ◌∙◌, Some, length, arith}
-use Rattle.bucket_ring.specs.declared.names.BucketId.{BucketId}
+use Rattle.std.proofs.Common.{◌≡◌, sym, ◌∙◌, Some, arith}
 use Rattle.bucket_ring.specs.Lists.{list_at}
 use Rattle.bucket_ring.specs.Laws.{first_found}
 use Rattle.bucket_ring.proofs.Short.{short}
-use Rattle.brigade_ops.specs.Items.{Items}
 use Rattle.brigade_ops.specs.Store.{lists, brigade_of}
 use Rattle.brigade_ops.proofs.Walks.{start_whole, if_some}
 use Rattle.brigade_ops.proofs.store.Brigades.start.Goals as goal

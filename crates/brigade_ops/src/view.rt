@@ -1,0 +1,39 @@
+//! A bucket as it is seen, wherever its bytes lie.
+
+ghost use Rattle.std.specs.Prelude.{◌≡◌};
+ghost use Rattle.run_model.specs.Cutting.{length_of};
+ghost use Rattle.brigade_ops.specs.Views.{content_of};
+
+use run_model::{Home, Kind};
+
+/// What a bucket holds.
+#[derive(Clone, Copy)]
+pub enum ContentView<'a> {
+    /// Bytes in memory.
+    Bytes(&'a [u8]),
+    /// `len` bytes, from the byte `start` on, of the open file of this number.
+    Range { file: u64, start: u64, len: u64 },
+    /// Nothing, as in metadata.
+    Nothing,
+}
+
+impl ContentView<'_> {
+    /// How many bytes it stands for.
+    pub fn len(&self) -> u64
+        ensures { result ≡ length_of (content_of self.now) }
+    {
+        match self {
+            ContentView::Bytes(bytes) => bytes.len() as u64,
+            ContentView::Range { len, .. } => *len,
+            ContentView::Nothing => 0,
+        }
+    }
+}
+
+/// A bucket of a store.
+#[derive(Clone, Copy)]
+pub struct View<'a> {
+    pub kind: Kind,
+    pub content: ContentView<'a>,
+    pub home: Home,
+}
