@@ -22,7 +22,9 @@ mod filter_calls;
 mod look;
 mod pieces;
 
-pub use brigade_ops::{BrigadeId, Brigades, BucketId, PlainRings, PoolId, PoolTree, RawRings, Rings};
+pub use brigade_ops::{
+    BrigadeId, Brigades, BucketId, PlainRings, PoolId, PoolTree, RawRings, Rings,
+};
 pub use conn::{Conn, Filter, OpenFile};
 pub use conn_step::step_watched;
 pub use ring_run::LabelsRun;
