@@ -86,6 +86,14 @@ impl fmt::Display for Shown<'_> {
             Content::Nothing => ContentView::Nothing,
         };
         let (kind, home) = (self.0.kind, self.0.home);
-        write!(f, "{}", Seen(View { kind, content, home }))
+        write!(
+            f,
+            "{}",
+            Seen(View {
+                kind,
+                content,
+                home
+            })
+        )
     }
 }

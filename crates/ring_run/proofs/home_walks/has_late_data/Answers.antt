@@ -17,8 +17,8 @@ returns-then-is_late g c =
     let xs = list_at (lists s) c.args.b in
     let id = c.in-Some.id in
     let in_b = c.loop-place.invariant.inside id c.in-Some.is in
-    let x = (bucket_of c.payload.result) in
-    late_stop xs (drop 1 (rest id xs)) c.loop-place.place id x c.in-Some.is (head_here s id c.args.b x in_b c.payload.ensures) runs c.loop-place.late
+    let x = (bucket_of c.payload-kind.result) in
+    late_stop xs (drop 1 (rest id xs)) c.loop-place.place id x c.in-Some.is (head_here s id c.args.b x in_b c.payload-kind.ensures) runs c.loop-place.late
     (sym c.is_late.ensures ∙ c.if-is_late.true)
     ∙ c.loop-place.invariant.left runs
 
@@ -28,7 +28,7 @@ loop-place-smaller g c =
     let xs = list_at (lists s) c.args.b in
     let id = c.in-Some.id in
     let in_b = c.loop-place.invariant.inside id c.in-Some.is in
-    shorter xs (from_place c.behind-place.result xs) c.loop-place.place id (bucket_of c.payload.result) c.in-Some.is (c.behind-place.ensures.head c.args.b (bucket_of c.payload.result) in_b c.payload.ensures)
+    shorter xs (from_place c.behind-place.result xs) c.loop-place.place id (bucket_of c.payload-kind.result) c.in-Some.is (c.behind-place.ensures.head c.args.b (bucket_of c.payload-kind.result) in_b c.payload-kind.ensures)
 
 pub loop-place-preserved : goal.loop-place-preserved
 loop-place-preserved g c =
@@ -36,11 +36,11 @@ loop-place-preserved g c =
     let xs = list_at (lists s) c.args.b in
     let id = c.in-Some.id in
     let in_b = c.loop-place.invariant.inside id c.in-Some.is in
-    let x = (bucket_of c.payload.result) in
+    let x = (bucket_of c.payload-kind.result) in
     record {
       left = λ runs.
           ap (λ t. late_data t (shown runs (from_place c.behind-place.result xs))) c.comes_late-late.ensures
-          ∙ (late_on xs (from_place c.behind-place.result xs) c.loop-place.place id x c.in-Some.is (c.behind-place.ensures.head c.args.b x in_b c.payload.ensures) runs c.loop-place.late
+          ∙ (late_on xs (from_place c.behind-place.result xs) c.loop-place.place id x c.in-Some.is (c.behind-place.ensures.head c.args.b x in_b c.payload-kind.ensures) runs c.loop-place.late
           (sym c.is_late.ensures ∙ c.if-is_late.false)
           ∙ c.loop-place.invariant.left runs);
       inside = told_some (λ j. brigade_of s j ≡ Some c.args.b) c.behind-place.result (c.behind-place.ensures.inside c.args.b in_b);

@@ -1,9 +1,9 @@
 -- Bytes in memory are added as they are, and of a range those of its reads.
-use Rattle.std.proofs.Common.{◌≡◌, true, [], sym, subst, rules}
+use Rattle.std.proofs.Common.{[], true, sym, subst}
 use Rattle.std.proofs.lemmas.List.{append-nil}
 use Rattle.bucket_kinds.specs.Device.{SomeWentWell}
-use Rattle.run_model.specs.declared.bucket.Content.{Content}
-use Rattle.run_model.specs.declared.bucket.Content.TheVariants as content
+use Rattle.brigade_ops.specs.declared.view.ContentView.{ContentView}
+use Rattle.brigade_ops.specs.Views.{content_of}
 use Rattle.ring_run.specs.Delivery.{ContentAdded}
 use Rattle.ring_run.proofs.Delivering.{memory_taken, nothing_taken}
 use Rattle.ring_run.proofs.WellRead.{none_went, told_err}
@@ -17,13 +17,12 @@ returns-in_err-extend-in-Bytes-clause-read g c =
 pub returns-in_ok-extend-in-Bytes-clause-added : goal.returns-in_ok-extend-in-Bytes-clause-added
 returns-in_ok-extend-in-Bytes-clause-added g c =
     let d = g.F.Files.device c.args.files.now in
-    let bs = c.as_slice.result.now in
-    let whole : c.args.content.now ≡ content.Bytes bs = search rules in
-    subst (λ (x : Content). ContentAdded d d x true c.args.out.now c.extend.new.self) (sym whole)
+    let bs = c.in-Bytes.bytes.now in
+    subst (λ (v : ContentView). ContentAdded d d (content_of v) true c.args.out.now c.extend.new.self) (sym c.in-Bytes.is)
     (record { added = bs; grown = c.in_ok-extend-in-Bytes.ensures.ok; taken_so = memory_taken d bs })
 
 pub returns-in-Nothing-clause-added : goal.returns-in-Nothing-clause-added
 returns-in-Nothing-clause-added g c =
     let d = g.F.Files.device c.args.files.now in
-    subst (λ (x : Content). ContentAdded d d x true c.args.out.now c.args.out.now) (sym c.in-Nothing.is)
-    (record { added = []; grown = sym (append-nil c.args.out.now); taken_so = nothing_taken d })
+    let out = c.args.out.now in
+    subst (λ (v : ContentView). ContentAdded d d (content_of v) true out out) (sym c.in-Nothing.is) (record { added = []; grown = sym (append-nil out); taken_so = nothing_taken d })

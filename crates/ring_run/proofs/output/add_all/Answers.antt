@@ -142,7 +142,7 @@ pub add-requires-clause-open : goal.add-requires-clause-open
 add-requires-clause-open g c =
     let l = c.loop-place in
     let id = c.in-Some.id in
-    let x = c.payload-bucket.result.now in
+    let x = bucket_of c.payload-bucket.result in
     open_still (g.F.Files.device c.args.files.now) (g.F.Files.device l.files) x.content l.invariant.open_files (c.requires.open id x (l.invariant.inside id c.in-Some.is) c.payload-bucket.ensures)
 
 pub returns-in_err-add-clause-read : goal.returns-in_err-add-clause-read
