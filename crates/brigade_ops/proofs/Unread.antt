@@ -21,6 +21,7 @@ module _ (id : BucketId) (at : Option ℕ) (d : Device) (old : ℕ → Option It
         rest = refl;
         names = refl;
         unread = λ w. (refl, refl);
+        asked = refl;
         fault = λ e. absurd (cc);
       }
   go k h (content.Range file start len) none here = absurd (cc)
@@ -31,6 +32,7 @@ module _ (id : BucketId) (at : Option ℕ) (d : Device) (old : ℕ → Option It
         rest = refl;
         names = refl;
         unread = λ w. (refl, refl);
+        asked = refl;
         fault = λ e. absurd (cc);
       }
 

@@ -24,5 +24,4 @@ pub record SameButOpen (d e : Device) : Type 0 where
   pub named : e.named ≡ d.named
   pub next : e.next ≡ d.next
   pub failures : e.failures ≡ d.failures
-  pub may_fail : e.may_fail ≡ d.may_fail
-  pub counts : e.counts ≡ d.counts
+  pub plan : e.plan ≡ d.plan

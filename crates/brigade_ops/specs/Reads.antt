@@ -1,10 +1,10 @@
 -- A read of a bucket in a brigade (apr_bucket_read).
-use Rattle.std.specs.Prelude.{◌≡◌, ◌⊎◌, ℕ, ◌+◌, ◌&&◌, if◌then◌else◌, Option, None, Some, is_some, is_ok, Result, Ok, Err, IfOk, List, []}
+use Rattle.std.specs.Prelude.{◌≡◌, ◌⊎◌, ℕ, ◌+◌, ◌&&◌, if◌then◌else◌, Option, None, Some, is_some, is_ok, Result, Ok, Err, IfOk, OnOk, List, []}
 use Rattle.bucket_ring.specs.declared.names.BucketId.{BucketId}
 use Rattle.bucket_ring.specs.Lists.{on}
 use Rattle.run_model.specs.declared.bucket.Bucket.{Bucket}
 use Rattle.run_model.specs.Cutting.{wanted, read_of}
-use Rattle.bucket_kinds.specs.Device.{Device, HasFailed}
+use Rattle.bucket_kinds.specs.Device.{Device, WentWell, HasFailed, WasAsked}
 use Rattle.bucket_kinds.specs.Reading.{GivesFor, EndsWithin}
 use Rattle.brigade_ops.specs.declared.refusal.ReadRefusal.{ReadRefusal}
 use Rattle.brigade_ops.specs.declared.refusal.ReadRefusal.TheVariants as refusal
@@ -16,4 +16,5 @@ pub record IsRead (id : BucketId) (x : Bucket) (at : Option ℕ) (d e : Device) 
   pub rest : IfOk result (λ rest. is_some rest ≡ is_some (read_of [] x).1)
   pub names : after ≡ (if is_ok result && is_some (read_of [] x).1 then next + 1 else next)
   pub unread : wanted x.content ≡ 0 → (result ≡ Ok None) × (e ≡ d)
-  pub fault : result ≡ Err refusal.ReadFault → HasFailed d e ⊎ ((e ≡ d) × EndsWithin d x.content)
+  pub asked : OnOk result (WasAsked (wanted x.content) d e)
+  pub fault : result ≡ Err refusal.ReadFault → HasFailed d e ⊎ (WentWell d e × EndsWithin d x.content)

@@ -4,7 +4,7 @@ ghost use Rattle.std.specs.Prelude.{◌≡◌, ◌≢◌, ◌⊎◌, ◌&&◌, �
 ghost use Rattle.bucket_ring.specs.Lists.{on, with_payload};
 ghost use Rattle.bucket_ring.specs.Kept.{NoneRevived};
 ghost use Rattle.run_model.specs.Cutting.{EndsInFile, wanted, read_of};
-ghost use Rattle.bucket_kinds.specs.Device.{HasFailed};
+ghost use Rattle.bucket_kinds.specs.Device.{WentWell, HasFailed, WasAsked};
 ghost use Rattle.bucket_kinds.specs.Reading.{IsOpenFor, GivesFor, EndsWithin};
 ghost use Rattle.brigade_ops.specs.Items.{replaced, rest_item, range_in};
 ghost use Rattle.brigade_ops.specs.Reads.{IsRead};
@@ -60,10 +60,10 @@ impl<R: Rings<Bucket> + Drop> Brigades<R> {
         ensures pools { pool_of self.new ≡ pool_of self.old }
         ensures references { references self.new ≡ references self.old }
         ensures unread { wanted bucket.content ≡ 0 → (result ≡ Ok tt) × (F.device files.new ≡ F.device files.old) }
-        ensures same { OnOk result (F.device files.new ≡ F.device files.old) }
+        ensures asked { OnOk result (WasAsked (wanted bucket.content) (F.device files.old) (F.device files.new)) }
         ensures fault { OnErr result
             (HasFailed (F.device files.old) (F.device files.new)
-            ⊎ ((F.device files.new ≡ F.device files.old) × EndsWithin (F.device files.old) bucket.content)) }
+            ⊎ (WentWell (F.device files.old) (F.device files.new) × EndsWithin (F.device files.old) bucket.content)) }
         ensures open_files { (F.device files.new).numbered ≡ (F.device files.old).numbered }
         ensures err { OnErr result ((m : ℕ) → lists self.new m ≡ lists self.old m) }
     {
@@ -95,10 +95,10 @@ impl<R: Rings<Bucket> + Drop> Brigades<R> {
         ensures names { NoneRevived (brigade_of self.old) (brigade_of self.new) (next_name self.old) }
         ensures pools { pool_of self.new ≡ pool_of self.old }
         ensures references { references self.new ≡ references self.old }
-        ensures same { OnOk result (F.device files.new ≡ F.device files.old) }
+        ensures asked { OnOk result (WasAsked (wanted bucket.content) (F.device files.old) (F.device files.new)) }
         ensures fault { OnErr result
             (HasFailed (F.device files.old) (F.device files.new)
-            ⊎ ((F.device files.new ≡ F.device files.old) × EndsWithin (F.device files.old) bucket.content)) }
+            ⊎ (WentWell (F.device files.old) (F.device files.new) × EndsWithin (F.device files.old) bucket.content)) }
         ensures open_files { (F.device files.new).numbered ≡ (F.device files.old).numbered }
         ensures err { OnErr result ((m : ℕ) → lists self.new m ≡ lists self.old m) }
     {
@@ -129,10 +129,10 @@ impl<R: Rings<Bucket> + Drop> Brigades<R> {
         ensures pools { pool_of self.new ≡ pool_of self.old }
         ensures references { references self.new ≡ references self.old }
         ensures unread { wanted bucket.content ≡ 0 → (result ≡ Ok None) × (F.device files.new ≡ F.device files.old) }
-        ensures same { OnOk result (F.device files.new ≡ F.device files.old) }
+        ensures asked { OnOk result (WasAsked (wanted bucket.content) (F.device files.old) (F.device files.new)) }
         ensures fault { result ≡ Err ReadRefusal.ReadFault
             → HasFailed (F.device files.old) (F.device files.new)
-            ⊎ ((F.device files.new ≡ F.device files.old) × EndsWithin (F.device files.old) bucket.content) }
+            ⊎ (WentWell (F.device files.old) (F.device files.new) × EndsWithin (F.device files.old) bucket.content) }
         ensures no_memory { result ≡ Err ReadRefusal.NoMemory → F.device files.new ≡ F.device files.old }
         ensures unspent { result ≡ Err ReadRefusal.NamesSpent → (next_name self.old ≡ u64.MAX) × (F.device files.new ≡ F.device files.old) }
         ensures open_files { (F.device files.new).numbered ≡ (F.device files.old).numbered }
@@ -172,7 +172,6 @@ impl<R: Rings<Bucket> + Drop> Brigades<R> {
         ensures name { IfOk result (λ rest. IfSome rest (λ new. new.birth ≡ next_name self.old)) }
         ensures pools { pool_of self.new ≡ pool_of self.old }
         ensures references { references self.new ≡ references self.old }
-        ensures same { OnOk result (F.device files.new ≡ F.device files.old) }
         ensures no_memory { result ≡ Err ReadRefusal.NoMemory → F.device files.new ≡ F.device files.old }
         ensures unspent { result ≡ Err ReadRefusal.NamesSpent → (next_name self.old ≡ u64.MAX) × (F.device files.new ≡ F.device files.old) }
         ensures open_files { (F.device files.new).numbered ≡ (F.device files.old).numbered }

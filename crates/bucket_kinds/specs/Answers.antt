@@ -1,6 +1,6 @@
 -- What a device of files answers, and what it is afterwards.
 use Rattle.std.specs.Prelude.{ℕ, ◌≡◌, ◌<◌, ◌≤◌, true, List, ◌++◌, length, take, drop, Result, Ok, Err}
-use Rattle.bucket_kinds.specs.Device.{Held, Missing, Untold, Holds, Device, last_number, is_there, opened, HasFailed}
+use Rattle.bucket_kinds.specs.Device.{Held, Missing, Untold, Holds, Device, last_number, is_there, moved, opened, MayGoWell, WentWell, HasFailed}
 use Rattle.bucket_kinds.specs.declared.refusal.FileFault.{FileFault}
 use Rattle.bucket_kinds.specs.declared.refusal.FileFault.TheVariants as fault
 
@@ -22,17 +22,18 @@ pub record Opens (d : Device) (name : List ℕ) (number len : ℕ) (e : Device) 
   pub number_fits : number < last_number
   pub number_is_new : d.numbered number ≡ Missing
   pub length_is : MayHave len (d.named name)
-  pub after : e ≡ opened name d
+  pub went_well : MayGoWell d.plan
+  pub after : e ≡ opened name (moved d)
   pub is_open : is_there (e.numbered number) ≡ true
 
--- An opening. That there is no such file is told before anything else but a failure, and that numbers are spent before want of memory. Only a
--- device that may fail fails.
+-- An opening. It fails where the plan says so; else it went on well, whatever is answered. That there is no such file is told before anything
+-- else but a failure, and that numbers are spent before want of memory.
 abbrev pub IsOpening : Device → List ℕ → Result (ℕ × ℕ) FileFault → Device → Type 0
 IsOpening d name (Ok r) e = Opens d name r.0 r.1 e
-IsOpening d name (Err fault.NotThere) e = MayMiss (d.named name) × (e ≡ d)
+IsOpening d name (Err fault.NotThere) e = MayMiss (d.named name) × WentWell d e
 IsOpening d name (Err fault.Failed) e = HasFailed d e
-IsOpening d name (Err fault.NamesSpent) e = (is_there (d.named name) ≡ true) × (d.next ≡ last_number) × (e ≡ d)
-IsOpening d name (Err fault.NoMemory) e = (is_there (d.named name) ≡ true) × (d.next < last_number) × (e ≡ d)
+IsOpening d name (Err fault.NamesSpent) e = (is_there (d.named name) ≡ true) × (d.next ≡ last_number) × WentWell d e
+IsOpening d name (Err fault.NoMemory) e = (is_there (d.named name) ≡ true) × (d.next < last_number) × WentWell d e
 
 -- A buffer is filled from a place on as far as the file reaches; n bytes are.
 abbrev pub IsFilled : Held → ℕ → List ℕ → ℕ → List ℕ → Type 0
@@ -41,7 +42,7 @@ IsFilled Untold at old n new = n ≤ length old
 IsFilled (Holds bytes) at old n new =
     let part = take (length old) (drop at bytes) in (n ≡ length part) × (new ≡ part ++ drop n old)
 
--- A read at a place. It has no fault but a failure, of a device that may fail, and after one nothing is said of the buffer.
+-- A read at a place. It has no fault but a failure, where the plan says so, and after one nothing is said of the buffer.
 abbrev pub IsReading : Device → ℕ → ℕ → List ℕ → Result ℕ FileFault → List ℕ → Device → Type 0
-IsReading d file at old (Ok n) new e = IsFilled (d.numbered file) at old n new × (e ≡ d)
+IsReading d file at old (Ok n) new e = IsFilled (d.numbered file) at old n new × WentWell d e
 IsReading d file at old (Err f) new e = (f ≡ fault.Failed) × HasFailed d e

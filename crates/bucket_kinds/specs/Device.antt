@@ -1,5 +1,5 @@
--- What a device of files is: which names have a file, which numbers are open, how often it failed, whether it may fail, and whether it counts its calls.
-use Rattle.std.specs.Prelude.{◌≡◌, ℕ, ◌+◌, Bool, true, false, ◌==◌, if◌then◌else◌, List}
+-- What a device of files is: which names have a file, which numbers are open, how often it failed, and which of the calls to come are to fail.
+use Rattle.std.specs.Prelude.{◌≡◌, ℕ, zero, suc, ◌+◌, Bool, true, false, ◌==◌, if◌then◌else◌, List}
 use Rattle.run_model.specs.Indexed.{upd}
 
 -- What stands under a name or a number: no file, a file of which nothing is told, or a file of these bytes. Under a name, `Untold` does not say
@@ -9,16 +9,20 @@ pub data Held : Type 0 where
   Untold : Held
   Holds : List ℕ → Held
 
--- `named` goes by a file's name, `numbered` by the number of an open file. `next` is the number that is given next. A device that may not fail
--- tells of no failure. Of a file of which nothing is told it may still give fewer bytes than were asked for. A device that counts its openings and
--- reads fails at one of those to come, and which one that is depends on how many are asked for.
+-- Which openings and reads fail: none; the one that comes after so many, and no other; or any may.
+pub data Plan : Type 0 where
+  Sound : Plan
+  At : ℕ → Plan
+  AnyTime : Plan
+
+-- `named` goes by a file's name, `numbered` by the number of an open file. `next` is the number that is given next. Of a file of which nothing is
+-- told a device may give fewer bytes than were asked for, also where no call fails.
 pub record Device : Type 0 where
   pub named : List ℕ → Held
   pub numbered : ℕ → Held
   pub next : ℕ
   pub failures : ℕ
-  pub may_fail : Bool
-  pub counts : Bool
+  pub plan : Plan
 
 abbrev pub last_number : ℕ
 last_number = 18446744073709551615
@@ -28,21 +32,77 @@ is_there Missing = false
 is_there Untold = true
 is_there (Holds bytes) = true
 
+-- whether the next opening or read may go on well
+abbrev pub MayGoWell : Plan → Type 0
+MayGoWell Sound = Unit {0}
+MayGoWell (At zero) = ⊥
+MayGoWell (At (suc n)) = Unit {0}
+MayGoWell AnyTime = Unit {0}
+
+-- whether it may fail
+abbrev pub MayFail : Plan → Type 0
+MayFail Sound = ⊥
+MayFail (At zero) = Unit {0}
+MayFail (At (suc n)) = ⊥
+MayFail AnyTime = Unit {0}
+
+-- A call that went well brings the one that is to fail nearer.
+abbrev pub nearer : Plan → Plan
+nearer Sound = Sound
+nearer (At zero) = At zero
+nearer (At (suc n)) = At n
+nearer AnyTime = AnyTime
+
+-- After the one that was to fail no other is.
+abbrev pub spent : Plan → Plan
+spent Sound = Sound
+spent (At n) = Sound
+spent AnyTime = AnyTime
+
+-- whether one of those to come is to fail, so that it matters how many are made
+abbrev pub counts : Plan → Bool
+counts Sound = false
+counts (At n) = true
+counts AnyTime = false
+
 -- A count of failures stays where it is the greatest.
 abbrev pub one_more : ℕ → ℕ
 one_more n = if n == last_number then n else n + 1
 
--- The device failed once more, and nothing else changed, but that no failure is planned any more.
+-- An opening or a read went on well, whatever it was of, and nothing else changed,
+abbrev pub moved : Device → Device
+moved d = record d { plan = nearer d.plan }
+
+-- or the device failed once more.
 abbrev pub failed : Device → Device
-failed d = record d { failures = one_more d.failures; counts = false }
+failed d = record d { failures = one_more d.failures; plan = spent d.plan }
 
--- So did it, being one that may fail.
+abbrev pub WentWell : Device → Device → Type 0
+WentWell d e = MayGoWell d.plan × (e ≡ moved d)
+
 abbrev pub HasFailed : Device → Device → Type 0
-HasFailed d e = (d.may_fail ≡ true) × (e ≡ failed d)
+HasFailed d e = MayFail d.plan × (e ≡ failed d)
 
--- The same files stand under the same names, and it may fail, or may not, as before.
+-- So many bytes were asked for in one read, which went on well; for none the device is not asked.
+abbrev pub WasAsked : ℕ → Device → Device → Type 0
+WasAsked zero d e = e ≡ d
+WasAsked (suc n) d e = WentWell d e
+
+-- So many calls went on well, one after another.
+unfoldable pub AllWentWell : ℕ → Device → Device → Type 0
+AllWentWell zero d e = e ≡ d
+AllWentWell (suc n) d e = MayGoWell d.plan × AllWentWell n (moved d) e
+
+abbrev pub SomeWentWell : Device → Device → Type 0
+SomeWentWell d e = (n : ℕ) × AllWentWell n d e
+
+-- The same files stand under the same names.
 abbrev pub SameFolder : Device → Device → Type 0
-SameFolder d e = (e.named ≡ d.named) × (e.may_fail ≡ d.may_fail)
+SameFolder d e = e.named ≡ d.named
+
+-- So they do, and nothing was opened or read.
+abbrev pub IsUnasked : Device → Device → Type 0
+IsUnasked d e = SameFolder d e × (e.plan ≡ d.plan)
 
 -- The file of this name is open under the next number.
 abbrev pub opened : List ℕ → Device → Device

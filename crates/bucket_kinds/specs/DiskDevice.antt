@@ -1,8 +1,8 @@
--- Files of a disk as a device, which may fail and counts nothing: nothing is told of what they hold.
-use Rattle.std.specs.Prelude.{ℕ, true, false, Option, Some, None}
+-- Files of a disk as a device, of which any call may fail: nothing is told of what they hold.
+use Rattle.std.specs.Prelude.{ℕ, Option, Some, None}
 use Rattle.std.specs.BTreeMap.{BTreeMap, get}
 use Rattle.std.specs.Ordering.{nat_cmp}
-use Rattle.bucket_kinds.specs.Device.{Held, Missing, Untold, Device}
+use Rattle.bucket_kinds.specs.Device.{Held, Missing, Untold, AnyTime, Device}
 
 abbrev pub untold : {F : Type 0} → Option F → Held
 untold None = Missing
@@ -14,8 +14,8 @@ disk_number opened n = untold (get nat_cmp opened n)
 
 abbrev pub disk_device : {F : Type 0} → BTreeMap ℕ F → ℕ → ℕ → Device
 disk_device opened next failures =
-    record { named = λ name. Untold; numbered = disk_number opened; next = next; failures = failures; may_fail = true; counts = false }
+    record { named = λ name. Untold; numbered = disk_number opened; next = next; failures = failures; plan = AnyTime }
 
 -- no file was opened, and none failed
 abbrev pub fresh_disk : Device
-fresh_disk = record { named = λ name. Untold; numbered = λ n. Missing; next = 1; failures = 0; may_fail = true; counts = false }
+fresh_disk = record { named = λ name. Untold; numbered = λ n. Missing; next = 1; failures = 0; plan = AnyTime }

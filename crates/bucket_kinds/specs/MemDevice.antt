@@ -1,7 +1,7 @@
 -- Files in memory as the files of the model, and as a device.
-use Rattle.std.specs.Prelude.{ℕ, ◌<◌, Bool, List, Option, Some, None, is_some}
+use Rattle.std.specs.Prelude.{ℕ, ◌<◌, List, Option, Some, None}
 use Rattle.run_model.specs.Files.{Files}
-use Rattle.bucket_kinds.specs.Device.{Held, Missing, Holds, Device}
+use Rattle.bucket_kinds.specs.Device.{Held, Missing, Holds, Plan, Sound, At, Device}
 use Rattle.bucket_kinds.specs.InMemory.{under, at_number}
 use Rattle.bucket_kinds.specs.declared.mem_files.MemFiles.{MemFiles}
 
@@ -13,27 +13,27 @@ files_of m = record { named = under m.files; opened = at_number m.files m.opened
 unfoldable pub failures_of : MemFiles → ℕ
 failures_of m = m.failures
 
--- whether an opening or a read was told to fail; no other fails
-unfoldable pub may_fail_of : MemFiles → Bool
-may_fail_of m = m.may_fail
-
 abbrev pub held_of : Option (List ℕ) → Held
 held_of None = Missing
 held_of (Some bytes) = Holds bytes
 
-abbrev pub device_of : Files → ℕ → Bool → Device
-device_of fs failures may_fail =
+-- the call that is to fail, by how many go on well before
+abbrev pub plan_of : Option ℕ → Plan
+plan_of None = Sound
+plan_of (Some n) = At n
+
+abbrev pub device_of : Files → ℕ → Device
+device_of fs failures =
     record {
       named = λ name. held_of (fs.named name);
       numbered = λ n. held_of (fs.opened n);
       next = fs.next;
       failures = failures;
-      may_fail = may_fail;
-      counts = is_some fs.fails_in;
+      plan = plan_of fs.fails_in;
     }
 
 abbrev pub mem_device : MemFiles → Device
-mem_device m = device_of (files_of m) (failures_of m) (may_fail_of m)
+mem_device m = device_of (files_of m) (failures_of m)
 
 -- no file has the number 0
 pub mem_numbered : (m : MemFiles) → 0 < (mem_device m).next

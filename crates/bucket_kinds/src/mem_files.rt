@@ -23,15 +23,12 @@ pub struct MemFiles {
     next: u64,
     fails_in: Option<u64>,
     failures: u64,
-    may_fail: bool,
 
     // An open file is there, and its number was given.
     ghost there: { (n : ℕ) (name : Bytes) → get nat_cmp opened n ≡ Some name → is_some (under files name.items) ≡ true },
     ghost given: { (n : ℕ) → IsSome (get nat_cmp opened n) → n < next },
     // No file has the number 0.
     ghost numbered: { 0 < next },
-    // A call that is to fail was told to.
-    ghost told: { IsSome fails_in → may_fail ≡ true },
 }
 
 fn find<'a>(files: &'a BTreeMap<Vec<u8>, Vec<u8>>, name: &[u8]) -> Option<&'a Vec<u8>>
@@ -63,17 +60,16 @@ fn copy_from(text: &[u8], at: u64, buffer: &mut [u8]) -> usize
     count
 }
 
-#[tactic(auto, unfolding(crate::specs::MemDevice::files_of, crate::specs::MemDevice::failures_of, crate::specs::MemDevice::may_fail_of))]
+#[tactic(auto, unfolding(crate::specs::MemDevice::files_of, crate::specs::MemDevice::failures_of))]
 impl MemFiles {
     ghost use Rattle.run_model.specs.Files.{no_files, fails_now, read_part, read_done};
-    ghost use Rattle.bucket_kinds.specs.MemDevice.{files_of, failures_of, may_fail_of};
+    ghost use Rattle.bucket_kinds.specs.MemDevice.{files_of, failures_of, mem_device, plan_of};
     ghost use Rattle.bucket_kinds.specs.MemAnswers.{IsAdding, IsFileOpening, IsOpeningDue, IsSoundOpening, file_closed, planned, failing_at, failures_after};
 
     /// No files. No call on them fails before `fail_at` tells it to. It takes no memory.
     pub fn new(alloc: Global) -> Self
         ensures files { files_of result ≡ no_files }
         ensures failures { failures_of result ≡ 0 }
-        ensures may_fail { may_fail_of result ≡ false }
     {
         MemFiles {
             alloc,
@@ -82,7 +78,6 @@ impl MemFiles {
             next: 1,
             fails_in: None,
             failures: 0,
-            may_fail: false,
         }
     }
 
@@ -91,7 +86,6 @@ impl MemFiles {
     pub fn add(&mut self, name: &[u8], bytes: Vec<u8>) -> Result<(), AddRefusal>
         ensures files { IsAdding (files_of self.old) name.now bytes.items result (files_of self.new) }
         ensures failures { failures_of self.new ≡ failures_of self.old }
-        ensures may_fail { may_fail_of self.new ≡ may_fail_of self.old }
     {
         if self.has(name) {
             return Err(AddRefusal::Taken);
@@ -117,21 +111,19 @@ impl MemFiles {
 
     /// Of the openings and reads that follow, the one of number `call`, counted from 1, answers `Failed` and raises `failures` by one, and
     /// all others go on as ever. 0 is the number of none. What was told before is forgotten. It takes no memory.
-    #[tactic(auto, using(crate::proofs::ReadLemmas::planned_from), unfolding(crate::specs::MemDevice::files_of, crate::specs::MemDevice::failures_of, crate::specs::MemDevice::may_fail_of))]
+    #[tactic(auto, using(crate::proofs::ReadLemmas::planned_from), unfolding(crate::specs::MemDevice::files_of, crate::specs::MemDevice::failures_of))]
     pub fn fail_at(&mut self, call: u64)
         ensures files { files_of self.new ≡ failing_at call (files_of self.old) }
         ensures failures { failures_of self.new ≡ failures_of self.old }
-        ensures may_fail { may_fail_of self.new ≡ is_some (planned call) }
+        ensures plan { (mem_device self.new).plan ≡ plan_of (planned call) }
     {
         self.fails_in = call.checked_sub(1);
-        self.may_fail = self.fails_in.is_some();
     }
 
     // Opens a file, where no failure is due.
     fn open_named(&mut self, name: &[u8]) -> Result<(FileNo, u64), FileFault>
         ensures files { IsSoundOpening (files_of self.old) name.now result (files_of self.new) }
         ensures failures { failures_of self.new ≡ failures_of self.old }
-        ensures may_fail { may_fail_of self.new ≡ may_fail_of self.old }
     {
         let Some(bytes) = find(&self.files, name) else {
             return Err(FileFault::NotThere);
@@ -151,7 +143,6 @@ impl MemFiles {
     fn open_unless(&mut self, fails: bool, name: &[u8]) -> Result<(FileNo, u64), FileFault>
         ensures files { IsOpeningDue fails (files_of self.old) name.now result (files_of self.new) }
         ensures failures { failures_of self.new ≡ failures_of self.old }
-        ensures may_fail { may_fail_of self.new ≡ may_fail_of self.old }
     {
         if fails {
             return Err(FileFault::Failed);
@@ -165,7 +156,6 @@ impl MemFiles {
     pub fn open(&mut self, name: &[u8]) -> Result<(FileNo, u64), FileFault>
         ensures files { IsFileOpening (files_of self.old) name.now result (files_of self.new) }
         ensures failures { failures_of self.new ≡ failures_after (files_of self.old) (failures_of self.old) }
-        ensures may_fail { may_fail_of self.new ≡ may_fail_of self.old }
     {
         let fails = self.call_fails();
         self.open_unless(fails, name)
@@ -181,13 +171,11 @@ impl MemFiles {
     }
 
     // Counts an opening or a read, and tells whether it fails.
-    #[tactic(auto, using(crate::proofs::ReadLemmas::after_well, crate::proofs::ReadLemmas::well_now), unfolding(crate::specs::MemDevice::files_of, crate::specs::MemDevice::failures_of, crate::specs::MemDevice::may_fail_of))]
+    #[tactic(auto, using(crate::proofs::ReadLemmas::after_well, crate::proofs::ReadLemmas::well_now), unfolding(crate::specs::MemDevice::files_of, crate::specs::MemDevice::failures_of))]
     fn call_fails(&mut self) -> bool
         ensures result { result ≡ fails_now (files_of self.old).fails_in }
-        ensures told { result ≡ true → may_fail_of self.old ≡ true }
         ensures files { files_of self.new ≡ read_done (files_of self.old) }
         ensures failures { failures_of self.new ≡ failures_after (files_of self.old) (failures_of self.old) }
-        ensures may_fail { may_fail_of self.new ≡ may_fail_of self.old }
     {
         match self.fails_in {
             None => false,
@@ -211,7 +199,6 @@ impl MemFiles {
         ensures err { OnErr result (read_part file at (length buffer.old) (files_of self.old) ≡ None) }
         ensures files { files_of self.new ≡ read_done (files_of self.old) }
         ensures failures { failures_of self.new ≡ failures_after (files_of self.old) (failures_of self.old) }
-        ensures may_fail { may_fail_of self.new ≡ may_fail_of self.old }
     {
         if self.call_fails() {
             return Err(ReadFault);
@@ -229,7 +216,6 @@ impl MemFiles {
     pub fn close(&mut self, file: FileNo)
         ensures files { files_of self.new ≡ file_closed file (files_of self.old) }
         ensures failures { failures_of self.new ≡ failures_of self.old }
-        ensures may_fail { may_fail_of self.new ≡ may_fail_of self.old }
     {
         drop_number(&mut self.opened, file);
     }

@@ -2,7 +2,7 @@
 
 ghost use Rattle.std.specs.Prelude.{◌≡◌, ◌≤◌, ◌<◌, ◌⊎◌, ℕ, List, [], Ok, None, true, length, IsOk, IfOk, OnOk, OnErr, IfSome};
 ghost use Rattle.run_model.specs.Cutting.{IsBucket, EndsInFile, wanted, read_of};
-ghost use Rattle.bucket_kinds.specs.Device.{HasFailed, is_there};
+ghost use Rattle.bucket_kinds.specs.Device.{WentWell, HasFailed, WasAsked, is_there};
 ghost use Rattle.bucket_kinds.specs.Reading.{MayGiveBytes, MayEnd, IsOpenFor, GivesFor, EndsWithin};
 
 use crate::files::{FileNo, Files};
@@ -37,10 +37,10 @@ fn fetch<F: Files>(
 ) -> Result<Seq<u8>, ReadFault>
     requires { is_there ((F.device files.old).numbered file) ≡ true }
     ensures given { IfOk result (MayGiveBytes ((F.device files.old).numbered file) start (length room)) }
-    ensures same { OnOk result (F.device files.new ≡ F.device files.old) }
+    ensures went { OnOk result (WentWell (F.device files.old) (F.device files.new)) }
     ensures fault { OnErr result
         (HasFailed (F.device files.old) (F.device files.new)
-        ⊎ ((F.device files.new ≡ F.device files.old) × MayEnd ((F.device files.old).numbered file) start (length room))) }
+        ⊎ (WentWell (F.device files.old) (F.device files.new) × MayEnd ((F.device files.old).numbered file) start (length room))) }
 {
     let count = room.len();
     match files.read_at(file, start, room.as_mut_slice()) {
@@ -84,10 +84,10 @@ pub fn read_into<F: Files>(
     ensures ok { IfOk result (λ rest. (bytes : List ℕ) × GivesFor (F.device files.old) bucket.old.content bytes
         × ((bucket.new, rest) ≡ read_of bytes bucket.old)) }
     ensures unread { wanted bucket.old.content ≡ 0 → (result ≡ Ok None) × (F.device files.new ≡ F.device files.old) }
-    ensures same { OnOk result (F.device files.new ≡ F.device files.old) }
+    ensures asked { OnOk result (WasAsked (wanted bucket.old.content) (F.device files.old) (F.device files.new)) }
     ensures fault { OnErr result
         (HasFailed (F.device files.old) (F.device files.new)
-        ⊎ ((F.device files.new ≡ F.device files.old) × EndsWithin (F.device files.old) bucket.old.content)) }
+        ⊎ (WentWell (F.device files.old) (F.device files.new) × EndsWithin (F.device files.old) bucket.old.content)) }
     ensures open_files { (F.device files.new).numbered ≡ (F.device files.old).numbered }
     ensures err { OnErr result (bucket.new ≡ bucket.old) }
     ensures new_fits { IsBucket bucket.old → IsBucket bucket.new }
@@ -113,8 +113,8 @@ pub fn read_into<F: Files>(
 
 /// Reads a bucket. FILE of length at most 8000 becomes HEAP; a longer one becomes HEAP of its first 8000 bytes, and
 /// the rest is given as a FILE bucket with the same home. Any other bucket is left, and there is no rest. Nothing is
-/// read of a range of length 0. `ReadFault` comes where the device, being one that may, failed, or the file ends before the last byte
-/// that is read; a refused bucket is as it was.
+/// read of a range of length 0. `ReadFault` comes where the read fails, as it may where it is the one that is to, or the file ends before the
+/// last byte that is read; a refused bucket is as it was.
 pub fn read_bucket<F: Files>(
     alloc: Global,
     bucket: &mut Bucket,
@@ -125,11 +125,11 @@ pub fn read_bucket<F: Files>(
     ensures ok { IfOk result (λ rest. (bytes : List ℕ) × GivesFor (F.device files.old) bucket.old.content bytes
         × ((bucket.new, rest) ≡ read_of bytes bucket.old)) }
     ensures unread { wanted bucket.old.content ≡ 0 → (result ≡ Ok None) × (F.device files.new ≡ F.device files.old) }
-    ensures same { OnOk result (F.device files.new ≡ F.device files.old) }
+    ensures asked { OnOk result (WasAsked (wanted bucket.old.content) (F.device files.old) (F.device files.new)) }
     ensures no_memory { result ≡ Err ReadError.NoMemory → F.device files.new ≡ F.device files.old }
     ensures fault { result ≡ Err ReadError.ReadFault
         → HasFailed (F.device files.old) (F.device files.new)
-        ⊎ ((F.device files.new ≡ F.device files.old) × EndsWithin (F.device files.old) bucket.old.content) }
+        ⊎ (WentWell (F.device files.old) (F.device files.new) × EndsWithin (F.device files.old) bucket.old.content) }
     ensures open_files { (F.device files.new).numbered ≡ (F.device files.old).numbered }
     ensures err { OnErr result (bucket.new ≡ bucket.old) }
     ensures new_fits { IsBucket bucket.old → IsBucket bucket.new }

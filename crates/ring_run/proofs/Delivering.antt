@@ -4,7 +4,7 @@ use Rattle.std.proofs.lemmas.Bool.{false≢true, cases_lt}
 use Rattle.std.specs.Prelude.{if◌then◌else◌}
 use Rattle.std.proofs.lemmas.List.{append-nil, length-append}
 use Rattle.bucket_ring.specs.declared.names.BucketId.{BucketId}
-use Rattle.bucket_kinds.specs.Device.{Device, HasFailed}
+use Rattle.bucket_kinds.specs.Device.{Device, moved, MayGoWell, WentWell, HasFailed, SomeWentWell}
 use Rattle.bucket_kinds.specs.Reading.{MayGiveBytes, MayEnd}
 use Rattle.run_model.specs.declared.bucket.Bucket.{Bucket}
 use Rattle.run_model.specs.declared.bucket.Content.{Content}
@@ -17,6 +17,7 @@ use Rattle.run_model.specs.Passing.{Reads, Taken, taken_whole, and_taken, unless
 use Rattle.brigade_ops.specs.Items.{Items, named_item, from_place}
 use Rattle.ring_run.specs.Delivery.{IfElse, PartGiven, PartsGiven, ContentGiven, ReadsGiven, HasReads, taken_by, ContentTaken, ItemsTaken, WasDelivered, out_of}
 use Rattle.ring_run.specs.Seen.{shown, item_in}
+use Rattle.ring_run.proofs.WellRead.{none_went}
 
 -- Reads that were made.
 
@@ -55,60 +56,66 @@ none_left : (j : ℕ) (rs : Reads) → parts_taken (parts_of 0) j rs ≡ taken_w
 unfolding parts_taken
 none_left j rs = refl
 
-module _ (d e : Device) (file : ℕ) (rs : Reads) (next : ℕ → Type 0) where
-  -- the rest of a range of which m bytes are left
-  abbrev rest_given : ℕ → ℕ → ℕ → Type 0
-  rest_given m at j = PartsGiven d e (parts_of m) file at m rs next j
+module _ (e : Device) (file : ℕ) (rs : Reads) (next : Device → ℕ → Type 0) where
+  -- the rest of a range of which m bytes are left, by the device d
+  abbrev rest_given : Device → ℕ → ℕ → ℕ → Type 0
+  rest_given d m at j = PartsGiven d e (parts_of m) file at m rs next j
 
-  end_given : (m at j : ℕ) → m ≡ 0 → next j → rest_given m at j
+  end_given : (d : Device) (m at j : ℕ) → m ≡ 0 → next d j → rest_given d m at j
   unfolding PartsGiven
-  end_given m at j none h = subst (λ (n : ℕ). PartsGiven d e (parts_of n) file at n rs next j) (sym none) h
+  end_given d m at j none h = subst (λ (n : ℕ). PartsGiven d e (parts_of n) file at n rs next j) (sym none) h
 
-  end_taken : (m at j : ℕ) → m ≡ 0 → rest_given m at j → next j
+  end_taken : (d : Device) (m at j : ℕ) → m ≡ 0 → rest_given d m at j → next d j
   unfolding PartsGiven
-  end_taken m at j none h = subst (λ (n : ℕ). PartsGiven d e (parts_of n) file at n rs next j) none h
+  end_taken d m at j none h = subst (λ (n : ℕ). PartsGiven d e (parts_of n) file at n rs next j) none h
 
-  same_given : (m at n j : ℕ) → n ≡ min m 8000 → rest_given (m - n) (at + n) j → rest_given (m - 8000) (at + 8000) j
-  same_given m at n j is h =
+  same_given : (d : Device) (m at n j : ℕ) → n ≡ min m 8000 → rest_given d (m - n) (at + n) j → rest_given d (m - 8000) (at + 8000) j
+  same_given d m at n j is h =
       ⊎_elim
-      (λ (lt : m < 8000). end_given (m - 8000) (at + 8000) j (omega (arith, lt)) (end_taken (m - n) (at + n) j (omega (arith, lt, is)) h))
-      (λ (le : 8000 ≤ m). subst (λ (k : ℕ). rest_given (m - k) (at + k) j) (let w : n ≡ 8000 = omega (arith, le, is) in w) h)
+      (λ (lt : m < 8000). end_given d (m - 8000) (at + 8000) j (omega (arith, lt)) (end_taken d (m - n) (at + n) j (omega (arith, lt, is)) h))
+      (λ (le : 8000 ≤ m). subst (λ (k : ℕ). rest_given d (m - k) (at + k) j) (let w : n ≡ 8000 = omega (arith, le, is) in w) h)
       (cases_lt m 8000)
 
-  step_given : (m at n j : ℕ) (bytes : List ℕ) → 0 < m → n ≡ min m 8000 → rs j ≡ Some bytes → MayGiveBytes (d.numbered file) at n bytes → rest_given (m - n) (at + n) (j + 1) → rest_given m at j
-  unfolding PartsGiven
-  step_given m at n j bytes some is read gives h =
-      subst (λ (p : ℕ). PartsGiven d e p file at m rs next j) (sym (parts_more m some))
-      (subst (λ (o : Option (List ℕ)). PartGiven d e file at (min m read_limit) o (PartsGiven d e (parts_of (m - 8000)) file (at + read_limit) (m - read_limit) rs next (j + 1))) (sym read)
-      (subst (λ (k : ℕ). MayGiveBytes (d.numbered file) at k bytes) is gives, same_given m at n (j + 1) is h))
+  abbrev part_given : Device → ℕ → ℕ → ℕ → Option (List ℕ) → Type 0
+  part_given d m at j o =
+      PartGiven d e file at (min m read_limit) o (PartsGiven (moved d) e (parts_of (m - 8000)) file (at + read_limit) (m - read_limit) rs next (j + 1))
 
-  failed_given : (m at n j : ℕ) → 0 < m → n ≡ min m 8000 → rs j ≡ None → HasFailed d e ⊎ ((e ≡ d) × MayEnd (d.numbered file) at n) → rest_given m at j
+  step_given : (d : Device) (m at n j : ℕ) (bytes : List ℕ) → 0 < m → n ≡ min m 8000 → rs j ≡ Some bytes → MayGiveBytes (d.numbered file) at n bytes → MayGoWell d.plan → rest_given (moved d) (m - n) (at + n) (j + 1) → rest_given d m at j
   unfolding PartsGiven
-  failed_given m at n j some is read why =
+  step_given d m at n j bytes some is read gives well h =
       subst (λ (p : ℕ). PartsGiven d e p file at m rs next j) (sym (parts_more m some))
-      (subst (λ (o : Option (List ℕ)). PartGiven d e file at (min m read_limit) o (PartsGiven d e (parts_of (m - 8000)) file (at + read_limit) (m - read_limit) rs next (j + 1))) (sym read)
-      (subst (λ (k : ℕ). HasFailed d e ⊎ ((e ≡ d) × MayEnd (d.numbered file) at k)) is why))
+      (subst (λ (o : Option (List ℕ)). part_given d m at j o) (sym read)
+      (subst (λ (k : ℕ). MayGiveBytes (d.numbered file) at k bytes) is gives, well, same_given (moved d) m at n (j + 1) is h))
 
--- So many bytes of a range were read.
-pub record RangeSoFar (d : Device) (file start len count : ℕ) (front : List ℕ) : Type 0 where
+  failed_given : (d : Device) (m at n j : ℕ) → 0 < m → n ≡ min m 8000 → rs j ≡ None → HasFailed d e ⊎ (WentWell d e × MayEnd (d.numbered file) at n) → rest_given d m at j
+  unfolding PartsGiven
+  failed_given d m at n j some is read why =
+      subst (λ (p : ℕ). PartsGiven d e p file at m rs next j) (sym (parts_more m some))
+      (subst (λ (o : Option (List ℕ)). part_given d m at j o) (sym read)
+      (subst (λ (k : ℕ). HasFailed d e ⊎ (WentWell d e × MayEnd (d.numbered file) at k)) is why))
+
+-- So many bytes of a range were read, by devices d and `now`.
+pub record RangeSoFar (d now : Device) (file start len count : ℕ) (front : List ℕ) : Type 0 where
   pub reads : List (Option (List ℕ))
   pub takes : (k : ℕ) (rs : Reads) → HasReads rs k reads → parts_taken (parts_of len) k rs ≡ and_taken front (parts_taken (parts_of (len - count)) (k + length reads) rs)
-  pub goes_on : (last : Device) (bs : List NamedBucket) (k : ℕ) (rs : Reads) → HasReads rs k reads → rest_given d last file rs (λ j. ReadsGiven d last bs rs j) (len - count) (start + count) (k + length reads)
-      → PartsGiven d last (parts_of len) file start len rs (λ j. ReadsGiven d last bs rs j) k
+  pub goes_on : (last : Device) (bs : List NamedBucket) (k : ℕ) (rs : Reads) → HasReads rs k reads → rest_given last file rs (λ f j. ReadsGiven f last bs rs j) now (len - count) (start + count) (k + length reads)
+      → PartsGiven d last (parts_of len) file start len rs (λ f j. ReadsGiven f last bs rs j) k
 
 module _ (d : Device) (file start len : ℕ) where
-  pub range_none : (front : List ℕ) → front ≡ [] → RangeSoFar d file start len 0 front
+  pub range_none : (front : List ℕ) → front ≡ [] → RangeSoFar d d file start len 0 front
   range_none front none = record {
     reads = [];
     takes = λ k rs h. ap (λ (n : ℕ). parts_taken (parts_of n) k rs) (let e : len ≡ len - 0 = omega arith in e) ∙ (ap (λ (j : ℕ). and_taken [] (parts_taken (parts_of (len - 0)) j rs)) (let e : k ≡ k + 0 = omega arith in e) ∙ ap (λ (bytes : List ℕ). and_taken bytes (parts_taken (parts_of (len - 0)) (k + 0) rs)) (sym none));
-    goes_on = λ last bs k rs h rest. subst (λ (n : ℕ). rest_given d last file rs (λ j. ReadsGiven d last bs rs j) n start k) (let e : len - 0 ≡ len = omega arith in e)
-        (subst (λ (at : ℕ). rest_given d last file rs (λ j. ReadsGiven d last bs rs j) (len - 0) at k) (let e : start + 0 ≡ start = omega arith in e)
-        (subst (λ (i : ℕ). rest_given d last file rs (λ j. ReadsGiven d last bs rs j) (len - 0) (start + 0) i) (let e : k + 0 ≡ k = omega arith in e) rest));
+    goes_on = λ last bs k rs h rest.
+        let next : Device → ℕ → Type 0 = λ f j. ReadsGiven f last bs rs j in
+        subst (λ (n : ℕ). rest_given last file rs next d n start k) (let e : len - 0 ≡ len = omega arith in e)
+        (subst (λ (at : ℕ). rest_given last file rs next d (len - 0) at k) (let e : start + 0 ≡ start = omega arith in e)
+        (subst (λ (i : ℕ). rest_given last file rs next d (len - 0) (start + 0) i) (let e : k + 0 ≡ k = omega arith in e) rest));
   }
 
-  pub range_read : (count n past : ℕ) (front bytes more : List ℕ) → RangeSoFar d file start len count front → count < len → n ≡ min (len - count) 8000 → MayGiveBytes (d.numbered file) (start + count) n bytes → more ≡ front ++ bytes → past ≡ count + n
-      → RangeSoFar d file start len past more
-  range_read count n past front bytes more s below is gives grown on = record {
+  pub range_read : (now : Device) (count n past : ℕ) (front bytes more : List ℕ) → RangeSoFar d now file start len count front → count < len → n ≡ min (len - count) 8000 → MayGiveBytes (now.numbered file) (start + count) n bytes → MayGoWell now.plan → more ≡ front ++ bytes → past ≡ count + n
+      → RangeSoFar d (moved now) file start len past more
+  range_read now count n past front bytes more s below is gives well grown on = record {
     reads = s.reads ++ Some bytes ∷ [];
     takes = λ k rs h.
         let p = has_both s.reads (Some bytes ∷ []) k (k + length s.reads) rs refl h in
@@ -121,19 +128,19 @@ module _ (d : Device) (file start len : ℕ) where
         ∙ ap (λ (j : ℕ). and_taken more (parts_taken (parts_of (len - past)) j rs)) (sym (one_more s.reads (Some bytes) k))))));
     goes_on = λ last bs k rs h rest.
         let p = has_both s.reads (Some bytes ∷ []) k (k + length s.reads) rs refl h in
-        let next : ℕ → Type 0 = λ j. ReadsGiven d last bs rs j in
+        let next : Device → ℕ → Type 0 = λ f j. ReadsGiven f last bs rs j in
         s.goes_on last bs k rs p.0
-        (step_given d last file rs next (len - count) (start + count) n (k + length s.reads) bytes (omega (arith, below)) is p.1.0 gives
-        (subst (λ (q : ℕ). rest_given d last file rs next q (start + count + n) (k + length s.reads + 1)) (sym (left on))
-        (subst (λ (at : ℕ). rest_given d last file rs next (len - past) at (k + length s.reads + 1)) (let e : start + past ≡ start + count + n = omega (arith, on) in e)
-        (subst (λ (j : ℕ). rest_given d last file rs next (len - past) (start + past) j) (one_more s.reads (Some bytes) k) rest))));
+        (step_given last file rs next now (len - count) (start + count) n (k + length s.reads) bytes (omega (arith, below)) is p.1.0 gives well
+        (subst (λ (q : ℕ). rest_given last file rs next (moved now) q (start + count + n) (k + length s.reads + 1)) (sym (left on))
+        (subst (λ (at : ℕ). rest_given last file rs next (moved now) (len - past) at (k + length s.reads + 1)) (let e : start + past ≡ start + count + n = omega (arith, on) in e)
+        (subst (λ (j : ℕ). rest_given last file rs next (moved now) (len - past) (start + past) j) (one_more s.reads (Some bytes) k) rest))));
   } where
     left : past ≡ count + n → len - count - n ≡ len - past
     left e = omega (arith, e)
 
-  pub range_failed : (e : Device) (count n : ℕ) (front : List ℕ) → RangeSoFar d file start len count front → count < len → n ≡ min (len - count) 8000 → HasFailed d e ⊎ ((e ≡ d) × MayEnd (d.numbered file) (start + count) n)
+  pub range_failed : (now e : Device) (count n : ℕ) (front : List ℕ) → RangeSoFar d now file start len count front → count < len → n ≡ min (len - count) 8000 → HasFailed now e ⊎ (WentWell now e × MayEnd (now.numbered file) (start + count) n)
       → ContentTaken d e (content.Range file start len) front false
-  range_failed e count n front s below is why = record {
+  range_failed now e count n front s below is why = record {
     reads = s.reads ++ None ∷ [];
     takes = λ k rs h.
         let p = has_both s.reads (None ∷ []) k (k + length s.reads) rs refl h in
@@ -141,47 +148,36 @@ module _ (d : Device) (file start len : ℕ) where
         ∙ (ap (and_taken front) (step_failed (len - count) (k + length s.reads) rs (omega (arith, below)) p.1.0)
         ∙ (ap (λ (bytes : List ℕ). taken_by bytes false (k + length s.reads + 1)) (append-nil front)
         ∙ ap (taken_by front false) (sym (one_more s.reads None k))));
-    same = λ never. absurd (false≢true never);
+    went = λ never. absurd (false≢true never);
     goes_on = λ never. absurd (false≢true never);
     fails = λ _ bs k rs h.
         let p = has_both s.reads (None ∷ []) k (k + length s.reads) rs refl h in
-        s.goes_on e bs k rs p.0 (failed_given d e file rs (λ j. ReadsGiven d e bs rs j) (len - count) (start + count) n (k + length s.reads) (omega (arith, below)) is p.1.0 why);
+        s.goes_on e bs k rs p.0 (failed_given e file rs (λ f j. ReadsGiven f e bs rs j) now (len - count) (start + count) n (k + length s.reads) (omega (arith, below)) is p.1.0 why);
   }
 
-  pub range_done : (e : Device) (count : ℕ) (front : List ℕ) → RangeSoFar d file start len count front → len ≤ count → e ≡ d → ContentTaken d e (content.Range file start len) front true
-  range_done e count front s all same = record {
+  pub range_done : (now : Device) (count : ℕ) (front : List ℕ) → RangeSoFar d now file start len count front → len ≤ count → SomeWentWell d now → ContentTaken d now (content.Range file start len) front true
+  range_done now count front s all went = record {
     reads = s.reads;
     takes = λ k rs h.
         s.takes k rs h
         ∙ (ap (λ (n : ℕ). and_taken front (parts_taken (parts_of n) (k + length s.reads) rs)) (done all)
         ∙ (ap (and_taken front) (none_left (k + length s.reads) rs)
         ∙ ap (λ (bytes : List ℕ). taken_by bytes true (k + length s.reads)) (append-nil front)));
-    same = λ _. same;
-    goes_on = λ _ last bs k rs h rest. s.goes_on last bs k rs h (end_given d last file rs (λ j. ReadsGiven d last bs rs j) (len - count) (start + count) (k + length s.reads) (done all) rest);
+    went = λ _. went;
+    goes_on = λ _ last bs k rs h rest. s.goes_on last bs k rs h (end_given last file rs (λ f j. ReadsGiven f last bs rs j) now (len - count) (start + count) (k + length s.reads) (done all) rest);
     fails = λ never. absurd (false≢true (sym never));
   } where
     done : len ≤ count → len - count ≡ 0
     done e = omega (arith, e)
 
--- a fault of a device that is as it was
-pub fault_from : (d now e : Device) (file at n k : ℕ) → now ≡ d → k ≡ n → HasFailed now e ⊎ ((e ≡ now) × MayEnd (now.numbered file) at k) → HasFailed d e ⊎ ((e ≡ d) × MayEnd (d.numbered file) at n)
-fault_from d now e file at n k same span why =
-    subst (λ (x : Device). HasFailed x e ⊎ ((e ≡ x) × MayEnd (x.numbered file) at n)) same
-    (subst (λ (j : ℕ). HasFailed now e ⊎ ((e ≡ now) × MayEnd (now.numbered file) at j)) span why)
-
-pub gave_from : (d now : Device) (file at n k : ℕ) (bytes : List ℕ) → now ≡ d → k ≡ n → MayGiveBytes (now.numbered file) at k bytes → MayGiveBytes (d.numbered file) at n bytes
-gave_from d now file at n k bytes same span gave =
-    subst (λ (x : Device). MayGiveBytes (x.numbered file) at n bytes) same
-    (subst (λ (j : ℕ). MayGiveBytes (now.numbered file) at j bytes) span gave)
-
 -- Bytes in memory.
 
-memory : (d : Device) (c : Content) (bs : List ℕ) → ((k : ℕ) (rs : Reads) → content_taken c k rs ≡ taken_whole bs k) → ((last : Device) (rs : Reads) (next : ℕ → Type 0) (k : ℕ) → next k → ContentGiven d last c rs next k) → ContentTaken d d c bs true
+memory : (d : Device) (c : Content) (bs : List ℕ) → ((k : ℕ) (rs : Reads) → content_taken c k rs ≡ taken_whole bs k) → ((last : Device) (rs : Reads) (next : Device → ℕ → Type 0) (k : ℕ) → next d k → ContentGiven d last c rs next k) → ContentTaken d d c bs true
 memory d c bs takes gives = record {
   reads = [];
   takes = λ k rs h. takes k rs ∙ ap (λ (j : ℕ). taken_whole bs j) (let e : k ≡ k + 0 = omega arith in e);
-  same = λ _. refl;
-  goes_on = λ _ last bs k rs h more. gives last rs (λ j. ReadsGiven d last bs rs j) k (subst (λ (j : ℕ). ReadsGiven d last bs rs j) (let e : k + 0 ≡ k = omega arith in e) more);
+  went = λ _. none_went d;
+  goes_on = λ _ last bs k rs h more. gives last rs (λ f j. ReadsGiven f last bs rs j) k (subst (λ (j : ℕ). ReadsGiven d last bs rs j) (let e : k + 0 ≡ k = omega arith in e) more);
   fails = λ never. absurd (false≢true (sym never));
 }
 
@@ -214,11 +210,11 @@ module _ (b : NamedBucket) (bs : List NamedBucket) (k : ℕ) (rs : Reads) where
 
   eos_given : (d e : Device) → is_eos b ≡ true → e ≡ d → ReadsGiven d e (b ∷ bs) rs k
   unfolding ReadsGiven
-  eos_given d e eos same = subst (λ (t : Bool). IfElse t (e ≡ d) (ContentGiven d e b.bucket.content rs (λ j. ReadsGiven d e bs rs j) k)) (sym eos) same
+  eos_given d e eos same = subst (λ (t : Bool). IfElse t (e ≡ d) (ContentGiven d e b.bucket.content rs (λ f j. ReadsGiven f e bs rs j) k)) (sym eos) same
 
-  more_given : (d e : Device) → is_eos b ≡ false → ContentGiven d e b.bucket.content rs (λ j. ReadsGiven d e bs rs j) k → ReadsGiven d e (b ∷ bs) rs k
+  more_given : (d e : Device) → is_eos b ≡ false → ContentGiven d e b.bucket.content rs (λ f j. ReadsGiven f e bs rs j) k → ReadsGiven d e (b ∷ bs) rs k
   unfolding ReadsGiven
-  more_given d e plain h = subst (λ (t : Bool). IfElse t (e ≡ d) (ContentGiven d e b.bucket.content rs (λ j. ReadsGiven d e bs rs j) k)) (sym plain) h
+  more_given d e plain h = subst (λ (t : Bool). IfElse t (e ≡ d) (ContentGiven d e b.bucket.content rs (λ f j. ReadsGiven f e bs rs j) k)) (sym plain) h
 
 none_taken : (k : ℕ) (rs : Reads) → taken [] k rs ≡ taken_whole [] k
 unfolding taken
@@ -228,14 +224,14 @@ nothing_given : (d e : Device) (k : ℕ) (rs : Reads) → e ≡ d → ReadsGiven
 unfolding ReadsGiven
 nothing_given d e k rs same = same
 
--- The buckets before a place were taken.
-pub record ItemsSoFar (d : Device) (xs left : Items) (front : List ℕ) : Type 0 where
+-- The buckets before a place were taken, by devices d and `now`.
+pub record ItemsSoFar (d now : Device) (xs left : Items) (front : List ℕ) : Type 0 where
   pub reads : List (Option (List ℕ))
   pub takes : (runs : ℕ → Bool) (k : ℕ) (rs : Reads) → HasReads rs k reads → taken (shown runs xs) k rs ≡ and_taken front (taken (shown runs left) (k + length reads) rs)
-  pub goes_on : (runs : ℕ → Bool) (last : Device) (k : ℕ) (rs : Reads) → HasReads rs k reads → ReadsGiven d last (shown runs left) rs (k + length reads) → ReadsGiven d last (shown runs xs) rs k
+  pub goes_on : (runs : ℕ → Bool) (last : Device) (k : ℕ) (rs : Reads) → HasReads rs k reads → ReadsGiven now last (shown runs left) rs (k + length reads) → ReadsGiven d last (shown runs xs) rs k
 
 module _ (d : Device) (xs : Items) where
-  pub items_none : (left : Items) (front : List ℕ) → left ≡ xs → front ≡ [] → ItemsSoFar d xs left front
+  pub items_none : (left : Items) (front : List ℕ) → left ≡ xs → front ≡ [] → ItemsSoFar d d xs left front
   items_none left front all none = record {
     reads = [];
     takes = λ runs k rs h.
@@ -245,34 +241,34 @@ module _ (d : Device) (xs : Items) where
     goes_on = λ runs last k rs h rest. subst (λ (zs : Items). ReadsGiven d last (shown runs zs) rs k) all (subst (λ (j : ℕ). ReadsGiven d last (shown runs left) rs j) (let e : k + 0 ≡ k = omega arith in e) rest);
   }
 
-  pub items_end : (e : Device) (left : Items) (front : List ℕ) → ItemsSoFar d xs left front → left ≡ [] → e ≡ d → ItemsTaken d e xs front true
-  items_end e left front s none same = record {
+  pub items_end : (now : Device) (left : Items) (front : List ℕ) → ItemsSoFar d now xs left front → left ≡ [] → ItemsTaken d now xs front true
+  items_end now left front s none = record {
     reads = s.reads;
     takes = λ runs k rs h.
         s.takes runs k rs h
         ∙ (ap (λ (zs : Items). and_taken front (taken (shown runs zs) (k + length s.reads) rs)) none
         ∙ (ap (and_taken front) (none_taken (k + length s.reads) rs)
         ∙ ap (λ (bytes : List ℕ). taken_whole bytes (k + length s.reads)) (append-nil front)));
-    given = λ runs k rs h. s.goes_on runs e k rs h (subst (λ (zs : Items). ReadsGiven d e (shown runs zs) rs (k + length s.reads)) (sym none) (nothing_given d e (k + length s.reads) rs same));
+    given = λ runs k rs h. s.goes_on runs now k rs h (subst (λ (zs : Items). ReadsGiven now now (shown runs zs) rs (k + length s.reads)) (sym none) (nothing_given now now (k + length s.reads) rs refl));
   }
 
-  module _ (left : Items) (id : BucketId) (x : Bucket) (ys : Items) (front : List ℕ) (s : ItemsSoFar d xs left front) (head : left ≡ (id, x) ∷ ys) where
+  module _ (now : Device) (left : Items) (id : BucketId) (x : Bucket) (ys : Items) (front : List ℕ) (s : ItemsSoFar d now xs left front) (head : left ≡ (id, x) ∷ ys) where
     first : (ℕ → Bool) → NamedBucket
     first runs = named_item (item_in runs (id, x))
 
-    pub items_eos : (e : Device) → is_eos_kind x.kind ≡ true → e ≡ d → ItemsTaken d e xs front true
+    pub items_eos : is_eos_kind x.kind ≡ true → ItemsTaken d now xs front true
     unfolding first
-    items_eos e eos same = record {
+    items_eos eos = record {
       reads = s.reads;
       takes = λ runs k rs h.
           s.takes runs k rs h
           ∙ (ap (λ (zs : Items). and_taken front (taken (shown runs zs) (k + length s.reads) rs)) head
           ∙ (ap (and_taken front) (eos_taken (first runs) (shown runs ys) (k + length s.reads) rs eos)
           ∙ ap (λ (bytes : List ℕ). taken_whole bytes (k + length s.reads)) (append-nil front)));
-      given = λ runs k rs h. s.goes_on runs e k rs h (subst (λ (zs : Items). ReadsGiven d e (shown runs zs) rs (k + length s.reads)) (sym head) (eos_given (first runs) (shown runs ys) (k + length s.reads) rs d e eos same));
+      given = λ runs k rs h. s.goes_on runs now k rs h (subst (λ (zs : Items). ReadsGiven now now (shown runs zs) rs (k + length s.reads)) (sym head) (eos_given (first runs) (shown runs ys) (k + length s.reads) rs now now eos refl));
     }
 
-    module _ (e : Device) (whole : Bool) (part : List ℕ) (plain : is_eos_kind x.kind ≡ false) (c : ContentTaken d e x.content part whole) where
+    module _ (e : Device) (whole : Bool) (part : List ℕ) (plain : is_eos_kind x.kind ≡ false) (c : ContentTaken now e x.content part whole) where
       all_reads : List (Option (List ℕ))
       all_reads = s.reads ++ c.reads
 
@@ -291,11 +287,11 @@ module _ (d : Device) (xs : Items) where
             ∙ ap (taken_by (front ++ part) false) (all_long k)));
         given = λ runs k rs h.
             let p = has_both s.reads c.reads k (k + length s.reads) rs refl h in
-            s.goes_on runs e k rs p.0 (subst (λ (zs : Items). ReadsGiven d e (shown runs zs) rs (k + length s.reads)) (sym head)
-            (more_given (first runs) (shown runs ys) (k + length s.reads) rs d e plain (c.fails failed (shown runs ys) (k + length s.reads) rs p.1)));
+            s.goes_on runs e k rs p.0 (subst (λ (zs : Items). ReadsGiven now e (shown runs zs) rs (k + length s.reads)) (sym head)
+            (more_given (first runs) (shown runs ys) (k + length s.reads) rs now e plain (c.fails failed (shown runs ys) (k + length s.reads) rs p.1)));
       }
 
-      pub items_more : whole ≡ true → ItemsSoFar d xs ys (front ++ part)
+      pub items_more : whole ≡ true → ItemsSoFar d e xs ys (front ++ part)
       unfolding first
       items_more went = record {
         reads = s.reads ++ c.reads;
@@ -308,22 +304,18 @@ module _ (d : Device) (xs : Items) where
             ∙ ap (λ (j : ℕ). and_taken (front ++ part) (taken (shown runs ys) j rs)) (all_long k))));
         goes_on = λ runs last k rs h rest.
             let p = has_both s.reads c.reads k (k + length s.reads) rs refl h in
-            s.goes_on runs last k rs p.0 (subst (λ (zs : Items). ReadsGiven d last (shown runs zs) rs (k + length s.reads)) (sym head)
-            (more_given (first runs) (shown runs ys) (k + length s.reads) rs d last plain (c.goes_on went last (shown runs ys) (k + length s.reads) rs p.1
-            (subst (λ (j : ℕ). ReadsGiven d last (shown runs ys) rs j) (sym (all_long k)) rest))));
+            s.goes_on runs last k rs p.0 (subst (λ (zs : Items). ReadsGiven now last (shown runs zs) rs (k + length s.reads)) (sym head)
+            (more_given (first runs) (shown runs ys) (k + length s.reads) rs now last plain (c.goes_on went last (shown runs ys) (k + length s.reads) rs p.1
+            (subst (λ (j : ℕ). ReadsGiven e last (shown runs ys) rs j) (sym (all_long k)) rest))));
       }
-
--- a content that was read by a device that was as it is
-pub content_from : (d now e : Device) (c : Content) (bytes : List ℕ) (whole : Bool) → now ≡ d → ContentTaken now e c bytes whole → ContentTaken d e c bytes whole
-content_from d now e c bytes whole same h = subst (λ (x : Device). ContentTaken x e c bytes whole) same h
 
 -- a walk that stands at no bucket
 pub place_end : (place : Option BucketId) (xs : Items) → ((id : BucketId) → place ≡ Some id → ⊥) → from_place place xs ≡ []
 place_end None xs never = refl
 place_end (Some id) xs never = absurd (never id refl)
 
-pub items_left : (d : Device) (xs ys zs : Items) (front : List ℕ) → zs ≡ ys → ItemsSoFar d xs ys front → ItemsSoFar d xs zs front
-items_left d xs ys zs front same s = subst (λ (ws : Items). ItemsSoFar d xs ws front) (sym same) s
+pub items_left : (d now : Device) (xs ys zs : Items) (front : List ℕ) → zs ≡ ys → ItemsSoFar d now xs ys front → ItemsSoFar d now xs zs front
+items_left d now xs ys zs front same s = subst (λ (ws : Items). ItemsSoFar d now xs ws front) (sym same) s
 
 -- The output.
 

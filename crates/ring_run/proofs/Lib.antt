@@ -27,6 +27,7 @@ pub mod Contents
 pub mod Asked
 pub mod HeldAlike
 pub mod BucketReads
+pub mod WellRead
 pub mod Delivering
 pub mod Buffers
 pub mod Returned

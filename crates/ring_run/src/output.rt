@@ -1,7 +1,7 @@
 //! The end of the chain, where the bytes of brigades become output.
 
 ghost use Rattle.std.specs.Prelude.{◌≡◌, ◌==◌, ◌⊎◌, ◌+◌, ◌<◌, ◌≤◌, ◌^◌, ◌*◌, ℕ, Bool, true, false, not, ◌&&◌, length, is_some, if◌then◌else◌, All, Some, IsOk, IfOk, OnOk, OnErr};
-ghost use Rattle.bucket_kinds.specs.Device.{is_there};
+ghost use Rattle.bucket_kinds.specs.Device.{SomeWentWell, counts, is_there};
 ghost use Rattle.bucket_kinds.specs.Reading.{IsOpenFor};
 ghost use Rattle.bucket_ring.specs.declared.names.BucketId.{BucketId};
 ghost use Rattle.bucket_ring.specs.Lists.{list_at};
@@ -64,9 +64,9 @@ pub(crate) fn fetch<F: Files>(files: &mut F, file: FileNo, at: u64, buffer: &mut
 }
 
 /// How many bytes are asked for at once. A device that counts its calls is asked for those of each read alone, so that the read which is
-/// to fail does.
+/// to fail does; another is after one call what it is after ten.
 fn span_limit<F: Files>(files: &F) -> u64
-    ensures { result ≡ (if (F.device files.now).counts then read_limit else 10 * read_limit) }
+    ensures { result ≡ (if counts (F.device files.now).plan then read_limit else 10 * read_limit) }
 {
     if files.counts_calls() {
         READ_LIMIT
@@ -89,7 +89,7 @@ fn add_range<F: Files>(
     ensures added { IfOk result (λ whole. ContentAdded (F.device files.old) (F.device files.new) (Content.Range file start len) whole out.old out.new) }
     ensures front { HasFront out.old out.new }
     ensures sure { len ≡ 0 → IsOk result }
-    ensures unread { OnErr result (F.device files.new ≡ F.device files.old) }
+    ensures read { OnErr result (SomeWentWell (F.device files.old) (F.device files.new)) }
     ensures open_files { (F.device files.new).numbered ≡ (F.device files.old).numbered }
 {
     let mut count = 0;
@@ -116,7 +116,7 @@ fn add<F: Files>(
     ensures added { IfOk result (λ whole. ContentAdded (F.device files.old) (F.device files.new) content.now whole out.old out.new) }
     ensures front { HasFront out.old out.new }
     ensures sure { length_of content.now ≡ 0 → IsOk result }
-    ensures unread { OnErr result (F.device files.new ≡ F.device files.old) }
+    ensures read { OnErr result (SomeWentWell (F.device files.old) (F.device files.new)) }
     ensures open_files { (F.device files.new).numbered ≡ (F.device files.old).numbered }
 {
     match content {
@@ -143,7 +143,7 @@ fn add_all<R: Rings<Bucket> + Drop, F: Files>(
     ensures added { IfOk result (λ whole. ItemsAdded (F.device files.old) (F.device files.new) (list_at (lists store.now) b) whole out.old out.new) }
     ensures front { HasFront out.old out.new }
     ensures sure { has_bytes (named (list_at (lists store.now) b)) ≡ false → IsOk result }
-    ensures unread { OnErr result (F.device files.new ≡ F.device files.old) }
+    ensures read { OnErr result (SomeWentWell (F.device files.old) (F.device files.new)) }
     ensures open_files { (F.device files.new).numbered ≡ (F.device files.old).numbered }
 {
     let mut place = store.start(b);
@@ -175,7 +175,7 @@ pub fn add_brigade<R: Rings<Bucket> + Drop, F: Files>(
     ensures ok { IfOk result (λ well. (runs : ℕ → Bool) → WasDelivered (F.device files.old) (F.device files.new) (out_of out.old ended.old) (shown runs (list_at (lists store.now) b)) (out_of out.new ended.new) well) }
     ensures err { OnErr result (out_of out.new ended.new ≡ out_of out.old ended.old) }
     ensures sure { (runs : ℕ → Bool) → (not ended.old && has_bytes (shown runs (list_at (lists store.now) b))) ≡ false → IsOk result }
-    ensures unread { OnErr result (F.device files.new ≡ F.device files.old) }
+    ensures read { OnErr result (SomeWentWell (F.device files.old) (F.device files.new)) }
     ensures open_files { (F.device files.new).numbered ≡ (F.device files.old).numbered }
 {
     if *ended {
@@ -229,7 +229,7 @@ pub fn pass_out<R: Rings<Bucket> + Drop, F: Files>(
     ensures same { OnErr result ((instance.new ≡ instance.old) × (store.new ≡ store.old)) }
     ensures kept { OnErr result (out_of out.new ended.new ≡ out_of out.old ended.old) }
     ensures sure { (around : Around) (call : Call) → (not ended.old && has_bytes (items_of ((seen store.old around instance.old call).instance.brigades b))) ≡ false → IsOk result }
-    ensures unread { OnErr result (F.device files.new ≡ F.device files.old) }
+    ensures read { OnErr result (SomeWentWell (F.device files.old) (F.device files.new)) }
     ensures open_files { (F.device files.new).numbered ≡ (F.device files.old).numbered }
 {
     let Some(name) = live(instance, store, b) else {

@@ -9,9 +9,10 @@ use Rattle.brigade_ops.specs.Items.{Items, from_place, named}
 use Rattle.brigade_ops.specs.Store.{lists, brigade_of}
 use Rattle.brigade_ops.proofs.Walks.{told_some}
 use Rattle.ring_run.proofs.Buffers.{behind, both_parts}
-use Rattle.ring_run.proofs.Delivering.{ItemsSoFar, items_none, items_end, items_eos, items_failed, items_more, content_from, items_left, place_end as none_left}
+use Rattle.ring_run.proofs.Delivering.{ItemsSoFar, items_none, items_end, items_eos, items_failed, items_more, items_left, place_end as none_left}
 use Rattle.ring_run.proofs.Quiet.{quiet_more}
 use Rattle.ring_run.proofs.Walked.{head_here, shorter}
+use Rattle.ring_run.proofs.WellRead.{none_went, more_went, open_still}
 use Rattle.ring_run.proofs.output.add_all.Goals as goal
 
 pub loop-place-init : goal.loop-place-init
@@ -20,7 +21,8 @@ loop-place-init g c =
     let old = c.args.out.now in
     record {
       front = ap (take (length old)) (sym (append-nil old)) ∙ take-append_seam old [];
-      device = refl;
+      went = none_went (g.F.Files.device c.args.files.now);
+      open_files = refl;
       read = items_none (g.F.Files.device c.args.files.now) xs (from_place c.start-place.result xs) _ c.start-place.ensures.whole (drop-length old);
       quiet = λ none. ap (λ (ys : Items). has_bytes (named ys)) c.start-place.ensures.whole ∙ none;
       inside = told_some (λ j. brigade_of c.args.store.now j ≡ Some c.args.b) c.start-place.result c.start-place.ensures.inside;
@@ -42,7 +44,7 @@ returns-then-is_eos-clause-added g c =
     record {
       added = front;
       grown = both_parts c.args.out.now l.out l.invariant.front;
-      taken_so = items_eos d xs (from_place l.place xs) id x ys front l.invariant.read head (g.F.Files.device l.files) eos l.invariant.device;
+      taken_so = items_eos d xs (g.F.Files.device l.files) (from_place l.place xs) id x ys front l.invariant.read head eos;
     }
 
 pub returns-then-not-branch-clause-added : goal.returns-then-not-branch-clause-added
@@ -65,7 +67,7 @@ returns-then-not-branch-clause-added g c =
     record {
       added = front ++ took.added;
       grown = behind c.args.out.now l.out took.added c.add.new.out l.invariant.front took.grown;
-      taken_so = items_failed d xs (from_place l.place xs) id x ys front l.invariant.read head e whole took.added plain (content_from d (g.F.Files.device l.files) e x.content took.added whole l.invariant.device took.taken_so) failed;
+      taken_so = items_failed d xs (g.F.Files.device l.files) (from_place l.place xs) id x ys front l.invariant.read head e whole took.added plain took.taken_so failed;
     }
 
 pub loop-place-preserved : goal.loop-place-preserved
@@ -88,12 +90,13 @@ loop-place-preserved g c =
     let went : whole ≡ true = search rules in
     let all = behind old l.out took.added c.add.new.out l.invariant.front took.grown in
     let on : from_place c.behind-place.result xs ≡ ys = c.behind-place.ensures.others c.args.b in_b in
-    let more = items_more d xs (from_place l.place xs) id x ys front l.invariant.read head e whole took.added plain (content_from d (g.F.Files.device l.files) e x.content took.added whole l.invariant.device took.taken_so) went in
+    let more = items_more d xs (g.F.Files.device l.files) (from_place l.place xs) id x ys front l.invariant.read head e whole took.added plain took.taken_so went in
     record {
       front = ap (take (length old)) all ∙ take-append_seam old (front ++ took.added);
-      device = took.taken_so.same went ∙ l.invariant.device;
-      read = items_left d xs ys (from_place c.behind-place.result xs) (drop (length old) c.add.new.out) on
-          (subst (λ (bytes : List ℕ). ItemsSoFar d xs ys bytes) (sym (ap (drop (length old)) all ∙ drop-append_seam old (front ++ took.added))) more);
+      went = more_went d (g.F.Files.device l.files) e l.invariant.went (took.taken_so.went went);
+      open_files = c.add.ensures.open_files ∙ l.invariant.open_files;
+      read = items_left d e xs ys (from_place c.behind-place.result xs) (drop (length old) c.add.new.out) on
+          (subst (λ (bytes : List ℕ). ItemsSoFar d e xs ys bytes) (sym (ap (drop (length old)) all ∙ drop-append_seam old (front ++ took.added))) more);
       quiet = λ none. ap (λ (zs : Items). has_bytes (named zs)) on ∙ (quiet_more id x ys plain (sym (ap (λ (zs : Items). has_bytes (named zs)) head) ∙ l.invariant.quiet none)).1;
       inside = told_some (λ j. brigade_of s j ≡ Some c.args.b) c.behind-place.result (c.behind-place.ensures.inside c.args.b in_b);
     }
@@ -116,7 +119,7 @@ returns-clause-added g c =
     record {
       added = front;
       grown = both_parts c.args.out.now l.out l.invariant.front;
-      taken_so = items_end (g.F.Files.device c.args.files.now) xs (g.F.Files.device l.files) (from_place l.place xs) front l.invariant.read (none_left l.place xs c.in_default.not-Some) l.invariant.device;
+      taken_so = items_end (g.F.Files.device c.args.files.now) xs (g.F.Files.device l.files) (from_place l.place xs) front l.invariant.read (none_left l.place xs c.in_default.not-Some);
     }
 
 pub returns-in_err-add-clause-sure : goal.returns-in_err-add-clause-sure
@@ -132,3 +135,14 @@ returns-in_err-add-clause-sure g c none =
     let plain : is_eos_kind x.kind ≡ false = sym c.is_eos.ensures ∙ c.if-is_eos.false in
     let sure = c.in_err-add.ensures.sure (quiet_more id x ys plain (sym (ap (λ (zs : Items). has_bytes (named zs)) head) ∙ l.invariant.quiet none)).0 in
     absurd (cc sure)
+
+pub add-requires-clause-open : goal.add-requires-clause-open
+add-requires-clause-open g c =
+    let l = c.loop-place in
+    let id = c.in-Some.id in
+    let x = c.payload-bucket.result.now in
+    open_still (g.F.Files.device c.args.files.now) (g.F.Files.device l.files) x.content l.invariant.open_files (c.requires.open id x (l.invariant.inside id c.in-Some.is) c.payload-bucket.ensures)
+
+pub returns-in_err-add-clause-read : goal.returns-in_err-add-clause-read
+returns-in_err-add-clause-read g c =
+    more_went (g.F.Files.device c.args.files.now) (g.F.Files.device c.loop-place.files) (g.F.Files.device c.add.new.files) c.loop-place.invariant.went c.in_err-add.ensures.read

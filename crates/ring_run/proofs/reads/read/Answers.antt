@@ -51,7 +51,7 @@ returns-in-Ok-clause-ok g c =
     subst (λ (s : Place). WasRead (g.F.Files.device c.args.files.now) (g.F.Files.device c.read.new.files) s r (seen_over (lists c.read.new.self) (next_name c.read.new.self) around c.args.instance.now c.set_cursor.new.self) true) (sym at)
     (record {
       given = Some gave.0;
-      gave = (gave.1, c.in-Ok.ensures.same);
+      gave = (gave.1, read.asked);
       answer = told_some (Some gave.0) c.in-Within.field-0 y took.0 took.1.0;
       state = done_read (Some gave.0) (Some took.0) c.in-Within.field-0 y r (seen_over (lists c.read.new.self) (next_name c.read.new.self) around c.args.instance.now c.set_cursor.new.self) took.1.0
           (read_into (lists c.args.store.now) (lists c.read.new.self) (next_name c.args.store.now) (next_name c.read.new.self) around c.args.instance.now c.args.call.now c.set_cursor.new.self (apart_in (brigade_of c.args.store.now) (lists c.args.store.now) (pool_of c.args.store.now) (next_name c.args.store.now) c.args.instance.now c.args.call.now c.requires.held) c.in-Within.id c.in-Ok.field-0 x.0 took.0

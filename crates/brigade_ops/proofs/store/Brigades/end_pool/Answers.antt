@@ -67,8 +67,7 @@ loop-entry-preserved g c =
         named = c.end_payload.ensures.others.named ∙ c.loop-entry.invariant.others.named;
         next = c.end_payload.ensures.others.next ∙ c.loop-entry.invariant.others.next;
         failures = c.end_payload.ensures.others.failures ∙ c.loop-entry.invariant.others.failures;
-        may_fail = c.end_payload.ensures.others.may_fail ∙ c.loop-entry.invariant.others.may_fail;
-        counts = c.end_payload.ensures.others.counts ∙ c.loop-entry.invariant.others.counts;
+        plan = c.end_payload.ensures.others.plan ∙ c.loop-entry.invariant.others.plan;
       };
       next = c.end_payload.ensures.next ∙ c.loop-entry.invariant.next;
       names = none_revived_twice (brigade_of c.args.self.now) (brigade_of c.loop-entry.self) (brigade_of c.end_payload.new.self) (next_name c.args.self.now) (next_name c.loop-entry.self)

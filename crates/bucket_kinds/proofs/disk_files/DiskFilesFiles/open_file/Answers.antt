@@ -17,6 +17,7 @@ returns g c =
       number_fits = search rules;
       number_is_new = next_is_free untold disk.opened disk.next disk.given;
       length_is = tt;
+      went_well = tt;
       after = after;
       is_open = open_after old new c.args.name.now c.len.result tt after;
     }
