@@ -2,6 +2,7 @@
 use Rattle.std.proofs.Common.{◌≡◌, true, false, ◌∷◌, ◌++◌, List, ℕ, length, take, drop, refl, sym, ap, subst, ◌∙◌, Some, [], rules}
 use Rattle.std.proofs.Math.Seq.{drop-append_seam, drop-length, take-append_seam}
 use Rattle.std.proofs.lemmas.List.{append-nil}
+use Rattle.bucket_kinds.specs.Device.{SomeWentWell}
 use Rattle.bucket_ring.specs.Lists.{list_at, rest}
 use Rattle.run_model.specs.Buckets.{is_eos_kind}
 use Rattle.run_model.specs.Steps.{has_bytes}
@@ -12,7 +13,7 @@ use Rattle.ring_run.proofs.Buffers.{behind, both_parts}
 use Rattle.ring_run.proofs.Delivering.{ItemsSoFar, items_none, items_end, items_eos, items_failed, items_more, items_left, place_end as none_left}
 use Rattle.ring_run.proofs.Quiet.{quiet_more}
 use Rattle.ring_run.proofs.Walked.{head_here, shorter}
-use Rattle.ring_run.proofs.WellRead.{none_went, more_went, open_still}
+use Rattle.ring_run.proofs.WellRead.{none_went, more_went, open_still, told_err}
 use Rattle.ring_run.proofs.output.add_all.Goals as goal
 
 pub loop-place-init : goal.loop-place-init
@@ -145,4 +146,6 @@ add-requires-clause-open g c =
 
 pub returns-in_err-add-clause-read : goal.returns-in_err-add-clause-read
 returns-in_err-add-clause-read g c =
-    more_went (g.F.Files.device c.args.files.now) (g.F.Files.device c.loop-place.files) (g.F.Files.device c.add.new.files) c.loop-place.invariant.went c.in_err-add.ensures.read
+    let d = g.F.Files.device c.args.files.now in
+    let e = g.F.Files.device c.add.new.files in
+    told_err c.from_residual.result (SomeWentWell d e) (more_went d (g.F.Files.device c.loop-place.files) e c.loop-place.invariant.went c.in_err-add.ensures.read)
