@@ -15,7 +15,7 @@ use Rattle.run_model.specs.Steps.{has_bytes}
 use Rattle.brigade_ops.specs.Items.{Items, named, named_item}
 use Rattle.brigade_ops.specs.Points.{point_in, is_inside}
 use Rattle.ring_run.specs.Seen.{shown, item_in}
-use Rattle.ring_run.proofs.Points.{Point, Inside}
+use Rattle.ring_run.proofs.Points.{Inside}
 
 none_over : (n : ℕ) → nat_lt 0 n ≡ false → n ≡ 0
 none_over n h = grind (arith, nat_tests)

@@ -1,7 +1,7 @@
 -- Devices after calls that went well.
-use Rattle.std.proofs.Common.{◌≡◌, ℕ, zero, suc, Bool, true, false, refl, Result, Ok, Err, OnErr, sym, ap, subst, ◌∙◌}
+use Rattle.std.proofs.Common.{◌≡◌, ℕ, zero, suc, false, refl, Result, Ok, Err, OnErr, sym, ap, subst, ◌∙◌}
 use Rattle.std.proofs.lemmas.Bool.{false≢true}
-use Rattle.bucket_kinds.specs.Device.{Device, Held, Plan, Sound, At, AnyTime, nearer, counts, moved, WentWell, AllWentWell, SomeWentWell}
+use Rattle.bucket_kinds.specs.Device.{Device, Plan, Sound, At, AnyTime, nearer, counts, moved, WentWell, AllWentWell, SomeWentWell}
 use Rattle.bucket_kinds.specs.Reading.{IsOpenFor}
 use Rattle.run_model.specs.declared.bucket.Content.{Content}
 use Rattle.run_model.specs.declared.bucket.Content.TheVariants as content

@@ -5,7 +5,7 @@ use Rattle.std.proofs.lemmas.List.{take_all}
 use Rattle.ring_run.proofs.Buffers.{both_parts}
 use Rattle.ring_run.proofs.Delivering.{range_none, range_done}
 use Rattle.ring_run.proofs.Spans.{span_one, span_of, span_all, span_ended, span_lacks}
-use Rattle.ring_run.proofs.WellRead.{none_went, more_went}
+use Rattle.ring_run.proofs.WellRead.{none_went}
 use Rattle.ring_run.proofs.output.add_range.Goals as goal
 
 pub loop-count-init : goal.loop-count-init
